@@ -1,6 +1,7 @@
 pub mod Limits
 pub mod Logic
 pub mod Temporal
+pub mod Operators
 pub mod Ltl
 pub mod Fields
 pub mod Kinds
