@@ -1,0 +1,182 @@
+-- The expansion of a text to one formula (document 01, 'Expansion').
+use Prim.Native.Nat.{ℕ, zero, suc, _-_}
+use mathlib.Core.Bool.{Bool, true, false, _&&_}
+use mathlib.Core.List.{List, [], _∷_, _++_, map}
+use lib.Dec.{eqb, leb}
+use lib.ListN.{length}
+use Rattle.node.specs.Operators.{Unary, Not, X, G, F, Binary, And, Or, Implies, W}
+use Rattle.node.specs.Ltl.{Formula, True, False, Signal, One, Two}
+use Rattle.node.specs.Result.{Result, Done, Refused, _>>=_, guard}
+use Rattle.language.specs.Bytes.{same}
+use Rattle.language.specs.Tokens.{Token}
+use Rattle.language.specs.Operators.{Comparison, Equal, Unequal, Less, AtMost, Greater, AtLeast, Big, BigSum, BigProduct, BigCap, BigCup, BigAnd, BigOr, Window, FinallyIn, GloballyIn, Infix, Calculates, Combines, Compares, Membership, Connects, Prefix, Measures, WidthOf, Applies}
+use Rattle.language.specs.Tree.{Expr, Named, Numeral, Truth, Index, Paren, Prefixed, Joined, Nexts, InWindow, Each, Between, Listed, Empty, Element, Range, Definition, Defined, Enumerated, Part, Initially, Preset, Require, Assert, Assume, Guarantee, partCode, Subsection, Inputs, Outputs, Lines, Spec}
+use Rattle.language.specs.Sets.{memberOf}
+use Rattle.language.specs.Values.{Mark, Absent, Present, Star, Value, Number, misfit, number, set, bus, choice, Sized, test, Sides, Numbers, Against, sides, bit, Scope, naming, value}
+use Rattle.language.specs.Signals.{Declared, Constant, SignalAt, BusAt, Identifies, WaitingSignal, WaitingBus, Table, find, declared, Line, Written, Implied, Declarations}
+
+-- 'fold to the left .. one element is itself'
+abbrev pub joined : Binary → Formula → List Formula → Formula
+joined o a [] = a
+joined o a (b ∷ bs) = joined o (Two o a b) bs
+
+-- 'over nothing `&&` is true, `||` false'
+abbrev pub conjunction : List Formula → Formula
+conjunction [] = True
+conjunction (a ∷ bs) = joined And a bs
+
+abbrev pub disjunction : List Formula → Formula
+disjunction [] = False
+disjunction (a ∷ bs) = joined Or a bs
+
+-- 'A comparison of numbers and IN become true or false'
+abbrev pub truth : Bool → Formula
+truth true = True
+truth false = False
+
+-- '`X[n]` is n X nodes'
+abbrev pub nexts : ℕ → Formula → Formula
+nexts zero a = a
+nexts (suc n) a = One X (nexts n a)
+
+-- `a || X(a || ..)` with n + 1 times a
+abbrev pub chain : Binary → ℕ → Formula → Formula
+chain o zero a = a
+chain o (suc n) a = Two o a (One X (chain o n a))
+
+-- '`F[n:m] a` is n X over `a || X(a || ..)`, `G[n:m]` with `&&`'; 'm below n' is 11
+abbrev pub windowOperator : Window → Binary
+windowOperator FinallyIn = Or
+windowOperator GloballyIn = And
+
+-- 'per word the literals of its unstarred marks, bit 0 first, folded with `&&` (all stars: true)'
+abbrev pub literals : List Mark → ℕ → List Formula
+literals [] k = []
+literals (Absent ∷ v) k = One Not (Signal k) ∷ literals v (suc k)
+literals (Present ∷ v) k = Signal k ∷ literals v (suc k)
+literals (Star ∷ v) k = literals v (suc k)
+
+-- 'words folded with `||`'
+abbrev pub oneOf : List (List Mark) → ℕ → Formula
+oneOf vs k = disjunction (map (λ v. conjunction (literals v k)) vs)
+
+-- are the words as wide as the bus? 'unequal widths' is 13 at the bus's name
+abbrev pub widthIs : ℕ → List (List Mark) → Bool
+widthIs n [] = true
+widthIs n (v ∷ vs) = eqb (length v) n && widthIs n vs
+
+-- 'Bus equals enumeration value .. `!=` puts `!` above'
+abbrev pub compared : Comparison → Sides → Result Formula
+compared o (Numbers m n) = Done (truth (test o m n))
+compared Equal (Against b v) = guard (widthIs (b .width) v) 13 (b .place) (Done (oneOf v (b .first)))
+compared Unequal (Against b v) = guard (widthIs (b .width) v) 13 (b .place) (Done (One Not (oneOf v (b .first))))
+compared Less (Against b v) = misfit
+compared AtMost (Against b v) = misfit
+compared Greater (Against b v) = misfit
+compared AtLeast (Against b v) = misfit
+
+-- the operand of a big operator at each element
+abbrev pub gather : {A B : Type 0} → (A → Result B) → List A → Result (List B)
+gather f [] = Done []
+gather f (k ∷ s) = f k >>= λ b. gather f s >>= λ bs. Done (b ∷ bs)
+
+abbrev pub bigFormula : Big → (ℕ → Result Formula) → List ℕ → Result Formula
+bigFormula BigSum f s = misfit
+bigFormula BigProduct f s = misfit
+bigFormula BigCap f s = misfit
+bigFormula BigCup f s = misfit
+bigFormula BigAnd f s = gather f s >>= λ fs. Done (conjunction fs)
+bigFormula BigOr f s = gather f s >>= λ fs. Done (disjunction fs)
+
+-- what the visible names stand for, and the formulas of those that stand for one
+pub record Context : Type 0 where
+  pub values : Scope
+  pub formulas : Token → Result Formula
+
+-- a big operator's name at an element
+abbrev pub at : Context → Token → ℕ → Context
+at c i k = record { values = naming i (Done (Number k)) (c .values); formulas = c .formulas }
+
+abbrev pub expansion : Context → Expr → Result Formula
+expansion c (Named t) = c .formulas t
+expansion c (Numeral t) = misfit
+expansion c (Truth t b) = Done (truth b)
+expansion c (Index t e) = (value (c .values) e >>= number >>= λ i. c .values t >>= bus >>= bit i) >>= λ k. Done (Signal k)
+expansion c (Paren t e) = expansion c e
+expansion c (Prefixed t (Measures m) e) = misfit
+expansion c (Prefixed t WidthOf e) = misfit
+expansion c (Prefixed t (Applies o) e) = expansion c e >>= λ f. Done (One o f)
+expansion c (Joined t (Calculates o) a b) = misfit
+expansion c (Joined t (Combines o) a b) = misfit
+expansion c (Joined t (Compares o) a b) = (value (c .values) a >>= λ x. value (c .values) b >>= sides x) >>= compared o
+expansion c (Joined t Membership a b) =
+    value (c .values) a >>= number >>= λ n. value (c .values) b >>= set >>= λ m. Done (truth (memberOf m n))
+expansion c (Joined t (Connects o) a b) = expansion c a >>= λ f. expansion c b >>= λ g. Done (Two o f g)
+expansion c (Nexts t n e) = value (c .values) n >>= number >>= λ k. expansion c e >>= λ f. Done (nexts k f)
+expansion c (InWindow t o n m e) =
+    value (c .values) n >>= number >>= λ j. value (c .values) m >>= number >>= λ k.
+    guard (leb j k) 11 (t .at) (expansion c e >>= λ f. Done (nexts j (chain (windowOperator o) (k - j) f)))
+expansion c (Each t o further i s e) = value (c .values) s >>= set >>= bigFormula o (λ k. expansion (at c i k) e)
+expansion c (Between t l h a b) = misfit
+expansion c (Listed t es) = misfit
+expansion c Empty = misfit
+expansion c (Element e es) = misfit
+expansion c (Range t x y z) = misfit
+
+-- the declared names
+abbrev pub signalOf : Declared → Result Formula
+signalOf (Constant n) = misfit
+signalOf (SignalAt k) = Done (Signal k)
+signalOf (BusAt k n) = misfit
+signalOf (Identifies v) = misfit
+signalOf WaitingSignal = misfit
+signalOf WaitingBus = misfit
+
+abbrev pub atSignals : Table → Context
+atSignals d = record { values = declared d; formulas = λ t. find d (t .text) >>= signalOf }
+
+-- a definition is what its body is, in terms of the names before it
+abbrev pub define : Context → Token → Expr → Context
+define c x e =
+    record {
+      values = naming x (value (c .values) e) (c .values);
+      formulas = λ t. elim (same (x .text) (t .text)) [ true ↦ expansion c e | false ↦ c .formulas t ];
+    }
+
+abbrev pub defineAll : Context → List Definition → Context
+defineAll c [] = c
+defineAll c (Defined x e ∷ ds) = defineAll (define c x e) ds
+defineAll c (Enumerated x is ∷ ds) = defineAll c ds
+
+abbrev pub expandLine : Context → Line → Result Formula
+expandLine c (Written e) = expansion c e
+expandLine c (Implied k v) = Done (oneOf v k)
+
+-- the formulas of a part's lines
+abbrev pub Sections : Type 0
+Sections = List (Part × List Formula)
+
+abbrev pub expandSection : Context → Part × List Line → Result (Part × List Formula)
+expandSection c s = gather (expandLine c) (s .1) >>= λ fs. Done (s .0, fs)
+
+abbrev pub linesOf : Part → Sections → List Formula
+linesOf p [] = []
+linesOf p (s ∷ ss) = elim (eqb (partCode p) (partCode (s .0))) [ true ↦ s .1 ++ linesOf p ss | false ↦ linesOf p ss ]
+
+-- 'A section is its lines folded with `&&`; without lines, true'
+abbrev pub section : Sections → Part → Formula
+section ss p = conjunction (linesOf p ss)
+
+-- 'I -> (P && ((G R && S) -> (G A && U)))'; 'Strict: I -> ((P && (A W !R)) && ((G R && S) -> U))'
+abbrev pub whole : Bool → (Part → Formula) → Formula
+whole false f =
+    Two Implies (f Initially)
+    (Two And (f Preset) (Two Implies (Two And (One G (f Require)) (f Assume)) (Two And (One G (f Assert)) (f Guarantee))))
+whole true f =
+    Two Implies (f Initially)
+    (Two And (Two And (f Preset) (Two W (f Assert) (One Not (f Require)))) (Two Implies (Two And (One G (f Require)) (f Assume)) (f Guarantee)))
+
+-- 'sections in text order'
+abbrev pub expand : Spec → Declarations → List (Part × List Line) → Result Formula
+expand x d lines =
+    gather (expandSection (defineAll (atSignals (d .outputs .table)) (x .definitions))) lines >>= λ ss. Done (whole (x .strict) (section ss))

@@ -1,0 +1,11 @@
+pub mod Limits
+pub mod Bytes
+pub mod Tokens
+pub mod Operators
+pub mod Tree
+pub mod Sets
+pub mod Values
+pub mod Signals
+pub mod Lines
+pub mod Expansion
+pub mod Meaning

@@ -1,0 +1,49 @@
+-- The limits of document 01, 'Limits' and 'Values', in one place.
+use Prim.Native.Nat.{ℕ}
+
+-- 'text 32,768 bytes'
+abbrev pub maxBytes : ℕ
+maxBytes = 32_768
+
+-- '8,192 tokens'
+abbrev pub maxTokens : ℕ
+maxTokens = 8_192
+
+-- 'names 64 bytes'
+abbrev pub maxName : ℕ
+maxName = 64
+
+-- '256 declared names'
+abbrev pub maxNames : ℕ
+maxNames = 256
+
+-- 'expression trees 256 levels'
+abbrev pub maxLevels : ℕ
+maxLevels = 256
+
+-- 'sets 256 elements'
+abbrev pub maxElements : ℕ
+maxElements = 256
+
+-- 'buses 255 wide'
+abbrev pub maxWidth : ℕ
+maxWidth = 255
+
+-- '255 signals'
+abbrev pub maxSignals : ℕ
+maxSignals = 255
+
+-- 'an enumeration at most 16 words of 8 marks'
+abbrev pub maxWords : ℕ
+maxWords = 16
+
+abbrev pub maxMarks : ℕ
+maxMarks = 8
+
+-- 'Values are decimal, 0 to 1,000,000 at each step'
+abbrev pub maxNumber : ℕ
+maxNumber = 1_000_000
+
+-- the work buffer's 'first 65,536 bytes'
+abbrev pub workBytes : ℕ
+workBytes = 65_536

@@ -1,0 +1,193 @@
+-- How numbers and sets are worked out (document 01, 'Accepted text' and refusals 11 to 13). A formula is only marked as one here.
+use Prim.Native.Nat.{ℕ, zero, suc, _+_, _-_, _*_, _/_, _%_}
+use mathlib.Core.Bool.{Bool, true, false, not, _&&_}
+use mathlib.Core.List.{List, [], _∷_}
+use lib.Dec.{eqb, leb, ltb}
+use lib.ListN.{length}
+use Rattle.node.specs.Result.{Result, Done, Refused, _>>=_, guard}
+use Rattle.language.specs.Limits.{maxNumber, maxElements}
+use Rattle.language.specs.Bytes.{if_then_else_, same}
+use Rattle.language.specs.Tokens.{Token}
+use Rattle.language.specs.Operators.{Arithmetic, Plus, Minus, Times, Divide, Modulo, Measure, Size, Min, Max, Combination, Cap, Comparison, Equal, Unequal, Less, AtMost, Greater, AtLeast, Big, BigSum, BigProduct, BigCap, BigCup, BigAnd, BigOr, Window, Infix, Calculates, Combines, Compares, Membership, Connects, Prefix, Measures, WidthOf, Applies}
+use Rattle.language.specs.Tree.{Expr, Named, Numeral, Truth, Index, Paren, Prefixed, Joined, Nexts, InWindow, Each, Between, Listed, Empty, Element, Range}
+use Rattle.language.specs.Sets.{insert, union, combine, steps, rangeSize, last}
+
+-- a mark of an enumeration's word: `0`, `1`, `*`
+pub data Mark : Type 0 where
+  Absent Present Star : Mark
+
+-- what an expression is: a number; a set; some formula; a bus, with the place of its name, its first signal and its width; a bus not yet sized; the words
+-- of an enumeration's identifier
+pub data Value : Type 0 where
+  Number : ℕ → Value
+  Set : List ℕ → Value
+  Logic : Value
+  Bus : (place first width : ℕ) → Value
+  Unsized : (place : ℕ) → Value
+  Choice : List (List Mark) → Value
+
+-- a value of another kind than is taken there: no text that has passed refusal 9 comes to this
+abbrev pub misfit : {A : Type 0} → Result A
+misfit = Refused 9 0
+
+abbrev pub number : Value → Result ℕ
+number (Number n) = Done n
+number (Set s) = misfit
+number Logic = misfit
+number (Bus p k n) = misfit
+number (Unsized p) = misfit
+number (Choice v) = misfit
+
+abbrev pub set : Value → Result (List ℕ)
+set (Number n) = misfit
+set (Set s) = Done s
+set Logic = misfit
+set (Bus p k n) = misfit
+set (Unsized p) = misfit
+set (Choice v) = misfit
+
+-- a bus that is sized: its name's place, first signal and width. 'SIZEOF of a bus not yet sized' is 13 at its name
+pub record Sized : Type 0 where
+  pub place : ℕ
+  pub first : ℕ
+  pub width : ℕ
+
+abbrev pub bus : Value → Result Sized
+bus (Number n) = misfit
+bus (Set s) = misfit
+bus Logic = misfit
+bus (Bus p k n) = Done (record { place = p; first = k; width = n })
+bus (Unsized p) = Refused 13 p
+bus (Choice v) = misfit
+
+abbrev pub choice : Value → Result (List (List Mark))
+choice (Number n) = misfit
+choice (Set s) = misfit
+choice Logic = misfit
+choice (Bus p k n) = misfit
+choice (Unsized p) = misfit
+choice (Choice v) = Done v
+
+-- 'Values are decimal, 0 to 1,000,000 at each step'
+abbrev pub inRange : ℕ → ℕ → Result ℕ
+inRange place n = guard (leb n maxNumber) 11 place (Done n)
+
+abbrev pub decimal : ℕ → List ℕ → ℕ
+decimal n [] = n
+decimal n (b ∷ s) = decimal (n * 10 + (b - 48)) s
+
+abbrev pub calculate : ℕ → Arithmetic → ℕ → ℕ → Result ℕ
+calculate place Plus a b = inRange place (a + b)
+calculate place Minus a b = guard (leb b a) 11 place (Done (a - b))
+calculate place Times a b = inRange place (a * b)
+calculate place Divide a b = guard (ltb 0 b) 11 place (Done (a / b))
+calculate place Modulo a b = guard (ltb 0 b) 11 place (Done (a % b))
+
+-- 'MIN, MAX .. of nothing' is 11
+abbrev pub measure : ℕ → Measure → List ℕ → Result ℕ
+measure place Size s = Done (length s)
+measure place Min [] = Refused 11 place
+measure place Min (x ∷ s) = Done x
+measure place Max [] = Refused 11 place
+measure place Max (x ∷ s) = Done (last x s)
+
+-- 'set too large' is 12
+abbrev pub limited : ℕ → List ℕ → Result (List ℕ)
+limited place s = guard (leb (length s) maxElements) 12 place (Done s)
+
+-- {x, y .. z}: the step, then the size
+abbrev pub range : ℕ → ℕ → ℕ → ℕ → Result (List ℕ)
+range place x y z =
+    let n = rangeSize x y z in
+    guard (ltb x y) 12 place (guard (leb n maxElements) 12 place (Done (steps n x (y - x))))
+
+-- 'The bounds .. give the numbers between, without working out n-1': from a to b, without a or b where its sign is `<`
+abbrev pub between : ℕ → Bool → Bool → ℕ → ℕ → Result (List ℕ)
+between place afterLow beforeHigh a b =
+    let from = if afterLow then suc a else a in
+    let n = (if beforeHigh then b else suc b) - from in
+    guard (leb n maxElements) 12 place (Done (steps n from 1))
+
+abbrev pub test : Comparison → ℕ → ℕ → Bool
+test Equal a b = eqb a b
+test Unequal a b = not (eqb a b)
+test Less a b = ltb a b
+test AtMost a b = leb a b
+test Greater a b = ltb b a
+test AtLeast a b = leb b a
+
+-- 'Big operators fold to the left, ascending; one element is itself': f works out the operand at an element, `step` joins, `none` is over nothing
+abbrev pub onward : {A : Type 0} → (A → A → Result A) → (ℕ → Result A) → A → List ℕ → Result A
+onward step f a [] = Done a
+onward step f a (k ∷ s) = f k >>= λ b. step a b >>= λ c. onward step f c s
+
+abbrev pub folded : {A : Type 0} → (A → A → Result A) → Result A → (ℕ → Result A) → List ℕ → Result A
+folded step none f [] = none
+folded step none f (k ∷ s) = f k >>= λ a. onward step f a s
+
+abbrev pub bigNumber : ℕ → Arithmetic → ℕ → (ℕ → Result Value) → List ℕ → Result Value
+bigNumber place o none f s = folded (calculate place o) (Done none) (λ k. f k >>= number) s >>= λ n. Done (Number n)
+
+abbrev pub bigSet : (List ℕ → List ℕ → Result (List ℕ)) → Result (List ℕ) → (ℕ → Result Value) → List ℕ → Result Value
+bigSet step none f s = folded step none (λ k. f k >>= set) s >>= λ m. Done (Set m)
+
+-- 'over nothing `&&` is true, `||` false, `+` 0, `*` 1, `(+)` empty'; '`(*)[..]` of nothing' is 11
+abbrev pub big : ℕ → Big → (ℕ → Result Value) → List ℕ → Result Value
+big place BigSum f s = bigNumber place Plus 0 f s
+big place BigProduct f s = bigNumber place Times 1 f s
+big place BigCap f s = bigSet (λ a b. Done (combine Cap a b)) (Refused 11 place) f s
+big place BigCup f s = bigSet (λ a b. limited place (union a b)) (Done []) f s
+big place BigAnd f s = Done Logic
+big place BigOr f s = Done Logic
+
+-- the two sides of a comparison: two numbers, or a bus against an identifier's words
+pub data Sides : Type 0 where
+  Numbers : ℕ → ℕ → Sides
+  Against : Sized → List (List Mark) → Sides
+
+abbrev pub sides : Value → Value → Result Sides
+sides (Number m) y = number y >>= λ n. Done (Numbers m n)
+sides (Set s) y = misfit
+sides Logic y = misfit
+sides (Bus p k n) y = choice y >>= λ v. Done (Against (record { place = p; first = k; width = n }) v)
+sides (Unsized p) y = Refused 13 p
+sides (Choice v) y = bus y >>= λ b. Done (Against b v)
+
+-- the number of bit i of a bus: 'index too large' is 13
+abbrev pub bit : ℕ → Sized → Result ℕ
+bit i b = guard (ltb i (b .width)) 13 (b .place) (Done (b .first + i))
+
+-- what the visible names stand for
+abbrev pub Scope : Type 0
+Scope = Token → Result Value
+
+-- a name, and what it stands for, put before the others
+abbrev pub naming : Token → Result Value → Scope → Scope
+naming x v sc t = elim (same (x .text) (t .text)) [ true ↦ v | false ↦ sc t ]
+
+-- 'left operand first, set elements ascending'
+abbrev pub value : Scope → Expr → Result Value
+value sc (Named t) = sc t
+value sc (Numeral t) = inRange (t .at) (decimal 0 (t .text)) >>= λ n. Done (Number n)
+value sc (Truth t b) = Done Logic
+value sc (Index t e) = Done Logic
+value sc (Paren t e) = value sc e
+value sc (Prefixed t (Measures m) e) = value sc e >>= set >>= measure (t .at) m >>= λ n. Done (Number n)
+value sc (Prefixed t WidthOf e) = value sc e >>= bus >>= λ b. Done (Number (b .width))
+value sc (Prefixed t (Applies o) e) = Done Logic
+value sc (Joined t (Calculates o) a b) =
+    value sc a >>= number >>= λ m. value sc b >>= number >>= calculate (t .at) o m >>= λ n. Done (Number n)
+value sc (Joined t (Combines o) a b) =
+    value sc a >>= set >>= λ m. value sc b >>= set >>= λ n. limited (t .at) (combine o m n) >>= λ s. Done (Set s)
+value sc (Joined t (Compares o) a b) = Done Logic
+value sc (Joined t Membership a b) = Done Logic
+value sc (Joined t (Connects o) a b) = Done Logic
+value sc (Nexts t n e) = Done Logic
+value sc (InWindow t o n m e) = Done Logic
+value sc (Each t o further i s e) = value sc s >>= set >>= big (t .at) o (λ k. value (naming i (Done (Number k)) sc) e)
+value sc (Between t l h a b) = value sc a >>= number >>= λ m. value sc b >>= number >>= between (t .at) l h m >>= λ s. Done (Set s)
+value sc (Listed t es) = value sc es >>= set >>= limited (t .at) >>= λ s. Done (Set s)
+value sc Empty = Done (Set [])
+value sc (Element e es) = value sc e >>= number >>= λ n. value sc es >>= set >>= λ s. Done (Set (insert n s))
+value sc (Range t x y z) =
+    value sc x >>= number >>= λ a. value sc y >>= number >>= λ b. value sc z >>= number >>= range (t .at) a b >>= λ s. Done (Set s)

@@ -1,0 +1,1 @@
+// The format TLSF v1.1 in definitions: see specs/.
