@@ -3,9 +3,16 @@ pub mod Bytes
 pub mod Tokens
 pub mod Operators
 pub mod Tree
+pub mod Grammar
+pub mod Sections
+pub mod Places
+pub mod Names
+pub mod Types
+pub mod Words
 pub mod Sets
 pub mod Values
 pub mod Signals
 pub mod Lines
 pub mod Expansion
 pub mod Meaning
+pub mod Reading

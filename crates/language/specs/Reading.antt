@@ -1,0 +1,91 @@
+-- The reader's whole answer on a text and its buffers' lengths, in the paper's order of refusals (document 01, 'Reader order').
+use Prim.Native.Nat.{ℕ, suc}
+use mathlib.Core.List.{List, [], _∷_, _++_}
+use mathlib.Core.Bool.{Bool, true, false, _&&_}
+use mathlib.Core.Option.{Option, none, some}
+use lib.Dec.{leb, eqb}
+use lib.ListN.{length, drop, replicate}
+use Rattle.node.specs.Limits.{maxNodes}
+use Rattle.node.specs.Ltl.{Formula}
+use Rattle.node.specs.Postorder.{size, nodesFrom}
+use Rattle.node.specs.Result.{Result, Done, Refused, _>>=_, guard, Counts}
+use Rattle.language.specs.Limits.{maxBytes, maxTokens, workBytes}
+use Rattle.language.specs.Bytes.{if_then_else_}
+use Rattle.language.specs.Tokens.{Token, Wrong, isOf, tokens}
+use Rattle.language.specs.Tree.{Model, Mealy, Moore, Spec}
+use Rattle.language.specs.Sections.{specOf}
+use Rattle.language.specs.Places.{refuseAt, tooDeep}
+use Rattle.language.specs.Names.{notVisible, declaredAgain, tooMany, placeOfFirst}
+use Rattle.language.specs.Types.{wrongType}
+use Rattle.language.specs.Words.{wrongWords}
+use Rattle.language.specs.Signals.{Declarations, declarations}
+use Rattle.language.specs.Lines.{lines}
+use Rattle.language.specs.Expansion.{expand}
+
+-- refusal 2: the place of the first byte that begins no token, or of what is not closed
+abbrev pub noToken : List Token → Option ℕ
+noToken [] = none
+noToken (t ∷ ts) = elim (isOf Wrong t) [ true ↦ some (t .at) | false ↦ noToken ts ]
+
+-- the list ends with a token for the text's end, which is not counted
+abbrev pub tooManyTokens : List Token → Option ℕ
+tooManyTokens ts = if leb (length ts) (suc maxTokens) then none else placeOfFirst (drop maxTokens ts)
+
+-- refusals 5 to 10, 'each over the whole text, first place first'
+abbrev pub wellFormed : Spec → Result Spec
+wellFormed x =
+    refuseAt 5 (tooDeep x) (refuseAt 6 (notVisible x) (refuseAt 7 (declaredAgain x) (refuseAt 8 (tooMany x)
+    (refuseAt 9 (wrongType x) (refuseAt 10 (wrongWords x) (Done x))))))
+
+-- refusals 1 to 10: a text's tree
+unfoldable pub parsed : List ℕ → Result Spec
+parsed text =
+    guard (leb (length text) maxBytes) 1 maxBytes
+    (let ts = tokens text in
+    refuseAt 2 (noToken ts) (refuseAt 3 (tooManyTokens ts) (specOf ts >>= wellFormed)))
+
+abbrev pub sameModel : Model → Model → Bool
+sameModel Mealy Mealy = true
+sameModel Mealy Moore = false
+sameModel Moore Mealy = false
+sameModel Moore Moore = true
+
+-- what an accepted text gives: its formula and its signal list
+pub record Converted : Type 0 where
+  pub formula : Formula
+  pub signals : List ℕ
+
+-- refusals 11 to 13 as evaluation meets them; then 14, 15, 16
+unfoldable pub converted : Spec → Result Converted
+converted x =
+    declarations x >>= λ d. expand x d (lines x d) >>= λ f.
+    guard (sameModel (x .semantics) (x .target)) 14 (x .targetWord .at)
+    (refuseAt 15 (elim (d .outputs .excess) [ [] ↦ none | p ∷ ps ↦ some p ])
+    (guard (leb (size f) maxNodes) 16 0 (Done (record { formula = f; signals = d .outputs .list }))))
+
+-- what the text alone decides
+unfoldable pub meant : List ℕ → Result Converted
+meant text = parsed text >>= converted
+
+-- 'Reader order: 17, then 1 to 10 .. 16, 18'; the buffers' lengths are those of work, nodes and signals
+unfoldable pub reading : List ℕ → ℕ → ℕ → ℕ → Result Converted
+reading text work nodes signals =
+    guard (leb workBytes work) 17 0
+    (meant text >>= λ c. guard (leb (size (c .formula)) nodes && leb (length (c .signals)) signals) 18 0 (Done c))
+
+-- 'accepted with its counts'
+abbrev pub counts : Converted → Counts
+counts c = record { nodes = size (c .formula); signals = length (c .signals) }
+
+-- the result buffers: 'entries past an accepted result are unchanged', and a refused call changes none
+abbrev pub nodesAfter : Result Converted → List ℕ → List ℕ
+nodesAfter (Done c) nodes = nodesFrom 0 (c .formula) ++ drop (size (c .formula)) nodes
+nodesAfter (Refused n p) nodes = nodes
+
+abbrev pub signalsAfter : Result Converted → List ℕ → List ℕ
+signalsAfter (Done c) signals = c .signals ++ drop (length (c .signals)) signals
+signalsAfter (Refused n p) signals = signals
+
+-- the work buffer: 'its first 65,536 bytes are zero after every answer, untouched by 17, and bytes beyond are never touched'
+unfoldable pub workAfter : List ℕ → List ℕ
+workAfter work = if leb workBytes (length work) then replicate workBytes 0 ++ drop workBytes work else work

@@ -1,0 +1,185 @@
+-- Refusal 9: 'operand, width, declaring type or a line's expression of a wrong type'. An operator fixes its result's type, so a wrong operand inside hides none
+-- outside.
+use Prim.Native.Nat.{ℕ}
+use mathlib.Core.List.{List, [], _∷_, _++_}
+use mathlib.Core.Bool.{Bool, true, false, _&&_, _||_}
+use mathlib.Core.Option.{Option, none, some}
+use lib.Dec.{eqb}
+use Rattle.language.specs.Bytes.{if_then_else_, same}
+use Rattle.language.specs.Tokens.{Token}
+use Rattle.language.specs.Operators.{Comparison, Equal, Unequal, Less, AtMost, Greater, AtLeast, Big, BigSum, BigProduct, BigCap, BigCup, BigAnd, BigOr, Infix, Calculates, Combines, Compares, Membership, Connects, Prefix, Measures, WidthOf, Applies}
+use Rattle.language.specs.Tree.{Expr, Named, Numeral, Truth, Index, Paren, Prefixed, Joined, Nexts, InWindow, Each, Between, Listed, Empty, Element, Range, Identifier, Definition, Defined, Enumerated, Declaration, OneSignal, OfWidth, OfType, Spec}
+use Rattle.language.specs.Places.{start, first, firstIn, unless, Entry, ParameterLine, DefinitionLine, DeclarationLine, FormulaLine, allLines}
+
+-- a number, a set, a formula, a bus, an enumeration's identifier, an enumeration, no visible name
+pub data Kind : Type 0 where
+  ANumber ASet AFormula ABus AValue AType Unknown : Kind
+
+abbrev pub kindCode : Kind → ℕ
+kindCode ANumber = 0
+kindCode ASet = 1
+kindCode AFormula = 2
+kindCode ABus = 3
+kindCode AValue = 4
+kindCode AType = 5
+kindCode Unknown = 6
+
+abbrev pub isKind : Kind → Kind → Bool
+isKind k l = eqb (kindCode k) (kindCode l)
+
+-- the visible names with their types
+pub record Typing : Type 0 where
+  pub name : Token
+  pub kind : Kind
+
+abbrev pub Typings : Type 0
+Typings = List Typing
+
+abbrev pub kindIn : Typings → Token → Kind
+kindIn [] t = Unknown
+kindIn (y ∷ ys) t = elim (same (y .name .text) (t .text)) [ true ↦ y .kind | false ↦ kindIn ys t ]
+
+-- what an operator takes and gives
+abbrev pub prefixTakes : Prefix → Kind
+prefixTakes (Measures m) = ASet
+prefixTakes WidthOf = ABus
+prefixTakes (Applies o) = AFormula
+
+abbrev pub prefixGives : Prefix → Kind
+prefixGives (Measures m) = ANumber
+prefixGives WidthOf = ANumber
+prefixGives (Applies o) = AFormula
+
+abbrev pub infixGives : Infix → Kind
+infixGives (Calculates o) = ANumber
+infixGives (Combines o) = ASet
+infixGives (Compares o) = AFormula
+infixGives Membership = AFormula
+infixGives (Connects o) = AFormula
+
+abbrev pub bigGives : Big → Kind
+bigGives BigSum = ANumber
+bigGives BigProduct = ANumber
+bigGives BigCap = ASet
+bigGives BigCup = ASet
+bigGives BigAnd = AFormula
+bigGives BigOr = AFormula
+
+-- a big operator's name is a number
+abbrev pub withNumber : Token → Typings → Typings
+withNumber i ys = record { name = i; kind = ANumber } ∷ ys
+
+abbrev pub kindOf : Typings → Expr → Kind
+kindOf ys (Named t) = kindIn ys t
+kindOf ys (Numeral t) = ANumber
+kindOf ys (Truth t b) = AFormula
+kindOf ys (Index t e) = AFormula
+kindOf ys (Paren t e) = kindOf ys e
+kindOf ys (Prefixed t o e) = prefixGives o
+kindOf ys (Joined t o a b) = infixGives o
+kindOf ys (Nexts t n e) = AFormula
+kindOf ys (InWindow t o n m e) = AFormula
+kindOf ys (Each t o further i s e) = bigGives o
+kindOf ys (Between t l h a b) = ASet
+kindOf ys (Listed t es) = ASet
+kindOf ys Empty = ASet
+kindOf ys (Element e es) = ASet
+kindOf ys (Range t x y z) = ASet
+
+-- 'its first token', unless the expression has the type
+abbrev pub wrong : Kind → Typings → Expr → Option ℕ
+wrong k ys e = unless (isKind k (kindOf ys e)) (start e)
+
+-- `==` and `!=` take two numbers, or a bus and an identifier in either order ('the right operand's if two only clash')
+abbrev pub comparable : Kind → Bool
+comparable k = isKind ANumber k || isKind ABus k || isKind AValue k
+
+abbrev pub fitting : Kind → Kind → Bool
+fitting k l = isKind ANumber k && isKind ANumber l || isKind ABus k && isKind AValue l || isKind AValue k && isKind ABus l
+
+abbrev pub wrongSides : Typings → Expr → Expr → Option ℕ
+wrongSides ys a b = if comparable (kindOf ys a) then unless (fitting (kindOf ys a) (kindOf ys b)) (start b) else some (start a)
+
+abbrev pub wrongBoth : Kind → Typings → Expr → Expr → Option ℕ
+wrongBoth k ys a b = first (wrong k ys a) (wrong k ys b)
+
+abbrev pub wrongOperands : Typings → Infix → Expr → Expr → Option ℕ
+wrongOperands ys (Calculates o) a b = wrongBoth ANumber ys a b
+wrongOperands ys (Combines o) a b = wrongBoth ASet ys a b
+wrongOperands ys (Compares Equal) a b = wrongSides ys a b
+wrongOperands ys (Compares Unequal) a b = wrongSides ys a b
+wrongOperands ys (Compares Less) a b = wrongBoth ANumber ys a b
+wrongOperands ys (Compares AtMost) a b = wrongBoth ANumber ys a b
+wrongOperands ys (Compares Greater) a b = wrongBoth ANumber ys a b
+wrongOperands ys (Compares AtLeast) a b = wrongBoth ANumber ys a b
+wrongOperands ys Membership a b = first (wrong ANumber ys a) (wrong ASet ys b)
+wrongOperands ys (Connects o) a b = wrongBoth AFormula ys a b
+
+-- the first operand of a wrong type inside an expression
+abbrev pub mistyped : Typings → Expr → Option ℕ
+mistyped ys (Named t) = none
+mistyped ys (Numeral t) = none
+mistyped ys (Truth t b) = none
+mistyped ys (Index t e) = first (unless (isKind ABus (kindIn ys t)) (t .at)) (first (wrong ANumber ys e) (mistyped ys e))
+mistyped ys (Paren t e) = mistyped ys e
+mistyped ys (Prefixed t o e) = first (wrong (prefixTakes o) ys e) (mistyped ys e)
+mistyped ys (Joined t o a b) = first (wrongOperands ys o a b) (first (mistyped ys a) (mistyped ys b))
+mistyped ys (Nexts t n e) = first (first (wrong ANumber ys n) (mistyped ys n)) (first (wrong AFormula ys e) (mistyped ys e))
+mistyped ys (InWindow t o n m e) =
+    first (first (wrong ANumber ys n) (mistyped ys n))
+    (first (first (wrong ANumber ys m) (mistyped ys m)) (first (wrong AFormula ys e) (mistyped ys e)))
+mistyped ys (Each t o further i s e) =
+    first (first (wrong ASet ys s) (mistyped ys s)) (first (wrong (bigGives o) (withNumber i ys) e) (mistyped (withNumber i ys) e))
+mistyped ys (Between t l h a b) = first (wrongBoth ANumber ys a b) (first (mistyped ys a) (mistyped ys b))
+mistyped ys (Listed t es) = mistyped ys es
+mistyped ys Empty = none
+mistyped ys (Element e es) = first (first (wrong ANumber ys e) (mistyped ys e)) (mistyped ys es)
+mistyped ys (Range t x y z) =
+    first (first (wrong ANumber ys x) (mistyped ys x)) (first (first (wrong ANumber ys y) (mistyped ys y)) (first (wrong ANumber ys z) (mistyped ys z)))
+
+-- an expression that must have the type
+abbrev pub demanded : Kind → Typings → Expr → Option ℕ
+demanded k ys e = first (wrong k ys e) (mistyped ys e)
+
+-- 'a definition is a number, a set or a formula'
+abbrev pub definable : Kind → Bool
+definable k = isKind ANumber k || isKind ASet k || isKind AFormula k
+
+abbrev pub mistypedLine : Typings → Entry → Option ℕ
+mistypedLine ys (ParameterLine x e) = demanded ANumber ys e
+mistypedLine ys (DefinitionLine (Defined x e)) = first (unless (definable (kindOf ys e)) (start e)) (mistyped ys e)
+mistypedLine ys (DefinitionLine (Enumerated x is)) = none
+mistypedLine ys (DeclarationLine (OneSignal x)) = none
+mistypedLine ys (DeclarationLine (OfWidth x e)) = demanded ANumber ys e
+mistypedLine ys (DeclarationLine (OfType u x)) = unless (isKind AType (kindIn ys u)) (u .at)
+mistypedLine ys (FormulaLine e) = demanded AFormula ys e
+
+abbrev pub typedValues : List Identifier → Typings → Typings
+typedValues [] ys = ys
+typedValues (i ∷ is) ys = record { name = i .name; kind = AValue } ∷ typedValues is ys
+
+-- what is visible after a line
+abbrev pub typedAfter : Typings → Entry → Typings
+typedAfter ys (ParameterLine x e) = record { name = x; kind = ANumber } ∷ ys
+typedAfter ys (DefinitionLine (Defined x e)) = record { name = x; kind = kindOf ys e } ∷ ys
+typedAfter ys (DefinitionLine (Enumerated x is)) = record { name = x; kind = AType } ∷ typedValues is ys
+typedAfter ys (DeclarationLine d) = ys
+typedAfter ys (FormulaLine e) = ys
+
+-- signals and buses
+abbrev pub typedSignals : List Entry → Typings
+typedSignals [] = []
+typedSignals (ParameterLine x e ∷ ls) = typedSignals ls
+typedSignals (DefinitionLine d ∷ ls) = typedSignals ls
+typedSignals (DeclarationLine (OneSignal x) ∷ ls) = record { name = x; kind = AFormula } ∷ typedSignals ls
+typedSignals (DeclarationLine (OfWidth x e) ∷ ls) = record { name = x; kind = ABus } ∷ typedSignals ls
+typedSignals (DeclarationLine (OfType u x) ∷ ls) = record { name = x; kind = ABus } ∷ typedSignals ls
+typedSignals (FormulaLine e ∷ ls) = typedSignals ls
+
+abbrev pub mistypedLines : Typings → List Entry → Option ℕ
+mistypedLines ys [] = none
+mistypedLines ys (l ∷ ls) = first (mistypedLine ys l) (mistypedLines (typedAfter ys l) ls)
+
+-- refusal 9
+abbrev pub wrongType : Spec → Option ℕ
+wrongType x = mistypedLines (typedSignals (allLines x)) (allLines x)
