@@ -9,6 +9,7 @@ pub mod Places
 pub mod Names
 pub mod Types
 pub mod Words
+pub mod Parsing
 pub mod Sets
 pub mod Values
 pub mod Signals

@@ -17,6 +17,7 @@ use Rattle.language.specs.Sets.{memberOf}
 use Rattle.language.specs.Values.{Mark, Absent, Present, Star, Number, number, set, bus, Sized, Sides, Numbers, Against, sides, bit, Scope, naming, value}
 use Rattle.language.specs.Signals.{Declared, Constant, SignalAt, BusAt, Identifies, WaitingSignal, WaitingBus, Table, find, declared, Line, Written, Implied, Declarations, declarations, none}
 use Rattle.language.specs.Lines.{lines}
+use Rattle.language.specs.Parsing.{parsed}
 
 -- '`&&[i IN M] e` holds if e does for each i in M, `||[i IN M] e` if for some'
 abbrev pub EachMeans : Big → List ℕ → (ℕ → Type 0) → Type 0
@@ -177,3 +178,11 @@ SpecMeans x w t =
     let d = orElse nothing (declarations x) in
     let c = meaningAll (present (d .outputs .table)) (x .definitions) in
     WholeMeans (x .strict) (λ s. SectionMeans c (lines x d) s w) t
+
+-- a text's meaning, from its bytes; a text that is refused means nothing
+abbrev pub OfSpec : Result Spec → Word → Property
+OfSpec (Done x) w t = SpecMeans x w t
+OfSpec (Refused n p) w t = ⊥
+
+abbrev pub TextMeans : List ℕ → Word → Property
+TextMeans text w t = OfSpec (parsed text) w t

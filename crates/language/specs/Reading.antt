@@ -1,48 +1,22 @@
 -- The reader's whole answer on a text and its buffers' lengths, in the paper's order of refusals (document 01, 'Reader order').
-use Prim.Native.Nat.{ℕ, suc}
+use Prim.Native.Nat.{ℕ}
 use mathlib.Core.List.{List, [], _∷_, _++_}
 use mathlib.Core.Bool.{Bool, true, false, _&&_}
 use mathlib.Core.Option.{Option, none, some}
-use lib.Dec.{leb, eqb}
+use lib.Dec.{leb}
 use lib.ListN.{length, drop, replicate}
 use Rattle.node.specs.Limits.{maxNodes}
 use Rattle.node.specs.Ltl.{Formula}
 use Rattle.node.specs.Postorder.{size, nodesFrom}
 use Rattle.node.specs.Result.{Result, Done, Refused, _>>=_, guard, Counts}
-use Rattle.language.specs.Limits.{maxBytes, maxTokens, workBytes}
+use Rattle.language.specs.Limits.{workBytes}
 use Rattle.language.specs.Bytes.{if_then_else_}
-use Rattle.language.specs.Tokens.{Token, Wrong, isOf, tokens}
 use Rattle.language.specs.Tree.{Model, Mealy, Moore, Spec}
-use Rattle.language.specs.Sections.{specOf}
-use Rattle.language.specs.Places.{refuseAt, tooDeep}
-use Rattle.language.specs.Names.{notVisible, declaredAgain, tooMany, placeOfFirst}
-use Rattle.language.specs.Types.{wrongType}
-use Rattle.language.specs.Words.{wrongWords}
+use Rattle.language.specs.Places.{refuseAt}
+use Rattle.language.specs.Parsing.{parsed}
 use Rattle.language.specs.Signals.{Declarations, declarations}
 use Rattle.language.specs.Lines.{lines}
 use Rattle.language.specs.Expansion.{expand}
-
--- refusal 2: the place of the first byte that begins no token, or of what is not closed
-abbrev pub noToken : List Token → Option ℕ
-noToken [] = none
-noToken (t ∷ ts) = elim (isOf Wrong t) [ true ↦ some (t .at) | false ↦ noToken ts ]
-
--- the list ends with a token for the text's end, which is not counted
-abbrev pub tooManyTokens : List Token → Option ℕ
-tooManyTokens ts = if leb (length ts) (suc maxTokens) then none else placeOfFirst (drop maxTokens ts)
-
--- refusals 5 to 10, 'each over the whole text, first place first'
-abbrev pub wellFormed : Spec → Result Spec
-wellFormed x =
-    refuseAt 5 (tooDeep x) (refuseAt 6 (notVisible x) (refuseAt 7 (declaredAgain x) (refuseAt 8 (tooMany x)
-    (refuseAt 9 (wrongType x) (refuseAt 10 (wrongWords x) (Done x))))))
-
--- refusals 1 to 10: a text's tree
-unfoldable pub parsed : List ℕ → Result Spec
-parsed text =
-    guard (leb (length text) maxBytes) 1 maxBytes
-    (let ts = tokens text in
-    refuseAt 2 (noToken ts) (refuseAt 3 (tooManyTokens ts) (specOf ts >>= wellFormed)))
 
 abbrev pub sameModel : Model → Model → Bool
 sameModel Mealy Mealy = true
