@@ -1,0 +1,75 @@
+-- `pack` meets its contract: the two cases of an answer, packed by sums and products.
+use mathlib.Core.Path.{_≡_, sym}
+use native.Mathlib.Omega.{arith}
+use borrow.Author.Needs.{needs}
+use Prim.Native.Nat.{_^_, _<_}
+use Rattle.node.specs.Answer.{says}
+use Rattle.tlsf_c.specs.Packed.{Fits}
+use Rattle.tlsf_c.proofs.pack.Statement.{statement}
+use Rattle.tlsf_c.proofs.pack.Tie as tie
+
+enum-known-answer : tie.Need-enum-known-answer
+enum-known-answer c = search needs
+
+wide-requires : tie.Need-wide-requires
+wide-requires c κs = search needs
+
+mul-result : tie.Need-mul-result
+mul-result c = search needs
+
+wide-requires-2 : tie.Need-wide-requires-2
+wide-requires-2 c κs = search needs
+
+add-result : tie.Need-add-result
+add-result c = search needs
+
+enum-known-answer-2 : tie.Need-enum-known-answer-2
+enum-known-answer-2 c = search needs
+
+wide-requires-3 : tie.Need-wide-requires-3
+wide-requires-3 c κs = search needs
+
+mul-result-2 : tie.Need-mul-result-2
+mul-result-2 c = search needs
+
+wide-requires-4 : tie.Need-wide-requires-4
+wide-requires-4 c κs = search needs
+
+add-result-2 : tie.Need-add-result-2
+add-result-2 c = search needs
+
+add-result-3 : tie.Need-add-result-3
+add-result-3 c =
+    let h = rw (c .before .before .before .answer2 .given .1) at (c .before .before .before .before .before .pre) in
+    let e = c .before .wide3 .ensures in
+    omega arith
+
+returns : tie.Need-returns
+returns c =
+    let e = c .before .wide .ensures in
+    let f = c .wide2 .ensures in
+    rw (c .before .before .before .answer .given .1) (omega arith)
+
+returns-2 : tie.Need-returns-2
+returns-2 c =
+    let e = c .before .wide3 .ensures in
+    let f = c .wide4 .ensures in
+    rw (c .before .before .before .answer2 .given .1) (omega arith)
+
+pub pack-spec : {M : Type 1} → statement M
+pack-spec =
+    tie.close
+    (tie.spec
+    enum-known-answer
+    wide-requires
+    mul-result
+    wide-requires-2
+    add-result
+    enum-known-answer-2
+    wide-requires-3
+    mul-result-2
+    wide-requires-4
+    add-result-2
+    add-result-3
+    returns
+    returns-2)

@@ -1,0 +1,40 @@
+-- Every refusal of the rewriter has a number that fits the packed word.
+use Prim.Native.Nat.{ℕ, suc, _^_, _<_}
+use mathlib.Core.Bool.{Bool, true, false}
+use mathlib.Core.List.{List, [], _∷_}
+use native.Mathlib.Omega.{arith}
+use Rattle.node.specs.Limits.{maxNodes, fieldLimit}
+use Rattle.node.specs.Ltl.{Formula}
+use Rattle.node.specs.Result.{Result, Done, Refused, _>>=_, guard, Counts}
+use Rattle.node.specs.Table.{nodeFits, scanned, checked}
+use Rattle.rewriter.specs.Rewriting.{target, fitting, rewriting}
+use Rattle.tlsf_c.specs.Packed.{Fits}
+
+guard-fits : {A : Type 0} (b : Bool) (number place : ℕ) (r : Result A) → number < 2 ^ 31 → Fits r → Fits (guard b number place r)
+unfolding guard
+guard-fits true number place r h k = k
+guard-fits false number place r h k = h
+
+bind-fits : {A B : Type 0} (r : Result A) (f : A → Result B) → Fits r → ((a : A) → Fits (f a)) → Fits (r >>= f)
+unfolding _>>=_
+bind-fits (Done a) f h k = k a
+bind-fits (Refused number place) f h k = h
+
+scanned-fits : {A : Type 0} (limit n : ℕ) (ws : List ℕ) (r : Result A) → Fits r → Fits (scanned limit n ws r)
+unfolding scanned
+scanned-fits limit n [] r h = h
+scanned-fits limit n (w ∷ ws) r h = guard-fits (nodeFits limit n w) 19 n (scanned limit (suc n) ws r) (omega arith) (scanned-fits limit (suc n) ws r h)
+
+pub checked-fits : (limit : ℕ) (ws : List ℕ) → Fits (checked limit ws)
+unfolding checked
+checked-fits limit ws =
+    guard-fits _ 19 0 _ (omega arith) (guard-fits _ 19 maxNodes _ (omega arith) (scanned-fits limit 0 ws (Done _) tt))
+
+fitting-fits : (f : Formula) (room : ℕ) → Fits (fitting f room)
+unfolding fitting
+fitting-fits f room = guard-fits _ 16 0 _ (omega arith) (guard-fits _ 18 0 _ (omega arith) tt)
+
+pub rewriting-fits : (number : ℕ) (nodes : List ℕ) (room : ℕ) → Fits (rewriting number nodes room)
+unfolding rewriting
+rewriting-fits number nodes room =
+    guard-fits _ 21 0 _ (omega arith) (bind-fits (checked fieldLimit nodes) _ (checked-fits fieldLimit nodes) (λ c. fitting-fits (target number nodes) room))

@@ -1,0 +1,36 @@
+// The library for callers in C and Rust: a slice is a pointer and a length, the answer one 64-bit word.
+ghost use mathlib.Core.Path.{_≡_};
+ghost use Rattle.node.specs.Answer.{says};
+ghost use Rattle.rewriter.specs.Promise.{Rewrites};
+ghost use Rattle.tlsf_c.specs.Packed.{packed, Fits};
+ghost use Rattle.tlsf_c.specs.Promise.{Packs};
+use node::Answer;
+
+const HIGH: u64 = 4294967296;
+
+const REFUSED: u64 = 9223372036854775808;
+
+fn wide(x: u32) -> u64
+    ensures { λ r. ⌜ r ≡ x ⌝ }
+{
+    x as u64
+}
+
+// An answer in one word: accepted = nodes * 2^32 + signals; refused = 2^63 + number * 2^32 + place.
+fn pack(answer: Answer) -> u64
+    requires { ⌜ Fits (says answer) ⌝ }
+    ensures { λ r. ⌜ r ≡ packed (says answer) ⌝ }
+{
+    match answer {
+        Answer::Accepted(nodes, signals) => wide(nodes) * HIGH + wide(signals),
+        Answer::Refused(number, place) => REFUSED + (wide(number) * HIGH + wide(place)),
+    }
+}
+
+// rewriter::rewrite
+#[no_mangle]
+pub extern "C" fn tlsf_rewrite(nodes: &[u32], form: u32, out: &mut [u32]) -> u64
+    ensures { λ r. ⌜ Packs r (Rewrites form (now (nodes .entry)) (now (out .entry)) (now (out .exit))) ⌝ }
+{
+    pack(rewriter::rewrite(nodes, form, out))
+}
