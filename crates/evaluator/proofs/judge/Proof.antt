@@ -1,0 +1,83 @@
+-- `judge` meets its contract: it reads the bit of the root's row at position 0.
+use mathlib.Core.Path.{_≡_, refl, ap, sym, _∙_}
+use native.Mathlib.Omega.{arith}
+use Rattle.node.specs.Answer.{says}
+use Rattle.evaluator.specs.EvaluationLaws.{opens, root-in, judges, judges-refusal}
+use Rattle.evaluator.specs.declared.Verdict.{Verdict}
+use borrow.Author.Needs.{needs}
+use Rattle.evaluator.proofs.judge.Statement.{statement}
+use Rattle.evaluator.proofs.judge.Tie as tie
+
+evaluate-requires : tie.Need-evaluate-requires
+evaluate-requires c κs = search needs
+
+enum-known-answer : tie.Need-enum-known-answer
+enum-known-answer c = search needs
+
+enum-known-answer-2 : tie.Need-enum-known-answer-2
+enum-known-answer-2 c = search needs
+
+read-lasso-requires : tie.Need-read-lasso-requires
+read-lasso-requires c κs =
+    (opens ((c .before .before .before .before .before .before .before .before .before .before) .args .nodes .now) ((c .before .before .before .before .before .before .before .before .before .before) .args .signals) ((c .before .before .before .before .before .before .before .before .before .before) .args .recording .now) _ (sym ((c .before .before .before .before .before .evaluate) .ensures .answer) ∙ (ap says ((c .before .answer2) .given .1)))) .reads .long
+
+add-w : tie.Need-add-w
+add-w c =
+    let i = root-in ((c .before .before .before .before .before .before .before .before .before .before .before .before) .args .nodes .now) ((c .before .before .before .before .before .before .before .before .before .before .before .before) .args .signals) ((c .before .before .before .before .before .before .before .before .before .before .before .before) .args .recording .now) _ (opens ((c .before .before .before .before .before .before .before .before .before .before .before .before) .args .nodes .now) ((c .before .before .before .before .before .before .before .before .before .before .before .before) .args .signals) ((c .before .before .before .before .before .before .before .before .before .before .before .before) .args .recording .now) _ (sym ((c .before .before .before .before .before .before .before .evaluate) .ensures .answer) ∙ (ap says ((c .before .before .before .answer2) .given .1)))) ((c .before .read-lasso) .ensures) in record { fits = omega arith }
+
+sub-last : tie.Need-sub-last
+sub-last c =
+    let i = root-in ((c .before .before .before .before .before .before .before .before .before .before .before .before) .args .nodes .now) ((c .before .before .before .before .before .before .before .before .before .before .before .before) .args .signals) ((c .before .before .before .before .before .before .before .before .before .before .before .before) .args .recording .now) _ (opens ((c .before .before .before .before .before .before .before .before .before .before .before .before) .args .nodes .now) ((c .before .before .before .before .before .before .before .before .before .before .before .before) .args .signals) ((c .before .before .before .before .before .before .before .before .before .before .before .before) .args .recording .now) _ (sym ((c .before .before .before .before .before .before .before .evaluate) .ensures .answer) ∙ (ap says ((c .before .before .before .answer2) .given .1)))) ((c .before .read-lasso) .ensures) in omega arith
+
+mul-get-bit : tie.Need-mul-get-bit
+mul-get-bit c =
+    let i = root-in ((c .before .before .before .before .before .before .before .before .before .before .before .before .before) .args .nodes .now) ((c .before .before .before .before .before .before .before .before .before .before .before .before .before) .args .signals) ((c .before .before .before .before .before .before .before .before .before .before .before .before .before) .args .recording .now) _ (opens ((c .before .before .before .before .before .before .before .before .before .before .before .before .before) .args .nodes .now) ((c .before .before .before .before .before .before .before .before .before .before .before .before .before) .args .signals) ((c .before .before .before .before .before .before .before .before .before .before .before .before .before) .args .recording .now) _ (sym ((c .before .before .before .before .before .before .before .before .evaluate) .ensures .answer) ∙ (ap says ((c .before .before .before .before .answer2) .given .1)))) ((c .before .before .read-lasso) .ensures) in record { fits = omega arith }
+
+mul-get-bit-2 : tie.Need-mul-get-bit-2
+mul-get-bit-2 c =
+    let i = root-in ((c .before .before .before .before .before .before .before .before .before .before .before .before .before) .args .nodes .now) ((c .before .before .before .before .before .before .before .before .before .before .before .before .before) .args .signals) ((c .before .before .before .before .before .before .before .before .before .before .before .before .before) .args .recording .now) _ (opens ((c .before .before .before .before .before .before .before .before .before .before .before .before .before) .args .nodes .now) ((c .before .before .before .before .before .before .before .before .before .before .before .before .before) .args .signals) ((c .before .before .before .before .before .before .before .before .before .before .before .before .before) .args .recording .now) _ (sym ((c .before .before .before .before .before .before .before .before .evaluate) .ensures .answer) ∙ (ap says ((c .before .before .before .before .answer2) .given .1)))) ((c .before .before .read-lasso) .ensures) in record { fits = omega arith }
+
+get-bit-requires : tie.Need-get-bit-requires
+get-bit-requires c κs =
+    let i = root-in ((c .before .before .before .before .before .before .before .before .before .before .before .before .before) .args .nodes .now) ((c .before .before .before .before .before .before .before .before .before .before .before .before .before) .args .signals) ((c .before .before .before .before .before .before .before .before .before .before .before .before .before) .args .recording .now) _ (opens ((c .before .before .before .before .before .before .before .before .before .before .before .before .before) .args .nodes .now) ((c .before .before .before .before .before .before .before .before .before .before .before .before .before) .args .signals) ((c .before .before .before .before .before .before .before .before .before .before .before .before .before) .args .recording .now) _ (sym ((c .before .before .before .before .before .before .before .before .evaluate) .ensures .answer) ∙ (ap says ((c .before .before .before .before .answer2) .given .1)))) ((c .before .before .read-lasso) .ensures) in omega (arith, (c .before .before .before .before .before .before .before .rows) .given)
+
+same-length : tie.Need-same-length
+same-length c = search needs
+
+returns : tie.Need-returns
+returns c =
+    judges ((c .before .before .before .before .before .before .before .before .before .before .before .before .before .before .before) .args .nodes .now) ((c .before .before .before .before .before .before .before .before .before .before .before .before .before .before .before) .args .signals) ((c .before .before .before .before .before .before .before .before .before .before .before .before .before .before .before) .args .recording .now) ((c .before .before .before .before .before .before .before .before .before .before .before .before .before .before .before) .args .rows .now) _ ((c .before .before .before .before .before .before .before .before .before .before .evaluate) .ensures) Verdict.Holds (ap says ((c .before .before .before .before .before .before .answer2) .given .1)) ((c .before .before .before .before .read-lasso) .ensures) ((c .before .get-bit) .ensures) ((c .if1) .taken) refl
+
+same-length-2 : tie.Need-same-length-2
+same-length-2 c = search needs
+
+returns-2 : tie.Need-returns-2
+returns-2 c =
+    judges-refusal ((c .before .before .before .before .before .before .before .before .before .before) .args .nodes .now) ((c .before .before .before .before .before .before .before .before .before .before) .args .signals) ((c .before .before .before .before .before .before .before .before .before .before) .args .recording .now) ((c .before .before .before .before .before .before .before .before .before .before) .args .rows .now) _ ((c .before .before .before .before .before .evaluate) .ensures) ((c .before .answer) .given .1)
+
+same-length-3 : tie.Need-same-length-3
+same-length-3 c = search needs
+
+returns-3 : tie.Need-returns-3
+returns-3 c =
+    judges ((c .before .before .before .before .before .before .before .before .before .before .before .before .before .before .before) .args .nodes .now) ((c .before .before .before .before .before .before .before .before .before .before .before .before .before .before .before) .args .signals) ((c .before .before .before .before .before .before .before .before .before .before .before .before .before .before .before) .args .recording .now) ((c .before .before .before .before .before .before .before .before .before .before .before .before .before .before .before) .args .rows .now) _ ((c .before .before .before .before .before .before .before .before .before .before .evaluate) .ensures) Verdict.Fails (ap says ((c .before .before .before .before .before .before .answer2) .given .1)) ((c .before .before .before .before .read-lasso) .ensures) ((c .before .get-bit) .ensures) ((c .if1) .left) refl
+
+pub judge-spec : {M : Type 1} → statement M
+judge-spec =
+    tie.close
+    (tie.spec
+    evaluate-requires
+    enum-known-answer
+    enum-known-answer-2
+    read-lasso-requires
+    add-w
+    sub-last
+    mul-get-bit
+    mul-get-bit-2
+    get-bit-requires
+    same-length
+    returns
+    same-length-2
+    returns-2
+    same-length-3
+    returns-3)

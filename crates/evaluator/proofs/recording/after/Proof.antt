@@ -1,0 +1,26 @@
+use Prim.Native.Nat.{ℕ, suc, _+_, _*_, _-_, _/_, _≤_, _<_, _^_}
+use mathlib.Core.Path.{_≡_, refl, sym, ap, _∙_, subst}
+use native.Mathlib.Omega.{arith}
+use lib.ListN.{length}
+use borrow.Author.Tests.{lt-ltb, le-ltb}
+use Rattle.evaluator.specs.Lasso.{next}
+use borrow.Author.Needs.{needs}
+use Rattle.evaluator.proofs.recording.after.Statement.{statement}
+use Rattle.evaluator.proofs.recording.after.Tie as tie
+
+add-if1 : tie.Need-add-if1
+add-if1 c = search needs
+
+add-result : tie.Need-add-result
+add-result c = search needs
+
+returns : tie.Need-returns
+unfolding next
+returns c = rw (lt-ltb _ _ (c .if1 .taken))
+
+returns-2 : tie.Need-returns-2
+unfolding next
+returns-2 c = rw (le-ltb _ _ (c .if1 .left))
+
+pub after-spec : {M : Type 1} → statement M
+after-spec = tie.close (tie.spec add-if1 add-result returns returns-2)

@@ -1,0 +1,31 @@
+use mathlib.Core.Path.{_≡_, refl}
+use borrow.Author.Needs.{needs}
+use Rattle.evaluator.proofs.recording.read_lasso.Statement.{statement}
+use Rattle.evaluator.proofs.recording.read_lasso.Tie as tie
+
+field-requires : tie.Need-field-requires
+field-requires c κs = search needs
+
+cast-n : tie.Need-cast-n
+cast-n c = search needs
+
+field-requires-2 : tie.Need-field-requires-2
+field-requires-2 c κs = search needs
+
+cast-l : tie.Need-cast-l
+cast-l c = search needs
+
+field-requires-3 : tie.Need-field-requires-3
+field-requires-3 c κs = search needs
+
+cast-k : tie.Need-cast-k
+cast-k c = search needs
+
+returns : tie.Need-returns
+returns c =
+    rw ((c .before .before .field) .ensures, (c .before .field2) .ensures, (c .field3) .ensures) refl
+
+pub read-lasso-spec : {M : Type 1} → statement M
+read-lasso-spec =
+    tie.close
+    (tie.spec field-requires cast-n field-requires-2 cast-l field-requires-3 cast-k returns)

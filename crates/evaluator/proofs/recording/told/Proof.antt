@@ -1,0 +1,19 @@
+use mathlib.Core.Path.{sym}
+use Rattle.evaluator.specs.RecordingLaws.{told-here, told-last}
+use borrow.Author.Needs.{needs}
+use Rattle.evaluator.proofs.recording.told.Statement.{statement}
+use Rattle.evaluator.proofs.recording.told.Tie as tie
+
+cast-result : tie.Need-cast-result
+cast-result c = search needs
+
+returns : tie.Need-returns
+returns c =
+    sym (told-here _ ((c .if1) .taken))
+
+returns-2 : tie.Need-returns-2
+returns-2 c =
+    sym (told-last _ ((c .if1) .left))
+
+pub told-spec : {M : Type 1} → statement M
+told-spec = tie.close (tie.spec cast-result returns returns-2)

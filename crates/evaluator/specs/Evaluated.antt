@@ -1,0 +1,159 @@
+-- Rows that are right, one after the other: what the loop over the nodes has done.
+use Prim.Native.Nat.{ℕ, zero, suc, _+_, _*_, _-_, _/_, _%_, _^_, _≤_, _<_}
+use mathlib.Core.Path.{_≡_, refl, sym, ap, ap₂, _∙_, subst}
+use mathlib.Core.Bool.{Bool, true, false, _&&_}
+use mathlib.Core.List.{List}
+use native.Mathlib.Decide.{ℕ-discrete, decLt}
+use native.Mathlib.Nat.{mul-le-mul-left, mul-le-mul}
+use native.Mathlib.Omega.{arith}
+use lib.ListN.{length, getD}
+use Rattle.node.specs.Limits.{maxNodes}
+use Rattle.node.specs.Fields.{kindOf, firstOf, secondOf}
+use Rattle.node.specs.Kinds.{Shape, Truth, Falsehood, Atom, UnaryOf, BinaryOf, Unused, shapeOf, build}
+use Rattle.node.specs.Table.{treeAt}
+use Rattle.node.specs.TableLaws.{Formed, Below, node-is}
+use Rattle.evaluator.specs.Bits.{width}
+use Rattle.evaluator.specs.Recording.{letterOf}
+use Rattle.evaluator.specs.Row.{row, nodeRow, shown}
+use Rattle.evaluator.specs.RowLaws.{Agree, Uses, uses-map, shape-ext, row-build, shown-in, shown-out}
+use Rattle.evaluator.specs.Memory.{bitsAt, Kept, Cleared, Filled, kept-row, kept-trans, cleared-bit}
+use Rattle.evaluator.specs.Ready.{Recorded, Ready, opRow}
+use Rattle.evaluator.specs.declared.Lasso.{Lasso}
+use Rattle.evaluator.specs.declared.row.Op.{Op}
+
+-- a table in order, as the rows need it: each node's tree is made of the trees of earlier nodes
+pub record NodeOf (ws : List ℕ) (i : ℕ) (s : Shape) (a b : ℕ) : Type 0 where
+  pub tree : treeAt ws i ≡ build s (treeAt ws) a b
+  pub uses : Uses s (a < i) (b < i)
+
+pub record Trees (ws : List ℕ) : Type 0 where
+  pub few : length ws ≤ maxNodes
+  pub each : (i : ℕ) → i < length ws → NodeOf ws i (shapeOf (kindOf (getD ws i 0))) (firstOf (getD ws i 0)) (secondOf (getD ws i 0))
+
+below-uses : (limit : ℕ) (s : Shape) (n a b : ℕ) → Below limit s n a b → Uses s (a < n) (b < n)
+below-uses limit Truth n a b h = tt
+below-uses limit Falsehood n a b h = tt
+below-uses limit Atom n a b h = tt
+below-uses limit (UnaryOf o) n a b h = h
+below-uses limit (BinaryOf o) n a b h = h
+below-uses limit Unused n a b h = h
+
+pub trees-of : {limit : ℕ} {ws : List ℕ} → Formed limit ws → Trees ws
+trees-of {limit} {ws} f =
+    record {
+      few = f .few;
+      each = λ i h.
+          let m = node-is i (kindOf (getD ws i 0)) (firstOf (getD ws i 0)) (secondOf (getD ws i 0)) f h refl refl refl in
+          record { tree = m .tree; uses = below-uses limit (shapeOf (kindOf (getD ws i 0))) i (firstOf (getD ws i 0)) (secondOf (getD ws i 0)) (m .lower) };
+    }
+
+-- row i is right, spare bits included
+abbrev pub RightRow : List ℕ → Lasso → List ℕ → List ℕ → ℕ → Type 0
+RightRow bs w ws rows i = (p : ℕ) → p < 8 * width (w .n) → bitsAt rows (width (w .n) * i) p ≡ shown (w .n) (nodeRow bs w ws i) p
+
+-- rows 0 to count - 1 are right, and bytes past them as before
+pub record Evaluated (bs : List ℕ) (w : Lasso) (ws : List ℕ) (count : ℕ) (old new : List ℕ) : Type 0 where
+  pub size : length new ≡ length old
+  pub right : (i : ℕ) → i < count → RightRow bs w ws new i
+  pub beyond : (k : ℕ) → width (w .n) * count ≤ k → getD new k 0 ≡ getD old k 0
+
+pub record RowDone (bs : List ℕ) (w : Lasso) (ws : List ℕ) (i : ℕ) (old new : List ℕ) : Type 0 where
+  pub kept : Kept (width (w .n) * i) (width (w .n)) old new
+  pub right : RightRow bs w ws new i
+
+pub evaluated-none : (bs : List ℕ) (w : Lasso) (ws rows : List ℕ) → Evaluated bs w ws 0 rows rows
+evaluated-none bs w ws rows = record { size = refl; right = λ i h. absurd (omega arith); beyond = λ k h. refl }
+
+-- a row ends before the next begins
+pub before-row : (v i j : ℕ) → i < j → v * i + v ≤ v * j
+before-row v i j h = let m : v * suc i ≤ v * j = mul-le-mul-left v h in omega arith
+
+pub evaluated-more : (bs : List ℕ) (w : Lasso) (ws : List ℕ) (i : ℕ) {old mid new : List ℕ} → Evaluated bs w ws i old mid → RowDone bs w ws i mid new → Evaluated bs w ws (i + 1) old new
+evaluated-more bs w ws i {old} {mid} {new} e d =
+    record { size = d .kept .size ∙ e .size; right = λ j h. go j h (ℕ-discrete j i); beyond = λ k h. past k h }
+  where
+    v : ℕ
+    v = width (w .n)
+
+    past : (k : ℕ) → v * (i + 1) ≤ k → getD new k 0 ≡ getD old k 0
+    past k h = let m = before-row v i (i + 1) (omega arith) in d .kept .beyond k (omega arith) ∙ e .beyond k (omega arith)
+
+    go : (j : ℕ) → j < i + 1 → Dec (j ≡ i) → RightRow bs w ws new j
+    go j h (yes q) = subst (λ x. RightRow bs w ws new x) (sym q) (d .right)
+    go j h (no q) = λ p l. kept-row (w .n) (v * i) (v * j) (d .kept) (before-row v j i (omega arith)) p l ∙ e .right j (omega arith) p l
+
+-- an operator of kind k, signal number or first operand x, second operand y
+abbrev pub opOf : ℕ → ℕ → ℕ → ℕ → Op
+opOf v k x y = record { kind = k; signal = x; first = v * x; second = v * y }
+
+pub ready-of : (bs rows : List ℕ) (w : Lasso) (ws : List ℕ) (i k x y : ℕ) → Recorded bs w → width (w .n) * i + width (w .n) ≤ length rows → width (w .n) * i ≤ 2097152
+    → NodeOf ws i (shapeOf k) x y → Ready bs rows w (opOf (width (w .n)) k x y) (width (w .n) * i)
+ready-of bs rows w ws i k x y r room low t =
+    record { recorded = r; room = room; low = low; uses = uses-map (shapeOf k) (λ h. before-row (width (w .n)) x i h) (λ h. before-row (width (w .n)) y i h) (t .uses) }
+
+-- a row cleared, and then filled from its operands' rows, is right
+pub row-done : (bs : List ℕ) (w : Lasso) (ws : List ℕ) (i k x y : ℕ) {old mid new : List ℕ} → w .l < w .n
+    → ((j : ℕ) → j < i → RightRow bs w ws old j) → NodeOf ws i (shapeOf k) x y
+    → Cleared (width (w .n) * i) (width (w .n)) (width (w .n)) old mid
+    → Filled (w .n) (width (w .n) * i) (opRow bs mid w (opOf (width (w .n)) k x y)) mid new → RowDone bs w ws i old new
+row-done bs w ws i k x y {old} {mid} {new} inside r t c f =
+    record { kept = kept-trans (c .kept) (f .kept); right = λ p l. go p l (decLt p n) }
+  where
+    n : ℕ
+    n = w .n
+
+    v : ℕ
+    v = width n
+
+    agree : (j : ℕ) → j < i → Agree n (bitsAt mid (v * j)) (nodeRow bs w ws j)
+    agree j h q l =
+        kept-row n (v * i) (v * j) (c .kept) (before-row v j i h) q (omega arith) ∙ r j h q (omega arith) ∙ shown-in n (nodeRow bs w ws j) q l
+
+    value : (p : ℕ) → p < n → opRow bs mid w (opOf v k x y) p ≡ nodeRow bs w ws i p
+    value p l =
+        shape-ext n (w .l) (letterOf bs (w .k)) (shapeOf k) x (bitsAt mid (v * x)) (bitsAt mid (v * y)) (nodeRow bs w ws x) (nodeRow bs w ws y) inside
+        (uses-map (shapeOf k) (agree x) (agree y) (t .uses)) p l
+        ∙ sym (row-build n (w .l) (letterOf bs (w .k)) (shapeOf k) (treeAt ws) x y p)
+        ∙ ap (λ f. row n (w .l) (letterOf bs (w .k)) f p) (sym (t .tree))
+
+    go : (p : ℕ) → p < 8 * v → Dec (p < n) → bitsAt new (v * i) p ≡ shown n (nodeRow bs w ws i) p
+    go p l (yes h) = f .here p (omega arith) h ∙ value p h ∙ sym (shown-in n (nodeRow bs w ws i) p h)
+    go p l (no h) = f .spare p (omega arith) ∙ cleared-bit (v * i) v c p l ∙ sym (shown-out n (nodeRow bs w ws i) p (omega arith))
+
+-- what the evaluation of node i requires
+pub record Turn (ws bs : List ℕ) (w : Lasso) (i : ℕ) (rows : List ℕ) : Type 0 where
+  pub trees : Trees ws
+  pub recorded : Recorded bs w
+  pub here : i < length ws
+  pub room : width (w .n) * length ws ≤ length rows
+  pub right : (j : ℕ) → j < i → RightRow bs w ws rows j
+
+-- what the evaluation of all nodes requires
+pub record Table (ws bs : List ℕ) (w : Lasso) (rows : List ℕ) : Type 0 where
+  pub trees : Trees ws
+  pub recorded : Recorded bs w
+  pub room : width (w .n) * length ws ≤ length rows
+
+-- row i lies in the buffer, below byte 2,097,152
+pub row-room : (ws bs : List ℕ) (w : Lasso) (i : ℕ) (rows : List ℕ) → Turn ws bs w i rows → (width (w .n) * i + width (w .n) ≤ length rows) × (width (w .n) * i ≤ 2097152)
+row-room ws bs w i rows t = (inside, low)
+  where
+    v : ℕ
+    v = width (w .n)
+
+    inside : v * i + v ≤ length rows
+    inside = let m = before-row v i (length ws) (t .here) in let r = t .room in omega arith
+
+    narrow : v ≤ 256
+    narrow = let f = t .recorded .few in omega arith
+
+    low : v * i ≤ 2097152
+    low = let h = t .here in let f = t .trees .few in let m : i ≤ 8192 = omega arith in mul-le-mul narrow m
+
+pub turn-of : (ws bs : List ℕ) (w : Lasso) (i : ℕ) {old mid : List ℕ} → Table ws bs w old → Evaluated bs w ws i old mid → i < length ws → Turn ws bs w i mid
+turn-of ws bs w i t e h =
+    record { trees = t .trees; recorded = t .recorded; here = h; room = subst (λ x. width (w .n) * length ws ≤ x) (sym (e .size)) (t .room); right = e .right }
+
+-- the offset of a row fits
+pub offset-fits : (n x : ℕ) → n ≤ 2048 → x < 16384 → width n * x ≤ 4194304
+offset-fits n x h l = let v : width n ≤ 256 = omega arith in let m : x ≤ 16384 = omega arith in mul-le-mul v m

@@ -1,0 +1,65 @@
+-- The evaluator's answer, its buffer and its verdict (document 01, 'Recordings' and 'Refusals with their places': 'Evaluator: 15, 19, 20, 18').
+-- Laws in EvaluationLaws.
+use Prim.Native.Nat.{ℕ, _+_, _*_, _-_, _<_}
+use mathlib.Core.Path.{_≡_}
+use mathlib.Core.Bool.{Bool, true, false, So}
+use mathlib.Core.Logic.{_↔_}
+use mathlib.Core.List.{List, _++_}
+use lib.Dec.{leb}
+use lib.ListN.{length, drop}
+use Rattle.node.specs.Result.{Result, Done, guard, _>>=_, Counts}
+use Rattle.node.specs.Answer.{says}
+use Rattle.node.specs.Table.{checked, NodeHolds}
+use Rattle.node.specs.declared.Answer.{Answer}
+use Rattle.evaluator.specs.Limits.{maxSignals}
+use Rattle.evaluator.specs.Bits.{bitAt, width}
+use Rattle.evaluator.specs.Recording.{lassoOf, readable}
+use Rattle.evaluator.specs.Lasso.{recorded}
+use Rattle.evaluator.specs.Row.{nodeRow, tableBytes}
+use Rattle.evaluator.specs.declared.Verdict.{Verdict}
+
+-- the bytes of all rows: 'one row of N bits, rounded up to bytes, for every node'
+abbrev pub rowsSize : List ℕ → List ℕ → ℕ
+rowsSize nodes bs = width (lassoOf bs .n) * length nodes
+
+-- 'Evaluator: 15, 19, 20, 18'; accepted with the number of nodes and the signal count given
+unfoldable pub evaluation : List ℕ → ℕ → List ℕ → ℕ → Result Counts
+evaluation nodes signals bs room =
+    guard (leb signals maxSignals) 15 0
+    (checked signals nodes >>= (λ counts. readable signals bs (guard (leb (rowsSize nodes bs) room) 18 0 (Done counts))))
+
+-- the buffer after an answer: the rows of every node in order, 'bytes past the rows untouched'; a refusal changes nothing
+abbrev pub left : List ℕ → List ℕ → List ℕ → Result Counts → List ℕ
+left nodes bs old (Done counts) = tableBytes bs (lassoOf bs) nodes (length nodes) ++ drop (rowsSize nodes bs) old
+left nodes bs old (Result.Refused number place) = old
+
+-- where bit p of row i stands in the buffer
+abbrev pub bitOfRow : List ℕ → ℕ → ℕ → ℕ
+bitOfRow bs i p = 8 * (width (lassoOf bs .n) * i) + p
+
+-- every bit of every row says whether its node holds at that position of the recording's infinite word
+abbrev pub RowsHold : List ℕ → List ℕ → List ℕ → Type 0
+RowsHold nodes bs rows =
+    (i p : ℕ) → i < length nodes → p < lassoOf bs .n → So (bitAt rows (bitOfRow bs i p)) ↔ NodeHolds nodes i (recorded bs) p
+
+-- what `evaluate` promises
+pub record Evaluates (r : Answer) (nodes : List ℕ) (signals : ℕ) (bs old new : List ℕ) : Type 0 where
+  pub answer : says r ≡ evaluation nodes signals bs (length old)
+  pub buffer : new ≡ left nodes bs old (evaluation nodes signals bs (length old))
+  pub holds : (counts : Counts) → says r ≡ Done counts → RowsHold nodes bs new
+
+-- what a `Verdict` says: does the root hold at position 0, or a refusal
+abbrev pub finds : Verdict → Result Bool
+finds Verdict.Holds = Done true
+finds Verdict.Fails = Done false
+finds (Verdict.Refused number place) = Result.Refused number place
+
+-- 'The verdict is the root at position 0'
+unfoldable pub verdictOf : List ℕ → ℕ → List ℕ → ℕ → Result Bool
+verdictOf nodes signals bs room = evaluation nodes signals bs room >>= (λ counts. Done (nodeRow bs (lassoOf bs) nodes (length nodes - 1) 0))
+
+-- what `judge` promises
+pub record Judges (r : Verdict) (nodes : List ℕ) (signals : ℕ) (bs old new : List ℕ) : Type 0 where
+  pub answer : finds r ≡ verdictOf nodes signals bs (length old)
+  pub buffer : new ≡ left nodes bs old (evaluation nodes signals bs (length old))
+  pub holds : (b : Bool) → finds r ≡ Done b → So b ↔ NodeHolds nodes (length nodes - 1) (recorded bs) 0
