@@ -195,10 +195,10 @@ module _ (nodes : List ℕ) (signals : ℕ) (bs old new : List ℕ) {t : Answer}
       let w : Lasso = lassoOf bs in
       let i : length nodes - 1 < length nodes = (let s = o .formed .some in omega arith) in
       let here : b ≡ bitAt new (bitOfRow bs (length nodes - 1) 0) =
-          sym bit-is ∙ bit ∙ ap (λ x. bitAt new (8 * (width (x .n) * (length nodes - 1)))) lasso-is ∙ ap (bitAt new) (sym (add-zero _)) in
+      sym bit-is ∙ bit ∙ ap (λ x. bitAt new (8 * (width (x .n) * (length nodes - 1)))) lasso-is ∙ ap (bitAt new) (sym (add-zero _)) in
       let root = e .holds c q (length nodes - 1) 0 i (o .reads .header .some) in
       let row = row-right (w .n) (w .l) (letterOf bs (w .k)) (o .reads .header .loop) (treeAt nodes (length nodes - 1)) 0 (o .reads .header .some) in
       let same : b ≡ nodeRow bs w nodes (length nodes - 1) 0 = here ∙ so-same _ _ (Iff·trans root (Iff·symm row)) in
       let answer : finds v ≡ verdictOf nodes signals bs (length old) =
-          f ∙ ap Done same ∙ sym (ap (λ x. x >>= (λ counts. Done (nodeRow bs w nodes (length nodes - 1) 0))) r) in
+      f ∙ ap Done same ∙ sym (ap (λ x. x >>= (λ counts. Done (nodeRow bs w nodes (length nodes - 1) 0))) r) in
       record { answer = answer; buffer = e .buffer; holds = λ d g. verdict-means nodes signals bs (length old) (sym answer ∙ g) }

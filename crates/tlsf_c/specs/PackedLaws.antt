@@ -1,4 +1,4 @@
--- Every refusal of the rewriter has a number that fits the packed word.
+-- Every refusal of the rewriter and of the evaluator has a number that fits the packed word.
 use Prim.Native.Nat.{ℕ, suc, _^_, _<_}
 use mathlib.Core.Bool.{Bool, true, false}
 use mathlib.Core.List.{List, [], _∷_}
@@ -8,6 +8,9 @@ use Rattle.node.specs.Ltl.{Formula}
 use Rattle.node.specs.Result.{Result, Done, Refused, _>>=_, guard, Counts}
 use Rattle.node.specs.Table.{nodeFits, scanned, checked}
 use Rattle.rewriter.specs.Rewriting.{target, fitting, rewriting}
+use Rattle.evaluator.specs.Recording.{filled, readable, lassoOf}
+use Rattle.evaluator.specs.Evaluation.{evaluation}
+use Rattle.evaluator.specs.declared.Lasso.{Lasso}
 use Rattle.tlsf_c.specs.Packed.{Fits}
 
 guard-fits : {A : Type 0} (b : Bool) (number place : ℕ) (r : Result A) → number < 2 ^ 31 → Fits r → Fits (guard b number place r)
@@ -38,3 +41,17 @@ pub rewriting-fits : (number : ℕ) (nodes : List ℕ) (room : ℕ) → Fits (re
 unfolding rewriting
 rewriting-fits number nodes room =
     guard-fits _ 21 0 _ (omega arith) (bind-fits (checked fieldLimit nodes) _ (checked-fits fieldLimit nodes) (λ c. fitting-fits (target number nodes) room))
+
+filled-fits : {A : Type 0} (bs : List ℕ) (w : Lasso) (r : Result A) → Fits r → Fits (filled bs w r)
+unfolding filled
+filled-fits bs w r h = guard-fits _ 20 _ _ (omega arith) (guard-fits _ 20 _ r (omega arith) h)
+
+readable-fits : {A : Type 0} (signals : ℕ) (bs : List ℕ) (r : Result A) → Fits r → Fits (readable signals bs r)
+unfolding readable
+readable-fits signals bs r h = guard-fits _ 20 _ _ (omega arith) (guard-fits _ 20 0 _ (omega arith) (filled-fits bs (lassoOf bs) r h))
+
+pub evaluation-fits : (nodes : List ℕ) (signals : ℕ) (bs : List ℕ) (room : ℕ) → Fits (evaluation nodes signals bs room)
+unfolding evaluation
+evaluation-fits nodes signals bs room =
+    guard-fits _ 15 0 _ (omega arith)
+    (bind-fits (checked signals nodes) _ (checked-fits signals nodes) (λ c. readable-fits signals bs _ (guard-fits _ 18 0 (Done c) (omega arith) tt)))

@@ -3,7 +3,7 @@ ghost use mathlib.Core.Path.{_≡_};
 ghost use Rattle.node.specs.Answer.{says};
 ghost use Rattle.rewriter.specs.Promise.{Rewrites};
 ghost use Rattle.tlsf_c.specs.Packed.{packed, Fits};
-ghost use Rattle.tlsf_c.specs.Promise.{Packs};
+ghost use Rattle.tlsf_c.specs.Promise.{Packs, EvaluatesTo};
 use node::Answer;
 
 const HIGH: u64 = 4294967296;
@@ -33,4 +33,17 @@ pub extern "C" fn tlsf_rewrite(nodes: &[u32], form: u32, out: &mut [u32]) -> u64
     ensures { λ r. ⌜ Packs r (Rewrites form (now (nodes .entry)) (now (out .entry)) (now (out .exit))) ⌝ }
 {
     pack(rewriter::rewrite(nodes, form, out))
+}
+
+// evaluator::evaluate
+#[no_mangle]
+pub extern "C" fn tlsf_evaluate(
+    nodes: &[u32],
+    signals: u32,
+    recording: &[u8],
+    rows: &mut [u8],
+) -> u64
+    ensures { λ r. ⌜ Packs r (EvaluatesTo (now (nodes .entry)) signals (now (recording .entry)) (now (rows .entry)) (now (rows .exit))) ⌝ }
+{
+    pack(evaluator::evaluate(nodes, signals, recording, rows))
 }
