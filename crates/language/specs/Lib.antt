@@ -17,3 +17,16 @@ pub mod Lines
 pub mod Expansion
 pub mod Meaning
 pub mod Reading
+pub mod OwedLaws
+pub mod TestLaws
+pub mod ExpansionLaws
+pub mod Agreement
+pub mod TextAgreement
+pub mod WithinLaws
+pub mod NameLaws
+pub mod BoundLaws
+pub mod SignalLaws
+pub mod TextSignals
+pub mod SetLaws
+pub mod ValueLaws
+pub mod DeclaredLaws

@@ -1,0 +1,61 @@
+// What the program prints: answers, verdicts and bytes, a line each.
+ghost use Prim.Native.Nat.{_<_};
+use evaluator::Verdict;
+use libc::STDOUT_FILENO;
+use node::Answer;
+
+pub fn text(line: &[u8]) {
+    io::write_all(STDOUT_FILENO, line);
+    io::write_all(STDOUT_FILENO, b"\n");
+}
+
+// A word and two numbers.
+fn counts(word: &[u8], first: u32, second: u32) {
+    io::write_all(STDOUT_FILENO, word);
+    io::print_decimal(STDOUT_FILENO, first as u64);
+    io::write_all(STDOUT_FILENO, b" ");
+    io::print_decimal(STDOUT_FILENO, second as u64);
+    io::write_all(STDOUT_FILENO, b"\n");
+}
+
+pub fn answer(answer: Answer) {
+    match answer {
+        Answer::Accepted(nodes, signals) => counts(b"accepted ", nodes, signals),
+        Answer::Refused(number, place) => counts(b"refused ", number, place),
+    }
+}
+
+pub fn verdict(verdict: Verdict) {
+    match verdict {
+        Verdict::Holds => text(b"holds"),
+        Verdict::Fails => text(b"fails"),
+        Verdict::Refused(number, place) => counts(b"refused ", number, place),
+    }
+}
+
+fn wide(x: u8) -> u64
+    ensures { λ r. ⌜ r < 256 ⌝ }
+{
+    x as u64
+}
+
+pub fn bytes(bytes: &[u8]) {
+    let mut i = 0;
+    while i < bytes.len() {
+        io::print_hex(STDOUT_FILENO, wide(bytes[i]), 2);
+        i += 1;
+    }
+    io::write_all(STDOUT_FILENO, b"\n");
+}
+
+// A checksum of bytes, order included.
+pub fn checksum(bytes: &[u8]) {
+    let mut sum = 0u64;
+    let mut i = 0;
+    while i < bytes.len() {
+        sum = (sum % 1000003 * 257 + wide(bytes[i])) % 1000003;
+        i += 1;
+    }
+    io::print_decimal(STDOUT_FILENO, sum);
+    io::write_all(STDOUT_FILENO, b"\n");
+}
