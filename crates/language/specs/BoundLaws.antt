@@ -158,17 +158,18 @@ module _ (N : ℕ) where
   compared-below Greater (Against b v) h = misfit-within (SignalsBelow N)
   compared-below AtLeast (Against b v) h = misfit-within (SignalsBelow N)
 
+  gathered-below : (F : ℕ → Result Formula) → ((k : ℕ) → Within (SignalsBelow N) (F k)) → (s : List ℕ) → Within (All (SignalsBelow N)) (gather F s)
+  gathered-below F h s = gather-within (λ k. Unit {0}) (SignalsBelow N) F (λ k u. h k) s (all-any (λ k. Unit {0}) (λ k. tt) s)
+
   bigFormula-below : (o : Big) (F : ℕ → Result Formula) → ((k : ℕ) → Within (SignalsBelow N) (F k)) → (s : List ℕ) → Within (SignalsBelow N) (bigFormula o F s)
   bigFormula-below BigSum F h s = misfit-within (SignalsBelow N)
   bigFormula-below BigProduct F h s = misfit-within (SignalsBelow N)
   bigFormula-below BigCap F h s = misfit-within (SignalsBelow N)
   bigFormula-below BigCup F h s = misfit-within (SignalsBelow N)
   bigFormula-below BigAnd F h s =
-      bind-within (All (SignalsBelow N)) (SignalsBelow N) (gather F s) _ (gather-within (λ k. Unit {0}) (SignalsBelow N) F (λ k u. h k) s (all-any (λ k. Unit {0}) (λ k. tt) s))
-      (λ fs k. done-within (SignalsBelow N) _ (conjunction-below fs k))
+      bind-within (All (SignalsBelow N)) (SignalsBelow N) (gather F s) _ (gathered-below F h s) (λ fs k. done-within (SignalsBelow N) _ (conjunction-below fs k))
   bigFormula-below BigOr F h s =
-      bind-within (All (SignalsBelow N)) (SignalsBelow N) (gather F s) _ (gather-within (λ k. Unit {0}) (SignalsBelow N) F (λ k u. h k) s (all-any (λ k. Unit {0}) (λ k. tt) s))
-      (λ fs k. done-within (SignalsBelow N) _ (disjunction-below fs k))
+      bind-within (All (SignalsBelow N)) (SignalsBelow N) (gather F s) _ (gathered-below F h s) (λ fs k. done-within (SignalsBelow N) _ (disjunction-below fs k))
 
   pub record ContextBelow (c : Context) : Type 0 where
     pub values : Visible ValueBelow (c .values)

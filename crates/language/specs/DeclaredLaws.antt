@@ -1,6 +1,6 @@
 -- Declared and defined names stand for values within their bounds: parameters, buses, definitions, and the names of a whole text.
 use Prim.Native.Nat.{ℕ, _≤_}
-use mathlib.Core.Path.{_≡_}
+use mathlib.Core.Path.{_≡_, subst, sym}
 use mathlib.Core.Bool.{Bool, true, false}
 use mathlib.Core.List.{List, [], _∷_}
 use lib.Dec.{leb}
@@ -10,9 +10,10 @@ use Rattle.language.specs.Tokens.{Token}
 use Rattle.language.specs.Tree.{Definition, Defined, Enumerated, Parameter, Declaration, OneSignal, OfWidth, OfType, Subsection, Inputs, Outputs, Lines, Spec}
 use Rattle.language.specs.Values.{Mark, Scope, naming, value}
 use Rattle.language.specs.Signals.{Declared, Constant, SignalAt, BusAt, Identifies, WaitingSignal, WaitingBus, Table, valueAt, declared, defining, Numbered, wordsOfType, wordWidth, sized, addingBus, impliedBy, numbering, constants, inputs, outputs, Declarations, none, onFrom, declarations}
+use Rattle.language.specs.Expansion.{atSignals, defineAll}
 use Rattle.language.specs.TestLaws.{so-leb, so-both}
 use Rattle.language.specs.WithinLaws.{Within, done-within, bind-within, bind-any, guard-within, within-done, All, all-append}
-use Rattle.language.specs.NameLaws.{Visible, naming-within, Entries, declared-within, first-entries}
+use Rattle.language.specs.NameLaws.{defined-values, Visible, naming-within, Entries, declared-within, first-entries}
 use Rattle.language.specs.ValueLaws.{SaneNumber, Sane, Proper, as-number, value-sane}
 
 abbrev pub DeclaredSane : Declared → Type 0
@@ -115,3 +116,7 @@ declarations-within x p =
 pub names-sane : (x : Spec) (d : Declarations) → ProperSpec x → declarations x ≡ Done d → Visible Sane (defining (declared (d .outputs .table)) (x .definitions))
 names-sane x d p e =
     defining-sane (x .definitions) (p .definitions) (declared (d .outputs .table)) (declared-sane (d .outputs .table) (within-done DeclarationsSane e (declarations-within x p)))
+
+-- the same names as the expansion of the text's lines sees them
+pub context-sane : (x : Spec) (d : Declarations) → ProperSpec x → declarations x ≡ Done d → Visible Sane (defineAll (atSignals (d .outputs .table)) (x .definitions) .values)
+context-sane x d p e = subst (Visible Sane) (sym (defined-values (x .definitions) (atSignals (d .outputs .table)))) (names-sane x d p e)

@@ -30,3 +30,10 @@ pub mod TextSignals
 pub mod SetLaws
 pub mod ValueLaws
 pub mod DeclaredLaws
+pub mod PlaceLaws
+pub mod Reaching
+pub mod KindLaws
+pub mod OperandLaws
+pub mod Shapes
+pub mod TypeSoundness
+pub mod WordLaws

@@ -12,7 +12,7 @@ use Rattle.language.specs.Signals.{Declared, Identifies, WaitingSignal, 
 use Rattle.language.specs.Expansion.{Context, define, defineAll}
 use Rattle.language.specs.WithinLaws.{Within, done-within, refused-within, bind-within, All, all-append}
 
--- the names of a definition are those before it, and its own
+-- the values of the names are the same in widths, where no formula is expanded, and in lines
 pub defined-values : (ds : List Definition) (c : Context) → defineAll c ds .values ≡ defining (c .values) ds
 defined-values [] c = refl
 defined-values (Defined x e ∷ ds) c = defined-values ds (define c x e)
@@ -46,7 +46,7 @@ declared-within Q S f d h t = bind-within Q S _ _ (find-within Q d h (t .text)) 
 
 -- the table before the signals' turn
 module _ (Q : Declared → Type 0) (one : Q WaitingSignal) (bus : Q WaitingBus) (identifies : (v : List (List Mark)) → Q (Identifies v)) where
-  pub waiting-entries : (ds : List Declaration) (d : Table) → Entries Q d → Entries Q (waiting ds d)
+  waiting-entries : (ds : List Declaration) (d : Table) → Entries Q d → Entries Q (waiting ds d)
   waiting-entries [] d h = h
   waiting-entries (OneSignal x ∷ ds) d h = (one, waiting-entries ds d h)
   waiting-entries (OfWidth x e ∷ ds) d h = (bus, waiting-entries ds d h)

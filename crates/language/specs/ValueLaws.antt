@@ -176,6 +176,7 @@ elements e r h = subst (λ b. Within (SaneIn b) r) (sym e) h
 logic : {braces : Bool} → braces ≡ false → Within (SaneIn braces) (Done Logic)
 logic e = whole e (Done Logic) (done-within Sane Logic tt)
 
+-- whatever is worked out in a scope within its bounds is within them; of the elements of a set in braces all but their number
 pub value-sane : (e : Expr) (braces : Bool) → Proper braces e → (sc : Scope) → Visible Sane sc → Within (SaneIn braces) (value sc e)
 value-sane (Named t) b p sc g = whole p _ (g t)
 value-sane (Numeral t) b p sc g = whole p _ (number-is _ (inRange-sane (t .at) (decimal 0 (t .text))))
