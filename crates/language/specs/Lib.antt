@@ -37,3 +37,4 @@ pub mod OperandLaws
 pub mod Shapes
 pub mod TypeSoundness
 pub mod WordLaws
+pub mod Acceptance

@@ -1,0 +1,2 @@
+pub mod NodesFit
+pub mod Claim
