@@ -23,13 +23,18 @@ use Rattle.language.specs.Names.{notVisible, declaredAgain, tooMany}
 use Rattle.language.specs.Types.{wrongType}
 use Rattle.language.specs.Words.{wrongWords}
 use Rattle.language.specs.Parsing.{noToken, tooManyTokens, wellFormed, parsed}
-use Rattle.language.specs.Signals.{Declarations, declarations}
+use Rattle.language.specs.Signals.{Declarations, declarations, declared as named, defining}
 use Rattle.language.specs.Lines.{lines}
 use Rattle.language.specs.Expansion.{expand}
 use Rattle.language.specs.Meaning.{SpecMeans, OfSpec, TextMeans}
 use Rattle.language.specs.Reading.{Converted, converted, meant, sameModel}
 use Rattle.language.specs.PlaceLaws.{refuseAt-done, some-none}
 use Rattle.language.specs.WordLaws.{regular}
+use Rattle.language.specs.WithinLaws.{within-done}
+use Rattle.language.specs.DeclaredLaws.{ProperSpec, names-sane}
+use Rattle.language.specs.ReadLaws.{spec-proper}
+use Rattle.language.specs.ValueLaws.{Sane}
+use Rattle.language.specs.NameLaws.{Visible}
 use Rattle.language.specs.SignalLaws.{list-counted, count-limited}
 use Rattle.language.specs.TextSignals.{spec-below}
 use Rattle.language.specs.TextAgreement.{spec-agrees}
@@ -144,3 +149,9 @@ module _ (text : List ℕ) (c : Converted) (e : meant text ≡ Done c) where
       let a = accepts e in
       subst (λ l. length l ≤ maxSignals) (sym (a .listing))
       (subst (λ n. n ≤ maxSignals) (sym (list-counted (a .spec) (a .declared) (a .declaring))) (count-limited (a .spec) (a .declared) (a .declaring) (a .fewSignals)))
+
+  -- every name of it that stands for a number, set or bus stands for one within the limits; sets ascend
+  pub text-sane : Visible Sane (defining (named (accepts e .declared .outputs .table)) (accepts e .spec .definitions))
+  text-sane =
+      let a = accepts e in
+      names-sane (a .spec) (a .declared) (within-done ProperSpec (parses (a .parsing) .read) (spec-proper (tokens text))) (a .declaring)

@@ -37,4 +37,5 @@ pub mod OperandLaws
 pub mod Shapes
 pub mod TypeSoundness
 pub mod WordLaws
+pub mod ReadLaws
 pub mod Acceptance
