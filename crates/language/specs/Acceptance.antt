@@ -16,7 +16,7 @@ use Rattle.node.specs.Result.{Result, Done, Refused, _>>=_, guard}
 use Rattle.node.specs.ResultLaws.{bind-done, guard-done}
 use Rattle.language.specs.Limits.{maxSignals, maxBytes}
 use Rattle.language.specs.Tokens.{Token, tokens}
-use Rattle.language.specs.Tree.{Spec}
+use Rattle.language.specs.Tree.{Definition, Defined, Enumerated, Spec}
 use Rattle.language.specs.Sections.{specOf}
 use Rattle.language.specs.Places.{refuseAt, tooDeep}
 use Rattle.language.specs.Names.{notVisible, declaredAgain, tooMany}
@@ -28,14 +28,15 @@ use Rattle.language.specs.Lines.{lines}
 use Rattle.language.specs.Expansion.{expand}
 use Rattle.language.specs.Meaning.{SpecMeans, OfSpec, TextMeans}
 use Rattle.language.specs.Reading.{Converted, converted, meant, sameModel}
+use Rattle.language.specs.PlaceLaws
 use Rattle.language.specs.PlaceLaws.{refuseAt-done, some-none}
-use Rattle.language.specs.WordLaws.{regular}
-use Rattle.language.specs.WithinLaws.{within-done}
+use Rattle.language.specs.WordLaws.{RegularDefinition, regular-words}
+use Rattle.language.specs.WithinLaws.{All, within-done}
 use Rattle.language.specs.DeclaredLaws.{ProperSpec, names-sane}
 use Rattle.language.specs.ReadLaws.{spec-proper}
 use Rattle.language.specs.ValueLaws.{Sane}
 use Rattle.language.specs.NameLaws.{Visible}
-use Rattle.language.specs.SignalLaws.{list-counted, count-limited}
+use Rattle.language.specs.SignalLaws.{Regular, list-counted, count-limited}
 use Rattle.language.specs.TextSignals.{spec-below}
 use Rattle.language.specs.TextAgreement.{spec-agrees}
 
@@ -130,6 +131,12 @@ accepts {text} {c} e =
       listing = sym list;
     }
 
+-- what refusal 10 leaves of the enumerations
+equal-words : (ds : List Definition) → PlaceLaws.All RegularDefinition ds → Regular ds
+equal-words [] h = tt
+equal-words (Defined x e ∷ ds) h = equal-words ds (h .1)
+equal-words (Enumerated x is ∷ ds) h = (h .0 .equal, equal-words ds (h .1))
+
 module _ (text : List ℕ) (c : Converted) (e : meant text ≡ Done c) where
   -- an accepted text's formula holds at exactly the positions where the text does, in every word
   pub text-agrees : (w : Word) → Same (TextMeans text w) (Holds (c .formula) w)
@@ -141,7 +148,7 @@ module _ (text : List ℕ) (c : Converted) (e : meant text ≡ Done c) where
   pub text-signals : SignalsBelow maxSignals (c .formula)
   text-signals =
       let a = accepts e in
-      spec-below (a .spec) (a .declared) (c .formula) (a .declaring) (a .fewSignals) (regular (a .spec) (a .formed .words)) (a .expanding)
+      spec-below (a .spec) (a .declared) (c .formula) (a .declaring) (a .fewSignals) (equal-words (a .spec .definitions) (regular-words (a .spec) (a .formed .words))) (a .expanding)
 
   -- its signal list has at most 255 entries
   pub list-limited : length (c .signals) ≤ maxSignals

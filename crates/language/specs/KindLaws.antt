@@ -1,22 +1,18 @@
 -- Values and their kinds: what takes a value of a kind finds one there (no `misfit`).
-use Prim.Native.Nat.{ℕ, _≤_}
+use Prim.Native.Nat.{ℕ}
 use mathlib.Core.Path.{_≡_, refl, sym, _∙_, ap, subst}
-use mathlib.Core.Bool.{Bool, true, false}
-use mathlib.Core.List.{List, [], _∷_}
-use mathlib.Core.Option.{Option, none, some}
+use mathlib.Core.Bool.{true, false}
+use mathlib.Core.Option.{none}
 use lib.Dec.{eqb, eqb→eq, eqb-refl}
 use native.Mathlib.Omega.{arith}
-use Rattle.node.specs.Result.{Result, Done, Refused, guard, _>>=_}
+use Rattle.node.specs.Result.{Result, _>>=_}
 use Rattle.language.specs.Bytes.{if_then_else_}
-use Rattle.language.specs.Operators.{Arithmetic, Plus, Minus, Times, Divide, Modulo, Measure, Size, Min, Max, Combination, Cap, Comparison, Equal, Unequal, Less, AtMost, Greater, AtLeast, Big, BigSum, BigProduct, BigCap, BigCup, BigAnd, BigOr}
 use Rattle.language.specs.Tree.{Expr}
 use Rattle.language.specs.Places.{start}
-use Rattle.language.specs.Types.{Kind, ANumber, ASet, AFormula, ABus, AValue, AType, Unknown, kindCode, isKind, Typings, kindOf, wrong, bigGives, fitting}
-use Rattle.language.specs.Sets.{union, combine}
-use Rattle.language.specs.Values.{Value, Number, Set, Logic, Bus, Unsized, Choice, number, set, bus, choice, Sized, inRange, calculate, measure, limited, range, between, bigNumber, bigSet, big, Sides, Numbers, Against, sides, bit}
-use Rattle.language.specs.Expansion.{compared}
+use Rattle.language.specs.Types.{Kind, ANumber, ASet, AFormula, ABus, AValue, AType, Unknown, kindCode, isKind, Typings, kindOf, wrong}
+use Rattle.language.specs.Values.{Value, Number, Set, Logic, Bus, Unsized, Choice, number, set, bus, choice}
 use Rattle.language.specs.PlaceLaws.{false-true, T-true, true-T, unless-none}
-use Rattle.language.specs.Reaching.{Late, Reaches, Any, done-reaches, late-reaches, bind-reaches, guard-reaches, folded-reaches}
+use Rattle.language.specs.Reaching.{Reaches, Any, done-reaches, late-reaches, bind-reaches}
 
 -- kinds are told apart by their codes
 kindFrom : ℕ → Kind
@@ -60,16 +56,7 @@ Evaluates AValue r = Reaches (IsOf AValue) r
 Evaluates AType r = Unit {0}
 Evaluates Unknown r = Unit {0}
 
--- an answer of a value kind
-pub evaluates-reaches : (k : Kind) (r : Result Value) → isKind AType k ≡ false → isKind Unknown k ≡ false → Evaluates k r → Reaches (IsOf k) r
-evaluates-reaches ANumber r t u h = h
-evaluates-reaches ASet r t u h = h
-evaluates-reaches AFormula r t u h = h
-evaluates-reaches ABus r t u h = h
-evaluates-reaches AValue r t u h = h
-evaluates-reaches AType r t u h = absurd (false-true (sym t))
-evaluates-reaches Unknown r t u h = absurd (false-true (sym u))
-
+-- an answer of the kind
 pub reaches-evaluates : (k : Kind) (r : Result Value) → Reaches (IsOf k) r → Evaluates k r
 reaches-evaluates ANumber r h = h
 reaches-evaluates ASet r h = h

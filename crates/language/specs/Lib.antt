@@ -36,6 +36,17 @@ pub mod KindLaws
 pub mod OperandLaws
 pub mod Shapes
 pub mod TypeSoundness
+pub mod ExpansionKinds
+pub mod DeclaredKinds
+pub mod DefinitionKinds
+pub mod TableKinds
+pub mod LineKinds
+pub mod FirstTable
+pub mod DeclarationKinds
+pub mod Accepted
+pub mod ShapeLaws
+pub mod SectionShapes
 pub mod WordLaws
+pub mod AcceptedTexts
 pub mod ReadLaws
 pub mod Acceptance

@@ -1,17 +1,16 @@
 -- Operators on operands of the kinds they take: the answer is of the kind they give, or refused by 11, 12 or 13.
 use Prim.Native.Nat.{ℕ, _≤_}
-use mathlib.Core.Path.{_≡_, refl, subst}
-use mathlib.Core.Bool.{Bool, true, false}
+use mathlib.Core.Path.{_≡_, refl}
+use mathlib.Core.Bool.{Bool, true}
 use mathlib.Core.List.{List, [], _∷_}
-use lib.Dec.{leb, ltb}
-use lib.ListN.{length}
+use lib.Dec.{ltb}
 use native.Mathlib.Omega.{arith}
 use Rattle.node.specs.Ltl.{Formula}
-use Rattle.node.specs.Result.{Result, Done, Refused, guard, _>>=_}
-use Rattle.language.specs.Operators.{Arithmetic, Plus, Minus, Times, Divide, Modulo, Measure, Size, Min, Max, Comparison, Equal, Unequal, Less, AtMost, Greater, AtLeast, Big, BigSum, BigProduct, BigCap, BigCup, BigAnd, BigOr}
+use Rattle.node.specs.Result.{Result, Done, guard, _>>=_}
+use Rattle.language.specs.Operators.{Arithmetic, Plus, Minus, Times, Divide, Modulo, Measure, Size, Min, Max, Comparison, Equal, Unequal, Big, BigSum, BigProduct, BigCap, BigCup, BigAnd, BigOr}
 use Rattle.language.specs.Types.{Kind, ANumber, ASet, AFormula, ABus, AValue, AType, Unknown, bigGives, fitting}
 use Rattle.language.specs.Sets.{union}
-use Rattle.language.specs.Values.{Value, Number, Set, Logic, Bus, Unsized, Choice, number, set, choice, bus, Sized, calculate, measure, limited, range, between, big, Sides, Numbers, Against, sides, bit}
+use Rattle.language.specs.Values.{Value, Number, Set, Logic, Bus, Unsized, Choice, Sized, calculate, measure, limited, range, between, big, Sides, Numbers, Against, sides, bit}
 use Rattle.language.specs.Expansion.{compared, bigFormula}
 use Rattle.language.specs.PlaceLaws.{All, false-true}
 use Rattle.language.specs.Reaching.{Reaches, Any, done-reaches, late-reaches, bind-reaches, next, reaches-any, guard-reaches, gather-reaches, folded-reaches}

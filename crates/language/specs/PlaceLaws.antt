@@ -1,12 +1,12 @@
 -- What holds where a refusal finds no place: every test that could give one has passed.
 use Prim.Native.Nat.{ℕ}
-use mathlib.Core.Path.{_≡_, refl, sym, _∙_, ap, ap₂, subst}
-use mathlib.Core.Bool.{Bool, true, false, _&&_, _||_}
+use mathlib.Core.Path.{_≡_, refl, ap₂, subst}
+use mathlib.Core.Bool.{Bool, true, false, _&&_}
 use mathlib.Core.List.{List, [], _∷_, _++_}
 use mathlib.Core.Option.{Option, none, some}
 use lib.Dec.{T, eqb, eqb→eq, eqb-refl}
 use native.Mathlib.Omega.{arith}
-use Rattle.node.specs.Result.{Result, Done, Refused}
+use Rattle.node.specs.Result.{Result, Done}
 use Rattle.node.specs.ResultLaws.{not-done}
 use Rattle.language.specs.Bytes.{same}
 use Rattle.language.specs.Places.{first, firstIn, unless, refuseAt}
@@ -42,13 +42,9 @@ pub All-map : {A : Type 0} {P Q : A → Type 0} → ((a : A) → P a → Q a) �
 All-map f [] h = tt
 All-map f (a ∷ l) h = (f a (h .0), All-map f l (h .1))
 
-pub All-left : {A : Type 0} (Q : A → Type 0) (l m : List A) → All Q (l ++ m) → All Q l
-All-left Q [] m h = tt
-All-left Q (a ∷ l) m h = (h .0, All-left Q l m (h .1))
-
-pub All-right : {A : Type 0} (Q : A → Type 0) (l m : List A) → All Q (l ++ m) → All Q m
-All-right Q [] m h = h
-All-right Q (a ∷ l) m h = All-right Q l m (h .1)
+pub All-append : {A : Type 0} (Q : A → Type 0) (l m : List A) → All Q l → All Q m → All Q (l ++ m)
+All-append Q [] m h k = k
+All-append Q (a ∷ l) m h k = (h .0, All-append Q l m (h .1) k)
 
 -- places
 pub first-left : (p q : Option ℕ) → first p q ≡ none → p ≡ none

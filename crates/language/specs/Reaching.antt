@@ -3,7 +3,6 @@ use Prim.Native.Nat.{ℕ, _≤_}
 use mathlib.Core.Path.{_≡_, refl}
 use mathlib.Core.Bool.{Bool, true, false}
 use mathlib.Core.List.{List, [], _∷_}
-use native.Mathlib.Omega.{arith}
 use Rattle.node.specs.Result.{Result, Done, Refused, guard, _>>=_}
 use Rattle.language.specs.Values.{onward, folded}
 use Rattle.language.specs.Expansion.{gather}
@@ -12,6 +11,7 @@ use Rattle.language.specs.PlaceLaws.{All}
 abbrev pub Late : ℕ → Type 0
 Late n = (11 ≤ n) × (n ≤ 13)
 
+-- a value with Q, or such a refusal
 unfoldable pub Reaches : {A : Type 0} → (A → Type 0) → Result A → Type 0
 Reaches Q (Done a) = Q a
 Reaches Q (Refused n p) = Late n
@@ -23,14 +23,6 @@ Any a = Unit {0}
 pub done-reaches : {A : Type 0} (Q : A → Type 0) (a : A) → Q a → Reaches Q (Done a)
 unfolding Reaches
 done-reaches Q a h = h
-
-pub reached : {A : Type 0} (Q : A → Type 0) (a : A) → Reaches Q (Done a) → Q a
-unfolding Reaches
-reached Q a h = h
-
-pub refused-late : {A : Type 0} (Q : A → Type 0) (n p : ℕ) → Reaches Q (Refused n p) → Late n
-unfolding Reaches
-refused-late Q n p h = h
 
 pub late-reaches : {A : Type 0} (Q : A → Type 0) (n p : ℕ) → Late n → Reaches Q (Refused n p)
 unfolding Reaches

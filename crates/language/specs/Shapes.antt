@@ -1,6 +1,5 @@
 -- The shape that the grammar gives to trees: between braces stand elements only. (A tree of another shape passes refusal 9 and comes to no set.)
 use mathlib.Core.Path.{_≡_}
-use mathlib.Core.List.{List, [], _∷_}
 use Rattle.language.specs.Tree.{Expr, Named, Numeral, Truth, Index, Paren, Prefixed, Joined, Nexts, InWindow, Each, Between, Listed, Empty, Element, Range, Definition, Defined, Enumerated, Parameter, Declaration, OneSignal, OfWidth, OfType, Subsection, Inputs, Outputs, Lines, Spec}
 use Rattle.language.specs.Types.{ASet, Typings, kindOf}
 use Rattle.language.specs.PlaceLaws.{All}

@@ -2,23 +2,23 @@
 use Prim.Native.Nat.{ℕ}
 use mathlib.Core.Path.{_≡_, refl, subst}
 use mathlib.Core.Bool.{Bool, true, false}
-use mathlib.Core.List.{List, [], _∷_}
+use mathlib.Core.List.{[], _∷_}
 use mathlib.Core.Option.{none}
 use native.Mathlib.Omega.{arith}
-use Rattle.node.specs.Result.{Result, Done, _>>=_}
+use Rattle.node.specs.Result.{Result, Done}
 use Rattle.language.specs.Bytes.{same}
 use Rattle.language.specs.Tokens.{Token}
-use Rattle.language.specs.Operators.{Calculates, Combines, Compares, Membership, Connects, Big, Measures, WidthOf, Applies}
+use Rattle.language.specs.Operators.{Calculates, Combines, Compares, Membership, Connects, Measures, WidthOf, Applies}
 use Rattle.language.specs.Tree.{Expr, Named, Numeral, Truth, Index, Paren, Prefixed, Joined, Nexts, InWindow, Each, Between, Listed, Empty, Element, Range}
 use Rattle.language.specs.Places.{first}
 use Rattle.language.specs.Types.{Kind, ANumber, ASet, AFormula, ABus, Typings, kindIn, kindOf, withNumber, bigGives, wrong, mistyped, demanded}
 use Rattle.language.specs.Sets.{insert, combine}
-use Rattle.language.specs.Values.{Value, Number, Set, Logic, Scope, naming, number, set, bus, value}
+use Rattle.language.specs.Values.{Value, Number, Set, Logic, Scope, naming, value}
 use Rattle.language.specs.PlaceLaws.{first-left, first-right}
-use Rattle.language.specs.Reaching.{Reaches, Any, done-reaches, next}
+use Rattle.language.specs.Reaching.{done-reaches, next}
 use Rattle.language.specs.KindLaws.{IsOf, Evaluates, reaches-evaluates, demanded-evaluates, number-of, set-of, bus-of}
 use Rattle.language.specs.OperandLaws.{then-number, then-set, guarded, calculate-reaches, measure-reaches, limited-reaches, range-reaches, between-reaches, big-reaches}
-use Rattle.language.specs.Shapes.{AlwaysSet, Shaped}
+use Rattle.language.specs.Shapes.{Shaped}
 
 -- every visible name stands for a value of its kind
 abbrev pub Agree : Typings → Scope → Type 0
