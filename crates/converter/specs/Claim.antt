@@ -19,7 +19,7 @@ use Rattle.rewriter.specs.Rewriting.{fitting, rewriting, rewritten, target}
 use Rattle.rewriter.specs.RewritingLaws.{rewriting-fit, Accepts, accepts as rewriter-accepts, written-holds, written-clean}
 use Rattle.language.specs.Meaning.{TextMeans}
 use Rattle.language.specs.Reading.{Converted, meant, reading, nodesAfter}
-use Rattle.language.specs.Acceptance.{Accepts as TextAccepts, accepts, text-agrees, text-signals}
+use Rattle.language.specs.Laws.Meaning.Acceptance.{Accepts as TextAccepts, accepts, text-agrees, text-signals}
 use Rattle.converter.specs.NodesFit.{nodes-fit, nodes-root}
 
 -- the nodes that stand in a buffer: their number is n, and their root, the last of them, holds where the text does

@@ -75,7 +75,7 @@ abbrev pub quotedSize : ℕ → List ℕ → ℕ
 quotedSize n [] = 0
 quotedSize n (b ∷ s) = elim (eqb b 34) [ true ↦ suc n | false ↦ quotedSize (suc n) s ]
 
--- a block comment while it is read: how many are open, and the byte before if it may begin `/*` or `*/`, otherwise 0
+-- a block comment while it is read: how many are open, and the byte before, 0 where that byte has already made `/*` or `*/`
 pub record Nesting : Type 0 where
   pub depth : ℕ
   pub last : ℕ

@@ -1,0 +1,5 @@
+pub mod Grammar
+pub mod Values
+pub mod Kinds
+pub mod Places
+pub mod Meaning

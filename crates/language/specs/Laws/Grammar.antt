@@ -1,0 +1,14 @@
+pub mod ReadLaws
+pub mod CaseLaws
+pub mod PieceLaws
+pub mod TokenLaws
+pub mod ReaderLaws
+pub mod BindLaws
+pub mod TreeTokens
+pub mod TokenReads
+pub mod ExprReads
+pub mod GrammarLaws
+pub mod ListReads
+pub mod SectionReads
+pub mod SpecReads
+pub mod PrefixLaws

@@ -1,0 +1,145 @@
+-- A refusal by the grammar rests on the tokens up to the refused one: no text whose tokens begin with them is accepted.
+use Prim.Native.Nat.{ℕ, suc, _+_, _<_}
+use mathlib.Core.List.{List, [], _∷_, _++_}
+use mathlib.Core.Bool.{Bool, true, false, false≢true}
+use mathlib.Core.Option.{Option, none, some}
+use mathlib.Core.Path.{_≡_, refl, sym, ap, _∙_, subst}
+use lib.Dec.{leb}
+use lib.ListN.{length}
+use native.Mathlib.Omega.{arith}
+use Rattle.node.specs.Result.{Result, Done, Refused, _>>=_, guard}
+use Rattle.node.specs.ResultLaws.{not-done, guard-done, bind-done}
+use Rattle.language.specs.Limits.{maxBytes}
+use Rattle.language.specs.Tokens.{End, Wrong, Token, isOf, tokens}
+use Rattle.language.specs.Tree.{Spec}
+use Rattle.language.specs.Grammar.{Tokens, front}
+use Rattle.language.specs.Sections.{specOf}
+use Rattle.language.specs.Places.{refuseAt, tooDeep}
+use Rattle.language.specs.Names.{notVisible, declaredAgain, tooMany}
+use Rattle.language.specs.Types.{wrongType}
+use Rattle.language.specs.Words.{wrongWords}
+use Rattle.language.specs.Parsing.{noToken, tooManyTokens, wellFormed, parsed}
+use Rattle.language.specs.Laws.Grammar.TokenLaws.{Every, Ends, tokens-end}
+use Rattle.language.specs.Laws.Grammar.TreeTokens.{InSpec}
+use Rattle.language.specs.Laws.Grammar.ReaderLaws.{Alike, Inner, Stops}
+use Rattle.language.specs.Laws.Grammar.CaseLaws.{pick, leave}
+use Rattle.language.specs.Laws.Grammar.GrammarLaws.{Any, every-any}
+use Rattle.language.specs.Laws.Grammar.SpecReads.{Decides, specOf-decides}
+
+-- the last token is the text's end
+abbrev pub Closed : Tokens → Type 0
+Closed [] = ⊥
+Closed (t ∷ []) = isOf End t ≡ true
+Closed (t ∷ u ∷ us) = Closed (u ∷ us)
+
+-- so it is for the tokens of every text in which each byte belongs to a token
+ends-closed : (n : ℕ) (ts : Tokens) → Ends n ts → noToken ts ≡ none → Closed ts
+ends-closed n [] h e = h
+ends-closed n (t ∷ []) h e = go (isOf Wrong t) refl
+  where
+    Some : Option ℕ → Type 0
+    Some none = ⊥
+    Some (some p) = Unit {0}
+
+    go : (c : Bool) → isOf Wrong t ≡ c → isOf End t ≡ true
+    go true z = absurd (subst Some (sym (pick (isOf Wrong t) (some (t .at)) none z) ∙ e) tt)
+    go false z = h z .0
+ends-closed n (t ∷ u ∷ us) h e = ends-closed n (u ∷ us) (h .2) (sym (leave (isOf Wrong t) (some (t .at)) (noToken (u ∷ us)) (h .0)) ∙ e)
+
+pub tokens-closed : (text : List ℕ) → noToken (tokens text) ≡ none → Closed (tokens text)
+tokens-closed text e = ends-closed (length text) (tokens text) (tokens-end text) e
+
+-- tokens that are all taken hold no end
+taken-open : (ts : Tokens) → Every Inner ts → Closed ts → ⊥
+taken-open [] h c = c
+taken-open (t ∷ []) h c = false≢true (sym (h .0) ∙ c)
+taken-open (t ∷ u ∷ us) h c = taken-open (u ∷ us) (h .1) c
+
+append-none : (ts : Tokens) → ts ++ [] ≡ ts
+append-none [] = refl
+append-none (t ∷ ts) = ap (λ us. t ∷ us) (append-none ts)
+
+-- a refused token, at the place p: whatever stands behind it
+pub record Refusal (ts : Tokens) (p : ℕ) : Type 0 where
+  pub before : Tokens
+  pub token : Token
+  pub behind : Tokens
+  pub whole : ts ≡ before ++ (token ∷ behind)
+  pub place : token .at ≡ p
+  pub always : (us : Tokens) → specOf (before ++ (token ∷ us)) ≡ Refused 4 p
+
+stops-refusal : (ts : Tokens) (p : ℕ) → Closed ts → Stops Spec 0 ts p (λ k. specOf) → Refusal ts p
+stops-refusal ts p c s = go (s .left) (s .whole) (s .place) (s .again)
+  where
+    us : Tokens
+    us = s .taken
+
+    go : (vs : Tokens) → ts ≡ us ++ vs → p ≡ front vs .at → ((k : ℕ) (ws : Tokens) → Alike vs ws → length (us ++ ws) < 0 + k → specOf (us ++ ws) ≡ Refused 4 p) → Refusal ts p
+    go [] w z f = absurd (taken-open us (s .inner) (subst Closed (w ∙ append-none us) c))
+    go (t ∷ vs) w z f =
+        record { before = us; token = t; behind = vs; whole = w; place = sym z; always = λ ws. let xs = us ++ (t ∷ ws) in f (suc (length xs)) (t ∷ ws) refl (omega arith) }
+
+-- the grammar refuses with 4 alone, and what it refuses it refuses whatever comes
+pub grammar-refuses : (ts : Tokens) (number p : ℕ) → Closed ts → specOf ts ≡ Refused number p → (number ≡ 4) × Refusal ts p
+grammar-refuses ts number p c e =
+    let d : Decides Spec (InSpec Any) ts (Refused number p) specOf = subst (λ r. Decides Spec (InSpec Any) ts r specOf) e (specOf-decides Any ts (every-any ts)) in
+    (d .says .0, stops-refusal ts p c (d .says .1))
+
+refuse-done : {A : Type 0} (number : ℕ) (o : Option ℕ) (r : Result A) {x : A} → refuseAt number o r ≡ Done x → r ≡ Done x
+unfolding refuseAt
+refuse-done number none r e = e
+refuse-done number (some p) r e = absurd (not-done e)
+
+-- a text that is accepted is a text of the grammar
+pub parsed-grammar : (text : List ℕ) (x : Spec) → parsed text ≡ Done x → (y : Spec) × (specOf (tokens text) ≡ Done y)
+unfolding parsed
+parsed-grammar text x e =
+    let ts = tokens text in
+    let r = refuse-done 3 (tooManyTokens ts) (specOf ts >>= wellFormed) (refuse-done 2 (noToken ts) _ (guard-done (leb (length text) maxBytes) 1 maxBytes _ e .1)) in
+    let b = bind-done (specOf ts) wellFormed r in
+    (b .0, b .1)
+
+-- no text whose tokens begin with those up to a refused one is accepted
+pub refused-never-accepted : (ts : Tokens) (p : ℕ) (r : Refusal ts p) (text : List ℕ) (us : Tokens) → tokens text ≡ r .before ++ (r .token ∷ us) → (x : Spec) → parsed text ≡ Done x → ⊥
+refused-never-accepted ts p r text us e x d =
+    let y = parsed-grammar text x d in
+    not-done (sym (ap specOf e ∙ r .always us) ∙ y .1)
+
+-- which of the refusals in a row was met
+numberOf : {A : Type 0} → Result A → ℕ
+numberOf (Done x) = 0
+numberOf (Refused number p) = number
+
+refuse-other : {A : Type 0} (m : ℕ) (o : Option ℕ) (r : Result A) {number p : ℕ} → (m ≡ number → ⊥) → refuseAt m o r ≡ Refused number p → (o ≡ none) × (r ≡ Refused number p)
+unfolding refuseAt numberOf
+refuse-other m none r f e = (refl, e)
+refuse-other m (some q) r f e = absurd (f (ap numberOf e))
+
+guard-other : {A : Type 0} (b : Bool) (m q : ℕ) (r : Result A) {number p : ℕ} → (m ≡ number → ⊥) → guard b m q r ≡ Refused number p → r ≡ Refused number p
+unfolding guard numberOf
+guard-other true m q r f e = e
+guard-other false m q r f e = absurd (f (ap numberOf e))
+
+-- the tree's own refusals are not 4
+wellFormed-other : (x : Spec) (p : ℕ) → wellFormed x ≡ Refused 4 p → ⊥
+wellFormed-other x p e =
+    let e₅ = refuse-other 5 (tooDeep x) _ (omega arith) e .1 in
+    let e₆ = refuse-other 6 (notVisible x) _ (omega arith) e₅ .1 in
+    let e₇ = refuse-other 7 (declaredAgain x) _ (omega arith) e₆ .1 in
+    let e₈ = refuse-other 8 (tooMany x) _ (omega arith) e₇ .1 in
+    let e₉ = refuse-other 9 (wrongType x) _ (omega arith) e₈ .1 in
+    not-done (sym (refuse-other 10 (wrongWords x) _ (omega arith) e₉ .1))
+
+grammar-only : (r : Result Spec) (p : ℕ) → r >>= wellFormed ≡ Refused 4 p → r ≡ Refused 4 p
+unfolding _>>=_
+grammar-only (Done x) p e = absurd (wellFormed-other x p e)
+grammar-only (Refused number q) p e = e
+
+-- a text refused with 4: no text that begins with its tokens up to the refused one is accepted
+pub parsed-refuses-4 : (text : List ℕ) (p : ℕ) → parsed text ≡ Refused 4 p → Refusal (tokens text) p
+unfolding parsed
+parsed-refuses-4 text p e =
+    let ts = tokens text in
+    let e₂ = refuse-other 2 (noToken ts) _ (omega arith) (guard-other (leb (length text) maxBytes) 1 maxBytes _ (omega arith) e) in
+    let e₃ = refuse-other 3 (tooManyTokens ts) (specOf ts >>= wellFormed) (omega arith) (e₂ .1) in
+    grammar-refuses ts 4 p (tokens-closed text (e₂ .0)) (grammar-only (specOf ts) p (e₃ .1)) .1

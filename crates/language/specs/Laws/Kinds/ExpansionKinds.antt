@@ -1,0 +1,132 @@
+-- A formula without a wrong operand expands, or is refused by 11, 12 or 13.
+use Prim.Native.Nat.{ℕ}
+use mathlib.Core.Path.{_≡_, refl, sym, subst}
+use mathlib.Core.Bool.{Bool, true, false}
+use mathlib.Core.Option.{none, some}
+use lib.Dec.{leb}
+use native.Mathlib.Omega.{arith}
+use Rattle.node.specs.Result.{Result, _>>=_}
+use Rattle.node.specs.Ltl.{Formula}
+use Rattle.language.specs.Bytes.{if_then_else_, same}
+use Rattle.language.specs.Tokens.{Token}
+use Rattle.language.specs.Operators.{Comparison, Equal, Unequal, Less, AtMost, Greater, AtLeast, Calculates, Combines, Compares, Membership, Connects, Measures, WidthOf, Applies}
+use Rattle.language.specs.Tree.{Expr, Named, Numeral, Truth, Index, Paren, Prefixed, Joined, Nexts, InWindow, Each, Between, Listed, Empty, Element, Range}
+use Rattle.language.specs.Places.{start, first, unless}
+use Rattle.language.specs.Types.{Kind, ANumber, ASet, AFormula, ABus, Typings, isKind, kindIn, kindOf, withNumber, bigGives, comparable, fitting, wrongSides, wrongOperands, mistyped, demanded, wrong}
+use Rattle.language.specs.Values.{Value, Scope, Sides, sides, number, value}
+use Rattle.language.specs.Expansion.{Context, at, compared, expansion}
+use Rattle.language.specs.Laws.Kinds.PlaceLaws.{some-none, first-left, first-right, unless-none}
+use Rattle.language.specs.Laws.Kinds.Reaching.{Reaches, Any, done-reaches, bind-reaches, next, guard-reaches}
+use Rattle.language.specs.Laws.Kinds.KindLaws.{isKind-equal, Evaluates, apart, number-of, set-of, bus-of}
+use Rattle.language.specs.Laws.Kinds.OperandLaws.{bit-reaches, bigFormula-reaches, AreNumbers, numbers-reach, fitting-reach, compared-numbers, equality-reaches, inequality-reaches}
+use Rattle.language.specs.Laws.Kinds.Shapes.{Shaped}
+use Rattle.language.specs.Laws.Kinds.TypeSoundness.{Agree, agree-number, Taken, taken, taken-both, taken-two, taken-three, operand, value-evaluates}
+
+-- the formulas of the visible names that stand for one
+abbrev pub Expands : Typings → (Token → Result Formula) → Type 0
+Expands ys fs = (t : Token) → kindIn ys t ≡ AFormula → Reaches Any (fs t)
+
+pub record Serves (ys : Typings) (c : Context) : Type 0 where
+  pub values : Agree ys (c .values)
+  pub formulas : Expands ys (c .formulas)
+
+no-number : (b : Bool) (k : Kind) → elim b [ true ↦ ANumber | false ↦ k ] ≡ AFormula → k ≡ AFormula
+no-number true k e = apart ANumber AFormula refl e
+no-number false k e = e
+
+serves-number : (ys : Typings) (c : Context) (i : Token) (n : ℕ) → Serves ys c → Serves (withNumber i ys) (at c i n)
+serves-number ys c i n h =
+    record {
+      values = agree-number ys (c .values) i n (h .values);
+      formulas = λ t e. h .formulas t (no-number (same (i .text) (t .text)) (kindIn ys t) e);
+    }
+
+pub formula-operand : (ys : Typings) (e : Expr) (r : Result Formula) → Taken AFormula ys e → (mistyped ys e ≡ none → kindOf ys e ≡ AFormula → Reaches Any r) → Reaches Any r
+formula-operand ys e r t h =
+    h (t .inside) (sym (isKind-equal AFormula (kindOf ys e) (unless-none (isKind AFormula (kindOf ys e)) (start e) (t .fits))))
+
+-- `==` and `!=`
+sides-none : (b f : Bool) (p q : ℕ) → (if b then unless f p else some q) ≡ none → f ≡ true
+sides-none true f p q e = unless-none f p e
+sides-none false f p q e = absurd (some-none e)
+
+module _ (ys : Typings) (sc : Scope) (a b : Expr) (u : mistyped ys a ≡ none → Evaluates (kindOf ys a) (value sc a)) (v : mistyped ys b ≡ none → Evaluates (kindOf ys b) (value sc b)) where
+  numbers-compared : (o : Comparison) → first (first (wrong ANumber ys a) (wrong ANumber ys b)) (first (mistyped ys a) (mistyped ys b)) ≡ none
+      → Reaches Any ((value sc a >>= λ x. value sc b >>= sides x) >>= compared o)
+  numbers-compared o h =
+      let w = taken-both ANumber ANumber ys a b h in
+      bind-reaches AreNumbers Any _ _ (numbers-reach (value sc a) (value sc b) (operand ANumber ys a _ (w .0) u) (operand ANumber ys b _ (w .1) v))
+      (compared-numbers o)
+
+  sides-compared : (o : Comparison) → ((s : Sides) → Reaches Any (compared o s)) → first (wrongSides ys a b) (first (mistyped ys a) (mistyped ys b)) ≡ none
+      → Reaches Any ((value sc a >>= λ x. value sc b >>= sides x) >>= compared o)
+  sides-compared o f h =
+      let w = first-left (wrongSides ys a b) (first (mistyped ys a) (mistyped ys b)) h in
+      let m = first-right (wrongSides ys a b) (first (mistyped ys a) (mistyped ys b)) h in
+      next _ _ _ (fitting-reach (value sc a) (value sc b) (kindOf ys a) (kindOf ys b)
+      (sides-none (comparable (kindOf ys a)) (fitting (kindOf ys a) (kindOf ys b)) (start b) (start a) w)
+      (u (first-left (mistyped ys a) (mistyped ys b) m)) (v (first-right (mistyped ys a) (mistyped ys b) m))) f
+
+  compared-reaches : (o : Comparison) → first (wrongOperands ys (Compares o) a b) (first (mistyped ys a) (mistyped ys b)) ≡ none
+      → Reaches Any ((value sc a >>= λ x. value sc b >>= sides x) >>= compared o)
+  compared-reaches Equal h = sides-compared Equal equality-reaches h
+  compared-reaches Unequal h = sides-compared Unequal inequality-reaches h
+  compared-reaches Less h = numbers-compared Less h
+  compared-reaches AtMost h = numbers-compared AtMost h
+  compared-reaches Greater h = numbers-compared Greater h
+  compared-reaches AtLeast h = numbers-compared AtLeast h
+
+-- a number that an operator of a formula takes
+number-operand : (ys : Typings) (sc : Scope) → Agree ys sc → (e : Expr) → Shaped e → Taken ANumber ys e → Reaches Any (value sc e >>= number)
+number-operand ys sc a e s w = number-of (value sc e) (operand ANumber ys e _ w (value-evaluates ys sc a e s))
+
+bus-named : (ys : Typings) (t : Token) (p : ℕ) (r : Result Value) → unless (isKind ABus (kindIn ys t)) p ≡ none → Evaluates (kindIn ys t) r → Evaluates ABus r
+bus-named ys t p r e h =
+    subst (λ (k : Kind). Evaluates k r) (sym (isKind-equal ABus (kindIn ys t) (unless-none (isKind ABus (kindIn ys t)) p e))) h
+
+pub expansion-reaches : (ys : Typings) (c : Context) → Serves ys c → (e : Expr) → Shaped e → mistyped ys e ≡ none → kindOf ys e ≡ AFormula → Reaches Any (expansion c e)
+expansion-reaches ys c v (Named t) s h k = v .formulas t k
+expansion-reaches ys c v (Numeral t) s h k = apart ANumber AFormula refl k
+expansion-reaches ys c v (Truth t b) s h k = done-reaches Any _ tt
+expansion-reaches ys c v (Index t e) s h k =
+    let p = unless (isKind ABus (kindIn ys t)) (t .at) in
+    next _ _ _ (next _ _ _ (number-operand ys (c .values) (v .values) e s (taken ANumber ys e (first-right p (demanded ANumber ys e) h))) (λ i.
+    next _ _ _ (bus-of _ (bus-named ys t (t .at) _ (first-left p (demanded ANumber ys e) h) (v .values t))) (bit-reaches i)))
+    (λ n. done-reaches Any _ tt)
+expansion-reaches ys c v (Paren t e) s h k = expansion-reaches ys c v e s h k
+expansion-reaches ys c v (Prefixed t (Measures m) e) s h k = apart ANumber AFormula refl k
+expansion-reaches ys c v (Prefixed t WidthOf e) s h k = apart ANumber AFormula refl k
+expansion-reaches ys c v (Prefixed t (Applies o) e) s h k =
+    next _ _ _ (formula-operand ys e _ (taken AFormula ys e h) (expansion-reaches ys c v e s)) (λ f. done-reaches Any _ tt)
+expansion-reaches ys c v (Joined t (Calculates o) a b) s h k = apart ANumber AFormula refl k
+expansion-reaches ys c v (Joined t (Combines o) a b) s h k = apart ASet AFormula refl k
+expansion-reaches ys c v (Joined t (Compares o) a b) s h k =
+    compared-reaches ys (c .values) a b (value-evaluates ys (c .values) (v .values) a (s .0)) (value-evaluates ys (c .values) (v .values) b (s .1)) o h
+expansion-reaches ys c v (Joined t Membership a b) s h k =
+    let w = taken-both ANumber ASet ys a b h in
+    next _ _ _ (number-operand ys (c .values) (v .values) a (s .0) (w .0)) (λ n.
+    next _ _ _ (set-of _ (operand ASet ys b _ (w .1) (value-evaluates ys (c .values) (v .values) b (s .1)))) (λ m. done-reaches Any _ tt))
+expansion-reaches ys c v (Joined t (Connects o) a b) s h k =
+    let w = taken-both AFormula AFormula ys a b h in
+    next _ _ _ (formula-operand ys a _ (w .0) (expansion-reaches ys c v a (s .0))) (λ f.
+    next _ _ _ (formula-operand ys b _ (w .1) (expansion-reaches ys c v b (s .1))) (λ g. done-reaches Any _ tt))
+expansion-reaches ys c v (Nexts t n e) s h k =
+    let w = taken-two ANumber AFormula ys ys n e h in
+    next _ _ _ (number-operand ys (c .values) (v .values) n (s .0) (w .0)) (λ i.
+    next _ _ _ (formula-operand ys e _ (w .1) (expansion-reaches ys c v e (s .1))) (λ f. done-reaches Any _ tt))
+expansion-reaches ys c v (InWindow t o n m e) s h k =
+    let w = taken-three AFormula ys n m e h in
+    next _ _ _ (number-operand ys (c .values) (v .values) n (s .0) (w .0)) (λ i.
+    next _ _ _ (number-operand ys (c .values) (v .values) m (s .1) (w .1)) (λ j.
+    guard-reaches Any (leb i j) 11 (t .at) _ (omega arith) (λ q.
+    next _ _ _ (formula-operand ys e _ (w .2) (expansion-reaches ys c v e (s .2))) (λ f. done-reaches Any _ tt))))
+expansion-reaches ys c v (Each t o further i m e) s h k =
+    let w = taken-two ASet (bigGives o) ys (withNumber i ys) m e h in
+    next _ _ _ (set-of _ (operand ASet ys m _ (w .0) (value-evaluates ys (c .values) (v .values) m (s .0)))) (bigFormula-reaches o _ k (λ n.
+    formula-operand (withNumber i ys) e _ (subst (λ (l : Kind). Taken l (withNumber i ys) e) k (w .1))
+    (expansion-reaches (withNumber i ys) (at c i n) (serves-number ys c i n v) e (s .1))))
+expansion-reaches ys c v (Between t l u a b) s h k = apart ASet AFormula refl k
+expansion-reaches ys c v (Listed t es) s h k = apart ASet AFormula refl k
+expansion-reaches ys c v Empty s h k = apart ASet AFormula refl k
+expansion-reaches ys c v (Element e es) s h k = apart ASet AFormula refl k
+expansion-reaches ys c v (Range t x y z) s h k = apart ASet AFormula refl k

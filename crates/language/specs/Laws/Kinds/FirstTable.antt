@@ -1,0 +1,171 @@
+-- The table before any turn: signals and buses wait in it, identifiers stand for their words, and what the text declares is known.
+use Prim.Native.Nat.{ℕ}
+use mathlib.Core.Path.{_≡_, refl, _∙_, subst}
+use mathlib.Core.Bool.{Bool, true, false, _||_}
+use mathlib.Core.List.{List, [], _∷_, _++_}
+use Rattle.language.specs.Bytes.{same}
+use Rattle.language.specs.Tokens.{Token}
+use Rattle.language.specs.Tree.{Expr, Identifier, Definition, Defined, Enumerated, Parameter, Declaration, OneSignal, OfWidth, OfType, Subsection, Inputs, Outputs, Lines, Spec}
+use Rattle.language.specs.Places.{Entry, ParameterLine, DefinitionLine, DeclarationLine, FormulaLine, parameterLines, definitionLines, declarationLines, formulaLines, mainLines, allLines}
+use Rattle.language.specs.Types.{Kind, AFormula, ABus, Typings, kindIn, typedValues, typedAfter, typedSignals}
+use Rattle.language.specs.Signals.{Table, identified, identifiers, waiting, inputs, outputs}
+use Rattle.language.specs.Laws.Kinds.PlaceLaws.{false-true, All}
+use Rattle.language.specs.Laws.Kinds.DeclaredKinds.{Knows, typings}
+use Rattle.language.specs.Laws.Kinds.DefinitionKinds.{found, or-left, or-right, values-right}
+use Rattle.language.specs.Laws.Kinds.TableKinds.{awaits, declaredName, listed, seen, EntryKnown, Respects, respects-add, Standing}
+use Rattle.language.specs.Laws.Kinds.LineKinds.{DeclarationFits}
+
+-- the identifiers
+identified-sound : (g : Token → Kind) (is : List Identifier) (ys : Typings) (d : Table) → All (Knows g) (typedValues is ys) → All (EntryKnown g) d
+    → All (EntryKnown g) (identified is ++ d)
+identified-sound g [] ys d k s = s
+identified-sound g (i ∷ is) ys d k s = (k .0, identified-sound g is ys d (k .1) s)
+
+identifiers-sound : (g : Token → Kind) (ls : List Entry) (ds : List Definition) (ys : Typings) → All (Knows g) (typings ys (definitionLines ds ls))
+    → All (EntryKnown g) (identifiers ds)
+identifiers-sound g ls [] ys k = tt
+identifiers-sound g ls (Defined x e ∷ ds) ys k = identifiers-sound g ls ds (typedAfter ys (DefinitionLine (Defined x e))) (k .1)
+identifiers-sound g ls (Enumerated x is ∷ ds) ys k =
+    let zs = typedAfter ys (DefinitionLine (Enumerated x is)) in
+    let ws = typings zs (definitionLines ds ls) in
+    identified-sound g is ws (identifiers ds) (k .1) (identifiers-sound g ls ds zs (values-right g is ws (k .1)))
+
+passed-over : (b a : Bool) → elim b [ true ↦ false | false ↦ a ] ≡ true → a ≡ true
+passed-over true a e = absurd (false-true e)
+passed-over false a e = e
+
+identified-awaits : (is : List Identifier) (d : Table) (x : List ℕ) → awaits (identified is ++ d) x ≡ true → awaits d x ≡ true
+identified-awaits [] d x e = e
+identified-awaits (i ∷ is) d x e = identified-awaits is d x (passed-over (same (i .name .text) x) (awaits (identified is ++ d) x) e)
+
+identifiers-awaits : (ds : List Definition) (x : List ℕ) → awaits (identifiers ds) x ≡ true → ⊥
+identifiers-awaits [] x e = false-true e
+identifiers-awaits (Defined y e ∷ ds) x h = identifiers-awaits ds x h
+identifiers-awaits (Enumerated y is ∷ ds) x h = identifiers-awaits ds x (identified-awaits is (identifiers ds) x h)
+
+-- signals and buses that wait
+waiting-sound : (g : Token → Kind) (ys : Typings) (ds : List Declaration) (d : Table) → All (DeclarationFits g ys) ds → All (EntryKnown g) d → All (EntryKnown g) (waiting ds d)
+waiting-sound g ys [] d f s = s
+waiting-sound g ys (OneSignal x ∷ ds) d f s = (f .0, waiting-sound g ys ds d (f .1) s)
+waiting-sound g ys (OfWidth x e ∷ ds) d f s = (f .0 .0, waiting-sound g ys ds d (f .1) s)
+waiting-sound g ys (OfType u x ∷ ds) d f s = (f .0, waiting-sound g ys ds d (f .1) s)
+
+or-swap : (p q : Bool) → (p || q) ≡ true → (q || p) ≡ true
+or-swap true q e = or-right q true refl
+or-swap false q e = or-left q false e
+
+or-else : (p a b : Bool) → (a ≡ true → b ≡ true) → (p || a) ≡ true → (p || b) ≡ true
+or-else true a b h e = refl
+or-else false a b h e = h e
+
+step : (p a f w : Bool) → ((a || f) ≡ true → w ≡ true) → ((p || a) || f) ≡ true → (p || w) ≡ true
+step true a f w h e = refl
+step false a f w h e = h e
+
+waiting-listed : (ds : List Declaration) (d : Table) (x : List ℕ) → (listed ds x || found d x) ≡ true → found (waiting ds d) x ≡ true
+waiting-listed [] d x e = e
+waiting-listed (OneSignal y ∷ ds) d x e = step (same (y .text) x) (listed ds x) (found d x) (found (waiting ds d) x) (waiting-listed ds d x) e
+waiting-listed (OfWidth y w ∷ ds) d x e = step (same (y .text) x) (listed ds x) (found d x) (found (waiting ds d) x) (waiting-listed ds d x) e
+waiting-listed (OfType u y ∷ ds) d x e = step (same (y .text) x) (listed ds x) (found d x) (found (waiting ds d) x) (waiting-listed ds d x) e
+
+awaits-turn : (b w a l : Bool) → (a ≡ true → l ≡ true) → elim b [ true ↦ w | false ↦ a ] ≡ true → (b || l) ≡ true
+awaits-turn true w a l h e = refl
+awaits-turn false w a l h e = h e
+
+waiting-awaits : (ds left : List Declaration) (d : Table) (x : List ℕ) → (awaits d x ≡ true → listed left x ≡ true) → awaits (waiting ds d) x ≡ true → listed (ds ++ left) x ≡ true
+waiting-awaits [] left d x h e = h e
+waiting-awaits (OneSignal y ∷ ds) left d x h e = awaits-turn (same (y .text) x) true _ _ (waiting-awaits ds left d x h) e
+waiting-awaits (OfWidth y w ∷ ds) left d x h e = awaits-turn (same (y .text) x) false _ _ (waiting-awaits ds left d x h) e
+waiting-awaits (OfType u y ∷ ds) left d x h e = awaits-turn (same (y .text) x) false _ _ (waiting-awaits ds left d x h) e
+
+-- the types of signals and buses
+signals-respect : (g : Token → Kind) (ls : List Entry) (ys : Typings) → All (Knows g) (typings ys ls) → Respects g (typedSignals ls)
+signals-respect g [] ys k = λ t e. absurd (false-true e)
+signals-respect g (ParameterLine x e ∷ ls) ys k = signals-respect g ls (typedAfter ys (ParameterLine x e)) (k .1)
+signals-respect g (DefinitionLine (Defined x e) ∷ ls) ys k = signals-respect g ls (typedAfter ys (DefinitionLine (Defined x e))) (k .1)
+signals-respect g (DefinitionLine (Enumerated x is) ∷ ls) ys k =
+    let zs = typedAfter ys (DefinitionLine (Enumerated x is)) in
+    signals-respect g ls zs (values-right g is (typings zs ls) (k .1))
+signals-respect g (DeclarationLine (OneSignal x) ∷ ls) ys k =
+    respects-add g (typedSignals ls) (record { name = x; kind = AFormula }) (k .0) (signals-respect g ls ys (k .1))
+signals-respect g (DeclarationLine (OfWidth x e) ∷ ls) ys k =
+    respects-add g (typedSignals ls) (record { name = x; kind = ABus }) (k .0) (signals-respect g ls ys (k .1))
+signals-respect g (DeclarationLine (OfType u x) ∷ ls) ys k =
+    respects-add g (typedSignals ls) (record { name = x; kind = ABus }) (k .0) (signals-respect g ls ys (k .1))
+signals-respect g (FormulaLine e ∷ ls) ys k = signals-respect g ls ys k
+
+signals-after-parameters : (ps : List Parameter) (ls : List Entry) → typedSignals (parameterLines ps ls) ≡ typedSignals ls
+signals-after-parameters [] ls = refl
+signals-after-parameters (p ∷ ps) ls = signals-after-parameters ps ls
+
+signals-after-definitions : (ds : List Definition) (ls : List Entry) → typedSignals (definitionLines ds ls) ≡ typedSignals ls
+signals-after-definitions [] ls = refl
+signals-after-definitions (d ∷ ds) ls = signals-after-definitions ds ls
+
+signals-after-formulas : (es : List Expr) (ls : List Entry) → typedSignals (formulaLines es ls) ≡ typedSignals ls
+signals-after-formulas [] ls = refl
+signals-after-formulas (e ∷ es) ls = signals-after-formulas es ls
+
+seen-entry : (b : Bool) (k l : Kind) (p r : Bool) → (seen l ≡ true → (p || r) ≡ true) → seen (elim b [ true ↦ k | false ↦ l ]) ≡ true → ((b || p) || r) ≡ true
+seen-entry true k l p r h e = refl
+seen-entry false k l p r h e = h e
+
+-- a visible signal is one of these declarations, or of the lines after them
+module _ (t : Token) where
+  among-declarations : (ds : List Declaration) (ls : List Entry) → seen (kindIn (typedSignals (declarationLines ds ls)) t) ≡ true
+      → (listed ds (t .text) || seen (kindIn (typedSignals ls) t)) ≡ true
+  among-declarations [] ls e = e
+  among-declarations (OneSignal x ∷ ds) ls e =
+      seen-entry (same (x .text) (t .text)) AFormula (kindIn (typedSignals (declarationLines ds ls)) t) _ _ (among-declarations ds ls) e
+  among-declarations (OfWidth x w ∷ ds) ls e =
+      seen-entry (same (x .text) (t .text)) ABus (kindIn (typedSignals (declarationLines ds ls)) t) _ _ (among-declarations ds ls) e
+  among-declarations (OfType u x ∷ ds) ls e =
+      seen-entry (same (x .text) (t .text)) ABus (kindIn (typedSignals (declarationLines ds ls)) t) _ _ (among-declarations ds ls) e
+
+  listed-entry : (p a f w q : Bool) → ((a || f) ≡ true → (w || q) ≡ true) → ((p || a) || f) ≡ true → ((p || w) || q) ≡ true
+  listed-entry true a f w q h e = refl
+  listed-entry false a f w q h e = h e
+
+  listed-append : (ds ms : List Declaration) (q : Bool) → (listed ds (t .text) || (listed ms (t .text) || q)) ≡ true → (listed (ds ++ ms) (t .text) || q) ≡ true
+  listed-append [] ms q e = e
+  listed-append (d ∷ ds) ms q e = listed-entry (same (declaredName d .text) (t .text)) (listed ds (t .text)) _ _ q (listed-append ds ms q) e
+
+  among-main : (ss : List Subsection) → seen (kindIn (typedSignals (mainLines ss)) t) ≡ true → (listed (inputs ss) (t .text) || listed (outputs ss) (t .text)) ≡ true
+  among-main [] e = absurd (false-true e)
+  among-main (Inputs ds ∷ ss) e =
+      listed-append ds (inputs ss) (listed (outputs ss) (t .text))
+      (or-else (listed ds (t .text)) (seen (kindIn (typedSignals (mainLines ss)) t)) _ (among-main ss) (among-declarations ds (mainLines ss) e))
+  among-main (Outputs ds ∷ ss) e =
+      or-swap (listed (ds ++ outputs ss) (t .text)) (listed (inputs ss) (t .text)) (listed-append ds (outputs ss) (listed (inputs ss) (t .text))
+      (or-else (listed ds (t .text)) (seen (kindIn (typedSignals (mainLines ss)) t)) _
+      (λ h. or-swap (listed (inputs ss) (t .text)) (listed (outputs ss) (t .text)) (among-main ss h)) (among-declarations ds (mainLines ss) e)))
+  among-main (Lines p es ∷ ss) e = among-main ss (subst (λ (ys : Typings). seen (kindIn ys t) ≡ true) (signals-after-formulas es (mainLines ss)) e)
+
+signals-of-main : (x : Spec) → typedSignals (allLines x) ≡ typedSignals (mainLines (x .main))
+signals-of-main x =
+    signals-after-parameters (x .parameters) (definitionLines (x .definitions) (mainLines (x .main))) ∙ signals-after-definitions (x .definitions) (mainLines (x .main))
+
+-- ys and zs: what is visible before the definitions, and in MAIN
+pub first-standing : (g : Token → Kind) (x : Spec) (ys zs : Typings) → All (Knows g) (typings (typedSignals (allLines x)) (allLines x))
+    → All (Knows g) (typings ys (definitionLines (x .definitions) (mainLines (x .main))))
+    → All (DeclarationFits g zs) (inputs (x .main)) → All (DeclarationFits g zs) (outputs (x .main))
+    → Standing g (identifiers (x .definitions)) (inputs (x .main) ++ (outputs (x .main) ++ [])) (typedSignals (allLines x))
+    (waiting (inputs (x .main)) (waiting (outputs (x .main)) (identifiers (x .definitions))))
+first-standing g x ys zs k l i o =
+    let ins = inputs (x .main) in
+    let outs = outputs (x .main) in
+    let d = identifiers (x .definitions) in
+    record {
+      sound = waiting-sound g zs ins (waiting outs d) i (waiting-sound g zs outs d o (identifiers-sound g (mainLines (x .main)) (x .definitions) ys l));
+      respects = signals-respect g (allLines x) (typedSignals (allLines x)) k;
+      present = λ t e.
+          waiting-listed ins (waiting outs d) (t .text) (or-else (listed ins (t .text)) (listed outs (t .text)) (found (waiting outs d) (t .text))
+          (λ h. waiting-listed outs d (t .text) (or-left (listed outs (t .text)) (found d (t .text)) h))
+          (among-main t (x .main) (subst (λ (us : Typings). seen (kindIn us t) ≡ true) (signals-of-main x) e)));
+      kept = λ t e.
+          waiting-listed ins (waiting outs d) (t .text) (or-right (listed ins (t .text)) (found (waiting outs d) (t .text))
+          (waiting-listed outs d (t .text) (or-right (listed outs (t .text)) (found d (t .text)) e)));
+      pending = λ t.
+          waiting-awaits ins (outs ++ []) (waiting outs d) (t .text)
+          (waiting-awaits outs [] d (t .text) (λ h. absurd (identifiers-awaits (x .definitions) (t .text) h)));
+    }

@@ -1,0 +1,8 @@
+pub mod PlaceBounds
+pub mod NamePlaces
+pub mod TypePlaces
+pub mod HeldLaws
+pub mod ParsedPlaces
+pub mod ValuePlaces
+pub mod SignalPlaces
+pub mod ReadingPlaces

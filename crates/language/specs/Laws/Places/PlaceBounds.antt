@@ -1,0 +1,141 @@
+-- Places that are at most the text's length n; the lines of a tree hold the tree's tokens, so the place of refusal 5 is one of them.
+use Prim.Native.Nat.{ℕ, _≤_}
+use mathlib.Core.List.{List, [], _∷_}
+use mathlib.Core.Bool.{Bool}
+use mathlib.Core.Option.{Option, none, some}
+use lib.Dec.{leb}
+use native.Mathlib.Omega.{arith}
+use Rattle.language.specs.Limits.{maxLevels}
+use Rattle.language.specs.Tokens.{Token}
+use Rattle.language.specs.Tree.{Expr, Named, Numeral, Truth, Index, Paren, Prefixed, Joined, Nexts, InWindow, Each, Between, Listed, Empty, Element, Range, Identifier, Definition, Defined, Enumerated, Parameter, Declaration, OneSignal, OfWidth, OfType, Subsection, Inputs, Outputs, Lines, Spec}
+use Rattle.language.specs.Places.{start, levels, first, firstIn, unless, Entry, ParameterLine, DefinitionLine, DeclarationLine, FormulaLine, parameterLines, definitionLines, declarationLines, formulaLines, mainLines, allLines, deep, deepLine, tooDeep}
+use Rattle.language.specs.Names.{Names, identifierNames, declares, declaresSignal, over}
+use Rattle.language.specs.Laws.Grammar.CaseLaws.{split}
+use Rattle.language.specs.Laws.Grammar.TokenLaws.{Every}
+use Rattle.language.specs.Laws.Grammar.BindLaws.{every-append}
+use Rattle.language.specs.Laws.Grammar.TreeTokens.{InExpr, InEach, InIdentifier, InParameter, InDefinition, InDeclaration, InSubsection, InSpec}
+
+-- a place, if there is one, is at most n
+abbrev pub Under : ℕ → Option ℕ → Type 0
+Under n none = Unit {0}
+Under n (some p) = p ≤ n
+
+pub record Low (n : ℕ) (o : Option ℕ) : Type 0 where
+  pub says : Under n o
+
+abbrev pub At : ℕ → Token → Type 0
+At n t = t .at ≤ n
+
+-- what holds of every token of a line
+abbrev pub InEntry : (Token → Type 0) → Entry → Type 0
+InEntry P (ParameterLine x e) = P x × InExpr P e
+InEntry P (DefinitionLine d) = InDefinition P d
+InEntry P (DeclarationLine d) = InDeclaration P d
+InEntry P (FormulaLine e) = InExpr P e
+
+module _ (n : ℕ) where
+  pub nowhere-low : Low n none
+  nowhere-low = record { says = tt }
+
+  pub here-low : {p : ℕ} → p ≤ n → Low n (some p)
+  here-low h = record { says = h }
+
+  pub low-first : {a b : Option ℕ} → Low n a → Low n b → Low n (first a b)
+  low-first {a} {b} h g = record { says = go a b (h .says) (g .says) }
+    where
+      go : (a b : Option ℕ) → Under n a → Under n b → Under n (first a b)
+      go none b h g = g
+      go (some p) none h g = h
+      go (some p) (some q) h g = omega arith
+
+  pub low-firstIn : {A : Type 0} (Q : A → Type 0) (f : A → Option ℕ) (xs : List A) → ((x : A) → Q x → Low n (f x)) → InEach Q xs → Low n (firstIn f xs)
+  low-firstIn Q f [] g h = nowhere-low
+  low-firstIn Q f (x ∷ xs) g h = low-first (g x (h .0)) (low-firstIn Q f xs g (h .1))
+
+  pub low-unless : (b : Bool) (p : ℕ) → p ≤ n → Low n (unless b p)
+  low-unless b p h = split (Low n) b (λ _. nowhere-low) (λ _. here-low h)
+
+  pub low-start : (e : Expr) → InExpr (At n) e → start e ≤ n
+  low-start (Named t) h = h
+  low-start (Numeral t) h = h
+  low-start (Truth t b) h = h
+  low-start (Index t e) h = h .0
+  low-start (Paren t e) h = h .0
+  low-start (Prefixed t o e) h = h .0
+  low-start (Joined t o a b) h = low-start a (h .1)
+  low-start (Nexts t m e) h = h .0
+  low-start (InWindow t o l m e) h = h .0
+  low-start (Each t o further i s e) h = h .0
+  low-start (Between t l u a b) h = low-start a (h .1)
+  low-start (Listed t es) h = h .0
+  low-start Empty h = omega arith
+  low-start (Element e es) h = low-start e (h .0)
+  low-start (Range t x y z) h = h .0
+
+  -- refusal 5
+  low-deep : (e : Expr) → InExpr (At n) e → Low n (deep e)
+  low-deep e h = low-unless (leb (levels e) maxLevels) (start e) (low-start e h)
+
+  low-deepLine : (l : Entry) → InEntry (At n) l → Low n (deepLine l)
+  low-deepLine (ParameterLine x e) h = low-deep e (h .1)
+  low-deepLine (DefinitionLine (Defined x e)) h = low-deep e (h .1)
+  low-deepLine (DefinitionLine (Enumerated x is)) h = nowhere-low
+  low-deepLine (DeclarationLine (OneSignal x)) h = nowhere-low
+  low-deepLine (DeclarationLine (OfWidth x e)) h = low-deep e (h .1)
+  low-deepLine (DeclarationLine (OfType u x)) h = nowhere-low
+  low-deepLine (FormulaLine e) h = low-deep e h
+
+-- the lines of a tree hold its tokens
+module _ (P : Token → Type 0) where
+  in-parameterLines : (ps : List Parameter) (ls : List Entry) → InEach (InParameter P) ps → InEach (InEntry P) ls → InEach (InEntry P) (parameterLines ps ls)
+  in-parameterLines [] ls h g = g
+  in-parameterLines (p ∷ ps) ls h g = (h .0, in-parameterLines ps ls (h .1) g)
+
+  in-definitionLines : (ds : List Definition) (ls : List Entry) → InEach (InDefinition P) ds → InEach (InEntry P) ls → InEach (InEntry P) (definitionLines ds ls)
+  in-definitionLines [] ls h g = g
+  in-definitionLines (d ∷ ds) ls h g = (h .0, in-definitionLines ds ls (h .1) g)
+
+  in-declarationLines : (ds : List Declaration) (ls : List Entry) → InEach (InDeclaration P) ds → InEach (InEntry P) ls → InEach (InEntry P) (declarationLines ds ls)
+  in-declarationLines [] ls h g = g
+  in-declarationLines (d ∷ ds) ls h g = (h .0, in-declarationLines ds ls (h .1) g)
+
+  in-formulaLines : (es : List Expr) (ls : List Entry) → InEach (InExpr P) es → InEach (InEntry P) ls → InEach (InEntry P) (formulaLines es ls)
+  in-formulaLines [] ls h g = g
+  in-formulaLines (e ∷ es) ls h g = (h .0, in-formulaLines es ls (h .1) g)
+
+  in-mainLines : (ss : List Subsection) → InEach (InSubsection P) ss → InEach (InEntry P) (mainLines ss)
+  in-mainLines [] h = tt
+  in-mainLines (Inputs ds ∷ ss) h = in-declarationLines ds (mainLines ss) (h .0) (in-mainLines ss (h .1))
+  in-mainLines (Outputs ds ∷ ss) h = in-declarationLines ds (mainLines ss) (h .0) (in-mainLines ss (h .1))
+  in-mainLines (Lines p es ∷ ss) h = in-formulaLines es (mainLines ss) (h .0) (in-mainLines ss (h .1))
+
+  pub in-allLines : (x : Spec) → InSpec P x → InEach (InEntry P) (allLines x)
+  in-allLines x h =
+      in-parameterLines (x .parameters) (definitionLines (x .definitions) (mainLines (x .main))) (h .parameters)
+      (in-definitionLines (x .definitions) (mainLines (x .main)) (h .definitions) (in-mainLines (x .main) (h .main)))
+
+  in-identifierNames : (is : List Identifier) → InEach (InIdentifier P) is → Every P (identifierNames is)
+  in-identifierNames [] h = tt
+  in-identifierNames (i ∷ is) h = (h .0 .0, in-identifierNames is (h .1))
+
+  pub in-declares : (l : Entry) → InEntry P l → Every P (declares l)
+  in-declares (ParameterLine x e) h = (h .0, tt)
+  in-declares (DefinitionLine (Defined x e)) h = (h .0, tt)
+  in-declares (DefinitionLine (Enumerated x is)) h = (h .0, in-identifierNames is (h .1))
+  in-declares (DeclarationLine (OneSignal x)) h = (h, tt)
+  in-declares (DeclarationLine (OfWidth x e)) h = (h .0, tt)
+  in-declares (DeclarationLine (OfType u x)) h = (h .1, tt)
+  in-declares (FormulaLine e) h = tt
+
+  pub in-declaresSignal : (l : Entry) → InEntry P l → Every P (declaresSignal l)
+  in-declaresSignal (ParameterLine x e) h = tt
+  in-declaresSignal (DefinitionLine d) h = tt
+  in-declaresSignal (DeclarationLine d) h = in-declares (DeclarationLine d) h
+  in-declaresSignal (FormulaLine e) h = tt
+
+  pub in-over : (f : Entry → Names) (ls : List Entry) → ((l : Entry) → InEntry P l → Every P (f l)) → InEach (InEntry P) ls → Every P (over f ls)
+  in-over f [] g h = tt
+  in-over f (l ∷ ls) g h = every-append P (f l) (over f ls) (g l (h .0)) (in-over f ls g (h .1))
+
+pub low-tooDeep : (n : ℕ) (x : Spec) → InSpec (At n) x → Low n (tooDeep x)
+low-tooDeep n x h = low-firstIn n (InEntry (At n)) deepLine (allLines x) (low-deepLine n) (in-allLines (At n) x h)
