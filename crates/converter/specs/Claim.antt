@@ -13,14 +13,14 @@ use Rattle.node.specs.ResultLaws.{bind-done, guard-done}
 use Rattle.node.specs.Table.{root, NodeHolds}
 use Rattle.node.specs.Postorder.{size, nodesFrom, SignalsBelow}
 use Rattle.node.specs.PostorderLaws.{root-is, signals-more}
-use Rattle.rewriter.specs.Forms.{form}
-use Rattle.rewriter.specs.Forbidden.{forbidden}
+use Rattle.forms.specs.Forms.{form}
+use Rattle.forms.specs.Forbidden.{forbidden}
 use Rattle.rewriter.specs.Rewriting.{fitting, rewriting, rewritten, target}
-use Rattle.rewriter.specs.RewritingLaws.{rewriting-fit, Accepts, accepts as rewriter-accepts, written-holds, written-clean}
+use Rattle.rewriter.specs.RewritingLaws.{Accepts, accepts as rewriter-accepts, written-holds, written-clean}
+use Rattle.rewriter.specs.OwnNodes.{own-root, own-rewriting}
 use Rattle.language.specs.Meaning.{TextMeans}
 use Rattle.language.specs.Reading.{Converted, meant, reading, nodesAfter}
 use Rattle.language.specs.Laws.Meaning.Acceptance.{Accepts as TextAccepts, accepts, text-agrees, text-signals}
-use Rattle.converter.specs.NodesFit.{nodes-fit, nodes-root}
 
 -- the nodes that stand in a buffer: their number is n, and their root, the last of them, holds where the text does
 pub record Says (text : List ℕ) (nodes : List ℕ) (n : ℕ) : Type 0 where
@@ -44,9 +44,7 @@ module _ (text : List ℕ) (c : Converted) (e : meant text ≡ Done c) where
 
   -- given the reader's nodes and a form, the rewriter refuses by 16 and 18 only
   pub rewriter-fits : (number : ℕ) → number ≤ 2 → (room : ℕ) → rewriting number (nodesFrom 0 (c .formula)) room ≡ fitting (form number (c .formula)) room
-  rewriter-fits number h room =
-      rewriting-fit number (nodesFrom 0 (c .formula)) room h (nodes-fit (c .formula) few fieldLimit (omega arith) small)
-      ∙ ap (λ (g : Formula). fitting (form number g) room) (nodes-root (c .formula) few small)
+  rewriter-fits number h room = own-rewriting number (c .formula) room h small few
 
   -- what it leaves says what the text does, and holds no node that the form forbids
   pub rewriter-says : (number : ℕ) (out : List ℕ) (counts : Counts) → rewriting number (nodesFrom 0 (c .formula)) (length out) ≡ Done counts
@@ -60,7 +58,7 @@ module _ (text : List ℕ) (c : Converted) (e : meant text ≡ Done c) where
           holds = λ w t.
               Iff·trans (text-agrees text c e w t)
               (Iff·symm (subst (λ (g : Formula). NodeHolds (nodesFrom 0 (target number nodes) ++ drop (size (target number nodes)) out) (size (target number nodes) - 1) w t ↔ Holds g w t)
-              (nodes-root (c .formula) few small) (written-holds number nodes out a w t)));
+              (own-root (c .formula) small few) (written-holds number nodes out a w t)));
         },
         written-clean number nodes out a,
       )

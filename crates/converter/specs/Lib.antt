@@ -1,2 +1,1 @@
-pub mod NodesFit
 pub mod Claim

@@ -1,11 +1,8 @@
-pub mod Forms
-pub mod Forbidden
 pub mod Rewriting
-pub mod FormLaws
-pub mod FormSignals
-pub mod ForbiddenLaws
 pub mod Writing
 pub mod WritingLaws
 pub mod RewritingLaws
+pub mod OwnNodes
 pub mod Fitting
 pub mod Promise
+pub mod Examples

@@ -1,6 +1,6 @@
 -- What `rewrite` promises: the answer and the buffer that the definition gives; and so, where it accepts, demand 3 on the nodes left in the buffer.
 use Prim.Native.Nat.{ℕ, _-_, _<_, _≤_}
-use mathlib.Core.Path.{_≡_, refl, ap, _∙_, sym}
+use mathlib.Core.Path.{_≡_, ap, _∙_, sym}
 use mathlib.Core.Logic.{_↔_}
 use mathlib.Core.List.{List}
 use lib.ListN.{length, take}
@@ -9,9 +9,10 @@ use Rattle.node.specs.Limits.{fieldLimit}
 use Rattle.node.specs.Result.{Result, Done, Counts}
 use Rattle.node.specs.Table.{root, NodeHolds, checked}
 use Rattle.node.specs.Answer.{says}
+use Rattle.node.specs.Postorder.{size}
 use Rattle.node.specs.declared.Answer.{Answer}
 use Rattle.node.specs.declared.Answer.the-variants.{Accepted, Refused}
-use Rattle.rewriter.specs.Forbidden.{forbidden}
+use Rattle.forms.specs.Forbidden.{forbidden}
 use Rattle.rewriter.specs.Rewriting.{target, rewriting, leaves, rewritten}
 use Rattle.rewriter.specs.RewritingLaws.{Accepts, accepts, written-holds, written-clean, rewriting-form, rewriting-table, rewriting-fit}
 use Rattle.rewriter.specs.Fitting.{Fitted}
@@ -28,22 +29,18 @@ pub record Rewrites (form : ℕ) (nodes out out′ : List ℕ) (r : Answer) : Ty
 
 -- the last two follow from the first two
 module _ (form : ℕ) (nodes out out′ : List ℕ) where
-  accepted : (n s : ℕ) → Done (record { nodes = n; signals = s }) ≡ rewriting form nodes (length out) → Accepts form nodes (record { nodes = n; signals = s })
-  accepted n s e = accepts (length out) (sym e)
+  module _ (n s : ℕ) (e : Done (record { nodes = n; signals = s }) ≡ rewriting form nodes (length out)) (b : out′ ≡ rewritten form nodes out) where
+    accepted : Accepts form nodes (record { nodes = n; signals = s })
+    accepted = accepts (length out) (sym e)
 
-  means : (n s : ℕ) → Done (record { nodes = n; signals = s }) ≡ rewriting form nodes (length out) → out′ ≡ rewritten form nodes out
-      → (w : Word) (t : ℕ) → NodeHolds out′ (n - 1) w t ↔ Holds (root nodes) w t
-  means n s e b w t =
-      let a = accepted n s e in
-      let c : n ≡ _ = ap (λ (c : Counts). c .nodes) (a .counts) in
-      rw (b, ← e, c) (written-holds form nodes out a w t)
+    count : n ≡ size (target form nodes)
+    count = ap (λ (c : Counts). c .nodes) (accepted .counts)
 
-  cleans : (n s : ℕ) → Done (record { nodes = n; signals = s }) ≡ rewriting form nodes (length out) → out′ ≡ rewritten form nodes out
-      → forbidden form (take n out′) ≡ 0
-  cleans n s e b =
-      let a = accepted n s e in
-      let c : n ≡ _ = ap (λ (c : Counts). c .nodes) (a .counts) in
-      rw (b, ← e, c) (written-clean form nodes out a)
+    means : (w : Word) (t : ℕ) → NodeHolds out′ (n - 1) w t ↔ Holds (root nodes) w t
+    means w t = rw (b, ← e, count) (written-holds form nodes out accepted w t)
+
+    cleans : forbidden form (take n out′) ≡ 0
+    cleans = rw (b, ← e, count) (written-clean form nodes out accepted)
 
   pub rewrites : (r : Answer) → says r ≡ rewriting form nodes (length out) → out′ ≡ leaves (says r) (target form nodes) out → Rewrites form nodes out out′ r
   rewrites r e b =

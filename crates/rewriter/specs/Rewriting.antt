@@ -8,7 +8,7 @@ use Rattle.node.specs.Ltl.{Formula}
 use Rattle.node.specs.Result.{Result, Done, Refused, _>>=_, guard, Counts}
 use Rattle.node.specs.Table.{root, checked}
 use Rattle.node.specs.Postorder.{size, nodesFrom}
-use Rattle.rewriter.specs.Forms.{form}
+use Rattle.forms.specs.Forms.{form}
 
 -- 'the rewriter writes out the root's tree', in the form
 abbrev pub target : ℕ → List ℕ → Formula

@@ -1,6 +1,6 @@
 -- The ways through the rewriter's answer, and what an accepted one means.
 use Prim.Native.Nat.{ℕ, _+_, _-_, _<_, _≤_}
-use mathlib.Core.Path.{_≡_, refl, ap, _∙_, sym, subst}
+use mathlib.Core.Path.{_≡_, ap, _∙_}
 use mathlib.Core.Logic.{_↔_}
 use mathlib.Core.List.{List, _++_}
 use lib.ListN.{length, take, drop}
@@ -10,17 +10,17 @@ use native.Mathlib.Omega.{arith}
 use borrow.Author.Tests.{leb-true, le-leb, lt-leb}
 use Rattle.node.specs.Limits.{maxNodes, fieldLimit}
 use Rattle.node.specs.Ltl.{Formula, Word, Holds}
-use Rattle.node.specs.Result.{Result, Done, Refused, _>>=_, guard, Counts}
+use Rattle.node.specs.Result.{Done, Refused, _>>=_, Counts}
 use Rattle.node.specs.ResultLaws.{guard-pass, guard-stop, guard-done, bind-done}
-use Rattle.node.specs.Table.{treeAt, root, NodeHolds, checked}
+use Rattle.node.specs.Table.{root, NodeHolds, checked}
 use Rattle.node.specs.TableLaws.{Formed, checked-done}
 use Rattle.node.specs.Postorder.{size, nodesFrom, SignalsBelow}
 use Rattle.node.specs.PostorderLaws.{length-nodes, root-is, tree-signals}
-use Rattle.rewriter.specs.FormLaws.{form-holds}
-use Rattle.rewriter.specs.FormSignals.{form-signals}
-use Rattle.rewriter.specs.Forbidden.{forbidden}
-use Rattle.rewriter.specs.ForbiddenLaws.{none-forbidden}
-use Rattle.rewriter.specs.Rewriting.{target, fitting, rewriting, leaves, rewritten}
+use Rattle.forms.specs.FormLaws.{form-holds}
+use Rattle.forms.specs.FormSignals.{form-signals}
+use Rattle.forms.specs.Forbidden.{forbidden}
+use Rattle.forms.specs.ForbiddenLaws.{none-forbidden}
+use Rattle.rewriter.specs.Rewriting.{target, fitting, rewriting}
 
 -- the three ways of a formula of the format into a buffer
 module _ (f : Formula) (room : ℕ) where

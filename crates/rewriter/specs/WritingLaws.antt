@@ -1,6 +1,6 @@
 -- Runs of stored words compose: the operands' nodes, then the operator's.
-use Prim.Native.Nat.{ℕ, zero, suc, _+_, _-_, _<_, _≤_}
-use mathlib.Core.Path.{_≡_, refl, ap, ap₂, _∙_, sym}
+use Prim.Native.Nat.{ℕ, zero, suc, _+_, _-_, _<_, _≤_, max}
+use mathlib.Core.Path.{_≡_, ap, ap₂, _∙_, sym}
 use mathlib.Core.List.{List, [], _∷_, _++_, append-assoc}
 use lib.ListN.{length, set, length-append}
 use lib.Seq.{sets}
@@ -112,6 +112,12 @@ ends op f g h s t = let e = next-size f s in let p = size-pos f in let e' = next
 pub end : (op : ℕ) (f : Formula) {out o1 : List ℕ} {at m : ℕ} → op < 16 → Stored (nodesFrom at f) out o1 at m → (op < 16) × ((1 ≤ m) × (m ≤ maxNodes))
 end op f h s = let e = next-size f s in let p = size-pos f in (h, (omega arith, s .room))
 
--- a node with a lower number
+-- a node with a lower number; a node's operand, its two operands
 pub lower : {nodes : List ℕ} {i at : ℕ} (j at′ : ℕ) → Ready nodes i at → j ≤ i → at′ ≤ maxNodes → Ready nodes j at′
 lower j at′ r h l = let q = r .inside in record { formed = r .formed; inside = omega arith; start = l }
+
+pub operand : {nodes : List ℕ} {i at a : ℕ} → Ready nodes i at → a < i → Ready nodes a at
+operand {at = at} {a = a} r h = lower a at r (omega arith) (r .start)
+
+pub operands : {nodes : List ℕ} {i at a b : ℕ} → Ready nodes i at → (a < i) × (b < i) → Ready nodes (max a b) at
+operands {at = at} {a = a} {b = b} r h = lower (max a b) at r (omega arith) (r .start)

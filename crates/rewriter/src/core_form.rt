@@ -1,8 +1,8 @@
 // Form 2, core form (document 01, 'Forms'): only true, signals, `!`, `||`, X and U, by Appendix A.1's derivations.
 ghost use Prim.Native.Nat.{max};
-ghost use Rattle.node.specs.Ltl.{True, Not, One, Two, Or, U};
+ghost use Rattle.node.specs.Ltl.{Not, One, Two, Or, U};
 ghost use Rattle.node.specs.Table.{treeAt};
-ghost use Rattle.rewriter.specs.Forms.{core as core', bothOf, impliesOf, finallyOf, globallyOf};
+ghost use Rattle.forms.specs.Forms.{core as core', bothOf, impliesOf, finallyOf, globallyOf};
 ghost use Rattle.rewriter.specs.Writing.{Wrote, Ready, IsUnary, IsBinary, unaryOf, binaryOf};
 use crate::write::Written;
 use crate::write::cap;

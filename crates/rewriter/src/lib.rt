@@ -2,7 +2,7 @@
 ghost use Rattle.node.specs.Limits.{fieldLimit};
 ghost use Rattle.node.specs.Table.{root, treeAt};
 ghost use Rattle.node.specs.TableLaws.{Formed};
-ghost use Rattle.rewriter.specs.Forms.{form as form'};
+ghost use Rattle.forms.specs.Forms.{form as form'};
 ghost use Rattle.rewriter.specs.Writing.{Wrote, Ready};
 ghost use Rattle.rewriter.specs.Fitting.{Fitted};
 ghost use Rattle.rewriter.specs.Promise.{Rewrites};
@@ -49,14 +49,16 @@ fn fit(nodes: &[u32], form: u32, out: &mut [u32]) -> Answer
     ensures { λ r. ⌜ Fitted (form' form (root (now (nodes .entry)))) (now (out .entry)) (now (out .exit)) r ⌝ }
 {
     let root = nodes.len() - 1;
-    let Written::Next(n) = write_form(nodes, form, root, &mut out[..0], 0) else {
+    let no_room = 0;
+    let Written::Next(n) = write_form(nodes, form, root, &mut out[..no_room], 0) else {
         return Answer::Refused(TOO_MANY_NODES, 0);
     };
     if out.len() < n {
         return Answer::Refused(RESULT_SHORT, 0);
     }
     write_form(nodes, form, root, out, 0);
-    Answer::Accepted(n as u32, 0)
+    let count = n as u32;
+    Answer::Accepted(count, 0)
 }
 
 // Writes the root's tree in a form to the front of `out`. Accepted with the number of nodes written, and 0 signals.

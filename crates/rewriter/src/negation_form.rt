@@ -2,7 +2,7 @@
 ghost use Prim.Native.Nat.{max};
 ghost use Rattle.node.specs.Ltl.{One, Two, And, Or, U};
 ghost use Rattle.node.specs.Table.{treeAt};
-ghost use Rattle.rewriter.specs.Forms.{plain as plain', negated as negated'};
+ghost use Rattle.forms.specs.Forms.{plain as plain', negated as negated'};
 ghost use Rattle.rewriter.specs.Writing.{Wrote, Ready, IsUnary, IsBinary, unaryOf, binaryOf};
 use crate::write::Written;
 use crate::write::cap;

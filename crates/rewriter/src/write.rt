@@ -1,5 +1,4 @@
 // How nodes are read and written: a node's fields, the next node stored, and the formulas of one or two nodes.
-ghost use mathlib.Core.Path.{_≡_};
 ghost use mathlib.Core.List.{_∷_, []};
 ghost use Prim.Native.Nat.{_-_, _<_, _≤_};
 ghost use Rattle.node.specs.Limits.{maxNodes, fieldLimit};

@@ -148,7 +148,7 @@ fn main() {
     long_table();
     short();
     document(AS_EXPANDED, 18);
-    document(NEGATION_FORM, 20);
+    document(NEGATION_FORM, 19);
     document(CORE_FORM, 40);
     deep(b"8,191 X", 8192, Node::NEXT, false);
     deep(b"8,191 !", 8192, Node::NOT, false);

@@ -1,6 +1,6 @@
 -- `write_form` meets its contract: each arm is one form.
 use Rattle.node.specs.TableLaws.{rest-above}
-use Rattle.rewriter.specs.FormLaws.{form-core}
+use Rattle.forms.specs.FormLaws.{form-core}
 use borrow.Author.Needs.{needs}
 use Rattle.rewriter.proofs.write_form.Statement.{statement}
 use Rattle.rewriter.proofs.write_form.Tie as tie

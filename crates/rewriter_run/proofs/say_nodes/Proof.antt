@@ -1,6 +1,5 @@
 -- `say_nodes` is safe and ends: the measure is what is left of the words.
 use Prim.Native.Nat.{_≤_, _-_}
-use native.Mathlib.Omega.{arith}
 use borrow.Author.Needs.{needs}
 use Rattle.rewriter_run.proofs.say_nodes.Statement.{statement}
 use Rattle.rewriter_run.proofs.say_nodes.Tie as tie

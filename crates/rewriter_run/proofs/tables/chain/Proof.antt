@@ -1,6 +1,5 @@
 -- `chain` is safe and ends: the measure is what is left of the table.
 use Prim.Native.Nat.{_≤_, _-_}
-use native.Mathlib.Omega.{arith}
 use borrow.Author.Needs.{needs}
 use Rattle.rewriter_run.proofs.tables.chain.Statement.{statement}
 use Rattle.rewriter_run.proofs.tables.chain.Tie as tie

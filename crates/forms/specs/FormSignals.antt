@@ -1,8 +1,8 @@
 -- No form has a larger signal number than the formula.
 use Prim.Native.Nat.{ℕ, zero, suc}
-use Rattle.node.specs.Ltl.{Unary, Not, X, G, F, Binary, And, Or, Implies, Iff, U, R, W, Formula, True, False, Signal, One, Two}
+use Rattle.node.specs.Ltl.{Not, X, G, F, And, Or, Implies, Iff, U, R, W, Formula, True, False, Signal, One, Two}
 use Rattle.node.specs.Postorder.{SignalsBelow}
-use Rattle.rewriter.specs.Forms.{plain, negated, core, form}
+use Rattle.forms.specs.Forms.{plain, negated, core, form}
 
 module _ (n : ℕ) where
   mutual

@@ -2,21 +2,20 @@
 use Prim.Native.Nat.{ℕ, zero, suc, _+_, _-_, _<_, _≤_}
 use mathlib.Core.Path.{_≡_, refl, ap, ap₂, _∙_, sym}
 use mathlib.Core.List.{List, [], _∷_, _++_, append-assoc, append-nil}
-use mathlib.Core.Bool.{Bool, true, false, cond}
-use lib.ListN.{length, getD, length-append}
+use mathlib.Core.Bool.{Bool, false, cond}
+use lib.ListN.{length, length-append}
 use lib.Seq.{getD-at}
-use native.Mathlib.Nat.{add-zero}
 use native.Mathlib.Omega.{arith}
 use Rattle.node.specs.Limits.{fieldLimit}
-use Rattle.node.specs.Ltl.{Unary, Not, X, G, F, Binary, And, Or, Implies, Iff, U, R, W, Formula, True, False, Signal, One, Two}
-use Rattle.node.specs.Fields.{pack, kindOf, firstOf}
+use Rattle.node.specs.Ltl.{Not, X, G, F, And, Or, Implies, Iff, U, R, W, Formula, True, False, Signal, One, Two}
+use Rattle.node.specs.Fields.{pack, kindOf}
 use Rattle.node.specs.FieldLaws.{kind-pack, first-pack}
-use Rattle.node.specs.Kinds.{Shape, Truth, Falsehood, Atom, UnaryOf, BinaryOf, Unused, shapeOf, unaryKind, binaryKind}
+use Rattle.node.specs.Kinds.{Shape, Truth, Falsehood, Atom, UnaryOf, BinaryOf, shapeOf, unaryKind, binaryKind}
 use Rattle.node.specs.KindLaws.{unary-shape, binary-shape}
 use Rattle.node.specs.Postorder.{size, nodesFrom, SignalsBelow}
 use Rattle.node.specs.PostorderLaws.{size-pos, length-nodes}
-use Rattle.rewriter.specs.Forms.{plain, negated, core, form}
-use Rattle.rewriter.specs.Forbidden.{forbids, shapeAt, forbidsWord, tally, forbidden}
+use Rattle.forms.specs.Forms.{plain, negated, core, form}
+use Rattle.forms.specs.Forbidden.{forbids, shapeAt, forbidsWord, tally, forbidden}
 
 tally-append : (test : ℕ → Bool) (us vs : List ℕ) → tally test (us ++ vs) ≡ tally test us + tally test vs
 unfolding tally

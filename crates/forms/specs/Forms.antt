@@ -1,6 +1,6 @@
 -- The forms of a formula: document 01, 'Forms'. Laws in FormLaws and FormSignals.
 use Prim.Native.Nat.{ℕ, zero, suc}
-use Rattle.node.specs.Ltl.{Unary, Not, X, G, F, Binary, And, Or, Implies, Iff, U, R, W, Formula, True, False, Signal, One, Two}
+use Rattle.node.specs.Ltl.{Not, X, G, F, And, Or, Implies, Iff, U, R, W, Formula, True, False, Signal, One, Two}
 
 -- '1 (negation form)': 'Form 1 pushes `!` down, and the negated side of one operator is the plain side of another'
 unfoldable mutual

@@ -4,7 +4,7 @@ use Prim.Native.Nat.{ℕ, zero, suc, _+_}
 use mathlib.Core.List.{List, [], _∷_}
 use mathlib.Core.Bool.{Bool, true, false, cond}
 use lib.ListN.{getD}
-use Rattle.node.specs.Ltl.{Unary, Not, X, G, F, Binary, And, Or, Implies, Iff, U, R, W}
+use Rattle.node.specs.Ltl.{Not, X, G, F, And, Or, Implies, Iff, U, R, W}
 use Rattle.node.specs.Fields.{kindOf, firstOf}
 use Rattle.node.specs.Kinds.{Shape, Truth, Falsehood, Atom, UnaryOf, BinaryOf, Unused, shapeOf}
 
@@ -33,7 +33,7 @@ outsideNegation (BinaryOf Iff) operand = true
 outsideNegation (BinaryOf U) operand = false
 outsideNegation (BinaryOf R) operand = false
 outsideNegation (BinaryOf W) operand = false
-outsideNegation Unused operand = true
+outsideNegation Unused operand = false
 
 -- 'core form: only true, signal, `!`, `||`, X, U'
 abbrev pub outsideCore : Shape → Bool

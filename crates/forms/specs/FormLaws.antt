@@ -6,9 +6,9 @@ use native.Mathlib.Omega.{arith}
 use Rattle.node.specs.Logic.{Either, Stable}
 use Rattle.node.specs.LogicLaws.{or-same, to-same, not-not, not-or, not-and, implies-or, not-implies}
 use Rattle.node.specs.TemporalLaws.{always-same, eventually-same, until-same, release-same, weak-same, eventually-until, always-not-eventually, not-always, not-eventually, not-until, not-release, not-weak}
-use Rattle.node.specs.Ltl.{Unary, Not, X, G, F, Binary, And, Or, Implies, Iff, U, R, W, Formula, True, False, Signal, One, Two, Word, Holds}
+use Rattle.node.specs.Ltl.{Not, X, G, F, And, Or, Implies, Iff, U, R, W, Formula, True, False, Signal, One, Two, Word, Holds}
 use Rattle.node.specs.LtlLaws.{stable}
-use Rattle.rewriter.specs.Forms.{plain, negated, core, bothOf, impliesOf, globallyOf, form}
+use Rattle.forms.specs.Forms.{plain, negated, core, bothOf, impliesOf, globallyOf, form}
 
 -- a <-> b as negation form has it, and its negation
 iff-or : {A B : Type 0} → Stable A → Stable B → Either (A × B) (¬ A × ¬ B) ↔ (A ↔ B)
