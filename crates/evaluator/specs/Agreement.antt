@@ -7,12 +7,12 @@ use mathlib.Core.Logic.{_↔_, Iff·rfl, Iff·trans, Iff·symm, Iff·not, Iff·a
 use native.Mathlib.Omega.{arith}
 use native.Mathlib.Decide.{decLt, ℕ-discrete}
 use native.Mathlib.Nat.{add-zero}
-use Rattle.node.specs.Logic.{Either, Some, Stable}
+use Rattle.node.specs.Logic.{Either}
 use Rattle.node.specs.LogicLaws.{or-left, or-right, or-cases, some-at, some-cases, stable-not, stable-so, not-not, or-same, to-same}
 use Rattle.node.specs.Temporal.{Property, Always, Eventually, Until, Release, WeakUntil}
 use Rattle.node.specs.TemporalLaws.{StableAll, eventually-until, always-not-eventually, not-weak}
-use Rattle.node.specs.Ltl.{Unary, Not, X, G, F, Binary, And, Or, Implies, Iff, U, R, W, Formula, True, False, Signal, One, Two, UnaryMeans, BinaryMeans, Word, Holds}
-use Rattle.evaluator.specs.Lasso.{next, place, wordOf}
+use Rattle.node.specs.Ltl.{Unary, Not, X, G, F, Binary, And, Or, Implies, Iff, U, R, W, Formula, True, False, Signal, One, Two, UnaryMeans, BinaryMeans, Holds}
+use Rattle.evaluator.specs.Lasso.{place, wordOf}
 use Rattle.evaluator.specs.LassoLaws.{next-on, next-back, place-lt, place-same}
 use Rattle.evaluator.specs.Row.{sweepFrom, sweep, around, row, rowUnary, rowBinary}
 use Rattle.evaluator.specs.RowLaws.{sweep-end, sweep-step, around-ext, around-dual, dual}

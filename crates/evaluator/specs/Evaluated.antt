@@ -1,17 +1,17 @@
 -- Rows that are right, one after the other: what the loop over the nodes has done.
-use Prim.Native.Nat.{ℕ, zero, suc, _+_, _*_, _-_, _/_, _%_, _^_, _≤_, _<_}
-use mathlib.Core.Path.{_≡_, refl, sym, ap, ap₂, _∙_, subst}
-use mathlib.Core.Bool.{Bool, true, false, _&&_}
+use Prim.Native.Nat.{ℕ, suc, _+_, _*_, _≤_, _<_}
+use mathlib.Core.Path.{_≡_, refl, sym, ap, _∙_, subst}
 use mathlib.Core.List.{List}
 use native.Mathlib.Decide.{ℕ-discrete, decLt}
 use native.Mathlib.Nat.{mul-le-mul-left, mul-le-mul}
 use native.Mathlib.Omega.{arith}
 use lib.ListN.{length, getD}
-use Rattle.node.specs.Limits.{maxNodes}
+use Rattle.node.specs.Limits.{maxNodes, fieldLimit}
 use Rattle.node.specs.Fields.{kindOf, firstOf, secondOf}
 use Rattle.node.specs.Kinds.{Shape, Truth, Falsehood, Atom, UnaryOf, BinaryOf, Unused, shapeOf, build}
 use Rattle.node.specs.Table.{treeAt}
 use Rattle.node.specs.TableLaws.{Formed, Below, node-is}
+use Rattle.evaluator.specs.Limits.{maxPositions, rowsLimit}
 use Rattle.evaluator.specs.Bits.{width}
 use Rattle.evaluator.specs.Recording.{letterOf}
 use Rattle.evaluator.specs.Row.{row, nodeRow, shown}
@@ -86,7 +86,7 @@ evaluated-more bs w ws i {old} {mid} {new} e d =
 abbrev pub opOf : ℕ → ℕ → ℕ → ℕ → Op
 opOf v k x y = record { kind = k; signal = x; first = v * x; second = v * y }
 
-pub ready-of : (bs rows : List ℕ) (w : Lasso) (ws : List ℕ) (i k x y : ℕ) → Recorded bs w → width (w .n) * i + width (w .n) ≤ length rows → width (w .n) * i ≤ 2097152
+pub ready-of : (bs rows : List ℕ) (w : Lasso) (ws : List ℕ) (i k x y : ℕ) → Recorded bs w → width (w .n) * i + width (w .n) ≤ length rows → width (w .n) * i ≤ rowsLimit
     → NodeOf ws i (shapeOf k) x y → Ready bs rows w (opOf (width (w .n)) k x y) (width (w .n) * i)
 ready-of bs rows w ws i k x y r room low t =
     record { recorded = r; room = room; low = low; uses = uses-map (shapeOf k) (λ h. before-row (width (w .n)) x i h) (λ h. before-row (width (w .n)) y i h) (t .uses) }
@@ -130,30 +130,24 @@ pub record Turn (ws bs : List ℕ) (w : Lasso) (i : ℕ) (rows : List ℕ) : Typ
 
 -- what the evaluation of all nodes requires
 pub record Table (ws bs : List ℕ) (w : Lasso) (rows : List ℕ) : Type 0 where
+  pub some : 0 < length ws
   pub trees : Trees ws
   pub recorded : Recorded bs w
   pub room : width (w .n) * length ws ≤ length rows
 
--- row i lies in the buffer, below byte 2,097,152
-pub row-room : (ws bs : List ℕ) (w : Lasso) (i : ℕ) (rows : List ℕ) → Turn ws bs w i rows → (width (w .n) * i + width (w .n) ≤ length rows) × (width (w .n) * i ≤ 2097152)
-row-room ws bs w i rows t = (inside, low)
-  where
-    v : ℕ
-    v = width (w .n)
+-- the offset of a row fits
+pub offset-fits : (n x : ℕ) → n ≤ maxPositions → x < fieldLimit → width n * x ≤ rowsLimit
+offset-fits n x h l = let v : width n ≤ 256 = omega arith in let m : x ≤ fieldLimit = omega arith in mul-le-mul v m
 
-    inside : v * i + v ≤ length rows
-    inside = let m = before-row v i (length ws) (t .here) in let r = t .room in omega arith
-
-    narrow : v ≤ 256
-    narrow = let f = t .recorded .few in omega arith
-
-    low : v * i ≤ 2097152
-    low = let h = t .here in let f = t .trees .few in let m : i ≤ 8192 = omega arith in mul-le-mul narrow m
+-- row i lies in the buffer, and begins below the limit
+pub row-room : (ws bs : List ℕ) (w : Lasso) (i : ℕ) (rows : List ℕ) → Turn ws bs w i rows → (width (w .n) * i + width (w .n) ≤ length rows) × (width (w .n) * i ≤ rowsLimit)
+row-room ws bs w i rows t =
+    let h = t .here in
+    let f = t .trees .few in
+    let m = before-row (width (w .n)) i (length ws) h in
+    let r = t .room in
+    (omega arith, offset-fits (w .n) i (t .recorded .few) (omega arith))
 
 pub turn-of : (ws bs : List ℕ) (w : Lasso) (i : ℕ) {old mid : List ℕ} → Table ws bs w old → Evaluated bs w ws i old mid → i < length ws → Turn ws bs w i mid
 turn-of ws bs w i t e h =
     record { trees = t .trees; recorded = t .recorded; here = h; room = subst (λ x. width (w .n) * length ws ≤ x) (sym (e .size)) (t .room); right = e .right }
-
--- the offset of a row fits
-pub offset-fits : (n x : ℕ) → n ≤ 2048 → x < 16384 → width n * x ≤ 4194304
-offset-fits n x h l = let v : width n ≤ 256 = omega arith in let m : x ≤ 16384 = omega arith in mul-le-mul v m

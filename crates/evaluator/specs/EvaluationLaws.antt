@@ -1,7 +1,7 @@
 -- The ways to the evaluator's answer, what an accepted answer has, and how the rows in the buffer make the promises of Evaluation.
-use Prim.Native.Nat.{ℕ, zero, suc, _+_, _*_, _-_, _/_, _^_, _≤_, _<_}
+use Prim.Native.Nat.{ℕ, _*_, _-_, _≤_, _<_}
 use mathlib.Core.Path.{_≡_, refl, sym, ap, ap₂, _∙_, subst}
-use mathlib.Core.Bool.{Bool, true, false, So, false≢true}
+use mathlib.Core.Bool.{Bool, true, false, So}
 use mathlib.Core.Logic.{_↔_, Iff·trans, Iff·symm}
 use mathlib.Core.List.{List}
 use native.Mathlib.Nat.{add-zero}
@@ -13,9 +13,9 @@ use Rattle.node.specs.Result.{Result, Done, guard, _>>=_, Counts}
 use Rattle.node.specs.ResultLaws.{guard-pass, guard-stop, guard-done, bind-done, not-done}
 use Rattle.node.specs.Answer.{says}
 use Rattle.node.specs.Table.{checked, treeAt, NodeHolds}
-use Rattle.node.specs.TableLaws.{Formed, Accepts, checked-done}
+use Rattle.node.specs.TableLaws.{Formed, checked-done}
 use Rattle.node.specs.declared.Answer.{Answer}
-use Rattle.evaluator.specs.Limits.{maxSignals, maxPositions}
+use Rattle.evaluator.specs.Limits.{maxSignals, maxPositions, rowsLimit}
 use Rattle.evaluator.specs.Bits.{bitAt, width}
 use Rattle.evaluator.specs.Recording.{lassoOf, letterOf, readable, counted}
 use Rattle.evaluator.specs.RecordingLaws.{Reads, readable-done, readable-refused, readable-passed}
@@ -70,9 +70,9 @@ module _ (nodes : List ℕ) (signals : ℕ) (bs : List ℕ) (room : ℕ) where
 -- the size of all rows, as the code works it out
 pub record Sized (nodes bs : List ℕ) (n count : ℕ) : Type 0 where
   pub same : width n * count ≡ rowsSize nodes bs
-  pub small : rowsSize nodes bs ≤ 4_194_304
+  pub small : rowsSize nodes bs ≤ rowsLimit
 
-rows-small : {signals : ℕ} (nodes bs : List ℕ) → Formed signals nodes → Reads signals bs → rowsSize nodes bs ≤ 4_194_304
+rows-small : {signals : ℕ} (nodes bs : List ℕ) → Formed signals nodes → Reads signals bs → rowsSize nodes bs ≤ rowsLimit
 rows-small nodes bs f r = offset-fits (lassoOf bs .n) (length nodes) (r .header .few) (let h = f .few in omega arith)
 
 pub sized : (signals : ℕ) (nodes bs : List ℕ) {c d : Counts} → checked signals nodes ≡ Done c → readable signals bs (counted (lassoOf bs)) ≡ Done d → Sized nodes bs (d .nodes) (c .nodes)
@@ -92,7 +92,7 @@ pub record Opens (nodes : List ℕ) (signals : ℕ) (bs : List ℕ) (room : ℕ)
   pub formed : Formed signals nodes
   pub reads : Reads signals bs
   pub fits : rowsSize nodes bs ≤ room
-  pub small : rowsSize nodes bs ≤ 4_194_304
+  pub small : rowsSize nodes bs ≤ rowsLimit
 
 pub opens : (nodes : List ℕ) (signals : ℕ) (bs : List ℕ) (room : ℕ) {c : Counts} → evaluation nodes signals bs room ≡ Done c → Opens nodes signals bs room
 unfolding evaluation
@@ -105,7 +105,7 @@ opens nodes signals bs room e =
     record { known = leb-true signals maxSignals (p .0); formed = f; reads = r .0; fits = leb-true (rowsSize nodes bs) room (s .0); small = rows-small nodes bs f (r .0) }
 
 pub table-of : (nodes : List ℕ) (signals : ℕ) (bs old : List ℕ) {w : Lasso} → Opens nodes signals bs (length old) → w ≡ lassoOf bs → Table nodes bs w old
-table-of nodes signals bs old o e = subst (λ w. Table nodes bs w old) (sym e) (record { trees = trees-of (o .formed); recorded = heard; room = o .fits })
+table-of nodes signals bs old o e = subst (λ w. Table nodes bs w old) (sym e) (record { some = o .formed .some; trees = trees-of (o .formed); recorded = heard; room = o .fits })
   where
     heard : Recorded bs (lassoOf bs)
     heard =
@@ -143,7 +143,7 @@ module _ (nodes : List ℕ) (signals : ℕ) (bs old new : List ℕ) where
 pub record RootIn (nodes : List ℕ) (room : ℕ) (w : Lasso) : Type 0 where
   pub few : w .n ≤ maxPositions
   pub some : 0 < length nodes
-  pub low : width (w .n) * (length nodes - 1) ≤ 4_194_304
+  pub low : width (w .n) * (length nodes - 1) ≤ rowsLimit
   pub inside : width (w .n) * (length nodes - 1) < room
 
 pub root-in : (nodes : List ℕ) (signals : ℕ) (bs : List ℕ) (room : ℕ) {w : Lasso} → Opens nodes signals bs room → w ≡ lassoOf bs → RootIn nodes room w

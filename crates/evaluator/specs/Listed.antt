@@ -1,6 +1,6 @@
 -- The buffer as one list: rows that are right bit by bit are the bytes of the table's rows, and then comes what was there before.
-use Prim.Native.Nat.{ℕ, zero, suc, _+_, _*_, _-_, _/_, _%_, _^_, _≤_, _<_}
-use mathlib.Core.Path.{_≡_, refl, sym, ap, ap₂, _∙_, subst}
+use Prim.Native.Nat.{ℕ, zero, suc, _+_, _*_, _-_, _/_, _%_, _≤_, _<_}
+use mathlib.Core.Path.{_≡_, refl, sym, ap, ap₂, _∙_}
 use mathlib.Core.List.{List, [], _∷_, _++_}
 use native.Mathlib.Decide.{decLt}
 use native.Mathlib.Nat.{mul-le-mul-left}
@@ -9,8 +9,7 @@ use lib.ListN.{length, getD, take, drop, take-append-drop, length-append, length
 use lib.Seq.{ext-getD, getD-drop, getD-take, getD-at, take-add}
 use Rattle.evaluator.specs.Bits.{Values, bitOf, bitAt, number, width}
 use Rattle.evaluator.specs.BitLaws.{number-lt, number-bit, bits-same}
-use Rattle.evaluator.specs.Row.{nodeRow, shown, tabulate, joined, rowBytes, tableBytes}
-use Rattle.evaluator.specs.Memory.{bitsAt}
+use Rattle.evaluator.specs.Row.{nodeRow, shown, tabulate, joined, tableBytes}
 use Rattle.evaluator.specs.Evaluated.{Evaluated}
 use Rattle.evaluator.specs.declared.Lasso.{Lasso}
 

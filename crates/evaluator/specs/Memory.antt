@@ -1,8 +1,8 @@
 -- Rows in a buffer: a row of n bits starts at byte `base` and takes `width n` bytes. What has been done to one row, bit by bit.
-use Prim.Native.Nat.{ℕ, zero, suc, _+_, _*_, _-_, _/_, _%_, _≤_, _<_}
+use Prim.Native.Nat.{ℕ, _+_, _*_, _/_, _≤_, _<_}
 use mathlib.Core.Path.{_≡_, refl, sym, ap, _∙_}
 use mathlib.Core.Logic.{_≢_}
-use mathlib.Core.Bool.{Bool, true, false}
+use mathlib.Core.Bool.{Bool, false}
 use mathlib.Core.List.{List}
 use native.Mathlib.Decide.{ℕ-discrete}
 use native.Mathlib.Omega.{arith}
@@ -69,11 +69,7 @@ part-put n base f from to from' to' x v {old} {new} h l room e among =
         let m = among p a b d in
         at-other new (8 * base + x) (8 * base + p) v (omega arith) (omega arith) ∙ h .here p (m .0) (m .1)
 
--- a row that is filled again
-pub filled-again : (n base : ℕ) (f g : Values) {xs ys zs : List ℕ} → Filled n base f xs ys → Filled n base g ys zs → Filled n base g xs zs
-filled-again n base f g h k =
-    record { kept = kept-trans (h .kept) (k .kept); spare = λ p l. k .spare p l ∙ h .spare p l; here = k .here }
-
+-- a row of equal values
 pub filled-as : (n base : ℕ) (f g : Values) {old new : List ℕ} → Filled n base f old new → Agree n f g → Filled n base g old new
 filled-as n base f g h e = record { kept = h .kept; spare = h .spare; here = λ p a b. h .here p a b ∙ e p b }
 

@@ -5,7 +5,7 @@ use mathlib.Core.List.{List}
 use lib.Dec.{ltb, leb, eqb}
 use lib.ListN.{length}
 use Rattle.node.specs.Result.{Result, Done, guard, Counts}
-use Rattle.evaluator.specs.Limits.{maxPositions, headerBytes, told}
+use Rattle.evaluator.specs.Limits.{maxPositions, headerBytes, headerBits, told}
 use Rattle.evaluator.specs.Bits.{bitAt, number, width}
 use Rattle.evaluator.specs.declared.Lasso.{Lasso}
 
@@ -19,7 +19,7 @@ lassoOf bs = record { n = fieldAt bs 0 12; l = fieldAt bs 12 12; k = fieldAt bs 
 
 -- 'then N letters of K bits, signal 0 first'; 'Signals K and above are absent throughout': is the signal present at position p?
 abbrev pub letterOf : List ℕ → ℕ → ℕ → ℕ → Bool
-letterOf bs count p signal = ltb signal count && bitAt bs (32 + (p * count + signal))
+letterOf bs count p signal = ltb signal count && bitAt bs (headerBits + (p * count + signal))
 
 -- N is 1 to 2,048, L below N, K not 'above the signal count'
 abbrev pub headerFits : ℕ → Lasso → Bool
@@ -34,7 +34,7 @@ blank bs i (suc n) = not (bitAt bs i) && blank bs (suc i) n
 unfoldable pub filled : {A : Type 0} → List ℕ → Lasso → Result A → Result A
 filled bs w r =
     guard (eqb (length bs) (headerBytes + width (w .n * w .k))) 20 (told (length bs))
-    (guard (blank bs (32 + w .n * w .k) (8 * length bs - (32 + w .n * w .k))) 20 (length bs - 1) r)
+    (guard (blank bs (headerBits + w .n * w .k) (8 * length bs - (headerBits + w .n * w .k))) 20 (length bs - 1) r)
 
 -- refusal 20, 'in this order: the length if under 4 bytes; 0 for the header; the length if wrong; last byte for spare bits'
 unfoldable pub readable : {A : Type 0} → ℕ → List ℕ → Result A → Result A

@@ -1,17 +1,16 @@
 -- Laws of recordings: the test for zero bits step by step, the ways through refusal 20, and what a recording of the format has.
-use Prim.Native.Nat.{ℕ, zero, suc, _+_, _*_, _-_, _/_, _^_, _≤_, _<_}
+use Prim.Native.Nat.{ℕ, suc, _+_, _*_, _-_, _^_, _≤_, _<_}
 use mathlib.Core.Path.{_≡_, refl, sym, ap, _∙_}
 use mathlib.Core.Bool.{Bool, true, false, not, _&&_, false≢true}
 use mathlib.Core.List.{List}
 use native.Mathlib.Numerals.{add-one}
-use native.Mathlib.Nat.{mul-le-mul}
 use native.Mathlib.Omega.{arith}
 use lib.Dec.{ltb, leb, eqb}
 use lib.ListN.{length}
-use borrow.Author.Tests.{ltb-true, leb-true, eqb-true, lt-leb, le-leb, eq-eqb, ne-eqb, lt-ltb, le-ltb}
+use borrow.Author.Tests.{ltb-true, leb-true, eqb-true, lt-leb, le-leb, eq-eqb, ne-eqb}
 use Rattle.node.specs.Result.{Result, Done, Refused, guard}
 use Rattle.node.specs.ResultLaws.{guard-pass, guard-stop, guard-done, not-done}
-use Rattle.evaluator.specs.Limits.{maxPositions, maxSignals, headerBytes, told}
+use Rattle.evaluator.specs.Limits.{maxPositions, maxSignals, headerBytes, headerBits, lastPlace, told}
 use Rattle.evaluator.specs.Bits.{bitAt, width}
 use Rattle.evaluator.specs.BitLaws.{number-lt}
 use Rattle.evaluator.specs.Recording.{lassoOf, headerFits, blank, filled, readable, counted}
@@ -33,13 +32,13 @@ pub blank-end : (bs : List ℕ) (i to : ℕ) → to ≤ i → blank bs i (to - i
 unfolding blank
 blank-end bs i to h = let e : to - i ≡ 0 = omega arith in rw e
 
-pub told-here : (place : ℕ) → place < 2 ^ 32 → told place ≡ place
+pub told-here : (place : ℕ) → place ≤ lastPlace → told place ≡ place
 unfolding told
-told-here place h = rw (lt-ltb place (2 ^ 32) h)
+told-here place h = rw (le-leb place lastPlace h)
 
-pub told-last : (place : ℕ) → 2 ^ 32 ≤ place → told place ≡ 2 ^ 32 - 1
+pub told-last : (place : ℕ) → lastPlace < place → told place ≡ lastPlace
 unfolding told
-told-last place h = rw (le-ltb place (2 ^ 32) h)
+told-last place h = rw (lt-leb place lastPlace h)
 
 and-left : (p q : Bool) → (p && q) ≡ true → p ≡ true
 and-left true q e = refl
@@ -74,15 +73,15 @@ module _ {A : Type 0} (bs : List ℕ) (w : Lasso) (r : Result A) where
   filled-long h = guard-stop 20 (told (length bs)) _ (ne-eqb (length bs) (headerBytes + width (w .n * w .k)) h)
 
   filled-bits : length bs ≡ headerBytes + width (w .n * w .k)
-      → filled bs w r ≡ guard (blank bs (32 + w .n * w .k) (8 * length bs - (32 + w .n * w .k))) 20 (length bs - 1) r
+      → filled bs w r ≡ guard (blank bs (headerBits + w .n * w .k) (8 * length bs - (headerBits + w .n * w .k))) 20 (length bs - 1) r
   unfolding filled
   filled-bits h = guard-pass 20 (told (length bs)) _ (eq-eqb (length bs) (headerBytes + width (w .n * w .k)) h)
 
-  pub filled-spare : {b : Bool} → length bs ≡ headerBytes + width (w .n * w .k) → b ≡ blank bs (32 + w .n * w .k) (8 * length bs - (32 + w .n * w .k)) → b ≡ false
+  pub filled-spare : {b : Bool} → length bs ≡ headerBytes + width (w .n * w .k) → b ≡ blank bs (headerBits + w .n * w .k) (8 * length bs - (headerBits + w .n * w .k)) → b ≡ false
       → filled bs w r ≡ Refused 20 (length bs - 1)
   filled-spare h e f = filled-bits h ∙ guard-stop 20 (length bs - 1) r (sym e ∙ f)
 
-  pub filled-good : {b : Bool} → length bs ≡ headerBytes + width (w .n * w .k) → b ≡ blank bs (32 + w .n * w .k) (8 * length bs - (32 + w .n * w .k)) → b ≡ true → filled bs w r ≡ r
+  pub filled-good : {b : Bool} → length bs ≡ headerBytes + width (w .n * w .k) → b ≡ blank bs (headerBits + w .n * w .k) (8 * length bs - (headerBits + w .n * w .k)) → b ≡ true → filled bs w r ≡ r
   filled-good h e f = filled-bits h ∙ guard-pass 20 (length bs - 1) r (sym e ∙ f)
 
 -- the ways through the test of the whole
@@ -111,11 +110,11 @@ pub readable-done : {A : Type 0} {a : A} (signals : ℕ) (bs : List ℕ) (r : Re
 unfolding readable filled
 readable-done signals bs r e =
     let w : Lasso = lassoOf bs in
-    let spare : Result _ = guard (blank bs (32 + w .n * w .k) (8 * length bs - (32 + w .n * w .k))) 20 (length bs - 1) r in
+    let spare : Result _ = guard (blank bs (headerBits + w .n * w .k) (8 * length bs - (headerBits + w .n * w .k))) 20 (length bs - 1) r in
     let p = guard-done (leb headerBytes (length bs)) 20 (length bs) (guard (headerFits signals w) 20 0 (filled bs w r)) e in
     let q = guard-done (headerFits signals w) 20 0 (filled bs w r) (p .1) in
     let s = guard-done (eqb (length bs) (headerBytes + width (w .n * w .k))) 20 (told (length bs)) spare (q .1) in
-    let t = guard-done (blank bs (32 + w .n * w .k) (8 * length bs - (32 + w .n * w .k))) 20 (length bs - 1) r (s .1) in
+    let t = guard-done (blank bs (headerBits + w .n * w .k) (8 * length bs - (headerBits + w .n * w .k))) 20 (length bs - 1) r (s .1) in
     (record { long = leb-true headerBytes (length bs) (p .0); header = heads signals w (q .0); whole = eqb-true (length bs) _ (s .0) }, t .1)
 
 -- a test passes or fails whatever comes after it
@@ -134,7 +133,7 @@ readable-refused a signals bs s e =
     guard-refused (leb headerBytes (length bs)) 20 (length bs) _ _
     (guard-refused (headerFits signals (lassoOf bs)) 20 0 _ _
     (guard-refused (eqb (length bs) (headerBytes + width (lassoOf bs .n * lassoOf bs .k))) 20 (told (length bs)) _ _
-    (guard-refused (blank bs (32 + lassoOf bs .n * lassoOf bs .k) (8 * length bs - (32 + lassoOf bs .n * lassoOf bs .k))) 20 (length bs - 1) _ s (λ d. absurd (done-refused d))))) e
+    (guard-refused (blank bs (headerBits + lassoOf bs .n * lassoOf bs .k) (8 * length bs - (headerBits + lassoOf bs .n * lassoOf bs .k))) 20 (length bs - 1) _ s (λ d. absurd (done-refused d))))) e
   where
     done-refused : {A : Type 0} {a : A} {x y : ℕ} → Done a ≡ Refused x y → ⊥
     done-refused d = not-done (sym d)
@@ -150,7 +149,7 @@ readable-passed a signals bs s e =
     guard-done-as (leb headerBytes (length bs)) 20 (length bs) _ _ s
     (guard-done-as (headerFits signals (lassoOf bs)) 20 0 _ _ s
     (guard-done-as (eqb (length bs) (headerBytes + width (lassoOf bs .n * lassoOf bs .k))) 20 (told (length bs)) _ _ s
-    (guard-done-as (blank bs (32 + lassoOf bs .n * lassoOf bs .k) (8 * length bs - (32 + lassoOf bs .n * lassoOf bs .k))) 20 (length bs - 1) _ s s (λ d. refl)))) e
+    (guard-done-as (blank bs (headerBits + lassoOf bs .n * lassoOf bs .k) (8 * length bs - (headerBits + lassoOf bs .n * lassoOf bs .k))) 20 (length bs - 1) _ s s (λ d. refl)))) e
 
 -- what the test of the letters requires
 pub letters-fit : (signals : ℕ) (bs : List ℕ) {w : Lasso} {b : Bool} → w ≡ lassoOf bs → b ≡ headerFits signals w → b ≡ true → (w .n ≤ maxPositions) × (w .k ≤ maxSignals)

@@ -1,10 +1,9 @@
 -- Document 01's marked recordings on the nodes of its one file: '★ recording 00 30 01 02 90 (hexadecimal) on it holds; ★ 00 30 01 02 80 fails'.
 use Prim.Native.Nat.{ℕ}
 use mathlib.Core.Path.{_≡_, refl}
-use mathlib.Core.Bool.{Bool, true, false, So, false≢true}
+use mathlib.Core.Bool.{Bool, true, false, false≢true}
 use mathlib.Core.List.{List, [], _∷_}
-use lib.ListN.{length}
-use Rattle.node.specs.Result.{Done, Counts, guard, _>>=_}
+use Rattle.node.specs.Result.{Done, guard, _>>=_}
 use Rattle.node.specs.Fields.{pack}
 use Rattle.node.specs.Table.{treeAt, formulas, scanned, checked, NodeHolds}
 use Rattle.evaluator.specs.Bits.{bitAt, number}

@@ -13,9 +13,9 @@ use crate::row::fill_row;
 use node::Answer;
 use node::Node;
 
-pub mod bits;
-pub mod recording;
-pub mod row;
+mod bits;
+mod recording;
+mod row;
 
 // The evaluator takes a signal count of at most 255.
 pub const MAX_SIGNALS: u32 = 255;
@@ -65,12 +65,14 @@ fn node_row(nodes: &[u32], recording: &[u8], lasso: Lasso, i: usize, rows: &mut 
     fill_row(recording, lasso, op, base, rows);
 }
 
+// The rows of all nodes, the root's last.
 fn fill(nodes: &[u32], recording: &[u8], lasso: Lasso, rows: &mut [u8])
     requires { ⌜ Table (now nodes) (now recording) lasso (now rows) ⌝ }
     ensures { λ _. ⌜ Evaluated (now (recording .entry)) lasso (now (nodes .entry)) (length (now (nodes .entry))) (now (rows .entry)) (now (rows .exit)) ⌝ }
 {
+    let root = nodes.len() - 1;
     let mut i = 0;
-    while i < nodes.len() {
+    while i <= root {
         node_row(nodes, recording, lasso, i, rows);
         i += 1;
     }
@@ -84,11 +86,11 @@ fn examine(nodes: &[u32], signals: u32, recording: &[u8], room: usize) -> Answer
         return Answer::Refused(TOO_MANY_SIGNALS, 0);
     }
     let table = node::check_table(nodes, signals);
-    let Answer::Accepted(count, limit) = table else {
+    let Answer::Accepted(count, _) = table else {
         return table;
     };
     let heading = check_recording(recording, signals);
-    let Answer::Accepted(n, k) = heading else {
+    let Answer::Accepted(n, _) = heading else {
         return heading;
     };
     let w = (n as usize + 7) / 8;
@@ -103,7 +105,7 @@ pub fn evaluate(nodes: &[u32], signals: u32, recording: &[u8], rows: &mut [u8]) 
     ensures { λ r. ⌜ Evaluates r (now (nodes .entry)) signals (now (recording .entry)) (now (rows .entry)) (now (rows .exit)) ⌝ }
 {
     let answer = examine(nodes, signals, recording, rows.len());
-    let Answer::Accepted(count, known) = answer else {
+    let Answer::Accepted(_, _) = answer else {
         return answer;
     };
     let lasso = read_lasso(recording);
@@ -118,7 +120,7 @@ pub fn judge(nodes: &[u32], signals: u32, recording: &[u8], rows: &mut [u8]) -> 
     let answer = evaluate(nodes, signals, recording, rows);
     match answer {
         Answer::Refused(number, place) => Verdict::Refused(number, place),
-        Answer::Accepted(count, known) => {
+        Answer::Accepted(_, _) => {
             let lasso = read_lasso(recording);
             let w = (lasso.n + 7) / 8;
             let last = nodes.len() - 1;

@@ -3,7 +3,7 @@ ghost use mathlib.Core.Path.{_≡_};
 ghost use Prim.Native.Nat.{_+_, _*_, _-_, _≤_, _<_, _^_};
 ghost use lib.ListN.{length};
 ghost use Rattle.node.specs.Answer.{says};
-ghost use Rattle.evaluator.specs.Limits.{maxPositions, maxSignals, headerBytes, told as told'};
+ghost use Rattle.evaluator.specs.Limits.{maxPositions, maxSignals, headerBytes, headerBits, told as told'};
 ghost use Rattle.evaluator.specs.Recording.{fieldAt, lassoOf, letterOf, headerFits, blank as blank', filled, readable, counted};
 ghost use Rattle.evaluator.specs.Lasso.{next};
 ghost use Rattle.evaluator.specs.Ready.{Recorded};
@@ -17,9 +17,14 @@ use node::Answer;
 // The bytes of a header: 12, 12 and 8 bits.
 const HEADER_BYTES: usize = 4;
 
+const HEADER_BITS: usize = 8 * HEADER_BYTES;
+
+// The last place that 32 bits can tell.
+const LAST_PLACE: usize = 4294967295;
+
 // The number in some bits.
 fn field(bytes: &[u8], at: usize, count: usize) -> u32
-    requires { ⌜ (at + count ≤ 8 * length (now bytes)) × ((at ≤ 32) × (count ≤ 12)) ⌝ }
+    requires { ⌜ (at + count ≤ 8 * length (now bytes)) × ((at ≤ headerBits) × (count ≤ 12)) ⌝ }
     ensures { λ r. ⌜ r ≡ fieldAt (now (bytes .entry)) at count ⌝ }
 {
     let mut v: u32 = 0;
@@ -64,15 +69,14 @@ fn blank(bytes: &[u8], from: usize, to: usize) -> bool
     true
 }
 
-// A place in 32 bits.
+// A place, as far as 32 bits can tell it.
 fn told(place: usize) -> u32
     ensures { λ r. ⌜ r ≡ told' place ⌝ }
 {
-    if place < 4294967296 {
-        place as u32
-    } else {
-        4294967295
+    if LAST_PLACE < place {
+        return LAST_PLACE as u32;
     }
+    place as u32
 }
 
 // Do the letters, and zero bits to a full byte, make up the rest of the recording?
@@ -85,7 +89,7 @@ fn check_letters(recording: &[u8], lasso: Lasso) -> Answer
     if len != HEADER_BYTES + (bits + 7) / 8 {
         return Answer::Refused(BAD_RECORDING, told(len));
     }
-    if !blank(recording, 32 + bits, 8 * len) {
+    if !blank(recording, HEADER_BITS + bits, 8 * len) {
         return Answer::Refused(BAD_RECORDING, (len - 1) as u32);
     }
     Answer::Accepted(lasso.n as u32, lasso.k as u32)
@@ -122,7 +126,7 @@ pub fn letter(recording: &[u8], lasso: Lasso, p: usize, signal: usize) -> bool
 {
     let count = lasso.k;
     if signal < count {
-        return get_bit(recording, 32 + (p * count + signal));
+        return get_bit(recording, HEADER_BITS + (p * count + signal));
     }
     false
 }

@@ -6,7 +6,7 @@ ghost use Rattle.node.specs.Kinds.{shapeOf};
 ghost use Rattle.evaluator.specs.Row.{sweep as sweep'};
 ghost use Rattle.evaluator.specs.Steps.{stepOf, seedOf, pairOf, loopOf};
 ghost use Rattle.evaluator.specs.Memory.{bitsAt, Cleared, Filled};
-ghost use Rattle.evaluator.specs.Ready.{Ready, opRow, opStep, Loop};
+ghost use Rattle.evaluator.specs.Ready.{Ready, Operands, opRow, opStep, Loop, Rounds};
 use crate::Lasso;
 use crate::bits::get_bit;
 use crate::bits::set_bit;
@@ -75,8 +75,8 @@ fn seed_of(kind: u32) -> bool
 }
 
 // The value of a constant, a signal or `!` at a position.
-fn simple(recording: &[u8], lasso: Lasso, op: Op, rows: &[u8], base: usize, p: usize) -> bool
-    requires { ⌜ Ready (now recording) (now rows) lasso op base ⌝ }
+fn simple(recording: &[u8], lasso: Lasso, op: Op, rows: &[u8], p: usize) -> bool
+    requires { ⌜ Operands (now recording) (now rows) lasso op ⌝ }
     requires { ⌜ (op .kind < 4) × (p < lasso .n) ⌝ }
     ensures { λ r. ⌜ r ≡ opRow (now (recording .entry)) (now (rows .entry)) lasso op p ⌝ }
 {
@@ -90,14 +90,14 @@ fn simple(recording: &[u8], lasso: Lasso, op: Op, rows: &[u8], base: usize, p: u
 }
 
 // The value of a node that does not go round the loop, at a position.
-fn value(recording: &[u8], lasso: Lasso, op: Op, rows: &[u8], base: usize, p: usize) -> bool
-    requires { ⌜ Ready (now recording) (now rows) lasso op base ⌝ }
+fn value(recording: &[u8], lasso: Lasso, op: Op, rows: &[u8], p: usize) -> bool
+    requires { ⌜ Operands (now recording) (now rows) lasso op ⌝ }
     requires { ⌜ (op .kind < 9) × (p < lasso .n) ⌝ }
     ensures { λ r. ⌜ r ≡ opRow (now (recording .entry)) (now (rows .entry)) lasso op p ⌝ }
 {
     let kind = op.kind;
     if kind < Node::AND {
-        return simple(recording, lasso, op, rows, base, p);
+        return simple(recording, lasso, op, rows, p);
     }
     if kind < Node::NEXT {
         let x = get_bit(rows, 8 * op.first + p);
@@ -117,7 +117,7 @@ fn plain_row(recording: &[u8], lasso: Lasso, op: Op, base: usize, rows: &mut [u8
     let n = lasso.n;
     let mut p = 0;
     while p < n {
-        let v = value(recording, lasso, op, rows, base, p);
+        let v = value(recording, lasso, op, rows, p);
         set_bit(rows, 8 * base + p, v);
         p += 1;
     }
@@ -126,7 +126,7 @@ fn plain_row(recording: &[u8], lasso: Lasso, op: Op, base: usize, rows: &mut [u8
 // One pass backwards from the value after the last position.
 fn sweep(lasso: Lasso, op: Op, base: usize, seed: bool, rows: &mut [u8])
     requires { ⌜ Loop (now rows) lasso op base ⌝ }
-    ensures { λ _. ⌜ Filled (lasso .n) base (sweep' (lasso .n) (λ q v. stepOf (shapeOf (op .kind)) (bitsAt (now (rows .entry)) (op .first) q) (bitsAt (now (rows .entry)) (op .second) q) v) seed) (now (rows .entry)) (now (rows .exit)) ⌝ }
+    ensures { λ _. ⌜ Filled (lasso .n) base (sweep' (lasso .n) (opStep (now (rows .entry)) op) seed) (now (rows .entry)) (now (rows .exit)) ⌝ }
 {
     let kind = op.kind;
     let first = op.first;
@@ -144,8 +144,8 @@ fn sweep(lasso: Lasso, op: Op, base: usize, seed: bool, rows: &mut [u8])
 }
 
 // The value at the loop's start after one pass from the seed; nothing is stored.
-fn found(lasso: Lasso, op: Op, base: usize, seed: bool, rows: &[u8]) -> bool
-    requires { ⌜ Loop (now rows) lasso op base ⌝ }
+fn found(lasso: Lasso, op: Op, seed: bool, rows: &[u8]) -> bool
+    requires { ⌜ Rounds (now rows) lasso op ⌝ }
     ensures { λ r. ⌜ r ≡ sweep' (lasso .n) (opStep (now (rows .entry)) op) seed (lasso .l) ⌝ }
 {
     let kind = op.kind;
@@ -169,7 +169,7 @@ fn around_row(lasso: Lasso, op: Op, base: usize, rows: &mut [u8])
     requires { ⌜ Loop (now rows) lasso op base ⌝ }
     ensures { λ _. ⌜ Filled (lasso .n) base (loopOf (lasso .n) (lasso .l) (shapeOf (op .kind)) (bitsAt (now (rows .entry)) (op .first)) (bitsAt (now (rows .entry)) (op .second))) (now (rows .entry)) (now (rows .exit)) ⌝ }
 {
-    let s = found(lasso, op, base, seed_of(op.kind), rows);
+    let s = found(lasso, op, seed_of(op.kind), rows);
     sweep(lasso, op, base, s, rows);
 }
 

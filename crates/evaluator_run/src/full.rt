@@ -4,23 +4,24 @@ ghost use lib.ListN.{length};
 use crate::print;
 use node::Node;
 
-// Two signals, then every operator in turn, over the node before and one a third of the way.
+// Two signals, then every operator in turn, over a signal and a node five sevenths of the way.
 fn node_at(i: usize) -> u32 {
     let n = (i % 8192) as u32;
     if n < 2 {
         return Node::unary(Node::SIGNAL, n).word;
     }
-    let kind = n % 11 + 3;
+    let kind = n % 11 + Node::NOT;
+    let lower = n * 5 / 7;
     if kind == Node::NOT {
-        return Node::unary(kind, n - 1).word;
+        return Node::unary(kind, lower).word;
     }
     if kind < Node::NEXT {
-        return Node::binary(kind, n - 1, n / 3).word;
+        return Node::binary(kind, n % 2, lower).word;
     }
     if kind < Node::UNTIL {
-        return Node::unary(kind, n - 2).word;
+        return Node::unary(kind, lower).word;
     }
-    Node::binary(kind, n % 2, n / 3).word
+    Node::binary(kind, n % 2, lower).word
 }
 
 fn fill_nodes(nodes: &mut [u32]) {

@@ -1,6 +1,4 @@
 // Runs the evaluator on document 01's marked recordings, on each refusal and their order, and on a full table over a full recording.
-use evaluator::Verdict;
-use node::Answer;
 use node::Node;
 
 mod full;
@@ -67,6 +65,10 @@ fn tables() {
     without(b"15: 256 signals, no nodes", &zeros[..0], 256, &bad);
     without(b"19: no nodes", &zeros[..0], 255, &bad);
     without(b"19: 8,193 nodes", &zeros, 255, &bad);
+}
+
+fn nodes() {
+    let bad = [0u8; 3];
     with_two(b"19: kind 15", &[0, 0xF0000000], 255, &bad);
     with_two(b"19: kind 14", &[0, 0xE0000000], 255, &bad);
     with_two(
@@ -89,8 +91,8 @@ fn tables() {
     );
 }
 
-// 20 with its places in their order, then 18.
-fn recordings() {
+// 20 with its places, each before 18: the length if under 4 bytes, then 0 for the header,
+fn headers() {
     let node = [Node::unary(Node::SIGNAL, 0).word];
     let zeros = [0u8; 3];
     without(b"20: no bytes", &node, 2, &zeros[..0]);
@@ -99,6 +101,11 @@ fn recordings() {
     without(b"20: N = 2,049", &node, 2, &[0x80, 0x10, 0x00, 0x00]);
     without(b"20: L = N", &node, 2, &[0x00, 0x30, 0x03, 0x02, 0x90]);
     without(b"20: K = 3 of 2", &node, 2, &[0x00, 0x30, 0x01, 0x03, 0x90]);
+}
+
+// then the length if wrong, and the last byte for spare bits;
+fn letters() {
+    let node = [Node::unary(Node::SIGNAL, 0).word];
     without(b"20: too short", &node, 2, &[0x00, 0x30, 0x01, 0x02]);
     without(
         b"20: too long",
@@ -107,6 +114,11 @@ fn recordings() {
         &[0x00, 0x30, 0x01, 0x02, 0x91, 0x00],
     );
     with_two(b"20: spare bit", &node, 2, &[0x00, 0x30, 0x01, 0x02, 0x91]);
+}
+
+// then 18, and recordings that fit.
+fn rooms() {
+    let node = [Node::unary(Node::SIGNAL, 0).word];
     without(b"18: no room", &node, 2, &[0x00, 0x30, 0x01, 0x02, 0x90]);
     with_two(b"18: 2 bytes of 3", &node, 1, &[0x01, 0x10, 0x01, 0x00]);
     with_two(b"K = 0", &node, 1, &[0x00, 0x90, 0x01, 0x00]);
@@ -116,6 +128,9 @@ fn recordings() {
 fn main() {
     starred();
     tables();
-    recordings();
+    nodes();
+    headers();
+    letters();
+    rooms();
     full::run();
 }

@@ -1,5 +1,5 @@
 -- `examine` meets its contract: each way out of it is one way through the definition.
-use mathlib.Core.Path.{_≡_, ap, sym, _∙_}
+use mathlib.Core.Path.{ap, sym, _∙_}
 use native.Mathlib.Omega.{arith}
 use Rattle.node.specs.Answer.{says}
 use Rattle.evaluator.specs.EvaluationLaws.{many-signals, bad-table, bad-recording, short-rows, accepts, sized}
@@ -8,8 +8,7 @@ use Rattle.evaluator.proofs.examine.Statement.{statement}
 use Rattle.evaluator.proofs.examine.Tie as tie
 
 returns : tie.Need-returns
-returns c =
-    sym (many-signals ((c .before .before .before) .args .nodes .now) ((c .before .before .before) .args .signals) ((c .before .before .before) .args .recording .now) ((c .before .before .before) .args .room) ((c .if1) .taken))
+returns c = sym (many-signals _ _ _ _ (c .if1 .taken))
 
 check-table-requires : tie.Need-check-table-requires
 check-table-requires c κs = search needs
@@ -22,7 +21,8 @@ enum-told c = search needs
 
 returns-2 : tie.Need-returns-2
 returns-2 c =
-    ap says ((c .enum-told) .given .1) ∙ sym (bad-table ((c .before .before .before .before .before .before) .args .nodes .now) ((c .before .before .before .before .before .before) .args .signals) ((c .before .before .before .before .before .before) .args .recording .now) ((c .before .before .before .before .before .before) .args .room) ((c .before .before .before .if1) .left) (sym ((c .before .before .check-table) .ensures) ∙ ap says ((c .enum-told) .given .1)))
+    let e = ap says (c .enum-told .given .1) in
+    e ∙ sym (bad-table _ _ _ _ (c .before .before .before .if1 .left) (sym (c .before .before .check-table .ensures) ∙ e))
 
 check-recording-requires : tie.Need-check-recording-requires
 check-recording-requires c κs = search needs
@@ -35,7 +35,9 @@ enum-told-2 c = search needs
 
 returns-3 : tie.Need-returns-3
 returns-3 c =
-    ap says ((c .enum-told2) .given .1) ∙ sym (bad-recording ((c .before .before .before .before .before .before .before .before .before .before) .args .nodes .now) ((c .before .before .before .before .before .before .before .before .before .before) .args .signals) ((c .before .before .before .before .before .before .before .before .before .before) .args .recording .now) ((c .before .before .before .before .before .before .before .before .before .before) .args .room) ((c .before .before .before .before .before .before .before .if1) .left) (sym ((c .before .before .before .before .before .before .check-table) .ensures) ∙ ap says ((c .before .before .before .before .table) .given .1)) (sym ((c .before .before .check-recording) .ensures) ∙ ap says ((c .enum-told2) .given .1)))
+    let t = sym (c .before .before .before .before .before .before .check-table .ensures) ∙ ap says (c .before .before .before .before .table .given .1) in
+    let e = ap says (c .enum-told2 .given .1) in
+    e ∙ sym (bad-recording _ _ _ _ (c .before .before .before .before .before .before .before .if1 .left) t (sym (c .before .before .check-recording .ensures) ∙ e))
 
 cast-w : tie.Need-cast-w
 cast-w c = search needs
@@ -48,15 +50,23 @@ cast-if2 c = search needs
 
 mul-if2 : tie.Need-mul-if2
 mul-if2 c =
-    let z = sized ((c .before .before .before .before .before .before .before .before .before .before .before) .args .signals) ((c .before .before .before .before .before .before .before .before .before .before .before) .args .nodes .now) ((c .before .before .before .before .before .before .before .before .before .before .before) .args .recording .now) (sym ((c .before .before .before .before .before .before .before .check-table) .ensures) ∙ ap says ((c .before .before .before .before .before .table) .given .1)) (sym ((c .before .before .before .check-recording) .ensures) ∙ ap says ((c .before .heading) .given .1)) in record { fits = omega arith }
+    let t = sym (c .before .before .before .before .before .before .before .check-table .ensures) ∙ ap says (c .before .before .before .before .before .table .given .1) in
+    let r = sym (c .before .before .before .check-recording .ensures) ∙ ap says (c .before .heading .given .1) in
+    let z = sized _ _ _ t r in record { fits = omega arith }
 
 returns-4 : tie.Need-returns-4
 returns-4 c =
-    let z = sized ((c .before .before .before .before .before .before .before .before .before .before .before .before) .args .signals) ((c .before .before .before .before .before .before .before .before .before .before .before .before) .args .nodes .now) ((c .before .before .before .before .before .before .before .before .before .before .before .before) .args .recording .now) (sym ((c .before .before .before .before .before .before .before .before .check-table) .ensures) ∙ ap says ((c .before .before .before .before .before .before .table) .given .1)) (sym ((c .before .before .before .before .check-recording) .ensures) ∙ ap says ((c .before .before .heading) .given .1)) in let l = (c .if2) .taken in sym (short-rows ((c .before .before .before .before .before .before .before .before .before .before .before .before) .args .nodes .now) ((c .before .before .before .before .before .before .before .before .before .before .before .before) .args .signals) ((c .before .before .before .before .before .before .before .before .before .before .before .before) .args .recording .now) ((c .before .before .before .before .before .before .before .before .before .before .before .before) .args .room) ((c .before .before .before .before .before .before .before .before .before .if1) .left) (sym ((c .before .before .before .before .before .before .before .before .check-table) .ensures) ∙ ap says ((c .before .before .before .before .before .before .table) .given .1)) (sym ((c .before .before .before .before .check-recording) .ensures) ∙ ap says ((c .before .before .heading) .given .1)) (omega arith))
+    let t = sym (c .before .before .before .before .before .before .before .before .check-table .ensures) ∙ ap says (c .before .before .before .before .before .before .table .given .1) in
+    let r = sym (c .before .before .before .before .check-recording .ensures) ∙ ap says (c .before .before .heading .given .1) in
+    let z = sized _ _ _ t r in
+    sym (short-rows _ _ _ _ (c .before .before .before .before .before .before .before .before .before .if1 .left) t r (omega (arith, c .if2 .taken)))
 
 returns-5 : tie.Need-returns-5
 returns-5 c =
-    let z = sized ((c .before .before .before .before .before .before .before .before .before .before .before .before) .args .signals) ((c .before .before .before .before .before .before .before .before .before .before .before .before) .args .nodes .now) ((c .before .before .before .before .before .before .before .before .before .before .before .before) .args .recording .now) (sym ((c .before .before .before .before .before .before .before .before .check-table) .ensures) ∙ ap says ((c .before .before .before .before .before .before .table) .given .1)) (sym ((c .before .before .before .before .check-recording) .ensures) ∙ ap says ((c .before .before .heading) .given .1)) in let l = (c .if2) .left in sym (accepts ((c .before .before .before .before .before .before .before .before .before .before .before .before) .args .nodes .now) ((c .before .before .before .before .before .before .before .before .before .before .before .before) .args .signals) ((c .before .before .before .before .before .before .before .before .before .before .before .before) .args .recording .now) ((c .before .before .before .before .before .before .before .before .before .before .before .before) .args .room) ((c .before .before .before .before .before .before .before .before .before .if1) .left) (sym ((c .before .before .before .before .before .before .before .before .check-table) .ensures) ∙ ap says ((c .before .before .before .before .before .before .table) .given .1)) (sym ((c .before .before .before .before .check-recording) .ensures) ∙ ap says ((c .before .before .heading) .given .1)) (omega arith))
+    let t = sym (c .before .before .before .before .before .before .before .before .check-table .ensures) ∙ ap says (c .before .before .before .before .before .before .table .given .1) in
+    let r = sym (c .before .before .before .before .check-recording .ensures) ∙ ap says (c .before .before .heading .given .1) in
+    let z = sized _ _ _ t r in
+    sym (accepts _ _ _ _ (c .before .before .before .before .before .before .before .before .before .if1 .left) t r (omega (arith, c .if2 .left)))
 
 pub examine-spec : {M : Type 1} → statement M
 examine-spec =

@@ -1,12 +1,22 @@
 -- `judge` meets its contract: it reads the bit of the root's row at position 0.
-use mathlib.Core.Path.{_≡_, refl, ap, sym, _∙_}
+use mathlib.Core.Path.{refl, ap, sym, _∙_}
 use native.Mathlib.Omega.{arith}
+use lib.ListN.{length}
 use Rattle.node.specs.Answer.{says}
-use Rattle.evaluator.specs.EvaluationLaws.{opens, root-in, judges, judges-refusal}
+use Rattle.evaluator.specs.EvaluationLaws.{Opens, opens, RootIn, root-in, judges, judges-refusal}
 use Rattle.evaluator.specs.declared.Verdict.{Verdict}
 use borrow.Author.Needs.{needs}
 use Rattle.evaluator.proofs.judge.Statement.{statement}
 use Rattle.evaluator.proofs.judge.Tie as tie
+
+-- where `evaluate` accepts, the recording has a header and the root's row lies in the buffer
+opened : (c : tie.After-enum-told)
+    → Opens (c .before .before .before .before .before .before .before .before .before .args .nodes .now) (c .before .before .before .before .before .before .before .before .before .args .signals) (c .before .before .before .before .before .before .before .before .before .args .recording .now) (length (c .before .before .before .before .before .before .before .before .before .args .rows .now))
+opened c = opens _ _ _ _ (sym (c .before .before .before .before .evaluate .ensures .answer) ∙ ap says (c .enum-told .given .1))
+
+root : (c : tie.After-read-lasso)
+    → RootIn (c .before .before .before .before .before .before .before .before .before .before .args .nodes .now) (length (c .before .before .before .before .before .before .before .before .before .before .args .rows .now)) (c .read-lasso .result)
+root c = root-in _ _ _ _ (opened (c .before)) (c .read-lasso .ensures)
 
 evaluate-requires : tie.Need-evaluate-requires
 evaluate-requires c κs = search needs
@@ -14,53 +24,50 @@ evaluate-requires c κs = search needs
 enum-known-answer : tie.Need-enum-known-answer
 enum-known-answer c = search needs
 
-enum-known-answer-2 : tie.Need-enum-known-answer-2
-enum-known-answer-2 c = search needs
+enum-told : tie.Need-enum-told
+enum-told c = search needs
 
 read-lasso-requires : tie.Need-read-lasso-requires
-read-lasso-requires c κs =
-    (opens ((c .before .before .before .before .before .before .before .before .before .before) .args .nodes .now) ((c .before .before .before .before .before .before .before .before .before .before) .args .signals) ((c .before .before .before .before .before .before .before .before .before .before) .args .recording .now) _ (sym ((c .before .before .before .before .before .evaluate) .ensures .answer) ∙ (ap says ((c .before .answer2) .given .1)))) .reads .long
+read-lasso-requires c κs = opened c .reads .long
 
 add-w : tie.Need-add-w
-add-w c =
-    let i = root-in ((c .before .before .before .before .before .before .before .before .before .before .before .before) .args .nodes .now) ((c .before .before .before .before .before .before .before .before .before .before .before .before) .args .signals) ((c .before .before .before .before .before .before .before .before .before .before .before .before) .args .recording .now) _ (opens ((c .before .before .before .before .before .before .before .before .before .before .before .before) .args .nodes .now) ((c .before .before .before .before .before .before .before .before .before .before .before .before) .args .signals) ((c .before .before .before .before .before .before .before .before .before .before .before .before) .args .recording .now) _ (sym ((c .before .before .before .before .before .before .before .evaluate) .ensures .answer) ∙ (ap says ((c .before .before .before .answer2) .given .1)))) ((c .before .read-lasso) .ensures) in record { fits = omega arith }
+add-w c = let i = root (c .before) in record { fits = omega arith }
 
 sub-last : tie.Need-sub-last
-sub-last c =
-    let i = root-in ((c .before .before .before .before .before .before .before .before .before .before .before .before) .args .nodes .now) ((c .before .before .before .before .before .before .before .before .before .before .before .before) .args .signals) ((c .before .before .before .before .before .before .before .before .before .before .before .before) .args .recording .now) _ (opens ((c .before .before .before .before .before .before .before .before .before .before .before .before) .args .nodes .now) ((c .before .before .before .before .before .before .before .before .before .before .before .before) .args .signals) ((c .before .before .before .before .before .before .before .before .before .before .before .before) .args .recording .now) _ (sym ((c .before .before .before .before .before .before .before .evaluate) .ensures .answer) ∙ (ap says ((c .before .before .before .answer2) .given .1)))) ((c .before .read-lasso) .ensures) in omega arith
+sub-last c = let i = root (c .before) in omega arith
 
 mul-get-bit : tie.Need-mul-get-bit
-mul-get-bit c =
-    let i = root-in ((c .before .before .before .before .before .before .before .before .before .before .before .before .before) .args .nodes .now) ((c .before .before .before .before .before .before .before .before .before .before .before .before .before) .args .signals) ((c .before .before .before .before .before .before .before .before .before .before .before .before .before) .args .recording .now) _ (opens ((c .before .before .before .before .before .before .before .before .before .before .before .before .before) .args .nodes .now) ((c .before .before .before .before .before .before .before .before .before .before .before .before .before) .args .signals) ((c .before .before .before .before .before .before .before .before .before .before .before .before .before) .args .recording .now) _ (sym ((c .before .before .before .before .before .before .before .before .evaluate) .ensures .answer) ∙ (ap says ((c .before .before .before .before .answer2) .given .1)))) ((c .before .before .read-lasso) .ensures) in record { fits = omega arith }
+mul-get-bit c = let i = root (c .before .before) in record { fits = omega arith }
 
 mul-get-bit-2 : tie.Need-mul-get-bit-2
-mul-get-bit-2 c =
-    let i = root-in ((c .before .before .before .before .before .before .before .before .before .before .before .before .before) .args .nodes .now) ((c .before .before .before .before .before .before .before .before .before .before .before .before .before) .args .signals) ((c .before .before .before .before .before .before .before .before .before .before .before .before .before) .args .recording .now) _ (opens ((c .before .before .before .before .before .before .before .before .before .before .before .before .before) .args .nodes .now) ((c .before .before .before .before .before .before .before .before .before .before .before .before .before) .args .signals) ((c .before .before .before .before .before .before .before .before .before .before .before .before .before) .args .recording .now) _ (sym ((c .before .before .before .before .before .before .before .before .evaluate) .ensures .answer) ∙ (ap says ((c .before .before .before .before .answer2) .given .1)))) ((c .before .before .read-lasso) .ensures) in record { fits = omega arith }
+mul-get-bit-2 c = let i = root (c .before .before) in record { fits = omega arith }
 
 get-bit-requires : tie.Need-get-bit-requires
-get-bit-requires c κs =
-    let i = root-in ((c .before .before .before .before .before .before .before .before .before .before .before .before .before) .args .nodes .now) ((c .before .before .before .before .before .before .before .before .before .before .before .before .before) .args .signals) ((c .before .before .before .before .before .before .before .before .before .before .before .before .before) .args .recording .now) _ (opens ((c .before .before .before .before .before .before .before .before .before .before .before .before .before) .args .nodes .now) ((c .before .before .before .before .before .before .before .before .before .before .before .before .before) .args .signals) ((c .before .before .before .before .before .before .before .before .before .before .before .before .before) .args .recording .now) _ (sym ((c .before .before .before .before .before .before .before .before .evaluate) .ensures .answer) ∙ (ap says ((c .before .before .before .before .answer2) .given .1)))) ((c .before .before .read-lasso) .ensures) in omega (arith, (c .before .before .before .before .before .before .before .rows) .given)
+get-bit-requires c κs = let i = root (c .before .before) in omega (arith, c .before .before .before .before .before .before .rows .given)
 
 same-length : tie.Need-same-length
 same-length c = search needs
 
 returns : tie.Need-returns
 returns c =
-    judges ((c .before .before .before .before .before .before .before .before .before .before .before .before .before .before .before) .args .nodes .now) ((c .before .before .before .before .before .before .before .before .before .before .before .before .before .before .before) .args .signals) ((c .before .before .before .before .before .before .before .before .before .before .before .before .before .before .before) .args .recording .now) ((c .before .before .before .before .before .before .before .before .before .before .before .before .before .before .before) .args .rows .now) _ ((c .before .before .before .before .before .before .before .before .before .before .evaluate) .ensures) Verdict.Holds (ap says ((c .before .before .before .before .before .before .answer2) .given .1)) ((c .before .before .before .before .read-lasso) .ensures) ((c .before .get-bit) .ensures) ((c .if1) .taken) refl
+    let a = c .before .before .before .before .before in
+    judges _ _ _ _ _ (a .before .before .before .before .evaluate .ensures) Verdict.Holds (ap says (a .enum-told .given .1)) (c .before .before .before .before .read-lasso .ensures)
+    (c .before .get-bit .ensures) (c .if1 .taken) refl
 
 same-length-2 : tie.Need-same-length-2
 same-length-2 c = search needs
 
 returns-2 : tie.Need-returns-2
-returns-2 c =
-    judges-refusal ((c .before .before .before .before .before .before .before .before .before .before) .args .nodes .now) ((c .before .before .before .before .before .before .before .before .before .before) .args .signals) ((c .before .before .before .before .before .before .before .before .before .before) .args .recording .now) ((c .before .before .before .before .before .before .before .before .before .before) .args .rows .now) _ ((c .before .before .before .before .before .evaluate) .ensures) ((c .before .answer) .given .1)
+returns-2 c = judges-refusal _ _ _ _ _ (c .before .before .before .before .before .evaluate .ensures) (c .before .answer .given .1)
 
 same-length-3 : tie.Need-same-length-3
 same-length-3 c = search needs
 
 returns-3 : tie.Need-returns-3
 returns-3 c =
-    judges ((c .before .before .before .before .before .before .before .before .before .before .before .before .before .before .before) .args .nodes .now) ((c .before .before .before .before .before .before .before .before .before .before .before .before .before .before .before) .args .signals) ((c .before .before .before .before .before .before .before .before .before .before .before .before .before .before .before) .args .recording .now) ((c .before .before .before .before .before .before .before .before .before .before .before .before .before .before .before) .args .rows .now) _ ((c .before .before .before .before .before .before .before .before .before .before .evaluate) .ensures) Verdict.Fails (ap says ((c .before .before .before .before .before .before .answer2) .given .1)) ((c .before .before .before .before .read-lasso) .ensures) ((c .before .get-bit) .ensures) ((c .if1) .left) refl
+    let a = c .before .before .before .before .before in
+    judges _ _ _ _ _ (a .before .before .before .before .evaluate .ensures) Verdict.Fails (ap says (a .enum-told .given .1)) (c .before .before .before .before .read-lasso .ensures)
+    (c .before .get-bit .ensures) (c .if1 .left) refl
 
 pub judge-spec : {M : Type 1} → statement M
 judge-spec =
@@ -68,7 +75,7 @@ judge-spec =
     (tie.spec
     evaluate-requires
     enum-known-answer
-    enum-known-answer-2
+    enum-told
     read-lasso-requires
     add-w
     sub-last

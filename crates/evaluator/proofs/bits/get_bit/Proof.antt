@@ -1,4 +1,5 @@
-use mathlib.Core.Path.{_≡_, refl, _∙_}
+-- `get_bit` meets its contract: a shift is a division by a power of 2.
+use mathlib.Core.Path.{refl}
 use Rattle.evaluator.specs.Bits.{bitAt}
 use borrow.Author.Needs.{needs}
 use Rattle.evaluator.proofs.bits.get_bit.Statement.{statement}

@@ -1,4 +1,5 @@
-use mathlib.Core.Path.{_≡_, _∙_}
+-- `power` meets its contract: a shift of 1.
+use mathlib.Core.Path.{_∙_}
 use lib.Pow.{shl-exact}
 use native.Mathlib.Omega.{arith}
 use borrow.Author.Needs.{needs}

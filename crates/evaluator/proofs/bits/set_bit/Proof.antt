@@ -1,4 +1,5 @@
-use mathlib.Core.Path.{_≡_, refl, _∙_}
+-- `set_bit` meets its contract: one byte is stored, with another bit.
+use mathlib.Core.Path.{refl}
 use Rattle.evaluator.specs.Bits.{putBit}
 use borrow.Author.Needs.{needs}
 use Rattle.evaluator.proofs.bits.set_bit.Statement.{statement}

@@ -1,5 +1,6 @@
+-- `with_bit` meets its contract: a number of 8 bits keeps its width.
 use Prim.Native.Nat.{_<_, _^_}
-use mathlib.Core.Path.{_≡_, refl, _∙_}
+use mathlib.Core.Path.{refl}
 use lib.Pow.{shr-le, pow-pos}
 use native.Mathlib.Omega.{arith}
 use Rattle.evaluator.specs.Bits.{withBit}

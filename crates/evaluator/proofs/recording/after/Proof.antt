@@ -1,7 +1,4 @@
-use Prim.Native.Nat.{ℕ, suc, _+_, _*_, _-_, _/_, _≤_, _<_, _^_}
-use mathlib.Core.Path.{_≡_, refl, sym, ap, _∙_, subst}
-use native.Mathlib.Omega.{arith}
-use lib.ListN.{length}
+-- `after` meets its contract.
 use borrow.Author.Tests.{lt-ltb, le-ltb}
 use Rattle.evaluator.specs.Lasso.{next}
 use borrow.Author.Needs.{needs}

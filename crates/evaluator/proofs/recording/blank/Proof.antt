@@ -1,8 +1,8 @@
+-- `blank` meets its contract: what is left to test are the bits from i on.
 use Rattle.evaluator.specs.RecordingLaws.{blank-stop, blank-on, blank-end}
-use Prim.Native.Nat.{ℕ, suc, _+_, _*_, _-_, _/_, _≤_, _<_, _^_}
-use mathlib.Core.Path.{_≡_, refl, sym, ap, _∙_, subst}
+use Prim.Native.Nat.{_-_}
+use mathlib.Core.Path.{_≡_, refl, sym, _∙_}
 use native.Mathlib.Omega.{arith}
-use lib.ListN.{length}
 use Rattle.evaluator.specs.Recording.{blank}
 use Rattle.evaluator.proofs.recording.blank.Statement.{statement}
 use Rattle.evaluator.proofs.recording.blank.Tie as tie

@@ -1,4 +1,5 @@
-use mathlib.Core.Path.{_≡_, ap, sym, _∙_}
+-- `check_letters` meets its contract: each way out of it is one way through the definition.
+use mathlib.Core.Path.{ap, sym, _∙_}
 use native.Mathlib.Omega.{arith}
 use borrow.Author.Tests.{not-true, not-false}
 use Rattle.node.specs.Result.{Refused}
@@ -10,45 +11,56 @@ use Rattle.evaluator.proofs.recording.check_letters.Tie as tie
 
 mul-bits : tie.Need-mul-bits
 mul-bits c =
-    record { fits = omega (arith, bits-few ((c .before .before) .pre .0) ((c .before .before) .pre .1)) }
+    let s = c .before .before in
+    record { fits = omega (arith, bits-few (s .pre .0) (s .pre .1)) }
 
 add-if1 : tie.Need-add-if1
 add-if1 c =
-    record { fits = omega (arith, bits-few ((c .before .before) .pre .0) ((c .before .before) .pre .1)) }
+    let s = c .before .before in
+    record { fits = omega (arith, bits-few (s .pre .0) (s .pre .1)) }
 
 add-if1-2 : tie.Need-add-if1-2
 add-if1-2 c =
-    record { fits = omega (arith, bits-few ((c .before .before) .pre .0) ((c .before .before) .pre .1)) }
+    let s = c .before .before in
+    record { fits = omega (arith, bits-few (s .pre .0) (s .pre .1)) }
 
 told-requires : tie.Need-told-requires
 told-requires c κs = search needs
 
 returns : tie.Need-returns
 returns c =
-    ap (Refused 20) ((c .told) .ensures) ∙ sym (filled-long _ _ _ ((c .before .if1) .taken))
+    let if1 = c .before .if1 in
+    ap (Refused 20) (c .told .ensures) ∙ sym (filled-long _ _ _ (if1 .taken))
 
 add-blank : tie.Need-add-blank
 add-blank c =
-    record { fits = omega (arith, bits-few ((c .before .before .before) .pre .0) ((c .before .before .before) .pre .1)) }
+    let s = c .before .before .before in
+    record { fits = omega (arith, bits-few (s .pre .0) (s .pre .1)) }
 
 mul-blank : tie.Need-mul-blank
 mul-blank c =
-    record { fits = omega (arith, bits-few ((c .before .before .before) .pre .0) ((c .before .before .before) .pre .1), (c .if1) .left) }
+    let s = c .before .before .before in
+    record { fits = omega (arith, bits-few (s .pre .0) (s .pre .1), c .if1 .left) }
 
 blank-requires : tie.Need-blank-requires
 blank-requires c κs =
-    (omega arith, omega (arith, bits-few ((c .before .before .before) .pre .0) ((c .before .before .before) .pre .1), (c .if1) .left))
+    let s = c .before .before .before in
+    (omega arith, omega (arith, bits-few (s .pre .0) (s .pre .1), c .if1 .left))
 
 sub-t11 : tie.Need-sub-t11
 sub-t11 c = search needs
 
 cast-t12 : tie.Need-cast-t12
 cast-t12 c =
-    omega (arith, bits-few ((c .before .before .before .before .before) .pre .0) ((c .before .before .before .before .before) .pre .1), (c .before .before .if1) .left)
+    let s = c .before .before .before .before .before in
+    let if1 = c .before .before .if1 in
+    omega (arith, bits-few (s .pre .0) (s .pre .1), if1 .left)
 
 returns-2 : tie.Need-returns-2
 returns-2 c =
-    sym (filled-spare _ _ _ ((c .before .before .if1) .left) ((c .before .blank) .ensures) (not-true _ ((c .if2) .taken)))
+    let if1 = c .before .before .if1 in
+    let blank = c .before .blank in
+    sym (filled-spare _ _ _ (if1 .left) (blank .ensures) (not-true _ (c .if2 .taken)))
 
 cast-t13 : tie.Need-cast-t13
 cast-t13 c = search needs
@@ -58,7 +70,10 @@ cast-t14 c = search needs
 
 returns-3 : tie.Need-returns-3
 returns-3 c =
-    sym (filled-good _ _ _ ((c .before .before .before .before .if1) .left) ((c .before .before .before .blank) .ensures) (not-false _ ((c .before .before .if2) .left)))
+    let if1 = c .before .before .before .before .if1 in
+    let blank = c .before .before .before .blank in
+    let if2 = c .before .before .if2 in
+    sym (filled-good _ _ _ (if1 .left) (blank .ensures) (not-false _ (if2 .left)))
 
 pub check-letters-spec : {M : Type 1} → statement M
 check-letters-spec =

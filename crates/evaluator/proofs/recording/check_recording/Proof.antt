@@ -1,4 +1,5 @@
-use mathlib.Core.Path.{_≡_, ap, sym, _∙_}
+-- `check_recording` meets its contract: each way out of it is one way through the definition.
+use mathlib.Core.Path.{ap, sym, _∙_}
 use borrow.Author.Tests.{not-true, not-false}
 use Rattle.evaluator.specs.Recording.{headerFits}
 use Rattle.evaluator.specs.RecordingLaws.{readable-short, readable-header, letters-fit, letters-read}
@@ -21,15 +22,24 @@ header-fits-requires c κs = search needs
 
 returns-2 : tie.Need-returns-2
 returns-2 c =
-    sym (readable-header _ _ _ ((c .before .before .before .if1) .left) ((c .before .header-fits) .ensures ∙ ap (headerFits _) ((c .before .before .read-lasso) .ensures)) (not-true _ ((c .if2) .taken)))
+    let if1 = c .before .before .before .if1 in
+    let header-fits = c .before .header-fits in
+    let read-lasso = c .before .before .read-lasso in
+    sym (readable-header _ _ _ (if1 .left) (header-fits .ensures ∙ ap (headerFits _) (read-lasso .ensures)) (not-true _ (c .if2 .taken)))
 
 check-letters-requires : tie.Need-check-letters-requires
 check-letters-requires c κs =
-    letters-fit _ _ ((c .before .before .read-lasso) .ensures) ((c .before .header-fits) .ensures) (not-false _ ((c .if2) .left))
+    let read-lasso = c .before .before .read-lasso in
+    let header-fits = c .before .header-fits in
+    letters-fit _ _ (read-lasso .ensures) (header-fits .ensures) (not-false _ (c .if2 .left))
 
 returns-3 : tie.Need-returns-3
 returns-3 c =
-    (c .check-letters) .ensures ∙ letters-read _ _ ((c .before .before .before .read-lasso) .ensures) ((c .before .before .before .before .if1) .left) ((c .before .before .header-fits) .ensures) (not-false _ ((c .before .if2) .left))
+    let read-lasso = c .before .before .before .read-lasso in
+    let if1 = c .before .before .before .before .if1 in
+    let header-fits = c .before .before .header-fits in
+    let if2 = c .before .if2 in
+    c .check-letters .ensures ∙ letters-read _ _ (read-lasso .ensures) (if1 .left) (header-fits .ensures) (not-false _ (if2 .left))
 
 pub check-recording-spec : {M : Type 1} → statement M
 check-recording-spec =

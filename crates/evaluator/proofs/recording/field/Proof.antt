@@ -1,9 +1,8 @@
+-- `field` meets its contract: v is the number in the first i bits.
 use borrow.Author.Needs.{needs}
-use borrow.Author.Tests.{lt-ltb, le-ltb, eq-eqb, ne-eqb, le-leb, lt-leb}
-use Prim.Native.Nat.{ℕ, suc, _+_, _*_, _-_, _/_, _≤_, _<_, _^_}
-use mathlib.Core.Path.{_≡_, refl, sym, ap, _∙_, subst}
+use Prim.Native.Nat.{_+_, _-_, _≤_}
+use mathlib.Core.Path.{_≡_, sym, ap, _∙_}
 use native.Mathlib.Omega.{arith}
-use lib.ListN.{length}
 use Rattle.evaluator.specs.Bits.{bitAt}
 use Rattle.evaluator.specs.BitLaws.{digit-lt, number-small, number-more, number-none}
 use Rattle.evaluator.specs.Recording.{fieldAt}

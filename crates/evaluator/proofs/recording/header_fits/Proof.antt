@@ -1,4 +1,4 @@
-use mathlib.Core.Path.{_≡_}
+-- `header_fits` meets its contract, test by test.
 use borrow.Author.Tests.{lt-ltb, le-ltb, le-leb, lt-leb}
 use Rattle.evaluator.proofs.recording.header_fits.Statement.{statement}
 use Rattle.evaluator.proofs.recording.header_fits.Tie as tie

@@ -1,24 +1,24 @@
-use Prim.Native.Nat.{ℕ, suc, _+_, _*_, _-_, _/_, _≤_, _<_, _^_}
-use mathlib.Core.Path.{_≡_, refl, sym, ap, _∙_, subst}
+-- `letter` meets its contract: a letter's bit lies among the letters.
 use native.Mathlib.Omega.{arith}
-use lib.ListN.{length}
-use borrow.Author.Needs.{needs}
-use borrow.Author.Tests.{lt-ltb, le-ltb, eq-eqb, ne-eqb, le-leb, lt-leb}
-use Rattle.evaluator.specs.Ready.{letter-in, bits-few}
+use borrow.Author.Tests.{lt-ltb, le-ltb}
+use Rattle.evaluator.specs.Ready.{LetterIn, letter-in}
 use Rattle.evaluator.proofs.recording.letter.Statement.{statement}
 use Rattle.evaluator.proofs.recording.letter.Tie as tie
 
+here : (c : tie.Then1) → LetterIn (c .before .before .args .recording .now) (c .before .before .args .lasso) (c .before .before .args .p) (c .before .before .args .signal)
+here c = letter-in (c .before .before .pre .0) (c .before .before .pre .1) (c .if1 .taken)
+
 mul-get-bit : tie.Need-mul-get-bit
-mul-get-bit c = let s = c .before .before in let r = s .pre .0 in let i = letter-in (s .args .recording .now) (s .args .lasso) (s .args .p) (s .args .signal) r (s .pre .1) (c .if1 .taken) in let b = bits-few (r .few) (r .small) in record { fits = omega arith }
+mul-get-bit c = let i = here c in record { fits = omega arith }
 
 add-get-bit : tie.Need-add-get-bit
-add-get-bit c = let s = c .before .before in let r = s .pre .0 in let i = letter-in (s .args .recording .now) (s .args .lasso) (s .args .p) (s .args .signal) r (s .pre .1) (c .if1 .taken) in let b = bits-few (r .few) (r .small) in record { fits = omega arith }
+add-get-bit c = let i = here c in record { fits = omega arith }
 
 add-get-bit-2 : tie.Need-add-get-bit-2
-add-get-bit-2 c = let s = c .before .before in let r = s .pre .0 in let i = letter-in (s .args .recording .now) (s .args .lasso) (s .args .p) (s .args .signal) r (s .pre .1) (c .if1 .taken) in let b = bits-few (r .few) (r .small) in record { fits = omega arith }
+add-get-bit-2 c = let i = here c in record { fits = omega arith }
 
 get-bit-requires : tie.Need-get-bit-requires
-get-bit-requires c κs = let s = c .before .before in let r = s .pre .0 in let i = letter-in (s .args .recording .now) (s .args .lasso) (s .args .p) (s .args .signal) r (s .pre .1) (c .if1 .taken) in let b = bits-few (r .few) (r .small) in omega arith
+get-bit-requires c κs = here c .inside
 
 returns : tie.Need-returns
 returns c = rw (lt-ltb _ _ (c .before .if1 .taken)) (c .get-bit .ensures)

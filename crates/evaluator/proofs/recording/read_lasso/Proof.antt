@@ -1,4 +1,5 @@
-use mathlib.Core.Path.{_≡_, refl}
+-- `read_lasso` meets its contract: the three fields of the header.
+use mathlib.Core.Path.{refl}
 use borrow.Author.Needs.{needs}
 use Rattle.evaluator.proofs.recording.read_lasso.Statement.{statement}
 use Rattle.evaluator.proofs.recording.read_lasso.Tie as tie
@@ -23,7 +24,9 @@ cast-k c = search needs
 
 returns : tie.Need-returns
 returns c =
-    rw ((c .before .before .field) .ensures, (c .before .field2) .ensures, (c .field3) .ensures) refl
+    let field = c .before .before .field in
+    let field2 = c .before .field2 in
+    rw (field .ensures, field2 .ensures, c .field3 .ensures) refl
 
 pub read-lasso-spec : {M : Type 1} → statement M
 read-lasso-spec =

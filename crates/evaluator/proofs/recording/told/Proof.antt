@@ -1,3 +1,4 @@
+-- `told` meets its contract.
 use mathlib.Core.Path.{sym}
 use Rattle.evaluator.specs.RecordingLaws.{told-here, told-last}
 use borrow.Author.Needs.{needs}
@@ -8,12 +9,13 @@ cast-result : tie.Need-cast-result
 cast-result c = search needs
 
 returns : tie.Need-returns
-returns c =
-    sym (told-here _ ((c .if1) .taken))
+returns c = sym (told-last _ (c .if1 .taken))
+
+cast-result-2 : tie.Need-cast-result-2
+cast-result-2 c = search needs
 
 returns-2 : tie.Need-returns-2
-returns-2 c =
-    sym (told-last _ ((c .if1) .left))
+returns-2 c = sym (told-here _ (c .if1 .left))
 
 pub told-spec : {M : Type 1} → statement M
-told-spec = tie.close (tie.spec cast-result returns returns-2)
+told-spec = tie.close (tie.spec cast-result returns cast-result-2 returns-2)

@@ -1,8 +1,5 @@
-use Prim.Native.Nat.{ℕ, suc, _+_, _*_, _-_, _/_, _≤_, _<_, _^_}
-use mathlib.Core.Path.{_≡_, refl, sym, ap, _∙_, subst}
-use native.Mathlib.Omega.{arith}
-use lib.ListN.{length}
-use Rattle.evaluator.specs.Ready.{around-done}
+-- `around_row` meets its contract: two sweeps, the second from what the first found at the loop's start.
+use Rattle.evaluator.specs.Ready.{rounds, around-done}
 use borrow.Author.Needs.{needs}
 use Rattle.evaluator.proofs.row.around_row.Statement.{statement}
 use Rattle.evaluator.proofs.row.around_row.Tie as tie
@@ -11,7 +8,7 @@ seed-of-requires : tie.Need-seed-of-requires
 seed-of-requires c κs = search needs
 
 found-requires : tie.Need-found-requires
-found-requires c κs = search needs
+found-requires c κs = rounds (c .before .before .before .pre)
 
 sweep-requires : tie.Need-sweep-requires
 sweep-requires c κs = search needs
@@ -20,7 +17,9 @@ same-length : tie.Need-same-length
 same-length c = search needs
 
 returns : tie.Need-returns
-returns c = let s = c .before .before .before .before .before .before .before .before in around-done (s .args .rows .now) _ (s .args .lasso) (s .args .op) (s .args .base) (c .before .before .before .before .before .before .seed-of .result) (c .before .before .before .before .found .result) (c .before .before .before .before .before .before .seed-of .ensures) (c .before .before .before .before .found .ensures) (c .before .before .sweep .ensures)
+returns c =
+    let s = c .before .before .before .before .before .before .before .before in
+    around-done (s .args .lasso) (s .args .op) (c .before .before .before .before .before .before .seed-of .ensures) (c .before .before .before .before .found .ensures) (c .before .before .sweep .ensures)
 
 pub around-row-spec : {M : Type 1} → statement M
 around-row-spec =

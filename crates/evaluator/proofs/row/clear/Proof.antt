@@ -1,7 +1,7 @@
-use Prim.Native.Nat.{ℕ, suc, _+_, _*_, _-_, _/_, _≤_, _<_, _^_}
-use mathlib.Core.Path.{_≡_, refl, sym, ap, _∙_, subst}
+-- `clear` meets its contract: the bytes up to i are 0, and no other has changed.
+use Prim.Native.Nat.{_-_, _≤_}
+use mathlib.Core.Path.{_≡_}
 use native.Mathlib.Omega.{arith}
-use lib.ListN.{length}
 use Rattle.evaluator.specs.Memory.{Cleared, cleared-none, cleared-more}
 use Rattle.evaluator.proofs.row.clear.Statement.{statement}
 use Rattle.evaluator.proofs.row.clear.Tie as tie

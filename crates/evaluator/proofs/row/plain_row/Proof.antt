@@ -1,17 +1,9 @@
-use Prim.Native.Nat.{ℕ, suc, _+_, _*_, _-_, _/_, _≤_, _<_, _^_}
-use mathlib.Core.Path.{_≡_, refl, sym, ap, _∙_, subst}
+-- `plain_row` meets its contract: before p the row has its values, and a store there changes no operand.
+use Prim.Native.Nat.{_+_, _-_, _≤_}
+use mathlib.Core.Path.{_≡_, _∙_}
 use native.Mathlib.Omega.{arith}
-use lib.ListN.{length}
-use mathlib.Core.Bool.{Bool, true, false, not}
-use mathlib.Core.Path.{ap₂}
-use Rattle.node.specs.Kinds.{shapeOf}
-use Rattle.evaluator.specs.Steps.{stepOf, pairOf}
-use Rattle.evaluator.specs.Bits.{bitAt}
-use Rattle.evaluator.specs.Row.{sweep}
-use Rattle.evaluator.specs.RowLaws.{sweep-end}
-use Rattle.evaluator.specs.Memory.{bitsAt, Part, part-none, part-put}
-use Rattle.evaluator.specs.Bits.{width}
-use Rattle.evaluator.specs.Ready.{Ready, Loop, opRow, opStep, same-row, ready-still, pair-uses, pair-row, loop-still, sweep-back, around-done}
+use Rattle.evaluator.specs.Memory.{Part, part-none, part-put}
+use Rattle.evaluator.specs.Ready.{operands, opRow, same-row, ready-still}
 use Rattle.evaluator.proofs.row.plain_row.Statement.{statement}
 use Rattle.evaluator.proofs.row.plain_row.Tie as tie
 
@@ -25,9 +17,9 @@ loop-holds : tie.Need-loop-holds Inv-loop μ-loop
 loop-holds c = (omega arith, part-none _ _ _ 0 _)
 
 value-requires : tie.Need-value-requires Inv-loop μ-loop
-value-requires c κs = let s = c .before .before .before .before .before in
-    let l = c .before .before in
-    (ready-still (s .args .recording .now) (s .args .rows .now) (l .loop .rows) (s .args .lasso) (s .args .op) (s .args .base) (s .pre .0) (l .loop .inv .1 .kept), (s .pre .1, omega arith))
+value-requires c κs =
+    let s = c .before .before .before .before .before in
+    (operands (ready-still (s .pre .0) (c .before .before .loop .inv .1 .kept)), (s .pre .1, omega arith))
 
 mul-set-bit : tie.Need-mul-set-bit Inv-loop μ-loop
 mul-set-bit c = omega arith
@@ -45,12 +37,13 @@ loop-less : tie.Need-loop-less Inv-loop μ-loop
 loop-less c = omega arith
 
 loop-again : tie.Need-loop-again Inv-loop μ-loop
-loop-again c = let s = c .before .before .before .before .before .before .before .before .before .before in
+loop-again c =
+    let s = c .before .before .before .before .before .before .before .before .before .before in
     let l = c .before .before .before .before .before .before .before in
-    let e = c .before .before .before .before .value .ensures ∙ same-row (s .args .recording .now) (s .args .rows .now) (l .loop .rows) (s .args .lasso) (s .args .op) (s .args .base) (s .pre .0) (l .loop .inv .1 .kept) (l .loop .p) (omega arith) in (
+    let e = c .before .before .before .before .value .ensures ∙ same-row (s .pre .0) (l .loop .inv .1 .kept) (l .loop .p) (omega arith) in (
       omega arith,
       rw (c .before .before .set-bit .ensures)
-          (part-put (s .args .lasso .n) (s .args .base) _ 0 (l .loop .p) 0 (l .loop .p + 1) (l .loop .p) (c .before .before .before .before .value .result) (l .loop .inv .1) (omega arith) (omega arith) e (λ x m k d. (m, omega arith))),
+          (part-put _ _ _ 0 (l .loop .p) 0 (l .loop .p + 1) (l .loop .p) _ (l .loop .inv .1) (omega arith) (omega arith) e (λ x m k d. (m, omega arith))),
     )
 
 same-length : tie.Need-same-length Inv-loop μ-loop

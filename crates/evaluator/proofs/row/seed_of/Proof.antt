@@ -1,7 +1,6 @@
-use Prim.Native.Nat.{ℕ, suc, _+_, _*_, _-_, _/_, _≤_, _<_, _^_}
-use mathlib.Core.Path.{_≡_, refl, sym, ap, _∙_, subst}
+-- `seed_of` meets its contract, kind by kind.
+use mathlib.Core.Path.{_≡_}
 use native.Mathlib.Omega.{arith}
-use lib.ListN.{length}
 use borrow.Author.Needs.{needs}
 use Rattle.evaluator.proofs.row.seed_of.Statement.{statement}
 use Rattle.evaluator.proofs.row.seed_of.Tie as tie

@@ -1,25 +1,16 @@
-use Prim.Native.Nat.{ℕ, suc, _+_, _*_, _-_, _/_, _≤_, _<_, _^_}
-use mathlib.Core.Path.{_≡_, refl, sym, ap, _∙_, subst}
+-- `simple` meets its contract: kind by kind, the row of a node at a position.
+use mathlib.Core.Path.{_≡_, ap}
 use native.Mathlib.Omega.{arith}
-use lib.ListN.{length}
-use mathlib.Core.Bool.{Bool, true, false, not}
-use mathlib.Core.Path.{ap₂}
-use Rattle.node.specs.Kinds.{shapeOf}
-use Rattle.evaluator.specs.Steps.{stepOf, pairOf}
-use Rattle.evaluator.specs.Bits.{bitAt}
-use Rattle.evaluator.specs.Row.{sweep}
-use Rattle.evaluator.specs.RowLaws.{sweep-end}
-use Rattle.evaluator.specs.Memory.{bitsAt, Part, part-none, part-put}
-use Rattle.evaluator.specs.Bits.{width}
-use Rattle.evaluator.specs.Ready.{Ready, Loop, opRow, opStep, same-row, ready-still, pair-uses, pair-row, loop-still, sweep-back, around-done}
+use mathlib.Core.Bool.{not}
 use borrow.Author.Needs.{needs}
+use Rattle.evaluator.specs.Ready.{Inside}
 use Rattle.evaluator.proofs.row.simple.Statement.{statement}
 use Rattle.evaluator.proofs.row.simple.Tie as tie
 
 last : (c : tie.At-match-rest) → c .before .before .before .args .op .kind ≡ 3
 last c = omega arith
 
-in1 : (c : tie.At-match-rest) → c .before .before .before .args .op .first + width (c .before .before .before .args .lasso .n) ≤ c .before .before .before .args .base
+in1 : (c : tie.At-match-rest) → Inside (c .before .before .before .args .lasso .n) (c .before .before .before .args .op .first) (c .before .before .before .args .rows .now)
 in1 c = rw (last c) at (c .before .before .before .pre .0 .uses)
 
 letter-requires : tie.Need-letter-requires

@@ -1,22 +1,16 @@
-use Prim.Native.Nat.{ℕ, suc, _+_, _*_, _-_, _/_, _≤_, _<_, _^_}
-use mathlib.Core.Path.{_≡_, refl, sym, ap, _∙_, subst}
+-- `sweep` meets its contract: from p on the row has the values of a sweep from the end, and v is the one at p.
+use Prim.Native.Nat.{_-_, _≤_}
+use mathlib.Core.Path.{_≡_, sym, _∙_}
 use native.Mathlib.Omega.{arith}
-use lib.ListN.{length}
-use mathlib.Core.Bool.{Bool, true, false, not}
-use mathlib.Core.Path.{ap₂}
-use Rattle.node.specs.Kinds.{shapeOf}
-use Rattle.evaluator.specs.Steps.{stepOf, pairOf}
-use Rattle.evaluator.specs.Bits.{bitAt}
 use Rattle.evaluator.specs.Row.{sweep}
 use Rattle.evaluator.specs.RowLaws.{sweep-end}
-use Rattle.evaluator.specs.Memory.{bitsAt, Part, part-none, part-put}
-use Rattle.evaluator.specs.Bits.{width}
-use Rattle.evaluator.specs.Ready.{Ready, Loop, opRow, opStep, same-row, ready-still, pair-uses, pair-row, loop-still, sweep-back, around-done}
+use Rattle.evaluator.specs.Memory.{Part, part-none, part-put}
+use Rattle.evaluator.specs.Ready.{rowStep, opStep, step-read, same-step, loop-still, sweep-back}
 use Rattle.evaluator.proofs.row.sweep.Statement.{statement}
 use Rattle.evaluator.proofs.row.sweep.Tie as tie
 
 abbrev Inv-loop : tie.InvT-loop
-Inv-loop base seed rows₀ kind first second v₀ p₀ rows v p = (p ≤ p₀) × ((v ≡ sweep p₀ (λ q x. stepOf (shapeOf kind) (bitsAt rows₀ first q) (bitsAt rows₀ second q) x) seed p) × Part p₀ base (sweep p₀ (λ q x. stepOf (shapeOf kind) (bitsAt rows₀ first q) (bitsAt rows₀ second q) x) seed) p p₀ rows₀ rows)
+Inv-loop base seed rows₀ kind first second v₀ p₀ rows v p = (p ≤ p₀) × ((v ≡ sweep p₀ (rowStep rows₀ kind first second) seed p) × Part p₀ base (sweep p₀ (rowStep rows₀ kind first second) seed) p p₀ rows₀ rows)
 
 abbrev μ-loop : tie.MeasureT-loop
 μ-loop base seed rows₀ kind first second v₀ p₀ rows v p = p
@@ -61,18 +55,22 @@ loop-less : tie.Need-loop-less Inv-loop μ-loop
 loop-less c = omega arith
 
 loop-again : tie.Need-loop-again Inv-loop μ-loop
-loop-again c = let s = c .before .before .before .before .before .before .before .before .before .before .before .before in
+loop-again c =
+    let s = c .before .before .before .before .before .before .before .before .before .before .before .before in
     let l = c .before .before .before .before .before .before .before .before .before .before in
     let k = l .loop .inv .1 .1 .kept in
     let t = c .before .before .before .before .before .before .before .before .before .loop-test .taken in
-    let e = sweep-back (s .args .rows .now) (l .loop .rows) (s .args .lasso) (s .args .op) (s .args .base) (s .args .seed) (s .pre) k (l .loop .p) t (l .loop .inv .0)
-    (c .before .before .before .before .before .before .before .get-bit .result) (c .before .before .before .before .before .get-bit2 .result) (l .loop .v) (c .before .before .before .before .step .result) (c .before .before .before .before .before .before .before .get-bit .ensures) (c .before .before .before .before .before .get-bit2 .ensures) (l .loop .inv .1 .0) (c .before .before .before .before .step .ensures) in (
+    let f = opStep (s .args .rows .now) (s .args .op) in
+    let p = l .loop .p in
+    let q = step-read (l .loop .rows) (s .args .op) (p - 1) _ _ _ _ (c .before .before .before .before .before .before .before .get-bit .ensures) (c .before .before .before .before .before .get-bit2 .ensures) (c .before .before .before .before .step .ensures)
+    ∙ same-step (s .pre) k (p - 1) (omega (arith, t, l .loop .inv .0)) (l .loop .v) in
+    let e = sweep-back f (s .args .seed) p t (l .loop .inv .0) (l .loop .inv .1 .0) q in (
       omega (arith, l .loop .inv .0),
       (
         e,
         rw (c .before .before .set-bit .ensures)
-            (part-put (s .args .lasso .n) (s .args .base) _ (l .loop .p) (s .args .lasso .n) (l .loop .p - 1) (s .args .lasso .n) (l .loop .p - 1) (c .before .before .before .before .step .result) (l .loop .inv .1 .1) (omega (arith, t, l .loop .inv .0))
-            (loop-still (s .args .rows .now) (l .loop .rows) (s .args .lasso) (s .args .op) (s .args .base) (s .pre) k .room) e (λ x m j d. (omega (arith, m, d, t), j))),
+            (part-put (s .args .lasso .n) (s .args .base) _ p (s .args .lasso .n) (p - 1) (s .args .lasso .n) (p - 1) _ (l .loop .inv .1 .1) (omega (arith, t, l .loop .inv .0))
+            (loop-still (s .pre) k .room) e (λ x m j d. (omega (arith, m, d, t), j))),
       ),
     )
 
