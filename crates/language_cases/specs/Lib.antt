@@ -1,0 +1,17 @@
+pub mod Cases
+pub mod Same
+pub mod Starred
+pub mod RefusalTable
+pub mod RefusalTable11
+pub mod Components
+pub mod Operators
+pub mod RulingsTokens
+pub mod RulingsLongest
+pub mod RulingsGrammar
+pub mod RulingsExpressions
+pub mod RulingsDepth
+pub mod RulingsTypes
+pub mod RulingsWords
+pub mod RulingsValues
+pub mod RulingsOrder
+pub mod RulingsResults

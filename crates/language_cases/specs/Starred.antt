@@ -1,0 +1,129 @@
+-- The starred cases of document 01 that speak of texts, in one table with one statement that covers it; and the limits that it says pass.
+use Prim.Native.Nat.{ℕ}
+use Prim.Native.String.{String}
+use mathlib.Core.Bool.{Bool, true, false, So, So-prop, false≢true, _&&_, and-eq-true-iff}
+use mathlib.Core.List.{List, [], _∷_, _++_, map, List·Mem, not-mem-nil, eq-or-mem-of-mem-cons}
+use mathlib.Core.Logic.{Or·elim}
+use mathlib.Core.Path.{_≡_, refl, sym, ap, subst}
+use Rattle.node.specs.Fields.{pack}
+use Rattle.node.specs.Ltl.{True, Two, And}
+use Rattle.node.specs.Postorder.{size, nodesFrom}
+use Rattle.node.specs.Result.{Result, Done, Refused, _>>=_, guard}
+use Rattle.language.specs.Bytes.{ascii, same}
+use Rattle.language.specs.Tokens.{Token, tokens}
+use Rattle.language.specs.Tree.{Expr}
+use Rattle.language.specs.Places.{refuseAt}
+use Rattle.language.specs.Values.{Value, Number, Set, Logic, Bus, Unsized, Choice, Scope, value}
+use Rattle.language.specs.Sections.{expression}
+use Rattle.language.specs.Parsing.{parsed}
+use Rattle.language.specs.Reading.{Converted, meant, converted}
+use Rattle.language_cases.specs.Cases.{front, text, line, repeated, outcome, guaranteed, entry}
+use Rattle.language_cases.specs.Same.{same→eq}
+
+-- nodes by kind, first and second field
+abbrev rows : List (ℕ × ℕ × ℕ) → List ℕ
+rows l = map (λ r. pack (r .0) (r .1) (r .2)) l
+
+-- what a starred case asks: the nodes of a text, then its signal list; the nodes of a line of GUARANTEE; how many nodes a text has; the value of an expression
+pub data Question : Type 0 where
+  Listing : List ℕ → Question
+  LineOf : String → Question
+  NodesIn : List ℕ → Question
+  ValueOf : String → Question
+
+-- no names
+abbrev nothing : Scope
+nothing t = Refused 6 0
+
+-- a number, or a set's elements
+abbrev plain : Value → Result (List ℕ)
+plain (Number n) = Done (n ∷ [])
+plain (Set s) = Done s
+plain Logic = Refused 9 0
+plain (Bus p k n) = Refused 9 0
+plain (Unsized p) = Refused 9 0
+plain (Choice v) = Refused 9 0
+
+abbrev pub answer : Question → Result (List ℕ)
+answer (Listing s) = meant s >>= λ c. Done (nodesFrom 0 (c .formula) ++ c .signals)
+answer (LineOf s) = guaranteed (line (ascii s)) >>= λ f. Done (nodesFrom 0 f)
+answer (NodesIn s) = outcome s >>= λ n. Done (n .0 ∷ [])
+answer (ValueOf s) = expression (tokens (ascii s)) >>= λ e. value nothing (e .0) >>= plain
+
+pub record Row : Type 0 where
+  pub question : Question
+  pub expected : List ℕ
+
+abbrev row : Question → List ℕ → Row
+row q e = record { question = q; expected = e }
+
+abbrev pub starred : List Row
+starred =
+    -- 'this file'
+    row (Listing (text (ascii "MAIN { INPUTS { r; } OUTPUTS { g; } GUARANTEE { G (r -> F g); } }")))
+    (rows ((0, 0, 0) ∷ (0, 0, 0) ∷ (0, 0, 0) ∷ (9, 2, 0) ∷ (0, 0, 0) ∷ (4, 3, 4) ∷ (0, 0, 0) ∷ (9, 6, 0) ∷ (2, 0, 0) ∷ (2, 1, 0) ∷ (10, 9, 0) ∷ (6, 8, 10) ∷ (9, 11, 0) ∷ (4, 7, 12) ∷ (6, 5, 13) ∷ (4, 1, 14) ∷ (6, 0, 15) ∷ []) ++ (entry 0 84 0 0 ∷ entry 1 99 0 0 ∷ [])) ∷
+    -- '8/4/2 is 4'
+    row (ValueOf "8/4/2") (4 ∷ []) ∷
+    -- '6/2*3 is 1'
+    row (ValueOf "6/2*3") (1 ∷ []) ∷
+    -- '10-3-2 is 5'
+    row (ValueOf "10-3-2") (5 ∷ []) ∷
+    -- '{1,3..8} is 1, 3, 5, 7'
+    row (ValueOf "{1,3..8}") (1 ∷ 3 ∷ 5 ∷ 7 ∷ []) ∷
+    -- '{3,4..2} is empty'
+    row (ValueOf "{3,4..2}") [] ∷
+    -- '`X[0] a` is a'
+    row (LineOf "X[0] a") (rows ((2, 0, 0) ∷ [])) ∷
+    -- '`a U b W c` is a U (b W c)'
+    row (LineOf "a U b W c") (rows ((2, 0, 0) ∷ (2, 1, 0) ∷ (2, 2, 0) ∷ (13, 1, 2) ∷ (11, 0, 3) ∷ [])) ∷
+    -- 'no lines at all: 13 nodes standard, 15 strict'
+    row (NodesIn (text (ascii "MAIN { INPUTS { } OUTPUTS { } }"))) (13 ∷ []) ∷
+    row (NodesIn (ascii "INFO { TITLE: \"t\" DESCRIPTION: \"d\" SEMANTICS: Mealy, Strict TARGET: Mealy } MAIN { INPUTS { } OUTPUTS { } }")) (15 ∷ []) ∷
+    []
+
+-- is the answer the expected one?
+abbrev pub answers : Result (List ℕ) → List ℕ → Bool
+answers (Done l) e = same l e
+answers (Refused n p) e = false
+
+abbrev pub passes : Row → Bool
+passes r = answers (answer (r .question)) (r .expected)
+
+abbrev pub pass : List Row → Bool
+pass [] = true
+pass (r ∷ rs) = passes r && pass rs
+
+-- the table, computed
+tested : So (pass starred)
+unfolding meant parsed converted _>>=_ guard refuseAt size nodesFrom
+tested = refl
+
+answers→eq : (r : Result (List ℕ)) (e : List ℕ) → So (answers r e) → r ≡ Done e
+answers→eq (Done l) e t = ap Done (same→eq l e t)
+answers→eq (Refused n p) e t = absurd (false≢true t)
+
+passes-each : (l : List Row) → So (pass l) → (r : Row) → List·Mem r l → So (passes r)
+passes-each [] t r m = absurd (not-mem-nil m)
+passes-each (x ∷ l) t r m =
+    let both = and-eq-true-iff (passes x) (pass l) .0 t in
+    Or·elim (So-prop (passes r)) (eq-or-mem-of-mem-cons m) (λ q. subst (λ (y : Row). So (passes y)) (sym q) (both .0))
+    (λ n. passes-each l (both .1) r n)
+
+-- every starred case holds
+pub starred-hold : (r : Row) → List·Mem r starred → answer (r .question) ≡ Done (r .expected)
+starred-hold r m = answers→eq (answer (r .question)) (r .expected) (passes-each starred tested r m)
+
+-- 'Unmarked: 32,768 bytes .. pass': the file, and blanks
+longest : outcome (text (ascii "MAIN { INPUTS { r; } OUTPUTS { g; } GUARANTEE { G (r -> F g); } }" ++ repeated 32635 " ")) ≡ Done (17, 2)
+unfolding meant parsed converted _>>=_ guard refuseAt size
+longest = refl
+
+-- 'width 255'
+widest : outcome (text (ascii "MAIN { INPUTS { b[255]; } OUTPUTS { } GUARANTEE { b[254]; } }")) ≡ Done (13, 255)
+unfolding meant parsed converted _>>=_ guard refuseAt size
+widest = refl
+
+-- '256 elements'
+largest : guaranteed (line (ascii "|{0,1..255}| == 256 && |{0,1..254} (+) {255}| == 256 && +[0 <= i < 256] 1 == 256")) ≡ Done (Two And (Two And True True) True)
+unfolding meant parsed converted _>>=_ guard refuseAt size
+largest = refl

@@ -1,0 +1,15 @@
+pub mod Held
+pub mod Texts1
+pub mod Texts2
+pub mod Texts3
+pub mod Texts4
+pub mod Texts5
+pub mod Texts6
+pub mod Texts7
+pub mod Texts8
+pub mod Texts9
+pub mod Texts10
+pub mod Tables1
+pub mod Tables2
+pub mod Recordings1
+pub mod Recordings2

@@ -1,0 +1,1 @@
+// Cases written by the second converter: see specs/.

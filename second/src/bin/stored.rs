@@ -1,0 +1,302 @@
+//! Writes the stored cases of the crate `second_cases`: texts, tables and recordings with the answers that this converter gives, for the definitions to be computed
+//! against. `stored write DIR` writes the files, `stored check DIR` tells whether they are what would be written.
+
+use second::answer::Answer;
+use second::generate::prng::Prng;
+use second::generate::{self, recordings, tables};
+use second::{evaluator, limits, reader, rewriter};
+use std::collections::BTreeMap;
+use std::fmt::Write;
+use std::path::Path;
+
+const SEED: u64 = 20_261_115;
+
+/// How many texts of each answer are stored: 0 stands for accepted, another number for its refusal.
+const STORED: [(u32, usize); 14] = [
+    (0, 160),
+    (2, 20),
+    (4, 40),
+    (5, 10),
+    (6, 24),
+    (7, 24),
+    (8, 10),
+    (9, 24),
+    (10, 24),
+    (11, 24),
+    (12, 24),
+    (13, 24),
+    (14, 16),
+    (15, 10),
+];
+const TABLES: usize = 72;
+const RECORDINGS: usize = 72;
+
+/// Cases in one statement, and statements in one file.
+const TOGETHER: usize = 4;
+const STATEMENTS: usize = 12;
+
+/// The longest text stored: a tree too deep and too many names need long ones.
+fn longest(number: u32) -> usize {
+    match number {
+        5 => 600,
+        8 => 2_200,
+        _ => 170,
+    }
+}
+
+/// Is the text worked out in few steps? Large numerals make long stacks of X.
+fn light(text: &[u8], number: u32, nodes: usize) -> bool {
+    let small = |run: &[u8]| run.len() < 4;
+    let worked_out = number == 0 || number > 10;
+    text.len() <= longest(number)
+        && nodes <= 60
+        && (!worked_out || text.split(|byte| !byte.is_ascii_digit()).all(small))
+}
+
+fn number_of(answer: &Answer) -> u32 {
+    match answer {
+        Answer::Accepted { .. } => 0,
+        Answer::Refused(refusal) => refusal.number,
+    }
+}
+
+fn list<T: std::fmt::Display>(items: impl IntoIterator<Item = T>) -> String {
+    let mut text = String::from("(");
+    for item in items {
+        write!(text, "{item} ∷ ").expect("a string grows");
+    }
+    text + "[])"
+}
+
+fn bytes(text: &[u8]) -> String {
+    if text.iter().all(|byte| (32..127).contains(byte)) {
+        let written: String = text.iter().map(|&byte| char::from(byte)).collect();
+        let escaped = written.replace('\\', "\\\\").replace('"', "\\\"");
+        return format!("(ascii \"{escaped}\")");
+    }
+    list(text)
+}
+
+fn expected(answer: &Answer, first: String, second: String) -> String {
+    match answer {
+        Answer::Accepted { .. } => format!("Accepted {first} {second}"),
+        Answer::Refused(refusal) => format!("Rejected {} {}", refusal.number, refusal.place),
+    }
+}
+
+fn counts(answer: &Answer) -> String {
+    match answer {
+        Answer::Accepted { nodes, signals } => list([nodes, signals]),
+        Answer::Refused(_) => list([0; 0]),
+    }
+}
+
+fn texts() -> Vec<String> {
+    let mut rng = Prng::new(SEED);
+    let mut left = BTreeMap::from(STORED);
+    let mut cases = Vec::new();
+    while left.values().any(|&many| many > 0) {
+        let text = generate::any_text(&mut rng);
+        let reading = reader::read_freely(&text);
+        let number = number_of(&reading.answer);
+        let Some(many) = left.get_mut(&number) else {
+            continue;
+        };
+        if *many > 0 && light(&text, number, reading.nodes.len()) {
+            *many -= 1;
+            let answer = expected(
+                &reading.answer,
+                list(&reading.nodes),
+                list(&reading.signals),
+            );
+            cases.push(format!(
+                "record {{ bytes = {}; expected = {answer} }}",
+                bytes(&text)
+            ));
+        }
+    }
+    cases
+}
+
+fn form_cases() -> Vec<String> {
+    let mut rng = Prng::new(SEED);
+    let mut cases = Vec::new();
+    while cases.len() < TABLES {
+        let signals = rng.between(1, 4);
+        let nodes = tables::table(&mut rng, signals);
+        // Forms 1 and 2 mostly, then form 0 and a form that there is not.
+        let form = [1, 2, 1, 2, 1, 2, 1, 2, 0, 3][rng.below(10)];
+        let due = rewriter::rewrite(&nodes, form, limits::NODES).nodes.len();
+        if nodes.len().max(due) > 40 {
+            continue;
+        }
+        let room = if rng.one_in(8) {
+            due.saturating_sub(1)
+        } else {
+            due + rng.below(3)
+        };
+        let done = rewriter::rewrite(&nodes, form, room);
+        let answer = expected(&done.answer, list(&done.nodes), counts(&done.answer));
+        cases.push(format!(
+            "record {{ nodes = {}; form = {form}; room = {room}; expected = {answer} }}",
+            list(&nodes)
+        ));
+    }
+    cases
+}
+
+fn recording_cases() -> Vec<String> {
+    let mut rng = Prng::new(SEED);
+    let mut cases = Vec::new();
+    while cases.len() < RECORDINGS {
+        let signals = if rng.one_in(12) {
+            rng.between(250, 257)
+        } else {
+            rng.below(5)
+        };
+        let nodes = tables::table(&mut rng, signals.clamp(1, 4));
+        let recording = recordings::recording(&mut rng, signals.min(255));
+        if nodes.len() > 14 || recording.len() > 14 {
+            continue;
+        }
+        let due = evaluator::evaluate(&nodes, signals, &recording, usize::MAX)
+            .rows
+            .len();
+        let room = if rng.one_in(8) {
+            due.saturating_sub(1)
+        } else {
+            due + rng.below(3)
+        };
+        let done = evaluator::evaluate(&nodes, signals, &recording, room);
+        let answer = expected(&done.answer, list(&done.rows), counts(&done.answer));
+        cases.push(format!(
+            "record {{ nodes = {}; signals = {signals}; bytes = {}; room = {room}; expected = {answer} }}",
+            list(&nodes),
+            list(&recording)
+        ));
+    }
+    cases
+}
+
+/// What the files of one kind of case share.
+struct Kind {
+    file: &'static str,
+    item: &'static str,
+    test: &'static str,
+    uses: &'static str,
+    unfolding: &'static str,
+}
+
+const TEXTS: Kind = Kind {
+    file: "Texts",
+    item: "Text",
+    test: "textsHeld",
+    uses: "use Rattle.node.specs.Postorder.{size, nodesFrom}
+use Rattle.node.specs.Result.{_>>=_, guard}
+use Rattle.language.specs.Bytes.{ascii}
+use Rattle.language.specs.Places.{refuseAt}
+use Rattle.language.specs.Parsing.{parsed}
+use Rattle.language.specs.Reading.{meant, converted}
+",
+    unfolding: "meant parsed converted _>>=_ guard refuseAt nodesFrom size",
+};
+
+const FORMS: Kind = Kind {
+    file: "Tables",
+    item: "Table",
+    test: "tablesHeld",
+    uses: "use Rattle.node.specs.Postorder.{size, nodesFrom}
+use Rattle.node.specs.Result.{_>>=_, guard}
+use Rattle.node.specs.Table.{formulas, treeAt, scanned, checked}
+use Rattle.forms.specs.Forms.{plain, negated, core}
+use Rattle.rewriter.specs.Rewriting.{fitting, rewriting}
+",
+    unfolding: "rewriting fitting checked scanned _>>=_ guard treeAt formulas plain negated core size nodesFrom",
+};
+
+const ROWS: Kind = Kind {
+    file: "Recordings",
+    item: "Recording",
+    test: "recordingsHeld",
+    uses: "use Rattle.node.specs.Result.{_>>=_, guard}
+use Rattle.node.specs.Table.{formulas, treeAt, scanned, checked}
+use Rattle.evaluator.specs.Limits.{told}
+use Rattle.evaluator.specs.Bits.{bitAt, number}
+use Rattle.evaluator.specs.Recording.{blank, filled, readable}
+use Rattle.evaluator.specs.Lasso.{next}
+use Rattle.evaluator.specs.Row.{sweepFrom, around, row, tabulate, joined}
+use Rattle.evaluator.specs.Evaluation.{evaluation}
+",
+    unfolding: "evaluation _>>=_ guard checked scanned readable filled blank told treeAt formulas number bitAt next sweepFrom around row tabulate joined",
+};
+
+/// One file: a statement for every few cases, each proved by computing.
+fn file(kind: &Kind, cases: &[String]) -> String {
+    let mut text = format!(
+        "-- Written by the second converter: cases with its answers, each computed from the definitions.
+use mathlib.Core.Bool.{{true}}
+use mathlib.Core.List.{{List, [], _∷_}}
+use mathlib.Core.Path.{{_≡_, refl}}
+{}use Rattle.second_cases.specs.Held.{{Accepted, Rejected, {}, {}}}
+",
+        kind.uses, kind.item, kind.test
+    );
+    for (i, few) in cases.chunks(TOGETHER).enumerate() {
+        let listed = few.join(" ∷\n    ");
+        write!(
+            text,
+            "
+cases-{i} : List {item}
+cases-{i} =
+    {listed} ∷
+    []
+
+held-{i} : {test} cases-{i} ≡ true
+unfolding cases-{i} {unfolding}
+held-{i} = refl
+",
+            item = kind.item,
+            test = kind.test,
+            unfolding = kind.unfolding
+        )
+        .expect("a string grows");
+    }
+    text
+}
+
+/// All files by their names.
+fn files() -> Vec<(String, String)> {
+    let mut files = Vec::new();
+    for (kind, cases) in [
+        (&TEXTS, texts()),
+        (&FORMS, form_cases()),
+        (&ROWS, recording_cases()),
+    ] {
+        for (i, part) in cases.chunks(TOGETHER * STATEMENTS).enumerate() {
+            files.push((format!("{}{}", kind.file, i + 1), file(kind, part)));
+        }
+    }
+    let modules: String = files
+        .iter()
+        .map(|(name, _)| format!("pub mod {name}\n"))
+        .collect();
+    files.push(("Lib".to_string(), format!("pub mod Held\n{modules}")));
+    files
+}
+
+fn main() {
+    let arguments: Vec<String> = std::env::args().skip(1).collect();
+    let [command, directory] = &arguments[..] else {
+        eprintln!("usage: stored write DIR | stored check DIR");
+        std::process::exit(2);
+    };
+    for (name, text) in files() {
+        let path = Path::new(directory).join(format!("{name}.antt"));
+        if command == "write" {
+            std::fs::write(&path, text).expect("the file can be written");
+        } else if std::fs::read_to_string(&path).ok().as_ref() != Some(&text) {
+            println!("{} is not what would be written", path.display());
+            std::process::exit(1);
+        }
+    }
+}

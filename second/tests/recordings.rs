@@ -1,0 +1,190 @@
+//! The evaluator: refusals 15, 19, 20, 18, and rows.
+
+mod common;
+use common::*;
+use second::answer::Answer;
+use second::evaluator::{evaluate, Evaluation};
+use second::node::Node;
+
+fn node(kind: u32, first: usize, second: usize) -> u32 {
+    Node::pack(kind, first, second).0
+}
+
+fn run(nodes: &[u32], signals: usize, recording: &[u8]) -> Evaluation {
+    evaluate(nodes, signals, recording, 1 << 20)
+}
+
+#[test]
+fn starred_recordings() {
+    let text = "INFO { TITLE: \"t\" DESCRIPTION: \"d\" SEMANTICS: Mealy TARGET: Mealy } MAIN { \
+                INPUTS { r; } OUTPUTS { g; } GUARANTEE { G (r -> F g); } }";
+    let nodes = accepted(text).nodes;
+    let good = run(&nodes, 2, &[0x00, 0x30, 0x01, 0x02, 0x90]);
+    assert_eq!(
+        good.answer,
+        Answer::Accepted {
+            nodes: 17,
+            signals: 2
+        }
+    );
+    assert!(good.verdict());
+    assert!(!run(&nodes, 2, &[0x00, 0x30, 0x01, 0x02, 0x80]).verdict());
+}
+
+#[test]
+fn refusals_in_order() {
+    let table = [node(2, 0, 0)];
+    let recording = [0x00, 0x10, 0x00, 0x01, 0x80];
+    let answer = |nodes: &[u32], signals, recording: &[u8], room| {
+        evaluate(nodes, signals, recording, room).answer
+    };
+    assert!(answer(&table, 1, &recording, 1).is_accepted());
+    assert!(answer(&table, 255, &recording, 1).is_accepted());
+    assert_eq!(answer(&[], 256, &[], 0), Answer::refused(15, 0));
+    assert_eq!(answer(&[], 255, &[], 0), Answer::refused(19, 0));
+    assert_eq!(answer(&[0; 8193], 255, &[], 0), Answer::refused(19, 8192));
+    assert_eq!(answer(&table, 0, &recording, 0), Answer::refused(19, 0));
+    assert_eq!(
+        answer(&[0, node(2, 1, 0)], 1, &recording, 0),
+        Answer::refused(19, 1)
+    );
+    assert_eq!(
+        answer(&table, 1, &recording[..3], 0),
+        Answer::refused(20, 3)
+    );
+    assert_eq!(answer(&table, 1, &[], 0), Answer::refused(20, 0));
+    assert_eq!(
+        answer(&table, 1, &[0, 0, 0, 1, 0x80], 0),
+        Answer::refused(20, 0)
+    );
+    assert_eq!(
+        answer(&table, 1, &[0x80, 0x10, 0, 0], 0),
+        Answer::refused(20, 0)
+    );
+    assert!(answer(&table, 1, &[0x80, 0x00, 0, 0], 256).is_accepted());
+    // L = N.
+    assert_eq!(
+        answer(&table, 1, &[0, 0x10, 1, 1, 0x80], 0),
+        Answer::refused(20, 0)
+    );
+    // K above the signal count.
+    assert_eq!(
+        answer(&table, 1, &[0, 0x10, 0, 2, 0x80], 0),
+        Answer::refused(20, 0)
+    );
+    assert_eq!(
+        answer(&table, 1, &[0, 0x10, 0, 1, 0x80, 0], 0),
+        Answer::refused(20, 6)
+    );
+    assert_eq!(
+        answer(&table, 1, &[0, 0x10, 0, 1], 0),
+        Answer::refused(20, 4)
+    );
+    assert_eq!(
+        answer(&table, 1, &[0, 0x10, 0, 1, 0xc0], 0),
+        Answer::refused(20, 4)
+    );
+    assert_eq!(
+        answer(&table, 1, &[0, 0x90, 0, 1, 0x80, 0x01], 0),
+        Answer::refused(20, 5)
+    );
+    assert_eq!(answer(&table, 1, &recording, 0), Answer::refused(18, 0));
+    assert_eq!(
+        answer(&[0, 0], 1, &[0, 0x90, 0, 0], 3),
+        Answer::refused(18, 0)
+    );
+    assert!(answer(&[0, 0], 1, &[0, 0x90, 0, 0], 4).is_accepted());
+}
+
+#[test]
+fn every_row() {
+    // Positions 0 to 9, loop to 8; a at 0, 2, 9; b at 1, 8.
+    let a: Vec<usize> = vec![0, 2, 9];
+    let b: Vec<usize> = vec![1, 8];
+    let letters = (0..10)
+        .map(|p| vec![a.contains(&p), b.contains(&p)])
+        .collect();
+    let lasso = second::recording::Lasso {
+        loop_start: 8,
+        letters,
+    };
+    let recording = lasso.bytes(2);
+    let nodes = [
+        node(2, 0, 0),
+        node(2, 1, 0),
+        node(8, 0, 0),
+        node(9, 0, 0),
+        node(10, 0, 0),
+        node(11, 0, 1),
+        node(13, 0, 1),
+        node(5, 0, 1),
+        node(9, 7, 0),
+        node(12, 1, 0),
+        node(12, 0, 7),
+        node(7, 0, 1),
+        node(6, 0, 1),
+        node(3, 0, 0),
+        node(1, 0, 0),
+        node(0, 0, 0),
+    ];
+    let rows = run(&nodes, 2, &recording).rows;
+    let row = |number: usize| {
+        let bits: String = rows[2 * number..2 * number + 2]
+            .iter()
+            .map(|b| format!("{b:08b}"))
+            .collect();
+        assert!(bits.ends_with("000000"));
+        bits[..10].to_string()
+    };
+    assert_eq!(row(0), "1010000001");
+    assert_eq!(row(1), "0100000010");
+    assert_eq!(row(2), "0100000010");
+    assert_eq!(row(3), "0000000000");
+    assert_eq!(row(4), "1111111111");
+    // U goes round the loop: at 9, a holds and b at 8.
+    assert_eq!(row(5), "1100000011");
+    assert_eq!(row(6), "1100000011");
+    assert_eq!(row(8), "0000000011");
+    assert_eq!(row(10), "1110000011");
+    assert_eq!(row(11), "0001111100");
+    assert_eq!(row(12), "0101111110");
+    assert_eq!(row(13), "0101111110");
+    assert_eq!(row(14), "0000000000");
+    assert_eq!(row(15), "1111111111");
+}
+
+#[test]
+fn weak_until_is_not_until() {
+    let recording = [0x00, 0x10, 0x00, 0x02, 0x80];
+    let nodes = [
+        node(2, 0, 0),
+        node(2, 1, 0),
+        node(13, 0, 1),
+        node(11, 0, 1),
+        node(12, 1, 0),
+    ];
+    assert_eq!(run(&nodes, 2, &recording).rows, [0x80, 0, 0x80, 0, 0x80]);
+}
+
+#[test]
+fn signals_not_recorded_are_absent() {
+    let nodes = [node(2, 0, 0), node(2, 1, 0), node(3, 1, 0)];
+    assert_eq!(run(&nodes, 2, &[0, 0x10, 0, 1, 0x80]).rows, [0x80, 0, 0x80]);
+    assert_eq!(run(&nodes, 2, &[0, 0x10, 0, 0]).rows, [0, 0, 0x80]);
+}
+
+#[test]
+fn the_largest_recording() {
+    let mut nodes = vec![node(2, 0, 0)];
+    nodes.extend((0..8191).map(|below| node(8, below, 0)));
+    let letters = (0..2048).map(|p| vec![p == 2047]).collect();
+    let recording = second::recording::Lasso {
+        loop_start: 0,
+        letters,
+    }
+    .bytes(1);
+    let done = evaluate(&nodes, 1, &recording, 8192 * 256);
+    assert!(done.answer.is_accepted());
+    // 8,191 steps later is position 8191 - 3 * 2048 = 2047.
+    assert!(done.verdict());
+}
