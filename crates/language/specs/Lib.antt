@@ -17,4 +17,5 @@ pub mod Lines
 pub mod Expansion
 pub mod Meaning
 pub mod Reading
+pub mod Cases
 pub mod Laws

@@ -10,7 +10,7 @@ use Rattle.language.specs.Bytes.{ascii}
 use Rattle.language.specs.Places.{refuseAt}
 use Rattle.language.specs.Parsing.{parsed}
 use Rattle.language.specs.Reading.{meant, converted}
-use Rattle.language_cases.specs.Cases.{outcome, formula, allOf, standard}
+use Rattle.language.specs.Cases.{outcome, formula, allOf, standard}
 
 -- lines, with a line feed behind each
 abbrev lined : List String → List ℕ

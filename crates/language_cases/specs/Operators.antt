@@ -8,7 +8,7 @@ use Rattle.language.specs.Bytes.{ascii}
 use Rattle.language.specs.Places.{refuseAt}
 use Rattle.language.specs.Parsing.{parsed}
 use Rattle.language.specs.Reading.{meant, converted}
-use Rattle.language_cases.specs.Cases.{line, guaranteed, allOf}
+use Rattle.language.specs.Cases.{line, guaranteed, allOf}
 
 -- `==`, `EQ` of 1, 2 and 3 with 2
 equal : guaranteed (line (ascii "1 == 2; 2 == 2; 3 == 2; 1 EQ 2; 2 EQ 2; 3 EQ 2")) ≡ Done (allOf (False ∷ True ∷ False ∷ False ∷ True ∷ False ∷ []))

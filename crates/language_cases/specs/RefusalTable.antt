@@ -7,7 +7,7 @@ use Rattle.language.specs.Bytes.{ascii}
 use Rattle.language.specs.Places.{refuseAt}
 use Rattle.language.specs.Parsing.{parsed}
 use Rattle.language.specs.Reading.{meant, converted}
-use Rattle.language_cases.specs.Cases.{text, line, repeated, outcome, lettered}
+use Rattle.language.specs.Cases.{text, line, repeated, outcome, lettered}
 
 -- 1: 'text too long', 32,769 blanks
 tooLong : outcome (repeated 32769 " ") ≡ Refused 1 32768

@@ -8,7 +8,7 @@ use Rattle.language.specs.Bytes.{ascii}
 use Rattle.language.specs.Places.{refuseAt}
 use Rattle.language.specs.Parsing.{parsed}
 use Rattle.language.specs.Reading.{meant, converted, reading}
-use Rattle.language_cases.specs.Cases.{text, line, typed, repeated, outcome, guaranteed, lent}
+use Rattle.language.specs.Cases.{text, line, typed, repeated, outcome, guaranteed, lent}
 
 -- 11: 'value out of range', `2 - 3`
 belowZero : outcome (line (ascii "2 - 3 == 0")) ≡ Refused 11 130

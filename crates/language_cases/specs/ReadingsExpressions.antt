@@ -8,7 +8,7 @@ use Rattle.language.specs.Bytes.{ascii}
 use Rattle.language.specs.Places.{refuseAt}
 use Rattle.language.specs.Parsing.{parsed}
 use Rattle.language.specs.Reading.{meant, converted}
-use Rattle.language_cases.specs.Cases.{text, line, typed, outcome, guaranteed, allOf}
+use Rattle.language.specs.Cases.{text, line, typed, outcome, guaranteed, allOf}
 
 -- G4: the grammar knows no types, and a misfit is 9
 sizeofNumber : outcome (line (ascii "SIZEOF 3 == 3")) ≡ Refused 9 135

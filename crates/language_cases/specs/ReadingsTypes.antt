@@ -8,7 +8,7 @@ use Rattle.language.specs.Bytes.{ascii}
 use Rattle.language.specs.Places.{refuseAt}
 use Rattle.language.specs.Parsing.{parsed}
 use Rattle.language.specs.Reading.{meant, converted}
-use Rattle.language_cases.specs.Cases.{text, typed, outcome, guaranteed}
+use Rattle.language.specs.Cases.{text, typed, outcome, guaranteed}
 
 -- N6: number, bus and value that do not fit each other clash, at the right operand's first token
 busNumber : outcome (typed (ascii "v == 1")) ≡ Refused 9 191

@@ -8,7 +8,7 @@ use Rattle.language.specs.Bytes.{ascii}
 use Rattle.language.specs.Places.{refuseAt}
 use Rattle.language.specs.Parsing.{parsed}
 use Rattle.language.specs.Reading.{meant, converted}
-use Rattle.language_cases.specs.Cases.{text, typed, outcome, guaranteed, allOf}
+use Rattle.language.specs.Cases.{text, typed, outcome, guaranteed, allOf}
 
 -- N7: a value may be compared with any bus; per word the literals of its unstarred marks, bit 0 first, words folded with `||`
 anyBus : guaranteed (typed (ascii "v == P; P == v; x == Q")) ≡ Done (allOf (Two And (Signal 1) (One Not (Signal 3)) ∷ Two And (Signal 1) (One Not (Signal 3)) ∷ Two Or (One Not (Signal 6)) (Two And (Two And (Signal 6) (Signal 7)) (Signal 8)) ∷ []))

@@ -8,7 +8,7 @@ use Rattle.language.specs.Bytes.{ascii}
 use Rattle.language.specs.Places.{refuseAt}
 use Rattle.language.specs.Parsing.{parsed}
 use Rattle.language.specs.Reading.{meant, converted}
-use Rattle.language_cases.specs.Cases.{text, line, repeated, outcome, guaranteed, lettered}
+use Rattle.language.specs.Cases.{text, line, repeated, outcome, guaranteed, lettered}
 
 -- N1: 255 `!` before `a` pass, 256 do not
 nots255 : outcome (line (repeated 255 "!" ++ ascii "a")) ≡ Done (268, 7)

@@ -8,7 +8,7 @@ use Rattle.language.specs.Bytes.{ascii}
 use Rattle.language.specs.Places.{refuseAt}
 use Rattle.language.specs.Parsing.{parsed}
 use Rattle.language.specs.Reading.{meant, converted}
-use Rattle.language_cases.specs.Cases.{text, line, repeated, outcome, guaranteed}
+use Rattle.language.specs.Cases.{text, line, repeated, outcome, guaranteed}
 use Prim.Native.Nat.{ℕ}
 use Prim.Native.String.{String}
 use mathlib.Core.List.{map}

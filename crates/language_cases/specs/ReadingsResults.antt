@@ -8,7 +8,7 @@ use Rattle.language.specs.Bytes.{ascii}
 use Rattle.language.specs.Places.{refuseAt}
 use Rattle.language.specs.Parsing.{parsed}
 use Rattle.language.specs.Reading.{meant, converted}
-use Rattle.language_cases.specs.Cases.{text, line, typed, outcome, guaranteed, formula, signals, entry, allOf, standard, strict}
+use Rattle.language.specs.Cases.{text, line, typed, outcome, guaranteed, formula, signals, entry, allOf, standard, strict}
 use lib.ListN.{drop, replicate}
 use Rattle.node.specs.Fields.{pack}
 use Rattle.node.specs.Postorder.{nodesFrom}

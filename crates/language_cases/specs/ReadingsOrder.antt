@@ -8,7 +8,7 @@ use Rattle.language.specs.Bytes.{ascii}
 use Rattle.language.specs.Places.{refuseAt}
 use Rattle.language.specs.Parsing.{parsed}
 use Rattle.language.specs.Reading.{meant, converted}
-use Rattle.language_cases.specs.Cases.{text, line, typed, outcome, guaranteed}
+use Rattle.language.specs.Cases.{text, line, typed, outcome, guaranteed}
 
 -- E6: inputs are sized before outputs whatever the order in the text
 outputsFirst : outcome (text (ascii "MAIN { OUTPUTS { o[SIZEOF i]; } INPUTS { i[2]; } }")) ≡ Done (13, 4)

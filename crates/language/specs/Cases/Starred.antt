@@ -9,16 +9,16 @@ use Rattle.node.specs.Fields.{pack}
 use Rattle.node.specs.Ltl.{True, Two, And}
 use Rattle.node.specs.Postorder.{size, nodesFrom}
 use Rattle.node.specs.Result.{Result, Done, Refused, _>>=_, guard}
 use Rattle.language.specs.Bytes.{ascii, same}
 use Rattle.language.specs.Tokens.{Token, tokens}
 use Rattle.language.specs.Tree.{Expr}
 use Rattle.language.specs.Places.{refuseAt}
 use Rattle.language.specs.Values.{Value, Number, Set, Logic, Bus, Unsized, Choice, Scope, value}
 use Rattle.language.specs.Sections.{expression}
 use Rattle.language.specs.Parsing.{parsed}
 use Rattle.language.specs.Reading.{Converted, meant, converted}
-use Rattle.language_cases.specs.Cases.{front, text, line, repeated, outcome, guaranteed, entry}
-use Rattle.language_cases.specs.Same.{same→eq}
+use Rattle.language.specs.Cases.{front, text, line, repeated, outcome, guaranteed, entry}
+use Rattle.language.specs.Laws.Kinds.PlaceLaws.{same-equal}
 
 -- nodes by kind, first and second field
 abbrev rows : List (ℕ × ℕ × ℕ) → List ℕ
@@ -99,7 +99,7 @@ unfolding meant parsed converted _>>=_ guard refuseAt size nodesFrom
 tested = refl
 
 answers→eq : (r : Result (List ℕ)) (e : List ℕ) → So (answers r e) → r ≡ Done e
-answers→eq (Done l) e t = ap Done (same→eq l e t)
+answers→eq (Done l) e t = ap Done (same-equal l e t)
 answers→eq (Refused n p) e t = absurd (false≢true t)
 
 passes-each : (l : List Row) → So (pass l) → (r : Row) → List·Mem r l → So (passes r)

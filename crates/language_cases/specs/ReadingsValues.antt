@@ -8,7 +8,7 @@ use Rattle.language.specs.Bytes.{ascii}
 use Rattle.language.specs.Places.{refuseAt}
 use Rattle.language.specs.Parsing.{parsed}
 use Rattle.language.specs.Reading.{meant, converted}
-use Rattle.language_cases.specs.Cases.{text, line, repeated, outcome, guaranteed, allOf}
+use Rattle.language.specs.Cases.{text, line, repeated, outcome, guaranteed, allOf}
 
 -- E1: a definition is worked out where it is used and only there
 unusedFault : outcome (text (ascii "GLOBAL { DEFINITIONS { d = 1 / 0; e = 1 / 0 == 1; } } MAIN { INPUTS { } OUTPUTS { } }")) ≡ Done (13, 0)

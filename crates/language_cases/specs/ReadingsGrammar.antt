@@ -8,7 +8,7 @@ use Rattle.language.specs.Bytes.{ascii}
 use Rattle.language.specs.Places.{refuseAt}
 use Rattle.language.specs.Parsing.{parsed}
 use Rattle.language.specs.Reading.{meant, converted}
-use Rattle.language_cases.specs.Cases.{text, line, outcome, formula, standard, strict}
+use Rattle.language.specs.Cases.{text, line, outcome, formula, standard, strict}
 
 -- G1: INPUTS and OUTPUTS are required; MAIN's `}` is refused where one is missing
 noOutputs : outcome (text (ascii "MAIN { INPUTS { } }")) ≡ Refused 4 86
