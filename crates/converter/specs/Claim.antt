@@ -20,7 +20,7 @@ use Rattle.rewriter.specs.RewritingLaws.{Accepts, accepts as rewriter-accepts, 
 use Rattle.rewriter.specs.OwnNodes.{own-root, own-rewriting}
 use Rattle.language.specs.Meaning.{TextMeans}
 use Rattle.language.specs.Reading.{Converted, meant, reading, nodesAfter}
-use Rattle.language.specs.Laws.Meaning.Acceptance.{Accepts as TextAccepts, accepts, text-agrees, text-signals}
+use Rattle.language.specs.Laws.Meaning.Acceptance.{accepts, text-agrees, text-signals}
 
 -- the nodes that stand in a buffer: their number is n, and their root, the last of them, holds where the text does
 pub record Says (text : List ℕ) (nodes : List ℕ) (n : ℕ) : Type 0 where

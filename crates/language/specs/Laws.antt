@@ -1,3 +1,5 @@
+-- What follows from the definitions.
+pub mod Basics
 pub mod Grammar
 pub mod Values
 pub mod Kinds

@@ -5,7 +5,7 @@ use mathlib.Core.Bool.{Bool, true, false, not, _&&_}
 use mathlib.Core.List.{List, [], _∷_, _++_, map}
 use lib.Dec.{eqb, leb}
 use lib.ListN.{length}
-use Rattle.node.specs.Fields.{join}
+use Rattle.node.specs.BitFields.{join}
 use Rattle.node.specs.Result.{Result, Done, Refused, _>>=_, guard}
 use Rattle.language.specs.Limits.{maxWidth, maxSignals}
 use Rattle.language.specs.Bytes.{if_then_else_, same}

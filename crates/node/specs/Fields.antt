@@ -1,18 +1,7 @@
--- Bit fields of a word, for any width; a node's word. Laws in FieldLaws.
-use Prim.Native.Nat.{ℕ, _+_, _*_, _/_, _%_, _^_}
+-- A node's word and its fields (document 01, 'Expansion'). Laws in FieldLaws.
+use Prim.Native.Nat.{ℕ}
 use Rattle.node.specs.Limits.{fieldBits}
-
--- `hi` above the `w` bits of `lo`
-abbrev pub join : ℕ → ℕ → ℕ → ℕ
-join w hi lo = hi * 2 ^ w + lo
-
--- what stands above the lowest `w` bits
-abbrev pub above : ℕ → ℕ → ℕ
-above w x = x / 2 ^ w
-
--- the lowest `w` bits
-abbrev pub below : ℕ → ℕ → ℕ
-below w x = x % 2 ^ w
+pub use Rattle.node.specs.BitFields.{join, above, below}
 
 -- 'A node is 32 bits, most significant first: 4 kind, 14 first operand, 14 second'
 abbrev pub pack : ℕ → ℕ → ℕ → ℕ

@@ -3,6 +3,7 @@ pub mod Logic
 pub mod Temporal
 pub mod Operators
 pub mod Ltl
+pub mod BitFields
 pub mod Fields
 pub mod Kinds
 pub mod Result

@@ -1,6 +1,6 @@
 -- An answer in one 64-bit word, for callers in C and Rust: accepted = nodes * 2^32 + signals; refused = 2^63 + number * 2^32 + place.
 use Prim.Native.Nat.{ℕ, _+_, _^_, _<_}
-use Rattle.node.specs.Fields.{join}
+use Rattle.node.specs.BitFields.{join}
 use Rattle.node.specs.Result.{Result, Done, Refused, Counts}
 
 abbrev pub packed : Result Counts → ℕ

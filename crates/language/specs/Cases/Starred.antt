@@ -18,7 +18,7 @@ use Rattle.language.specs.Sections.{expression}
 use Rattle.language.specs.Parsing.{parsed}
 use Rattle.language.specs.Reading.{Converted, meant, converted}
 use Rattle.language.specs.Cases.{front, text, line, repeated, outcome, guaranteed, entry}
-use Rattle.language.specs.Laws.Kinds.PlaceLaws.{same-equal}
+use Rattle.language.specs.Laws.Basics.Tests.{same-equal}
 
 -- nodes by kind, first and second field
 abbrev rows : List (ℕ × ℕ × ℕ) → List ℕ

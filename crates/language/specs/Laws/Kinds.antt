@@ -1,18 +1,13 @@
-pub mod PlaceLaws
+-- No text that passes refusal 9 comes to a value of a wrong kind.
 pub mod Reaching
 pub mod KindLaws
 pub mod OperandLaws
-pub mod Shapes
 pub mod TypeSoundness
 pub mod ExpansionKinds
-pub mod DeclaredKinds
+pub mod KnownKinds
 pub mod DefinitionKinds
 pub mod TableKinds
 pub mod LineKinds
 pub mod FirstTable
 pub mod DeclarationKinds
-pub mod Accepted
-pub mod ShapeLaws
-pub mod SectionShapes
-pub mod WordLaws
-pub mod AcceptedTexts
+pub mod LaterRefusals

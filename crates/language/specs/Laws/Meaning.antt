@@ -1,5 +1,6 @@
+-- An accepted text's formula holds where the text does.
 pub mod OwedLaws
-pub mod TestLaws
+pub mod Comparisons
 pub mod ExpansionLaws
 pub mod Agreement
 pub mod TextAgreement

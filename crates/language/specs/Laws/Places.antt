@@ -1,7 +1,7 @@
+-- Every refused place lies in the text.
 pub mod PlaceBounds
 pub mod NamePlaces
 pub mod TypePlaces
-pub mod HeldLaws
 pub mod ParsedPlaces
 pub mod ValuePlaces
 pub mod SignalPlaces

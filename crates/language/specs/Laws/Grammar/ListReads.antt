@@ -9,12 +9,11 @@ use Rattle.language.specs.Tokens.{Name, Quoted, Marks, Token, isOf, is}
 use Rattle.language.specs.Tree.{Identifier}
 use Rattle.language.specs.Grammar.{Tokens, Read, front, rest, stop, expect, expectOf}
 use Rattle.language.specs.Sections.{tagOf, tagsOf, linesOf, wordsOf, identifiersOf, blockOf, optional}
-use Rattle.language.specs.Laws.Grammar.TokenLaws.{Every}
-use Rattle.language.specs.Laws.Grammar.TreeTokens.{InEach, InIdentifier}
-use Rattle.language.specs.Laws.Grammar.ReaderLaws.{Alike, inner-of, more, more-is, more-comm, Reads, rephrase, weaken, done, stopped, same-answer, free, choose, take}
-use Rattle.language.specs.Laws.Grammar.BindLaws.{bind-refused, bind, bind-less}
+use Rattle.language.specs.Laws.Basics.Lists.{All, Any, all-any}
+use Rattle.language.specs.Laws.Grammar.TreeTokens.{InIdentifier}
+use Rattle.language.specs.Laws.Grammar.ReaderLaws.{Alike, inner-of, more, more-is, more-comm, Reads, weaken, done, stopped, choose, rephrase, same-answer, free, take}
+use Rattle.language.specs.Laws.Grammar.ReadersInRow.{bind-refused, bind-less, bind}
 use Rattle.language.specs.Laws.Grammar.TokenReads.{is-inner, every-front, every-rest, rest-fits, one, expect-reads, expectOf-reads}
-use Rattle.language.specs.Laws.Grammar.GrammarLaws.{Any, every-any}
 
 -- no tokens: whatever the fuel, they are refused
 none-reads : {A : Type 0} {P : Token → Type 0} {Q : A → Type 0} {b n : ℕ} (F : ℕ → Tokens → Read A) (ts : Tokens) → length ts < 1 → ((k : ℕ) → F k [] ≡ stop []) → Reads A P Q b n ts (stop ts) F
@@ -27,23 +26,23 @@ none-reads F (t ∷ ts) h e = absurd (omega arith)
 
 -- as much fuel as tokens
 long-reads : {A : Type 0} (F : ℕ → Tokens → Read A) (Q : (Token → Type 0) → A → Type 0) →
-    ((P : Token → Type 0) (f : ℕ) (ts : Tokens) → length ts < suc f → Every P ts → Reads A P (Q P) (suc f) (length ts) ts (F f ts) (λ k. F (more f k))) →
-    (P : Token → Type 0) (b : ℕ) (ts : Tokens) → Every P ts → Reads A P (Q P) b (length ts) ts (F (length ts) ts) (λ k us. F (length us) us)
+    ((P : Token → Type 0) (f : ℕ) (ts : Tokens) → length ts < suc f → All P ts → Reads A P (Q P) (suc f) (length ts) ts (F f ts) (λ k. F (more f k))) →
+    (P : Token → Type 0) (b : ℕ) (ts : Tokens) → All P ts → Reads A P (Q P) b (length ts) ts (F (length ts) ts) (λ k us. F (length us) us)
 long-reads {A} F Q law P b ts p =
     free (λ us. F (length us) us) (F (length ts) ts) (law P (length ts) ts (omega arith) p)
     (λ k us l. same (length us) (more (length ts) k) us (omega arith) (omega (arith, more-is (length ts) k)))
   where
     same : (f g : ℕ) (us : Tokens) → length us < suc f → length us < suc g → F f us ≡ F g us
     same f g us h l =
-        sym (same-answer (F f us) (law Any f us h (every-any us)) g (omega arith)) ∙ ap (λ j. F j us) (more-comm f g)
-        ∙ same-answer (F g us) (law Any g us l (every-any us)) f (omega arith)
+        sym (same-answer (F f us) (law Any f us h (all-any us)) g (omega arith)) ∙ ap (λ j. F j us) (more-comm f g)
+        ∙ same-answer (F g us) (law Any g us l (all-any us)) f (omega arith)
 
 module _ (P : Token → Type 0) where
-  tagOf-reads : (b : ℕ) (ts : Tokens) → Every P ts → Reads Token P P b (length ts) ts (tagOf ts) (λ k us. tagOf us)
+  tagOf-reads : (b : ℕ) (ts : Tokens) → All P ts → Reads Token P P b (length ts) ts (tagOf ts) (λ k us. tagOf us)
   tagOf-reads b ts p =
       choose (isOf Name) (λ e. let i = inner-of Name (front ts) refl e in one ts (λ t. t) i (omega arith) p (every-front P ts i p)) (λ _. expectOf-reads P Quoted b ts refl p)
 
-  tags-law : (f : ℕ) (ts : Tokens) → length ts < suc f → Every P ts → Reads Token P P (suc f) (length ts) ts (tagsOf f ts) (λ k. tagsOf (more f k))
+  tags-law : (f : ℕ) (ts : Tokens) → length ts < suc f → All P ts → Reads Token P P (suc f) (length ts) ts (tagsOf f ts) (λ k. tagsOf (more f k))
   tags-law zero ts h p = none-reads tagsOf ts h none
     where
       none : (k : ℕ) → tagsOf k [] ≡ stop []
@@ -56,7 +55,7 @@ module _ (P : Token → Type 0) where
       (weaken (tagsOf f (rest rs)) (omega arith) (omega (arith, rest-fits rs)) (tags-law f (rest rs) (omega (arith, rest-fits rs)) (every-rest P rs q))))
       (λ _. done t l q v)
 
-  words-law : (f : ℕ) (ts : Tokens) → length ts < suc f → Every P ts → Reads (List Token) P (Every P) (suc f) (length ts) ts (wordsOf f ts) (λ k. wordsOf (more f k))
+  words-law : (f : ℕ) (ts : Tokens) → length ts < suc f → All P ts → Reads (List Token) P (All P) (suc f) (length ts) ts (wordsOf f ts) (λ k. wordsOf (more f k))
   words-law zero ts h p = none-reads wordsOf ts h none
     where
       none : (k : ℕ) → wordsOf k [] ≡ stop []
@@ -71,13 +70,13 @@ module _ (P : Token → Type 0) where
       (λ _. done (w ∷ []) l q (v, tt))
 
 -- words, tags
-pub tagsOf-reads : (P : Token → Type 0) (b : ℕ) (ts : Tokens) → Every P ts → Reads Token P P b (length ts) ts (tagsOf (length ts) ts) (λ k us. tagsOf (length us) us)
+pub tagsOf-reads : (P : Token → Type 0) (b : ℕ) (ts : Tokens) → All P ts → Reads Token P P b (length ts) ts (tagsOf (length ts) ts) (λ k us. tagsOf (length us) us)
 tagsOf-reads = long-reads tagsOf (λ P. P) tags-law
 
-wordsOf-reads : (P : Token → Type 0) (b : ℕ) (ts : Tokens) → Every P ts → Reads (List Token) P (Every P) b (length ts) ts (wordsOf (length ts) ts) (λ k us. wordsOf (length us) us)
-wordsOf-reads = long-reads wordsOf Every words-law
+wordsOf-reads : (P : Token → Type 0) (b : ℕ) (ts : Tokens) → All P ts → Reads (List Token) P (All P) b (length ts) ts (wordsOf (length ts) ts) (λ k us. wordsOf (length us) us)
+wordsOf-reads = long-reads wordsOf All words-law
 
-identifiers-law : (P : Token → Type 0) (f : ℕ) (ts : Tokens) → length ts < suc f → Every P ts → Reads (List Identifier) P (InEach (InIdentifier P)) (suc f) (length ts) ts (identifiersOf f ts) (λ k. identifiersOf (more f k))
+identifiers-law : (P : Token → Type 0) (f : ℕ) (ts : Tokens) → length ts < suc f → All P ts → Reads (List Identifier) P (All (InIdentifier P)) (suc f) (length ts) ts (identifiersOf f ts) (λ k. identifiersOf (more f k))
 identifiers-law P zero ts h p = none-reads identifiersOf ts h none
   where
     none : (k : ℕ) → identifiersOf k [] ≡ stop []
@@ -91,8 +90,8 @@ identifiers-law P (suc f) ts h p =
     (λ _. bind (identifiersOf f rs₃) _ _ (identifiers-law P f rs₃ (omega arith) q₃) λ is us l′ q′ v′. done (record { name = x; words = ws } ∷ is) (omega arith) q′ ((v, v₃), v′))
     (λ _. done (record { name = x; words = ws } ∷ []) (omega arith) q₃ ((v, v₃), tt))
 
-pub identifiersOf-reads : (P : Token → Type 0) (b : ℕ) (ts : Tokens) → Every P ts → Reads (List Identifier) P (InEach (InIdentifier P)) b (length ts) ts (identifiersOf (length ts) ts) (λ k us. identifiersOf (length us) us)
-identifiersOf-reads = long-reads identifiersOf (λ P. InEach (InIdentifier P)) identifiers-law
+pub identifiersOf-reads : (P : Token → Type 0) (b : ℕ) (ts : Tokens) → All P ts → Reads (List Identifier) P (All (InIdentifier P)) b (length ts) ts (identifiersOf (length ts) ts) (λ k us. identifiersOf (length us) us)
+identifiersOf-reads = long-reads identifiersOf (λ P. All (InIdentifier P)) identifiers-law
 
 -- lines, by the reader of one
 module _
@@ -100,13 +99,13 @@ module _
     (line : Tokens → Read A)
     (Q : (Token → Type 0) → A → Type 0)
     (none : line [] ≡ stop [])
-    (line-reads : (P : Token → Type 0) (b : ℕ) (ts : Tokens) → Every P ts → Reads A P (Q P) b (length ts) ts (line ts) (λ k us. line us))
+    (line-reads : (P : Token → Type 0) (b : ℕ) (ts : Tokens) → All P ts → Reads A P (Q P) b (length ts) ts (line ts) (λ k us. line us))
   where
     lines-none : (k : ℕ) → linesOf k line [] ≡ stop []
     lines-none zero = refl
     lines-none (suc k) = bind-refused (line []) 4 0 _ none
 
-    lines-law : (P : Token → Type 0) (f : ℕ) (ts : Tokens) → length ts < suc f → Every P ts → Reads (List A) P (InEach (Q P)) (suc f) (length ts) ts (linesOf f line ts) (λ k. linesOf (more f k) line)
+    lines-law : (P : Token → Type 0) (f : ℕ) (ts : Tokens) → length ts < suc f → All P ts → Reads (List A) P (All (Q P)) (suc f) (length ts) ts (linesOf f line ts) (λ k. linesOf (more f k) line)
     lines-law P zero ts h p = none-reads (λ k. linesOf k line) ts h lines-none
     lines-law P (suc f) ts h p =
         choose (is "}")
@@ -118,14 +117,14 @@ module _
         done (x ∷ xs) (omega (arith, rest-fits rs)) q′ (v, v′)))
         (λ _. bind (expect "}" rs) _ _ (expect-reads P "}" (suc (suc f)) rs q) λ c us l′ q′ _. done (x ∷ []) (omega arith) q′ (v, tt)))
 
-    pub linesOf-reads : (P : Token → Type 0) (b : ℕ) (ts : Tokens) → Every P ts → Reads (List A) P (InEach (Q P)) b (length ts) ts (linesOf (length ts) line ts) (λ k us. linesOf (length us) line us)
-    linesOf-reads = long-reads (λ k. linesOf k line) (λ P. InEach (Q P)) lines-law
+    pub linesOf-reads : (P : Token → Type 0) (b : ℕ) (ts : Tokens) → All P ts → Reads (List A) P (All (Q P)) b (length ts) ts (linesOf (length ts) line ts) (λ k us. linesOf (length us) line us)
+    linesOf-reads = long-reads (λ k. linesOf k line) (λ P. All (Q P)) lines-law
 
-    pub blockOf-reads : (P : Token → Type 0) (b : ℕ) (ts : Tokens) → Every P ts → Reads (List A) P (InEach (Q P)) b (length ts) ts (blockOf line ts) (λ k us. blockOf line us)
+    pub blockOf-reads : (P : Token → Type 0) (b : ℕ) (ts : Tokens) → All P ts → Reads (List A) P (All (Q P)) b (length ts) ts (blockOf line ts) (λ k us. blockOf line us)
     blockOf-reads P b ts p =
         bind (expect "{" ts) _ _ (expect-reads P "{" b ts p) λ c rs l q _. weaken (linesOf (length rs) line rs) (omega arith) (omega arith) (linesOf-reads P b rs q)
 
-    pub optional-reads : (P : Token → Type 0) (word : String) (b n : ℕ) (ts : Tokens) → length ts < n → Every P ts → Reads (List A) P (InEach (Q P)) b n ts (optional word line ts) (λ k us. optional word line us)
+    pub optional-reads : (P : Token → Type 0) (word : String) (b n : ℕ) (ts : Tokens) → length ts < n → All P ts → Reads (List A) P (All (Q P)) b n ts (optional word line ts) (λ k us. optional word line us)
     optional-reads P word b n ts h p =
         choose (is word)
         (λ i. take {b′ = b} ts _ (is-inner word (front ts) i) (omega arith) (weaken (blockOf line (rest ts)) (omega arith) (omega (arith, rest-fits ts)) (blockOf-reads P b (rest ts) (every-rest P ts p))))

@@ -14,17 +14,17 @@ use Rattle.language.specs.Operators.{loosest}
 use Rattle.language.specs.Tree.{Expr, Definition, Defined, Enumerated, Parameter, Declaration, OneSignal, OfWidth, OfType, Subsection, Inputs, Outputs, Lines, Model, Mealy, Moore, Spec}
 use Rattle.language.specs.Grammar.{Tokens, Read, front, rest, stop, expect, expectOf, named, operandOf, expr}
 use Rattle.language.specs.Sections.{expression, described, modelOf, strictOf, tagsOf, infoEnd, blockOf, parameterOf, identifiersOf, enumerationOf, definitionOf, declarationOf, optional, globalOf, Heading, InputsHere, OutputsHere, LinesHere, HeadingRow, headings, seen, headingOf, subsectionOf, subsectionsOf}
-use Rattle.language.specs.Laws.Grammar.CaseLaws.{leave, and-false}
-use Rattle.language.specs.Laws.Grammar.TokenLaws.{Every}
-use Rattle.language.specs.Laws.Grammar.TreeTokens.{InExpr, InEach, InParameter, InDefinition, InDeclaration, InSubsection, InSpec}
-use Rattle.language.specs.Laws.Grammar.ReaderLaws.{alike-front, Inner, inner-of, Reads, rephrase, weaken, done, stopped, choose, choose-by, take}
-use Rattle.language.specs.Laws.Grammar.BindLaws.{bind-refused, bind}
+use Rattle.language.specs.Laws.Basics.Lists.{All}
+use Rattle.language.specs.Laws.Basics.Tests.{leave, and-false}
+use Rattle.language.specs.Laws.Grammar.TreeTokens.{InExpr, InParameter, InDefinition, InDeclaration, InSubsection, InSpec}
+use Rattle.language.specs.Laws.Grammar.ReaderLaws.{alike-front, Inner, inner-of, Reads, weaken, done, stopped, choose, rephrase, choose-by, take}
+use Rattle.language.specs.Laws.Grammar.ReadersInRow.{bind-refused, bind}
 use Rattle.language.specs.Laws.Grammar.TokenReads.{is-inner, every-front, every-rest, rest-fits, one, expect-reads, expectOf-reads}
 use Rattle.language.specs.Laws.Grammar.ExprReads.{row-inner}
 use Rattle.language.specs.Laws.Grammar.GrammarLaws.{upTo-reads}
 use Rattle.language.specs.Laws.Grammar.ListReads.{tagsOf-reads, identifiersOf-reads, blockOf-reads, optional-reads}
 
-module _ (P : Token → Type 0) (b : ℕ) (ts : Tokens) (p : Every P ts) where
+module _ (P : Token → Type 0) (b : ℕ) (ts : Tokens) (p : All P ts) where
   pub expression-reads : Reads Expr P (InExpr P) b (length ts) ts (expression ts) (λ k us. expression us)
   expression-reads = upTo-reads P (suc (length ts)) loosest b ts (omega arith) p
 
@@ -69,7 +69,7 @@ module _ (P : Token → Type 0) (b : ℕ) (ts : Tokens) (p : Every P ts) where
       weaken (expect "}" rs₂) (omega arith) (omega (arith, rest-fits ts)) (expect-reads P "}" b rs₂ q₂)))
       (λ _. expect-reads P "}" b ts p)
 
-module _ (P : Token → Type 0) (b : ℕ) (ts : Tokens) (p : Every P ts) where
+module _ (P : Token → Type 0) (b : ℕ) (ts : Tokens) (p : All P ts) where
   pub definitionOf-reads : Reads Definition P (InDefinition P) b (length ts) ts (definitionOf ts) (λ k us. definitionOf us)
   definitionOf-reads =
       choose (is "enum")
@@ -99,8 +99,8 @@ definition-none = bind-refused (parameterOf []) 4 0 _ parameter-none
 declaration-none : declarationOf [] ≡ stop []
 declaration-none = bind-refused (expectOf Name []) 4 0 _ refl
 
-module _ (P : Token → Type 0) (b : ℕ) (ts : Tokens) (p : Every P ts) where
-  declarations-read : Reads (List Declaration) P (InEach (InDeclaration P)) b (length ts) ts (blockOf declarationOf ts) (λ k us. blockOf declarationOf us)
+module _ (P : Token → Type 0) (b : ℕ) (ts : Tokens) (p : All P ts) where
+  declarations-read : Reads (List Declaration) P (All (InDeclaration P)) b (length ts) ts (blockOf declarationOf ts) (λ k us. blockOf declarationOf us)
   declarations-read = blockOf-reads declarationOf InDeclaration declaration-none declarationOf-reads P b ts p
 
   subsectionOf-reads : (h : Heading) → Reads Subsection P (InSubsection P) b (length ts) ts (subsectionOf h ts) (λ k us. subsectionOf h us)
@@ -142,9 +142,9 @@ heading-none [] before t e = refl
 heading-none (r ∷ rs) before t e = leave (named (r .names) t) _ (headingOf rs before t) (and-false (isOf Fixed t) (isOneOf (r .names) (t .text)) e) ∙ heading-none rs before t e
 
 module _ (P : Token → Type 0) where
-  subsectionsBy-reads : (f : ℕ) (before : List ℕ) (o : Option HeadingRow) (ts : Tokens) → Every P ts → ((r : HeadingRow) → o ≡ some r → Inner (front ts)) →
-      ((n : ℕ) (bs : List ℕ) (us : Tokens) → length us < n → Every P us → Reads (List Subsection) P (InEach (InSubsection P)) 0 n us (subsectionsOf f bs us) (λ k vs. subsectionsOf f bs vs)) →
-      Reads (List Subsection) P (InEach (InSubsection P)) 0 (length ts) ts (subsectionsBy f before o ts) (λ k us. subsectionsBy f before o us)
+  subsectionsBy-reads : (f : ℕ) (before : List ℕ) (o : Option HeadingRow) (ts : Tokens) → All P ts → ((r : HeadingRow) → o ≡ some r → Inner (front ts)) →
+      ((n : ℕ) (bs : List ℕ) (us : Tokens) → length us < n → All P us → Reads (List Subsection) P (All (InSubsection P)) 0 n us (subsectionsOf f bs us) (λ k vs. subsectionsOf f bs vs)) →
+      Reads (List Subsection) P (All (InSubsection P)) 0 (length ts) ts (subsectionsBy f before o ts) (λ k us. subsectionsBy f before o us)
   subsectionsBy-reads f before none ts p i later =
       choose-by (seen before 0 && seen before 1) (λ _. bind (expect "}" ts) _ _ (expect-reads P "}" 0 ts p) λ c rs l q _. done [] l q tt) (λ _. stopped)
   subsectionsBy-reads f before (some r) ts p i later =
@@ -153,7 +153,7 @@ module _ (P : Token → Type 0) where
       bind (subsectionsOf f (r .number ∷ before) rs) _ _ (later (length (rest ts)) (r .number ∷ before) rs l q) λ ss rs₂ l₂ q₂ v₂.
       done (s ∷ ss) (omega (arith, rest-fits ts)) q₂ (v, v₂))
 
-  pub subsectionsOf-reads : (f n : ℕ) (before : List ℕ) (ts : Tokens) → length ts < n → Every P ts → Reads (List Subsection) P (InEach (InSubsection P)) 0 n ts (subsectionsOf f before ts) (λ k us. subsectionsOf f before us)
+  pub subsectionsOf-reads : (f n : ℕ) (before : List ℕ) (ts : Tokens) → length ts < n → All P ts → Reads (List Subsection) P (All (InSubsection P)) 0 n ts (subsectionsOf f before ts) (λ k us. subsectionsOf f before us)
   subsectionsOf-reads zero n before ts h p = stopped
   subsectionsOf-reads (suc f) n before ts h p =
       let o = headingOf headings before (front ts) in

@@ -1,6 +1,6 @@
 -- The answer of the grammar on a whole text: a tree of its tokens, or a token that is refused whatever stands behind it.
 use Prim.Native.Nat.{ℕ, suc, _≤_, _<_}
-use mathlib.Core.List.{[], _++_}
+use mathlib.Core.List.{[]}
 use mathlib.Core.Bool.{Bool, true, false}
 use mathlib.Core.Path.{_≡_, refl, sym, ap, _∙_, subst}
 use lib.ListN.{length}
@@ -10,17 +10,18 @@ use Rattle.language.specs.Tokens.{End, Token, isOf}
 use Rattle.language.specs.Tree.{Model, Spec}
 use Rattle.language.specs.Grammar.{Tokens, Read, front, rest, expect, expectOf}
 use Rattle.language.specs.Sections.{described, modelOf, strictOf, infoEnd, infoOf, globalOf, subsectionsOf, specOf}
-use Rattle.language.specs.Laws.Grammar.CaseLaws.{pick, leave}
-use Rattle.language.specs.Laws.Grammar.TokenLaws.{Every}
+use Rattle.language.specs.Laws.Basics.Lists.{All}
+use Rattle.language.specs.Laws.Basics.Tests.{pick, leave}
+use Rattle.language.specs.Laws.Basics.Results.{Answers}
 use Rattle.language.specs.Laws.Grammar.TreeTokens.{InSpec}
-use Rattle.language.specs.Laws.Grammar.ReaderLaws.{alike-front, Inner, Accepts, Stops, Reads, rephrase, done}
-use Rattle.language.specs.Laws.Grammar.BindLaws.{append-assoc, every-append, in-row, in-row-fits, bind-to, bind-refused, bind}
+use Rattle.language.specs.Laws.Grammar.ReaderLaws.{alike-front, Accepts, Stops, Reads, takes-none, done, rephrase}
+use Rattle.language.specs.Laws.Grammar.ReadersInRow.{bind-to, bind-refused, takes-row, stops-first, bind}
 use Rattle.language.specs.Laws.Grammar.TokenReads.{expect-reads}
 use Rattle.language.specs.Laws.Grammar.SectionReads.{described-reads, modelOf-reads, strictOf-reads, infoEnd-reads, globalOf-reads, subsectionsOf-reads}
 
 module _ (P : Token → Type 0) where
   -- the target's word, then the end of INFO
-  target-reads : (m : Model) (s : Bool) (n : ℕ) (ts : Tokens) → length ts ≤ n → Every P ts →
+  target-reads : (m : Model) (s : Bool) (n : ℕ) (ts : Tokens) → length ts ≤ n → All P ts →
       Reads Spec P (InSpec P) 0 n ts
       (modelOf ts >>= λ (t, us). infoEnd us >>= λ (w, vs). Done (record { semantics = m; strict = s; target = t; targetWord = front ts; parameters = []; definitions = []; main = [] }, vs))
       (λ k ts. modelOf ts >>= λ (t, us). infoEnd us >>= λ (w, vs). Done (record { semantics = m; strict = s; target = t; targetWord = front ts; parameters = []; definitions = []; main = [] }, vs))
@@ -31,7 +32,7 @@ module _ (P : Token → Type 0) where
       bind (infoEnd rs) _ _ (infoEnd-reads P 0 rs q) λ w rs₂ l₂ q₂ _.
       done (spec t (front ts)) (omega arith) q₂ (record { targetWord = v; parameters = tt; definitions = tt; main = tt }))
 
-  infoOf-reads : (ts : Tokens) → Every P ts → Reads Spec P (InSpec P) 0 (length ts) ts (infoOf ts) (λ k us. infoOf us)
+  infoOf-reads : (ts : Tokens) → All P ts → Reads Spec P (InSpec P) 0 (length ts) ts (infoOf ts) (λ k us. infoOf us)
   infoOf-reads ts p =
       bind (expect "INFO" ts) _ _ (expect-reads P "INFO" 0 ts p) λ _ r₁ l₁ p₁ _.
       bind (expect "{" r₁) _ _ (expect-reads P "{" 0 r₁ p₁) λ _ r₂ l₂ p₂ _.
@@ -46,44 +47,21 @@ module _ (P : Token → Type 0) where
       target-reads m s (length ts) r (omega arith) q
 
 -- the answer on a whole text: Q holds of what is read, or a token is refused, whatever stands behind it
-abbrev Answers : (A : Type 0) → (A → Type 0) → Tokens → Result A → (Tokens → Result A) → Type 0
-Answers A Q ts (Done x) R = Q x
-Answers A Q ts (Refused number p) R = (number ≡ 4) × Stops A 0 ts p (λ k. R)
-
-pub record Decides (A : Type 0) (Q : A → Type 0) (ts : Tokens) (r : Result A) (R : Tokens → Result A) : Type 0 where
-  pub says : Answers A Q ts r R
+abbrev pub Decides : (A : Type 0) → (A → Type 0) → Tokens → Result A → (Tokens → Result A) → Type 0
+Decides A Q ts r R = Answers (λ number p. (number ≡ 4) × Stops A 0 ts p (λ k. R)) Q r
 
 module _ {A B : Type 0} {P : Token → Type 0} {Q : A → Type 0} {Q′ : B → Type 0} {m : ℕ} {ts : Tokens} where
   onward : (a : A) (rs : Tokens) (G : Tokens → Read A) (K : A × Tokens → Result B) (h : Accepts A P Q 0 m ts a rs (λ k. G)) (r : Result B) → Decides B Q′ rs r (λ us. K (a, us)) → Decides B Q′ ts r (λ us. G us >>= K)
   onward a rs G K h (Done y) c = record { says = c .says }
   onward a rs G K h (Refused q p) c =
       let s = c .says .1 in
-      record {
-        says = (
-          c .says .0,
-          record {
-            taken = h .taken ++ s .taken;
-            left = s .left;
-            whole = h .whole ∙ ap (λ us. h .taken ++ us) (s .whole) ∙ sym (append-assoc (h .taken) (s .taken) (s .left));
-            inner = every-append Inner (h .taken) (s .taken) (h .inner) (s .inner);
-            place = s .place;
-            again = λ k us al l. in-row h K (s .taken) (s .left) us k (s .whole) al l ∙ s .again k us al (in-row-fits (h .taken) (s .taken) us 0 0 k (omega arith) l);
-          },
-        );
-      }
+      record { says = (c .says .0, record { left = s .left; takes = takes-row (λ k. K) (h .takes) (omega arith) (s .takes); place = s .place }) }
 
   decide : (r : Read A) {G : Tokens → Read A} (C K : A × Tokens → Result B) → Reads A P Q 0 m ts r (λ k. G) →
-      ((a : A) (rs : Tokens) → length rs < m → Every P rs → Q a → Decides B Q′ rs (C (a, rs)) (λ us. K (a, us))) → Decides B Q′ ts (r >>= C) (λ us. G us >>= K)
+      ((a : A) (rs : Tokens) → length rs < m → All P rs → Q a → Decides B Q′ rs (C (a, rs)) (λ us. K (a, us))) → Decides B Q′ ts (r >>= C) (λ us. G us >>= K)
   unfolding _>>=_
   decide (Done x) {G} C K h f = let s = h .says in onward (x .0) (x .1) G K s (C x) (f (x .0) (x .1) (s .fewer) (s .kept) (s .value))
-  decide (Refused q p) {G} C K h f =
-      let s = h .says .1 in
-      record {
-        says = (
-          h .says .0,
-          record { taken = s .taken; left = s .left; whole = s .whole; inner = s .inner; place = s .place; again = λ k us al l. bind-refused (G (s .taken ++ us)) 4 p K (s .again k us al l) },
-        );
-      }
+  decide (Refused q p) C K h f = record { says = (h .says .0, stops-first (λ k. K) (h .says .1)) }
 
 -- the text's end
 end-decides : {A : Type 0} {Q : A → Type 0} (x : A) (ts : Tokens) → Q x → Decides A Q ts (expectOf End ts >>= λ (t, us). Done x) (λ us. expectOf End us >>= λ (t, vs). Done x)
@@ -101,17 +79,14 @@ end-decides {A} {Q} x ts v = go (isOf End (front ts)) refl
           says = (
             refl,
             record {
-              taken = [];
               left = ts;
-              whole = refl;
-              inner = tt;
+              takes = takes-none (λ k us al. refused us (ap (isOf End) (alike-front ts us al) ∙ e) ∙ ap (λ (t : Token). Refused 4 (t .at)) (alike-front ts us al));
               place = refl;
-              again = λ k us al l. refused us (ap (isOf End) (alike-front ts us al) ∙ e) ∙ ap (λ (t : Token). Refused 4 (t .at)) (alike-front ts us al);
             },
           );
         })
 
-pub specOf-decides : (P : Token → Type 0) (ts : Tokens) → Every P ts → Decides Spec (InSpec P) ts (specOf ts) specOf
+pub specOf-decides : (P : Token → Type 0) (ts : Tokens) → All P ts → Decides Spec (InSpec P) ts (specOf ts) specOf
 specOf-decides P ts p =
     decide (infoOf ts) _ _ (infoOf-reads P ts p) λ s r₁ l₁ p₁ v₁.
     decide (globalOf s r₁) _ _ (globalOf-reads P 0 r₁ p₁ s (suc (length r₁)) (omega arith) v₁) λ t r₂ l₂ p₂ v₂.

@@ -10,13 +10,9 @@ use native.Mathlib.Omega.{arith}
 use borrow.Author.Tests.{eqb-true}
 use Rattle.language.specs.Limits.{maxName}
 use Rattle.language.specs.Tokens.{Name, End, Wrong, Blank, code, Token, isOf, Piece, pieceAt, enumeratingAfter, lex, tokens}
-use Rattle.language.specs.Laws.Grammar.CaseLaws.{split}
+use Rattle.language.specs.Laws.Basics.Lists.{All}
+use Rattle.language.specs.Laws.Basics.Tests.{split}
 use Rattle.language.specs.Laws.Grammar.PieceLaws.{Sound, pieceAt-sound}
-
--- what holds of every token
-abbrev pub Every : (Token → Type 0) → List Token → Type 0
-Every P [] = Unit {0}
-Every P (t ∷ ts) = P t × Every P ts
 
 -- a token of a text
 pub record Stands (text : List ℕ) (t : Token) : Type 0 where
@@ -66,14 +62,14 @@ module _ (text : List ℕ) (at : ℕ) (s : List ℕ) (p : Piece) (here : drop at
         solid = solid;
       }
 
-pub lex-stands : (text : List ℕ) (e : Bool) (at k : ℕ) (s : List ℕ) → drop at text ≡ s → at + length s ≤ length text → Every (Stands text) (lex e at k s)
+pub lex-stands : (text : List ℕ) (e : Bool) (at k : ℕ) (s : List ℕ) → drop at text ≡ s → at + length s ≤ length text → All (Stands text) (lex e at k s)
 lex-stands text e at k [] h l = (record { inside = l; bytes = refl; some = λ w i. absurd (false≢true (sym i)); short = λ w. absurd (false≢true w); solid = refl }, tt)
 lex-stands text e at (suc k) (b ∷ s) h l = lex-stands text e (suc at) k s (drop-next text at b s h) (omega arith)
 lex-stands text e at zero (b ∷ s) h l =
     let p = pieceAt e (b ∷ s) in
     let t : Token = record { class = p .class; at = at; text = take (p .size) (b ∷ s) } in
     let first = read-stands text at (b ∷ s) p h l (pieceAt-sound e b s) in
-    let P = Every (Stands text) in
+    let P = All (Stands text) in
     let later : (m : Bool) → P (lex m (suc at) (p .size - 1) s) = λ m. lex-stands text m (suc at) (p .size - 1) s (drop-next text at b s h) (omega arith) in
     split P (isOf Wrong t) (λ w. (first (ap (eqb 7) (sym (eqb-true 6 (code (p .class)) w))), tt))
     (λ _. split P (isOf Blank t) (λ _. later e) (λ z. (first z, later (enumeratingAfter e t))))
@@ -107,7 +103,7 @@ lex-ends n e at zero (b ∷ s) h =
     (λ _. ends-after n t (lex (enumeratingAfter e t) (suc at) (p .size - 1) s) w (pieceAt-sound e b s .inner) (lex-ends n (enumeratingAfter e t) (suc at) (p .size - 1) s (omega arith))))
 
 -- the tokens of a text
-pub tokens-stand : (text : List ℕ) → Every (Stands text) (tokens text)
+pub tokens-stand : (text : List ℕ) → All (Stands text) (tokens text)
 tokens-stand text = lex-stands text false 0 0 text refl (omega arith)
 
 pub tokens-rise : (text : List ℕ) → Rising 0 (tokens text)
@@ -137,7 +133,7 @@ place [] = 0
 place (t ∷ ts) = t .at
 
 module _ (text : List ℕ) (n : ℕ) where
-  places-apart : (from : ℕ) (us us′ : List Token) (t t′ : Token) (vs vs′ : List Token) → Every (Stands text) (us ++ (t ∷ vs)) → Rising from (us ++ (t ∷ vs)) → Ends n (us ++ (t ∷ vs)) → us ++ (t ∷ vs) ≡ us′ ++ (t′ ∷ vs′) → t .at ≡ t′ .at → length us ≡ length us′
+  places-apart : (from : ℕ) (us us′ : List Token) (t t′ : Token) (vs vs′ : List Token) → All (Stands text) (us ++ (t ∷ vs)) → Rising from (us ++ (t ∷ vs)) → Ends n (us ++ (t ∷ vs)) → us ++ (t ∷ vs) ≡ us′ ++ (t′ ∷ vs′) → t .at ≡ t′ .at → length us ≡ length us′
   places-apart from [] [] t t′ vs vs′ s r e w p = refl
   places-apart from [] (u ∷ us′) t t′ vs vs′ s r e w p =
       let e′ = subst (λ ts. Ends n (t ∷ ts)) (ap tail w) e in
@@ -157,4 +153,4 @@ module _ (text : List ℕ) (n : ℕ) where
 
 pub tokens-apart : (text : List ℕ) (us us′ : List Token) (t t′ : Token) (vs vs′ : List Token) → tokens text ≡ us ++ (t ∷ vs) → tokens text ≡ us′ ++ (t′ ∷ vs′) → t .at ≡ t′ .at → length us ≡ length us′
 tokens-apart text us us′ t t′ vs vs′ e e′ p =
-    places-apart text (length text) 0 us us′ t t′ vs vs′ (subst (Every (Stands text)) e (tokens-stand text)) (subst (Rising 0) e (tokens-rise text)) (subst (Ends (length text)) e (tokens-end text)) (sym e ∙ e′) p
+    places-apart text (length text) 0 us us′ t t′ vs vs′ (subst (All (Stands text)) e (tokens-stand text)) (subst (Rising 0) e (tokens-rise text)) (subst (Ends (length text)) e (tokens-end text)) (sym e ∙ e′) p

@@ -1,7 +1,7 @@
 -- Definitions in step with their types: what a definition brings is of its kind, and an enumeration's identifiers stand for words.
 use Prim.Native.Nat.{ℕ}
 use mathlib.Core.Path.{_≡_, refl, sym, subst}
-use mathlib.Core.Bool.{Bool, true, false, _||_}
+use mathlib.Core.Bool.{Bool, true, false, _||_, false≢true}
 use mathlib.Core.List.{List, [], _∷_, _++_}
 use mathlib.Core.Option.{none}
 use native.Mathlib.Omega.{arith}
@@ -15,34 +15,29 @@ use Rattle.language.specs.Types.{Kind, AFormula, AValue, AType, Typings,
 use Rattle.language.specs.Values.{Value, Scope, naming, value}
 use Rattle.language.specs.Signals.{Table, identified, identifiers, defining}
 use Rattle.language.specs.Expansion.{Context, expansion, define, defineAll}
-use Rattle.language.specs.Laws.Kinds.PlaceLaws.{false-true, All, first-left, first-right}
-use Rattle.language.specs.Laws.Kinds.Reaching.{Reaches, Any, late-reaches}
-use Rattle.language.specs.Laws.Kinds.KindLaws.{Evaluates, apart}
-use Rattle.language.specs.Laws.Kinds.Shapes.{Shaped, ShapedDefinition}
+use Rattle.language.specs.Laws.Basics.Lists.{All, Any}
+use Rattle.language.specs.Laws.Basics.Tests.{split, or-left, or-right, or-cases}
+use Rattle.language.specs.Laws.Basics.NoPlace.{first-left, first-right}
+use Rattle.language.specs.Laws.Basics.Results.{refused}
+use Rattle.language.specs.Laws.Grammar.Braces.{Proper, ProperDefinition}
+use Rattle.language.specs.Laws.Values.ValueKinds.{apart}
+use Rattle.language.specs.Laws.Values.NameLaws.{defined-values}
+use Rattle.language.specs.Laws.Kinds.Reaching.{Reaches}
+use Rattle.language.specs.Laws.Kinds.KindLaws.{Evaluates}
 use Rattle.language.specs.Laws.Kinds.TypeSoundness.{Agree, agree-naming, value-evaluates}
-use Rattle.language.specs.Laws.Kinds.ExpansionKinds.{Serves, expansion-reaches}
-use Rattle.language.specs.Laws.Kinds.DeclaredKinds.{Knows, typings}
+use Rattle.language.specs.Laws.Kinds.ExpansionKinds.{Serves, not-first, expansion-reaches}
+use Rattle.language.specs.Laws.Kinds.KnownKinds.{typings, Knows}
 
 -- is the name in the table?
 abbrev pub found : Table → List ℕ → Bool
 found [] x = false
 found (d ∷ ds) x = same (d .0) x || found ds x
 
-pub or-left : (p q : Bool) → p ≡ true → (p || q) ≡ true
-or-left true q e = refl
-or-left false q e = absurd (false-true e)
-
-pub or-right : (p q : Bool) → q ≡ true → (p || q) ≡ true
-or-right true q e = refl
-or-right false q e = e
-
 pub found-left : (a b : Table) (x : List ℕ) → found a x ≡ true → found (a ++ b) x ≡ true
-found-left [] b x e = absurd (false-true e)
-found-left (d ∷ a) b x e = go (same (d .0) x) e (found-left a b x)
-  where
-    go : (p : Bool) → (p || found a x) ≡ true → (found a x ≡ true → found (a ++ b) x ≡ true) → (p || found (a ++ b) x) ≡ true
-    go true e f = refl
-    go false e f = f e
+found-left [] b x e = absurd (false≢true e)
+found-left (d ∷ a) b x e =
+    let here = same (d .0) x in
+    or-cases here (found a x) (or-left here (found (a ++ b) x)) (λ f. or-right here (found (a ++ b) x) (found-left a b x f)) e
 
 pub found-right : (a b : Table) (x : List ℕ) → found b x ≡ true → found (a ++ b) x ≡ true
 found-right [] b x e = e
@@ -53,13 +48,8 @@ abbrev pub Covers : (Token → Kind) → (Token → Bool) → Scope → Type 0
 Covers g F sc = (t : Token) → F t ≡ true → Evaluates (g t) (sc t)
 
 module _ (g : Token → Kind) (F : Token → Bool) where
-  covers-entry : (b : Bool) (t : Token) (k : Kind) (v w : Result Value) → (b ≡ true → g t ≡ k) → Evaluates k v → Evaluates (g t) w
-      → Evaluates (g t) (elim b [ true ↦ v | false ↦ w ])
-  covers-entry true t k v w e h i = subst (λ (l : Kind). Evaluates l v) (sym (e refl)) h
-  covers-entry false t k v w e h i = i
-
   covers-naming : (sc : Scope) (x : Token) (k : Kind) (v : Result Value) → Knows g (record { name = x; kind = k }) → Evaluates k v → Covers g F sc → Covers g F (naming x v sc)
-  covers-naming sc x k v e h c t f = covers-entry (same (x .text) (t .text)) t k v (sc t) (e t) h (c t f)
+  covers-naming sc x k v e h c t f = split (Evaluates (g t)) (same (x .text) (t .text)) (λ z. subst (λ (l : Kind). Evaluates l v) (sym (e t z)) h) (λ _. c t f)
 
 -- a definition
 expands-entry : (b : Bool) (k l : Kind) (r q : Result Formula) → (k ≡ AFormula → Reaches Any r) → (l ≡ AFormula → Reaches Any q)
@@ -67,54 +57,42 @@ expands-entry : (b : Bool) (k l : Kind) (r q : Result Formula) → (k ≡ AFormu
 expands-entry true k l r q h i e = h e
 expands-entry false k l r q h i e = i e
 
-serves-define : (ys : Typings) (c : Context) (x : Token) (e : Expr) → Serves ys c → Shaped e → mistyped ys e ≡ none
+serves-define : (ys : Typings) (c : Context) (x : Token) (e : Expr) → Serves ys c → Proper false e → mistyped ys e ≡ none
     → Serves (record { name = x; kind = kindOf ys e } ∷ ys) (define c x e)
 serves-define ys c x e h s m =
     record {
-      values = agree-naming ys (c .values) x (kindOf ys e) (value (c .values) e) (h .values) (value-evaluates ys (c .values) (h .values) e s m);
+      values = agree-naming ys (c .values) x (kindOf ys e) (value (c .values) e) (h .values) (value-evaluates ys (c .values) (h .values) e false s m);
       formulas = λ t. expands-entry (same (x .text) (t .text)) (kindOf ys e) (kindIn ys t) (expansion c e) (c .formulas t)
           (expansion-reaches ys c h e s m) (h .formulas t);
     }
 
 -- an enumeration
-kind-entry : (b : Bool) (k l : Kind) (r : Result Value) → (b ≡ true → Evaluates k r) → Evaluates l r → Evaluates (elim b [ true ↦ k | false ↦ l ]) r
-kind-entry true k l r h i = h refl
-kind-entry false k l r h i = i
-
-not-of : (b : Bool) (k l : Kind) → (k ≡ AFormula → ⊥) → elim b [ true ↦ k | false ↦ l ] ≡ AFormula → l ≡ AFormula
-not-of true k l h e = absurd (h e)
-not-of false k l h e = e
-
 agree-values : (ys : Typings) (sc : Scope) → Agree ys sc → (is : List Identifier) → ((t : Token) → found (identified is) (t .text) ≡ true → Evaluates AValue (sc t))
     → Agree (typedValues is ys) sc
 agree-values ys sc a [] h t = a t
 agree-values ys sc a (i ∷ is) h t =
-    kind-entry (same (i .name .text) (t .text)) AValue (kindIn (typedValues is ys) t) (sc t)
+    split (λ (k : Kind). Evaluates k (sc t)) (same (i .name .text) (t .text))
     (λ e. h t (or-left (same (i .name .text) (t .text)) (found (identified is) (t .text)) e))
-    (agree-values ys sc a is (λ u f. h u (or-right (same (i .name .text) (u .text)) (found (identified is) (u .text)) f)) t)
+    (λ _. agree-values ys sc a is (λ u f. h u (or-right (same (i .name .text) (u .text)) (found (identified is) (u .text)) f)) t)
 
 expands-values : (ys : Typings) (is : List Identifier) (t : Token) → kindIn (typedValues is ys) t ≡ AFormula → kindIn ys t ≡ AFormula
 expands-values ys [] t e = e
 expands-values ys (i ∷ is) t e =
-    expands-values ys is t (not-of (same (i .name .text) (t .text)) AValue (kindIn (typedValues is ys) t) (apart AValue AFormula refl) e)
+    expands-values ys is t (not-first (same (i .name .text) (t .text)) AValue (kindIn (typedValues is ys) t) (apart AValue AFormula refl) e)
 
 serves-enumerated : (ys : Typings) (c : Context) (x : Token) (is : List Identifier) → Serves ys c
     → ((t : Token) → found (identified is) (t .text) ≡ true → Evaluates AValue (c .values t)) → Serves (record { name = x; kind = AType } ∷ typedValues is ys) c
 serves-enumerated ys c x is h v =
     record {
-      values = λ t. kind-entry (same (x .text) (t .text)) AType (kindIn (typedValues is ys) t) (c .values t) (λ e. tt)
-          (agree-values ys (c .values) (h .values) is v t);
+      values = λ t. split (λ (k : Kind). Evaluates k (c .values t)) (same (x .text) (t .text)) (λ e. tt)
+          (λ _. agree-values ys (c .values) (h .values) is v t);
       formulas = λ t e. h .formulas t (expands-values ys is t
-          (not-of (same (x .text) (t .text)) AType (kindIn (typedValues is ys) t) (apart AType AFormula refl) e));
+          (not-first (same (x .text) (t .text)) AType (kindIn (typedValues is ys) t) (apart AType AFormula refl) e));
     }
 
 pub values-left : (g : Token → Kind) (is : List Identifier) (ys : Typings) → All (Knows g) (typedValues is ys) → (t : Token) → found (identified is) (t .text) ≡ true → g t ≡ AValue
-values-left g [] ys k t f = absurd (false-true f)
-values-left g (i ∷ is) ys k t f = go (same (i .name .text) (t .text)) (k .0 t) f (values-left g is ys (k .1) t)
-  where
-    go : (p : Bool) → (p ≡ true → g t ≡ AValue) → (p || found (identified is) (t .text)) ≡ true → (found (identified is) (t .text) ≡ true → g t ≡ AValue) → g t ≡ AValue
-    go true h e r = h refl
-    go false h e r = r e
+values-left g [] ys k t f = absurd (false≢true f)
+values-left g (i ∷ is) ys k t f = or-cases (same (i .name .text) (t .text)) (found (identified is) (t .text)) (k .0 t) (values-left g is ys (k .1) t) f
 
 pub values-right : (g : Token → Kind) (is : List Identifier) (ys : Typings) → All (Knows g) (typedValues is ys) → All (Knows g) ys
 values-right g [] ys k = k
@@ -127,7 +105,7 @@ typedThrough ys (d ∷ ds) = typedThrough (typedAfter ys (DefinitionLine d)) ds
 
 module _ (g : Token → Kind) (F : Token → Bool) (rest : List Entry) where
   pub serves-definitions : (ds : List Definition) (ys : Typings) (c : Context) → Serves ys c → Covers g F (c .values)
-      → ((t : Token) → found (identifiers ds) (t .text) ≡ true → F t ≡ true) → All ShapedDefinition ds → All (Knows g) (typings ys (definitionLines ds rest))
+      → ((t : Token) → found (identifiers ds) (t .text) ≡ true → F t ≡ true) → All ProperDefinition ds → All (Knows g) (typings ys (definitionLines ds rest))
       → mistypedLines ys (definitionLines ds rest) ≡ none → Serves (typedThrough ys ds) (defineAll c ds)
   serves-definitions [] ys c h v f s k m = h
   serves-definitions (Defined x e ∷ ds) ys c h v f s k m =
@@ -136,7 +114,7 @@ module _ (g : Token → Kind) (F : Token → Bool) (rest : List Entry) where
       let q = mistypedLines zs (definitionLines ds rest) in
       let o = first-right (unless (definable (kindOf ys e)) (start e)) (mistyped ys e) (first-left p q m) in
       serves-definitions ds zs (define c x e) (serves-define ys c x e h (s .0) o)
-      (covers-naming g F (c .values) x (kindOf ys e) _ (k .0) (value-evaluates ys (c .values) (h .values) e (s .0) o) v) f (s .1) (k .1) (first-right p q m)
+      (covers-naming g F (c .values) x (kindOf ys e) _ (k .0) (value-evaluates ys (c .values) (h .values) e false (s .0) o) v) f (s .1) (k .1) (first-right p q m)
   serves-definitions (Enumerated x is ∷ ds) ys c h v f s k m =
       let zs = typedAfter ys (DefinitionLine (Enumerated x is)) in
       let ws = typings zs (definitionLines ds rest) in
@@ -144,16 +122,11 @@ module _ (g : Token → Kind) (F : Token → Bool) (rest : List Entry) where
       subst (λ (l : Kind). Evaluates l (c .values t)) (values-left g is ws (k .1) t e) (v t (f t (found-left (identified is) (identifiers ds) (t .text) e)))))
       v (λ t e. f t (found-right (identified is) (identifiers ds) (t .text) e)) (s .1) (values-right g is ws (k .1)) m
 
-defineAll-values : (ds : List Definition) (c : Context) → defineAll c ds .values ≡ defining (c .values) ds
-defineAll-values [] c = refl
-defineAll-values (Defined x e ∷ ds) c = defineAll-values ds (define c x e)
-defineAll-values (Enumerated x is ∷ ds) c = defineAll-values ds c
-
 -- values alone: the same with formulas that are all refused
 pub agree-definitions : (g : Token → Kind) (F : Token → Bool) (rest : List Entry) (ds : List Definition) (ys : Typings) (sc : Scope) → Agree ys sc → Covers g F sc
-    → ((t : Token) → found (identifiers ds) (t .text) ≡ true → F t ≡ true) → All ShapedDefinition ds → All (Knows g) (typings ys (definitionLines ds rest))
+    → ((t : Token) → found (identifiers ds) (t .text) ≡ true → F t ≡ true) → All ProperDefinition ds → All (Knows g) (typings ys (definitionLines ds rest))
     → mistypedLines ys (definitionLines ds rest) ≡ none → Agree (typedThrough ys ds) (defining sc ds)
 agree-definitions g F rest ds ys sc a v f s k m =
     let c : Context = record { values = sc; formulas = λ t. Refused 11 0 } in
-    subst (Agree (typedThrough ys ds)) (defineAll-values ds c)
-    (serves-definitions g F rest ds ys c (record { values = a; formulas = λ t e. late-reaches Any 11 0 (omega arith) }) v f s k m .values)
+    subst (Agree (typedThrough ys ds)) (defined-values ds c)
+    (serves-definitions g F rest ds ys c (record { values = a; formulas = λ t e. refused (omega arith) }) v f s k m .values)

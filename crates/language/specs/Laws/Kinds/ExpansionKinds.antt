@@ -15,11 +15,15 @@ use Rattle.language.specs.Places.{start, first, unless}
 use Rattle.language.specs.Types.{Kind, ANumber, ASet, AFormula, ABus, Typings, isKind, kindIn, kindOf, withNumber, bigGives, comparable, fitting, wrongSides, wrongOperands, mistyped, demanded, wrong}
 use Rattle.language.specs.Values.{Value, Scope, Sides, sides, number, value}
 use Rattle.language.specs.Expansion.{Context, at, compared, expansion}
-use Rattle.language.specs.Laws.Kinds.PlaceLaws.{some-none, first-left, first-right, unless-none}
-use Rattle.language.specs.Laws.Kinds.Reaching.{Reaches, Any, done-reaches, bind-reaches, next, guard-reaches}
-use Rattle.language.specs.Laws.Kinds.KindLaws.{isKind-equal, Evaluates, apart, number-of, set-of, bus-of}
-use Rattle.language.specs.Laws.Kinds.OperandLaws.{bit-reaches, bigFormula-reaches, AreNumbers, numbers-reach, fitting-reach, compared-numbers, equality-reaches, inequality-reaches}
-use Rattle.language.specs.Laws.Kinds.Shapes.{Shaped}
+use Rattle.language.specs.Laws.Basics.Lists.{Any}
+use Rattle.language.specs.Laws.Basics.Tests.{some-none}
+use Rattle.language.specs.Laws.Basics.NoPlace.{first-left, first-right, unless-none}
+use Rattle.language.specs.Laws.Basics.Results.{done, guarded, bind}
+use Rattle.language.specs.Laws.Grammar.Braces.{Proper}
+use Rattle.language.specs.Laws.Values.ValueKinds.{isKind-equal, apart}
+use Rattle.language.specs.Laws.Kinds.Reaching.{Reaches, next}
+use Rattle.language.specs.Laws.Kinds.KindLaws.{Evaluates, number-of, set-of, bus-of}
+use Rattle.language.specs.Laws.Kinds.OperandLaws.{bit-reaches, bigFormula-reaches, numbers-reach, fitting-reach, compared-numbers, equality-reaches, inequality-reaches}
 use Rattle.language.specs.Laws.Kinds.TypeSoundness.{Agree, agree-number, Taken, taken, taken-both, taken-two, taken-three, operand, value-evaluates}
 
 -- the formulas of the visible names that stand for one
@@ -30,15 +34,16 @@ pub record Serves (ys : Typings) (c : Context) : Type 0 where
   pub values : Agree ys (c .values)
   pub formulas : Expands ys (c .formulas)
 
-no-number : (b : Bool) (k : Kind) → elim b [ true ↦ ANumber | false ↦ k ] ≡ AFormula → k ≡ AFormula
-no-number true k e = apart ANumber AFormula refl e
-no-number false k e = e
+-- a formula by the second kind, the first being another
+pub not-first : (b : Bool) (k l : Kind) → (k ≡ AFormula → ⊥) → elim b [ true ↦ k | false ↦ l ] ≡ AFormula → l ≡ AFormula
+not-first true k l h e = absurd (h e)
+not-first false k l h e = e
 
 serves-number : (ys : Typings) (c : Context) (i : Token) (n : ℕ) → Serves ys c → Serves (withNumber i ys) (at c i n)
 serves-number ys c i n h =
     record {
       values = agree-number ys (c .values) i n (h .values);
-      formulas = λ t e. h .formulas t (no-number (same (i .text) (t .text)) (kindIn ys t) e);
+      formulas = λ t e. h .formulas t (not-first (same (i .text) (t .text)) ANumber (kindIn ys t) (apart ANumber AFormula refl) e);
     }
 
 pub formula-operand : (ys : Typings) (e : Expr) (r : Result Formula) → Taken AFormula ys e → (mistyped ys e ≡ none → kindOf ys e ≡ AFormula → Reaches Any r) → Reaches Any r
@@ -55,7 +60,7 @@ module _ (ys : Typings) (sc : Scope) (a b : Expr) (u : mistyped ys a ≡ none �
       → Reaches Any ((value sc a >>= λ x. value sc b >>= sides x) >>= compared o)
   numbers-compared o h =
       let w = taken-both ANumber ANumber ys a b h in
-      bind-reaches AreNumbers Any _ _ (numbers-reach (value sc a) (value sc b) (operand ANumber ys a _ (w .0) u) (operand ANumber ys b _ (w .1) v))
+      bind _ _ (numbers-reach (value sc a) (value sc b) (operand ANumber ys a _ (w .0) u) (operand ANumber ys b _ (w .1) v))
       (compared-numbers o)
 
   sides-compared : (o : Comparison) → ((s : Sides) → Reaches Any (compared o s)) → first (wrongSides ys a b) (first (mistyped ys a) (mistyped ys b)) ≡ none
@@ -63,7 +68,7 @@ module _ (ys : Typings) (sc : Scope) (a b : Expr) (u : mistyped ys a ≡ none �
   sides-compared o f h =
       let w = first-left (wrongSides ys a b) (first (mistyped ys a) (mistyped ys b)) h in
       let m = first-right (wrongSides ys a b) (first (mistyped ys a) (mistyped ys b)) h in
-      next _ _ _ (fitting-reach (value sc a) (value sc b) (kindOf ys a) (kindOf ys b)
+      next _ _ (fitting-reach (value sc a) (value sc b) (kindOf ys a) (kindOf ys b)
       (sides-none (comparable (kindOf ys a)) (fitting (kindOf ys a) (kindOf ys b)) (start b) (start a) w)
       (u (first-left (mistyped ys a) (mistyped ys b) m)) (v (first-right (mistyped ys a) (mistyped ys b) m))) f
 
@@ -77,54 +82,54 @@ module _ (ys : Typings) (sc : Scope) (a b : Expr) (u : mistyped ys a ≡ none �
   compared-reaches AtLeast h = numbers-compared AtLeast h
 
 -- a number that an operator of a formula takes
-number-operand : (ys : Typings) (sc : Scope) → Agree ys sc → (e : Expr) → Shaped e → Taken ANumber ys e → Reaches Any (value sc e >>= number)
-number-operand ys sc a e s w = number-of (value sc e) (operand ANumber ys e _ w (value-evaluates ys sc a e s))
+number-operand : (ys : Typings) (sc : Scope) → Agree ys sc → (e : Expr) → Proper false e → Taken ANumber ys e → Reaches Any (value sc e >>= number)
+number-operand ys sc a e s w = number-of (value sc e) (operand ANumber ys e _ w (value-evaluates ys sc a e false s))
 
 bus-named : (ys : Typings) (t : Token) (p : ℕ) (r : Result Value) → unless (isKind ABus (kindIn ys t)) p ≡ none → Evaluates (kindIn ys t) r → Evaluates ABus r
 bus-named ys t p r e h =
     subst (λ (k : Kind). Evaluates k r) (sym (isKind-equal ABus (kindIn ys t) (unless-none (isKind ABus (kindIn ys t)) p e))) h
 
-pub expansion-reaches : (ys : Typings) (c : Context) → Serves ys c → (e : Expr) → Shaped e → mistyped ys e ≡ none → kindOf ys e ≡ AFormula → Reaches Any (expansion c e)
+pub expansion-reaches : (ys : Typings) (c : Context) → Serves ys c → (e : Expr) → Proper false e → mistyped ys e ≡ none → kindOf ys e ≡ AFormula → Reaches Any (expansion c e)
 expansion-reaches ys c v (Named t) s h k = v .formulas t k
 expansion-reaches ys c v (Numeral t) s h k = apart ANumber AFormula refl k
-expansion-reaches ys c v (Truth t b) s h k = done-reaches Any _ tt
+expansion-reaches ys c v (Truth t b) s h k = done tt
 expansion-reaches ys c v (Index t e) s h k =
     let p = unless (isKind ABus (kindIn ys t)) (t .at) in
-    next _ _ _ (next _ _ _ (number-operand ys (c .values) (v .values) e s (taken ANumber ys e (first-right p (demanded ANumber ys e) h))) (λ i.
-    next _ _ _ (bus-of _ (bus-named ys t (t .at) _ (first-left p (demanded ANumber ys e) h) (v .values t))) (bit-reaches i)))
-    (λ n. done-reaches Any _ tt)
-expansion-reaches ys c v (Paren t e) s h k = expansion-reaches ys c v e s h k
+    next _ _ (next _ _ (number-operand ys (c .values) (v .values) e (s .1) (taken ANumber ys e (first-right p (demanded ANumber ys e) h))) (λ i.
+    next _ _ (bus-of _ (bus-named ys t (t .at) _ (first-left p (demanded ANumber ys e) h) (v .values t))) (bit-reaches i)))
+    (λ n. done tt)
+expansion-reaches ys c v (Paren t e) s h k = expansion-reaches ys c v e (s .1) h k
 expansion-reaches ys c v (Prefixed t (Measures m) e) s h k = apart ANumber AFormula refl k
 expansion-reaches ys c v (Prefixed t WidthOf e) s h k = apart ANumber AFormula refl k
 expansion-reaches ys c v (Prefixed t (Applies o) e) s h k =
-    next _ _ _ (formula-operand ys e _ (taken AFormula ys e h) (expansion-reaches ys c v e s)) (λ f. done-reaches Any _ tt)
+    next _ _ (formula-operand ys e _ (taken AFormula ys e h) (expansion-reaches ys c v e (s .1))) (λ f. done tt)
 expansion-reaches ys c v (Joined t (Calculates o) a b) s h k = apart ANumber AFormula refl k
 expansion-reaches ys c v (Joined t (Combines o) a b) s h k = apart ASet AFormula refl k
 expansion-reaches ys c v (Joined t (Compares o) a b) s h k =
-    compared-reaches ys (c .values) a b (value-evaluates ys (c .values) (v .values) a (s .0)) (value-evaluates ys (c .values) (v .values) b (s .1)) o h
+    compared-reaches ys (c .values) a b (value-evaluates ys (c .values) (v .values) a false (s .1)) (value-evaluates ys (c .values) (v .values) b false (s .2)) o h
 expansion-reaches ys c v (Joined t Membership a b) s h k =
     let w = taken-both ANumber ASet ys a b h in
-    next _ _ _ (number-operand ys (c .values) (v .values) a (s .0) (w .0)) (λ n.
-    next _ _ _ (set-of _ (operand ASet ys b _ (w .1) (value-evaluates ys (c .values) (v .values) b (s .1)))) (λ m. done-reaches Any _ tt))
+    next _ _ (number-operand ys (c .values) (v .values) a (s .1) (w .0)) (λ n.
+    next _ _ (set-of _ (operand ASet ys b _ (w .1) (value-evaluates ys (c .values) (v .values) b false (s .2)))) (λ m. done tt))
 expansion-reaches ys c v (Joined t (Connects o) a b) s h k =
     let w = taken-both AFormula AFormula ys a b h in
-    next _ _ _ (formula-operand ys a _ (w .0) (expansion-reaches ys c v a (s .0))) (λ f.
-    next _ _ _ (formula-operand ys b _ (w .1) (expansion-reaches ys c v b (s .1))) (λ g. done-reaches Any _ tt))
+    next _ _ (formula-operand ys a _ (w .0) (expansion-reaches ys c v a (s .1))) (λ f.
+    next _ _ (formula-operand ys b _ (w .1) (expansion-reaches ys c v b (s .2))) (λ g. done tt))
 expansion-reaches ys c v (Nexts t n e) s h k =
     let w = taken-two ANumber AFormula ys ys n e h in
-    next _ _ _ (number-operand ys (c .values) (v .values) n (s .0) (w .0)) (λ i.
-    next _ _ _ (formula-operand ys e _ (w .1) (expansion-reaches ys c v e (s .1))) (λ f. done-reaches Any _ tt))
+    next _ _ (number-operand ys (c .values) (v .values) n (s .1) (w .0)) (λ i.
+    next _ _ (formula-operand ys e _ (w .1) (expansion-reaches ys c v e (s .2))) (λ f. done tt))
 expansion-reaches ys c v (InWindow t o n m e) s h k =
     let w = taken-three AFormula ys n m e h in
-    next _ _ _ (number-operand ys (c .values) (v .values) n (s .0) (w .0)) (λ i.
-    next _ _ _ (number-operand ys (c .values) (v .values) m (s .1) (w .1)) (λ j.
-    guard-reaches Any (leb i j) 11 (t .at) _ (omega arith) (λ q.
-    next _ _ _ (formula-operand ys e _ (w .2) (expansion-reaches ys c v e (s .2))) (λ f. done-reaches Any _ tt))))
+    next _ _ (number-operand ys (c .values) (v .values) n (s .1) (w .0)) (λ i.
+    next _ _ (number-operand ys (c .values) (v .values) m (s .2) (w .1)) (λ j.
+    guarded (leb i j) 11 (t .at) (λ _. omega arith) (λ q.
+    next _ _ (formula-operand ys e _ (w .2) (expansion-reaches ys c v e (s .3))) (λ f. done tt))))
 expansion-reaches ys c v (Each t o further i m e) s h k =
     let w = taken-two ASet (bigGives o) ys (withNumber i ys) m e h in
-    next _ _ _ (set-of _ (operand ASet ys m _ (w .0) (value-evaluates ys (c .values) (v .values) m (s .0)))) (bigFormula-reaches o _ k (λ n.
+    next _ _ (set-of _ (operand ASet ys m _ (w .0) (value-evaluates ys (c .values) (v .values) m false (s .1)))) (bigFormula-reaches o _ k (λ n.
     formula-operand (withNumber i ys) e _ (subst (λ (l : Kind). Taken l (withNumber i ys) e) k (w .1))
-    (expansion-reaches (withNumber i ys) (at c i n) (serves-number ys c i n v) e (s .1))))
+    (expansion-reaches (withNumber i ys) (at c i n) (serves-number ys c i n v) e (s .2))))
 expansion-reaches ys c v (Between t l u a b) s h k = apart ASet AFormula refl k
 expansion-reaches ys c v (Listed t es) s h k = apart ASet AFormula refl k
 expansion-reaches ys c v Empty s h k = apart ASet AFormula refl k

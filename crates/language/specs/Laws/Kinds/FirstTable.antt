@@ -1,7 +1,7 @@
 -- The table before any turn: signals and buses wait in it, identifiers stand for their words, and what the text declares is known.
 use Prim.Native.Nat.{ℕ}
 use mathlib.Core.Path.{_≡_, refl, _∙_, subst}
-use mathlib.Core.Bool.{Bool, true, false, _||_}
+use mathlib.Core.Bool.{Bool, true, false, _||_, false≢true}
 use mathlib.Core.List.{List, [], _∷_, _++_}
 use Rattle.language.specs.Bytes.{same}
 use Rattle.language.specs.Tokens.{Token}
@@ -9,10 +9,11 @@ use Rattle.language.specs.Tree.{Expr, Identifier, Definition, Defined, E
 use Rattle.language.specs.Places.{Entry, ParameterLine, DefinitionLine, DeclarationLine, FormulaLine, parameterLines, definitionLines, declarationLines, formulaLines, mainLines, allLines}
 use Rattle.language.specs.Types.{Kind, AFormula, ABus, Typings, kindIn, typedValues, typedAfter, typedSignals}
 use Rattle.language.specs.Signals.{Table, identified, identifiers, waiting, inputs, outputs}
-use Rattle.language.specs.Laws.Kinds.PlaceLaws.{false-true, All}
-use Rattle.language.specs.Laws.Kinds.DeclaredKinds.{Knows, typings}
-use Rattle.language.specs.Laws.Kinds.DefinitionKinds.{found, or-left, or-right, values-right}
-use Rattle.language.specs.Laws.Kinds.TableKinds.{awaits, declaredName, listed, seen, EntryKnown, Respects, respects-add, Standing}
+use Rattle.language.specs.Laws.Basics.Lists.{All}
+use Rattle.language.specs.Laws.Basics.Tests.{or-left, or-right, or-cases}
+use Rattle.language.specs.Laws.Kinds.KnownKinds.{typings, Knows}
+use Rattle.language.specs.Laws.Kinds.DefinitionKinds.{found, values-right}
+use Rattle.language.specs.Laws.Kinds.TableKinds.{awaits, declaredName, listed, seen, EntryKnown, Respects, Standing, respects-add}
 use Rattle.language.specs.Laws.Kinds.LineKinds.{DeclarationFits}
 
 -- the identifiers
@@ -31,7 +32,7 @@ identifiers-sound g ls (Enumerated x is ∷ ds) ys k =
     identified-sound g is ws (identifiers ds) (k .1) (identifiers-sound g ls ds zs (values-right g is ws (k .1)))
 
 passed-over : (b a : Bool) → elim b [ true ↦ false | false ↦ a ] ≡ true → a ≡ true
-passed-over true a e = absurd (false-true e)
+passed-over true a e = absurd (false≢true e)
 passed-over false a e = e
 
 identified-awaits : (is : List Identifier) (d : Table) (x : List ℕ) → awaits (identified is ++ d) x ≡ true → awaits d x ≡ true
@@ -39,7 +40,7 @@ identified-awaits [] d x e = e
 identified-awaits (i ∷ is) d x e = identified-awaits is d x (passed-over (same (i .name .text) x) (awaits (identified is ++ d) x) e)
 
 identifiers-awaits : (ds : List Definition) (x : List ℕ) → awaits (identifiers ds) x ≡ true → ⊥
-identifiers-awaits [] x e = false-true e
+identifiers-awaits [] x e = false≢true e
 identifiers-awaits (Defined y e ∷ ds) x h = identifiers-awaits ds x h
 identifiers-awaits (Enumerated y is ∷ ds) x h = identifiers-awaits ds x (identified-awaits is (identifiers ds) x h)
 
@@ -51,12 +52,10 @@ waiting-sound g ys (OfWidth x e ∷ ds) d f s = (f .0 .0, waiting-sound g ys ds 
 waiting-sound g ys (OfType u x ∷ ds) d f s = (f .0, waiting-sound g ys ds d (f .1) s)
 
 or-swap : (p q : Bool) → (p || q) ≡ true → (q || p) ≡ true
-or-swap true q e = or-right q true refl
-or-swap false q e = or-left q false e
+or-swap p q = or-cases p q (or-right q p) (or-left q p)
 
 or-else : (p a b : Bool) → (a ≡ true → b ≡ true) → (p || a) ≡ true → (p || b) ≡ true
-or-else true a b h e = refl
-or-else false a b h e = h e
+or-else p a b h = or-cases p a (or-left p b) (λ e. or-right p b (h e))
 
 step : (p a f w : Bool) → ((a || f) ≡ true → w ≡ true) → ((p || a) || f) ≡ true → (p || w) ≡ true
 step true a f w h e = refl
@@ -80,7 +79,7 @@ waiting-awaits (OfType u y ∷ ds) left d x h e = awaits-turn (same (y .text) x)
 
 -- the types of signals and buses
 signals-respect : (g : Token → Kind) (ls : List Entry) (ys : Typings) → All (Knows g) (typings ys ls) → Respects g (typedSignals ls)
-signals-respect g [] ys k = λ t e. absurd (false-true e)
+signals-respect g [] ys k = λ t e. absurd (false≢true e)
 signals-respect g (ParameterLine x e ∷ ls) ys k = signals-respect g ls (typedAfter ys (ParameterLine x e)) (k .1)
 signals-respect g (DefinitionLine (Defined x e) ∷ ls) ys k = signals-respect g ls (typedAfter ys (DefinitionLine (Defined x e))) (k .1)
 signals-respect g (DefinitionLine (Enumerated x is) ∷ ls) ys k =
@@ -131,7 +130,7 @@ module _ (t : Token) where
   listed-append (d ∷ ds) ms q e = listed-entry (same (declaredName d .text) (t .text)) (listed ds (t .text)) _ _ q (listed-append ds ms q) e
 
   among-main : (ss : List Subsection) → seen (kindIn (typedSignals (mainLines ss)) t) ≡ true → (listed (inputs ss) (t .text) || listed (outputs ss) (t .text)) ≡ true
-  among-main [] e = absurd (false-true e)
+  among-main [] e = absurd (false≢true e)
   among-main (Inputs ds ∷ ss) e =
       listed-append ds (inputs ss) (listed (outputs ss) (t .text))
       (or-else (listed ds (t .text)) (seen (kindIn (typedSignals (mainLines ss)) t)) _ (among-main ss) (among-declarations ds (mainLines ss) e))

@@ -2,16 +2,18 @@
 use mathlib.Core.Path.{_≡_}
 use mathlib.Core.List.{List, [], _∷_, map}
 use mathlib.Core.Option.{none}
+use mathlib.Core.Bool.{false}
 use Rattle.language.specs.Tokens.{Token}
 use Rattle.language.specs.Tree.{Expr, Definition, Defined, Enumerated, Parameter, Declaration, OneSignal, OfWidth, OfType, Part, Subsection, Inputs, Outputs, Lines}
 use Rattle.language.specs.Places.{Entry, ParameterLine, DefinitionLine, DeclarationLine, FormulaLine, parameterLines, definitionLines, declarationLines, formulaLines, mainLines}
 use Rattle.language.specs.Types.{Kind, ANumber, AFormula, ABus, Typings, mistypedLine, mistypedLines, typedAfter}
 use Rattle.language.specs.Signals.{Line, Written, Implied, inputs, outputs}
 use Rattle.language.specs.Lines.{writtenLines}
-use Rattle.language.specs.Laws.Kinds.PlaceLaws.{All, All-append, first-left, first-right}
-use Rattle.language.specs.Laws.Kinds.Shapes.{Shaped, ShapedDeclaration, ShapedSubsection}
+use Rattle.language.specs.Laws.Basics.Lists.{All, all-append}
+use Rattle.language.specs.Laws.Basics.NoPlace.{first-left, first-right}
+use Rattle.language.specs.Laws.Grammar.Braces.{Proper, ProperDeclaration, ProperSubsection}
 use Rattle.language.specs.Laws.Kinds.TypeSoundness.{Taken, taken}
-use Rattle.language.specs.Laws.Kinds.DeclaredKinds.{Knows, typings}
+use Rattle.language.specs.Laws.Kinds.KnownKinds.{typings, Knows}
 use Rattle.language.specs.Laws.Kinds.DefinitionKinds.{values-right, typedThrough}
 
 -- the two facts about the lines from here on
@@ -31,7 +33,7 @@ typedParameters ys (p ∷ ps) = typedParameters (typedAfter ys (ParameterLine (p
 
 -- the lines of the sections
 abbrev pub LineFits : Typings → Line → Type 0
-LineFits ys (Written e) = Taken AFormula ys e × Shaped e
+LineFits ys (Written e) = Taken AFormula ys e × Proper false e
 LineFits ys (Implied k v) = Unit {0}
 
 abbrev pub SectionFits : Typings → Part × List Line → Type 0
@@ -63,14 +65,14 @@ module _ (g : Token → Kind) where
   -- a declaration's name is known, its width a number
   abbrev pub DeclarationFits : Typings → Declaration → Type 0
   DeclarationFits ys (OneSignal x) = Knows g (record { name = x; kind = AFormula })
-  DeclarationFits ys (OfWidth x e) = Knows g (record { name = x; kind = ABus }) × Taken ANumber ys e × Shaped e
+  DeclarationFits ys (OfWidth x e) = Knows g (record { name = x; kind = ABus }) × Taken ANumber ys e × Proper false e
   DeclarationFits ys (OfType u x) = Knows g (record { name = x; kind = ABus })
 
   pub record Declares (ys : Typings) (ds : List Declaration) (ls : List Entry) : Type 0 where
     pub fits : All (DeclarationFits ys) ds
     pub passed : Passed g ys ls
 
-  pub passed-declarations : (ds : List Declaration) (ys : Typings) (ls : List Entry) → All ShapedDeclaration ds → Passed g ys (declarationLines ds ls) → Declares ys ds ls
+  pub passed-declarations : (ds : List Declaration) (ys : Typings) (ls : List Entry) → All ProperDeclaration ds → Passed g ys (declarationLines ds ls) → Declares ys ds ls
   passed-declarations [] ys ls s h = record { fits = tt; passed = h }
   passed-declarations (OneSignal x ∷ ds) ys ls s h =
       let r = passed-declarations ds ys ls (s .1)
@@ -89,7 +91,7 @@ module _ (g : Token → Kind) where
     pub fits : All (LineFits ys) (map Written es)
     pub passed : Passed g ys ls
 
-  passed-formulas : (es : List Expr) (ys : Typings) (ls : List Entry) → All Shaped es → Passed g ys (formulaLines es ls) → Formulates ys es ls
+  passed-formulas : (es : List Expr) (ys : Typings) (ls : List Entry) → All (Proper false) es → Passed g ys (formulaLines es ls) → Formulates ys es ls
   passed-formulas [] ys ls s h = record { fits = tt; passed = h }
   passed-formulas (e ∷ es) ys ls s h =
       let r = passed-formulas es ys ls (s .1) (record { known = h .known; fitting = after-line ys (FormulaLine e) (formulaLines es ls) (h .fitting) }) in
@@ -100,16 +102,16 @@ module _ (g : Token → Kind) where
     pub outs : All (DeclarationFits ys) (outputs ss)
     pub written : (rest : List (Part × List Line)) → All (SectionFits ys) rest → All (SectionFits ys) (writtenLines ss rest)
 
-  pub main-fits : (ss : List Subsection) (ys : Typings) → All ShapedSubsection ss → Passed g ys (mainLines ss) → MainFits ys ss
+  pub main-fits : (ss : List Subsection) (ys : Typings) → All ProperSubsection ss → Passed g ys (mainLines ss) → MainFits ys ss
   main-fits [] ys s h = record { ins = tt; outs = tt; written = λ rest f. f }
   main-fits (Inputs ds ∷ ss) ys s h =
       let r = passed-declarations ds ys (mainLines ss) (s .0) h in
       let m = main-fits ss ys (s .1) (r .passed) in
-      record { ins = All-append (DeclarationFits ys) ds (inputs ss) (r .fits) (m .ins); outs = m .outs; written = m .written }
+      record { ins = all-append (DeclarationFits ys) ds (inputs ss) (r .fits) (m .ins); outs = m .outs; written = m .written }
   main-fits (Outputs ds ∷ ss) ys s h =
       let r = passed-declarations ds ys (mainLines ss) (s .0) h in
       let m = main-fits ss ys (s .1) (r .passed) in
-      record { ins = m .ins; outs = All-append (DeclarationFits ys) ds (outputs ss) (r .fits) (m .outs); written = m .written }
+      record { ins = m .ins; outs = all-append (DeclarationFits ys) ds (outputs ss) (r .fits) (m .outs); written = m .written }
   main-fits (Lines p es ∷ ss) ys s h =
       let r = passed-formulas es ys (mainLines ss) (s .0) h in
       let m = main-fits ss ys (s .1) (r .passed) in

@@ -1,10 +1,9 @@
 -- The table of declared names against their types: every visible name is found, as what it is declared to be.
 use Prim.Native.Nat.{ℕ}
 use mathlib.Core.Path.{_≡_, refl, sym, _∙_, subst}
-use mathlib.Core.Bool.{Bool, true, false, not, _||_}
+use mathlib.Core.Bool.{Bool, true, false, not, _||_, false≢true}
 use mathlib.Core.List.{List, [], _∷_}
 use Rattle.node.specs.Result.{Result, Done, _>>=_}
-use Rattle.node.specs.Ltl.{Signal}
 use Rattle.language.specs.Bytes.{same}
 use Rattle.language.specs.Tokens.{Token}
 use Rattle.language.specs.Tree.{Declaration, OneSignal, OfWidth, OfType}
@@ -12,13 +11,16 @@ use Rattle.language.specs.Types.{Kind, ANumber, ASet, AFormula, ABus, AV
 use Rattle.language.specs.Values.{Value}
 use Rattle.language.specs.Signals.{Declared, Constant, SignalAt, BusAt, Identifies, WaitingSignal, WaitingBus, Table, find, valueAt, declared}
 use Rattle.language.specs.Expansion.{signalOf}
-use Rattle.language.specs.Laws.Kinds.PlaceLaws.{false-true, All}
-use Rattle.language.specs.Laws.Kinds.Reaching.{Reaches, Any, done-reaches, bind-reaches}
-use Rattle.language.specs.Laws.Kinds.KindLaws.{valueKind, IsOf, Evaluates, reaches-evaluates, apart}
+use Rattle.language.specs.Laws.Basics.Lists.{All, Any}
+use Rattle.language.specs.Laws.Basics.Tests.{or-right}
+use Rattle.language.specs.Laws.Basics.Results.{done, bind}
+use Rattle.language.specs.Laws.Values.ValueKinds.{valueKind, apart}
+use Rattle.language.specs.Laws.Kinds.Reaching.{Reaches}
+use Rattle.language.specs.Laws.Kinds.KindLaws.{Evaluates, reaches-evaluates}
 use Rattle.language.specs.Laws.Kinds.TypeSoundness.{Agree}
 use Rattle.language.specs.Laws.Kinds.ExpansionKinds.{Expands}
-use Rattle.language.specs.Laws.Kinds.DeclaredKinds.{Knows}
-use Rattle.language.specs.Laws.Kinds.DefinitionKinds.{found, or-right, Covers}
+use Rattle.language.specs.Laws.Kinds.KnownKinds.{Knows}
+use Rattle.language.specs.Laws.Kinds.DefinitionKinds.{found, Covers}
 
 abbrev pub declaredKind : Declared → Kind
 declaredKind (Constant n) = ANumber
@@ -91,12 +93,8 @@ present-entry true k l f h e = refl
 present-entry false k l f h e = h e
 
 pending-entry : (b : Bool) (w a l : Bool) → w ≡ false → (a ≡ true → (b || l) ≡ true) → elim b [ true ↦ w | false ↦ a ] ≡ true → l ≡ true
-pending-entry true w a l e h i = absurd (false-true (sym e ∙ i))
+pending-entry true w a l e h i = absurd (false≢true (sym e ∙ i))
 pending-entry false w a l e h i = h i
-
-keeps-entry : (b : Bool) (w a l : Bool) → w ≡ false → (a ≡ true → l ≡ true) → elim b [ true ↦ w | false ↦ a ] ≡ true → l ≡ true
-keeps-entry true w a l e h i = absurd (false-true (sym e ∙ i))
-keeps-entry false w a l e h i = h i
 
 module _ (g : Token → Kind) (I : Table) (left : List Declaration) (ys : Typings) (d : Table) where
   -- a parameter, with its type
@@ -108,7 +106,7 @@ module _ (g : Token → Kind) (I : Table) (left : List Declaration) (ys : Typing
         respects = respects-add g ys (record { name = x; kind = declaredKind v }) k (s .respects);
         present = λ t. present-entry (same (x .text) (t .text)) (declaredKind v) (kindIn ys t) (found d (t .text)) (s .present t);
         kept = λ t e. or-right (same (x .text) (t .text)) (found d (t .text)) (s .kept t e);
-        pending = λ t. keeps-entry (same (x .text) (t .text)) (waits v) (awaits d (t .text)) (listed left (t .text)) w (s .pending t);
+        pending = λ t. pending-entry (same (x .text) (t .text)) (waits v) (awaits d (t .text)) (listed left (t .text)) w (λ e. or-right (same (x .text) (t .text)) (listed left (t .text)) (s .pending t e));
       }
 
   -- a signal or a bus at its turn
@@ -130,18 +128,18 @@ Finds g d t v = (g t ≡ declaredKind v) × (awaits d (t .text) ≡ waits v)
 finds-entry : (b : Bool) (l : Kind) (w : Declared) (a f : Bool) (r : Result Declared) → (b ≡ true → l ≡ declaredKind w)
     → (f ≡ true → Reaches (λ v. (l ≡ declaredKind v) × (a ≡ waits v)) r) → (b || f) ≡ true
     → Reaches {A = Declared} (λ v. (l ≡ declaredKind v) × (elim b [ true ↦ waits w | false ↦ a ] ≡ waits v)) (elim b [ true ↦ Done w | false ↦ r ])
-finds-entry true l w a f r h i e = done-reaches (λ v. (l ≡ declaredKind v) × (waits w ≡ waits v)) w (h refl, refl)
+finds-entry true l w a f r h i e = done (h refl, refl)
 finds-entry false l w a f r h i e = i e
 
 find-reaches : (g : Token → Kind) (d : Table) → All (EntryKnown g) d → (t : Token) → found d (t .text) ≡ true → Reaches (Finds g d t) (find d (t .text))
-find-reaches g [] s t f = absurd (false-true f)
+find-reaches g [] s t f = absurd (false≢true f)
 find-reaches g (e ∷ d) s t f =
     finds-entry (same (e .0) (t .text)) (g t) (e .1) (awaits d (t .text)) (found d (t .text)) (find d (t .text)) (s .0 t) (find-reaches g d (s .1) t) f
 
 pub covers-table : (g : Token → Kind) (d : Table) → All (EntryKnown g) d → Covers g (λ t. found d (t .text)) (declared d)
 covers-table g d s t f =
-    reaches-evaluates (g t) _ (bind-reaches (Finds g d t) (IsOf (g t)) (find d (t .text)) _ (find-reaches g d s t f)
-    (λ v h. done-reaches (IsOf (g t)) (valueAt (t .at) v) (valueAt-kind (t .at) v ∙ sym (h .0))))
+    reaches-evaluates (g t) _ (bind (find d (t .text)) _ (find-reaches g d s t f)
+    (λ v h. done (valueAt-kind (t .at) v ∙ sym (h .0))))
 
 evaluates-seen : (k : Kind) (r : Result Value) → (seen k ≡ true → Evaluates k r) → Evaluates k r
 evaluates-seen ANumber r h = h refl
@@ -160,10 +158,10 @@ module _ (g : Token → Kind) (I : Table) (left : List Declaration) (ys : Typing
 
 signal-reaches : (v : Declared) → AFormula ≡ declaredKind v → waits v ≡ false → Reaches Any (signalOf v)
 signal-reaches (Constant n) e w = apart AFormula ANumber refl e
-signal-reaches (SignalAt k) e w = done-reaches Any (Signal k) tt
+signal-reaches (SignalAt k) e w = done tt
 signal-reaches (BusAt k n) e w = apart AFormula ABus refl e
 signal-reaches (Identifies v) e w = apart AFormula AValue refl e
-signal-reaches WaitingSignal e w = absurd (false-true (sym w))
+signal-reaches WaitingSignal e w = absurd (false≢true (sym w))
 signal-reaches WaitingBus e w = apart AFormula ABus refl e
 
 not-true : (b : Bool) → (b ≡ true → ⊥) → b ≡ false
@@ -174,5 +172,5 @@ not-true false h = refl
 pub standing-expands : (g : Token → Kind) (I : Table) (ys : Typings) (d : Table) → Standing g I [] ys d → Expands ys (λ t. find d (t .text) >>= signalOf)
 standing-expands g I ys d s t e =
     let n : seen (kindIn ys t) ≡ true = subst (λ (k : Kind). seen k ≡ true) (sym e) refl in
-    bind-reaches (Finds g d t) Any (find d (t .text)) signalOf (find-reaches g d (s .sound) t (s .present t n))
-    (λ v h. signal-reaches v (sym (s .respects t n ∙ e) ∙ h .0) (sym (h .1) ∙ not-true (awaits d (t .text)) (λ a. false-true (s .pending t a))))
+    bind (find d (t .text)) signalOf (find-reaches g d (s .sound) t (s .present t n))
+    (λ v h. signal-reaches v (sym (s .respects t n ∙ e) ∙ h .0) (sym (h .1) ∙ not-true (awaits d (t .text)) (λ a. false≢true (s .pending t a))))

@@ -1,8 +1,8 @@
 -- An expression without a wrong operand is worked out to a value of its kind, or refused by 11, 12 or 13.
 use Prim.Native.Nat.{ℕ}
-use mathlib.Core.Path.{_≡_, refl, subst}
-use mathlib.Core.Bool.{Bool, true, false}
-use mathlib.Core.List.{[], _∷_}
+use mathlib.Core.Path.{_≡_, refl, subst, sym}
+use mathlib.Core.Bool.{Bool, true, false, false≢true}
+use mathlib.Core.List.{_∷_}
 use mathlib.Core.Option.{none}
 use native.Mathlib.Omega.{arith}
 use Rattle.node.specs.Result.{Result, Done}
@@ -12,13 +12,14 @@ use Rattle.language.specs.Operators.{Calculates, Combines, Compares, Mem
 use Rattle.language.specs.Tree.{Expr, Named, Numeral, Truth, Index, Paren, Prefixed, Joined, Nexts, InWindow, Each, Between, Listed, Empty, Element, Range}
 use Rattle.language.specs.Places.{first}
 use Rattle.language.specs.Types.{Kind, ANumber, ASet, AFormula, ABus, Typings, kindIn, kindOf, withNumber, bigGives, wrong, mistyped, demanded}
-use Rattle.language.specs.Sets.{insert, combine}
-use Rattle.language.specs.Values.{Value, Number, Set, Logic, Scope, naming, value}
-use Rattle.language.specs.Laws.Kinds.PlaceLaws.{first-left, first-right}
-use Rattle.language.specs.Laws.Kinds.Reaching.{done-reaches, next}
-use Rattle.language.specs.Laws.Kinds.KindLaws.{IsOf, Evaluates, reaches-evaluates, demanded-evaluates, number-of, set-of, bus-of}
-use Rattle.language.specs.Laws.Kinds.OperandLaws.{then-number, then-set, guarded, calculate-reaches, measure-reaches, limited-reaches, range-reaches, between-reaches, big-reaches}
-use Rattle.language.specs.Laws.Kinds.Shapes.{Shaped}
+use Rattle.language.specs.Sets.{combine}
+use Rattle.language.specs.Values.{Value, Number, Logic, Scope, naming, value}
+use Rattle.language.specs.Laws.Basics.NoPlace.{first-left, first-right}
+use Rattle.language.specs.Laws.Basics.Results.{done}
+use Rattle.language.specs.Laws.Grammar.Braces.{Proper}
+use Rattle.language.specs.Laws.Kinds.Reaching.{next, late-unless}
+use Rattle.language.specs.Laws.Kinds.KindLaws.{Evaluates, reaches-evaluates, demanded-evaluates, number-of, set-of, bus-of}
+use Rattle.language.specs.Laws.Kinds.OperandLaws.{then-number, then-set, calculate-reaches, measure-reaches, limited-reaches, range-reaches, between-reaches, big-reaches}
 
 -- every visible name stands for a value of its kind
 abbrev pub Agree : Typings → Scope → Type 0
@@ -34,7 +35,7 @@ pub agree-naming : (ys : Typings) (sc : Scope) (x : Token) (k : Kind) (v : Resul
 agree-naming ys sc x k v a h t = entry-evaluates (same (x .text) (t .text)) k (kindIn ys t) v (sc t) h (a t)
 
 pub agree-number : (ys : Typings) (sc : Scope) (i : Token) (n : ℕ) → Agree ys sc → Agree (withNumber i ys) (naming i (Done (Number n)) sc)
-agree-number ys sc i n a = agree-naming ys sc i ANumber (Done (Number n)) a (done-reaches (IsOf ANumber) (Number n) refl)
+agree-number ys sc i n a = agree-naming ys sc i ANumber (Done (Number n)) a (done refl)
 
 -- an operand that refusal 9 takes
 pub record Taken (k : Kind) (ys : Typings) (e : Expr) : Type 0 where
@@ -69,55 +70,76 @@ pub operand : (k : Kind) (ys : Typings) (e : Expr) (r : Result Value) → Taken 
 operand k ys e r t h = demanded-evaluates k ys e r (t .fits) (h (t .inside))
 
 logic : Evaluates AFormula (Done Logic)
-logic = done-reaches (IsOf AFormula) Logic refl
+logic = done refl
 
-pub value-evaluates : (ys : Typings) (sc : Scope) → Agree ys sc → (e : Expr) → Shaped e → mistyped ys e ≡ none → Evaluates (kindOf ys e) (value sc e)
-value-evaluates ys sc a (Named t) s h = a t
-value-evaluates ys sc a (Numeral t) s h = then-number _ (guarded _ 11 (t .at) _ (omega arith))
-value-evaluates ys sc a (Truth t b) s h = logic
-value-evaluates ys sc a (Index t e) s h = logic
-value-evaluates ys sc a (Paren t e) s h = value-evaluates ys sc a e s h
-value-evaluates ys sc a (Prefixed t (Measures m) e) s h =
-    then-number _ (next _ _ _ (set-of (value sc e) (operand ASet ys e _ (taken ASet ys e h) (value-evaluates ys sc a e s))) (measure-reaches (t .at) m))
-value-evaluates ys sc a (Prefixed t WidthOf e) s h =
-    next _ _ _ (bus-of (value sc e) (operand ABus ys e _ (taken ABus ys e h) (value-evaluates ys sc a e s)))
-    (λ b. done-reaches (IsOf ANumber) (Number (b .width)) refl)
-value-evaluates ys sc a (Prefixed t (Applies o) e) s h = logic
-value-evaluates ys sc a (Joined t (Calculates o) b c) s h =
+-- the elements of a set are a set, whatever the names are
+no-elements : {A : Type 0} → true ≡ false → A
+no-elements e = absurd (false≢true (sym e))
+
+elements-set : (ys : Typings) (e : Expr) → Proper true e → kindOf ys e ≡ ASet
+elements-set ys (Named t) p = no-elements p
+elements-set ys (Numeral t) p = no-elements p
+elements-set ys (Truth t b) p = no-elements p
+elements-set ys (Index t e) p = no-elements (p .0)
+elements-set ys (Paren t e) p = no-elements (p .0)
+elements-set ys (Prefixed t o e) p = no-elements (p .0)
+elements-set ys (Joined t o a b) p = no-elements (p .0)
+elements-set ys (Nexts t n e) p = no-elements (p .0)
+elements-set ys (InWindow t o n m e) p = no-elements (p .0)
+elements-set ys (Each t o further i s e) p = no-elements (p .0)
+elements-set ys (Between t l h a b) p = refl
+elements-set ys (Listed t es) p = refl
+elements-set ys Empty p = refl
+elements-set ys (Element e es) p = refl
+elements-set ys (Range t x y z) p = refl
+
+pub value-evaluates : (ys : Typings) (sc : Scope) → Agree ys sc → (e : Expr) (braces : Bool) → Proper braces e → mistyped ys e ≡ none → Evaluates (kindOf ys e) (value sc e)
+value-evaluates ys sc a (Named t) braces s h = a t
+value-evaluates ys sc a (Numeral t) braces s h = then-number _ (late-unless _ 11 (t .at) _ (omega arith))
+value-evaluates ys sc a (Truth t b) braces s h = logic
+value-evaluates ys sc a (Index t e) braces s h = logic
+value-evaluates ys sc a (Paren t e) braces s h = value-evaluates ys sc a e false (s .1) h
+value-evaluates ys sc a (Prefixed t (Measures m) e) braces s h =
+    then-number _ (next _ _ (set-of (value sc e) (operand ASet ys e _ (taken ASet ys e h) (value-evaluates ys sc a e false (s .1)))) (measure-reaches (t .at) m))
+value-evaluates ys sc a (Prefixed t WidthOf e) braces s h =
+    next _ _ (bus-of (value sc e) (operand ABus ys e _ (taken ABus ys e h) (value-evaluates ys sc a e false (s .1))))
+    (λ b. done refl)
+value-evaluates ys sc a (Prefixed t (Applies o) e) braces s h = logic
+value-evaluates ys sc a (Joined t (Calculates o) b c) braces s h =
     let w = taken-both ANumber ANumber ys b c h in
-    next _ _ _ (number-of (value sc b) (operand ANumber ys b _ (w .0) (value-evaluates ys sc a b (s .0)))) (λ m.
-    then-number _ (next _ _ _ (number-of (value sc c) (operand ANumber ys c _ (w .1) (value-evaluates ys sc a c (s .1)))) (calculate-reaches (t .at) o m)))
-value-evaluates ys sc a (Joined t (Combines o) b c) s h =
+    next _ _ (number-of (value sc b) (operand ANumber ys b _ (w .0) (value-evaluates ys sc a b false (s .1)))) (λ m.
+    then-number _ (next _ _ (number-of (value sc c) (operand ANumber ys c _ (w .1) (value-evaluates ys sc a c false (s .2)))) (calculate-reaches (t .at) o m)))
+value-evaluates ys sc a (Joined t (Combines o) b c) braces s h =
     let w = taken-both ASet ASet ys b c h in
-    next _ _ _ (set-of (value sc b) (operand ASet ys b _ (w .0) (value-evaluates ys sc a b (s .0)))) (λ m.
-    next _ _ _ (set-of (value sc c) (operand ASet ys c _ (w .1) (value-evaluates ys sc a c (s .1)))) (λ n.
+    next _ _ (set-of (value sc b) (operand ASet ys b _ (w .0) (value-evaluates ys sc a b false (s .1)))) (λ m.
+    next _ _ (set-of (value sc c) (operand ASet ys c _ (w .1) (value-evaluates ys sc a c false (s .2)))) (λ n.
     then-set _ (limited-reaches (t .at) (combine o m n))))
-value-evaluates ys sc a (Joined t (Compares o) b c) s h = logic
-value-evaluates ys sc a (Joined t Membership b c) s h = logic
-value-evaluates ys sc a (Joined t (Connects o) b c) s h = logic
-value-evaluates ys sc a (Nexts t n e) s h = logic
-value-evaluates ys sc a (InWindow t o n m e) s h = logic
-value-evaluates ys sc a (Each t o further i m e) s h =
+value-evaluates ys sc a (Joined t (Compares o) b c) braces s h = logic
+value-evaluates ys sc a (Joined t Membership b c) braces s h = logic
+value-evaluates ys sc a (Joined t (Connects o) b c) braces s h = logic
+value-evaluates ys sc a (Nexts t n e) braces s h = logic
+value-evaluates ys sc a (InWindow t o n m e) braces s h = logic
+value-evaluates ys sc a (Each t o further i m e) braces s h =
     let w = taken-two ASet (bigGives o) ys (withNumber i ys) m e h in
-    reaches-evaluates (bigGives o) _ (next _ _ _ (set-of (value sc m) (operand ASet ys m _ (w .0) (value-evaluates ys sc a m (s .0)))) (λ l.
+    reaches-evaluates (bigGives o) _ (next _ _ (set-of (value sc m) (operand ASet ys m _ (w .0) (value-evaluates ys sc a m false (s .1)))) (λ l.
     big-reaches (t .at) o _ (λ n. operand (bigGives o) (withNumber i ys) e _ (w .1)
-    (value-evaluates (withNumber i ys) (naming i (Done (Number n)) sc) (agree-number ys sc i n a) e (s .1))) l))
-value-evaluates ys sc a (Between t l u b c) s h =
+    (value-evaluates (withNumber i ys) (naming i (Done (Number n)) sc) (agree-number ys sc i n a) e false (s .2))) l))
+value-evaluates ys sc a (Between t l u b c) braces s h =
     let w = taken-both ANumber ANumber ys b c h in
-    next _ _ _ (number-of (value sc b) (operand ANumber ys b _ (w .0) (value-evaluates ys sc a b (s .0)))) (λ m.
-    then-set _ (next _ _ _ (number-of (value sc c) (operand ANumber ys c _ (w .1) (value-evaluates ys sc a c (s .1)))) (between-reaches (t .at) l u m)))
-value-evaluates ys sc a (Listed t es) s h =
-    then-set _ (next _ _ _ (set-of (value sc es) (subst (λ (k : Kind). Evaluates k (value sc es)) (s .0 ys) (value-evaluates ys sc a es (s .1) h)))
+    next _ _ (number-of (value sc b) (operand ANumber ys b _ (w .0) (value-evaluates ys sc a b false (s .1)))) (λ m.
+    then-set _ (next _ _ (number-of (value sc c) (operand ANumber ys c _ (w .1) (value-evaluates ys sc a c false (s .2)))) (between-reaches (t .at) l u m)))
+value-evaluates ys sc a (Listed t es) braces s h =
+    then-set _ (next _ _ (set-of (value sc es) (subst (λ (k : Kind). Evaluates k (value sc es)) (elements-set ys es (s .1)) (value-evaluates ys sc a es true (s .1) h)))
     (limited-reaches (t .at)))
-value-evaluates ys sc a Empty s h = done-reaches (IsOf ASet) (Set []) refl
-value-evaluates ys sc a (Element e es) s h =
+value-evaluates ys sc a Empty braces s h = done refl
+value-evaluates ys sc a (Element e es) braces s h =
     let d = first-left (demanded ANumber ys e) (mistyped ys es) h in
     let m = first-right (demanded ANumber ys e) (mistyped ys es) h in
-    next _ _ _ (number-of (value sc e) (operand ANumber ys e _ (taken ANumber ys e d) (value-evaluates ys sc a e (s .0)))) (λ n.
-    next _ _ _ (set-of (value sc es) (subst (λ (k : Kind). Evaluates k (value sc es)) (s .1 ys) (value-evaluates ys sc a es (s .2) m)))
-    (λ l. done-reaches (IsOf ASet) (Set (insert n l)) refl))
-value-evaluates ys sc a (Range t x y z) s h =
+    next _ _ (number-of (value sc e) (operand ANumber ys e _ (taken ANumber ys e d) (value-evaluates ys sc a e false (s .1)))) (λ n.
+    next _ _ (set-of (value sc es) (subst (λ (k : Kind). Evaluates k (value sc es)) (elements-set ys es (s .2)) (value-evaluates ys sc a es true (s .2) m)))
+    (λ l. done refl))
+value-evaluates ys sc a (Range t x y z) braces s h =
     let w = taken-three ANumber ys x y z h in
-    next _ _ _ (number-of (value sc x) (operand ANumber ys x _ (w .0) (value-evaluates ys sc a x (s .0)))) (λ i.
-    next _ _ _ (number-of (value sc y) (operand ANumber ys y _ (w .1) (value-evaluates ys sc a y (s .1)))) (λ j.
-    then-set _ (next _ _ _ (number-of (value sc z) (operand ANumber ys z _ (w .2) (value-evaluates ys sc a z (s .2)))) (range-reaches (t .at) i j))))
+    next _ _ (number-of (value sc x) (operand ANumber ys x _ (w .0) (value-evaluates ys sc a x false (s .1)))) (λ i.
+    next _ _ (number-of (value sc y) (operand ANumber ys y _ (w .1) (value-evaluates ys sc a y false (s .2)))) (λ j.
+    then-set _ (next _ _ (number-of (value sc z) (operand ANumber ys z _ (w .2) (value-evaluates ys sc a z false (s .3)))) (range-reaches (t .at) i j))))

@@ -2,86 +2,36 @@
 use Prim.Native.Nat.{ℕ, _≤_}
 use mathlib.Core.Path.{_≡_, refl, ap, _∙_, sym, subst}
 use mathlib.Core.Logic.{_↔_}
-use mathlib.Core.Bool.{Bool, true, false}
+use mathlib.Core.Bool.{true}
 use mathlib.Core.List.{List, [], _∷_}
 use mathlib.Core.Option.{Option, none, some}
 use lib.Dec.{leb}
 use lib.ListN.{length}
 use borrow.Author.Tests.{leb-true}
 use Rattle.node.specs.Limits.{maxNodes}
-use Rattle.node.specs.Ltl.{Formula, Word, Holds}
+use Rattle.node.specs.Ltl.{Word, Holds}
 use Rattle.node.specs.TemporalLaws.{Same}
 use Rattle.node.specs.Postorder.{size, SignalsBelow}
-use Rattle.node.specs.Result.{Result, Done, Refused, _>>=_, guard}
+use Rattle.node.specs.Result.{Done}
 use Rattle.node.specs.ResultLaws.{bind-done, guard-done}
-use Rattle.language.specs.Limits.{maxSignals, maxBytes}
-use Rattle.language.specs.Tokens.{Token, tokens}
-use Rattle.language.specs.Tree.{Definition, Defined, Enumerated, Spec}
-use Rattle.language.specs.Sections.{specOf}
-use Rattle.language.specs.Places.{refuseAt, tooDeep}
-use Rattle.language.specs.Names.{notVisible, declaredAgain, tooMany}
-use Rattle.language.specs.Types.{wrongType}
-use Rattle.language.specs.Words.{wrongWords}
-use Rattle.language.specs.Parsing.{noToken, tooManyTokens, wellFormed, parsed}
+use Rattle.language.specs.Limits.{maxSignals}
+use Rattle.language.specs.Tree.{Spec}
+use Rattle.language.specs.Parsing.{parsed}
 use Rattle.language.specs.Signals.{Declarations, declarations, declared as named, defining}
 use Rattle.language.specs.Lines.{lines}
 use Rattle.language.specs.Expansion.{expand}
-use Rattle.language.specs.Meaning.{SpecMeans, OfSpec, TextMeans}
+use Rattle.language.specs.Meaning.{OfSpec, TextMeans}
 use Rattle.language.specs.Reading.{Converted, converted, meant, sameModel}
-use Rattle.language.specs.Laws.Kinds.PlaceLaws
-use Rattle.language.specs.Laws.Kinds.PlaceLaws.{refuseAt-done, some-none}
-use Rattle.language.specs.Laws.Kinds.WordLaws.{RegularDefinition, regular-words}
-use Rattle.language.specs.Laws.Values.WithinLaws.{All, within-done}
-use Rattle.language.specs.Laws.Values.DeclaredLaws.{ProperSpec, names-sane}
-use Rattle.language.specs.Laws.Grammar.ReadLaws.{spec-proper}
-use Rattle.language.specs.Laws.Values.ValueLaws.{Sane}
+use Rattle.language.specs.Laws.Basics.Tests.{some-none}
+use Rattle.language.specs.Laws.Basics.NoPlace.{refuseAt-done}
+use Rattle.language.specs.Laws.Grammar.Parses.{WellFormed, parses, parsed-proper}
+use Rattle.language.specs.Laws.Values.RegularWords.{regular-words}
 use Rattle.language.specs.Laws.Values.NameLaws.{Visible}
-use Rattle.language.specs.Laws.Values.SignalLaws.{Regular, list-counted, count-limited}
+use Rattle.language.specs.Laws.Values.ValueLaws.{Sane}
+use Rattle.language.specs.Laws.Values.NameBounds.{names-sane}
+use Rattle.language.specs.Laws.Values.SignalLaws.{list-counted, count-limited}
 use Rattle.language.specs.Laws.Values.TextSignals.{spec-below}
 use Rattle.language.specs.Laws.Meaning.TextAgreement.{spec-agrees}
-
--- a tree that refusals 5 to 10 let pass
-pub record WellFormed (x : Spec) : Type 0 where
-  pub shallow : tooDeep x ≡ none
-  pub visible : notVisible x ≡ none
-  pub distinct : declaredAgain x ≡ none
-  pub few : tooMany x ≡ none
-  pub typed : wrongType x ≡ none
-  pub words : wrongWords x ≡ none
-
-pub well-formed : (x : Spec) {y : Spec} → wellFormed x ≡ Done y → (x ≡ y) × WellFormed x
-well-formed x e =
-    let a = refuseAt-done 5 (tooDeep x) _ e in
-    let b = refuseAt-done 6 (notVisible x) _ (a .1) in
-    let c = refuseAt-done 7 (declaredAgain x) _ (b .1) in
-    let d = refuseAt-done 8 (tooMany x) _ (c .1) in
-    let f = refuseAt-done 9 (wrongType x) _ (d .1) in
-    let g = refuseAt-done 10 (wrongWords x) _ (f .1) in
-    (cc, record { shallow = a .0; visible = b .0; distinct = c .0; few = d .0; typed = f .0; words = g .0 })
-
--- a text that refusals 1 to 10 let pass
-pub record Parses (text : List ℕ) (x : Spec) : Type 0 where
-  pub short : length text ≤ maxBytes
-  pub lexed : noToken (tokens text) ≡ none
-  pub counted : tooManyTokens (tokens text) ≡ none
-  pub read : specOf (tokens text) ≡ Done x
-  pub formed : WellFormed x
-
-pub parses : {text : List ℕ} {x : Spec} → parsed text ≡ Done x → Parses text x
-unfolding parsed
-parses {text} {x} e =
-    let a = guard-done (leb (length text) maxBytes) 1 maxBytes _ e in
-    let b = refuseAt-done 2 (noToken (tokens text)) _ (a .1) in
-    let c = refuseAt-done 3 (tooManyTokens (tokens text)) _ (b .1) in
-    let d = bind-done (specOf (tokens text)) wellFormed (c .1) in
-    let f = well-formed (d .0) (d .2) in
-    record {
-      short = leb-true (length text) maxBytes (a .0);
-      lexed = b .0;
-      counted = c .0;
-      read = d .1 ∙ ap Done (f .0);
-      formed = subst WellFormed (f .0) (f .1);
-    }
 
 -- the first place where the signals are too many, if there is one
 abbrev excessPlace : List ℕ → Option ℕ
@@ -131,12 +81,6 @@ accepts {text} {c} e =
       listing = sym list;
     }
 
--- what refusal 10 leaves of the enumerations
-equal-words : (ds : List Definition) → PlaceLaws.All RegularDefinition ds → Regular ds
-equal-words [] h = tt
-equal-words (Defined x e ∷ ds) h = equal-words ds (h .1)
-equal-words (Enumerated x is ∷ ds) h = (h .0 .equal, equal-words ds (h .1))
-
 module _ (text : List ℕ) (c : Converted) (e : meant text ≡ Done c) where
   -- an accepted text's formula holds at exactly the positions where the text does, in every word
   pub text-agrees : (w : Word) → Same (TextMeans text w) (Holds (c .formula) w)
@@ -148,7 +92,7 @@ module _ (text : List ℕ) (c : Converted) (e : meant text ≡ Done c) where
   pub text-signals : SignalsBelow maxSignals (c .formula)
   text-signals =
       let a = accepts e in
-      spec-below (a .spec) (a .declared) (c .formula) (a .declaring) (a .fewSignals) (equal-words (a .spec .definitions) (regular-words (a .spec) (a .formed .words))) (a .expanding)
+      spec-below (a .spec) (a .declared) (c .formula) (a .declaring) (a .fewSignals) (regular-words (a .spec) (a .formed .words)) (a .expanding)
 
   -- its signal list has at most 255 entries
   pub list-limited : length (c .signals) ≤ maxSignals
@@ -161,4 +105,4 @@ module _ (text : List ℕ) (c : Converted) (e : meant text ≡ Done c) where
   pub text-sane : Visible Sane (defining (named (accepts e .declared .outputs .table)) (accepts e .spec .definitions))
   text-sane =
       let a = accepts e in
-      names-sane (a .spec) (a .declared) (within-done ProperSpec (parses (a .parsing) .read) (spec-proper (tokens text))) (a .declaring)
+      names-sane (a .spec) (a .declared) (parsed-proper text (a .parsing)) (a .declaring)

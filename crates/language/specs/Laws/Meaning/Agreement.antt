@@ -19,7 +19,7 @@ use Rattle.language.specs.Sets.{memberOf}
 use Rattle.language.specs.Values.{Mark, misfit, number, set, bus, Sides, Numbers, Against, bit, value}
 use Rattle.language.specs.Expansion.{conjunction, disjunction, truth, nexts, chain, windowOperator, oneOf, widthIs, compared, gather, bigFormula, Context, at, expansion}
 use Rattle.language.specs.Meaning.{EachMeans, WindowMeans, MatchesOne, SidesMean, orElse, theSides, Sense, with, Means}
-use Rattle.language.specs.Laws.Meaning.TestLaws.{so-leb}
+use Rattle.language.specs.Laws.Basics.Tests.{so-leb}
 use Rattle.language.specs.Laws.Meaning.ExpansionLaws.{AllHold, SomeHold, conjunction-holds, disjunction-holds, oneOf-holds, truth-holds, relates-holds, nexts-hold, window-holds, window-same, each-cons, some-cons}
 
 -- an accepted formula holds where P does

@@ -22,7 +22,7 @@ use Rattle.language.specs.Expansion.{gather, Context, expansion, signalO
 use Rattle.language.specs.Meaning.{Sense, Means, Presence, present, meaning, meaningAll, LineMeans, LinesMean, SectionMeans, WholeMeans, orElse, nothing, SpecMeans}
 use Rattle.language.specs.Laws.Meaning.OwedLaws.{owed-same, owed-weak}
 use Rattle.language.specs.Laws.Meaning.ExpansionLaws.{AllHold, conjunction-holds}
-use Rattle.language.specs.Laws.Meaning.Agreement.{Agrees, ListAgrees, Matched, agrees, signal-agrees, implied-agrees}
+use Rattle.language.specs.Laws.Meaning.Agreement.{Agrees, ListAgrees, implied-agrees, signal-agrees, Matched, agrees}
 
 module _ (w : Word) where
   -- declared names, and definitions

@@ -10,17 +10,16 @@ use Rattle.language.specs.Tokens.{Token}
 use Rattle.language.specs.Tree.{Expr, Named, Numeral, Truth, Index, Paren, Prefixed, Joined, Nexts, InWindow, Each, Between, Listed, Empty, Element, Range, Defined, Enumerated, OneSignal, OfWidth, OfType, Spec}
 use Rattle.language.specs.Places.{Entry, ParameterLine, DefinitionLine, DeclarationLine, FormulaLine, allLines}
 use Rattle.language.specs.Names.{Names, visible, hidden, again, walk, declares, declaresSignal, over, walkLine, walkLines, nowhere, notVisible, doubled, declaredAgain, placeOfFirst, tooMany}
-use Rattle.language.specs.Laws.Grammar.CaseLaws.{split}
-use Rattle.language.specs.Laws.Grammar.TokenLaws.{Every}
-use Rattle.language.specs.Laws.Grammar.BindLaws.{every-append}
-use Rattle.language.specs.Laws.Grammar.TreeTokens.{InExpr, InEach, InSpec}
+use Rattle.language.specs.Laws.Basics.Lists.{All, all-append}
+use Rattle.language.specs.Laws.Basics.Tests.{split}
+use Rattle.language.specs.Laws.Grammar.TreeTokens.{InExpr, InSpec}
 use Rattle.language.specs.Laws.Places.PlaceBounds.{Low, At, InEntry, nowhere-low, here-low, low-first, low-unless, in-allLines, in-declares, in-declaresSignal, in-over}
 
 module _ (n : ℕ) where
-  low-hidden : (ns : Names) (t : Token) → Every (At n) ns → At n t → Low n (hidden ns t)
+  low-hidden : (ns : Names) (t : Token) → All (At n) ns → At n t → Low n (hidden ns t)
   low-hidden ns t h g = low-unless n (visible ns t) (t .at) g
 
-  low-again : (ns : Names) (t : Token) → Every (At n) ns → At n t → Low n (again ns t)
+  low-again : (ns : Names) (t : Token) → All (At n) ns → At n t → Low n (again ns t)
   low-again [] t h g = nowhere-low n
   low-again (m ∷ ns) t h g =
       let at : m .at ≤ n = h .0 in
@@ -30,10 +29,10 @@ module _ (n : ℕ) where
   -- a walk whose places are low
   module _
       (used bound : Names → Token → Option ℕ)
-      (low-used : (ns : Names) (t : Token) → Every (At n) ns → At n t → Low n (used ns t))
-      (low-bound : (ns : Names) (t : Token) → Every (At n) ns → At n t → Low n (bound ns t))
+      (low-used : (ns : Names) (t : Token) → All (At n) ns → At n t → Low n (used ns t))
+      (low-bound : (ns : Names) (t : Token) → All (At n) ns → At n t → Low n (bound ns t))
     where
-      low-walk : (ns : Names) (e : Expr) → Every (At n) ns → InExpr (At n) e → Low n (walk used bound ns e)
+      low-walk : (ns : Names) (e : Expr) → All (At n) ns → InExpr (At n) e → Low n (walk used bound ns e)
       low-walk ns (Named t) g h = low-used ns t g h
       low-walk ns (Numeral t) g h = nowhere-low n
       low-walk ns (Truth t b) g h = nowhere-low n
@@ -50,7 +49,7 @@ module _ (n : ℕ) where
       low-walk ns (Element e es) g h = low-first n (low-walk ns e g (h .0)) (low-walk ns es g (h .1))
       low-walk ns (Range t x y z) g h = low-first n (low-walk ns x g (h .1)) (low-first n (low-walk ns y g (h .2)) (low-walk ns z g (h .3)))
 
-      low-walkLine : (ns : Names) (l : Entry) → Every (At n) ns → InEntry (At n) l → Low n (walkLine used bound ns l)
+      low-walkLine : (ns : Names) (l : Entry) → All (At n) ns → InEntry (At n) l → Low n (walkLine used bound ns l)
       low-walkLine ns (ParameterLine x e) g h = low-walk ns e g (h .1)
       low-walkLine ns (DefinitionLine (Defined x e)) g h = low-walk ns e g (h .1)
       low-walkLine ns (DefinitionLine (Enumerated x is)) g h = nowhere-low n
@@ -59,29 +58,29 @@ module _ (n : ℕ) where
       low-walkLine ns (DeclarationLine (OfType u x)) g h = low-used ns u g (h .0)
       low-walkLine ns (FormulaLine e) g h = low-walk ns e g h
 
-      low-walkLines : (ns : Names) (ls : List Entry) → Every (At n) ns → InEach (InEntry (At n)) ls → Low n (walkLines used bound ns ls)
+      low-walkLines : (ns : Names) (ls : List Entry) → All (At n) ns → All (InEntry (At n)) ls → Low n (walkLines used bound ns ls)
       low-walkLines ns [] g h = nowhere-low n
       low-walkLines ns (l ∷ ls) g h =
-          low-first n (low-walkLine ns l g (h .0)) (low-walkLines (declares l ++ ns) ls (every-append (At n) (declares l) ns (in-declares (At n) l (h .0)) g) (h .1))
+          low-first n (low-walkLine ns l g (h .0)) (low-walkLines (declares l ++ ns) ls (all-append (At n) (declares l) ns (in-declares (At n) l (h .0)) g) (h .1))
 
-  low-doubled : (ns : Names) → Every (At n) ns → Low n (doubled ns)
+  low-doubled : (ns : Names) → All (At n) ns → Low n (doubled ns)
   low-doubled [] h = nowhere-low n
   low-doubled (m ∷ ns) h = low-first n (low-again ns m (h .1) (h .0)) (low-doubled ns (h .1))
 
-  pub low-placeOfFirst : (k : ℕ) (ts : List Token) → Every (At n) ts → Low n (placeOfFirst (drop k ts))
+  pub low-placeOfFirst : (k : ℕ) (ts : List Token) → All (At n) ts → Low n (placeOfFirst (drop k ts))
   low-placeOfFirst zero [] h = nowhere-low n
   low-placeOfFirst zero (t ∷ ts) h = here-low n (h .0)
   low-placeOfFirst (suc k) [] h = nowhere-low n
   low-placeOfFirst (suc k) (t ∷ ts) h = low-placeOfFirst k ts (h .1)
 
   module _ (x : Spec) (h : InSpec (At n) x) where
-    lines-low : InEach (InEntry (At n)) (allLines x)
+    lines-low : All (InEntry (At n)) (allLines x)
     lines-low = in-allLines (At n) x h
 
-    signals-low : Every (At n) (over declaresSignal (allLines x))
+    signals-low : All (At n) (over declaresSignal (allLines x))
     signals-low = in-over (At n) declaresSignal (allLines x) (in-declaresSignal (At n)) lines-low
 
-    names-low : Every (At n) (over declares (allLines x))
+    names-low : All (At n) (over declares (allLines x))
     names-low = in-over (At n) declares (allLines x) (in-declares (At n)) lines-low
 
     pub low-notVisible : Low n (notVisible x)

@@ -1,19 +1,21 @@
--- Places that are at most the text's length n; the lines of a tree hold the tree's tokens, so the place of refusal 5 is one of them.
+-- Places, and places of refused answers, that are at most the text's length n; the lines of a tree hold the tree's tokens, so the place of refusal 5 is one of them.
 use Prim.Native.Nat.{ℕ, _≤_}
 use mathlib.Core.List.{List, [], _∷_}
 use mathlib.Core.Bool.{Bool}
 use mathlib.Core.Option.{Option, none, some}
+use mathlib.Core.Path.{subst}
 use lib.Dec.{leb}
 use native.Mathlib.Omega.{arith}
+use Rattle.node.specs.Result.{Result}
 use Rattle.language.specs.Limits.{maxLevels}
 use Rattle.language.specs.Tokens.{Token}
 use Rattle.language.specs.Tree.{Expr, Named, Numeral, Truth, Index, Paren, Prefixed, Joined, Nexts, InWindow, Each, Between, Listed, Empty, Element, Range, Identifier, Definition, Defined, Enumerated, Parameter, Declaration, OneSignal, OfWidth, OfType, Subsection, Inputs, Outputs, Lines, Spec}
-use Rattle.language.specs.Places.{start, levels, first, firstIn, unless, Entry, ParameterLine, DefinitionLine, DeclarationLine, FormulaLine, parameterLines, definitionLines, declarationLines, formulaLines, mainLines, allLines, deep, deepLine, tooDeep}
+use Rattle.language.specs.Places.{start, levels, first, firstIn, unless, Entry, ParameterLine, DefinitionLine, DeclarationLine, FormulaLine, parameterLines, definitionLines, declarationLines, formulaLines, mainLines, allLines, deep, deepLine, tooDeep, refuseAt}
 use Rattle.language.specs.Names.{Names, identifierNames, declares, declaresSignal, over}
-use Rattle.language.specs.Laws.Grammar.CaseLaws.{split}
-use Rattle.language.specs.Laws.Grammar.TokenLaws.{Every}
-use Rattle.language.specs.Laws.Grammar.BindLaws.{every-append}
-use Rattle.language.specs.Laws.Grammar.TreeTokens.{InExpr, InEach, InIdentifier, InParameter, InDefinition, InDeclaration, InSubsection, InSpec}
+use Rattle.language.specs.Laws.Basics.Lists.{All, all-append}
+use Rattle.language.specs.Laws.Basics.Tests.{split}
+use Rattle.language.specs.Laws.Basics.Results.{Answers, placed}
+use Rattle.language.specs.Laws.Grammar.TreeTokens.{InExpr, InIdentifier, InParameter, InDefinition, InDeclaration, InSubsection, InSpec}
 
 -- a place, if there is one, is at most n
 abbrev pub Under : ℕ → Option ℕ → Type 0
@@ -48,7 +50,7 @@ module _ (n : ℕ) where
       go (some p) none h g = h
       go (some p) (some q) h g = omega arith
 
-  pub low-firstIn : {A : Type 0} (Q : A → Type 0) (f : A → Option ℕ) (xs : List A) → ((x : A) → Q x → Low n (f x)) → InEach Q xs → Low n (firstIn f xs)
+  pub low-firstIn : {A : Type 0} (Q : A → Type 0) (f : A → Option ℕ) (xs : List A) → ((x : A) → Q x → Low n (f x)) → All Q xs → Low n (firstIn f xs)
   low-firstIn Q f [] g h = nowhere-low
   low-firstIn Q f (x ∷ xs) g h = low-first (g x (h .0)) (low-firstIn Q f xs g (h .1))
 
@@ -87,38 +89,38 @@ module _ (n : ℕ) where
 
 -- the lines of a tree hold its tokens
 module _ (P : Token → Type 0) where
-  in-parameterLines : (ps : List Parameter) (ls : List Entry) → InEach (InParameter P) ps → InEach (InEntry P) ls → InEach (InEntry P) (parameterLines ps ls)
+  in-parameterLines : (ps : List Parameter) (ls : List Entry) → All (InParameter P) ps → All (InEntry P) ls → All (InEntry P) (parameterLines ps ls)
   in-parameterLines [] ls h g = g
   in-parameterLines (p ∷ ps) ls h g = (h .0, in-parameterLines ps ls (h .1) g)
 
-  in-definitionLines : (ds : List Definition) (ls : List Entry) → InEach (InDefinition P) ds → InEach (InEntry P) ls → InEach (InEntry P) (definitionLines ds ls)
+  in-definitionLines : (ds : List Definition) (ls : List Entry) → All (InDefinition P) ds → All (InEntry P) ls → All (InEntry P) (definitionLines ds ls)
   in-definitionLines [] ls h g = g
   in-definitionLines (d ∷ ds) ls h g = (h .0, in-definitionLines ds ls (h .1) g)
 
-  in-declarationLines : (ds : List Declaration) (ls : List Entry) → InEach (InDeclaration P) ds → InEach (InEntry P) ls → InEach (InEntry P) (declarationLines ds ls)
+  in-declarationLines : (ds : List Declaration) (ls : List Entry) → All (InDeclaration P) ds → All (InEntry P) ls → All (InEntry P) (declarationLines ds ls)
   in-declarationLines [] ls h g = g
   in-declarationLines (d ∷ ds) ls h g = (h .0, in-declarationLines ds ls (h .1) g)
 
-  in-formulaLines : (es : List Expr) (ls : List Entry) → InEach (InExpr P) es → InEach (InEntry P) ls → InEach (InEntry P) (formulaLines es ls)
+  in-formulaLines : (es : List Expr) (ls : List Entry) → All (InExpr P) es → All (InEntry P) ls → All (InEntry P) (formulaLines es ls)
   in-formulaLines [] ls h g = g
   in-formulaLines (e ∷ es) ls h g = (h .0, in-formulaLines es ls (h .1) g)
 
-  in-mainLines : (ss : List Subsection) → InEach (InSubsection P) ss → InEach (InEntry P) (mainLines ss)
+  in-mainLines : (ss : List Subsection) → All (InSubsection P) ss → All (InEntry P) (mainLines ss)
   in-mainLines [] h = tt
   in-mainLines (Inputs ds ∷ ss) h = in-declarationLines ds (mainLines ss) (h .0) (in-mainLines ss (h .1))
   in-mainLines (Outputs ds ∷ ss) h = in-declarationLines ds (mainLines ss) (h .0) (in-mainLines ss (h .1))
   in-mainLines (Lines p es ∷ ss) h = in-formulaLines es (mainLines ss) (h .0) (in-mainLines ss (h .1))
 
-  pub in-allLines : (x : Spec) → InSpec P x → InEach (InEntry P) (allLines x)
+  pub in-allLines : (x : Spec) → InSpec P x → All (InEntry P) (allLines x)
   in-allLines x h =
       in-parameterLines (x .parameters) (definitionLines (x .definitions) (mainLines (x .main))) (h .parameters)
       (in-definitionLines (x .definitions) (mainLines (x .main)) (h .definitions) (in-mainLines (x .main) (h .main)))
 
-  in-identifierNames : (is : List Identifier) → InEach (InIdentifier P) is → Every P (identifierNames is)
+  in-identifierNames : (is : List Identifier) → All (InIdentifier P) is → All P (identifierNames is)
   in-identifierNames [] h = tt
   in-identifierNames (i ∷ is) h = (h .0 .0, in-identifierNames is (h .1))
 
-  pub in-declares : (l : Entry) → InEntry P l → Every P (declares l)
+  pub in-declares : (l : Entry) → InEntry P l → All P (declares l)
   in-declares (ParameterLine x e) h = (h .0, tt)
   in-declares (DefinitionLine (Defined x e)) h = (h .0, tt)
   in-declares (DefinitionLine (Enumerated x is)) h = (h .0, in-identifierNames is (h .1))
@@ -127,15 +129,22 @@ module _ (P : Token → Type 0) where
   in-declares (DeclarationLine (OfType u x)) h = (h .1, tt)
   in-declares (FormulaLine e) h = tt
 
-  pub in-declaresSignal : (l : Entry) → InEntry P l → Every P (declaresSignal l)
+  pub in-declaresSignal : (l : Entry) → InEntry P l → All P (declaresSignal l)
   in-declaresSignal (ParameterLine x e) h = tt
   in-declaresSignal (DefinitionLine d) h = tt
   in-declaresSignal (DeclarationLine d) h = in-declares (DeclarationLine d) h
   in-declaresSignal (FormulaLine e) h = tt
 
-  pub in-over : (f : Entry → Names) (ls : List Entry) → ((l : Entry) → InEntry P l → Every P (f l)) → InEach (InEntry P) ls → Every P (over f ls)
+  pub in-over : (f : Entry → Names) (ls : List Entry) → ((l : Entry) → InEntry P l → All P (f l)) → All (InEntry P) ls → All P (over f ls)
   in-over f [] g h = tt
-  in-over f (l ∷ ls) g h = every-append P (f l) (over f ls) (g l (h .0)) (in-over f ls g (h .1))
+  in-over f (l ∷ ls) g h = all-append P (f l) (over f ls) (g l (h .0)) (in-over f ls g (h .1))
 
 pub low-tooDeep : (n : ℕ) (x : Spec) → InSpec (At n) x → Low n (tooDeep x)
 low-tooDeep n x h = low-firstIn n (InEntry (At n)) deepLine (allLines x) (low-deepLine n) (in-allLines (At n) x h)
+
+-- an answer whose value has a property Q and whose refusal has a place of at most n
+abbrev pub Held : {A : Type 0} → ℕ → (A → Type 0) → Result A → Type 0
+Held n Q r = Answers (λ number p. p ≤ n) Q r
+
+pub held-refuseAt : {A : Type 0} {n : ℕ} {Q : A → Type 0} (number : ℕ) (o : Option ℕ) {r : Result A} → Low n o → Held n Q r → Held n Q (refuseAt number o r)
+held-refuseAt {n = n} number o l h = placed number o (λ p e. let here : Low n (some p) = subst (Low n) e l in here .says) h

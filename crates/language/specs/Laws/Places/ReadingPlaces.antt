@@ -1,9 +1,9 @@
 -- Every place that a reading gives is at most the text's length: refusals 11 to 15 are at places of the text's tokens, 16 to 18 at 0.
 use Prim.Native.Nat.{ℕ, _≤_}
 use mathlib.Core.Bool.{_&&_}
-use mathlib.Core.List.{List, [], _∷_, map}
+use mathlib.Core.List.{List, [], _∷_}
 use mathlib.Core.Option.{none, some}
-use mathlib.Core.Path.{_≡_, subst}
+use mathlib.Core.Path.{_≡_}
 use lib.Dec.{leb}
 use lib.ListN.{length}
 use native.Mathlib.Omega.{arith}
@@ -15,172 +15,153 @@ use Rattle.language.specs.Limits.{workBytes}
 use Rattle.language.specs.Bytes.{same}
 use Rattle.language.specs.Tokens.{Token}
 use Rattle.language.specs.Operators.{Comparison, Equal, Unequal, Less, AtMost, Greater, AtLeast, Big, BigSum, BigProduct, BigCap, BigCup, BigAnd, BigOr, Calculates, Combines, Compares, Membership, Connects, Measures, WidthOf, Applies}
-use Rattle.language.specs.Tree.{Expr, Named, Numeral, Truth, Index, Paren, Prefixed, Joined, Nexts, InWindow, Each, Between, Listed, Empty, Element, Range, Definition, Defined, Enumerated, Part, Subsection, Inputs, Outputs, Lines, Spec}
-use Rattle.language.specs.Values.{Number, number, Sides, Numbers, Against, value}
+use Rattle.language.specs.Tree.{Expr, Named, Numeral, Truth, Index, Paren, Prefixed, Joined, Nexts, InWindow, Each, Between, Listed, Empty, Element, Range, Definition, Part, Subsection, Inputs, Outputs, Lines, Spec}
+use Rattle.language.specs.Parsing.{parsed}
+use Rattle.language.specs.Values.{Number, Sides, Numbers, Against, value}
 use Rattle.language.specs.Signals.{Declared, Constant, SignalAt, BusAt, Identifies, WaitingSignal, WaitingBus, Table, Line, Written, Implied, Declarations}
 use Rattle.language.specs.Lines.{writtenLines, lines}
-use Rattle.language.specs.Expansion.{widthIs, compared, gather, bigFormula, Context, at, expansion, signalOf, atSignals, define, defineAll, expandLine, expandSection, expand}
-use Rattle.language.specs.Parsing.{parsed}
-use Rattle.language.specs.Reading.{sameModel, Converted, converted, meant, reading}
-use Rattle.language.specs.Laws.Grammar.CaseLaws.{split}
-use Rattle.language.specs.Laws.Grammar.TreeTokens.{InExpr, InEach, InDefinition, InSubsection, InSpec}
-use Rattle.language.specs.Laws.Places.PlaceBounds.{Low, At, nowhere-low, here-low}
-use Rattle.language.specs.Laws.Places.HeldLaws.{Held, held-done, held-refused, held-guard, held-refuseAt, held-bind}
-use Rattle.language.specs.Laws.Places.ValuePlaces.{Free, InSides, InScope, a-number, a-set, bus-held, sides-held, bit-held, naming-held, value-held}
-use Rattle.language.specs.Laws.Places.SignalPlaces.{InLine, InNumbered, find-held, in-declared, declarations-held}
+use Rattle.language.specs.Expansion.{widthIs, compared, bigFormula, Context, at, expansion, signalOf, atSignals, define, defineAll, expandLine, expandSection, expand}
+use Rattle.language.specs.Reading.{sameModel, converted, meant, reading}
+use Rattle.language.specs.Laws.Basics.Lists.{All, Any, all-any, all-map}
+use Rattle.language.specs.Laws.Basics.Tests.{split}
+use Rattle.language.specs.Laws.Basics.Results.{done, refused, guarded, bind, refusal-of, gathered}
+use Rattle.language.specs.Laws.Grammar.TreeTokens.{InExpr, InDefinition, InSubsection, InSpec}
+use Rattle.language.specs.Laws.Values.NameLaws.{defineAll-keeps}
+use Rattle.language.specs.Laws.Places.PlaceBounds.{Low, At, nowhere-low, here-low, Held, held-refuseAt}
 use Rattle.language.specs.Laws.Places.ParsedPlaces.{parsed-held}
+use Rattle.language.specs.Laws.Places.ValuePlaces.{InSides, InScope, bus-held, sides-held, a-number, a-set, bit-held, naming-held, value-held}
+use Rattle.language.specs.Laws.Places.SignalPlaces.{InLine, InNumbered, find-held, in-declared, declarations-held}
 
 -- a context of names that are refused at places of the text
 record InContext (n : ℕ) (c : Context) : Type 0 where
   values : InScope n (c .values)
-  formulas : (t : Token) → At n t → Held Formula n Free (c .formulas t)
+  formulas : (t : Token) → At n t → Held n Any (c .formulas t)
 
 module _ (n : ℕ) where
-  misfit-held : {A : Type 0} {Q : A → Type 0} → Held A n Q (Refused 9 0)
-  misfit-held = held-refused (omega arith)
+  misfit-held : {A : Type 0} {Q : A → Type 0} → Held n Q (Refused 9 0)
+  misfit-held = refused (omega arith)
 
-  compared-held : (o : Comparison) (s : Sides) → InSides n s → Held Formula n Free (compared o s)
-  compared-held Equal (Numbers a b) h = held-done tt
-  compared-held Unequal (Numbers a b) h = held-done tt
-  compared-held Less (Numbers a b) h = held-done tt
-  compared-held AtMost (Numbers a b) h = held-done tt
-  compared-held Greater (Numbers a b) h = held-done tt
-  compared-held AtLeast (Numbers a b) h = held-done tt
-  compared-held Equal (Against b v) h = held-guard (widthIs (b .width) v) 13 (λ _. h) (held-done tt)
-  compared-held Unequal (Against b v) h = held-guard (widthIs (b .width) v) 13 (λ _. h) (held-done tt)
+  compared-held : (o : Comparison) (s : Sides) → InSides n s → Held n Any (compared o s)
+  compared-held o (Numbers a b) h = done tt
+  compared-held Equal (Against b v) h = guarded (widthIs (b .width) v) 13 _ (λ _. h) (λ _. done tt)
+  compared-held Unequal (Against b v) h = guarded (widthIs (b .width) v) 13 _ (λ _. h) (λ _. done tt)
   compared-held Less (Against b v) h = misfit-held
   compared-held AtMost (Against b v) h = misfit-held
   compared-held Greater (Against b v) h = misfit-held
   compared-held AtLeast (Against b v) h = misfit-held
 
-  gather-held : {A B : Type 0} (Q : A → Type 0) (f : A → Result B) (xs : List A) → ((x : A) → Q x → Held B n Free (f x)) → InEach Q xs → Held (List B) n Free (gather f xs)
-  gather-held Q f [] g h = held-done tt
-  gather-held Q f (x ∷ xs) g h = held-bind (f x) _ (g x (h .0)) λ b _. held-bind (gather f xs) _ (gather-held Q f xs g (h .1)) λ bs _. held-done tt
-
-  each-free : (s : List ℕ) → InEach Free s
-  each-free [] = tt
-  each-free (k ∷ s) = (tt, each-free s)
-
-  bigFormula-held : (o : Big) (f : ℕ → Result Formula) (s : List ℕ) → ((k : ℕ) → Held Formula n Free (f k)) → Held Formula n Free (bigFormula o f s)
+  bigFormula-held : (o : Big) (f : ℕ → Result Formula) (s : List ℕ) → ((k : ℕ) → Held n Any (f k)) → Held n Any (bigFormula o f s)
   bigFormula-held BigSum f s h = misfit-held
   bigFormula-held BigProduct f s h = misfit-held
   bigFormula-held BigCap f s h = misfit-held
   bigFormula-held BigCup f s h = misfit-held
-  bigFormula-held BigAnd f s h = held-bind _ _ (gather-held Free f s (λ k _. h k) (each-free s)) λ fs _. held-done tt
-  bigFormula-held BigOr f s h = held-bind _ _ (gather-held Free f s (λ k _. h k) (each-free s)) λ fs _. held-done tt
+  bigFormula-held BigAnd f s h = bind _ _ (gathered Any f (λ k _. h k) s (all-any s)) λ fs _. done tt
+  bigFormula-held BigOr f s h = bind _ _ (gathered Any f (λ k _. h k) s (all-any s)) λ fs _. done tt
 
   in-at : (c : Context) (i : Token) (k : ℕ) → InContext n c → InContext n (at c i k)
-  in-at c i k g = record { values = naming-held n i (Done (Number k)) (c .values) (held-done tt) (g .values); formulas = g .formulas }
+  in-at c i k g = record { values = naming-held n i (Done (Number k)) (c .values) (done tt) (g .values); formulas = g .formulas }
 
-  expansion-held : (c : Context) (e : Expr) → InContext n c → InExpr (At n) e → Held Formula n Free (expansion c e)
+  expansion-held : (c : Context) (e : Expr) → InContext n c → InExpr (At n) e → Held n Any (expansion c e)
   expansion-held c (Named t) g h = g .formulas t h
   expansion-held c (Numeral t) g h = misfit-held
-  expansion-held c (Truth t b) g h = held-done tt
+  expansion-held c (Truth t b) g h = done tt
   expansion-held c (Index t e) g h =
-      held-bind _ _
-      (held-bind _ _ (a-number n (value (c .values) e) (value-held n (c .values) e (g .values) (h .1))) λ i _. held-bind _ _ (held-bind _ _ (g .values t (h .0)) (bus-held n)) λ b q. bit-held n i b q)
-      λ k _. held-done tt
+      bind _ _
+      (bind _ _ (a-number n (value (c .values) e) (value-held n (c .values) e (g .values) (h .1))) λ i _. bind _ _ (bind _ _ (g .values t (h .0)) (bus-held n)) λ b q. bit-held n i b q)
+      λ k _. done tt
   expansion-held c (Paren t e) g h = expansion-held c e g (h .1)
   expansion-held c (Prefixed t (Measures m) e) g h = misfit-held
   expansion-held c (Prefixed t WidthOf e) g h = misfit-held
-  expansion-held c (Prefixed t (Applies o) e) g h = held-bind _ _ (expansion-held c e g (h .1)) λ f _. held-done tt
+  expansion-held c (Prefixed t (Applies o) e) g h = bind _ _ (expansion-held c e g (h .1)) λ f _. done tt
   expansion-held c (Joined t (Calculates o) a b) g h = misfit-held
   expansion-held c (Joined t (Combines o) a b) g h = misfit-held
   expansion-held c (Joined t (Compares o) a b) g h =
-      held-bind _ _ (held-bind _ _ (value-held n (c .values) a (g .values) (h .1)) λ v q. held-bind _ _ (value-held n (c .values) b (g .values) (h .2)) λ w r. sides-held n v w q r) (compared-held o)
+      bind _ _ (bind _ _ (value-held n (c .values) a (g .values) (h .1)) λ v q. bind _ _ (value-held n (c .values) b (g .values) (h .2)) λ w r. sides-held n v w q r) (compared-held o)
   expansion-held c (Joined t Membership a b) g h =
-      held-bind _ _ (a-number n (value (c .values) a) (value-held n (c .values) a (g .values) (h .1))) λ m _.
-      held-bind _ _ (a-set n (value (c .values) b) (value-held n (c .values) b (g .values) (h .2))) λ s _. held-done tt
-  expansion-held c (Joined t (Connects o) a b) g h = held-bind _ _ (expansion-held c a g (h .1)) λ f _. held-bind _ _ (expansion-held c b g (h .2)) λ k _. held-done tt
+      bind _ _ (a-number n (value (c .values) a) (value-held n (c .values) a (g .values) (h .1))) λ m _.
+      bind _ _ (a-set n (value (c .values) b) (value-held n (c .values) b (g .values) (h .2))) λ s _. done tt
+  expansion-held c (Joined t (Connects o) a b) g h = bind _ _ (expansion-held c a g (h .1)) λ f _. bind _ _ (expansion-held c b g (h .2)) λ k _. done tt
   expansion-held c (Nexts t m e) g h =
-      held-bind _ _ (a-number n (value (c .values) m) (value-held n (c .values) m (g .values) (h .1))) λ k _. held-bind _ _ (expansion-held c e g (h .2)) λ f _. held-done tt
+      bind _ _ (a-number n (value (c .values) m) (value-held n (c .values) m (g .values) (h .1))) λ k _. bind _ _ (expansion-held c e g (h .2)) λ f _. done tt
   expansion-held c (InWindow t o l m e) g h =
-      held-bind _ _ (a-number n (value (c .values) l) (value-held n (c .values) l (g .values) (h .1))) λ j _.
-      held-bind _ _ (a-number n (value (c .values) m) (value-held n (c .values) m (g .values) (h .2))) λ k _.
-      held-guard (leb j k) 11 (λ _. h .0) (held-bind _ _ (expansion-held c e g (h .3)) λ f _. held-done tt)
+      bind _ _ (a-number n (value (c .values) l) (value-held n (c .values) l (g .values) (h .1))) λ j _.
+      bind _ _ (a-number n (value (c .values) m) (value-held n (c .values) m (g .values) (h .2))) λ k _.
+      guarded (leb j k) 11 _ (λ _. h .0) (λ _. bind _ _ (expansion-held c e g (h .3)) λ f _. done tt)
   expansion-held c (Each t o further i s e) g h =
-      held-bind _ _ (a-set n (value (c .values) s) (value-held n (c .values) s (g .values) (h .2))) λ m _. bigFormula-held o _ m (λ k. expansion-held (at c i k) e (in-at c i k g) (h .3))
+      bind _ _ (a-set n (value (c .values) s) (value-held n (c .values) s (g .values) (h .2))) λ m _. bigFormula-held o _ m (λ k. expansion-held (at c i k) e (in-at c i k g) (h .3))
   expansion-held c (Between t l u a b) g h = misfit-held
   expansion-held c (Listed t es) g h = misfit-held
   expansion-held c Empty g h = misfit-held
   expansion-held c (Element e es) g h = misfit-held
   expansion-held c (Range t x y z) g h = misfit-held
 
-  signalOf-held : (d : Declared) → Held Formula n Free (signalOf d)
+  signalOf-held : (d : Declared) → Held n Any (signalOf d)
   signalOf-held (Constant m) = misfit-held
-  signalOf-held (SignalAt k) = held-done tt
+  signalOf-held (SignalAt k) = done tt
   signalOf-held (BusAt k w) = misfit-held
   signalOf-held (Identifies v) = misfit-held
   signalOf-held WaitingSignal = misfit-held
   signalOf-held WaitingBus = misfit-held
 
   in-atSignals : (d : Table) → InContext n (atSignals d)
-  in-atSignals d = record { values = in-declared n d; formulas = λ t a. held-bind _ _ (find-held n d (t .text)) λ x _. signalOf-held x }
+  in-atSignals d = record { values = in-declared n d; formulas = λ t a. bind _ _ (find-held n d (t .text)) λ x _. signalOf-held x }
 
   in-define : (c : Context) (x : Token) (e : Expr) → InContext n c → InExpr (At n) e → InContext n (define c x e)
   in-define c x e g h =
       record {
         values = naming-held n x (value (c .values) e) (c .values) (value-held n (c .values) e (g .values) h) (g .values);
-        formulas = λ t a. split (Held Formula n Free) (same (x .text) (t .text)) (λ _. expansion-held c e g h) (λ _. g .formulas t a);
+        formulas = λ t a. split (Held n Any) (same (x .text) (t .text)) (λ _. expansion-held c e g h) (λ _. g .formulas t a);
       }
 
-  in-defineAll : (c : Context) (ds : List Definition) → InContext n c → InEach (InDefinition (At n)) ds → InContext n (defineAll c ds)
-  in-defineAll c [] g h = g
-  in-defineAll c (Defined x e ∷ ds) g h = in-defineAll (define c x e) ds (in-define c x e g (h .0 .1)) (h .1)
-  in-defineAll c (Enumerated x is ∷ ds) g h = in-defineAll c ds g (h .1)
+  in-defineAll : (ds : List Definition) → All (InDefinition (At n)) ds → (c : Context) → InContext n c → InContext n (defineAll c ds)
+  in-defineAll = defineAll-keeps (InContext n) (InDefinition (At n)) (λ c x e h g. in-define c x e g (h .1))
 
-  expandLine-held : (c : Context) (l : Line) → InContext n c → InLine n l → Held Formula n Free (expandLine c l)
+  expandLine-held : (c : Context) (l : Line) → InContext n c → InLine n l → Held n Any (expandLine c l)
   expandLine-held c (Written e) g h = expansion-held c e g h
-  expandLine-held c (Implied k v) g h = held-done tt
+  expandLine-held c (Implied k v) g h = done tt
 
   abbrev InPart : Part × List Line → Type 0
-  InPart s = InEach (InLine n) (s .1)
+  InPart s = All (InLine n) (s .1)
 
-  expandSection-held : (c : Context) (s : Part × List Line) → InContext n c → InPart s → Held (Part × List Formula) n Free (expandSection c s)
-  expandSection-held c s g h = held-bind _ _ (gather-held (InLine n) (expandLine c) (s .1) (λ l q. expandLine-held c l g q) h) λ fs _. held-done tt
+  expandSection-held : (c : Context) (s : Part × List Line) → InContext n c → InPart s → Held n Any (expandSection c s)
+  expandSection-held c s g h = bind _ _ (gathered (InLine n) (expandLine c) (λ l q. expandLine-held c l g q) (s .1) h) λ fs _. done tt
 
-  in-written : (es : List Expr) → InEach (InExpr (At n)) es → InEach (InLine n) (map Written es)
-  in-written [] h = tt
-  in-written (e ∷ es) h = (h .0, in-written es (h .1))
-
-  in-writtenLines : (ss : List Subsection) (ls : List (Part × List Line)) → InEach (InSubsection (At n)) ss → InEach InPart ls → InEach InPart (writtenLines ss ls)
+  in-writtenLines : (ss : List Subsection) (ls : List (Part × List Line)) → All (InSubsection (At n)) ss → All InPart ls → All InPart (writtenLines ss ls)
   in-writtenLines [] ls h g = g
   in-writtenLines (Inputs ds ∷ ss) ls h g = in-writtenLines ss ls (h .1) g
   in-writtenLines (Outputs ds ∷ ss) ls h g = in-writtenLines ss ls (h .1) g
-  in-writtenLines (Lines p es ∷ ss) ls h g = (in-written es (h .0), in-writtenLines ss ls (h .1) g)
+  in-writtenLines (Lines p es ∷ ss) ls h g = (all-map (InExpr (At n)) (InLine n) Written (λ e g. g) es (h .0), in-writtenLines ss ls (h .1) g)
 
-  expand-held : (x : Spec) (d : Declarations) → InSpec (At n) x → InNumbered n (d .inputs) → InNumbered n (d .outputs) → Held Formula n Free (expand x d (lines x d))
+  expand-held : (x : Spec) (d : Declarations) → InSpec (At n) x → InNumbered n (d .inputs) → InNumbered n (d .outputs) → Held n Any (expand x d (lines x d))
   expand-held x d h i o =
       let c = defineAll (atSignals (d .outputs .table)) (x .definitions) in
-      held-bind _ _
-      (gather-held InPart (expandSection c) (lines x d) (λ s q. expandSection-held c s (in-defineAll (atSignals (d .outputs .table)) (x .definitions) (in-atSignals (d .outputs .table)) (h .definitions)) q)
+      bind _ _
+      (gathered InPart (expandSection c) (λ s q. expandSection-held c s (in-defineAll (x .definitions) (h .definitions) (atSignals (d .outputs .table)) (in-atSignals (d .outputs .table))) q) (lines x d)
       (in-writtenLines (x .main) _ (h .main) (i .implied, (o .implied, tt))))
-      λ ss _. held-done tt
+      λ ss _. done tt
 
-  low-excess : (ps : List ℕ) → InEach (λ p. p ≤ n) ps → Low n (elim ps [ [] ↦ none | p ∷ ps ↦ some p ])
+  low-excess : (ps : List ℕ) → All (λ p. p ≤ n) ps → Low n (elim ps [ [] ↦ none | p ∷ ps ↦ some p ])
   low-excess [] h = nowhere-low n
   low-excess (p ∷ ps) h = here-low n (h .0)
 
-  converted-held : (x : Spec) → InSpec (At n) x → Held Converted n Free (converted x)
+  converted-held : (x : Spec) → InSpec (At n) x → Held n Any (converted x)
   unfolding converted
   converted-held x h =
-      held-bind _ _ (declarations-held n x h) λ d v.
-      held-bind _ _ (expand-held x d h (v .0) (v .1)) λ f _.
-      held-guard (sameModel (x .semantics) (x .target)) 14 (λ _. h .targetWord)
-      (held-refuseAt 15 _ (low-excess (d .outputs .excess) (v .1 .excess)) (held-guard (leb (size f) maxNodes) 16 (λ _. omega arith) (held-done tt)))
+      bind _ _ (declarations-held n x h) λ d v.
+      bind _ _ (expand-held x d h (v .0) (v .1)) λ f _.
+      guarded (sameModel (x .semantics) (x .target)) 14 _ (λ _. h .targetWord)
+      (λ _. held-refuseAt 15 _ (low-excess (d .outputs .excess) (v .1 .excess)) (guarded (leb (size f) maxNodes) 16 _ (λ _. omega arith) (λ _. done tt)))
 
-meant-held : (text : List ℕ) → Held Converted (length text) Free (meant text)
+meant-held : (text : List ℕ) → Held (length text) Any (meant text)
 unfolding meant
-meant-held text = held-bind (parsed text) converted (parsed-held text) (converted-held (length text))
+meant-held text = bind (parsed text) converted (parsed-held text) (converted-held (length text))
 
-reading-held : (text : List ℕ) (work nodes signals : ℕ) → Held Converted (length text) Free (reading text work nodes signals)
+reading-held : (text : List ℕ) (work nodes signals : ℕ) → Held (length text) Any (reading text work nodes signals)
 unfolding reading
 reading-held text work nodes signals =
-    held-guard (leb workBytes work) 17 (λ _. omega arith)
-    (held-bind (meant text) _ (meant-held text) λ c _. held-guard (leb (size (c .formula)) nodes && leb (length (c .signals)) signals) 18 (λ _. omega arith) (held-done tt))
+    guarded (leb workBytes work) 17 _ (λ _. omega arith)
+    (λ _. bind (meant text) _ (meant-held text) λ c _. guarded (leb (size (c .formula)) nodes && leb (length (c .signals)) signals) 18 _ (λ _. omega arith) (λ _. done tt))
 
 -- every refused place lies in the text
 pub reading-place : (text : List ℕ) (work nodes signals number p : ℕ) → reading text work nodes signals ≡ Refused number p → p ≤ length text
-reading-place text work nodes signals number p e =
-    let h : Held Converted (length text) Free (Refused number p) = subst (Held Converted (length text) Free) e (reading-held text work nodes signals) in
-    h .says
+reading-place text work nodes signals number p e = refusal-of e (reading-held text work nodes signals)

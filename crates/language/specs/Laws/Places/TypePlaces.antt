@@ -11,10 +11,9 @@ use Rattle.language.specs.Tree.{Expr, Named, Numeral, Truth, Index, Pare
 use Rattle.language.specs.Places.{start, firstIn, Entry, ParameterLine, DefinitionLine, DeclarationLine, FormulaLine, allLines}
 use Rattle.language.specs.Types.{Kind, ANumber, ASet, AFormula, ABus, AType, isKind, Typings, kindIn, kindOf, bigGives, prefixTakes, withNumber, wrong, comparable, fitting, wrongSides, wrongBoth, wrongOperands, mistyped, demanded, definable, mistypedLine, typedAfter, typedSignals, mistypedLines, wrongType}
 use Rattle.language.specs.Words.{meet, wordsIn, wrongLength, wrongLengths, clash, clashes, badWords, wrongWords}
-use Rattle.language.specs.Laws.Grammar.CaseLaws.{split}
-use Rattle.language.specs.Laws.Grammar.TokenLaws.{Every}
-use Rattle.language.specs.Laws.Grammar.BindLaws.{every-append}
-use Rattle.language.specs.Laws.Grammar.TreeTokens.{InExpr, InEach, InIdentifier, InDefinition, InSpec}
+use Rattle.language.specs.Laws.Basics.Lists.{All, all-append}
+use Rattle.language.specs.Laws.Basics.Tests.{split}
+use Rattle.language.specs.Laws.Grammar.TreeTokens.{InExpr, InIdentifier, InDefinition, InSpec}
 use Rattle.language.specs.Laws.Places.PlaceBounds.{Low, At, InEntry, nowhere-low, here-low, low-first, low-firstIn, low-unless, low-start, in-allLines}
 use Rattle.language.specs.Laws.Places.NamePlaces.{low-placeOfFirst}
 
@@ -80,7 +79,7 @@ module _ (n : ℕ) where
   low-mistypedLine ys (DeclarationLine (OfType u x)) h = low-unless n (isKind AType (kindIn ys u)) (u .at) (h .0)
   low-mistypedLine ys (FormulaLine e) h = low-demanded AFormula ys e h
 
-  low-mistypedLines : (ys : Typings) (ls : List Entry) → InEach (InEntry (At n)) ls → Low n (mistypedLines ys ls)
+  low-mistypedLines : (ys : Typings) (ls : List Entry) → All (InEntry (At n)) ls → Low n (mistypedLines ys ls)
   low-mistypedLines ys [] h = nowhere-low n
   low-mistypedLines ys (l ∷ ls) h = low-first n (low-mistypedLine ys l (h .0)) (low-mistypedLines (typedAfter ys l) ls (h .1))
 
@@ -88,28 +87,24 @@ module _ (n : ℕ) where
   low-wrongType x h = low-mistypedLines (typedSignals (allLines x)) (allLines x) (in-allLines (At n) x h)
 
   -- refusal 10
-  words-low : (is : List Identifier) → InEach (InIdentifier (At n)) is → Every (At n) (wordsIn is)
+  words-low : (is : List Identifier) → All (InIdentifier (At n)) is → All (At n) (wordsIn is)
   words-low [] h = tt
-  words-low (i ∷ is) h = every-append (At n) (i .words) (wordsIn is) (h .0 .1) (words-low is (h .1))
+  words-low (i ∷ is) h = all-append (At n) (i .words) (wordsIn is) (h .0 .1) (words-low is (h .1))
 
-  each-every : (ts : List Token) → Every (At n) ts → InEach (At n) ts
-  each-every [] h = tt
-  each-every (t ∷ ts) h = (h .0, each-every ts (h .1))
-
-  low-wrongLengths : (ws : List Token) → Every (At n) ws → Low n (wrongLengths ws)
+  low-wrongLengths : (ws : List Token) → All (At n) ws → Low n (wrongLengths ws)
   low-wrongLengths [] h = nowhere-low n
   low-wrongLengths (w ∷ ws) h =
       let m = length (w .text) in
-      low-firstIn n (At n) (wrongLength m) (w ∷ ws) (λ v g. low-unless n (eqb (length (v .text)) m && leb m maxMarks) (v .at) g) (each-every (w ∷ ws) h)
+      low-firstIn n (At n) (wrongLength m) (w ∷ ws) (λ v g. low-unless n (eqb (length (v .text)) m && leb m maxMarks) (v .at) g) h
 
   low-clash : (u v : Token) → At n v → Low n (clash u v)
   low-clash u v h = split (Low n) (meet (u .text) (v .text)) (λ _. here-low n h) (λ _. nowhere-low n)
 
-  low-clashes : (is : List Identifier) → InEach (InIdentifier (At n)) is → Low n (clashes is)
+  low-clashes : (is : List Identifier) → All (InIdentifier (At n)) is → Low n (clashes is)
   low-clashes [] h = nowhere-low n
   low-clashes (i ∷ is) h =
       low-first n
-      (low-firstIn n (At n) (λ u. firstIn (clash u) (wordsIn is)) (i .words) (λ u g. low-firstIn n (At n) (clash u) (wordsIn is) (low-clash u) (each-every (wordsIn is) (words-low is (h .1)))) (each-every (i .words) (h .0 .1)))
+      (low-firstIn n (At n) (λ u. firstIn (clash u) (wordsIn is)) (i .words) (λ u g. low-firstIn n (At n) (clash u) (wordsIn is) (low-clash u) (words-low is (h .1))) (h .0 .1))
       (low-clashes is (h .1))
 
   low-badWords : (d : Definition) → InDefinition (At n) d → Low n (badWords d)

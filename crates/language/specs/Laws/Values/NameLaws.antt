@@ -1,16 +1,17 @@
 -- What holds of all declared names holds of every name that is found, and of what it stands for.
 use Prim.Native.Nat.{ℕ}
 use mathlib.Core.Path.{_≡_, refl}
-use mathlib.Core.Bool.{Bool, true, false}
 use mathlib.Core.List.{List, [], _∷_}
-use Rattle.node.specs.Result.{Result, Done}
+use Rattle.node.specs.Result.{Result}
 use Rattle.language.specs.Bytes.{same}
 use Rattle.language.specs.Tokens.{Token}
-use Rattle.language.specs.Tree.{Identifier, Definition, Defined, Enumerated, Declaration, OneSignal, OfWidth, OfType}
-use Rattle.language.specs.Values.{Mark, Value, Scope, naming}
-use Rattle.language.specs.Signals.{Declared, Identifies, WaitingSignal, WaitingBus, Table, find, valueAt, declared, defining, identified, identifiers, waiting}
+use Rattle.language.specs.Tree.{Identifier, Definition, Defined, Enumerated, Declaration, OneSignal, OfWidth, OfType, Subsection, Inputs, Outputs, Lines, Expr}
+use Rattle.language.specs.Values.{Mark, Value, Scope, naming, value}
+use Rattle.language.specs.Signals.{Declared, Identifies, WaitingSignal, WaitingBus, Table, find, valueAt, declared, defining, identified, identifiers, waiting, inputs, outputs}
 use Rattle.language.specs.Expansion.{Context, define, defineAll}
-use Rattle.language.specs.Laws.Values.WithinLaws.{Within, done-within, refused-within, bind-within, All, all-append}
+use Rattle.language.specs.Laws.Basics.Lists.{All, all-append}
+use Rattle.language.specs.Laws.Basics.Tests.{split}
+use Rattle.language.specs.Laws.Basics.Results.{done, refused, bind, Within}
 
 -- the values of the names are the same in widths, where no formula is expanded, and in lines
 pub defined-values : (ds : List Definition) (c : Context) → defineAll c ds .values ≡ defining (c .values) ds
@@ -18,31 +19,34 @@ defined-values [] c = refl
 defined-values (Defined x e ∷ ds) c = defined-values ds (define c x e)
 defined-values (Enumerated x is ∷ ds) c = defined-values ds c
 
+-- what each definition keeps, all of them keep
+pub defining-keeps : (I : Scope → Type 0) (D : Definition → Type 0) → ((sc : Scope) (x : Token) (e : Expr) → D (Defined x e) → I sc → I (naming x (value sc e) sc)) → (ds : List Definition) → All D ds → (sc : Scope) → I sc → I (defining sc ds)
+defining-keeps I D f [] h sc g = g
+defining-keeps I D f (Defined x e ∷ ds) h sc g = defining-keeps I D f ds (h .1) (naming x (value sc e) sc) (f sc x e (h .0) g)
+defining-keeps I D f (Enumerated x is ∷ ds) h sc g = defining-keeps I D f ds (h .1) sc g
+
+pub defineAll-keeps : (I : Context → Type 0) (D : Definition → Type 0) → ((c : Context) (x : Token) (e : Expr) → D (Defined x e) → I c → I (define c x e)) → (ds : List Definition) → All D ds → (c : Context) → I c → I (defineAll c ds)
+defineAll-keeps I D f [] h c g = g
+defineAll-keeps I D f (Defined x e ∷ ds) h c g = defineAll-keeps I D f ds (h .1) (define c x e) (f c x e (h .0) g)
+defineAll-keeps I D f (Enumerated x is ∷ ds) h c g = defineAll-keeps I D f ds (h .1) c g
+
 -- what holds of what every visible name stands for
 abbrev pub Visible : (Value → Type 0) → Scope → Type 0
 Visible Q sc = (t : Token) → Within Q (sc t)
 
 pub naming-within : (Q : Value → Type 0) (x : Token) (r : Result Value) (sc : Scope) → Within Q r → Visible Q sc → Visible Q (naming x r sc)
-naming-within Q x r sc h g t = go (same (x .text) (t .text))
-  where
-    go : (b : Bool) → Within Q (elim b [ true ↦ r | false ↦ sc t ])
-    go true = h
-    go false = g t
+naming-within Q x r sc h g t = split (Within Q) (same (x .text) (t .text)) (λ _. h) (λ _. g t)
 
 -- what holds of all names of a table
 abbrev pub Entries : (Declared → Type 0) → Table → Type 0
 Entries Q d = All (λ e. Q (e .1)) d
 
 pub find-within : (Q : Declared → Type 0) (d : Table) → Entries Q d → (x : List ℕ) → Within Q (find d x)
-find-within Q [] h x = refused-within Q 6 0
-find-within Q (e ∷ d) h x = go (same (e .0) x) (find-within Q d (h .1) x)
-  where
-    go : (b : Bool) → Within Q (find d x) → Within Q (elim b [ true ↦ Done (e .1) | false ↦ find d x ])
-    go true k = done-within Q (e .1) (h .0)
-    go false k = k
+find-within Q [] h x = refused tt
+find-within Q (e ∷ d) h x = split (Within Q) (same (e .0) x) (λ _. done (h .0)) (λ _. find-within Q d (h .1) x)
 
 pub declared-within : (Q : Declared → Type 0) (S : Value → Type 0) → ((p : ℕ) (y : Declared) → Q y → S (valueAt p y)) → (d : Table) → Entries Q d → Visible S (declared d)
-declared-within Q S f d h t = bind-within Q S _ _ (find-within Q d h (t .text)) (λ y k. done-within S _ (f (t .at) y k))
+declared-within Q S f d h t = bind _ _ (find-within Q d h (t .text)) (λ y k. done (f (t .at) y k))
 
 -- the table before the signals' turn
 module _ (Q : Declared → Type 0) (one : Q WaitingSignal) (bus : Q WaitingBus) (identifies : (v : List (List Mark)) → Q (Identifies v)) where
@@ -64,3 +68,17 @@ module _ (Q : Declared → Type 0) (one : Q WaitingSignal) (bus : Q WaitingBus) 
   -- the enumerations' identifiers, and the inputs and outputs before their turn
   pub first-entries : (ins outs : List Declaration) (defs : List Definition) → Entries Q (waiting ins (waiting outs (identifiers defs)))
   first-entries ins outs defs = waiting-entries ins _ (waiting-entries outs _ (identifier-entries defs))
+
+-- what holds of the declarations of all subsections
+module _ (S : Subsection → Type 0) (Q : Declaration → Type 0) where
+  pub inputs-all : ((ds : List Declaration) → S (Inputs ds) → All Q ds) → (ss : List Subsection) → All S ss → All Q (inputs ss)
+  inputs-all f [] h = tt
+  inputs-all f (Inputs ds ∷ ss) h = all-append Q ds (inputs ss) (f ds (h .0)) (inputs-all f ss (h .1))
+  inputs-all f (Outputs ds ∷ ss) h = inputs-all f ss (h .1)
+  inputs-all f (Lines p es ∷ ss) h = inputs-all f ss (h .1)
+
+  pub outputs-all : ((ds : List Declaration) → S (Outputs ds) → All Q ds) → (ss : List Subsection) → All S ss → All Q (outputs ss)
+  outputs-all f [] h = tt
+  outputs-all f (Inputs ds ∷ ss) h = outputs-all f ss (h .1)
+  outputs-all f (Outputs ds ∷ ss) h = all-append Q ds (outputs ss) (f ds (h .0)) (outputs-all f ss (h .1))
+  outputs-all f (Lines p es ∷ ss) h = outputs-all f ss (h .1)

@@ -4,15 +4,15 @@ use mathlib.Core.Path.{_≡_, refl, ap}
 use mathlib.Core.Bool.{Bool, true, false, So, not, false≢true}
 use mathlib.Core.List.{List, [], _∷_}
 use mathlib.Core.Logic.{_↔_}
-use native.Mathlib.Omega.{arith}
-use native.Mathlib.Nat.{suc-mul, div-mul-le-self}
 use lib.Dec.{eqb, ltb}
 use lib.ListN.{length}
+use native.Mathlib.Omega.{arith}
+use native.Mathlib.Nat.{suc-mul, div-mul-le-self}
 use Rattle.language.specs.Bytes.{if_then_else_}
 use Rattle.language.specs.Operators.{Combination, Cup, Cap, Without}
 use Rattle.language.specs.Sets.{memberOf, insert, union, keep, combine, steps, rangeSize, last}
-use Rattle.language.specs.Laws.Meaning.TestLaws.{so-eqb, so-ltb}
-use Rattle.language.specs.Laws.Values.WithinLaws.{All}
+use Rattle.language.specs.Laws.Basics.Lists.{All}
+use Rattle.language.specs.Laws.Basics.Tests.{split, so-eqb, so-ltb}
 
 -- ascending, the elements from low to high
 abbrev pub Ascending : (low high : ℕ) → List ℕ → Type 0
@@ -56,19 +56,13 @@ union-ascending low high (x ∷ s) t h k =
 
 pub keep-ascending : (q : ℕ → Bool) (low high : ℕ) (s : List ℕ) → Ascending low high s → Ascending low high (keep q s)
 keep-ascending q low high [] h = tt
-keep-ascending q low high (x ∷ s) h = go (q x) (keep-ascending q (suc x) high s (h .2))
-  where
-    go : (b : Bool) → Ascending (suc x) high (keep q s) → Ascending low high (elim b [ true ↦ x ∷ keep q s | false ↦ keep q s ])
-    go true k = (h .0, h .1, k)
-    go false k = ascending-lower high (omega (arith, h .0)) (keep q s) k
+keep-ascending q low high (x ∷ s) h =
+    let rest = keep-ascending q (suc x) high s (h .2) in
+    split (Ascending low high) (q x) (λ _. (h .0, h .1, rest)) (λ _. ascending-lower high (omega (arith, h .0)) (keep q s) rest)
 
 pub keep-fewer : (q : ℕ → Bool) (s : List ℕ) → length (keep q s) ≤ length s
 keep-fewer q [] = omega arith
-keep-fewer q (x ∷ s) = go (q x) (keep-fewer q s)
-  where
-    go : (b : Bool) → length (keep q s) ≤ length s → length {A = ℕ} (elim b [ true ↦ x ∷ keep q s | false ↦ keep q s ]) ≤ suc (length s)
-    go true k = omega arith
-    go false k = omega arith
+keep-fewer q (x ∷ s) = let rest = keep-fewer q s in split (λ (l : List ℕ). length l ≤ suc (length s)) (q x) (λ _. omega arith) (λ _. omega arith)
 
 pub combine-ascending : (o : Combination) (low high : ℕ) (s t : List ℕ) → Ascending low high s → Ascending low high t → Ascending low high (combine o s t)
 combine-ascending Cup low high s t h k = union-ascending low high s t h k

@@ -2,40 +2,24 @@
 -- number beyond them.
 use Prim.Native.Nat.{ℕ, zero, suc, _+_, _≤_, _<_}
 use mathlib.Core.Path.{_≡_, refl, ap, subst, sym}
-use mathlib.Core.Bool.{Bool, true, false, So}
+use mathlib.Core.Bool.{Bool, true, false}
 use mathlib.Core.List.{List, [], _∷_, _++_}
-use native.Mathlib.Omega.{arith}
 use lib.Dec.{leb}
 use lib.ListN.{length, length-append}
-use Rattle.node.specs.Result.{Result, Done, Refused}
+use native.Mathlib.Omega.{arith}
+use borrow.Author.Tests.{leb-true}
+use Rattle.node.specs.Result.{Result, Done}
 use Rattle.language.specs.Limits.{maxSignals}
-use Rattle.language.specs.Bytes.{if_then_else_, same}
 use Rattle.language.specs.Tokens.{Token}
-use Rattle.language.specs.Tree.{Definition, Defined, Enumerated, Parameter, Declaration, OneSignal, OfWidth, OfType, Spec}
+use Rattle.language.specs.Tree.{Definition, Parameter, Declaration, OneSignal, OfWidth, OfType, Spec}
 use Rattle.language.specs.Values.{Mark}
-use Rattle.language.specs.Signals.{Declared, Constant, SignalAt, BusAt, Identifies, WaitingSignal, WaitingBus, Table, allWords, wordsOfType, wordWidth, covered, Line, Written, Implied, entries, Numbered, adding, sized, addingBus, impliedBy, numbering, constants, inputs, outputs, Declarations, none, onFrom, declarations}
-use Rattle.language.specs.Laws.Meaning.TestLaws.{so-leb}
-use Rattle.language.specs.Laws.Values.WithinLaws.{Within, done-within, bind-within, bind-any, guard-within, within-done, All, all-more, all-append}
+use Rattle.language.specs.Signals.{Declared, Constant, SignalAt, BusAt, Identifies, WaitingSignal, WaitingBus, Table, wordsOfType, wordWidth, covered, Line, Written, Implied, entries, Numbered, adding, sized, addingBus, impliedBy, numbering, constants, inputs, outputs, Declarations, none, onFrom, declarations}
+use Rattle.language.specs.Laws.Basics.Lists.{All, all-more, all-append}
+use Rattle.language.specs.Laws.Basics.Tests.{split}
+use Rattle.language.specs.Laws.Basics.Results.{done, guarded, bind, weaken, value-of, Within, bind-any}
+use Rattle.language.specs.Laws.Values.RegularWords.{Regular, RegularDefinition, regular-type}
 use Rattle.language.specs.Laws.Values.NameLaws.{Entries, first-entries}
-use Rattle.language.specs.Laws.Values.BoundLaws.{WordsBelow}
-
--- every word of an enumeration has as many marks as its first (refusal 10)
-abbrev pub EqualWidths : List (List Mark) → Type 0
-EqualWidths vs = All (λ v. length v ≡ wordWidth vs) vs
-
-abbrev pub Regular : List Definition → Type 0
-Regular [] = Unit {0}
-Regular (Defined x e ∷ ds) = Regular ds
-Regular (Enumerated x is ∷ ds) = EqualWidths (allWords is) × Regular ds
-
-type-regular : (ds : List Definition) → Regular ds → (t : Token) → EqualWidths (wordsOfType ds t)
-type-regular [] g t = tt
-type-regular (Defined x e ∷ ds) g t = type-regular ds g t
-type-regular (Enumerated x is ∷ ds) g t = go (same (x .text) (t .text)) (type-regular ds (g .1) t)
-  where
-    go : (b : Bool) → EqualWidths (wordsOfType ds t) → EqualWidths (elim b [ true ↦ allWords is | false ↦ wordsOfType ds t ])
-    go true h = g .0
-    go false h = h
+use Rattle.language.specs.Laws.Values.SignalBounds.{WordsBelow}
 
 -- declared names and implied lines whose signals lie below N
 abbrev pub DeclaredBelow : ℕ → Declared → Type 0
@@ -63,31 +47,27 @@ declared-more l WaitingBus h = tt
 
 pub line-more : {M N : ℕ} → M ≤ N → (x : Line) → LineBelow M x → LineBelow N x
 line-more l (Written e) h = tt
-line-more l (Implied k v) h = all-more _ _ (λ u m. omega (arith, l, m)) v h
+line-more l (Implied k v) h = all-more (λ u m. omega (arith, l, m)) v h
 
 -- what holds of the signals so far; of the implied lines, where the enumerations are regular
 pub record WellNumbered (defs : List Definition) (s : Numbered) : Type 0 where
   pub named : TableBelow (s .count) (s .table)
-  pub lined : Regular defs → All (LineBelow (s .count)) (s .implied)
+  pub lined : All RegularDefinition defs → All (LineBelow (s .count)) (s .implied)
   pub listed : length (s .list) ≡ s .count
   pub few : s .excess ≡ [] → s .count ≤ maxSignals
 
 not-empty : (ps : List ℕ) (p : ℕ) → ps ++ (p ∷ []) ≡ [] → ⊥
 not-empty ps p e = let l : length (ps ++ (p ∷ [])) ≡ 0 = ap length e in omega (arith, length-append ps (p ∷ []))
 
-few-added : (b : Bool) (n p : ℕ) (ps : List ℕ) → (So b → n ≤ maxSignals) → (if b then ps else ps ++ (p ∷ [])) ≡ [] → n ≤ maxSignals
-few-added true n p ps h e = h refl
-few-added false n p ps h e = absurd (not-empty ps p e)
-
 adding-well : {defs : List Definition} {s : Numbered} (x : Token) (n : ℕ) (es : List ℕ) (d : Declared) (ls : List Line) → WellNumbered defs s →
-    length es ≡ n → DeclaredBelow (s .count + n) d → (Regular defs → All (LineBelow (s .count + n)) ls) → WellNumbered defs (adding s x n es d ls)
+    length es ≡ n → DeclaredBelow (s .count + n) d → (All RegularDefinition defs → All (LineBelow (s .count + n)) ls) → WellNumbered defs (adding s x n es d ls)
 adding-well {defs} {s} x n es d ls f e h k =
     let more : s .count ≤ s .count + n = omega arith in
     record {
-      named = (h, all-more _ _ (λ u. declared-more more (u .1)) (s .table) (f .named));
-      lined = λ r. all-append (LineBelow (s .count + n)) (s .implied) ls (all-more _ _ (line-more more) (s .implied) (f .lined r)) (k r);
+      named = (h, all-more (λ u. declared-more more (u .1)) (s .table) (f .named));
+      lined = λ r. all-append (LineBelow (s .count + n)) (s .implied) ls (all-more (line-more more) (s .implied) (f .lined r)) (k r);
       listed = omega (arith, length-append (s .list) es, f .listed, e);
-      few = few-added (leb (s .count + n) maxSignals) (s .count + n) (x .at) (s .excess) (so-leb (s .count + n) maxSignals .0);
+      few = split (λ (ps : List ℕ). ps ≡ [] → s .count + n ≤ maxSignals) (leb (s .count + n) maxSignals) (λ c _. leb-true (s .count + n) maxSignals c) (λ _ e. absurd (not-empty (s .excess) (x .at) e));
     }
 
 length-entries : (n : ℕ) (output : Bool) (offset i width : ℕ) → length (entries n output offset i width) ≡ n
@@ -95,46 +75,41 @@ length-entries zero output offset i width = refl
 length-entries (suc n) output offset i width = ap suc (length-entries n output offset (suc i) width)
 
 bus-well : {defs : List Definition} {s : Numbered} (output : Bool) (x : Token) (n : ℕ) (ls : List Line) → WellNumbered defs s →
-    (Regular defs → All (LineBelow (s .count + n)) ls) → WellNumbered defs (addingBus output s x n ls)
+    (All RegularDefinition defs → All (LineBelow (s .count + n)) ls) → WellNumbered defs (addingBus output s x n ls)
 bus-well {s = s} output x n ls f k = adding-well x n (entries n output (x .at) 0 n) (BusAt (s .count) n) ls f (length-entries n output (x .at) 0 n) (omega arith) k
 
-implied-below : (first : ℕ) (vs : List (List Mark)) → EqualWidths vs → All (LineBelow (first + wordWidth vs)) (impliedBy first vs)
-implied-below first vs h = go (covered (wordWidth vs) vs)
-  where
-    go : (b : Bool) → All (LineBelow (first + wordWidth vs)) (if b then [] else Implied first vs ∷ [])
-    go true = tt
-    go false = (all-more _ _ (λ v e. omega (arith, e)) vs h, tt)
+implied-below : (first : ℕ) (vs : List (List Mark)) → Regular vs → All (LineBelow (first + wordWidth vs)) (impliedBy first vs)
+implied-below first vs h =
+    split (All (LineBelow (first + wordWidth vs))) (covered (wordWidth vs) vs) (λ _. tt) (λ _. (all-more (λ v e. omega (arith, e)) vs (h .equal), tt))
 
 -- the signals after some n signals
 abbrev pub Grown : List Definition → ℕ → Numbered → Type 0
 Grown defs n u = (n ≤ u .count) × WellNumbered defs u
 
 later : (defs : List Definition) {m n : ℕ} → m ≤ n → (r : Result Numbered) → Within (Grown defs n) r → Within (Grown defs m) r
-unfolding Within
-later defs l (Done u) h = (omega (arith, h .0), h .1)
-later defs l (Refused k p) h = tt
+later defs l r h = weaken r (λ k p u. u) (λ s g. (omega (arith, g .0), g .1)) h
 
 sized-is : (x : Token) (n : ℕ) → Within (λ m. m ≡ n) (sized x n)
-sized-is x n = guard-within (λ m. m ≡ n) _ 13 (x .at) (Done n) (λ e. done-within (λ m. m ≡ n) n refl)
+sized-is x n = guarded _ 13 (x .at) (λ _. tt) (λ e. done refl)
 
 pub numbering-well : (defs : List Definition) (output : Bool) (ds : List Declaration) (s : Numbered) → WellNumbered defs s →
     Within (Grown defs (s .count)) (numbering defs output ds s)
-numbering-well defs output [] s f = done-within (Grown defs (s .count)) s (omega arith, f)
+numbering-well defs output [] s f = done (omega arith, f)
 numbering-well defs output (OneSignal x ∷ ds) s f =
     later defs {n = s .count + 1} (omega arith) _ (numbering-well defs output ds _ (adding-well x 1 _ (SignalAt (s .count)) [] f refl (omega arith) (λ r. tt)))
 numbering-well defs output (OfWidth x e ∷ ds) s f =
-    bind-any (Grown defs (s .count)) _ _ (λ n. later defs {n = s .count + n} (omega arith) _ (numbering-well defs output ds _ (bus-well output x n [] f (λ r. tt))))
+    bind-any _ _ (λ n. later defs {n = s .count + n} (omega arith) _ (numbering-well defs output ds _ (bus-well output x n [] f (λ r. tt))))
 numbering-well defs output (OfType u x ∷ ds) s f =
     let words : List (List Mark) = wordsOfType defs u in
-    let under : (n : ℕ) → n ≡ wordWidth words → Regular defs → All (LineBelow (s .count + n)) (impliedBy (s .count) words) =
-    λ n e r. subst (λ m. All (LineBelow (s .count + m)) (impliedBy (s .count) words)) (sym e) (implied-below (s .count) words (type-regular defs r u)) in
-    bind-within (λ n. n ≡ wordWidth words) (Grown defs (s .count)) _ _ (sized-is x (wordWidth words)) (λ n e.
+    let under : (n : ℕ) → n ≡ wordWidth words → All RegularDefinition defs → All (LineBelow (s .count + n)) (impliedBy (s .count) words) =
+    λ n e r. subst (λ m. All (LineBelow (s .count + m)) (impliedBy (s .count) words)) (sym e) (implied-below (s .count) words (regular-type defs r u)) in
+    bind _ _ (sized-is x (wordWidth words)) (λ n e.
     later defs {n = s .count + n} (omega arith) _ (numbering-well defs output ds _ (bus-well output x n (impliedBy (s .count) words) f (under n e))))
 
 -- the names before their turn have no signals
 constants-below : (xs : List Parameter) (d : Table) → TableBelow 0 d → Within (TableBelow 0) (constants xs d)
-constants-below [] d h = done-within (TableBelow 0) d h
-constants-below (x ∷ xs) d h = bind-any (TableBelow 0) _ _ (λ n. constants-below xs ((x .name .text, Constant n) ∷ d) (tt, h))
+constants-below [] d h = done h
+constants-below (x ∷ xs) d h = bind-any _ _ (λ n. constants-below xs ((x .name .text, Constant n) ∷ d) (tt, h))
 
 -- all that is declared
 pub record WellDeclared (defs : List Definition) (d : Declarations) : Type 0 where
@@ -153,13 +128,13 @@ declarations-within x =
     let defs : List Definition = x .definitions in
     let ins : List Declaration = inputs (x .main) in
     let outs : List Declaration = outputs (x .main) in
-    bind-within (TableBelow 0) (WellDeclared defs) _ _ (constants-below (x .parameters) _ (first-entries (DeclaredBelow 0) tt tt (λ v. tt) ins outs defs)) (λ d h.
-    bind-within (Grown defs 0) (WellDeclared defs) _ _ (numbering-well defs false ins (none d) (none-well defs d h)) (λ i k.
-    bind-within (Grown defs (i .count)) (WellDeclared defs) _ _ (numbering-well defs true outs (onFrom i) (onFrom-well (k .1))) (λ o l.
-    done-within (WellDeclared defs) _ (record { inputs = k .1; outputs = l .1; order = l .0 }))))
+    bind _ _ (constants-below (x .parameters) _ (first-entries (DeclaredBelow 0) tt tt (λ v. tt) ins outs defs)) (λ d h.
+    bind _ _ (numbering-well defs false ins (none d) (none-well defs d h)) (λ i k.
+    bind _ _ (numbering-well defs true outs (onFrom i) (onFrom-well (k .1))) (λ o l.
+    done (record { inputs = k .1; outputs = l .1; order = l .0 }))))
 
 pub declarations-well : (x : Spec) (d : Declarations) → declarations x ≡ Done d → WellDeclared (x .definitions) d
-declarations-well x d e = within-done (WellDeclared (x .definitions)) e (declarations-within x)
+declarations-well x d e = value-of e (declarations-within x)
 
 -- 'the accepted count of signals is bits': the list has an entry for each, and there are at most 255 where 15 does not refuse
 pub list-counted : (x : Spec) (d : Declarations) → declarations x ≡ Done d → length (d .outputs .list) ≡ d .outputs .count

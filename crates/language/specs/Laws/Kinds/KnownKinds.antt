@@ -1,7 +1,7 @@
 -- Where no name is declared again (refusal 7), one function gives every declared name's kind, whatever the order of the declarations.
 use Prim.Native.Nat.{ℕ, max}
 use mathlib.Core.Path.{_≡_, refl, sym, _∙_, ap, subst}
-use mathlib.Core.Bool.{Bool, true, false}
+use mathlib.Core.Bool.{Bool, true, false, false≢true}
 use mathlib.Core.List.{List, [], _∷_, _++_}
 use mathlib.Core.Option.{Option, none, some}
 use Rattle.language.specs.Bytes.{same}
@@ -10,7 +10,9 @@ use Rattle.language.specs.Tree.{Identifier, Defined, Enumerated, OneSign
 use Rattle.language.specs.Places.{Entry, ParameterLine, DefinitionLine, DeclarationLine, FormulaLine}
 use Rattle.language.specs.Names.{Names, again, doubled, identifierNames, declares, over}
 use Rattle.language.specs.Types.{Kind, ANumber, AFormula, ABus, AType, Typing, Typings, kindIn, kindOf, typedValues, typedAfter}
-use Rattle.language.specs.Laws.Kinds.PlaceLaws.{false-true, some-none, All, first-left, first-right, same-equal, same-refl}
+use Rattle.language.specs.Laws.Basics.Lists.{All}
+use Rattle.language.specs.Laws.Basics.Tests.{pick, leave, some-none, same-equal, same-refl}
+use Rattle.language.specs.Laws.Basics.NoPlace.{first-left, first-right}
 
 -- the declared names of some lines with their kinds, in the text's order
 abbrev pub typings : Typings → List Entry → Typings
@@ -77,31 +79,23 @@ distinct (y ∷ ys) e =
 abbrev pub Knows : (Token → Kind) → Typing → Type 0
 Knows g y = (t : Token) → same (y .name .text) (t .text) ≡ true → g t ≡ y .kind
 
-head-known : (b : Bool) (k l : Kind) → b ≡ true → elim b [ true ↦ k | false ↦ l ] ≡ k
-head-known true k l e = refl
-head-known false k l e = absurd (false-true e)
-
-tail-known : (b : Bool) (k l : Kind) → b ≡ false → elim b [ true ↦ k | false ↦ l ] ≡ l
-tail-known true k l e = absurd (false-true (sym e))
-tail-known false k l e = refl
-
 -- two names that are the same as a third are the same
 third : (a b c : List ℕ) → same b a ≡ false → same b c ≡ true → same a c ≡ false
 third a b c d e = other (same a c) refl
   where
     other : (x : Bool) → same a c ≡ x → same a c ≡ false
-    other true f = absurd (false-true (sym d ∙ ap (same b) (same-equal a c f ∙ sym (same-equal b c e)) ∙ same-refl b))
+    other true f = absurd (false≢true (sym d ∙ ap (same b) (same-equal a c f ∙ sym (same-equal b c e)) ∙ same-refl b))
     other false f = f
 
 known : (ys : Typings) → Distinct ys → All (Knows (kindIn ys)) ys
 known [] d = tt
 known (y ∷ ys) d =
-    (λ t e. head-known (same (y .name .text) (t .text)) (y .kind) (kindIn ys t) e, later ys (d .0) (known ys (d .1)))
+    (λ t e. pick (same (y .name .text) (t .text)) (y .kind) (kindIn ys t) e, later ys (d .0) (known ys (d .1)))
   where
     later : (zs : Typings) → All (λ z. same (z .name .text) (y .name .text) ≡ false) zs → All (Knows (kindIn ys)) zs → All (Knows (kindIn (y ∷ ys))) zs
     later [] a k = tt
     later (z ∷ zs) a k = (
-      λ t e. tail-known (same (y .name .text) (t .text)) (y .kind) (kindIn ys t) (third (y .name .text) (z .name .text) (t .text) (a .0) e) ∙ k .0 t e,
+      λ t e. leave (same (y .name .text) (t .text)) (y .kind) (kindIn ys t) (third (y .name .text) (z .name .text) (t .text) (a .0) e) ∙ k .0 t e,
       later zs (a .1) (k .1),
     )
 

@@ -1,6 +1,6 @@
 -- A refusal by the grammar rests on the tokens up to the refused one: no text whose tokens begin with them is accepted.
 use Prim.Native.Nat.{ℕ, suc, _+_, _<_}
-use mathlib.Core.List.{List, [], _∷_, _++_}
+use mathlib.Core.List.{List, [], _∷_, _++_, append-nil}
 use mathlib.Core.Bool.{Bool, true, false, false≢true}
 use mathlib.Core.Option.{Option, none, some}
 use mathlib.Core.Path.{_≡_, refl, sym, ap, _∙_, subst}
@@ -8,7 +8,7 @@ use lib.Dec.{leb}
 use lib.ListN.{length}
 use native.Mathlib.Omega.{arith}
 use Rattle.node.specs.Result.{Result, Done, Refused, _>>=_, guard}
-use Rattle.node.specs.ResultLaws.{not-done, guard-done, bind-done}
+use Rattle.node.specs.ResultLaws.{not-done}
 use Rattle.language.specs.Limits.{maxBytes}
 use Rattle.language.specs.Tokens.{End, Wrong, Token, isOf, tokens}
 use Rattle.language.specs.Tree.{Spec}
@@ -19,12 +19,13 @@ use Rattle.language.specs.Names.{notVisible, declaredAgain, tooMany}
 use Rattle.language.specs.Types.{wrongType}
 use Rattle.language.specs.Words.{wrongWords}
 use Rattle.language.specs.Parsing.{noToken, tooManyTokens, wellFormed, parsed}
-use Rattle.language.specs.Laws.Grammar.TokenLaws.{Every, Ends, tokens-end}
+use Rattle.language.specs.Laws.Basics.Lists.{All, Any, all-any}
+use Rattle.language.specs.Laws.Basics.Tests.{pick, leave, some-none}
+use Rattle.language.specs.Laws.Grammar.TokenLaws.{Ends, tokens-end}
 use Rattle.language.specs.Laws.Grammar.TreeTokens.{InSpec}
 use Rattle.language.specs.Laws.Grammar.ReaderLaws.{Alike, Inner, Stops}
-use Rattle.language.specs.Laws.Grammar.CaseLaws.{pick, leave}
-use Rattle.language.specs.Laws.Grammar.GrammarLaws.{Any, every-any}
 use Rattle.language.specs.Laws.Grammar.SpecReads.{Decides, specOf-decides}
+use Rattle.language.specs.Laws.Grammar.Parses.{parses}
 
 -- the last token is the text's end
 abbrev pub Closed : Tokens → Type 0
@@ -37,12 +38,8 @@ ends-closed : (n : ℕ) (ts : Tokens) → Ends n ts → noToken ts ≡ none → 
 ends-closed n [] h e = h
 ends-closed n (t ∷ []) h e = go (isOf Wrong t) refl
   where
-    Some : Option ℕ → Type 0
-    Some none = ⊥
-    Some (some p) = Unit {0}
-
     go : (c : Bool) → isOf Wrong t ≡ c → isOf End t ≡ true
-    go true z = absurd (subst Some (sym (pick (isOf Wrong t) (some (t .at)) none z) ∙ e) tt)
+    go true z = absurd (some-none (sym (pick (isOf Wrong t) (some (t .at)) none z) ∙ e))
     go false z = h z .0
 ends-closed n (t ∷ u ∷ us) h e = ends-closed n (u ∷ us) (h .2) (sym (leave (isOf Wrong t) (some (t .at)) (noToken (u ∷ us)) (h .0)) ∙ e)
 
@@ -50,14 +47,10 @@ pub tokens-closed : (text : List ℕ) → noToken (tokens text) ≡ none → Clo
 tokens-closed text e = ends-closed (length text) (tokens text) (tokens-end text) e
 
 -- tokens that are all taken hold no end
-taken-open : (ts : Tokens) → Every Inner ts → Closed ts → ⊥
+taken-open : (ts : Tokens) → All Inner ts → Closed ts → ⊥
 taken-open [] h c = c
 taken-open (t ∷ []) h c = false≢true (sym (h .0) ∙ c)
 taken-open (t ∷ u ∷ us) h c = taken-open (u ∷ us) (h .1) c
-
-append-none : (ts : Tokens) → ts ++ [] ≡ ts
-append-none [] = refl
-append-none (t ∷ ts) = ap (λ us. t ∷ us) (append-none ts)
 
 -- a refused token, at the place p: whatever stands behind it
 pub record Refusal (ts : Tokens) (p : ℕ) : Type 0 where
@@ -69,41 +62,26 @@ pub record Refusal (ts : Tokens) (p : ℕ) : Type 0 where
   pub always : (us : Tokens) → specOf (before ++ (token ∷ us)) ≡ Refused 4 p
 
 stops-refusal : (ts : Tokens) (p : ℕ) → Closed ts → Stops Spec 0 ts p (λ k. specOf) → Refusal ts p
-stops-refusal ts p c s = go (s .left) (s .whole) (s .place) (s .again)
+stops-refusal ts p c s = go (s .left) (s .takes .whole) (s .place) (s .takes .again)
   where
     us : Tokens
-    us = s .taken
+    us = s .takes .taken
 
     go : (vs : Tokens) → ts ≡ us ++ vs → p ≡ front vs .at → ((k : ℕ) (ws : Tokens) → Alike vs ws → length (us ++ ws) < 0 + k → specOf (us ++ ws) ≡ Refused 4 p) → Refusal ts p
-    go [] w z f = absurd (taken-open us (s .inner) (subst Closed (w ∙ append-none us) c))
+    go [] w z f = absurd (taken-open us (s .takes .inner) (subst Closed (w ∙ append-nil us) c))
     go (t ∷ vs) w z f =
         record { before = us; token = t; behind = vs; whole = w; place = sym z; always = λ ws. let xs = us ++ (t ∷ ws) in f (suc (length xs)) (t ∷ ws) refl (omega arith) }
 
 -- the grammar refuses with 4 alone, and what it refuses it refuses whatever comes
 pub grammar-refuses : (ts : Tokens) (number p : ℕ) → Closed ts → specOf ts ≡ Refused number p → (number ≡ 4) × Refusal ts p
 grammar-refuses ts number p c e =
-    let d : Decides Spec (InSpec Any) ts (Refused number p) specOf = subst (λ r. Decides Spec (InSpec Any) ts r specOf) e (specOf-decides Any ts (every-any ts)) in
+    let d : Decides Spec (InSpec Any) ts (Refused number p) specOf = subst (λ r. Decides Spec (InSpec Any) ts r specOf) e (specOf-decides Any ts (all-any ts)) in
     (d .says .0, stops-refusal ts p c (d .says .1))
-
-refuse-done : {A : Type 0} (number : ℕ) (o : Option ℕ) (r : Result A) {x : A} → refuseAt number o r ≡ Done x → r ≡ Done x
-unfolding refuseAt
-refuse-done number none r e = e
-refuse-done number (some p) r e = absurd (not-done e)
-
--- a text that is accepted is a text of the grammar
-pub parsed-grammar : (text : List ℕ) (x : Spec) → parsed text ≡ Done x → (y : Spec) × (specOf (tokens text) ≡ Done y)
-unfolding parsed
-parsed-grammar text x e =
-    let ts = tokens text in
-    let r = refuse-done 3 (tooManyTokens ts) (specOf ts >>= wellFormed) (refuse-done 2 (noToken ts) _ (guard-done (leb (length text) maxBytes) 1 maxBytes _ e .1)) in
-    let b = bind-done (specOf ts) wellFormed r in
-    (b .0, b .1)
 
 -- no text whose tokens begin with those up to a refused one is accepted
 pub refused-never-accepted : (ts : Tokens) (p : ℕ) (r : Refusal ts p) (text : List ℕ) (us : Tokens) → tokens text ≡ r .before ++ (r .token ∷ us) → (x : Spec) → parsed text ≡ Done x → ⊥
 refused-never-accepted ts p r text us e x d =
-    let y = parsed-grammar text x d in
-    not-done (sym (ap specOf e ∙ r .always us) ∙ y .1)
+    not-done (sym (ap specOf e ∙ r .always us) ∙ parses d .read)
 
 -- which of the refusals in a row was met
 numberOf : {A : Type 0} → Result A → ℕ

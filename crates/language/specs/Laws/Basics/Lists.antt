@@ -1,0 +1,31 @@
+-- What holds of all elements of a list.
+use mathlib.Core.List.{List, [], _∷_, _++_, map}
+
+-- Q of every element
+abbrev pub All : {A : Type 0} → (A → Type 0) → List A → Type 0
+All Q [] = Unit {0}
+All Q (a ∷ l) = Q a × All Q l
+
+-- nothing is asked
+abbrev pub Any : {A : Type 0} → A → Type 0
+Any a = Unit {0}
+
+pub all-any : {A : Type 0} (l : List A) → All Any l
+all-any [] = tt
+all-any (a ∷ l) = (tt, all-any l)
+
+pub all-more : {A : Type 0} {P Q : A → Type 0} → ((a : A) → P a → Q a) → (l : List A) → All P l → All Q l
+all-more f [] h = tt
+all-more f (a ∷ l) h = (f a (h .0), all-more f l (h .1))
+
+pub all-map : {A B : Type 0} (P : A → Type 0) (Q : B → Type 0) (f : A → B) → ((a : A) → P a → Q (f a)) → (l : List A) → All P l → All Q (map f l)
+all-map P Q f h [] u = tt
+all-map P Q f h (a ∷ l) u = (h a (u .0), all-map P Q f h l (u .1))
+
+pub all-append : {A : Type 0} (P : A → Type 0) (l m : List A) → All P l → All P m → All P (l ++ m)
+all-append P [] m h k = k
+all-append P (a ∷ l) m h k = (h .0, all-append P l m (h .1) k)
+
+pub all-right : {A : Type 0} (P : A → Type 0) (l m : List A) → All P (l ++ m) → All P m
+all-right P [] m h = h
+all-right P (a ∷ l) m h = all-right P l m (h .1)

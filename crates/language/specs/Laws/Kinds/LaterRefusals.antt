@@ -1,0 +1,145 @@
+-- No text that passes refusals 1 to 10 comes to a value of a wrong kind or to an unknown name: afterwards it is refused by 11 to 16 only.
+use Prim.Native.Nat.{ℕ, _≤_}
+use mathlib.Core.Path.{_≡_, refl}
+use mathlib.Core.Bool.{true, false}
+use mathlib.Core.List.{List, [], _++_}
+use mathlib.Core.Option.{none}
+use lib.Dec.{leb}
+use native.Mathlib.Omega.{arith}
+use Rattle.node.specs.Limits.{maxNodes}
+use Rattle.node.specs.Postorder.{size}
+use Rattle.node.specs.Result.{Result, Done, Refused, _>>=_}
+use Rattle.language.specs.Tokens.{Token}
+use Rattle.language.specs.Tree.{Part, Spec}
+use Rattle.language.specs.Places.{definitionLines, mainLines, allLines}
+use Rattle.language.specs.Names.{doubled, declares, declaresSignal, over, again, nowhere, walkLines, declaredAgain}
+use Rattle.language.specs.Types.{Kind, Typings, kindIn, typedSignals, wrongType}
+use Rattle.language.specs.Parsing.{parsed}
+use Rattle.language.specs.Signals.{Line, Written, Implied, identifiers, waiting, inputs, outputs, Declarations, none as noSignals, onFrom, declarations}
+use Rattle.language.specs.Lines.{lines}
+use Rattle.language.specs.Expansion.{Context, atSignals, defineAll, expandLine, expandSection, expand}
+use Rattle.language.specs.Reading.{sameModel, converted, meant}
+use Rattle.language.specs.Laws.Basics.Lists.{All, Any, all-more}
+use Rattle.language.specs.Laws.Basics.NoPlace.{first-left}
+use Rattle.language.specs.Laws.Basics.Results.{Answers, done, guarded, placed, bind, weaken, refusal-of, gathered}
+use Rattle.language.specs.Laws.Grammar.Braces.{ProperSpec}
+use Rattle.language.specs.Laws.Grammar.Parses.{parses, parsed-proper}
+use Rattle.language.specs.Laws.Kinds.Reaching.{Reaches}
+use Rattle.language.specs.Laws.Kinds.ExpansionKinds.{Serves, formula-operand, expansion-reaches}
+use Rattle.language.specs.Laws.Kinds.KnownKinds.{typings, declared-known}
+use Rattle.language.specs.Laws.Kinds.DefinitionKinds.{found, typedThrough, serves-definitions}
+use Rattle.language.specs.Laws.Kinds.TableKinds.{covers-table, standing-agree, standing-expands}
+use Rattle.language.specs.Laws.Kinds.LineKinds.{Passed, typedParameters, LineFits, SectionFits, passed-parameters, passed-definitions, MainFits, main-fits}
+use Rattle.language.specs.Laws.Kinds.FirstTable.{first-standing}
+use Rattle.language.specs.Laws.Kinds.DeclarationKinds.{constants-reach, IsImplied, Numbers, numbering-reaches}
+
+-- an accepted text's lines
+line-reaches : (ys : Typings) (c : Context) → Serves ys c → (l : Line) → LineFits ys l → Reaches Any (expandLine c l)
+line-reaches ys c v (Written e) f = formula-operand ys e _ (f .0) (expansion-reaches ys c v e (f .1))
+line-reaches ys c v (Implied k w) f = done tt
+
+section-reaches : (ys : Typings) (c : Context) → Serves ys c → (s : Part × List Line) → SectionFits ys s → Reaches Any (expandSection c s)
+section-reaches ys c v s f = bind _ _ (gathered (LineFits ys) (expandLine c) (line-reaches ys c v) (s .1) f) (λ fs _. done tt)
+
+implied-fits : (ys : Typings) (l : Line) → IsImplied l → LineFits ys l
+implied-fits ys (Written e) h = absurd h
+implied-fits ys (Implied k v) h = tt
+
+module _ (x : Spec) (proper : ProperSpec x) (once : declaredAgain x ≡ none) (typed : wrongType x ≡ none) where
+  before : Typings
+  before = typedSignals (allLines x)
+
+  kinds : Token → Kind
+  kinds = kindIn (typings (typedSignals (allLines x)) (allLines x))
+
+  constantly : Typings
+  constantly = typedParameters (typedSignals (allLines x)) (x .parameters)
+
+  finally : Typings
+  finally = typedThrough (typedParameters (typedSignals (allLines x)) (x .parameters)) (x .definitions)
+
+  all-passed : Passed kinds before (allLines x)
+  unfolding kinds before
+  all-passed =
+      record {
+        known = declared-known before (allLines x) (first-left (doubled (over declares (allLines x))) (walkLines nowhere again (over declaresSignal (allLines x)) (allLines x)) once);
+        fitting = typed;
+      }
+
+  definitions-passed : Passed kinds constantly (definitionLines (x .definitions) (mainLines (x .main)))
+  unfolding before constantly
+  definitions-passed = passed-parameters kinds (x .parameters) before (definitionLines (x .definitions) (mainLines (x .main))) all-passed
+
+  main-fit : MainFits kinds finally (x .main)
+  unfolding constantly finally
+  main-fit = main-fits kinds (x .main) finally (proper .main) (passed-definitions kinds (x .definitions) constantly (mainLines (x .main)) definitions-passed)
+
+  record Worked (d : Declarations) : Type 0 where
+    ins : All IsImplied (d .inputs .implied)
+    outs : Numbers kinds (identifiers (x .definitions)) [] constantly (d .outputs)
+
+  declarations-reach : Reaches Worked (declarations x)
+  unfolding before constantly finally
+  declarations-reach =
+      let I = identifiers (x .definitions) in
+      let ins = inputs (x .main) in
+      let outs = outputs (x .main) in
+      let ls = mainLines (x .main) in
+      bind _ _
+      (constants-reach kinds I (ins ++ (outs ++ [])) (definitionLines (x .definitions) ls) (x .parameters) before (waiting ins (waiting outs I)) (proper .parameters)
+      all-passed (first-standing kinds x constantly finally (all-passed .known) (definitions-passed .known) (main-fit .ins) (main-fit .outs)))
+      (λ d k. bind _ _
+      (numbering-reaches kinds (x .definitions) ls constantly (proper .definitions) definitions-passed (outs ++ []) false ins (noSignals d) (main-fit .ins)
+      (record { standing = k; implied = tt }))
+      (λ i u. bind _ _
+      (numbering-reaches kinds (x .definitions) ls constantly (proper .definitions) definitions-passed [] true outs (onFrom i) (main-fit .outs)
+      (record { standing = u .standing; implied = tt }))
+      (λ o w. done (record { ins = u .implied; outs = w }))))
+
+  serves-text : (d : Declarations) → Worked d → Serves finally (defineAll (atSignals (d .outputs .table)) (x .definitions))
+  unfolding constantly finally
+  serves-text d w =
+      let I = identifiers (x .definitions) in
+      let t = d .outputs .table in
+      let k = w .outs .standing in
+      serves-definitions kinds (λ n. found t (n .text)) (mainLines (x .main)) (x .definitions) constantly (atSignals t)
+      (record { values = standing-agree kinds I [] constantly t k; formulas = standing-expands kinds I constantly t k })
+      (covers-table kinds t (k .sound)) (k .kept) (proper .definitions) (definitions-passed .known) (definitions-passed .fitting)
+
+  expand-reaches : (d : Declarations) → Worked d → Reaches Any (expand x d (lines x d))
+  expand-reaches d w =
+      bind _ _ (gathered (SectionFits finally) _ (section-reaches finally _ (serves-text d w)) (lines x d)
+      (main-fit .written _ (all-more (implied-fits finally) (d .inputs .implied) (w .ins), (all-more (implied-fits finally) (d .outputs .implied) (w .outs .implied), tt))))
+      (λ fs _. done tt)
+
+-- refusals from 11 to 16
+abbrev pub Later : ℕ → Type 0
+Later n = (11 ≤ n) × (n ≤ 16)
+
+later : {A : Type 0} {Q : A → Type 0} (r : Result A) → Reaches Q r → Answers (λ n p. Later n) Q r
+later r h = weaken r (λ n p l. omega arith) (λ a q. q) h
+
+converted-later : (x : Spec) → ProperSpec x → declaredAgain x ≡ none → wrongType x ≡ none → Answers (λ n p. Later n) Any (converted x)
+unfolding converted
+converted-later x s o w =
+    bind (declarations x) _ (later _ (declarations-reach x s o w)) (λ d k. bind (expand x d (lines x d)) _ (later _ (expand-reaches x s o w d k)) (λ f u.
+    guarded (sameModel (x .semantics) (x .target)) 14 _ (λ _. omega arith) (λ _.
+    placed 15 _ (λ p e. omega arith) (guarded (leb (size f) maxNodes) 16 0 (λ _. omega arith) (λ _. done tt)))))
+
+pub converted-refused : (x : Spec) → ProperSpec x → declaredAgain x ≡ none → wrongType x ≡ none → (n p : ℕ) → converted x ≡ Refused n p → Later n
+converted-refused x s o w n p e = refusal-of e (converted-later x s o w)
+
+-- a parsed text is refused by 11 to 16 only
+pub parsed-refused : (text : List ℕ) (x : Spec) → parsed text ≡ Done x → (n p : ℕ) → converted x ≡ Refused n p → Later n
+parsed-refused text x e = let w = parses e .formed in converted-refused x (parsed-proper text e) (w .distinct) (w .typed)
+
+refused-first : (n p : ℕ) → n ≤ 10 → (r : Result Spec) → ((x : Spec) → r ≡ Done x → converted x ≡ Refused n p → Later n) → r >>= converted ≡ Refused n p
+    → r ≡ Refused n p
+unfolding _>>=_
+refused-first n p l (Done x) f h = let late = f x refl h in absurd (omega arith)
+refused-first n p l (Refused m q) f h = cc
+
+-- so a refusal by 1 to 10 is one of the text's form, never met while working it out
+pub refused-while-parsing : (text : List ℕ) (n p : ℕ) → meant text ≡ Refused n p → n ≤ 10 → parsed text ≡ Refused n p
+unfolding meant
+refused-while-parsing text n p e l = refused-first n p l (parsed text) (λ x h. parsed-refused text x h n p) e

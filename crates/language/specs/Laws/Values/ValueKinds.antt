@@ -1,0 +1,81 @@
+-- The kinds of values, and a value as a number, a set, a bus, an identifier's words: what holds of it if it is of that kind, and of the refusal if not.
+use Prim.Native.Nat.{ℕ}
+use mathlib.Core.Path.{_≡_, refl, sym, _∙_, ap, subst}
+use mathlib.Core.Bool.{true, false, false≢true}
+use mathlib.Core.List.{List}
+use lib.Dec.{eqb}
+use borrow.Author.Tests.{eqb-true, eq-eqb}
+use Rattle.language.specs.Bytes.{if_then_else_}
+use Rattle.language.specs.Types.{Kind, ANumber, ASet, AFormula, ABus, AValue, AType, Unknown, kindCode, isKind}
+use Rattle.language.specs.Values.{Mark, Value, Number, Set, Logic, Bus, Unsized, Choice, number, set, Sized, bus, choice}
+use Rattle.language.specs.Laws.Basics.Results.{Refusals, Answers, done, refused}
+
+-- kinds are told apart by their codes
+kindFrom : ℕ → Kind
+kindFrom n =
+    if eqb n 0 then ANumber else (if eqb n 1 then ASet else (if eqb n 2 then AFormula else (if eqb n 3 then ABus else
+    (if eqb n 4 then AValue else (if eqb n 5 then AType else Unknown)))))
+
+kindFrom-code : (k : Kind) → kindFrom (kindCode k) ≡ k
+unfolding kindFrom
+kindFrom-code ANumber = refl
+kindFrom-code ASet = refl
+kindFrom-code AFormula = refl
+kindFrom-code ABus = refl
+kindFrom-code AValue = refl
+kindFrom-code AType = refl
+kindFrom-code Unknown = refl
+
+pub isKind-equal : (k l : Kind) → isKind k l ≡ true → k ≡ l
+isKind-equal k l e =
+    sym (kindFrom-code k) ∙ ap kindFrom (eqb-true (kindCode k) (kindCode l) e) ∙ kindFrom-code l
+
+-- the kind of a value
+abbrev pub valueKind : Value → Kind
+valueKind (Number n) = ANumber
+valueKind (Set s) = ASet
+valueKind Logic = AFormula
+valueKind (Bus p k n) = ABus
+valueKind (Unsized p) = ABus
+valueKind (Choice v) = AValue
+
+abbrev pub IsOf : Kind → Value → Type 0
+IsOf k v = valueKind v ≡ k
+
+-- values of two kinds are not equal
+pub apart : {A : Type 0} (k l : Kind) → isKind k l ≡ false → k ≡ l → A
+apart k l d e = absurd (false≢true (sym d ∙ subst (λ (m : Kind). isKind k m ≡ true) e (eq-eqb (kindCode k) (kindCode k) refl)))
+
+-- a value as what an operator takes
+pub number-as : {R : Refusals} {Q : ℕ → Type 0} (P : Value → Type 0) → ((n : ℕ) → P (Number n) → Q n) → ((v : Value) → ¬ IsOf ANumber v → P v → R 9 0) → (v : Value) → P v → Answers R Q (number v)
+number-as P f m (Number n) h = done (f n h)
+number-as P f m (Set s) h = refused (m (Set s) (apart ASet ANumber refl) h)
+number-as P f m Logic h = refused (m Logic (apart AFormula ANumber refl) h)
+number-as P f m (Bus p k n) h = refused (m (Bus p k n) (apart ABus ANumber refl) h)
+number-as P f m (Unsized p) h = refused (m (Unsized p) (apart ABus ANumber refl) h)
+number-as P f m (Choice w) h = refused (m (Choice w) (apart AValue ANumber refl) h)
+
+pub set-as : {R : Refusals} {Q : List ℕ → Type 0} (P : Value → Type 0) → ((s : List ℕ) → P (Set s) → Q s) → ((v : Value) → ¬ IsOf ASet v → P v → R 9 0) → (v : Value) → P v → Answers R Q (set v)
+set-as P f m (Number n) h = refused (m (Number n) (apart ANumber ASet refl) h)
+set-as P f m (Set s) h = done (f s h)
+set-as P f m Logic h = refused (m Logic (apart AFormula ASet refl) h)
+set-as P f m (Bus p k n) h = refused (m (Bus p k n) (apart ABus ASet refl) h)
+set-as P f m (Unsized p) h = refused (m (Unsized p) (apart ABus ASet refl) h)
+set-as P f m (Choice w) h = refused (m (Choice w) (apart AValue ASet refl) h)
+
+-- a bus before its turn is refused by 13
+pub bus-as : {R : Refusals} {Q : Sized → Type 0} (P : Value → Type 0) → ((p k n : ℕ) → P (Bus p k n) → Q (record { place = p; first = k; width = n })) → ((p : ℕ) → P (Unsized p) → R 13 p) → ((v : Value) → ¬ IsOf ABus v → P v → R 9 0) → (v : Value) → P v → Answers R Q (bus v)
+bus-as P f g m (Number n) h = refused (m (Number n) (apart ANumber ABus refl) h)
+bus-as P f g m (Set s) h = refused (m (Set s) (apart ASet ABus refl) h)
+bus-as P f g m Logic h = refused (m Logic (apart AFormula ABus refl) h)
+bus-as P f g m (Bus p k n) h = done (f p k n h)
+bus-as P f g m (Unsized p) h = refused (g p h)
+bus-as P f g m (Choice w) h = refused (m (Choice w) (apart AValue ABus refl) h)
+
+pub choice-as : {R : Refusals} {Q : List (List Mark) → Type 0} (P : Value → Type 0) → ((w : List (List Mark)) → P (Choice w) → Q w) → ((v : Value) → ¬ IsOf AValue v → P v → R 9 0) → (v : Value) → P v → Answers R Q (choice v)
+choice-as P f m (Number n) h = refused (m (Number n) (apart ANumber AValue refl) h)
+choice-as P f m (Set s) h = refused (m (Set s) (apart ASet AValue refl) h)
+choice-as P f m Logic h = refused (m Logic (apart AFormula AValue refl) h)
+choice-as P f m (Bus p k n) h = refused (m (Bus p k n) (apart ABus AValue refl) h)
+choice-as P f m (Unsized p) h = refused (m (Unsized p) (apart ABus AValue refl) h)
+choice-as P f m (Choice w) h = done (f w h)
