@@ -53,7 +53,7 @@ impl Node {
 
     pub const WEAK_UNTIL: u32 = 13;
 
-    // A node of two operands. The fields are the caller's to bound: a constructor of the format, no entry point.
+    // A node of two operands. Like the other two constructors it is no entry point: its callers have bounded the fields, and show it.
     pub fn binary(kind: u32, first: u32, second: u32) -> Node
         requires { ⌜ (kind < 16) × ((first < fieldLimit) × (second < fieldLimit)) ⌝ }
         ensures { λ r. ⌜ r .word ≡ pack kind first second ⌝ }
