@@ -1,22 +1,22 @@
 -- Demand 3, from a text's bytes to the nodes left in the lent buffers: the text's own meaning and the root of the nodes hold at exactly the same positions,
 -- for the reader's nodes and for each form that fits; and no node that the form forbids occurs.
 use Prim.Native.Nat.{ℕ, _-_, _≤_}
-use mathlib.Core.Path.{_≡_, refl, ap, _∙_, sym, subst}
+use mathlib.Core.Path.{_≡_, ap, _∙_, sym, subst}
 use mathlib.Core.Logic.{_↔_, Iff·trans, Iff·symm}
 use mathlib.Core.List.{List, _++_}
 use lib.ListN.{length, take, drop}
 use native.Mathlib.Omega.{arith}
 use Rattle.node.specs.Limits.{maxNodes, fieldLimit}
 use Rattle.node.specs.Ltl.{Formula, Word, Holds}
-use Rattle.node.specs.Result.{Result, Done, Refused, _>>=_, guard, Counts}
+use Rattle.node.specs.Result.{Done, Counts}
 use Rattle.node.specs.ResultLaws.{bind-done, guard-done}
-use Rattle.node.specs.Table.{root, NodeHolds}
+use Rattle.node.specs.Table.{NodeHolds}
 use Rattle.node.specs.Postorder.{size, nodesFrom, SignalsBelow}
 use Rattle.node.specs.PostorderLaws.{root-is, signals-more}
 use Rattle.forms.specs.Forms.{form}
 use Rattle.forms.specs.Forbidden.{forbidden}
 use Rattle.rewriter.specs.Rewriting.{fitting, rewriting, rewritten, target}
-use Rattle.rewriter.specs.RewritingLaws.{Accepts, accepts as rewriter-accepts, written-holds, written-clean}
+use Rattle.rewriter.specs.RewritingLaws.{accepts as rewriter-accepts, written-holds, written-clean}
 use Rattle.rewriter.specs.OwnNodes.{own-root, own-rewriting}
 use Rattle.language.specs.Meaning.{TextMeans}
 use Rattle.language.specs.Reading.{Converted, meant, reading, nodesAfter}

@@ -3,12 +3,11 @@ pub mod Starred
 pub mod Slips
 use Prim.Native.Nat.{ℕ, zero, suc, _+_, _*_, _/_, _%_}
 use Prim.Native.String.{String}
-use mathlib.Core.Bool.{Bool, true, false}
 use mathlib.Core.List.{List, [], _∷_, _++_}
 use lib.ListN.{length}
 use Rattle.node.specs.Ltl.{Formula, True, False, Signal, One, Two, Not, G, And, Implies, W}
 use Rattle.node.specs.Postorder.{size}
-use Rattle.node.specs.Result.{Result, Done, Refused, _>>=_}
+use Rattle.node.specs.Result.{Result, Done, _>>=_}
 use Rattle.language.specs.Bytes.{ascii}
 use Rattle.language.specs.Reading.{Converted, meant, reading}
 

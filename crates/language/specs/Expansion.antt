@@ -4,15 +4,15 @@ use mathlib.Core.Bool.{Bool, true, false, _&&_}
 use mathlib.Core.List.{List, [], _∷_, _++_, map}
 use lib.Dec.{eqb, leb}
 use lib.ListN.{length}
-use Rattle.node.specs.Operators.{Unary, Not, X, G, F, Binary, And, Or, Implies, W}
+use Rattle.node.specs.Operators.{Not, X, G, Binary, And, Or, Implies, W}
 use Rattle.node.specs.Ltl.{Formula, True, False, Signal, One, Two}
-use Rattle.node.specs.Result.{Result, Done, Refused, _>>=_, guard}
+use Rattle.node.specs.Result.{Result, Done, _>>=_, guard}
 use Rattle.language.specs.Bytes.{same}
 use Rattle.language.specs.Tokens.{Token}
-use Rattle.language.specs.Operators.{Comparison, Equal, Unequal, Less, AtMost, Greater, AtLeast, Big, BigSum, BigProduct, BigCap, BigCup, BigAnd, BigOr, Window, FinallyIn, GloballyIn, Infix, Calculates, Combines, Compares, Membership, Connects, Prefix, Measures, WidthOf, Applies}
-use Rattle.language.specs.Tree.{Expr, Named, Numeral, Truth, Index, Paren, Prefixed, Joined, Nexts, InWindow, Each, Between, Listed, Empty, Element, Range, Definition, Defined, Enumerated, Part, Initially, Preset, Require, Assert, Assume, Guarantee, partCode, Subsection, Inputs, Outputs, Lines, Spec}
+use Rattle.language.specs.Operators.{Comparison, Equal, Unequal, Less, AtMost, Greater, AtLeast, Big, BigSum, BigProduct, BigCap, BigCup, BigAnd, BigOr, Window, FinallyIn, GloballyIn, Calculates, Combines, Compares, Membership, Connects, Measures, WidthOf, Applies}
+use Rattle.language.specs.Tree.{Expr, Named, Numeral, Truth, Index, Paren, Prefixed, Joined, Nexts, InWindow, Each, Between, Listed, Empty, Element, Range, Definition, Defined, Enumerated, Part, Initially, Preset, Require, Assert, Assume, Guarantee, partCode, Spec}
 use Rattle.language.specs.Sets.{memberOf}
-use Rattle.language.specs.Values.{Mark, Absent, Present, Star, Value, Number, misfit, number, set, bus, choice, Sized, test, Sides, Numbers, Against, sides, bit, Scope, naming, value}
+use Rattle.language.specs.Values.{Mark, Absent, Present, Star, Number, misfit, number, set, bus, test, Sides, Numbers, Against, sides, bit, Scope, naming, value}
 use Rattle.language.specs.Signals.{Declared, Constant, SignalAt, BusAt, Identifies, WaitingSignal, WaitingBus, Table, find, declared, Line, Written, Implied, Declarations}
 
 -- 'fold to the left .. one element is itself'

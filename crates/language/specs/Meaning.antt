@@ -11,10 +11,10 @@ use Rattle.node.specs.Operators.{UnaryMeans, BinaryMeans, Word}
 use Rattle.node.specs.Result.{Result, Done, Refused, _>>=_}
 use Rattle.language.specs.Bytes.{same}
 use Rattle.language.specs.Tokens.{Token}
-use Rattle.language.specs.Operators.{Comparison, Equal, Unequal, Less, AtMost, Greater, AtLeast, Big, BigSum, BigProduct, BigCap, BigCup, BigAnd, BigOr, Window, FinallyIn, GloballyIn, Infix, Calculates, Combines, Compares, Membership, Connects, Prefix, Measures, WidthOf, Applies}
+use Rattle.language.specs.Operators.{Comparison, Equal, Unequal, Less, AtMost, Greater, AtLeast, Big, BigSum, BigProduct, BigCap, BigCup, BigAnd, BigOr, Window, FinallyIn, GloballyIn, Calculates, Combines, Compares, Membership, Connects, Measures, WidthOf, Applies}
 use Rattle.language.specs.Tree.{Expr, Named, Numeral, Truth, Index, Paren, Prefixed, Joined, Nexts, InWindow, Each, Between, Listed, Empty, Element, Range, Definition, Defined, Enumerated, Part, Initially, Preset, Require, Assert, Assume, Guarantee, partCode, Spec}
 use Rattle.language.specs.Sets.{memberOf}
-use Rattle.language.specs.Values.{Mark, Absent, Present, Star, Number, number, set, bus, Sized, Sides, Numbers, Against, sides, bit, Scope, naming, value}
+use Rattle.language.specs.Values.{Mark, Absent, Present, Star, Number, number, set, bus, Sides, Numbers, Against, sides, bit, Scope, naming, value}
 use Rattle.language.specs.Signals.{Declared, Constant, SignalAt, BusAt, Identifies, WaitingSignal, WaitingBus, Table, find, declared, Line, Written, Implied, Declarations, declarations, none}
 use Rattle.language.specs.Lines.{lines}
 use Rattle.language.specs.Parsing.{parsed}

@@ -2,7 +2,6 @@
 use Prim.Native.Nat.{ℕ}
 use Prim.Native.String.{String}
 use mathlib.Core.List.{List, [], _∷_}
-use mathlib.Core.Bool.{Bool, true, false}
 use Rattle.node.specs.Operators.{Unary, Not, Binary, And, Or, Implies, Iff, U, R, W}
 
 pub data Arithmetic : Type 0 where

@@ -1,6 +1,6 @@
 -- Where an expression starts and how deep it is; the first of several places; a text's lines in its own order (refusal 5).
 use Prim.Native.Nat.{ℕ, suc, min, max}
-use mathlib.Core.List.{List, [], _∷_, _++_}
+use mathlib.Core.List.{List, [], _∷_}
 use mathlib.Core.Bool.{Bool, true, false}
 use mathlib.Core.Option.{Option, none, some}
 use lib.Dec.{leb}

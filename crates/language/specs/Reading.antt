@@ -2,7 +2,7 @@
 use Prim.Native.Nat.{ℕ}
 use mathlib.Core.List.{List, [], _∷_, _++_}
 use mathlib.Core.Bool.{Bool, true, false, _&&_}
-use mathlib.Core.Option.{Option, none, some}
+use mathlib.Core.Option.{none, some}
 use lib.Dec.{leb}
 use lib.ListN.{length, drop, replicate}
 use Rattle.node.specs.Limits.{maxNodes}
@@ -14,7 +14,7 @@ use Rattle.language.specs.Bytes.{if_then_else_}
 use Rattle.language.specs.Tree.{Model, Mealy, Moore, Spec}
 use Rattle.language.specs.Places.{refuseAt}
 use Rattle.language.specs.Parsing.{parsed}
-use Rattle.language.specs.Signals.{Declarations, declarations}
+use Rattle.language.specs.Signals.{declarations}
 use Rattle.language.specs.Lines.{lines}
 use Rattle.language.specs.Expansion.{expand}
 

@@ -1,15 +1,15 @@
 -- Refusal 9: 'operand, width, declaring type or a line's expression of a wrong type'. An operator fixes its result's type, so a wrong operand inside hides none
 -- outside.
 use Prim.Native.Nat.{ℕ}
-use mathlib.Core.List.{List, [], _∷_, _++_}
+use mathlib.Core.List.{List, [], _∷_}
 use mathlib.Core.Bool.{Bool, true, false, _&&_, _||_}
 use mathlib.Core.Option.{Option, none, some}
 use lib.Dec.{eqb}
 use Rattle.language.specs.Bytes.{if_then_else_, same}
 use Rattle.language.specs.Tokens.{Token}
-use Rattle.language.specs.Operators.{Comparison, Equal, Unequal, Less, AtMost, Greater, AtLeast, Big, BigSum, BigProduct, BigCap, BigCup, BigAnd, BigOr, Infix, Calculates, Combines, Compares, Membership, Connects, Prefix, Measures, WidthOf, Applies}
-use Rattle.language.specs.Tree.{Expr, Named, Numeral, Truth, Index, Paren, Prefixed, Joined, Nexts, InWindow, Each, Between, Listed, Empty, Element, Range, Identifier, Definition, Defined, Enumerated, Declaration, OneSignal, OfWidth, OfType, Spec}
-use Rattle.language.specs.Places.{start, first, firstIn, unless, Entry, ParameterLine, DefinitionLine, DeclarationLine, FormulaLine, allLines}
+use Rattle.language.specs.Operators.{Equal, Unequal, Less, AtMost, Greater, AtLeast, Big, BigSum, BigProduct, BigCap, BigCup, BigAnd, BigOr, Infix, Calculates, Combines, Compares, Membership, Connects, Prefix, Measures, WidthOf, Applies}
+use Rattle.language.specs.Tree.{Expr, Named, Numeral, Truth, Index, Paren, Prefixed, Joined, Nexts, InWindow, Each, Between, Listed, Empty, Element, Range, Identifier, Defined, Enumerated, OneSignal, OfWidth, OfType, Spec}
+use Rattle.language.specs.Places.{start, first, unless, Entry, ParameterLine, DefinitionLine, DeclarationLine, FormulaLine, allLines}
 
 -- a number, a set, a formula, a bus, an enumeration's identifier, an enumeration, no visible name
 pub data Kind : Type 0 where

@@ -1,9 +1,9 @@
 -- Table 1 of document 001: every operator under each of its names, its level and its side.
-use mathlib.Core.List.{List, [], _∷_, _++_}
+use mathlib.Core.List.{[], _∷_}
 use mathlib.Core.Path.{_≡_, refl}
 use Rattle.node.specs.Ltl.{True, False, Signal, One, Two, Not, X, G, F, And, Or, Implies, Iff, U, R, W}
 use Rattle.node.specs.Postorder.{size}
-use Rattle.node.specs.Result.{Result, Done, Refused, _>>=_, guard}
+use Rattle.node.specs.Result.{Done, _>>=_, guard}
 use Rattle.language.specs.Bytes.{ascii}
 use Rattle.language.specs.Places.{refuseAt}
 use Rattle.language.specs.Parsing.{parsed}

@@ -1,9 +1,8 @@
 -- Readings of document 01 on the order of evaluation and of refusals, E6 and E7.
-use mathlib.Core.List.{List, [], _∷_, _++_}
 use mathlib.Core.Path.{_≡_, refl}
 use Rattle.node.specs.Ltl.{Signal, One, Two, X, And, Implies}
 use Rattle.node.specs.Postorder.{size}
-use Rattle.node.specs.Result.{Result, Done, Refused, _>>=_, guard}
+use Rattle.node.specs.Result.{Done, Refused, _>>=_, guard}
 use Rattle.language.specs.Bytes.{ascii}
 use Rattle.language.specs.Places.{refuseAt}
 use Rattle.language.specs.Parsing.{parsed}

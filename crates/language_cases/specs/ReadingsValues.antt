@@ -1,9 +1,9 @@
 -- Readings of document 01 on evaluation, E1 to E5.
-use mathlib.Core.List.{List, [], _∷_, _++_}
+use mathlib.Core.List.{[], _∷_, _++_}
 use mathlib.Core.Path.{_≡_, refl}
 use Rattle.node.specs.Ltl.{True, False, Signal, One, Two, X, And, Or}
 use Rattle.node.specs.Postorder.{size}
-use Rattle.node.specs.Result.{Result, Done, Refused, _>>=_, guard}
+use Rattle.node.specs.Result.{Done, Refused, _>>=_, guard}
 use Rattle.language.specs.Bytes.{ascii}
 use Rattle.language.specs.Places.{refuseAt}
 use Rattle.language.specs.Parsing.{parsed}

@@ -1,9 +1,8 @@
 -- Document 01's table of refusals, rows 11 to 18: each row's own example, and the other reasons that its second column names.
-use mathlib.Core.List.{List, [], _∷_, _++_}
 use mathlib.Core.Path.{_≡_, refl}
 use Rattle.node.specs.Ltl.{True}
 use Rattle.node.specs.Postorder.{size}
-use Rattle.node.specs.Result.{Result, Done, Refused, _>>=_, guard}
+use Rattle.node.specs.Result.{Done, Refused, _>>=_, guard}
 use Rattle.language.specs.Bytes.{ascii}
 use Rattle.language.specs.Places.{refuseAt}
 use Rattle.language.specs.Parsing.{parsed}

@@ -6,10 +6,10 @@ use mathlib.Core.Bool.{So}
 use mathlib.Core.HLevel.{⊥-prop}
 use mathlib.Core.Logic.{_↔_, inl, inr, _∨₁_, ∥∥₁-prop, ∥∥₁-elim, Iff·rfl, Iff·trans, Iff·symm, Iff·and, Iff·not}
 use Rattle.node.specs.Logic.{Either, Some}
-use Rattle.node.specs.LogicLaws.{or-same, to-same, not-not, not-or, implies-or}
+use Rattle.node.specs.LogicLaws.{not-not, not-or, implies-or}
 use Rattle.node.specs.Temporal.{Property, Until}
-use Rattle.node.specs.TemporalLaws.{Same, until-same, always-same, eventually-same, eventually-until, always-not-eventually}
-use Rattle.node.specs.Ltl.{Formula, True, False, Signal, One, Two, Unary, Not, X, G, F, Binary, And, Or, Implies, Iff, U, R, W, Word, Holds}
+use Rattle.node.specs.TemporalLaws.{Same, until-same, eventually-until, always-not-eventually}
+use Rattle.node.specs.Ltl.{Formula, True, False, Signal, One, Two, Not, X, G, F, And, Or, Implies, Iff, U, R, W, Word, Holds}
 use Rattle.node.specs.LtlLaws.{stable}
 
 -- 'there is n ≥ t with Q at n, and P at each j, t ≤ j < n'

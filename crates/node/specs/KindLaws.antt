@@ -3,7 +3,7 @@ use Prim.Native.Nat.{ℕ, _≤_}
 use mathlib.Core.Path.{_≡_, refl}
 use lib.ListN.{List·getD-eq-default}
 use Rattle.node.specs.Ltl.{Unary, Not, X, G, F, Binary, And, Or, Implies, Iff, U, R, W}
-use Rattle.node.specs.Kinds.{Shape, UnaryOf, BinaryOf, Unused, shapes, shapeOf, unaryKind, binaryKind}
+use Rattle.node.specs.Kinds.{UnaryOf, BinaryOf, Unused, shapes, shapeOf, unaryKind, binaryKind}
 
 pub unary-shape : (o : Unary) → shapeOf (unaryKind o) ≡ UnaryOf o
 unary-shape Not = refl

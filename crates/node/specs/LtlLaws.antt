@@ -1,10 +1,8 @@
 -- Laws of formulas: congruence and stability.
-use Prim.Native.Nat.{ℕ, zero, suc}
-use mathlib.Core.Bool.{Bool, So}
-use mathlib.Core.Logic.{_↔_, Iff·and, Iff·not}
-use Rattle.node.specs.Logic.{Either, Stable}
+use Prim.Native.Nat.{suc}
+use mathlib.Core.Logic.{Iff·and, Iff·not}
 use Rattle.node.specs.LogicLaws.{stable-not, stable-and, stable-to, stable-so, or-same, to-same}
-use Rattle.node.specs.Temporal.{Property, Always, Eventually, Until, Release, WeakUntil}
+use Rattle.node.specs.Temporal.{Property}
 use Rattle.node.specs.TemporalLaws.{Same, StableAll, stable-always, always-same, eventually-same, until-same, release-same, weak-same}
 use Rattle.node.specs.Ltl.{Unary, Not, X, G, F, Binary, And, Or, Implies, Iff, U, R, W, Formula, True, False, Signal, One, Two, UnaryMeans, BinaryMeans, Word, Holds}
 

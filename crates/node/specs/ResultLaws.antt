@@ -1,6 +1,6 @@
 -- How answers by cases are taken apart.
 use Prim.Native.Nat.{ℕ}
-use mathlib.Core.Path.{_≡_, refl, sym, _∙_, subst, ap}
+use mathlib.Core.Path.{_≡_, refl}
 use mathlib.Core.Bool.{Bool, true, false}
 use native.Mathlib.Omega.{arith}
 use Rattle.node.specs.Result.{Result, Done, Refused, guard, _>>=_}

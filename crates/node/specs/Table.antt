@@ -1,7 +1,7 @@
 -- The formulas of a table of nodes, and the test of a table against the format (document 01, 'Expansion' and refusal 19). Laws in TableLaws.
 use Prim.Native.Nat.{ℕ, suc, _-_}
 use mathlib.Core.List.{List, [], _∷_, _++_}
-use mathlib.Core.Bool.{Bool, true, false, _&&_}
+use mathlib.Core.Bool.{Bool, false, _&&_}
 use lib.ListN.{length, getD}
 use lib.Dec.{ltb, leb, eqb}
 use Rattle.node.specs.Limits.{maxNodes}
@@ -9,7 +9,7 @@ use Rattle.node.specs.Temporal.{Property}
 use Rattle.node.specs.Ltl.{Formula, True, Word, Holds}
 use Rattle.node.specs.Fields.{kindOf, firstOf, secondOf}
 use Rattle.node.specs.Kinds.{Shape, Truth, Falsehood, Atom, UnaryOf, BinaryOf, Unused, shapeOf, build}
-use Rattle.node.specs.Result.{Result, Done, Refused, guard, Counts}
+use Rattle.node.specs.Result.{Result, Done, guard, Counts}
 
 -- the formula at a number, among those of the nodes read so far
 abbrev pub among : List Formula → ℕ → Formula

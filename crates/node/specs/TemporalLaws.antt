@@ -1,9 +1,9 @@
 -- Laws of the temporal operators.
 use Prim.Native.Nat.{ℕ, zero, suc, _≤_, _<_}
 use mathlib.Core.Path.{_≡_, subst}
-use mathlib.Core.Logic.{_↔_, _⊎_, inl, inr, Iff·rfl, Iff·trans, Iff·symm, Iff·and, Iff·not}
+use mathlib.Core.Logic.{_↔_, Iff·rfl, Iff·trans, Iff·symm, Iff·and, Iff·not}
 use native.Mathlib.Omega.{arith}
-use Rattle.node.specs.Logic.{Either, Some, Stable}
+use Rattle.node.specs.Logic.{Stable}
 use Rattle.node.specs.LogicLaws.{or-left, or-right, some-at, stable-not, stable-to, stable-all, or-same, some-same, all-same, to-same, not-not}
 use Rattle.node.specs.Temporal.{Property, Always, Eventually, Until, Release, WeakUntil}
 

@@ -5,7 +5,7 @@ use mathlib.Core.List.{List, [], _∷_}
 use native.Mathlib.Omega.{arith}
 use Rattle.node.specs.Limits.{maxNodes, fieldLimit}
 use Rattle.node.specs.Ltl.{Formula}
-use Rattle.node.specs.Result.{Result, Done, Refused, _>>=_, guard, Counts}
+use Rattle.node.specs.Result.{Result, Done, Refused, _>>=_, guard}
 use Rattle.node.specs.Table.{nodeFits, scanned, checked}
 use Rattle.rewriter.specs.Rewriting.{target, fitting, rewriting}
 use Rattle.evaluator.specs.Recording.{filled, readable, lassoOf}

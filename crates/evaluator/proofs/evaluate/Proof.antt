@@ -1,5 +1,5 @@
 -- `evaluate` meets its contract: what `examine` accepts is in order, and the rows that `fill` leaves are the ones that the definition lists.
-use mathlib.Core.Path.{_≡_, ap, sym, _∙_}
+use mathlib.Core.Path.{ap, sym, _∙_}
 use native.Mathlib.Omega.{arith}
 use lib.ListN.{length}
 use Rattle.node.specs.Answer.{says}

@@ -1,6 +1,4 @@
 -- 'Slips to shut out' (document 01), as far as texts show them: each case fails where the definitions slip.
-use Prim.Native.Nat.{ℕ}
-use mathlib.Core.List.{List, [], _∷_, _++_}
 use mathlib.Core.Path.{_≡_, refl}
 use Rattle.node.specs.Ltl.{True, False, Signal, One, Two, Not, And, Or}
 use Rattle.node.specs.Postorder.{size}

@@ -10,14 +10,13 @@ use Rattle.node.specs.Ltl.{True, Two, And}
 use Rattle.node.specs.Postorder.{size, nodesFrom}
 use Rattle.node.specs.Result.{Result, Done, Refused, _>>=_, guard}
 use Rattle.language.specs.Bytes.{ascii, same}
-use Rattle.language.specs.Tokens.{Token, tokens}
-use Rattle.language.specs.Tree.{Expr}
+use Rattle.language.specs.Tokens.{tokens}
 use Rattle.language.specs.Places.{refuseAt}
 use Rattle.language.specs.Values.{Value, Number, Set, Logic, Bus, Unsized, Choice, Scope, value}
 use Rattle.language.specs.Sections.{expression}
 use Rattle.language.specs.Parsing.{parsed}
-use Rattle.language.specs.Reading.{Converted, meant, converted}
-use Rattle.language.specs.Cases.{front, text, line, repeated, outcome, guaranteed, entry}
+use Rattle.language.specs.Reading.{meant, converted}
+use Rattle.language.specs.Cases.{text, line, repeated, outcome, guaranteed, entry}
 use Rattle.language.specs.Laws.Basics.Tests.{same-equal}
 
 -- nodes by kind, first and second field

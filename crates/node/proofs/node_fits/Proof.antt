@@ -1,3 +1,4 @@
+-- `node_fits` meets its contract: the test of a node goes by the class of its kind.
 use borrow.Author.Needs.{needs}
 use Rattle.node.proofs.node_fits.Statement.{statement}
 use Rattle.node.proofs.node_fits.Tie as tie

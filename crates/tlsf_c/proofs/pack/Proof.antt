@@ -1,10 +1,6 @@
 -- `pack` meets its contract: the two cases of an answer, packed by sums and products.
-use mathlib.Core.Path.{_≡_, sym}
 use native.Mathlib.Omega.{arith}
 use borrow.Author.Needs.{needs}
-use Prim.Native.Nat.{_^_, _<_}
-use Rattle.node.specs.Answer.{says}
-use Rattle.tlsf_c.specs.Packed.{Fits}
 use Rattle.tlsf_c.proofs.pack.Statement.{statement}
 use Rattle.tlsf_c.proofs.pack.Tie as tie
 
