@@ -1,5 +1,5 @@
--- Demand 3, from a text's bytes to the nodes left in the lent buffers: the text's own meaning and the root of the nodes hold at exactly the same positions,
--- for the reader's nodes and for each form that fits; and no node that the form forbids occurs.
+-- Demand 3, one claim from a text's bytes to the nodes left in the lent buffers: the text's own meaning and the root of the nodes hold at exactly the same
+-- positions of every word, for the reader's nodes and for each form that fits; and no node that the form forbids occurs.
 use Prim.Native.Nat.{ℕ, _-_, _≤_}
 use mathlib.Core.Path.{_≡_, ap, _∙_, sym, subst}
 use mathlib.Core.Logic.{_↔_, Iff·trans, Iff·symm}
@@ -15,16 +15,33 @@ use Rattle.node.specs.Postorder.{size, nodesFrom, SignalsBelow}
 use Rattle.node.specs.PostorderLaws.{root-is, signals-more}
 use Rattle.forms.specs.Forms.{form}
 use Rattle.forms.specs.Forbidden.{forbidden}
-use Rattle.rewriter.specs.Rewriting.{fitting, rewriting, rewritten, target}
-use Rattle.rewriter.specs.RewritingLaws.{accepts as rewriter-accepts, written-holds, written-clean}
+use Rattle.rewriter.specs.Rewriting.{rewriting, rewritten, target}
+use Rattle.rewriter.specs.RewritingLaws.{accepts as rewriter-accepts, fitting-good, written-holds, written-clean}
 use Rattle.rewriter.specs.OwnNodes.{own-root, own-rewriting}
 use Rattle.language.specs.Meaning.{TextMeans}
 use Rattle.language.specs.Reading.{Converted, meant, reading, nodesAfter}
 use Rattle.language.specs.Laws.Meaning.Acceptance.{accepts, text-agrees, text-signals}
 
--- the nodes that stand in a buffer: their number is n, and their root, the last of them, holds where the text does
-pub record Says (text : List ℕ) (nodes : List ℕ) (n : ℕ) : Type 0 where
-  pub holds : (w : Word) (t : ℕ) → TextMeans text w t ↔ NodeHolds nodes (n - 1) w t
+-- the nodes that stand in a buffer, n of them: their root, the last, holds where the text does
+abbrev pub Says : List ℕ → List ℕ → ℕ → Type 0
+Says text nodes n = (w : Word) (t : ℕ) → TextMeans text w t ↔ NodeHolds nodes (n - 1) w t
+
+-- the reader's nodes for an accepted text
+abbrev pub nodesOf : Converted → List ℕ
+nodesOf c = nodesFrom 0 (c .formula)
+
+pub record Claim (text : List ℕ) (c : Converted) : Type 0 where
+  -- what the reader leaves, whatever stands after it, says what the text does
+  pub reader : (rest : List ℕ) → Says text (nodesOf c ++ rest) (size (c .formula))
+  -- 'A form fits if its definition gives at most 8,192 nodes; then only 18 refuses it'
+  pub fits : (number : ℕ) → number ≤ 2 → (room : ℕ) → size (form number (c .formula)) ≤ maxNodes → size (form number (c .formula)) ≤ room
+      → rewriting number (nodesOf c) room ≡ Done (record { nodes = size (form number (c .formula)); signals = 0 })
+  -- what the rewriter leaves, given the reader's nodes and a form, says what the text does
+  pub rewriter : (number : ℕ) (out : List ℕ) (counts : Counts) → rewriting number (nodesOf c) (length out) ≡ Done counts
+      → Says text (rewritten number (nodesOf c) out) (counts .nodes)
+  -- 'The count of forbidden operators is zero'
+  pub clean : (number : ℕ) (out : List ℕ) (counts : Counts) → rewriting number (nodesOf c) (length out) ≡ Done counts
+      → forbidden number (take (counts .nodes) (rewritten number (nodesOf c) out)) ≡ 0
 
 module _ (text : List ℕ) (c : Converted) (e : meant text ≡ Done c) where
   few : size (c .formula) ≤ maxNodes
@@ -33,43 +50,42 @@ module _ (text : List ℕ) (c : Converted) (e : meant text ≡ Done c) where
   small : SignalsBelow fieldLimit (c .formula)
   small = signals-more (omega arith) (c .formula) (text-signals text c e)
 
-  -- the reader's nodes, whatever stands after them
-  pub reader-says : (rest : List ℕ) → Says text (nodesFrom 0 (c .formula) ++ rest) (size (c .formula))
-  reader-says rest = record {
-    holds = λ w t.
-        subst (λ (g : Formula). TextMeans text w t ↔ Holds g w t)
-        (sym (root-is (c .formula) rest small (let f = few in omega arith)))
-        (text-agrees text c e w t);
-  }
+  reader-says : (rest : List ℕ) → Says text (nodesOf c ++ rest) (size (c .formula))
+  reader-says rest w t =
+      subst (λ (g : Formula). TextMeans text w t ↔ Holds g w t) (sym (root-is (c .formula) rest small (let f = few in omega arith))) (text-agrees text c e w t)
 
-  -- given the reader's nodes and a form, the rewriter refuses by 16 and 18 only
-  pub rewriter-fits : (number : ℕ) → number ≤ 2 → (room : ℕ) → rewriting number (nodesFrom 0 (c .formula)) room ≡ fitting (form number (c .formula)) room
-  rewriter-fits number h room = own-rewriting number (c .formula) room h small few
+  form-fits : (number : ℕ) → number ≤ 2 → (room : ℕ) → size (form number (c .formula)) ≤ maxNodes → size (form number (c .formula)) ≤ room
+      → rewriting number (nodesOf c) room ≡ Done (record { nodes = size (form number (c .formula)); signals = 0 })
+  form-fits number h room k l = own-rewriting number (c .formula) room h small few ∙ fitting-good (form number (c .formula)) room k l
 
-  -- what it leaves says what the text does, and holds no node that the form forbids
-  pub rewriter-says : (number : ℕ) (out : List ℕ) (counts : Counts) → rewriting number (nodesFrom 0 (c .formula)) (length out) ≡ Done counts
-      → Says text (rewritten number (nodesFrom 0 (c .formula)) out) (counts .nodes) × (forbidden number (take (counts .nodes) (rewritten number (nodesFrom 0 (c .formula)) out)) ≡ 0)
-  rewriter-says number out counts q =
-      let nodes : List ℕ = nodesFrom 0 (c .formula) in
-      let a = rewriter-accepts (length out) q in
-      let n : counts .nodes ≡ size (target number nodes) = ap (λ (k : Counts). k .nodes) (a .counts) in
-      rw (q, n) (
-        record {
-          holds = λ w t.
-              Iff·trans (text-agrees text c e w t)
-              (Iff·symm (subst (λ (g : Formula). NodeHolds (nodesFrom 0 (target number nodes) ++ drop (size (target number nodes)) out) (size (target number nodes) - 1) w t ↔ Holds g w t)
-              (own-root (c .formula) small few) (written-holds number nodes out a w t)));
-        },
-        written-clean number nodes out a,
-      )
+  module _ (number : ℕ) (out : List ℕ) (counts : Counts) (q : rewriting number (nodesOf c) (length out) ≡ Done counts) where
+    rewriter-says : Says text (rewritten number (nodesOf c) out) (counts .nodes)
+    rewriter-says w t =
+        let a = rewriter-accepts (length out) q in
+        let n : counts .nodes ≡ size (target number (nodesOf c)) = ap (λ (k : Counts). k .nodes) (a .counts) in
+        let f : Formula = target number (nodesOf c) in
+        rw (q, n) (Iff·trans (text-agrees text c e w t)
+        (Iff·symm (subst (λ (g : Formula). NodeHolds (nodesFrom 0 f ++ drop (size f) out) (size f - 1) w t ↔ Holds g w t)
+        (own-root (c .formula) small few) (written-holds number (nodesOf c) out a w t))))
 
--- the reader: an accepted answer leaves nodes whose root holds where the text does
+    rewriter-clean : forbidden number (take (counts .nodes) (rewritten number (nodesOf c) out)) ≡ 0
+    rewriter-clean =
+        let a = rewriter-accepts (length out) q in
+        let n : counts .nodes ≡ size (target number (nodesOf c)) = ap (λ (k : Counts). k .nodes) (a .counts) in
+        rw (q, n) (written-clean number (nodesOf c) out a)
+
+-- demand 3: for every text's bytes that are accepted
+pub demand-3 : (text : List ℕ) (c : Converted) → meant text ≡ Done c → Claim text c
+demand-3 text c e = record { reader = reader-says text c e; fits = form-fits text c e; rewriter = rewriter-says text c e; clean = rewriter-clean text c e }
+
+-- the same from the reader's whole answer, on buffers of any length
 pub reader-claim : (text : List ℕ) (work signals : ℕ) (nodes : List ℕ) (c : Converted) → reading text work (length nodes) signals ≡ Done c
-    → Says text (nodesAfter (Done c) nodes) (size (c .formula))
+    → Claim text c × Says text (nodesAfter (Done c) nodes) (size (c .formula))
 unfolding reading
 reader-claim text work signals nodes c e =
     let a = guard-done _ 17 0 _ e in
     let b = bind-done (meant text) _ (a .1) in
     let g = guard-done _ 18 0 _ (b .2) in
     let same : b .0 ≡ c = cc in
-    reader-says text c (b .1 ∙ ap Done same) (drop (size (c .formula)) nodes)
+    let d = demand-3 text c (b .1 ∙ ap Done same) in
+    (d, d .reader (drop (size (c .formula)) nodes))
