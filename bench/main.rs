@@ -95,7 +95,25 @@ fn tree(random: &mut Random, leaves: u64, nodes: &mut Vec<u32>) -> u32 {
     nodes.len() as u32 - 1
 }
 
-/// The straightforward evaluator: a vector of truth values for each node, backwards round the loop twice.
+/// A temporal operator, backwards round the loop twice.
+fn temporal(code: u32, a: &[bool], b: &[bool], start: usize, row: &mut [bool]) {
+    let step = |p: usize, v: bool| match code {
+        9 => a[p] && v,
+        10 => a[p] || v,
+        11 | 13 => b[p] || (a[p] && v),
+        _ => b[p] && (a[p] || v),
+    };
+    let mut v = matches!(code, 9 | 12 | 13);
+    for p in (start..row.len()).rev() {
+        v = step(p, v);
+    }
+    for p in (0..row.len()).rev() {
+        v = step(p, v);
+        row[p] = v;
+    }
+}
+
+/// The straightforward evaluator: a vector of truth values for each node.
 fn evaluate(nodes: &[u32], recording: &[u8], rows: &mut [u8]) {
     let header = u32::from_be_bytes([recording[0], recording[1], recording[2], recording[3]]);
     let (n, l, k) = (
@@ -103,52 +121,29 @@ fn evaluate(nodes: &[u32], recording: &[u8], rows: &mut [u8]) {
         (header >> 8 & 0xfff) as usize,
         (header & 0xff) as usize,
     );
-    let width = n.div_ceil(8);
+    let present = |p: usize, signal: usize| {
+        let bit = 32 + p * k + signal;
+        signal < k && recording[bit / 8] >> (7 - bit % 8) & 1 == 1
+    };
     let mut values: Vec<Vec<bool>> = Vec::with_capacity(nodes.len());
-    for (i, &node) in nodes.iter().enumerate() {
+    for (&node, bytes) in nodes.iter().zip(rows.chunks_mut(n.div_ceil(8))) {
         let mut row = vec![false; n];
-        let a = values.get(first(node));
-        let b = values.get(second(node));
-        let (a, b) = (a.map_or(&[][..], |v| v), b.map_or(&[][..], |v| v));
+        let operand = |i: usize| values.get(i).map_or(&[][..], |v| v);
+        let (a, b) = (operand(first(node)), operand(second(node)));
         match kind(node) {
             0 => row.fill(true),
             1 => {}
-            2 => {
-                for p in 0..n {
-                    let bit = 32 + p * k + first(node);
-                    row[p] = first(node) < k && recording[bit / 8] >> (7 - bit % 8) & 1 == 1;
-                }
-            }
+            2 => (0..n).for_each(|p| row[p] = present(p, first(node))),
             3 => (0..n).for_each(|p| row[p] = !a[p]),
             4 => (0..n).for_each(|p| row[p] = a[p] && b[p]),
             5 => (0..n).for_each(|p| row[p] = a[p] || b[p]),
             6 => (0..n).for_each(|p| row[p] = !a[p] || b[p]),
             7 => (0..n).for_each(|p| row[p] = a[p] == b[p]),
             8 => (0..n).for_each(|p| row[p] = a[if p + 1 < n { p + 1 } else { l }]),
-            code => {
-                let step = |p: usize, v: bool| match code {
-                    9 => a[p] && v,
-                    10 => a[p] || v,
-                    11 | 13 => b[p] || (a[p] && v),
-                    _ => b[p] && (a[p] || v),
-                };
-                let mut v = matches!(code, 9 | 12 | 13);
-                for p in (l..n).rev() {
-                    v = step(p, v);
-                }
-                for p in (0..n).rev() {
-                    v = step(p, v);
-                    row[p] = v;
-                }
-            }
+            code => temporal(code, a, b, l, &mut row),
         }
-        for p in 0..n {
-            let byte = &mut rows[i * width + p / 8];
-            if p % 8 == 0 {
-                *byte = 0;
-            }
-            *byte |= (row[p] as u8) << (7 - p % 8);
-        }
+        bytes.fill(0);
+        (0..n).for_each(|p| bytes[p / 8] |= (row[p] as u8) << (7 - p % 8));
         values.push(row);
     }
 }
@@ -223,10 +218,9 @@ fn report(job: &str, library: f64, plain: f64) {
     );
 }
 
-fn main() {
-    let mut random = Random(0x9e37_79b9_7f4a_7c15);
-    let nodes = table(&mut random, 8192, 16);
-    let word = recording(&mut random, 2048, 1000, 16);
+fn bench_evaluation(random: &mut Random) {
+    let nodes = table(random, 8192, 16);
+    let word = recording(random, 2048, 1000, 16);
     let mut proved = vec![0u8; 8192 * 256];
     let mut plain = vec![0u8; 8192 * 256];
     let library = best(|| {
@@ -255,20 +249,25 @@ fn main() {
         library,
         straightforward,
     );
+}
 
-    let mut source = Vec::new();
-    let mut written = Vec::new();
+/// The largest tree of a run of seeds whose negation form fits a table, and that form.
+fn fitting_tree() -> (Vec<u32>, Vec<u32>) {
     for leaves in (500..4000).rev() {
-        source.clear();
-        written.clear();
+        let (mut source, mut written) = (Vec::new(), Vec::new());
         tree(&mut Random(leaves + 1), leaves, &mut source);
         if source.len() <= 8192 {
             negation(&source, source.len() - 1, false, &mut written);
             if written.len() <= 8192 {
-                break;
+                return (source, written);
             }
         }
     }
+    panic!("no tree fits");
+}
+
+fn bench_rewriting() {
+    let (source, expected) = fitting_tree();
     let mut out = vec![0u32; 8192];
     let library = best(|| {
         out.fill(0);
@@ -281,21 +280,23 @@ fn main() {
                 out.len(),
             )
         };
-        assert_eq!(answer, (written.len() as u64) << 32);
+        assert_eq!(answer, (expected.len() as u64) << 32);
     });
-    let expected = written.clone();
+    let mut written = Vec::with_capacity(8192);
     let straightforward = best(|| {
         written.clear();
         negation(&source, source.len() - 1, false, &mut written);
     });
     assert!(out[..expected.len()] == expected[..], "the nodes differ");
-    report(
-        &format!(
-            "rewrite to negation form, {} nodes to {}",
-            source.len(),
-            expected.len()
-        ),
-        library,
-        straightforward,
+    let job = format!(
+        "rewrite to negation form, {} nodes to {}",
+        source.len(),
+        expected.len()
     );
+    report(&job, library, straightforward);
+}
+
+fn main() {
+    bench_evaluation(&mut Random(0x9e37_79b9_7f4a_7c15));
+    bench_rewriting();
 }

@@ -29,7 +29,9 @@ const GUARD: usize = 64;
 fn packed(answer: Answer) -> u64 {
     match answer {
         Answer::Accepted { nodes, signals } => (nodes as u64) << 32 | signals as u64,
-        Answer::Refused(refusal) => 1 << 63 | u64::from(refusal.number) << 32 | refusal.place as u64,
+        Answer::Refused(refusal) => {
+            1 << 63 | u64::from(refusal.number) << 32 | refusal.place as u64
+        }
     }
 }
 
@@ -56,30 +58,51 @@ fn room(rng: &mut Prng, due: usize) -> usize {
 
 fn compare_rewriting(rng: &mut Prng, tally: &mut Tally) {
     let nodes = tables::table(rng, 300);
-    let form = if rng.one_in(20) { rng.next() as u32 } else { rng.below(3) as u32 };
+    let form = if rng.one_in(20) {
+        rng.draw() as u32
+    } else {
+        rng.below(3) as u32
+    };
     let due = rewriter::rewrite(&nodes, form, usize::MAX).nodes.len();
     let room = room(rng, due);
     let expected = rewriter::rewrite(&nodes, form, room);
-    let before: Vec<u32> = (0..room + 2 * GUARD).map(|_| rng.next() as u32).collect();
+    let before: Vec<u32> = (0..room + 2 * GUARD).map(|_| rng.draw() as u32).collect();
     let mut after = before.clone();
-    let answer = unsafe { tlsf_rewrite(nodes.as_ptr(), nodes.len(), form, after[GUARD..].as_mut_ptr(), room) };
+    let answer = unsafe {
+        tlsf_rewrite(
+            nodes.as_ptr(),
+            nodes.len(),
+            form,
+            after[GUARD..].as_mut_ptr(),
+            room,
+        )
+    };
     let mut wanted = before;
     wanted[GUARD..GUARD + expected.nodes.len()].copy_from_slice(&expected.nodes);
     if answer != packed(expected.answer) || after != wanted {
-        println!("nodes {nodes:08x?} form {form} room {room}: library {answer:#x}, second {:?}", expected.answer);
+        println!(
+            "nodes {nodes:08x?} form {form} room {room}: library {answer:#x}, second {:?}",
+            expected.answer
+        );
         std::process::exit(1);
     }
     count(tally, expected.answer);
 }
 
 fn compare_evaluation(rng: &mut Prng, tally: &mut Tally) {
-    let signals = if rng.one_in(30) { rng.between(250, 260) } else { rng.below(9) };
+    let signals = if rng.one_in(30) {
+        rng.between(250, 260)
+    } else {
+        rng.below(9)
+    };
     let nodes = tables::table(rng, signals);
     let recording = recordings::recording(rng, signals.min(255));
-    let due = evaluator::evaluate(&nodes, signals, &recording, usize::MAX).rows.len();
+    let due = evaluator::evaluate(&nodes, signals, &recording, usize::MAX)
+        .rows
+        .len();
     let room = room(rng, due);
     let expected = evaluator::evaluate(&nodes, signals, &recording, room);
-    let before: Vec<u8> = (0..room + 2 * GUARD).map(|_| rng.next() as u8).collect();
+    let before: Vec<u8> = (0..room + 2 * GUARD).map(|_| rng.draw() as u8).collect();
     let mut after = before.clone();
     let answer = unsafe {
         tlsf_evaluate(
@@ -114,7 +137,10 @@ fn report(job: &str, seed: u64, tally: &Tally) {
 }
 
 fn main() {
-    let arguments: Vec<u64> = std::env::args().skip(1).filter_map(|word| word.parse().ok()).collect();
+    let arguments: Vec<u64> = std::env::args()
+        .skip(1)
+        .filter_map(|word| word.parse().ok())
+        .collect();
     let [seed, times] = arguments[..] else {
         eprintln!("usage: compare SEED COUNT");
         std::process::exit(2);

@@ -1,7 +1,7 @@
-//! A second converter from TLSF v1.1 to LTL nodes, written from the papers alone.
+//! A second converter from TLSF v1.1 to LTL nodes, written from the papers and the readings of `docs/DECISIONS.md`.
 //!
 //! Document 01 is the authority; comments name the rule that a function follows,
-//! either by a sentence of document 01 or by a ruling's letter and number (T5, G12).
+//! either by a sentence of document 01 or by a reading's letter and number (T5, G12).
 
 pub mod answer;
 pub mod enumeration;

@@ -4,22 +4,25 @@ use Prim.Native.Nat.{ℕ, _-_, _≤_}
 use mathlib.Core.Path.{_≡_, ap, _∙_, sym, subst}
 use mathlib.Core.Logic.{_↔_, Iff·trans, Iff·symm}
 use mathlib.Core.List.{List, _++_}
+use lib.Dec.{leb}
 use lib.ListN.{length, take, drop}
+use lib.Seq.{take-at}
+use borrow.Author.Tests.{le-leb}
 use native.Mathlib.Omega.{arith}
 use Rattle.node.specs.Limits.{maxNodes, fieldLimit}
 use Rattle.node.specs.Ltl.{Formula, Word, Holds}
-use Rattle.node.specs.Result.{Done, Counts}
-use Rattle.node.specs.ResultLaws.{bind-done, guard-done}
+use Rattle.node.specs.Result.{Done, guard, Counts}
+use Rattle.node.specs.ResultLaws.{bind-done, guard-done, guard-pass}
 use Rattle.node.specs.Table.{NodeHolds}
 use Rattle.node.specs.Postorder.{size, nodesFrom, SignalsBelow}
-use Rattle.node.specs.PostorderLaws.{root-is, signals-more}
+use Rattle.node.specs.PostorderLaws.{length-nodes, root-is, signals-more}
 use Rattle.forms.specs.Forms.{form}
 use Rattle.forms.specs.Forbidden.{forbidden}
-use Rattle.rewriter.specs.Rewriting.{rewriting, rewritten, target}
-use Rattle.rewriter.specs.RewritingLaws.{accepts as rewriter-accepts, fitting-good, written-holds, written-clean}
+use Rattle.rewriter.specs.Rewriting.{fitting, rewriting, rewritten, target}
+use Rattle.rewriter.specs.RewritingLaws.{accepts as rewriter-accepts, written-holds, written-clean}
 use Rattle.rewriter.specs.OwnNodes.{own-root, own-rewriting}
 use Rattle.language.specs.Meaning.{TextMeans}
-use Rattle.language.specs.Reading.{Converted, meant, reading, nodesAfter}
+use Rattle.language.specs.Reading.{Converted, counts, meant, reading, nodesAfter}
 use Rattle.language.specs.Laws.Meaning.Acceptance.{accepts, text-agrees, text-signals}
 
 -- the nodes that stand in a buffer, n of them: their root, the last, holds where the text does
@@ -34,12 +37,12 @@ pub record Claim (text : List ℕ) (c : Converted) : Type 0 where
   -- what the reader leaves, whatever stands after it, says what the text does
   pub reader : (rest : List ℕ) → Says text (nodesOf c ++ rest) (size (c .formula))
   -- 'A form fits if its definition gives at most 8,192 nodes; then only 18 refuses it'
-  pub fits : (number : ℕ) → number ≤ 2 → (room : ℕ) → size (form number (c .formula)) ≤ maxNodes → size (form number (c .formula)) ≤ room
-      → rewriting number (nodesOf c) room ≡ Done (record { nodes = size (form number (c .formula)); signals = 0 })
+  pub fits : (number : ℕ) → number ≤ 2 → (room : ℕ) → size (form number (c .formula)) ≤ maxNodes
+      → rewriting number (nodesOf c) room ≡ guard (leb (size (form number (c .formula))) room) 18 0 (Done (record { nodes = size (form number (c .formula)); signals = 0 }))
   -- what the rewriter leaves, given the reader's nodes and a form, says what the text does
   pub rewriter : (number : ℕ) (out : List ℕ) (counts : Counts) → rewriting number (nodesOf c) (length out) ≡ Done counts
       → Says text (rewritten number (nodesOf c) out) (counts .nodes)
-  -- 'The count of forbidden operators is zero'
+  -- no node that the form forbids
   pub clean : (number : ℕ) (out : List ℕ) (counts : Counts) → rewriting number (nodesOf c) (length out) ≡ Done counts
       → forbidden number (take (counts .nodes) (rewritten number (nodesOf c) out)) ≡ 0
 
@@ -54,9 +57,10 @@ module _ (text : List ℕ) (c : Converted) (e : meant text ≡ Done c) where
   reader-says rest w t =
       subst (λ (g : Formula). TextMeans text w t ↔ Holds g w t) (sym (root-is (c .formula) rest small (let f = few in omega arith))) (text-agrees text c e w t)
 
-  form-fits : (number : ℕ) → number ≤ 2 → (room : ℕ) → size (form number (c .formula)) ≤ maxNodes → size (form number (c .formula)) ≤ room
-      → rewriting number (nodesOf c) room ≡ Done (record { nodes = size (form number (c .formula)); signals = 0 })
-  form-fits number h room k l = own-rewriting number (c .formula) room h small few ∙ fitting-good (form number (c .formula)) room k l
+  form-fits : (number : ℕ) → number ≤ 2 → (room : ℕ) → size (form number (c .formula)) ≤ maxNodes
+      → rewriting number (nodesOf c) room ≡ guard (leb (size (form number (c .formula))) room) 18 0 (Done (record { nodes = size (form number (c .formula)); signals = 0 }))
+  unfolding fitting
+  form-fits number h room k = own-rewriting number (c .formula) room h small few ∙ guard-pass 16 0 _ (le-leb (size (form number (c .formula))) maxNodes k)
 
   module _ (number : ℕ) (out : List ℕ) (counts : Counts) (q : rewriting number (nodesOf c) (length out) ≡ Done counts) where
     rewriter-says : Says text (rewritten number (nodesOf c) out) (counts .nodes)
@@ -78,9 +82,17 @@ module _ (text : List ℕ) (c : Converted) (e : meant text ≡ Done c) where
 pub demand-3 : (text : List ℕ) (c : Converted) → meant text ≡ Done c → Claim text c
 demand-3 text c e = record { reader = reader-says text c e; fits = form-fits text c e; rewriter = rewriter-says text c e; clean = rewriter-clean text c e }
 
--- the same from the reader's whole answer, on buffers of any length
-pub reader-claim : (text : List ℕ) (work signals : ℕ) (nodes : List ℕ) (c : Converted) → reading text work (length nodes) signals ≡ Done c
-    → Claim text c × Says text (nodesAfter (Done c) nodes) (size (c .formula))
+-- the nodes that the reader has told and left, taken from the buffer, are those of the claim
+pub left-nodes : (c : Converted) (nodes : List ℕ) → take (counts c .nodes) (nodesAfter (Done c) nodes) ≡ nodesOf c
+left-nodes c nodes = take-at (nodesOf c) (drop (size (c .formula)) nodes) (size (c .formula)) (length-nodes 0 (c .formula))
+
+-- what the reader's whole answer says, on buffers of any length: the claim, the root that stands in the lent buffer behind the count told, and the nodes to hand on
+pub record Leaves (text nodes : List ℕ) (c : Converted) : Type 0 where
+  pub claim : Claim text c
+  pub root : Says text (nodesAfter (Done c) nodes) (counts c .nodes)
+  pub handed : take (counts c .nodes) (nodesAfter (Done c) nodes) ≡ nodesOf c
+
+pub reader-claim : (text : List ℕ) (work signals : ℕ) (nodes : List ℕ) (c : Converted) → reading text work (length nodes) signals ≡ Done c → Leaves text nodes c
 unfolding reading
 reader-claim text work signals nodes c e =
     let a = guard-done _ 17 0 _ e in
@@ -88,4 +100,4 @@ reader-claim text work signals nodes c e =
     let g = guard-done _ 18 0 _ (b .2) in
     let same : b .0 ≡ c = cc in
     let d = demand-3 text c (b .1 ∙ ap Done same) in
-    (d, d .reader (drop (size (c .formula)) nodes))
+    record { claim = d; root = d .reader (drop (size (c .formula)) nodes); handed = left-nodes c nodes }

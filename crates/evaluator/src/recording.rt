@@ -37,6 +37,7 @@ fn field(bytes: &[u8], at: usize, count: usize) -> u32
     v
 }
 
+// The header: 12 bits positions, 12 bits loop start, 8 bits signal count.
 pub fn read_lasso(recording: &[u8]) -> Lasso
     requires { ⌜ headerBytes ≤ length (now recording) ⌝ }
     ensures { λ r. ⌜ r ≡ lassoOf (now (recording .entry)) ⌝ }

@@ -1,4 +1,5 @@
 -- How a case is written: texts around their lines, and what the definitions make of them.
+pub mod Every
 pub mod Starred
 pub mod Slips
 use Prim.Native.Nat.{ℕ, zero, suc, _+_, _*_, _/_, _%_}

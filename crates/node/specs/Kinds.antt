@@ -35,6 +35,11 @@ binaryKind U = 11
 binaryKind R = 12
 binaryKind W = 13
 
+-- the kinds in their order: true, false, signal, then the operators
+abbrev pub kinds : List ℕ
+kinds =
+    0 ∷ 1 ∷ 2 ∷ unaryKind Not ∷ binaryKind And ∷ binaryKind Or ∷ binaryKind Implies ∷ binaryKind Iff ∷ unaryKind X ∷ unaryKind G ∷ unaryKind F ∷ binaryKind U ∷ binaryKind R ∷ binaryKind W ∷ []
+
 -- the formula of a node with operands a and b, where `tree` gives the operands' formulas
 abbrev pub build : Shape → (ℕ → Formula) → ℕ → ℕ → Formula
 build Truth tree a b = True

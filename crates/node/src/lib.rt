@@ -3,7 +3,7 @@ ghost use mathlib.Core.Path.{_≡_};
 ghost use Prim.Native.Nat.{_<_};
 ghost use Rattle.node.specs.Limits.{fieldLimit};
 ghost use Rattle.node.specs.Fields.{pack, kindOf, firstOf, secondOf};
-ghost use Rattle.node.specs.Kinds.{shapeOf};
+ghost use Rattle.node.specs.Kinds.{shapeOf, kinds as kinds'};
 ghost use Rattle.node.specs.Table.{nodeFits, checked};
 ghost use Rattle.node.specs.TableLaws.{classOf};
 ghost use Rattle.node.specs.Answer.{says};
@@ -16,6 +16,9 @@ pub enum Answer {
 
 // A table has 1 to 8,192 nodes.
 pub const MAX_NODES: usize = 8192;
+
+// One more than a 14-bit field of a node can hold.
+pub const FIELD_LIMIT: u32 = 16384;
 
 // The number of a refused table (document 01, 19).
 pub const BAD_TABLE: u32 = 19;
@@ -53,13 +56,35 @@ impl Node {
 
     pub const WEAK_UNTIL: u32 = 13;
 
+    // The kinds in document 01's order: what the constants stand for.
+    pub fn kinds() -> [u32; 14]
+        ensures { λ r. ⌜ r ≡ kinds' ⌝ }
+    {
+        [
+            Node::TRUE,
+            Node::FALSE,
+            Node::SIGNAL,
+            Node::NOT,
+            Node::AND,
+            Node::OR,
+            Node::IMPLIES,
+            Node::IFF,
+            Node::NEXT,
+            Node::GLOBALLY,
+            Node::FINALLY,
+            Node::UNTIL,
+            Node::RELEASE,
+            Node::WEAK_UNTIL,
+        ]
+    }
+
     // A node of two operands. Like the other two constructors it is no entry point: its callers have bounded the fields, and show it.
     pub fn binary(kind: u32, first: u32, second: u32) -> Node
         requires { ⌜ (kind < 16) × ((first < fieldLimit) × (second < fieldLimit)) ⌝ }
         ensures { λ r. ⌜ r .word ≡ pack kind first second ⌝ }
     {
         Node {
-            word: (kind * 16384 + first) * 16384 + second,
+            word: (kind * FIELD_LIMIT + first) * FIELD_LIMIT + second,
         }
     }
 
@@ -82,19 +107,19 @@ impl Node {
     pub fn kind(self) -> u32
         ensures { λ r. ⌜ r ≡ kindOf (self .word) ⌝ }
     {
-        self.word / 16384 / 16384
+        self.word / FIELD_LIMIT / FIELD_LIMIT
     }
 
     pub fn first(self) -> u32
         ensures { λ r. ⌜ r ≡ firstOf (self .word) ⌝ }
     {
-        self.word / 16384 % 16384
+        self.word / FIELD_LIMIT % FIELD_LIMIT
     }
 
     pub fn second(self) -> u32
         ensures { λ r. ⌜ r ≡ secondOf (self .word) ⌝ }
     {
-        self.word % 16384
+        self.word % FIELD_LIMIT
     }
 }
 

@@ -29,7 +29,7 @@ pub const RESULT_SHORT: u32 = 18;
 pub const BAD_FORM: u32 = 21;
 
 // The rewriter is told no signals: a table may have any signal number that a field holds.
-const SIGNAL_LIMIT: u32 = 16384;
+const SIGNAL_LIMIT: u32 = node::FIELD_LIMIT;
 
 // A node's formula in a form.
 fn write_form(nodes: &[u32], form: u32, i: usize, out: &mut [u32], at: usize) -> Written

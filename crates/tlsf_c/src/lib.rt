@@ -1,4 +1,5 @@
-// The library for callers in C and Rust: a slice is a pointer and a length, the answer one 64-bit word.
+// The library for callers in C and Rust: a slice is a pointer and a length, the answer one 64-bit word. include/tlsf.h declares it, and says what the caller of a
+// pointer owes.
 ghost use mathlib.Core.Path.{_≡_};
 ghost use Rattle.node.specs.Answer.{says};
 ghost use Rattle.rewriter.specs.Promise.{Rewrites};

@@ -1,5 +1,6 @@
 //! Writes the stored cases of the crate `second_cases`: texts, tables and recordings with the answers that this converter gives, for the definitions to be computed
-//! against. `stored write DIR` writes the files, `stored check DIR` tells whether they are what would be written.
+//! against. `stored write DIR` writes the files, `stored check DIR` tells whether they are what would be written, and `stored fresh DIR SEED COUNT` writes COUNT other
+//! texts in their place.
 
 use second::answer::Answer;
 use second::generate::prng::Prng;
@@ -44,12 +45,14 @@ fn longest(number: u32) -> usize {
     }
 }
 
+/// The longest fresh text.
+const FRESH_LONGEST: usize = 300;
+
 /// Is the text worked out in few steps? Large numerals make long stacks of X.
-fn light(text: &[u8], number: u32, nodes: usize) -> bool {
+fn light(text: &[u8], number: u32) -> bool {
     let small = |run: &[u8]| run.len() < 4;
     let worked_out = number == 0 || number > 10;
-    text.len() <= longest(number)
-        && nodes <= 60
+    !matches!(number, 1 | 3 | 16)
         && (!worked_out || text.split(|byte| !byte.is_ascii_digit()).all(small))
 }
 
@@ -91,6 +94,29 @@ fn counts(answer: &Answer) -> String {
     }
 }
 
+fn text_case(text: &[u8], reading: &reader::Reading) -> String {
+    let answer = expected(
+        &reading.answer,
+        list(&reading.nodes),
+        list(&reading.signals),
+    );
+    format!("record {{ bytes = {}; expected = {answer} }}", bytes(text))
+}
+
+/// Texts of any answer that is worked out in few steps.
+fn fresh_texts(seed: u64, count: usize) -> Vec<String> {
+    let mut rng = Prng::new(seed);
+    let mut cases = Vec::new();
+    while cases.len() < count {
+        let text = generate::short_text(&mut rng, FRESH_LONGEST);
+        let reading = reader::read_freely(&text);
+        if light(&text, number_of(&reading.answer)) && reading.nodes.len() <= 600 {
+            cases.push(text_case(&text, &reading));
+        }
+    }
+    cases
+}
+
 fn texts() -> Vec<String> {
     let mut rng = Prng::new(SEED);
     let mut left = BTreeMap::from(STORED);
@@ -102,17 +128,10 @@ fn texts() -> Vec<String> {
         let Some(many) = left.get_mut(&number) else {
             continue;
         };
-        if *many > 0 && light(&text, number, reading.nodes.len()) {
+        let short = text.len() <= longest(number) && reading.nodes.len() <= 60;
+        if *many > 0 && short && light(&text, number) {
             *many -= 1;
-            let answer = expected(
-                &reading.answer,
-                list(&reading.nodes),
-                list(&reading.signals),
-            );
-            cases.push(format!(
-                "record {{ bytes = {}; expected = {answer} }}",
-                bytes(&text)
-            ));
+            cases.push(text_case(&text, &reading));
         }
     }
     cases
@@ -231,7 +250,7 @@ use Rattle.evaluator.specs.Evaluation.{evaluation}
 };
 
 /// One file: a statement for every few cases, each proved by computing.
-fn file(kind: &Kind, cases: &[String]) -> String {
+fn file(kind: &Kind, cases: &[String], together: usize) -> String {
     let mut text = format!(
         "-- Written by the second converter: cases with its answers, each computed from the definitions.
 use mathlib.Core.Bool.{{true}}
@@ -241,7 +260,7 @@ use mathlib.Core.Path.{{_≡_, refl}}
 ",
         kind.uses, kind.item, kind.test
     );
-    for (i, few) in cases.chunks(TOGETHER).enumerate() {
+    for (i, few) in cases.chunks(together).enumerate() {
         let listed = few.join(" ∷\n    ");
         write!(
             text,
@@ -264,16 +283,15 @@ held-{i} = refl
     text
 }
 
-/// All files by their names.
-fn files() -> Vec<(String, String)> {
+/// The files of some kinds of cases by their names, and the list of them.
+fn files(kinds: Vec<(&Kind, Vec<String>)>, together: usize) -> Vec<(String, String)> {
     let mut files = Vec::new();
-    for (kind, cases) in [
-        (&TEXTS, texts()),
-        (&FORMS, form_cases()),
-        (&ROWS, recording_cases()),
-    ] {
-        for (i, part) in cases.chunks(TOGETHER * STATEMENTS).enumerate() {
-            files.push((format!("{}{}", kind.file, i + 1), file(kind, part)));
+    for (kind, cases) in kinds {
+        for (i, part) in cases.chunks(together * STATEMENTS).enumerate() {
+            files.push((
+                format!("{}{}", kind.file, i + 1),
+                file(kind, part, together),
+            ));
         }
     }
     let modules: String = files
@@ -284,19 +302,49 @@ fn files() -> Vec<(String, String)> {
     files
 }
 
-fn main() {
-    let arguments: Vec<String> = std::env::args().skip(1).collect();
-    let [command, directory] = &arguments[..] else {
-        eprintln!("usage: stored write DIR | stored check DIR");
-        std::process::exit(2);
-    };
-    for (name, text) in files() {
+fn stored_files() -> Vec<(String, String)> {
+    let kinds = vec![
+        (&TEXTS, texts()),
+        (&FORMS, form_cases()),
+        (&ROWS, recording_cases()),
+    ];
+    files(kinds, TOGETHER)
+}
+
+fn write(directory: &str, files: Vec<(String, String)>) {
+    for (name, text) in files {
         let path = Path::new(directory).join(format!("{name}.antt"));
-        if command == "write" {
-            std::fs::write(&path, text).expect("the file can be written");
-        } else if std::fs::read_to_string(&path).ok().as_ref() != Some(&text) {
+        std::fs::write(&path, text).expect("the file can be written");
+    }
+}
+
+fn check(directory: &str, files: Vec<(String, String)>) {
+    for (name, text) in files {
+        let path = Path::new(directory).join(format!("{name}.antt"));
+        if std::fs::read_to_string(&path).ok().as_ref() != Some(&text) {
             println!("{} is not what would be written", path.display());
             std::process::exit(1);
+        }
+    }
+}
+
+fn main() {
+    let words: Vec<String> = std::env::args().skip(1).collect();
+    let words: Vec<&str> = words.iter().map(String::as_str).collect();
+    match words[..] {
+        ["write", directory] => write(directory, stored_files()),
+        ["check", directory] => check(directory, stored_files()),
+        ["fresh", directory, seed, count] => {
+            let seed = seed.parse().expect("a seed is a number");
+            let count = count.parse().expect("a count is a number");
+            write(
+                directory,
+                files(vec![(&TEXTS, fresh_texts(seed, count))], 1),
+            );
+        }
+        _ => {
+            eprintln!("usage: stored write DIR | stored check DIR | stored fresh DIR SEED COUNT");
+            std::process::exit(2);
         }
     }
 }

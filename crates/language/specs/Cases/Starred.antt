@@ -1,10 +1,9 @@
 -- The starred cases of document 01 that speak of texts, in one table with one statement that covers it; and the limits that it says pass.
 use Prim.Native.Nat.{ℕ}
 use Prim.Native.String.{String}
-use mathlib.Core.Bool.{Bool, true, false, So, So-prop, false≢true, _&&_, and-eq-true-iff}
-use mathlib.Core.List.{List, [], _∷_, _++_, map, List·Mem, not-mem-nil, eq-or-mem-of-mem-cons}
-use mathlib.Core.Logic.{Or·elim}
-use mathlib.Core.Path.{_≡_, refl, sym, ap, subst}
+use mathlib.Core.Bool.{Bool, false, So, false≢true, _&&_}
+use mathlib.Core.List.{List, [], _∷_, _++_, map, List·Mem}
+use mathlib.Core.Path.{_≡_, refl, ap}
 use Rattle.node.specs.Fields.{pack}
 use Rattle.node.specs.Ltl.{True, Two, And}
 use Rattle.node.specs.Postorder.{size, nodesFrom}
@@ -16,6 +15,7 @@ use Rattle.language.specs.Values.{Value, Number, Set, Logic, Bus, Unsize
 use Rattle.language.specs.Sections.{expression}
 use Rattle.language.specs.Parsing.{parsed}
 use Rattle.language.specs.Reading.{meant, converted}
+use Rattle.language.specs.Cases.Every.{every, every-each}
 use Rattle.language.specs.Cases.{text, line, repeated, outcome, guaranteed, entry}
 use Rattle.language.specs.Laws.Basics.Tests.{same-equal}
 
@@ -88,29 +88,18 @@ answers (Refused n p) e = false
 abbrev pub passes : Row → Bool
 passes r = answers (answer (r .question)) (r .expected)
 
-abbrev pub pass : List Row → Bool
-pass [] = true
-pass (r ∷ rs) = passes r && pass rs
-
 -- the table, computed
-tested : So (pass starred)
+tested : So (every passes starred)
 unfolding meant parsed converted _>>=_ guard refuseAt size nodesFrom
 tested = refl
 
-answers→eq : (r : Result (List ℕ)) (e : List ℕ) → So (answers r e) → r ≡ Done e
+pub answers→eq : (r : Result (List ℕ)) (e : List ℕ) → So (answers r e) → r ≡ Done e
 answers→eq (Done l) e t = ap Done (same-equal l e t)
 answers→eq (Refused n p) e t = absurd (false≢true t)
 
-passes-each : (l : List Row) → So (pass l) → (r : Row) → List·Mem r l → So (passes r)
-passes-each [] t r m = absurd (not-mem-nil m)
-passes-each (x ∷ l) t r m =
-    let both = and-eq-true-iff (passes x) (pass l) .0 t in
-    Or·elim (So-prop (passes r)) (eq-or-mem-of-mem-cons m) (λ q. subst (λ (y : Row). So (passes y)) (sym q) (both .0))
-    (λ n. passes-each l (both .1) r n)
-
 -- every starred case holds
 pub starred-hold : (r : Row) → List·Mem r starred → answer (r .question) ≡ Done (r .expected)
-starred-hold r m = answers→eq (answer (r .question)) (r .expected) (passes-each starred tested r m)
+starred-hold r m = answers→eq (answer (r .question)) (r .expected) (every-each passes starred tested r m)
 
 -- 'Unmarked: 32,768 bytes .. pass': the file, and blanks
 longest : outcome (text (ascii "MAIN { INPUTS { r; } OUTPUTS { g; } GUARANTEE { G (r -> F g); } }" ++ repeated 32635 " ")) ≡ Done (17, 2)

@@ -8,3 +8,4 @@ pub mod NameBounds
 pub mod SignalBounds
 pub mod SignalLaws
 pub mod TextSignals
+pub mod SignalList

@@ -1,5 +1,8 @@
 -- `pack` meets its contract: the two cases of an answer, packed by sums and products.
+use mathlib.Core.Path.{ap₂}
+use Prim.Native.Nat.{ℕ, _+_, _^_}
 use native.Mathlib.Omega.{arith}
+use Rattle.node.specs.BitFields.{join}
 use borrow.Author.Needs.{needs}
 use Rattle.tlsf_c.proofs.pack.Statement.{statement}
 use Rattle.tlsf_c.proofs.pack.Tie as tie
@@ -41,16 +44,11 @@ add-result-3 c =
     omega arith
 
 returns : tie.Need-returns
-returns c =
-    let e = c .before .wide .ensures in
-    let f = c .wide2 .ensures in
-    rw (c .before .before .before .answer .given .1) (omega arith)
+returns c = rw (c .before .before .before .answer .given .1) (ap₂ (join 32) (c .before .wide .ensures) (c .wide2 .ensures))
 
 returns-2 : tie.Need-returns-2
 returns-2 c =
-    let e = c .before .wide3 .ensures in
-    let f = c .wide4 .ensures in
-    rw (c .before .before .before .answer2 .given .1) (omega arith)
+    rw (c .before .before .before .answer2 .given .1) (ap₂ (λ (n p : ℕ). 2 ^ 63 + join 32 n p) (c .before .wide3 .ensures) (c .wide4 .ensures))
 
 pub pack-spec : {M : Type 1} → statement M
 pack-spec =

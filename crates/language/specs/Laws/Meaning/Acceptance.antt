@@ -31,6 +31,7 @@ use Rattle.language.specs.Laws.Values.ValueLaws.{Sane}
 use Rattle.language.specs.Laws.Values.NameBounds.{names-sane}
 use Rattle.language.specs.Laws.Values.SignalLaws.{list-counted, count-limited}
 use Rattle.language.specs.Laws.Values.TextSignals.{spec-below}
+use Rattle.language.specs.Laws.Values.SignalList.{AllListed, signals-listed}
 use Rattle.language.specs.Laws.Meaning.TextAgreement.{spec-agrees}
 
 -- the first place where the signals are too many, if there is one
@@ -106,3 +107,7 @@ module _ (text : List ℕ) (c : Converted) (e : meant text ≡ Done c) where
   text-sane =
       let a = accepts e in
       names-sane (a .spec) (a .declared) (parsed-proper text (a .parsing)) (a .declaring)
+
+  -- 'signal k being the one numbered k': entry k of its signal list is that of the declared signal or bus bit numbered k
+  pub text-listed : AllListed (accepts e .spec) (accepts e .declared)
+  text-listed = signals-listed (accepts e .spec) (accepts e .declared) (accepts e .declaring)

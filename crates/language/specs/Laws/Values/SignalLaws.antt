@@ -70,7 +70,7 @@ adding-well {defs} {s} x n es d ls f e h k =
       few = split (λ (ps : List ℕ). ps ≡ [] → s .count + n ≤ maxSignals) (leb (s .count + n) maxSignals) (λ c _. leb-true (s .count + n) maxSignals c) (λ _ e. absurd (not-empty (s .excess) (x .at) e));
     }
 
-length-entries : (n : ℕ) (output : Bool) (offset i width : ℕ) → length (entries n output offset i width) ≡ n
+pub length-entries : (n : ℕ) (output : Bool) (offset i width : ℕ) → length (entries n output offset i width) ≡ n
 length-entries zero output offset i width = refl
 length-entries (suc n) output offset i width = ap suc (length-entries n output offset (suc i) width)
 
