@@ -1,10 +1,9 @@
 -- Every starred case of document 01, texts and recordings, in one table with one statement that covers it. A recording is judged on the nodes that the file's own
 -- text gives, with as many signals as its list has.
 use Prim.Native.Nat.{ℕ}
-use mathlib.Core.Bool.{Bool, true, false, So, So-prop, false≢true, _&&_, and-eq-true-iff}
-use mathlib.Core.List.{List, [], _∷_, _++_, map, List·Mem, not-mem-nil, eq-or-mem-of-mem-cons}
-use mathlib.Core.Logic.{Or·elim}
-use mathlib.Core.Path.{_≡_, refl, sym, ap, subst}
+use mathlib.Core.Bool.{Bool, true, false, So, false≢true}
+use mathlib.Core.List.{List, [], _∷_, _++_, map, List·Mem}
+use mathlib.Core.Path.{_≡_, refl, ap}
 use lib.ListN.{length}
 use Rattle.node.specs.Postorder.{size, nodesFrom}
 use Rattle.node.specs.Result.{Result, Done, Refused, _>>=_, guard}
@@ -15,7 +14,7 @@ use Rattle.evaluator.specs.Lasso.{next}
 use Rattle.evaluator.specs.Row.{sweepFrom, around, row}
 use Rattle.evaluator.specs.Evaluation.{evaluation, verdictOf}
 use Rattle.evaluator.specs.Starred.{file}
-use Rattle.language.specs.Bytes.{ascii, same}
+use Rattle.language.specs.Bytes.{ascii}
 use Rattle.language.specs.Places.{refuseAt}
 use Rattle.language.specs.Parsing.{parsed}
 use Rattle.language.specs.Reading.{meant, converted}

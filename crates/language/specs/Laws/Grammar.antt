@@ -14,3 +14,12 @@ pub mod Braces
 pub mod BracesReads
 pub mod Parses
 pub mod RefusedToken
+pub mod Completions
+pub mod CompletionsInRow
+pub mod TokenCompletions
+pub mod ExprCompletions
+pub mod ExpressionCompletions
+pub mod ListCompletions
+pub mod SectionCompletions
+pub mod MainCompletions
+pub mod FirstRefused

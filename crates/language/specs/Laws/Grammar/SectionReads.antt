@@ -87,16 +87,16 @@ module _ (P : Token → Type 0) (b : ℕ) (ts : Tokens) (p : All P ts) where
       (λ _. choose (isOf Name) (λ e. let i = inner-of Name (front rs) refl e in one rs (λ u. OfType x u) i (omega arith) q (v, every-front P rs i q)) (λ _. done (OneSignal x) l q v))
 
 -- of no tokens none of them reads anything
-expression-none : expression [] ≡ stop []
+pub expression-none : expression [] ≡ stop []
 expression-none = bind-refused (operandOf 0 (λ m us. expr 0 m us) loosest []) 4 0 _ refl
 
-parameter-none : parameterOf [] ≡ stop []
+pub parameter-none : parameterOf [] ≡ stop []
 parameter-none = bind-refused (expectOf Name []) 4 0 _ refl
 
-definition-none : definitionOf [] ≡ stop []
+pub definition-none : definitionOf [] ≡ stop []
 definition-none = bind-refused (parameterOf []) 4 0 _ parameter-none
 
-declaration-none : declarationOf [] ≡ stop []
+pub declaration-none : declarationOf [] ≡ stop []
 declaration-none = bind-refused (expectOf Name []) 4 0 _ refl
 
 module _ (P : Token → Type 0) (b : ℕ) (ts : Tokens) (p : All P ts) where
