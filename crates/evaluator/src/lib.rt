@@ -13,6 +13,7 @@ use crate::row::fill_row;
 use node::Answer;
 use node::Node;
 
+// The modules are the crate's own: their functions ask for what `evaluate` has tested before it writes.
 mod bits;
 mod recording;
 mod row;

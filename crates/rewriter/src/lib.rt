@@ -9,6 +9,7 @@ ghost use Rattle.rewriter.specs.Promise.{Rewrites};
 use node::Answer;
 use write::Written;
 
+// The modules are the crate's own: their functions ask for a table that has passed the check, which `rewrite` has made sure of.
 mod copy;
 mod core_form;
 mod negation_form;
