@@ -3,18 +3,7 @@
 
 use std::time::Instant;
 
-extern "C" {
-    fn tlsf_rewrite(nodes: *const u32, count: usize, form: u32, out: *mut u32, room: usize) -> u64;
-    fn tlsf_evaluate(
-        nodes: *const u32,
-        count: usize,
-        signals: u32,
-        recording: *const u8,
-        size: usize,
-        rows: *mut u8,
-        room: usize,
-    ) -> u64;
-}
+include!("../include/tlsf.rs");
 
 const RUNS: usize = 9;
 

@@ -9,18 +9,7 @@ use second::generate::{recordings, tables};
 use second::{evaluator, rewriter};
 use std::collections::BTreeMap;
 
-extern "C" {
-    fn tlsf_rewrite(nodes: *const u32, count: usize, form: u32, out: *mut u32, room: usize) -> u64;
-    fn tlsf_evaluate(
-        nodes: *const u32,
-        count: usize,
-        signals: u32,
-        recording: *const u8,
-        size: usize,
-        rows: *mut u8,
-        room: usize,
-    ) -> u64;
-}
+include!("../include/tlsf.rs");
 
 /// Entries before and after a lent buffer that no call may touch.
 const GUARD: usize = 64;
