@@ -1,4 +1,5 @@
 pub mod Forms
+pub mod Cases
 pub mod Forbidden
 pub mod FormLaws
 pub mod FormSignals

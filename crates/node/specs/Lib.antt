@@ -17,5 +17,6 @@ pub mod FieldLaws
 pub mod KindLaws
 pub mod ResultLaws
 pub mod TableLaws
+pub mod Bounds
 pub mod PostorderLaws
 pub mod Adequacy

@@ -22,13 +22,13 @@ binary-same U h k t = until-same h k t
 binary-same R h k t = release-same h k t
 binary-same W h k t = weak-same h k t
 
-stable-unary : (o : Unary) {P : Property} → StableAll P → StableAll (UnaryMeans o P)
+pub stable-unary : (o : Unary) {P : Property} → StableAll P → StableAll (UnaryMeans o P)
 stable-unary Not s t = stable-not
 stable-unary X s t = s (suc t)
 stable-unary G s t = stable-always s t
 stable-unary F s t = stable-not
 
-stable-binary : (o : Binary) {P Q : Property} → StableAll P → StableAll Q → StableAll (BinaryMeans o P Q)
+pub stable-binary : (o : Binary) {P Q : Property} → StableAll P → StableAll Q → StableAll (BinaryMeans o P Q)
 stable-binary And s u t = stable-and (s t) (u t)
 stable-binary Or s u t = stable-not
 stable-binary Implies s u t = stable-to (u t)

@@ -6,6 +6,7 @@ use mathlib.Core.Bool.{Bool, true, false, _&&_}
 use lib.ListN.{length, getD, length-append, List·getD-append, drop, drop-of-length-le}
 use lib.Seq.{getD-append-seam, drop-cons}
 use lib.Dec.{ltb, leb, eqb, T}
+use native.Mathlib.Decide.{decLt}
 use native.Mathlib.Nat.{add-zero, zero-add}
 use native.Mathlib.Numerals.{add-one}
 use native.Mathlib.Omega.{arith}
@@ -186,11 +187,37 @@ checked-done {limit} {ws} {c} e =
       counts = sym s;
     }
 
--- how the code groups the shapes, by what they make of the fields
-abbrev pub classOf : Shape → ℕ
-classOf Truth = 0
-classOf Falsehood = 0
-classOf Atom = 1
-classOf (UnaryOf o) = 2
-classOf (BinaryOf o) = 3
-classOf Unused = 4
+-- does each word fit, the first of them as node n?
+unfoldable pub allFit : ℕ → ℕ → List ℕ → Bool
+allFit limit n [] = true
+allFit limit n (w ∷ ws) = nodeFits limit n w && allFit limit (suc n) ws
+
+-- then the scan comes to its end
+pub all-scanned : {A : Type 0} (limit n : ℕ) (ws : List ℕ) (r : Result A) → allFit limit n ws ≡ true → scanned limit n ws r ≡ r
+unfolding allFit scanned
+all-scanned limit n [] r e = refl
+all-scanned limit n (w ∷ ws) r e =
+    guard-pass 19 n (scanned limit (suc n) ws r) (and-left (nodeFits limit n w) (allFit limit (suc n) ws) e)
+    ∙ all-scanned limit (suc n) ws r (and-right (nodeFits limit n w) (allFit limit (suc n) ws) e)
+
+-- one node more, and the end
+module _ (limit : ℕ) (ws : List ℕ) (i : ℕ) where
+  pub all-step : i < length ws → allFit limit i (drop i ws) ≡ (nodeFits limit i (getD ws i 0) && allFit limit (i + 1) (drop (i + 1) ws))
+  unfolding allFit
+  all-step h = rw (add-one i, drop-cons ws i 0)
+
+  pub all-end : length ws ≤ i → allFit limit i (drop i ws) ≡ true
+  unfolding allFit
+  all-end h = rw drop-of-length-le
+
+  -- a node against the format lies before the end
+  pub misfit-inside : allFit limit i (drop i ws) ≡ false → i < length ws
+  misfit-inside e = go (decLt i (length ws))
+    where
+      go : Dec (i < length ws) → i < length ws
+      go (yes h) = h
+      go (no h) = absurd (false-true (sym e ∙ all-end (omega arith)))
+
+  -- and after a node that fits
+  pub misfit-after : {b : Bool} → b ≡ nodeFits limit i (getD ws i 0) → b ≡ true → allFit limit i (drop i ws) ≡ false → allFit limit (i + 1) (drop (i + 1) ws) ≡ false
+  misfit-after f h e = ap (λ (t : Bool). t && allFit limit (i + 1) (drop (i + 1) ws)) (sym h ∙ f) ∙ sym (all-step (misfit-inside e)) ∙ e

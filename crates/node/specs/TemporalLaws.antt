@@ -7,6 +7,10 @@ use Rattle.node.specs.Logic.{Stable}
 use Rattle.node.specs.LogicLaws.{or-left, or-right, some-at, stable-not, stable-to, stable-all, or-same, some-same, all-same, to-same, not-not}
 use Rattle.node.specs.Temporal.{Property, Always, Eventually, Until, Release, WeakUntil}
 
+-- a W b holds where a always does
+pub always-weak : {P Q : Property} {t : ℕ} → Always P t → WeakUntil P Q t
+always-weak h = or-right h
+
 -- equivalents put for equivalents
 abbrev pub Same : Property → Property → Type 0
 Same P Q = (n : ℕ) → P n ↔ Q n

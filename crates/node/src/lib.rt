@@ -1,12 +1,16 @@
 // The node format of document 01: a word of 4 bits kind, 14 bits first operand, 14 bits second operand.
 ghost use mathlib.Core.Path.{_≡_};
-ghost use Prim.Native.Nat.{_<_};
-ghost use Rattle.node.specs.Limits.{fieldLimit};
+ghost use Prim.Native.Nat.{_<_, _≤_};
+ghost use mathlib.Core.Bool.{false};
+ghost use lib.ListN.{length};
+ghost use Rattle.node.specs.Limits.{fieldLimit, maxNodes};
 ghost use Rattle.node.specs.Fields.{pack, kindOf, firstOf, secondOf};
-ghost use Rattle.node.specs.Kinds.{shapeOf, kinds as kinds'};
-ghost use Rattle.node.specs.Table.{nodeFits, checked};
-ghost use Rattle.node.specs.TableLaws.{classOf};
+ghost use Rattle.node.specs.Kinds.{kinds as kinds'};
+ghost use Rattle.node.specs.Table.{nodeFits, scanned, checked};
+ghost use Rattle.node.specs.TableLaws.{allFit, counted};
+ghost use Rattle.node.specs.Bounds.{pick};
 ghost use Rattle.node.specs.Answer.{says};
+ghost use Rattle.node.specs.Result.{Refused};
 
 // What every entry point answers: accepted with the counts of nodes and signals, or refused with number and place.
 pub enum Answer {
@@ -123,32 +127,56 @@ impl Node {
     }
 }
 
-// How each kind uses its fields: 0 neither, 1 a signal number, 2 one operand, 3 two, 4 no kind.
-const CLASSES: [u32; 16] = [0, 0, 1, 2, 3, 3, 3, 3, 2, 2, 2, 3, 3, 3, 4, 4];
+// One more than the last kind.
+const KINDS: u32 = 14;
 
-fn class(kind: u32) -> u32
-    requires { ⌜ kind < 16 ⌝ }
-    ensures { λ r. ⌜ r ≡ classOf (shapeOf kind) ⌝ }
+// One of two numbers: a function of its own, so that the compiled choice has no branch.
+fn either(test: bool, a: u32, b: u32) -> u32
+    ensures { λ r. ⌜ r ≡ pick test a b ⌝ }
 {
-    let k = kind as usize;
-    CLASSES[k]
+    if test { a } else { b }
 }
 
-// May the word stand as node n, where signal numbers are below `limit`?
+// May the word stand as node n, where signal numbers are below `limit`? By its kind each field lies below a bound.
 pub fn node_fits(word: u32, n: u32, limit: u32) -> bool
     ensures { λ r. ⌜ r ≡ nodeFits limit n word ⌝ }
 {
     let node = Node { word };
-    let k = class(node.kind());
+    let k = node.kind();
     let a = node.first();
     let b = node.second();
-    match k {
-        0 => a == 0 && b == 0,
-        1 => a < limit && b == 0,
-        2 => a < n && b == 0,
-        3 => a < n && b < n,
-        _ => false,
+    let operand = either(k < KINDS, n, 0);
+    let number = either(k < Node::NOT, limit, operand);
+    let first_end = either(k < Node::SIGNAL, 1, number);
+    let has_two = (Node::NOT < k) & (k < Node::NEXT) | (Node::FINALLY < k);
+    let second_end = either(has_two, n, 1);
+    (a < first_end) & (b < second_end)
+}
+
+// May each word stand where it does? It reads them all, which compiles to several nodes at a time.
+fn all_fit(nodes: &[u32], limit: u32) -> bool
+    requires { ⌜ length (now nodes) ≤ maxNodes ⌝ }
+    ensures { λ r. ⌜ r ≡ allFit limit 0 (now (nodes .entry)) ⌝ }
+{
+    let mut fit = true;
+    let mut i = 0;
+    while i < nodes.len() {
+        fit = fit & node_fits(nodes[i], i as u32, limit);
+        i += 1;
     }
+    fit
+}
+
+// The number of the first node against the format. Its caller knows that there is one.
+fn first_misfit(nodes: &[u32], limit: u32) -> usize
+    requires { ⌜ (length (now nodes) ≤ maxNodes) × (allFit limit 0 (now nodes) ≡ false) ⌝ }
+    ensures { λ r. ⌜ (r ≤ maxNodes) × (scanned limit 0 (now (nodes .entry)) (counted limit (now (nodes .entry))) ≡ Refused 19 r) ⌝ }
+{
+    let mut i = 0;
+    while node_fits(nodes[i], i as u32, limit) {
+        i += 1;
+    }
+    i
 }
 
 // Is the table one of the format, its signal numbers below `limit`? Accepted with the number of nodes and the limit.
@@ -161,12 +189,9 @@ pub fn check_table(nodes: &[u32], limit: u32) -> Answer
     if MAX_NODES < nodes.len() {
         return Answer::Refused(BAD_TABLE, MAX_NODES as u32);
     }
-    let mut i = 0;
-    while i < nodes.len() {
-        if !node_fits(nodes[i], i as u32, limit) {
-            return Answer::Refused(BAD_TABLE, i as u32);
-        }
-        i += 1;
+    if all_fit(nodes, limit) {
+        return Answer::Accepted(nodes.len() as u32, limit);
     }
-    Answer::Accepted(nodes.len() as u32, limit)
+    let place = first_misfit(nodes, limit);
+    Answer::Refused(BAD_TABLE, place as u32)
 }

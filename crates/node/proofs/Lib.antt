@@ -1,2 +1,0 @@
-mod Table
-mod Classes

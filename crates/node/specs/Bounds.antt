@@ -1,0 +1,53 @@
+-- The test of a node by bounds: what its fields lie below, by its kind. A choice between numbers and no case, as the code has it.
+use Prim.Native.Nat.{ℕ, zero, suc, _≤_}
+use mathlib.Core.Path.{_≡_, refl, ap, ap₂, _∙_, sym}
+use mathlib.Core.Bool.{Bool, true, false, _&&_, _||_}
+use lib.Dec.{ltb, eqb, eqb·suc-zero, leb·suc-zero, leb·suc-suc}
+use native.Mathlib.Omega.{arith}
+use borrow.Author.Tests.{le-ltb}
+use Rattle.node.specs.Fields.{kindOf, firstOf, secondOf}
+use Rattle.node.specs.Kinds.{shapeOf}
+use Rattle.node.specs.KindLaws.{by-kind, no-shape}
+use Rattle.node.specs.Table.{fits, nodeFits}
+
+abbrev pub pick : Bool → ℕ → ℕ → ℕ
+pick true a b = a
+pick false a b = b
+
+-- 0 for a constant, a signal's number, an operand's; nothing lies below the bound of no kind
+abbrev pub firstEnd : ℕ → ℕ → ℕ → ℕ
+firstEnd limit n kind = pick (ltb kind 2) 1 (pick (ltb kind 3) limit (pick (ltb kind 14) n 0))
+
+-- an operand's number for the kinds of two operands, otherwise 0
+abbrev pub secondEnd : ℕ → ℕ → ℕ
+secondEnd n kind = pick ((ltb 3 kind && ltb kind 8) || ltb 10 kind) n 1
+
+abbrev pub bounded : ℕ → ℕ → ℕ → ℕ → ℕ → Bool
+bounded limit n kind a b = ltb a (firstEnd limit n kind) && ltb b (secondEnd n kind)
+
+-- below 1 is 0
+zero-test : (a : ℕ) → eqb a 0 ≡ ltb a 1
+zero-test zero = refl
+zero-test (suc a) = eqb·suc-zero a ∙ sym (leb·suc-suc (suc a) 0 ∙ leb·suc-zero a)
+
+-- the bounds of a kind decide as the format does
+pub bounded-fits : (limit n kind a b : ℕ) → bounded limit n kind a b ≡ fits limit n (shapeOf kind) a b
+bounded-fits limit n kind a b =
+    by-kind (λ k. bounded limit n k a b ≡ fits limit n (shapeOf k) a b)
+    ((((((((((((((tt, neither), neither), number), one), refl), refl), refl), refl), one), one), one), refl), refl), refl) above kind
+  where
+    neither : (ltb a 1 && ltb b 1) ≡ (eqb a 0 && eqb b 0)
+    neither = ap₂ _&&_ (sym (zero-test a)) (sym (zero-test b))
+
+    number : (ltb a limit && ltb b 1) ≡ (ltb a limit && eqb b 0)
+    number = ap (λ (t : Bool). ltb a limit && t) (sym (zero-test b))
+
+    one : (ltb a n && ltb b 1) ≡ (ltb a n && eqb b 0)
+    one = ap (λ (t : Bool). ltb a n && t) (sym (zero-test b))
+
+    above : (k : ℕ) → 14 ≤ k → bounded limit n k a b ≡ fits limit n (shapeOf k) a b
+    above k h = rw (no-shape h, le-ltb k 2 (omega arith), le-ltb k 3 (omega arith), le-ltb k 14 h, leb·suc-zero a)
+
+-- and of a word's kind of the word
+pub word-fits : (limit n w k a b : ℕ) → k ≡ kindOf w → a ≡ firstOf w → b ≡ secondOf w → bounded limit n k a b ≡ nodeFits limit n w
+word-fits limit n w k a b ek ea eb = rw (ek, ea, eb) (bounded-fits limit n (kindOf w) (firstOf w) (secondOf w))
