@@ -32,9 +32,10 @@ pub blank-end : (bs : List ℕ) (i to : ℕ) → to ≤ i → blank bs i (to - i
 unfolding blank
 blank-end bs i to h = let e : to - i ≡ 0 = omega arith in rw e
 
-pub told-here : (place : ℕ) → place ≤ lastPlace → told place ≡ place
+-- a place of 32 bits is told as it is
+pub told-here : (place : ℕ) → place < 2 ^ 32 → told place ≡ place
 unfolding told
-told-here place h = rw (le-leb place lastPlace h)
+told-here place h = rw (le-leb place lastPlace (omega arith))
 
 pub told-last : (place : ℕ) → lastPlace < place → told place ≡ lastPlace
 unfolding told

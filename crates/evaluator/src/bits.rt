@@ -10,12 +10,14 @@ fn wide(x: u8) -> u32
     x as u32
 }
 
+// A bit as a number, 0 or 1.
 pub fn digit(v: bool) -> u32
     ensures { λ r. ⌜ r ≡ digitOf v ⌝ }
 {
     if v { 1 } else { 0 }
 }
 
+// Bit i of the bytes, most significant first.
 pub fn get_bit(bytes: &[u8], i: usize) -> bool
     requires { ⌜ i < 8 * length (now bytes) ⌝ }
     ensures { λ r. ⌜ r ≡ bitAt (now (bytes .entry)) i ⌝ }
@@ -44,6 +46,7 @@ fn with_bit(x: u32, s: usize, v: bool) -> u32
     (h / 2 * 2 + d) * p + x % p
 }
 
+// Bit i of the bytes becomes v, and no other bit changes.
 pub fn set_bit(bytes: &mut [u8], i: usize, v: bool)
     requires { ⌜ i < 8 * length (now bytes) ⌝ }
     ensures { λ _. ⌜ now (bytes .exit) ≡ putBit (now (bytes .entry)) i v ⌝ }

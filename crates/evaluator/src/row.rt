@@ -22,6 +22,7 @@ pub struct Op {
     pub second: usize,
 }
 
+// `count` bytes from `base` on become 0, and no other byte changes.
 pub fn clear(rows: &mut [u8], base: usize, count: usize)
     requires { ⌜ base + count ≤ length (now rows) ⌝ }
     ensures { λ _. ⌜ Cleared base count count (now (rows .entry)) (now (rows .exit)) ⌝ }

@@ -65,6 +65,7 @@ fn room() -> [u8; 2097152]
     [255; 2097152]
 }
 
+// Writes the answer on the full table, and the checksum of its rows.
 pub fn run() {
     let mut nodes = [0u32; 8192];
     fill_nodes(&mut nodes);

@@ -1,9 +1,11 @@
 // What the program prints: answers, verdicts and bytes, a line each.
+ghost use mathlib.Core.Path.{_≡_};
 ghost use Prim.Native.Nat.{_<_};
 use evaluator::Verdict;
 use libc::STDOUT_FILENO;
 use node::Answer;
 
+// Writes a line.
 pub fn text(line: &[u8]) {
     io::write_all(STDOUT_FILENO, line);
     io::write_all(STDOUT_FILENO, b"\n");
@@ -18,6 +20,7 @@ fn counts(word: &[u8], first: u32, second: u32) {
     io::write_all(STDOUT_FILENO, b"\n");
 }
 
+// Writes an answer with its two numbers.
 pub fn answer(answer: Answer) {
     match answer {
         Answer::Accepted(nodes, signals) => counts(b"accepted ", nodes, signals),
@@ -25,6 +28,7 @@ pub fn answer(answer: Answer) {
     }
 }
 
+// Writes a verdict, a refusal with its two numbers.
 pub fn verdict(verdict: Verdict) {
     match verdict {
         Verdict::Holds => text(b"holds"),
@@ -34,11 +38,12 @@ pub fn verdict(verdict: Verdict) {
 }
 
 fn wide(x: u8) -> u64
-    ensures { λ r. ⌜ r < 256 ⌝ }
+    ensures { λ r. ⌜ (r ≡ x) × (r < 256) ⌝ }
 {
     x as u64
 }
 
+// Writes the bytes, two hexadecimal digits each.
 pub fn bytes(bytes: &[u8]) {
     let mut i = 0;
     while i < bytes.len() {
@@ -48,7 +53,7 @@ pub fn bytes(bytes: &[u8]) {
     io::write_all(STDOUT_FILENO, b"\n");
 }
 
-// A checksum of bytes, order included.
+// Writes a checksum of the bytes, order included.
 pub fn checksum(bytes: &[u8]) {
     let mut sum = 0u64;
     let mut i = 0;

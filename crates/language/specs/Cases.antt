@@ -2,6 +2,7 @@
 pub mod Every
 pub mod Starred
 pub mod Slips
+pub mod Buffers
 use Prim.Native.Nat.{ℕ, zero, suc, _+_, _*_, _/_, _%_}
 use Prim.Native.String.{String}
 use mathlib.Core.List.{List, [], _∷_, _++_}

@@ -5,3 +5,4 @@ pub mod Values
 pub mod Kinds
 pub mod Places
 pub mod Meaning
+pub mod Buffers

@@ -60,6 +60,10 @@ abbrev pub signalsAfter : Result Converted → List ℕ → List ℕ
 signalsAfter (Done c) signals = c .signals ++ drop (length (c .signals)) signals
 signalsAfter (Refused n p) signals = signals
 
+-- the first n bytes zero, where there are so many
+unfoldable pub cleared : ℕ → List ℕ → List ℕ
+cleared n work = if leb n (length work) then replicate n 0 ++ drop n work else work
+
 -- the work buffer: 'its first 65,536 bytes are zero after every answer, untouched by 17, and bytes beyond are never touched'
 unfoldable pub workAfter : List ℕ → List ℕ
-workAfter work = if leb workBytes (length work) then replicate workBytes 0 ++ drop workBytes work else work
+workAfter work = cleared workBytes work

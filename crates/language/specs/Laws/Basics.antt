@@ -3,3 +3,4 @@ pub mod Lists
 pub mod Tests
 pub mod NoPlace
 pub mod Results
+pub mod Exactly

@@ -1,4 +1,5 @@
 -- `told` meets its contract.
+use native.Mathlib.Omega.{arith}
 use mathlib.Core.Path.{sym}
 use Rattle.evaluator.specs.RecordingLaws.{told-here, told-last}
 use borrow.Author.Needs.{needs}
@@ -15,7 +16,7 @@ cast-result-2 : tie.Need-cast-result-2
 cast-result-2 c = search needs
 
 returns-2 : tie.Need-returns-2
-returns-2 c = sym (told-here _ (c .if1 .left))
+returns-2 c = let fits = c .if1 .left in sym (told-here _ (omega arith))
 
 pub told-spec : {M : Type 1} → statement M
 told-spec = tie.close (tie.spec cast-result returns cast-result-2 returns-2)

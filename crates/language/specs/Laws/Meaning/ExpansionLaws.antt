@@ -17,7 +17,8 @@ use Rattle.language.specs.Sets.{memberOf}
 use Rattle.language.specs.Values.{Mark, Absent, Present, Star, test}
 use Rattle.language.specs.Expansion.{joined, conjunction, disjunction, truth, nexts, chain, windowOperator, literals, oneOf}
 use Rattle.language.specs.Meaning.{Matches, MatchesOne, Relates, WindowMeans}
-use Rattle.language.specs.Laws.Meaning.Comparisons.{test-relates, member-cases, member-first, member-later}
+use Rattle.language.specs.Laws.Meaning.Comparisons.{test-relates}
+use Rattle.language.specs.Laws.Values.SetMembers.{member-cases, member-first, member-later}
 
 -- folds
 abbrev pub AllHold : List Formula → Word → Property

@@ -27,10 +27,6 @@ pub ascending-all : (low high : ℕ) (s : List ℕ) → Ascending low high s →
 ascending-all low high [] h = tt
 ascending-all low high (x ∷ s) h = (h .1, ascending-all (suc x) high s (h .2))
 
-pub ascending-higher : {m n : ℕ} (low : ℕ) → m ≤ n → (s : List ℕ) → Ascending low m s → Ascending low n s
-ascending-higher low l [] h = tt
-ascending-higher low l (x ∷ s) h = (h .0, omega (arith, h .1), ascending-higher (suc x) l s (h .2))
-
 pub last-high : (low high x : ℕ) (s : List ℕ) → x ≤ high → Ascending low high s → last x s ≤ high
 last-high low high x [] l h = l
 last-high low high x (y ∷ s) l h = last-high (suc y) high y s (h .1) (h .2)

@@ -1,25 +1,26 @@
 -- Values keep their bounds: every number that is worked out is at most 1,000,000, every set ascends, has at most 256 elements and holds such numbers only,
 -- and no bus is wider than 255.
-use Prim.Native.Nat.{ℕ, suc, _+_, _-_, _*_, _≤_}
+use Prim.Native.Nat.{ℕ, suc, _≤_}
 use mathlib.Core.Path.{_≡_, subst, sym}
 use mathlib.Core.Bool.{Bool, true, false}
 use mathlib.Core.List.{List, [], _∷_}
-use lib.Dec.{leb, ltb}
+use lib.Dec.{leb}
 use lib.ListN.{length}
 use native.Mathlib.Omega.{arith}
-use native.Mathlib.Nat.{le-trans, div-le-self, mod-le}
-use Rattle.node.specs.Result.{Result, Done, _>>=_, guard}
+use native.Mathlib.Nat.{le-trans}
+use Rattle.node.specs.Result.{Result, Done, _>>=_}
 use Rattle.language.specs.Limits.{maxNumber, maxElements, maxWidth}
-use Rattle.language.specs.Bytes.{if_then_else_}
-use Rattle.language.specs.Operators.{Arithmetic, Plus, Minus, Times, Divide, Modulo, Measure, Size, Min, Max, Cap, Big, BigSum, BigProduct, BigCap, BigCup, BigAnd, BigOr, Calculates, Combines, Compares, Membership, Connects, Measures, WidthOf, Applies}
+use Rattle.language.specs.Operators.{Arithmetic, Plus, Times, Measure, Size, Min, Max, Cap, Big, BigSum, BigProduct, BigCap, BigCup, BigAnd, BigOr, Calculates, Combines, Compares, Membership, Connects, Measures, WidthOf, Applies}
 use Rattle.language.specs.Tree.{Expr, Named, Numeral, Truth, Index, Paren, Prefixed, Joined, Nexts, InWindow, Each, Between, Listed, Empty, Element, Range}
-use Rattle.language.specs.Sets.{memberOf, union, combine, steps, rangeSize}
+use Rattle.language.specs.Sets.{memberOf, union, combine}
 use Rattle.language.specs.Values.{Value, Number, Set, Logic, Bus, Unsized, Choice, number, set, bus, Sized, inRange, decimal, calculate, measure, limited, range, between, big, Scope, naming, value}
 use Rattle.language.specs.Laws.Basics.Lists.{All}
-use Rattle.language.specs.Laws.Basics.Tests.{so-leb, so-ltb}
-use Rattle.language.specs.Laws.Basics.Results.{done, refused, guarded, bind, folds, Within}
+use Rattle.language.specs.Laws.Basics.Tests.{so-leb}
+use Rattle.language.specs.Laws.Basics.Results.{done, refused, guarded, bind, weaken, folds, Within}
 use Rattle.language.specs.Laws.Grammar.Braces.{Proper}
-use Rattle.language.specs.Laws.Values.SetLaws.{Ascending, ascending-all, ascending-higher, last-high, insert-ascending, union-ascending, keep-fewer, combine-ascending, length-steps, range-ascending, between-ascending}
+use Rattle.language.specs.Laws.Values.SetLaws.{Ascending, ascending-all, last-high, insert-ascending, union-ascending, keep-fewer, combine-ascending}
+use Rattle.language.specs.Laws.Values.SetAnswers.{Small, rises-ascending, range-exact, Below, between-exact}
+use Rattle.language.specs.Laws.Values.Arithmetic.{inRange-exact, calculate-exact}
 use Rattle.language.specs.Laws.Values.ValueKinds.{number-as, set-as, bus-as}
 use Rattle.language.specs.Laws.Values.NameLaws.{Visible, naming-within}
 
@@ -66,14 +67,10 @@ set-is r h = bind r _ h (λ s k. done k)
 
 -- operation by operation
 pub inRange-sane : (p n : ℕ) → Within SaneNumber (inRange p n)
-inRange-sane p n = guarded (leb n maxNumber) 11 p (λ _. tt) (λ e. done (so-leb n maxNumber .0 e))
+inRange-sane p n = weaken _ (λ _ _ _. tt) (λ c h. h .1) (inRange-exact p n)
 
 pub calculate-sane : (p : ℕ) (o : Arithmetic) (a b : ℕ) → SaneNumber a → SaneNumber b → Within SaneNumber (calculate p o a b)
-calculate-sane p Plus a b h k = inRange-sane p (a + b)
-calculate-sane p Minus a b h k = guarded (leb b a) 11 p (λ _. tt) (λ e. done (omega arith))
-calculate-sane p Times a b h k = inRange-sane p (a * b)
-calculate-sane p Divide a b h k = guarded (ltb 0 b) 11 p (λ _. tt) (λ e. done (le-trans (div-le-self a b) h))
-calculate-sane p Modulo a b h k = guarded (ltb 0 b) 11 p (λ _. tt) (λ e. done (le-trans (mod-le a b) h))
+calculate-sane p o a b h k = weaken _ (λ _ _ _. tt) (λ c g. g .1) (calculate-exact p o a b h)
 
 pub measure-sane : (p : ℕ) (m : Measure) (s : List ℕ) → SaneSet s → Within SaneNumber (measure p m s)
 measure-sane p Size s h = done (omega (arith, h .1))
@@ -85,24 +82,18 @@ measure-sane p Max (x ∷ s) h = done (last-high (suc x) maxNumber x s (h .0 .1)
 pub limited-sane : (p : ℕ) (s : List ℕ) → Ordered s → Within SaneSet (limited p s)
 limited-sane p s h = guarded (leb (length s) maxElements) 12 p (λ _. tt) (λ e. done (h, so-leb (length s) maxElements .0 e))
 
-steps-sane : (p n start step high : ℕ) → SaneNumber high → Ascending 0 high (steps n start step) → Within SaneSet (guard (leb n maxElements) 12 p (Done (steps n start step)))
-steps-sane p n start step high l h =
-    let few : leb n maxElements ≡ true → length (steps n start step) ≤ maxElements = λ e. omega (arith, length-steps n start step, so-leb n maxElements .0 e) in
-    guarded (leb n maxElements) 12 p (λ _. tt) (λ e. done (ascending-higher 0 l (steps n start step) h, few e))
+small-sane : (P : ℕ → Type 0) (s : List ℕ) → ((k : ℕ) → P k → k ≤ maxNumber) → Small P s → SaneSet s
+small-sane P s b h = (rises-ascending 0 maxNumber s (h .lists .rises) (λ k m. b k (h .lists .members k .0 m)), h .few)
 
 pub range-sane : (p x y z : ℕ) → SaneNumber z → Within SaneSet (range p x y z)
-range-sane p x y z l =
-    guarded (ltb x y) 12 p (λ _. tt) (λ e. steps-sane p (rangeSize x y z) x (y - x) z l (range-ascending x y z (so-ltb x y .0 e)))
+range-sane p x y z l = weaken _ (λ _ _ _. tt) (λ s h. small-sane _ s (λ k m. le-trans (m .1) l) (h .1)) (range-exact p x y z)
 
 pub between-sane : (p : ℕ) (l h : Bool) (a b : ℕ) → SaneNumber b → Within SaneSet (between p l h a b)
-between-sane p l h a b k =
-    let start : ℕ = if l then suc a else a in
-    let end : ℕ = if h then b else suc b in
-    steps-sane p (end - start) start 1 b k (between-ascending start end b (last-one h))
+between-sane p l h a b u = weaken _ (λ _ _ _. tt) (λ s g. small-sane _ s (λ k m. le-trans (below h k (m .1)) u) g) (between-exact p l h a b)
   where
-    last-one : (c : Bool) → (if c then b else suc b) ≤ suc b
-    last-one true = omega arith
-    last-one false = omega arith
+    below : (c : Bool) (k : ℕ) → Below c k b → k ≤ b
+    below true k m = omega arith
+    below false k m = m
 
 cap-sane : (s t : List ℕ) → SaneSet s → SaneSet t → Within SaneSet (Done (combine Cap s t))
 cap-sane s t h k = done (combine-ascending Cap 0 maxNumber s t (h .0) (k .0), le-trans (keep-fewer (memberOf t) s) (h .1))
