@@ -1,0 +1,111 @@
+-- The piece at the front by the class of its first byte: one law for each way through the definition.
+use Prim.Native.Nat.{ℕ, zero, suc, _≤_, _<_}
+use mathlib.Core.List.{List, [], _∷_}
+use mathlib.Core.Bool.{Bool, true, false, _&&_}
+use mathlib.Core.Path.{_≡_, refl, sym, ap, _∙_, subst}
+use lib.Dec.{eqb}
+use lib.ListN.{drop}
+use native.Mathlib.Omega.{arith}
+use borrow.Author.Tests.{eqb-true, eqb-false, ne-eqb}
+use Rattle.language.specs.Bytes.{if_then_else_, within, isBlank, isDigit, isNameStart, isMark, starts}
+use Rattle.language.specs.Tokens.{Class, Quoted, Marks, Numeral, Blank, Wrong, code, Piece, signs, run, lineSize, quotedSize, commentSize, signAt, wordAt, closed, pieceAt}
+use Rattle.language.specs.Laws.Basics.Tests.{pick, leave}
+use Rattle.lexer.specs.Numbers.{classNumber}
+use Rattle.lexer.specs.Tables.{ByteClass}
+use Rattle.lexer.specs.Scanning.{opened, ScansAs, closedAs}
+use Rattle.lexer.proofs.ScanLaws.{piece, scans-class}
+
+-- a string or comment
+pub scans-closed : (p : Piece) (s : List ℕ) (c : Class) (n m : ℕ) → p ≡ closed c n → eqb 0 (code c) ≡ false → m ≡ n → ScansAs p s (closedAs (classNumber c) m)
+scans-closed p s c zero zero e f l = scans-class p s Wrong 0 0 e refl refl
+scans-closed p s c (suc n) zero e f l = absurd (omega arith)
+scans-closed p s c zero (suc m) e f l = absurd (omega arith)
+scans-closed p s c (suc n) (suc m) e f l =
+    rw (ne-eqb (suc m) 0 (λ z. omega arith)) (scans-class p s c (suc n) (suc m) e f l)
+
+-- the definition, by the tests of the first byte
+abbrev chosen : Bool → Bool → Bool → Bool → Bool → Bool → Bool → ℕ → List ℕ → Piece
+chosen blank slash quote letter mark digit e b s =
+    if blank then piece Blank 1 else (
+    if slash && starts (47 ∷ []) s then piece Blank (suc (lineSize s)) else (
+    if slash && starts (42 ∷ []) s then closed Blank (commentSize 2 opened (drop 1 s)) else (
+    if quote then closed Quoted (quotedSize 1 s) else (
+    if letter then wordAt (b ∷ s) else (
+    if e && mark then piece Marks (run isMark (b ∷ s)) else (
+    if e && digit then piece Wrong 0 else (
+    if digit then piece Numeral (run isDigit (b ∷ s)) else
+    signAt signs (b ∷ s))))))))
+
+-- by its class
+abbrev chosenBy : ℕ → Bool → ℕ → List ℕ → Piece
+chosenBy x e b s = chosen (eqb x 1) (eqb x 3) (eqb x 2) (eqb x 7) (within 4 5 x) (within 5 6 x) e b s
+
+module _ (b x : ℕ) (h : ByteClass b x) (e : Bool) (s : List ℕ) where
+  by-class : (y : ℕ) → x ≡ y → pieceAt e (b ∷ s) ≡ chosenBy y e b s
+  by-class y f =
+      ap (λ p. chosen p (eqb 47 b) (eqb b 34) (isNameStart b) (isMark b) (isDigit b) e b s) (h .blank)
+      ∙ ap (λ p. chosen (eqb x 1) p (eqb b 34) (isNameStart b) (isMark b) (isDigit b) e b s) (h .slash)
+      ∙ ap (λ p. chosen (eqb x 1) (eqb x 3) p (isNameStart b) (isMark b) (isDigit b) e b s) (h .quote)
+      ∙ ap (λ p. chosen (eqb x 1) (eqb x 3) (eqb x 2) p (isMark b) (isDigit b) e b s) (h .letter)
+      ∙ ap (λ p. chosen (eqb x 1) (eqb x 3) (eqb x 2) (eqb x 7) p (isDigit b) e b s) (h .mark)
+      ∙ ap (λ p. chosen (eqb x 1) (eqb x 3) (eqb x 2) (eqb x 7) (within 4 5 x) p e b s) (h .digit)
+      ∙ ap (λ z. chosenBy z e b s) f
+
+  pub piece-letter : x ≡ 7 → pieceAt e (b ∷ s) ≡ wordAt (b ∷ s)
+  piece-letter f = by-class 7 f
+
+  pub piece-blank : x ≡ 1 → pieceAt e (b ∷ s) ≡ piece Blank 1
+  piece-blank f = by-class 1 f
+
+  pub piece-quote : x ≡ 2 → pieceAt e (b ∷ s) ≡ closed Quoted (quotedSize 1 s)
+  piece-quote f = by-class 2 f
+
+  no-test : (m : Bool) → chosen false false false false false false m b s ≡ signAt signs (b ∷ s)
+  no-test true = refl
+  no-test false = refl
+
+  -- a byte of no class and a prime: at most a sign
+  pub piece-low : x < 4 → (x ≡ 1 → ⊥) → (x ≡ 2 → ⊥) → (x ≡ 3 → ⊥) → pieceAt e (b ∷ s) ≡ signAt signs (b ∷ s)
+  piece-low l p q r = let f : x ≡ 0 = omega arith in by-class 0 f ∙ no-test e
+
+  pub piece-high : 6 < x → (x ≡ 7 → ⊥) → pieceAt e (b ∷ s) ≡ signAt signs (b ∷ s)
+  piece-high l p = let k = h .known in let f : x ≡ 8 = omega arith in by-class 8 f ∙ no-test e
+
+  -- a slash, by what comes after it
+  module _ (f : x ≡ 3) where
+    pub piece-line : starts (47 ∷ []) s ≡ true → pieceAt e (b ∷ s) ≡ piece Blank (suc (lineSize s))
+    piece-line g = by-class 3 f ∙ pick (starts (47 ∷ []) s) _ _ g
+
+    pub piece-comment : starts (47 ∷ []) s ≡ false → starts (42 ∷ []) s ≡ true → pieceAt e (b ∷ s) ≡ closed Blank (commentSize 2 opened (drop 1 s))
+    piece-comment g k = by-class 3 f ∙ leave (starts (47 ∷ []) s) _ _ g ∙ pick (starts (42 ∷ []) s) _ _ k
+
+    pub piece-slash : starts (47 ∷ []) s ≡ false → starts (42 ∷ []) s ≡ false → pieceAt e (b ∷ s) ≡ signAt signs (b ∷ s)
+    piece-slash g k = by-class 3 f ∙ leave (starts (47 ∷ []) s) _ _ g ∙ leave (starts (42 ∷ []) s) _ _ k ∙ no-test e
+
+-- marks and digits, in an enumeration and elsewhere
+module _ (b x : ℕ) (h : ByteClass b x) (s : List ℕ) where
+  pub piece-marks : 4 ≤ x → x ≤ 5 → pieceAt true (b ∷ s) ≡ piece Marks (run isMark (b ∷ s))
+  piece-marks l m = go (eqb x 4) refl
+    where
+      go : (p : Bool) → eqb x 4 ≡ p → pieceAt true (b ∷ s) ≡ piece Marks (run isMark (b ∷ s))
+      go true f = by-class b x h true s 4 (eqb-true x 4 f)
+      go false f = let n = eqb-false x 4 f in by-class b x h true s 5 (other n)
+        where
+          other : (x ≡ 4 → ⊥) → x ≡ 5
+          other n = omega arith
+
+  pub piece-unmarked : x ≡ 6 → pieceAt true (b ∷ s) ≡ piece Wrong 0
+  piece-unmarked f = by-class b x h true s 6 f
+
+  pub piece-star : x ≡ 4 → pieceAt false (b ∷ s) ≡ signAt signs (b ∷ s)
+  piece-star f = by-class b x h false s 4 f
+
+  pub piece-numeral : 5 ≤ x → x ≤ 6 → pieceAt false (b ∷ s) ≡ piece Numeral (run isDigit (b ∷ s))
+  piece-numeral l m = go (eqb x 5) refl
+    where
+      go : (p : Bool) → eqb x 5 ≡ p → pieceAt false (b ∷ s) ≡ piece Numeral (run isDigit (b ∷ s))
+      go true f = by-class b x h false s 5 (eqb-true x 5 f)
+      go false f = let n = eqb-false x 5 f in by-class b x h false s 6 (other n)
+        where
+          other : (x ≡ 5 → ⊥) → x ≡ 6
+          other n = omega arith

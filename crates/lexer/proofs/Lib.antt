@@ -1,0 +1,6 @@
+pub mod SizeLaws
+pub mod SearchLaws
+pub mod WordLaws
+pub mod ScanLaws
+pub mod ClassLaws
+pub mod PlaceLaws

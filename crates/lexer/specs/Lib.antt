@@ -1,0 +1,11 @@
+pub mod Numbers
+pub mod NumberLaws
+pub mod Stored
+pub mod StoredLaws
+pub mod Lexing
+pub mod LexingLaws
+pub mod Answer
+pub mod Spelling
+pub mod Tables
+pub mod TableLaws
+pub mod Scanning
