@@ -1,210 +1,57 @@
-//! Times the proved library beside a straightforward Rust implementation of the same job, on the same input, in one run.
-//! The buffers are cleared before each run on both sides. Prints the best of several runs and their ratio.
+//! Times the proved library beside a straightforward Rust implementation of the same job, on the same input, in one run: the best of many runs, in turn. Prints times
+//! and ratios, what a tree of 2 to the 8,000 nodes costs, and the stack that the deepest tables need.
 
+use std::hint::black_box;
+use std::process::{Command, Stdio};
 use std::time::Instant;
+
+mod inputs;
+mod plain;
+
+use inputs::{chain, fitting_tree, recording, table, Random, MAX_NODES};
 
 include!("../include/tlsf.rs");
 
-const RUNS: usize = 9;
+const RUNS: usize = 60;
 
-struct Random(u64);
+/// Node counts of the tables that are rewritten.
+const SIZES: [usize; 3] = [100, 1000, 8000];
 
-impl Random {
-    fn below(&mut self, n: u64) -> u64 {
-        self.0 ^= self.0 << 13;
-        self.0 ^= self.0 >> 7;
-        self.0 ^= self.0 << 17;
-        self.0 % n
+const FORMS: [u32; 3] = [0, 1, 2];
+
+/// The answer to a refusal by 16: more than 8,192 nodes.
+const TOO_MANY: u64 = 1 << 63 | 16 << 32;
+
+/// Seconds that a call takes, called `batch` times.
+fn seconds(batch: usize, run: &mut dyn FnMut()) -> f64 {
+    let start = Instant::now();
+    for _ in 0..batch {
+        run();
     }
+    start.elapsed().as_secs_f64() / batch as f64
 }
 
-fn pack(kind: u32, first: u32, second: u32) -> u32 {
-    (kind << 28) | (first << 14) | second
-}
-
-fn kind(node: u32) -> u32 {
-    node >> 28
-}
-
-fn first(node: u32) -> usize {
-    (node >> 14 & 0x3fff) as usize
-}
-
-fn second(node: u32) -> usize {
-    (node & 0x3fff) as usize
-}
-
-/// A shared table of `count` nodes over `signals` signals, every kind in it.
-fn table(random: &mut Random, count: u32, signals: u32) -> Vec<u32> {
-    let mut nodes = vec![pack(2, 0, 0)];
-    for n in 1..count {
-        let k = random.below(14) as u32;
-        let a = random.below(n as u64) as u32;
-        let b = random.below(n as u64) as u32;
-        nodes.push(match k {
-            0 | 1 => pack(k, 0, 0),
-            2 => pack(2, random.below(signals as u64) as u32, 0),
-            3 | 8 | 9 | 10 => pack(k, a, 0),
-            _ => pack(k, a, b),
-        });
-    }
-    nodes
-}
-
-/// A recording of `positions` letters of `signals` bits, looping to `start`.
-fn recording(random: &mut Random, positions: u32, start: u32, signals: u32) -> Vec<u8> {
-    let header = (positions << 20) | (start << 8) | signals;
-    let mut bytes = header.to_be_bytes().to_vec();
-    let bits = (positions * signals) as usize;
-    let mut letters = vec![0u8; bits.div_ceil(8)];
-    for i in 0..bits {
-        if random.below(2) == 1 {
-            letters[i / 8] |= 0x80 >> (i % 8);
+/// The best time of each of several jobs, which take turns.
+fn best<const N: usize>(batch: usize, mut jobs: [&mut dyn FnMut(); N]) -> [f64; N] {
+    let mut times = [f64::MAX; N];
+    for _ in 0..RUNS {
+        for (time, job) in times.iter_mut().zip(jobs.iter_mut()) {
+            *time = time.min(seconds(batch, *job));
         }
     }
-    bytes.extend(letters);
-    bytes
+    times
 }
 
-/// A tree in postorder with about `leaves` leaves.
-fn tree(random: &mut Random, leaves: u64, nodes: &mut Vec<u32>) -> u32 {
-    if leaves <= 1 {
-        nodes.push(pack(2, random.below(16) as u32, 0));
-    } else if random.below(4) == 0 {
-        let a = tree(random, leaves, nodes);
-        let k = [3, 8, 9, 10][random.below(4) as usize];
-        nodes.push(pack(k, a, 0));
-    } else {
-        let left = 1 + random.below(leaves - 1);
-        let a = tree(random, left, nodes);
-        let b = tree(random, leaves - left, nodes);
-        let k = [4, 5, 5, 5, 6, 11, 12, 13][random.below(8) as usize];
-        nodes.push(pack(k, a, b));
+fn library_rewrite(nodes: &[u32], form: u32, out: &mut [u32]) -> u64 {
+    unsafe {
+        tlsf_rewrite(
+            nodes.as_ptr(),
+            nodes.len(),
+            form,
+            out.as_mut_ptr(),
+            out.len(),
+        )
     }
-    nodes.len() as u32 - 1
-}
-
-/// A temporal operator, backwards round the loop twice.
-fn temporal(code: u32, a: &[bool], b: &[bool], start: usize, row: &mut [bool]) {
-    let step = |p: usize, v: bool| match code {
-        9 => a[p] && v,
-        10 => a[p] || v,
-        11 | 13 => b[p] || (a[p] && v),
-        _ => b[p] && (a[p] || v),
-    };
-    let mut v = matches!(code, 9 | 12 | 13);
-    for p in (start..row.len()).rev() {
-        v = step(p, v);
-    }
-    for p in (0..row.len()).rev() {
-        v = step(p, v);
-        row[p] = v;
-    }
-}
-
-/// The straightforward evaluator: a vector of truth values for each node.
-fn evaluate(nodes: &[u32], recording: &[u8], rows: &mut [u8]) {
-    let header = u32::from_be_bytes([recording[0], recording[1], recording[2], recording[3]]);
-    let (n, l, k) = (
-        (header >> 20) as usize,
-        (header >> 8 & 0xfff) as usize,
-        (header & 0xff) as usize,
-    );
-    let present = |p: usize, signal: usize| {
-        let bit = 32 + p * k + signal;
-        signal < k && recording[bit / 8] >> (7 - bit % 8) & 1 == 1
-    };
-    let mut values: Vec<Vec<bool>> = Vec::with_capacity(nodes.len());
-    for (&node, bytes) in nodes.iter().zip(rows.chunks_mut(n.div_ceil(8))) {
-        let mut row = vec![false; n];
-        let operand = |i: usize| values.get(i).map_or(&[][..], |v| v);
-        let (a, b) = (operand(first(node)), operand(second(node)));
-        match kind(node) {
-            0 => row.fill(true),
-            1 => {}
-            2 => (0..n).for_each(|p| row[p] = present(p, first(node))),
-            3 => (0..n).for_each(|p| row[p] = !a[p]),
-            4 => (0..n).for_each(|p| row[p] = a[p] && b[p]),
-            5 => (0..n).for_each(|p| row[p] = a[p] || b[p]),
-            6 => (0..n).for_each(|p| row[p] = !a[p] || b[p]),
-            7 => (0..n).for_each(|p| row[p] = a[p] == b[p]),
-            8 => (0..n).for_each(|p| row[p] = a[if p + 1 < n { p + 1 } else { l }]),
-            code => temporal(code, a, b, l, &mut row),
-        }
-        bytes.fill(0);
-        (0..n).for_each(|p| bytes[p / 8] |= (row[p] as u8) << (7 - p % 8));
-        values.push(row);
-    }
-}
-
-fn put(out: &mut Vec<u32>, node: u32) -> u32 {
-    out.push(node);
-    out.len() as u32 - 1
-}
-
-/// The straightforward rewriter: negation form of node i, or of its negation.
-fn negation(nodes: &[u32], i: usize, negated: bool, out: &mut Vec<u32>) -> u32 {
-    let node = nodes[i];
-    let (a, b) = (first(node), second(node));
-    let dual = |k: u32, d: u32| if negated { d } else { k };
-    let two = |out: &mut Vec<u32>, k: u32, x: (usize, bool), y: (usize, bool)| {
-        let l = negation(nodes, x.0, x.1, out);
-        let r = negation(nodes, y.0, y.1, out);
-        put(out, pack(k, l, r))
-    };
-    match kind(node) {
-        0 | 1 => put(out, pack(kind(node) ^ negated as u32, 0, 0)),
-        2 => {
-            let s = put(out, node);
-            if negated {
-                put(out, pack(3, s, 0))
-            } else {
-                s
-            }
-        }
-        3 => negation(nodes, a, !negated, out),
-        k @ 8..=10 => {
-            let x = negation(nodes, a, negated, out);
-            put(out, pack(dual(k, [8, 10, 9][k as usize - 8]), x, 0))
-        }
-        4 => two(out, dual(4, 5), (a, negated), (b, negated)),
-        5 => two(out, dual(5, 4), (a, negated), (b, negated)),
-        6 => two(out, dual(5, 4), (a, !negated), (b, negated)),
-        7 => {
-            let l = two(out, 4, (a, false), (b, negated));
-            let r = two(out, 4, (a, true), (b, !negated));
-            put(out, pack(5, l, r))
-        }
-        11 => two(out, dual(11, 12), (a, negated), (b, negated)),
-        12 => two(out, dual(12, 11), (a, negated), (b, negated)),
-        _ if !negated => two(out, 13, (a, false), (b, false)),
-        _ => {
-            let l = negation(nodes, b, true, out);
-            let x = negation(nodes, a, true, out);
-            let y = negation(nodes, b, true, out);
-            let r = put(out, pack(4, x, y));
-            put(out, pack(11, l, r))
-        }
-    }
-}
-
-fn best(mut run: impl FnMut()) -> f64 {
-    (0..RUNS)
-        .map(|_| {
-            let start = Instant::now();
-            run();
-            start.elapsed().as_secs_f64()
-        })
-        .fold(f64::MAX, f64::min)
-}
-
-fn report(job: &str, library: f64, plain: f64) {
-    println!(
-        "{job}: library {:.3} ms, straightforward Rust {:.3} ms, ratio {:.2}",
-        library * 1e3,
-        plain * 1e3,
-        library / plain
-    );
 }
 
 fn bench_evaluation(random: &mut Random) {
@@ -212,7 +59,7 @@ fn bench_evaluation(random: &mut Random) {
     let word = recording(random, 2048, 1000, 16);
     let mut proved = vec![0u8; 8192 * 256];
     let mut plain = vec![0u8; 8192 * 256];
-    let library = best(|| {
+    let mut library = || {
         proved.fill(0);
         let answer = unsafe {
             tlsf_evaluate(
@@ -226,66 +73,124 @@ fn bench_evaluation(random: &mut Random) {
             )
         };
         assert_eq!(answer, 8192 << 32 | 16);
-    });
-    let straightforward = best(|| {
+    };
+    let mut straightforward = || {
         plain.fill(0);
-        evaluate(&nodes, &word, &mut plain);
-    });
+        plain::evaluate(&nodes, &word, &mut plain);
+    };
+    let [ours, theirs] = best(1, [&mut library, &mut straightforward]);
     assert!(proved == plain, "the rows differ");
-    assert!(library < 1.0, "the evaluator takes a second or more");
-    report(
-        "evaluate, 8,192 nodes over 2,048 positions",
-        library,
-        straightforward,
+    assert!(ours < 1.0, "the evaluator takes a second or more");
+    println!(
+        "evaluate, 8,192 nodes over 2,048 positions: library {:.3} ms, straightforward Rust {:.3} ms, ratio {:.2}",
+        ours * 1e3,
+        theirs * 1e3,
+        ours / theirs
     );
 }
 
-/// The largest tree of a run of seeds whose negation form fits a table, and that form.
-fn fitting_tree() -> (Vec<u32>, Vec<u32>) {
-    for leaves in (500..4000).rev() {
-        let (mut source, mut written) = (Vec::new(), Vec::new());
-        tree(&mut Random(leaves + 1), leaves, &mut source);
-        if source.len() <= 8192 {
-            negation(&source, source.len() - 1, false, &mut written);
-            if written.len() <= 8192 {
-                return (source, written);
-            }
+/// Rewrites a tree of about `size` nodes. Yields the ratio to Rust that checks the table too.
+fn bench_rewriting(size: usize, form: u32) -> f64 {
+    let (source, expected) = fitting_tree(size, form);
+    let mut out = vec![0u32; MAX_NODES];
+    let mut checked = Vec::with_capacity(MAX_NODES);
+    let mut unchecked = Vec::with_capacity(MAX_NODES);
+    let mut library = || {
+        let answer = library_rewrite(black_box(&source), form, &mut out);
+        assert_eq!(answer, (expected.len() as u64) << 32);
+    };
+    let mut checking = || {
+        checked.clear();
+        assert!(plain::is_table(black_box(&source)));
+        plain::rewrite(black_box(&source), form, &mut checked);
+    };
+    let mut trusting = || {
+        unchecked.clear();
+        plain::rewrite(black_box(&source), form, &mut unchecked);
+    };
+    let batch = 1 + 20_000 / source.len();
+    let [ours, with, without] = best(batch, [&mut library, &mut checking, &mut trusting]);
+    assert!(out[..expected.len()] == expected[..], "the nodes differ");
+    assert!(checked == expected && unchecked == expected);
+    println!(
+        "rewrite to form {form}, {} nodes to {}: library {:.2} us; Rust that checks the table {:.2} us, ratio {:.2}; Rust that does not {:.2} us, ratio {:.2}",
+        source.len(),
+        expected.len(),
+        ours * 1e6,
+        with * 1e6,
+        ours / with,
+        without * 1e6,
+        ours / without
+    );
+    ours / with
+}
+
+/// A table whose tree would have more than 2 to the 8,000 nodes, refused by 16: beside a table as deep whose tree has 8,192 nodes.
+fn bench_refusal(form: u32) {
+    let (shared, single) = (chain(7, 8000, true), chain(8, 8191, false));
+    let mut buffers = [vec![0u32; MAX_NODES], vec![0u32; MAX_NODES]];
+    let [left, right] = &mut buffers;
+    let mut refused = || assert_eq!(library_rewrite(&shared, form, left), TOO_MANY);
+    let mut accepted = || assert_eq!(library_rewrite(&single, form, right), 8192 << 32);
+    let [ours, full] = best(10, [&mut refused, &mut accepted]);
+    println!(
+        "rewrite to form {form}, 8,000 levels of a <-> a: refused by 16 after {:.2} us; 8,191 levels of X, accepted with 8,192 nodes: {:.2} us",
+        ours * 1e6,
+        full * 1e6
+    );
+}
+
+/// Rewrites the deepest table of a kind, below a `!`, on a thread with a stack of so many KB; a stack that is too small ends the process.
+fn run_on_stack(kib: usize, kind: u32, form: u32) {
+    let job = move || {
+        let mut source = chain(kind, 8190, false);
+        source.push(plain::pack(3, 8190, 0));
+        let mut out = vec![0u32; MAX_NODES];
+        black_box(library_rewrite(&source, form, &mut out));
+    };
+    let thread = std::thread::Builder::new().stack_size(kib * 1024);
+    thread.spawn(job).unwrap().join().unwrap();
+}
+
+fn fits_stack(kib: usize, kind: u32, form: u32) -> bool {
+    let mut child = Command::new(std::env::current_exe().unwrap());
+    child.args([
+        "stack",
+        &kib.to_string(),
+        &kind.to_string(),
+        &form.to_string(),
+    ]);
+    child.stderr(Stdio::null()).status().unwrap().success()
+}
+
+/// The stack that a form of the deepest tables needs, whatever their operator, in steps of 16 KB.
+fn stack_needed(form: u32) -> usize {
+    let mut enough = 16;
+    for kind in 3..14 {
+        while !fits_stack(enough, kind, form) {
+            enough += 16;
         }
     }
-    panic!("no tree fits");
-}
-
-fn bench_rewriting() {
-    let (source, expected) = fitting_tree();
-    let mut out = vec![0u32; 8192];
-    let library = best(|| {
-        out.fill(0);
-        let answer = unsafe {
-            tlsf_rewrite(
-                source.as_ptr(),
-                source.len(),
-                1,
-                out.as_mut_ptr(),
-                out.len(),
-            )
-        };
-        assert_eq!(answer, (expected.len() as u64) << 32);
-    });
-    let mut written = Vec::with_capacity(8192);
-    let straightforward = best(|| {
-        written.clear();
-        negation(&source, source.len() - 1, false, &mut written);
-    });
-    assert!(out[..expected.len()] == expected[..], "the nodes differ");
-    let job = format!(
-        "rewrite to negation form, {} nodes to {}",
-        source.len(),
-        expected.len()
-    );
-    report(&job, library, straightforward);
+    enough
 }
 
 fn main() {
+    let words: Vec<String> = std::env::args().skip(1).collect();
+    if let [word, kib, kind, form] = &words[..] {
+        assert_eq!(word, "stack");
+        return run_on_stack(
+            kib.parse().unwrap(),
+            kind.parse().unwrap(),
+            form.parse().unwrap(),
+        );
+    }
     bench_evaluation(&mut Random(0x9e37_79b9_7f4a_7c15));
-    bench_rewriting();
+    for size in SIZES {
+        let ratios = FORMS.map(|form| bench_rewriting(size, form));
+        let highest = ratios.into_iter().fold(0.0, f64::max);
+        println!("highest ratio to Rust that checks, at most {size} nodes: {highest:.2}");
+    }
+    FORMS.into_iter().for_each(bench_refusal);
+    let [expanded, negation, core] = FORMS.map(stack_needed);
+    println!("stack of the deepest tables, `!` above 8,190 levels of any operator: {expanded} KB in form 0, {negation} KB in form 1, {core} KB in form 2");
 }

@@ -30,7 +30,7 @@ abbrev pub Each : (ℕ → Type 0) → ℕ → Type 0
 Each P zero = Unit {0}
 Each P (suc n) = Each P n × P n
 
-each-below : (P : ℕ → Type 0) (n : ℕ) → Each P n → (k : ℕ) → k < n → P k
+pub each-below : (P : ℕ → Type 0) (n : ℕ) → Each P n → (k : ℕ) → k < n → P k
 each-below P zero e k h = absurd (omega arith)
 each-below P (suc n) e k h = go (decLt k n) (each-below P n (e .0) k)
   where

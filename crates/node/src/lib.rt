@@ -82,7 +82,10 @@ impl Node {
         ]
     }
 
-    // A node of two operands. Like the other two constructors it is no entry point: its callers have bounded the fields, and show it.
+    // The constructors ask for fields that fit: a wider one would run into its neighbour, and what they yield would be the node of other fields. They are
+    // no entry points: their callers have bounded the fields, and show it.
+
+    // A node of two operands.
     pub fn binary(kind: u32, first: u32, second: u32) -> Node
         requires { ⌜ (kind < 16) × ((first < fieldLimit) × (second < fieldLimit)) ⌝ }
         ensures { λ r. ⌜ r .word ≡ pack kind first second ⌝ }
@@ -108,6 +111,7 @@ impl Node {
         Node::binary(kind, 0, 0)
     }
 
+    // The fields of a node, of any word.
     pub fn kind(self) -> u32
         ensures { λ r. ⌜ r ≡ kindOf (self .word) ⌝ }
     {
@@ -153,7 +157,7 @@ pub fn node_fits(word: u32, n: u32, limit: u32) -> bool
     (a < first_end) & (b < second_end)
 }
 
-// May each word stand where it does? It reads them all, which compiles to several nodes at a time.
+// May each word stand where it does? It reads them all, which compiles to several nodes at a time. It asks for as many as a number of 32 bits counts.
 fn all_fit(nodes: &[u32], limit: u32) -> bool
     requires { ⌜ length (now nodes) ≤ maxNodes ⌝ }
     ensures { λ r. ⌜ r ≡ allFit limit 0 (now (nodes .entry)) ⌝ }

@@ -1,12 +1,15 @@
--- What the inner function of the rewriter ensures, of a formula and a buffer: it counts with no room to write, then writes.
-use Prim.Native.Nat.{ℕ, _+_, _<_, _≤_}
-use mathlib.Core.Path.{_≡_, refl, ap, _∙_, sym}
-use mathlib.Core.List.{List, [], _∷_, _++_}
-use lib.ListN.{length, drop}
-use lib.Seq.{sets, sets-eq}
+-- What the inner functions of the rewriter ensure, of a formula and a buffer: the nodes are written to a table of its own, and handed over where they fit.
+use Prim.Native.Nat.{ℕ, _+_, _-_, _<_, _≤_}
+use mathlib.Core.Path.{_≡_, refl, ap, ap₂, _∙_, sym}
+use mathlib.Core.List.{List, _++_}
+use lib.ListN.{length, getD, set, take, drop}
+use lib.Seq.{sets, sets-eq, take-at, paste, paste-suc}
 use native.Mathlib.Nat.{zero-add}
+use native.Mathlib.Decide.{decLt}
+use native.Mathlib.Numerals.{add-one}
 use native.Mathlib.Omega.{arith}
-use Rattle.node.specs.Limits.{maxNodes}
+use Rattle.node.specs.Limits.{maxNodes, fieldLimit}
+use Rattle.node.specs.TableLaws.{Formed}
 use Rattle.node.specs.Ltl.{Formula}
 use Rattle.node.specs.Answer.{says}
 use Rattle.node.specs.Postorder.{size, nodesFrom}
@@ -15,51 +18,65 @@ use Rattle.node.specs.declared.Answer.{Answer}
 use Rattle.node.specs.declared.Answer.the-variants.{Accepted, Refused}
 use Rattle.rewriter.specs.Rewriting.{fitting, leaves}
 use Rattle.rewriter.specs.RewritingLaws.{fitting-many, fitting-short, fitting-good}
-use Rattle.rewriter.specs.Writing.{Stored, Puts}
-use Rattle.rewriter.specs.declared.write.Written.{Written}
-use Rattle.rewriter.specs.declared.write.Written.the-variants.{Next, Full}
+use Rattle.rewriter.specs.Writing.{Stored, Puts, Ready}
 
+-- the answer and the buffer are those of a formula
 pub record Fitted (f : Formula) (out out′ : List ℕ) (r : Answer) : Type 0 where
   pub answer : says r ≡ fitting f (length out)
   pub buffer : out′ ≡ leaves (says r) f out
 
-no-length : (e l : List ℕ) → length e ≡ 0 → e ++ l ≡ l
-no-length [] l h = refl
-no-length (x ∷ e) l h = absurd (omega arith)
+-- the first n words of a table: refused by 18 where the buffer is short, otherwise copied to its front
+pub record HandsOver (table : List ℕ) (n : ℕ) (out out′ : List ℕ) (r : Answer) : Type 0 where
+  pub short : length out < n → (r ≡ Refused 18 0) × (out′ ≡ out)
+  pub copied : n ≤ length out → (r ≡ Accepted n 0) × (out′ ≡ paste out 0 table n)
 
-counted : (f : Formula) {e e′ : List ℕ} {n : ℕ} → Stored (nodesFrom 0 f) e e′ 0 n → n ≡ size f
+-- a word more of a copy
+pub copied-more : (d s : List ℕ) (j : ℕ) → j < length d → j < length s → set (paste d 0 s j) j (getD s j 0) ≡ paste d 0 s (j + 1)
+copied-more d s j hd hs =
+    let z : 0 + j ≡ j = zero-add j in
+    ap (λ (k : ℕ). set (paste d 0 s j) k (getD s j 0)) (sym z) ∙ paste-suc d 0 s j 0 (omega arith) hs ∙ ap (paste d 0 s) (sym (add-one j))
+
+counted : (f : Formula) {t t′ : List ℕ} {n : ℕ} → Stored (nodesFrom 0 f) t t′ 0 n → n ≡ size f
 counted f s = s .next ∙ zero-add _ ∙ length-nodes 0 f
 
--- the run with no room counts: more than 8,192
-pub fitted-many : (f : Formula) (out : List ℕ) {e e′ : List ℕ} → Puts Full (nodesFrom 0 f) e e′ 0 → length e′ ≡ 0 → Fitted f out (e′ ++ out) (Refused 16 0)
-fitted-many f out {e} {e′} p h =
-    let q = p .holds in
+-- the nodes do not fit a table of 8,192
+pub fitted-many : (f : Formula) (out : List ℕ) {t t′ : List ℕ} {n : ℕ} → length t ≡ maxNodes → maxNodes < n → Puts n (nodesFrom 0 f) t t′ 0 → Fitted f out out (Refused 16 0)
+fitted-many f out e h p =
+    let q = p .short h in
     let l : maxNodes < size f = omega (arith, length-nodes 0 f) in
-    record { answer = sym (fitting-many f (length out) l); buffer = no-length e′ out h }
+    record { answer = sym (fitting-many f (length out) l); buffer = refl }
 
--- more than the buffer holds
-pub fitted-short : (f : Formula) (out : List ℕ) {e e′ : List ℕ} {n : ℕ} → Stored (nodesFrom 0 f) e e′ 0 n → length e′ ≡ 0 → length (e′ ++ out) < n
-    → Fitted f out (e′ ++ out) (Refused 18 0)
-fitted-short f out {e} {e′} {n} s h lt =
-    let c = counted f s in
-    let l : size f ≤ maxNodes = let q = s .room in omega arith in
-    let k : length out < size f = omega (arith, ap length (no-length e′ out h)) in
-    record { answer = sym (fitting-short f (length out) l k); buffer = no-length e′ out h }
+-- the nodes stand at the front of a table
+written : (f : Formula) (t : List ℕ) → size f ≤ length t → take (size f) (sets t 0 (nodesFrom 0 f)) ≡ nodesFrom 0 f
+written f t h =
+    let room : 0 + length (nodesFrom 0 f) ≤ length t = omega (arith, length-nodes 0 f) in
+    ap (take (size f)) (sets-eq (nodesFrom 0 f) t 0 room) ∙ take-at (nodesFrom 0 f) (drop (0 + length (nodesFrom 0 f)) t) (size f) (length-nodes 0 f)
 
-run : (f : Formula) (out o2 : List ℕ) (r : Written) → size f ≤ maxNodes → Puts r (nodesFrom 0 f) out o2 0 → o2 ≡ sets out 0 (nodesFrom 0 f)
-run f out o2 (Next m) l p = p .holds .entries
-run f out o2 Full l p = let q = p .holds in absurd (omega (arith, length-nodes 0 f))
+-- and are handed over
+pub fitted-over : (f : Formula) (out out′ : List ℕ) {t t′ : List ℕ} {n : ℕ} {r : Answer} → length t ≤ maxNodes → Stored (nodesFrom 0 f) t t′ 0 n
+    → HandsOver t′ n out out′ r → Fitted f out out′ r
+fitted-over f out out′ {t} {t′} {n} {r} few s h = go (decLt (length out) n)
+  where
+    count : n ≡ size f
+    count = counted f s
 
--- the second run writes
-pub fitted-good : (f : Formula) (out : List ℕ) {e e′ o2 : List ℕ} {n : ℕ} {r : Written} → Stored (nodesFrom 0 f) e e′ 0 n → length e′ ≡ 0 → n ≤ length (e′ ++ out)
-    → Puts r (nodesFrom 0 f) (e′ ++ out) o2 0 → Fitted f out o2 (Accepted n 0)
-fitted-good f out {e} {e′} {o2} {n} {r} s h le p =
-    let c = counted f s in
-    let l : size f ≤ maxNodes = let q = s .room in omega arith in
-    let k : size f ≤ length out = omega (arith, ap length (no-length e′ out h)) in
-    let room : 0 + length (nodesFrom 0 f) ≤ length out = omega (arith, length-nodes 0 f) in
-    record {
-      answer = rw c (sym (fitting-good f (length out) l k));
-      buffer = run f (e′ ++ out) o2 r l p ∙ ap (λ (x : List ℕ). sets x 0 (nodesFrom 0 f)) (no-length e′ out h) ∙ sets-eq (nodesFrom 0 f) out 0 room
-          ∙ ap (λ (k : ℕ). nodesFrom 0 f ++ drop k out) (zero-add _ ∙ length-nodes 0 f);
-    }
+    most : size f ≤ maxNodes
+    most = let q = s .room in omega (arith, count, few)
+
+    go : Dec (length out < n) → Fitted f out out′ r
+    go (yes l) =
+        let k : length out < size f = omega (arith, count) in
+        rw (h .short l .0, h .short l .1) (record { answer = sym (fitting-short f (length out) most k); buffer = refl })
+    go (no l) =
+        let k : size f ≤ length out = omega (arith, count) in
+        let c = h .copied (omega arith) in
+        let room : size f ≤ length t = let q = s .room in omega (arith, count) in
+        rw (c .0) (record {
+          answer = rw count (sym (fitting-good f (length out) most k));
+          buffer = c .1 ∙ ap (λ (x : List ℕ). paste out 0 x n) (s .entries) ∙ ap (paste out 0 (sets t 0 (nodesFrom 0 f))) count
+              ∙ ap₂ (λ (x : List ℕ) (y : ℕ). x ++ drop y out) (written f t room) (zero-add (size f));
+        })
+
+-- the root of a table, and a table to write to
+pub root-ready : {nodes table : List ℕ} → Formed fieldLimit nodes → length table ≤ maxNodes → Ready nodes (length nodes - 1) table 0
+root-ready f l = let p = f .some in record { formed = f; inside = omega arith; room = record { start = omega arith; few = l } }

@@ -1,5 +1,5 @@
--- What the writing functions ensure: a formula's nodes from `at` on, stored as far as the buffer reaches; or more than 8,192 nodes.
--- A store past the end of the buffer does nothing, so the same functions count, lent no buffer. Laws in WritingLaws.
+-- What the functions of the rewriter promise that write nodes: a formula's nodes, in postorder, into a slice of at most 8,192 entries, as far as it reaches. Laws in
+-- WritingLaws.
 use Prim.Native.Nat.{ℕ, _+_, _<_, _≤_}
 use mathlib.Core.Path.{_≡_}
 use mathlib.Core.List.{List, [], _∷_}
@@ -10,32 +10,32 @@ use Rattle.node.specs.Ltl.{Unary, Not, X, G, F, Binary, And, Or, Implies, Iff, 
 use Rattle.node.specs.Kinds.{unaryKind, binaryKind}
 use Rattle.node.specs.TableLaws.{Formed}
 use Rattle.node.specs.Postorder.{nodesFrom}
-use Rattle.rewriter.specs.declared.write.Written.{Written}
-use Rattle.rewriter.specs.declared.write.Written.the-variants.{Next, Full}
 
 -- the words `vs` stored from index `at` on, and the next index is n
 pub record Stored (vs out out′ : List ℕ) (at n : ℕ) : Type 0 where
   pub next : n ≡ at + length vs
-  pub room : n ≤ maxNodes
+  pub room : n ≤ length out
   pub entries : out′ ≡ sets out at vs
 
-abbrev pub PutsCase : Written → List ℕ → List ℕ → List ℕ → ℕ → Type 0
-PutsCase (Next n) vs out out′ at = Stored vs out out′ at n
-PutsCase Full vs out out′ at = maxNodes < at + length vs
-
--- stored, or too many
-pub record Puts (r : Written) (vs out out′ : List ℕ) (at : ℕ) : Type 0 where
-  pub holds : PutsCase r vs out out′ at
+-- stored, with the next index as the answer; or an answer above 8,192, and the slice is too short
+pub record Puts (r : ℕ) (vs out out′ : List ℕ) (at : ℕ) : Type 0 where
+  pub stored : r ≤ maxNodes → Stored vs out out′ at r
+  pub short : maxNodes < r → length out < at + length vs
 
 -- the formula's nodes, numbered from `at`
-abbrev pub Wrote : Written → Formula → List ℕ → List ℕ → ℕ → Type 0
+abbrev pub Wrote : ℕ → Formula → List ℕ → List ℕ → ℕ → Type 0
 Wrote r f out out′ at = Puts r (nodesFrom at f) out out′ at
 
--- what the rewriting functions ask of the table, a node number and the first index
-pub record Ready (nodes : List ℕ) (i at : ℕ) : Type 0 where
+-- what they ask of the slice and the first index
+pub record Room (out : List ℕ) (at : ℕ) : Type 0 where
+  pub start : at ≤ length out
+  pub few : length out ≤ maxNodes
+
+-- and of the table and the node's number
+pub record Ready (nodes : List ℕ) (i : ℕ) (out : List ℕ) (at : ℕ) : Type 0 where
   pub formed : Formed fieldLimit nodes
   pub inside : i < length nodes
-  pub start : at ≤ maxNodes
+  pub room : Room out at
 
 -- the formulas and operators that a kind stands for
 abbrev pub constantOf : ℕ → Formula

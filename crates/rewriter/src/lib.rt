@@ -1,13 +1,17 @@
 // The rewriter (document 01, 'Forms'): writes the root's tree of a table of nodes, in a form, as a postorder tree.
-ghost use Rattle.node.specs.Limits.{fieldLimit};
+ghost use mathlib.Core.Path.{_≡_};
+ghost use Prim.Native.Nat.{_≤_};
+ghost use lib.ListN.{length};
+ghost use lib.Seq.{paste};
+ghost use Rattle.node.specs.Limits.{maxNodes, fieldLimit};
 ghost use Rattle.node.specs.Table.{root, treeAt};
 ghost use Rattle.node.specs.TableLaws.{Formed};
 ghost use Rattle.forms.specs.Forms.{form as form'};
 ghost use Rattle.rewriter.specs.Writing.{Wrote, Ready};
-ghost use Rattle.rewriter.specs.Fitting.{Fitted};
+ghost use Rattle.rewriter.specs.Fitting.{HandsOver, Fitted};
 ghost use Rattle.rewriter.specs.Promise.{Rewrites};
 use node::Answer;
-use write::Written;
+use node::MAX_NODES;
 
 // The modules are the crate's own: their functions ask for a table that has passed the check, which `rewrite` has made sure of.
 mod copy;
@@ -32,9 +36,14 @@ pub const BAD_FORM: u32 = 21;
 // The rewriter is told no signals: a table may have any signal number that a field holds.
 const SIGNAL_LIMIT: u32 = node::FIELD_LIMIT;
 
+// A table of at most 256 nodes is rewritten by way of a table of 1,024: few forms are more than four times as long.
+const SMALL_TABLE: usize = 256;
+
+const SMALL_RESULT: usize = 1024;
+
 // A node's formula in a form.
-fn write_form(nodes: &[u32], form: u32, i: usize, out: &mut [u32], at: usize) -> Written
-    requires { ⌜ Ready (now nodes) i at ⌝ }
+fn write_form(nodes: &[u32], form: u32, i: usize, out: &mut [u32], at: usize) -> usize
+    requires { ⌜ Ready (now nodes) i (now out) at ⌝ }
     ensures { λ r. ⌜ Wrote r (form' form (treeAt (now (nodes .entry)) i)) (now (out .entry)) (now (out .exit)) at ⌝ }
 {
     match form {
@@ -44,22 +53,58 @@ fn write_form(nodes: &[u32], form: u32, i: usize, out: &mut [u32], at: usize) ->
     }
 }
 
-// Counts the nodes with no room to write, then writes them.
+// The first n words, to the front of `out`. It asks that both have as many.
+fn copy_words(from: &[u32], n: usize, out: &mut [u32])
+    requires { ⌜ (n ≤ length (now from)) × (n ≤ length (now out)) ⌝ }
+    ensures { λ _. ⌜ now (out .exit) ≡ paste (now (out .entry)) 0 (now (from .entry)) n ⌝ }
+{
+    let mut i = 0;
+    while i < n {
+        out[i] = from[i];
+        i += 1;
+    }
+}
+
+// Hands over the first n words of a table that was written, where they fit. It asks for what the writing functions yield: a count of nodes within the table.
+fn hand_over(table: &[u32], n: usize, out: &mut [u32]) -> Answer
+    requires { ⌜ (n ≤ length (now table)) × (n ≤ maxNodes) ⌝ }
+    ensures { λ r. ⌜ HandsOver (now (table .entry)) n (now (out .entry)) (now (out .exit)) r ⌝ }
+{
+    if out.len() < n {
+        return Answer::Refused(RESULT_SHORT, 0);
+    }
+    copy_words(table, n, out);
+    let count = n as u32;
+    Answer::Accepted(count, 0)
+}
+
+// Writes the nodes to a table of its own, the largest that the format has, and hands them over: a refusal writes nothing to `out`. It asks for a table that
+// has passed the check.
 fn fit(nodes: &[u32], form: u32, out: &mut [u32]) -> Answer
     requires { ⌜ Formed fieldLimit (now nodes) ⌝ }
     ensures { λ r. ⌜ Fitted (form' form (root (now (nodes .entry)))) (now (out .entry)) (now (out .exit)) r ⌝ }
 {
     let root = nodes.len() - 1;
-    let no_room = 0;
-    let Written::Next(n) = write_form(nodes, form, root, &mut out[..no_room], 0) else {
+    let mut table: [u32; MAX_NODES] = [0; MAX_NODES];
+    let n = write_form(nodes, form, root, &mut table, 0);
+    if MAX_NODES < n {
         return Answer::Refused(TOO_MANY_NODES, 0);
-    };
-    if out.len() < n {
-        return Answer::Refused(RESULT_SHORT, 0);
     }
-    write_form(nodes, form, root, out, 0);
-    let count = n as u32;
-    Answer::Accepted(count, 0)
+    hand_over(&table, n, out)
+}
+
+// The same by way of a small table, which takes less time to clear; where it is too small, by the large one.
+fn fit_small(nodes: &[u32], form: u32, out: &mut [u32]) -> Answer
+    requires { ⌜ Formed fieldLimit (now nodes) ⌝ }
+    ensures { λ r. ⌜ Fitted (form' form (root (now (nodes .entry)))) (now (out .entry)) (now (out .exit)) r ⌝ }
+{
+    let root = nodes.len() - 1;
+    let mut small: [u32; SMALL_RESULT] = [0; SMALL_RESULT];
+    let n = write_form(nodes, form, root, &mut small, 0);
+    if SMALL_RESULT < n {
+        return fit(nodes, form, out);
+    }
+    hand_over(&small, n, out)
 }
 
 // Writes the root's tree in a form to the front of `out`. Accepted with the number of nodes written, and 0 signals.
@@ -73,5 +118,8 @@ pub fn rewrite(nodes: &[u32], form: u32, out: &mut [u32]) -> Answer
     let Answer::Accepted(_, _) = table else {
         return table;
     };
+    if nodes.len() <= SMALL_TABLE {
+        return fit_small(nodes, form, out);
+    }
     fit(nodes, form, out)
 }

@@ -1,5 +1,9 @@
 // The tables that the program runs the rewriter on.
+ghost use mathlib.Core.Path.{_≡_};
 ghost use Prim.Native.Nat.{_<_, _≤_};
+ghost use lib.ListN.{length};
+ghost use Rattle.node.specs.Limits.{maxNodes};
+ghost use Rattle.rewriter_run.specs.Chain.{secondOf, ChainTo};
 use node::Node;
 
 // What a kind and a first field count in a node's word.
@@ -40,22 +44,23 @@ pub const DOCUMENT: [u32; 17] = [
 ];
 
 // The second operand of a node of a chain: the node before, or node 0.
-fn second(is_shared: bool, before: u32) -> u32
-    ensures { λ r. ⌜ r ≤ before ⌝ }
+fn second(shared: bool, before: u32) -> u32
+    ensures { λ r. ⌜ r ≡ secondOf shared before ⌝ }
 {
-    if is_shared { before } else { 0 }
+    if shared { before } else { 0 }
 }
 
 // Signal 0, then nodes of a kind, each over the node before; a second operand is the signal, or the node before once more, which makes a tree of
-// 2 to the number of levels.
-pub fn chain(nodes: &mut [u32; 8192], kind: u32, is_shared: bool)
-    requires { ⌜ kind < 16 ⌝ }
+// 2 to the number of levels. It asks for fields that a node holds.
+pub fn chain(nodes: &mut [u32], kind: u32, shared: bool)
+    requires { ⌜ (kind < 16) × ((0 < length (now nodes)) × (length (now nodes) ≤ maxNodes)) ⌝ }
+    ensures { λ _. ⌜ ChainTo kind shared (now (nodes .exit)) (length (now (nodes .entry))) ⌝ }
 {
     let mut i = 1;
     nodes[0] = 2 * KIND;
-    while i < 8192 {
+    while i < nodes.len() {
         let before = (i - 1) as u32;
-        let node = Node::binary(kind, before, second(is_shared, before));
+        let node = Node::binary(kind, before, second(shared, before));
         nodes[i] = node.word;
         i += 1;
     }

@@ -1,12 +1,14 @@
 -- The cycle of `copy` meets its contracts: `copy` picks the function of a node's kind.
-use Prim.Native.Nat.{ℕ}
+use Prim.Native.Nat.{ℕ, _<_}
 use mathlib.Core.Path.{_≡_}
+use mathlib.Core.Logic.{_⊎_, inl, inr, ⊎-elim}
 use native.Mathlib.Omega.{arith}
 use borrow.Author.Needs.{needs}
 use Rattle.node.specs.Limits.{fieldLimit}
 use Rattle.node.specs.Kinds.{shapeOf}
-use Rattle.node.specs.TableLaws.{NodeIs, no-other}
-use Rattle.rewriter.specs.WritingLaws.{lower, operand, operands}
+use Rattle.node.specs.TableLaws.{NodeIs, rest-above}
+use Rattle.rewriter.specs.WritingLaws.{operand, operands}
+use Rattle.rewriter.specs.KeptLaws.{OfOne, OfTwo, OneStep, TwoStep, one-step, two-step, of-two, same, same-one, same-two}
 use Rattle.rewriter.proofs.copy.copy.Reads as copy
 use Rattle.rewriter.proofs.copy.+copy+copy_both+copy_one.Lts-copy as copy-lts
 use Rattle.rewriter.proofs.copy.+copy+copy_both+copy_one.Proof.Calls.{μ-copy, μ-copy-both, μ-copy-one, copy-at, copy-calls}
@@ -20,53 +22,45 @@ copy-node : (t : ℕ) (c : copy-lts.After-fields-at (copy-calls t) (copy-at t) c
     → NodeIs fieldLimit (c .before .before .before .args .nodes .now) (c .before .before .before .args .i) (shapeOf k) (c .fields-at .result .first) (c .fields-at .result .second)
 copy-node t c k e = rw e at (c .fields-at .ensures)
 
+copy-ones-at : (t : ℕ) (c : copy-lts.Then2 (copy-calls t) (copy-at t) copy.Post) →
+    let f = c .before .before .before in
+    OneStep same (f .before .before .before .args .nodes .now) (f .before .before .before .args .i) (f .fields-at .result .first) (f .fields-at .result .kind)
+copy-ones-at t c =
+    let f = c .before .before .before in
+    let h : OfOne (f .fields-at .result .kind) = (omega (arith, c .before .if1 .left), omega (arith, c .if2 .taken)) in
+    one-step h (f .fields-at .ensures) (same-one _ h)
+
+copy-twos-at : (t : ℕ) (c : copy-lts.Joined1 (copy-calls t) (copy-at t) copy.Post) →
+    let f = c .before .before in
+    TwoStep same (f .before .before .before .args .nodes .now) (f .before .before .before .args .i) (f .fields-at .result .first) (f .fields-at .result .second) (f .fields-at .result .kind)
+copy-twos-at t c =
+    let f = c .before .before in
+    let w : (f .fields-at .result .kind < 8) ⊎ (10 < f .fields-at .result .kind) = ⊎-elim (λ x. inl (omega (arith, x .taken))) (λ x. inr (omega (arith, x .1 .left))) (c .if1 .came) in
+    let h : OfTwo (f .fields-at .result .kind) = of-two (f .fields-at .ensures) (rest-above 4 _ (c .before .match .rest)) w in
+    two-step h (f .fields-at .ensures) (same-two _ h)
+
 copy-met : (t : ℕ) {M : Type 1} → copy-lts.Closed (copy-calls t) (copy-at t) copy.Post M
 copy-met t =
     copy-lts.spec (copy-calls t) (copy-at t) copy.Post
-    (λ c κs. lower _ _ (c .before .before .pre .1) (omega arith) (omega arith))
-    (λ c κs. let s = c .before .before .before .before .before in (omega arith, s .pre .1 .start))
-    (λ c κs. let s = c .before .before .before .before .before in (omega arith, s .pre .1 .start))
-    (λ c κs. let s = c .before .before .before .before .before in let n = copy-node t (c .before .before) 2 (c .before .match .keys3) in (n .lower, s .pre .1 .start))
-    (λ c κs. let s = c .before .before .before .before .before in let n = copy-node t (c .before .before) 3 (c .before .match .keys4) in (omega (arith, s .pre .0, n .lower), (operand (s .pre .1) (n .lower), search needs)))
-    (λ c κs. let s = c .before .before .before .before .before in let n = copy-node t (c .before .before) 4 (c .before .match .keys5) in (omega (arith, s .pre .0, n .lower), (operands (s .pre .1) (n .lower), search needs)))
-    (λ c κs. let s = c .before .before .before .before .before in let n = copy-node t (c .before .before) 5 (c .before .match .keys6) in (omega (arith, s .pre .0, n .lower), (operands (s .pre .1) (n .lower), search needs)))
-    (λ c κs. let s = c .before .before .before .before .before in let n = copy-node t (c .before .before) 6 (c .before .match .keys7) in (omega (arith, s .pre .0, n .lower), (operands (s .pre .1) (n .lower), search needs)))
-    (λ c κs. let s = c .before .before .before .before .before in let n = copy-node t (c .before .before) 7 (c .before .match .keys8) in (omega (arith, s .pre .0, n .lower), (operands (s .pre .1) (n .lower), search needs)))
-    (λ c κs. let s = c .before .before .before .before .before in let n = copy-node t (c .before .before) 8 (c .before .match .keys9) in (omega (arith, s .pre .0, n .lower), (operand (s .pre .1) (n .lower), search needs)))
-    (λ c κs. let s = c .before .before .before .before .before in let n = copy-node t (c .before .before) 9 (c .before .match .keys10) in (omega (arith, s .pre .0, n .lower), (operand (s .pre .1) (n .lower), search needs)))
-    (λ c κs. let s = c .before .before .before .before .before in let n = copy-node t (c .before .before) 10 (c .before .match .keys11) in (omega (arith, s .pre .0, n .lower), (operand (s .pre .1) (n .lower), search needs)))
-    (λ c κs. let s = c .before .before .before .before .before in let n = copy-node t (c .before .before) 11 (c .before .match .keys12) in (omega (arith, s .pre .0, n .lower), (operands (s .pre .1) (n .lower), search needs)))
-    (λ c κs. let s = c .before .before .before .before .before in let n = copy-node t (c .before .before) 12 (c .before .match .keys13) in (omega (arith, s .pre .0, n .lower), (operands (s .pre .1) (n .lower), search needs)))
-    (λ c κs. let s = c .before .before .before .before .before in let n = copy-node t (c .before .before) 13 (c .before .match .keys14) in (omega (arith, s .pre .0, n .lower), (operands (s .pre .1) (n .lower), search needs)))
+    (λ c κs. let s = (c .before .before) in (s .pre .1 .formed, s .pre .1 .inside))
+    (λ c κs. let s = (c .before .before .before .before .before) in (omega arith, s .pre .1 .room))
+    (λ c κs. let s = (c .before .before .before .before .before) in (omega arith, s .pre .1 .room))
+    (λ c κs. let s = (c .before .before .before .before .before) in let n = copy-node t (c .before .before) 2 ((c .before) .match .keys3) in (n .lower, s .pre .1 .room))
+    (λ c κs. let s = (c .before .before .before .before .before) in let n = copy-node t (c .before .before) 3 ((c .before) .match .keys4) in (omega (arith, s .pre .0, n .lower), (operand (s .pre .1) (n .lower), search needs)))
+    (λ c κs. let s = (c .before .before .before .before .before .before .before) in let n = copy-ones-at t (c .before) in (omega (arith, s .pre .0, n .below), (operand (s .pre .1) (n .below), n .operator)))
+    (λ c κs. let s = (c .before .before .before .before .before .before) in let n = copy-twos-at t (c .before) in (omega (arith, s .pre .0, n .below), (operands (s .pre .1) (n .below), n .operator)))
     (λ c. search needs)
-    (λ c. let n = copy-node t (c .before .before .before .before .before) 0 (c .before .before .before .before .match .keys1) in rw (n .tree) (c .before .before .constant .ensures))
+    (λ c. let n = copy-node t (c .before .before .before .before .before) 0 ((c .before .before .before .before) .match .keys1) in rw (n .tree) ((c .before .before) .constant .ensures))
     (λ c. search needs)
-    (λ c. let n = copy-node t (c .before .before .before .before .before) 1 (c .before .before .before .before .match .keys2) in rw (n .tree) (c .before .before .constant2 .ensures))
+    (λ c. let n = copy-node t (c .before .before .before .before .before) 1 ((c .before .before .before .before) .match .keys2) in rw (n .tree) ((c .before .before) .constant2 .ensures))
     (λ c. search needs)
-    (λ c. let n = copy-node t (c .before .before .before .before .before) 2 (c .before .before .before .before .match .keys3) in rw (n .tree) (c .before .before .signal .ensures))
+    (λ c. let n = copy-node t (c .before .before .before .before .before) 2 ((c .before .before .before .before) .match .keys3) in rw (n .tree) ((c .before .before) .signal .ensures))
     (λ c. search needs)
-    (λ c. let n = copy-node t (c .before .before .before .before .before) 3 (c .before .before .before .before .match .keys4) in rw (n .tree) (c .before .before .copy-one .ensures))
+    (λ c. let n = copy-node t (c .before .before .before .before .before) 3 ((c .before .before .before .before) .match .keys4) in rw (n .tree) ((c .before .before) .copy-one .ensures))
     (λ c. search needs)
-    (λ c. let n = copy-node t (c .before .before .before .before .before) 4 (c .before .before .before .before .match .keys5) in rw (n .tree) (c .before .before .copy-both .ensures))
+    (λ c. rw (copy-ones-at t (c .before .before .before .before) .tree) ((c .before .before) .copy-one2 .ensures))
     (λ c. search needs)
-    (λ c. let n = copy-node t (c .before .before .before .before .before) 5 (c .before .before .before .before .match .keys6) in rw (n .tree) (c .before .before .copy-both2 .ensures))
-    (λ c. search needs)
-    (λ c. let n = copy-node t (c .before .before .before .before .before) 6 (c .before .before .before .before .match .keys7) in rw (n .tree) (c .before .before .copy-both3 .ensures))
-    (λ c. search needs)
-    (λ c. let n = copy-node t (c .before .before .before .before .before) 7 (c .before .before .before .before .match .keys8) in rw (n .tree) (c .before .before .copy-both4 .ensures))
-    (λ c. search needs)
-    (λ c. let n = copy-node t (c .before .before .before .before .before) 8 (c .before .before .before .before .match .keys9) in rw (n .tree) (c .before .before .copy-one2 .ensures))
-    (λ c. search needs)
-    (λ c. let n = copy-node t (c .before .before .before .before .before) 9 (c .before .before .before .before .match .keys10) in rw (n .tree) (c .before .before .copy-one3 .ensures))
-    (λ c. search needs)
-    (λ c. let n = copy-node t (c .before .before .before .before .before) 10 (c .before .before .before .before .match .keys11) in rw (n .tree) (c .before .before .copy-one4 .ensures))
-    (λ c. search needs)
-    (λ c. let n = copy-node t (c .before .before .before .before .before) 11 (c .before .before .before .before .match .keys12) in rw (n .tree) (c .before .before .copy-both5 .ensures))
-    (λ c. search needs)
-    (λ c. let n = copy-node t (c .before .before .before .before .before) 12 (c .before .before .before .before .match .keys13) in rw (n .tree) (c .before .before .copy-both6 .ensures))
-    (λ c. search needs)
-    (λ c. let n = copy-node t (c .before .before .before .before .before) 13 (c .before .before .before .before .match .keys14) in rw (n .tree) (c .before .before .copy-both7 .ensures))
-    (λ c. absurd (no-other (c .before .fields-at .result .kind) (c .before .fields-at .ensures) (c .match .rest)))
+    (λ c. rw (copy-twos-at t (c .before .before .before .before) .tree) ((c .before .before) .copy-both .ensures))
 
 pub +copy+copy-both+copy-one-spec : {M : Type 1} → statement M
 +copy+copy-both+copy-one-spec =

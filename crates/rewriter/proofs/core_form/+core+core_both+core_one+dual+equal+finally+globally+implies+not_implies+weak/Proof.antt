@@ -1,13 +1,15 @@
 -- The cycle of `core` meets its contracts: `core` picks the function of a node's kind.
 use Prim.Native.Nat.{ℕ}
 use mathlib.Core.Path.{_≡_}
+use mathlib.Core.Logic.{inl, inr}
 use native.Mathlib.Omega.{arith}
 use borrow.Author.Needs.{needs}
 use Rattle.node.specs.Limits.{fieldLimit}
 use Rattle.node.specs.Kinds.{shapeOf}
 use Rattle.node.specs.TableLaws.{NodeIs, no-other}
 use Rattle.forms.specs.Forms.{core as core'}
-use Rattle.rewriter.specs.WritingLaws.{lower, operand, operands}
+use Rattle.rewriter.specs.WritingLaws.{operand, operands}
+use Rattle.rewriter.specs.KeptLaws.{OneStep, TwoStep, DualStep, core-one, core-two, core-dual}
 use Rattle.rewriter.proofs.core_form.core.Reads as core
 use Rattle.rewriter.proofs.core_form.+core+core_both+core_one+dual+equal+finally+globally+implies+not_implies+weak.Lts-core as core-lts
 use Rattle.rewriter.proofs.core_form.+core+core_both+core_one+dual+equal+finally+globally+implies+not_implies+weak.Proof.Calls.{μ-core, μ-core-both, μ-core-one, μ-dual, μ-equal, μ-finally, μ-globally, μ-implies, μ-not-implies, μ-weak, core-at, core-calls}
@@ -21,54 +23,82 @@ core-node : (t : ℕ) (c : core-lts.After-fields-at (core-calls t) (core-at t) c
     → NodeIs fieldLimit (c .before .before .before .args .nodes .now) (c .before .before .before .args .i) (shapeOf k) (c .fields-at .result .first) (c .fields-at .result .second)
 core-node t c k e = rw e at (c .fields-at .ensures)
 
+core-one-at : (t : ℕ) (c : core-lts.At-match-keys4 (core-calls t) (core-at t) core.Post) →
+    let f = c .before in
+    OneStep core' (f .before .before .before .args .nodes .now) (f .before .before .before .args .i) (f .fields-at .result .first) (f .fields-at .result .kind)
+core-one-at t c = core-one (c .before .fields-at .result .kind) (c .match .keys4) (c .before .fields-at .ensures)
+
+core-dual-at : (t : ℕ) (c : core-lts.After-base (core-calls t) (core-at t) core.Post) →
+    let f = c .before .before in
+    DualStep (f .before .before .before .args .nodes .now) (f .before .before .before .args .i) (f .fields-at .result .first) (f .fields-at .result .second) (c .base .result)
+core-dual-at t c =
+    let f = c .before .before in
+    rw (c .base .ensures) (core-dual (f .fields-at .result .kind) (c .before .match .keys5) (f .fields-at .ensures))
+
+core-two-at : (t : ℕ) (c : core-lts.At-match-keys6 (core-calls t) (core-at t) core.Post) →
+    let f = c .before in
+    TwoStep core' (f .before .before .before .args .nodes .now) (f .before .before .before .args .i) (f .fields-at .result .first) (f .fields-at .result .second) (f .fields-at .result .kind)
+core-two-at t c = core-two (c .before .fields-at .result .kind) (c .match .keys6) (c .before .fields-at .ensures)
+
+-- the last arm: a node that fits has one of the fourteen kinds
+core-none : (t : ℕ) (c : core-lts.At-match-rest (core-calls t) (core-at t) core.Post) → ⊥
+core-none t c =
+    let weak = c .match .rest in
+    let eventually = weak .0 in
+    let always = eventually .0 in
+    let iff = always .0 in
+    let implies = iff .0 in
+    let keeps = implies .0 in
+    let derives = keeps .0 in
+    let ones = derives .0 in
+    no-other (c .before .fields-at .result .kind) (c .before .fields-at .ensures) (
+      (
+        (((((((((ones .0, λ e. ones .1 (inl e)), λ e. derives .1 (inl e)), λ e. keeps .1 (inl e)), implies .1), iff .1), λ e. ones .1 (inr e)), always .1), eventually .1), λ e. keeps .1 (inr e)),
+        λ e. derives .1 (inr e),
+      ),
+      weak .1,
+    )
+
 core-met : (t : ℕ) {M : Type 1} → core-lts.Closed (core-calls t) (core-at t) core.Post M
 unfolding core'
 core-met t =
     core-lts.spec (core-calls t) (core-at t) core.Post
-    (λ c κs. lower _ _ (c .before .before .pre .1) (omega arith) (omega arith))
-    (λ c κs. let s = c .before .before .before .before .before in (omega arith, s .pre .1 .start))
-    (λ c κs. let s = c .before .before .before .before .before in s .pre .1 .start)
-    (λ c κs. let s = c .before .before .before .before .before in let n = core-node t (c .before .before) 2 (c .before .match .keys3) in (n .lower, s .pre .1 .start))
-    (λ c κs. let s = c .before .before .before .before .before in let n = core-node t (c .before .before) 3 (c .before .match .keys4) in (omega (arith, s .pre .0, n .lower), (operand (s .pre .1) (n .lower), search needs)))
-    (λ c κs. let s = c .before .before .before .before .before in let n = core-node t (c .before .before) 4 (c .before .match .keys5) in (omega (arith, s .pre .0, n .lower), (operands (s .pre .1) (n .lower), search needs)))
-    (λ c κs. let s = c .before .before .before .before .before in let n = core-node t (c .before .before) 5 (c .before .match .keys6) in (omega (arith, s .pre .0, n .lower), (operands (s .pre .1) (n .lower), search needs)))
-    (λ c κs. let s = c .before .before .before .before .before in let n = core-node t (c .before .before) 6 (c .before .match .keys7) in (omega (arith, s .pre .0, n .lower), operands (s .pre .1) (n .lower)))
-    (λ c κs. let s = c .before .before .before .before .before in let n = core-node t (c .before .before) 7 (c .before .match .keys8) in (omega (arith, s .pre .0, n .lower), operands (s .pre .1) (n .lower)))
-    (λ c κs. let s = c .before .before .before .before .before in let n = core-node t (c .before .before) 8 (c .before .match .keys9) in (omega (arith, s .pre .0, n .lower), (operand (s .pre .1) (n .lower), search needs)))
-    (λ c κs. let s = c .before .before .before .before .before in let n = core-node t (c .before .before) 9 (c .before .match .keys10) in (omega (arith, s .pre .0, n .lower), operand (s .pre .1) (n .lower)))
-    (λ c κs. let s = c .before .before .before .before .before in let n = core-node t (c .before .before) 10 (c .before .match .keys11) in (omega (arith, s .pre .0, n .lower), operand (s .pre .1) (n .lower)))
-    (λ c κs. let s = c .before .before .before .before .before in let n = core-node t (c .before .before) 11 (c .before .match .keys12) in (omega (arith, s .pre .0, n .lower), (operands (s .pre .1) (n .lower), search needs)))
-    (λ c κs. let s = c .before .before .before .before .before in let n = core-node t (c .before .before) 12 (c .before .match .keys13) in (omega (arith, s .pre .0, n .lower), (operands (s .pre .1) (n .lower), search needs)))
-    (λ c κs. let s = c .before .before .before .before .before in let n = core-node t (c .before .before) 13 (c .before .match .keys14) in (omega (arith, s .pre .0, n .lower), operands (s .pre .1) (n .lower)))
+    (λ c κs. let s = (c .before .before) in (s .pre .1 .formed, s .pre .1 .inside))
+    (λ c κs. let s = (c .before .before .before .before .before) in (omega arith, s .pre .1 .room))
+    (λ c κs. let s = (c .before .before .before .before .before) in s .pre .1 .room)
+    (λ c κs. let s = (c .before .before .before .before .before) in let n = core-node t (c .before .before) 2 ((c .before) .match .keys3) in (n .lower, s .pre .1 .room))
+    (λ c κs. let s = (c .before .before .before .before .before) in let n = core-one-at t (c .before) in (omega (arith, s .pre .0, n .below), (operand (s .pre .1) (n .below), n .operator)))
+    (λ c κs. search needs)
+    (λ c κs. let s = (c .before .before .before .before .before .before) in let n = core-dual-at t (c .before) in (omega (arith, s .pre .0, n .below), (operands (s .pre .1) (n .below), n .operator)))
+    (λ c κs. let s = (c .before .before .before .before .before) in let n = core-two-at t (c .before) in (omega (arith, s .pre .0, n .below), (operands (s .pre .1) (n .below), n .operator)))
+    (λ c κs. let s = (c .before .before .before .before .before) in let n = core-node t (c .before .before) 6 ((c .before) .match .keys7) in (omega (arith, s .pre .0, n .lower), operands (s .pre .1) (n .lower)))
+    (λ c κs. let s = (c .before .before .before .before .before) in let n = core-node t (c .before .before) 7 ((c .before) .match .keys8) in (omega (arith, s .pre .0, n .lower), operands (s .pre .1) (n .lower)))
+    (λ c κs. let s = (c .before .before .before .before .before) in let n = core-node t (c .before .before) 9 ((c .before) .match .keys9) in (omega (arith, s .pre .0, n .lower), operand (s .pre .1) (n .lower)))
+    (λ c κs. let s = (c .before .before .before .before .before) in let n = core-node t (c .before .before) 10 ((c .before) .match .keys10) in (omega (arith, s .pre .0, n .lower), operand (s .pre .1) (n .lower)))
+    (λ c κs. let s = (c .before .before .before .before .before) in let n = core-node t (c .before .before) 13 ((c .before) .match .keys11) in (omega (arith, s .pre .0, n .lower), operands (s .pre .1) (n .lower)))
     (λ c. search needs)
-    (λ c. let n = core-node t (c .before .before .before .before .before) 0 (c .before .before .before .before .match .keys1) in rw (n .tree) (c .before .before .constant .ensures))
+    (λ c. let n = core-node t (c .before .before .before .before .before) 0 ((c .before .before .before .before) .match .keys1) in rw (n .tree) ((c .before .before) .constant .ensures))
     (λ c. search needs)
-    (λ c. let n = core-node t (c .before .before .before .before .before) 1 (c .before .before .before .before .match .keys2) in rw (n .tree) (c .before .before .not-true .ensures))
+    (λ c. let n = core-node t (c .before .before .before .before .before) 1 ((c .before .before .before .before) .match .keys2) in rw (n .tree) ((c .before .before) .not-true .ensures))
     (λ c. search needs)
-    (λ c. let n = core-node t (c .before .before .before .before .before) 2 (c .before .before .before .before .match .keys3) in rw (n .tree) (c .before .before .signal .ensures))
+    (λ c. let n = core-node t (c .before .before .before .before .before) 2 ((c .before .before .before .before) .match .keys3) in rw (n .tree) ((c .before .before) .signal .ensures))
     (λ c. search needs)
-    (λ c. let n = core-node t (c .before .before .before .before .before) 3 (c .before .before .before .before .match .keys4) in rw (n .tree) (c .before .before .core-one .ensures))
+    (λ c. rw (core-one-at t (c .before .before .before .before) .tree) ((c .before .before) .core-one .ensures))
     (λ c. search needs)
-    (λ c. let n = core-node t (c .before .before .before .before .before) 4 (c .before .before .before .before .match .keys5) in rw (n .tree) (c .before .before .dual .ensures))
+    (λ c. rw (core-dual-at t (c .before .before .before .before) .tree) ((c .before .before) .dual .ensures))
     (λ c. search needs)
-    (λ c. let n = core-node t (c .before .before .before .before .before) 5 (c .before .before .before .before .match .keys6) in rw (n .tree) (c .before .before .core-both .ensures))
+    (λ c. rw (core-two-at t (c .before .before .before .before) .tree) ((c .before .before) .core-both .ensures))
     (λ c. search needs)
-    (λ c. let n = core-node t (c .before .before .before .before .before) 6 (c .before .before .before .before .match .keys7) in rw (n .tree) (c .before .before .implies .ensures))
+    (λ c. let n = core-node t (c .before .before .before .before .before) 6 ((c .before .before .before .before) .match .keys7) in rw (n .tree) ((c .before .before) .implies .ensures))
     (λ c. search needs)
-    (λ c. let n = core-node t (c .before .before .before .before .before) 7 (c .before .before .before .before .match .keys8) in rw (n .tree) (c .before .before .equal .ensures))
+    (λ c. let n = core-node t (c .before .before .before .before .before) 7 ((c .before .before .before .before) .match .keys8) in rw (n .tree) ((c .before .before) .equal .ensures))
     (λ c. search needs)
-    (λ c. let n = core-node t (c .before .before .before .before .before) 8 (c .before .before .before .before .match .keys9) in rw (n .tree) (c .before .before .core-one2 .ensures))
+    (λ c. let n = core-node t (c .before .before .before .before .before) 9 ((c .before .before .before .before) .match .keys9) in rw (n .tree) ((c .before .before) .globally .ensures))
     (λ c. search needs)
-    (λ c. let n = core-node t (c .before .before .before .before .before) 9 (c .before .before .before .before .match .keys10) in rw (n .tree) (c .before .before .globally .ensures))
+    (λ c. let n = core-node t (c .before .before .before .before .before) 10 ((c .before .before .before .before) .match .keys10) in rw (n .tree) ((c .before .before) .finally .ensures))
     (λ c. search needs)
-    (λ c. let n = core-node t (c .before .before .before .before .before) 10 (c .before .before .before .before .match .keys11) in rw (n .tree) (c .before .before .finally .ensures))
-    (λ c. search needs)
-    (λ c. let n = core-node t (c .before .before .before .before .before) 11 (c .before .before .before .before .match .keys12) in rw (n .tree) (c .before .before .core-both2 .ensures))
-    (λ c. search needs)
-    (λ c. let n = core-node t (c .before .before .before .before .before) 12 (c .before .before .before .before .match .keys13) in rw (n .tree) (c .before .before .dual2 .ensures))
-    (λ c. search needs)
-    (λ c. let n = core-node t (c .before .before .before .before .before) 13 (c .before .before .before .before .match .keys14) in rw (n .tree) (c .before .before .weak .ensures))
-    (λ c. absurd (no-other (c .before .fields-at .result .kind) (c .before .fields-at .ensures) (c .match .rest)))
+    (λ c. let n = core-node t (c .before .before .before .before .before) 13 ((c .before .before .before .before) .match .keys11) in rw (n .tree) ((c .before .before) .weak .ensures))
+    (λ c. absurd (core-none t c))
 
 pub +core+core-both+core-one+dual+equal+finally+globally+implies+not-implies+weak-spec : {M : Type 1} → statement M
 +core+core-both+core-one+dual+equal+finally+globally+implies+not-implies+weak-spec =

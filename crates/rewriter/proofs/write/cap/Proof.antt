@@ -19,7 +19,7 @@ same-length : tie.Need-same-length
 same-length c = search needs
 
 returns : tie.Need-returns
-returns c = rw (c .before .before .before .before .unary .ensures) at (c .before .before .put .ensures)
+returns c = rw ((c .before .before .before .before) .unary .ensures) at ((c .before .before) .put .ensures)
 
 pub cap-spec : {M : Type 1} → statement M
 cap-spec =

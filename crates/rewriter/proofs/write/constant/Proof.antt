@@ -14,9 +14,7 @@ same-length : tie.Need-same-length
 same-length c = search needs
 
 returns : tie.Need-returns
-returns c =
-    let s = c .before .before .before .before .before .before in
-    constant-wrote (s .args .kind) (s .pre .0) (c .before .before .before .before .leaf .ensures) (c .before .before .put .ensures)
+returns c = constant-wrote ((c .before .before .before .before .before .before) .args .kind) ((c .before .before .before .before .before .before) .pre .0) ((c .before .before .before .before) .leaf .ensures) ((c .before .before) .put .ensures)
 
 pub constant-spec : {M : Type 1} → statement M
 constant-spec = tie.close (tie.spec leaf-requires put-requires same-length returns)

@@ -25,7 +25,7 @@ same-length : tie.Need-same-length
 same-length c = search needs
 
 returns : tie.Need-returns
-returns c = rw (c .before .before .before .before .binary .ensures) at (c .before .before .put .ensures)
+returns c = rw ((c .before .before .before .before) .binary .ensures) at ((c .before .before) .put .ensures)
 
 pub join-spec : {M : Type 1} → statement M
 join-spec =

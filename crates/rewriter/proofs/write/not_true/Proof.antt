@@ -2,52 +2,29 @@
 use mathlib.Core.Path.{refl}
 use native.Mathlib.Omega.{arith}
 use Rattle.node.specs.Ltl.{Not, True}
-use Rattle.node.specs.Postorder.{nodesFrom}
-use Rattle.rewriter.specs.Writing.{Stored}
-use Rattle.rewriter.specs.WritingLaws.{next-of, full-of, unary-full, unary-wrote, end}
+use Rattle.rewriter.specs.WritingLaws.{unary-full, unary-wrote, end}
 use borrow.Author.Needs.{needs}
 use Rattle.rewriter.proofs.write.not_true.Statement.{statement}
 use Rattle.rewriter.proofs.write.not_true.Tie as tie
 
-stored : (c : tie.After-known-told) →
-    let d = c .before .before .before .before .before in
-    let s = d .before .before .before .args in
-    Stored (nodesFrom (s .at) (True)) (s .out .now) (d .constant .last .1 .0) (s .at) (c .before .m .given .0 .0)
-stored c = next-of (c .before .m .given .1) (c .before .before .before .before .before .constant .ensures)
-
 constant-requires : tie.Need-constant-requires
 constant-requires c κs = search needs
-
-enum-known-m : tie.Need-enum-known-m
-enum-known-m c = search needs
-
-enum-told : tie.Need-enum-told
-enum-told c = search needs
 
 same-length : tie.Need-same-length
 same-length c = search needs
 
 returns : tie.Need-returns
-returns c = let d = c .before .before .before .before in unary-full Not True (full-of (c .enum-told .given .1) (d .constant .ensures))
+returns c = unary-full Not True (c .if1 .taken) ((c .before .before .before) .constant .ensures)
 
 cap-requires : tie.Need-cap-requires
-cap-requires c κs = end 3 True (omega arith) (stored (c .before))
+cap-requires c κs = end 3 True (omega arith) ((c .before .before .before .before .before .before .before) .pre) ((c .before .before .before .before) .constant .ensures .stored ((c .before) .if1 .left))
 
 same-length-2 : tie.Need-same-length-2
 same-length-2 c = search needs
 
 returns-2 : tie.Need-returns-2
-returns-2 c = unary-wrote Not True (stored (c .before .before .before .before)) refl (c .before .before .cap .ensures)
+returns-2 c = unary-wrote Not True ((c .before .before .before .before .before .before .before) .constant .ensures .stored ((c .before .before .before .before) .if1 .left)) refl ((c .before .before) .cap .ensures)
 
 pub not-true-spec : {M : Type 1} → statement M
 not-true-spec =
-    tie.close
-    (tie.spec
-    constant-requires
-    enum-known-m
-    enum-told
-    same-length
-    returns
-    cap-requires
-    same-length-2
-    returns-2)
+    tie.close (tie.spec constant-requires same-length returns cap-requires same-length-2 returns-2)

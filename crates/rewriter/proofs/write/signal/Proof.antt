@@ -17,9 +17,7 @@ same-length : tie.Need-same-length
 same-length c = search needs
 
 returns : tie.Need-returns
-returns c =
-    let s = c .before .before .before .before .before .before in
-    signal-wrote (s .args .k) (c .before .before .before .before .unary .ensures) (c .before .before .put .ensures)
+returns c = signal-wrote ((c .before .before .before .before .before .before) .args .k) ((c .before .before .before .before) .unary .ensures) ((c .before .before) .put .ensures)
 
 pub signal-spec : {M : Type 1} → statement M
 signal-spec = tie.close (tie.spec cast-unary unary-requires put-requires same-length returns)

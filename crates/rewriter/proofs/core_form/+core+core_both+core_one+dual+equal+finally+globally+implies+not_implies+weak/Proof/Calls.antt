@@ -33,6 +33,7 @@ use Rattle.rewriter.proofs.core_form.+core+core_both+core_one+dual+equa
 use Rattle.rewriter.proofs.core_form.weak.Reads as weak
 use Rattle.rewriter.proofs.core_form.weak.Kinds as weak-kinds
 use Rattle.rewriter.proofs.core_form.+core+core_both+core_one+dual+equal+finally+globally+implies+not_implies+weak.Lts-weak as weak-lts
+use Rattle.rewriter.proofs.core_form.base.Reads as base-reads
 use Rattle.rewriter.proofs.write.cap.Reads as cap-reads
 use Rattle.rewriter.proofs.write.constant.Reads as constant-reads
 use Rattle.rewriter.proofs.write.fields_at.Reads as fields-at-reads
@@ -132,7 +133,7 @@ abbrev pub weak-below : ℕ → In 2 weak-kinds.ps
 weak-below t = and 2 weak-kinds.ps (falls 2 weak-kinds.ps _<_ μ-weak t) weak.Pre
 
 abbrev pub core-calls : ℕ → core-lts.Claims
-core-calls t = (fields-at-reads.Asked, fields-at-reads.Learnt, constant-reads.Asked, constant-reads.Learnt, not-true-reads.Asked, not-true-reads.Learnt, signal-reads.Asked, signal-reads.Learnt, core-one-below t, core-one.Post, dual-below t, dual.Post, core-both-below t, core-both.Post, implies-below t, implies.Post, equal-below t, equal.Post, globally-below t, globally.Post, finally-below t, finally.Post, weak-below t, weak.Post)
+core-calls t = (fields-at-reads.Asked, fields-at-reads.Learnt, constant-reads.Asked, constant-reads.Learnt, not-true-reads.Asked, not-true-reads.Learnt, signal-reads.Asked, signal-reads.Learnt, core-one-below t, core-one.Post, base-reads.Asked, base-reads.Learnt, dual-below t, dual.Post, core-both-below t, core-both.Post, implies-below t, implies.Post, equal-below t, equal.Post, globally-below t, globally.Post, finally-below t, finally.Post, weak-below t, weak.Post)
 
 abbrev pub core-both-calls : ℕ → core-both-lts.Claims
 core-both-calls t = (core-below t, core.Post, join-reads.Asked, join-reads.Learnt)
