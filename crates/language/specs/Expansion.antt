@@ -1,19 +1,21 @@
 -- The expansion of a text to one formula (document 01, 'Expansion').
-use Prim.Native.Nat.{ℕ, zero, suc, _-_}
-use mathlib.Core.Bool.{Bool, true, false, _&&_}
+use Prim.Native.Nat.{ℕ, zero, suc, _+_, _-_}
+use mathlib.Core.Bool.{Bool, true, false, not, _&&_}
 use mathlib.Core.List.{List, [], _∷_, _++_, map}
-use lib.Dec.{eqb, leb}
+use lib.Dec.{eqb, leb, ltb}
 use lib.ListN.{length}
 use Rattle.node.specs.Operators.{Not, X, G, Binary, And, Or, Implies, W}
 use Rattle.node.specs.Ltl.{Formula, True, False, Signal, One, Two}
-use Rattle.node.specs.Result.{Result, Done, _>>=_, guard}
+use Rattle.node.specs.Result.{Result, Done, Refused, _>>=_, guard}
 use Rattle.language.specs.Bytes.{same}
 use Rattle.language.specs.Tokens.{Token}
 use Rattle.language.specs.Operators.{Comparison, Equal, Unequal, Less, AtMost, Greater, AtLeast, Big, BigSum, BigProduct, BigCap, BigCup, BigAnd, BigOr, Window, FinallyIn, GloballyIn, Calculates, Combines, Compares, Membership, Connects, Measures, WidthOf, Applies}
 use Rattle.language.specs.Tree.{Expr, Named, Numeral, Truth, Index, Paren, Prefixed, Joined, Nexts, InWindow, Each, Between, Listed, Empty, Element, Range, Definition, Defined, Enumerated, Part, Initially, Preset, Require, Assert, Assume, Guarantee, partCode, Spec}
 use Rattle.language.specs.Sets.{memberOf}
-use Rattle.language.specs.Values.{Mark, Absent, Present, Star, Number, misfit, number, set, bus, test, Sides, Numbers, Against, sides, bit, Scope, naming, value}
-use Rattle.language.specs.Signals.{Declared, Constant, SignalAt, BusAt, Identifies, WaitingSignal, WaitingBus, Table, find, declared, Line, Written, Implied, Declarations}
+use Rattle.language.specs.Values.{Value, Number, Set, Logic, Bus, Unsized, Choice, misfit, number, set, Sized, bus, choice, Scope, naming, value}
+use Rattle.language.specs.Declared.{Declared, Constant, Single, BusOf, Identifies, WaitingBus, find, declared, Port, Declarations}
+use Rattle.language.specs.Numbering.{inOrder, firstOf, Mark, Absent, Present, Star, marksOf}
+use Rattle.language.specs.Lines.{Line, Written, Implied}
 
 -- 'fold to the left .. one element is itself'
 abbrev pub joined : Binary → Formula → List Formula → Formula
@@ -49,31 +51,51 @@ abbrev pub windowOperator : Window → Binary
 windowOperator FinallyIn = Or
 windowOperator GloballyIn = And
 
--- 'per word the literals of its unstarred marks, bit 0 first, folded with `&&` (all stars: true)'
-abbrev pub literals : List Mark → ℕ → List Formula
-literals [] k = []
-literals (Absent ∷ v) k = One Not (Signal k) ∷ literals v (suc k)
-literals (Present ∷ v) k = Signal k ∷ literals v (suc k)
-literals (Star ∷ v) k = literals v (suc k)
+-- the signal of a name at an index: every signal node is made here
+abbrev pub signalNode : List Port → List ℕ → ℕ → Formula
+signalNode ps x i = Signal (firstOf ps x + i)
+
+-- 'per word the literals of its unstarred marks, bit 0 first, folded with `&&` (all stars: true)': those from bit i on
+abbrev pub literals : List Port → List ℕ → ℕ → List Mark → List Formula
+literals ps x i [] = []
+literals ps x i (Absent ∷ v) = One Not (signalNode ps x i) ∷ literals ps x (suc i) v
+literals ps x i (Present ∷ v) = signalNode ps x i ∷ literals ps x (suc i) v
+literals ps x i (Star ∷ v) = literals ps x (suc i) v
 
 -- 'words folded with `||`'
-abbrev pub oneOf : List (List Mark) → ℕ → Formula
-oneOf vs k = disjunction (map (λ v. conjunction (literals v k)) vs)
+abbrev pub oneOf : List Port → List ℕ → List Token → Formula
+oneOf ps x vs = disjunction (map (λ v. conjunction (literals ps x 0 (marksOf v))) vs)
 
 -- are the words as wide as the bus? 'unequal widths' is 13 at the bus's name
-abbrev pub widthIs : ℕ → List (List Mark) → Bool
+abbrev pub widthIs : ℕ → List Token → Bool
 widthIs n [] = true
-widthIs n (v ∷ vs) = eqb (length v) n && widthIs n vs
+widthIs n (v ∷ vs) = eqb (length (v .text)) n && widthIs n vs
 
 -- 'Bus equals enumeration value .. `!=` puts `!` above'
-abbrev pub compared : Comparison → Sides → Result Formula
-compared o (Numbers m n) = Done (truth (test o m n))
-compared Equal (Against b v) = guard (widthIs (b .width) v) 13 (b .place) (Done (oneOf v (b .first)))
-compared Unequal (Against b v) = guard (widthIs (b .width) v) 13 (b .place) (Done (One Not (oneOf v (b .first))))
-compared Less (Against b v) = misfit
-compared AtMost (Against b v) = misfit
-compared Greater (Against b v) = misfit
-compared AtLeast (Against b v) = misfit
+abbrev pub against : List Port → Comparison → Sized → List Token → Result Formula
+against ps Equal b v = guard (widthIs (b .width) v) 13 (b .place) (Done (oneOf ps (b .name) v))
+against ps Unequal b v = guard (widthIs (b .width) v) 13 (b .place) (Done (One Not (oneOf ps (b .name) v)))
+against ps Less b v = misfit
+against ps AtMost b v = misfit
+against ps Greater b v = misfit
+against ps AtLeast b v = misfit
+
+abbrev pub test : Comparison → ℕ → ℕ → Bool
+test Equal a b = eqb a b
+test Unequal a b = not (eqb a b)
+test Less a b = ltb a b
+test AtMost a b = leb a b
+test Greater a b = ltb b a
+test AtLeast a b = leb b a
+
+-- a comparison: of two numbers, or of a bus and an identifier in either order
+abbrev pub compared : List Port → Comparison → Value → Value → Result Formula
+compared ps o (Number m) y = number y >>= λ n. Done (truth (test o m n))
+compared ps o (Set s) y = misfit
+compared ps o Logic y = misfit
+compared ps o (Bus p x n) y = choice y >>= against ps o (record { place = p; name = x; width = n })
+compared ps o (Unsized p) y = Refused 13 p
+compared ps o (Choice v) y = bus y >>= λ b. against ps o b v
 
 -- the operand of a big operator at each element
 abbrev pub gather : {A B : Type 0} → (A → Result B) → List A → Result (List B)
@@ -88,27 +110,32 @@ bigFormula BigCup f s = misfit
 bigFormula BigAnd f s = gather f s >>= λ fs. Done (conjunction fs)
 bigFormula BigOr f s = gather f s >>= λ fs. Done (disjunction fs)
 
--- what the visible names stand for, and the formulas of those that stand for one
+-- the signals in order; what the visible names stand for, and the formulas of those that stand for one
 pub record Context : Type 0 where
+  pub ports : List Port
   pub values : Scope
   pub formulas : Token → Result Formula
 
+-- bit i of a bus: 'index too large' is 13
+abbrev pub bitAt : List Port → ℕ → Sized → Result Formula
+bitAt ps i b = guard (ltb i (b .width)) 13 (b .place) (Done (signalNode ps (b .name) i))
+
 -- a big operator's name at an element
 abbrev pub at : Context → Token → ℕ → Context
-at c i k = record { values = naming i (Done (Number k)) (c .values); formulas = c .formulas }
+at c i k = record { ports = c .ports; values = naming i (Done (Number k)) (c .values); formulas = c .formulas }
 
 abbrev pub expansion : Context → Expr → Result Formula
 expansion c (Named t) = c .formulas t
 expansion c (Numeral t) = misfit
 expansion c (Truth t b) = Done (truth b)
-expansion c (Index t e) = (value (c .values) e >>= number >>= λ i. c .values t >>= bus >>= bit i) >>= λ k. Done (Signal k)
+expansion c (Index t e) = value (c .values) e >>= number >>= λ i. c .values t >>= bus >>= bitAt (c .ports) i
 expansion c (Paren t e) = expansion c e
 expansion c (Prefixed t (Measures m) e) = misfit
 expansion c (Prefixed t WidthOf e) = misfit
 expansion c (Prefixed t (Applies o) e) = expansion c e >>= λ f. Done (One o f)
 expansion c (Joined t (Calculates o) a b) = misfit
 expansion c (Joined t (Combines o) a b) = misfit
-expansion c (Joined t (Compares o) a b) = (value (c .values) a >>= λ x. value (c .values) b >>= sides x) >>= compared o
+expansion c (Joined t (Compares o) a b) = value (c .values) a >>= λ x. value (c .values) b >>= compared (c .ports) o x
 expansion c (Joined t Membership a b) =
     value (c .values) a >>= number >>= λ n. value (c .values) b >>= set >>= λ m. Done (truth (memberOf m n))
 expansion c (Joined t (Connects o) a b) = expansion c a >>= λ f. expansion c b >>= λ g. Done (Two o f g)
@@ -123,22 +150,24 @@ expansion c Empty = misfit
 expansion c (Element e es) = misfit
 expansion c (Range t x y z) = misfit
 
--- the declared names
-abbrev pub signalOf : Declared → Result Formula
-signalOf (Constant n) = misfit
-signalOf (SignalAt k) = Done (Signal k)
-signalOf (BusAt k n) = misfit
-signalOf (Identifies v) = misfit
-signalOf WaitingSignal = misfit
-signalOf WaitingBus = misfit
+-- a declared name
+abbrev pub signalOf : List Port → Token → Declared → Result Formula
+signalOf ps t (Constant n) = misfit
+signalOf ps t Single = Done (signalNode ps (t .text) 0)
+signalOf ps t (BusOf n) = misfit
+signalOf ps t (Identifies v) = misfit
+signalOf ps t WaitingBus = misfit
 
-abbrev pub atSignals : Table → Context
-atSignals d = record { values = declared d; formulas = λ t. find d (t .text) >>= signalOf }
+abbrev pub atSignals : Declarations → Context
+atSignals d =
+    let ps = inOrder d in
+    record { ports = ps; values = declared (d .table); formulas = λ t. find (d .table) (t .text) >>= signalOf ps t }
 
 -- a definition is what its body is, in terms of the names before it
 abbrev pub define : Context → Token → Expr → Context
 define c x e =
     record {
+      ports = c .ports;
       values = naming x (value (c .values) e) (c .values);
       formulas = λ t. elim (same (x .text) (t .text)) [ true ↦ expansion c e | false ↦ c .formulas t ];
     }
@@ -150,7 +179,7 @@ defineAll c (Enumerated x is ∷ ds) = defineAll c ds
 
 abbrev pub expandLine : Context → Line → Result Formula
 expandLine c (Written e) = expansion c e
-expandLine c (Implied k v) = Done (oneOf v k)
+expandLine c (Implied p) = Done (oneOf (c .ports) (p .name .text) (p .words))
 
 -- the formulas of a part's lines
 abbrev pub Sections : Type 0
@@ -179,4 +208,4 @@ whole true f =
 -- 'sections in text order'
 abbrev pub expand : Spec → Declarations → List (Part × List Line) → Result Formula
 expand x d lines =
-    gather (expandSection (defineAll (atSignals (d .outputs .table)) (x .definitions))) lines >>= λ ss. Done (whole (x .strict) (section ss))
+    gather (expandSection (defineAll (atSignals d) (x .definitions))) lines >>= λ ss. Done (whole (x .strict) (section ss))

@@ -12,10 +12,12 @@ pub mod Words
 pub mod Parsing
 pub mod Sets
 pub mod Values
-pub mod Signals
+pub mod Declared
+pub mod Numbering
 pub mod Lines
 pub mod Expansion
 pub mod Meaning
+pub mod Numbered
 pub mod Reading
 pub mod Cases
 pub mod Laws

@@ -47,3 +47,13 @@ maxNumber = 1_000_000
 -- the work buffer's 'first 65,536 bytes'
 abbrev pub workBytes : ℕ
 workBytes = 65_536
+
+-- 'A signal list entry is 32 bits: 1 output flag, 15 offset of the name, 8 index in the bus, 8 width'
+abbrev pub offsetBits : ℕ
+offsetBits = 15
+
+abbrev pub indexBits : ℕ
+indexBits = 8
+
+abbrev pub widthBits : ℕ
+widthBits = 8

@@ -1,22 +1,21 @@
 -- The source's own meaning (document 01: 'The source's own meaning is fed an accepted text, an infinite word .. and a position t, and no nodes'). Numbers and
 -- sets are worked out; of formulas nothing is expanded.
-use Prim.Native.Nat.{ℕ, suc, _+_, _≤_, _<_}
+use Prim.Native.Nat.{ℕ, _+_, _≤_, _<_}
 use mathlib.Core.Path.{_≡_}
 use mathlib.Core.Bool.{Bool, true, false, So}
 use mathlib.Core.List.{List, [], _∷_}
-use lib.Dec.{eqb}
+use lib.ListN.{length, getD}
 use Rattle.node.specs.Logic.{Either, Some}
 use Rattle.node.specs.Temporal.{Property, Always}
-use Rattle.node.specs.Operators.{UnaryMeans, BinaryMeans, Word}
+use Rattle.node.specs.Operators.{UnaryMeans, BinaryMeans}
 use Rattle.node.specs.Result.{Result, Done, Refused, _>>=_}
 use Rattle.language.specs.Bytes.{same}
 use Rattle.language.specs.Tokens.{Token}
 use Rattle.language.specs.Operators.{Comparison, Equal, Unequal, Less, AtMost, Greater, AtLeast, Big, BigSum, BigProduct, BigCap, BigCup, BigAnd, BigOr, Window, FinallyIn, GloballyIn, Calculates, Combines, Compares, Membership, Connects, Measures, WidthOf, Applies}
-use Rattle.language.specs.Tree.{Expr, Named, Numeral, Truth, Index, Paren, Prefixed, Joined, Nexts, InWindow, Each, Between, Listed, Empty, Element, Range, Definition, Defined, Enumerated, Part, Initially, Preset, Require, Assert, Assume, Guarantee, partCode, Spec}
+use Rattle.language.specs.Tree.{Expr, Named, Numeral, Truth, Index, Paren, Prefixed, Joined, Nexts, InWindow, Each, Between, Listed, Empty, Element, Range, Identifier, Definition, Defined, Enumerated, Declaration, OneSignal, OfWidth, OfType, Part, Initially, Preset, Require, Assert, Assume, Guarantee, Subsection, Inputs, Outputs, Lines, Spec}
 use Rattle.language.specs.Sets.{memberOf}
-use Rattle.language.specs.Values.{Mark, Absent, Present, Star, Number, number, set, bus, Sides, Numbers, Against, sides, bit, Scope, naming, value}
-use Rattle.language.specs.Signals.{Declared, Constant, SignalAt, BusAt, Identifies, WaitingSignal, WaitingBus, Table, find, declared, Line, Written, Implied, Declarations, declarations, none}
-use Rattle.language.specs.Lines.{lines}
+use Rattle.language.specs.Values.{Value, Number, Set, Logic, Bus, Unsized, Choice, number, set, bus, choice, Scope, naming, value}
+use Rattle.language.specs.Declared.{declared, declarations}
 use Rattle.language.specs.Parsing.{parsed}
 
 -- '`&&[i IN M] e` holds if e does for each i in M, `||[i IN M] e` if for some'
@@ -33,19 +32,29 @@ abbrev pub WindowMeans : Window → ℕ → ℕ → Property → Property
 WindowMeans FinallyIn n m P t = Some (λ j. (n ≤ j) × (j ≤ m) × P (t + j))
 WindowMeans GloballyIn n m P t = (j : ℕ) → n ≤ j → j ≤ m → P (t + j)
 
--- 'a bus equals a value if its bits match one of the value's words, a star matching both'
-abbrev pub Fits : Mark → Bool → Type 0
-Fits Absent b = ¬ So b
-Fits Present b = So b
-Fits Star b = Unit {0}
+-- a declared signal: a single one by its name, a bus's bit by the bus's name and the bit's index
+pub data Atom : Type 0 where
+  SignalOf : (name : List ℕ) → Atom
+  BitOf : (name : List ℕ) (index : ℕ) → Atom
 
-abbrev pub Matches : List Mark → ℕ → Word → Property
-Matches [] k w t = Unit {0}
-Matches (m ∷ v) k w t = Fits m (w t k) × Matches v (suc k) w t
+-- 'an infinite word (the set of declared signals present at each position from 0 on)'
+abbrev pub Word : Type 0
+Word = ℕ → Atom → Bool
 
-abbrev pub MatchesOne : List (List Mark) → ℕ → Word → Property
-MatchesOne [] k w t = ⊥
-MatchesOne (v ∷ vs) k w t = Either (Matches v k w t) (MatchesOne vs k w t)
+-- 'a signal or bus bit holds where it is present'
+abbrev pub Holding : Atom → Word → Property
+Holding a w p = So (w p a)
+
+-- 'its bits match one of the value's words, a star matching both': the marks are the bytes of `0` (48), `1` (49), `*`
+abbrev pub Fits : ℕ → Type 0 → Type 0
+Fits mark P = (mark ≡ 48 → ¬ P) × (mark ≡ 49 → P)
+
+abbrev pub Matches : List ℕ → List ℕ → Word → Property
+Matches x marks w p = (i : ℕ) → i < length marks → Fits (getD marks i 0) (Holding (BitOf x i) w p)
+
+abbrev pub MatchesOne : List ℕ → List Token → Word → Property
+MatchesOne x [] w p = ⊥
+MatchesOne x (v ∷ vs) w p = Either (Matches x (v .text) w p) (MatchesOne x vs w p)
 
 -- 'A comparison of numbers .. is as its values say'
 abbrev pub Relates : Comparison → ℕ → ℕ → Type 0
@@ -56,34 +65,41 @@ Relates AtMost a b = a ≤ b
 Relates Greater a b = b < a
 Relates AtLeast a b = b ≤ a
 
--- 'and `!=` is the contrary'
-abbrev pub SidesMean : Comparison → Result Sides → Word → Property
-SidesMean o (Refused n p) w t = ⊥
-SidesMean o (Done (Numbers a b)) w t = Relates o a b
-SidesMean Equal (Done (Against b v)) w t = MatchesOne v (b .first) w t
-SidesMean Unequal (Done (Against b v)) w t = ¬ MatchesOne v (b .first) w t
-SidesMean Less (Done (Against b v)) w t = ⊥
-SidesMean AtMost (Done (Against b v)) w t = ⊥
-SidesMean Greater (Done (Against b v)) w t = ⊥
-SidesMean AtLeast (Done (Against b v)) w t = ⊥
+-- 'a bus equals a value if ..', 'and `!=` is the contrary'
+abbrev pub Equals : Comparison → Type 0 → Type 0
+Equals Equal P = P
+Equals Unequal P = ¬ P
+Equals Less P = ⊥
+Equals AtMost P = ⊥
+Equals Greater P = ⊥
+Equals AtLeast P = ⊥
 
 -- a result, of which the text's acceptance says that it is no refusal
 abbrev pub orElse : {A : Type 0} → A → Result A → A
 orElse d (Done a) = a
 orElse d (Refused n p) = d
 
-abbrev pub theNumber : Scope → Expr → ℕ
-theNumber sc e = orElse 0 (value sc e >>= number)
+abbrev pub theNumber : Result Value → ℕ
+theNumber r = orElse 0 (r >>= number)
 
-abbrev pub theSet : Scope → Expr → List ℕ
-theSet sc e = orElse [] (value sc e >>= set)
+abbrev pub theSet : Result Value → List ℕ
+theSet r = orElse [] (r >>= set)
 
--- the signal b[e]
-abbrev pub theSignal : Scope → Token → Expr → ℕ
-theSignal sc t e = orElse 0 (value sc e >>= number >>= λ i. sc t >>= bus >>= bit i)
+abbrev pub theWords : Result Value → List Token
+theWords r = orElse [] (r >>= choice)
 
-abbrev pub theSides : Scope → Expr → Expr → Result Sides
-theSides sc a b = value sc a >>= λ x. value sc b >>= sides x
+-- the name of a bus
+abbrev pub theBus : Result Value → List ℕ
+theBus r = orElse [] (r >>= λ v. bus v >>= λ b. Done (b .name))
+
+-- the left side tells what is compared: numbers, or a bus and an identifier in either order
+abbrev pub SidesMean : Comparison → Value → Result Value → Word → Property
+SidesMean o (Number a) r w p = Relates o a (theNumber r)
+SidesMean o (Set s) r w p = ⊥
+SidesMean o Logic r w p = ⊥
+SidesMean o (Bus q x n) r w p = Equals o (MatchesOne x (theWords r) w p)
+SidesMean o (Unsized q) r w p = ⊥
+SidesMean o (Choice v) r w p = Equals o (MatchesOne (theBus r) v w p)
 
 -- what the visible names stand for, and what those of formulas mean
 pub record Sense : Type 1 where
@@ -98,37 +114,28 @@ abbrev pub Means : Sense → Expr → Word → Property
 Means c (Named t) w p = c .means t w p
 Means c (Numeral t) w p = ⊥
 Means c (Truth t b) w p = So b
-Means c (Index t e) w p = So (w p (theSignal (c .values) t e))
+Means c (Index t e) w p = Holding (BitOf (theBus (c .values t)) (theNumber (value (c .values) e))) w p
 Means c (Paren t e) w p = Means c e w p
 Means c (Prefixed t (Measures m) e) w p = ⊥
 Means c (Prefixed t WidthOf e) w p = ⊥
 Means c (Prefixed t (Applies o) e) w p = UnaryMeans o (Means c e w) p
 Means c (Joined t (Calculates o) a b) w p = ⊥
 Means c (Joined t (Combines o) a b) w p = ⊥
-Means c (Joined t (Compares o) a b) w p = SidesMean o (theSides (c .values) a b) w p
-Means c (Joined t Membership a b) w p = So (memberOf (theSet (c .values) b) (theNumber (c .values) a))
+Means c (Joined t (Compares o) a b) w p = SidesMean o (orElse Logic (value (c .values) a)) (value (c .values) b) w p
+Means c (Joined t Membership a b) w p = So (memberOf (theSet (value (c .values) b)) (theNumber (value (c .values) a)))
 Means c (Joined t (Connects o) a b) w p = BinaryMeans o (Means c a w) (Means c b w) p
-Means c (Nexts t n e) w p = Means c e w (p + theNumber (c .values) n)
-Means c (InWindow t o n m e) w p = WindowMeans o (theNumber (c .values) n) (theNumber (c .values) m) (Means c e w) p
-Means c (Each t o further i s e) w p = EachMeans o (theSet (c .values) s) (λ k. Means (with c i k) e w p)
+Means c (Nexts t n e) w p = Means c e w (p + theNumber (value (c .values) n))
+Means c (InWindow t o n m e) w p = WindowMeans o (theNumber (value (c .values) n)) (theNumber (value (c .values) m)) (Means c e w) p
+Means c (Each t o further i s e) w p = EachMeans o (theSet (value (c .values) s)) (λ k. Means (with c i k) e w p)
 Means c (Between t l h a b) w p = ⊥
 Means c (Listed t es) w p = ⊥
 Means c Empty w p = ⊥
 Means c (Element e es) w p = ⊥
 Means c (Range t x y z) w p = ⊥
 
--- 'a signal or bus bit holds where it is present'
-abbrev pub Presence : Result Declared → Word → Property
-Presence (Done (SignalAt k)) w p = So (w p k)
-Presence (Done (Constant n)) w p = ⊥
-Presence (Done (BusAt k n)) w p = ⊥
-Presence (Done (Identifies v)) w p = ⊥
-Presence (Done WaitingSignal) w p = ⊥
-Presence (Done WaitingBus) w p = ⊥
-Presence (Refused n q) w p = ⊥
-
-abbrev pub present : Table → Sense
-present d = record { values = declared d; means = λ t w p. Presence (find d (t .text)) w p }
+-- a name that no definition brings is a signal's
+abbrev pub present : Scope → Sense
+present sc = record { values = sc; means = λ t. Holding (SignalOf (t .text)) }
 
 -- 'a definition means what its body does'
 abbrev pub meaning : Sense → Token → Expr → Sense
@@ -143,19 +150,37 @@ meaningAll c [] = c
 meaningAll c (Defined x e ∷ ds) = meaningAll (meaning c x e) ds
 meaningAll c (Enumerated x is ∷ ds) = meaningAll c ds
 
--- 'An implied bus line (the bus matches one of its enumeration's words) counts as a line of its section'
-abbrev pub LineMeans : Sense → Line → Word → Property
-LineMeans c (Written e) w p = Means c e w p
-LineMeans c (Implied k v) w p = MatchesOne v k w p
+-- 'An implied bus line (the bus matches one of its enumeration's words)': the bus x, declared by the enumeration u
+abbrev pub MatchesIdentifier : List ℕ → List Identifier → Word → Property
+MatchesIdentifier x [] w p = ⊥
+MatchesIdentifier x (i ∷ is) w p = Either (MatchesOne x (i .words) w p) (MatchesIdentifier x is w p)
 
--- '.. which holds where all its lines do'
-abbrev pub LinesMean : Sense → List Line → Word → Property
+abbrev pub ImpliedMeans : List Definition → Token → Token → Word → Property
+ImpliedMeans [] u x w p = ⊥
+ImpliedMeans (Defined y e ∷ ds) u x w p = ImpliedMeans ds u x w p
+ImpliedMeans (Enumerated y is ∷ ds) u x w p =
+    elim (same (y .text) (u .text)) [ true ↦ MatchesIdentifier (x .text) is w p | false ↦ ImpliedMeans ds u x w p ]
+
+-- the implied lines of INPUTS or OUTPUTS, and the written ones of a section
+abbrev pub DeclarationsMean : List Definition → List Declaration → Word → Property
+DeclarationsMean defs [] w p = Unit {0}
+DeclarationsMean defs (OneSignal x ∷ ds) w p = DeclarationsMean defs ds w p
+DeclarationsMean defs (OfWidth x e ∷ ds) w p = DeclarationsMean defs ds w p
+DeclarationsMean defs (OfType u x ∷ ds) w p = ImpliedMeans defs u x w p × DeclarationsMean defs ds w p
+
+abbrev pub LinesMean : Sense → List Expr → Word → Property
 LinesMean c [] w p = Unit {0}
-LinesMean c (l ∷ ls) w p = LineMeans c l w p × LinesMean c ls w p
+LinesMean c (e ∷ es) w p = Means c e w p × LinesMean c es w p
 
-abbrev pub SectionMeans : Sense → List (Part × List Line) → Part → Word → Property
-SectionMeans c [] s w p = Unit {0}
-SectionMeans c (l ∷ ls) s w p = (So (eqb (partCode s) (partCode (l .0))) → LinesMean c (l .1) w p) × SectionMeans c ls s w p
+-- '.. counts as a line of its section, which holds where all its lines do': REQUIRE has those of inputs, ASSERT those of outputs
+abbrev pub IsPart : Part → Part → Type 0
+IsPart s q = s ≡ q
+
+abbrev pub SectionMeans : Sense → List Definition → List Subsection → Part → Word → Property
+SectionMeans c defs [] s w p = Unit {0}
+SectionMeans c defs (Inputs ds ∷ ss) s w p = (IsPart s Require → DeclarationsMean defs ds w p) × SectionMeans c defs ss s w p
+SectionMeans c defs (Outputs ds ∷ ss) s w p = (IsPart s Assert → DeclarationsMean defs ds w p) × SectionMeans c defs ss s w p
+SectionMeans c defs (Lines q es ∷ ss) s w p = (IsPart s q → LinesMean c es w p) × SectionMeans c defs ss s w p
 
 -- 'ASSERT is owed .. at each p from t on with REQUIRE true at t to p'
 abbrev pub Owed : Property → Property → Property
@@ -170,14 +195,14 @@ WholeMeans true P t =
     Either (¬ P Initially t)
     (P Preset t × Owed (P Assert) (P Require) t × ((Always (P Require) t × P Assume t) → P Guarantee t))
 
-abbrev pub nothing : Declarations
-nothing = record { inputs = none []; outputs = none [] }
+-- the names before any definition, the text's numbers and widths worked out
+abbrev pub namesOf : Spec → Scope
+namesOf x = declared (orElse [] (declarations x >>= λ d. Done (d .table)))
 
 abbrev pub SpecMeans : Spec → Word → Property
 SpecMeans x w t =
-    let d = orElse nothing (declarations x) in
-    let c = meaningAll (present (d .outputs .table)) (x .definitions) in
-    WholeMeans (x .strict) (λ s. SectionMeans c (lines x d) s w) t
+    let c = meaningAll (present (namesOf x)) (x .definitions) in
+    WholeMeans (x .strict) (λ s. SectionMeans c (x .definitions) (x .main) s w) t
 
 -- a text's meaning, from its bytes; a text that is refused means nothing
 abbrev pub OfSpec : Result Spec → Word → Property

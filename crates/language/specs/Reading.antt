@@ -1,8 +1,7 @@
 -- The reader's whole answer on a text and its buffers' lengths, in the paper's order of refusals (document 01, 'Reader order').
 use Prim.Native.Nat.{ℕ}
-use mathlib.Core.List.{List, [], _∷_, _++_}
+use mathlib.Core.List.{List, _++_}
 use mathlib.Core.Bool.{Bool, true, false, _&&_}
-use mathlib.Core.Option.{none, some}
 use lib.Dec.{leb}
 use lib.ListN.{length, drop, replicate}
 use Rattle.node.specs.Limits.{maxNodes}
@@ -14,7 +13,8 @@ use Rattle.language.specs.Bytes.{if_then_else_}
 use Rattle.language.specs.Tree.{Model, Mealy, Moore, Spec}
 use Rattle.language.specs.Places.{refuseAt}
 use Rattle.language.specs.Parsing.{parsed}
-use Rattle.language.specs.Signals.{declarations}
+use Rattle.language.specs.Declared.{declarations}
+use Rattle.language.specs.Numbering.{inOrder, signalList, tooManySignals}
 use Rattle.language.specs.Lines.{lines}
 use Rattle.language.specs.Expansion.{expand}
 
@@ -34,8 +34,8 @@ unfoldable pub converted : Spec → Result Converted
 converted x =
     declarations x >>= λ d. expand x d (lines x d) >>= λ f.
     guard (sameModel (x .semantics) (x .target)) 14 (x .targetWord .at)
-    (refuseAt 15 (elim (d .outputs .excess) [ [] ↦ none | p ∷ ps ↦ some p ])
-    (guard (leb (size f) maxNodes) 16 0 (Done (record { formula = f; signals = d .outputs .list }))))
+    (refuseAt 15 (tooManySignals 0 (inOrder d))
+    (guard (leb (size f) maxNodes) 16 0 (Done (record { formula = f; signals = signalList (inOrder d) }))))
 
 -- what the text alone decides
 unfoldable pub meant : List ℕ → Result Converted

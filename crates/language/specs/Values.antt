@@ -1,30 +1,26 @@
 -- How numbers and sets are worked out (document 01, 'Accepted text' and refusals 11 to 13). A formula is only marked as one here.
 use Prim.Native.Nat.{ℕ, suc, _+_, _-_, _*_, _/_, _%_}
-use mathlib.Core.Bool.{Bool, true, false, not}
+use mathlib.Core.Bool.{Bool, true, false}
 use mathlib.Core.List.{List, [], _∷_}
-use lib.Dec.{eqb, leb, ltb}
+use lib.Dec.{leb, ltb}
 use lib.ListN.{length}
 use Rattle.node.specs.Result.{Result, Done, Refused, _>>=_, guard}
 use Rattle.language.specs.Limits.{maxNumber, maxElements}
 use Rattle.language.specs.Bytes.{if_then_else_, same}
 use Rattle.language.specs.Tokens.{Token}
-use Rattle.language.specs.Operators.{Arithmetic, Plus, Minus, Times, Divide, Modulo, Measure, Size, Min, Max, Cap, Comparison, Equal, Unequal, Less, AtMost, Greater, AtLeast, Big, BigSum, BigProduct, BigCap, BigCup, BigAnd, BigOr, Calculates, Combines, Compares, Membership, Connects, Measures, WidthOf, Applies}
+use Rattle.language.specs.Operators.{Arithmetic, Plus, Minus, Times, Divide, Modulo, Measure, Size, Min, Max, Cap, Big, BigSum, BigProduct, BigCap, BigCup, BigAnd, BigOr, Calculates, Combines, Compares, Membership, Connects, Measures, WidthOf, Applies}
 use Rattle.language.specs.Tree.{Expr, Named, Numeral, Truth, Index, Paren, Prefixed, Joined, Nexts, InWindow, Each, Between, Listed, Empty, Element, Range}
 use Rattle.language.specs.Sets.{insert, union, combine, steps, rangeSize, last}
 
--- a mark of an enumeration's word: `0`, `1`, `*`
-pub data Mark : Type 0 where
-  Absent Present Star : Mark
-
--- what an expression is: a number; a set; some formula; a bus, with the place of its name, its first signal and its width; a bus not yet sized; the words
--- of an enumeration's identifier
+-- what an expression is: a number; a set; some formula; a bus, with the place of its name, the name and the width; a bus not yet sized; the words of an
+-- enumeration's identifier
 pub data Value : Type 0 where
   Number : ℕ → Value
   Set : List ℕ → Value
   Logic : Value
-  Bus : (place first width : ℕ) → Value
+  Bus : (place : ℕ) (name : List ℕ) (width : ℕ) → Value
   Unsized : (place : ℕ) → Value
-  Choice : List (List Mark) → Value
+  Choice : List Token → Value
 
 -- a value of another kind than is taken there: no text that has passed refusal 9 comes to this
 abbrev pub misfit : {A : Type 0} → Result A
@@ -34,7 +30,7 @@ abbrev pub number : Value → Result ℕ
 number (Number n) = Done n
 number (Set s) = misfit
 number Logic = misfit
-number (Bus p k n) = misfit
+number (Bus p x n) = misfit
 number (Unsized p) = misfit
 number (Choice v) = misfit
 
@@ -42,29 +38,29 @@ abbrev pub set : Value → Result (List ℕ)
 set (Number n) = misfit
 set (Set s) = Done s
 set Logic = misfit
-set (Bus p k n) = misfit
+set (Bus p x n) = misfit
 set (Unsized p) = misfit
 set (Choice v) = misfit
 
--- a bus that is sized: its name's place, first signal and width. 'SIZEOF of a bus not yet sized' is 13 at its name
+-- a bus that is sized: its name's place, its name and its width. 'SIZEOF of a bus not yet sized' is 13 at its name
 pub record Sized : Type 0 where
   pub place : ℕ
-  pub first : ℕ
+  pub name : List ℕ
   pub width : ℕ
 
 abbrev pub bus : Value → Result Sized
 bus (Number n) = misfit
 bus (Set s) = misfit
 bus Logic = misfit
-bus (Bus p k n) = Done (record { place = p; first = k; width = n })
+bus (Bus p x n) = Done (record { place = p; name = x; width = n })
 bus (Unsized p) = Refused 13 p
 bus (Choice v) = misfit
 
-abbrev pub choice : Value → Result (List (List Mark))
+abbrev pub choice : Value → Result (List Token)
 choice (Number n) = misfit
 choice (Set s) = misfit
 choice Logic = misfit
-choice (Bus p k n) = misfit
+choice (Bus p x n) = misfit
 choice (Unsized p) = misfit
 choice (Choice v) = Done v
 
@@ -108,14 +104,6 @@ between place afterLow beforeHigh a b =
     let n = (if beforeHigh then b else suc b) - from in
     guard (leb n maxElements) 12 place (Done (steps n from 1))
 
-abbrev pub test : Comparison → ℕ → ℕ → Bool
-test Equal a b = eqb a b
-test Unequal a b = not (eqb a b)
-test Less a b = ltb a b
-test AtMost a b = leb a b
-test Greater a b = ltb b a
-test AtLeast a b = leb b a
-
 -- 'Big operators fold to the left, ascending; one element is itself': f works out the operand at an element, `step` joins, `none` is over nothing
 abbrev pub onward : {A : Type 0} → (A → A → Result A) → (ℕ → Result A) → A → List ℕ → Result A
 onward step f a [] = Done a
@@ -139,23 +127,6 @@ big place BigCap f s = bigSet (λ a b. Done (combine Cap a b)) (Refused 11 place
 big place BigCup f s = bigSet (λ a b. limited place (union a b)) (Done []) f s
 big place BigAnd f s = Done Logic
 big place BigOr f s = Done Logic
-
--- the two sides of a comparison: two numbers, or a bus against an identifier's words
-pub data Sides : Type 0 where
-  Numbers : ℕ → ℕ → Sides
-  Against : Sized → List (List Mark) → Sides
-
-abbrev pub sides : Value → Value → Result Sides
-sides (Number m) y = number y >>= λ n. Done (Numbers m n)
-sides (Set s) y = misfit
-sides Logic y = misfit
-sides (Bus p k n) y = choice y >>= λ v. Done (Against (record { place = p; first = k; width = n }) v)
-sides (Unsized p) y = Refused 13 p
-sides (Choice v) y = bus y >>= λ b. Done (Against b v)
-
--- the number of bit i of a bus: 'index too large' is 13
-abbrev pub bit : ℕ → Sized → Result ℕ
-bit i b = guard (ltb i (b .width)) 13 (b .place) (Done (b .first + i))
 
 -- what the visible names stand for
 abbrev pub Scope : Type 0

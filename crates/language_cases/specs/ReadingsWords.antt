@@ -10,7 +10,7 @@ use Rattle.language.specs.Parsing.{parsed}
 use Rattle.language.specs.Reading.{meant, converted}
 use Rattle.language.specs.Cases.{text, typed, outcome, guaranteed, allOf}
 
--- N7: a value may be compared with any bus; per word the literals of its unstarred marks, bit 0 first, words folded with `||`
+-- N7: a value may be compared with any bus; 'a star mark read as 0' is a slip: P is 1*0; per word the literals of its unstarred marks, bit 0 first, words folded with `||`
 anyBus : guaranteed (typed (ascii "v == P; P == v; x == Q")) ≡ Done (allOf (Two And (Signal 1) (One Not (Signal 3)) ∷ Two And (Signal 1) (One Not (Signal 3)) ∷ Two Or (One Not (Signal 6)) (Two And (Two And (Signal 6) (Signal 7)) (Signal 8)) ∷ []))
 unfolding meant parsed converted _>>=_ guard refuseAt size
 anyBus = refl

@@ -2,5 +2,6 @@
 pub mod Lists
 pub mod Tests
 pub mod NoPlace
+pub mod Binds
 pub mod Results
 pub mod Exactly

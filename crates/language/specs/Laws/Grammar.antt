@@ -23,3 +23,4 @@ pub mod ListCompletions
 pub mod SectionCompletions
 pub mod MainCompletions
 pub mod FirstRefused
+pub mod NameTokens

@@ -1,7 +1,20 @@
--- An accepted text's formula holds where the text does.
+-- An accepted text's formula holds where the text does; the meaning is document 01's with the plain 'or' and 'some', under excluded middle.
 pub mod OwedLaws
 pub mod Comparisons
 pub mod ExpansionLaws
+pub mod BusPatterns
+pub mod Coverage
+pub mod NumberedLaws
 pub mod Agreement
+pub mod AtomAgreement
+pub mod ExpressionAgreement
 pub mod TextAgreement
+pub mod ImpliedLines
+pub mod ListedSignals
+pub mod SignalOrder
+pub mod TextPorts
+pub mod SpecAgreement
 pub mod Acceptance
+pub mod Stability
+pub mod Plain
+pub mod Adequacy

@@ -1,7 +1,8 @@
--- Trees in which the elements of a set stand in braces only. The grammar gives no others (BracesReads), and of others little holds: their sets are not limited,
--- and may come to no set.
+-- Trees in which the elements of a set stand in braces only, and what is declared has a name. The grammar gives no others (BracesReads), and of others little
+-- holds: their sets are not limited, and may come to no set.
 use mathlib.Core.Path.{_≡_}
 use mathlib.Core.Bool.{Bool, true, false}
+use Rattle.language.specs.Tokens.{Name, isOf}
 use Rattle.language.specs.Tree.{Expr, Named, Numeral, Truth, Index, Paren, Prefixed, Joined, Nexts, InWindow, Each, Between, Listed, Empty, Element, Range, Definition, Defined, Enumerated, Parameter, Declaration, OneSignal, OfWidth, OfType, Subsection, Inputs, Outputs, Lines, Spec}
 use Rattle.language.specs.Laws.Basics.Lists.{All}
 
@@ -32,9 +33,9 @@ ProperDefinition (Defined x e) = Proper false e
 ProperDefinition (Enumerated x is) = Unit {0}
 
 abbrev pub ProperDeclaration : Declaration → Type 0
-ProperDeclaration (OneSignal x) = Unit {0}
-ProperDeclaration (OfWidth x e) = Proper false e
-ProperDeclaration (OfType u x) = Unit {0}
+ProperDeclaration (OneSignal x) = isOf Name x ≡ true
+ProperDeclaration (OfWidth x e) = (isOf Name x ≡ true) × Proper false e
+ProperDeclaration (OfType u x) = isOf Name x ≡ true
 
 abbrev pub ProperSubsection : Subsection → Type 0
 ProperSubsection (Inputs ds) = All ProperDeclaration ds

@@ -1,7 +1,7 @@
--- What the grammar reads has the elements of sets in braces only: every reader of the grammar, up to `spec-proper`.
+-- What the grammar reads has the elements of sets in braces only, and names for what is declared: every reader of the grammar, up to `spec-proper`.
 use Prim.Native.Nat.{ℕ, zero, suc}
 use Prim.Native.String.{String}
-use mathlib.Core.Path.{refl}
+use mathlib.Core.Path.{_≡_, refl}
 use mathlib.Core.Bool.{Bool, true, false, _&&_, _||_}
 use mathlib.Core.List.{List, [], _∷_}
 use mathlib.Core.Option.{Option, none, some}
@@ -11,11 +11,13 @@ use Rattle.node.specs.Result.{Done, _>>=_}
 use Rattle.language.specs.Tokens.{Name, Numeral as Digits, End, Token, isOf, is}
 use Rattle.language.specs.Operators.{Role, Plain, Counted, Windowed, Folding, Big, InfixRow, infixes, PrefixRow, prefixes, loosest}
 use Rattle.language.specs.Tree.{Expr, Joined, Spec}
-use Rattle.language.specs.Grammar.{Tokens, Read, front, rest, stop, next, expect, expectOf, named, infixOf, prefixOf, closedBy, elements, afterTwo, afterOne, setOf, Binder, signOf, binderOf, bindersOf, over, roleOf, nameOf, atomOf, operandBy, operandOf, rightLevel, allowed, climb, expr, Reader}
+use Rattle.language.specs.Grammar.{Tokens, Read, front, rest, next, expect, expectOf, named, infixOf, prefixOf, closedBy, elements, afterTwo, afterOne, setOf, Binder, signOf, binderOf, bindersOf, over, roleOf, nameOf, atomOf, operandBy, operandOf, rightLevel, allowed, climb, expr, Reader}
 use Rattle.language.specs.Sections.{expression, described, modelOf, strictOf, infoEnd, infoOf, linesOf, blockOf, parameterOf, identifiersOf, definitionOf, declarationOf, optional, globalOf, Heading, InputsHere, OutputsHere, LinesHere, HeadingRow, headings, headingOf, seen, subsectionOf, subsectionsOf, specOf}
 use Rattle.language.specs.Laws.Basics.Lists.{All}
 use Rattle.language.specs.Laws.Basics.Tests.{split}
 use Rattle.language.specs.Laws.Basics.Results.{done, refused, bind, Within, bind-any}
+use Rattle.language.specs.Laws.Grammar.TokenReads.{among}
+use Rattle.language.specs.Laws.Grammar.SectionReads.{subsectionsBy}
 use Rattle.language.specs.Laws.Grammar.Braces.{Proper, ProperParameter, ProperDefinition, ProperDeclaration, ProperSubsection, ProperSpec}
 
 -- P of what is read, if something is
@@ -73,7 +75,7 @@ module _ (rec : Reader) (good : (n : ℕ) (ts : Tokens) → Gives P (rec n ts)) 
 
   binderOf-proper : (ts : Tokens) → Gives Bound (binderOf rec ts)
   binderOf-proper ts =
-      chosen Bound (isOf Name (front ts) && named ("IN" ∷ "ELEM" ∷ "<-" ∷ []) (front (rest ts))) _ _
+      chosen Bound (isOf Name (front ts) && named among (front (rest ts))) _ _
       (after Bound (expectOf Name ts) _ (λ i us. with Bound P (rec loosest (rest us)) _ (good loosest (rest us)) (λ s vs h. done h)))
       (with Bound P (rec 8 ts) _ (good 8 ts) (λ a us ha. after Bound (signOf us) _ (λ low vs. after Bound (expectOf Name vs) _ (λ i ws. after Bound (signOf ws) _ (λ high xs.
       with Bound P (rec 8 xs) _ (good 8 xs) (λ b ys hb. done (refl, ha, hb)))))))
@@ -168,12 +170,18 @@ definitionOf-proper ts =
     after ProperDefinition (identifiersOf (length vs) vs) _ (λ is ws. done tt))))
     (with ProperDefinition ProperParameter (parameterOf ts) _ (parameterOf-proper ts) (λ p us h. done h))
 
+abbrev IsName : Token → Type 0
+IsName x = isOf Name x ≡ true
+
+name-read : (ts : Tokens) → Gives IsName (expectOf Name ts)
+name-read ts = split (Gives IsName) (isOf Name (front ts)) (λ e. done e) (λ _. refused tt)
+
 declarationOf-proper : (ts : Tokens) → Gives ProperDeclaration (declarationOf ts)
 declarationOf-proper ts =
-    after ProperDeclaration (expectOf Name ts) _ (λ x us.
+    with ProperDeclaration IsName (expectOf Name ts) _ (name-read ts) (λ x us n.
     chosen ProperDeclaration (next "[" us) _ _
-    (with ProperDeclaration P (expression (rest us)) _ (expression-proper (rest us)) (λ e vs h. after ProperDeclaration (expect "]" vs) _ (λ c ws. done h)))
-    (chosen ProperDeclaration (isOf Name (front us)) _ _ (done tt) (done tt)))
+    (with ProperDeclaration P (expression (rest us)) _ (expression-proper (rest us)) (λ e vs h. after ProperDeclaration (expect "]" vs) _ (λ c ws. done (n, h))))
+    (split (Gives ProperDeclaration) (isOf Name (front us)) (λ e. done e) (λ _. done n)))
 
 subsectionOf-proper : (h : Heading) (ts : Tokens) → Gives ProperSubsection (subsectionOf h ts)
 subsectionOf-proper InputsHere ts =
@@ -188,10 +196,7 @@ subsectionsOf-proper zero before ts = refused tt
 subsectionsOf-proper (suc f) before ts = go (λ b us. subsectionsOf-proper f b us) (headingOf headings before (front ts))
   where
     go : ((b : List ℕ) (us : Tokens) → Gives (All ProperSubsection) (subsectionsOf f b us)) → (o : Option HeadingRow)
-        → Gives (All ProperSubsection) (elim o [
-          | some r ↦ subsectionOf (r .heading) (rest ts) >>= λ x. subsectionsOf f (r .number ∷ before) (x .1) >>= λ y. Done (x .0 ∷ y .0, y .1)
-          | none ↦ elim (seen before 0 && seen before 1) [ true ↦ expect "}" ts >>= λ x. Done ([], x .1) | false ↦ stop ts ]
-        ])
+        → Gives (All ProperSubsection) (subsectionsBy f before ts o)
     go on (some r) =
         with (All ProperSubsection) ProperSubsection (subsectionOf (r .heading) (rest ts)) _ (subsectionOf-proper (r .heading) (rest ts)) (λ s us h.
         with (All ProperSubsection) (All ProperSubsection) (subsectionsOf f (r .number ∷ before) us) _ (on (r .number ∷ before) us) (λ ss vs k. done (h, k)))

@@ -19,10 +19,10 @@ use Rattle.language.specs.Laws.Basics.Lists.{Any}
 use Rattle.language.specs.Laws.Basics.Tests.{pick, both}
 use Rattle.language.specs.Laws.Grammar.ReaderLaws.{more}
 use Rattle.language.specs.Laws.Grammar.ReadersInRow.{bind-to}
-use Rattle.language.specs.Laws.Grammar.TokenReads.{is-inner, named-inner}
+use Rattle.language.specs.Laws.Grammar.TokenReads.{among, is-inner, named-inner}
 use Rattle.language.specs.Laws.Grammar.Completions.{Same, same-front, opened, Completes, Runs, prefixed, rephrase, weaken, wider, narrow, done}
 use Rattle.language.specs.Laws.Grammar.CompletionsInRow.{rest-less, fresh, completes-first, bind-before, bind, choose, take, one, none-runs}
-use Rattle.language.specs.Laws.Grammar.TokenCompletions.{sign, Is, among, Follows, follows-at, brace, bracket, tighter, expect-runs, expectOf-runs, signOf-runs}
+use Rattle.language.specs.Laws.Grammar.TokenCompletions.{sign, Is, Follows, follows-at, brace, bracket, tighter, expect-runs, expectOf-runs, signOf-runs}
 
 -- the expression that completes another
 abbrev pub truth : Token

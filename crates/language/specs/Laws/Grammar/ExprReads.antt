@@ -21,11 +21,7 @@ use Rattle.language.specs.Laws.Basics.Tests.{pick, leave, both, and-fals
 use Rattle.language.specs.Laws.Grammar.TreeTokens.{InExpr, InBinder, in-over}
 use Rattle.language.specs.Laws.Grammar.ReaderLaws.{Alike, alike-front, Inner, inner-of, more, Reads, transfer, weaken, done, stopped, stopped-at, choose, rephrase, choose-by, prefixed, take, behind}
 use Rattle.language.specs.Laws.Grammar.ReadersInRow.{bind-to, bind}
-use Rattle.language.specs.Laws.Grammar.TokenReads.{is-inner, named-inner, every-front, every-rest, rest-fits, one, expect-reads, expectOf-reads, signOf-reads}
-
--- the signs of membership
-abbrev among : List String
-among = "IN" ∷ "ELEM" ∷ "<-" ∷ []
+use Rattle.language.specs.Laws.Grammar.TokenReads.{among, is-inner, named-inner, every-front, every-rest, rest-fits, one, expect-reads, expectOf-reads, signOf-reads}
 
 -- the rows of Table 1 name signs and words
 pub prefix-none : (rs : List PrefixRow) (t : Token) → isOf Fixed t ≡ false → prefixOf rs t ≡ none
@@ -45,18 +41,11 @@ row-inner {A} t o r f e = go (isOf Fixed t) refl
     go false z = absurd (some-none (sym e ∙ f z))
 
 -- what follows an operand e: nothing, or the operator t of a row
-abbrev climbBy : ℕ → Reader → ℕ → Expr → Token → Option InfixRow → Tokens → Read Expr
-climbBy f rec max e t none ts = Done (e, ts)
-climbBy f rec max e t (some r) ts = rec (rightLevel r) (rest ts) >>= λ (b, us). climb f rec max (Joined t (r .operator) e b) us
+abbrev climbed : ℕ → Reader → ℕ → Expr → Token → Tokens → Option InfixRow → Read Expr
+climbed f rec max e t ts o = elim o [ none ↦ Done (e, ts) | some r ↦ rec (rightLevel r) (rest ts) >>= λ (b, us). climb f rec max (Joined t (r .operator) e b) us ]
 
-climb-by : (f : ℕ) (rec : Reader) (max : ℕ) (e : Expr) (t : Token) (ts : Tokens) (o : Option InfixRow) → _≡_ {A = Read Expr} (elim o [ none ↦ Done (e, ts) | some r ↦ rec (rightLevel r) (rest ts) >>= λ (b, us). climb f rec max (Joined t (r .operator) e b) us ]) (climbBy f rec max e t o ts)
-climb-by f rec max e t ts none = refl
-climb-by f rec max e t ts (some r) = refl
-
-climb-step : (f : ℕ) (rec : Reader) (max : ℕ) (e : Expr) (t : Token) (o : Option InfixRow) (ts : Tokens) → front ts ≡ t → allowed max (infixOf infixes t) ≡ o → climb (suc f) rec max e ts ≡ climbBy f rec max e t o ts
-climb-step f rec max e t o ts z w =
-    climb-by f rec max e (front ts) ts (allowed max (infixOf infixes (front ts)))
-    ∙ ap (λ u. climbBy f rec max e u (allowed max (infixOf infixes u)) ts) z ∙ ap (λ x. climbBy f rec max e t x ts) w
+pub climb-step : (f : ℕ) (rec : Reader) (max : ℕ) (e : Expr) (t : Token) (o : Option InfixRow) (ts : Tokens) → front ts ≡ t → allowed max (infixOf infixes t) ≡ o → climb (suc f) rec max e ts ≡ climbed f rec max e t ts o
+climb-step f rec max e t o ts z w = ap (λ u. climbed f rec max e u ts (allowed max (infixOf infixes u))) z ∙ ap (climbed f rec max e t ts) w
 
 module _
     (P : Token → Type 0)
@@ -226,11 +215,11 @@ module _
         transfer _ (operandBy-reads f max t (prefixOf prefixes t) ts g (omega arith) (p .1) (p .0) (λ r e. row-inner t (prefixOf prefixes t) r (prefix-none prefixes t) e))
         (λ k us al l. ap (λ u. operandBy (more f k) (rec′ k) max u (prefixOf prefixes u) (rest us)) (alike-front (t ∷ ts) us al))
 
-    climbBy-reads : (f m max : ℕ) (e : Expr) (t : Token) (o : Option InfixRow) (ts : Tokens) → suc f ≤ n → length ts < suc f → length ts < m → All P ts → InExpr P e → (Inner (front ts) → P t) → ((r : InfixRow) → o ≡ some r → Inner (front ts)) →
+    climbed-reads : (f m max : ℕ) (e : Expr) (t : Token) (o : Option InfixRow) (ts : Tokens) → suc f ≤ n → length ts < suc f → length ts < m → All P ts → InExpr P e → (Inner (front ts) → P t) → ((r : InfixRow) → o ≡ some r → Inner (front ts)) →
         ((w : Expr) (rs : Tokens) → length rs < f → length rs < m → All P rs → InExpr P w → Reads Expr P (InExpr P) f m rs (climb f rec max w rs) (λ k us. climb (more f k) (rec′ k) max w us)) →
-        Reads Expr P (InExpr P) (suc f) m ts (climbBy f rec max e t o ts) (λ k us. climbBy (more f k) (rec′ k) max e t o us)
-    climbBy-reads f m max e t none ts g h l p v vt i later = done e l p v
-    climbBy-reads f m max e t (some r) ts g h l p v vt i later =
+        Reads Expr P (InExpr P) (suc f) m ts (climbed f rec max e t ts o) (λ k us. climbed (more f k) (rec′ k) max e t us o)
+    climbed-reads f m max e t none ts g h l p v vt i later = done e l p v
+    climbed-reads f m max e t (some r) ts g h l p v vt i later =
         take ts _ (i r refl) (omega arith)
         (bind (rec (rightLevel r) (rest ts)) _ _ (reads (rightLevel r) f (rest ts) (omega (arith, rest-fits ts)) (omega arith) (every-rest P ts p)) λ b rs z q w.
         later (Joined t (r .operator) e b) rs (omega (arith, rest-fits ts)) (omega (arith, rest-fits ts)) q (vt (i r refl), v, w))
@@ -241,5 +230,5 @@ module _
         let t = front ts in
         let o = allowed max (infixOf infixes t) in
         rephrase _ (climb-step f rec max e t o ts refl refl) (λ k us al. climb-step (more f k) (rec′ k) max e t o us (alike-front ts us al) refl)
-        (climbBy-reads f m max e t o ts g h l p v (λ i. every-front P ts i p) (λ r z. row-inner t o r (λ c. ap (allowed max) (infix-none infixes t c)) z)
+        (climbed-reads f m max e t o ts g h l p v (λ i. every-front P ts i p) (λ r z. row-inner t o r (λ c. ap (allowed max) (infix-none infixes t c)) z)
         (λ w rs h′ l′ q u. climb-reads f m max w rs (omega arith) h′ l′ q u))

@@ -12,24 +12,17 @@ use Rattle.node.specs.Result.{Done, _>>=_}
 use Rattle.language.specs.Tokens.{Fixed, Name, Token, code, isOf}
 use Rattle.language.specs.Operators.{LeftToRight, RightToLeft, Associativity, InfixRow, infixes, prefixes, loosest}
 use Rattle.language.specs.Tree.{Expr, Truth, Joined}
-use Rattle.language.specs.Grammar.{Tokens, Read, front, rest, infixOf, Reader, nameOf, operandBy, operandOf, rightLevel, allowed, climb, expr}
+use Rattle.language.specs.Grammar.{Tokens, front, infixOf, Reader, nameOf, operandBy, operandOf, rightLevel, allowed, climb, expr}
 use Rattle.language.specs.Sections.{expression}
 use Rattle.language.specs.Laws.Basics.Tests.{pick, leave, some-none}
 use Rattle.language.specs.Laws.Grammar.ReaderLaws.{more, more-is}
 use Rattle.language.specs.Laws.Grammar.ReadersInRow.{bind-to}
-use Rattle.language.specs.Laws.Grammar.ExprReads.{prefix-none}
+use Rattle.language.specs.Laws.Grammar.ExprReads.{prefix-none, climb-step}
 use Rattle.language.specs.Laws.Grammar.GrammarLaws.{expr-fuel}
 use Rattle.language.specs.Laws.Grammar.Completions.{same-front, Near, alike, opened, Runs, move, prefixed, transfer, rephrase, weaken, done}
 use Rattle.language.specs.Laws.Grammar.CompletionsInRow.{bind-less, bind-before, bind, none-runs}
 use Rattle.language.specs.Laws.Grammar.TokenCompletions.{Is, Follows, tighter}
 use Rattle.language.specs.Laws.Grammar.ExprCompletions.{truth, nameOf-runs, operandOf-runs}
-
--- behind an operand: nothing that goes on, or an operator
-abbrev climbed : ℕ → Reader → ℕ → Expr → Tokens → Option InfixRow → Read Expr
-climbed f rec max e ts o = elim o [ none ↦ Done (e, ts) | some r ↦ rec (rightLevel r) (rest ts) >>= λ (b, us). climb f rec max (Joined (front ts) (r .operator) e b) us ]
-
-climb-by : (f : ℕ) (rec : Reader) (max : ℕ) (e : Expr) (ts : Tokens) (o : Option InfixRow) → allowed max (infixOf infixes (front ts)) ≡ o → climb (suc f) rec max e ts ≡ climbed f rec max e ts o
-climb-by f rec max e ts o z = ap (climbed f rec max e ts) z
 
 near-none : (max : ℕ) (ts us : Tokens) → allowed max (infixOf infixes (front ts)) ≡ none → Near (Follows max) ts us → allowed max (infixOf infixes (front us)) ≡ none
 near-none max ts us e (alike h) = ap (λ t. allowed max (infixOf infixes t)) (same-front ts us h) ∙ e
@@ -66,19 +59,19 @@ module _
       where
         go : (k : ℕ) (us : Tokens) → Follows max (front us) → length us < 0 + k → climb k (rec′ k) max e us ≡ Done (e, us)
         go zero us w l = absurd (omega arith)
-        go (suc k) us w l = climb-by k (rec′ (suc k)) max e us none (w .operator)
+        go (suc k) us w l = climb-step k (rec′ (suc k)) max e (front us) none us refl (w .operator)
     climb-runs (suc f) max e ts g h = go ts h (allowed max (infixOf infixes (front ts))) refl (λ b rs. climb-runs f max b rs)
       where
         go : (ts : Tokens) → length ts ≤ suc f - 1 → (o : Option InfixRow) → allowed max (infixOf infixes (front ts)) ≡ o →
             ((b : Expr) (rs : Tokens) → f ≤ n → length rs ≤ f - 1 → Runs Expr (Follows max) (Follows max) f 0 rs (climb f rec max b rs) (λ k us. climb (more f k) (rec′ k) max b us)) →
             Runs Expr (Follows max) (Follows max) (suc f) 0 ts (climb (suc f) rec max e ts) (λ k us. climb (more (suc f) k) (rec′ k) max e us)
         go ts h none z later =
-            subst (λ r. Runs Expr (Follows max) (Follows max) (suc f) 0 ts r (λ k us. climb (more (suc f) k) (rec′ k) max e us)) (sym (climb-by f rec max e ts none z))
-            (transfer (Done (e, ts)) (λ t v. v) (done e) (λ k us w l. climb-by (more f k) (rec′ k) max e us none (near-none max ts us z w)))
+            subst (λ r. Runs Expr (Follows max) (Follows max) (suc f) 0 ts r (λ k us. climb (more (suc f) k) (rec′ k) max e us)) (sym (climb-step f rec max e (front ts) none ts refl z))
+            (transfer (Done (e, ts)) (λ t v. v) (done e) (λ k us w l. climb-step (more f k) (rec′ k) max e (front us) none us refl (near-none max ts us z w)))
         go [] h (some r) z later = absurd (some-none (sym z))
         go (t ∷ ts) h (some r) z later =
             prefixed (λ k us. climb (more (suc f) k) (rec′ k) max e us) t _ (omega arith) (omega arith)
-            (rephrase _ (climb-by f rec max e (t ∷ ts) (some r) z) (λ k us. climb-by (more f k) (rec′ k) max e (t ∷ us) (some r) z)
+            (rephrase _ (climb-step f rec max e t (some r) (t ∷ ts) refl z) (λ k us. climb-step (more f k) (rec′ k) max e t (some r) (t ∷ us) refl z)
             (bind-before (rec (rightLevel r) ts) (tighter (rightLevel r) max (omega (arith, right-tighter r, allowed-level max (infixOf infixes t) r z))) _ _ (runs (rightLevel r) f ts (omega arith) (omega arith)) λ b rs l.
             later (Joined t (r .operator) e b) rs (omega arith) (omega arith)))
 
@@ -98,7 +91,7 @@ expr-runs zero = record { main = first; names = λ t i b ts h g. absurd (omega a
         go (suc zero) us w l = absurd (omega arith)
         go (suc (suc k)) us w l =
             let rec : Reader = λ m us. expr (suc k) m us in
-            bind-to (operandOf (suc k) rec max (truth ∷ us)) (Truth truth true, us) (λ (e, vs). climb (suc k) rec max e vs) refl ∙ climb-by k rec max (Truth truth true) us none (w .operator)
+            bind-to (operandOf (suc k) rec max (truth ∷ us)) (Truth truth true, us) (λ (e, vs). climb (suc k) rec max e vs) refl ∙ climb-step k rec max (Truth truth true) (front us) none us refl (w .operator)
 expr-runs (suc f) = go (expr-runs f)
   where
     rec : Reader

@@ -11,7 +11,7 @@ use borrow.Author.Tests.{eq-eqb}
 use Rattle.node.specs.Result.{Done, Refused, _>>=_}
 use Rattle.language.specs.Tokens.{Token, is}
 use Rattle.language.specs.Tree.{Subsection, Inputs, Outputs, Lines}
-use Rattle.language.specs.Grammar.{Tokens, Read, front, rest, stop, expect, named}
+use Rattle.language.specs.Grammar.{Tokens, Read, front, expect, named}
 use Rattle.language.specs.Sections.{expression, blockOf, declarationOf, Heading, InputsHere, OutputsHere, LinesHere, HeadingRow, headings, seen, headingOf, subsectionOf, subsectionsOf}
 use Rattle.language.specs.Laws.Basics.Lists.{Any}
 use Rattle.language.specs.Laws.Basics.Tests.{pick, leave, some-none}
@@ -21,7 +21,7 @@ use Rattle.language.specs.Laws.Grammar.CompletionsInRow.{bind}
 use Rattle.language.specs.Laws.Grammar.TokenCompletions.{sign, Is, follows-at, brace, expect-runs}
 use Rattle.language.specs.Laws.Grammar.ExpressionCompletions.{expression-runs}
 use Rattle.language.specs.Laws.Grammar.ListCompletions.{blockOf-runs}
-use Rattle.language.specs.Laws.Grammar.SectionReads.{expression-none, declaration-none}
+use Rattle.language.specs.Laws.Grammar.SectionReads.{expression-none, declaration-none, subsections-step}
 use Rattle.language.specs.Laws.Grammar.SectionCompletions.{declarationOf-runs}
 
 -- how many of the headings have not stood
@@ -65,17 +65,6 @@ heading-found (q ∷ rs) before t r e = go (named (q .names) t) refl (seen befor
         subst (λ n. suc (missing (q ∷ rs) (n ∷ before)) ≤ missing (q ∷ rs) before) (ap number-of same) (omega (arith, now, absent-now (q .number) before, missing-less (q .number) rs before))
     go false z d w later = let l = later (sym (leave (named (q .names) t) _ _ z) ∙ e) in omega (arith, l, absent-less (r .number) (q .number) before)
 
--- a heading with its subsection, or the end
-abbrev mainBy : ℕ → List ℕ → Tokens → Option HeadingRow → Read (List Subsection)
-mainBy f before ts o =
-    elim o [
-      | some r ↦ subsectionOf (r .heading) (rest ts) >>= λ (s, ts). subsectionsOf f (r .number ∷ before) ts >>= λ (ss, ts). Done (s ∷ ss, ts)
-      | none ↦ elim (seen before 0 && seen before 1) [ true ↦ expect "}" ts >>= λ (c, ts). Done ([], ts) | false ↦ stop ts ]
-    ]
-
-main-by : (f : ℕ) (before : List ℕ) (ts : Tokens) (o : Option HeadingRow) → headingOf headings before (front ts) ≡ o → subsectionsOf (suc f) before ts ≡ mainBy f before ts o
-main-by f before ts o e = ap (mainBy f before ts) e
-
 -- tokens with which MAIN ends, whatever stands behind them
 record Finish (f : ℕ) (before : List ℕ) : Type 0 where
   ending : Tokens
@@ -96,7 +85,7 @@ finish-step f before t r s e z h =
       ending = t ∷ sign "{" ∷ sign "}" ∷ h .ending;
       value = s ∷ h .value;
       accepted = λ us.
-          main-by f before (t ∷ sign "{" ∷ sign "}" ∷ (h .ending ++ us)) (some r) e ∙ bind-to (subsectionOf (r .heading) (sign "{" ∷ sign "}" ∷ (h .ending ++ us))) (s, h .ending ++ us) _ (z (h .ending ++ us))
+          subsections-step f before (some r) (t ∷ sign "{" ∷ sign "}" ∷ (h .ending ++ us)) e ∙ bind-to (subsectionOf (r .heading) (sign "{" ∷ sign "}" ∷ (h .ending ++ us))) (s, h .ending ++ us) _ (z (h .ending ++ us))
           ∙ bind-to (subsectionsOf f (r .number ∷ before) (h .ending ++ us)) (h .value, us) _ (h .accepted us);
     }
 
@@ -145,12 +134,12 @@ subsectionsOf-runs {W} (suc f) before h b ts = go ts (headingOf headings before 
     closing : (ts : Tokens) → headingOf headings before (front ts) ≡ none → (c : Bool) → (seen before 0 && seen before 1) ≡ c → Runs (List Subsection) Any W b 0 ts (subsectionsOf (suc f) before ts) R
     closing ts e true z =
         let isEnd : (us : Tokens) → headingOf headings before (front us) ≡ none → subsectionsOf (suc f) before us ≡ (expect "}" us >>= λ (c, vs). Done ([], vs)) =
-        λ us w. main-by f before us none w ∙ pick (seen before 0 && seen before 1) _ _ z in
+        λ us w. subsections-step f before none us w ∙ pick (seen before 0 && seen before 1) _ _ z in
         subst (λ r. Runs (List Subsection) Any W b 0 ts r R) (sym (isEnd ts e))
         (transfer _ (λ t v. tt) (bind (expect "}" ts) _ _ (expect-runs b ts "}") λ c rs l. done []) (λ k us w l. isEnd us (near-none before ts us e w)))
     closing ts e false z =
         let isStop : (us : Tokens) → headingOf headings before (front us) ≡ none → subsectionsOf (suc f) before us ≡ Refused 4 (front us .at) =
-        λ us w. main-by f before us none w ∙ leave (seen before 0 && seen before 1) _ _ z in
+        λ us w. subsections-step f before none us w ∙ leave (seen before 0 && seen before 1) _ _ z in
         let c = finish (suc f) before h in
         subst (λ r. Runs (List Subsection) Any W b 0 ts r R) (sym (isStop ts e))
         (record {
@@ -174,7 +163,7 @@ subsectionsOf-runs {W} (suc f) before h b ts = go ts (headingOf headings before 
     go [] (some r) e later = absurd (some-none (sym e))
     go (t ∷ ts) (some r) e later =
         prefixed {b′ = b} R t _ (omega arith) (omega arith)
-        (rephrase _ (main-by f before (t ∷ ts) (some r) e) (λ k us. main-by f before (t ∷ us) (some r) e)
+        (rephrase _ (subsections-step f before (some r) (t ∷ ts) e) (λ k us. subsections-step f before (some r) (t ∷ us) e)
         (bind (subsectionOf (r .heading) ts) _ _ (subsectionOf-runs (r .heading) b ts) λ s rs l.
         bind (subsectionsOf f (r .number ∷ before) rs) _ _ (later (r .number ∷ before) (omega (arith, heading-found headings before t r e)) b rs) λ ss rs₂ l₂.
         done (s ∷ ss)))

@@ -120,22 +120,15 @@ module _ (P : Token → Type 0) (b : ℕ) (ts : Tokens) (p : All P ts) where
       (λ _. done s h p v)
 
 -- the subsections from the one with a heading on, or the end of MAIN
-abbrev subsectionsBy : ℕ → List ℕ → Option HeadingRow → Tokens → Read (List Subsection)
-subsectionsBy f before (some r) ts = subsectionOf (r .heading) (rest ts) >>= λ (s, ts). subsectionsOf f (r .number ∷ before) ts >>= λ (ss, ts). Done (s ∷ ss, ts)
-subsectionsBy f before none ts = elim (seen before 0 && seen before 1) [ true ↦ expect "}" ts >>= λ (c, ts). Done ([], ts) | false ↦ stop ts ]
-
-subsections-by : (f : ℕ) (before : List ℕ) (o : Option HeadingRow) (ts : Tokens) →
-    _≡_ {A = Read (List Subsection)}
-    (elim o [
+abbrev pub subsectionsBy : ℕ → List ℕ → Tokens → Option HeadingRow → Read (List Subsection)
+subsectionsBy f before ts o =
+    elim o [
       | some r ↦ subsectionOf (r .heading) (rest ts) >>= λ (s, ts). subsectionsOf f (r .number ∷ before) ts >>= λ (ss, ts). Done (s ∷ ss, ts)
       | none ↦ elim (seen before 0 && seen before 1) [ true ↦ expect "}" ts >>= λ (c, ts). Done ([], ts) | false ↦ stop ts ]
-    ])
-    (subsectionsBy f before o ts)
-subsections-by f before none ts = refl
-subsections-by f before (some r) ts = refl
+    ]
 
-subsections-step : (f : ℕ) (before : List ℕ) (o : Option HeadingRow) (ts : Tokens) → headingOf headings before (front ts) ≡ o → subsectionsOf (suc f) before ts ≡ subsectionsBy f before o ts
-subsections-step f before o ts e = subsections-by f before (headingOf headings before (front ts)) ts ∙ ap (λ x. subsectionsBy f before x ts) e
+pub subsections-step : (f : ℕ) (before : List ℕ) (o : Option HeadingRow) (ts : Tokens) → headingOf headings before (front ts) ≡ o → subsectionsOf (suc f) before ts ≡ subsectionsBy f before ts o
+subsections-step f before o ts e = ap (subsectionsBy f before ts) e
 
 heading-none : (rs : List HeadingRow) (before : List ℕ) (t : Token) → isOf Fixed t ≡ false → headingOf rs before t ≡ none
 heading-none [] before t e = refl
@@ -144,7 +137,7 @@ heading-none (r ∷ rs) before t e = leave (named (r .names) t) _ (headingOf rs 
 module _ (P : Token → Type 0) where
   subsectionsBy-reads : (f : ℕ) (before : List ℕ) (o : Option HeadingRow) (ts : Tokens) → All P ts → ((r : HeadingRow) → o ≡ some r → Inner (front ts)) →
       ((n : ℕ) (bs : List ℕ) (us : Tokens) → length us < n → All P us → Reads (List Subsection) P (All (InSubsection P)) 0 n us (subsectionsOf f bs us) (λ k vs. subsectionsOf f bs vs)) →
-      Reads (List Subsection) P (All (InSubsection P)) 0 (length ts) ts (subsectionsBy f before o ts) (λ k us. subsectionsBy f before o us)
+      Reads (List Subsection) P (All (InSubsection P)) 0 (length ts) ts (subsectionsBy f before ts o) (λ k us. subsectionsBy f before us o)
   subsectionsBy-reads f before none ts p i later =
       choose-by (seen before 0 && seen before 1) (λ _. bind (expect "}" ts) _ _ (expect-reads P "}" 0 ts p) λ c rs l q _. done [] l q tt) (λ _. stopped)
   subsectionsBy-reads f before (some r) ts p i later =

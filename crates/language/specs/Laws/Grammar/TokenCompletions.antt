@@ -14,7 +14,7 @@ use Rattle.language.specs.Operators.{InfixRow, infixes, loosest}
 use Rattle.language.specs.Grammar.{Tokens, front, expect, expectOf, named, infixOf, allowed, signOf}
 use Rattle.language.specs.Laws.Basics.Tests.{leave, pick, some-none, same-refl}
 use Rattle.language.specs.Laws.Grammar.ReaderLaws.{inner-of}
-use Rattle.language.specs.Laws.Grammar.TokenReads.{is-inner, named-inner}
+use Rattle.language.specs.Laws.Grammar.TokenReads.{among, is-inner, named-inner}
 use Rattle.language.specs.Laws.Grammar.Completions.{Runs}
 use Rattle.language.specs.Laws.Grammar.CompletionsInRow.{choose, one, one-of}
 
@@ -27,9 +27,6 @@ plain c = record { class = c; at = 0; text = ascii "a" }
 
 abbrev pub Is : Token → Token → Type 0
 Is u t = t ≡ u
-
-abbrev pub among : List String
-among = "IN" ∷ "ELEM" ∷ "<-" ∷ []
 
 -- a token that may follow an expression whose operators have levels up to m
 pub record Follows (m : ℕ) (t : Token) : Type 0 where

@@ -33,7 +33,7 @@ Ends n [] = ⊥
 Ends n (t ∷ []) = isOf Wrong t ≡ false → (isOf End t ≡ true) × (t .at ≡ n)
 Ends n (t ∷ u ∷ us) = (isOf Wrong t ≡ false) × (isOf End t ≡ false) × Ends n (u ∷ us)
 
-drop-next : (text : List ℕ) (n b : ℕ) (s : List ℕ) → drop n text ≡ b ∷ s → drop (suc n) text ≡ s
+pub drop-next : (text : List ℕ) (n b : ℕ) (s : List ℕ) → drop n text ≡ b ∷ s → drop (suc n) text ≡ s
 drop-next text n b s e = sym (drop-one text n) ∙ ap (drop 1) e
   where
     drop-one : (l : List ℕ) (k : ℕ) → drop 1 (drop k l) ≡ drop (suc k) l

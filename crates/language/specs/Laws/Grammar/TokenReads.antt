@@ -15,6 +15,10 @@ use Rattle.language.specs.Laws.Basics.Lists.{All}
 use Rattle.language.specs.Laws.Basics.Tests.{and-left}
 use Rattle.language.specs.Laws.Grammar.ReaderLaws.{Inner, inner-of, Reads, stopped, choose}
 
+-- the signs of membership
+abbrev pub among : List String
+among = "IN" ∷ "ELEM" ∷ "<-" ∷ []
+
 pub is-inner : (s : String) (t : Token) → is s t ≡ true → Inner t
 is-inner s t e = inner-of Fixed t refl (and-left (isOf Fixed t) (same (ascii s) (t .text)) e)
 

@@ -13,7 +13,7 @@ use Rattle.language.specs.Tree.{Expr, Identifier, Definition, Defined, E
 use Rattle.language.specs.Places.{start, unless, Entry, DefinitionLine, definitionLines}
 use Rattle.language.specs.Types.{Kind, AFormula, AValue, AType, Typings, kindIn, kindOf, mistyped, definable, mistypedLine, mistypedLines, typedValues, typedAfter}
 use Rattle.language.specs.Values.{Value, Scope, naming, value}
-use Rattle.language.specs.Signals.{Table, identified, identifiers, defining}
+use Rattle.language.specs.Declared.{Table, identified, identifiers, defining}
 use Rattle.language.specs.Expansion.{Context, expansion, define, defineAll}
 use Rattle.language.specs.Laws.Basics.Lists.{All, Any}
 use Rattle.language.specs.Laws.Basics.Tests.{split, or-left, or-right, or-cases}
@@ -127,6 +127,6 @@ pub agree-definitions : (g : Token → Kind) (F : Token → Bool) (rest : List E
     → ((t : Token) → found (identifiers ds) (t .text) ≡ true → F t ≡ true) → All ProperDefinition ds → All (Knows g) (typings ys (definitionLines ds rest))
     → mistypedLines ys (definitionLines ds rest) ≡ none → Agree (typedThrough ys ds) (defining sc ds)
 agree-definitions g F rest ds ys sc a v f s k m =
-    let c : Context = record { values = sc; formulas = λ t. Refused 11 0 } in
+    let c : Context = record { ports = []; values = sc; formulas = λ t. Refused 11 0 } in
     subst (Agree (typedThrough ys ds)) (defined-values ds c)
     (serves-definitions g F rest ds ys c (record { values = a; formulas = λ t e. refused (omega arith) }) v f s k m .values)

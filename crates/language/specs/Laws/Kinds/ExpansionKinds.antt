@@ -1,29 +1,31 @@
 -- A formula without a wrong operand expands, or is refused by 11, 12 or 13.
-use Prim.Native.Nat.{ℕ}
+use Prim.Native.Nat.{ℕ, _-_}
 use mathlib.Core.Path.{_≡_, refl, sym, subst}
 use mathlib.Core.Bool.{Bool, true, false}
+use mathlib.Core.List.{List}
 use mathlib.Core.Option.{none, some}
 use lib.Dec.{leb}
 use native.Mathlib.Omega.{arith}
-use Rattle.node.specs.Result.{Result, _>>=_}
+use Rattle.node.specs.Result.{Result, Done, _>>=_, guard}
 use Rattle.node.specs.Ltl.{Formula}
 use Rattle.language.specs.Bytes.{if_then_else_, same}
 use Rattle.language.specs.Tokens.{Token}
-use Rattle.language.specs.Operators.{Comparison, Equal, Unequal, Less, AtMost, Greater, AtLeast, Calculates, Combines, Compares, Membership, Connects, Measures, WidthOf, Applies}
+use Rattle.language.specs.Operators.{Comparison, Equal, Unequal, Less, AtMost, Greater, AtLeast, Window, Calculates, Combines, Compares, Membership, Connects, Measures, WidthOf, Applies}
 use Rattle.language.specs.Tree.{Expr, Named, Numeral, Truth, Index, Paren, Prefixed, Joined, Nexts, InWindow, Each, Between, Listed, Empty, Element, Range}
 use Rattle.language.specs.Places.{start, first, unless}
 use Rattle.language.specs.Types.{Kind, ANumber, ASet, AFormula, ABus, Typings, isKind, kindIn, kindOf, withNumber, bigGives, comparable, fitting, wrongSides, wrongOperands, mistyped, demanded, wrong}
-use Rattle.language.specs.Values.{Value, Scope, Sides, sides, number, value}
-use Rattle.language.specs.Expansion.{Context, at, compared, expansion}
+use Rattle.language.specs.Values.{Value, Sized, Scope, number, value}
+use Rattle.language.specs.Declared.{Port}
+use Rattle.language.specs.Expansion.{nexts, chain, windowOperator, Context, at, against, compared, expansion}
 use Rattle.language.specs.Laws.Basics.Lists.{Any}
 use Rattle.language.specs.Laws.Basics.Tests.{some-none}
 use Rattle.language.specs.Laws.Basics.NoPlace.{first-left, first-right, unless-none}
-use Rattle.language.specs.Laws.Basics.Results.{done, guarded, bind}
+use Rattle.language.specs.Laws.Basics.Results.{done, guarded}
 use Rattle.language.specs.Laws.Grammar.Braces.{Proper}
 use Rattle.language.specs.Laws.Values.ValueKinds.{isKind-equal, apart}
 use Rattle.language.specs.Laws.Kinds.Reaching.{Reaches, next}
 use Rattle.language.specs.Laws.Kinds.KindLaws.{Evaluates, number-of, set-of, bus-of}
-use Rattle.language.specs.Laws.Kinds.OperandLaws.{bit-reaches, bigFormula-reaches, numbers-reach, fitting-reach, compared-numbers, equality-reaches, inequality-reaches}
+use Rattle.language.specs.Laws.Kinds.OperandLaws.{bitAt-reaches, bigFormula-reaches, numbers-reach, fitting-reach, equality-reaches, inequality-reaches}
 use Rattle.language.specs.Laws.Kinds.TypeSoundness.{Agree, agree-number, Taken, taken, taken-both, taken-two, taken-three, operand, value-evaluates}
 
 -- the formulas of the visible names that stand for one
@@ -55,27 +57,26 @@ sides-none : (b f : Bool) (p q : ℕ) → (if b then unless f p else some q) ≡
 sides-none true f p q e = unless-none f p e
 sides-none false f p q e = absurd (some-none e)
 
-module _ (ys : Typings) (sc : Scope) (a b : Expr) (u : mistyped ys a ≡ none → Evaluates (kindOf ys a) (value sc a)) (v : mistyped ys b ≡ none → Evaluates (kindOf ys b) (value sc b)) where
+module _ (ps : List Port) (ys : Typings) (sc : Scope) (a b : Expr) (u : mistyped ys a ≡ none → Evaluates (kindOf ys a) (value sc a)) (v : mistyped ys b ≡ none → Evaluates (kindOf ys b) (value sc b)) where
   numbers-compared : (o : Comparison) → first (first (wrong ANumber ys a) (wrong ANumber ys b)) (first (mistyped ys a) (mistyped ys b)) ≡ none
-      → Reaches Any ((value sc a >>= λ x. value sc b >>= sides x) >>= compared o)
+      → Reaches Any (value sc a >>= λ x. value sc b >>= compared ps o x)
   numbers-compared o h =
       let w = taken-both ANumber ANumber ys a b h in
-      bind _ _ (numbers-reach (value sc a) (value sc b) (operand ANumber ys a _ (w .0) u) (operand ANumber ys b _ (w .1) v))
-      (compared-numbers o)
+      numbers-reach ps o (value sc a) (value sc b) (operand ANumber ys a _ (w .0) u) (operand ANumber ys b _ (w .1) v)
 
-  sides-compared : (o : Comparison) → ((s : Sides) → Reaches Any (compared o s)) → first (wrongSides ys a b) (first (mistyped ys a) (mistyped ys b)) ≡ none
-      → Reaches Any ((value sc a >>= λ x. value sc b >>= sides x) >>= compared o)
+  sides-compared : (o : Comparison) → ((b : Sized) (w : List Token) → Reaches Any (against ps o b w)) → first (wrongSides ys a b) (first (mistyped ys a) (mistyped ys b)) ≡ none
+      → Reaches Any (value sc a >>= λ x. value sc b >>= compared ps o x)
   sides-compared o f h =
       let w = first-left (wrongSides ys a b) (first (mistyped ys a) (mistyped ys b)) h in
       let m = first-right (wrongSides ys a b) (first (mistyped ys a) (mistyped ys b)) h in
-      next _ _ (fitting-reach (value sc a) (value sc b) (kindOf ys a) (kindOf ys b)
+      fitting-reach ps o (value sc a) (value sc b) f (kindOf ys a) (kindOf ys b)
       (sides-none (comparable (kindOf ys a)) (fitting (kindOf ys a) (kindOf ys b)) (start b) (start a) w)
-      (u (first-left (mistyped ys a) (mistyped ys b) m)) (v (first-right (mistyped ys a) (mistyped ys b) m))) f
+      (u (first-left (mistyped ys a) (mistyped ys b) m)) (v (first-right (mistyped ys a) (mistyped ys b) m))
 
   compared-reaches : (o : Comparison) → first (wrongOperands ys (Compares o) a b) (first (mistyped ys a) (mistyped ys b)) ≡ none
-      → Reaches Any ((value sc a >>= λ x. value sc b >>= sides x) >>= compared o)
-  compared-reaches Equal h = sides-compared Equal equality-reaches h
-  compared-reaches Unequal h = sides-compared Unequal inequality-reaches h
+      → Reaches Any (value sc a >>= λ x. value sc b >>= compared ps o x)
+  compared-reaches Equal h = sides-compared Equal (equality-reaches ps) h
+  compared-reaches Unequal h = sides-compared Unequal (inequality-reaches ps) h
   compared-reaches Less h = numbers-compared Less h
   compared-reaches AtMost h = numbers-compared AtMost h
   compared-reaches Greater h = numbers-compared Greater h
@@ -84,6 +85,10 @@ module _ (ys : Typings) (sc : Scope) (a b : Expr) (u : mistyped ys a ≡ none �
 -- a number that an operator of a formula takes
 number-operand : (ys : Typings) (sc : Scope) → Agree ys sc → (e : Expr) → Proper false e → Taken ANumber ys e → Reaches Any (value sc e >>= number)
 number-operand ys sc a e s w = number-of (value sc e) (operand ANumber ys e _ w (value-evaluates ys sc a e false s))
+
+window-reaches : (o : Window) (p : ℕ) (r s : Result ℕ) (q : Result Formula) → Reaches Any r → Reaches Any s → Reaches Any q
+    → Reaches Any (r >>= λ j. s >>= λ k. guard (leb j k) 11 p (q >>= λ f. Done (nexts j (chain (windowOperator o) (k - j) f))))
+window-reaches o p r s q h i l = next r _ h (λ j. next s _ i (λ k. guarded (leb j k) 11 p (λ _. omega arith) (λ _. next q _ l (λ f. done tt))))
 
 bus-named : (ys : Typings) (t : Token) (p : ℕ) (r : Result Value) → unless (isKind ABus (kindIn ys t)) p ≡ none → Evaluates (kindIn ys t) r → Evaluates ABus r
 bus-named ys t p r e h =
@@ -95,9 +100,8 @@ expansion-reaches ys c v (Numeral t) s h k = apart ANumber AFormula refl k
 expansion-reaches ys c v (Truth t b) s h k = done tt
 expansion-reaches ys c v (Index t e) s h k =
     let p = unless (isKind ABus (kindIn ys t)) (t .at) in
-    next _ _ (next _ _ (number-operand ys (c .values) (v .values) e (s .1) (taken ANumber ys e (first-right p (demanded ANumber ys e) h))) (λ i.
-    next _ _ (bus-of _ (bus-named ys t (t .at) _ (first-left p (demanded ANumber ys e) h) (v .values t))) (bit-reaches i)))
-    (λ n. done tt)
+    next _ _ (number-operand ys (c .values) (v .values) e (s .1) (taken ANumber ys e (first-right p (demanded ANumber ys e) h))) (λ i.
+    next _ _ (bus-of _ (bus-named ys t (t .at) _ (first-left p (demanded ANumber ys e) h) (v .values t))) (bitAt-reaches (c .ports) i))
 expansion-reaches ys c v (Paren t e) s h k = expansion-reaches ys c v e (s .1) h k
 expansion-reaches ys c v (Prefixed t (Measures m) e) s h k = apart ANumber AFormula refl k
 expansion-reaches ys c v (Prefixed t WidthOf e) s h k = apart ANumber AFormula refl k
@@ -106,7 +110,7 @@ expansion-reaches ys c v (Prefixed t (Applies o) e) s h k =
 expansion-reaches ys c v (Joined t (Calculates o) a b) s h k = apart ANumber AFormula refl k
 expansion-reaches ys c v (Joined t (Combines o) a b) s h k = apart ASet AFormula refl k
 expansion-reaches ys c v (Joined t (Compares o) a b) s h k =
-    compared-reaches ys (c .values) a b (value-evaluates ys (c .values) (v .values) a false (s .1)) (value-evaluates ys (c .values) (v .values) b false (s .2)) o h
+    compared-reaches (c .ports) ys (c .values) a b (value-evaluates ys (c .values) (v .values) a false (s .1)) (value-evaluates ys (c .values) (v .values) b false (s .2)) o h
 expansion-reaches ys c v (Joined t Membership a b) s h k =
     let w = taken-both ANumber ASet ys a b h in
     next _ _ (number-operand ys (c .values) (v .values) a (s .1) (w .0)) (λ n.
@@ -121,10 +125,8 @@ expansion-reaches ys c v (Nexts t n e) s h k =
     next _ _ (formula-operand ys e _ (w .1) (expansion-reaches ys c v e (s .2))) (λ f. done tt))
 expansion-reaches ys c v (InWindow t o n m e) s h k =
     let w = taken-three AFormula ys n m e h in
-    next _ _ (number-operand ys (c .values) (v .values) n (s .1) (w .0)) (λ i.
-    next _ _ (number-operand ys (c .values) (v .values) m (s .2) (w .1)) (λ j.
-    guarded (leb i j) 11 (t .at) (λ _. omega arith) (λ q.
-    next _ _ (formula-operand ys e _ (w .2) (expansion-reaches ys c v e (s .3))) (λ f. done tt))))
+    window-reaches o (t .at) _ _ _ (number-operand ys (c .values) (v .values) n (s .1) (w .0)) (number-operand ys (c .values) (v .values) m (s .2) (w .1))
+    (formula-operand ys e _ (w .2) (expansion-reaches ys c v e (s .3)))
 expansion-reaches ys c v (Each t o further i m e) s h k =
     let w = taken-two ASet (bigGives o) ys (withNumber i ys) m e h in
     next _ _ (set-of _ (operand ASet ys m _ (w .0) (value-evaluates ys (c .values) (v .values) m false (s .1)))) (bigFormula-reaches o _ k (λ n.

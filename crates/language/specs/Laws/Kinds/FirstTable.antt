@@ -8,12 +8,13 @@ use Rattle.language.specs.Tokens.{Token}
 use Rattle.language.specs.Tree.{Expr, Identifier, Definition, Defined, Enumerated, Parameter, Declaration, OneSignal, OfWidth, OfType, Subsection, Inputs, Outputs, Lines, Spec}
 use Rattle.language.specs.Places.{Entry, ParameterLine, DefinitionLine, DeclarationLine, FormulaLine, parameterLines, definitionLines, declarationLines, formulaLines, mainLines, allLines}
 use Rattle.language.specs.Types.{Kind, AFormula, ABus, Typings, kindIn, typedValues, typedAfter, typedSignals}
-use Rattle.language.specs.Signals.{Table, identified, identifiers, waiting, inputs, outputs}
+use Rattle.language.specs.Declared.{Table, identified, identifiers, waiting, inputs, outputs}
 use Rattle.language.specs.Laws.Basics.Lists.{All}
 use Rattle.language.specs.Laws.Basics.Tests.{or-left, or-right, or-cases}
+use Rattle.language.specs.Laws.Values.DistinctNames.{declaredName}
 use Rattle.language.specs.Laws.Kinds.KnownKinds.{typings, Knows}
 use Rattle.language.specs.Laws.Kinds.DefinitionKinds.{found, values-right}
-use Rattle.language.specs.Laws.Kinds.TableKinds.{awaits, declaredName, listed, seen, EntryKnown, Respects, Standing, respects-add}
+use Rattle.language.specs.Laws.Kinds.TableKinds.{listed, seen, EntryKnown, Respects, Standing, respects-add}
 use Rattle.language.specs.Laws.Kinds.LineKinds.{DeclarationFits}
 
 -- the identifiers
@@ -30,19 +31,6 @@ identifiers-sound g ls (Enumerated x is ∷ ds) ys k =
     let zs = typedAfter ys (DefinitionLine (Enumerated x is)) in
     let ws = typings zs (definitionLines ds ls) in
     identified-sound g is ws (identifiers ds) (k .1) (identifiers-sound g ls ds zs (values-right g is ws (k .1)))
-
-passed-over : (b a : Bool) → elim b [ true ↦ false | false ↦ a ] ≡ true → a ≡ true
-passed-over true a e = absurd (false≢true e)
-passed-over false a e = e
-
-identified-awaits : (is : List Identifier) (d : Table) (x : List ℕ) → awaits (identified is ++ d) x ≡ true → awaits d x ≡ true
-identified-awaits [] d x e = e
-identified-awaits (i ∷ is) d x e = identified-awaits is d x (passed-over (same (i .name .text) x) (awaits (identified is ++ d) x) e)
-
-identifiers-awaits : (ds : List Definition) (x : List ℕ) → awaits (identifiers ds) x ≡ true → ⊥
-identifiers-awaits [] x e = false≢true e
-identifiers-awaits (Defined y e ∷ ds) x h = identifiers-awaits ds x h
-identifiers-awaits (Enumerated y is ∷ ds) x h = identifiers-awaits ds x (identified-awaits is (identifiers ds) x h)
 
 -- signals and buses that wait
 waiting-sound : (g : Token → Kind) (ys : Typings) (ds : List Declaration) (d : Table) → All (DeclarationFits g ys) ds → All (EntryKnown g) d → All (EntryKnown g) (waiting ds d)
@@ -66,16 +54,6 @@ waiting-listed [] d x e = e
 waiting-listed (OneSignal y ∷ ds) d x e = step (same (y .text) x) (listed ds x) (found d x) (found (waiting ds d) x) (waiting-listed ds d x) e
 waiting-listed (OfWidth y w ∷ ds) d x e = step (same (y .text) x) (listed ds x) (found d x) (found (waiting ds d) x) (waiting-listed ds d x) e
 waiting-listed (OfType u y ∷ ds) d x e = step (same (y .text) x) (listed ds x) (found d x) (found (waiting ds d) x) (waiting-listed ds d x) e
-
-awaits-turn : (b w a l : Bool) → (a ≡ true → l ≡ true) → elim b [ true ↦ w | false ↦ a ] ≡ true → (b || l) ≡ true
-awaits-turn true w a l h e = refl
-awaits-turn false w a l h e = h e
-
-waiting-awaits : (ds left : List Declaration) (d : Table) (x : List ℕ) → (awaits d x ≡ true → listed left x ≡ true) → awaits (waiting ds d) x ≡ true → listed (ds ++ left) x ≡ true
-waiting-awaits [] left d x h e = h e
-waiting-awaits (OneSignal y ∷ ds) left d x h e = awaits-turn (same (y .text) x) true _ _ (waiting-awaits ds left d x h) e
-waiting-awaits (OfWidth y w ∷ ds) left d x h e = awaits-turn (same (y .text) x) false _ _ (waiting-awaits ds left d x h) e
-waiting-awaits (OfType u y ∷ ds) left d x h e = awaits-turn (same (y .text) x) false _ _ (waiting-awaits ds left d x h) e
 
 -- the types of signals and buses
 signals-respect : (g : Token → Kind) (ls : List Entry) (ys : Typings) → All (Knows g) (typings ys ls) → Respects g (typedSignals ls)
@@ -148,7 +126,7 @@ signals-of-main x =
 pub first-standing : (g : Token → Kind) (x : Spec) (ys zs : Typings) → All (Knows g) (typings (typedSignals (allLines x)) (allLines x))
     → All (Knows g) (typings ys (definitionLines (x .definitions) (mainLines (x .main))))
     → All (DeclarationFits g zs) (inputs (x .main)) → All (DeclarationFits g zs) (outputs (x .main))
-    → Standing g (identifiers (x .definitions)) (inputs (x .main) ++ (outputs (x .main) ++ [])) (typedSignals (allLines x))
+    → Standing g (identifiers (x .definitions)) (typedSignals (allLines x))
     (waiting (inputs (x .main)) (waiting (outputs (x .main)) (identifiers (x .definitions))))
 first-standing g x ys zs k l i o =
     let ins = inputs (x .main) in
@@ -164,7 +142,4 @@ first-standing g x ys zs k l i o =
       kept = λ t e.
           waiting-listed ins (waiting outs d) (t .text) (or-right (listed ins (t .text)) (found (waiting outs d) (t .text))
           (waiting-listed outs d (t .text) (or-right (listed outs (t .text)) (found d (t .text)) e)));
-      pending = λ t.
-          waiting-awaits ins (outs ++ []) (waiting outs d) (t .text)
-          (waiting-awaits outs [] d (t .text) (λ h. absurd (identifiers-awaits (x .definitions) (t .text) h)));
     }

@@ -2,7 +2,7 @@
 use Prim.Native.Nat.{ℕ, _≤_}
 use mathlib.Core.Path.{_≡_, refl}
 use mathlib.Core.Bool.{true, false}
-use mathlib.Core.List.{List, [], _++_}
+use mathlib.Core.List.{List}
 use mathlib.Core.Option.{none}
 use lib.Dec.{leb}
 use native.Mathlib.Omega.{arith}
@@ -15,35 +15,36 @@ use Rattle.language.specs.Places.{definitionLines, mainLines, allLines}
 use Rattle.language.specs.Names.{doubled, declares, declaresSignal, over, again, nowhere, walkLines, declaredAgain}
 use Rattle.language.specs.Types.{Kind, Typings, kindIn, typedSignals, wrongType}
 use Rattle.language.specs.Parsing.{parsed}
-use Rattle.language.specs.Signals.{Line, Written, Implied, identifiers, waiting, inputs, outputs, Declarations, none as noSignals, onFrom, declarations}
-use Rattle.language.specs.Lines.{lines}
+use Rattle.language.specs.Declared.{identifiers, waiting, Port, inputs, outputs, Declarations, declarations}
+use Rattle.language.specs.Numbering.{inOrder}
+use Rattle.language.specs.Lines.{Line, Written, Implied, implied, lines}
 use Rattle.language.specs.Expansion.{Context, atSignals, defineAll, expandLine, expandSection, expand}
 use Rattle.language.specs.Reading.{sameModel, converted, meant}
-use Rattle.language.specs.Laws.Basics.Lists.{All, Any, all-more}
+use Rattle.language.specs.Laws.Basics.Lists.{All, Any, all-any}
 use Rattle.language.specs.Laws.Basics.NoPlace.{first-left}
 use Rattle.language.specs.Laws.Basics.Results.{Answers, done, guarded, placed, bind, weaken, refusal-of, gathered}
 use Rattle.language.specs.Laws.Grammar.Braces.{ProperSpec}
 use Rattle.language.specs.Laws.Grammar.Parses.{parses, parsed-proper}
+use Rattle.language.specs.Laws.Values.LineLaws.{implied-all}
 use Rattle.language.specs.Laws.Kinds.Reaching.{Reaches}
 use Rattle.language.specs.Laws.Kinds.ExpansionKinds.{Serves, formula-operand, expansion-reaches}
 use Rattle.language.specs.Laws.Kinds.KnownKinds.{typings, declared-known}
 use Rattle.language.specs.Laws.Kinds.DefinitionKinds.{found, typedThrough, serves-definitions}
-use Rattle.language.specs.Laws.Kinds.TableKinds.{covers-table, standing-agree, standing-expands}
+use Rattle.language.specs.Laws.Kinds.TableKinds.{Standing, covers-table, standing-agree, standing-expands}
 use Rattle.language.specs.Laws.Kinds.LineKinds.{Passed, typedParameters, LineFits, SectionFits, passed-parameters, passed-definitions, MainFits, main-fits}
 use Rattle.language.specs.Laws.Kinds.FirstTable.{first-standing}
-use Rattle.language.specs.Laws.Kinds.DeclarationKinds.{constants-reach, IsImplied, Numbers, numbering-reaches}
+use Rattle.language.specs.Laws.Kinds.DeclarationKinds.{constants-reach, turns-reach}
 
 -- an accepted text's lines
 line-reaches : (ys : Typings) (c : Context) → Serves ys c → (l : Line) → LineFits ys l → Reaches Any (expandLine c l)
 line-reaches ys c v (Written e) f = formula-operand ys e _ (f .0) (expansion-reaches ys c v e (f .1))
-line-reaches ys c v (Implied k w) f = done tt
+line-reaches ys c v (Implied p) f = done tt
 
 section-reaches : (ys : Typings) (c : Context) → Serves ys c → (s : Part × List Line) → SectionFits ys s → Reaches Any (expandSection c s)
 section-reaches ys c v s f = bind _ _ (gathered (LineFits ys) (expandLine c) (line-reaches ys c v) (s .1) f) (λ fs _. done tt)
 
-implied-fits : (ys : Typings) (l : Line) → IsImplied l → LineFits ys l
-implied-fits ys (Written e) h = absurd h
-implied-fits ys (Implied k v) h = tt
+implied-fits : (ys : Typings) (ps : List Port) → All (LineFits ys) (implied ps)
+implied-fits ys ps = implied-all (LineFits ys) Any (λ p _. tt) ps (all-any ps)
 
 module _ (x : Spec) (proper : ProperSpec x) (once : declaredAgain x ≡ none) (typed : wrongType x ≡ none) where
   before : Typings
@@ -74,9 +75,9 @@ module _ (x : Spec) (proper : ProperSpec x) (once : declaredAgain x ≡ none) (t
   unfolding constantly finally
   main-fit = main-fits kinds (x .main) finally (proper .main) (passed-definitions kinds (x .definitions) constantly (mainLines (x .main)) definitions-passed)
 
-  record Worked (d : Declarations) : Type 0 where
-    ins : All IsImplied (d .inputs .implied)
-    outs : Numbers kinds (identifiers (x .definitions)) [] constantly (d .outputs)
+  -- every declared name stands for what it is declared to be
+  abbrev Worked : Declarations → Type 0
+  Worked d = Standing kinds (identifiers (x .definitions)) constantly (d .table)
 
   declarations-reach : Reaches Worked (declarations x)
   unfolding before constantly finally
@@ -86,30 +87,25 @@ module _ (x : Spec) (proper : ProperSpec x) (once : declaredAgain x ≡ none) (t
       let outs = outputs (x .main) in
       let ls = mainLines (x .main) in
       bind _ _
-      (constants-reach kinds I (ins ++ (outs ++ [])) (definitionLines (x .definitions) ls) (x .parameters) before (waiting ins (waiting outs I)) (proper .parameters)
+      (constants-reach kinds I (definitionLines (x .definitions) ls) (x .parameters) before (waiting ins (waiting outs I)) (proper .parameters)
       all-passed (first-standing kinds x constantly finally (all-passed .known) (definitions-passed .known) (main-fit .ins) (main-fit .outs)))
-      (λ d k. bind _ _
-      (numbering-reaches kinds (x .definitions) ls constantly (proper .definitions) definitions-passed (outs ++ []) false ins (noSignals d) (main-fit .ins)
-      (record { standing = k; implied = tt }))
-      (λ i u. bind _ _
-      (numbering-reaches kinds (x .definitions) ls constantly (proper .definitions) definitions-passed [] true outs (onFrom i) (main-fit .outs)
-      (record { standing = u .standing; implied = tt }))
-      (λ o w. done (record { ins = u .implied; outs = w }))))
+      (λ d k. bind _ _ (turns-reach kinds (x .definitions) ls constantly (proper .definitions) definitions-passed false ins d (main-fit .ins) k)
+      (λ i u. bind _ _ (turns-reach kinds (x .definitions) ls constantly (proper .definitions) definitions-passed true outs (i .table) (main-fit .outs) u)
+      (λ o w. done w)))
 
-  serves-text : (d : Declarations) → Worked d → Serves finally (defineAll (atSignals (d .outputs .table)) (x .definitions))
+  serves-text : (d : Declarations) → Worked d → Serves finally (defineAll (atSignals d) (x .definitions))
   unfolding constantly finally
-  serves-text d w =
+  serves-text d k =
       let I = identifiers (x .definitions) in
-      let t = d .outputs .table in
-      let k = w .outs .standing in
-      serves-definitions kinds (λ n. found t (n .text)) (mainLines (x .main)) (x .definitions) constantly (atSignals t)
-      (record { values = standing-agree kinds I [] constantly t k; formulas = standing-expands kinds I constantly t k })
+      let t = d .table in
+      serves-definitions kinds (λ n. found t (n .text)) (mainLines (x .main)) (x .definitions) constantly (atSignals d)
+      (record { values = standing-agree kinds I constantly t k; formulas = standing-expands (inOrder d) kinds I constantly t k })
       (covers-table kinds t (k .sound)) (k .kept) (proper .definitions) (definitions-passed .known) (definitions-passed .fitting)
 
   expand-reaches : (d : Declarations) → Worked d → Reaches Any (expand x d (lines x d))
   expand-reaches d w =
       bind _ _ (gathered (SectionFits finally) _ (section-reaches finally _ (serves-text d w)) (lines x d)
-      (main-fit .written _ (all-more (implied-fits finally) (d .inputs .implied) (w .ins), (all-more (implied-fits finally) (d .outputs .implied) (w .outs .implied), tt))))
+      (main-fit .written _ (implied-fits finally (d .inputs), (implied-fits finally (d .outputs), tt))))
       (λ fs _. done tt)
 
 -- refusals from 11 to 16

@@ -7,8 +7,8 @@ use Rattle.language.specs.Tokens.{Token}
 use Rattle.language.specs.Tree.{Expr, Definition, Defined, Enumerated, Parameter, Declaration, OneSignal, OfWidth, OfType, Part, Subsection, Inputs, Outputs, Lines}
 use Rattle.language.specs.Places.{Entry, ParameterLine, DefinitionLine, DeclarationLine, FormulaLine, parameterLines, definitionLines, declarationLines, formulaLines, mainLines}
 use Rattle.language.specs.Types.{Kind, ANumber, AFormula, ABus, Typings, mistypedLine, mistypedLines, typedAfter}
-use Rattle.language.specs.Signals.{Line, Written, Implied, inputs, outputs}
-use Rattle.language.specs.Lines.{writtenLines}
+use Rattle.language.specs.Declared.{inputs, outputs}
+use Rattle.language.specs.Lines.{Line, Written, Implied, writtenLines}
 use Rattle.language.specs.Laws.Basics.Lists.{All, all-append}
 use Rattle.language.specs.Laws.Basics.NoPlace.{first-left, first-right}
 use Rattle.language.specs.Laws.Grammar.Braces.{Proper, ProperDeclaration, ProperSubsection}
@@ -34,7 +34,7 @@ typedParameters ys (p ∷ ps) = typedParameters (typedAfter ys (ParameterLine (p
 -- the lines of the sections
 abbrev pub LineFits : Typings → Line → Type 0
 LineFits ys (Written e) = Taken AFormula ys e × Proper false e
-LineFits ys (Implied k v) = Unit {0}
+LineFits ys (Implied p) = Unit {0}
 
 abbrev pub SectionFits : Typings → Part × List Line → Type 0
 SectionFits ys s = All (LineFits ys) (s .1)
@@ -81,7 +81,7 @@ module _ (g : Token → Kind) where
   passed-declarations (OfWidth x e ∷ ds) ys ls s h =
       let l = DeclarationLine (OfWidth x e) in
       let r = passed-declarations ds ys ls (s .1) (record { known = h .known .1; fitting = after-line ys l (declarationLines ds ls) (h .fitting) }) in
-      record { fits = ((h .known .0, taken ANumber ys e (at-line ys l (declarationLines ds ls) (h .fitting)), s .0), r .fits); passed = r .passed }
+      record { fits = ((h .known .0, taken ANumber ys e (at-line ys l (declarationLines ds ls) (h .fitting)), s .0 .1), r .fits); passed = r .passed }
   passed-declarations (OfType u x ∷ ds) ys ls s h =
       let r = passed-declarations ds ys ls (s .1)
       (record { known = h .known .1; fitting = after-line ys (DeclarationLine (OfType u x)) (declarationLines ds ls) (h .fitting) }) in

@@ -7,16 +7,18 @@ use lib.Dec.{ltb}
 use native.Mathlib.Omega.{arith}
 use Rattle.node.specs.Ltl.{Formula}
 use Rattle.node.specs.Result.{Result, Done, _>>=_}
+use Rattle.language.specs.Tokens.{Token}
 use Rattle.language.specs.Operators.{Arithmetic, Plus, Minus, Times, Divide, Modulo, Measure, Size, Min, Max, Comparison, Equal, Unequal, Big, BigSum, BigProduct, BigCap, BigCup, BigAnd, BigOr}
 use Rattle.language.specs.Types.{Kind, ANumber, ASet, AFormula, ABus, AValue, AType, Unknown, bigGives, fitting, isKind}
 use Rattle.language.specs.Sets.{union}
-use Rattle.language.specs.Values.{Value, Number, Set, Logic, Bus, Unsized, Choice, Sized, calculate, measure, limited, range, between, big, Sides, Numbers, Against, sides, bit}
-use Rattle.language.specs.Expansion.{compared, bigFormula}
+use Rattle.language.specs.Values.{Value, Number, Set, Logic, Bus, Unsized, Choice, Sized, calculate, measure, limited, range, between, big}
+use Rattle.language.specs.Declared.{Port}
+use Rattle.language.specs.Expansion.{against, bitAt, compared, bigFormula}
 use Rattle.language.specs.Laws.Basics.Lists.{Any, all-any}
 use Rattle.language.specs.Laws.Basics.Tests.{or-cases}
 use Rattle.language.specs.Laws.Basics.Results.{done, refused, guarded, bind, gathered, folds-any}
 use Rattle.language.specs.Laws.Values.ValueKinds.{isKind-equal, IsOf, apart}
-use Rattle.language.specs.Laws.Kinds.Reaching.{Reaches, next, reaches-any, late-unless}
+use Rattle.language.specs.Laws.Kinds.Reaching.{Reaches, next, late-unless}
 use Rattle.language.specs.Laws.Kinds.KindLaws.{Evaluates, number-reaches, bus-reaches, choice-reaches, number-of, set-of}
 
 pub then-number : (r : Result ℕ) → Reaches Any r → Evaluates ANumber (r >>= λ n. Done (Number n))
@@ -48,8 +50,8 @@ range-reaches p x y z = guarded (ltb x y) 12 p (λ _. omega arith) (λ e. late-u
 pub between-reaches : (p : ℕ) (l h : Bool) (a b : ℕ) → Reaches Any (between p l h a b)
 between-reaches p l h a b = late-unless _ 12 p _ (omega arith)
 
-pub bit-reaches : (i : ℕ) (b : Sized) → Reaches Any (bit i b)
-bit-reaches i b = late-unless _ 13 _ _ (omega arith)
+pub bitAt-reaches : (ps : List Port) (i : ℕ) (b : Sized) → Reaches Any (bitAt ps i b)
+bitAt-reaches ps i b = late-unless _ 13 _ _ (omega arith)
 
 -- a big operator on operands of the kind that it gives
 pub big-reaches : (p : ℕ) (o : Big) (f : ℕ → Result Value) → ((k : ℕ) → Evaluates (bigGives o) (f k)) → (s : List ℕ) → Reaches (IsOf (bigGives o)) (big p o f s)
@@ -72,67 +74,59 @@ bigFormula-reaches BigCup f e h s = apart ASet AFormula refl e
 bigFormula-reaches BigAnd f e h s = bind _ _ (gathered Any f (λ k u. h k) s (all-any s)) (λ fs _. done tt)
 bigFormula-reaches BigOr f e h s = bind _ _ (gathered Any f (λ k u. h k) s (all-any s)) (λ fs _. done tt)
 
--- the two sides of a comparison
-abbrev pub AreNumbers : Sides → Type 0
-AreNumbers (Numbers m n) = Unit {0}
-AreNumbers (Against b v) = ⊥
+-- comparisons
+module _ (ps : List Port) (o : Comparison) where
+  numbers-compare : (x y : Value) → IsOf ANumber x → IsOf ANumber y → Reaches Any (compared ps o x y)
+  numbers-compare (Number m) y h i = next _ _ (number-reaches y i) (λ n. done tt)
+  numbers-compare (Set s) y h i = apart ASet ANumber refl h
+  numbers-compare Logic y h i = apart AFormula ANumber refl h
+  numbers-compare (Bus p x n) y h i = apart ABus ANumber refl h
+  numbers-compare (Unsized p) y h i = apart ABus ANumber refl h
+  numbers-compare (Choice v) y h i = apart AValue ANumber refl h
 
-sides-of-numbers : (x y : Value) → IsOf ANumber x → IsOf ANumber y → Reaches AreNumbers (sides x y)
-sides-of-numbers (Number m) y h i = next _ _ (number-reaches y i) (λ n. done tt)
-sides-of-numbers (Set s) y h i = apart ASet ANumber refl h
-sides-of-numbers Logic y h i = apart AFormula ANumber refl h
-sides-of-numbers (Bus p k n) y h i = apart ABus ANumber refl h
-sides-of-numbers (Unsized p) y h i = apart ABus ANumber refl h
-sides-of-numbers (Choice v) y h i = apart AValue ANumber refl h
+  bus-compares : ((b : Sized) (v : List Token) → Reaches Any (against ps o b v)) → (x y : Value) → IsOf ABus x → IsOf AValue y → Reaches Any (compared ps o x y)
+  bus-compares f (Number m) y h i = apart ANumber ABus refl h
+  bus-compares f (Set s) y h i = apart ASet ABus refl h
+  bus-compares f Logic y h i = apart AFormula ABus refl h
+  bus-compares f (Bus p x n) y h i = next _ _ (choice-reaches y i) (f _)
+  bus-compares f (Unsized p) y h i = refused (omega arith)
+  bus-compares f (Choice v) y h i = apart AValue ABus refl h
 
-sides-of-bus : (x y : Value) → IsOf ABus x → IsOf AValue y → Reaches Any (sides x y)
-sides-of-bus (Number m) y h i = apart ANumber ABus refl h
-sides-of-bus (Set s) y h i = apart ASet ABus refl h
-sides-of-bus Logic y h i = apart AFormula ABus refl h
-sides-of-bus (Bus p k n) y h i = next _ _ (choice-reaches y i) (λ v. done tt)
-sides-of-bus (Unsized p) y h i = refused (omega arith)
-sides-of-bus (Choice v) y h i = apart AValue ABus refl h
+  choice-compares : ((b : Sized) (v : List Token) → Reaches Any (against ps o b v)) → (x y : Value) → IsOf AValue x → IsOf ABus y → Reaches Any (compared ps o x y)
+  choice-compares f (Number m) y h i = apart ANumber AValue refl h
+  choice-compares f (Set s) y h i = apart ASet AValue refl h
+  choice-compares f Logic y h i = apart AFormula AValue refl h
+  choice-compares f (Bus p x n) y h i = apart ABus AValue refl h
+  choice-compares f (Unsized p) y h i = apart ABus AValue refl h
+  choice-compares f (Choice v) y h i = next _ _ (bus-reaches y i) (λ b. f b v)
 
-sides-of-choice : (x y : Value) → IsOf AValue x → IsOf ABus y → Reaches Any (sides x y)
-sides-of-choice (Number m) y h i = apart ANumber AValue refl h
-sides-of-choice (Set s) y h i = apart ASet AValue refl h
-sides-of-choice Logic y h i = apart AFormula AValue refl h
-sides-of-choice (Bus p k n) y h i = apart ABus AValue refl h
-sides-of-choice (Unsized p) y h i = apart ABus AValue refl h
-sides-of-choice (Choice v) y h i = next _ _ (bus-reaches y i) (λ b. done tt)
+  module _ (r q : Result Value) where
+    both-sides : (k l : Kind) → Reaches (IsOf k) r → Reaches (IsOf l) q → ((x y : Value) → IsOf k x → IsOf l y → Reaches Any (compared ps o x y))
+        → Reaches Any (r >>= λ x. q >>= compared ps o x)
+    both-sides k l h i f = bind r _ h (λ x a. bind q _ i (λ y b. f x y a b))
 
-module _ (r q : Result Value) where
-  sides-are : (k l : Kind) (S : Sides → Type 0) → Reaches (IsOf k) r → Reaches (IsOf l) q → ((x y : Value) → IsOf k x → IsOf l y → Reaches S (sides x y))
-      → Reaches S (r >>= λ x. q >>= sides x)
-  sides-are k l S h i f = bind r _ h (λ x a. bind q _ i (λ y b. f x y a b))
+    pub numbers-reach : Evaluates ANumber r → Evaluates ANumber q → Reaches Any (r >>= λ x. q >>= compared ps o x)
+    numbers-reach h i = both-sides ANumber ANumber h i numbers-compare
 
-  pub numbers-reach : Evaluates ANumber r → Evaluates ANumber q → Reaches AreNumbers (r >>= λ x. q >>= sides x)
-  numbers-reach h i = sides-are ANumber ANumber AreNumbers h i sides-of-numbers
+    -- the right operand's kind, from the left one's
+    beside : (k l : Kind) → isKind k l ≡ true → Evaluates l q → Evaluates k q
+    beside k l e i = subst (λ (m : Kind). Evaluates m q) (sym (isKind-equal k l e)) i
 
-  -- the right operand's kind, from the left one's
-  beside : (k l : Kind) → isKind k l ≡ true → Evaluates l q → Evaluates k q
-  beside k l e i = subst (λ (m : Kind). Evaluates m q) (sym (isKind-equal k l e)) i
+    only : (b : Bool) → (b || false) ≡ true → b ≡ true
+    only b e = or-cases b false (λ z. z) (λ z. absurd (false≢true z)) e
 
-  only : (b : Bool) → (b || false) ≡ true → b ≡ true
-  only b e = or-cases b false (λ z. z) (λ z. absurd (false≢true z)) e
+    pub fitting-reach : ((b : Sized) (v : List Token) → Reaches Any (against ps o b v)) → (k l : Kind) → fitting k l ≡ true → Evaluates k r → Evaluates l q
+        → Reaches Any (r >>= λ x. q >>= compared ps o x)
+    fitting-reach f ANumber l e h i = numbers-reach h (beside ANumber l (only _ (only _ e)) i)
+    fitting-reach f ASet l e h i = absurd (false≢true e)
+    fitting-reach f AFormula l e h i = absurd (false≢true e)
+    fitting-reach f ABus l e h i = both-sides ABus AValue h (beside AValue l (only _ e) i) (bus-compares f)
+    fitting-reach f AValue l e h i = both-sides AValue ABus h (beside ABus l e i) (choice-compares f)
+    fitting-reach f AType l e h i = absurd (false≢true e)
+    fitting-reach f Unknown l e h i = absurd (false≢true e)
 
-  pub fitting-reach : (k l : Kind) → fitting k l ≡ true → Evaluates k r → Evaluates l q → Reaches Any (r >>= λ x. q >>= sides x)
-  fitting-reach ANumber l e h i = reaches-any _ (numbers-reach h (beside ANumber l (only _ (only _ e)) i))
-  fitting-reach ASet l e h i = absurd (false≢true e)
-  fitting-reach AFormula l e h i = absurd (false≢true e)
-  fitting-reach ABus l e h i = sides-are ABus AValue Any h (beside AValue l (only _ e) i) sides-of-bus
-  fitting-reach AValue l e h i = sides-are AValue ABus Any h (beside ABus l e i) sides-of-choice
-  fitting-reach AType l e h i = absurd (false≢true e)
-  fitting-reach Unknown l e h i = absurd (false≢true e)
+pub equality-reaches : (ps : List Port) (b : Sized) (v : List Token) → Reaches Any (against ps Equal b v)
+equality-reaches ps b v = late-unless _ 13 _ _ (omega arith)
 
-pub compared-numbers : (o : Comparison) (s : Sides) → AreNumbers s → Reaches Any (compared o s)
-compared-numbers o (Numbers m n) h = done tt
-compared-numbers o (Against b v) h = absurd h
-
-pub equality-reaches : (s : Sides) → Reaches Any (compared Equal s)
-equality-reaches (Numbers m n) = done tt
-equality-reaches (Against b v) = late-unless _ 13 _ _ (omega arith)
-
-pub inequality-reaches : (s : Sides) → Reaches Any (compared Unequal s)
-inequality-reaches (Numbers m n) = done tt
-inequality-reaches (Against b v) = late-unless _ 13 _ _ (omega arith)
+pub inequality-reaches : (ps : List Port) (b : Sized) (v : List Token) → Reaches Any (against ps Unequal b v)
+inequality-reaches ps b v = late-unless _ 13 _ _ (omega arith)

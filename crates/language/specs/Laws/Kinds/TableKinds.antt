@@ -1,20 +1,22 @@
 -- The table of declared names against their types: every visible name is found, as what it is declared to be.
-use Prim.Native.Nat.{ℕ}
+use Prim.Native.Nat.{ℕ, zero, suc, _≤_}
 use mathlib.Core.Path.{_≡_, refl, sym, _∙_, subst}
 use mathlib.Core.Bool.{Bool, true, false, not, _||_, false≢true}
 use mathlib.Core.List.{List, [], _∷_}
+use native.Mathlib.Omega.{arith}
 use Rattle.node.specs.Result.{Result, Done, _>>=_}
 use Rattle.language.specs.Bytes.{same}
 use Rattle.language.specs.Tokens.{Token}
-use Rattle.language.specs.Tree.{Declaration, OneSignal, OfWidth, OfType}
+use Rattle.language.specs.Tree.{Declaration}
 use Rattle.language.specs.Types.{Kind, ANumber, ASet, AFormula, ABus, AValue, AType, Unknown, isKind, Typing, Typings, kindIn}
 use Rattle.language.specs.Values.{Value}
-use Rattle.language.specs.Signals.{Declared, Constant, SignalAt, BusAt, Identifies, WaitingSignal, WaitingBus, Table, find, valueAt, declared}
+use Rattle.language.specs.Declared.{Declared, Constant, Single, BusOf, Identifies, WaitingBus, Table, find, valueAt, declared, Port, asDeclared}
 use Rattle.language.specs.Expansion.{signalOf}
 use Rattle.language.specs.Laws.Basics.Lists.{All, Any}
 use Rattle.language.specs.Laws.Basics.Tests.{or-right}
 use Rattle.language.specs.Laws.Basics.Results.{done, bind}
 use Rattle.language.specs.Laws.Values.ValueKinds.{valueKind, apart}
+use Rattle.language.specs.Laws.Values.DistinctNames.{declaredName}
 use Rattle.language.specs.Laws.Kinds.Reaching.{Reaches}
 use Rattle.language.specs.Laws.Kinds.KindLaws.{Evaluates, reaches-evaluates}
 use Rattle.language.specs.Laws.Kinds.TypeSoundness.{Agree}
@@ -24,39 +26,24 @@ use Rattle.language.specs.Laws.Kinds.DefinitionKinds.{found, Covers}
 
 abbrev pub declaredKind : Declared → Kind
 declaredKind (Constant n) = ANumber
-declaredKind (SignalAt k) = AFormula
-declaredKind (BusAt k n) = ABus
+declaredKind Single = AFormula
+declaredKind (BusOf n) = ABus
 declaredKind (Identifies v) = AValue
-declaredKind WaitingSignal = AFormula
 declaredKind WaitingBus = ABus
 
-valueAt-kind : (p : ℕ) (d : Declared) → valueKind (valueAt p d) ≡ declaredKind d
-valueAt-kind p (Constant n) = refl
-valueAt-kind p (SignalAt k) = refl
-valueAt-kind p (BusAt k n) = refl
-valueAt-kind p (Identifies v) = refl
-valueAt-kind p WaitingSignal = refl
-valueAt-kind p WaitingBus = refl
+valueAt-kind : (t : Token) (d : Declared) → valueKind (valueAt t d) ≡ declaredKind d
+valueAt-kind t (Constant n) = refl
+valueAt-kind t Single = refl
+valueAt-kind t (BusOf n) = refl
+valueAt-kind t (Identifies v) = refl
+valueAt-kind t WaitingBus = refl
 
--- a signal before its turn
-abbrev pub waits : Declared → Bool
-waits (Constant n) = false
-waits (SignalAt k) = false
-waits (BusAt k n) = false
-waits (Identifies v) = false
-waits WaitingSignal = true
-waits WaitingBus = false
+-- a bus at its turn has a width
+pub bus-kind : (n : ℕ) → 1 ≤ n → declaredKind (asDeclared n) ≡ ABus
+bus-kind zero h = absurd (omega arith)
+bus-kind (suc n) h = refl
 
-abbrev pub awaits : Table → List ℕ → Bool
-awaits [] x = false
-awaits (e ∷ d) x = elim (same (e .0) x) [ true ↦ waits (e .1) | false ↦ awaits d x ]
-
--- the names of some declarations
-abbrev pub declaredName : Declaration → Token
-declaredName (OneSignal x) = x
-declaredName (OfWidth x e) = x
-declaredName (OfType u x) = x
-
+-- is it the name of one of some declarations?
 abbrev pub listed : List Declaration → List ℕ → Bool
 listed [] x = false
 listed (d ∷ ds) x = same (declaredName d .text) x || listed ds x
@@ -71,13 +58,12 @@ EntryKnown g e = (t : Token) → same (e .0) (t .text) ≡ true → g t ≡ decl
 abbrev pub Respects : (Token → Kind) → Typings → Type 0
 Respects g ys = (t : Token) → seen (kindIn ys t) ≡ true → g t ≡ kindIn ys t
 
--- g the declared kinds, I names that must stay in the table, `left` the declarations whose turn is still to come
-pub record Standing (g : Token → Kind) (I : Table) (left : List Declaration) (ys : Typings) (d : Table) : Type 0 where
+-- g the declared kinds, I names that must stay in the table
+pub record Standing (g : Token → Kind) (I : Table) (ys : Typings) (d : Table) : Type 0 where
   pub sound : All (EntryKnown g) d
   pub respects : Respects g ys
   pub present : (t : Token) → seen (kindIn ys t) ≡ true → found d (t .text) ≡ true
   pub kept : (t : Token) → found I (t .text) ≡ true → found d (t .text) ≡ true
-  pub pending : (t : Token) → awaits d (t .text) ≡ true → listed left (t .text) ≡ true
 
 -- one more entry
 respects-entry : (b : Bool) (k l m : Kind) → (b ≡ true → m ≡ k) → (seen l ≡ true → m ≡ l) → seen (elim b [ true ↦ k | false ↦ l ]) ≡ true
@@ -92,54 +78,43 @@ present-entry : (b : Bool) (k l : Kind) (f : Bool) → (seen l ≡ true → f �
 present-entry true k l f h e = refl
 present-entry false k l f h e = h e
 
-pending-entry : (b : Bool) (w a l : Bool) → w ≡ false → (a ≡ true → (b || l) ≡ true) → elim b [ true ↦ w | false ↦ a ] ≡ true → l ≡ true
-pending-entry true w a l e h i = absurd (false≢true (sym e ∙ i))
-pending-entry false w a l e h i = h i
-
-module _ (g : Token → Kind) (I : Table) (left : List Declaration) (ys : Typings) (d : Table) where
+module _ (g : Token → Kind) (I : Table) (ys : Typings) (d : Table) where
   -- a parameter, with its type
-  pub standing-typed : (x : Token) (v : Declared) → Knows g (record { name = x; kind = declaredKind v }) → waits v ≡ false → Standing g I left ys d
-      → Standing g I left (record { name = x; kind = declaredKind v } ∷ ys) ((x .text, v) ∷ d)
-  standing-typed x v k w s =
+  pub standing-typed : (x : Token) (v : Declared) → Knows g (record { name = x; kind = declaredKind v }) → Standing g I ys d
+      → Standing g I (record { name = x; kind = declaredKind v } ∷ ys) ((x .text, v) ∷ d)
+  standing-typed x v k s =
       record {
         sound = (k, s .sound);
         respects = respects-add g ys (record { name = x; kind = declaredKind v }) k (s .respects);
         present = λ t. present-entry (same (x .text) (t .text)) (declaredKind v) (kindIn ys t) (found d (t .text)) (s .present t);
         kept = λ t e. or-right (same (x .text) (t .text)) (found d (t .text)) (s .kept t e);
-        pending = λ t. pending-entry (same (x .text) (t .text)) (waits v) (awaits d (t .text)) (listed left (t .text)) w (λ e. or-right (same (x .text) (t .text)) (listed left (t .text)) (s .pending t e));
       }
 
   -- a signal or a bus at its turn
-  pub standing-turn : (m : Declaration) (v : Declared) → Knows g (record { name = declaredName m; kind = declaredKind v }) → waits v ≡ false
-      → Standing g I (m ∷ left) ys d → Standing g I left ys ((declaredName m .text, v) ∷ d)
-  standing-turn m v k w s =
+  pub standing-turn : (x : Token) (v : Declared) → Knows g (record { name = x; kind = declaredKind v }) → Standing g I ys d → Standing g I ys ((x .text, v) ∷ d)
+  standing-turn x v k s =
       record {
         sound = (k, s .sound);
         respects = s .respects;
-        present = λ t e. or-right (same (declaredName m .text) (t .text)) (found d (t .text)) (s .present t e);
-        kept = λ t e. or-right (same (declaredName m .text) (t .text)) (found d (t .text)) (s .kept t e);
-        pending = λ t. pending-entry (same (declaredName m .text) (t .text)) (waits v) (awaits d (t .text)) (listed left (t .text)) w (s .pending t);
+        present = λ t e. or-right (same (x .text) (t .text)) (found d (t .text)) (s .present t e);
+        kept = λ t e. or-right (same (x .text) (t .text)) (found d (t .text)) (s .kept t e);
       }
 
 -- what is found is of its kind
-abbrev Finds : (Token → Kind) → Table → Token → Declared → Type 0
-Finds g d t v = (g t ≡ declaredKind v) × (awaits d (t .text) ≡ waits v)
+finds-entry : (b : Bool) (l : Kind) (w : Declared) (f : Bool) (r : Result Declared) → (b ≡ true → l ≡ declaredKind w)
+    → (f ≡ true → Reaches (λ v. l ≡ declaredKind v) r) → (b || f) ≡ true → Reaches {A = Declared} (λ v. l ≡ declaredKind v) (elim b [ true ↦ Done w | false ↦ r ])
+finds-entry true l w f r h i e = done (h refl)
+finds-entry false l w f r h i e = i e
 
-finds-entry : (b : Bool) (l : Kind) (w : Declared) (a f : Bool) (r : Result Declared) → (b ≡ true → l ≡ declaredKind w)
-    → (f ≡ true → Reaches (λ v. (l ≡ declaredKind v) × (a ≡ waits v)) r) → (b || f) ≡ true
-    → Reaches {A = Declared} (λ v. (l ≡ declaredKind v) × (elim b [ true ↦ waits w | false ↦ a ] ≡ waits v)) (elim b [ true ↦ Done w | false ↦ r ])
-finds-entry true l w a f r h i e = done (h refl, refl)
-finds-entry false l w a f r h i e = i e
-
-find-reaches : (g : Token → Kind) (d : Table) → All (EntryKnown g) d → (t : Token) → found d (t .text) ≡ true → Reaches (Finds g d t) (find d (t .text))
+find-reaches : (g : Token → Kind) (d : Table) → All (EntryKnown g) d → (t : Token) → found d (t .text) ≡ true → Reaches (λ v. g t ≡ declaredKind v) (find d (t .text))
 find-reaches g [] s t f = absurd (false≢true f)
 find-reaches g (e ∷ d) s t f =
-    finds-entry (same (e .0) (t .text)) (g t) (e .1) (awaits d (t .text)) (found d (t .text)) (find d (t .text)) (s .0 t) (find-reaches g d (s .1) t) f
+    finds-entry (same (e .0) (t .text)) (g t) (e .1) (found d (t .text)) (find d (t .text)) (s .0 t) (find-reaches g d (s .1) t) f
 
 pub covers-table : (g : Token → Kind) (d : Table) → All (EntryKnown g) d → Covers g (λ t. found d (t .text)) (declared d)
 covers-table g d s t f =
     reaches-evaluates (g t) _ (bind (find d (t .text)) _ (find-reaches g d s t f)
-    (λ v h. done (valueAt-kind (t .at) v ∙ sym (h .0))))
+    (λ v h. done (valueAt-kind t v ∙ sym h)))
 
 evaluates-seen : (k : Kind) (r : Result Value) → (seen k ≡ true → Evaluates k r) → Evaluates k r
 evaluates-seen ANumber r h = h refl
@@ -150,27 +125,21 @@ evaluates-seen AValue r h = h refl
 evaluates-seen AType r h = tt
 evaluates-seen Unknown r h = tt
 
-module _ (g : Token → Kind) (I : Table) (left : List Declaration) (ys : Typings) (d : Table) where
-  pub standing-agree : Standing g I left ys d → Agree ys (declared d)
+module _ (g : Token → Kind) (I : Table) (ys : Typings) (d : Table) where
+  pub standing-agree : Standing g I ys d → Agree ys (declared d)
   standing-agree s t =
       evaluates-seen (kindIn ys t) (declared d t)
       (λ e. subst (λ (k : Kind). Evaluates k (declared d t)) (s .respects t e) (covers-table g d (s .sound) t (s .present t e)))
 
-signal-reaches : (v : Declared) → AFormula ≡ declaredKind v → waits v ≡ false → Reaches Any (signalOf v)
-signal-reaches (Constant n) e w = apart AFormula ANumber refl e
-signal-reaches (SignalAt k) e w = done tt
-signal-reaches (BusAt k n) e w = apart AFormula ABus refl e
-signal-reaches (Identifies v) e w = apart AFormula AValue refl e
-signal-reaches WaitingSignal e w = absurd (false≢true (sym w))
-signal-reaches WaitingBus e w = apart AFormula ABus refl e
+signal-reaches : (ps : List Port) (t : Token) (v : Declared) → AFormula ≡ declaredKind v → Reaches Any (signalOf ps t v)
+signal-reaches ps t (Constant n) e = apart AFormula ANumber refl e
+signal-reaches ps t Single e = done tt
+signal-reaches ps t (BusOf n) e = apart AFormula ABus refl e
+signal-reaches ps t (Identifies v) e = apart AFormula AValue refl e
+signal-reaches ps t WaitingBus e = apart AFormula ABus refl e
 
-not-true : (b : Bool) → (b ≡ true → ⊥) → b ≡ false
-not-true true h = absurd (h refl)
-not-true false h = refl
-
--- when every turn is over, a name that is a formula is a signal
-pub standing-expands : (g : Token → Kind) (I : Table) (ys : Typings) (d : Table) → Standing g I [] ys d → Expands ys (λ t. find d (t .text) >>= signalOf)
-standing-expands g I ys d s t e =
+-- a declared name that is a formula is a signal
+pub standing-expands : (ps : List Port) (g : Token → Kind) (I : Table) (ys : Typings) (d : Table) → Standing g I ys d → Expands ys (λ t. find d (t .text) >>= signalOf ps t)
+standing-expands ps g I ys d s t e =
     let n : seen (kindIn ys t) ≡ true = subst (λ (k : Kind). seen k ≡ true) (sym e) refl in
-    bind (find d (t .text)) signalOf (find-reaches g d (s .sound) t (s .present t n))
-    (λ v h. signal-reaches v (sym (s .respects t n ∙ e) ∙ h .0) (sym (h .1) ∙ not-true (awaits d (t .text)) (λ a. false≢true (s .pending t a))))
+    bind (find d (t .text)) (signalOf ps t) (find-reaches g d (s .sound) t (s .present t n)) (λ v h. signal-reaches ps t v (sym (s .respects t n ∙ e) ∙ h))

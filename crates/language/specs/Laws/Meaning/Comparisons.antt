@@ -5,11 +5,11 @@ use mathlib.Core.Bool.{Bool, true, false, not, So, false≢true}
 use mathlib.Core.Logic.{_↔_, Iff·trans, Iff·not}
 use lib.Dec.{eqb}
 use Rattle.language.specs.Operators.{Comparison, Equal, Unequal, Less, AtMost, Greater, AtLeast}
-use Rattle.language.specs.Values.{test}
+use Rattle.language.specs.Expansion.{test}
 use Rattle.language.specs.Meaning.{Relates}
 use Rattle.language.specs.Laws.Basics.Tests.{so-eqb, so-leb, so-ltb}
 
-so-not : (b : Bool) → So (not b) ↔ (¬ So b)
+pub so-not : (b : Bool) → So (not b) ↔ (¬ So b)
 so-not true = (λ e n. false≢true e, λ h. absurd (h refl))
 so-not false = (λ e n. false≢true n, λ h. refl)
 

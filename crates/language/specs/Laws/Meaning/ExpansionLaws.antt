@@ -1,8 +1,8 @@
--- What expanded formulas mean: folds, bus patterns, comparisons, membership, stacks of X, windows.
+-- What expanded formulas mean: folds, comparisons of numbers, membership, stacks of X, windows.
 use Prim.Native.Nat.{ℕ, zero, suc, _+_, _-_, _≤_}
 use mathlib.Core.Path.{_≡_, refl, subst, sym}
 use mathlib.Core.Bool.{Bool, true, false, So, false≢true}
-use mathlib.Core.List.{List, [], _∷_, map}
+use mathlib.Core.List.{List, [], _∷_}
 use mathlib.Core.Logic.{_↔_, Iff·rfl, Iff·trans, Iff·symm, Iff·and}
 use native.Mathlib.Omega.{arith}
 use native.Mathlib.Nat.{add-zero}
@@ -14,9 +14,8 @@ use Rattle.node.specs.Ltl.{And, Or, Formula, Two, Word, Holds}
 use Rattle.node.specs.LtlLaws.{stable}
 use Rattle.language.specs.Operators.{Comparison, Window, FinallyIn, GloballyIn}
 use Rattle.language.specs.Sets.{memberOf}
-use Rattle.language.specs.Values.{Mark, Absent, Present, Star, test}
-use Rattle.language.specs.Expansion.{joined, conjunction, disjunction, truth, nexts, chain, windowOperator, literals, oneOf}
-use Rattle.language.specs.Meaning.{Matches, MatchesOne, Relates, WindowMeans}
+use Rattle.language.specs.Expansion.{joined, conjunction, disjunction, truth, nexts, chain, windowOperator, test}
+use Rattle.language.specs.Meaning.{Relates, WindowMeans}
 use Rattle.language.specs.Laws.Meaning.Comparisons.{test-relates}
 use Rattle.language.specs.Laws.Values.SetMembers.{member-cases, member-first, member-later}
 
@@ -34,7 +33,7 @@ unfolding Holds
 joined-and a [] w t = (λ p. p .0, λ h. (h, tt))
 joined-and a (f ∷ fs) w t = Iff·trans (λ p. ((p .0, p .1 .0), p .1 .1), λ p. (p .0 .0, (p .0 .1, p .1))) (joined-and (Two And a f) fs w t)
 
-or-assoc : {A B C : Type 0} → Either A (Either B C) ↔ Either (Either A B) C
+pub or-assoc : {A B C : Type 0} → Either A (Either B C) ↔ Either (Either A B) C
 or-assoc = (
   λ o n. o (λ a. n .0 (or-left a), λ p. p (λ b. n .0 (or-right b), n .1)),
   λ o n. o (λ p. p (n .0, λ b. n .1 (or-left b)), λ c. n .1 (or-right c)),
@@ -54,21 +53,6 @@ pub disjunction-holds : (fs : List Formula) (w : Word) → Same (SomeHold fs w) 
 unfolding Holds
 disjunction-holds [] w t = Iff·rfl
 disjunction-holds (f ∷ fs) w t = joined-or f fs w t
-
--- a bus against an identifier's words
-literals-hold : (v : List Mark) (k : ℕ) (w : Word) → Same (Matches v k w) (AllHold (literals v k) w)
-unfolding Holds
-literals-hold [] k w t = Iff·rfl
-literals-hold (Absent ∷ v) k w t = Iff·and Iff·rfl (literals-hold v (suc k) w t)
-literals-hold (Present ∷ v) k w t = Iff·and Iff·rfl (literals-hold v (suc k) w t)
-literals-hold (Star ∷ v) k w t = Iff·trans (λ p. p .1, λ h. (tt, h)) (literals-hold v (suc k) w t)
-
-words-hold : (vs : List (List Mark)) (k : ℕ) (w : Word) → Same (MatchesOne vs k w) (SomeHold (map (λ v. conjunction (literals v k)) vs) w)
-words-hold [] k w t = Iff·rfl
-words-hold (v ∷ vs) k w t = or-same (Iff·trans (literals-hold v k w t) (conjunction-holds (literals v k) w t)) (words-hold vs k w t)
-
-pub oneOf-holds : (vs : List (List Mark)) (k : ℕ) (w : Word) → Same (MatchesOne vs k w) (Holds (oneOf vs k) w)
-oneOf-holds vs k w t = Iff·trans (words-hold vs k w t) (disjunction-holds (map (λ v. conjunction (literals v k)) vs) w t)
 
 -- comparisons
 pub truth-holds : (b : Bool) (w : Word) (t : ℕ) → So b ↔ Holds (truth b) w t

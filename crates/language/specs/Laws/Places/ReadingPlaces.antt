@@ -1,36 +1,37 @@
 -- Every place that a reading gives is at most the text's length: refusals 11 to 15 are at places of the text's tokens, 16 to 18 at 0.
-use Prim.Native.Nat.{ℕ, _≤_}
+use Prim.Native.Nat.{ℕ, _+_, _≤_}
 use mathlib.Core.Bool.{_&&_}
 use mathlib.Core.List.{List, [], _∷_}
-use mathlib.Core.Option.{none, some}
 use mathlib.Core.Path.{_≡_}
-use lib.Dec.{leb}
+use lib.Dec.{leb, ltb}
 use lib.ListN.{length}
 use native.Mathlib.Omega.{arith}
 use Rattle.node.specs.Limits.{maxNodes}
 use Rattle.node.specs.Ltl.{Formula}
 use Rattle.node.specs.Postorder.{size}
 use Rattle.node.specs.Result.{Result, Done, Refused}
-use Rattle.language.specs.Limits.{workBytes}
+use Rattle.language.specs.Limits.{maxSignals, workBytes}
 use Rattle.language.specs.Bytes.{same}
 use Rattle.language.specs.Tokens.{Token}
 use Rattle.language.specs.Operators.{Comparison, Equal, Unequal, Less, AtMost, Greater, AtLeast, Big, BigSum, BigProduct, BigCap, BigCup, BigAnd, BigOr, Calculates, Combines, Compares, Membership, Connects, Measures, WidthOf, Applies}
-use Rattle.language.specs.Tree.{Expr, Named, Numeral, Truth, Index, Paren, Prefixed, Joined, Nexts, InWindow, Each, Between, Listed, Empty, Element, Range, Definition, Part, Subsection, Inputs, Outputs, Lines, Spec}
+use Rattle.language.specs.Tree.{Expr, Named, Numeral, Truth, Index, Paren, Prefixed, Joined, Nexts, InWindow, Each, Between, Listed, Empty, Element, Range, Definition, Part, Spec}
 use Rattle.language.specs.Parsing.{parsed}
-use Rattle.language.specs.Values.{Number, Sides, Numbers, Against, value}
-use Rattle.language.specs.Signals.{Declared, Constant, SignalAt, BusAt, Identifies, WaitingSignal, WaitingBus, Table, Line, Written, Implied, Declarations}
-use Rattle.language.specs.Lines.{writtenLines, lines}
-use Rattle.language.specs.Expansion.{widthIs, compared, bigFormula, Context, at, expansion, signalOf, atSignals, define, defineAll, expandLine, expandSection, expand}
+use Rattle.language.specs.Values.{Value, Number, Set, Logic, Bus, Unsized, Choice, number, Sized, bus, choice, value}
+use Rattle.language.specs.Declared.{Declared, Constant, Single, BusOf, Identifies, WaitingBus, Port, Declarations}
+use Rattle.language.specs.Numbering.{inOrder, signalsOf, tooManySignals}
+use Rattle.language.specs.Lines.{Line, Written, Implied, implied, lines}
+use Rattle.language.specs.Expansion.{widthIs, against, compared, bigFormula, Context, at, expansion, signalOf, atSignals, define, defineAll, expandLine, expandSection, expand}
 use Rattle.language.specs.Reading.{sameModel, converted, meant, reading}
-use Rattle.language.specs.Laws.Basics.Lists.{All, Any, all-any, all-map}
+use Rattle.language.specs.Laws.Basics.Lists.{All, Any, all-any, all-append}
 use Rattle.language.specs.Laws.Basics.Tests.{split}
 use Rattle.language.specs.Laws.Basics.Results.{done, refused, guarded, bind, refusal-of, gathered}
 use Rattle.language.specs.Laws.Grammar.TreeTokens.{InExpr, InDefinition, InSubsection, InSpec}
 use Rattle.language.specs.Laws.Values.NameLaws.{defineAll-keeps}
+use Rattle.language.specs.Laws.Values.LineLaws.{implied-all, written-all}
 use Rattle.language.specs.Laws.Places.PlaceBounds.{Low, At, nowhere-low, here-low, Held, held-refuseAt}
 use Rattle.language.specs.Laws.Places.ParsedPlaces.{parsed-held}
-use Rattle.language.specs.Laws.Places.ValuePlaces.{InSides, InScope, bus-held, sides-held, a-number, a-set, bit-held, naming-held, value-held}
-use Rattle.language.specs.Laws.Places.SignalPlaces.{InLine, InNumbered, find-held, in-declared, declarations-held}
+use Rattle.language.specs.Laws.Places.ValuePlaces.{InValue, InScope, number-held, bus-held, choice-held, a-number, a-set, naming-held, value-held}
+use Rattle.language.specs.Laws.Places.SignalPlaces.{PortAt, find-held, in-declared, declarations-held}
 
 -- a context of names that are refused at places of the text
 record InContext (n : ℕ) (c : Context) : Type 0 where
@@ -41,14 +42,21 @@ module _ (n : ℕ) where
   misfit-held : {A : Type 0} {Q : A → Type 0} → Held n Q (Refused 9 0)
   misfit-held = refused (omega arith)
 
-  compared-held : (o : Comparison) (s : Sides) → InSides n s → Held n Any (compared o s)
-  compared-held o (Numbers a b) h = done tt
-  compared-held Equal (Against b v) h = guarded (widthIs (b .width) v) 13 _ (λ _. h) (λ _. done tt)
-  compared-held Unequal (Against b v) h = guarded (widthIs (b .width) v) 13 _ (λ _. h) (λ _. done tt)
-  compared-held Less (Against b v) h = misfit-held
-  compared-held AtMost (Against b v) h = misfit-held
-  compared-held Greater (Against b v) h = misfit-held
-  compared-held AtLeast (Against b v) h = misfit-held
+  against-held : (ps : List Port) (o : Comparison) (b : Sized) (v : List Token) → b .place ≤ n → Held n Any (against ps o b v)
+  against-held ps Equal b v h = guarded (widthIs (b .width) v) 13 _ (λ _. h) (λ _. done tt)
+  against-held ps Unequal b v h = guarded (widthIs (b .width) v) 13 _ (λ _. h) (λ _. done tt)
+  against-held ps Less b v h = misfit-held
+  against-held ps AtMost b v h = misfit-held
+  against-held ps Greater b v h = misfit-held
+  against-held ps AtLeast b v h = misfit-held
+
+  compared-held : (ps : List Port) (o : Comparison) (v w : Value) → InValue n v → InValue n w → Held n Any (compared ps o v w)
+  compared-held ps o (Number m) w h g = bind (number w) _ (number-held n w g) λ k _. done tt
+  compared-held ps o (Set s) w h g = misfit-held
+  compared-held ps o Logic w h g = misfit-held
+  compared-held ps o (Bus p x m) w h g = bind (choice w) _ (choice-held n w g) λ v _. against-held ps o _ v h
+  compared-held ps o (Unsized p) w h g = refused h
+  compared-held ps o (Choice v) w h g = bind (bus w) _ (bus-held n w g) λ b q. against-held ps o b v q
 
   bigFormula-held : (o : Big) (f : ℕ → Result Formula) (s : List ℕ) → ((k : ℕ) → Held n Any (f k)) → Held n Any (bigFormula o f s)
   bigFormula-held BigSum f s h = misfit-held
@@ -66,9 +74,8 @@ module _ (n : ℕ) where
   expansion-held c (Numeral t) g h = misfit-held
   expansion-held c (Truth t b) g h = done tt
   expansion-held c (Index t e) g h =
-      bind _ _
-      (bind _ _ (a-number n (value (c .values) e) (value-held n (c .values) e (g .values) (h .1))) λ i _. bind _ _ (bind _ _ (g .values t (h .0)) (bus-held n)) λ b q. bit-held n i b q)
-      λ k _. done tt
+      bind _ _ (a-number n (value (c .values) e) (value-held n (c .values) e (g .values) (h .1))) λ i _.
+      bind _ _ (bind _ _ (g .values t (h .0)) (bus-held n)) λ b q. guarded (ltb i (b .width)) 13 _ (λ _. q) (λ _. done tt)
   expansion-held c (Paren t e) g h = expansion-held c e g (h .1)
   expansion-held c (Prefixed t (Measures m) e) g h = misfit-held
   expansion-held c (Prefixed t WidthOf e) g h = misfit-held
@@ -76,7 +83,7 @@ module _ (n : ℕ) where
   expansion-held c (Joined t (Calculates o) a b) g h = misfit-held
   expansion-held c (Joined t (Combines o) a b) g h = misfit-held
   expansion-held c (Joined t (Compares o) a b) g h =
-      bind _ _ (bind _ _ (value-held n (c .values) a (g .values) (h .1)) λ v q. bind _ _ (value-held n (c .values) b (g .values) (h .2)) λ w r. sides-held n v w q r) (compared-held o)
+      bind _ _ (value-held n (c .values) a (g .values) (h .1)) λ v q. bind _ _ (value-held n (c .values) b (g .values) (h .2)) λ w r. compared-held (c .ports) o v w q r
   expansion-held c (Joined t Membership a b) g h =
       bind _ _ (a-number n (value (c .values) a) (value-held n (c .values) a (g .values) (h .1))) λ m _.
       bind _ _ (a-set n (value (c .values) b) (value-held n (c .values) b (g .values) (h .2))) λ s _. done tt
@@ -95,16 +102,15 @@ module _ (n : ℕ) where
   expansion-held c (Element e es) g h = misfit-held
   expansion-held c (Range t x y z) g h = misfit-held
 
-  signalOf-held : (d : Declared) → Held n Any (signalOf d)
-  signalOf-held (Constant m) = misfit-held
-  signalOf-held (SignalAt k) = done tt
-  signalOf-held (BusAt k w) = misfit-held
-  signalOf-held (Identifies v) = misfit-held
-  signalOf-held WaitingSignal = misfit-held
-  signalOf-held WaitingBus = misfit-held
+  signalOf-held : (ps : List Port) (t : Token) (d : Declared) → Held n Any (signalOf ps t d)
+  signalOf-held ps t (Constant m) = misfit-held
+  signalOf-held ps t Single = done tt
+  signalOf-held ps t (BusOf w) = misfit-held
+  signalOf-held ps t (Identifies v) = misfit-held
+  signalOf-held ps t WaitingBus = misfit-held
 
-  in-atSignals : (d : Table) → InContext n (atSignals d)
-  in-atSignals d = record { values = in-declared n d; formulas = λ t a. bind _ _ (find-held n d (t .text)) λ x _. signalOf-held x }
+  in-atSignals : (d : Declarations) → InContext n (atSignals d)
+  in-atSignals d = record { values = in-declared n (d .table); formulas = λ t a. bind _ _ (find-held n (d .table) (t .text)) λ x _. signalOf-held (inOrder d) t x }
 
   in-define : (c : Context) (x : Token) (e : Expr) → InContext n c → InExpr (At n) e → InContext n (define c x e)
   in-define c x e g h =
@@ -116,41 +122,43 @@ module _ (n : ℕ) where
   in-defineAll : (ds : List Definition) → All (InDefinition (At n)) ds → (c : Context) → InContext n c → InContext n (defineAll c ds)
   in-defineAll = defineAll-keeps (InContext n) (InDefinition (At n)) (λ c x e h g. in-define c x e g (h .1))
 
-  expandLine-held : (c : Context) (l : Line) → InContext n c → InLine n l → Held n Any (expandLine c l)
+  -- what holds of every token of a written line
+  abbrev InLine : Line → Type 0
+  InLine (Written e) = InExpr (At n) e
+  InLine (Implied p) = Unit {0}
+
+  expandLine-held : (c : Context) (l : Line) → InContext n c → InLine l → Held n Any (expandLine c l)
   expandLine-held c (Written e) g h = expansion-held c e g h
-  expandLine-held c (Implied k v) g h = done tt
+  expandLine-held c (Implied p) g h = done tt
 
   abbrev InPart : Part × List Line → Type 0
-  InPart s = All (InLine n) (s .1)
+  InPart s = All InLine (s .1)
 
   expandSection-held : (c : Context) (s : Part × List Line) → InContext n c → InPart s → Held n Any (expandSection c s)
-  expandSection-held c s g h = bind _ _ (gathered (InLine n) (expandLine c) (λ l q. expandLine-held c l g q) (s .1) h) λ fs _. done tt
+  expandSection-held c s g h = bind _ _ (gathered InLine (expandLine c) (λ l q. expandLine-held c l g q) (s .1) h) λ fs _. done tt
 
-  in-writtenLines : (ss : List Subsection) (ls : List (Part × List Line)) → All (InSubsection (At n)) ss → All InPart ls → All InPart (writtenLines ss ls)
-  in-writtenLines [] ls h g = g
-  in-writtenLines (Inputs ds ∷ ss) ls h g = in-writtenLines ss ls (h .1) g
-  in-writtenLines (Outputs ds ∷ ss) ls h g = in-writtenLines ss ls (h .1) g
-  in-writtenLines (Lines p es ∷ ss) ls h g = (all-map (InExpr (At n)) (InLine n) Written (λ e g. g) es (h .0), in-writtenLines ss ls (h .1) g)
-
-  expand-held : (x : Spec) (d : Declarations) → InSpec (At n) x → InNumbered n (d .inputs) → InNumbered n (d .outputs) → Held n Any (expand x d (lines x d))
-  expand-held x d h i o =
-      let c = defineAll (atSignals (d .outputs .table)) (x .definitions) in
+  expand-held : (x : Spec) (d : Declarations) → InSpec (At n) x → Held n Any (expand x d (lines x d))
+  expand-held x d h =
+      let c = defineAll (atSignals d) (x .definitions) in
+      let own : (ps : List Port) → All InLine (implied ps) = λ ps. implied-all InLine Any (λ p _. tt) ps (all-any ps) in
       bind _ _
-      (gathered InPart (expandSection c) (λ s q. expandSection-held c s (in-defineAll (x .definitions) (h .definitions) (atSignals (d .outputs .table)) (in-atSignals (d .outputs .table))) q) (lines x d)
-      (in-writtenLines (x .main) _ (h .main) (i .implied, (o .implied, tt))))
+      (gathered InPart (expandSection c) (λ s q. expandSection-held c s (in-defineAll (x .definitions) (h .definitions) (atSignals d) (in-atSignals d)) q) (lines x d)
+      (written-all InLine (InSubsection (At n)) (λ p es g. g) (x .main) _ (h .main) (own (d .inputs), (own (d .outputs), tt))))
       λ ss _. done tt
 
-  low-excess : (ps : List ℕ) → All (λ p. p ≤ n) ps → Low n (elim ps [ [] ↦ none | p ∷ ps ↦ some p ])
-  low-excess [] h = nowhere-low n
-  low-excess (p ∷ ps) h = here-low n (h .0)
+  low-tooManySignals : (m : ℕ) (ps : List Port) → All (PortAt n) ps → Low n (tooManySignals m ps)
+  low-tooManySignals m [] h = nowhere-low n
+  low-tooManySignals m (p ∷ ps) h =
+      split (Low n) (leb (m + signalsOf p) maxSignals) (λ _. low-tooManySignals (m + signalsOf p) ps (h .1)) (λ _. here-low n (h .0))
 
   converted-held : (x : Spec) → InSpec (At n) x → Held n Any (converted x)
   unfolding converted
   converted-held x h =
       bind _ _ (declarations-held n x h) λ d v.
-      bind _ _ (expand-held x d h (v .0) (v .1)) λ f _.
+      bind _ _ (expand-held x d h) λ f _.
       guarded (sameModel (x .semantics) (x .target)) 14 _ (λ _. h .targetWord)
-      (λ _. held-refuseAt 15 _ (low-excess (d .outputs .excess) (v .1 .excess)) (guarded (leb (size f) maxNodes) 16 _ (λ _. omega arith) (λ _. done tt)))
+      (λ _. held-refuseAt 15 _ (low-tooManySignals 0 (inOrder d) (all-append (PortAt n) (d .inputs) (d .outputs) (v .inputs) (v .outputs)))
+      (guarded (leb (size f) maxNodes) 16 _ (λ _. omega arith) (λ _. done tt)))
 
 meant-held : (text : List ℕ) → Held (length text) Any (meant text)
 unfolding meant

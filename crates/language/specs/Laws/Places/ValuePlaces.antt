@@ -12,7 +12,7 @@ use Rattle.language.specs.Tokens.{Token}
 use Rattle.language.specs.Operators.{Arithmetic, Plus, Minus, Times, Divide, Modulo, Measure, Size, Min, Max, Big, BigSum, BigProduct, BigCap, BigCup, BigAnd, BigOr, Calculates, Combines, Compares, Membership, Connects, Measures, WidthOf, Applies}
 use Rattle.language.specs.Tree.{Expr, Named, Numeral, Truth, Index, Paren, Prefixed, Joined, Nexts, InWindow, Each, Between, Listed, Empty, Element, Range}
 use Rattle.language.specs.Sets.{union, combine, rangeSize}
-use Rattle.language.specs.Values.{Value, Number, Set, Logic, Bus, Unsized, Choice, number, set, Sized, bus, choice, inRange, decimal, calculate, measure, limited, range, between, big, Sides, Numbers, Against, sides, bit, Scope, naming, value}
+use Rattle.language.specs.Values.{Value, Number, Set, Logic, Bus, Unsized, Choice, number, set, bus, choice, inRange, decimal, calculate, measure, limited, range, between, big, Scope, naming, value}
 use Rattle.language.specs.Laws.Basics.Lists.{Any}
 use Rattle.language.specs.Laws.Basics.Tests.{split}
 use Rattle.language.specs.Laws.Basics.Results.{done, refused, guarded, bind, folds-any}
@@ -25,13 +25,9 @@ abbrev pub InValue : ℕ → Value → Type 0
 InValue n (Number m) = Unit {0}
 InValue n (Set s) = Unit {0}
 InValue n Logic = Unit {0}
-InValue n (Bus p k w) = p ≤ n
+InValue n (Bus p x w) = p ≤ n
 InValue n (Unsized p) = p ≤ n
 InValue n (Choice v) = Unit {0}
-
-abbrev pub InSides : ℕ → Sides → Type 0
-InSides n (Numbers a b) = Unit {0}
-InSides n (Against b v) = b .place ≤ n
 
 -- the visible names are refused at places of the text
 abbrev pub InScope : ℕ → Scope → Type 0
@@ -41,25 +37,17 @@ module _ (n : ℕ) where
   zero-low : 0 ≤ n
   zero-low = omega arith
 
-  number-held : (v : Value) → InValue n v → Held n Any (number v)
+  pub number-held : (v : Value) → InValue n v → Held n Any (number v)
   number-held = number-as (InValue n) (λ m h. tt) (λ _ _ _. zero-low)
 
   set-held : (v : Value) → InValue n v → Held n Any (set v)
   set-held = set-as (InValue n) (λ s h. tt) (λ _ _ _. zero-low)
 
   pub bus-held : (v : Value) → InValue n v → Held n (λ b. b .place ≤ n) (bus v)
-  bus-held = bus-as (InValue n) (λ p k w h. h) (λ p h. h) (λ _ _ _. zero-low)
+  bus-held = bus-as (InValue n) (λ p x w h. h) (λ p h. h) (λ _ _ _. zero-low)
 
-  choice-held : (v : Value) → InValue n v → Held n Any (choice v)
+  pub choice-held : (v : Value) → InValue n v → Held n Any (choice v)
   choice-held = choice-as (InValue n) (λ w h. tt) (λ _ _ _. zero-low)
-
-  pub sides-held : (v w : Value) → InValue n v → InValue n w → Held n (InSides n) (sides v w)
-  sides-held (Number m) w h g = bind (number w) _ (number-held w g) λ k _. done tt
-  sides-held (Set s) w h g = refused zero-low
-  sides-held Logic w h g = refused zero-low
-  sides-held (Bus p k m) w h g = bind (choice w) _ (choice-held w g) λ v _. done h
-  sides-held (Unsized p) w h g = refused h
-  sides-held (Choice v) w h g = bind (bus w) _ (bus-held w g) λ b q. done q
 
   pub a-number : (r : Result Value) → Held n (InValue n) r → Held n Any (r >>= number)
   a-number r h = bind r number h number-held
@@ -107,9 +95,6 @@ module _ (n : ℕ) where
   big-held p BigCup f s l h = set-is _ (folds-any _ (λ a b. limited-held p l (union a b)) _ (λ k. a-set (f k) (h k)) _ (done tt) s)
   big-held p BigAnd f s l h = done tt
   big-held p BigOr f s l h = done tt
-
-  pub bit-held : (i : ℕ) (b : Sized) → b .place ≤ n → Held n Any (bit i b)
-  bit-held i b h = guarded (ltb i (b .width)) 13 _ (λ _. h) (λ _. done tt)
 
   pub naming-held : (x : Token) (v : Result Value) (sc : Scope) → Held n (InValue n) v → InScope n sc → InScope n (naming x v sc)
   naming-held x v sc h g t a = split (Held n (InValue n)) (same (x .text) (t .text)) (λ _. h) (λ _. g t a)

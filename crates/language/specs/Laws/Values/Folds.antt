@@ -7,29 +7,8 @@ use Rattle.node.specs.Result.{Result, Done, Refused, _>>=_}
 use Rattle.language.specs.Operators.{Plus, Times, Cup, Cap, Big, BigSum, BigProduct, BigCap, BigCup, BigAnd, BigOr}
 use Rattle.language.specs.Sets.{combine}
 use Rattle.language.specs.Values.{Value, Number, Set, Logic, number, set, calculate, limited, onward, folded, big}
-
-bind-same : {A B : Type 0} (r : Result A) (g h : A → Result B) → ((a : A) → g a ≡ h a) → (r >>= g) ≡ (r >>= h)
-unfolding _>>=_
-bind-same (Done a) g h e = e a
-bind-same (Refused n p) g h e = refl
-
-bind-again : {A B C : Type 0} (r : Result A) (g : A → Result B) (h : B → Result C) → (r >>= g >>= h) ≡ (r >>= λ a. g a >>= h)
-unfolding _>>=_
-bind-again (Done a) g h = refl
-bind-again (Refused n p) g h = refl
-
-bind-value : {A : Type 0} (r : Result A) → (r >>= λ a. Done a) ≡ r
-unfolding _>>=_
-bind-value (Done a) = refl
-bind-value (Refused n p) = refl
-
-bind-first : {A B : Type 0} (a : A) (g : A → Result B) → (Done a >>= g) ≡ g a
-unfolding _>>=_
-bind-first a g = refl
-
-bind-refused : {A B : Type 0} (n p : ℕ) (g : A → Result B) → (Refused n p >>= g) ≡ Refused n p
-unfolding _>>=_
-bind-refused n p g = refl
+use Rattle.language.specs.Laws.Basics.Binds.{bind-same, bind-again, bind-value}
+use Rattle.language.specs.Laws.Grammar.ReadersInRow.{bind-to, bind-refused}
 
 -- any fold
 module _ {A : Type 0} (step : A → A → Result A) (none : Result A) (f : ℕ → Result A) where
@@ -40,7 +19,7 @@ module _ {A : Type 0} (step : A → A → Result A) (none : Result A) (f : ℕ �
   folded-one k = bind-value (f k)
 
   onward-more : (a : A) (s : List ℕ) (k : ℕ) → onward step f a (s ++ (k ∷ [])) ≡ (onward step f a s >>= λ c. f k >>= step c)
-  onward-more a [] k = bind-same (f k) _ _ (λ b. bind-value (step a b)) ∙ sym (bind-first a (λ c. f k >>= step c))
+  onward-more a [] k = bind-same (f k) _ _ (λ b. bind-value (step a b)) ∙ sym (bind-to (Done a) a (λ c. f k >>= step c) refl)
   onward-more a (j ∷ s) k =
       bind-same (f j) _ _ (λ b. bind-same (step a b) _ _ (λ c. onward-more c s k) ∙ sym (bind-again (step a b) _ _)) ∙
       sym (bind-again (f j) _ _)
@@ -59,10 +38,10 @@ nothing p BigAnd = Done Logic
 nothing p BigOr = Done Logic
 
 pub big-none : (p : ℕ) (o : Big) (f : ℕ → Result Value) → big p o f [] ≡ nothing p o
-big-none p BigSum f = bind-first 0 _
-big-none p BigProduct f = bind-first 1 _
-big-none p BigCap f = bind-refused 11 p _
-big-none p BigCup f = bind-first [] _
+big-none p BigSum f = bind-to (Done 0) 0 _ refl
+big-none p BigProduct f = bind-to (Done 1) 1 _ refl
+big-none p BigCap f = bind-refused (Refused 11 p) 11 p _ refl
+big-none p BigCup f = bind-to (Done []) [] _ refl
 big-none p BigAnd f = refl
 big-none p BigOr f = refl
 

@@ -1,38 +1,35 @@
 -- Declared and defined names stand for values within their bounds: parameters, buses, definitions, and the names of a whole text.
-use Prim.Native.Nat.{ℕ, _≤_}
+use Prim.Native.Nat.{ℕ, zero, suc, _≤_}
 use mathlib.Core.Path.{_≡_, subst, sym}
 use mathlib.Core.Bool.{Bool, true, false}
 use mathlib.Core.List.{List, [], _∷_}
-use lib.Dec.{leb}
+use native.Mathlib.Omega.{arith}
 use Rattle.node.specs.Result.{Done}
 use Rattle.language.specs.Limits.{maxWidth}
 use Rattle.language.specs.Tokens.{Token}
 use Rattle.language.specs.Tree.{Definition, Parameter, Declaration, OneSignal, OfWidth, OfType, Spec}
-use Rattle.language.specs.Values.{Mark, Scope, value}
-use Rattle.language.specs.Signals.{Declared, Constant, SignalAt, BusAt, Identifies, WaitingSignal, WaitingBus, Table, valueAt, declared, defining, Numbered, wordsOfType, wordWidth, sized, addingBus, impliedBy, numbering, constants, inputs, outputs, Declarations, none, onFrom, declarations}
+use Rattle.language.specs.Values.{Scope, value}
+use Rattle.language.specs.Declared.{Declared, Constant, Single, BusOf, Identifies, WaitingBus, Table, valueAt, declared, defining, wordsOfType, wordWidth, Port, sized, portOf, asDeclared, turns, constants, inputs, outputs, Declarations, declarations}
 use Rattle.language.specs.Expansion.{atSignals, defineAll}
 use Rattle.language.specs.Laws.Basics.Lists.{All}
-use Rattle.language.specs.Laws.Basics.Tests.{and-right, so-leb}
-use Rattle.language.specs.Laws.Basics.Results.{done, guarded, bind, value-of, Within, bind-any}
-use Rattle.language.specs.Laws.Grammar.Braces.{ProperParameter, ProperDefinition, ProperDeclaration, ProperSubsection, ProperSpec}
-use Rattle.language.specs.Laws.Values.NameLaws.{defined-values, defining-keeps, Visible, naming-within, Entries, declared-within, first-entries, inputs-all, outputs-all}
+use Rattle.language.specs.Laws.Basics.Results.{done, bind, value-of, Within, bind-any}
+use Rattle.language.specs.Laws.Grammar.Braces.{ProperParameter, ProperDefinition, ProperSpec}
+use Rattle.language.specs.Laws.Values.NameLaws.{defined-values, defining-keeps, Visible, naming-within, Entries, declared-within, first-entries, sized-as}
 use Rattle.language.specs.Laws.Values.ValueLaws.{SaneNumber, Sane, as-number, value-sane}
 
 abbrev pub DeclaredSane : Declared → Type 0
 DeclaredSane (Constant n) = SaneNumber n
-DeclaredSane (SignalAt k) = Unit {0}
-DeclaredSane (BusAt k n) = n ≤ maxWidth
+DeclaredSane Single = Unit {0}
+DeclaredSane (BusOf n) = n ≤ maxWidth
 DeclaredSane (Identifies v) = Unit {0}
-DeclaredSane WaitingSignal = Unit {0}
 DeclaredSane WaitingBus = Unit {0}
 
-valueAt-sane : (p : ℕ) (y : Declared) → DeclaredSane y → Sane (valueAt p y)
-valueAt-sane p (Constant n) h = h
-valueAt-sane p (SignalAt k) h = tt
-valueAt-sane p (BusAt k n) h = h
-valueAt-sane p (Identifies v) h = tt
-valueAt-sane p WaitingSignal h = tt
-valueAt-sane p WaitingBus h = tt
+valueAt-sane : (t : Token) (y : Declared) → DeclaredSane y → Sane (valueAt t y)
+valueAt-sane t (Constant n) h = h
+valueAt-sane t Single h = tt
+valueAt-sane t (BusOf n) h = h
+valueAt-sane t (Identifies v) h = tt
+valueAt-sane t WaitingBus h = tt
 
 pub declared-sane : (d : Table) → Entries DeclaredSane d → Visible Sane (declared d)
 declared-sane d h = declared-within DeclaredSane Sane valueAt-sane d h
@@ -48,42 +45,42 @@ constants-sane (x ∷ xs) p d h =
     bind _ _ (as-number _ (value-sane (x .value) false (p .0) (declared d) (declared-sane d h)))
     (λ n k. constants-sane xs (p .1) ((x .name .text, Constant n) ∷ d) (k, h))
 
--- signals
+-- signals and buses
 sized-sane : (x : Token) (n : ℕ) → Within (λ m. m ≤ maxWidth) (sized x n)
-sized-sane x n =
-    guarded _ 13 (x .at) (λ _. tt) (λ e. done (so-leb n maxWidth .0 (and-right (leb 1 n) (leb n maxWidth) e)))
+sized-sane x n = sized-as x n tt (λ _ h. h)
 
-abbrev pub NumberedSane : Numbered → Type 0
-NumberedSane s = Entries DeclaredSane (s .table)
+abbrev PortSane : Port → Type 0
+PortSane p = p .width ≤ maxWidth
 
-pub numbering-sane : (defs : List Definition) (output : Bool) (ds : List Declaration) → All ProperDeclaration ds → (s : Numbered) → NumberedSane s →
-    Within NumberedSane (numbering defs output ds s)
-numbering-sane defs output [] p s h = done h
-numbering-sane defs output (OneSignal x ∷ ds) p s h = numbering-sane defs output ds (p .1) _ (tt, h)
-numbering-sane defs output (OfWidth x e ∷ ds) p s h =
-    bind _ _ (bind-any _ (sized x) (sized-sane x)) (λ n k. numbering-sane defs output ds (p .1) (addingBus output s x n []) (k, h))
-numbering-sane defs output (OfType u x ∷ ds) p s h =
-    let words : List (List Mark) = wordsOfType defs u in
-    bind _ _ (sized-sane x (wordWidth words)) (λ n k. numbering-sane defs output ds (p .1) (addingBus output s x n (impliedBy (s .count) words)) (k, h))
+portOf-sane : (defs : List Definition) (output : Bool) (d : Table) (x : Declaration) → Within PortSane (portOf defs output d x)
+portOf-sane defs output d (OneSignal x) = done (omega arith)
+portOf-sane defs output d (OfWidth x e) = bind _ _ (bind-any _ (sized x) (sized-sane x)) (λ n h. done h)
+portOf-sane defs output d (OfType u x) = bind _ _ (sized-sane x (wordWidth (wordsOfType defs u))) (λ n h. done h)
+
+asDeclared-sane : (n : ℕ) → n ≤ maxWidth → DeclaredSane (asDeclared n)
+asDeclared-sane zero h = tt
+asDeclared-sane (suc n) h = h
+
+turns-sane : (defs : List Definition) (output : Bool) (ds : List Declaration) (d : Table) → Entries DeclaredSane d →
+    Within (λ s. Entries DeclaredSane (s .table)) (turns defs output ds d)
+turns-sane defs output [] d h = done h
+turns-sane defs output (x ∷ ds) d h =
+    bind _ _ (portOf-sane defs output d x) (λ p k.
+    bind _ _ (turns-sane defs output ds ((p .name .text, asDeclared (p .width)) ∷ d) (asDeclared-sane (p .width) k, h)) (λ s l. done l))
 
 -- a text's declarations, and all its names
-abbrev DeclarationsSane : Declarations → Type 0
-DeclarationsSane d = NumberedSane (d .outputs)
-
-declarations-within : (x : Spec) → ProperSpec x → Within DeclarationsSane (declarations x)
+declarations-within : (x : Spec) → ProperSpec x → Within (λ d. Entries DeclaredSane (d .table)) (declarations x)
 declarations-within x p =
     let defs : List Definition = x .definitions in
     let ins : List Declaration = inputs (x .main) in
     let outs : List Declaration = outputs (x .main) in
     bind _ _ (constants-sane (x .parameters) (p .parameters) _ (first-entries DeclaredSane tt tt (λ v. tt) ins outs defs)) (λ d h.
-    bind _ _ (numbering-sane defs false ins (inputs-all ProperSubsection ProperDeclaration (λ ds h. h) (x .main) (p .main)) (none d) h) (λ i k.
-    bind _ _ (numbering-sane defs true outs (outputs-all ProperSubsection ProperDeclaration (λ ds h. h) (x .main) (p .main)) (onFrom i) k) (λ o l.
-    done l)))
+    bind _ _ (turns-sane defs false ins d h) (λ i k. bind _ _ (turns-sane defs true outs (i .table) k) (λ o l. done l)))
 
-pub names-sane : (x : Spec) (d : Declarations) → ProperSpec x → declarations x ≡ Done d → Visible Sane (defining (declared (d .outputs .table)) (x .definitions))
+pub names-sane : (x : Spec) (d : Declarations) → ProperSpec x → declarations x ≡ Done d → Visible Sane (defining (declared (d .table)) (x .definitions))
 names-sane x d p e =
-    defining-sane (x .definitions) (p .definitions) (declared (d .outputs .table)) (declared-sane (d .outputs .table) (value-of e (declarations-within x p)))
+    defining-sane (x .definitions) (p .definitions) (declared (d .table)) (declared-sane (d .table) (value-of e (declarations-within x p)))
 
 -- the same names as the expansion of the text's lines sees them
-pub context-sane : (x : Spec) (d : Declarations) → ProperSpec x → declarations x ≡ Done d → Visible Sane (defineAll (atSignals (d .outputs .table)) (x .definitions) .values)
-context-sane x d p e = subst (Visible Sane) (sym (defined-values (x .definitions) (atSignals (d .outputs .table)))) (names-sane x d p e)
+pub context-sane : (x : Spec) (d : Declarations) → ProperSpec x → declarations x ≡ Done d → Visible Sane (defineAll (atSignals d) (x .definitions) .values)
+context-sane x d p e = subst (Visible Sane) (sym (defined-values (x .definitions) (atSignals d))) (names-sane x d p e)

@@ -1,23 +1,33 @@
 -- What holds of all declared names holds of every name that is found, and of what it stands for.
-use Prim.Native.Nat.{ℕ}
-use mathlib.Core.Path.{_≡_, refl}
+use Prim.Native.Nat.{ℕ, _≤_}
+use mathlib.Core.Path.{_≡_, refl, subst}
+use mathlib.Core.Bool.{_&&_}
 use mathlib.Core.List.{List, [], _∷_}
+use lib.Dec.{leb}
+use borrow.Author.Tests.{leb-true}
 use Rattle.node.specs.Result.{Result}
+use Rattle.language.specs.Limits.{maxWidth}
 use Rattle.language.specs.Bytes.{same}
 use Rattle.language.specs.Tokens.{Token}
 use Rattle.language.specs.Tree.{Identifier, Definition, Defined, Enumerated, Declaration, OneSignal, OfWidth, OfType, Subsection, Inputs, Outputs, Lines, Expr}
-use Rattle.language.specs.Values.{Mark, Value, Scope, naming, value}
-use Rattle.language.specs.Signals.{Declared, Identifies, WaitingSignal, WaitingBus, Table, find, valueAt, declared, defining, identified, identifiers, waiting, inputs, outputs}
+use Rattle.language.specs.Values.{Value, Scope, naming, value}
+use Rattle.language.specs.Declared.{Declared, Single, Identifies, WaitingBus, Table, find, valueAt, declared, defining, identified, identifiers, sized, waiting, inputs, outputs}
 use Rattle.language.specs.Expansion.{Context, define, defineAll}
 use Rattle.language.specs.Laws.Basics.Lists.{All, all-append}
-use Rattle.language.specs.Laws.Basics.Tests.{split}
-use Rattle.language.specs.Laws.Basics.Results.{done, refused, bind, Within}
+use Rattle.language.specs.Laws.Basics.Tests.{split, and-left, and-right, same-equal}
+use Rattle.language.specs.Laws.Basics.Results.{Refusals, Answers, done, refused, guarded, bind, Within}
 
 -- the values of the names are the same in widths, where no formula is expanded, and in lines
 pub defined-values : (ds : List Definition) (c : Context) → defineAll c ds .values ≡ defining (c .values) ds
 defined-values [] c = refl
 defined-values (Defined x e ∷ ds) c = defined-values ds (define c x e)
 defined-values (Enumerated x is ∷ ds) c = defined-values ds c
+
+-- definitions leave the ports
+pub defined-ports : (ds : List Definition) (c : Context) → defineAll c ds .ports ≡ c .ports
+defined-ports [] c = refl
+defined-ports (Defined x e ∷ ds) c = defined-ports ds (define c x e)
+defined-ports (Enumerated x is ∷ ds) c = defined-ports ds c
 
 -- what each definition keeps, all of them keep
 pub defining-keeps : (I : Scope → Type 0) (D : Definition → Type 0) → ((sc : Scope) (x : Token) (e : Expr) → D (Defined x e) → I sc → I (naming x (value sc e) sc)) → (ds : List Definition) → All D ds → (sc : Scope) → I sc → I (defining sc ds)
@@ -45,11 +55,17 @@ pub find-within : (Q : Declared → Type 0) (d : Table) → Entries Q d → (x :
 find-within Q [] h x = refused tt
 find-within Q (e ∷ d) h x = split (Within Q) (same (e .0) x) (λ _. done (h .0)) (λ _. find-within Q d (h .1) x)
 
-pub declared-within : (Q : Declared → Type 0) (S : Value → Type 0) → ((p : ℕ) (y : Declared) → Q y → S (valueAt p y)) → (d : Table) → Entries Q d → Visible S (declared d)
-declared-within Q S f d h t = bind _ _ (find-within Q d h (t .text)) (λ y k. done (f (t .at) y k))
+-- the same with the name, which is the one sought
+pub find-named : (Q : List ℕ × Declared → Type 0) (d : Table) → All Q d → (x : List ℕ) → Within (λ y. Q (x, y)) (find d x)
+find-named Q [] h x = refused tt
+find-named Q (e ∷ d) h x =
+    split (Within (λ y. Q (x, y))) (same (e .0) x) (λ s. done (subst (λ (z : List ℕ). Q (z, e .1)) (same-equal (e .0) x s) (h .0))) (λ _. find-named Q d (h .1) x)
+
+pub declared-within : (Q : Declared → Type 0) (S : Value → Type 0) → ((t : Token) (y : Declared) → Q y → S (valueAt t y)) → (d : Table) → Entries Q d → Visible S (declared d)
+declared-within Q S f d h t = bind _ _ (find-within Q d h (t .text)) (λ y k. done (f t y k))
 
 -- the table before the signals' turn
-module _ (Q : Declared → Type 0) (one : Q WaitingSignal) (bus : Q WaitingBus) (identifies : (v : List (List Mark)) → Q (Identifies v)) where
+module _ (Q : Declared → Type 0) (one : Q Single) (bus : Q WaitingBus) (identifies : (v : List Token) → Q (Identifies v)) where
   waiting-entries : (ds : List Declaration) (d : Table) → Entries Q d → Entries Q (waiting ds d)
   waiting-entries [] d h = h
   waiting-entries (OneSignal x ∷ ds) d h = (one, waiting-entries ds d h)
@@ -82,3 +98,9 @@ module _ (S : Subsection → Type 0) (Q : Declaration → Type 0) where
   outputs-all f (Inputs ds ∷ ss) h = outputs-all f ss (h .1)
   outputs-all f (Outputs ds ∷ ss) h = all-append Q ds (outputs ss) (f ds (h .0)) (outputs-all f ss (h .1))
   outputs-all f (Lines p es ∷ ss) h = outputs-all f ss (h .1)
+
+-- a width that 13 does not refuse
+pub sized-as : {R : Refusals} {Q : ℕ → Type 0} (x : Token) (n : ℕ) → R 13 (x .at) → (1 ≤ n → n ≤ maxWidth → Q n) → Answers R Q (sized x n)
+sized-as x n r f =
+    guarded (leb 1 n && leb n maxWidth) 13 (x .at) (λ _. r)
+    (λ e. done (f (leb-true 1 n (and-left (leb 1 n) (leb n maxWidth) e)) (leb-true n maxWidth (and-right (leb 1 n) (leb n maxWidth) e))))

@@ -14,7 +14,7 @@ use Rattle.language.specs.Operators.{Combination}
 use Rattle.language.specs.Sets.{memberOf, combine, steps, rangeSize}
 use Rattle.language.specs.Values.{limited, range, between}
 use Rattle.language.specs.Laws.Basics.Exactly.{Exactly, exactly, exactly-if, exactly-same}
-use Rattle.language.specs.Laws.Values.SetMembers.{member-first, member-later, Holding, combine-member, range-member, interval-member}
+use Rattle.language.specs.Laws.Values.SetMembers.{member-first, member-later, inCombination, combine-member, range-member, interval-member}
 use Rattle.language.specs.Laws.Values.SetExtent.{Rising, Lists, lists-one}
 use Rattle.language.specs.Laws.Values.SetLaws.{Ascending, combine-ascending, length-steps, range-ascending, between-ascending}
 
@@ -52,7 +52,7 @@ module _ (p : ℕ) (P : ℕ → Type 0) (s : List ℕ) (h : Lists P s) where
 
 -- `(+)`, `(*)` and `(\)`
 pub combine-exact : (p : ℕ) (o : Combination) (high : ℕ) (s t : List ℕ) → Ascending 0 high s → Ascending 0 high t →
-    Exactly 12 p (Small (λ k. So (Holding o (memberOf s k) (memberOf t k)))) (limited p (combine o s t))
+    Exactly 12 p (Small (λ k. So (inCombination o (memberOf s k) (memberOf t k)))) (limited p (combine o s t))
 combine-exact p o high s t h g =
     limited-exact p _ (combine o s t) (record {
       rises = ascending-rises 0 high (combine o s t) (combine-ascending o 0 high s t h g);

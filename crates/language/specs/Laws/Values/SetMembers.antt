@@ -77,12 +77,12 @@ keep-member q (x ∷ s) k =
     (regroup (eqb k x) (q x) (q k) (memberOf s k) (λ e. ap q (sym (eqb-true k x e))))
 
 -- `(+)`: in one or the other; `(*)`: in both; `(\)`: in the left and not in the right
-abbrev pub Holding : Combination → (left right : Bool) → Bool
-Holding Cup l r = l || r
-Holding Cap l r = l && r
-Holding Without l r = l && not r
+abbrev pub inCombination : Combination → (left right : Bool) → Bool
+inCombination Cup l r = l || r
+inCombination Cap l r = l && r
+inCombination Without l r = l && not r
 
-pub combine-member : (o : Combination) (s t : List ℕ) (k : ℕ) → memberOf (combine o s t) k ≡ Holding o (memberOf s k) (memberOf t k)
+pub combine-member : (o : Combination) (s t : List ℕ) (k : ℕ) → memberOf (combine o s t) k ≡ inCombination o (memberOf s k) (memberOf t k)
 combine-member Cup s t k = union-member s t k
 combine-member Cap s t k = keep-member (memberOf t) s k
 combine-member Without s t k = keep-member (λ x. not (memberOf t x)) s k

@@ -1,24 +1,34 @@
 -- The signal numbers of an expression's expansion lie below any limit that those of the visible names do.
-use Prim.Native.Nat.{ℕ, zero, suc, _+_, _-_, _≤_, _<_}
+use Prim.Native.Nat.{ℕ, zero, suc, _+_, _-_, _≤_}
+use mathlib.Core.Path.{_≡_}
 use mathlib.Core.Bool.{Bool, true, false, So}
 use mathlib.Core.List.{List, [], _∷_, map}
 use lib.Dec.{eqb, leb, ltb}
-use lib.ListN.{length}
+use lib.ListN.{length, length-map}
 use native.Mathlib.Omega.{arith}
 use Rattle.node.specs.Ltl.{Binary, And, Or, Formula, Two}
-use Rattle.node.specs.Result.{Result, Done, _>>=_}
+use Rattle.node.specs.Result.{Result}
 use Rattle.node.specs.Postorder.{SignalsBelow}
 use Rattle.language.specs.Tokens.{Token}
 use Rattle.language.specs.Operators.{Comparison, Equal, Unequal, Less, AtMost, Greater, AtLeast, Big, BigSum, BigProduct, BigCap, BigCup, BigAnd, BigOr, Calculates, Combines, Compares, Membership, Connects, Measures, WidthOf, Applies}
 use Rattle.language.specs.Tree.{Expr, Named, Numeral, Truth, Index, Paren, Prefixed, Joined, Nexts, InWindow, Each, Between, Listed, Empty, Element, Range}
 use Rattle.language.specs.Sets.{memberOf}
-use Rattle.language.specs.Values.{Mark, Absent, Present, Star, Value, Number, Set, Logic, Bus, Unsized, Choice, number, bus, choice, Sized, test, Sides, Numbers, Against, sides, bit, big, Scope, value}
-use Rattle.language.specs.Expansion.{joined, conjunction, disjunction, truth, nexts, chain, windowOperator, literals, oneOf, widthIs, compared, gather, bigFormula, Context, at, expansion}
-use Rattle.language.specs.Laws.Basics.Lists.{All, Any, all-any, all-map}
+use Rattle.language.specs.Values.{Value, Number, Set, Logic, Bus, Unsized, Choice, number, bus, choice, Sized}
+use Rattle.language.specs.Declared.{Port}
+use Rattle.language.specs.Numbering.{firstOf, Mark, Absent, Present, Star, markOf, marksOf}
+use Rattle.language.specs.Expansion.{joined, conjunction, disjunction, truth, nexts, chain, windowOperator, literals, oneOf, widthIs, against, test, compared, gather, bigFormula, Context, bitAt, at, expansion}
+use Rattle.language.specs.Laws.Basics.Lists.{All, Any, all-any, all-more, all-map}
 use Rattle.language.specs.Laws.Basics.Tests.{and-left, and-right, so-eqb, so-ltb}
 use Rattle.language.specs.Laws.Basics.Results.{done, refused, guarded, bind, gathered, Within, bind-any}
-use Rattle.language.specs.Laws.Values.ValueKinds.{bus-as}
 use Rattle.language.specs.Laws.Values.NameLaws.{Visible, naming-within}
+use Rattle.language.specs.Laws.Values.BusValues.{OfBus, value-buses, bus-within}
+
+-- words that pass the test of widths
+pub width-is : (n : ℕ) (vs : List Token) → So (widthIs n vs) → All (λ v. length (v .text) ≡ n) vs
+width-is n [] e = tt
+width-is n (v ∷ vs) e =
+    let head = eqb (length (v .text)) n in
+    (so-eqb (length (v .text)) n .0 (and-left head (widthIs n vs) e), width-is n vs (and-right head (widthIs n vs) e))
 
 module _ (N : ℕ) where
   -- formulas
@@ -52,108 +62,49 @@ module _ (N : ℕ) where
   chain-below o zero f h = h
   chain-below o (suc n) f h = (h, chain-below o n f h)
 
-  -- words that lie on signals below N, the first of them k
-  abbrev pub WordsBelow : ℕ → List (List Mark) → Type 0
-  WordsBelow k vs = All (λ v. k + length v ≤ N) vs
+  -- words that lie on signals below N, those of the name x
+  abbrev pub WordsBelow : List Port → List ℕ → List Token → Type 0
+  WordsBelow ps x vs = All (λ v. firstOf ps x + length (v .text) ≤ N) vs
 
-  literals-below : (v : List Mark) (k : ℕ) → k + length v ≤ N → All (SignalsBelow N) (literals v k)
+  literals-below : (ps : List Port) (x : List ℕ) (i : ℕ) (v : List Mark) → firstOf ps x + i + length v ≤ N → All (SignalsBelow N) (literals ps x i v)
   unfolding SignalsBelow
-  literals-below [] k h = tt
-  literals-below (Absent ∷ v) k h = (omega arith, literals-below v (suc k) (omega arith))
-  literals-below (Present ∷ v) k h = (omega arith, literals-below v (suc k) (omega arith))
-  literals-below (Star ∷ v) k h = literals-below v (suc k) (omega arith)
+  literals-below ps x i [] h = tt
+  literals-below ps x i (Absent ∷ v) h = (omega arith, literals-below ps x (suc i) v (omega arith))
+  literals-below ps x i (Present ∷ v) h = (omega arith, literals-below ps x (suc i) v (omega arith))
+  literals-below ps x i (Star ∷ v) h = literals-below ps x (suc i) v (omega arith)
 
-  pub oneOf-below : (vs : List (List Mark)) (k : ℕ) → WordsBelow k vs → SignalsBelow N (oneOf vs k)
-  oneOf-below vs k h = disjunction-below (map (λ v. conjunction (literals v k)) vs) (all-map _ (SignalsBelow N) _ (λ v l. conjunction-below (literals v k) (literals-below v k l)) vs h)
+  pub oneOf-below : (ps : List Port) (x : List ℕ) (vs : List Token) → WordsBelow ps x vs → SignalsBelow N (oneOf ps x vs)
+  oneOf-below ps x vs h =
+      disjunction-below (map (λ v. conjunction (literals ps x 0 (marksOf v))) vs)
+      (all-map _ (SignalsBelow N) _ (λ v l. conjunction-below (literals ps x 0 (marksOf v)) (literals-below ps x 0 (marksOf v) (omega (arith, l, length-map (v .text) markOf)))) vs h)
 
-  -- values
-  abbrev SizedBelow : Sized → Type 0
-  SizedBelow b = b .first + b .width ≤ N
+  -- a bus whose signals lie below N
+  abbrev pub BusBelow : List Port → List ℕ → ℕ → Type 0
+  BusBelow ps x n = firstOf ps x + n ≤ N
 
-  abbrev pub ValueBelow : Value → Type 0
-  ValueBelow (Number n) = Unit {0}
-  ValueBelow (Set s) = Unit {0}
-  ValueBelow Logic = Unit {0}
-  ValueBelow (Bus p k n) = k + n ≤ N
-  ValueBelow (Unsized p) = Unit {0}
-  ValueBelow (Choice v) = Unit {0}
-
-  number-below : (r : Result ℕ) → Within ValueBelow (r >>= λ n. Done (Number n))
-  number-below r = bind-any r _ (λ n. done tt)
-
-  set-below : (r : Result (List ℕ)) → Within ValueBelow (r >>= λ s. Done (Set s))
-  set-below r = bind-any r _ (λ s. done tt)
-
-  logic-below : Within ValueBelow (Done Logic)
-  logic-below = done tt
-
-  big-below : (p : ℕ) (o : Big) (f : ℕ → Result Value) (s : List ℕ) → Within ValueBelow (big p o f s)
-  big-below p BigSum f s = number-below _
-  big-below p BigProduct f s = number-below _
-  big-below p BigCap f s = set-below _
-  big-below p BigCup f s = set-below _
-  big-below p BigAnd f s = logic-below
-  big-below p BigOr f s = logic-below
-
-  pub value-below : (e : Expr) (sc : Scope) → Visible ValueBelow sc → Within ValueBelow (value sc e)
-  value-below (Named t) sc g = g t
-  value-below (Numeral t) sc g = number-below _
-  value-below (Truth t b) sc g = logic-below
-  value-below (Index t e) sc g = logic-below
-  value-below (Paren t e) sc g = value-below e sc g
-  value-below (Prefixed t (Measures m) e) sc g = number-below _
-  value-below (Prefixed t WidthOf e) sc g = bind-any _ _ (λ b. done tt)
-  value-below (Prefixed t (Applies o) e) sc g = logic-below
-  value-below (Joined t (Calculates o) a b) sc g = bind-any _ _ (λ m. number-below _)
-  value-below (Joined t (Combines o) a b) sc g = bind-any _ _ (λ m. bind-any _ _ (λ n. set-below _))
-  value-below (Joined t (Compares o) a b) sc g = logic-below
-  value-below (Joined t Membership a b) sc g = logic-below
-  value-below (Joined t (Connects o) a b) sc g = logic-below
-  value-below (Nexts t n e) sc g = logic-below
-  value-below (InWindow t o n m e) sc g = logic-below
-  value-below (Each t o further i s e) sc g = bind-any _ _ (λ m. big-below _ o _ m)
-  value-below (Between t l h a b) sc g = bind-any _ _ (λ m. set-below _)
-  value-below (Listed t es) sc g = set-below _
-  value-below Empty sc g = done tt
-  value-below (Element e es) sc g = bind-any _ _ (λ n. bind-any _ _ (λ s. done tt))
-  value-below (Range t x y z) sc g = bind-any _ _ (λ a. bind-any _ _ (λ b. set-below _))
-
-  -- comparisons and indices
-  bus-below : (v : Value) → ValueBelow v → Within SizedBelow (bus v)
-  bus-below = bus-as ValueBelow (λ p k n h. h) (λ p h. tt) (λ _ _ _. tt)
-
-  bit-below : (i : ℕ) (b : Sized) → SizedBelow b → Within (λ k. k < N) (bit i b)
-  bit-below i b h = guarded (ltb i (b .width)) 13 (b .place) (λ _. tt) (λ e. done (omega (arith, so-ltb i (b .width) .0 e)))
-
-  abbrev SidesBelow : Sides → Type 0
-  SidesBelow (Numbers m n) = Unit {0}
-  SidesBelow (Against b v) = SizedBelow b
-
-  sides-below : (x y : Value) → ValueBelow x → ValueBelow y → Within SidesBelow (sides x y)
-  sides-below (Number m) y h l = bind-any (number y) _ (λ n. done tt)
-  sides-below (Set s) y h l = refused tt
-  sides-below Logic y h l = refused tt
-  sides-below (Bus p k n) y h l = bind-any (choice y) _ (λ v. done h)
-  sides-below (Unsized p) y h l = refused tt
-  sides-below (Choice v) y h l = bind (bus y) _ (bus-below y l) (λ b m. done m)
-
-  width-below : (n : ℕ) (vs : List (List Mark)) (k : ℕ) → k + n ≤ N → So (widthIs n vs) → WordsBelow k vs
-  width-below n [] k h e = tt
-  width-below n (v ∷ vs) k h e =
-      let head = eqb (length v) n in
-      (omega (arith, so-eqb (length v) n .0 (and-left head (widthIs n vs) e)), width-below n vs k h (and-right head (widthIs n vs) e))
-
-  compared-below : (o : Comparison) (s : Sides) → SidesBelow s → Within (SignalsBelow N) (compared o s)
+  bitAt-below : (ps : List Port) (i : ℕ) (b : Sized) → BusBelow ps (b .name) (b .width) → Within (SignalsBelow N) (bitAt ps i b)
   unfolding SignalsBelow
-  compared-below o (Numbers m n) h = done (truth-below (test o m n))
-  compared-below Equal (Against b v) h =
-      guarded _ 13 (b .place) (λ _. tt) (λ e. done (oneOf-below v (b .first) (width-below (b .width) v (b .first) h e)))
-  compared-below Unequal (Against b v) h =
-      guarded _ 13 (b .place) (λ _. tt) (λ e. done (oneOf-below v (b .first) (width-below (b .width) v (b .first) h e)))
-  compared-below Less (Against b v) h = refused tt
-  compared-below AtMost (Against b v) h = refused tt
-  compared-below Greater (Against b v) h = refused tt
-  compared-below AtLeast (Against b v) h = refused tt
+  bitAt-below ps i b h = guarded (ltb i (b .width)) 13 (b .place) (λ _. tt) (λ e. done (omega (arith, so-ltb i (b .width) .0 e)))
+
+  width-below : (ps : List Port) (x : List ℕ) (n : ℕ) (vs : List Token) → firstOf ps x + n ≤ N → So (widthIs n vs) → WordsBelow ps x vs
+  width-below ps x n vs h e = all-more (λ v l. omega arith) vs (width-is n vs e)
+
+  against-below : (ps : List Port) (o : Comparison) (b : Sized) (v : List Token) → BusBelow ps (b .name) (b .width) → Within (SignalsBelow N) (against ps o b v)
+  unfolding SignalsBelow
+  against-below ps Equal b v h = guarded _ 13 (b .place) (λ _. tt) (λ e. done (oneOf-below ps (b .name) v (width-below ps (b .name) (b .width) v h e)))
+  against-below ps Unequal b v h = guarded _ 13 (b .place) (λ _. tt) (λ e. done (oneOf-below ps (b .name) v (width-below ps (b .name) (b .width) v h e)))
+  against-below ps Less b v h = refused tt
+  against-below ps AtMost b v h = refused tt
+  against-below ps Greater b v h = refused tt
+  against-below ps AtLeast b v h = refused tt
+
+  compared-below : (ps : List Port) (o : Comparison) (x y : Value) → OfBus (BusBelow ps) x → OfBus (BusBelow ps) y → Within (SignalsBelow N) (compared ps o x y)
+  compared-below ps o (Number m) y h k = bind-any (number y) _ (λ n. done (truth-below (test o m n)))
+  compared-below ps o (Set s) y h k = refused tt
+  compared-below ps o Logic y h k = refused tt
+  compared-below ps o (Bus p x n) y h k = bind-any (choice y) _ (λ v. against-below ps o _ v h)
+  compared-below ps o (Unsized p) y h k = refused tt
+  compared-below ps o (Choice v) y h k = bind (bus y) _ (bus-within (BusBelow ps) y k) (λ b l. against-below ps o b v l)
 
   gathered-below : (F : ℕ → Result Formula) → ((k : ℕ) → Within (SignalsBelow N) (F k)) → (s : List ℕ) → Within (All (SignalsBelow N)) (gather F s)
   gathered-below F h s = gathered Any F (λ k u. h k) s (all-any s)
@@ -169,11 +120,11 @@ module _ (N : ℕ) where
       bind (gather F s) _ (gathered-below F h s) (λ fs k. done (disjunction-below fs k))
 
   pub record ContextBelow (c : Context) : Type 0 where
-    pub values : Visible ValueBelow (c .values)
+    pub values : Visible (OfBus (BusBelow (c .ports))) (c .values)
     pub formulas : (t : Token) → Within (SignalsBelow N) (c .formulas t)
 
   at-below : (c : Context) (i : Token) (k : ℕ) → ContextBelow c → ContextBelow (at c i k)
-  at-below c i k g = record { values = naming-within ValueBelow i _ (c .values) (done tt) (g .values); formulas = g .formulas }
+  at-below c i k g = record { values = naming-within (OfBus (BusBelow (c .ports))) i _ (c .values) (done tt) (g .values); formulas = g .formulas }
 
   pub expansion-below : (e : Expr) (c : Context) → ContextBelow c → Within (SignalsBelow N) (expansion c e)
   unfolding SignalsBelow
@@ -181,9 +132,7 @@ module _ (N : ℕ) where
   expansion-below (Numeral t) c g = refused tt
   expansion-below (Truth t b) c g = done (truth-below b)
   expansion-below (Index t e) c g =
-      bind _ _
-      (bind-any _ _ (λ i. bind _ _ (bind (c .values t) bus (g .values t) bus-below) (bit-below i)))
-      (λ k h. done h)
+      bind-any _ _ (λ i. bind _ _ (bind (c .values t) bus (g .values t) (bus-within (BusBelow (c .ports)))) (bitAt-below (c .ports) i))
   expansion-below (Paren t e) c g = expansion-below e c g
   expansion-below (Prefixed t (Measures m) e) c g = refused tt
   expansion-below (Prefixed t WidthOf e) c g = refused tt
@@ -191,10 +140,8 @@ module _ (N : ℕ) where
   expansion-below (Joined t (Calculates o) a b) c g = refused tt
   expansion-below (Joined t (Combines o) a b) c g = refused tt
   expansion-below (Joined t (Compares o) a b) c g =
-      bind _ (compared o)
-      (bind _ _ (value-below a (c .values) (g .values)) (λ x h.
-      bind _ (sides x) (value-below b (c .values) (g .values)) (λ y k. sides-below x y h k)))
-      (compared-below o)
+      bind _ _ (value-buses (BusBelow (c .ports)) a (c .values) (g .values)) (λ x h.
+      bind _ _ (value-buses (BusBelow (c .ports)) b (c .values) (g .values)) (λ y k. compared-below (c .ports) o x y h k))
   expansion-below (Joined t Membership a b) c g =
       bind-any _ _ (λ n. bind-any _ _ (λ m. done (truth-below (memberOf m n))))
   expansion-below (Joined t (Connects o) a b) c g =

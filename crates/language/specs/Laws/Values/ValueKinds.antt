@@ -6,8 +6,9 @@ use mathlib.Core.List.{List}
 use lib.Dec.{eqb}
 use borrow.Author.Tests.{eqb-true, eq-eqb}
 use Rattle.language.specs.Bytes.{if_then_else_}
+use Rattle.language.specs.Tokens.{Token}
 use Rattle.language.specs.Types.{Kind, ANumber, ASet, AFormula, ABus, AValue, AType, Unknown, kindCode, isKind}
-use Rattle.language.specs.Values.{Mark, Value, Number, Set, Logic, Bus, Unsized, Choice, number, set, Sized, bus, choice}
+use Rattle.language.specs.Values.{Value, Number, Set, Logic, Bus, Unsized, Choice, number, set, Sized, bus, choice}
 use Rattle.language.specs.Laws.Basics.Results.{Refusals, Answers, done, refused}
 
 -- kinds are told apart by their codes
@@ -35,7 +36,7 @@ abbrev pub valueKind : Value → Kind
 valueKind (Number n) = ANumber
 valueKind (Set s) = ASet
 valueKind Logic = AFormula
-valueKind (Bus p k n) = ABus
+valueKind (Bus p x n) = ABus
 valueKind (Unsized p) = ABus
 valueKind (Choice v) = AValue
 
@@ -51,7 +52,7 @@ pub number-as : {R : Refusals} {Q : ℕ → Type 0} (P : Value → Type 0) → (
 number-as P f m (Number n) h = done (f n h)
 number-as P f m (Set s) h = refused (m (Set s) (apart ASet ANumber refl) h)
 number-as P f m Logic h = refused (m Logic (apart AFormula ANumber refl) h)
-number-as P f m (Bus p k n) h = refused (m (Bus p k n) (apart ABus ANumber refl) h)
+number-as P f m (Bus p x n) h = refused (m (Bus p x n) (apart ABus ANumber refl) h)
 number-as P f m (Unsized p) h = refused (m (Unsized p) (apart ABus ANumber refl) h)
 number-as P f m (Choice w) h = refused (m (Choice w) (apart AValue ANumber refl) h)
 
@@ -59,23 +60,23 @@ pub set-as : {R : Refusals} {Q : List ℕ → Type 0} (P : Value → Type 0) →
 set-as P f m (Number n) h = refused (m (Number n) (apart ANumber ASet refl) h)
 set-as P f m (Set s) h = done (f s h)
 set-as P f m Logic h = refused (m Logic (apart AFormula ASet refl) h)
-set-as P f m (Bus p k n) h = refused (m (Bus p k n) (apart ABus ASet refl) h)
+set-as P f m (Bus p x n) h = refused (m (Bus p x n) (apart ABus ASet refl) h)
 set-as P f m (Unsized p) h = refused (m (Unsized p) (apart ABus ASet refl) h)
 set-as P f m (Choice w) h = refused (m (Choice w) (apart AValue ASet refl) h)
 
 -- a bus before its turn is refused by 13
-pub bus-as : {R : Refusals} {Q : Sized → Type 0} (P : Value → Type 0) → ((p k n : ℕ) → P (Bus p k n) → Q (record { place = p; first = k; width = n })) → ((p : ℕ) → P (Unsized p) → R 13 p) → ((v : Value) → ¬ IsOf ABus v → P v → R 9 0) → (v : Value) → P v → Answers R Q (bus v)
+pub bus-as : {R : Refusals} {Q : Sized → Type 0} (P : Value → Type 0) → ((p : ℕ) (x : List ℕ) (n : ℕ) → P (Bus p x n) → Q (record { place = p; name = x; width = n })) → ((p : ℕ) → P (Unsized p) → R 13 p) → ((v : Value) → ¬ IsOf ABus v → P v → R 9 0) → (v : Value) → P v → Answers R Q (bus v)
 bus-as P f g m (Number n) h = refused (m (Number n) (apart ANumber ABus refl) h)
 bus-as P f g m (Set s) h = refused (m (Set s) (apart ASet ABus refl) h)
 bus-as P f g m Logic h = refused (m Logic (apart AFormula ABus refl) h)
-bus-as P f g m (Bus p k n) h = done (f p k n h)
+bus-as P f g m (Bus p x n) h = done (f p x n h)
 bus-as P f g m (Unsized p) h = refused (g p h)
 bus-as P f g m (Choice w) h = refused (m (Choice w) (apart AValue ABus refl) h)
 
-pub choice-as : {R : Refusals} {Q : List (List Mark) → Type 0} (P : Value → Type 0) → ((w : List (List Mark)) → P (Choice w) → Q w) → ((v : Value) → ¬ IsOf AValue v → P v → R 9 0) → (v : Value) → P v → Answers R Q (choice v)
+pub choice-as : {R : Refusals} {Q : List Token → Type 0} (P : Value → Type 0) → ((w : List Token) → P (Choice w) → Q w) → ((v : Value) → ¬ IsOf AValue v → P v → R 9 0) → (v : Value) → P v → Answers R Q (choice v)
 choice-as P f m (Number n) h = refused (m (Number n) (apart ANumber AValue refl) h)
 choice-as P f m (Set s) h = refused (m (Set s) (apart ASet AValue refl) h)
 choice-as P f m Logic h = refused (m Logic (apart AFormula AValue refl) h)
-choice-as P f m (Bus p k n) h = refused (m (Bus p k n) (apart ABus AValue refl) h)
+choice-as P f m (Bus p x n) h = refused (m (Bus p x n) (apart ABus AValue refl) h)
 choice-as P f m (Unsized p) h = refused (m (Unsized p) (apart ABus AValue refl) h)
 choice-as P f m (Choice w) h = done (f w h)

@@ -37,7 +37,7 @@ abbrev pub Sane : Value → Type 0
 Sane (Number n) = SaneNumber n
 Sane (Set s) = SaneSet s
 Sane Logic = Unit {0}
-Sane (Bus p k n) = n ≤ maxWidth
+Sane (Bus p x n) = n ≤ maxWidth
 Sane (Unsized p) = Unit {0}
 Sane (Choice v) = Unit {0}
 
@@ -57,7 +57,7 @@ abbrev pub SaneBus : Sized → Type 0
 SaneBus b = b .width ≤ maxWidth
 
 pub bus-sane : (v : Value) → Sane v → Within SaneBus (bus v)
-bus-sane = bus-as Sane (λ p k n h. h) (λ p h. tt) (λ _ _ _. tt)
+bus-sane = bus-as Sane (λ p x n h. h) (λ p h. tt) (λ _ _ _. tt)
 
 number-is : (r : Result ℕ) → Within SaneNumber r → Within Sane (r >>= λ n. Done (Number n))
 number-is r h = bind r _ h (λ n k. done k)

@@ -1,19 +1,22 @@
--- What an expression of numbers and sets is worked out to, by the values of its operands: the laws of arithmetic and of sets, said of expressions.
+-- What an expression of numbers and sets is worked out to, by the values of its operands: the laws of arithmetic and of sets, said of expressions; and what a name
+-- stands for.
 use Prim.Native.Nat.{ℕ, _≤_, _<_}
-use mathlib.Core.Path.{_≡_, refl, sym, ap, _∙_}
-use mathlib.Core.Bool.{Bool, So, _||_}
+use mathlib.Core.Path.{_≡_, refl, sym, ap, subst, _∙_}
+use mathlib.Core.Bool.{Bool, true, So, _||_}
 use mathlib.Core.List.{List, [], _∷_}
 use lib.Dec.{eqb}
 use native.Mathlib.Omega.{arith}
-use Rattle.node.specs.Result.{Done, _>>=_}
+use Rattle.node.specs.Result.{Result, Done, Refused, _>>=_}
 use Rattle.language.specs.Limits.{maxNumber}
+use Rattle.language.specs.Bytes.{same}
 use Rattle.language.specs.Tokens.{Token}
-use Rattle.language.specs.Operators.{Arithmetic, Combination, Size, Min, Max, Big, Calculates, Combines, Measures}
-use Rattle.language.specs.Tree.{Expr, Numeral, Prefixed, Joined, Each, Between, Listed, Empty, Element, Range}
+use Rattle.language.specs.Operators.{Arithmetic, Combination, Size, Min, Max, Big, Calculates, Combines, Measures, WidthOf}
+use Rattle.language.specs.Tree.{Expr, Named, Numeral, Paren, Prefixed, Joined, Each, Between, Listed, Empty, Element, Range}
 use Rattle.language.specs.Sets.{memberOf, insert}
-use Rattle.language.specs.Values.{Value, Number, Set, decimal, big, Scope, naming, value}
+use Rattle.language.specs.Values.{Value, Number, Set, Bus, Unsized, decimal, big, Scope, naming, value}
+use Rattle.language.specs.Laws.Basics.Tests.{split, pick, same-equal, same-refl}
 use Rattle.language.specs.Laws.Basics.Exactly.{Exactly, exactly-as}
-use Rattle.language.specs.Laws.Values.SetMembers.{Holding, insert-member}
+use Rattle.language.specs.Laws.Values.SetMembers.{inCombination, insert-member}
 use Rattle.language.specs.Laws.Values.SetExtent.{Least, Greatest, min-least, max-greatest, tally, size-tally}
 use Rattle.language.specs.Laws.Values.SetLaws.{insert-ascending}
 use Rattle.language.specs.Laws.Values.SetAnswers.{Small, ascending-rises, limited-exact, combine-exact, InRange, range-exact, Above, Below, between-exact}
@@ -46,7 +49,7 @@ module _ (sc : Scope) (t : Token) where
   calculated o a b m n h k = rw (h .worked, k .worked) (exactly-as 11 (t .at) Number _ (calculate-exact (t .at) o m n (h .sane)))
 
   pub combined : (o : Combination) (a b : Expr) (m n : List ℕ) → IsSet sc a m → IsSet sc b n →
-      Exactly 12 (t .at) (SetWith (Small (λ k. So (Holding o (memberOf m k) (memberOf n k))))) (value sc (Joined t (Combines o) a b))
+      Exactly 12 (t .at) (SetWith (Small (λ k. So (inCombination o (memberOf m k) (memberOf n k))))) (value sc (Joined t (Combines o) a b))
   unfolding _>>=_
   combined o a b m n h k =
       rw (h .worked, k .worked) (exactly-as 12 (t .at) Set _ (combine-exact (t .at) o maxNumber m n (h .sane .0) (k .sane .0)))
@@ -80,6 +83,26 @@ module _ (sc : Scope) (t : Token) where
       value sc (Each t o further i s e) ≡ big (t .at) o (λ k. value (naming i (Done (Number k)) sc) e) m
   unfolding _>>=_
   over-elements o further i s e m h = rw (h .worked)
+
+  -- SIZEOF a bus is its width, of one not yet sized 13 at its name
+  pub sized : (e : Expr) (p n : ℕ) (x : List ℕ) → value sc e ≡ Done (Bus p x n) → value sc (Prefixed t WidthOf e) ≡ Done (Number n)
+  unfolding _>>=_
+  sized e p n x h = rw h
+
+  pub unsized : (e : Expr) (p : ℕ) → value sc e ≡ Done (Unsized p) → value sc (Prefixed t WidthOf e) ≡ Refused 13 p
+  unfolding _>>=_
+  unsized e p h = rw h
+
+  pub parenthesised : (e : Expr) → value sc (Paren t e) ≡ value sc e
+  parenthesised e = refl
+
+-- a name stands for what was put under it last
+module _ (x : Token) (r : Result Value) (sc : Scope) (t : Token) where
+  pub named-here : x .text ≡ t .text → value (naming x r sc) (Named t) ≡ r
+  named-here e = pick (same (x .text) (t .text)) r (sc t) (subst (λ s. same (x .text) s ≡ true) e (same-refl (x .text)))
+
+  pub named-before : ¬ (x .text ≡ t .text) → value (naming x r sc) (Named t) ≡ value sc (Named t)
+  named-before n = split (λ s. s ≡ sc t) (same (x .text) (t .text)) (λ e. absurd (n (same-equal (x .text) (t .text) e))) (λ _. refl)
 
 -- the elements of a set in braces, as written
 pub data Elements (sc : Scope) : Expr → List ℕ → Type 0 where
