@@ -2,17 +2,18 @@
 use Prim.Native.Nat.{ℕ, zero, suc, _≤_, _<_}
 use mathlib.Core.List.{List, [], _∷_}
 use mathlib.Core.Bool.{Bool, true, false, _&&_}
-use mathlib.Core.Path.{_≡_, refl, sym, ap, _∙_, subst}
+use mathlib.Core.Path.{_≡_, refl, ap, _∙_}
 use lib.Dec.{eqb}
 use lib.ListN.{drop}
 use native.Mathlib.Omega.{arith}
-use borrow.Author.Tests.{eqb-true, eqb-false, ne-eqb}
-use Rattle.language.specs.Bytes.{if_then_else_, within, isBlank, isDigit, isNameStart, isMark, starts}
+use borrow.Author.Tests.{ne-eqb}
+use Rattle.language.specs.Bytes.{if_then_else_, within, isDigit, isNameStart, isMark, starts}
 use Rattle.language.specs.Tokens.{Class, Quoted, Marks, Numeral, Blank, Wrong, code, Piece, signs, run, lineSize, quotedSize, commentSize, signAt, wordAt, closed, pieceAt}
 use Rattle.language.specs.Laws.Basics.Tests.{pick, leave}
 use Rattle.lexer.specs.Numbers.{classNumber}
 use Rattle.lexer.specs.Tables.{ByteClass}
 use Rattle.lexer.specs.Scanning.{opened, ScansAs, closedAs}
+use Rattle.lexer.proofs.Choices.{either}
 use Rattle.lexer.proofs.ScanLaws.{piece, scans-class}
 
 -- a string or comment
@@ -85,14 +86,7 @@ module _ (b x : ℕ) (h : ByteClass b x) (e : Bool) (s : List ℕ) where
 -- marks and digits, in an enumeration and elsewhere
 module _ (b x : ℕ) (h : ByteClass b x) (s : List ℕ) where
   pub piece-marks : 4 ≤ x → x ≤ 5 → pieceAt true (b ∷ s) ≡ piece Marks (run isMark (b ∷ s))
-  piece-marks l m = go (eqb x 4) refl
-    where
-      go : (p : Bool) → eqb x 4 ≡ p → pieceAt true (b ∷ s) ≡ piece Marks (run isMark (b ∷ s))
-      go true f = by-class b x h true s 4 (eqb-true x 4 f)
-      go false f = let n = eqb-false x 4 f in by-class b x h true s 5 (other n)
-        where
-          other : (x ≡ 4 → ⊥) → x ≡ 5
-          other n = omega arith
+  piece-marks l m = either x 4 l m (by-class b x h true s 4) (by-class b x h true s 5)
 
   pub piece-unmarked : x ≡ 6 → pieceAt true (b ∷ s) ≡ piece Wrong 0
   piece-unmarked f = by-class b x h true s 6 f
@@ -101,11 +95,4 @@ module _ (b x : ℕ) (h : ByteClass b x) (s : List ℕ) where
   piece-star f = by-class b x h false s 4 f
 
   pub piece-numeral : 5 ≤ x → x ≤ 6 → pieceAt false (b ∷ s) ≡ piece Numeral (run isDigit (b ∷ s))
-  piece-numeral l m = go (eqb x 5) refl
-    where
-      go : (p : Bool) → eqb x 5 ≡ p → pieceAt false (b ∷ s) ≡ piece Numeral (run isDigit (b ∷ s))
-      go true f = by-class b x h false s 5 (eqb-true x 5 f)
-      go false f = let n = eqb-false x 5 f in by-class b x h false s 6 (other n)
-        where
-          other : (x ≡ 5 → ⊥) → x ≡ 6
-          other n = omega arith
+  piece-numeral l m = either x 5 l m (by-class b x h false s 5) (by-class b x h false s 6)

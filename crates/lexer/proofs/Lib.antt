@@ -1,6 +1,11 @@
+pub mod Choices
+pub mod TableLaws
 pub mod SizeLaws
 pub mod SearchLaws
 pub mod WordLaws
 pub mod ScanLaws
 pub mod ClassLaws
 pub mod PlaceLaws
+pub mod StepLaws
+pub mod RunLaws
+pub mod AnswerLaws

@@ -3,7 +3,6 @@ use Prim.Native.Nat.{ℕ, suc, _+_, _-_, _*_, _≤_, _<_}
 use mathlib.Core.List.{List, [], _∷_}
 use mathlib.Core.Bool.{Bool, true, false, _&&_}
 use mathlib.Core.Path.{_≡_, refl, sym, ap, _∙_, subst}
-use lib.Dec.{eqb}
 use lib.ListN.{length, getD, drop, drop-of-length-le}
 use lib.Seq.{drop-cons, drop-drop}
 use native.Mathlib.Numerals.{add-one}
@@ -12,12 +11,11 @@ use borrow.Author.Tests.{eq-eqb, ne-eqb}
 use Rattle.language.specs.Limits.{maxName}
 use Rattle.language.specs.Bytes.{isNameStart, isNameByte, isMark, isDigit, starts}
 use Rattle.language.specs.Tokens.{Name, Numeral, Quoted, Marks, Wrong, Blank, Piece, signs, run, lineSize, quotedSize, commentSize, signAt, wordAt, pieceAt}
-use Rattle.language.specs.Laws.Basics.Tests.{and-false}
 use Rattle.lexer.specs.Numbers.{noNumber, classNumber, firstFixed}
 use Rattle.lexer.specs.Spelling.{count, entries, entry, search, fitting}
 use Rattle.lexer.specs.Tables.{ByteClass, NextWith, classed}
 use Rattle.lexer.specs.Scanning.{opened, Findable, Scannable, ScansAs, Scans, closedAs}
-use Rattle.lexer.specs.declared.Scanned.{Scanned}
+use Rattle.lexer.specs.declared.piece.Scanned.{Scanned}
 use Rattle.lexer.proofs.ScanLaws.{scans-class, word-long, word-fixed, word-name, sign-fixed, sign-wrong, run-classed}
 use Rattle.lexer.proofs.ClassLaws.{scans-closed, piece-letter, piece-blank, piece-quote, piece-low, piece-high, piece-line, piece-comment, piece-slash, piece-marks, piece-unmarked, piece-star, piece-numeral}
 

@@ -1,25 +1,24 @@
 -- What the code scans is the definition's piece: words and signs by what the search found, the others by the class of their first byte.
-use Prim.Native.Nat.{ℕ, suc, _+_, _*_, _≤_, _<_}
-use mathlib.Core.List.{List, [], _∷_, map}
-use mathlib.Core.Bool.{Bool, true, false, _&&_, _||_}
+use Prim.Native.Nat.{ℕ, suc, _+_, _≤_, _<_}
+use mathlib.Core.List.{List, [], _∷_}
+use mathlib.Core.Bool.{Bool, true, false, _||_}
 use mathlib.Core.Path.{_≡_, refl, sym, ap, ap₂, _∙_, subst}
 use lib.Dec.{eqb, leb}
-use lib.ListN.{length, getD, take, drop, length-drop}
-use lib.Seq.{drop-cons, getD-drop}
-use native.Mathlib.Nat.{zero-add}
+use lib.ListN.{length, getD, take, drop}
+use lib.Seq.{getD-drop}
 use native.Mathlib.Omega.{arith}
 use borrow.Author.Tests.{le-leb, lt-leb}
 use Rattle.language.specs.Limits.{maxName}
-use Rattle.language.specs.Bytes.{ascii, if_then_else_, within, isNameStart, isNameByte, isDigit, starts, isOneOf}
-use Rattle.language.specs.Tokens.{Class, Fixed, Name, Wrong, code, Token, Piece, signs, words, run, signAt, wordAt}
+use Rattle.language.specs.Bytes.{if_then_else_, isNameStart, isNameByte, isDigit, isOneOf}
+use Rattle.language.specs.Tokens.{Class, Fixed, Name, Wrong, code, Piece, signs, words, run, signAt, wordAt}
 use Rattle.language.specs.Laws.Basics.Tests.{pick, leave, or-left}
 use Rattle.language.specs.Laws.Grammar.PieceLaws.{run-fits, run-some}
 use Rattle.lexer.specs.Numbers.{spellings, position, noNumber, classNumber, firstFixed}
 use Rattle.lexer.specs.NumberLaws.{number-fixed, number-class}
 use Rattle.lexer.specs.Spelling.{count, entries, entry, search, fitting}
-use Rattle.lexer.specs.Tables.{ByteClass, classed, RightBytes}
+use Rattle.lexer.specs.Tables.{classed}
 use Rattle.lexer.specs.Scanning.{pieceNumber, ScansAs}
-use Rattle.lexer.proofs.WordLaws.{word-position, position-in, position-out, among-words, among-signs, take-starts, nth, FirstSign, sign-found, sign-none}
+use Rattle.lexer.proofs.WordLaws.{word-position, position-in, position-out, among-words, among-signs, take-starts, nth, sign-found, sign-none}
 
 abbrev pub piece : Class → ℕ → Piece
 piece c n = record { class = c; size = n }

@@ -1,19 +1,20 @@
 -- The search among signs and words: an entry is compared byte by byte, and entries that begin with another byte are passed over.
-use Prim.Native.Nat.{ℕ, zero, suc, _+_, _-_, _*_, _≤_, _<_}
+use Prim.Native.Nat.{ℕ, zero, suc, _+_, _-_, _≤_, _<_}
 use mathlib.Core.List.{List, [], _∷_}
 use mathlib.Core.Bool.{Bool, true, false, _&&_, _||_, not, false≢true}
-use mathlib.Core.Path.{_≡_, refl, sym, ap, ap₂, _∙_, subst}
+use mathlib.Core.Path.{_≡_, refl, sym, ap, _∙_, subst}
 use lib.Dec.{eqb}
 use lib.ListN.{length, getD, drop, drop-of-length-le, length-drop}
 use lib.Seq.{drop-cons, drop-drop}
 use native.Mathlib.Nat.{add-zero}
 use native.Mathlib.Numerals.{add-one}
 use native.Mathlib.Omega.{arith}
-use borrow.Author.Tests.{eqb-true, eqb-false, eq-eqb, ne-eqb}
+use borrow.Author.Tests.{eq-eqb, ne-eqb}
 use Rattle.language.specs.Bytes.{starts}
-use Rattle.language.specs.Laws.Basics.Tests.{split, pick, leave, and-left, and-right, and-false}
+use Rattle.language.specs.Laws.Basics.Tests.{pick, leave, and-left, and-right, and-false}
 use Rattle.language.specs.Laws.Grammar.PieceLaws.{starts-fits}
 use Rattle.lexer.specs.Spelling.{count, entries, entry, search, fitting}
+use Rattle.lexer.proofs.Choices.{refute}
 use Rattle.lexer.specs.Tables.{begins, differs, passes, NextWith}
 
 -- one byte of an entry and of the text
@@ -28,11 +29,7 @@ starts-all : (w s : List ℕ) (j : ℕ) → length w ≤ j → starts (drop j w)
 starts-all w s j h = rw (drop-of-length-le w h)
 
 starts-short : (w s : List ℕ) → length s < length w → starts w s ≡ false
-starts-short w s h = go (starts w s) refl
-  where
-    go : (b : Bool) → starts w s ≡ b → b ≡ false
-    go true e = let f = starts-fits w s e in absurd (omega arith)
-    go false e = refl
+starts-short w s h = refute (starts w s) (λ e. let f = starts-fits w s e in omega arith)
 
 -- j bytes of the entry w are those of the text from `at` on
 pub record Comparing (w text : List ℕ) (at j : ℕ) : Type 0 where
@@ -132,14 +129,14 @@ module _ (text : List ℕ) (at size : ℕ) (inside : at < length text) where
     unfolding entry
     here h = drop-cons entries k [] (subst (λ m. k < m) (sym length-entries) h)
 
-    pub finding-stop : k < count → true ≡ test (entry k) → k ≡ search test entries
-    finding-stop h e =
-        let z : search test (drop k entries) ≡ 0 = ap (search test) (here h) ∙ pick (test (entry k)) 0 (suc (search test (drop (suc k) entries))) (sym e) in
+    pub finding-stop : k < count → (r : Bool) → r ≡ true → r ≡ test (entry k) → k ≡ search test entries
+    finding-stop h r g e =
+        let z : search test (drop k entries) ≡ 0 = ap (search test) (here h) ∙ pick (test (entry k)) 0 (suc (search test (drop (suc k) entries))) (sym e ∙ g) in
         omega (arith, c .same)
 
-    pub finding-on : (m : ℕ) → k < count → false ≡ test (entry k) → NextWith byte (suc k) m → Finding text at size m
-    finding-on m h e n =
-        let z : search test (drop k entries) ≡ suc (search test (drop (suc k) entries)) = ap (search test) (here h) ∙ leave (test (entry k)) 0 (suc (search test (drop (suc k) entries))) (sym e) in
+    pub finding-on : (m : ℕ) → k < count → (r : Bool) → r ≡ false → r ≡ test (entry k) → NextWith byte (suc k) m → Finding text at size m
+    finding-on m h r g e n =
+        let z : search test (drop k entries) ≡ suc (search test (drop (suc k) entries)) = ap (search test) (here h) ∙ leave (test (entry k)) 0 (suc (search test (drop (suc k) entries))) (sym e ∙ g) in
         onward (suc k) m n (c .same ∙ omega arith)
 
     pub finding-end : count ≤ k → count ≡ search test entries

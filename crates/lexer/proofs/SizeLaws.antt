@@ -1,7 +1,7 @@
 -- The sizes of runs, lines, strings and comments, one byte of the text at a time.
 use Prim.Native.Nat.{ℕ, suc, _+_, _-_, _*_, _≤_, _<_}
-use mathlib.Core.List.{List}
-use mathlib.Core.Bool.{Bool, true, false, _&&_}
+use mathlib.Core.List.{List, [], _∷_}
+use mathlib.Core.Bool.{Bool, true, false, _&&_, not}
 use mathlib.Core.Path.{_≡_, refl, sym, ap, ap₂, _∙_}
 use lib.Dec.{eqb, leb}
 use lib.ListN.{length, getD, drop, drop-of-length-le}
@@ -14,7 +14,19 @@ use Rattle.language.specs.Tokens.{run, lineSize, quotedSize, Nesting, nested, c
 use Rattle.language.specs.Laws.Basics.Tests.{split}
 use Rattle.lexer.specs.Tables.{classed}
 use Rattle.lexer.specs.Scanning.{opened, Nests}
-use Rattle.lexer.specs.declared.Nest.{Nest}
+use Rattle.lexer.specs.declared.sizes.Nest.{Nest}
+
+-- a line is a run of other bytes than line feeds
+abbrev pub inLine : ℕ → Bool
+inLine b = not (eqb b 10)
+
+pub line-run : (s : List ℕ) → run inLine s ≡ lineSize s
+line-run [] = refl
+line-run (b ∷ s) = turned (eqb b 10) (run inLine s) ∙ ap (λ (n : ℕ). elim (eqb b 10) [ true ↦ 0 | false ↦ suc n ]) (line-run s)
+  where
+    turned : (q : Bool) (n : ℕ) → _≡_ {A = ℕ} (elim (not q) [ true ↦ suc n | false ↦ 0 ]) (elim q [ true ↦ 0 | false ↦ suc n ])
+    turned true n = refl
+    turned false n = refl
 
 -- at a byte of the text
 module _ (s : List ℕ) (i : ℕ) (h : i < length s) where
@@ -23,12 +35,6 @@ module _ (s : List ℕ) (i : ℕ) (h : i < length s) where
 
   pub run-stop : (p : ℕ → Bool) → p (getD s i 0) ≡ false → run p (drop i s) ≡ 0
   run-stop p e = rw (drop-cons s i 0 h, e, run)
-
-  pub line-more : eqb (getD s i 0) 10 ≡ false → lineSize (drop i s) ≡ suc (lineSize (drop (i + 1) s))
-  line-more e = rw (add-one i, drop-cons s i 0 h, e, lineSize)
-
-  pub line-stop : eqb (getD s i 0) 10 ≡ true → lineSize (drop i s) ≡ 0
-  line-stop e = rw (drop-cons s i 0 h, e, lineSize)
 
   pub quoted-more : (n : ℕ) → eqb (getD s i 0) 34 ≡ false → quotedSize n (drop i s) ≡ quotedSize (suc n) (drop (i + 1) s)
   quoted-more n e = rw (add-one i, drop-cons s i 0 h, e, quotedSize)
@@ -82,9 +88,6 @@ module _ (depth last b : ℕ) where
 module _ (s : List ℕ) (i : ℕ) (h : length s ≤ i) where
   pub run-end : (p : ℕ → Bool) → run p (drop i s) ≡ 0
   run-end p = rw (drop-of-length-le s h)
-
-  pub line-end : lineSize (drop i s) ≡ 0
-  line-end = rw (drop-of-length-le s h)
 
   pub quoted-end : (n : ℕ) → quotedSize n (drop i s) ≡ 0
   quoted-end n = rw (drop-of-length-le s h)

@@ -1,18 +1,19 @@
 -- What the search finds is the definition's word or sign, with its number.
-use Prim.Native.Nat.{ℕ, zero, suc, _+_, _≤_, _<_}
+use Prim.Native.Nat.{ℕ, zero, suc, _≤_, _<_}
 use Prim.Native.String.{String}
 use mathlib.Core.List.{List, [], _∷_, _++_, map}
 use mathlib.Core.Bool.{Bool, true, false, _&&_, _||_, not, false≢true}
 use mathlib.Core.Path.{_≡_, refl, sym, ap, ap₂, _∙_, subst}
 use lib.Dec.{eqb, eqb·zero-suc, eqb·suc-zero, eqb·suc-suc}
-use lib.ListN.{length, getD, take, length-map}
+use lib.ListN.{length, getD, take}
 use native.Mathlib.Omega.{arith}
-use borrow.Author.Tests.{eqb-true, eqb-false, eq-eqb, ne-eqb}
+use borrow.Author.Tests.{eqb-true, ne-eqb}
 use Rattle.language.specs.Bytes.{ascii, isNameStart, starts, same, isOneOf}
 use Rattle.language.specs.Tokens.{Fixed, Wrong, Piece, signs, words, signAt}
-use Rattle.language.specs.Laws.Basics.Tests.{split, pick, leave, and-left, and-right, and-false, same-equal, same-refl}
+use Rattle.language.specs.Laws.Basics.Tests.{pick, leave, and-left, and-right, and-false, same-equal, same-refl}
 use Rattle.lexer.specs.Numbers.{spellings, position}
-use Rattle.lexer.specs.Spelling.{count, entries, entry, search, fitting}
+use Rattle.lexer.proofs.Choices.{refute}
+use Rattle.lexer.specs.Spelling.{entries, search, fitting}
 
 -- a word that has the size of some bytes and starts them is these bytes
 starts-same : (w s : List ℕ) (n : ℕ) → n ≤ length s → (eqb (length w) n && starts w s) ≡ same w (take n s)
@@ -71,8 +72,8 @@ not-start p b s [] h e = absurd (false≢true e)
 not-start p b s (x ∷ w) h e = and-false (eqb x b) (starts w s) (ne-eqb x b (λ f. false≢true (sym h ∙ ap p (sym f) ∙ e)))
 
 not-same : (p : ℕ → Bool) (b : ℕ) (s w : List ℕ) → p b ≡ false → elim w [ [] ↦ false | x ∷ v ↦ p x ] ≡ true → same w (b ∷ s) ≡ false
-not-same p b s [] h e = absurd (false≢true e)
-not-same p b s (x ∷ w) h e = and-false (eqb x b) (same w s) (ne-eqb x b (λ f. false≢true (sym h ∙ ap p (sym f) ∙ e)))
+not-same p b s w h e =
+    refute (same w (b ∷ s)) (λ d. false≢true (sym h ∙ subst (λ u. elim u [ [] ↦ false | x ∷ v ↦ p x ] ≡ true) (same-equal w (b ∷ s) d) e))
 
 module _ (p : ℕ → Bool) (b : ℕ) (s : List ℕ) (h : p b ≡ false) where
   none-same : (ws vs : List String) → firsts p ws ≡ true → isOneOf (ws ++ vs) (b ∷ s) ≡ isOneOf vs (b ∷ s)
@@ -108,11 +109,7 @@ pub record FirstSign (ws : List String) (s : List ℕ) (k : ℕ) : Type 0 where
   pub place : position ws (nth ws k) ≡ k
 
 other-sign : (v w s : List ℕ) → starts w s ≡ false → starts v s ≡ true → same w v ≡ false
-other-sign v w s e f = go (same w v) refl
-  where
-    go : (q : Bool) → same w v ≡ q → q ≡ false
-    go true d = absurd (false≢true (sym e ∙ subst (λ u. starts u s ≡ true) (sym (same-equal w v d)) f))
-    go false d = refl
+other-sign v w s e f = refute (same w v) (λ d. false≢true (sym e ∙ subst (λ u. starts u s ≡ true) (sym (same-equal w v d)) f))
 
 pub sign-found : (s : List ℕ) (ws : List String) (k : ℕ) → search (λ w. starts w s) (map ascii ws) ≡ k → k < length ws → FirstSign ws s k
 sign-found s [] k h l = absurd (omega arith)

@@ -7,5 +7,4 @@ pub mod LexingLaws
 pub mod Answer
 pub mod Spelling
 pub mod Tables
-pub mod TableLaws
 pub mod Scanning

@@ -8,10 +8,10 @@ use lib.Dec.{eqb, leb}
 use lib.ListN.{length, getD}
 use native.Mathlib.Omega.{arith}
 use borrow.Author.Tests.{eq-eqb, ne-eqb, eqb-true, eqb-false, leb-true}
-use Rattle.language.specs.Bytes.{ascii, if_then_else_, same, isOneOf}
+use Rattle.language.specs.Bytes.{ascii, same, isOneOf}
 use Rattle.language.specs.Tokens.{Class, Fixed, Name, Numeral, Quoted, Marks, End, Wrong, Blank, code, Token, isOf, is}
 use Rattle.language.specs.Grammar.{named}
-use Rattle.language.specs.Laws.Basics.Tests.{split, pick, leave, and-left, and-right, or-cases, same-equal, same-refl}
+use Rattle.language.specs.Laws.Basics.Tests.{split, pick, leave, and-left, and-right, same-equal, same-refl}
 use Rattle.lexer.specs.Numbers.{spellings, position, noNumber, classNumber, firstFixed, number, fixed, numbered}
 
 pub position-fits : (ws : List String) (s : List ℕ) → position ws s ≤ length ws
@@ -179,3 +179,9 @@ class-number c t h = go (isOf c t) refl
     go : (p : Bool) → isOf c t ≡ p → p ≡ eqb (number t) (classNumber c)
     go true e = sym (eq-eqb _ _ (here (sym (decode-code c) ∙ ap decode (eqb-true (code c) (code (t .class)) e) ∙ decode-code (t .class)) (isOf Fixed t) refl))
     go false e = sym (ne-eqb _ _ (other e (isOf Fixed t) refl))
+
+-- what is blank has no number
+pub number-blank : (t : Token) → isOf Blank t ≡ true → number t ≡ noNumber
+number-blank t e =
+    let k : t .class ≡ Blank = sym (decode-code (t .class)) ∙ ap decode (sym (eqb-true 7 (code (t .class)) e)) ∙ decode-code Blank in
+    number-class t (ap (λ c. eqb 0 (code c)) k) ∙ ap classNumber k

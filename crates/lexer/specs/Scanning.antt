@@ -10,10 +10,11 @@ use Rattle.language.specs.Limits.{maxBytes, maxTokens}
 use Rattle.language.specs.Bytes.{if_then_else_}
 use Rattle.language.specs.Tokens.{Piece, Nesting, nested, pieceAt}
 use Rattle.lexer.specs.Numbers.{noNumber, number, fixed}
+use Rattle.lexer.specs.Answer.{tokenBytes}
 use Rattle.lexer.specs.Spelling.{count}
 use Rattle.lexer.specs.Tables.{NextWith, RightBytes, RightRows}
-use Rattle.lexer.specs.declared.Nest.{Nest}
-use Rattle.lexer.specs.declared.Scanned.{Scanned}
+use Rattle.lexer.specs.declared.sizes.Nest.{Nest}
+use Rattle.lexer.specs.declared.piece.Scanned.{Scanned}
 
 -- after `/*`
 abbrev pub opened : Nesting
@@ -66,6 +67,12 @@ enumeratingBy e n = if eqb n (fixed "enum") then true else (if eqb n (fixed ";")
 -- the place of the token after the last that a text may have, at token n
 abbrev pub laterPlace : ℕ → ℕ → ℕ → ℕ
 laterPlace n over at = if eqb n maxTokens then at else over
+
+-- the buffer has room for the tokens, and number and offset fit their fields
+pub record Storable (w : List ℕ) (kind at : ℕ) : Type 0 where
+  pub room : tokenBytes ≤ length w
+  pub small : kind < noNumber
+  pub near : at < maxBytes
 
 -- the buffer with the word of token n, if it is one that a text may have
 abbrev pub storing : List ℕ → ℕ → ℕ → List ℕ

@@ -1,6 +1,5 @@
 -- The signs and words as bytes, and the search for the first of them that stands at the front of some bytes.
-use Prim.Native.Nat.{ℕ, zero, suc}
-use Prim.Native.String.{String}
+use Prim.Native.Nat.{ℕ, suc}
 use mathlib.Core.List.{List, [], _∷_, map}
 use mathlib.Core.Bool.{Bool, true, false, _&&_, _||_}
 use lib.Dec.{eqb}
@@ -8,6 +7,7 @@ use lib.ListN.{length, getD}
 use Rattle.language.specs.Bytes.{ascii, starts}
 use Rattle.lexer.specs.Numbers.{spellings}
 
+-- how many there are
 abbrev pub count : ℕ
 count = 99
 

@@ -16,7 +16,7 @@ offsetBits = 16
 abbrev pub lengthBits : ℕ
 lengthBits = 8
 
--- lengths are kept up to this one: a name has at most 64 bytes, and of what is longer only the first byte is looked for again
+-- lengths are kept up to this one: names are shorter, and where a longer numeral, string or word of marks ends is found again in the text
 abbrev pub longest : ℕ
 longest = 255
 

@@ -1,19 +1,13 @@
 -- What a token's word holds can be read back, and words stored elsewhere do not disturb it.
-use Prim.Native.Nat.{ℕ, zero, suc, _+_, _*_, _^_, _≤_, _<_, min}
-use mathlib.Core.List.{List, [], _∷_}
-use mathlib.Core.Bool.{true, false, false≢true}
-use mathlib.Core.Option.{none}
+use Prim.Native.Nat.{ℕ, _^_, _<_, min}
 use mathlib.Core.Path.{_≡_, ap, _∙_}
-use lib.ListN.{length, drop}
+use lib.ListN.{length}
 use native.Mathlib.Omega.{arith}
-use Rattle.node.specs.Result.{Done}
-use Rattle.node.specs.BitFields.{join, above, below}
+use Rattle.node.specs.BitFields.{above, below}
 use Rattle.node.specs.FieldLaws.{above-join, below-join}
-use Rattle.words.specs.Words.{wordAt}
-use Rattle.language.specs.Tokens.{Token, Wrong, isOf}
-use Rattle.language.specs.Grammar.{front}
+use Rattle.language.specs.Tokens.{Token}
 use Rattle.lexer.specs.Numbers.{number}
-use Rattle.lexer.specs.Stored.{offsetBits, lengthBits, longest, tokenWord, numberIn, offsetIn, lengthIn, TokensStored}
+use Rattle.lexer.specs.Stored.{offsetBits, lengthBits, longest, tokenWord, numberIn, offsetIn, lengthIn}
 
 length-fits : (n : ℕ) → min longest n < 2 ^ lengthBits
 length-fits n = omega arith

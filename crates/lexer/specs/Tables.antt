@@ -1,4 +1,4 @@
--- What the lexer's tables must hold, and the computed tests of it.
+-- What the lexer's tables must hold: the class of each byte, and the signs and words in chains by their first byte.
 use Prim.Native.Nat.{ℕ, zero, suc, _+_, _*_, _-_, _≤_, _<_}
 use mathlib.Core.List.{List, [], _∷_}
 use mathlib.Core.Bool.{Bool, true, false, _&&_, not}
@@ -28,6 +28,7 @@ abbrev pub begins : ℕ → List ℕ → Bool
 begins b [] = false
 begins b (x ∷ w) = eqb b x
 
+-- does it begin with another?
 abbrev pub differs : ℕ → List ℕ → Bool
 differs b [] = false
 differs b (x ∷ w) = not (eqb b x)

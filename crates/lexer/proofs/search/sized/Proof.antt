@@ -1,0 +1,13 @@
+-- `lexer::search::sized` meets its contract, by cases on the size.
+use borrow.Author.Tests.{eq-eqb, ne-eqb}
+use Rattle.lexer.proofs.search.sized.Statement.{statement}
+use Rattle.lexer.proofs.search.sized.Tie as tie
+
+returns : tie.Need-returns
+returns c = rw (eq-eqb (c .before .args .size) 0 (c .if1 .taken))
+
+returns-2 : tie.Need-returns-2
+returns-2 c = rw (ne-eqb (c .before .args .size) 0 (c .if1 .left))
+
+pub sized-spec : {M : Type 1} → statement M
+sized-spec = tie.close (tie.spec returns returns-2)
