@@ -24,7 +24,7 @@ more-suc zero k = refl
 more-suc (suc f) k = ap suc (more-suc f k)
 
 -- a name alone is an expression
-name-alone : (f : ℕ) (t : Token) → isOf Name t ≡ true → expr (suc (suc f)) 8 (t ∷ []) ≡ Done (Named t, [])
+pub name-alone : (f : ℕ) (t : Token) → isOf Name t ≡ true → expr (suc (suc f)) 8 (t ∷ []) ≡ Done (Named t, [])
 name-alone f t e =
     let rec : Reader = λ m us. expr (suc f) m us in
     let not-fixed : isOf Fixed t ≡ false = ap (eqb 0) (sym (eqb-true 1 (code (t .class)) e)) in

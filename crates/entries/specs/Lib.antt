@@ -1,0 +1,9 @@
+pub mod Kinds
+pub mod Flat
+pub mod Stored
+pub mod StoredLaws
+pub mod Cursors
+pub mod CursorLaws
+pub mod Reads
+pub mod ReadsLaws
+pub mod TokenReads

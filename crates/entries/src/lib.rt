@@ -1,0 +1,103 @@
+// How a text's tree stands in the work buffer: the cursor by which the parser reads tokens and writes entries.
+use words::get;
+use words::put;
+ghost use mathlib.Core.Path.{_≡_};
+ghost use Prim.Native.Nat.{_<_};
+ghost use Rattle.entries.specs.Stored.{putEntry};
+ghost use Rattle.entries.specs.Cursors.{Fits, Writes, kindAt, placeAt, nextOf, emittedOf, refusedAt, expected};
+
+// The word of entry 0: before it stand the tokens.
+pub const FIRST_ENTRY: usize = 8192;
+
+// Refusal 4.
+pub const NOT_GRAMMAR: u32 = 4;
+
+// The next token's index, how many entries are written; how many tokens there are, and the text's length.
+pub struct Cursor {
+    pub at: usize,
+    pub out: usize,
+    pub count: usize,
+    pub end: usize,
+}
+
+pub enum Parse {
+    Parsed(Cursor),
+    Refused(u32, u32),
+}
+
+// The functions of the parser have requirements: none is called but by the reader, whose own contract asks for nothing.
+impl Cursor {
+    // The number of the next token, 0 at the text's end.
+    pub fn kind(self, work: &[u8]) -> u32
+        requires { ⌜ Fits (now work) self ⌝ }
+        ensures { λ r. ⌜ r ≡ kindAt (now (work .entry)) self ⌝ }
+    {
+        let at = self.at;
+        if at < self.count {
+            return get(work, at) / 256 / 65536;
+        }
+        0
+    }
+
+    // The place of the next token.
+    pub fn place(self, work: &[u8]) -> u32
+        requires { ⌜ Fits (now work) self ⌝ }
+        ensures { λ r. ⌜ r ≡ placeAt (now (work .entry)) self ⌝ }
+    {
+        let at = self.at;
+        if at < self.count {
+            return get(work, at) / 256 % 65536;
+        }
+        self.end as u32
+    }
+
+    pub fn next(self) -> Cursor
+        requires { ⌜ self .at < 8192 ⌝ }
+        ensures { λ r. ⌜ r ≡ nextOf self ⌝ }
+    {
+        Cursor {
+            at: self.at + 1,
+            out: self.out,
+            count: self.count,
+            end: self.end,
+        }
+    }
+
+    // One entry more.
+    pub fn emit(self, work: &mut [u8], kind: u32, token: usize, size: usize) -> Cursor
+        requires { ⌜ Writes (now work) self kind token size ⌝ }
+        ensures { λ r. ⌜ (r ≡ emittedOf self) × (now (work .exit) ≡ putEntry (now (work .entry)) (self .out) kind token size) ⌝ }
+    {
+        let out = self.out;
+        put(
+            work,
+            FIRST_ENTRY + out,
+            (kind * 8192 + (token as u32)) * 8192 + (size as u32),
+        );
+        Cursor {
+            at: self.at,
+            out: out + 1,
+            count: self.count,
+            end: self.end,
+        }
+    }
+
+    // Nothing continues here.
+    pub fn refuse(self, work: &[u8]) -> Parse
+        requires { ⌜ Fits (now work) self ⌝ }
+        ensures { λ r. ⌜ r ≡ refusedAt (now (work .entry)) self ⌝ }
+    {
+        Parse::Refused(NOT_GRAMMAR, self.place(work))
+    }
+
+    // Past the next token, which must have this number; the text's end has none behind it.
+    pub fn expect(self, work: &[u8], kind: u32) -> Parse
+        requires { ⌜ Fits (now work) self × (0 < kind) ⌝ }
+        ensures { λ r. ⌜ r ≡ expected (now (work .entry)) self kind ⌝ }
+    {
+        if self.kind(work) == kind {
+            return Parse::Parsed(self.next());
+        }
+        self.refuse(work)
+    }
+}

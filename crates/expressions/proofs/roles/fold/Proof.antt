@@ -1,0 +1,61 @@
+-- `expressions::roles::fold` meets its contract: a bracket, then the first name.
+use borrow.Author.Needs.{needs}
+use native.Mathlib.Omega.{arith}
+use mathlib.Core.Path.{sym, ap, _∙_}
+use lib.Dec.{lit<}
+use denote.Ref.{now}
+use Rattle.entries.specs.Cursors.{nextOf, expected}
+use Rattle.expressions.specs.BinderStates.{expected-parsed, expected-refused, fold-inside, fold-fits, turn-unopened, fold-names, turn-fold}
+use Rattle.expressions.proofs.roles.fold.Statement.{statement}
+use Rattle.expressions.proofs.roles.fold.Tie as tie
+
+next-requires : tie.Need-next-requires
+next-requires c κs =
+    let start = c .before .before in
+    let i = fold-inside (start .pre .0 .state) (start .pre .1) (start .pre .2) in omega (arith, (start .pre .0 .state) .stacked .ready .fits .few)
+
+expect-requires : tie.Need-expect-requires
+expect-requires c κs =
+    let start = c .before .before .before .before in
+    rw ((c .before .next) .ensures) (fold-fits (start .pre .0 .state) (start .pre .1) (start .pre .2), lit< tt)
+
+enum-known-r : tie.Need-enum-known-r
+enum-known-r c = search needs
+
+enum-told : tie.Need-enum-told
+enum-told c = search needs
+
+same-length : tie.Need-same-length
+same-length c = search needs
+
+returns : tie.Need-returns
+returns c =
+    let start = c .before .before .before .before .before .before .before in
+    λ ts s x h. let r = expected-refused (now (start .args .work)) (nextOf ((start .args .m) .c)) 24 _ _ (ap (λ d. expected (now (start .args .work)) d 24) (sym ((c .before .before .before .before .next) .ensures)) ∙ sym ((c .before .before .expect) .ensures) ∙ (c .enum-told) .given .1) in rw ((c .enum-told) .given .1 ∙ r .1) (turn-unopened h (start .pre .1) (start .pre .2) (r .0))
+
+binder-requires : tie.Need-binder-requires
+binder-requires c κs =
+    let start = c .before .before .before .before .before .before .before .before .before in
+    let r = (expected-parsed (now (start .args .work)) (nextOf ((start .args .m) .c)) ((c .before .before .r) .given .0 .0) 24 (ap (λ d. expected (now (start .args .work)) d 24) (sym ((c .before .before .before .before .before .before .next) .ensures)) ∙ sym ((c .before .before .before .before .expect) .ensures) ∙ (c .before .before .r) .given .1)) in rw (r .1) (record { tokens = (start .pre .0) .tokens; start = (start .pre .0) .start; answer = (start .pre .0) .answer; state = fold-names (start .pre .0 .state) (start .pre .1) (start .pre .2) (r .0) })
+
+same-length-2 : tie.Need-same-length-2
+same-length-2 c = search needs
+
+returns-2 : tie.Need-returns-2
+returns-2 c =
+    let start = c .before .before .before .before .before .before .before .before .before .before .before .before in
+    λ ts s x h. let r = (expected-parsed (now (start .args .work)) (nextOf ((start .args .m) .c)) ((c .before .before .before .before .before .r) .given .0 .0) 24 (ap (λ d. expected (now (start .args .work)) d 24) (sym ((c .before .before .before .before .before .before .before .before .before .next) .ensures)) ∙ sym ((c .before .before .before .before .before .before .before .expect) .ensures) ∙ (c .before .before .before .before .before .r) .given .1)) in turn-fold h (start .pre .1) (start .pre .2) (r .0) (rw (r .1) at ((c .before .before .binder) .ensures ts s x (rw (r .1) (fold-names h (start .pre .1) (start .pre .2) (r .0)))))
+
+pub fold-spec : {M : Type 1} → statement M
+fold-spec =
+    tie.close
+    (tie.spec
+    next-requires
+    expect-requires
+    enum-known-r
+    enum-told
+    same-length
+    returns
+    binder-requires
+    same-length-2
+    returns-2)

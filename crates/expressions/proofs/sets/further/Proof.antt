@@ -1,0 +1,130 @@
+-- `expressions::sets::further` meets its contract: the sign of each class, then the operand at the operator's level or the next bound.
+use borrow.Author.Needs.{needs}
+use native.Mathlib.Omega.{arith}
+use mathlib.Core.Path.{_≡_, sym, ap, _∙_}
+use lib.Dec.{lit<}
+use denote.Ref.{now}
+use Prim.Native.Nat.{_/_}
+use Rattle.entries.specs.CursorLaws.{before-end}
+use Rattle.expressions.specs.Stack.{slotClass}
+use Rattle.expressions.specs.CompleteLaws.{complete-tops, complete-fits}
+use Rattle.expressions.specs.Reopens.{turn-counted, turn-low, turn-high, turn-unlow, turn-unopened}
+use Rattle.expressions.proofs.sets.further.Statement.{statement}
+use Rattle.expressions.proofs.sets.further.Tie as tie
+
+top-requires : tie.Need-top-requires
+top-requires c κs =
+    let start = c .before .before .before in
+    (complete-tops (start .pre .0 .state) (λ e. omega (arith, start .pre .1)))
+
+kind-requires : tie.Need-kind-requires
+kind-requires c κs =
+    let start = c .before .before .before .before .before in
+    complete-fits (start .pre .0 .state)
+
+next-requires : tie.Need-next-requires
+next-requires c κs =
+    let e = (let q : (c .before .before .before .kind) .result ≡ 29 = omega arith in sym ((c .before .before .before .kind) .ensures) ∙ q) in omega (arith, before-end (now ((c .before .before .before .before .before .before .before .before .before) .args .work)) (((c .before .before .before .before .before .before .before .before .before) .args .m) .c) (omega arith), complete-fits ((c .before .before .before .before .before .before .before .before .before) .pre .0 .state) .few)
+
+reopen-requires : tie.Need-reopen-requires
+reopen-requires c κs =
+    let start = c .before .before .before .before .before .before .before .before .before .before in
+    ((complete-tops (start .pre .0 .state) (λ e. omega (arith, start .pre .1))), lit< tt)
+
+same-length : tie.Need-same-length
+same-length c = search needs
+
+returns : tie.Need-returns
+returns c =
+    λ ts s x h. rw ((c .before .before .reopen) .ensures .0, (c .before .before .reopen) .ensures .1, (c .before .before .before .next) .ensures) (turn-low h ((c .before .before .before .before .before .before .before .before .before .before .before .before .before) .pre .1) (let q : (c .before .before .before .before .before .before .before .before .before .top) .result / 8192 / 32 ≡ 13 = omega arith in ap slotClass (sym ((c .before .before .before .before .before .before .before .before .before .top) .ensures)) ∙ q) (let q : (c .before .before .before .before .before .before .before .kind) .result ≡ 29 = omega arith in sym ((c .before .before .before .before .before .before .before .kind) .ensures) ∙ q))
+
+refuse-requires : tie.Need-refuse-requires
+refuse-requires c κs =
+    let start = c .before .before .before .before .before .before .before .before .before in
+    complete-fits (start .pre .0 .state)
+
+same-length-2 : tie.Need-same-length-2
+same-length-2 c = search needs
+
+returns-2 : tie.Need-returns-2
+returns-2 c =
+    λ ts s x h. rw ((c .refuse) .ensures) (turn-unlow h ((c .before .before .before .before .before .before .before .before .before .before) .pre .1) (let q : (c .before .before .before .before .before .before .top) .result / 8192 / 32 ≡ 13 = omega arith in ap slotClass (sym ((c .before .before .before .before .before .before .top) .ensures)) ∙ q) (λ z. let q : (c .before .before .before .before .kind) .result ≡ 29 = (c .before .before .before .before .kind) .ensures ∙ z in omega arith))
+
+refuse-requires-2 : tie.Need-refuse-requires-2
+refuse-requires-2 c κs =
+    let start = c .before .before .before .before .before .before .before .before .before in
+    complete-fits (start .pre .0 .state)
+
+same-length-3 : tie.Need-same-length-3
+same-length-3 c = search needs
+
+returns-3 : tie.Need-returns-3
+returns-3 c =
+    λ ts s x h. rw ((c .refuse2) .ensures) (turn-unopened h ((c .before .before .before .before .before .before .before .before .before .before) .pre .1) ((c .before .before .before .before .before .before .before .before .before .before) .pre .2) ((c .before .before .before .before .before .before .before .before .before .before) .pre .3) (λ z. (c .before .before .before .if1) .left (ap (λ y. y / 8192 / 32) ((c .before .before .before .before .before .before .top) .ensures) ∙ z)) (λ z. let q : (c .before .before .before .before .kind) .result ≡ 25 = (c .before .before .before .before .kind) .ensures ∙ z in omega arith))
+
+operator-requires : tie.Need-operator-requires
+operator-requires c κs =
+    let start = c .before .before .before .before .before .before .before .before .before in
+    (start .pre .0 .state) .stacked .ready .fits .room
+
+prefix-requires : tie.Need-prefix-requires
+prefix-requires c κs = search needs
+
+next-requires-2 : tie.Need-next-requires-2
+next-requires-2 c κs =
+    let e = (let q : (c .before .before .before .before .before .before .before .kind) .result ≡ 25 = omega arith in sym ((c .before .before .before .before .before .before .before .kind) .ensures) ∙ q) in omega (arith, before-end (now ((c .before .before .before .before .before .before .before .before .before .before .before .before .before) .args .work)) (((c .before .before .before .before .before .before .before .before .before .before .before .before .before) .args .m) .c) (omega arith), complete-fits ((c .before .before .before .before .before .before .before .before .before .before .before .before .before) .pre .0 .state) .few)
+
+reopen-requires-2 : tie.Need-reopen-requires-2
+reopen-requires-2 c κs =
+    let start = c .before .before .before .before .before .before .before .before .before .before .before .before .before .before in
+    ((complete-tops (start .pre .0 .state) (λ e. omega (arith, start .pre .1))), lit< tt)
+
+same-length-4 : tie.Need-same-length-4
+same-length-4 c = search needs
+
+returns-4 : tie.Need-returns-4
+returns-4 c =
+    λ ts s x h. rw ((c .before .before .reopen2) .ensures .0, (c .before .before .reopen2) .ensures .1, (c .before .before .before .next2) .ensures, (c .before .before .before .before .before .before .prefix) .ensures, (c .before .before .before .before .before .before .before .operator) .ensures, (c .before .before .before .before .before .before .before .before .before .before .before .before .before .top) .ensures) (turn-counted h ((c .before .before .before .before .before .before .before .before .before .before .before .before .before .before .before .before .before) .pre .1) (let q : (c .before .before .before .before .before .before .before .before .before .before .before .before .before .top) .result / 8192 / 32 ≡ 12 = omega arith in ap slotClass (sym ((c .before .before .before .before .before .before .before .before .before .before .before .before .before .top) .ensures)) ∙ q) (let q : (c .before .before .before .before .before .before .before .before .before .before .before .kind) .result ≡ 25 = omega arith in sym ((c .before .before .before .before .before .before .before .before .before .before .before .kind) .ensures) ∙ q))
+
+next-requires-3 : tie.Need-next-requires-3
+next-requires-3 c κs =
+    let e = (let q : (c .before .before .before .before .before .before .before .kind) .result ≡ 25 = omega arith in sym ((c .before .before .before .before .before .before .before .kind) .ensures) ∙ q) in omega (arith, before-end (now ((c .before .before .before .before .before .before .before .before .before .before .before .before .before) .args .work)) (((c .before .before .before .before .before .before .before .before .before .before .before .before .before) .args .m) .c) (omega arith), complete-fits ((c .before .before .before .before .before .before .before .before .before .before .before .before .before) .pre .0 .state) .few)
+
+reopen-requires-3 : tie.Need-reopen-requires-3
+reopen-requires-3 c κs =
+    let start = c .before .before .before .before .before .before .before .before .before .before .before .before .before .before in
+    ((complete-tops (start .pre .0 .state) (λ e. omega (arith, start .pre .1))), lit< tt)
+
+same-length-5 : tie.Need-same-length-5
+same-length-5 c = search needs
+
+returns-5 : tie.Need-returns-5
+returns-5 c =
+    λ ts s x h. rw ((c .before .before .reopen3) .ensures .0, (c .before .before .reopen3) .ensures .1, (c .before .before .before .next3) .ensures, (c .before .before .before .before .before .before .prefix) .ensures, (c .before .before .before .before .before .before .before .operator) .ensures, (c .before .before .before .before .before .before .before .before .before .before .before .before .before .top) .ensures) (turn-high h ((c .before .before .before .before .before .before .before .before .before .before .before .before .before .before .before .before .before) .pre .1) (let q : (c .before .before .before .before .before .before .before .before .before .before .before .before .before .top) .result / 8192 / 32 ≡ 14 = (let low = (c .before .before .before .before .before .before .before .before .before .before .before .before .before .before .before .before .before) .pre .2 in let high = (c .before .before .before .before .before .before .before .before .before .before .before .before .before .before .before .before .before) .pre .3 in let e = ap slotClass ((c .before .before .before .before .before .before .before .before .before .before .before .before .before .top) .ensures) in omega arith) in ap slotClass (sym ((c .before .before .before .before .before .before .before .before .before .before .before .before .before .top) .ensures)) ∙ q) (let q : (c .before .before .before .before .before .before .before .before .before .before .before .kind) .result ≡ 25 = omega arith in sym ((c .before .before .before .before .before .before .before .before .before .before .before .kind) .ensures) ∙ q))
+
+pub further-spec : {M : Type 1} → statement M
+further-spec =
+    tie.close
+    (tie.spec
+    top-requires
+    kind-requires
+    next-requires
+    reopen-requires
+    same-length
+    returns
+    refuse-requires
+    same-length-2
+    returns-2
+    refuse-requires-2
+    same-length-3
+    returns-3
+    operator-requires
+    prefix-requires
+    next-requires-2
+    reopen-requires-2
+    same-length-4
+    returns-4
+    next-requires-3
+    reopen-requires-3
+    same-length-5
+    returns-5)

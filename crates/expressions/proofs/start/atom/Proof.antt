@@ -1,0 +1,146 @@
+-- `expressions::start::atom` meets its contract: one way for each token that begins an operand.
+use borrow.Author.Needs.{needs}
+use native.Mathlib.Omega.{arith}
+use mathlib.Core.Path.{_≡_, sym, _∙_}
+use lib.Dec.{lit<}
+use denote.Ref.{now}
+use Rattle.entries.specs.Cursors.{kindAt}
+use Rattle.expressions.specs.StateAsks.{asks-kind, asks-next, asks-push, asks-leaf}
+use Rattle.expressions.specs.StartStates.{starters, turn-numeral, turn-true, turn-false, turn-round, turn-bars, turn-not}
+use Rattle.expressions.proofs.start.atom.Statement.{statement}
+use Rattle.expressions.proofs.start.atom.Tie as tie
+
+kind-requires : tie.Need-kind-requires
+kind-requires c κs =
+    let start = c .before .before .before in
+    asks-kind (start .pre .0)
+
+name-requires : tie.Need-name-requires
+name-requires c κs =
+    ((c .before .before .before .before .before .before) .pre .0, let first : kindAt (now ((c .before .before .before .before .before .before) .args .work)) ((c .before .before .before .before .before .before) .args .m .c) ≡ 1 = (let q : (c .before .before .kind) .result ≡ 1 = omega arith in sym ((c .before .before .kind) .ensures) ∙ q) in first)
+
+same-length : tie.Need-same-length
+same-length c = search needs
+
+returns : tie.Need-returns
+returns c = (c .before .before .name) .ensures
+
+leaf-requires : tie.Need-leaf-requires
+leaf-requires c κs =
+    let first : kindAt (now ((c .before .before .before .before .before .before .before) .args .work)) ((c .before .before .before .before .before .before .before) .args .m .c) ≡ 2 = (let q : (c .before .before .before .kind) .result ≡ 2 = omega arith in sym ((c .before .before .before .kind) .ensures) ∙ q) in asks-leaf ((c .before .before .before .before .before .before .before) .pre .0) (omega arith) 1 (lit< tt)
+
+same-length-2 : tie.Need-same-length-2
+same-length-2 c = search needs
+
+returns-2 : tie.Need-returns-2
+returns-2 c =
+    λ ts s x h. let first : kindAt (now ((c .before .before .before .before .before .before .before .before .before .before) .args .work)) ((c .before .before .before .before .before .before .before .before .before .before) .args .m .c) ≡ 2 = (let q : (c .before .before .before .before .before .before .kind) .result ≡ 2 = omega arith in sym ((c .before .before .before .before .before .before .kind) .ensures) ∙ q) in rw ((c .before .before .leaf) .ensures .0, (c .before .before .leaf) .ensures .1) (turn-numeral h ((c .before .before .before .before .before .before .before .before .before .before) .pre .1) first)
+
+leaf-requires-2 : tie.Need-leaf-requires-2
+leaf-requires-2 c κs =
+    let first : kindAt (now ((c .before .before .before .before .before .before .before .before) .args .work)) ((c .before .before .before .before .before .before .before .before) .args .m .c) ≡ 66 = (let q : (c .before .before .before .before .kind) .result ≡ 66 = omega arith in sym ((c .before .before .before .before .kind) .ensures) ∙ q) in asks-leaf ((c .before .before .before .before .before .before .before .before) .pre .0) (omega arith) 3 (lit< tt)
+
+same-length-3 : tie.Need-same-length-3
+same-length-3 c = search needs
+
+returns-3 : tie.Need-returns-3
+returns-3 c =
+    λ ts s x h. let first : kindAt (now ((c .before .before .before .before .before .before .before .before .before .before .before) .args .work)) ((c .before .before .before .before .before .before .before .before .before .before .before) .args .m .c) ≡ 66 = (let q : (c .before .before .before .before .before .before .before .kind) .result ≡ 66 = omega arith in sym ((c .before .before .before .before .before .before .before .kind) .ensures) ∙ q) in rw ((c .before .before .leaf2) .ensures .0, (c .before .before .leaf2) .ensures .1) (turn-true h ((c .before .before .before .before .before .before .before .before .before .before .before) .pre .1) first)
+
+leaf-requires-3 : tie.Need-leaf-requires-3
+leaf-requires-3 c κs =
+    let first : kindAt (now ((c .before .before .before .before .before .before .before .before .before) .args .work)) ((c .before .before .before .before .before .before .before .before .before) .args .m .c) ≡ 67 = (let q : (c .before .before .before .before .before .kind) .result ≡ 67 = omega arith in sym ((c .before .before .before .before .before .kind) .ensures) ∙ q) in asks-leaf ((c .before .before .before .before .before .before .before .before .before) .pre .0) (omega arith) 2 (lit< tt)
+
+same-length-4 : tie.Need-same-length-4
+same-length-4 c = search needs
+
+returns-4 : tie.Need-returns-4
+returns-4 c =
+    λ ts s x h. let first : kindAt (now ((c .before .before .before .before .before .before .before .before .before .before .before .before) .args .work)) ((c .before .before .before .before .before .before .before .before .before .before .before .before) .args .m .c) ≡ 67 = (let q : (c .before .before .before .before .before .before .before .before .kind) .result ≡ 67 = omega arith in sym ((c .before .before .before .before .before .before .before .before .kind) .ensures) ∙ q) in rw ((c .before .before .leaf3) .ensures .0, (c .before .before .leaf3) .ensures .1) (turn-false h ((c .before .before .before .before .before .before .before .before .before .before .before .before) .pre .1) first)
+
+next-requires : tie.Need-next-requires
+next-requires c κs =
+    let first : kindAt (now ((c .before .before .before .before .before .before .before .before .before .before) .args .work)) ((c .before .before .before .before .before .before .before .before .before .before) .args .m .c) ≡ 22 = (let q : (c .before .before .before .before .before .before .kind) .result ≡ 22 = omega arith in sym ((c .before .before .before .before .before .before .kind) .ensures) ∙ q) in asks-next ((c .before .before .before .before .before .before .before .before .before .before) .pre .0) (omega arith)
+
+push-requires : tie.Need-push-requires
+push-requires c κs =
+    let first : kindAt (now ((c .before .before .before .before .before .before .before .before .before .before .before) .args .work)) ((c .before .before .before .before .before .before .before .before .before .before .before) .args .m .c) ≡ 22 = (let q : (c .before .before .before .before .before .before .before .kind) .result ≡ 22 = omega arith in sym ((c .before .before .before .before .before .before .before .kind) .ensures) ∙ q) in asks-push ((c .before .before .before .before .before .before .before .before .before .before .before) .pre .0) (omega arith) 7 (lit< tt)
+
+same-length-5 : tie.Need-same-length-5
+same-length-5 c = search needs
+
+returns-5 : tie.Need-returns-5
+returns-5 c =
+    λ ts s x h. let first : kindAt (now ((c .before .before .before .before .before .before .before .before .before .before .before .before .before .before) .args .work)) ((c .before .before .before .before .before .before .before .before .before .before .before .before .before .before) .args .m .c) ≡ 22 = (let q : (c .before .before .before .before .before .before .before .before .before .before .kind) .result ≡ 22 = omega arith in sym ((c .before .before .before .before .before .before .before .before .before .before .kind) .ensures) ∙ q) in rw ((c .before .before .push) .ensures .0, (c .before .before .push) .ensures .1, (c .before .before .before .next) .ensures) (turn-round h ((c .before .before .before .before .before .before .before .before .before .before .before .before .before .before) .pre .1) first)
+
+next-requires-2 : tie.Need-next-requires-2
+next-requires-2 c κs =
+    let first : kindAt (now ((c .before .before .before .before .before .before .before .before .before .before .before) .args .work)) ((c .before .before .before .before .before .before .before .before .before .before .before) .args .m .c) ≡ 31 = (let q : (c .before .before .before .before .before .before .before .kind) .result ≡ 31 = omega arith in sym ((c .before .before .before .before .before .before .before .kind) .ensures) ∙ q) in asks-next ((c .before .before .before .before .before .before .before .before .before .before .before) .pre .0) (omega arith)
+
+push-requires-2 : tie.Need-push-requires-2
+push-requires-2 c κs =
+    let first : kindAt (now ((c .before .before .before .before .before .before .before .before .before .before .before .before) .args .work)) ((c .before .before .before .before .before .before .before .before .before .before .before .before) .args .m .c) ≡ 31 = (let q : (c .before .before .before .before .before .before .before .before .kind) .result ≡ 31 = omega arith in sym ((c .before .before .before .before .before .before .before .before .kind) .ensures) ∙ q) in asks-push ((c .before .before .before .before .before .before .before .before .before .before .before .before) .pre .0) (omega arith) 8 (lit< tt)
+
+same-length-6 : tie.Need-same-length-6
+same-length-6 c = search needs
+
+returns-6 : tie.Need-returns-6
+returns-6 c =
+    λ ts s x h. let first : kindAt (now ((c .before .before .before .before .before .before .before .before .before .before .before .before .before .before .before) .args .work)) ((c .before .before .before .before .before .before .before .before .before .before .before .before .before .before .before) .args .m .c) ≡ 31 = (let q : (c .before .before .before .before .before .before .before .before .before .before .before .kind) .result ≡ 31 = omega arith in sym ((c .before .before .before .before .before .before .before .before .before .before .before .kind) .ensures) ∙ q) in rw ((c .before .before .push2) .ensures .0, (c .before .before .push2) .ensures .1, (c .before .before .before .next2) .ensures) (turn-bars h ((c .before .before .before .before .before .before .before .before .before .before .before .before .before .before .before) .pre .1) first)
+
+brace-requires : tie.Need-brace-requires
+brace-requires c κs =
+    ((c .before .before .before .before .before .before .before .before .before .before .before .before) .pre .0, let first : kindAt (now ((c .before .before .before .before .before .before .before .before .before .before .before .before) .args .work)) ((c .before .before .before .before .before .before .before .before .before .before .before .before) .args .m .c) ≡ 20 = (let q : (c .before .before .before .before .before .before .before .before .kind) .result ≡ 20 = omega arith in sym ((c .before .before .before .before .before .before .before .before .kind) .ensures) ∙ q) in first)
+
+same-length-7 : tie.Need-same-length-7
+same-length-7 c = search needs
+
+returns-7 : tie.Need-returns-7
+returns-7 c = (c .before .before .brace) .ensures
+
+refuse-requires : tie.Need-refuse-requires
+refuse-requires c κs =
+    let start = c .before .before .before .before .before .before .before .before .before .before .before .before in
+    asks-kind (start .pre .0)
+
+same-length-8 : tie.Need-same-length-8
+same-length-8 c = search needs
+
+returns-8 : tie.Need-returns-8
+returns-8 c =
+    let start = c .before .before .before .before .before .before .before .before .before .before .before .before .before in
+    let kind = c .before .before .before .before .before .before .before .before .before .kind in
+    λ ts s x h. rw ((c .refuse) .ensures)
+    (turn-not h (start .pre .1) (λ k z e. let q : kind .result ≡ k = kind .ensures ∙ e in starters k (λ y. (c .before .before .before .before .before .before .before .before .if1) .left (q ∙ y)) (λ y. (c .before .before .before .before .before .before .before .if2) .left (q ∙ y)) (λ y. (c .before .before .before .before .before .before .if3) .left (q ∙ y)) (λ y. (c .before .before .before .before .before .if4) .left (q ∙ y)) (λ y. (c .before .before .before .before .if5) .left (q ∙ y)) (λ y. (c .before .before .before .if6) .left (q ∙ y)) (λ y. (c .before .before .if7) .left (q ∙ y)) z))
+
+pub atom-spec : {M : Type 1} → statement M
+atom-spec =
+    tie.close
+    (tie.spec
+    kind-requires
+    name-requires
+    same-length
+    returns
+    leaf-requires
+    same-length-2
+    returns-2
+    leaf-requires-2
+    same-length-3
+    returns-3
+    leaf-requires-3
+    same-length-4
+    returns-4
+    next-requires
+    push-requires
+    same-length-5
+    returns-5
+    next-requires-2
+    push-requires-2
+    same-length-6
+    returns-6
+    brace-requires
+    same-length-7
+    returns-7
+    refuse-requires
+    same-length-8
+    returns-8)

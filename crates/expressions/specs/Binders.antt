@@ -1,0 +1,55 @@
+-- Where a name of a big operator begins: what is tested there, and the state before and after.
+use Prim.Native.Nat.{ℕ, suc, _+_, _*_, _-_, _≤_, _<_}
+use mathlib.Core.List.{List, [], _++_}
+use mathlib.Core.Bool.{Bool, false, _&&_, _||_}
+use mathlib.Core.Option.{some}
+use mathlib.Core.Path.{_≡_}
+use lib.Dec.{eqb}
+use lib.ListN.{drop}
+use Rattle.language.specs.Tokens.{Token}
+use Rattle.language.specs.Tree.{Expr}
+use Rattle.language.specs.Grammar.{Tokens, Read}
+use Rattle.language.specs.Laws.Basics.Lists.{All as Every}
+use Rattle.entries.specs.Stored.{Keeps}
+use Rattle.entries.specs.declared.Cursor.{Cursor}
+use Rattle.entries.specs.Cursors.{kindAt, nextOf}
+use Rattle.entries.specs.Reads.{Kept}
+use Rattle.expressions.specs.declared.stack.Machine.{Machine}
+use Rattle.expressions.specs.Readers.{folds}
+use Rattle.expressions.specs.Frames.{Over, Frame, plug}
+use Rattle.expressions.specs.Stack.{Stacked}
+use Rattle.expressions.specs.States.{slotsOf, base, Firm, credits, Marked, State, weight}
+
+-- the numbers of `IN`, `ELEM` and `<-`
+abbrev pub amongAt : ℕ → Bool
+amongAt n = eqb n 89 || (eqb n 90 || eqb n 15)
+
+abbrev pub memberAt : List ℕ → Cursor → Bool
+memberAt w c = eqb (kindAt w c) 1 && amongAt (kindAt w (nextOf c))
+
+-- before: the big operator's token has the index j
+pub record Folding (ts : Tokens) (s : Cursor) (x : Read Expr) (w : List ℕ) (m : Machine) (c : Cursor) (j : ℕ) : Type 0 where
+  pub frames : List Frame
+  pub operator : Token
+  pub firm : Every Firm frames
+  pub marked : Marked Over operator
+  pub keeps : Keeps ts j (some operator)
+  pub token-fits : j < 8_192
+  pub level-fits : m .level < 32
+  pub stacked : Stacked ts s w c (m .depth) (slotsOf frames) (base frames ++ []) (suc (credits frames))
+  pub same : x ≡ plug frames (folds (m .level) operator (drop (c .at) ts))
+
+pub record Naming (w : List ℕ) (m : Machine) (c : Cursor) (j : ℕ) : Type 0 where
+  pub tokens : Tokens
+  pub start : Cursor
+  pub answer : Read Expr
+  pub state : Folding tokens start answer w m c j
+
+-- after
+pub record Named (ts : Tokens) (s : Cursor) (x : Read Expr) (w v : List ℕ) (m : Machine) (c : Cursor) (n : Machine) : Type 0 where
+  pub kept : Kept w v (s .out)
+  pub state : State false ts s x v n
+  pub light : weight n ≤ 3 * (c .count - c .at) + m .depth + 1 + (8_192 - c .out)
+
+abbrev pub Names : List ℕ → List ℕ → Machine → Cursor → ℕ → Machine → Type 0
+Names w v m c j n = (ts : Tokens) (s : Cursor) (x : Read Expr) → Folding ts s x w m c j → Named ts s x w v m c n

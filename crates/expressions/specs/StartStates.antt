@@ -1,0 +1,143 @@
+-- The states after an operand has begun with no operator, one law for each way; what the code tests is a token's number.
+use Prim.Native.Nat.{ℕ, suc, _+_, _<_}
+use Prim.Native.String.{String}
+use native.Mathlib.Omega.{arith}
+use mathlib.Core.List.{List}
+use mathlib.Core.Bool.{true, false}
+use mathlib.Core.Option.{none}
+use mathlib.Core.Path.{_≡_, refl, sym, ap, _∙_}
+use lib.Dec.{eqb, lit<}
+use lib.ListN.{drop}
+use borrow.Author.Tests.{eq-eqb, ne-eqb, eqb-true}
+use Rattle.node.specs.Result.{_>>=_}
+use Rattle.language.specs.Tree.{Expr, Named, Numeral, Truth, Listed, Empty}
+use Rattle.language.specs.Grammar.{Tokens, Read, rest, next}
+use Rattle.language.specs.Laws.Basics.Tests.{or-cases}
+use Rattle.language.specs.Bytes.{ascii, isOneOf}
+use Rattle.lexer.specs.Numbers.{spellings, number, fixed}
+use Rattle.entries.specs.Flat.{leaf, flat}
+use Rattle.entries.specs.Stored.{putEntry}
+use Rattle.entries.specs.declared.Cursor.{Cursor}
+use Rattle.entries.specs.Cursors.{Ready, kindAt, refusedAt, nextOf, emittedOf}
+use Rattle.entries.specs.CursorLaws.{ready-kind, ready-next, before-end, drop-next}
+use Rattle.entries.specs.TokenReads.{next-number}
+use Rattle.expressions.specs.declared.stack.Machine.{Machine}
+use Rattle.expressions.specs.declared.stack.Turn.the-variants.{Next, Ended}
+use Rattle.expressions.specs.Readers.{reads, climbs, prefixRow}
+use Rattle.expressions.specs.Frames.{Class, Round, Bars, Square, One, frame, resume}
+use Rattle.expressions.specs.Tables.{prefixAt}
+use Rattle.expressions.specs.OperatorLaws.{prefix-none}
+use Rattle.expressions.specs.StartLaws.{starter, starts-numeral, starts-true, starts-false, starts-round, starts-bars, starts-name, starts-index, starts-empty, starts-set, starts-not}
+use Rattle.expressions.specs.Stack.{putSlot}
+use Rattle.expressions.specs.StackLaws.{stacked-less, stacked-next}
+use Rattle.expressions.specs.Machines.{pushedOf, climbingOf}
+use Rattle.expressions.specs.States.{classNumber, credits, Simple, Marked, State, Turned}
+use Rattle.expressions.specs.StateLaws.{here, refuses, enters, completes-at}
+use Rattle.expressions.specs.Starts.{leafOf, leafWritten}
+
+-- the grammar's lists and the cursor's
+pub drop-two : (n : ℕ) (ts : Tokens) → drop (n + 1 + 1) ts ≡ rest (rest (drop n ts))
+drop-two n ts = drop-next (n + 1) ts ∙ ap rest (drop-next n ts)
+
+-- a number that is none of those that begin an operand
+pub starters : (k : ℕ) → (k ≡ 1 → ⊥) → (k ≡ 2 → ⊥) → (k ≡ 66 → ⊥) → (k ≡ 67 → ⊥) → (k ≡ 22 → ⊥) → (k ≡ 31 → ⊥) → (k ≡ 20 → ⊥) → starter k ≡ true → ⊥
+starters k a b c d e f g z =
+    let no : (n : ℕ) → (k ≡ n → ⊥) → eqb k n ≡ true → ⊥ = λ n h t. h (eqb-true k n t) in
+    or-cases (eqb k 1) _ (no 1 a)
+    (or-cases (eqb k 2) _ (no 2 b) (or-cases (eqb k 66) _ (no 66 c) (or-cases (eqb k 67) _ (no 67 d) (or-cases (eqb k 22) _ (no 22 e) (or-cases (eqb k 31) _ (no 31 f) (no 20 g)))))) z
+
+module _ {ts : Tokens} {s : Cursor} {x : Read Expr} {w : List ℕ} {m : Machine} (h : State false ts s x w m) where
+  abbrev ready : Ready ts w (m .c)
+  ready = h .stacked .ready
+
+  abbrev us : Tokens
+  us = drop (m .c .at) ts
+
+  -- the next token by its number
+  pub number-here : (k : ℕ) → kindAt w (m .c) ≡ k → number (here h) ≡ k
+  number-here k e = sym (ready-kind ready) ∙ e
+
+  pub inside : 0 < kindAt w (m .c) → m .c .at < m .c .count
+  inside l = before-end w (m .c) l
+
+  -- what follows it
+  pub next-sign : (l : m .c .at < m .c .count) (sign : String) → isOneOf spellings (ascii sign) ≡ true → next sign (rest us) ≡ eqb (kindAt w (nextOf (m .c))) (fixed sign)
+  next-sign l sign known = ap (next sign) (sym (drop-next (m .c .at) ts)) ∙ next-number (ready-next ready l) sign known
+
+  next-inside : (l : m .c .at < m .c .count) → 0 < kindAt w (nextOf (m .c)) → m .c .at + 1 < m .c .count
+  next-inside l k = before-end w (nextOf (m .c)) k
+
+  no-row : prefixAt (kindAt w (m .c)) ≡ 0 → prefixRow (here h) ≡ none
+  no-row e = prefix-none (here h) (ap prefixAt (sym (ready-kind ready)) ∙ e)
+
+  -- an entry for the next token
+  leaf-turn : (e : Expr) (k : ℕ) → flat e ≡ leaf k (here h) → k < 64 → 0 < kindAt w (m .c) → reads (m .level) us ≡ climbs (m .level) e (rest us) → Turned ts s x w (leafWritten w m k) m (leafOf m)
+  leaf-turn e k one small l step = completes-at h e k one small (inside l) (nextOf (m .c)) (omega arith) refl (stacked-next (h .stacked) (inside l)) (step ∙ ap (climbs (m .level) e) (sym (drop-next (m .c .at) ts)))
+
+  -- a frame for the next token, past it or past two
+  pub enter-next : (K : Class) (l : ℕ) → Simple K → Marked K (here h) → 0 < kindAt w (m .c) → 0 < l → l < 32 → reads (m .level) us ≡ (reads l (rest us) >>= λ (y, vs). resume (frame K (m .level) (here h)) y vs) → Turned ts s x w (putSlot w (m .depth) (classNumber K) (m .level) (m .c .at)) m (Next (pushedOf m (nextOf (m .c)) l))
+  enter-next K l simple marked i p q step =
+      enters h K (nextOf (m .c)) l simple marked (inside i) (omega arith) (stacked-next (h .stacked) (inside i)) p q
+      (step ∙ ap (λ vs. reads l vs >>= λ (y, ws). resume (frame K (m .level) (here h)) y ws) (sym (drop-next (m .c .at) ts)))
+
+  pub enter-second : (K : Class) (l : ℕ) → Simple K → Marked K (here h) → 0 < kindAt w (m .c) → 0 < kindAt w (nextOf (m .c)) → 0 < l → l < 32 → reads (m .level) us ≡ (reads l (rest (rest us)) >>= λ (y, vs). resume (frame K (m .level) (here h)) y vs) → Turned ts s x w (putSlot w (m .depth) (classNumber K) (m .level) (m .c .at)) m (Next (pushedOf m (nextOf (nextOf (m .c))) l))
+  enter-second K l simple marked i j p q step =
+      let n = next-inside (inside i) j in
+      enters h K (nextOf (nextOf (m .c))) l simple marked (inside i) (omega arith)
+      (stacked-less (stacked-next (stacked-next (h .stacked) (inside i)) n) (suc (credits (h .frames))) (omega arith)) p q
+      (step ∙ ap (λ vs. reads l vs >>= λ (y, ws). resume (frame K (m .level) (here h)) y ws) (sym (drop-two (m .c .at) ts)))
+
+  module _ (none-here : prefixAt (kindAt w (m .c)) ≡ 0) where
+    pub turn-numeral : kindAt w (m .c) ≡ 2 → Turned ts s x w (leafWritten w m 1) m (leafOf m)
+    turn-numeral e = leaf-turn (Numeral (here h)) 1 refl (lit< tt) (omega arith) (starts-numeral (m .level) us (no-row none-here) (number-here 2 e))
+
+    pub turn-true : kindAt w (m .c) ≡ 66 → Turned ts s x w (leafWritten w m 3) m (leafOf m)
+    turn-true e = leaf-turn (Truth (here h) true) 3 refl (lit< tt) (omega arith) (starts-true (m .level) us (no-row none-here) (number-here 66 e))
+
+    pub turn-false : kindAt w (m .c) ≡ 67 → Turned ts s x w (leafWritten w m 2) m (leafOf m)
+    turn-false e = leaf-turn (Truth (here h) false) 2 refl (lit< tt) (omega arith) (starts-false (m .level) us (no-row none-here) (number-here 67 e))
+
+    pub turn-round : kindAt w (m .c) ≡ 22 → Turned ts s x w (putSlot w (m .depth) 7 (m .level) (m .c .at)) m (Next (pushedOf m (nextOf (m .c)) 17))
+    turn-round e = enter-next Round 17 (record { slots = λ l t. refl; trees = λ l t. refl; credit = refl; class = lit< tt }) (λ e. omega arith, tt) (omega arith) (lit< tt) (lit< tt) (starts-round (m .level) us (no-row none-here) (number-here 22 e))
+
+    pub turn-bars : kindAt w (m .c) ≡ 31 → Turned ts s x w (putSlot w (m .depth) 8 (m .level) (m .c .at)) m (Next (pushedOf m (nextOf (m .c)) 17))
+    turn-bars e = enter-next Bars 17 (record { slots = λ l t. refl; trees = λ l t. refl; credit = refl; class = lit< tt }) (λ e. omega arith, tt) (omega arith) (lit< tt) (lit< tt) (starts-bars (m .level) us (no-row none-here) (number-here 31 e))
+
+    -- no operand begins here
+    pub turn-not : ((k : ℕ) → starter k ≡ true → kindAt w (m .c) ≡ k → ⊥) → Turned ts s x w w m (Ended (refusedAt w (m .c)))
+    turn-not f = refuses h (starts-not (m .level) us (no-row none-here) (λ k z e. f k z (ready-kind ready ∙ e)))
+
+  -- a name
+  module _ (named : kindAt w (m .c) ≡ 1) where
+    name-row : prefixRow (here h) ≡ none
+    unfolding prefixAt
+    name-row = no-row (ap prefixAt named)
+
+    pub turn-name : (kindAt w (nextOf (m .c)) ≡ 24 → ⊥) → Turned ts s x w (leafWritten w m 0) m (leafOf m)
+    turn-name f =
+        leaf-turn (Named (here h)) 0 refl (lit< tt) (omega arith)
+        (starts-name (m .level) us name-row (number-here 1 named) (next-sign (inside (omega arith)) "[" refl ∙ ne-eqb (kindAt w (nextOf (m .c))) 24 f))
+
+    pub turn-index : kindAt w (nextOf (m .c)) ≡ 24 → Turned ts s x w (putSlot w (m .depth) 9 (m .level) (m .c .at)) m (Next (pushedOf m (nextOf (nextOf (m .c))) 17))
+    turn-index e =
+        enter-second Square 17 (record { slots = λ l t. refl; trees = λ l t. refl; credit = refl; class = lit< tt }) (λ e. omega arith, tt) (omega arith) (omega arith) (lit< tt) (lit< tt)
+        (starts-index (m .level) us name-row (number-here 1 named) (next-sign (inside (omega arith)) "[" refl ∙ eq-eqb (kindAt w (nextOf (m .c))) 24 e))
+
+  -- a set
+  module _ (brace : kindAt w (m .c) ≡ 20) where
+    brace-row : prefixRow (here h) ≡ none
+    unfolding prefixAt
+    brace-row = no-row (ap prefixAt brace)
+
+    pub turn-empty : kindAt w (nextOf (m .c)) ≡ 21 → Turned ts s x w (putEntry w (m .c .out) 51 (m .c .at) 1) m (Next (climbingOf m (emittedOf (nextOf (nextOf (m .c))))))
+    turn-empty e =
+        let i = inside (omega arith) in
+        let n = next-inside i (omega arith) in
+        completes-at h (Listed (here h) Empty) 51 refl (lit< tt) i (nextOf (nextOf (m .c))) (omega arith) refl
+        (stacked-less (stacked-next (stacked-next (h .stacked) i) n) (suc (credits (h .frames))) (omega arith))
+        (starts-empty (m .level) us brace-row (number-here 20 brace) (next-sign i "}" refl ∙ eq-eqb (kindAt w (nextOf (m .c))) 21 e) ∙ ap (climbs (m .level) (Listed (here h) Empty)) (sym (drop-two (m .c .at) ts)))
+
+    pub turn-set : (kindAt w (nextOf (m .c)) ≡ 21 → ⊥) → Turned ts s x w (putSlot w (m .depth) 15 (m .level) (m .c .at)) m (Next (pushedOf m (nextOf (m .c)) 17))
+    turn-set f =
+        enter-next One 17 (record { slots = λ l t. refl; trees = λ l t. refl; credit = refl; class = lit< tt }) (λ e. omega arith, tt) (omega arith) (lit< tt) (lit< tt)
+        (starts-set (m .level) us brace-row (number-here 20 brace) (next-sign (inside (omega arith)) "}" refl ∙ ne-eqb (kindAt w (nextOf (m .c))) 21 f))

@@ -1,0 +1,72 @@
+// Operators between operands, and the end of an expression.
+use crate::close::close;
+use crate::close::whole;
+use crate::infixes::infix;
+use crate::names::names;
+use crate::roles::operand;
+use crate::sets::all;
+use crate::sets::further;
+use crate::sets::set;
+use crate::stack::Machine;
+use crate::stack::RIGHT;
+use crate::stack::Turn;
+use entries::Parse;
+ghost use mathlib.Core.Bool.{true};
+ghost use Rattle.expressions.specs.States.{Standing, Steps};
+ghost use Rattle.expressions.specs.Complete.{Completed, Ends};
+
+// No operator follows: the last frame takes the expression.
+fn pop(m: Machine, work: &mut [u8]) -> Turn
+    requires { ⌜ Completed (now work) m ⌝ }
+    ensures { λ r. ⌜ Ends (now (work .entry)) (now (work .exit)) m r ⌝ }
+{
+    if m.depth == 0 {
+        let c = m.c;
+        return Turn::Ended(Parse::Parsed(c));
+    }
+    let class = m.top(work) / 8192 / 32;
+    if class < 7 {
+        return whole(m, work);
+    }
+    if class < 11 {
+        return close(m, work);
+    }
+    if class == 11 {
+        return all(m, work);
+    }
+    if class < 15 {
+        return further(m, work);
+    }
+    if class < 18 {
+        return set(m, work);
+    }
+    names(m, work)
+}
+
+// An operand is complete: an operator that is tight enough goes on with it.
+fn climb(m: Machine, work: &mut [u8]) -> Turn
+    requires { ⌜ Standing true (now work) m ⌝ }
+    ensures { λ r. ⌜ Steps true (now (work .entry)) (now (work .exit)) m r ⌝ }
+{
+    let c = m.c;
+    let at = c.at;
+    let q = infix(c.kind(work));
+    if q == 0 {
+        return pop(m, work);
+    }
+    if m.level < q % 32 {
+        return pop(m, work);
+    }
+    Turn::Next(m.push(work, RIGHT, at, c.next(), q / 32 % 32))
+}
+
+// One step.
+pub fn advance(m: Machine, work: &mut [u8]) -> Turn
+    requires { ⌜ Standing (m .complete) (now work) m ⌝ }
+    ensures { λ r. ⌜ Steps (m .complete) (now (work .entry)) (now (work .exit)) m r ⌝ }
+{
+    if m.complete {
+        return climb(m, work);
+    }
+    operand(m, work)
+}

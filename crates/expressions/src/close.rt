@@ -1,0 +1,126 @@
+// An expression is complete: its frame makes a tree of it.
+use crate::infixes::infix;
+use crate::prefixes::prefix;
+use crate::stack::BARS;
+use crate::stack::CONS;
+use crate::stack::LAST;
+use crate::stack::Machine;
+use crate::stack::RIGHT;
+use crate::stack::ROUND;
+use crate::stack::SOLE;
+use crate::stack::SQUARE;
+use crate::stack::STEPPED;
+use crate::stack::Turn;
+use crate::stack::WITHIN;
+use crate::stack::start_of;
+use entries::Cursor;
+use words::get;
+ghost use mathlib.Core.Path.{_≡_};
+ghost use Prim.Native.Nat.{_≤_, _<_};
+ghost use lib.ListN.{length};
+ghost use Rattle.expressions.specs.declared.stack.Turn.the-variants.{Next};
+ghost use Rattle.expressions.specs.Stack.{topSlot, slotClass};
+ghost use Rattle.expressions.specs.Complete.{Completed, Ends, Builds, builtOf, builtIn};
+ghost use Rattle.expressions.specs.Wholes.{operatorIn};
+
+// The kinds of entries that a frame's class tells.
+const INDEX: u32 = 4;
+
+const PAREN: u32 = 5;
+
+const SIZE: u32 = 6;
+
+const NEXTS: u32 = 36;
+
+const ELEMENT: u32 = 52;
+
+const RANGE: u32 = 53;
+
+// The numbers of closing signs.
+const CLOSE: u32 = 23;
+
+const CLOSE_BRACKET: u32 = 25;
+
+const BAR: u32 = 31;
+
+const CLOSE_BRACE: u32 = 21;
+
+// The number of a slot's token.
+pub fn operator(work: &[u8], slot: u32) -> u32
+    requires { ⌜ 65536 ≤ length (now work) ⌝ }
+    ensures { λ r. ⌜ r ≡ operatorIn (now (work .entry)) slot ⌝ }
+{
+    get(work, (slot % 8192) as usize) / 256 / 65536
+}
+
+// The last frame's tree of so many operands is complete at the cursor.
+pub fn build(m: Machine, work: &mut [u8], c: Cursor, kind: u32, operands: usize) -> Turn
+    requires { ⌜ Builds (now work) m c kind operands ⌝ }
+    ensures { λ r. ⌜ (r ≡ Next (builtOf (now (work .entry)) m c)) × (now (work .exit) ≡ builtIn (now (work .entry)) m c kind operands) ⌝ }
+{
+    let f = m.top(work);
+    let out = c.out;
+    let start = start_of(work, out, operands);
+    let d = c.emit(work, kind, (f % 8192) as usize, 1 + (out - start));
+    Turn::Next(m.popped(f / 8192 % 32).climbing(d))
+}
+
+// A frame whose tree needs no sign behind it.
+pub fn whole(m: Machine, work: &mut [u8]) -> Turn
+    requires { ⌜ Completed (now work) m × (0 < m .depth) × (slotClass (topSlot (now work) (m .depth)) < 7) ⌝ }
+    ensures { λ r. ⌜ Ends (now (work .entry)) (now (work .exit)) m r ⌝ }
+{
+    let c = m.c;
+    let f = m.top(work);
+    let class = f / 8192 / 32;
+    if class == STEPPED {
+        return build(m, work, c, NEXTS, 2);
+    }
+    if class == CONS {
+        return build(m, work, c, ELEMENT, 2);
+    }
+    let k = operator(work, f);
+    if class == RIGHT {
+        return build(m, work, c, infix(k) / 1024, 2);
+    }
+    if class == SOLE {
+        return build(m, work, c, prefix(k) / 256 % 64, 1);
+    }
+    if class == WITHIN {
+        return build(m, work, c, prefix(k) / 16384, 3);
+    }
+    build(m, work, c, prefix(k) / 256 % 64, 2)
+}
+
+// A frame whose tree needs a sign behind it.
+pub fn close(m: Machine, work: &mut [u8]) -> Turn
+    requires { ⌜ Completed (now work) m × (0 < m .depth) × (7 ≤ slotClass (topSlot (now work) (m .depth))) × (slotClass (topSlot (now work) (m .depth)) < 11) ⌝ }
+    ensures { λ r. ⌜ Ends (now (work .entry)) (now (work .exit)) m r ⌝ }
+{
+    let c = m.c;
+    let f = m.top(work);
+    let class = f / 8192 / 32;
+    let k = c.kind(work);
+    if class == ROUND {
+        if k == CLOSE {
+            return build(m, work, c.next(), PAREN, 1);
+        }
+        return Turn::Ended(c.refuse(work));
+    }
+    if class == BARS {
+        if k == BAR {
+            return build(m, work, c.next(), SIZE, 1);
+        }
+        return Turn::Ended(c.refuse(work));
+    }
+    if class == SQUARE {
+        if k == CLOSE_BRACKET {
+            return build(m, work, c.next(), INDEX, 1);
+        }
+        return Turn::Ended(c.refuse(work));
+    }
+    if k == CLOSE_BRACE {
+        return build(m, work, c.next(), RANGE, 3);
+    }
+    Turn::Ended(c.refuse(work))
+}

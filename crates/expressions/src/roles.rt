@@ -1,0 +1,120 @@
+// How an operand begins with an operator, and how a name of a big operator does.
+use crate::prefixes::prefix;
+use crate::stack::BOUND;
+use crate::stack::BOUNDS;
+use crate::stack::COUNT;
+use crate::stack::LOOSEST;
+use crate::stack::LOW;
+use crate::stack::MEMBER;
+use crate::stack::Machine;
+use crate::stack::OVER;
+use crate::stack::SOLE;
+use crate::stack::Turn;
+use crate::start::NAME;
+use crate::start::OPEN_BRACKET;
+use crate::start::atom;
+use entries::Cursor;
+use entries::Parse;
+ghost use mathlib.Core.Path.{_≡_};
+ghost use mathlib.Core.Bool.{true, false};
+ghost use Prim.Native.Nat.{_/_, _%_, _≤_};
+ghost use Rattle.entries.specs.Cursors.{Fits, kindAt};
+ghost use Rattle.expressions.specs.Tables.{prefixAt};
+ghost use Rattle.expressions.specs.States.{Standing, Steps};
+ghost use Rattle.expressions.specs.Binders.{amongAt, memberAt, Naming, Names};
+
+// The roles of operators before their operand.
+const PLAIN: u32 = 1;
+
+const COUNTED: u32 = 2;
+
+const FOLDING: u32 = 4;
+
+// The numbers of the signs of membership.
+const IN: u32 = 89;
+
+const ELEM: u32 = 90;
+
+const ARROW: u32 = 15;
+
+fn among(number: u32) -> bool
+    ensures { λ r. ⌜ r ≡ amongAt number ⌝ }
+{
+    if number == IN {
+        return true;
+    }
+    if number == ELEM {
+        return true;
+    }
+    number == ARROW
+}
+
+// Does a name with its set follow?
+fn member(c: Cursor, work: &[u8]) -> bool
+    requires { ⌜ Fits (now work) c ⌝ }
+    ensures { λ r. ⌜ r ≡ memberAt (now (work .entry)) c ⌝ }
+{
+    if c.kind(work) == NAME {
+        return among(c.next().kind(work));
+    }
+    false
+}
+
+// A name of the big operator that is the token begins at the cursor.
+pub fn binder(m: Machine, work: &mut [u8], c: Cursor, token: usize) -> Machine
+    requires { ⌜ Naming (now work) m c token ⌝ }
+    ensures { λ r. ⌜ Names (now (work .entry)) (now (work .exit)) m c token r ⌝ }
+{
+    if member(c, work) {
+        let name = c.at;
+        let n = m.push(work, OVER, token, c, 0);
+        return n.push(work, MEMBER, name, c.next().next(), LOOSEST);
+    }
+    m.push(work, BOUND, token, c, BOUNDS)
+}
+
+// A big operator.
+fn fold(m: Machine, work: &mut [u8]) -> Turn
+    requires { ⌜ Standing false (now work) m × (prefixAt (kindAt (now work) (m .c)) / 32 % 8 ≡ 4) × (prefixAt (kindAt (now work) (m .c)) % 32 ≤ m .level) ⌝ }
+    ensures { λ r. ⌜ Steps false (now (work .entry)) (now (work .exit)) m r ⌝ }
+{
+    let c = m.c;
+    let at = c.at;
+    let r = c.next().expect(work, OPEN_BRACKET);
+    let Parse::Parsed(d) = r else {
+        return Turn::Ended(r);
+    };
+    Turn::Next(binder(m, work, d, at))
+}
+
+// An expression is read: its first operand.
+pub fn operand(m: Machine, work: &mut [u8]) -> Turn
+    requires { ⌜ Standing false (now work) m ⌝ }
+    ensures { λ r. ⌜ Steps false (now (work .entry)) (now (work .exit)) m r ⌝ }
+{
+    let c = m.c;
+    let at = c.at;
+    let p = prefix(c.kind(work));
+    if p == 0 {
+        return atom(m, work);
+    }
+    let level = p % 32;
+    if m.level < level {
+        return Turn::Ended(c.refuse(work));
+    }
+    let role = p / 32 % 8;
+    if role == FOLDING {
+        return fold(m, work);
+    }
+    let d = c.next();
+    if role == PLAIN {
+        return Turn::Next(m.push(work, SOLE, at, d, level));
+    }
+    if d.kind(work) != OPEN_BRACKET {
+        return Turn::Next(m.push(work, SOLE, at, d, level));
+    }
+    if role == COUNTED {
+        return Turn::Next(m.push(work, COUNT, at, d.next(), LOOSEST));
+    }
+    Turn::Next(m.push(work, LOW, at, d.next(), LOOSEST))
+}

@@ -1,0 +1,160 @@
+// A part of an operator's brackets or of a set is complete: what follows it.
+use crate::close::build;
+use crate::close::operator;
+use crate::prefixes::prefix;
+use crate::stack::ALL;
+use crate::stack::CONS;
+use crate::stack::COUNT;
+use crate::stack::HIGH;
+use crate::stack::LAST;
+use crate::stack::LOOSEST;
+use crate::stack::LOW;
+use crate::stack::MORE;
+use crate::stack::Machine;
+use crate::stack::ONE;
+use crate::stack::STEPPED;
+use crate::stack::TWO;
+use crate::stack::Turn;
+use crate::stack::WITHIN;
+use crate::stack::start_of;
+use entries::Cursor;
+ghost use mathlib.Core.Path.{_≡_};
+ghost use Prim.Native.Nat.{_≤_, _<_};
+ghost use Rattle.entries.specs.Cursors.{emittedOf};
+ghost use Rattle.expressions.specs.Machines.{Tops};
+ghost use Rattle.expressions.specs.Stack.{topSlot, slotClass};
+ghost use Rattle.expressions.specs.Complete.{Completed, Ends};
+ghost use Rattle.expressions.specs.Reopens.{reopenedOf, reopenedIn};
+ghost use Rattle.expressions.specs.Grown.{Grows, grownIn};
+ghost use Rattle.expressions.specs.Sets.{Lists, listedOf, listedIn};
+ghost use Rattle.expressions.specs.Elements.{Listings, Goes};
+
+const ELEMENT: u32 = 52;
+
+const LISTED: u32 = 51;
+
+// The numbers of signs.
+const DOTS: u32 = 19;
+
+const CLOSE_BRACE: u32 = 21;
+
+const CLOSE_BRACKET: u32 = 25;
+
+const COMMA: u32 = 27;
+
+const COLON: u32 = 29;
+
+// An entry over the last trees.
+pub fn grow(c: Cursor, work: &mut [u8], kind: u32, token: usize, operands: usize) -> Cursor
+    requires { ⌜ Grows (now work) c kind token operands ⌝ }
+    ensures { λ r. ⌜ (r ≡ emittedOf c) × (now (work .exit) ≡ grownIn (now (work .entry)) c kind token operands) ⌝ }
+{
+    let out = c.out;
+    let start = start_of(work, out, operands);
+    c.emit(work, kind, token, 1 + (out - start))
+}
+
+// The last frame waits for its next part, from the cursor on.
+fn reopen(m: Machine, work: &mut [u8], c: Cursor, class: u32, level: u32) -> Turn
+    requires { ⌜ Tops (now work) m × (class < 32) ⌝ }
+    ensures { λ r. ⌜ (r ≡ reopenedOf m c level) × (now (work .exit) ≡ reopenedIn (now (work .entry)) m class) ⌝ }
+{
+    let f = m.top(work);
+    let n = m.popped(f / 8192 % 32);
+    Turn::Next(n.push(work, class, (f % 8192) as usize, c, level))
+}
+
+// The n of `X[n]`, the n and the m of `F[n:m]`.
+pub fn further(m: Machine, work: &mut [u8]) -> Turn
+    requires { ⌜ Completed (now work) m × (0 < m .depth) × (12 ≤ slotClass (topSlot (now work) (m .depth))) × (slotClass (topSlot (now work) (m .depth)) < 15) ⌝ }
+    ensures { λ r. ⌜ Ends (now (work .entry)) (now (work .exit)) m r ⌝ }
+{
+    let c = m.c;
+    let f = m.top(work);
+    let class = f / 8192 / 32;
+    let k = c.kind(work);
+    if class == LOW {
+        if k == COLON {
+            return reopen(m, work, c.next(), HIGH, LOOSEST);
+        }
+        return Turn::Ended(c.refuse(work));
+    }
+    if k != CLOSE_BRACKET {
+        return Turn::Ended(c.refuse(work));
+    }
+    let level = prefix(operator(work, f)) % 32;
+    if class == COUNT {
+        return reopen(m, work, c.next(), STEPPED, level);
+    }
+    reopen(m, work, c.next(), WITHIN, level)
+}
+
+// The list of elements is complete, and with it the set.
+fn listed(m: Machine, work: &mut [u8], c: Cursor, parts: usize) -> Turn
+    requires { ⌜ Lists (now work) m c parts ⌝ }
+    ensures { λ r. ⌜ (r ≡ listedOf (now (work .entry)) m c parts) × (now (work .exit) ≡ listedIn (now (work .entry)) m c parts) ⌝ }
+{
+    let d = grow(c, work, ELEMENT, 0, parts);
+    build(m, work, d, LISTED, 1)
+}
+
+// An element from the second on, its frame popped.
+fn element(m: Machine, work: &mut [u8]) -> Machine
+    requires { ⌜ Listings (now work) m ⌝ }
+    ensures { λ r. ⌜ Goes (now (work .entry)) (now (work .exit)) m r ⌝ }
+{
+    let c = m.c;
+    let at = c.at;
+    if c.kind(work) == COMMA {
+        let n = m.push(work, CONS, at, c, 0);
+        return n.push(work, MORE, at, c.next(), LOOSEST);
+    }
+    let d = grow(c, work, ELEMENT, 0, 1);
+    Machine {
+        c: d,
+        depth: m.depth,
+        level: 0,
+        complete: true,
+    }
+}
+
+// The elements of a set.
+pub fn set(m: Machine, work: &mut [u8]) -> Turn
+    requires { ⌜ Completed (now work) m × (0 < m .depth) × (15 ≤ slotClass (topSlot (now work) (m .depth))) × (slotClass (topSlot (now work) (m .depth)) < 18) ⌝ }
+    ensures { λ r. ⌜ Ends (now (work .entry)) (now (work .exit)) m r ⌝ }
+{
+    let c = m.c;
+    let f = m.top(work);
+    let class = f / 8192 / 32;
+    let k = c.kind(work);
+    if class == ONE {
+        if k == COMMA {
+            return reopen(m, work, c.next(), TWO, LOOSEST);
+        }
+        if k == CLOSE_BRACE {
+            return listed(m, work, c.next(), 1);
+        }
+        return Turn::Ended(c.refuse(work));
+    }
+    if class == MORE {
+        return Turn::Next(element(m.popped(0), work));
+    }
+    if k == DOTS {
+        return reopen(m, work, c.next(), LAST, LOOSEST);
+    }
+    let n = m.popped(f / 8192 % 32)
+        .push(work, ALL, (f % 8192) as usize, c, 0);
+    Turn::Next(element(n, work))
+}
+
+// The elements from the second on are complete.
+pub fn all(m: Machine, work: &mut [u8]) -> Turn
+    requires { ⌜ Completed (now work) m × (0 < m .depth) × (slotClass (topSlot (now work) (m .depth)) ≡ 11) ⌝ }
+    ensures { λ r. ⌜ Ends (now (work .entry)) (now (work .exit)) m r ⌝ }
+{
+    let c = m.c;
+    if c.kind(work) == CLOSE_BRACE {
+        return listed(m, work, c.next(), 2);
+    }
+    Turn::Ended(c.refuse(work))
+}

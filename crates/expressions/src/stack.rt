@@ -1,0 +1,140 @@
+// The stack of the expression parser: slots from the work buffer's last word downwards.
+use entries::Cursor;
+use entries::FIRST_ENTRY;
+use entries::Parse;
+use words::get;
+use words::put;
+ghost use mathlib.Core.Path.{_≡_};
+ghost use Prim.Native.Nat.{_+_, _-_, _<_};
+ghost use Rattle.expressions.specs.Stack.{putSlot, topSlot, startOf};
+ghost use Rattle.expressions.specs.Machines.{Pushes, Tops, Sizes, pushedOf, poppedOf, climbingOf};
+
+// The classes of frames.
+pub const RIGHT: u32 = 1;
+
+pub const SOLE: u32 = 2;
+
+pub const STEPPED: u32 = 3;
+
+pub const WITHIN: u32 = 4;
+
+pub const CONS: u32 = 5;
+
+pub const OVER: u32 = 6;
+
+pub const ROUND: u32 = 7;
+
+pub const BARS: u32 = 8;
+
+pub const SQUARE: u32 = 9;
+
+pub const LAST: u32 = 10;
+
+pub const ALL: u32 = 11;
+
+pub const COUNT: u32 = 12;
+
+pub const LOW: u32 = 13;
+
+pub const HIGH: u32 = 14;
+
+pub const ONE: u32 = 15;
+
+pub const TWO: u32 = 16;
+
+pub const MORE: u32 = 17;
+
+pub const BOUND: u32 = 18;
+
+pub const UPPER: u32 = 19;
+
+pub const MEMBER: u32 = 20;
+
+// The loosest level of an expression, and of a bound of a big operator's name.
+pub const LOOSEST: u32 = 17;
+
+pub const BOUNDS: u32 = 8;
+
+// Where the parser stands, how many slots there are, and the level of the expression that is read; whether an operand of it is complete.
+pub struct Machine {
+    pub c: Cursor,
+    pub depth: usize,
+    pub level: u32,
+    pub complete: bool,
+}
+
+pub enum Turn {
+    Next(Machine),
+    Ended(Parse),
+}
+
+// Like those of the cursor, the functions here have requirements: only `expression` calls them.
+impl Machine {
+    // A slot more; then an expression is read from the cursor on, at a level.
+    pub fn push(self, work: &mut [u8], class: u32, token: usize, c: Cursor, level: u32) -> Machine
+        requires { ⌜ Pushes (now work) self class token ⌝ }
+        ensures { λ r. ⌜ (r ≡ pushedOf self c level) × (now (work .exit) ≡ putSlot (now (work .entry)) (self .depth) class (self .level) token) ⌝ }
+    {
+        let depth = self.depth;
+        put(
+            work,
+            16383 - depth,
+            (class * 32 + self.level) * 8192 + (token as u32),
+        );
+        Machine {
+            c,
+            depth: depth + 1,
+            level,
+            complete: false,
+        }
+    }
+
+    // The last slot.
+    pub fn top(self, work: &[u8]) -> u32
+        requires { ⌜ Tops (now work) self ⌝ }
+        ensures { λ r. ⌜ r ≡ topSlot (now (work .entry)) (self .depth) ⌝ }
+    {
+        let depth = self.depth;
+        get(work, 16384 - depth)
+    }
+
+    // A slot less, at a level.
+    pub fn popped(self, level: u32) -> Machine
+        requires { ⌜ 0 < self .depth ⌝ }
+        ensures { λ r. ⌜ r ≡ poppedOf self level ⌝ }
+    {
+        let c = self.c;
+        Machine {
+            c,
+            depth: self.depth - 1,
+            level,
+            complete: self.complete,
+        }
+    }
+
+    // An operand is complete, up to the cursor.
+    pub fn climbing(self, c: Cursor) -> Machine
+        ensures { λ r. ⌜ r ≡ climbingOf self c ⌝ }
+    {
+        Machine {
+            c,
+            depth: self.depth,
+            level: self.level,
+            complete: true,
+        }
+    }
+}
+
+// Where the last n trees before entry `out` begin.
+pub fn start_of(work: &[u8], out: usize, n: usize) -> usize
+    requires { ⌜ Sizes (now work) out n ⌝ }
+    ensures { λ r. ⌜ r ≡ startOf (now (work .entry)) out n ⌝ }
+{
+    let mut start = out;
+    let mut left = n;
+    while 0 < left {
+        start -= (get(work, FIRST_ENTRY + (start - 1)) % 8192) as usize;
+        left -= 1;
+    }
+    start
+}

@@ -1,0 +1,43 @@
+-- `outlined` meets its contract: the lexer's refusal, or the parser's answer on the tokens that the lexer has stored.
+use native.Mathlib.Omega.{arith}
+use borrow.Author.Needs.{needs}
+use Rattle.outline.specs.Tokenizing.{lexed, outlined, tokenized, refused, not-lexed}
+use Rattle.outline.proofs.outlined.Statement.{statement}
+use Rattle.outline.proofs.outlined.Tie as tie
+
+lex-requires : tie.Need-lex-requires
+lex-requires c κs = search needs
+
+enum-known-lexed : tie.Need-enum-known-lexed
+enum-known-lexed c = search needs
+
+cast-parse : tie.Need-cast-parse
+cast-parse c = search needs
+
+parse-requires : tie.Need-parse-requires
+parse-requires c κs =
+    let l = c .before .before .before .before .before .before .lex .ensures in
+    lexed (tokenized l (c .before .before .lexed .given .1)) (omega (arith, l .size, c .before .before .before .before .before .before .before .before .before .before .pre))
+
+enum-known-lexed-2 : tie.Need-enum-known-lexed-2
+enum-known-lexed-2 c = search needs
+
+same-length : tie.Need-same-length
+same-length c = search needs
+
+returns : tie.Need-returns
+returns c =
+    let l = c .before .before .before .before .before .before .before .before .before .lex .ensures in
+    outlined (tokenized l (c .before .before .before .before .before .lexed .given .1)) (l .size) (l .kept) (c .before .before .parse .ensures)
+
+same-length-2 : tie.Need-same-length-2
+same-length-2 c = search needs
+
+returns-2 : tie.Need-returns-2
+returns-2 c =
+    let l = c .before .before .before .before .before .lex .ensures in
+    not-lexed (refused l (c .before .lexed2 .given .1)) (l .size) (l .kept)
+
+pub outlined-spec : {M : Type 1} → statement M
+outlined-spec =
+    tie.close (tie.spec lex-requires enum-known-lexed cast-parse parse-requires enum-known-lexed-2 same-length returns same-length-2 returns-2)

@@ -1,0 +1,17 @@
+pub mod Rows
+pub mod Passing
+pub mod Leaves
+pub mod Loops
+pub mod Enumerations
+pub mod LineReads
+pub mod DeclarationReads
+pub mod Blocks
+pub mod Globals
+pub mod HeadingRows
+pub mod SubsectionReads
+pub mod SubsectionLoop
+pub mod Skims
+pub mod InfoReads
+pub mod SpecParts
+pub mod Facts
+pub mod Whole

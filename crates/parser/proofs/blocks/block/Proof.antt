@@ -1,0 +1,48 @@
+-- `block` meets its contract: no brace, or lines behind it.
+use Rattle.parser.proofs.Laws.Blocks.{block-refused, block-read}
+use Rattle.parser.proofs.Laws.Passing.{inside}
+use Rattle.parser.proofs.blocks.block.Statement.{statement}
+use Rattle.parser.proofs.blocks.block.Tie as tie
+use borrow.Author.Needs.{needs}
+use mathlib.Core.Path.{sym, _∙_}
+use native.Mathlib.Omega.{arith}
+
+kind-requires : tie.Need-kind-requires
+kind-requires c κs =
+    search needs
+
+refuse-requires : tie.Need-refuse-requires
+refuse-requires c κs =
+    search needs
+
+same-length : tie.Need-same-length
+same-length c =
+    search needs
+
+returns : tie.Need-returns
+returns c =
+    λ ts ready. block-refused ((c .before .before .before .before .before .before) .args .which) ready (λ e. (c .before .before .if1) .taken ((c .before .before .before .kind) .ensures ∙ e)) ((c .refuse) .ensures)
+
+lines-requires : tie.Need-lines-requires
+lines-requires c κs =
+    ((c .before .before .before .before .before) .pre, inside ((c .before .before .before .before .before) .pre .ready) (sym ((c .before .before .kind) .ensures) ∙ (c .before .if1) .left) (omega arith))
+
+same-length-2 : tie.Need-same-length-2
+same-length-2 c =
+    search needs
+
+returns-2 : tie.Need-returns-2
+returns-2 c =
+    λ ts ready. block-read ((c .before .before .before .before .before .before .before .before) .args .which) ready (sym ((c .before .before .before .before .before .kind) .ensures) ∙ (c .before .before .before .before .if1) .left) ((c .before .before .lines) .ensures ts ready)
+
+pub block-spec : {M : Type 1} → statement M
+block-spec =
+    tie.close
+    (tie.spec
+    kind-requires
+    refuse-requires
+    same-length
+    returns
+    lines-requires
+    same-length-2
+    returns-2)

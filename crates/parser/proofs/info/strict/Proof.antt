@@ -1,0 +1,31 @@
+-- `strict` meets its contract: by the next token.
+use Rattle.parser.proofs.Laws.InfoReads.{strict-none, strict-some}
+use Rattle.parser.proofs.Laws.Passing.{next-of, next-fits, inside, past-ready}
+use Rattle.parser.proofs.info.strict.Statement.{statement}
+use Rattle.parser.proofs.info.strict.Tie as tie
+use borrow.Author.Needs.{needs}
+use mathlib.Core.Path.{sym, _∙_}
+use native.Mathlib.Omega.{arith}
+
+kind-requires : tie.Need-kind-requires
+kind-requires c κs =
+    search needs
+
+returns : tie.Need-returns
+returns c =
+    λ ts ready. strict-none ready (λ e. (c .if1) .taken ((c .before .kind) .ensures ∙ e))
+
+next-requires : tie.Need-next-requires
+next-requires c κs =
+    let z = (c .before .before .before) .pre in next-fits (z .ready) (sym ((c .before .kind) .ensures) ∙ (c .if1) .left) (omega arith)
+
+expect-requires : tie.Need-expect-requires
+expect-requires c κs =
+    let z = (c .before .before .before .before) .pre in (past-ready (z .ready) (next-of ((c .next) .ensures)) (inside (z .ready) (sym ((c .before .before .kind) .ensures) ∙ (c .before .if1) .left) (omega arith)) .fits, omega arith)
+
+returns-2 : tie.Need-returns-2
+returns-2 c =
+    λ ts ready. strict-some ready (sym ((c .before .before .before .kind) .ensures) ∙ (c .before .before .if1) .left) (next-of ((c .before .next) .ensures)) ((c .expect) .ensures)
+
+pub strict-spec : {M : Type 1} → statement M
+strict-spec = tie.close (tie.spec kind-requires returns next-requires expect-requires returns-2)

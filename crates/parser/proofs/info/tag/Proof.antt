@@ -1,0 +1,31 @@
+-- `tag` meets its contract: by the next token.
+use Rattle.parser.proofs.Laws.InfoReads.{tag-first, tag-second}
+use Rattle.parser.proofs.Laws.Passing.{next-of, next-fits}
+use Rattle.parser.proofs.info.tag.Statement.{statement}
+use Rattle.parser.proofs.info.tag.Tie as tie
+use borrow.Author.Needs.{needs}
+use mathlib.Core.Path.{sym, _∙_}
+use native.Mathlib.Omega.{arith}
+
+kind-requires : tie.Need-kind-requires
+kind-requires c κs =
+    search needs
+
+next-requires : tie.Need-next-requires
+next-requires c κs =
+    let z = (c .before .before .before) .pre in next-fits (z .ready) (sym ((c .before .kind) .ensures) ∙ (c .if1) .taken) (omega arith)
+
+returns : tie.Need-returns
+returns c =
+    λ ts ready. tag-first ready (sym ((c .before .before .kind) .ensures) ∙ (c .before .if1) .taken) (next-of ((c .next) .ensures))
+
+expect-requires : tie.Need-expect-requires
+expect-requires c κs =
+    search needs
+
+returns-2 : tie.Need-returns-2
+returns-2 c =
+    λ ts ready. tag-second ready (λ e. (c .before .if1) .left ((c .before .before .kind) .ensures ∙ e)) ((c .expect) .ensures)
+
+pub tag-spec : {M : Type 1} → statement M
+tag-spec = tie.close (tie.spec kind-requires next-requires returns expect-requires returns-2)

@@ -1,0 +1,64 @@
+-- `titles` meets its contract: its three parts in a row.
+use Rattle.parser.proofs.Laws.Passing.{passed, passed-ready}
+use Rattle.parser.proofs.Laws.Rows.{accepted}
+use Rattle.parser.proofs.Laws.Skims.{skim-refused, skim-then, expect-spelt}
+use Rattle.parser.proofs.info.titles.Statement.{statement}
+use Rattle.parser.proofs.info.titles.Tie as tie
+use borrow.Author.Needs.{needs}
+use mathlib.Core.Path.{refl}
+use native.Mathlib.Omega.{arith}
+
+expect-requires : tie.Need-expect-requires
+expect-requires c κs =
+    search needs
+
+enum-known-r : tie.Need-enum-known-r
+enum-known-r c =
+    search needs
+
+enum-told : tie.Need-enum-told
+enum-told c =
+    search needs
+
+returns : tie.Need-returns
+returns c =
+    λ ts ready. skim-refused (expect-spelt ready "{" (record { known = refl; same = refl }) ((c .before .before .expect) .ensures)) _ ((c .enum-told) .given .1)
+
+described-requires : tie.Need-described-requires
+described-requires c κs =
+    let z = (c .before .before .before .before .before) .pre in (record { tokens = z .tokens; ready = passed-ready (z .ready) (passed _ _ _ ((c .before .before .before .expect) .ensures) ((c .before .r) .given .1)) (omega arith) }, record { spelling = "TITLE"; spells = (record { known = refl; same = refl }) })
+
+enum-known-q : tie.Need-enum-known-q
+enum-known-q c =
+    search needs
+
+enum-told-2 : tie.Need-enum-told-2
+enum-told-2 c =
+    search needs
+
+returns-2 : tie.Need-returns-2
+returns-2 c =
+    λ ts ready. skim-then (expect-spelt ready "{" (record { known = refl; same = refl }) ((c .before .before .before .before .before .before .expect) .ensures)) _ ((c .before .before .before .before .r) .given .1) (λ a. skim-refused ((c .before .before .described) .ensures "TITLE" (record { known = refl; same = refl }) ts (passed-ready ready (passed _ _ _ ((c .before .before .before .before .before .before .expect) .ensures) ((c .before .before .before .before .r) .given .1)) (omega arith))) _ ((c .enum-told2) .given .1))
+
+described-requires-2 : tie.Need-described-requires-2
+described-requires-2 c κs =
+    let z = (c .before .before .before .before .before .before .before .before .before) .pre in (record { tokens = z .tokens; ready = accepted ((c .before .q) .given .1) ((c .before .before .before .described) .ensures "TITLE" (record { known = refl; same = refl }) (z .tokens) (passed-ready (z .ready) (passed _ _ _ ((c .before .before .before .before .before .before .before .expect) .ensures) ((c .before .before .before .before .before .r) .given .1)) (omega arith))) .took .ready }, record { spelling = "DESCRIPTION"; spells = (record { known = refl; same = refl }) })
+
+returns-3 : tie.Need-returns-3
+returns-3 c =
+    λ ts ready. skim-then (expect-spelt ready "{" (record { known = refl; same = refl }) ((c .before .before .before .before .before .before .before .before .expect) .ensures)) _ ((c .before .before .before .before .before .before .r) .given .1) (λ a. skim-then ((c .before .before .before .before .described) .ensures "TITLE" (record { known = refl; same = refl }) ts (passed-ready ready (passed _ _ _ ((c .before .before .before .before .before .before .before .before .expect) .ensures) ((c .before .before .before .before .before .before .r) .given .1)) (omega arith))) _ ((c .before .before .q) .given .1) (λ b. (c .described2) .ensures "DESCRIPTION" (record { known = refl; same = refl }) ts (accepted ((c .before .before .q) .given .1) ((c .before .before .before .before .described) .ensures "TITLE" (record { known = refl; same = refl }) ts (passed-ready ready (passed _ _ _ ((c .before .before .before .before .before .before .before .before .expect) .ensures) ((c .before .before .before .before .before .before .r) .given .1)) (omega arith))) .took .ready)))
+
+pub titles-spec : {M : Type 1} → statement M
+titles-spec =
+    tie.close
+    (tie.spec
+    expect-requires
+    enum-known-r
+    enum-told
+    returns
+    described-requires
+    enum-known-q
+    enum-told-2
+    returns-2
+    described-requires-2
+    returns-3)

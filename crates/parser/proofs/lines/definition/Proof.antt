@@ -1,0 +1,53 @@
+-- `definition` meets its contract: an enumeration after its word, or a name and its value.
+use Rattle.parser.proofs.Laws.LineReads.{definition-enum, definition-valued}
+use Rattle.parser.proofs.Laws.Passing.{next-of, next-fits, inside, past-ready}
+use Rattle.parser.proofs.lines.definition.Statement.{statement}
+use Rattle.parser.proofs.lines.definition.Tie as tie
+use borrow.Author.Needs.{needs}
+use mathlib.Core.Path.{sym, _∙_}
+use native.Mathlib.Omega.{arith}
+
+kind-requires : tie.Need-kind-requires
+kind-requires c κs =
+    search needs
+
+next-requires : tie.Need-next-requires
+next-requires c κs =
+    let z = (c .before .before .before .before) .pre in next-fits (z .ready) (sym ((c .before .kind) .ensures) ∙ (c .if1) .taken) (omega arith)
+
+enumeration-requires : tie.Need-enumeration-requires
+enumeration-requires c κs =
+    let z = (c .before .before .before .before .before .before) .pre in record { tokens = z .tokens; ready = past-ready (z .ready) (next-of ((c .before .next) .ensures)) (inside (z .ready) (sym ((c .before .before .before .kind) .ensures) ∙ (c .before .before .if1) .taken) (omega arith)) }
+
+same-length : tie.Need-same-length
+same-length c =
+    search needs
+
+returns : tie.Need-returns
+returns c =
+    λ ts ready. definition-enum ready (sym ((c .before .before .before .before .before .before .kind) .ensures) ∙ (c .before .before .before .before .before .if1) .taken) (next-of ((c .before .before .before .before .next) .ensures)) ((c .before .before .enumeration) .ensures ts (past-ready ready (next-of ((c .before .before .before .before .next) .ensures)) (inside ready (sym ((c .before .before .before .before .before .before .kind) .ensures) ∙ (c .before .before .before .before .before .if1) .taken) (omega arith))))
+
+valued-requires : tie.Need-valued-requires
+valued-requires c κs =
+    search needs
+
+same-length-2 : tie.Need-same-length-2
+same-length-2 c =
+    search needs
+
+returns-2 : tie.Need-returns-2
+returns-2 c =
+    λ ts ready. definition-valued ready (λ e. (c .before .before .before .before .if1) .left ((c .before .before .before .before .before .kind) .ensures ∙ e)) ((c .before .before .valued) .ensures ts ready)
+
+pub definition-spec : {M : Type 1} → statement M
+definition-spec =
+    tie.close
+    (tie.spec
+    kind-requires
+    next-requires
+    enumeration-requires
+    same-length
+    returns
+    valued-requires
+    same-length-2
+    returns-2)

@@ -1,0 +1,141 @@
+-- `subsections` meets its contract. The loop's invariant: the definition's answer is its answer on the tokens that are left, with the subsections so far before it,
+-- and those that have stood are marked. The measure is the number of tokens left.
+use Prim.Native.Nat.{_-_}
+use Rattle.entries.specs.Cursors.{Ready}
+use Rattle.language.specs.Grammar.{Tokens}
+use Rattle.language.specs.Sections.{subsectionsOf}
+use Rattle.parser.proofs.Laws.Rows.{accepted}
+use Rattle.parser.proofs.Laws.SubsectionLoop.{Standing, no-marks, below-eight, standing-start, word-none, row, row-code, word-inside, word-seen, subsections-stop, subsection-further, subsections-again, subsections-end}
+use Rattle.parser.proofs.Laws.SubsectionReads.{marked-none, marked-some}
+use Rattle.parser.proofs.subsections.subsections.Statement.{statement}
+use Rattle.parser.proofs.subsections.subsections.Tie as tie
+use Rattle.parser.specs.Headings.{headingNumber}
+use borrow.Author.Needs.{needs}
+use lib.ListN.{length, drop, length-set}
+use mathlib.Core.List.{[]}
+use mathlib.Core.Path.{_≡_, refl, ap, _∙_}
+use native.Mathlib.Omega.{arith}
+
+abbrev Inv-loop : tie.InvT-loop
+Inv-loop work₀ before₀ d₀ work before d =
+    (length before ≡ 8) × ((ts : Tokens) → Ready ts work₀ d₀ → Standing (subsectionsOf 9 [] (drop (d₀ .at) ts)) before ts work₀ work d₀ d)
+
+abbrev μ-loop : tie.MeasureT-loop
+μ-loop work₀ before₀ d₀ work before d = d .count - d .at
+
+loop-holds : tie.Need-loop-holds Inv-loop μ-loop
+loop-holds c =
+    (refl, λ ts ready. standing-start ready no-marks)
+
+kind-requires : tie.Need-kind-requires Inv-loop μ-loop
+kind-requires c κs =
+    let z = (c .before .before .before) .pre in let h = (c .before .loop) .inv .1 (z .tokens) (z .ready) in h .going .took .ready .fits
+
+heading-requires : tie.Need-heading-requires Inv-loop μ-loop
+heading-requires c κs =
+    search needs
+
+array-read-ending : tie.Need-array-read-ending Inv-loop μ-loop
+array-read-ending c =
+    omega arith
+
+array-read-ending-2 : tie.Need-array-read-ending-2 Inv-loop μ-loop
+array-read-ending-2 c =
+    omega arith
+
+ending-requires : tie.Need-ending-requires Inv-loop μ-loop
+ending-requires c κs =
+    let z = (c .before .before .before .before .before .before .before) .pre in let h = (c .before .before .before .before .before .loop) .inv .1 (z .tokens) (z .ready) in record { tokens = z .tokens; ready = h .going .took .ready }
+
+same-length : tie.Need-same-length Inv-loop μ-loop
+same-length c =
+    let z = (c .before .before .before .before .before .before .before .before) .pre in let h = (c .before .before .before .before .before .before .loop) .inv .1 (z .tokens) (z .ready) in h .going .kept .len
+
+returns : tie.Need-returns Inv-loop μ-loop
+returns c =
+    λ ts ready. let h = (c .before .before .before .before .before .before .loop) .inv .1 ts ready in subsections-end h (word-none h ((c .before .before .before .heading) .ensures ∙ ap headingNumber ((c .before .before .before .before .kind) .ensures)) ((c .before .before .if1) .taken)) ((c .ending) .ensures ts (h .going .took .ready))
+
+array-read-if2 : tie.Need-array-read-if2 Inv-loop μ-loop
+array-read-if2 c =
+    (below-eight _ ((c .before .heading) .ensures) ((c .if1) .left))
+
+array-read-ending-3 : tie.Need-array-read-ending-3 Inv-loop μ-loop
+array-read-ending-3 c =
+    omega arith
+
+array-read-ending-4 : tie.Need-array-read-ending-4 Inv-loop μ-loop
+array-read-ending-4 c =
+    omega arith
+
+ending-requires-2 : tie.Need-ending-requires-2 Inv-loop μ-loop
+ending-requires-2 c κs =
+    let z = (c .before .before .before .before .before .before .before .before) .pre in let h = (c .before .before .before .before .before .before .loop) .inv .1 (z .tokens) (z .ready) in record { tokens = z .tokens; ready = h .going .took .ready }
+
+same-length-2 : tie.Need-same-length-2 Inv-loop μ-loop
+same-length-2 c =
+    let z = (c .before .before .before .before .before .before .before .before .before) .pre in let h = (c .before .before .before .before .before .before .before .loop) .inv .1 (z .tokens) (z .ready) in h .going .kept .len
+
+returns-2 : tie.Need-returns-2 Inv-loop μ-loop
+returns-2 c =
+    λ ts ready. let h = (c .before .before .before .before .before .before .before .loop) .inv .1 ts ready in subsections-end h (word-seen h ((c .before .before .before .before .heading) .ensures ∙ ap headingNumber ((c .before .before .before .before .before .kind) .ensures)) (below-eight _ ((c .before .before .before .before .heading) .ensures) ((c .before .before .before .if1) .left)) (marked-some _ ((c .before .before .if2) .taken))) ((c .ending2) .ensures ts (h .going .took .ready))
+
+subsection-requires : tie.Need-subsection-requires Inv-loop μ-loop
+subsection-requires c κs =
+    let z = (c .before .before .before .before .before .before .before .before) .pre in let h = (c .before .before .before .before .before .before .loop) .inv .1 (z .tokens) (z .ready) in (record { tokens = z .tokens; ready = h .going .took .ready }, word-inside h ((c .before .before .before .heading) .ensures ∙ ap headingNumber ((c .before .before .before .before .kind) .ensures)) (below-eight _ ((c .before .before .before .heading) .ensures) ((c .before .before .if1) .left)), (below-eight _ ((c .before .before .before .heading) .ensures) ((c .before .before .if1) .left)))
+
+enum-known-r : tie.Need-enum-known-r Inv-loop μ-loop
+enum-known-r c =
+    search needs
+
+enum-told : tie.Need-enum-told Inv-loop μ-loop
+enum-told c =
+    search needs
+
+same-length-3 : tie.Need-same-length-3 Inv-loop μ-loop
+same-length-3 c =
+    let z = (c .before .before .before .before .before .before .before .before .before .before .before .before .before) .pre in let h = (c .before .before .before .before .before .before .before .before .before .before .before .loop) .inv .1 (z .tokens) (z .ready) in ((c .before .before .before .before .subsection) .ensures (row h ((c .before .before .before .before .before .before .before .before .heading) .ensures ∙ ap headingNumber ((c .before .before .before .before .before .before .before .before .before .kind) .ensures)) (below-eight _ ((c .before .before .before .before .before .before .before .before .heading) .ensures) ((c .before .before .before .before .before .before .before .if1) .left)) .row .heading) (row-code h ((c .before .before .before .before .before .before .before .before .heading) .ensures ∙ ap headingNumber ((c .before .before .before .before .before .before .before .before .before .kind) .ensures)) (below-eight _ ((c .before .before .before .before .before .before .before .before .heading) .ensures) ((c .before .before .before .before .before .before .before .if1) .left))) (z .tokens) (h .going .took .ready)) .kept .len ∙ h .going .kept .len
+
+returns-3 : tie.Need-returns-3 Inv-loop μ-loop
+returns-3 c =
+    λ ts ready. let h = (c .before .before .before .before .before .before .before .before .before .before .before .loop) .inv .1 ts ready in subsections-stop h ((c .before .before .before .before .before .before .before .before .heading) .ensures ∙ ap headingNumber ((c .before .before .before .before .before .before .before .before .before .kind) .ensures)) (below-eight _ ((c .before .before .before .before .before .before .before .before .heading) .ensures) ((c .before .before .before .before .before .before .before .if1) .left)) (marked-none _ ((c .before .before .before .before .before .before .if2) .left)) ((c .before .before .before .before .subsection) .ensures (row h ((c .before .before .before .before .before .before .before .before .heading) .ensures ∙ ap headingNumber ((c .before .before .before .before .before .before .before .before .before .kind) .ensures)) (below-eight _ ((c .before .before .before .before .before .before .before .before .heading) .ensures) ((c .before .before .before .before .before .before .before .if1) .left)) .row .heading) (row-code h ((c .before .before .before .before .before .before .before .before .heading) .ensures ∙ ap headingNumber ((c .before .before .before .before .before .before .before .before .before .kind) .ensures)) (below-eight _ ((c .before .before .before .before .before .before .before .before .heading) .ensures) ((c .before .before .before .before .before .before .before .if1) .left))) ts (h .going .took .ready)) ((c .enum-told) .given .1)
+
+array-write-before : tie.Need-array-write-before Inv-loop μ-loop
+array-write-before c =
+    (below-eight _ ((c .before .before .before .before .before .before .before .before .before .heading) .ensures) ((c .before .before .before .before .before .before .before .before .if1) .left))
+
+loop-less : tie.Need-loop-less Inv-loop μ-loop
+loop-less c =
+    let z = (c .before .before .before .before .before .before .before .before .before .before .before .before .before .before) .pre in let h = (c .before .before .before .before .before .before .before .before .before .before .before .before .loop) .inv .1 (z .tokens) (z .ready) in let t = accepted ((c .before .r) .given .1) ((c .before .before .before .before .before .subsection) .ensures (row h ((c .before .before .before .before .before .before .before .before .before .heading) .ensures ∙ ap headingNumber ((c .before .before .before .before .before .before .before .before .before .before .kind) .ensures)) (below-eight _ ((c .before .before .before .before .before .before .before .before .before .heading) .ensures) ((c .before .before .before .before .before .before .before .before .if1) .left)) .row .heading) (row-code h ((c .before .before .before .before .before .before .before .before .before .heading) .ensures ∙ ap headingNumber ((c .before .before .before .before .before .before .before .before .before .before .kind) .ensures)) (below-eight _ ((c .before .before .before .before .before .before .before .before .before .heading) .ensures) ((c .before .before .before .before .before .before .before .before .if1) .left))) (z .tokens) (h .going .took .ready)) .took in omega (arith, subsection-further h ((c .before .before .before .before .before .before .before .before .before .heading) .ensures ∙ ap headingNumber ((c .before .before .before .before .before .before .before .before .before .before .kind) .ensures)) (below-eight _ ((c .before .before .before .before .before .before .before .before .before .heading) .ensures) ((c .before .before .before .before .before .before .before .before .if1) .left)) (marked-none _ ((c .before .before .before .before .before .before .before .if2) .left)) ((c .before .before .before .before .before .subsection) .ensures (row h ((c .before .before .before .before .before .before .before .before .before .heading) .ensures ∙ ap headingNumber ((c .before .before .before .before .before .before .before .before .before .before .kind) .ensures)) (below-eight _ ((c .before .before .before .before .before .before .before .before .before .heading) .ensures) ((c .before .before .before .before .before .before .before .before .if1) .left)) .row .heading) (row-code h ((c .before .before .before .before .before .before .before .before .before .heading) .ensures ∙ ap headingNumber ((c .before .before .before .before .before .before .before .before .before .before .kind) .ensures)) (below-eight _ ((c .before .before .before .before .before .before .before .before .before .heading) .ensures) ((c .before .before .before .before .before .before .before .before .if1) .left))) (z .tokens) (h .going .took .ready)) ((c .before .r) .given .1), t .onward .count, t .ready .fits .inside)
+
+loop-again : tie.Need-loop-again Inv-loop μ-loop
+loop-again c =
+    (simp length-set ((c .before .before .before .before .before .before .before .before .before .before .before .before .loop) .inv .0), λ ts ready. let h = (c .before .before .before .before .before .before .before .before .before .before .before .before .loop) .inv .1 ts ready in subsections-again h ((c .before .before .before .before .before .before .before .before .before .heading) .ensures ∙ ap headingNumber ((c .before .before .before .before .before .before .before .before .before .before .kind) .ensures)) (below-eight _ ((c .before .before .before .before .before .before .before .before .before .heading) .ensures) ((c .before .before .before .before .before .before .before .before .if1) .left)) (marked-none _ ((c .before .before .before .before .before .before .before .if2) .left)) ((c .before .before .before .before .before .subsection) .ensures (row h ((c .before .before .before .before .before .before .before .before .before .heading) .ensures ∙ ap headingNumber ((c .before .before .before .before .before .before .before .before .before .before .kind) .ensures)) (below-eight _ ((c .before .before .before .before .before .before .before .before .before .heading) .ensures) ((c .before .before .before .before .before .before .before .before .if1) .left)) .row .heading) (row-code h ((c .before .before .before .before .before .before .before .before .before .heading) .ensures ∙ ap headingNumber ((c .before .before .before .before .before .before .before .before .before .before .kind) .ensures)) (below-eight _ ((c .before .before .before .before .before .before .before .before .before .heading) .ensures) ((c .before .before .before .before .before .before .before .before .if1) .left))) ts (h .going .took .ready)) (omega (arith, (below-eight _ ((c .before .before .before .before .before .before .before .before .before .heading) .ensures) ((c .before .before .before .before .before .before .before .before .if1) .left)), (c .before .before .before .before .before .before .before .before .before .before .before .before .loop) .inv .0)) ((c .before .r) .given .1))
+
+pub subsections-spec : {M : Type 1} → statement M
+subsections-spec =
+    tie.close
+    (tie.spec
+    Inv-loop
+    μ-loop
+    loop-holds
+    kind-requires
+    heading-requires
+    array-read-ending
+    array-read-ending-2
+    ending-requires
+    same-length
+    returns
+    array-read-if2
+    array-read-ending-3
+    array-read-ending-4
+    ending-requires-2
+    same-length-2
+    returns-2
+    subsection-requires
+    enum-known-r
+    enum-told
+    same-length-3
+    returns-3
+    array-write-before
+    loop-less
+    loop-again)

@@ -1,0 +1,7 @@
+pub mod Spelling
+pub mod Parts
+pub mod Lines
+pub mod Headings
+pub mod Information
+pub mod Outlines
+pub mod Steps

@@ -1,0 +1,168 @@
+// INFO, after its word. Its functions write no entry.
+use super::numbers::CLOSE;
+use super::numbers::COLON;
+use super::numbers::COMMA;
+use super::numbers::DESCRIPTION;
+use super::numbers::MEALY;
+use super::numbers::MOORE;
+use super::numbers::NAME;
+use super::numbers::OPEN;
+use super::numbers::QUOTED;
+use super::numbers::SEMANTICS;
+use super::numbers::STRICT;
+use super::numbers::TAGS;
+use super::numbers::TARGET;
+use super::numbers::TITLE;
+use entries::Cursor;
+use entries::Parse;
+ghost use Prim.Native.Nat.{_<_};
+ghost use lib.ListN.{length};
+ghost use Rattle.language.specs.Sections.{modelOf, strictOf, tagOf, tagsOf, infoEnd};
+ghost use Rattle.entries.specs.Cursors.{Readied};
+ghost use Rattle.entries.specs.Reads.{Parses};
+ghost use Rattle.entries.specs.TokenReads.{noEntries};
+ghost use Rattle.parser.specs.Spelling.{Spelt};
+ghost use Rattle.parser.specs.Information.{ReadsPair, ReadsDescribed, titlesOf, toSemantics, toTarget, closingOf};
+
+// Two signs or words.
+pub fn pair(c: Cursor, work: &[u8], first: u32, second: u32) -> Parse
+    requires { ⌜ Readied (now work) c × (0 < first) × (0 < second) ⌝ }
+    ensures { λ r. ⌜ ReadsPair first second (now (work .entry)) c r ⌝ }
+{
+    let r = c.expect(work, first);
+    let Parse::Parsed(d) = r else {
+        return r;
+    };
+    d.expect(work, second)
+}
+
+// A word of INFO, its colon and its string.
+fn described(c: Cursor, work: &[u8], word: u32) -> Parse
+    requires { ⌜ Readied (now work) c × Spelt word ⌝ }
+    ensures { λ r. ⌜ ReadsDescribed word (now (work .entry)) c r ⌝ }
+{
+    let r = pair(c, work, word, COLON);
+    let Parse::Parsed(d) = r else {
+        return r;
+    };
+    d.expect(work, QUOTED)
+}
+
+fn titles(c: Cursor, work: &[u8]) -> Parse
+    requires { ⌜ Readied (now work) c ⌝ }
+    ensures { λ r. ⌜ Parses titlesOf noEntries (now (work .entry)) (now (work .entry)) c r ⌝ }
+{
+    let r = c.expect(work, OPEN);
+    let Parse::Parsed(d) = r else {
+        return r;
+    };
+    let q = described(d, work, TITLE);
+    let Parse::Parsed(e) = q else {
+        return q;
+    };
+    described(e, work, DESCRIPTION)
+}
+
+// Up to the word of the semantics.
+pub fn to_semantics(c: Cursor, work: &[u8]) -> Parse
+    requires { ⌜ Readied (now work) c ⌝ }
+    ensures { λ r. ⌜ Parses toSemantics noEntries (now (work .entry)) (now (work .entry)) c r ⌝ }
+{
+    let r = titles(c, work);
+    let Parse::Parsed(d) = r else {
+        return r;
+    };
+    pair(d, work, SEMANTICS, COLON)
+}
+
+pub fn model(c: Cursor, work: &[u8]) -> Parse
+    requires { ⌜ Readied (now work) c ⌝ }
+    ensures { λ r. ⌜ Parses modelOf noEntries (now (work .entry)) (now (work .entry)) c r ⌝ }
+{
+    if c.kind(work) == MEALY {
+        return Parse::Parsed(c.next());
+    }
+    c.expect(work, MOORE)
+}
+
+// `, Strict`, or nothing.
+fn strict(c: Cursor, work: &[u8]) -> Parse
+    requires { ⌜ Readied (now work) c ⌝ }
+    ensures { λ r. ⌜ Parses strictOf noEntries (now (work .entry)) (now (work .entry)) c r ⌝ }
+{
+    if c.kind(work) != COMMA {
+        return Parse::Parsed(c);
+    }
+    c.next().expect(work, STRICT)
+}
+
+// From the semantics' word on up to the target's.
+pub fn to_target(c: Cursor, work: &[u8]) -> Parse
+    requires { ⌜ Readied (now work) c ⌝ }
+    ensures { λ r. ⌜ Parses toTarget noEntries (now (work .entry)) (now (work .entry)) c r ⌝ }
+{
+    let r = strict(c, work);
+    let Parse::Parsed(d) = r else {
+        return r;
+    };
+    pair(d, work, TARGET, COLON)
+}
+
+fn tag(c: Cursor, work: &[u8]) -> Parse
+    requires { ⌜ Readied (now work) c ⌝ }
+    ensures { λ r. ⌜ Parses tagOf noEntries (now (work .entry)) (now (work .entry)) c r ⌝ }
+{
+    if c.kind(work) == NAME {
+        return Parse::Parsed(c.next());
+    }
+    c.expect(work, QUOTED)
+}
+
+// Tags with commas between them.
+fn tags(c: Cursor, work: &[u8]) -> Parse
+    requires { ⌜ Readied (now work) c ⌝ }
+    ensures { λ r. ⌜ Parses (λ ts. tagsOf (length ts) ts) noEntries (now (work .entry)) (now (work .entry)) c r ⌝ }
+{
+    let mut d = c;
+    loop {
+        let r = tag(d, work);
+        let Parse::Parsed(e) = r else {
+            return r;
+        };
+        if e.kind(work) != COMMA {
+            return Parse::Parsed(e);
+        }
+        d = e.next();
+    }
+}
+
+// TAGS, or nothing, then `}`.
+fn info_end(c: Cursor, work: &[u8]) -> Parse
+    requires { ⌜ Readied (now work) c ⌝ }
+    ensures { λ r. ⌜ Parses infoEnd noEntries (now (work .entry)) (now (work .entry)) c r ⌝ }
+{
+    if c.kind(work) != TAGS {
+        return c.expect(work, CLOSE);
+    }
+    let r = c.next().expect(work, COLON);
+    let Parse::Parsed(d) = r else {
+        return r;
+    };
+    let q = tags(d, work);
+    let Parse::Parsed(e) = q else {
+        return q;
+    };
+    e.expect(work, CLOSE)
+}
+
+// The target's word and what follows it.
+pub fn closing(c: Cursor, work: &[u8]) -> Parse
+    requires { ⌜ Readied (now work) c ⌝ }
+    ensures { λ r. ⌜ Parses closingOf noEntries (now (work .entry)) (now (work .entry)) c r ⌝ }
+{
+    let r = model(c, work);
+    let Parse::Parsed(d) = r else {
+        return r;
+    };
+    info_end(d, work)
+}

@@ -1,0 +1,87 @@
+// MAIN's subsections, in any order, each at most once.
+use super::Line;
+use super::blocks::block;
+use super::numbers::CLOSE;
+use super::numbers::HEADING_ENTRY;
+use entries::Cursor;
+use entries::Parse;
+ghost use mathlib.Core.List.{[]};
+ghost use mathlib.Core.Path.{_≡_};
+ghost use Prim.Native.Nat.{_<_};
+ghost use Rattle.language.specs.Sections.{subsectionsOf};
+ghost use Rattle.entries.specs.Flat.{each, flatSubsection};
+ghost use Rattle.entries.specs.Cursors.{Readied};
+ghost use Rattle.entries.specs.Reads.{Parses};
+ghost use Rattle.parser.specs.Headings.{headingNumber, ReadsSubsection, ReadsEnd};
+
+// The number of the first word of a subsection, INPUTS.
+const FIRST_HEADING: u32 = 55;
+
+// For each word of a subsection, by its number, the subsection: 'the v1.0 names are read as their v1.1 ones'.
+const HEADINGS: [usize; 11] = [0, 1, 2, 3, 4, 5, 6, 7, 5, 6, 7];
+
+// Subsections that hold declarations come first.
+const FIRST_FORMULAS: usize = 2;
+
+// How many subsections there are; no subsection has this number.
+const NO_HEADING: usize = 8;
+
+// The subsection whose word has the number.
+fn heading(kind: u32) -> usize
+    ensures { λ r. ⌜ r ≡ headingNumber kind ⌝ }
+{
+    if kind < FIRST_HEADING {
+        return NO_HEADING;
+    }
+    let i = (kind - FIRST_HEADING) as usize;
+    if i < 11 { HEADINGS[i] } else { NO_HEADING }
+}
+
+// Subsection n, from its word on.
+fn subsection(c: Cursor, work: &mut [u8], n: usize) -> Parse
+    requires { ⌜ Readied (now work) c × (c .at < c .count) × (n < 8) ⌝ }
+    ensures { λ r. ⌜ ReadsSubsection n (now (work .entry)) (now (work .exit)) c r ⌝ }
+{
+    let d = c.next().emit(work, HEADING_ENTRY, 0, n);
+    if n < FIRST_FORMULAS {
+        return block(d, work, Line::Declarations);
+    }
+    block(d, work, Line::Formulas)
+}
+
+// The end of MAIN: INPUTS and OUTPUTS must have stood.
+fn ending(c: Cursor, work: &[u8], inputs: u8, outputs: u8) -> Parse
+    requires { ⌜ Readied (now work) c ⌝ }
+    ensures { λ r. ⌜ ReadsEnd inputs outputs (now (work .entry)) c r ⌝ }
+{
+    if inputs == 0 {
+        return c.refuse(work);
+    }
+    if outputs == 0 {
+        return c.refuse(work);
+    }
+    c.expect(work, CLOSE)
+}
+
+pub fn subsections(c: Cursor, work: &mut [u8]) -> Parse
+    requires { ⌜ Readied (now work) c ⌝ }
+    ensures { λ r. ⌜ Parses (subsectionsOf 9 []) (each flatSubsection) (now (work .entry)) (now (work .exit)) c r ⌝ }
+{
+    let mut before = [0u8; 8];
+    let mut d = c;
+    loop {
+        let n = heading(d.kind(work));
+        if n == NO_HEADING {
+            return ending(d, work, before[0], before[1]);
+        }
+        if before[n] != 0 {
+            return ending(d, work, before[0], before[1]);
+        }
+        let r = subsection(d, work, n);
+        let Parse::Parsed(e) = r else {
+            return r;
+        };
+        before[n] = 1;
+        d = e;
+    }
+}
