@@ -1,0 +1,6 @@
+pub mod Depth
+pub mod LevelLaws
+pub mod NodeLaws
+pub mod DepthLaws
+pub mod Progress
+pub mod ProgressLaws

@@ -1,0 +1,146 @@
+// Refusal 5 over the stored tree: 'tree too deep', at the outermost expression's first token. One pass, with a stack of the operands' levels and starts.
+use traversal::FIRST_LINE;
+use traversal::Place;
+use traversal::cell_at;
+use traversal::first_of;
+use traversal::less;
+use traversal::operand_count;
+use traversal::start_of;
+ghost use mathlib.Core.Path.{_≡_};
+ghost use Prim.Native.Nat.{_+_, _≤_, _<_, max};
+ghost use lib.ListN.{length};
+ghost use lib.Seq.{slice};
+ghost use Rattle.language.specs.Limits.{maxTokens, workBytes};
+ghost use Rattle.traversal.specs.Places.{placed};
+ghost use Rattle.depth.specs.Progress.{Reached};
+ghost use Rattle.depth.specs.ProgressLaws.{TooDeep};
+ghost use Rattle.depth.specs.Depth.{capped, highest as highest', levelOf, faultOf};
+
+pub const MAX_LEVELS: u32 = 256;
+
+// The kind of a big operator's first name.
+const FIRST_NAME: u32 = 45;
+
+// By kind: 1 for a level of its own, 2 if that depends on the first operand.
+const OWN_LEVELS: [u8; 64] = *b"\
+    \x01\x01\x01\x01\x01\x01\x01\x01\x01\x01\x01\x01\x01\x01\x01\x01\
+    \x01\x01\x01\x01\x01\x01\x01\x01\x01\x01\x01\x01\x01\x01\x01\x01\
+    \x01\x01\x01\x01\x01\x01\x01\x02\x02\x02\x02\x02\x02\x00\x00\x00\
+    \x00\x00\x00\x01\x00\x01\x00\x00\x00\x00\x00\x00\x00\x00\x00\x00";
+
+// The kind of the entry before, how many operands are on the stack, and the first place found.
+pub struct Progress {
+    pub before: u32,
+    pub top: usize,
+    pub found: Place,
+}
+
+fn larger(a: u32, b: u32) -> u32
+    ensures { λ r. ⌜ r ≡ max a b ⌝ }
+{
+    if a < b { b } else { a }
+}
+
+// The functions below are the pass's own: it has bounded what they ask for.
+fn highest(levels: &[u32], from: usize, to: usize) -> u32
+    requires { ⌜ to ≤ length (now levels) ⌝ }
+    ensures { λ r. ⌜ r ≡ highest' (slice from to (now (levels .entry))) ⌝ }
+{
+    let mut most = 0;
+    let mut i = from;
+    while i < to {
+        most = larger(most, levels[i]);
+        i += 1;
+    }
+    most
+}
+
+// One level more, up to one more than are allowed.
+fn raised(n: u32) -> u32
+    ensures { λ r. ⌜ r ≡ capped (n + 1) ⌝ }
+{
+    if n < MAX_LEVELS {
+        n + 1
+    } else {
+        MAX_LEVELS + 1
+    }
+}
+
+fn level_of(kind: u32, most: u32, start: u32) -> u32
+    requires { ⌜ kind < 64 ⌝ }
+    ensures { λ r. ⌜ r ≡ levelOf kind most start ⌝ }
+{
+    let own = OWN_LEVELS[kind as usize];
+    if own == 1 {
+        return raised(most);
+    }
+    if own == 2 {
+        if start == FIRST_NAME {
+            return raised(most);
+        }
+        return most;
+    }
+    most
+}
+
+// Too deep, if the entry is a line's.
+fn fault_of(kind: u32, level: u32, start: u32) -> Place
+    ensures { λ r. ⌜ r ≡ placed (faultOf kind level start) ⌝ }
+{
+    if kind < FIRST_LINE {
+        return Place::Nowhere;
+    }
+    if level <= MAX_LEVELS {
+        return Place::Nowhere;
+    }
+    Place::At(start)
+}
+
+// One entry.
+fn pass(work: &[u8], i: usize, p: Progress, levels: &mut [u32], starts: &mut [u32]) -> Progress
+    requires { ⌜ Reached (now work) i p (now levels) (now starts) × (i < maxTokens) ⌝ }
+    ensures { λ r. ⌜ Reached (now (work .entry)) (i + 1) r (now (levels .exit)) (now (starts .exit)) ⌝ }
+{
+    let c = cell_at(work, i);
+    let kind = c.kind;
+    let top = p.top;
+    let below = less(top, operand_count(p.before, c));
+    let start = first_of(starts, below, top);
+    let fault = fault_of(kind, first_of(levels, below, top), start);
+    let before = p.found;
+    let found = before.first(fault);
+    if kind < FIRST_LINE {
+        levels[below] = level_of(kind, highest(levels, below, top), start);
+        starts[below] = start_of(kind, c.token / 256 % 65536, start);
+        return Progress {
+            before: kind,
+            top: below + 1,
+            found: found,
+        };
+    }
+    Progress {
+        before: kind,
+        top: below,
+        found: found,
+    }
+}
+
+// The first place of refusal 5, if there is one. An inner stage: the reader has tested the buffer's length, and the parser counted the entries.
+pub fn too_deep(work: &[u8], entries: usize) -> Place
+    requires { ⌜ (workBytes ≤ length (now work)) × (entries ≤ maxTokens) ⌝ }
+    ensures { λ r. ⌜ TooDeep (now (work .entry)) entries r ⌝ }
+{
+    let mut levels = [0u32; 8192];
+    let mut starts = [0u32; 8192];
+    let mut p = Progress {
+        before: 0,
+        top: 0,
+        found: Place::Nowhere,
+    };
+    let mut i = 0;
+    while i < entries {
+        p = pass(work, i, p, &mut levels, &mut starts);
+        i += 1;
+    }
+    p.found
+}

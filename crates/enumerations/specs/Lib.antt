@@ -1,0 +1,11 @@
+pub mod Scan
+pub mod ScanLaws
+pub mod WordLaws
+pub mod Pass
+pub mod RowLaws
+pub mod ClashLaws
+pub mod Progress
+pub mod Running
+pub mod EntryLaws
+pub mod Promise
+pub mod SpellLaws

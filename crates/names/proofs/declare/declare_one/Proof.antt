@@ -1,0 +1,108 @@
+-- `names::declare::declare_one` meets its contract: the table and the place with one entry more.
+use Prim.Native.Nat.{min}
+use mathlib.Core.Path.{sym, ap, _∙_}
+use native.Mathlib.Omega.{arith}
+use borrow.Author.Tests.{not-true, not-false}
+use Rattle.names.specs.Meeting.{met-inside, met-other, met-more}
+use borrow.Author.Needs.{needs}
+use Rattle.names.proofs.declare.declare_one.Statement.{statement}
+use Rattle.names.proofs.declare.declare_one.Tie as tie
+
+kind-at-requires : tie.Need-kind-at-requires
+kind-at-requires c κs = search needs
+
+declares-requires : tie.Need-declares-requires
+declares-requires c κs = search needs
+
+returns : tie.Need-returns
+returns c =
+    λ h m. met-other h _ ((c .before .before .before .before .before .before) .pre .2) _ ((c .before .before .before .before .before .before) .pre .1) ((c .before .before .kind-at) .ensures) m (sym ((c .before .declares) .ensures) ∙ not-true _ ((c .if1) .taken))
+
+token-at-requires : tie.Need-token-at-requires
+token-at-requires c κs = search needs
+
+place-at-requires : tie.Need-place-at-requires
+place-at-requires c κs = search needs
+
+mul-wide : tie.Need-mul-wide
+mul-wide c = search needs
+
+shared-slice-read-wide : tie.Need-shared-slice-read-wide
+shared-slice-read-wide c = search needs
+
+wide-requires : tie.Need-wide-requires
+wide-requires c κs = search needs
+
+mul-word : tie.Need-mul-word
+mul-word c = search needs
+
+slice-read-word : tie.Need-slice-read-word
+slice-read-word c =
+    let start = c .before .before .before .before .before .before .before .before .before .before .before in
+    let kind-at = c .before .before .before .before .before .before .before .kind-at in
+    let declares = c .before .before .before .before .before .before .declares in
+    let f = met-inside (start .pre .0) _ (start .pre .2) _ (start .pre .1) (kind-at .ensures) (sym (declares .ensures) ∙ not-false _ ((c .before .before .before .before .before .if1) .left)) ((c .before .before .before .before .token-at) .ensures) ((c .before .wide) .ensures .0) in let r = start .pre .3 in omega arith
+
+word-requires : tie.Need-word-requires
+word-requires c κs = search needs
+
+smaller-requires : tie.Need-smaller-requires
+smaller-requires c κs = search needs
+
+cast-table : tie.Need-cast-table
+cast-table c = search needs
+
+mul-table : tie.Need-mul-table
+mul-table c = search needs
+
+slice-write-table : tie.Need-slice-write-table
+slice-write-table c =
+    let start = c .before .before .before .before .before .before .before .before .before .before .before .before .before in
+    let kind-at = c .before .before .before .before .before .before .before .before .before .kind-at in
+    let declares = c .before .before .before .before .before .before .before .before .declares in
+    let if1 = c .before .before .before .before .before .before .before .if1 in
+    let token-at = c .before .before .before .before .before .before .token-at in
+    let f = met-inside (start .pre .0) _ (start .pre .2) _ (start .pre .1) (kind-at .ensures) (sym (declares .ensures) ∙ not-false _ (if1 .left)) (token-at .ensures) ((c .before .before .before .wide) .ensures .0) in let r = start .pre .3 in omega arith
+
+larger-requires : tie.Need-larger-requires
+larger-requires c κs = search needs
+
+smaller-requires-2 : tie.Need-smaller-requires-2
+smaller-requires-2 c κs = search needs
+
+same-length : tie.Need-same-length
+same-length c = search needs
+
+returns-2 : tie.Need-returns-2
+returns-2 c =
+    let start = c .before .before .before .before .before .before .before .before .before .before .before .before .before .before .before in
+    let kind-at = c .before .before .before .before .before .before .before .before .before .before .before .kind-at in
+    let declares = c .before .before .before .before .before .before .before .before .before .before .declares in
+    let if1 = c .before .before .before .before .before .before .before .before .before .if1 in
+    let token-at = c .before .before .before .before .before .before .before .before .token-at in
+    let place-at = c .before .before .before .before .before .before .before .place-at in
+    λ h m. met-more h _ (start .pre .2) _ (start .pre .1) (kind-at .ensures) m (sym (declares .ensures) ∙ not-false _ (if1 .left)) (token-at .ensures) (place-at .ensures) ((c .before .before .before .before .before .wide) .ensures .0) ((c .before .before .before .word) .ensures .0) ((c .before .before .smaller) .ensures) ((c .smaller2) .ensures ∙ ap (min _) ((c .before .larger) .ensures))
+
+pub declare-one-spec : {M : Type 1} → statement M
+declare-one-spec =
+    tie.close
+    (tie.spec
+    kind-at-requires
+    declares-requires
+    returns
+    token-at-requires
+    place-at-requires
+    mul-wide
+    shared-slice-read-wide
+    wide-requires
+    mul-word
+    slice-read-word
+    word-requires
+    smaller-requires
+    cast-table
+    mul-table
+    slice-write-table
+    larger-requires
+    smaller-requires-2
+    same-length
+    returns-2)

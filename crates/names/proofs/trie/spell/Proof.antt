@@ -1,0 +1,85 @@
+-- `names::trie::spell` meets its contract: after i bytes `node` has their spelling.
+use Prim.Native.Nat.{_≤_, _-_}
+use mathlib.Core.Path.{_≡_, refl, _∙_}
+use native.Mathlib.Omega.{arith}
+use borrow.Author.Needs.{needs}
+use lib.ListN.{length}
+use Rattle.names.specs.Trie.{Trie, Spells}
+use Rattle.names.specs.SpellLaws.{part, part-none, part-more, spells-none, spells-more, spells-all, spells-few}
+use Rattle.names.proofs.trie.spell.Statement.{statement}
+use Rattle.names.proofs.trie.spell.Tie as tie
+
+abbrev Inv-loop : tie.InvT-loop
+Inv-loop text at len first₀ next₀ byte₀ nodes count₀ node₀ i₀ first next byte count node i =
+    (i ≤ len) × (length first ≡ length first₀) × (length next ≡ length next₀) × (length byte ≡ length byte₀) × ((t : Trie first₀ next₀ byte₀ nodes) → Spells t first next byte (part at i text) count node)
+
+abbrev μ-loop : tie.MeasureT-loop
+μ-loop text at len first₀ next₀ byte₀ nodes count₀ node₀ i₀ first next byte count node i = len - i
+
+loop-holds : tie.Need-loop-holds Inv-loop μ-loop
+loop-holds c = (omega arith, refl, refl, refl, λ t. spells-none t (part-none _ _))
+
+add-step : tie.Need-add-step Inv-loop μ-loop
+add-step c = search needs
+
+shared-slice-read-step : tie.Need-shared-slice-read-step Inv-loop μ-loop
+shared-slice-read-step c = search needs
+
+step-requires : tie.Need-step-requires Inv-loop μ-loop
+step-requires c κs =
+    let start = c .before .before .before .before .before .before .before .before .before .before in
+    let s = (c .before .before .before .before .before .loop) .inv .4 (start .pre .0) in
+    let f = spells-few _ _ _ s (omega arith) in
+    (s .trie, s .inside, omega arith)
+
+nodes-with-requires : tie.Need-nodes-with-requires Inv-loop μ-loop
+nodes-with-requires c κs =
+    let loop = c .before .before .before .before .before .before .before .before .before .before .before .before .loop in
+    let start = c .before .before .before .before .before .before .before .before .before .before .before .before .before .before .before .before .before in
+    let s = loop .inv .4 (start .pre .0) in
+    let f = spells-few _ _ _ s (omega arith) in
+    omega (arith, (c .before .before .before .before .before .before .step) .ensures (s .trie) .0)
+
+add-i : tie.Need-add-i Inv-loop μ-loop
+add-i c = search needs
+
+loop-less : tie.Need-loop-less Inv-loop μ-loop
+loop-less c = search needs
+
+loop-again : tie.Need-loop-again Inv-loop μ-loop
+loop-again c =
+    let loop = c .before .before .before .before .before .before .before .before .before .before .before .before .before .loop in
+    let step = c .before .before .before .before .before .before .before .step in
+    let n = loop .inv in
+    (omega arith, step .kept .0 ∙ n .1, step .kept .1 .0 ∙ n .2, step .kept .1 .1 .0 ∙ n .3, λ t. spells-more t (n .4 t) (step .ensures (n .4 t .trie)) (part-more _ _ _ (omega arith)) ((c .nodes-with) .ensures))
+
+same-length : tie.Need-same-length Inv-loop μ-loop
+same-length c = search needs
+
+same-length-2 : tie.Need-same-length-2 Inv-loop μ-loop
+same-length-2 c = search needs
+
+same-length-3 : tie.Need-same-length-3 Inv-loop μ-loop
+same-length-3 c = search needs
+
+returns : tie.Need-returns Inv-loop μ-loop
+returns c = λ t. spells-all _ _ _ _ ((c .before .loop) .inv .4 t) (omega arith)
+
+pub spell-spec : {M : Type 1} → statement M
+spell-spec =
+    tie.close
+    (tie.spec
+    Inv-loop
+    μ-loop
+    loop-holds
+    add-step
+    shared-slice-read-step
+    step-requires
+    nodes-with-requires
+    add-i
+    loop-less
+    loop-again
+    same-length
+    same-length-2
+    same-length-3
+    returns)

@@ -1,0 +1,99 @@
+-- `names::walk::declare_name` meets its contract: the walk over an entry that declares a name.
+use mathlib.Core.Path.{refl}
+use native.Mathlib.Omega.{arith}
+use Rattle.names.specs.WalkEntries.{declare-inside, walk-declare}
+use borrow.Author.Needs.{needs}
+use Rattle.names.proofs.walk.declare_name.Statement.{statement}
+use Rattle.names.proofs.walk.declare_name.Tie as tie
+
+token-at-requires : tie.Need-token-at-requires
+token-at-requires c κs = search needs
+
+place-at-requires : tie.Need-place-at-requires
+place-at-requires c κs = search needs
+
+mul-wide : tie.Need-mul-wide
+mul-wide c = search needs
+
+shared-slice-read-wide : tie.Need-shared-slice-read-wide
+shared-slice-read-wide c = search needs
+
+wide-requires : tie.Need-wide-requires
+wide-requires c κs = search needs
+
+mul-refs : tie.Need-mul-refs
+mul-refs c = search needs
+
+slice-read-refs : tie.Need-slice-read-refs
+slice-read-refs c =
+    let start = c .before .before .before .before .before .before .before .before .before .before .before in
+    let f = declare-inside (start .pre .0 .walkable) _ (start .pre .0 .inside) refl (start .pre .1) ((c .before .before .before .before .token-at) .ensures) ((c .before .wide) .ensures .0) in let r = start .pre .0 .walking .points .room in omega arith
+
+mul-refs-2 : tie.Need-mul-refs-2
+mul-refs-2 c = search needs
+
+slice-write-refs : tie.Need-slice-write-refs
+slice-write-refs c = search needs
+
+mul-word : tie.Need-mul-word
+mul-word c = search needs
+
+slice-read-word : tie.Need-slice-read-word
+slice-read-word c =
+    let start = c .before .before .before .before .before .before .before .before .before .before .before .before in
+    let f = declare-inside (start .pre .0 .walkable) _ (start .pre .0 .inside) refl (start .pre .1) ((c .before .before .before .before .before .token-at) .ensures) ((c .before .before .wide) .ensures .0) in let r = start .pre .0 .walking .shown .room in omega arith
+
+word-requires : tie.Need-word-requires
+word-requires c κs = search needs
+
+smaller-requires : tie.Need-smaller-requires
+smaller-requires c κs = search needs
+
+cast-seen : tie.Need-cast-seen
+cast-seen c = search needs
+
+mul-seen : tie.Need-mul-seen
+mul-seen c = search needs
+
+slice-write-seen : tie.Need-slice-write-seen
+slice-write-seen c =
+    let start = c .before .before .before .before .before .before .before .before .before .before .before .before .before .before in
+    let token-at = c .before .before .before .before .before .before .before .token-at in
+    let f = declare-inside (start .pre .0 .walkable) _ (start .pre .0 .inside) refl (start .pre .1) (token-at .ensures) ((c .before .before .before .before .wide) .ensures .0) in let r = start .pre .0 .walking .shown .room in omega arith
+
+same-length : tie.Need-same-length
+same-length c = search needs
+
+same-length-2 : tie.Need-same-length-2
+same-length-2 c = search needs
+
+returns : tie.Need-returns
+returns c =
+    let start = c .before .before .before .before .before .before .before .before .before .before .before .before .before .before in
+    let token-at = c .before .before .before .before .before .before .before .token-at in
+    let place-at = c .before .before .before .before .before .before .place-at in
+    λ h d s. walk-declare h _ (start .pre .0 .inside) refl d s (start .pre .1) (token-at .ensures) (place-at .ensures) ((c .before .before .before .before .wide) .ensures .0) ((c .before .word) .ensures .0) refl ((c .smaller) .ensures)
+
+pub declare-name-spec : {M : Type 1} → statement M
+declare-name-spec =
+    tie.close
+    (tie.spec
+    token-at-requires
+    place-at-requires
+    mul-wide
+    shared-slice-read-wide
+    wide-requires
+    mul-refs
+    slice-read-refs
+    mul-refs-2
+    slice-write-refs
+    mul-word
+    slice-read-word
+    word-requires
+    smaller-requires
+    cast-seen
+    mul-seen
+    slice-write-seen
+    same-length
+    same-length-2
+    returns)

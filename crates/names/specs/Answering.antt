@@ -1,0 +1,41 @@
+-- The answer, from what the walks have found.
+use Prim.Native.Nat.{ℕ, _≤_, _<_}
+use mathlib.Core.Bool.{true, false}
+use mathlib.Core.Path.{_≡_, sym, _∙_}
+use lib.Dec.{ltb}
+use borrow.Author.Tests.{lt-ltb, le-ltb}
+use Rattle.language.specs.Limits.{maxNames}
+use Rattle.language.specs.Laws.Basics.Tests.{pick, leave}
+use Rattle.names.specs.Tables.{noPlace}
+use Rattle.names.specs.declared.Naming.{Naming}
+use Rattle.names.specs.declared.Naming.the-variants.{Named, Refused}
+
+-- 6 before 7 before 8
+unfoldable pub answerOf : ℕ → ℕ → ℕ → ℕ → Naming
+answerOf hidden again count place =
+    elim (ltb hidden noPlace) [
+      | true ↦ Refused 6 hidden
+      | false ↦ elim (ltb again noPlace) [
+        | true ↦ Refused 7 again
+        | false ↦ elim (ltb maxNames count) [ true ↦ Refused 8 place | false ↦ Named count ]
+      ]
+    ]
+
+module _ (hidden again count place : ℕ) where
+  pub answer-hidden : hidden < noPlace → Refused 6 hidden ≡ answerOf hidden again count place
+  unfolding answerOf
+  answer-hidden a = sym (pick (ltb hidden noPlace) _ _ (lt-ltb hidden noPlace a))
+
+  pub answer-again : noPlace ≤ hidden → again < noPlace → Refused 7 again ≡ answerOf hidden again count place
+  unfolding answerOf
+  answer-again a b = sym (leave (ltb hidden noPlace) _ _ (le-ltb hidden noPlace a) ∙ pick (ltb again noPlace) _ _ (lt-ltb again noPlace b))
+
+  pub answer-many : noPlace ≤ hidden → noPlace ≤ again → maxNames < count → Refused 8 place ≡ answerOf hidden again count place
+  unfolding answerOf
+  answer-many a b c =
+      sym (leave (ltb hidden noPlace) _ _ (le-ltb hidden noPlace a) ∙ leave (ltb again noPlace) _ _ (le-ltb again noPlace b) ∙ pick (ltb maxNames count) _ _ (lt-ltb maxNames count c))
+
+  pub answer-named : noPlace ≤ hidden → noPlace ≤ again → count ≤ maxNames → Named count ≡ answerOf hidden again count place
+  unfolding answerOf
+  answer-named a b c =
+      sym (leave (ltb hidden noPlace) _ _ (le-ltb hidden noPlace a) ∙ leave (ltb again noPlace) _ _ (le-ltb again noPlace b) ∙ leave (ltb maxNames count) _ _ (le-ltb maxNames count c))

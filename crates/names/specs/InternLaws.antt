@@ -1,0 +1,203 @@
+-- How the numbers of names are made, one token after the other.
+use Prim.Native.Nat.{ℕ, zero, suc, _+_, _/_, _%_, _≤_, _<_}
+use mathlib.Core.List.{List, [], _∷_}
+use mathlib.Core.Bool.{Bool, true, false, false≢true}
+use mathlib.Core.Logic.{_≢_}
+use mathlib.Core.Path.{_≡_, refl, sym, ap, _∙_, subst}
+use native.Mathlib.Omega.{arith}
+use native.Mathlib.Numerals.{add-one}
+use lib.Dec.{eqb}
+use lib.ListN.{length, getD, drop, take, set, length-set, replicate, length-replicate}
+use lib.Seq.{getD-set-same, getD-set-other}
+use borrow.Author.Tests.{eq-eqb, ne-eqb, eqb-true, eqb-false}
+use Rattle.language.specs.Bytes.{same}
+use Rattle.language.specs.Limits.{maxTokens, maxBytes, workBytes}
+use Rattle.language.specs.Tokens.{Token, Name, isOf, tokens}
+use Rattle.language.specs.Laws.Basics.Tests.{same-equal, same-refl}
+use Rattle.language.specs.Laws.Grammar.TokenLaws.{Rising, tokens-rise}
+use Rattle.lexer.specs.Numbers.{number}
+use Rattle.lexer.specs.NumberLaws.{class-number}
+use Rattle.lexer.specs.Answer.{Tokenized}
+use Rattle.lexer.specs.LexingLaws.{lexical, token-stands, number-at, offset-at, length-at}
+use Rattle.lexer.specs.Stored.{numberIn, offsetIn, lengthIn}
+use Rattle.words.specs.Words.{wordAt}
+use Rattle.names.specs.Trie.{maxNodes, Trie, Spells}
+use Rattle.names.specs.Spellings.{never-empty}
+use Rattle.names.specs.SpellLaws.{part, spells-few}
+use Rattle.names.specs.Interned.{tokenAt, IsName, Lexed, Interned, Indexed}
+
+-- a token ends before the next begins
+next-token : (from : ℕ) (ts : List Token) (j : ℕ) → Rising from ts → suc j < length ts → tokenAt ts j .at + length (tokenAt ts j .text) ≤ tokenAt ts (suc j) .at
+next-token from [] j r l = absurd (omega arith)
+next-token from (t ∷ []) j r l = absurd (omega arith)
+next-token from (t ∷ u ∷ ts) zero r l = r .1 .0
+next-token from (t ∷ u ∷ ts) (suc j) r l = next-token (t .at + length (t .text)) (u ∷ ts) j (r .1) (omega arith)
+
+-- what a name's word says of its bytes
+module _ {text w : List ℕ} {count : ℕ} (h : Lexed text w count) (j : ℕ) (l : j < count) where
+  abbrev t : Token
+  t = tokenAt (tokens text) j
+
+  before : suc j < length (tokens text)
+  before = let e = h .total in omega arith
+
+  pub name-number : numberIn (wordAt w j) ≡ 1 → IsName (tokens text) j
+  name-number e = class-number Name t refl ∙ eq-eqb (number t) 1 (sym (number-at (h .lexical) (h .stored) j before) ∙ e)
+
+  pub no-name : numberIn (wordAt w j) ≢ 1 → isOf Name t ≡ false
+  no-name d = class-number Name t refl ∙ ne-eqb (number t) 1 (λ e. d (number-at (h .lexical) (h .stored) j before ∙ e))
+
+  pub name-length : IsName (tokens text) j → lengthIn (wordAt w j) ≡ length (t .text)
+  name-length n = let s = token-stands (h .lexical) j (omega (arith, before)) .short n in let e = length-at (h .lexical) (h .stored) j before in omega arith
+
+  pub name-part : IsName (tokens text) j → part (offsetIn (wordAt w j)) (lengthIn (wordAt w j)) text ≡ t .text
+  unfolding part
+  name-part n =
+      let s = token-stands (h .lexical) j (omega (arith, before)) in
+      ap (λ k. take k (drop (offsetIn (wordAt w j)) text)) (name-length n) ∙ ap (λ k. take (length (t .text)) (drop k text)) (offset-at (h .lexical) (h .stored) j before) ∙ sym (s .bytes)
+
+  pub name-inside : IsName (tokens text) j → offsetIn (wordAt w j) + lengthIn (wordAt w j) ≤ length text
+  name-inside n =
+      let s = token-stands (h .lexical) j (omega (arith, before)) .inside in
+      let e = name-length n in
+      let f = offset-at (h .lexical) (h .stored) j before in
+      omega arith
+
+  -- there is room for the nodes of its bytes
+  pub name-room : {n : ℕ} → n ≤ t .at + 1 → IsName (tokens text) j → n + lengthIn (wordAt w j) ≤ maxNodes
+  name-room b n = let i = name-inside n in let s = h .lexical .short in let f = offset-at (h .lexical) (h .stored) j before in omega arith
+
+  pub next-place : t .at + length (t .text) ≤ tokenAt (tokens text) (suc j) .at
+  next-place = next-token 0 (tokens text) j (tokens-rise text) before
+
+-- before the first token there is the empty spelling alone
+trie-start : {first next byte : List ℕ} → maxNodes ≤ length first → maxNodes ≤ length next → maxNodes ≤ length byte → ((k : ℕ) → getD first k 0 ≡ 0) → Trie first next byte 1
+trie-start a b c none =
+    record {
+      str = λ k. [];
+      first-room = a;
+      next-room = b;
+      byte-room = c;
+      rooted = omega arith;
+      root = refl;
+      distinct = λ i k l r e. omega arith;
+      parent = λ k p l. absurd (omega arith);
+      newest = λ p l d. absurd (d (none p));
+      before = λ p k l x d. absurd (never-empty [] _ (x .1));
+      none-newer = λ p k l x. absurd (never-empty [] _ (x .1));
+      none-between = λ p k i l x y m. absurd (never-empty [] _ (x .1));
+      unused = λ k l. none k;
+    }
+
+indexed-start : (ts : List Token) {first next byte ids : List ℕ} → Trie first next byte 1 → maxTokens ≤ length ids → Indexed ts 0 first next byte 1 ids
+indexed-start ts t l =
+    record { trie = t; few = omega arith; room = l; inside = λ i m n. absurd (omega arith); spells = λ i m n. absurd (omega arith) }
+
+module _ {ts : List Token} {j : ℕ} {first next byte ids : List ℕ} {n : ℕ} (x : Indexed ts j first next byte n ids) where
+  -- the last of the tokens passed, or one before it
+  last-or-before : (P : ℕ → Type 0) → ((i : ℕ) → i < j → P i) → P j → (i : ℕ) → i < suc j → P i
+  last-or-before P f g i l = go (eqb i j) refl
+    where
+      go : (b : Bool) → eqb i j ≡ b → P i
+      go true e = subst P (sym (eqb-true i j e)) g
+      go false e = f i (let d = eqb-false i j e in before-it i j d l)
+        where
+          before-it : (a b : ℕ) → a ≢ b → a < suc b → a < b
+          before-it a b d l = omega arith
+
+  pub indexed-other : tokenAt ts j .at + length (tokenAt ts j .text) ≤ tokenAt ts (suc j) .at → isOf Name (tokenAt ts j) ≡ false → Indexed ts (suc j) first next byte n ids
+  indexed-other up other =
+      record {
+        trie = x .trie;
+        few = (let f = x .few in omega arith);
+        room = x .room;
+        inside = last-or-before (λ i. IsName ts i → getD ids i 0 < n) (x .inside) (λ y. absurd (false≢true (sym other ∙ y)));
+        spells = last-or-before (λ i. IsName ts i → x .trie .str (getD ids i 0) ≡ tokenAt ts i .text) (x .spells) (λ y. absurd (false≢true (sym other ∙ y)));
+      }
+
+  pub indexed-name : {first′ next′ byte′ : List ℕ} {m r : ℕ} → tokenAt ts j .at + length (tokenAt ts j .text) ≤ tokenAt ts (suc j) .at → j < maxTokens → Spells (x .trie) first′ next′ byte′ (tokenAt ts j .text) m r → Indexed ts (suc j) first′ next′ byte′ m (set ids j r)
+  indexed-name {r = r} up l s =
+      let here : getD (set ids j r) j 0 ≡ r = getD-set-same ids j r 0 (let q = x .room in omega arith) in
+      let there : (i : ℕ) → i < j → getD (set ids j r) i 0 ≡ getD ids i 0 = λ i k. getD-set-other ids j i r 0 (λ e. omega arith) in
+      record {
+        trie = s .trie;
+        few = (let f = x .few in let g = s .few in omega arith);
+        room = (let q = x .room in let z = length-set ids j r in omega arith);
+        inside =
+            last-or-before (λ i. IsName ts i → getD (set ids j r) i 0 < _) (λ i k y. let e = there i k in let f = x .inside i k y in let g = s .less in omega arith)
+            (λ y. let f = s .inside in omega arith);
+        spells =
+            last-or-before (λ i. IsName ts i → s .trie .str (getD (set ids j r) i 0) ≡ tokenAt ts i .text)
+            (λ i k y. ap (s .trie .str) (there i k) ∙ s .kept (getD ids i 0) (x .inside i k y) ∙ x .spells i k y)
+            (λ y. ap (s .trie .str) here ∙ s .spells);
+      }
+
+  -- names are equal where their nodes are
+  pub interned : tokenAt ts j .at ≤ maxBytes → Interned ts j ids
+  interned low =
+      record {
+        fits = λ i l y. (let f = x .few in let g = x .inside i l y in omega arith);
+        told = λ i k li lk yi yk. alike i k li lk yi yk (eqb (getD ids i 0) (getD ids k 0)) refl;
+      }
+    where
+      alike : (i k : ℕ) → i < j → k < j → IsName ts i → IsName ts k → (b : Bool) → eqb (getD ids i 0) (getD ids k 0) ≡ b → eqb (getD ids i 0) (getD ids k 0) ≡ same (tokenAt ts i .text) (tokenAt ts k .text)
+      alike i k li lk yi yk true e =
+          let texts : tokenAt ts i .text ≡ tokenAt ts k .text = sym (x .spells i li yi) ∙ ap (x .trie .str) (eqb-true (getD ids i 0) (getD ids k 0) e) ∙ x .spells k lk yk in
+          e ∙ sym (ap (λ s. same (tokenAt ts i .text) s) (sym texts) ∙ same-refl (tokenAt ts i .text))
+      alike i k li lk yi yk false e = go (same (tokenAt ts i .text) (tokenAt ts k .text)) refl
+        where
+          go : (b : Bool) → same (tokenAt ts i .text) (tokenAt ts k .text) ≡ b → eqb (getD ids i 0) (getD ids k 0) ≡ same (tokenAt ts i .text) (tokenAt ts k .text)
+          go true f =
+              absurd (eqb-false (getD ids i 0) (getD ids k 0) e
+              (x .trie .distinct (getD ids i 0) (getD ids k 0) (x .inside i li yi) (x .inside k lk yk)
+              (x .spells i li yi ∙ same-equal (tokenAt ts i .text) (tokenAt ts k .text) f ∙ sym (x .spells k lk yk))))
+          go false f = e ∙ sym f
+
+-- one token, by its word
+module _ {text w : List ℕ} {count j word : ℕ} (h : Lexed text w count) (l : j < count) (e : word ≡ wordAt w j) {first next byte ids : List ℕ} {n : ℕ} (x : Indexed (tokens text) j first next byte n ids) where
+  is-name : word / 256 / 65_536 ≡ 1 → IsName (tokens text) j
+  is-name y = name-number h j l (ap numberIn (sym e) ∙ y)
+
+  pub numbered-other : word / 256 / 65_536 ≢ 1 → Indexed (tokens text) (j + 1) first next byte n ids
+  numbered-other d = rw add-one (indexed-other x (next-place h j l) (no-name h j l (λ y. d (ap numberIn e ∙ y))))
+
+  -- its bytes lie in the text, and there is room for a node for each
+  pub name-bounds : word / 256 / 65_536 ≡ 1 → (word / 256 % 65_536 + word % 256 ≤ length text) × (n + word % 256 ≤ maxNodes)
+  name-bounds y = rw (e) (name-inside h j l (is-name y), name-room h j l (x .few) (is-name y))
+
+  few-enough : j < maxTokens
+  few-enough = let t = h .total in let f = h .lexical .few in omega arith
+
+  pub numbered-name : word / 256 / 65_536 ≡ 1 → {first′ next′ byte′ : List ℕ} {m r : ℕ} → Spells (x .trie) first′ next′ byte′ (part (word / 256 % 65_536) (word % 256) text) m r → Indexed (tokens text) (j + 1) first′ next′ byte′ m (set ids j r)
+  numbered-name y {first′} {next′} {byte′} {m} {r} s =
+      rw add-one
+      (indexed-name x (next-place h j l) few-enough
+      (subst (λ u. Spells (x .trie) first′ next′ byte′ u m r) (ap (λ v. part (offsetIn v) (lengthIn v) text) e ∙ name-part h j l (is-name y)) s))
+
+  pub node-small : word / 256 / 65_536 ≡ 1 → {first′ next′ byte′ : List ℕ} {m r : ℕ} → Spells (x .trie) first′ next′ byte′ (part (word / 256 % 65_536) (word % 256) text) m r → r < maxNodes
+  node-small y s =
+      let b = name-bounds y in
+      let f = spells-few (word / 256 % 65_536) (word % 256) text s (b .0) in
+      omega (arith, s .inside, b .1)
+
+-- the text's end is at most as far as a text may be long
+pub interned-all : {text w : List ℕ} {count : ℕ} → Lexed text w count → {first next byte ids : List ℕ} {n : ℕ} → Indexed (tokens text) count first next byte n ids → Interned (tokens text) count ids
+interned-all {count = count} h x =
+    interned x (let e = h .total in let s = token-stands (h .lexical) count (omega arith) .inside in let b = h .lexical .short in omega arith)
+
+pub until : {ts : List Token} {j count : ℕ} {first next byte ids : List ℕ} {n : ℕ} → Indexed ts j first next byte n ids → j ≡ count → Indexed ts count first next byte n ids
+until x e = rw (sym e) x
+
+-- arrays of zeros
+nothing : (n k : ℕ) → _≡_ {A = ℕ} (getD (replicate n 0) k 0) 0
+nothing zero k = refl
+nothing (suc n) zero = refl
+nothing (suc n) (suc k) = nothing n k
+
+pub indexed-zeros : (ts : List Token) (a b c : ℕ) {ids : List ℕ} → maxNodes ≤ a → maxNodes ≤ b → maxNodes ≤ c → maxTokens ≤ length ids → Indexed ts 0 (replicate a 0) (replicate b 0) (replicate c 0) 1 ids
+indexed-zeros ts a b c ha hb hc l =
+    indexed-start ts (trie-start (rw (length-replicate {A = ℕ} a 0) ha) (rw (length-replicate {A = ℕ} b 0) hb) (rw (length-replicate {A = ℕ} c 0) hc) (nothing a)) l
+
+-- what the lexer promises, and what a later stage has kept of it
+pub lexed-from : {text w : List ℕ} {count : ℕ} → Tokenized text w count → workBytes ≤ length w → Lexed text w count
+lexed-from {text} t room = record { lexical = lexical text (tokens text) (t .read); stored = t .stored; total = (let c = t .count in omega arith); room = room }

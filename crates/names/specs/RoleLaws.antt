@@ -1,0 +1,76 @@
+-- A kind has one role, and the role decides what an entry does to the visible and the open names.
+use Prim.Native.Nat.{ℕ}
+use mathlib.Core.List.{_∷_}
+use mathlib.Core.Bool.{Bool, true, false, not, _&&_, _||_}
+use mathlib.Core.Option.{Option, none}
+use mathlib.Core.Path.{_≡_, refl, sym, ap₂, subst}
+use native.Mathlib.Omega.{arith}
+use lib.Dec.{eqb, leb}
+use borrow.Author.Tests.{eqb-true, leb-true, lt-leb, ne-eqb}
+use Rattle.language.specs.Tokens.{Token}
+use Rattle.language.specs.Names.{Names}
+use Rattle.language.specs.Laws.Basics.Tests.{and-left, and-right, and-false, or-cases}
+use Rattle.entries.specs.Kinds as Kind
+use Rattle.entries.specs.Flat.{Entry}
+use Rattle.names.specs.Roles.{uses, binds, ends, declares}
+use Rattle.names.specs.Scan.{tokenOf, outer, after, here}
+use Rattle.names.specs.ScanLaws.{neither}
+use Rattle.names.specs.Walking.{openAfter}
+
+pub record Role (k : ℕ) (u b e d : Bool) : Type 0 where
+  pub use-is : uses k ≡ u
+  pub bind-is : binds k ≡ b
+  pub end-is : ends k ≡ e
+  pub declare-is : declares Kind.parameter k ≡ d
+
+abbrev role : {k : ℕ} {u b e d : Bool} → uses k ≡ u → binds k ≡ b → ends k ≡ e → declares Kind.parameter k ≡ d → Role k u b e d
+role x y z v = record { use-is = x; bind-is = y; end-is = z; declare-is = v }
+
+pub uses-only : (k : ℕ) → uses k ≡ true → Role k true false false false
+uses-only k y =
+    or-cases (eqb k Kind.named) (eqb k Kind.index)
+    (λ e. subst (λ i. Role i true false false false) (sym (eqb-true k Kind.named e)) (role refl refl refl refl))
+    (λ e. subst (λ i. Role i true false false false) (sym (eqb-true k Kind.index e)) (role refl refl refl refl)) y
+
+pub binds-only : (k : ℕ) → binds k ≡ true → Role k false true false false
+binds-only k y =
+    or-cases (eqb k (Kind.binder false)) (eqb k (Kind.binder true))
+    (λ e. subst (λ i. Role i false true false false) (sym (eqb-true k (Kind.binder false) e)) (role refl refl refl refl))
+    (λ e. subst (λ i. Role i false true false false) (sym (eqb-true k (Kind.binder true) e)) (role refl refl refl refl)) y
+
+pub ends-only : (k : ℕ) → ends k ≡ true → Role k false false true false
+ends-only k y =
+    let low = leb-true 39 k (and-left (leb 39 k) (leb k 44) y) in
+    let high = leb-true k 44 (and-right (leb 39 k) (leb k 44) y) in
+    role (neither (eqb k 0) (eqb k 4) (ne-eqb k 0 (λ e. omega arith)) (ne-eqb k 4 (λ e. omega arith)))
+    (neither (eqb k 45) (eqb k 46) (ne-eqb k 45 (λ e. omega arith)) (ne-eqb k 46 (λ e. omega arith))) y
+    (and-false (leb 54 k && not (eqb k 58)) (leb k 61) (and-false (leb 54 k) (not (eqb k 58)) (lt-leb 54 k (omega arith))))
+
+pub declares-only : (k : ℕ) → declares Kind.parameter k ≡ true → Role k false false false true
+declares-only k y =
+    let low = leb-true 54 k (and-left (leb 54 k) (not (eqb k 58)) (and-left (leb 54 k && not (eqb k 58)) (leb k 61) y)) in
+    role (neither (eqb k 0) (eqb k 4) (ne-eqb k 0 (λ e. omega arith)) (ne-eqb k 4 (λ e. omega arith)))
+    (neither (eqb k 45) (eqb k 46) (ne-eqb k 45 (λ e. omega arith)) (ne-eqb k 46 (λ e. omega arith)))
+    (last-false (leb 39 k) (leb k 44) (lt-leb k 44 (omega arith))) y
+  where
+    last-false : (a b : Bool) → b ≡ false → (a && b) ≡ false
+    last-false true b e = e
+    last-false false b e = refl
+
+-- what follows from a role
+module _ (n : Entry) {u b e d : Bool} (r : Role (n .kind) u b e d) where
+  pub after-role : (ns : Names) → after ns n ≡ elim (b || d) [ true ↦ tokenOf n ∷ ns | false ↦ elim e [ true ↦ outer ns | false ↦ ns ] ]
+  unfolding after
+  after-role ns =
+      ap₂ (λ (x y : Bool). elim x as (λ _. Names) [ true ↦ tokenOf n ∷ ns | false ↦ elim y as (λ _. Names) [ true ↦ outer ns | false ↦ ns ] ])
+      (ap₂ _||_ (r .bind-is) (r .declare-is)) (r .end-is)
+
+  pub open-role : (bs : Names) → openAfter bs n ≡ elim b [ true ↦ tokenOf n ∷ bs | false ↦ elim e [ true ↦ outer bs | false ↦ bs ] ]
+  unfolding openAfter
+  open-role bs =
+      ap₂ (λ (x y : Bool). elim x as (λ _. Names) [ true ↦ tokenOf n ∷ bs | false ↦ elim y as (λ _. Names) [ true ↦ outer bs | false ↦ bs ] ]) (r .bind-is) (r .end-is)
+
+  pub here-role : (used bound : Names → Token → Option ℕ) (ns : Names) → here used bound ns n ≡ elim u [ true ↦ used ns (tokenOf n) | false ↦ elim b [ true ↦ bound ns (tokenOf n) | false ↦ none ] ]
+  unfolding here
+  here-role used bound ns =
+      ap₂ (λ (x y : Bool). elim x as (λ _. Option ℕ) [ true ↦ used ns (tokenOf n) | false ↦ elim y as (λ _. Option ℕ) [ true ↦ bound ns (tokenOf n) | false ↦ none ] ]) (r .use-is) (r .bind-is)

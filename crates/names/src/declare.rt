@@ -1,0 +1,76 @@
+// Declared names and those of their spelling: refusal 7 among them.
+use crate::entry::declares;
+use crate::entry::kind_at;
+use crate::entry::place_at;
+use crate::entry::token_at;
+use crate::trie::wide;
+ghost use mathlib.Core.Path.{_≡_};
+ghost use Prim.Native.Nat.{_+_, _≤_, _<_, min, max};
+ghost use lib.ListN.{length};
+ghost use Rattle.entries.specs.Kinds as Kind;
+ghost use Rattle.names.specs.Trie.{maxNodes};
+ghost use Rattle.names.specs.Tables.{noPlace};
+ghost use Rattle.names.specs.Walkable.{Walkable, Table};
+ghost use Rattle.names.specs.Meeting.{Met};
+
+// Above every place: no place (specs/Tables).
+pub const NOWHERE: u32 = 65535;
+
+pub fn smaller(a: u32, b: u32) -> u32
+    ensures { λ r. ⌜ r ≡ min a b ⌝ }
+{
+    if a < b { a } else { b }
+}
+
+pub fn larger(a: u32, b: u32) -> u32
+    ensures { λ r. ⌜ r ≡ max a b ⌝ }
+{
+    if a < b { b } else { a }
+}
+
+pub fn word(x: u16) -> u32
+    ensures { λ r. ⌜ (r ≡ x) × (r < 65536) ⌝ }
+{
+    x as u32
+}
+
+// Entry k before those behind it, of which `place` is the first place where two names meet: the first place with it. It asks for what `declare` was given, and is
+// called by nobody else.
+fn declare_one(
+    work: &[u8],
+    ids: &[u16],
+    entries: usize,
+    low: u32,
+    k: usize,
+    place: u32,
+    table: &mut [u16],
+) -> u32
+    requires { ⌜ Walkable (now work) (now ids) entries × (k < entries) × (Kind.parameter ≤ low) × (maxNodes ≤ length (now table)) ⌝ }
+    ensures { λ r. ⌜ ((h : Walkable (now (work .entry)) (now (ids .entry)) entries) → Met h low (k + 1) (now (table .entry)) place → Met h low k (now (table .exit)) r) ⌝ }
+{
+    let kind = kind_at(work, k);
+    if !declares(low, kind) {
+        return place;
+    }
+    let j = token_at(work, k);
+    let at = place_at(work, j);
+    let id = wide(ids[j]);
+    let seen = word(table[id]);
+    table[id] = smaller(seen, at) as u16;
+    smaller(place, larger(seen, at))
+}
+
+// The first place where two declared names of the kinds from `low` on meet; the table then holds their smallest places. `low` is that of parameters, for all
+// names, or that of signals, for signals and buses. It asks for the entries that `resolve` was given, and for a table that holds no place.
+pub fn declare(work: &[u8], ids: &[u16], entries: usize, low: u32, table: &mut [u16]) -> u32
+    requires { ⌜ Walkable (now work) (now ids) entries × (Kind.parameter ≤ low) × (maxNodes ≤ length (now table)) ⌝ }
+    ensures { λ r. ⌜ ((h : Walkable (now (work .entry)) (now (ids .entry)) entries) → Table h (now (table .entry)) (λ t. noPlace) → Met h low 0 (now (table .exit)) r) ⌝ }
+{
+    let mut place = NOWHERE;
+    let mut k = entries;
+    while k > 0 {
+        k -= 1;
+        place = declare_one(work, ids, entries, low, k, place, table);
+    }
+    place
+}

@@ -1,0 +1,70 @@
+// A number for each name token, by which names are compared from here on (specs/Interned): the node of its spelling.
+use crate::trie::NODES;
+use crate::trie::spell;
+use words::get;
+ghost use Prim.Native.Nat.{_+_, _≤_, _<_};
+ghost use lib.ListN.{length};
+ghost use Rattle.language.specs.Limits.{maxTokens};
+ghost use Rattle.language.specs.Tokens.{tokens};
+ghost use Rattle.names.specs.Interned.{Lexed, Interned, Indexed};
+
+// The number of a name token (crate lexer, specs/Numbers).
+const NAME: u32 = 1;
+
+// One token's number; the nodes after it. It is called with what `intern` has made of the tokens before.
+fn number(
+    text: &[u8],
+    work: &[u8],
+    count: usize,
+    j: usize,
+    first: &mut [u16],
+    next: &mut [u16],
+    byte: &mut [u8],
+    nodes: usize,
+    ids: &mut [u16],
+) -> usize
+    requires { ⌜ Lexed (now text) (now work) count × (j < count) × Indexed (tokens (now text)) j (now first) (now next) (now byte) nodes (now ids) ⌝ }
+    ensures { λ r. ⌜ Indexed (tokens (now (text .entry))) (j + 1) (now (first .exit)) (now (next .exit)) (now (byte .exit)) r (now (ids .exit)) ⌝ }
+{
+    let word = get(work, j);
+    if word / 256 / 65536 != NAME {
+        return nodes;
+    }
+    let at = (word / 256 % 65536) as usize;
+    let len = (word % 256) as usize;
+    let spelt = spell(text, at, len, first, next, byte, nodes);
+    ids[j] = spelt.node as u16;
+    spelt.nodes
+}
+
+// The numbers of all tokens, in a tree of spellings that holds the empty one alone, as `intern` makes it.
+fn number_all(
+    text: &[u8],
+    work: &[u8],
+    count: usize,
+    first: &mut [u16],
+    next: &mut [u16],
+    byte: &mut [u8],
+    ids: &mut [u16],
+)
+    requires { ⌜ Lexed (now text) (now work) count × Indexed (tokens (now text)) 0 (now first) (now next) (now byte) 1 (now ids) ⌝ }
+    ensures { λ _. ⌜ Interned (tokens (now (text .entry))) count (now (ids .exit)) ⌝ }
+{
+    let mut nodes = 1;
+    let mut j = 0;
+    while j < count {
+        nodes = number(text, work, count, j, first, next, byte, nodes, ids);
+        j += 1;
+    }
+}
+
+// The numbers of all tokens that are names. It asks for what the lexer leaves, and is called by `resolve` alone.
+pub fn intern(text: &[u8], work: &[u8], count: usize, ids: &mut [u16])
+    requires { ⌜ Lexed (now text) (now work) count × (maxTokens ≤ length (now ids)) ⌝ }
+    ensures { λ _. ⌜ Interned (tokens (now (text .entry))) count (now (ids .exit)) ⌝ }
+{
+    let mut first = [0u16; NODES];
+    let mut next = [0u16; NODES];
+    let mut byte = [0u8; NODES];
+    number_all(text, work, count, &mut first, &mut next, &mut byte, ids);
+}

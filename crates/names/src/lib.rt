@@ -1,0 +1,122 @@
+// Names over the stored tree: refusals 6, 7 and 8, and each name resolved once.
+mod declare;
+mod entry;
+mod intern;
+mod numbering;
+mod trie;
+mod walk;
+
+use crate::declare::NOWHERE;
+use crate::declare::declare;
+use crate::declare::smaller;
+use crate::intern::intern;
+use crate::numbering::MAX_NAMES;
+use crate::numbering::PARAMETER;
+use crate::numbering::Tally;
+use crate::numbering::number_declared;
+use crate::trie::NODES;
+use crate::walk::walk_all;
+ghost use mathlib.Core.Path.{_≡_};
+ghost use Prim.Native.Nat.{_*_, _≤_};
+ghost use lib.ListN.{length};
+ghost use Rattle.language.specs.Limits.{maxTokens, maxNames};
+ghost use Rattle.language.specs.Tree.{Spec};
+ghost use Rattle.names.specs.Answering.{answerOf};
+ghost use Rattle.names.specs.ResolveLaws.{Blank};
+ghost use Rattle.names.specs.Resolved.{Stored, TreeStored, Answers};
+
+// The first kind of entry that declares a signal or a bus (crate entries, specs/Kinds).
+const SIGNAL: u32 = 59;
+
+// '8,192 tokens'.
+const TOKENS: usize = 8192;
+
+// What a table holds where no name is: NOWHERE.
+const NO_PLACE: u16 = 65535;
+
+const NOT_VISIBLE: u32 = 6;
+
+const DECLARED_AGAIN: u32 = 7;
+
+const TOO_MANY_NAMES: u32 = 8;
+
+// How many names are declared; or a refusal's number and place.
+pub enum Naming {
+    Named(usize),
+    Refused(u32, u32),
+}
+
+fn answer(hidden: u32, again: u32, tally: Tally) -> Naming
+    ensures { λ r. ⌜ r ≡ answerOf hidden again (tally .count) (tally .place) ⌝ }
+{
+    if hidden < NOWHERE {
+        return Naming::Refused(NOT_VISIBLE, hidden);
+    }
+    if again < NOWHERE {
+        return Naming::Refused(DECLARED_AGAIN, again);
+    }
+    if tally.count > MAX_NAMES {
+        return Naming::Refused(TOO_MANY_NAMES, tally.place);
+    }
+    Naming::Named(tally.count)
+}
+
+// `resolve` with the arrays that it lends: the numbers of names; tables that hold no place, for declared names, for visible names and for what names refer to; and
+// the open names of big operators. It is called by `resolve` alone, which makes them so.
+fn resolve_in(
+    text: &[u8],
+    work: &[u8],
+    count: usize,
+    entries: usize,
+    ids: &mut [u16],
+    met: &mut [u16],
+    seen: &mut [u16],
+    table: &mut [u16],
+    stack: &mut [u16],
+    refs: &mut [u16],
+    declared: &mut [u16],
+) -> Naming
+    requires { ⌜ TreeStored (now text) (now work) count entries × (maxTokens ≤ length (now ids)) × Blank (now met) × Blank (now seen) × Blank (now table) × (3 * maxTokens ≤ length (now stack)) × (maxTokens ≤ length (now refs)) × (maxNames ≤ length (now declared)) ⌝ }
+    ensures { λ r. ⌜ ((x : Spec) → Stored (now (text .entry)) (now (work .entry)) count entries x → Answers x (now (refs .exit)) (now (declared .exit)) r) ⌝ }
+{
+    intern(text, work, count, ids);
+    let again = declare(work, ids, entries, PARAMETER, met);
+    declare(work, ids, entries, SIGNAL, seen);
+    let tally = number_declared(work, ids, entries, table, declared);
+    let walk = walk_all(work, ids, entries, seen, table, stack, refs);
+    answer(walk.hidden, smaller(again, walk.again), tally)
+}
+
+// Refusals 6, 7 and 8 of a stored tree; or, of a tree that they let pass, what each of its names refers to: `refs` by entry, for every entry that uses, brings or
+// declares a name, and `declared` the entry of each declared name by its number. The work buffer is read only. This is a stage of the reader and no entry point: it
+// asks for what the parser leaves, which the reader has at hand.
+pub fn resolve(
+    text: &[u8],
+    work: &[u8],
+    count: usize,
+    entries: usize,
+    refs: &mut [u16],
+    declared: &mut [u16],
+) -> Naming
+    requires { ⌜ TreeStored (now text) (now work) count entries × (maxTokens ≤ length (now refs)) × (maxNames ≤ length (now declared)) ⌝ }
+    ensures { λ r. ⌜ ((x : Spec) → Stored (now (text .entry)) (now (work .entry)) count entries x → Answers x (now (refs .exit)) (now (declared .exit)) r) ⌝ }
+{
+    let mut ids = [0u16; TOKENS];
+    let mut met = [NO_PLACE; NODES];
+    let mut seen = [NO_PLACE; NODES];
+    let mut table = [NO_PLACE; NODES];
+    let mut stack = [0u16; 3 * TOKENS];
+    resolve_in(
+        text,
+        work,
+        count,
+        entries,
+        &mut ids,
+        &mut met,
+        &mut seen,
+        &mut table,
+        &mut stack,
+        refs,
+        declared,
+    )
+}

@@ -1,0 +1,87 @@
+// Declared names by their numbers in the text's order: refusal 8.
+use crate::entry::declares;
+use crate::entry::kind_at;
+use crate::entry::place_at;
+use crate::entry::token_at;
+use crate::trie::wide;
+ghost use Prim.Native.Nat.{_+_, _≤_, _<_};
+ghost use lib.ListN.{length};
+ghost use Rattle.language.specs.Limits.{maxNames};
+ghost use Rattle.names.specs.Trie.{maxNodes};
+ghost use Rattle.names.specs.Tables.{noPlace};
+ghost use Rattle.names.specs.Walkable.{Walkable, Table};
+ghost use Rattle.names.specs.Numbering.{Numbered};
+
+// '256 declared names'.
+pub const MAX_NAMES: usize = 256;
+
+// The first kind of entry that declares a name (crate entries, specs/Kinds).
+pub const PARAMETER: u32 = 54;
+
+// How many names are declared, and where the 257th stands, if there is one.
+pub struct Tally {
+    pub count: usize,
+    pub place: u32,
+}
+
+// Entry k behind those before it. The entry of a name that has a number is noted in `declared`. It asks for what `number_declared` was given, and is called by
+// nobody else.
+fn number_one(
+    work: &[u8],
+    ids: &[u16],
+    entries: usize,
+    k: usize,
+    before: Tally,
+    table: &mut [u16],
+    declared: &mut [u16],
+) -> Tally
+    requires { ⌜ Walkable (now work) (now ids) entries × (k < entries) × (before .count ≤ k) × (maxNodes ≤ length (now table)) × (maxNames ≤ length (now declared)) ⌝ }
+    ensures { λ r. ⌜ ((h : Walkable (now (work .entry)) (now (ids .entry)) entries) → Numbered h k (now (table .entry)) (now (declared .entry)) (before .count) (before .place) → Numbered h (k + 1) (now (table .exit)) (now (declared .exit)) (r .count) (r .place)) × (r .count ≤ k + 1) ⌝ }
+{
+    let kind = kind_at(work, k);
+    if !declares(PARAMETER, kind) {
+        return before;
+    }
+    let j = token_at(work, k);
+    let id = wide(ids[j]);
+    let count = before.count;
+    let place = before.place;
+    table[id] = count as u16;
+    if count < MAX_NAMES {
+        declared[count] = k as u16;
+        return Tally {
+            count: count + 1,
+            place,
+        };
+    }
+    if count == MAX_NAMES {
+        return Tally {
+            count: count + 1,
+            place: place_at(work, j),
+        };
+    }
+    Tally {
+        count: count + 1,
+        place,
+    }
+}
+
+// The numbers of all declared names in a table that held none, and their entries. It asks for the entries that `resolve` was given.
+pub fn number_declared(
+    work: &[u8],
+    ids: &[u16],
+    entries: usize,
+    table: &mut [u16],
+    declared: &mut [u16],
+) -> Tally
+    requires { ⌜ Walkable (now work) (now ids) entries × (maxNodes ≤ length (now table)) × (maxNames ≤ length (now declared)) ⌝ }
+    ensures { λ r. ⌜ ((h : Walkable (now (work .entry)) (now (ids .entry)) entries) → Table h (now (table .entry)) (λ t. noPlace) → Numbered h entries (now (table .exit)) (now (declared .exit)) (r .count) (r .place)) ⌝ }
+{
+    let mut tally = Tally { count: 0, place: 0 };
+    let mut k = 0;
+    while k < entries {
+        tally = number_one(work, ids, entries, k, tally, table, declared);
+        k += 1;
+    }
+    tally
+}

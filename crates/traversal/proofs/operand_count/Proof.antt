@@ -1,0 +1,46 @@
+-- The number of operands: each way through the definition, and the table, which is the definition's.
+use mathlib.Core.Path.{sym, _∙_}
+use Rattle.traversal.specs.ArityLaws.{more-operands, last-operands, empty-operands, filled-operands, other-operands}
+use borrow.Author.Needs.{needs}
+use Rattle.traversal.proofs.operand_count.Statement.{statement}
+use Rattle.traversal.proofs.operand_count.Tie as tie
+
+returns : tie.Need-returns
+returns c = sym (more-operands ((c .before .before) .args .before) ((c .before .before) .args .c) ((c .before .if1) .taken) ((c .if2) .taken))
+
+returns-2 : tie.Need-returns-2
+returns-2 c = sym (last-operands ((c .before .before) .args .before) ((c .before .before) .args .c) ((c .before .if1) .taken) ((c .if2) .left))
+
+returns-3 : tie.Need-returns-3
+returns-3 c =
+    sym (empty-operands ((c .before .before .before .before) .args .before) ((c .before .before .before .before) .args .c) ((c .before .before .if3) .taken) ((c .if4) .taken))
+
+returns-4 : tie.Need-returns-4
+returns-4 c =
+    sym (filled-operands ((c .before .before .before .before) .args .before) ((c .before .before .before .before) .args .c) ((c .before .before .if3) .taken) ((c .if4) .left))
+
+cast-wide : tie.Need-cast-wide
+cast-wide c = search needs
+
+array-read-wide : tie.Need-array-read-wide
+array-read-wide c = search needs
+
+wide-requires : tie.Need-wide-requires
+wide-requires c κs = search needs
+
+returns-5 : tie.Need-returns-5
+returns-5 c =
+    (c .wide) .ensures ∙ sym (other-operands ((c .before .before .before) .args .before) ((c .before .before .before) .args .c) ((c .before .before .if1) .left) ((c .before .if3) .left))
+
+pub operand-count-spec : {M : Type 1} → statement M
+operand-count-spec =
+    tie.close
+    (tie.spec
+    returns
+    returns-2
+    returns-3
+    returns-4
+    cast-wide
+    array-read-wide
+    wide-requires
+    returns-5)

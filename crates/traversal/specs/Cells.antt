@@ -1,0 +1,65 @@
+-- What a pass sees of the entries: the code's view of each, and when it is the view of an entry of the tree.
+use Prim.Native.Nat.{ℕ, suc, _+_, _/_, _%_, _<_, _^_}
+use mathlib.Core.List.{List, [], _∷_}
+use mathlib.Core.Option.{Option, none, some}
+use mathlib.Core.Path.{_≡_, sym, ap, _∙_, subst}
+use lib.ListN.{length, drop}
+use Rattle.words.specs.Words.{wordAt}
+use Rattle.language.specs.Tokens.{Token}
+use Rattle.language.specs.Grammar.{Tokens, front}
+use Rattle.lexer.specs.Stored.{offsetBits, offsetIn, TokensStored}
+use Rattle.lexer.specs.StoredLaws.{offset-word}
+use Rattle.entries.specs.Flat.{Entry}
+use Rattle.entries.specs.Stored.{firstEntry, kindOf, indexOf, sizeOf, Keeps, EntryAt, EntriesFrom}
+use Rattle.entries.specs.StoredLaws.{entry-kind, entry-index, entry-size}
+use Rattle.traversal.specs.declared.Cell.{Cell}
+
+-- what the word of a token says of it, if the entry keeps one
+abbrev pub Told : (ℕ → Token → Type 0) → ℕ → Option Token → Type 0
+Told T x none = Unit {0}
+Told T x (some t) = T x t
+
+pub record Sees (T : ℕ → Token → Type 0) (c : Cell) (e : Entry) : Type 0 where
+  pub kind : c .kind ≡ e .kind
+  pub size : c .size ≡ e .size
+  pub token : Told T (c .token) (e .token)
+
+-- the cells from i on are those of the entries
+abbrev pub Seen : (ℕ → Token → Type 0) → (ℕ → Cell) → ℕ → List Entry → Type 0
+Seen T cell i [] = Unit {0}
+Seen T cell i (e ∷ es) = Sees T (cell i) e × Seen T cell (suc i) es
+
+-- the cell of entry i of the buffer
+unfoldable pub cellAt : List ℕ → ℕ → Cell
+cellAt w i = let x = wordAt w (firstEntry + i) in record { kind = kindOf x; token = wordAt w (indexOf x); size = sizeOf x }
+
+-- the words of the tokens say T of them
+abbrev pub TokensTell : (ℕ → Token → Type 0) → List ℕ → Tokens → Type 0
+TokensTell T w ts = (j : ℕ) → suc j < length ts → T (wordAt w j) (front (drop j ts))
+
+module _ (T : ℕ → Token → Type 0) (w : List ℕ) (ts : Tokens) (told : TokensTell T w ts) where
+  token-told : {j : ℕ} (k : ℕ) (t : Option Token) → k ≡ j → Keeps ts j t → Told T (wordAt w k) t
+  token-told k none e h = tt
+  token-told {j} k (some t) e h = subst (T (wordAt w k)) (h .0) (subst (λ l. T (wordAt w l) (front (drop j ts))) (sym e) (told j (h .1)))
+
+  pub entry-seen : (i : ℕ) (e : Entry) → EntryAt w ts i e → Sees T (cellAt w i) e
+  unfolding cellAt
+  entry-seen i e h = record { kind = entry-kind h; size = entry-size h; token = token-told (indexOf (wordAt w (firstEntry + i))) (e .token) (entry-index h) (h .keeps) }
+
+  pub entries-seen : (i : ℕ) (es : List Entry) → EntriesFrom w ts i es → Seen T (cellAt w) i es
+  entries-seen i [] h = tt
+  entries-seen i (e ∷ es) h = (entry-seen i e (h .0), entries-seen (suc i) es (h .1))
+
+-- as the code reads it
+pub cell-of : (w : List ℕ) (i x y : ℕ) → x ≡ wordAt w (firstEntry + i) → y ≡ wordAt w (x / 8_192 % 8_192) → record { kind = x / 8_192 / 8_192; token = y; size = x % 8_192 } ≡ cellAt w i
+unfolding cellAt
+cell-of w i x y e d =
+    ap (λ (t : ℕ). record { kind = x / 8_192 / 8_192; token = t; size = x % 8_192 }) d
+    ∙ ap (λ (z : ℕ). record { kind = z / 8_192 / 8_192; token = wordAt w (z / 8_192 % 8_192); size = z % 8_192 }) e
+
+-- the words of tokens as the lexer stores them tell their places
+abbrev pub Offset : ℕ → Token → Type 0
+Offset x t = offsetIn x ≡ t .at
+
+pub offsets-tell : (w : List ℕ) (ts : Tokens) → TokensStored w ts → ((j : ℕ) → front (drop j ts) .at < 2 ^ offsetBits) → TokensTell Offset w ts
+offsets-tell w ts s near j h = ap offsetIn (s .words j h) ∙ offset-word (front (drop j ts)) (near j)

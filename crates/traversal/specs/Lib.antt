@@ -1,0 +1,12 @@
+pub mod Cells
+pub mod Arity
+pub mod Parts
+pub mod Places
+pub mod ArityLaws
+pub mod PartLaws
+pub mod PassLaws
+pub mod LineLaws
+pub mod Passed
+pub mod TreeStored
+pub mod StackLaws
+pub mod Starts

@@ -1,0 +1,141 @@
+-- Where a part of a tree starts, from where its first operand does.
+use Prim.Native.Nat.{ℕ}
+use mathlib.Core.List.{List, [], _∷_, map}
+use mathlib.Core.Bool.{Bool, true, false, false≢true}
+use mathlib.Core.Path.{_≡_, refl, _∙_}
+use lib.Dec.{eqb, ltb}
+use lib.ListN.{getD}
+use native.Mathlib.Omega.{arith}
+use borrow.Author.Tests.{eq-eqb, ne-eqb}
+use Rattle.node.specs.Operators.{Not, X, G, F, And, Or, Implies, Iff, U, R, W}
+use Rattle.language.specs.Bytes.{if_then_else_}
+use Rattle.language.specs.Tokens.{Token}
+use Rattle.language.specs.Operators.{Plus, Minus, Times, Divide, Modulo, Size, Min, Max, Cup, Cap, Without, Equal, Unequal, Less, AtMost, Greater, AtLeast, Big, BigSum, BigProduct, BigCap, BigCup, BigAnd, BigOr, Window, FinallyIn, GloballyIn, Infix, Calculates, Combines, Compares, Membership, Connects, Prefix, Measures, WidthOf, Applies}
+use Rattle.language.specs.Tree.{Named, Numeral, Truth, Index, Paren, Prefixed, Joined, Nexts, InWindow, Each, Between, Listed, Empty, Element, Range}
+use Rattle.language.specs.Places.{start}
+use Rattle.language.specs.Laws.Basics.Tests.{pick, leave}
+use Rattle.entries.specs.Kinds as Kind
+use Rattle.traversal.specs.Arity.{firstLine}
+use Rattle.traversal.specs.Cells.{Told}
+use Rattle.traversal.specs.Parts.{Part, Whole, Binder, operandsOf, kindOf, tokenOf}
+
+-- by kind: 1 if the entry starts with its first operand, 0 if with its token, 2 for a big operator's name, which starts nothing: its kind stands in place of its start
+abbrev pub starting : List ℕ
+starting =
+    0 ∷ 0 ∷ 0 ∷ 0 ∷ 0 ∷ 0 ∷ 0 ∷ 0 ∷ 0 ∷ 0 ∷ 0 ∷ 0 ∷ 0 ∷ 0 ∷ 1 ∷ 1 ∷
+    1 ∷ 1 ∷ 1 ∷ 1 ∷ 1 ∷ 1 ∷ 1 ∷ 1 ∷ 1 ∷ 1 ∷ 1 ∷ 1 ∷ 1 ∷ 1 ∷ 1 ∷ 1 ∷
+    1 ∷ 1 ∷ 1 ∷ 1 ∷ 0 ∷ 0 ∷ 0 ∷ 0 ∷ 0 ∷ 0 ∷ 0 ∷ 0 ∷ 0 ∷ 2 ∷ 2 ∷ 1 ∷
+    1 ∷ 1 ∷ 1 ∷ 0 ∷ 1 ∷ 0 ∷ 0 ∷ 0 ∷ 0 ∷ 0 ∷ 0 ∷ 0 ∷ 0 ∷ 0 ∷ 0 ∷ 0 ∷ []
+
+-- an entry of kind k whose token is at this place, and whose first operand starts at s
+unfoldable pub startOf : ℕ → ℕ → ℕ → ℕ
+startOf k place s =
+    if eqb (getD starting k 0) 1 then s else (
+    if eqb (getD starting k 0) 2 then k else place)
+
+abbrev pub firstOf : List ℕ → ℕ
+firstOf [] = 0
+firstOf (n ∷ ns) = n
+
+-- the ways through the definition
+module _ (k x s : ℕ) where
+  pub by-operand : getD starting k 0 ≡ 1 → startOf k x s ≡ s
+  unfolding startOf
+  by-operand e = pick (eqb (getD starting k 0) 1) _ _ (eq-eqb _ _ e)
+
+  pub by-kind : (getD starting k 0 ≡ 1 → ⊥) → getD starting k 0 ≡ 2 → startOf k x s ≡ k
+  unfolding startOf
+  by-kind e d = leave (eqb (getD starting k 0) 1) _ _ (ne-eqb _ _ e) ∙ pick (eqb (getD starting k 0) 2) _ _ (eq-eqb _ _ d)
+
+  pub by-token : (getD starting k 0 ≡ 1 → ⊥) → (getD starting k 0 ≡ 2 → ⊥) → startOf k x s ≡ x
+  unfolding startOf
+  by-token e d = leave (eqb (getD starting k 0) 1) _ _ (ne-eqb _ _ e) ∙ leave (eqb (getD starting k 0) 2) _ _ (ne-eqb _ _ d)
+
+  own : {p : ℕ} → getD starting k 0 ≡ 0 → x ≡ p → startOf k x s ≡ p
+  own e h = by-token (λ z. omega arith) (λ z. omega arith) ∙ h
+
+truth-starts : (b : Bool) → getD starting (Kind.truth b) 0 ≡ 0
+truth-starts true = refl
+truth-starts false = refl
+
+before-starts : (o : Prefix) → getD starting (Kind.before o) 0 ≡ 0
+before-starts (Measures Size) = refl
+before-starts (Measures Min) = refl
+before-starts (Measures Max) = refl
+before-starts WidthOf = refl
+before-starts (Applies Not) = refl
+before-starts (Applies X) = refl
+before-starts (Applies G) = refl
+before-starts (Applies F) = refl
+
+joining-starts : (o : Infix) → getD starting (Kind.joining o) 0 ≡ 1
+joining-starts (Calculates Plus) = refl
+joining-starts (Calculates Minus) = refl
+joining-starts (Calculates Times) = refl
+joining-starts (Calculates Divide) = refl
+joining-starts (Calculates Modulo) = refl
+joining-starts (Combines Cup) = refl
+joining-starts (Combines Cap) = refl
+joining-starts (Combines Without) = refl
+joining-starts (Compares Equal) = refl
+joining-starts (Compares Unequal) = refl
+joining-starts (Compares Less) = refl
+joining-starts (Compares AtMost) = refl
+joining-starts (Compares Greater) = refl
+joining-starts (Compares AtLeast) = refl
+joining-starts Membership = refl
+joining-starts (Connects And) = refl
+joining-starts (Connects Or) = refl
+joining-starts (Connects Implies) = refl
+joining-starts (Connects Iff) = refl
+joining-starts (Connects U) = refl
+joining-starts (Connects R) = refl
+joining-starts (Connects W) = refl
+
+window-starts : (o : Window) → getD starting (Kind.window o) 0 ≡ 0
+window-starts FinallyIn = refl
+window-starts GloballyIn = refl
+
+big-starts : (o : Big) → getD starting (Kind.big o) 0 ≡ 0
+big-starts BigSum = refl
+big-starts BigProduct = refl
+big-starts BigCap = refl
+big-starts BigCup = refl
+big-starts BigAnd = refl
+big-starts BigOr = refl
+
+binder-starts : (further : Bool) → getD starting (Kind.binder further) 0 ≡ 2
+binder-starts true = refl
+binder-starts false = refl
+
+between-starts : (l h : Bool) → getD starting (Kind.between l h) 0 ≡ 1
+between-starts true true = refl
+between-starts true false = refl
+between-starts false true = refl
+between-starts false false = refl
+
+abbrev pub startPart : {N : Type 0} → Part N → ℕ
+startPart (Whole y e) = start e
+startPart (Binder y further i s) = Kind.binder further
+
+abbrev pub AtPlace : ℕ → Token → Type 0
+AtPlace x t = x ≡ t .at
+
+module _ {N : Type 0} (bind : Token → N → N) where
+  pub starts : (q : Part N) (x : ℕ) → Told AtPlace x (tokenOf q) → ltb (kindOf q) firstLine ≡ true → startOf (kindOf q) x (firstOf (map startPart (operandsOf bind q))) ≡ startPart q
+  starts (Whole y (Named t)) x h i = own _ x _ refl h
+  starts (Whole y (Numeral t)) x h i = own _ x _ refl h
+  starts (Whole y (Truth t b)) x h i = own _ x _ (truth-starts b) h
+  starts (Whole y (Index t e)) x h i = own _ x _ refl h
+  starts (Whole y (Paren t e)) x h i = own _ x _ refl h
+  starts (Whole y (Prefixed t o e)) x h i = own _ x _ (before-starts o) h
+  starts (Whole y (Joined t o a b)) x h i = by-operand _ x _ (joining-starts o)
+  starts (Whole y (Nexts t n e)) x h i = own _ x _ refl h
+  starts (Whole y (InWindow t o n m e)) x h i = own _ x _ (window-starts o) h
+  starts (Whole y (Each t o further j s e)) x h i = own _ x _ (big-starts o) h
+  starts (Whole y (Between t l u a b)) x h i = by-operand _ x _ (between-starts l u)
+  starts (Whole y (Listed t es)) x h i = own _ x _ refl h
+  starts (Whole y Empty) x h i = absurd (false≢true i)
+  starts (Whole y (Element e es)) x h i = by-operand _ x _ refl
+  starts (Whole y (Range t a b c)) x h i = own _ x _ refl h
+  starts (Binder y further j s) x h i = by-kind _ x _ (λ z. omega (arith, binder-starts further)) (binder-starts further)

@@ -1,0 +1,133 @@
+// One pass over the entries of a text's tree, operands before their operators, with a stack of what is known of the operands.
+use words::get;
+ghost use mathlib.Core.Path.{_≡_};
+ghost use Prim.Native.Nat.{_-_, _≤_, _<_};
+ghost use lib.ListN.{length};
+ghost use lib.Seq.{slice};
+ghost use Rattle.language.specs.Limits.{workBytes, maxTokens};
+ghost use Rattle.language.specs.Places.{first};
+ghost use Rattle.traversal.specs.Cells.{cellAt};
+ghost use Rattle.traversal.specs.Arity.{operands};
+ghost use Rattle.traversal.specs.Starts.{firstOf, startOf};
+ghost use Rattle.traversal.specs.Places.{placed, placeIn};
+
+// The kinds of a set in braces and of an element of one, and the first of the kinds that lines have.
+pub const LISTED: u32 = 51;
+
+pub const ELEMENT: u32 = 52;
+
+pub const FIRST_LINE: u32 = 54;
+
+// How many operands a kind has.
+const ARITIES: [u8; 64] = *b"\
+    \x00\x00\x00\x00\x01\x01\x01\x01\x01\x01\x01\x01\x01\x01\x02\x02\
+    \x02\x02\x02\x02\x02\x02\x02\x02\x02\x02\x02\x02\x02\x02\x02\x02\
+    \x02\x02\x02\x02\x02\x03\x03\x02\x02\x02\x02\x02\x02\x01\x01\x02\
+    \x02\x02\x02\x01\x01\x03\x01\x01\x00\x00\x00\x00\x01\x01\x01\x00";
+
+// By kind: 1 if the first operand stands first, 2 for a big operator's name.
+const STARTING: [u8; 64] = *b"\
+    \x00\x00\x00\x00\x00\x00\x00\x00\x00\x00\x00\x00\x00\x00\x01\x01\
+    \x01\x01\x01\x01\x01\x01\x01\x01\x01\x01\x01\x01\x01\x01\x01\x01\
+    \x01\x01\x01\x01\x00\x00\x00\x00\x00\x00\x00\x00\x00\x02\x02\x01\
+    \x01\x01\x01\x00\x01\x00\x00\x00\x00\x00\x00\x00\x00\x00\x00\x00";
+
+// An entry as a pass sees it: its kind, its token's word, its size.
+pub struct Cell {
+    pub kind: u32,
+    pub token: u32,
+    pub size: u32,
+}
+
+// A place in the text, or none.
+pub enum Place {
+    At(u32),
+    Nowhere,
+}
+
+impl Place {
+    // The first of two places.
+    pub fn first(self, other: Place) -> Place
+        ensures { λ r. ⌜ r ≡ placed (first (placeIn self) (placeIn other)) ⌝ }
+    {
+        let Place::At(p) = self else {
+            return other;
+        };
+        let Place::At(q) = other else {
+            return self;
+        };
+        if p < q { self } else { other }
+    }
+}
+
+// Inner functions: the pass that calls them has bounded the index by the number of entries, and a kind is a field of six bits.
+pub fn cell_at(work: &[u8], i: usize) -> Cell
+    requires { ⌜ (workBytes ≤ length (now work)) × (i < maxTokens) ⌝ }
+    ensures { λ r. ⌜ (r ≡ cellAt (now (work .entry)) i) × (r .kind < 64) ⌝ }
+{
+    let x = get(work, entries::FIRST_ENTRY + i);
+    let token = (x / 8192 % 8192) as usize;
+    let word = get(work, token);
+    Cell {
+        kind: x / 8192 / 8192,
+        token: word,
+        size: x % 8192,
+    }
+}
+
+fn wide(x: u8) -> usize
+    ensures { λ r. ⌜ r ≡ x ⌝ }
+{
+    x as usize
+}
+
+// The number of an entry's operands; `before` is the kind of the entry before it.
+pub fn operand_count(before: u32, c: Cell) -> usize
+    requires { ⌜ c .kind < 64 ⌝ }
+    ensures { λ r. ⌜ r ≡ operands before c ⌝ }
+{
+    let kind = c.kind;
+    if kind == ELEMENT {
+        if before == ELEMENT {
+            return 2;
+        }
+        return 1;
+    }
+    if kind == LISTED {
+        if c.size == 1 {
+            return 0;
+        }
+        return 1;
+    }
+    wide(ARITIES[kind as usize])
+}
+
+// What is left of n, at least 0.
+pub fn less(n: usize, m: usize) -> usize
+    ensures { λ r. ⌜ r ≡ n - m ⌝ }
+{
+    if m < n { n - m } else { 0 }
+}
+
+// Where an entry starts: with its first operand, or at its token's place.
+pub fn start_of(kind: u32, place: u32, start: u32) -> u32
+    requires { ⌜ kind < 64 ⌝ }
+    ensures { λ r. ⌜ r ≡ startOf kind place start ⌝ }
+{
+    let first = STARTING[kind as usize];
+    if first == 1 {
+        return start;
+    }
+    if first == 2 {
+        return kind;
+    }
+    place
+}
+
+// The first number of a part of the stack, 0 if the part is empty.
+pub fn first_of(numbers: &[u32], from: usize, to: usize) -> u32
+    requires { ⌜ to ≤ length (now numbers) ⌝ }
+    ensures { λ r. ⌜ r ≡ firstOf (slice from to (now (numbers .entry))) ⌝ }
+{
+    if from < to { numbers[from] } else { 0 }
+}

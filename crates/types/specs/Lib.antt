@@ -1,0 +1,14 @@
+pub mod Kinds
+pub mod Pass
+pub mod TakeLaws
+pub mod OperatorLaws
+pub mod Known
+pub mod Cells
+pub mod NodeLaws
+pub mod FaultLaws
+pub mod Lines
+pub mod TypeLaws
+pub mod CodeLaws
+pub mod Progress
+pub mod Declaring
+pub mod Running

@@ -1,0 +1,155 @@
+-- Type and first wrong place of every part of a tree, from those of its operands.
+use Prim.Native.Nat.{ℕ, _≤_}
+use mathlib.Core.List.{List, map, map-map}
+use mathlib.Core.Bool.{true, false≢true}
+use mathlib.Core.Option.{Option, none, some}
+use mathlib.Core.Path.{_≡_, refl, sym, ap, ap₂, _∙_}
+use lib.Dec.{eqb, ltb}
+use lib.ListN.{getD}
+use native.Mathlib.Omega.{arith}
+use borrow.Author.Tests.{ne-eqb}
+use Rattle.language.specs.Tokens.{Token}
+use Rattle.language.specs.Operators.{Infix, Calculates, Combines, Compares, Membership, Connects, Prefix, Measures, WidthOf, Applies, Big, BigSum, BigProduct, BigCap, BigCup, BigAnd, BigOr}
+use Rattle.language.specs.Tree.{Named, Numeral, Truth, Index, Paren, Prefixed, Joined, Nexts, InWindow, Each, Between, Listed, Empty, Element, Range}
+use Rattle.language.specs.Places.{start, first}
+use Rattle.language.specs.Types.{ASet, kindCode, Typings, kindIn, prefixGives, infixGives, bigGives, withNumber, kindOf as typeOf, wrong, mistyped}
+use Rattle.language.specs.Laws.Basics.Lists.{All}
+use Rattle.language.specs.Laws.Basics.Tests.{leave}
+use Rattle.entries.specs.Kinds as EntryKind
+use Rattle.traversal.specs.declared.Cell.{Cell}
+use Rattle.traversal.specs.Arity.{firstLine}
+use Rattle.traversal.specs.Cells.{Told, Sees}
+use Rattle.traversal.specs.Parts.{Part, Whole, Binder, operandsOf, kindOf, tokenOf}
+use Rattle.traversal.specs.PartLaws.{unless-all}
+use Rattle.traversal.specs.PassLaws.{ownEntry}
+use Rattle.traversal.specs.Places.{first-none, first-assoc, first-comm}
+use Rattle.traversal.specs.Starts.{startOf, firstOf, startPart, AtPlace, starts}
+use Rattle.types.specs.Kinds.{giving, givesOf, placeOf, referenceOf, kindAt}
+use Rattle.types.specs.Pass.{Operand, node}
+use Rattle.types.specs.Known.{Resolved, KnownName, Known}
+use Rattle.types.specs.OperatorLaws.{truth-gives, before-gives, joining-gives, window-gives, big-gives, binder-gives, between-gives}
+
+abbrev pub kindPart : Part Typings → ℕ
+kindPart (Whole ys e) = kindCode (typeOf ys e)
+kindPart (Binder ys further i s) = kindCode ASet
+
+abbrev pub value : Part Typings → Operand
+value q = record { kind = kindPart q; start = startPart q }
+
+-- a big operator's name asks for a set
+abbrev pub bad : Part Typings → Option ℕ
+bad (Whole ys e) = mistyped ys e
+bad (Binder ys further i s) = first (wrong ASet ys s) (mistyped ys s)
+
+-- what an entry gives
+given : (k name operand n : ℕ) → getD giving k 0 ≡ n → n ≤ 5 → givesOf k name operand ≡ n
+unfolding givesOf
+given k name operand n e h =
+    leave (eqb (getD giving k 0) 6) _ _ (ne-eqb (getD giving k 0) 6 (λ z. omega arith)) ∙ leave (eqb (getD giving k 0) 7) _ _ (ne-eqb (getD giving k 0) 7 (λ z. omega arith)) ∙ e
+
+prefix-small : (o : Prefix) → kindCode (prefixGives o) ≤ 5
+prefix-small (Measures m) = omega arith
+prefix-small WidthOf = omega arith
+prefix-small (Applies o) = omega arith
+
+infix-small : (o : Infix) → kindCode (infixGives o) ≤ 5
+infix-small (Calculates o) = omega arith
+infix-small (Combines o) = omega arith
+infix-small (Compares o) = omega arith
+infix-small Membership = omega arith
+infix-small (Connects o) = omega arith
+
+big-small : (o : Big) → kindCode (bigGives o) ≤ 5
+big-small BigSum = omega arith
+big-small BigProduct = omega arith
+big-small BigCap = omega arith
+big-small BigCup = omega arith
+big-small BigAnd = omega arith
+big-small BigOr = omega arith
+
+by-name : (name operand : ℕ) → givesOf EntryKind.named name operand ≡ name
+unfolding givesOf
+by-name name operand = refl
+
+by-operand : (name operand : ℕ) → givesOf EntryKind.paren name operand ≡ operand
+unfolding givesOf
+by-operand name operand = refl
+
+-- places in another order
+swap : (a b c d : Option ℕ) → first (first a b) (first c d) ≡ first (first a c) (first b d)
+swap a b c d =
+    first-assoc a b (first c d) ∙ ap (first a) (sym (first-assoc b c d) ∙ ap (λ x. first x d) (first-comm b c) ∙ first-assoc c b d) ∙ sym (first-assoc a c (first b d))
+
+pub one-place : (m w : Option ℕ) → first (first m none) w ≡ first w m
+one-place m w = ap (λ x. first x w) (first-none m) ∙ first-comm m w
+
+pub two-places : (m n w v : Option ℕ) → first (first m (first n none)) (first w v) ≡ first (first w m) (first v n)
+two-places m n w v = ap (λ x. first (first m x) (first w v)) (first-none n) ∙ swap m n w v ∙ ap₂ first (first-comm m w) (first-comm n v)
+
+pub three-places : (l m n u v w : Option ℕ) → first (first l (first m (first n none))) (first u (first v w)) ≡ first (first u l) (first (first v m) (first w n))
+three-places l m n u v w = swap l (first m (first n none)) u (first v w) ∙ ap₂ first (first-comm l u) (two-places m n v w)
+
+module _ (R : Token → ℕ) (table : List ℕ) where
+  abbrev pub Good : Part Typings → Type 0
+  Good (Whole ys e) = Known R table ys e
+  Good (Binder ys further i s) = Known R table ys s
+
+  pub inherits : (q : Part Typings) → Good q → All Good (operandsOf withNumber q)
+  inherits (Whole ys (Named t)) g = tt
+  inherits (Whole ys (Numeral t)) g = tt
+  inherits (Whole ys (Truth t b)) g = tt
+  inherits (Whole ys (Index t e)) g = (g .1, tt)
+  inherits (Whole ys (Paren t e)) g = (g, tt)
+  inherits (Whole ys (Prefixed t o e)) g = (g, tt)
+  inherits (Whole ys (Joined t o a b)) g = (g .0, (g .1, tt))
+  inherits (Whole ys (Nexts t n e)) g = (g .0, (g .1, tt))
+  inherits (Whole ys (InWindow t o n m e)) g = (g .0, (g .1, (g .2, tt)))
+  inherits (Whole ys (Each t o further i s e)) g = (g .0, (g .1, tt))
+  inherits (Whole ys (Between t l h a b)) g = (g .0, (g .1, tt))
+  inherits (Whole ys (Listed t es)) g = unless-all Good es (Whole ys es) g
+  inherits (Whole ys Empty) g = tt
+  inherits (Whole ys (Element e es)) g = (g .0, unless-all Good es (Whole ys es) (g .1))
+  inherits (Whole ys (Range t a b c)) g = (g .0, (g .1, (g .2, tt)))
+  inherits (Binder ys further i s) g = (g, tt)
+
+  abbrev nameKind : ℕ → ℕ
+  nameKind x = kindAt table (referenceOf x)
+
+  pub name-known : (x : ℕ) (ys : Typings) (t : Token) → Resolved R x t → KnownName R table ys t → nameKind x ≡ kindCode (kindIn ys t)
+  name-known x ys t r g = ap (kindAt table) (r .reference (g .name)) ∙ g .kind
+
+  abbrev kindParts : List (Part Typings) → List ℕ
+  kindParts qs = map kindPart qs
+
+  abbrev startParts : List (Part Typings) → List ℕ
+  startParts qs = map startPart qs
+
+  part-kind : (q : Part Typings) (x : ℕ) → Good q → Told (Resolved R) x (tokenOf q) → ltb (kindOf q) firstLine ≡ true → givesOf (kindOf q) (nameKind x) (firstOf (kindParts (operandsOf withNumber q))) ≡ kindPart q
+  part-kind (Whole ys (Named t)) x g h i = by-name _ _ ∙ name-known x ys t h g
+  part-kind (Whole ys (Numeral t)) x g h i = given EntryKind.numeral _ _ 0 refl (omega arith)
+  part-kind (Whole ys (Truth t b)) x g h i = given (EntryKind.truth b) _ _ 2 (truth-gives b) (omega arith)
+  part-kind (Whole ys (Index t e)) x g h i = given EntryKind.index _ _ 2 refl (omega arith)
+  part-kind (Whole ys (Paren t e)) x g h i = by-operand _ _
+  part-kind (Whole ys (Prefixed t o e)) x g h i = given (EntryKind.before o) _ _ _ (before-gives o) (prefix-small o)
+  part-kind (Whole ys (Joined t o a b)) x g h i = given (EntryKind.joining o) _ _ _ (joining-gives o) (infix-small o)
+  part-kind (Whole ys (Nexts t n e)) x g h i = given EntryKind.nexts _ _ 2 refl (omega arith)
+  part-kind (Whole ys (InWindow t o n m e)) x g h i = given (EntryKind.window o) _ _ 2 (window-gives o) (omega arith)
+  part-kind (Whole ys (Each t o further j s e)) x g h i = given (EntryKind.big o) _ _ _ (big-gives o) (big-small o)
+  part-kind (Whole ys (Between t l u a b)) x g h i = given (EntryKind.between l u) _ _ 1 (between-gives l u) (omega arith)
+  part-kind (Whole ys (Listed t es)) x g h i = given EntryKind.listed _ _ 1 refl (omega arith)
+  part-kind (Whole ys Empty) x g h i = absurd (false≢true i)
+  part-kind (Whole ys (Element e es)) x g h i = given EntryKind.element _ _ 1 refl (omega arith)
+  part-kind (Whole ys (Range t a b c)) x g h i = given EntryKind.range _ _ 1 refl (omega arith)
+  part-kind (Binder ys further j s) x g h i = given (EntryKind.binder further) _ _ 1 (binder-gives further) (omega arith)
+
+  told : (x : ℕ) (t : Option Token) → Told (Resolved R) x t → Told AtPlace (placeOf x) t
+  told x none h = tt
+  told x (some t) h = h .place
+
+  pub values : (q : Part Typings) (c : Cell) → Good q → Sees (Resolved R) c (ownEntry withNumber q) → ltb (kindOf q) firstLine ≡ true → node table c (map value (operandsOf withNumber q)) ≡ value q
+  unfolding node
+  values q c g z i =
+      let qs = operandsOf withNumber q in
+      ap₂ (λ (k s : ℕ). record { kind = k; start = s })
+      (ap (λ ks. givesOf (c .kind) (nameKind (c .token)) (firstOf ks)) (map-map (λ (x : Operand). x .kind) value qs) ∙ ap (λ k. givesOf k (nameKind (c .token)) (firstOf (kindParts qs))) (z .kind) ∙ part-kind q (c .token) g (z .token) i)
+      (ap (λ ss. startOf (c .kind) (placeOf (c .token)) (firstOf ss)) (map-map (λ (x : Operand). x .start) value qs) ∙ ap (λ k. startOf k (placeOf (c .token)) (firstOf (startParts qs))) (z .kind) ∙ starts withNumber q (placeOf (c .token)) (told (c .token) (tokenOf q) (z .token)) i)

@@ -1,0 +1,226 @@
+-- What every operator gives and takes, by its kind.
+use Prim.Native.Nat.{ℕ}
+use mathlib.Core.List.{[], _∷_}
+use mathlib.Core.Bool.{Bool, true, false}
+use mathlib.Core.Option.{some}
+use mathlib.Core.Path.{_≡_, refl, _∙_}
+use lib.Dec.{eqb}
+use lib.ListN.{getD}
+use native.Mathlib.Omega.{arith}
+use borrow.Author.Tests.{eq-eqb}
+use Rattle.node.specs.Operators.{Not, X, G, F, And, Or, Implies, Iff, U, R, W}
+use Rattle.language.specs.Operators.{Plus, Minus, Times, Divide, Modulo, Size, Min, Max, Cup, Cap, Without, Equal, Unequal, Less, AtMost, Greater, AtLeast, Big, BigSum, BigProduct, BigCap, BigCup, BigAnd, BigOr, Window, FinallyIn, GloballyIn, Infix, Calculates, Combines, Compares, Membership, Connects, Prefix, Measures, WidthOf, Applies}
+use Rattle.language.specs.Tree.{Expr}
+use Rattle.language.specs.Places.{start, unless}
+use Rattle.language.specs.Types.{Kind, ANumber, ASet, AFormula, ABus, AValue, AType, Unknown, kindCode, Typings, prefixTakes, prefixGives, infixGives, bigGives, kindOf, comparable, fitting, wrongOperands}
+use Rattle.language.specs.Laws.Basics.Tests.{pick}
+use Rattle.entries.specs.Kinds as EntryKind
+use Rattle.types.specs.Kinds.{giving, otherTakes, fits, sidesOf}
+use Rattle.types.specs.Pass.{wrongAt}
+use Rattle.types.specs.TakeLaws.{Takes, two-wrong}
+
+abbrev Gives : ℕ → Kind → Type 0
+Gives k K = getD giving k 0 ≡ kindCode K
+
+pub truth-gives : (b : Bool) → Gives (EntryKind.truth b) AFormula
+truth-gives true = refl
+truth-gives false = refl
+
+pub before-gives : (o : Prefix) → Gives (EntryKind.before o) (prefixGives o)
+before-gives (Measures Size) = refl
+before-gives (Measures Min) = refl
+before-gives (Measures Max) = refl
+before-gives WidthOf = refl
+before-gives (Applies Not) = refl
+before-gives (Applies X) = refl
+before-gives (Applies G) = refl
+before-gives (Applies F) = refl
+
+pub joining-gives : (o : Infix) → Gives (EntryKind.joining o) (infixGives o)
+joining-gives (Calculates Plus) = refl
+joining-gives (Calculates Minus) = refl
+joining-gives (Calculates Times) = refl
+joining-gives (Calculates Divide) = refl
+joining-gives (Calculates Modulo) = refl
+joining-gives (Combines Cup) = refl
+joining-gives (Combines Cap) = refl
+joining-gives (Combines Without) = refl
+joining-gives (Compares Equal) = refl
+joining-gives (Compares Unequal) = refl
+joining-gives (Compares Less) = refl
+joining-gives (Compares AtMost) = refl
+joining-gives (Compares Greater) = refl
+joining-gives (Compares AtLeast) = refl
+joining-gives Membership = refl
+joining-gives (Connects And) = refl
+joining-gives (Connects Or) = refl
+joining-gives (Connects Implies) = refl
+joining-gives (Connects Iff) = refl
+joining-gives (Connects U) = refl
+joining-gives (Connects R) = refl
+joining-gives (Connects W) = refl
+
+pub window-gives : (o : Window) → Gives (EntryKind.window o) AFormula
+window-gives FinallyIn = refl
+window-gives GloballyIn = refl
+
+pub big-gives : (o : Big) → Gives (EntryKind.big o) (bigGives o)
+big-gives BigSum = refl
+big-gives BigProduct = refl
+big-gives BigCap = refl
+big-gives BigCup = refl
+big-gives BigAnd = refl
+big-gives BigOr = refl
+
+pub binder-gives : (further : Bool) → Gives (EntryKind.binder further) ASet
+binder-gives true = refl
+binder-gives false = refl
+
+pub between-gives : (l h : Bool) → Gives (EntryKind.between l h) ASet
+between-gives true true = refl
+between-gives true false = refl
+between-gives false true = refl
+between-gives false false = refl
+
+pub truth-takes : (b : Bool) → Takes (EntryKind.truth b) 8 8
+truth-takes true = record { others = refl; final = refl; plain = refl }
+truth-takes false = record { others = refl; final = refl; plain = refl }
+
+pub before-takes : (o : Prefix) → Takes (EntryKind.before o) 8 (kindCode (prefixTakes o))
+before-takes (Measures Size) = record { others = refl; final = refl; plain = refl }
+before-takes (Measures Min) = record { others = refl; final = refl; plain = refl }
+before-takes (Measures Max) = record { others = refl; final = refl; plain = refl }
+before-takes WidthOf = record { others = refl; final = refl; plain = refl }
+before-takes (Applies Not) = record { others = refl; final = refl; plain = refl }
+before-takes (Applies X) = record { others = refl; final = refl; plain = refl }
+before-takes (Applies G) = record { others = refl; final = refl; plain = refl }
+before-takes (Applies F) = record { others = refl; final = refl; plain = refl }
+
+pub window-takes : (o : Window) → Takes (EntryKind.window o) 0 2
+window-takes FinallyIn = record { others = refl; final = refl; plain = refl }
+window-takes GloballyIn = record { others = refl; final = refl; plain = refl }
+
+pub big-takes : (o : Big) → Takes (EntryKind.big o) 8 (kindCode (bigGives o))
+big-takes BigSum = record { others = refl; final = refl; plain = refl }
+big-takes BigProduct = record { others = refl; final = refl; plain = refl }
+big-takes BigCap = record { others = refl; final = refl; plain = refl }
+big-takes BigCup = record { others = refl; final = refl; plain = refl }
+big-takes BigAnd = record { others = refl; final = refl; plain = refl }
+big-takes BigOr = record { others = refl; final = refl; plain = refl }
+
+pub binder-takes : (further : Bool) → Takes (EntryKind.binder further) 8 1
+binder-takes true = record { others = refl; final = refl; plain = refl }
+binder-takes false = record { others = refl; final = refl; plain = refl }
+
+pub between-takes : (l h : Bool) → Takes (EntryKind.between l h) 0 0
+between-takes true true = record { others = refl; final = refl; plain = refl }
+between-takes true false = record { others = refl; final = refl; plain = refl }
+between-takes false true = record { others = refl; final = refl; plain = refl }
+between-takes false false = record { others = refl; final = refl; plain = refl }
+
+-- `==` and `!=`
+sides : (k l : Kind) (s t : ℕ) → sidesOf (kindCode k) (kindCode l) s t ≡ elim (comparable k) [ true ↦ unless (fitting k l) t | false ↦ some s ]
+unfolding sidesOf fits
+sides ANumber ANumber s t = refl
+sides ANumber ASet s t = refl
+sides ANumber AFormula s t = refl
+sides ANumber ABus s t = refl
+sides ANumber AValue s t = refl
+sides ANumber AType s t = refl
+sides ANumber Unknown s t = refl
+sides ASet ANumber s t = refl
+sides ASet ASet s t = refl
+sides ASet AFormula s t = refl
+sides ASet ABus s t = refl
+sides ASet AValue s t = refl
+sides ASet AType s t = refl
+sides ASet Unknown s t = refl
+sides AFormula ANumber s t = refl
+sides AFormula ASet s t = refl
+sides AFormula AFormula s t = refl
+sides AFormula ABus s t = refl
+sides AFormula AValue s t = refl
+sides AFormula AType s t = refl
+sides AFormula Unknown s t = refl
+sides ABus ANumber s t = refl
+sides ABus ASet s t = refl
+sides ABus AFormula s t = refl
+sides ABus ABus s t = refl
+sides ABus AValue s t = refl
+sides ABus AType s t = refl
+sides ABus Unknown s t = refl
+sides AValue ANumber s t = refl
+sides AValue ASet s t = refl
+sides AValue AFormula s t = refl
+sides AValue ABus s t = refl
+sides AValue AValue s t = refl
+sides AValue AType s t = refl
+sides AValue Unknown s t = refl
+sides AType ANumber s t = refl
+sides AType ASet s t = refl
+sides AType AFormula s t = refl
+sides AType ABus s t = refl
+sides AType AValue s t = refl
+sides AType AType s t = refl
+sides AType Unknown s t = refl
+sides Unknown ANumber s t = refl
+sides Unknown ASet s t = refl
+sides Unknown AFormula s t = refl
+sides Unknown ABus s t = refl
+sides Unknown AValue s t = refl
+sides Unknown AType s t = refl
+sides Unknown Unknown s t = refl
+
+equation : (k : ℕ) (a b s t : ℕ) → getD otherTakes k 0 ≡ 10 → wrongAt k (a ∷ b ∷ []) (s ∷ t ∷ []) ≡ sidesOf a b s t
+unfolding wrongAt
+equation k a b s t e = pick (eqb (getD otherTakes k 0) 10) _ _ (eq-eqb _ _ e)
+
+-- the operands of an operator between them
+pub joining-wrong : (ys : Typings) (o : Infix) (a b : Expr) →
+    wrongAt (EntryKind.joining o) (kindCode (kindOf ys a) ∷ kindCode (kindOf ys b) ∷ []) (start a ∷ start b ∷ []) ≡ wrongOperands ys o a b
+joining-wrong ys (Calculates Plus) a b = two-wrong ANumber ANumber _ _ _ _ (record { others = refl; final = refl; plain = refl })
+joining-wrong ys (Calculates Minus) a b = two-wrong ANumber ANumber _ _ _ _ (record { others = refl; final = refl; plain = refl })
+joining-wrong ys (Calculates Times) a b = two-wrong ANumber ANumber _ _ _ _ (record { others = refl; final = refl; plain = refl })
+joining-wrong ys (Calculates Divide) a b = two-wrong ANumber ANumber _ _ _ _ (record { others = refl; final = refl; plain = refl })
+joining-wrong ys (Calculates Modulo) a b = two-wrong ANumber ANumber _ _ _ _ (record { others = refl; final = refl; plain = refl })
+joining-wrong ys (Combines Cup) a b = two-wrong ASet ASet _ _ _ _ (record { others = refl; final = refl; plain = refl })
+joining-wrong ys (Combines Cap) a b = two-wrong ASet ASet _ _ _ _ (record { others = refl; final = refl; plain = refl })
+joining-wrong ys (Combines Without) a b = two-wrong ASet ASet _ _ _ _ (record { others = refl; final = refl; plain = refl })
+joining-wrong ys (Compares Equal) a b = equation (EntryKind.joining (Compares Equal)) _ _ _ _ refl ∙ sides (kindOf ys a) (kindOf ys b) (start a) (start b)
+joining-wrong ys (Compares Unequal) a b = equation (EntryKind.joining (Compares Unequal)) _ _ _ _ refl ∙ sides (kindOf ys a) (kindOf ys b) (start a) (start b)
+joining-wrong ys (Compares Less) a b = two-wrong ANumber ANumber _ _ _ _ (record { others = refl; final = refl; plain = refl })
+joining-wrong ys (Compares AtMost) a b = two-wrong ANumber ANumber _ _ _ _ (record { others = refl; final = refl; plain = refl })
+joining-wrong ys (Compares Greater) a b = two-wrong ANumber ANumber _ _ _ _ (record { others = refl; final = refl; plain = refl })
+joining-wrong ys (Compares AtLeast) a b = two-wrong ANumber ANumber _ _ _ _ (record { others = refl; final = refl; plain = refl })
+joining-wrong ys Membership a b = two-wrong ANumber ASet _ _ _ _ (record { others = refl; final = refl; plain = refl })
+joining-wrong ys (Connects And) a b = two-wrong AFormula AFormula _ _ _ _ (record { others = refl; final = refl; plain = refl })
+joining-wrong ys (Connects Or) a b = two-wrong AFormula AFormula _ _ _ _ (record { others = refl; final = refl; plain = refl })
+joining-wrong ys (Connects Implies) a b = two-wrong AFormula AFormula _ _ _ _ (record { others = refl; final = refl; plain = refl })
+joining-wrong ys (Connects Iff) a b = two-wrong AFormula AFormula _ _ _ _ (record { others = refl; final = refl; plain = refl })
+joining-wrong ys (Connects U) a b = two-wrong AFormula AFormula _ _ _ _ (record { others = refl; final = refl; plain = refl })
+joining-wrong ys (Connects R) a b = two-wrong AFormula AFormula _ _ _ _ (record { others = refl; final = refl; plain = refl })
+joining-wrong ys (Connects W) a b = two-wrong AFormula AFormula _ _ _ _ (record { others = refl; final = refl; plain = refl })
+
+pub joining-unindexed : (o : Infix) → getD otherTakes (EntryKind.joining o) 0 ≡ 11 → ⊥
+joining-unindexed (Calculates Plus) e = omega arith
+joining-unindexed (Calculates Minus) e = omega arith
+joining-unindexed (Calculates Times) e = omega arith
+joining-unindexed (Calculates Divide) e = omega arith
+joining-unindexed (Calculates Modulo) e = omega arith
+joining-unindexed (Combines Cup) e = omega arith
+joining-unindexed (Combines Cap) e = omega arith
+joining-unindexed (Combines Without) e = omega arith
+joining-unindexed (Compares Equal) e = omega arith
+joining-unindexed (Compares Unequal) e = omega arith
+joining-unindexed (Compares Less) e = omega arith
+joining-unindexed (Compares AtMost) e = omega arith
+joining-unindexed (Compares Greater) e = omega arith
+joining-unindexed (Compares AtLeast) e = omega arith
+joining-unindexed Membership e = omega arith
+joining-unindexed (Connects And) e = omega arith
+joining-unindexed (Connects Or) e = omega arith
+joining-unindexed (Connects Implies) e = omega arith
+joining-unindexed (Connects Iff) e = omega arith
+joining-unindexed (Connects U) e = omega arith
+joining-unindexed (Connects R) e = omega arith
+joining-unindexed (Connects W) e = omega arith

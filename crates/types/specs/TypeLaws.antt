@@ -1,0 +1,211 @@
+-- The pass finds the first wrong type of a text whose names are resolved.
+use Prim.Native.Nat.{ℕ, suc, _-_, _<_}
+use mathlib.Core.List.{List, [], _∷_, _++_, append-assoc}
+use mathlib.Core.Bool.{true, false}
+use mathlib.Core.Option.{Option, none, some}
+use mathlib.Core.Path.{_≡_, refl, sym, ap, ap₂, _∙_, subst}
+use lib.Dec.{eqb, ltb}
+use lib.ListN.{length, getD, set, length-append}
+use lib.Seq.{take-append-seam, drop-append-seam}
+use native.Mathlib.Omega.{arith}
+use borrow.Author.Tests.{ltb-true, eq-eqb, ne-eqb, eqb-false}
+use Rattle.language.specs.Tokens.{Name, Token, isOf}
+use Rattle.language.specs.Tree.{Expr, Named, Identifier, Defined, Enumerated, OneSignal, OfWidth, OfType, Spec}
+use Rattle.language.specs.Grammar.{Tokens}
+use Rattle.language.specs.Places.{start, first, unless, Entry as Line, ParameterLine, DefinitionLine, DeclarationLine, FormulaLine, allLines}
+use Rattle.language.specs.Types.{Kind, ANumber, ASet, AFormula, ABus, AValue, AType, Unknown, kindCode, Typings, withNumber, kindOf as typeOf, wrong, mistyped, demanded, definable, mistypedLine, typedSignals, mistypedLines, wrongType}
+use Rattle.language.specs.Laws.Basics.Lists.{All}
+use Rattle.language.specs.Laws.Basics.Tests.{pick, leave}
+use Rattle.language.specs.Laws.Grammar.Braces.{Proper}
+use Rattle.entries.specs.Kinds as EntryKind
+use Rattle.entries.specs.Flat.{Entry, flat, under, leaf, each, flatIdentifier, outline}
+use Rattle.traversal.specs.declared.Cell.{Cell}
+use Rattle.traversal.specs.Cells.{Sees, Seen}
+use Rattle.traversal.specs.Arity.{arities, operands, firstLine}
+use Rattle.traversal.specs.ArityLaws.{fixed-operands}
+use Rattle.traversal.specs.Parts.{Whole, kindOf}
+use Rattle.traversal.specs.Places.{first-none, first-assoc, first-comm}
+use Rattle.traversal.specs.PassLaws.{run, Pass, Works, expression-done}
+use Rattle.traversal.specs.LineLaws.{entriesOf, Each, firstBad, Lined, alone-done, identifiers-alone, text-holds}
+use Rattle.traversal.specs.Passed.{passed, passed-all}
+use Rattle.traversal.specs.TreeStored.{TreeStored, ProperLine, proper-lines}
+use Rattle.types.specs.Kinds.{lastTakes, otherTakes, fits, misfits, indexed, placeOf, referenceOf, kindAt}
+use Rattle.types.specs.Pass.{Operand, State, kindsOf, startsOf, node, wrongAt, fault, tableOf, tableAfter, stepped, step, state}
+use Rattle.types.specs.Known.{Resolved, Known}
+use Rattle.types.specs.Lines.{Context, next, KnownLine, KindsKnown}
+use Rattle.types.specs.TakeLaws.{Takes, none-wrong, one-wrong, by-misfits, last-takes, unindexed}
+use Rattle.types.specs.NodeLaws.{value, bad, Good, inherits, values}
+use Rattle.types.specs.FaultLaws.{faults}
+
+-- with the operands xs on the stack
+steps : (table : List ℕ) (c : Cell) (before : ℕ) (s xs : List Operand) (f : Option ℕ) → operands before c ≡ length xs → step c (state table before (s ++ xs) f) ≡ stepped c (state table before (s ++ xs) f) (length s)
+unfolding step
+steps table c before s xs f n =
+    let m : length (s ++ xs) - operands before c ≡ length s = omega (arith, length-append s xs) in
+    ap (stepped c (state table before (s ++ xs) f)) m
+
+same-table : (table : List ℕ) (c : Cell) (xs : List Operand) → (c .kind ≡ EntryKind.definition → ⊥) → tableAfter table c xs ≡ table
+unfolding tableOf
+same-table table c xs h = leave (eqb (c .kind) EntryKind.definition) _ _ (ne-eqb _ _ h)
+
+-- an entry of an expression
+part-steps : (table : List ℕ) (c : Cell) (before : ℕ) (s xs : List Operand) (f : Option ℕ) → ltb (c .kind) firstLine ≡ true → operands before c ≡ length xs →
+    step c (state table before (s ++ xs) f) ≡ state table (c .kind) (s ++ (node table c xs ∷ [])) (first f (fault table c xs))
+part-steps table c before s xs f i n =
+    let low : c .kind < firstLine = ltb-true _ _ i in
+    steps table c before s xs f n
+    ∙ ap₂ (λ u v. record { before = c .kind; stack = u; found = first f (fault table c v); table = tableAfter table c v })
+    (pick (ltb (c .kind) firstLine) _ _ i ∙ ap₂ (λ u v. u ++ (node table c v ∷ [])) (take-append-seam s xs) (drop-append-seam s xs))
+    (drop-append-seam s xs)
+    ∙ ap (λ t. state t (c .kind) (s ++ (node table c xs ∷ [])) (first f (fault table c xs))) (same-table table c xs (λ e. omega arith))
+
+-- an entry of a line
+line-steps : (table : List ℕ) (c : Cell) (before : ℕ) (xs : List Operand) (f : Option ℕ) → ltb (c .kind) firstLine ≡ false → operands before c ≡ length xs →
+    step c (state table before xs f) ≡ state (tableAfter table c xs) (c .kind) [] (first f (fault table c xs))
+line-steps table c before xs f i n =
+    steps table c before [] xs f n
+    ∙ ap (λ u. record { before = c .kind; stack = u; found = first f (fault table c xs); table = tableAfter table c xs }) (leave (ltb (c .kind) firstLine) _ _ i)
+
+module _ (R : Token → ℕ) (table : List ℕ) where
+  abbrev pass : Pass Typings Operand State (Resolved R)
+  pass = record { bind = withNumber; step = step; state = state table; value = value; bad = bad; node = node table; fault = fault table; Good = Good R table }
+
+  works : Works pass
+  works = record { steps = part-steps table; inherits = inherits R table; values = values R table; faults = faults R table }
+
+-- a definition 'is a number, a set or a formula'
+definable-fits : (k : Kind) → fits 9 (kindCode k) ≡ definable k
+unfolding fits
+definable-fits ANumber = refl
+definable-fits ASet = refl
+definable-fits AFormula = refl
+definable-fits ABus = refl
+definable-fits AValue = refl
+definable-fits AType = refl
+definable-fits Unknown = refl
+
+definition-takes : Takes EntryKind.definition 8 9
+definition-takes = record { others = refl; final = refl; plain = refl }
+
+definition-wrong : (k : Kind) (s : ℕ) → wrongAt EntryKind.definition (kindCode k ∷ []) (s ∷ []) ≡ unless (definable k) s
+definition-wrong k s =
+    by-misfits EntryKind.definition 8 (kindCode k ∷ []) (s ∷ []) refl (λ e. omega arith) ∙ ap (λ l. misfits 8 l (kindCode k ∷ []) (s ∷ [])) (last-takes definition-takes 1)
+    ∙ ap (λ b. first (unless b s) none) (definable-fits k) ∙ first-none (unless (definable k) s)
+
+module _ (R : Token → ℕ) (cell : ℕ → Cell) where
+  abbrev idle : Context → ℕ → Option ℕ → State
+  idle k before f = state (k .table) before [] f
+
+  abbrev GoodLine : Context → Line → Type 0
+  GoodLine k l = ProperLine l × KnownLine R k l
+
+  abbrev badLine : Context → Line → Option ℕ
+  badLine k l = mistypedLine (k .names) l
+
+  abbrev Comes : List Entry → ℕ → State → List Entry → Context → Option ℕ → Type 0
+  Comes es i s rs k f = Lined (Resolved R) cell step idle (next R) badLine GoodLine es i s rs k f
+
+  -- an entry that is no index
+  quiet : (table : List ℕ) (c : Cell) (k : ℕ) (xs : List Operand) → c .kind ≡ k → getD otherTakes k 0 ≡ 8 → fault table c xs ≡ wrongAt k (kindsOf xs) (startsOf xs)
+  quiet table c k xs e o =
+      ap (λ j. first (indexed j (kindAt table (referenceOf (c .token))) (placeOf (c .token))) (wrongAt j (kindsOf xs) (startsOf xs))) e
+      ∙ ap (λ m. first m (wrongAt k (kindsOf xs) (startsOf xs))) (unindexed k (kindAt table (referenceOf (c .token))) (placeOf (c .token)) (λ z. omega (arith, o)))
+
+  -- a line with an expression
+  held : (k : ℕ) (t : Option Token) (x y : Context) (e : Expr) (w : Option ℕ) → ltb k firstLine ≡ false → eqb k EntryKind.element ≡ false → eqb k EntryKind.listed ≡ false → getD arities k 0 ≡ 1 → getD otherTakes k 0 ≡ 8
+      → wrongAt k (kindCode (typeOf (x .names) e) ∷ []) (start e ∷ []) ≡ w
+      → ((c : Cell) → Sees (Resolved R) c (record { kind = k; token = t; size = suc (length (flat e)) }) → tableAfter (x .table) c (value (Whole (x .names) e) ∷ []) ≡ y .table)
+      → Proper false e → Known R (x .table) (x .names) e
+      → (es : List Entry) (i before : ℕ) (f : Option ℕ) → Seen (Resolved R) cell i (under k t (flat e) ++ es) → Comes (under k t (flat e) ++ es) i (idle x before f) es y (first f (first w (mistyped (x .names) e)))
+  held k t x y e w out other unlisted arity free hw ht p g es i before f h =
+      let own : Entry = record { kind = k; token = t; size = suc (length (flat e)) } in
+      let split = append-assoc (flat e) (own ∷ []) es in
+      let inside = expression-done cell (pass R (x .table)) (works R (x .table)) (x .names) e p g (own ∷ es) i before [] f (subst (Seen (Resolved R) cell i) split h) in
+      let c = cell (inside .place) in
+      let ends = at-line c (inside .seen .0) in
+      record {
+        before = c .kind;
+        comes = record {
+          place = suc (inside .place);
+          seen = inside .seen .1;
+          runs = ap (λ us. run step cell us i (idle x before f)) split ∙ inside .runs ∙ ap (run step cell es (suc (inside .place))) ends;
+        };
+      }
+    where
+      at-line : (c : Cell) → Sees (Resolved R) c (record { kind = k; token = t; size = suc (length (flat e)) }) →
+          step c (state (x .table) (kindOf (Whole (x .names) e)) (value (Whole (x .names) e) ∷ []) (first f (mistyped (x .names) e))) ≡ idle y (c .kind) (first f (first w (mistyped (x .names) e)))
+      at-line c z =
+          let v = value (Whole (x .names) e) ∷ [] in
+          line-steps (x .table) c (kindOf (Whole (x .names) e)) v (first f (mistyped (x .names) e)) (ap (λ j. ltb j firstLine) (z .kind) ∙ out) (fixed-operands k (kindOf (Whole (x .names) e)) c (z .kind) other unlisted arity)
+          ∙ ap₂ (λ u g. state u (c .kind) [] (first (first f (mistyped (x .names) e)) g)) (ht c z) (quiet (x .table) c k v (z .kind) free ∙ hw)
+          ∙ ap (state (y .table) (c .kind) []) (first-assoc f (mistyped (x .names) e) w ∙ ap (first f) (first-comm (mistyped (x .names) e) w))
+
+  -- an entry that stands alone
+  alone : (j : ℕ) → ltb j firstLine ≡ false → eqb j EntryKind.element ≡ false → eqb j EntryKind.listed ≡ false → getD arities j 0 ≡ 0 → Takes j 8 8 → eqb j EntryKind.definition ≡ false →
+      (c : Cell) (k : Context) (before : ℕ) (f : Option ℕ) → c .kind ≡ j → step c (idle k before f) ≡ idle k (c .kind) f
+  alone j out other unlisted arity free plain c k before f e =
+      line-steps (k .table) c before [] f (ap (λ n. ltb n firstLine) e ∙ out) (fixed-operands j before c e other unlisted arity)
+      ∙ ap₂ (λ t g. state t (c .kind) [] (first f g)) (same-table (k .table) c [] (λ z. eqb-false j _ plain (sym e ∙ z))) (quiet (k .table) c j [] e (free .others) ∙ none-wrong free (λ z. omega arith))
+      ∙ ap (state (k .table) (c .kind) []) (first-none f)
+
+  same-after : (k : ℕ) (t : Option Token) (n : ℕ) (table : List ℕ) (xs : List Operand) → eqb k EntryKind.definition ≡ false → (c : Cell) → Sees (Resolved R) c (record { kind = k; token = t; size = n }) → tableAfter table c xs ≡ table
+  same-after k t n table xs h c z = same-table table c xs (λ e. eqb-false k _ h (sym (z .kind) ∙ e))
+
+  -- a definition's type is put down
+  defined-after : (x : Token) (n v s : ℕ) (table : List ℕ) → isOf Name x ≡ true → (c : Cell) → Sees (Resolved R) c (record { kind = EntryKind.definition; token = some x; size = n }) →
+      tableAfter table c (record { kind = v; start = s } ∷ []) ≡ set table (R x) v
+  unfolding tableOf
+  defined-after x n v s table h c z = pick (eqb (c .kind) EntryKind.definition) _ _ (eq-eqb _ _ (z .kind)) ∙ ap (λ r. set table r v) (z .token .reference h)
+
+  by : (k : Context) (us es : List Entry) → All (λ e. (c : Cell) (k : Context) (before : ℕ) (f : Option ℕ) → c .kind ≡ e .kind → step c (idle k before f) ≡ idle k (c .kind) f) us →
+      (i before : ℕ) (f : Option ℕ) → Seen (Resolved R) cell i (us ++ es) → Comes (us ++ es) i (idle k before f) es k (first f none)
+  by k us es a i before f h = subst (Comes (us ++ es) i (idle k before f) es k) (sym (first-none f)) (alone-done (Resolved R) cell step idle (next R) badLine GoodLine us es a k i before f h)
+
+  free : (k : ℕ) → getD otherTakes k 0 ≡ 8 → getD lastTakes k 0 ≡ 8 → eqb k EntryKind.element ≡ false → Takes k 8 8
+  free k o l e = record { others = o; final = l; plain = e }
+
+  names-alone : (is : List Identifier) → All (λ e. (c : Cell) (k : Context) (before : ℕ) (f : Option ℕ) → c .kind ≡ e .kind → step c (idle k before f) ≡ idle k (c .kind) f) (each flatIdentifier is)
+  names-alone is =
+      identifiers-alone (Resolved R) cell step idle (next R) badLine GoodLine (alone EntryKind.identifier refl refl refl refl (free _ refl refl refl) refl)
+      (alone EntryKind.word refl refl refl refl (free _ refl refl refl) refl) is
+
+  -- a line whose expression must have the type K
+  demands : (k : ℕ) (t : Option Token) (x y : Context) (e : Expr) (K : Kind) → ltb k firstLine ≡ false → eqb k EntryKind.element ≡ false → eqb k EntryKind.listed ≡ false → getD arities k 0 ≡ 1 → Takes k 8 (kindCode K)
+      → eqb k EntryKind.definition ≡ false → x .table ≡ y .table → Proper false e → Known R (x .table) (x .names) e
+      → (es : List Entry) (i before : ℕ) (f : Option ℕ) → Seen (Resolved R) cell i (under k t (flat e) ++ es) → Comes (under k t (flat e) ++ es) i (idle x before f) es y (first f (demanded K (x .names) e))
+  demands k t x y e K out other unlisted arity takes plain same p g =
+      held k t x y e (wrong K (x .names) e) out other unlisted arity (takes .others) (one-wrong K _ _ takes (λ z. omega arith)) (λ c z. same-after k t _ (x .table) (value (Whole (x .names) e) ∷ []) plain c z ∙ same) p g
+
+  line-done : (k : Context) (l : Line) → GoodLine k l → (es : List Entry) (i before : ℕ) (f : Option ℕ) → Seen (Resolved R) cell i (entriesOf l ++ es) →
+      Comes (entriesOf l ++ es) i (idle k before f) es (next R k l) (first f (mistypedLine (k .names) l))
+  line-done k (ParameterLine x e) g = demands EntryKind.parameter (some x) k _ e ANumber refl refl refl refl (record { others = refl; final = refl; plain = refl }) refl refl (g .0) (g .1)
+  line-done k (DefinitionLine (Defined x e)) g =
+      held EntryKind.definition (some x) k _ e (unless (definable (typeOf (k .names) e)) (start e)) refl refl refl refl refl (definition-wrong (typeOf (k .names) e) (start e))
+      (λ c z. defined-after x _ _ (start e) (k .table) (g .1 .0) c z) (g .0) (g .1 .1)
+  line-done k (DefinitionLine (Enumerated x is)) g =
+      λ es i before f h.
+      let past = by k (leaf EntryKind.enumeration x ++ each flatIdentifier is) es (alone EntryKind.enumeration refl refl refl refl (free _ refl refl refl) refl, names-alone is) i before f h in
+      record { before = past .before; comes = past .comes }
+  line-done k (DeclarationLine (OneSignal x)) g = λ es. by k (leaf EntryKind.signal x) es (alone EntryKind.signal refl refl refl refl (free _ refl refl refl) refl, tt)
+  line-done k (DeclarationLine (OfWidth x e)) g = demands EntryKind.bus (some x) k _ e ANumber refl refl refl refl (record { others = refl; final = refl; plain = refl }) refl refl (g .0 .1) (g .1)
+  line-done k (DeclarationLine (OfType u x)) g =
+      λ es i before f h. subst (Comes (entriesOf (DeclarationLine (OfType u x)) ++ es) i (idle k before f) es k) (ap (first f) (first-none (wrong AType (k .names) (Named u))))
+      (demands EntryKind.typed (some x) k k (Named u) AType refl refl refl refl (record { others = refl; final = refl; plain = refl }) refl refl refl (g .1) es i before f h)
+  line-done k (FormulaLine e) g = demands EntryKind.line none k _ e AFormula refl refl refl refl (record { others = refl; final = refl; plain = refl }) refl refl (g .0) (g .1)
+
+-- the lines' places
+good-lines : (R : Token → ℕ) (k : Context) (ls : List Line) → All ProperLine ls → Each (next R) (KnownLine R) k ls → Each (next R) (λ k l. ProperLine l × KnownLine R k l) k ls
+good-lines R k [] p g = tt
+good-lines R k (l ∷ ls) p g = ((p .0, g .0), good-lines R (next R k l) ls (p .1) (g .1))
+
+first-wrong : (R : Token → ℕ) (k : Context) (ls : List Line) → firstBad (next R) (λ k l. mistypedLine (k .names) l) k ls ≡ mistypedLines (k .names) ls
+first-wrong R k [] = refl
+first-wrong R k (l ∷ ls) = ap (first (mistypedLine (k .names) l)) (first-wrong R (next R k l) ls)
+
+-- refusal 9
+pub finds-wrong : (R : Token → ℕ) (cell : ℕ → Cell) (w : List ℕ) (ts : Tokens) (n : ℕ) (x : Spec) (table : List ℕ) → Seen (Resolved R) cell 0 (outline x) → TreeStored w ts n x → KindsKnown R table x →
+    passed step cell (state table 0 [] none) n .found ≡ wrongType x
+finds-wrong R cell w ts n x table seen t known =
+    let k : Context = record { table = table; names = typedSignals (allLines x) } in
+    let ends = text-holds (Resolved R) cell step (λ k before f. state (k .table) before [] f) (next R) (λ k l. mistypedLine (k .names) l) (λ k l. ProperLine l × KnownLine R k l) (line-done R cell) (alone R cell EntryKind.heading refl refl refl refl (free R cell _ refl refl refl) refl) x k 0 0 none (good-lines R k (allLines x) (proper-lines x (t .proper)) (known .lines)) seen in
+    ap (λ (s : State). s .found) (passed-all step cell (state table 0 [] none) (outline x) n (t .count) ∙ ends .runs) ∙ first-wrong R k (allLines x)
