@@ -1,0 +1,12 @@
+pub mod Operators
+pub mod Digits
+pub mod Answers
+pub mod Listing
+pub mod Combined
+pub mod NumberLaws
+pub mod RangeLaws
+pub mod ArrayLaws
+pub mod ListingLaws
+pub mod UnionLaws
+pub mod SelectionLaws
+pub mod InsertLaws

@@ -1,0 +1,15 @@
+pub mod World
+pub mod Agrees
+pub mod AgreesLaws
+pub mod Known
+pub mod KnownLaws
+pub mod Slots
+pub mod Facts
+pub mod FactsLaws
+pub mod Worlds
+pub mod WorldsLaws
+pub mod Passing
+pub mod VisibleLaws
+pub mod Worked
+pub mod WorkedLaws
+pub mod Bodies

@@ -1,0 +1,109 @@
+-- The names visible at a line: they are declared, and no definition that is still to come defines one of them (refusal 7).
+use mathlib.Core.Bool.{true, _||_, false≢true}
+use mathlib.Core.List.{List, [], _∷_, _++_, append-assoc}
+use mathlib.Core.Path.{_≡_, refl, sym, ap, ap₂, _∙_, subst}
+use Rattle.language.specs.Bytes.{same}
+use Rattle.language.specs.Tokens.{Token}
+use Rattle.language.specs.Tree.{Definition, Defined, Enumerated, Parameter, Spec}
+use Rattle.language.specs.Places.{Entry, ParameterLine, DefinitionLine, DeclarationLine, FormulaLine, parameterLines, definitionLines, mainLines, allLines}
+use Rattle.language.specs.Names.{Names, visible, declares, declaresSignal, over}
+use Rattle.language.specs.Laws.Basics.Lists.{All, all-more, all-left, all-right, all-append, all-swap}
+use Rattle.language.specs.Laws.Basics.Tests.{or-left, or-right, or-cases, same-equal, same-refl}
+use Rattle.language.specs.Laws.Values.DistinctNames.{Apart, apart-sym, Distinct, Across, across}
+use Rattle.names.specs.AlikeLaws.{alike-pushed}
+use Rattle.names.specs.Resolved.{declaredNames}
+use Rattle.values.specs.WorldsLaws.{Among, Elsewhere}
+
+-- a name of its own list is visible
+abbrev pub In : Names → Token → Type 0
+In ns n = visible ns n ≡ true
+
+visible-text : (ns : Names) (t u : Token) → t .text ≡ u .text → visible ns t ≡ visible ns u
+visible-text [] t u e = refl
+visible-text (n ∷ ns) t u e = ap₂ _||_ (ap (same (n .text)) e) (visible-text ns t u e)
+
+visible-left : (ns ms : Names) (t : Token) → visible ns t ≡ true → visible (ns ++ ms) t ≡ true
+visible-left [] ms t y = absurd (false≢true y)
+visible-left (n ∷ ns) ms t y = or-cases (same (n .text) (t .text)) (visible ns t) (λ e. or-left _ (visible (ns ++ ms) t) e) (λ e. or-right (same (n .text) (t .text)) _ (visible-left ns ms t e)) y
+
+in-own : (ns : Names) → All (In ns) ns
+in-own [] = tt
+in-own (n ∷ ns) = (or-left _ (visible ns n) (same-refl (n .text)), all-more (λ m h. or-right (same (n .text) (m .text)) _ h) ns (in-own ns))
+
+pub in-declared : (x : Spec) → All (In (declaredNames x)) (over declares (allLines x))
+in-declared x =
+    let ns = over declares (allLines x) in
+    all-more (λ n h. alike-pushed ns [] .sees n ∙ visible-left ns [] n h) ns (in-own ns)
+
+pub among-more : (ms ns names : Names) → All (In names) ms → Among ns names → Among (ms ++ ns) names
+among-more [] ns names h g t y = g t y
+among-more (m ∷ ms) ns names h g t y =
+    or-cases (same (m .text) (t .text)) (visible (ms ++ ns) t)
+    (λ e. sym (visible-text names m t (same-equal (m .text) (t .text) e)) ∙ h .0)
+    (λ e. among-more ms ns names (h .1) g t e) y
+
+pub among-all : (ns names : Names) → All (In names) ns → Among ns names
+among-all ns names h t y = among-more ns [] names h (λ u z. absurd (false≢true z)) t (visible-left ns [] t y)
+
+-- the names of some definitions
+abbrev pub ownNames : List Definition → Names
+ownNames ds = over declares (definitionLines ds [])
+
+visible-apart : (ns ms : Names) → Across ns ms → (t : Token) → visible ns t ≡ true → All (Apart t) ms
+visible-apart [] ms h t y = absurd (false≢true y)
+visible-apart (n ∷ ns) ms h t y =
+    or-cases (same (n .text) (t .text)) (visible ns t)
+    (λ e. all-more (λ m a. ap (λ u. same u (m .text)) (sym (same-equal (n .text) (t .text) e)) ∙ a) ms (h .0))
+    (λ e. visible-apart ns ms (h .1) t e) y
+
+apart-elsewhere : (ds : List Definition) (t : Token) → All (Apart t) (ownNames ds) → All (Elsewhere t) ds
+apart-elsewhere [] t h = tt
+apart-elsewhere (Defined x e ∷ ds) t h = (apart-sym t x (h .0), apart-elsewhere ds t (h .1))
+apart-elsewhere (Enumerated x is ∷ ds) t h = (tt, apart-elsewhere ds t (all-right (Apart t) (declares (DefinitionLine (Enumerated x is))) (ownNames ds) h))
+
+pub visible-elsewhere : (ns : Names) (ds : List Definition) → Across ns (ownNames ds) → (t : Token) → visible ns t ≡ true → All (Elsewhere t) ds
+visible-elsewhere ns ds h t y = apart-elsewhere ds t (visible-apart ns (ownNames ds) h t y)
+
+-- names of lines, by the lines' sections
+module _ (P : Token → Type 0) where
+  pub behind-parameters : (ps : List Parameter) (ls : List Entry) → All P (over declares (parameterLines ps ls)) → All P (over declares ls)
+  behind-parameters [] ls h = h
+  behind-parameters (p ∷ ps) ls h = behind-parameters ps ls (h .1)
+
+  pub of-definitions : (ds : List Definition) (ls : List Entry) → All P (over declares (definitionLines ds ls)) → All P (ownNames ds)
+  of-definitions [] ls h = tt
+  of-definitions (d ∷ ds) ls h =
+      let own = declares (DefinitionLine d) in
+      all-append P own (ownNames ds) (all-left P own (over declares (definitionLines ds ls)) h) (of-definitions ds ls (all-right P own (over declares (definitionLines ds ls)) h))
+
+  -- signals are declared by lines
+  pub of-signals : (ls : List Entry) → All P (over declares ls) → All P (over declaresSignal ls)
+  of-signals [] h = tt
+  of-signals (ParameterLine x e ∷ ls) h = of-signals ls (h .1)
+  of-signals (DefinitionLine d ∷ ls) h = of-signals ls (all-right P (declares (DefinitionLine d)) (over declares ls) h)
+  of-signals (DeclarationLine d ∷ ls) h =
+      let own = declares (DeclarationLine d) in
+      all-append P own (over declaresSignal ls) (all-left P own (over declares ls) h) (of-signals ls (all-right P own (over declares ls) h))
+  of-signals (FormulaLine e ∷ ls) h = of-signals ls h
+
+over-definitions : (ds : List Definition) (ls : List Entry) → over declares (definitionLines ds ls) ≡ ownNames ds ++ over declares ls
+over-definitions [] ls = refl
+over-definitions (d ∷ ds) ls = ap (declares (DefinitionLine d) ++_) (over-definitions ds ls) ∙ sym (append-assoc (declares (DefinitionLine d)) (ownNames ds) (over declares ls))
+
+signals-parameters : (ps : List Parameter) (ls : List Entry) → over declaresSignal (parameterLines ps ls) ≡ over declaresSignal ls
+signals-parameters [] ls = refl
+signals-parameters (p ∷ ps) ls = signals-parameters ps ls
+
+signals-definitions : (ds : List Definition) (ls : List Entry) → over declaresSignal (definitionLines ds ls) ≡ over declaresSignal ls
+signals-definitions [] ls = refl
+signals-definitions (d ∷ ds) ls = signals-definitions ds ls
+
+-- no definition defines a signal
+pub signals-apart : (x : Spec) → Distinct (over declares (definitionLines (x .definitions) (mainLines (x .main)))) → Across (over declaresSignal (allLines x)) (ownNames (x .definitions))
+signals-apart x h =
+    let F = ownNames (x .definitions) in
+    let M = over declares (mainLines (x .main)) in
+    let f : Across F M = across F M (subst Distinct (over-definitions (x .definitions) (mainLines (x .main))) h) in
+    let g : Across M F = all-more (λ n k. all-more (λ m a. apart-sym m n a) F k) M (all-swap Apart F M f) in
+    subst (λ l. Across l F) (sym (signals-parameters (x .parameters) _ ∙ signals-definitions (x .definitions) _))
+    (of-signals (λ n. All (Apart n) F) (mainLines (x .main)) g)

@@ -1,0 +1,94 @@
+// Writing a formula's nodes into a table of 8,192: every node through `put`, which answers the next index, 8,193 where there is no room.
+use node::MAX_NODES;
+use node::Node;
+ghost use mathlib.Core.List.{_∷_, []};
+ghost use Prim.Native.Nat.{_<_};
+ghost use Rattle.node.specs.Limits.{fieldLimit};
+ghost use Rattle.node.specs.Ltl.{Signal};
+ghost use Rattle.writing.specs.Writing.{Puts, Wrote, Caps, Joins, Nexts, truth};
+
+pub mod copies;
+pub mod window;
+
+// The index that stands for all past the last node.
+pub const TOO_MANY: usize = MAX_NODES + 1;
+
+// Stores a word at an index.
+pub fn put(out: &mut [u32; 8192], at: usize, word: u32) -> usize
+    ensures { λ r. ⌜ Puts (word ∷ []) (now (out .entry)) (now (out .exit)) at r ⌝ }
+{
+    if at < MAX_NODES {
+        out[at] = word;
+        return at + 1;
+    }
+    TOO_MANY
+}
+
+// A constant.
+pub fn constant(holds: bool, out: &mut [u32; 8192], at: usize) -> usize
+    ensures { λ r. ⌜ Wrote (truth holds) (now (out .entry)) (now (out .exit)) at r ⌝ }
+{
+    if holds {
+        return put(out, at, Node::leaf(Node::TRUE).word);
+    }
+    put(out, at, Node::leaf(Node::FALSE).word)
+}
+
+// A signal: every signal node is written here. Its number has to fit the field, which holds no larger one.
+pub fn signal(k: u32, out: &mut [u32; 8192], at: usize) -> usize
+    requires { ⌜ k < fieldLimit ⌝ }
+    ensures { λ r. ⌜ Wrote (Signal k) (now (out .entry)) (now (out .exit)) at r ⌝ }
+{
+    put(out, at, Node::unary(Node::SIGNAL, k).word)
+}
+
+// An operator of one operand, over the node before m. Its number is one of sixteen: the kind's field holds no more.
+pub fn cap(op: u32, m: usize, out: &mut [u32; 8192]) -> usize
+    requires { ⌜ op < 16 ⌝ }
+    ensures { λ r. ⌜ Caps op (now (out .entry)) (now (out .exit)) m r ⌝ }
+{
+    if m == 0 {
+        return TOO_MANY;
+    }
+    if MAX_NODES <= m {
+        return TOO_MANY;
+    }
+    put(out, m, Node::unary(op, (m - 1) as u32).word)
+}
+
+// An operator of two operands, over the nodes before m and before n. Its number is one of sixteen, as above.
+pub fn join(op: u32, m: usize, n: usize, out: &mut [u32; 8192]) -> usize
+    requires { ⌜ op < 16 ⌝ }
+    ensures { λ r. ⌜ Joins op (now (out .entry)) (now (out .exit)) m n r ⌝ }
+{
+    if m == 0 {
+        return TOO_MANY;
+    }
+    if n < m {
+        return TOO_MANY;
+    }
+    if MAX_NODES <= n {
+        return TOO_MANY;
+    }
+    put(
+        out,
+        n,
+        Node::binary(op, (m - 1) as u32, (n - 1) as u32).word,
+    )
+}
+
+// n times X over the node before m.
+pub fn nexts(n: usize, m: usize, out: &mut [u32; 8192]) -> usize
+    ensures { λ r. ⌜ Nexts n (now (out .entry)) (now (out .exit)) m r ⌝ }
+{
+    let mut r = m;
+    let mut i = 0;
+    while i < n {
+        if MAX_NODES < r {
+            return TOO_MANY;
+        }
+        r = cap(Node::NEXT, r, out);
+        i += 1;
+    }
+    r
+}
