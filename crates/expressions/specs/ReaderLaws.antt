@@ -9,16 +9,12 @@ use lib.Dec.{leb, ltb}
 use borrow.Author.Tests.{ltb-true, lt-leb}
 use lib.ListN.{length, length-append}
 use Rattle.node.specs.Result.{Result, Done, Refused, _>>=_}
-use Rattle.node.specs.ResultLaws.{not-done}
 use Rattle.language.specs.Tokens.{Token}
 use Rattle.language.specs.Operators.{InfixRow, infixes}
 use Rattle.language.specs.Tree.{Expr, Joined}
 use Rattle.language.specs.Grammar.{Tokens, Read, front, rest, named, infixOf, rightLevel, allowed, operandOf, climb}
-use Rattle.language.specs.Laws.Basics.Lists.{Any, all-any}
 use Rattle.language.specs.Laws.Basics.Tests.{split, leave, and-left, and-right}
-use Rattle.language.specs.Laws.Grammar.GrammarLaws.{upTo, upTo-takes, upTo-step, upTo-reads, name-alone}
-use Rattle.language.specs.Laws.Grammar.ReaderLaws.{Reads}
-use Rattle.language.specs.Laws.Grammar.ExprReads.{operandOf-reads}
+use Rattle.language.specs.Laws.Grammar.GrammarLaws.{upTo, upTo-takes, upTo-operand, upTo-step}
 use Rattle.expressions.specs.Readers.{reads, climbs, infixRow, operatorAt, operatorIn}
 
 -- one after another
@@ -108,19 +104,10 @@ climbs-on max e ts r h i =
     climb-fuel (length ts) (suc (length us)) max (Joined (front ts) (r .operator) e b) us (omega arith) (omega arith)
     ∙ ap (λ o. climb (suc (length us)) reads max (Joined (front ts) (operatorIn o) e b) us) (sym i))
 
--- what is left of an accepted answer
-takes-fewer : {A : Type 0} {P : Token → Type 0} {Q : A → Type 0} {b n : ℕ} {ts : Tokens} {R : ℕ → Tokens → Read A} (r : Read A) {a : A} {us : Tokens} → r ≡ Done (a, us) → Reads A P Q b n ts r R → length us < n
-takes-fewer {A = A} (Done x) {a} {us} z h = let same : x ≡ (a, us) = cc in let k = h .says .fewer in omega (arith, ap (λ (p : A × Tokens). length (p .1)) same)
-takes-fewer (Refused n p) z h = absurd (not-done z)
-
 -- an operand, then the operators
 operand-takes : (max : ℕ) (ts : Tokens) (e : Expr) (us : Tokens) → operandOf (length ts) reads max ts ≡ Done (e, us) → length us < length ts
 unfolding reads
-operand-takes max ts e us z =
-    let n = length ts in
-    let h =
-    operandOf-reads Any (λ m vs. upTo m vs) (λ k. upTo) n (λ t i. name-alone 0 t i) (λ m b vs l _ q. upTo-reads Any (suc (length vs)) m b vs (omega arith) q) n max ts (omega arith) (omega arith) (all-any ts) in
-    takes-fewer (operandOf n upTo max ts) z h
+operand-takes max ts e us z = upTo-operand max ts e us z
 
 pub reads-step : (max : ℕ) (ts : Tokens) → reads max ts ≡ (operandOf (length ts) reads max ts >>= λ (e, us). climbs max e us)
 unfolding reads climbs

@@ -2,6 +2,7 @@
 pub mod PieceLaws
 pub mod TokenLaws
 pub mod TreeTokens
+pub mod Lookahead
 pub mod ReaderLaws
 pub mod ReadersInRow
 pub mod TokenReads
@@ -9,18 +10,11 @@ pub mod ExprReads
 pub mod GrammarLaws
 pub mod ListReads
 pub mod SectionReads
+pub mod MainReads
 pub mod SpecReads
 pub mod Braces
 pub mod BracesReads
 pub mod Parses
 pub mod RefusedToken
-pub mod Completions
-pub mod CompletionsInRow
-pub mod TokenCompletions
-pub mod ExprCompletions
-pub mod ExpressionCompletions
-pub mod ListCompletions
-pub mod SectionCompletions
-pub mod MainCompletions
 pub mod FirstRefused
 pub mod NameTokens

@@ -17,7 +17,7 @@ use Rattle.language.specs.Laws.Basics.Lists.{All}
 use Rattle.language.specs.Laws.Basics.Tests.{split}
 use Rattle.language.specs.Laws.Basics.Results.{done, refused, bind, Within, bind-any}
 use Rattle.language.specs.Laws.Grammar.TokenReads.{among}
-use Rattle.language.specs.Laws.Grammar.SectionReads.{subsectionsBy}
+use Rattle.language.specs.Laws.Grammar.MainReads.{subsectionsBy}
 use Rattle.language.specs.Laws.Grammar.Braces.{Proper, ProperParameter, ProperDefinition, ProperDeclaration, ProperSubsection, ProperSpec}
 
 -- P of what is read, if something is

@@ -1,131 +1,158 @@
--- Readers of lists in a text's sections go about their tokens as ReaderLaws says. Their fuel is the number of tokens, which is enough.
-use Prim.Native.Nat.{ℕ, zero, suc, _<_}
+-- Readers of lists go about their tokens as ReaderLaws says: tags, words, identifiers, and the lines of a block, with as much fuel as tokens.
+use Prim.Native.Nat.{ℕ, zero, suc, _+_, _≤_, _<_}
 use Prim.Native.String.{String}
 use mathlib.Core.List.{List, [], _∷_}
+use mathlib.Core.Bool.{false}
 use mathlib.Core.Path.{_≡_, refl, sym, ap, _∙_}
 use lib.ListN.{length}
 use native.Mathlib.Omega.{arith}
-use Rattle.language.specs.Tokens.{Name, Quoted, Marks, Token, isOf, is}
+use Rattle.node.specs.Result.{Done}
+use Rattle.language.specs.Tokens.{Name, Marks, Quoted, Token, isOf, is}
 use Rattle.language.specs.Tree.{Identifier}
 use Rattle.language.specs.Grammar.{Tokens, Read, front, rest, stop, expect, expectOf}
-use Rattle.language.specs.Sections.{tagOf, tagsOf, linesOf, wordsOf, identifiersOf, blockOf, optional}
-use Rattle.language.specs.Laws.Basics.Lists.{All, Any, all-any}
+use Rattle.language.specs.Sections.{tagOf, tagsOf, linesOf, blockOf, wordsOf, identifiersOf, optional}
+use Rattle.language.specs.Laws.Basics.Lists.{All, Any}
+use Rattle.language.specs.Laws.Basics.Tests.{leave}
 use Rattle.language.specs.Laws.Grammar.TreeTokens.{InIdentifier}
-use Rattle.language.specs.Laws.Grammar.ReaderLaws.{Alike, inner-of, more, more-is, more-comm, Reads, weaken, done, stopped, choose, rephrase, same-answer, free, take}
-use Rattle.language.specs.Laws.Grammar.ReadersInRow.{bind-refused, bind-less, bind}
-use Rattle.language.specs.Laws.Grammar.TokenReads.{is-inner, every-front, every-rest, rest-fits, one, expect-reads, expectOf-reads}
+use Rattle.language.specs.Laws.Grammar.Lookahead.{inner-of, Begins, Near, opened}
+use Rattle.language.specs.Laws.Grammar.ReaderLaws.{Reads, move, weaken, some-taken, done}
+use Rattle.language.specs.Laws.Grammar.ReadersInRow.{bind-to, bind-refused, rest-less, bind-less, bind, choose-both, choose, take, one, none-reads}
+use Rattle.language.specs.Laws.Grammar.TokenReads.{is-inner, sign, plain, Is, expect-reads, expectOf-reads}
 
--- no tokens: whatever the fuel, they are refused
-none-reads : {A : Type 0} {P : Token → Type 0} {Q : A → Type 0} {b n : ℕ} (F : ℕ → Tokens → Read A) (ts : Tokens) → length ts < 1 → ((k : ℕ) → F k [] ≡ stop []) → Reads A P Q b n ts (stop ts) F
-none-reads F [] h e = rephrase (stop []) refl nothing stopped
-  where
-    nothing : (k : ℕ) (us : Tokens) → Alike [] us → F k us ≡ stop us
-    nothing k [] al = e k
-    nothing k (u ∷ us) al = absurd al
-none-reads F (t ∷ ts) h e = absurd (omega arith)
+-- a token that is not the sign
+abbrev pub Apart : String → Token → Type 0
+Apart s t = is s t ≡ false
+
+pub begins-apart : (s : String) (us : Tokens) → Begins (Apart s) us → is s (front us) ≡ false
+begins-apart s [] w = absurd w
+begins-apart s (u ∷ us) w = w
 
 -- as much fuel as tokens
-long-reads : {A : Type 0} (F : ℕ → Tokens → Read A) (Q : (Token → Type 0) → A → Type 0) →
-    ((P : Token → Type 0) (f : ℕ) (ts : Tokens) → length ts < suc f → All P ts → Reads A P (Q P) (suc f) (length ts) ts (F f ts) (λ k. F (more f k))) →
-    (P : Token → Type 0) (b : ℕ) (ts : Tokens) → All P ts → Reads A P (Q P) b (length ts) ts (F (length ts) ts) (λ k us. F (length us) us)
-long-reads {A} F Q law P b ts p =
-    free (λ us. F (length us) us) (F (length ts) ts) (law P (length ts) ts (omega arith) p)
-    (λ k us l. same (length us) (more (length ts) k) us (omega arith) (omega (arith, more-is (length ts) k)))
+long-reads : {A : Type 0} {P : Token → Type 0} {Q : A → Type 0} {S W : Token → Type 0} (F : ℕ → Tokens → Read A) → ((f : ℕ) (ts : Tokens) → length ts ≤ f → Reads A P Q S W 1 1 ts (F f ts) F) → (b : ℕ) (ts : Tokens) → Reads A P Q S W b 1 ts (F (length ts) ts) (λ k us. F (length us) us)
+long-reads F law b ts =
+    move {vs = []} _ (law (length ts) ts (omega arith)) (omega arith)
+    (record { whole = refl; inner = tt; step = λ k us w l. (length us, omega arith, refl); near = λ us w. w; value = λ a _ q. q })
+
+-- a fuel that is one more
+one-more : {A : Type 0} {P : Token → Type 0} {Q : A → Type 0} {S W : Token → Type 0} (F : ℕ → Tokens → Read A) → ((k : ℕ) → F k [] ≡ stop []) → {ts : Tokens} (r : Read A) → Reads A P Q S W 2 1 ts r (λ k. F (suc k)) → Reads A P Q S W 1 1 ts r F
+one-more {A} {P} {Q} {S} {W} F e {ts} r h = move {vs = []} r h (omega arith) (record { whole = refl; inner = tt; step = go; near = λ us w. w; value = λ a _ q. q })
   where
-    same : (f g : ℕ) (us : Tokens) → length us < suc f → length us < suc g → F f us ≡ F g us
-    same f g us h l =
-        sym (same-answer (F f us) (law Any f us h (all-any us)) g (omega arith)) ∙ ap (λ j. F j us) (more-comm f g)
-        ∙ same-answer (F g us) (law Any g us l (all-any us)) f (omega arith)
+    go : (k : ℕ) (us : Tokens) → Near S ts us → length us < 1 + k → (j : ℕ) × (length us < 2 + j) × (F k us ≡ F (suc j) us)
+    go zero [] w l = (0, omega arith, e 0 ∙ sym (e 1))
+    go zero (u ∷ us) w l = absurd (omega arith)
+    go (suc k) us w l = (k, omega arith, refl)
 
 module _ (P : Token → Type 0) where
-  tagOf-reads : (b : ℕ) (ts : Tokens) → All P ts → Reads Token P P b (length ts) ts (tagOf ts) (λ k us. tagOf us)
-  tagOf-reads b ts p =
-      choose (isOf Name) (λ e. let i = inner-of Name (front ts) refl e in one ts (λ t. t) i (omega arith) p (every-front P ts i p)) (λ _. expectOf-reads P Quoted b ts refl p)
+  tagOf-reads : {W : Token → Type 0} (b : ℕ) (ts : Tokens) → Reads Token P P (Is (plain Quoted)) W b 1 ts (tagOf ts) (λ k us. tagOf us)
+  tagOf-reads b ts = choose (isOf Name) (λ t e. ap (isOf Name) e) (λ e. one ts (λ t. t) (inner-of Name (front ts) refl e) (λ t p. p)) (λ _. expectOf-reads b ts Quoted refl refl)
 
-  tags-law : (f : ℕ) (ts : Tokens) → length ts < suc f → All P ts → Reads Token P P (suc f) (length ts) ts (tagsOf f ts) (λ k. tagsOf (more f k))
-  tags-law zero ts h p = none-reads tagsOf ts h none
+  tags-none : (k : ℕ) → tagsOf k [] ≡ stop []
+  tags-none zero = refl
+  tags-none (suc k) = bind-refused (tagOf []) 4 0 _ refl
+
+  tags-law : (f : ℕ) (ts : Tokens) → length ts ≤ f → Reads Token P Any (Is (plain Quoted)) (Apart ",") 1 1 ts (tagsOf f ts) tagsOf
+  tags-law zero ts h = none-reads ts h (λ k _. tags-none k) (record { ending = plain Quoted ∷ []; value = plain Quoted; enough = omega arith; accepted = go; opens = λ us w. opened refl })
     where
-      none : (k : ℕ) → tagsOf k [] ≡ stop []
-      none zero = refl
-      none (suc k) = bind-refused (tagOf []) 4 0 _ refl
-  tags-law (suc f) ts h p =
-      bind (tagOf ts) _ _ (tagOf-reads (suc (suc f)) ts p) λ t rs l q v.
-      choose (is ",")
-      (λ i. take {b′ = suc f} rs _ (is-inner "," (front rs) i) (omega arith)
-      (weaken (tagsOf f (rest rs)) (omega arith) (omega (arith, rest-fits rs)) (tags-law f (rest rs) (omega (arith, rest-fits rs)) (every-rest P rs q))))
-      (λ _. done t l q v)
+      go : (k : ℕ) (us : Tokens) → Begins (Apart ",") us → length (plain Quoted ∷ us) < 1 + k → tagsOf k (plain Quoted ∷ us) ≡ Done (plain Quoted, us)
+      go zero us w l = absurd (omega arith)
+      go (suc k) us w l = bind-to (tagOf (plain Quoted ∷ us)) (plain Quoted, us) _ refl ∙ leave (is "," (front us)) _ _ (begins-apart "," us w)
+  tags-law (suc f) ts h =
+      one-more tagsOf tags-none _
+      (bind (tagOf ts) _ _ (tagOf-reads 2 ts) λ t rs l.
+      choose (is ",") (λ t e. e)
+      (λ i. take {b′ = 1} {d′ = 0} rs _ (is-inner "," (front rs) i) (omega arith) (omega arith) (weaken _ (omega arith) (omega arith) (λ _ _ _ _. tt) (tags-law f (rest rs) (omega (arith, rest-less rs)))))
+      (λ _. done t (λ _. tt)))
 
-  words-law : (f : ℕ) (ts : Tokens) → length ts < suc f → All P ts → Reads (List Token) P (All P) (suc f) (length ts) ts (wordsOf f ts) (λ k. wordsOf (more f k))
-  words-law zero ts h p = none-reads wordsOf ts h none
+  words-none : (k : ℕ) → wordsOf k [] ≡ stop []
+  words-none zero = refl
+  words-none (suc k) = bind-refused (expectOf Marks []) 4 0 _ refl
+
+  words-law : (f : ℕ) (ts : Tokens) → length ts ≤ f → Reads (List Token) P (All P) (Is (plain Marks)) (Apart ",") 1 1 ts (wordsOf f ts) wordsOf
+  words-law zero ts h = none-reads ts h (λ k _. words-none k) (record { ending = plain Marks ∷ []; value = plain Marks ∷ []; enough = omega arith; accepted = go; opens = λ us w. opened refl })
     where
-      none : (k : ℕ) → wordsOf k [] ≡ stop []
-      none zero = refl
-      none (suc k) = bind-refused (expectOf Marks []) 4 0 _ refl
-  words-law (suc f) ts h p =
-      bind (expectOf Marks ts) _ _ (expectOf-reads P Marks (suc (suc f)) ts refl p) λ w rs l q v.
-      choose (is ",")
-      (λ i. take rs _ (is-inner "," (front rs) i) (omega arith)
-      (bind (wordsOf f (rest rs)) _ _ (words-law f (rest rs) (omega (arith, rest-fits rs)) (every-rest P rs q)) λ ws us l′ q′ v′.
-      done (w ∷ ws) (omega (arith, rest-fits rs)) q′ (v, v′)))
-      (λ _. done (w ∷ []) l q (v, tt))
+      go : (k : ℕ) (us : Tokens) → Begins (Apart ",") us → length (plain Marks ∷ us) < 1 + k → wordsOf k (plain Marks ∷ us) ≡ Done (plain Marks ∷ [], us)
+      go zero us w l = absurd (omega arith)
+      go (suc k) us w l = bind-to (expectOf Marks (plain Marks ∷ us)) (plain Marks, us) _ refl ∙ leave (is "," (front us)) _ _ (begins-apart "," us w)
+  words-law (suc f) ts h =
+      one-more wordsOf words-none _
+      (bind (expectOf Marks ts) _ _ (expectOf-reads 2 ts Marks refl refl) λ w rs l.
+      choose (is ",") (λ t e. e)
+      (λ i. take rs _ (is-inner "," (front rs) i) (omega arith) (omega arith)
+      (bind (wordsOf f (rest rs)) _ _ (words-law f (rest rs) (omega (arith, rest-less rs))) λ ws us l′. done (w ∷ ws) (λ v′ _ v. (v, v′))))
+      (λ _. done (w ∷ []) (λ v. (v, tt))))
 
--- words, tags
-pub tagsOf-reads : (P : Token → Type 0) (b : ℕ) (ts : Tokens) → All P ts → Reads Token P P b (length ts) ts (tagsOf (length ts) ts) (λ k us. tagsOf (length us) us)
-tagsOf-reads = long-reads tagsOf (λ P. P) tags-law
+  -- tags, words
+  pub tagsOf-reads : (b : ℕ) (ts : Tokens) → Reads Token P Any (Is (plain Quoted)) (Apart ",") b 1 ts (tagsOf (length ts) ts) (λ k us. tagsOf (length us) us)
+  tagsOf-reads = long-reads tagsOf tags-law
 
-wordsOf-reads : (P : Token → Type 0) (b : ℕ) (ts : Tokens) → All P ts → Reads (List Token) P (All P) b (length ts) ts (wordsOf (length ts) ts) (λ k us. wordsOf (length us) us)
-wordsOf-reads = long-reads wordsOf All words-law
+  wordsOf-reads : (b : ℕ) (ts : Tokens) → Reads (List Token) P (All P) (Is (plain Marks)) (Apart ",") b 1 ts (wordsOf (length ts) ts) (λ k us. wordsOf (length us) us)
+  wordsOf-reads = long-reads wordsOf words-law
 
-identifiers-law : (P : Token → Type 0) (f : ℕ) (ts : Tokens) → length ts < suc f → All P ts → Reads (List Identifier) P (All (InIdentifier P)) (suc f) (length ts) ts (identifiersOf f ts) (λ k. identifiersOf (more f k))
-identifiers-law P zero ts h p = none-reads identifiersOf ts h none
-  where
-    none : (k : ℕ) → identifiersOf k [] ≡ stop []
-    none zero = refl
-    none (suc k) = bind-refused (expectOf Name []) 4 0 _ refl
-identifiers-law P (suc f) ts h p =
-    bind-less (suc f) (expectOf Name ts) _ _ (expectOf-reads P Name (suc (suc f)) ts refl p) (λ l z. omega arith) λ x rs l q v.
-    bind (expect ":" rs) _ _ (expect-reads P ":" (suc f) rs q) λ c rs₂ l₂ q₂ _.
-    bind (wordsOf (length rs₂) rs₂) _ _ (wordsOf-reads P (suc f) rs₂ q₂) λ ws rs₃ l₃ q₃ v₃.
-    choose (isOf Name)
-    (λ _. bind (identifiersOf f rs₃) _ _ (identifiers-law P f rs₃ (omega arith) q₃) λ is us l′ q′ v′. done (record { name = x; words = ws } ∷ is) (omega arith) q′ ((v, v₃), v′))
-    (λ _. done (record { name = x; words = ws } ∷ []) (omega arith) q₃ ((v, v₃), tt))
+  -- identifiers, before a `}`
+  identifiers-none : (k : ℕ) → identifiersOf k [] ≡ stop []
+  identifiers-none zero = refl
+  identifiers-none (suc k) = bind-refused (expectOf Name []) 4 0 _ refl
 
-pub identifiersOf-reads : (P : Token → Type 0) (b : ℕ) (ts : Tokens) → All P ts → Reads (List Identifier) P (All (InIdentifier P)) b (length ts) ts (identifiersOf (length ts) ts) (λ k us. identifiersOf (length us) us)
-identifiersOf-reads = long-reads identifiersOf (λ P. All (InIdentifier P)) identifiers-law
+  identifiers-law : (f : ℕ) (ts : Tokens) → length ts ≤ f → Reads (List Identifier) P (All (InIdentifier P)) (Is (plain Name)) (Is (sign "}")) 1 1 ts (identifiersOf f ts) identifiersOf
+  identifiers-law zero ts h =
+      none-reads ts h (λ k _. identifiers-none k)
+      (record { ending = plain Name ∷ sign ":" ∷ plain Marks ∷ []; value = record { name = plain Name; words = plain Marks ∷ [] } ∷ []; enough = omega arith; accepted = go; opens = λ us w. opened refl })
+    where
+      go : (k : ℕ) (us : Tokens) → Begins (Is (sign "}")) us → length (plain Name ∷ sign ":" ∷ plain Marks ∷ us) < 1 + k → identifiersOf k (plain Name ∷ sign ":" ∷ plain Marks ∷ us) ≡ Done (record { name = plain Name; words = plain Marks ∷ [] } ∷ [], us)
+      go zero us w l = absurd (omega arith)
+      go (suc k) [] w l = absurd w
+      go (suc k) (u ∷ us) w l =
+          bind-to (expectOf Name (plain Name ∷ sign ":" ∷ plain Marks ∷ u ∷ us)) (plain Name, sign ":" ∷ plain Marks ∷ u ∷ us) _ refl
+          ∙ bind-to (expect ":" (sign ":" ∷ plain Marks ∷ u ∷ us)) (sign ":", plain Marks ∷ u ∷ us) _ refl
+          ∙ bind-to (wordsOf (suc (length (u ∷ us))) (plain Marks ∷ u ∷ us)) (plain Marks ∷ [], u ∷ us) _
+          (bind-to (expectOf Marks (plain Marks ∷ u ∷ us)) (plain Marks, u ∷ us) _ refl ∙ leave (is "," u) _ _ (ap (is ",") w))
+          ∙ leave (isOf Name u) _ _ (ap (isOf Name) w)
+  identifiers-law (suc f) ts h =
+      one-more identifiersOf identifiers-none _
+      (bind-less {b′ = 1} (expectOf Name ts) (omega arith) (λ t v. v) _ _ (expectOf-reads 2 ts Name refl refl) λ x rs l. some-taken
+      (bind (expect ":" rs) _ _ (expect-reads 1 rs ":") λ c rs₂ l₂. some-taken
+      (bind (wordsOf (length rs₂) rs₂) _ _ (wordsOf-reads 1 rs₂) λ ws rs₃ l₃.
+      choose-both {S₁ = Is (plain Name)} {S₂ = Is (sign "}")} (isOf Name) (λ t e. ap (isOf Name) e) (λ t e. ap (isOf Name) e) (λ t e. ap (is ",") e) (λ t e. ap (is ",") e)
+      (λ _. some-taken (bind (identifiersOf f rs₃) _ _ (identifiers-law f rs₃ (omega arith)) λ is us l′. done (record { name = x; words = ws } ∷ is) (λ v′ vs _ v. ((v, vs), v′))))
+      (λ _. done (record { name = x; words = ws } ∷ []) (λ vs _ v. ((v, vs), tt))))))
+
+  pub identifiersOf-reads : (b : ℕ) (ts : Tokens) → Reads (List Identifier) P (All (InIdentifier P)) (Is (plain Name)) (Is (sign "}")) b 1 ts (identifiersOf (length ts) ts) (λ k us. identifiersOf (length us) us)
+  identifiersOf-reads = long-reads identifiersOf identifiers-law
 
 -- lines, by the reader of one
 module _
     {A : Type 0}
+    {P : Token → Type 0}
+    {Q : A → Type 0}
+    {S : Token → Type 0}
     (line : Tokens → Read A)
-    (Q : (Token → Type 0) → A → Type 0)
-    (none : line [] ≡ stop [])
-    (line-reads : (P : Token → Type 0) (b : ℕ) (ts : Tokens) → All P ts → Reads A P (Q P) b (length ts) ts (line ts) (λ k us. line us))
+    (nothing : line [] ≡ stop [])
+    (other : (t : Token) → S t → is "}" t ≡ false)
+    (line-reads : (b : ℕ) (ts : Tokens) → Reads A P Q S (Is (sign "}")) b 1 ts (line ts) (λ k us. line us))
   where
     lines-none : (k : ℕ) → linesOf k line [] ≡ stop []
     lines-none zero = refl
-    lines-none (suc k) = bind-refused (line []) 4 0 _ none
+    lines-none (suc k) = bind-refused (line []) 4 0 _ nothing
 
-    lines-law : (P : Token → Type 0) (f : ℕ) (ts : Tokens) → length ts < suc f → All P ts → Reads (List A) P (All (Q P)) (suc f) (length ts) ts (linesOf f line ts) (λ k. linesOf (more f k) line)
-    lines-law P zero ts h p = none-reads (λ k. linesOf k line) ts h lines-none
-    lines-law P (suc f) ts h p =
-        choose (is "}")
-        (λ i. one ts (λ _. []) (is-inner "}" (front ts) i) (omega arith) p tt)
-        (λ _. bind (line ts) _ _ (line-reads P (suc (suc f)) ts p) λ x rs l q v.
-        choose (is ";")
-        (λ i. take rs _ (is-inner ";" (front rs) i) (omega arith)
-        (bind (linesOf f line (rest rs)) _ _ (lines-law P f (rest rs) (omega (arith, rest-fits rs)) (every-rest P rs q)) λ xs us l′ q′ v′.
-        done (x ∷ xs) (omega (arith, rest-fits rs)) q′ (v, v′)))
-        (λ _. bind (expect "}" rs) _ _ (expect-reads P "}" (suc (suc f)) rs q) λ c us l′ q′ _. done (x ∷ []) (omega arith) q′ (v, tt)))
+    lines-law : {W : Token → Type 0} (f : ℕ) (ts : Tokens) → length ts ≤ f → Reads (List A) P (All Q) Any W 1 1 ts (linesOf f line ts) (λ k. linesOf k line)
+    lines-law {W} zero ts h = none-reads ts h (λ k _. lines-none k) (record { ending = sign "}" ∷ []; value = []; enough = omega arith; accepted = go; opens = λ us w. opened tt })
+      where
+        go : (k : ℕ) (us : Tokens) → Begins W us → length (sign "}" ∷ us) < 1 + k → linesOf k line (sign "}" ∷ us) ≡ Done ([], us)
+        go zero us w l = absurd (omega arith)
+        go (suc k) us w l = refl
+    lines-law (suc f) ts h =
+        one-more (λ k. linesOf k line) lines-none _
+        (choose-both {S₁ = λ t. ⊥} {S₂ = S} (is "}") (λ t v. absurd v) other (λ t v. tt) (λ t v. tt)
+        (λ i. one ts (λ _. []) (is-inner "}" (front ts) i) (λ _ _. tt))
+        (λ _. bind (line ts) _ _ (line-reads 2 ts) λ x rs l.
+        choose (is ";") (λ t e. ap (is ";") e)
+        (λ i. take rs _ (is-inner ";" (front rs) i) (omega arith) (omega arith)
+        (bind (linesOf f line (rest rs)) _ _ (lines-law f (rest rs) (omega (arith, rest-less rs))) λ xs us l′. done (x ∷ xs) (λ v′ _ v. (v, v′))))
+        (λ _. some-taken (bind (expect "}" rs) _ _ (expect-reads 2 rs "}") λ c us l′. done (x ∷ []) (λ _ v. (v, tt))))))
 
-    pub linesOf-reads : (P : Token → Type 0) (b : ℕ) (ts : Tokens) → All P ts → Reads (List A) P (All (Q P)) b (length ts) ts (linesOf (length ts) line ts) (λ k us. linesOf (length us) line us)
-    linesOf-reads = long-reads (λ k. linesOf k line) (λ P. All (Q P)) lines-law
+    pub blockOf-reads : {W : Token → Type 0} (b : ℕ) (ts : Tokens) → Reads (List A) P (All Q) (Is (sign "{")) W b 1 ts (blockOf line ts) (λ k us. blockOf line us)
+    blockOf-reads b ts = bind (expect "{" ts) _ _ (expect-reads b ts "{") λ c rs l. weaken _ (omega arith) (omega arith) (λ a q _. q) (long-reads (λ k. linesOf k line) lines-law b rs)
 
-    pub blockOf-reads : (P : Token → Type 0) (b : ℕ) (ts : Tokens) → All P ts → Reads (List A) P (All (Q P)) b (length ts) ts (blockOf line ts) (λ k us. blockOf line us)
-    blockOf-reads P b ts p =
-        bind (expect "{" ts) _ _ (expect-reads P "{" b ts p) λ c rs l q _. weaken (linesOf (length rs) line rs) (omega arith) (omega arith) (linesOf-reads P b rs q)
-
-    pub optional-reads : (P : Token → Type 0) (word : String) (b n : ℕ) (ts : Tokens) → length ts < n → All P ts → Reads (List A) P (All (Q P)) b n ts (optional word line ts) (λ k us. optional word line us)
-    optional-reads P word b n ts h p =
-        choose (is word)
-        (λ i. take {b′ = b} ts _ (is-inner word (front ts) i) (omega arith) (weaken (blockOf line (rest ts)) (omega arith) (omega (arith, rest-fits ts)) (blockOf-reads P b (rest ts) (every-rest P ts p))))
-        (λ _. done [] h p tt)
+    pub optional-reads : {W : Token → Type 0} (word : String) → ((t : Token) → W t → is word t ≡ false) → (b : ℕ) (ts : Tokens) → Reads (List A) P (All Q) W W b 0 ts (optional word line ts) (λ k us. optional word line us)
+    optional-reads word z b ts =
+        choose (is word) z (λ i. take {b′ = b} {d′ = 0} ts _ (is-inner word (front ts) i) (omega arith) (omega arith) (weaken _ (omega arith) (omega arith) (λ a q _. q) (blockOf-reads b (rest ts)))) (λ _. done [] tt)

@@ -1,5 +1,6 @@
--- A refusal by the grammar rests on the tokens up to the refused one: no text whose tokens begin with them is accepted.
-use Prim.Native.Nat.{ℕ, suc, _+_, _<_}
+-- A refusal by the grammar rests on the tokens up to the refused one: no text whose tokens begin with them is accepted. Those before it do begin an accepted
+-- list of tokens.
+use Prim.Native.Nat.{ℕ}
 use mathlib.Core.List.{List, [], _∷_, _++_, append-nil}
 use mathlib.Core.Bool.{Bool, true, false, false≢true}
 use mathlib.Core.Option.{Option, none, some}
@@ -20,12 +21,12 @@ use Rattle.language.specs.Types.{wrongType}
 use Rattle.language.specs.Words.{wrongWords}
 use Rattle.language.specs.Parsing.{noToken, tooManyTokens, wellFormed, parsed}
 use Rattle.language.specs.Laws.Basics.Lists.{All, Any, all-any}
+use Rattle.language.specs.Laws.Basics.Results.{refusal-of}
 use Rattle.language.specs.Laws.Basics.Tests.{pick, leave, some-none}
 use Rattle.language.specs.Laws.Grammar.TokenLaws.{Ends, tokens-end}
-use Rattle.language.specs.Laws.Grammar.TreeTokens.{InSpec}
-use Rattle.language.specs.Laws.Grammar.ReaderLaws.{Alike, Inner, Stops}
-use Rattle.language.specs.Laws.Grammar.SpecReads.{Decides, specOf-decides}
 use Rattle.language.specs.Laws.Grammar.Parses.{parses}
+use Rattle.language.specs.Laws.Grammar.Lookahead.{Alike, Inner}
+use Rattle.language.specs.Laws.Grammar.SpecReads.{Refuses, specOf-decides}
 
 -- the last token is the text's end
 abbrev pub Closed : Tokens → Type 0
@@ -61,22 +62,30 @@ pub record Refusal (ts : Tokens) (p : ℕ) : Type 0 where
   pub place : token .at ≡ p
   pub always : (us : Tokens) → specOf (before ++ (token ∷ us)) ≡ Refused 4 p
 
-stops-refusal : (ts : Tokens) (p : ℕ) → Closed ts → Stops Spec 0 ts p (λ k. specOf) → Refusal ts p
-stops-refusal ts p c s = go (s .left) (s .takes .whole) (s .place) (s .takes .again)
-  where
-    us : Tokens
-    us = s .takes .taken
+-- a refused token such that the tokens before it begin an accepted list of tokens
+pub record First (ts : Tokens) (p : ℕ) : Type 0 where
+  pub refusal : Refusal ts p
+  pub ending : Tokens
+  pub tree : Spec
+  pub begins : specOf (refusal .before ++ ending) ≡ Done tree
 
-    go : (vs : Tokens) → ts ≡ us ++ vs → p ≡ front vs .at → ((k : ℕ) (ws : Tokens) → Alike vs ws → length (us ++ ws) < 0 + k → specOf (us ++ ws) ≡ Refused 4 p) → Refusal ts p
-    go [] w z f = absurd (taken-open us (s .takes .inner) (subst Closed (w ∙ append-nil us) c))
+pub first : (ts : Tokens) (p : ℕ) (s : Refuses ts p) → (ts ≡ s .before → ⊥) → First ts p
+first ts p s further = go (s .left) (s .whole) (s .place) (s .always)
+  where
+    go : (vs : Tokens) → ts ≡ s .before ++ vs → p ≡ front vs .at → ((ws : Tokens) → Alike vs ws → specOf (s .before ++ ws) ≡ Refused 4 p) → First ts p
+    go [] w z f = absurd (further (w ∙ append-nil (s .before)))
     go (t ∷ vs) w z f =
-        record { before = us; token = t; behind = vs; whole = w; place = sym z; always = λ ws. let xs = us ++ (t ∷ ws) in f (suc (length xs)) (t ∷ ws) refl (omega arith) }
+        record { refusal = record { before = s .before; token = t; behind = vs; whole = w; place = sym z; always = λ ws. f (t ∷ ws) refl }; ending = s .ending; tree = s .tree; begins = s .begins }
+
+pub decided : (ts : Tokens) (number p : ℕ) → specOf ts ≡ Refused number p → (number ≡ 4) × Refuses ts p
+decided ts number p e = refusal-of e (specOf-decides Any ts (all-any ts))
+
+pub grammar-refuses-first : (ts : Tokens) (number p : ℕ) → Closed ts → specOf ts ≡ Refused number p → (number ≡ 4) × First ts p
+grammar-refuses-first ts number p c e = let d = decided ts number p e in let s = d .1 in (d .0, first ts p s (λ z. taken-open (s .before) (s .inner) (subst Closed z c)))
 
 -- the grammar refuses with 4 alone, and what it refuses it refuses whatever comes
 pub grammar-refuses : (ts : Tokens) (number p : ℕ) → Closed ts → specOf ts ≡ Refused number p → (number ≡ 4) × Refusal ts p
-grammar-refuses ts number p c e =
-    let d : Decides Spec (InSpec Any) ts (Refused number p) specOf = subst (λ r. Decides Spec (InSpec Any) ts r specOf) e (specOf-decides Any ts (all-any ts)) in
-    (d .says .0, stops-refusal ts p c (d .says .1))
+grammar-refuses ts number p c e = let f = grammar-refuses-first ts number p c e in (f .0, f .1 .refusal)
 
 -- no text whose tokens begin with those up to a refused one is accepted
 pub refused-never-accepted : (ts : Tokens) (p : ℕ) (r : Refusal ts p) (text : List ℕ) (us : Tokens) → tokens text ≡ r .before ++ (r .token ∷ us) → (x : Spec) → parsed text ≡ Done x → ⊥
@@ -113,11 +122,11 @@ unfolding _>>=_
 grammar-only (Done x) p e = absurd (wellFormed-other x p e)
 grammar-only (Refused number q) p e = e
 
--- a text refused with 4: no text that begins with its tokens up to the refused one is accepted
-pub parsed-refuses-4 : (text : List ℕ) (p : ℕ) → parsed text ≡ Refused 4 p → Refusal (tokens text) p
+-- a text refused with 4: no text that begins with its tokens up to the refused one is accepted, and the tokens before it begin an accepted list
+pub parsed-refuses-first : (text : List ℕ) (p : ℕ) → parsed text ≡ Refused 4 p → First (tokens text) p
 unfolding parsed
-parsed-refuses-4 text p e =
+parsed-refuses-first text p e =
     let ts = tokens text in
     let e₂ = refuse-other 2 (noToken ts) _ (omega arith) (guard-other (leb (length text) maxBytes) 1 maxBytes _ (omega arith) e) in
     let e₃ = refuse-other 3 (tooManyTokens ts) (specOf ts >>= wellFormed) (omega arith) (e₂ .1) in
-    grammar-refuses ts 4 p (tokens-closed text (e₂ .0)) (grammar-only (specOf ts) p (e₃ .1)) .1
+    grammar-refuses-first ts 4 p (tokens-closed text (e₂ .0)) (grammar-only (specOf ts) p (e₃ .1)) .1

@@ -44,13 +44,13 @@ module _ (n : ℕ) where
   front-at (t ∷ ts) h = h .0
 
   -- refusal 4
-  grammar-held : (ts : Tokens) (r : Result Spec) → All (At n) ts → Decides Spec (InSpec (At n)) ts r specOf → Held n (InSpec (At n)) r
+  grammar-held : (ts : Tokens) (r : Result Spec) → All (At n) ts → Decides (At n) ts r → Held n (InSpec (At n)) r
   grammar-held ts r h d =
       weaken r
       (λ q p e.
       let s = e .1 in
       let place = s .place in
-      let at = front-at (s .left) (all-right (At n) (s .takes .taken) (s .left) (subst (All (At n)) (s .takes .whole) h)) in
+      let at = front-at (s .left) (all-right (At n) (s .before) (s .left) (subst (All (At n)) (s .whole) h)) in
       omega arith)
       (λ x v. v)
       d
