@@ -7,13 +7,12 @@ use lib.ListN.{length}
 use Rattle.node.specs.Operators.{Not, X, G, Binary, And, Or, Implies, W}
 use Rattle.node.specs.Ltl.{Formula, True, False, Signal, One, Two}
 use Rattle.node.specs.Result.{Result, Done, Refused, _>>=_, guard}
-use Rattle.language.specs.Bytes.{same}
 use Rattle.language.specs.Tokens.{Token}
 use Rattle.language.specs.Operators.{Comparison, Equal, Unequal, Less, AtMost, Greater, AtLeast, Big, BigSum, BigProduct, BigCap, BigCup, BigAnd, BigOr, Window, FinallyIn, GloballyIn, Calculates, Combines, Compares, Membership, Connects, Measures, WidthOf, Applies}
 use Rattle.language.specs.Tree.{Expr, Named, Numeral, Truth, Index, Paren, Prefixed, Joined, Nexts, InWindow, Each, Between, Listed, Empty, Element, Range, Definition, Defined, Enumerated, Part, Initially, Preset, Require, Assert, Assume, Guarantee, partCode, Spec}
 use Rattle.language.specs.Sets.{memberOf}
 use Rattle.language.specs.Values.{Value, Number, Set, Logic, Bus, Unsized, Choice, misfit, number, set, Sized, bus, choice, Scope, naming, value}
-use Rattle.language.specs.Declared.{Declared, Constant, Single, BusOf, Identifies, WaitingBus, find, declared, Port, Declarations}
+use Rattle.language.specs.Declared.{Declared, Constant, Single, BusOf, Identifies, WaitingBus, Table, find, declared, Port, Declarations}
 use Rattle.language.specs.Numbering.{inOrder, firstOf, Mark, Absent, Present, Star, marksOf}
 use Rattle.language.specs.Lines.{Line, Written, Implied}
 
@@ -120,9 +119,9 @@ pub record Context : Type 0 where
 abbrev pub bitAt : List Port → ℕ → Sized → Result Formula
 bitAt ps i b = guard (ltb i (b .width)) 13 (b .place) (Done (signalNode ps (b .name) i))
 
--- a big operator's name at an element
+-- a big operator's name at an element: a number, and no formula
 abbrev pub at : Context → Token → ℕ → Context
-at c i k = record { ports = c .ports; values = naming i (Done (Number k)) (c .values); formulas = c .formulas }
+at c i k = record { ports = c .ports; values = naming i (Done (Number k)) (c .values); formulas = naming i misfit (c .formulas) }
 
 abbrev pub expansion : Context → Expr → Result Formula
 expansion c (Named t) = c .formulas t
@@ -158,19 +157,17 @@ signalOf ps t (BusOf n) = misfit
 signalOf ps t (Identifies v) = misfit
 signalOf ps t WaitingBus = misfit
 
+-- the names of a table, with the signals' order
+abbrev pub contextOf : List Port → Table → Context
+contextOf ps d = record { ports = ps; values = declared d; formulas = λ t. find d (t .text) >>= signalOf ps t }
+
 abbrev pub atSignals : Declarations → Context
-atSignals d =
-    let ps = inOrder d in
-    record { ports = ps; values = declared (d .table); formulas = λ t. find (d .table) (t .text) >>= signalOf ps t }
+atSignals d = contextOf (inOrder d) (d .table)
 
 -- a definition is what its body is, in terms of the names before it
 abbrev pub define : Context → Token → Expr → Context
 define c x e =
-    record {
-      ports = c .ports;
-      values = naming x (value (c .values) e) (c .values);
-      formulas = λ t. elim (same (x .text) (t .text)) [ true ↦ expansion c e | false ↦ c .formulas t ];
-    }
+    record { ports = c .ports; values = naming x (value (c .values) e) (c .values); formulas = naming x (expansion c e) (c .formulas) }
 
 abbrev pub defineAll : Context → List Definition → Context
 defineAll c [] = c

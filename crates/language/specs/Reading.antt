@@ -41,11 +41,13 @@ converted x =
 unfoldable pub meant : List ℕ → Result Converted
 meant text = parsed text >>= converted
 
+-- 18: 'result buffer short', either of them; the numbers are the buffers' lengths
+abbrev pub delivered : (nodes signals : ℕ) → Converted → Result Converted
+delivered nodes signals c = guard (leb (size (c .formula)) nodes && leb (length (c .signals)) signals) 18 0 (Done c)
+
 -- 'Reader order: 17, then 1 to 10 .. 16, 18'; the buffers' lengths are those of work, nodes and signals
 unfoldable pub reading : List ℕ → ℕ → ℕ → ℕ → Result Converted
-reading text work nodes signals =
-    guard (leb workBytes work) 17 0
-    (meant text >>= λ c. guard (leb (size (c .formula)) nodes && leb (length (c .signals)) signals) 18 0 (Done c))
+reading text work nodes signals = guard (leb workBytes work) 17 0 (meant text >>= delivered nodes signals)
 
 -- 'accepted with its counts'
 abbrev pub counts : Converted → Counts

@@ -133,8 +133,8 @@ abbrev pub Scope : Type 0
 Scope = Token → Result Value
 
 -- a name, and what it stands for, put before the others
-abbrev pub naming : Token → Result Value → Scope → Scope
-naming x v sc t = elim (same (x .text) (t .text)) [ true ↦ v | false ↦ sc t ]
+abbrev pub naming : {A : Type 0} → Token → Result A → (Token → Result A) → Token → Result A
+naming x r sc t = elim (same (x .text) (t .text)) [ true ↦ r | false ↦ sc t ]
 
 -- 'left operand first, set elements ascending'
 abbrev pub value : Scope → Expr → Result Value

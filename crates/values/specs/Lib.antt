@@ -3,7 +3,12 @@ pub mod Agrees
 pub mod AgreesLaws
 pub mod Known
 pub mod KnownLaws
+pub mod Bodies
+pub mod BodiesLaws
 pub mod Slots
+pub mod SlotsLaws
+pub mod UsedLaws
+pub mod Sorts
 pub mod Facts
 pub mod FactsLaws
 pub mod Worlds
@@ -12,4 +17,8 @@ pub mod Passing
 pub mod VisibleLaws
 pub mod Worked
 pub mod WorkedLaws
-pub mod Bodies
+pub mod Declaring
+pub mod Entrywise
+pub mod DeclaringLaws
+pub mod LeadLaws
+pub mod IdentifierLaws

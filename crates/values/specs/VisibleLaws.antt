@@ -4,12 +4,12 @@ use mathlib.Core.List.{List, [], _∷_, _++_, append-assoc}
 use mathlib.Core.Path.{_≡_, refl, sym, ap, ap₂, _∙_, subst}
 use Rattle.language.specs.Bytes.{same}
 use Rattle.language.specs.Tokens.{Token}
-use Rattle.language.specs.Tree.{Definition, Defined, Enumerated, Parameter, Spec}
+use Rattle.language.specs.Tree.{Expr, Identifier, Definition, Defined, Enumerated, Parameter, Spec}
 use Rattle.language.specs.Places.{Entry, ParameterLine, DefinitionLine, DeclarationLine, FormulaLine, parameterLines, definitionLines, mainLines, allLines}
 use Rattle.language.specs.Names.{Names, visible, declares, declaresSignal, over}
-use Rattle.language.specs.Laws.Basics.Lists.{All, all-more, all-left, all-right, all-append, all-swap}
+use Rattle.language.specs.Laws.Basics.Lists.{All, all-more, all-left, all-right, all-append, all-both, all-swap}
 use Rattle.language.specs.Laws.Basics.Tests.{or-left, or-right, or-cases, same-equal, same-refl}
-use Rattle.language.specs.Laws.Values.DistinctNames.{Apart, apart-sym, Distinct, Across, across}
+use Rattle.language.specs.Laws.Values.DistinctNames.{Apart, apart-sym, Distinct, distinct-right, Across, across}
 use Rattle.names.specs.AlikeLaws.{alike-pushed}
 use Rattle.names.specs.Resolved.{declaredNames}
 use Rattle.values.specs.WorldsLaws.{Among, Elsewhere}
@@ -56,7 +56,7 @@ visible-apart (n ∷ ns) ms h t y =
     (λ e. all-more (λ m a. ap (λ u. same u (m .text)) (sym (same-equal (n .text) (t .text) e)) ∙ a) ms (h .0))
     (λ e. visible-apart ns ms (h .1) t e) y
 
-apart-elsewhere : (ds : List Definition) (t : Token) → All (Apart t) (ownNames ds) → All (Elsewhere t) ds
+pub apart-elsewhere : (ds : List Definition) (t : Token) → All (Apart t) (ownNames ds) → All (Elsewhere t) ds
 apart-elsewhere [] t h = tt
 apart-elsewhere (Defined x e ∷ ds) t h = (apart-sym t x (h .0), apart-elsewhere ds t (h .1))
 apart-elsewhere (Enumerated x is ∷ ds) t h = (tt, apart-elsewhere ds t (all-right (Apart t) (declares (DefinitionLine (Enumerated x is))) (ownNames ds) h))
@@ -86,9 +86,13 @@ module _ (P : Token → Type 0) where
       all-append P own (over declaresSignal ls) (all-left P own (over declares ls) h) (of-signals ls (all-right P own (over declares ls) h))
   of-signals (FormulaLine e ∷ ls) h = of-signals ls h
 
-over-definitions : (ds : List Definition) (ls : List Entry) → over declares (definitionLines ds ls) ≡ ownNames ds ++ over declares ls
+pub over-definitions : (ds : List Definition) (ls : List Entry) → over declares (definitionLines ds ls) ≡ ownNames ds ++ over declares ls
 over-definitions [] ls = refl
 over-definitions (d ∷ ds) ls = ap (declares (DefinitionLine d) ++_) (over-definitions ds ls) ∙ sym (append-assoc (declares (DefinitionLine d)) (ownNames ds) (over declares ls))
+
+own-append : (ds later : List Definition) → ownNames (ds ++ later) ≡ ownNames ds ++ ownNames later
+own-append [] later = refl
+own-append (d ∷ ds) later = ap (declares (DefinitionLine d) ++_) (own-append ds later) ∙ sym (append-assoc (declares (DefinitionLine d)) (ownNames ds) (ownNames later))
 
 signals-parameters : (ps : List Parameter) (ls : List Entry) → over declaresSignal (parameterLines ps ls) ≡ over declaresSignal ls
 signals-parameters [] ls = refl
@@ -98,12 +102,35 @@ signals-definitions : (ds : List Definition) (ls : List Entry) → over declares
 signals-definitions [] ls = refl
 signals-definitions (d ∷ ds) ls = signals-definitions ds ls
 
--- no definition defines a signal
+across-sym : (l m : Names) → Across l m → Across m l
+across-sym l m f = all-more (λ n h. all-more (λ k a. apart-sym k n a) l h) m (all-swap Apart l m f)
+
+-- no definition defines a name of MAIN, signals among them
+pub main-apart : (x : Spec) → Distinct (over declares (definitionLines (x .definitions) (mainLines (x .main)))) → Across (over declares (mainLines (x .main))) (ownNames (x .definitions))
+main-apart x h =
+    let F = ownNames (x .definitions) in
+    let M = over declares (mainLines (x .main)) in
+    across-sym F M (across F M (subst Distinct (over-definitions (x .definitions) (mainLines (x .main))) h))
+
 pub signals-apart : (x : Spec) → Distinct (over declares (definitionLines (x .definitions) (mainLines (x .main)))) → Across (over declaresSignal (allLines x)) (ownNames (x .definitions))
 signals-apart x h =
     let F = ownNames (x .definitions) in
-    let M = over declares (mainLines (x .main)) in
-    let f : Across F M = across F M (subst Distinct (over-definitions (x .definitions) (mainLines (x .main))) h) in
-    let g : Across M F = all-more (λ n k. all-more (λ m a. apart-sym m n a) F k) M (all-swap Apart F M f) in
     subst (λ l. Across l F) (sym (signals-parameters (x .parameters) _ ∙ signals-definitions (x .definitions) _))
-    (of-signals (λ n. All (Apart n) F) (mainLines (x .main)) g)
+    (of-signals (λ n. All (Apart n) F) (mainLines (x .main)) (main-apart x h))
+
+-- names among the definitions: behind a definition no other defines its name, and none defines a name of an enumeration
+module _ (before later : List Definition) where
+  own-names : (d : Definition) → Distinct (ownNames (before ++ d ∷ later)) → Distinct (ownNames before ++ (declares (DefinitionLine d) ++ ownNames later))
+  own-names d h = subst Distinct (own-append before (d ∷ later)) h
+
+  pub defined-later : (x : Token) (e : Expr) → Distinct (ownNames (before ++ Defined x e ∷ later)) → All (Elsewhere x) later
+  defined-later x e h = apart-elsewhere later x (distinct-right (ownNames before) (x ∷ ownNames later) (own-names (Defined x e) h) .0)
+
+  pub enumerated-elsewhere : (x : Token) (is : List Identifier) → Distinct (ownNames (before ++ Enumerated x is ∷ later)) → All (λ n. All (Elsewhere n) (before ++ Enumerated x is ∷ later)) (declares (DefinitionLine (Enumerated x is)))
+  enumerated-elsewhere x is h =
+      let A = ownNames before in
+      let O = declares (DefinitionLine (Enumerated x is)) in
+      let B = ownNames later in
+      let D = own-names (Enumerated x is) h in
+      all-both (λ n a b. all-append (Elsewhere n) before (Enumerated x is ∷ later) (apart-elsewhere before n a) (tt, apart-elsewhere later n b)) O
+      (all-left (λ n. All (Apart n) A) O B (across-sym A (O ++ B) (across A (O ++ B) D))) (across O B (distinct-right A (O ++ B) D))

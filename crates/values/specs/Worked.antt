@@ -1,10 +1,13 @@
--- Every expression of a tree stands in the buffer, and for every table of declared names the scope in which it is worked out agrees with the table's world.
+-- Every expression of a tree stands in the buffer, and for all ports and every table of declared names the context in which it is worked out agrees with their
+-- world.
 use Prim.Native.Nat.{ℕ, suc, _+_, _-_}
+use mathlib.Core.Bool.{false}
 use mathlib.Core.List.{List, [], _∷_, _++_}
 use lib.ListN.{length}
 use Rattle.language.specs.Tokens.{tokens}
 use Rattle.language.specs.Tree.{Expr, Named, Parameter, Definition, Defined, Enumerated, Declaration, OneSignal, OfWidth, OfType, Subsection, Inputs, Outputs, Lines, Spec}
-use Rattle.language.specs.Declared.{Table, declared, defining}
+use Rattle.language.specs.Declared.{Table, Port}
+use Rattle.language.specs.Expansion.{contextOf, defineAll}
 use Rattle.entries.specs.Flat.{Entry, flat, each, flatParameter, flatDefinition, flatDeclaration, flatLine, flatSubsection}
 use Rattle.names.specs.Resolved.{declaredNames}
 use Rattle.values.specs.World.{World}
@@ -19,14 +22,14 @@ definitionsStart x = length (each flatParameter (x .parameters))
 abbrev pub mainStart : Spec → ℕ
 mainStart x = definitionsStart x + length (each flatDefinition (x .definitions))
 
--- the world of a text's names, by a table
-abbrev pub worldIn : Spec → Table → World
-worldIn x d = worldOf d (definitionsStart x) (x .definitions) (declaredNames x)
+-- the world of a text's names, by ports and a table
+abbrev pub worldIn : Spec → List Port → Table → World
+worldIn x ps d = worldOf ps d (definitionsStart x) (x .definitions) (declaredNames x)
 
 -- the expression at entry k, behind some of the definitions
 pub record Worked (x : Spec) (text w refs : List ℕ) (before : List Definition) (k : ℕ) (e : Expr) : Type 0 where
   pub here : Here x text w refs k e
-  pub known : (d : Table) → Known (tokens text) w refs (worldIn x d) [] (defining (declared d) before) k e
+  pub known : (ps : List Port) (d : Table) → Known (tokens text) w refs (worldIn x ps d) [] (defineAll (contextOf ps d) before) false k e
 
 -- P of all things of a list and of the entries where theirs start
 abbrev pub EachFrom : {A : Type 0} → (A → List Entry) → (ℕ → A → Type 0) → ℕ → List A → Type 0

@@ -8,8 +8,8 @@ use Rattle.language.specs.Bytes.{same}
 use Rattle.language.specs.Tokens.{Token}
 use Rattle.language.specs.Tree.{Definition, Defined, Enumerated}
 use Rattle.language.specs.Names.{Names}
-use Rattle.language.specs.Values.{Scope, naming, value}
-use Rattle.language.specs.Declared.{Declared, Table, find, declared}
+use Rattle.language.specs.Declared.{Declared, Table, find, Port}
+use Rattle.language.specs.Expansion.{Context, contextOf, define}
 use Rattle.entries.specs.Flat.{flat, flatDefinition}
 use Rattle.values.specs.World.{Meaning, Stands, Defines, NoValue, World}
 
@@ -18,15 +18,15 @@ inTable (Done v) = Stands v
 inTable (Refused n p) = NoValue
 
 -- what the name n is behind some definitions, of which the first starts with entry `start`, if it is m before them
-abbrev pub behind : Scope → ℕ → List Definition → Token → Meaning → Meaning
-behind sc start [] n m = m
-behind sc start (Defined x e ∷ ds) n m =
-    behind (naming x (value sc e) sc) (start + length (flatDefinition (Defined x e))) ds n (elim (same (x .text) (n .text)) [ true ↦ Defines (start + length (flat e) - 1) sc e | false ↦ m ])
-behind sc start (Enumerated x is ∷ ds) n m = behind sc (start + length (flatDefinition (Enumerated x is))) ds n m
+abbrev pub behind : Context → ℕ → List Definition → Token → Meaning → Meaning
+behind c start [] n m = m
+behind c start (Defined x e ∷ ds) n m =
+    behind (define c x e) (start + length (flatDefinition (Defined x e))) ds n (elim (same (x .text) (n .text)) [ true ↦ Defines (start + length (flat e) - 1) c e | false ↦ m ])
+behind c start (Enumerated x is ∷ ds) n m = behind c (start + length (flatDefinition (Enumerated x is))) ds n m
 
-abbrev pub meaning : Table → ℕ → List Definition → Token → Meaning
-meaning d start defs n = behind (declared d) start defs n (inTable (find d (n .text)))
+abbrev pub meaning : List Port → Table → ℕ → List Definition → Token → Meaning
+meaning ps d start defs n = behind (contextOf ps d) start defs n (inTable (find d (n .text)))
 
 -- of all declared names, the last first
-abbrev pub worldOf : Table → ℕ → List Definition → Names → World
-worldOf d start defs ns = map (meaning d start defs) ns
+abbrev pub worldOf : List Port → Table → ℕ → List Definition → Names → World
+worldOf ps d start defs ns = map (λ n. (n .text, meaning ps d start defs n)) ns

@@ -2,7 +2,7 @@
 -- accepted text and after a refusal, and the counts that it tells.
 use Prim.Native.Nat.{ℕ, _+_, _-_, _≤_, _<_}
 use mathlib.Core.Path.{_≡_, refl, sym, ap, subst, _∙_}
-use mathlib.Core.Bool.{true, _&&_}
+use mathlib.Core.Bool.{_&&_}
 use mathlib.Core.List.{List, _++_}
 use lib.Dec.{leb}
 use lib.ListN.{length, take, drop, getD, replicate, length-append, length-drop, length-replicate, getD-replicate, List·getD-append}
@@ -14,7 +14,7 @@ use Rattle.node.specs.PostorderLaws.{length-nodes}
 use Rattle.node.specs.Result.{Done, Refused, guard}
 use Rattle.node.specs.ResultLaws.{bind-done, guard-done, guard-pass, guard-stop}
 use Rattle.language.specs.Limits.{workBytes}
-use Rattle.language.specs.Reading.{Converted, counts, meant, reading, nodesAfter, signalsAfter, cleared, workAfter}
+use Rattle.language.specs.Reading.{Converted, counts, meant, delivered, reading, nodesAfter, signalsAfter, cleared, workAfter}
 use Rattle.language.specs.Laws.Basics.Tests.{split, and-left, and-right}
 
 -- the work buffer, its first n bytes to be cleared
@@ -103,30 +103,42 @@ pub record Delivers (c : Converted) (nodes signals : List ℕ) : Type 0 where
   pub nodesTold : counts c .nodes ≡ length (nodesFrom 0 (c .formula))
   pub signalsTold : counts c .signals ≡ length (c .signals)
 
-module _ (text : List ℕ) (work : ℕ) (nodes signals : List ℕ) where
-  -- what is accepted fits the buffers
-  fits : (c : Converted) → reading text work (length nodes) (length signals) ≡ Done c → (size (c .formula) ≤ length nodes) × (length (c .signals) ≤ length signals)
-  unfolding reading
-  fits c e =
-      let a = guard-done _ 17 0 _ e in
-      let b = bind-done (meant text) _ (a .1) in
-      let g = guard-done _ 18 0 _ (b .2) in
-      let same : b .0 ≡ c = cc in
-      let test = subst (λ (x : Converted). (leb (size (x .formula)) (length nodes) && leb (length (x .signals)) (length signals)) ≡ true) same (g .0) in
+-- what is delivered fits the buffers
+module _ (nodes signals : List ℕ) (c : Converted) {d : Converted} (e : delivered (length nodes) (length signals) c ≡ Done d) where
+  pub delivered-same : c ≡ d
+  delivered-same = let g = guard-done _ 18 0 _ e .1 in cc
+
+  pub delivered-fits : (size (c .formula) ≤ length nodes) × (length (c .signals) ≤ length signals)
+  delivered-fits =
       let nodesFit = leb (size (c .formula)) (length nodes) in
       let signalsFit = leb (length (c .signals)) (length signals) in
+      let test = guard-done (nodesFit && signalsFit) 18 0 _ e .0 in
       (leb-true _ _ (and-left nodesFit signalsFit test), leb-true _ _ (and-right nodesFit signalsFit test))
 
-  pub accepted-delivers : (c : Converted) → reading text work (length nodes) (length signals) ≡ Done c → Delivers c nodes signals
-  accepted-delivers c e =
-      let room = fits c e in
+  -- and is laid at their front
+  pub delivered-laid : Delivers d nodes signals
+  delivered-laid =
       let told : length (nodesFrom 0 (c .formula)) ≡ size (c .formula) = length-nodes 0 (c .formula) in
-      record {
-        nodesLaid = laid (size (c .formula)) (nodesFrom 0 (c .formula)) nodes told (room .0);
-        signalsLaid = laid (length (c .signals)) (c .signals) signals refl (room .1);
+      subst (λ (x : Converted). Delivers x nodes signals) delivered-same
+      (record {
+        nodesLaid = laid (size (c .formula)) (nodesFrom 0 (c .formula)) nodes told (delivered-fits .0);
+        signalsLaid = laid (length (c .signals)) (c .signals) signals refl (delivered-fits .1);
         nodesTold = sym told;
         signalsTold = refl;
-      }
+      })
+
+module _ (text : List ℕ) (work : ℕ) (nodes signals : List ℕ) where
+  -- an accepted text is one that is delivered
+  pub accepted-meant : (c : Converted) → reading text work (length nodes) (length signals) ≡ Done c → (meant text ≡ Done c) × (delivered (length nodes) (length signals) c ≡ Done c)
+  unfolding reading
+  accepted-meant c e =
+      let a = guard-done _ 17 0 _ e in
+      let b = bind-done (meant text) _ (a .1) in
+      let x = delivered-same nodes signals (b .0) (b .2) in
+      (b .1 ∙ ap Done x, subst (λ (y : Converted). delivered (length nodes) (length signals) y ≡ Done c) x (b .2))
+
+  pub accepted-delivers : (c : Converted) → reading text work (length nodes) (length signals) ≡ Done c → Delivers c nodes signals
+  accepted-delivers c e = delivered-laid nodes signals c (accepted-meant c e .1)
 
   -- 'a refused call changes none'
   pub refused-leaves : (n p : ℕ) → reading text work (length nodes) (length signals) ≡ Refused n p →

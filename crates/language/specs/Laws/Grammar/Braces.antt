@@ -1,15 +1,15 @@
--- Trees in which the elements of a set stand in braces only, and what is declared has a name. The grammar gives no others (BracesReads), and of others little
--- holds: their sets are not limited, and may come to no set.
+-- Trees in which the elements of a set stand in braces only, names and numerals are tokens of their class, and what is declared has a name. The grammar gives
+-- no others (BracesReads), and of others little holds: their sets are not limited, and may come to no set.
 use mathlib.Core.Path.{_≡_}
 use mathlib.Core.Bool.{Bool, true, false}
-use Rattle.language.specs.Tokens.{Name, isOf}
+use Rattle.language.specs.Tokens.{Name, Numeral as Digits, isOf}
 use Rattle.language.specs.Tree.{Expr, Named, Numeral, Truth, Index, Paren, Prefixed, Joined, Nexts, InWindow, Each, Between, Listed, Empty, Element, Range, Definition, Defined, Enumerated, Parameter, Declaration, OneSignal, OfWidth, OfType, Subsection, Inputs, Outputs, Lines, Spec}
 use Rattle.language.specs.Laws.Basics.Lists.{All}
 
 -- `braces`: are elements to stand here?
 abbrev pub Proper : (braces : Bool) → Expr → Type 0
-Proper braces (Named t) = braces ≡ false
-Proper braces (Numeral t) = braces ≡ false
+Proper braces (Named t) = (braces ≡ false) × (isOf Name t ≡ true)
+Proper braces (Numeral t) = (braces ≡ false) × (isOf Digits t ≡ true)
 Proper braces (Truth t b) = braces ≡ false
 Proper braces (Index t e) = (braces ≡ false) × Proper false e
 Proper braces (Paren t e) = (braces ≡ false) × Proper false e
@@ -35,7 +35,7 @@ ProperDefinition (Enumerated x is) = Unit {0}
 abbrev pub ProperDeclaration : Declaration → Type 0
 ProperDeclaration (OneSignal x) = isOf Name x ≡ true
 ProperDeclaration (OfWidth x e) = (isOf Name x ≡ true) × Proper false e
-ProperDeclaration (OfType u x) = isOf Name x ≡ true
+ProperDeclaration (OfType u x) = (isOf Name u ≡ true) × (isOf Name x ≡ true)
 
 abbrev pub ProperSubsection : Subsection → Type 0
 ProperSubsection (Inputs ds) = All ProperDeclaration ds

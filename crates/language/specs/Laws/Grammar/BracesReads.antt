@@ -1,4 +1,4 @@
--- What the grammar reads has the elements of sets in braces only, and names for what is declared: every reader of the grammar, up to `spec-proper`.
+-- What the grammar reads has the elements of sets in braces only, and names where names are to stand: every reader of the grammar, up to `spec-proper`.
 use Prim.Native.Nat.{ℕ, zero, suc}
 use Prim.Native.String.{String}
 use mathlib.Core.Path.{_≡_, refl}
@@ -107,15 +107,15 @@ module _ (rec : Reader) (good : (n : ℕ) (ts : Tokens) → Gives P (rec n ts)) 
       after P (expect "[" ts) _ (λ c us. with P (All Bound) (bindersOf f rec us) _ (bindersOf-proper f us) (λ bs vs h.
       with P P (rec level vs) _ (good level vs) (λ e ws k. done (over-proper t o false bs e h k))))
 
-  nameOf-proper : (t : Token) (ts : Tokens) → Gives P (nameOf rec t ts)
-  nameOf-proper t ts =
-      chosen P (next "[" ts) _ _ (with P P (closedBy rec "]" (rest ts)) _ (closedBy-proper "]" (rest ts)) (λ e us h. done (refl, h))) (done refl)
+  nameOf-proper : (t : Token) → isOf Name t ≡ true → (ts : Tokens) → Gives P (nameOf rec t ts)
+  nameOf-proper t n ts =
+      chosen P (next "[" ts) _ _ (with P P (closedBy rec "]" (rest ts)) _ (closedBy-proper "]" (rest ts)) (λ e us h. done (refl, h))) (done (refl, n))
 
   atomOf-proper : (f : ℕ) (t : Token) (ts : Tokens) → Gives P (atomOf f rec t ts)
   atomOf-proper f t ts =
-      chosen P (isOf Name t) _ _ (nameOf-proper t ts)
-      (chosen P (isOf Digits t) _ _ (done refl)
-      (chosen P (is "true" t || is "false" t) _ _ (done refl)
+      split (Gives P) (isOf Name t) (λ n. nameOf-proper t n ts)
+      (λ _. split (Gives P) (isOf Digits t) (λ n. done (refl, n))
+      (λ _. chosen P (is "true" t || is "false" t) _ _ (done refl)
       (chosen P (is "(" t) _ _ (with P P (closedBy rec ")" ts) _ (closedBy-proper ")" ts) (λ e us h. done (refl, h)))
       (chosen P (is "|" t) _ _ (with P P (closedBy rec "|" ts) _ (closedBy-proper "|" ts) (λ e us h. done (refl, h)))
       (chosen P (is "{" t) _ _ (setOf-proper f t ts) (refused tt))))))
@@ -181,7 +181,7 @@ declarationOf-proper ts =
     with ProperDeclaration IsName (expectOf Name ts) _ (name-read ts) (λ x us n.
     chosen ProperDeclaration (next "[" us) _ _
     (with ProperDeclaration P (expression (rest us)) _ (expression-proper (rest us)) (λ e vs h. after ProperDeclaration (expect "]" vs) _ (λ c ws. done (n, h))))
-    (split (Gives ProperDeclaration) (isOf Name (front us)) (λ e. done e) (λ _. done n)))
+    (split (Gives ProperDeclaration) (isOf Name (front us)) (λ e. done (n, e)) (λ _. done n)))
 
 subsectionOf-proper : (h : Heading) (ts : Tokens) → Gives ProperSubsection (subsectionOf h ts)
 subsectionOf-proper InputsHere ts =

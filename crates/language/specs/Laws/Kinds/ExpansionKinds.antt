@@ -14,7 +14,7 @@ use Rattle.language.specs.Operators.{Comparison, Equal, Unequal, Less, A
 use Rattle.language.specs.Tree.{Expr, Named, Numeral, Truth, Index, Paren, Prefixed, Joined, Nexts, InWindow, Each, Between, Listed, Empty, Element, Range}
 use Rattle.language.specs.Places.{start, first, unless}
 use Rattle.language.specs.Types.{Kind, ANumber, ASet, AFormula, ABus, Typings, isKind, kindIn, kindOf, withNumber, bigGives, comparable, fitting, wrongSides, wrongOperands, mistyped, demanded, wrong}
-use Rattle.language.specs.Values.{Value, Sized, Scope, number, value}
+use Rattle.language.specs.Values.{Value, misfit, Sized, Scope, number, value}
 use Rattle.language.specs.Declared.{Port}
 use Rattle.language.specs.Expansion.{nexts, chain, windowOperator, Context, at, against, compared, expansion}
 use Rattle.language.specs.Laws.Basics.Lists.{Any}
@@ -41,11 +41,16 @@ pub not-first : (b : Bool) (k l : Kind) → (k ≡ AFormula → ⊥) → elim b 
 not-first true k l h e = absurd (h e)
 not-first false k l h e = e
 
+-- a number's name is no formula
+number-formula : (b : Bool) (l : Kind) (r : Result Formula) → (l ≡ AFormula → Reaches Any r) → elim b [ true ↦ ANumber | false ↦ l ] ≡ AFormula → Reaches {A = Formula} Any (elim b [ true ↦ misfit | false ↦ r ])
+number-formula true l r h e = apart ANumber AFormula refl e
+number-formula false l r h e = h e
+
 serves-number : (ys : Typings) (c : Context) (i : Token) (n : ℕ) → Serves ys c → Serves (withNumber i ys) (at c i n)
 serves-number ys c i n h =
     record {
       values = agree-number ys (c .values) i n (h .values);
-      formulas = λ t e. h .formulas t (not-first (same (i .text) (t .text)) ANumber (kindIn ys t) (apart ANumber AFormula refl) e);
+      formulas = λ t. number-formula (same (i .text) (t .text)) (kindIn ys t) (c .formulas t) (h .formulas t);
     }
 
 pub formula-operand : (ys : Typings) (e : Expr) (r : Result Formula) → Taken AFormula ys e → (mistyped ys e ≡ none → kindOf ys e ≡ AFormula → Reaches Any r) → Reaches Any r

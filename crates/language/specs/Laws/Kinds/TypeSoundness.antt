@@ -77,8 +77,8 @@ no-elements : {A : Type 0} → true ≡ false → A
 no-elements e = absurd (false≢true (sym e))
 
 elements-set : (ys : Typings) (e : Expr) → Proper true e → kindOf ys e ≡ ASet
-elements-set ys (Named t) p = no-elements p
-elements-set ys (Numeral t) p = no-elements p
+elements-set ys (Named t) p = no-elements (p .0)
+elements-set ys (Numeral t) p = no-elements (p .0)
 elements-set ys (Truth t b) p = no-elements p
 elements-set ys (Index t e) p = no-elements (p .0)
 elements-set ys (Paren t e) p = no-elements (p .0)

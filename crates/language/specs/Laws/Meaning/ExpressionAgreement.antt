@@ -1,9 +1,11 @@
 -- An expression's expansion holds where the expression's own meaning does: `agrees` for all expressions.
+use Prim.Native.Nat.{ℕ}
 use mathlib.Core.Path.{_≡_, subst}
 use mathlib.Core.List.{List}
 use Rattle.node.specs.Temporal.{Property}
 use Rattle.node.specs.Ltl.{Word as NodeWord}
 use Rattle.node.specs.Result.{_>>=_}
+use Rattle.language.specs.Bytes.{same}
 use Rattle.language.specs.Tokens.{Token}
 use Rattle.language.specs.Operators.{Calculates, Combines, Compares, Membership, Connects, Measures, WidthOf, Applies}
 use Rattle.language.specs.Tree.{Expr, Named, Numeral, Truth, Index, Paren, Prefixed, Joined, Nexts, InWindow, Each, Between, Listed, Empty, Element, Range}
@@ -11,6 +13,7 @@ use Rattle.language.specs.Values.{number, set, Scope, value}
 use Rattle.language.specs.Declared.{Port}
 use Rattle.language.specs.Expansion.{Context, at, expansion}
 use Rattle.language.specs.Meaning.{Word, Sense, with, Means}
+use Rattle.language.specs.Laws.Basics.Tests.{split}
 use Rattle.language.specs.Laws.Basics.Results.{done}
 use Rattle.language.specs.Laws.Values.NameLaws.{Visible, naming-within}
 use Rattle.language.specs.Laws.Values.BusValues.{OfBus, value-buses}
@@ -34,6 +37,9 @@ abbrev pub BusesAgree : List Port → Word → NodeWord → Scope → Type 0
 BusesAgree ps w v sc = Visible (OfBus (BusAgrees ps w v)) sc
 
 module _ (w : Word) (v : NodeWord) where
+  at-agrees : (c : Context) (m : Readings) (i : Token) (k : ℕ) → NamesAgree c m w v → NamesAgree (at c i k) m w v
+  at-agrees c m i k g t = split (λ r. Agrees r v (m t w)) (same (i .text) (t .text)) (λ _. misfit-agrees v _) (λ _. g t)
+
   expansion-agrees : (e : Expr) (c : Context) (m : Readings) → BusesAgree (c .ports) w v (c .values) → NamesAgree c m w v → Agrees (expansion c e) v (Means (reading c m) e w)
   expansion-agrees (Named t) c m b g = g t
   expansion-agrees (Numeral t) c m b g = misfit-agrees v _
@@ -56,7 +62,7 @@ module _ (w : Word) (v : NodeWord) where
       window-agrees v o (t .at) (value (c .values) j >>= number) (value (c .values) k >>= number) (expansion c e) (Means (reading c m) e w) (expansion-agrees e c m b g)
   expansion-agrees (Each t o further i s e) c m b g =
       each-agrees v o (value (c .values) s >>= set) (λ k. expansion (at c i k) e) (λ k. Means (with (reading c m) i k) e w)
-      (λ k. expansion-agrees e (at c i k) m (naming-within (OfBus (BusAgrees (c .ports) w v)) i _ (c .values) (done tt) b) g)
+      (λ k. expansion-agrees e (at c i k) m (naming-within (OfBus (BusAgrees (c .ports) w v)) i _ (c .values) (done tt) b) (at-agrees c m i k g))
   expansion-agrees (Between t l h x y) c m b g = misfit-agrees v _
   expansion-agrees (Listed t es) c m b g = misfit-agrees v _
   expansion-agrees Empty c m b g = misfit-agrees v _

@@ -46,7 +46,7 @@ token-placed text short t s n e =
 declared-placed : (text : List ℕ) (m : Declaration) → InDeclaration (Placed text) m → ProperDeclaration m → NamePlaced text (declaredName m)
 declared-placed text (OneSignal x) h n = h n
 declared-placed text (OfWidth x e) h n = h .0 (n .0)
-declared-placed text (OfType u x) h n = h .1 n
+declared-placed text (OfType u x) h n = h .1 (n .1)
 
 port-placed : (text : List ℕ) (defs : List Definition) (output : Bool) (m : Declaration) (p : Port) → PortFor defs output m p → NamePlaced text (declaredName m) → PortPlaced text p
 port-placed text defs output m p f h =

@@ -11,12 +11,11 @@ use Rattle.node.specs.Ltl.{Formula}
 use Rattle.node.specs.Postorder.{size}
 use Rattle.node.specs.Result.{Result, Done, Refused}
 use Rattle.language.specs.Limits.{maxSignals, workBytes}
-use Rattle.language.specs.Bytes.{same}
 use Rattle.language.specs.Tokens.{Token}
 use Rattle.language.specs.Operators.{Comparison, Equal, Unequal, Less, AtMost, Greater, AtLeast, Big, BigSum, BigProduct, BigCap, BigCup, BigAnd, BigOr, Calculates, Combines, Compares, Membership, Connects, Measures, WidthOf, Applies}
 use Rattle.language.specs.Tree.{Expr, Named, Numeral, Truth, Index, Paren, Prefixed, Joined, Nexts, InWindow, Each, Between, Listed, Empty, Element, Range, Definition, Part, Spec}
 use Rattle.language.specs.Parsing.{parsed}
-use Rattle.language.specs.Values.{Value, Number, Set, Logic, Bus, Unsized, Choice, number, Sized, bus, choice, value}
+use Rattle.language.specs.Values.{Value, Number, Set, Logic, Bus, Unsized, Choice, misfit, number, Sized, bus, choice, value}
 use Rattle.language.specs.Declared.{Declared, Constant, Single, BusOf, Identifies, WaitingBus, Port, Declarations}
 use Rattle.language.specs.Numbering.{inOrder, signalsOf, tooManySignals}
 use Rattle.language.specs.Lines.{Line, Written, Implied, implied, lines}
@@ -67,7 +66,7 @@ module _ (n : ℕ) where
   bigFormula-held BigOr f s h = bind _ _ (gathered Any f (λ k _. h k) s (all-any s)) λ fs _. done tt
 
   in-at : (c : Context) (i : Token) (k : ℕ) → InContext n c → InContext n (at c i k)
-  in-at c i k g = record { values = naming-held n i (Done (Number k)) (c .values) (done tt) (g .values); formulas = g .formulas }
+  in-at c i k g = record { values = naming-held n i (Done (Number k)) (c .values) (done tt) (g .values); formulas = naming-held n i misfit (c .formulas) misfit-held (g .formulas) }
 
   expansion-held : (c : Context) (e : Expr) → InContext n c → InExpr (At n) e → Held n Any (expansion c e)
   expansion-held c (Named t) g h = g .formulas t h
@@ -116,7 +115,7 @@ module _ (n : ℕ) where
   in-define c x e g h =
       record {
         values = naming-held n x (value (c .values) e) (c .values) (value-held n (c .values) e (g .values) h) (g .values);
-        formulas = λ t a. split (Held n Any) (same (x .text) (t .text)) (λ _. expansion-held c e g h) (λ _. g .formulas t a);
+        formulas = naming-held n x (expansion c e) (c .formulas) (expansion-held c e g h) (g .formulas);
       }
 
   in-defineAll : (ds : List Definition) → All (InDefinition (At n)) ds → (c : Context) → InContext n c → InContext n (defineAll c ds)

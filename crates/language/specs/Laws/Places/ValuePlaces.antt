@@ -96,8 +96,8 @@ module _ (n : ℕ) where
   big-held p BigAnd f s l h = done tt
   big-held p BigOr f s l h = done tt
 
-  pub naming-held : (x : Token) (v : Result Value) (sc : Scope) → Held n (InValue n) v → InScope n sc → InScope n (naming x v sc)
-  naming-held x v sc h g t a = split (Held n (InValue n)) (same (x .text) (t .text)) (λ _. h) (λ _. g t a)
+  pub naming-held : {A : Type 0} {Q : A → Type 0} (x : Token) (r : Result A) (sc : Token → Result A) → Held n Q r → ((t : Token) → At n t → Held n Q (sc t)) → (t : Token) → At n t → Held n Q (naming x r sc t)
+  naming-held {Q = Q} x r sc h g t a = split (Held n Q) (same (x .text) (t .text)) (λ _. h) (λ _. g t a)
 
   pub value-held : (sc : Scope) (e : Expr) → InScope n sc → InExpr (At n) e → Held n (InValue n) (value sc e)
   value-held sc (Named t) g h = g t h

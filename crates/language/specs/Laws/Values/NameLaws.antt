@@ -41,10 +41,10 @@ defineAll-keeps I D f (Defined x e ∷ ds) h c g = defineAll-keeps I D f ds (h .
 defineAll-keeps I D f (Enumerated x is ∷ ds) h c g = defineAll-keeps I D f ds (h .1) c g
 
 -- what holds of what every visible name stands for
-abbrev pub Visible : (Value → Type 0) → Scope → Type 0
+abbrev pub Visible : {A : Type 0} → (A → Type 0) → (Token → Result A) → Type 0
 Visible Q sc = (t : Token) → Within Q (sc t)
 
-pub naming-within : (Q : Value → Type 0) (x : Token) (r : Result Value) (sc : Scope) → Within Q r → Visible Q sc → Visible Q (naming x r sc)
+pub naming-within : {A : Type 0} (Q : A → Type 0) (x : Token) (r : Result A) (sc : Token → Result A) → Within Q r → Visible Q sc → Visible Q (naming x r sc)
 naming-within Q x r sc h g t = split (Within Q) (same (x .text) (t .text)) (λ _. h) (λ _. g t)
 
 -- what holds of all names of a table

@@ -121,10 +121,14 @@ module _ (N : ℕ) where
 
   pub record ContextBelow (c : Context) : Type 0 where
     pub values : Visible (OfBus (BusBelow (c .ports))) (c .values)
-    pub formulas : (t : Token) → Within (SignalsBelow N) (c .formulas t)
+    pub formulas : Visible (SignalsBelow N) (c .formulas)
 
   at-below : (c : Context) (i : Token) (k : ℕ) → ContextBelow c → ContextBelow (at c i k)
-  at-below c i k g = record { values = naming-within (OfBus (BusBelow (c .ports))) i _ (c .values) (done tt) (g .values); formulas = g .formulas }
+  at-below c i k g =
+      record {
+        values = naming-within (OfBus (BusBelow (c .ports))) i _ (c .values) (done tt) (g .values);
+        formulas = naming-within (SignalsBelow N) i _ (c .formulas) (refused tt) (g .formulas);
+      }
 
   pub expansion-below : (e : Expr) (c : Context) → ContextBelow c → Within (SignalsBelow N) (expansion c e)
   unfolding SignalsBelow

@@ -10,7 +10,6 @@ use native.Mathlib.Omega.{arith}
 use Rattle.node.specs.Ltl.{Formula}
 use Rattle.node.specs.Result.{Done}
 use Rattle.node.specs.Postorder.{SignalsBelow}
-use Rattle.language.specs.Bytes.{same}
 use Rattle.language.specs.Tokens.{Token}
 use Rattle.language.specs.Tree.{Expr, Definition, Part, Initially, Preset, Require, Assert, Assume, Guarantee, partCode, Spec}
 use Rattle.language.specs.Names.{declaredAgain}
@@ -55,7 +54,7 @@ module _ (N : ℕ) where
   define-below c x e g =
       record {
         values = naming-within (OfBus (BusBelow N (c .ports))) x (value (c .values) e) (c .values) (value-buses (BusBelow N (c .ports)) e (c .values) (g .values)) (g .values);
-        formulas = λ t. split (Within (SignalsBelow N)) (same (x .text) (t .text)) (λ _. expansion-below N e c g) (λ _. g .formulas t);
+        formulas = naming-within (SignalsBelow N) x _ (c .formulas) (expansion-below N e c g) (g .formulas);
       }
 
   definitions-below : (ds : List Definition) (c : Context) → ContextBelow N c → ContextBelow N (defineAll c ds)

@@ -122,8 +122,8 @@ logic e = whole e (Done Logic) (done tt)
 
 -- whatever is worked out in a scope within its bounds is within them; of the elements of a set in braces all but their number
 pub value-sane : (e : Expr) (braces : Bool) → Proper braces e → (sc : Scope) → Visible Sane sc → Within (SaneIn braces) (value sc e)
-value-sane (Named t) b p sc g = whole p _ (g t)
-value-sane (Numeral t) b p sc g = whole p _ (number-is _ (inRange-sane (t .at) (decimal 0 (t .text))))
+value-sane (Named t) b p sc g = whole (p .0) _ (g t)
+value-sane (Numeral t) b p sc g = whole (p .0) _ (number-is _ (inRange-sane (t .at) (decimal 0 (t .text))))
 value-sane (Truth t c) b p sc g = logic p
 value-sane (Index t e) b p sc g = logic (p .0)
 value-sane (Paren t e) b p sc g = whole (p .0) _ (value-sane e false (p .1) sc g)

@@ -1,0 +1,10 @@
+pub mod Notes
+pub mod NumberedLaws
+pub mod NotesLaws
+pub mod Inside
+pub mod Chosen
+pub mod ChosenLaws
+pub mod Choosing
+pub mod Owned
+pub mod FirstTable
+pub mod Noting
