@@ -1,0 +1,52 @@
+-- The converter's answer by stages: what the reader answers on buffers of the largest result, then what the rewriter makes of it; and what it has accepted.
+use Prim.Native.Nat.{ℕ, _≤_}
+use mathlib.Core.Path.{_≡_, refl, sym, ap, ap₂, _∙_}
+use mathlib.Core.Bool.{Bool, true, false, _&&_}
+use mathlib.Core.List.{List}
+use lib.Dec.{leb}
+use lib.ListN.{length}
+use borrow.Author.Tests.{le-leb, leb-true}
+use Rattle.node.specs.Limits.{maxNodes}
+use Rattle.node.specs.Postorder.{size}
+use Rattle.node.specs.Result.{Result, Done, Refused, _>>=_, guard}
+use Rattle.node.specs.ResultLaws.{guard-pass, guard-done}
+use Rattle.forms.specs.Forms.{form}
+use Rattle.language.specs.Limits.{maxSignals, workBytes}
+use Rattle.language.specs.Reading.{Converted, meant, delivered, reading}
+use Rattle.language.specs.Laws.Buffers.{delivered-same}
+use Rattle.language.specs.Laws.Meaning.Acceptance.{accepts, list-limited}
+use Rattle.claim.specs.Converting.{inForm, formed, converting}
+
+guard-bind : {A B : Type 0} (b : Bool) (number place : ℕ) (r : Result A) (k : A → Result B) → guard b number place r >>= k ≡ guard b number place (r >>= k)
+unfolding guard _>>=_
+guard-bind true number place r k = refl
+guard-bind false number place r k = refl
+
+-- no accepted text is too large for the largest buffers
+all-delivered : (text : List ℕ) → meant text >>= delivered maxNodes maxSignals ≡ meant text
+unfolding _>>=_
+all-delivered text = go (meant text) refl
+  where
+    go : (r : Result Converted) → meant text ≡ r → r >>= delivered maxNodes maxSignals ≡ r
+    go (Done c) e = guard-pass 18 0 _ (ap₂ _&&_ (le-leb (size (c .formula)) maxNodes (accepts e .fewNodes)) (le-leb (length (c .signals)) maxSignals (list-limited text c e)))
+    go (Refused n p) e = refl
+
+-- so the text is read into them, and the rest is what the form makes of it
+pub converting-reads : (text : List ℕ) (number work nodes signals : ℕ)
+    → converting text number work nodes signals ≡ reading text work maxNodes maxSignals >>= formed number nodes signals
+unfolding converting reading
+converting-reads text number work nodes signals =
+    let k = formed number nodes signals in
+    sym (guard-bind (leb workBytes work) 17 0 _ k ∙ ap (λ (r : Result Converted). guard (leb workBytes work) 17 0 (r >>= k)) (all-delivered text))
+
+-- what is accepted of a text is its form, which fits
+pub record FormOf (number : ℕ) (c d : Converted) : Type 0 where
+  pub few : size (form number (c .formula)) ≤ maxNodes
+  pub same : inForm number c ≡ d
+
+pub formed-done : (number : ℕ) (nodes signals : List ℕ) (c : Converted) {d : Converted} → formed number (length nodes) (length signals) c ≡ Done d → FormOf number c d
+unfolding formed
+formed-done number nodes signals c e =
+    let g = guard-done _ 21 0 _ e in
+    let h = guard-done _ 16 0 _ (g .1) in
+    record { few = leb-true _ _ (h .0); same = delivered-same nodes signals (inForm number c) (h .1) }
