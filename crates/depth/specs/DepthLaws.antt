@@ -20,13 +20,13 @@ use Rattle.language.specs.Laws.Grammar.Braces.{Proper}
 use Rattle.entries.specs.Kinds as Kind
 use Rattle.entries.specs.Flat.{Entry, flat, under, leaf, each, flatIdentifier, outline}
 use Rattle.traversal.specs.declared.Cell.{Cell}
-use Rattle.traversal.specs.Cells.{Seen, cellAt, TokensTell, entries-seen, Offset}
+use Rattle.traversal.specs.Cells.{nothing, OfToken, Seen, cellAt, TokensTell, entries-seen, Offset}
 use Rattle.traversal.specs.Arity.{arities, operands, firstLine}
 use Rattle.traversal.specs.ArityLaws.{fixed-operands}
 use Rattle.traversal.specs.Parts.{Part, Whole, operandsOf, kindOf}
 use Rattle.traversal.specs.Places.{first-none}
-use Rattle.traversal.specs.PassLaws.{run, Pass, Works, expression-done}
-use Rattle.traversal.specs.LineLaws.{entriesOf, Each, firstBad, Lined, alone-done, identifiers-alone, text-holds}
+use Rattle.traversal.specs.PassLaws.{run, Pass, Along, Works, expression-done}
+use Rattle.traversal.specs.LineLaws.{entriesOf, Each, firstBad, Lined, Alone, alone-done, identifiers-alone, text-holds}
 use Rattle.traversal.specs.Passed.{passed, passed-all}
 use Rattle.traversal.specs.TreeStored.{TreeStored, ProperLine, proper-lines}
 use Rattle.traversal.specs.Starts.{firstOf}
@@ -56,10 +56,13 @@ line-steps c before xs f i n =
     ∙ ap₂ (state (c .kind)) (leave (ltb (c .kind) firstLine) _ _ i) (ap (first f) (leave (ltb (c .kind) firstLine) _ _ i))
 
 -- nothing is asked of the names
-abbrev Any : Part (Unit {0}) → Type 0
-Any q = Unit {0}
+abbrev Any : Unit {0} → Part (Unit {0}) → Type 0
+Any b q = Unit {0}
 
-any-all : (qs : List (Part (Unit {0}))) → All Any qs
+abbrev nothing-past : Unit {0} → Part (Unit {0}) → Unit {0}
+nothing-past b q = tt
+
+any-all : (qs : List (Part (Unit {0}))) → Along nothing-past Any tt qs
 any-all [] = tt
 any-all (q ∷ qs) = (tt, any-all qs)
 
@@ -73,17 +76,18 @@ whole e = Whole tt e
 abbrev same : Token → Unit {0} → Unit {0}
 same t y = y
 
-abbrev pass : Pass (Unit {0}) Operand State Offset
-pass = record { bind = same; step = step; state = state; value = value; bad = λ _. none; node = node; fault = fault; Good = Any }
+abbrev pass : Pass (Unit {0}) (Unit {0}) Operand State (OfToken Offset)
+pass = record { bind = same; along = nothing; leaves = nothing-past; step = step; state = state; value = value; bad = λ _. none; node = node; fault = fault; Good = Any }
 
 works : Works pass
 unfolding faultOf
 works =
     record {
       steps = part-steps;
-      inherits = λ q _. any-all (operandsOf same q);
-      values = λ q c _ z i. values same q c z i;
-      faults = λ q c _ z i. ap₂ first (none-bad (operandsOf same q)) (pick (ltb (c .kind) firstLine) _ _ (ap (λ k. ltb k firstLine) (z .kind) ∙ i));
+      inherits = λ _ q _. any-all (operandsOf same q);
+      carries = λ _ _. refl;
+      values = λ _ q c _ z i. values same q c z i;
+      faults = λ _ q c _ z i. ap₂ first (none-bad (operandsOf same q)) (pick (ltb (c .kind) firstLine) _ _ (ap (λ k. ltb k firstLine) (z .kind) ∙ i));
     }
 
 -- the first operand of a line, counted up to the limit, is deep where the expression is
@@ -102,7 +106,7 @@ module _ (cell : ℕ → Cell) where
   idle k before f = state before [] f
 
   abbrev Lines : List Entry → ℕ → State → List Entry → Option ℕ → Type 0
-  Lines es i s rs f = Lined Offset cell step idle (λ k _. k) (λ _ l. deepLine l) (λ _ l. ProperLine l) es i s rs tt f
+  Lines es i s rs f = Lined nothing (OfToken Offset) tt cell step idle (λ k _. k) (λ _ l. deepLine l) (λ _ l. ProperLine l) es i s rs tt f
 
   -- a line with an expression
   held : (k : ℕ) (t : Option Token) (e : Expr) → ltb k firstLine ≡ false → eqb k Kind.element ≡ false → eqb k Kind.listed ≡ false → getD arities k 0 ≡ 1 → Proper false e →
@@ -110,7 +114,7 @@ module _ (cell : ℕ → Cell) where
   held k t e out other unlisted arity p es i before f h =
       let own : Entry = record { kind = k; token = t; size = suc (length (flat e)) } in
       let split = append-assoc (flat e) (own ∷ []) es in
-      let inside = expression-done cell pass works tt e p tt (own ∷ es) i before [] f (subst (Seen Offset cell i) split h) in
+      let inside = expression-done cell pass works tt tt e p tt (own ∷ es) i before [] f (subst (Seen Offset cell i) split h) in
       let c = cell (inside .place) in
       let sees = inside .seen .0 in
       let ends = line-steps c (kindOf (whole e)) (value (whole e) ∷ []) (first f none) (ap (λ j. ltb j firstLine) (sees .kind) ∙ out) (fixed-operands k _ c (sees .kind) other unlisted arity) in
@@ -124,14 +128,16 @@ module _ (cell : ℕ → Cell) where
       }
 
   -- an entry that stands alone
-  alone : (j : ℕ) → ltb j firstLine ≡ false → eqb j Kind.element ≡ false → eqb j Kind.listed ≡ false → getD arities j 0 ≡ 0 →
-      (c : Cell) (k : Unit {0}) (before : ℕ) (f : Option ℕ) → c .kind ≡ j → step c (state before [] f) ≡ state (c .kind) [] f
-  alone j out other unlisted arity c k before f e =
-      line-steps c before [] f (ap (λ j. ltb j firstLine) e ∙ out) (fixed-operands j before c e other unlisted arity) ∙ ap (state (c .kind) []) (first-none f)
+  abbrev Lonely : ℕ → Type 0
+  Lonely j = Alone nothing (OfToken Offset) tt cell step idle (λ k _. k) (λ _ l. deepLine l) (λ _ l. ProperLine l) j
 
-  by : (us es : List Entry) → All (λ e. (c : Cell) (k : Unit {0}) (before : ℕ) (f : Option ℕ) → c .kind ≡ e .kind → step c (state before [] f) ≡ state (c .kind) [] f) us →
+  alone : (j : ℕ) → ltb j firstLine ≡ false → eqb j Kind.element ≡ false → eqb j Kind.listed ≡ false → getD arities j 0 ≡ 0 → Lonely j
+  alone j out other unlisted arity =
+      record { steps = λ c k before f e. line-steps c before [] f (ap (λ j. ltb j firstLine) e ∙ out) (fixed-operands j before c e other unlisted arity) ∙ ap (state (c .kind) []) (first-none f); stays = λ _ _. refl }
+
+  by : (us es : List Entry) → All (λ e. Lonely (e .kind)) us →
       (i before : ℕ) (f : Option ℕ) → Seen Offset cell i (us ++ es) → Lines (us ++ es) i (state before [] f) es (first f none)
-  by us es a i before f h = subst (Lines (us ++ es) i (state before [] f) es) (sym (first-none f)) (alone-done Offset cell step idle (λ k _. k) (λ _ l. deepLine l) (λ _ l. ProperLine l) us es a tt i before f h)
+  by us es a i before f h = subst (Lines (us ++ es) i (state before [] f) es) (sym (first-none f)) (alone-done nothing (OfToken Offset) tt cell step idle (λ k _. k) (λ _ l. deepLine l) (λ _ l. ProperLine l) us es a tt i before f h)
 
   line-done : (k : Unit {0}) (l : Line) → ProperLine l → (es : List Entry) (i before : ℕ) (f : Option ℕ) → Seen Offset cell i (entriesOf l ++ es) →
       Lines (entriesOf l ++ es) i (state before [] f) es (first f (deepLine l))
@@ -139,10 +145,10 @@ module _ (cell : ℕ → Cell) where
   line-done k (DefinitionLine (Defined x e)) p = held Kind.definition (some x) e refl refl refl refl p
   line-done k (DefinitionLine (Enumerated x is)) p =
       λ es. by (leaf Kind.enumeration x ++ each flatIdentifier is) es
-      (alone Kind.enumeration refl refl refl refl, identifiers-alone Offset cell step idle (λ k _. k) (λ _ l. deepLine l) (λ _ l. ProperLine l) (alone Kind.identifier refl refl refl refl) (alone Kind.word refl refl refl refl) is)
+      (alone Kind.enumeration refl refl refl refl, identifiers-alone nothing (OfToken Offset) tt cell step idle (λ k _. k) (λ _ l. deepLine l) (λ _ l. ProperLine l) (alone Kind.identifier refl refl refl refl) (alone Kind.word refl refl refl refl) is)
   line-done k (DeclarationLine (OneSignal x)) p = λ es. by (leaf Kind.signal x) es (alone Kind.signal refl refl refl refl, tt)
   line-done k (DeclarationLine (OfWidth x e)) p = held Kind.bus (some x) e refl refl refl refl (p .1)
-  line-done k (DeclarationLine (OfType u x)) p = held Kind.typed (some x) (Named u) refl refl refl refl refl
+  line-done k (DeclarationLine (OfType u x)) p = held Kind.typed (some x) (Named u) refl refl refl refl (refl, p .0)
   line-done k (FormulaLine e) p = held Kind.line none e refl refl refl refl p
 
 -- what is known of lines does not change
@@ -158,5 +164,5 @@ first-deep (l ∷ ls) = ap (first (deepLine l)) (first-deep ls)
 pub finds-deep : (w : List ℕ) (ts : Tokens) (n : ℕ) (x : Spec) → TokensTell Offset w ts → TreeStored w ts n x → passed step (cellAt w) (state 0 [] none) n .found ≡ tooDeep x
 finds-deep w ts n x told t =
     let cell = cellAt w in
-    let ends = text-holds Offset cell step (λ _ before f. state before [] f) (λ k _. k) (λ _ l. deepLine l) (λ _ l. ProperLine l) (line-done cell) (alone cell Kind.heading refl refl refl refl) x tt 0 0 none (each-proper (allLines x) (proper-lines x (t .proper))) (entries-seen Offset w ts told 0 (outline x) (t .entries)) in
+    let ends = text-holds nothing (OfToken Offset) tt cell step (λ _ before f. state before [] f) (λ k _. k) (λ _ l. deepLine l) (λ _ l. ProperLine l) (line-done cell) (alone cell Kind.heading refl refl refl refl) x tt 0 0 none (each-proper (allLines x) (proper-lines x (t .proper))) (entries-seen Offset w ts told 0 (outline x) (t .entries)) in
     ap (λ (s : State). s .found) (passed-all step cell (state 0 [] none) (outline x) n (t .count) ∙ ends .runs) ∙ first-deep (allLines x)

@@ -15,7 +15,7 @@ use Rattle.language.specs.Places.{levels}
 use Rattle.lexer.specs.Stored.{offsetIn}
 use Rattle.entries.specs.Kinds as Kind
 use Rattle.traversal.specs.declared.Cell.{Cell}
-use Rattle.traversal.specs.Cells.{Told, Sees, Offset}
+use Rattle.traversal.specs.Cells.{Told, Sees, OfToken, Offset}
 use Rattle.traversal.specs.Starts.{startOf, firstOf, startPart, AtPlace, starts}
 use Rattle.traversal.specs.Arity.{firstLine}
 use Rattle.traversal.specs.Parts.{Part, Whole, Binder, unlessEmpty, operandsOf, kindOf, tokenOf}
@@ -150,7 +150,7 @@ module _ {N : Type 0} (bind : Token → N → N) where
   told x none h = tt
   told x (some t) h = h
 
-  pub values : (q : Part N) (c : Cell) → Sees Offset c (ownEntry bind q) → ltb (kindOf q) firstLine ≡ true → node c (map value (operandsOf bind q)) ≡ value q
+  pub values : (q : Part N) (c : Cell) → Sees (OfToken Offset tt) c (ownEntry bind q) → ltb (kindOf q) firstLine ≡ true → node c (map value (operandsOf bind q)) ≡ value q
   unfolding node
   values q c z i =
       let qs = operandsOf bind q in

@@ -10,6 +10,7 @@ use Rattle.language.specs.Grammar.{Tokens, front}
 use Rattle.language.specs.Laws.Grammar.TokenLaws.{Stands}
 use Rattle.lexer.specs.Stored.{offsetBits, offsetIn, lengthIn, tokenWord, TokensStored}
 use Rattle.lexer.specs.StoredLaws.{offset-word, length-word}
+use Rattle.lexer.specs.LexingLaws.{Lexical, token-stands, token-near}
 use Rattle.traversal.specs.Cells.{TokensTell}
 use Rattle.enumerations.specs.Pass.{bytesAt}
 use Rattle.enumerations.specs.WordLaws.{Spelled}
@@ -22,7 +23,7 @@ bytes-text text at (suc n) h =
     let inside : n < length (drop at text) = omega (arith, length-drop at text) in
     ap₂ (λ l b. l ++ (b ∷ [])) (bytes-text text at n (omega arith)) (sym (getD-drop at text n 0)) ∙ sym (take-suc (drop at text) n 0 inside)
 
-spelled : (text : List ℕ) (x : ℕ) (t : Token) → Stands text t → t .at < 2 ^ offsetBits → x ≡ tokenWord t → Spelled text x t
+pub spelled : (text : List ℕ) (x : ℕ) (t : Token) → Stands text t → t .at < 2 ^ offsetBits → x ≡ tokenWord t → Spelled text x t
 spelled text x t s near e =
     record {
       place = ap offsetIn e ∙ offset-word t near;
@@ -30,5 +31,6 @@ spelled text x t s near e =
       bytes = bytes-text text (t .at) (length (t .text)) (s .inside) ∙ sym (s .bytes);
     }
 
-pub spells-tell : (text w : List ℕ) (ts : Tokens) → TokensStored w ts → ((j : ℕ) → suc j < length ts → Stands text (front (drop j ts))) → ((j : ℕ) → front (drop j ts) .at < 2 ^ offsetBits) → TokensTell (Spells text) w ts
-spells-tell text w ts s stands near j h _ = spelled text _ (front (drop j ts)) (stands j h) (near j) (s .words j h)
+pub spells-tell : {text w : List ℕ} {ts : Tokens} → Lexical text ts → TokensStored w ts → TokensTell (Spells text) w ts
+spells-tell {text} {w} {ts} l s j h _ =
+    spelled text _ (front (drop j ts)) (token-stands l j (omega arith)) (token-near l j (omega arith)) (s .words j h)

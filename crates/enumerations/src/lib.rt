@@ -37,7 +37,8 @@ pub struct Progress {
     pub found: Place,
 }
 
-fn byte_at(text: &[u8], i: usize) -> u8
+// A byte of the text, 0 behind its end.
+pub fn byte_at(text: &[u8], i: usize) -> u8
     ensures { λ r. ⌜ r ≡ getD (now (text .entry)) i 0 ⌝ }
 {
     if i < text.len() { text[i] } else { 0 }
@@ -50,7 +51,7 @@ fn size_of(count: usize, size: u32, n: u32) -> u32
 }
 
 // The functions below are the pass's own: it has bounded what they ask for. A word's marks, at most 8.
-fn marks(text: &[u8], at: usize, n: usize) -> [u8; 8]
+pub fn marks(text: &[u8], at: usize, n: usize) -> [u8; 8]
     requires { ⌜ (n ≤ 8) × (at < 65536) ⌝ }
     ensures { λ r. ⌜ (take n r ≡ bytesAt (now (text .entry)) at n) × (length r ≡ 8) ⌝ }
 {

@@ -33,3 +33,5 @@ pub mod NameReads
 pub mod Refers
 pub mod RefersLaws
 pub mod ResolvedLaws
+pub mod VisibleLaws
+pub mod FoundLaws

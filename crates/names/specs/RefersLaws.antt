@@ -22,19 +22,19 @@ use Rattle.names.specs.WalkBinders.{reference-same}
 use Rattle.names.specs.Refers.{Refers, Run, run-one, run-split}
 
 -- what an entry makes of the open names
-open-kept : (bs : Names) (n : Entry) → binds (n .kind) ≡ false → ends (n .kind) ≡ false → openAfter bs n ≡ bs
+pub open-kept : (bs : Names) (n : Entry) → binds (n .kind) ≡ false → ends (n .kind) ≡ false → openAfter bs n ≡ bs
 unfolding openAfter
 open-kept bs n a b = leave (binds (n .kind)) _ _ a ∙ leave (ends (n .kind)) _ _ b
 
-open-more : (bs : Names) (n : Entry) → binds (n .kind) ≡ true → openAfter bs n ≡ tokenOf n ∷ bs
+pub open-more : (bs : Names) (n : Entry) → binds (n .kind) ≡ true → openAfter bs n ≡ tokenOf n ∷ bs
 unfolding openAfter
 open-more bs n a = pick (binds (n .kind)) _ _ a
 
-open-less : (b : Token) (bs : Names) (n : Entry) → binds (n .kind) ≡ false → ends (n .kind) ≡ true → openAfter (b ∷ bs) n ≡ bs
+pub open-less : (b : Token) (bs : Names) (n : Entry) → binds (n .kind) ≡ false → ends (n .kind) ≡ true → openAfter (b ∷ bs) n ≡ bs
 unfolding openAfter
 open-less b bs n x y = leave (binds (n .kind)) _ _ x ∙ pick (ends (n .kind)) _ _ y
 
-binding : (further : Bool) → (binds (Kind.binder further) ≡ true) × (names (Kind.binder further) ≡ true)
+pub binding : (further : Bool) → (binds (Kind.binder further) ≡ true) × (names (Kind.binder further) ≡ true)
 binding false = (refl, refl)
 binding true = (refl, refl)
 

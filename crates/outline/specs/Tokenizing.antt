@@ -5,12 +5,13 @@ use mathlib.Core.List.{List, [], _∷_}
 use mathlib.Core.Bool.{true, false}
 use mathlib.Core.Path.{_≡_, refl, sym, ap, _∙_, subst}
 use lib.ListN.{length, drop}
-use Rattle.node.specs.Result.{Refused, _>>=_}
+use Rattle.node.specs.Result.{Result, Done, Refused, _>>=_}
 use Rattle.words.specs.Words.{past}
 use Rattle.words.specs.ClearingLaws.{past-later}
 use Rattle.language.specs.Limits.{workBytes}
 use Rattle.language.specs.Tokens.{End, Wrong, isOf, tokens}
 use Rattle.language.specs.Grammar.{Tokens, front}
+use Rattle.language.specs.Tree.{Spec}
 use Rattle.language.specs.Sections.{specOf}
 use Rattle.language.specs.Laws.Grammar.TokenLaws.{Ends, tokens-end}
 use Rattle.lexer.specs.Lexing.{lexing}
@@ -19,10 +20,12 @@ use Rattle.lexer.specs.declared.Lexed.{Lexed as Lexing}
 use Rattle.lexer.specs.declared.Lexed.the-variants.{Tokens as Stored, Refused as NotStored}
 use Rattle.lexer.specs.Answer.{Answers, Tokenized, Lexes, tokenBytes}
 use Rattle.entries.specs.Cursors.{Tells}
+use Rattle.entries.specs.Reads.{Kept}
 use Rattle.parser.specs.declared.Outline.{Outline}
-use Rattle.parser.specs.declared.Outline.the-variants.{Refused as NotAccepted}
 use Rattle.parser.specs.Outlines.{Lexed, Outlined, Answer}
-use Rattle.outline.specs.Outlining.{Outlining}
+use Rattle.outline.specs.declared.Text.{Text}
+use Rattle.outline.specs.declared.Text.the-variants.{Refused as NotAccepted}
+use Rattle.outline.specs.Outlining.{counted, Says, Outlining}
 
 -- the last token is the text's end
 last-token : (n : ℕ) (ts : Tokens) → Ends n ts → ((i : ℕ) → i < length ts → isOf Wrong (front (drop i ts)) ≡ false) → (k : ℕ) → suc k ≡ length ts → (isOf End (front (drop k ts)) ≡ true) × (front (drop k ts) .at ≡ n)
@@ -66,13 +69,29 @@ module _ {text v : List ℕ} {n : ℕ} (h : Tokenized text v n) where
   unfolding _>>=_
   then-done = ap (λ r. r >>= specOf) (h .read)
 
-  pub outlined : {w z : List ℕ} {r : Outline} → length v ≡ length w → past tokenBytes v ≡ past tokenBytes w → ((ts : Tokens) → Tells ts v n (length text) → Outlined ts v z r) → Outlining text w z r
-  outlined {w} {z} {r} size kept f =
-      let o = f (tokens text) tells in
+  -- the parser leaves the tokens' words
+  still : {z : List ℕ} → Kept v z 0 → Tokenized text z n
+  still k =
       record {
-        says = subst (λ x. Answer (tokens text) z x r) (sym then-done) (o .says);
-        size = o .kept .len ∙ size;
-        beyond = o .kept .beyond ∙ past-later tokenBytes workBytes v w (omega arith) kept;
+        read = h .read;
+        count = h .count;
+        stored = record { words = λ i l. k .words i (omega (arith, texts .few)) ∙ h .stored .words i l };
+      }
+
+  -- the parser's answer by the cases of the definition's
+  says : {z : List ℕ} (x : Result Spec) (o : Outline) → specOf (tokens text) ≡ x → Kept v z 0 → Answer (tokens text) z x o → Says text z (counted n o)
+  says {z} (Done x) o e k d =
+      subst (λ o. Says text z (counted n o)) (sym (d .accepted))
+      (record { tree = x; lexed = still k; read = e; total = refl; few = d .few; stored = d .entries; facts = refl })
+  says {z} (Refused number place) o e k d = subst (λ o. Says text z (counted n o)) (sym d) (then-done ∙ e)
+
+  pub outlined : {w z : List ℕ} {o : Outline} {r : Text} → length v ≡ length w → past tokenBytes v ≡ past tokenBytes w → ((ts : Tokens) → Tells ts v n (length text) → Outlined ts v z o) → r ≡ counted n o → Outlining text w z r
+  outlined {w} {z} {o} size kept f e =
+      let told = f (tokens text) tells in
+      record {
+        says = subst (Says text z) (sym e) (says (specOf (tokens text)) o refl (told .kept) (told .says));
+        size = told .kept .len ∙ size;
+        beyond = told .kept .beyond ∙ past-later tokenBytes workBytes v w (omega arith) kept;
       }
 
 -- the lexer's answer by its cases
@@ -85,9 +104,4 @@ module _ {text w v : List ℕ} {r : Lexing} (l : Lexes text w v r) where
 
 pub not-lexed : {text w v : List ℕ} {n p : ℕ} → lexing text ≡ Refused n p → length v ≡ length w → past tokenBytes v ≡ past tokenBytes w → Outlining text w v (NotAccepted n p)
 unfolding _>>=_
-not-lexed {text} {w} {v} {n} {p} e size kept =
-    record {
-      says = subst (λ x. Answer (tokens text) v x (NotAccepted n p)) (sym (ap (λ r. r >>= specOf) e)) refl;
-      size = size;
-      beyond = past-later tokenBytes workBytes v w (omega arith) kept;
-    }
+not-lexed {text} {w} {v} {n} {p} e size kept = record { says = ap (λ r. r >>= specOf) e; size = size; beyond = past-later tokenBytes workBytes v w (omega arith) kept }

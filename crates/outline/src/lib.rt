@@ -1,21 +1,39 @@
 // A text's bytes to its outline: lexer, then parser (refusals 1 to 4).
 use lexer::Lexed;
 use lexer::lex;
+use parser::Facts;
 use parser::Outline;
 use parser::parse;
+ghost use mathlib.Core.Path.{_≡_};
 ghost use Prim.Native.Nat.{_≤_};
 ghost use lib.ListN.{length};
 ghost use Rattle.language.specs.Limits.{workBytes};
-ghost use Rattle.outline.specs.Outlining.{Outlining};
+ghost use Rattle.outline.specs.Outlining.{counted as counted', Outlining};
+
+// An accepted text's numbers of tokens and of entries and what its INFO says, or a refusal's number and place.
+pub enum Text {
+    Accepted(usize, usize, Facts),
+    Refused(u32, u32),
+}
+
+// The parser's answer, with the number of tokens.
+fn counted(tokens: usize, outline: Outline) -> Text
+    ensures { λ r. ⌜ r ≡ counted' tokens outline ⌝ }
+{
+    match outline {
+        Outline::Accepted(entries, facts) => Text::Accepted(tokens, entries, facts),
+        Outline::Refused(number, place) => Text::Refused(number, place),
+    }
+}
 
 // An inner stage: the reader has tested the length of the work buffer (refusal 17).
-pub fn outlined(text: &[u8], work: &mut [u8]) -> Outline
+pub fn outlined(text: &[u8], work: &mut [u8]) -> Text
     requires { ⌜ workBytes ≤ length (now work) ⌝ }
     ensures { λ r. ⌜ Outlining (now (text .entry)) (now (work .entry)) (now (work .exit)) r ⌝ }
 {
     let lexed = lex(text, work);
     match lexed {
-        Lexed::Tokens(count) => parse(work, count as usize, text.len()),
-        Lexed::Refused(number, place) => Outline::Refused(number, place),
+        Lexed::Tokens(count) => counted(count as usize, parse(work, count as usize, text.len())),
+        Lexed::Refused(number, place) => Text::Refused(number, place),
     }
 }

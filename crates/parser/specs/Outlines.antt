@@ -1,9 +1,10 @@
 -- A text's outline: what the parser answers, and what it leaves in the buffer.
-use Prim.Native.Nat.{ℕ}
+use Prim.Native.Nat.{ℕ, _≤_}
 use mathlib.Core.List.{List, [], _++_}
 use mathlib.Core.Path.{_≡_}
 use lib.ListN.{length, drop}
 use Rattle.node.specs.Result.{Result, Done, Refused, _>>=_}
+use Rattle.language.specs.Limits.{maxTokens}
 use Rattle.language.specs.Tree.{Subsection, Model, Mealy, Moore, Spec}
 use Rattle.language.specs.Grammar.{Tokens, Read, expect}
 use Rattle.language.specs.Sections.{subsectionsOf, specOf}
@@ -60,10 +61,15 @@ pub record Lexed (w : List ℕ) (count end : ℕ) : Type 0 where
   pub fits : Fits w (startOf count end)
   pub tells : Tells tokens w count end
 
+-- what a text's INFO says
+abbrev pub factsOf : Spec → Facts
+factsOf x = toldOf (record { semantics = x .semantics; strict = x .strict; target = x .target; targetWord = x .targetWord })
+
 -- an accepted text: how many entries it has and what INFO says; the entries are written
 pub record Drawn (ts : Tokens) (v : List ℕ) (x : Spec) (r : Outline) : Type 0 where
-  pub accepted : r ≡ Accepted (length (outline x)) (toldOf (record { semantics = x .semantics; strict = x .strict; target = x .target; targetWord = x .targetWord }))
+  pub accepted : r ≡ Accepted (length (outline x)) (factsOf x)
   pub entries : EntriesFrom v ts 0 (outline x)
+  pub few : length (outline x) ≤ maxTokens
 
 abbrev pub Answer : Tokens → List ℕ → Result Spec → Outline → Type 0
 Answer ts v (Done x) r = Drawn ts v x r

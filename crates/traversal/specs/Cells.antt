@@ -1,5 +1,5 @@
 -- What a pass sees of the entries: the code's view of each, and when it is the view of an entry of the tree.
-use Prim.Native.Nat.{ℕ, suc, _+_, _/_, _%_, _<_, _^_}
+use Prim.Native.Nat.{ℕ, suc, _+_, _/_, _%_, _<_}
 use mathlib.Core.List.{List, [], _∷_}
 use mathlib.Core.Option.{Option, none, some}
 use mathlib.Core.Path.{_≡_, sym, ap, _∙_, subst}
@@ -7,8 +7,7 @@ use lib.ListN.{length, drop}
 use Rattle.words.specs.Words.{wordAt}
 use Rattle.language.specs.Tokens.{Token}
 use Rattle.language.specs.Grammar.{Tokens, front}
-use Rattle.lexer.specs.Stored.{offsetBits, offsetIn, TokensStored}
-use Rattle.lexer.specs.StoredLaws.{offset-word}
+use Rattle.lexer.specs.Stored.{offsetIn}
 use Rattle.entries.specs.Flat.{Entry}
 use Rattle.entries.specs.Stored.{firstEntry, kindOf, indexOf, sizeOf, Keeps, EntryAt, EntriesFrom}
 use Rattle.entries.specs.StoredLaws.{entry-kind, entry-index, entry-size}
@@ -19,15 +18,25 @@ abbrev pub Told : (ℕ → Token → Type 0) → ℕ → Option Token → Type 0
 Told T x none = Unit {0}
 Told T x (some t) = T x t
 
-pub record Sees (T : ℕ → Token → Type 0) (c : Cell) (e : Entry) : Type 0 where
+pub record Sees (T : ℕ → Entry → Type 0) (c : Cell) (e : Entry) : Type 0 where
   pub kind : c .kind ≡ e .kind
   pub size : c .size ≡ e .size
-  pub token : Told T (c .token) (e .token)
+  pub token : T (c .token) e
 
--- the cells from i on are those of the entries
+-- the cells from i on are those of the entries; b is carried along them, as the names of big operators are that are open before an entry
+abbrev pub SeenAlong : {B : Type 0} → (B → Entry → B) → (B → ℕ → Entry → Type 0) → (ℕ → Cell) → B → ℕ → List Entry → Type 0
+SeenAlong along T cell b i [] = Unit {0}
+SeenAlong along T cell b i (e ∷ es) = Sees (T (along b e)) (cell i) e × SeenAlong along T cell (along b e) (suc i) es
+
+-- nothing is carried, and an entry's word speaks of its token alone
+abbrev pub nothing : Unit {0} → Entry → Unit {0}
+nothing b e = tt
+
+abbrev pub OfToken : (ℕ → Token → Type 0) → Unit {0} → ℕ → Entry → Type 0
+OfToken T b x e = Told T x (e .token)
+
 abbrev pub Seen : (ℕ → Token → Type 0) → (ℕ → Cell) → ℕ → List Entry → Type 0
-Seen T cell i [] = Unit {0}
-Seen T cell i (e ∷ es) = Sees T (cell i) e × Seen T cell (suc i) es
+Seen T cell i es = SeenAlong nothing (OfToken T) cell tt i es
 
 -- the cell of entry i of the buffer
 unfoldable pub cellAt : List ℕ → ℕ → Cell
@@ -42,7 +51,7 @@ module _ (T : ℕ → Token → Type 0) (w : List ℕ) (ts : Tokens) (told : Tok
   token-told k none e h = tt
   token-told {j} k (some t) e h = subst (T (wordAt w k)) (h .0) (subst (λ l. T (wordAt w l) (front (drop j ts))) (sym e) (told j (h .1)))
 
-  pub entry-seen : (i : ℕ) (e : Entry) → EntryAt w ts i e → Sees T (cellAt w i) e
+  pub entry-seen : (i : ℕ) (e : Entry) → EntryAt w ts i e → Sees (OfToken T tt) (cellAt w i) e
   unfolding cellAt
   entry-seen i e h = record { kind = entry-kind h; size = entry-size h; token = token-told (indexOf (wordAt w (firstEntry + i))) (e .token) (entry-index h) (h .keeps) }
 
@@ -60,6 +69,3 @@ cell-of w i x y e d =
 -- the words of tokens as the lexer stores them tell their places
 abbrev pub Offset : ℕ → Token → Type 0
 Offset x t = offsetIn x ≡ t .at
-
-pub offsets-tell : (w : List ℕ) (ts : Tokens) → TokensStored w ts → ((j : ℕ) → front (drop j ts) .at < 2 ^ offsetBits) → TokensTell Offset w ts
-offsets-tell w ts s near j h = ap offsetIn (s .words j h) ∙ offset-word (front (drop j ts)) (near j)

@@ -10,7 +10,7 @@ use Rattle.language.specs.Laws.Basics.Lists.{All, all-append}
 use Rattle.entries.specs.Kinds as Kind
 use Rattle.entries.specs.Flat.{Entry, flat, under, each, leaf, flatIdentifier, flatDefinition, flatDeclaration, flatLine, head, flatSubsection, outline}
 use Rattle.traversal.specs.declared.Cell.{Cell}
-use Rattle.traversal.specs.Cells.{Seen}
+use Rattle.traversal.specs.Cells.{SeenAlong}
 use Rattle.traversal.specs.PassLaws.{run, Comes}
 use Rattle.traversal.specs.Places.{first-none, first-assoc}
 
@@ -31,31 +31,44 @@ abbrev pub firstBad : {K : Type 0} → (K → Line → K) → (K → Line → Op
 firstBad after bad k [] = none
 firstBad after bad k (l ∷ ls) = first (bad k l) (firstBad after bad (after k l) ls)
 
-module _ {K State : Type 0} (T : ℕ → Token → Type 0) (cell : ℕ → Cell) (step : Cell → State → State)
+-- what is known behind lines
+abbrev pub lastly : {K : Type 0} → (K → Line → K) → K → List Line → K
+lastly after k [] = k
+lastly after k (l ∷ ls) = lastly after (after k l) ls
+
+-- between lines what is carried along the entries is always b
+module _ {K B State : Type 0} (along : B → Entry → B) (T : B → ℕ → Entry → Type 0) (b : B) (cell : ℕ → Cell) (step : Cell → State → State)
     (idle : K → ℕ → Option ℕ → State) (after : K → Line → K) (bad : K → Line → Option ℕ) (Good : K → Line → Type 0) where
+  abbrev Sight : ℕ → List Entry → Type 0
+  Sight i es = SeenAlong along T cell b i es
+
   -- from the entries es on, and from a state between lines, the pass comes to such a state at the entries rs
   pub record Lined (es : List Entry) (i : ℕ) (s : State) (rs : List Entry) (k : K) (f : Option ℕ) : Type 0 where
     pub before : ℕ
-    pub comes : Comes T step cell es i s rs (idle k before f)
+    pub comes : Comes along T step cell es i s b rs (idle k before f)
 
   abbrev pub LineDone : Type 0
-  LineDone = (k : K) (l : Line) → Good k l → (es : List Entry) (i before : ℕ) (f : Option ℕ) → Seen T cell i (entriesOf l ++ es) →
+  LineDone = (k : K) (l : Line) → Good k l → (es : List Entry) (i before : ℕ) (f : Option ℕ) → Sight i (entriesOf l ++ es) →
       Lined (entriesOf l ++ es) i (idle k before f) es (after k l) (first f (bad k l))
 
   -- entries of these kinds stand alone: the pass goes by
-  abbrev pub Alone : ℕ → Type 0
-  Alone j = (c : Cell) (k : K) (before : ℕ) (f : Option ℕ) → c .kind ≡ j → step c (idle k before f) ≡ idle k (c .kind) f
+  pub record Alone (j : ℕ) : Type 0 where
+    pub steps : (c : Cell) (k : K) (before : ℕ) (f : Option ℕ) → c .kind ≡ j → step c (idle k before f) ≡ idle k (c .kind) f
+    pub stays : (e : Entry) → e .kind ≡ j → along b e ≡ b
+
+  next-seen : (e : Entry) (i : ℕ) (es : List Entry) → Alone (e .kind) → SeenAlong along T cell (along b e) i es → Sight i es
+  next-seen e i es a h = subst (λ d. SeenAlong along T cell d i es) (a .stays e refl) h
 
   abbrev AllAlone : List Entry → Type 0
   AllAlone es = All (λ e. Alone (e .kind)) es
 
-  pub alone-done : (us es : List Entry) → All (λ e. Alone (e .kind)) us → (k : K) (i before : ℕ) (f : Option ℕ) → Seen T cell i (us ++ es) → Lined (us ++ es) i (idle k before f) es k f
+  pub alone-done : (us es : List Entry) → All (λ e. Alone (e .kind)) us → (k : K) (i before : ℕ) (f : Option ℕ) → Sight i (us ++ es) → Lined (us ++ es) i (idle k before f) es k f
   alone-done [] es a k i before f h = record { before = before; comes = record { place = i; seen = h; runs = refl } }
   alone-done (e ∷ us) es a k i before f h =
-      let more = alone-done us es (a .1) k (suc i) (cell i .kind) f (h .1) in
+      let more = alone-done us es (a .1) k (suc i) (cell i .kind) f (next-seen e (suc i) (us ++ es) (a .0) (h .1)) in
       record {
         before = more .before;
-        comes = record { place = more .comes .place; seen = more .comes .seen; runs = ap (run step cell (us ++ es) (suc i)) (a .0 (cell i) k before f (h .0 .kind)) ∙ more .comes .runs };
+        comes = record { place = more .comes .place; seen = more .comes .seen; runs = ap (run step cell (us ++ es) (suc i)) (a .0 .steps (cell i) k before f (h .0 .kind)) ∙ more .comes .runs };
       }
 
   words-alone : Alone Kind.word → (ws : List Token) → AllAlone (each (leaf Kind.word) ws)
@@ -67,28 +80,27 @@ module _ {K State : Type 0} (T : ℕ → Token → Type 0) (cell : ℕ → Cell)
   identifiers-alone a b (i ∷ is) = (a, all-append (λ e. Alone (e .kind)) (each (leaf Kind.word) (i .words)) (each flatIdentifier is) (words-alone b (i .words)) (identifiers-alone a b is))
 
   -- entries that are the last of the text, and the lines that they hold
-  pub record Finished (es : List Entry) (i : ℕ) (s : State) (f : Option ℕ) : Type 0 where
-    pub known : K
+  pub record Finished (es : List Entry) (i : ℕ) (s : State) (k : K) (f : Option ℕ) : Type 0 where
     pub before : ℕ
-    pub runs : run step cell es i s ≡ idle known before f
+    pub runs : run step cell es i s ≡ idle k before f
 
   abbrev Holds : List Entry → List Line → Type 0
-  Holds es ls = (k : K) (i before : ℕ) (f : Option ℕ) → Each after Good k ls → Seen T cell i es → Finished es i (idle k before f) (first f (firstBad after bad k ls))
+  Holds es ls = (k : K) (i before : ℕ) (f : Option ℕ) → Each after Good k ls → Sight i es → Finished es i (idle k before f) (lastly after k ls) (first f (firstBad after bad k ls))
 
   module _ (line : LineDone) (heading : Alone Kind.heading) where
     none-hold : Holds [] []
-    none-hold k i before f g h = record { known = k; before = before; runs = ap (idle k before) (sym (first-none f)) }
+    none-hold k i before f g h = record { before = before; runs = ap (idle k before) (sym (first-none f)) }
 
     one-holds : (l : Line) (es : List Entry) (ls : List Line) → Holds es ls → Holds (entriesOf l ++ es) (l ∷ ls)
     one-holds l es ls more k i before f g h =
         let one = line k l (g .0) es i before f h in
         let rest = more (after k l) (one .comes .place) (one .before) (first f (bad k l)) (g .1) (one .comes .seen) in
-        record { known = rest .known; before = rest .before; runs = one .comes .runs ∙ rest .runs ∙ ap (idle (rest .known) (rest .before)) (first-assoc f (bad k l) (firstBad after bad (after k l) ls)) }
+        record { before = rest .before; runs = one .comes .runs ∙ rest .runs ∙ ap (idle (lastly after k (l ∷ ls)) (rest .before)) (first-assoc f (bad k l) (firstBad after bad (after k l) ls)) }
 
     head-holds : (n : ℕ) (es : List Entry) (ls : List Line) → Holds es ls → Holds (head n ++ es) ls
     head-holds n es ls more k i before f g h =
-        let rest = more k (suc i) (cell i .kind) f g (h .1) in
-        record { known = rest .known; before = rest .before; runs = ap (run step cell es (suc i)) (heading (cell i) k before f (h .0 .kind)) ∙ rest .runs }
+        let rest = more k (suc i) (cell i .kind) f g (next-seen _ (suc i) es heading (h .1)) in
+        record { before = rest .before; runs = ap (run step cell es (suc i)) (heading .steps (cell i) k before f (h .0 .kind)) ∙ rest .runs }
 
     -- lines of one sort
     listed-hold : {A : Type 0} (form : A → Line) (lines : List A → List Line → List Line)

@@ -99,8 +99,8 @@ module _ {N : Type 0} (bind : Token → N → N) where
 
   -- what is to be shown of elements in braces holds if it holds of none and of some
   in-braces : (Q : Expr → Type 0) → Q Empty → ((e es : Expr) → Proper false e → Proper true es → Q (Element e es)) → (es : Expr) → Proper true es → Q es
-  in-braces Q base step (Named u) p = absurd (false≢true (sym p))
-  in-braces Q base step (Numeral u) p = absurd (false≢true (sym p))
+  in-braces Q base step (Named u) p = absurd (false≢true (sym (p .0)))
+  in-braces Q base step (Numeral u) p = absurd (false≢true (sym (p .0)))
   in-braces Q base step (Truth u v) p = absurd (false≢true (sym p))
   in-braces Q base step (Index u e) p = absurd (false≢true (sym (p .0)))
   in-braces Q base step (Paren u e) p = absurd (false≢true (sym (p .0)))

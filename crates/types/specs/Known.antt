@@ -1,36 +1,42 @@
--- What the pass takes for granted of names: each name that an expression uses has a reference, and the table has the name's type there.
+-- What the pass takes for granted of names: each entry's name has its reference, and the table has the name's type there.
 use Prim.Native.Nat.{ℕ}
-use mathlib.Core.List.{List}
+use mathlib.Core.List.{List, _∷_}
 use mathlib.Core.Bool.{true}
 use mathlib.Core.Path.{_≡_}
-use Rattle.language.specs.Tokens.{Name, Token, isOf}
+use Rattle.language.specs.Tokens.{Token}
 use Rattle.language.specs.Tree.{Expr, Named, Numeral, Truth, Index, Paren, Prefixed, Joined, Nexts, InWindow, Each, Between, Listed, Empty, Element, Range}
+use Rattle.language.specs.Names.{Names}
 use Rattle.language.specs.Types.{kindCode, Typings, kindIn, withNumber}
+use Rattle.entries.specs.Flat.{Entry}
+use Rattle.names.specs.Scan.{tokenOf}
+use Rattle.names.specs.Walkable.{names}
+use Rattle.names.specs.References.{reference}
+use Rattle.traversal.specs.Cells.{Told}
+use Rattle.traversal.specs.Starts.{AtPlace}
 use Rattle.types.specs.Kinds.{placeOf, referenceOf, kindAt}
 
--- the word of a token t; R gives the references of names
-pub record Resolved (R : Token → ℕ) (x : ℕ) (t : Token) : Type 0 where
-  pub place : placeOf x ≡ t .at
-  pub reference : isOf Name t ≡ true → referenceOf x ≡ R t
+-- the word of an entry, behind which the big operators' names bs are open
+pub record Resolved (declared bs : Names) (x : ℕ) (e : Entry) : Type 0 where
+  pub place : Told AtPlace (placeOf x) (e .token)
+  pub refers : names (e .kind) ≡ true → referenceOf x ≡ reference declared bs (tokenOf e)
 
-pub record KnownName (R : Token → ℕ) (table : List ℕ) (ys : Typings) (t : Token) : Type 0 where
-  pub name : isOf Name t ≡ true
-  pub kind : kindAt table (R t) ≡ kindCode (kindIn ys t)
+abbrev pub KnownName : Names → Names → List ℕ → Typings → Token → Type 0
+KnownName declared bs table ys t = kindAt table (reference declared bs t) ≡ kindCode (kindIn ys t)
 
 -- 'a big operator's name in the rest of its operator'
-abbrev pub Known : (Token → ℕ) → List ℕ → Typings → Expr → Type 0
-Known R table ys (Named t) = KnownName R table ys t
-Known R table ys (Numeral t) = Unit {0}
-Known R table ys (Truth t b) = Unit {0}
-Known R table ys (Index t e) = KnownName R table ys t × Known R table ys e
-Known R table ys (Paren t e) = Known R table ys e
-Known R table ys (Prefixed t o e) = Known R table ys e
-Known R table ys (Joined t o a b) = Known R table ys a × Known R table ys b
-Known R table ys (Nexts t n e) = Known R table ys n × Known R table ys e
-Known R table ys (InWindow t o n m e) = Known R table ys n × Known R table ys m × Known R table ys e
-Known R table ys (Each t o further i s e) = Known R table ys s × Known R table (withNumber i ys) e
-Known R table ys (Between t l h a b) = Known R table ys a × Known R table ys b
-Known R table ys (Listed t es) = Known R table ys es
-Known R table ys Empty = Unit {0}
-Known R table ys (Element e es) = Known R table ys e × Known R table ys es
-Known R table ys (Range t x y z) = Known R table ys x × Known R table ys y × Known R table ys z
+abbrev pub Known : Names → Names → List ℕ → Typings → Expr → Type 0
+Known declared bs table ys (Named t) = KnownName declared bs table ys t
+Known declared bs table ys (Numeral t) = Unit {0}
+Known declared bs table ys (Truth t b) = Unit {0}
+Known declared bs table ys (Index t e) = KnownName declared bs table ys t × Known declared bs table ys e
+Known declared bs table ys (Paren t e) = Known declared bs table ys e
+Known declared bs table ys (Prefixed t o e) = Known declared bs table ys e
+Known declared bs table ys (Joined t o a b) = Known declared bs table ys a × Known declared bs table ys b
+Known declared bs table ys (Nexts t n e) = Known declared bs table ys n × Known declared bs table ys e
+Known declared bs table ys (InWindow t o n m e) = Known declared bs table ys n × Known declared bs table ys m × Known declared bs table ys e
+Known declared bs table ys (Each t o further i s e) = Known declared bs table ys s × Known declared (i ∷ bs) table (withNumber i ys) e
+Known declared bs table ys (Between t l h a b) = Known declared bs table ys a × Known declared bs table ys b
+Known declared bs table ys (Listed t es) = Known declared bs table ys es
+Known declared bs table ys Empty = Unit {0}
+Known declared bs table ys (Element e es) = Known declared bs table ys e × Known declared bs table ys es
+Known declared bs table ys (Range t x y z) = Known declared bs table ys x × Known declared bs table ys y × Known declared bs table ys z

@@ -3,6 +3,7 @@ pub mod Pass
 pub mod TakeLaws
 pub mod OperatorLaws
 pub mod Known
+pub mod Opened
 pub mod Cells
 pub mod NodeLaws
 pub mod FaultLaws
@@ -11,4 +12,9 @@ pub mod TypeLaws
 pub mod CodeLaws
 pub mod Progress
 pub mod Declaring
+pub mod TableLaws
+pub mod PutLaws
+pub mod KnownLaws
+pub mod KnownLineLaws
+pub mod Resolving
 pub mod Running

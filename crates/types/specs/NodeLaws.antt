@@ -2,31 +2,33 @@
 use Prim.Native.Nat.{ℕ, _≤_}
 use mathlib.Core.List.{List, map, map-map}
 use mathlib.Core.Bool.{true, false≢true}
-use mathlib.Core.Option.{Option, none, some}
+use mathlib.Core.Option.{Option, none}
 use mathlib.Core.Path.{_≡_, refl, sym, ap, ap₂, _∙_}
 use lib.Dec.{eqb, ltb}
 use lib.ListN.{getD}
 use native.Mathlib.Omega.{arith}
 use borrow.Author.Tests.{ne-eqb}
-use Rattle.language.specs.Tokens.{Token}
 use Rattle.language.specs.Operators.{Infix, Calculates, Combines, Compares, Membership, Connects, Prefix, Measures, WidthOf, Applies, Big, BigSum, BigProduct, BigCap, BigCup, BigAnd, BigOr}
 use Rattle.language.specs.Tree.{Named, Numeral, Truth, Index, Paren, Prefixed, Joined, Nexts, InWindow, Each, Between, Listed, Empty, Element, Range}
 use Rattle.language.specs.Places.{start, first}
 use Rattle.language.specs.Types.{ASet, kindCode, Typings, kindIn, prefixGives, infixGives, bigGives, withNumber, kindOf as typeOf, wrong, mistyped}
-use Rattle.language.specs.Laws.Basics.Lists.{All}
+use Rattle.language.specs.Names.{Names}
 use Rattle.language.specs.Laws.Basics.Tests.{leave}
 use Rattle.entries.specs.Kinds as EntryKind
+use Rattle.entries.specs.Flat.{Entry}
+use Rattle.names.specs.Scan.{tokenOf as nameOf}
+use Rattle.names.specs.Walkable.{names}
 use Rattle.traversal.specs.declared.Cell.{Cell}
 use Rattle.traversal.specs.Arity.{firstLine}
-use Rattle.traversal.specs.Cells.{Told, Sees}
-use Rattle.traversal.specs.Parts.{Part, Whole, Binder, operandsOf, kindOf, tokenOf}
-use Rattle.traversal.specs.PartLaws.{unless-all}
-use Rattle.traversal.specs.PassLaws.{ownEntry}
+use Rattle.traversal.specs.Cells.{Sees}
+use Rattle.traversal.specs.Parts.{Part, Whole, Binder, operandsOf, kindOf}
+use Rattle.traversal.specs.PassLaws.{ownEntry, Along, unless-along}
 use Rattle.traversal.specs.Places.{first-none, first-assoc, first-comm}
-use Rattle.traversal.specs.Starts.{startOf, firstOf, startPart, AtPlace, starts}
+use Rattle.traversal.specs.Starts.{startOf, firstOf, startPart, starts}
 use Rattle.types.specs.Kinds.{giving, givesOf, placeOf, referenceOf, kindAt}
 use Rattle.types.specs.Pass.{Operand, node}
 use Rattle.types.specs.Known.{Resolved, KnownName, Known}
+use Rattle.types.specs.Opened.{openPast}
 use Rattle.types.specs.OperatorLaws.{truth-gives, before-gives, joining-gives, window-gives, big-gives, binder-gives, between-gives}
 
 abbrev pub kindPart : Part Typings → ℕ
@@ -89,34 +91,34 @@ two-places m n w v = ap (λ x. first (first m x) (first w v)) (first-none n) ∙
 pub three-places : (l m n u v w : Option ℕ) → first (first l (first m (first n none))) (first u (first v w)) ≡ first (first u l) (first (first v m) (first w n))
 three-places l m n u v w = swap l (first m (first n none)) u (first v w) ∙ ap₂ first (first-comm l u) (two-places m n v w)
 
-module _ (R : Token → ℕ) (table : List ℕ) where
-  abbrev pub Good : Part Typings → Type 0
-  Good (Whole ys e) = Known R table ys e
-  Good (Binder ys further i s) = Known R table ys s
+module _ (declared : Names) (table : List ℕ) where
+  abbrev pub Good : Names → Part Typings → Type 0
+  Good bs (Whole ys e) = Known declared bs table ys e
+  Good bs (Binder ys further i s) = Known declared bs table ys s
 
-  pub inherits : (q : Part Typings) → Good q → All Good (operandsOf withNumber q)
-  inherits (Whole ys (Named t)) g = tt
-  inherits (Whole ys (Numeral t)) g = tt
-  inherits (Whole ys (Truth t b)) g = tt
-  inherits (Whole ys (Index t e)) g = (g .1, tt)
-  inherits (Whole ys (Paren t e)) g = (g, tt)
-  inherits (Whole ys (Prefixed t o e)) g = (g, tt)
-  inherits (Whole ys (Joined t o a b)) g = (g .0, (g .1, tt))
-  inherits (Whole ys (Nexts t n e)) g = (g .0, (g .1, tt))
-  inherits (Whole ys (InWindow t o n m e)) g = (g .0, (g .1, (g .2, tt)))
-  inherits (Whole ys (Each t o further i s e)) g = (g .0, (g .1, tt))
-  inherits (Whole ys (Between t l h a b)) g = (g .0, (g .1, tt))
-  inherits (Whole ys (Listed t es)) g = unless-all Good es (Whole ys es) g
-  inherits (Whole ys Empty) g = tt
-  inherits (Whole ys (Element e es)) g = (g .0, unless-all Good es (Whole ys es) (g .1))
-  inherits (Whole ys (Range t a b c)) g = (g .0, (g .1, (g .2, tt)))
-  inherits (Binder ys further i s) g = (g, tt)
+  pub inherits : (bs : Names) (q : Part Typings) → Good bs q → Along openPast Good bs (operandsOf withNumber q)
+  inherits bs (Whole ys (Named t)) g = tt
+  inherits bs (Whole ys (Numeral t)) g = tt
+  inherits bs (Whole ys (Truth t b)) g = tt
+  inherits bs (Whole ys (Index t e)) g = (g .1, tt)
+  inherits bs (Whole ys (Paren t e)) g = (g, tt)
+  inherits bs (Whole ys (Prefixed t o e)) g = (g, tt)
+  inherits bs (Whole ys (Joined t o a b)) g = (g .0, (g .1, tt))
+  inherits bs (Whole ys (Nexts t n e)) g = (g .0, (g .1, tt))
+  inherits bs (Whole ys (InWindow t o n m e)) g = (g .0, (g .1, (g .2, tt)))
+  inherits bs (Whole ys (Each t o further i s e)) g = (g .0, (g .1, tt))
+  inherits bs (Whole ys (Between t l h a b)) g = (g .0, (g .1, tt))
+  inherits bs (Whole ys (Listed t es)) g = unless-along openPast Good bs es (Whole ys es) g
+  inherits bs (Whole ys Empty) g = tt
+  inherits bs (Whole ys (Element e es)) g = (g .0, unless-along openPast Good bs es (Whole ys es) (g .1))
+  inherits bs (Whole ys (Range t a b c)) g = (g .0, (g .1, (g .2, tt)))
+  inherits bs (Binder ys further i s) g = (g, tt)
 
   abbrev nameKind : ℕ → ℕ
   nameKind x = kindAt table (referenceOf x)
 
-  pub name-known : (x : ℕ) (ys : Typings) (t : Token) → Resolved R x t → KnownName R table ys t → nameKind x ≡ kindCode (kindIn ys t)
-  name-known x ys t r g = ap (kindAt table) (r .reference (g .name)) ∙ g .kind
+  pub name-known : {bs : Names} {x : ℕ} {e : Entry} (ys : Typings) → Resolved declared bs x e → names (e .kind) ≡ true → KnownName declared bs table ys (nameOf e) → nameKind x ≡ kindCode (kindIn ys (nameOf e))
+  name-known ys r n g = ap (kindAt table) (r .refers n) ∙ g
 
   abbrev kindParts : List (Part Typings) → List ℕ
   kindParts qs = map kindPart qs
@@ -124,32 +126,28 @@ module _ (R : Token → ℕ) (table : List ℕ) where
   abbrev startParts : List (Part Typings) → List ℕ
   startParts qs = map startPart qs
 
-  part-kind : (q : Part Typings) (x : ℕ) → Good q → Told (Resolved R) x (tokenOf q) → ltb (kindOf q) firstLine ≡ true → givesOf (kindOf q) (nameKind x) (firstOf (kindParts (operandsOf withNumber q))) ≡ kindPart q
-  part-kind (Whole ys (Named t)) x g h i = by-name _ _ ∙ name-known x ys t h g
-  part-kind (Whole ys (Numeral t)) x g h i = given EntryKind.numeral _ _ 0 refl (omega arith)
-  part-kind (Whole ys (Truth t b)) x g h i = given (EntryKind.truth b) _ _ 2 (truth-gives b) (omega arith)
-  part-kind (Whole ys (Index t e)) x g h i = given EntryKind.index _ _ 2 refl (omega arith)
-  part-kind (Whole ys (Paren t e)) x g h i = by-operand _ _
-  part-kind (Whole ys (Prefixed t o e)) x g h i = given (EntryKind.before o) _ _ _ (before-gives o) (prefix-small o)
-  part-kind (Whole ys (Joined t o a b)) x g h i = given (EntryKind.joining o) _ _ _ (joining-gives o) (infix-small o)
-  part-kind (Whole ys (Nexts t n e)) x g h i = given EntryKind.nexts _ _ 2 refl (omega arith)
-  part-kind (Whole ys (InWindow t o n m e)) x g h i = given (EntryKind.window o) _ _ 2 (window-gives o) (omega arith)
-  part-kind (Whole ys (Each t o further j s e)) x g h i = given (EntryKind.big o) _ _ _ (big-gives o) (big-small o)
-  part-kind (Whole ys (Between t l u a b)) x g h i = given (EntryKind.between l u) _ _ 1 (between-gives l u) (omega arith)
-  part-kind (Whole ys (Listed t es)) x g h i = given EntryKind.listed _ _ 1 refl (omega arith)
-  part-kind (Whole ys Empty) x g h i = absurd (false≢true i)
-  part-kind (Whole ys (Element e es)) x g h i = given EntryKind.element _ _ 1 refl (omega arith)
-  part-kind (Whole ys (Range t a b c)) x g h i = given EntryKind.range _ _ 1 refl (omega arith)
-  part-kind (Binder ys further j s) x g h i = given (EntryKind.binder further) _ _ 1 (binder-gives further) (omega arith)
+  part-kind : (bs : Names) (q : Part Typings) (x : ℕ) → Good bs q → Resolved declared (openPast bs q) x (ownEntry withNumber q) → ltb (kindOf q) firstLine ≡ true → givesOf (kindOf q) (nameKind x) (firstOf (kindParts (operandsOf withNumber q))) ≡ kindPart q
+  part-kind bs (Whole ys (Named t)) x g h i = by-name _ _ ∙ name-known ys h refl g
+  part-kind bs (Whole ys (Numeral t)) x g h i = given EntryKind.numeral _ _ 0 refl (omega arith)
+  part-kind bs (Whole ys (Truth t b)) x g h i = given (EntryKind.truth b) _ _ 2 (truth-gives b) (omega arith)
+  part-kind bs (Whole ys (Index t e)) x g h i = given EntryKind.index _ _ 2 refl (omega arith)
+  part-kind bs (Whole ys (Paren t e)) x g h i = by-operand _ _
+  part-kind bs (Whole ys (Prefixed t o e)) x g h i = given (EntryKind.before o) _ _ _ (before-gives o) (prefix-small o)
+  part-kind bs (Whole ys (Joined t o a b)) x g h i = given (EntryKind.joining o) _ _ _ (joining-gives o) (infix-small o)
+  part-kind bs (Whole ys (Nexts t n e)) x g h i = given EntryKind.nexts _ _ 2 refl (omega arith)
+  part-kind bs (Whole ys (InWindow t o n m e)) x g h i = given (EntryKind.window o) _ _ 2 (window-gives o) (omega arith)
+  part-kind bs (Whole ys (Each t o further j s e)) x g h i = given (EntryKind.big o) _ _ _ (big-gives o) (big-small o)
+  part-kind bs (Whole ys (Between t l u a b)) x g h i = given (EntryKind.between l u) _ _ 1 (between-gives l u) (omega arith)
+  part-kind bs (Whole ys (Listed t es)) x g h i = given EntryKind.listed _ _ 1 refl (omega arith)
+  part-kind bs (Whole ys Empty) x g h i = absurd (false≢true i)
+  part-kind bs (Whole ys (Element e es)) x g h i = given EntryKind.element _ _ 1 refl (omega arith)
+  part-kind bs (Whole ys (Range t a b c)) x g h i = given EntryKind.range _ _ 1 refl (omega arith)
+  part-kind bs (Binder ys further j s) x g h i = given (EntryKind.binder further) _ _ 1 (binder-gives further) (omega arith)
 
-  told : (x : ℕ) (t : Option Token) → Told (Resolved R) x t → Told AtPlace (placeOf x) t
-  told x none h = tt
-  told x (some t) h = h .place
-
-  pub values : (q : Part Typings) (c : Cell) → Good q → Sees (Resolved R) c (ownEntry withNumber q) → ltb (kindOf q) firstLine ≡ true → node table c (map value (operandsOf withNumber q)) ≡ value q
+  pub values : (bs : Names) (q : Part Typings) (c : Cell) → Good bs q → Sees (Resolved declared (openPast bs q)) c (ownEntry withNumber q) → ltb (kindOf q) firstLine ≡ true → node table c (map value (operandsOf withNumber q)) ≡ value q
   unfolding node
-  values q c g z i =
+  values bs q c g z i =
       let qs = operandsOf withNumber q in
       ap₂ (λ (k s : ℕ). record { kind = k; start = s })
-      (ap (λ ks. givesOf (c .kind) (nameKind (c .token)) (firstOf ks)) (map-map (λ (x : Operand). x .kind) value qs) ∙ ap (λ k. givesOf k (nameKind (c .token)) (firstOf (kindParts qs))) (z .kind) ∙ part-kind q (c .token) g (z .token) i)
-      (ap (λ ss. startOf (c .kind) (placeOf (c .token)) (firstOf ss)) (map-map (λ (x : Operand). x .start) value qs) ∙ ap (λ k. startOf k (placeOf (c .token)) (firstOf (startParts qs))) (z .kind) ∙ starts withNumber q (placeOf (c .token)) (told (c .token) (tokenOf q) (z .token)) i)
+      (ap (λ ks. givesOf (c .kind) (nameKind (c .token)) (firstOf ks)) (map-map (λ (x : Operand). x .kind) value qs) ∙ ap (λ k. givesOf k (nameKind (c .token)) (firstOf (kindParts qs))) (z .kind) ∙ part-kind bs q (c .token) g (z .token) i)
+      (ap (λ ss. startOf (c .kind) (placeOf (c .token)) (firstOf ss)) (map-map (λ (x : Operand). x .start) value qs) ∙ ap (λ k. startOf k (placeOf (c .token)) (firstOf (startParts qs))) (z .kind) ∙ starts withNumber q (placeOf (c .token)) (z .token .place) i)

@@ -6,22 +6,19 @@ use mathlib.Core.Path.{_≡_, refl, sym, ap, _∙_, subst}
 use lib.ListN.{length}
 use native.Mathlib.Omega.{arith}
 use Rattle.language.specs.Limits.{workBytes, maxTokens}
-use Rattle.language.specs.Tokens.{Token}
+use Rattle.language.specs.Tokens.{tokens}
 use Rattle.language.specs.Tree.{Spec}
-use Rattle.language.specs.Grammar.{Tokens}
 use Rattle.language.specs.Types.{wrongType as firstWrong}
-use Rattle.entries.specs.Flat.{outline}
+use Rattle.names.specs.Resolved.{Stored, declaredNames, Resolved}
 use Rattle.traversal.specs.declared.Place.{Place}
-use Rattle.traversal.specs.Cells.{TokensTell, Offset}
 use Rattle.traversal.specs.Places.{placed}
 use Rattle.traversal.specs.Passed.{passed, passed-none, passed-more}
-use Rattle.traversal.specs.TreeStored.{TreeStored}
 use Rattle.types.specs.declared.Progress.{Progress}
 use Rattle.types.specs.Pass.{State, step, state}
-use Rattle.types.specs.Cells.{namedCell, Referring, named-seen}
-use Rattle.types.specs.Lines.{KindsKnown}
+use Rattle.types.specs.Cells.{namedCell}
 use Rattle.types.specs.TypeLaws.{finds-wrong}
 use Rattle.types.specs.Declaring.{declaredTable, declared-size}
+use Rattle.types.specs.Resolving.{tree-stored, names-seen, names-known}
 use Rattle.types.specs.Progress.{Agrees, Sized, Passes}
 
 -- the state after i entries of the buffer w, of which n are the tree's
@@ -46,12 +43,13 @@ pub ran-more : {refs w : List ℕ} {n i : ℕ} {p : Progress} {ks ss ts : List �
 ran-more {refs} {w} {n} {i} q ks′ ss′ ts′ r h few =
     record { sized = h .sized; agrees = subst (λ (s : State). Agrees s q ks′ ss′ ts′) (sym (passed-more step (namedCell refs w) (state (declaredTable refs w n) 0 [] none) i)) (h .steps (after refs w n i) (r .agrees)); few = few }
 
--- The answer, whatever tree the entries hold and whatever R its names' references are, if the array has them and the names' types are known by them.
+-- The answer, whatever tree the buffer holds, if its names are resolved.
 unfoldable pub WrongType : List ℕ → List ℕ → ℕ → Place → Type 0
-WrongType refs w n r = (R : Token → ℕ) (ts : Tokens) (x : Spec) → TokensTell Offset w ts → Referring R refs 0 (outline x) → TreeStored w ts n x → KindsKnown R (declaredTable refs w n) x → r ≡ placed (firstWrong x)
+WrongType refs w n r = (text : List ℕ) (count : ℕ) (x : Spec) (found : List ℕ) (m : ℕ) → Stored text w count n x → Resolved x refs found m → r ≡ placed (firstWrong x)
 
 pub ran-all : {refs w : List ℕ} {n i : ℕ} {p : Progress} {ks ss ts : List ℕ} → Ran refs w n i p ks ss ts → n ≤ i → WrongType refs w n (p .found)
 unfolding WrongType
-ran-all {refs} {w} {n} {i} r h R ts x told refers t known =
+ran-all {refs} {w} {n} {i} r h text count x found m s v =
     let e : i ≡ n = omega (arith, r .few) in
-    r .agrees .found ∙ ap (λ j. placed (after refs w n j .found)) e ∙ ap placed (finds-wrong R (namedCell refs w) w ts n x (declaredTable refs w n) (named-seen R refs w ts told 0 (outline x) (t .entries) refers) t known)
+    r .agrees .found ∙ ap (λ j. placed (after refs w n j .found)) e
+    ∙ ap placed (finds-wrong (declaredNames x) (namedCell refs w) w (tokens text) n x (declaredTable refs w n) (names-seen s v) (tree-stored s) (names-known s v))

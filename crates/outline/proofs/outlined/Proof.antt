@@ -11,13 +11,19 @@ lex-requires c κs = search needs
 enum-known-lexed : tie.Need-enum-known-lexed
 enum-known-lexed c = search needs
 
+cast-counted : tie.Need-cast-counted
+cast-counted c = search needs
+
 cast-parse : tie.Need-cast-parse
 cast-parse c = search needs
 
 parse-requires : tie.Need-parse-requires
 parse-requires c κs =
-    let l = c .before .before .before .before .before .before .lex .ensures in
-    lexed (tokenized l (c .before .before .lexed .given .1)) (omega (arith, l .size, c .before .before .before .before .before .before .before .before .before .before .pre))
+    let l = (c .before .before .before .before .before .before .lex) .ensures in
+    lexed (tokenized l ((c .before .before .lexed) .given .1)) (omega (arith, l .size, (c .before .before .before .before .before .before .before .before .before .before) .pre))
+
+counted-requires : tie.Need-counted-requires
+counted-requires c κs = search needs
 
 enum-known-lexed-2 : tie.Need-enum-known-lexed-2
 enum-known-lexed-2 c = search needs
@@ -27,17 +33,18 @@ same-length c = search needs
 
 returns : tie.Need-returns
 returns c =
-    let l = c .before .before .before .before .before .before .before .before .before .lex .ensures in
-    outlined (tokenized l (c .before .before .before .before .before .lexed .given .1)) (l .size) (l .kept) (c .before .before .parse .ensures)
+    let l = (c .before .before .before .before .before .before .before .before .before .before .lex) .ensures in
+    outlined (tokenized l ((c .before .before .before .before .before .before .lexed) .given .1)) (l .size) (l .kept) ((c .before .before .before .parse) .ensures) ((c .counted) .ensures)
 
 same-length-2 : tie.Need-same-length-2
 same-length-2 c = search needs
 
 returns-2 : tie.Need-returns-2
 returns-2 c =
-    let l = c .before .before .before .before .before .lex .ensures in
-    not-lexed (refused l (c .before .lexed2 .given .1)) (l .size) (l .kept)
+    let l = (c .before .before .before .before .before .lex) .ensures in
+    not-lexed (refused l ((c .before .lexed2) .given .1)) (l .size) (l .kept)
 
 pub outlined-spec : {M : Type 1} → statement M
 outlined-spec =
-    tie.close (tie.spec lex-requires enum-known-lexed cast-parse parse-requires enum-known-lexed-2 same-length returns same-length-2 returns-2)
+    tie.close
+    (tie.spec lex-requires enum-known-lexed cast-counted cast-parse parse-requires counted-requires enum-known-lexed-2 same-length returns same-length-2 returns-2)

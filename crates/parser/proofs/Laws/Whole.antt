@@ -178,6 +178,7 @@ module _ {ts : Tokens} {w : List ℕ} {count end : ℕ} (fits : Fits w (startOf 
                       (record {
                         accepted = x ∙ ap₂ Answered size (i .facts (info .value) _ (info .read));
                         entries = subst (EntriesFrom v ts 0) (sym written) (subst (λ n. EntriesFrom v ts n (flatSections (body .value))) out-none (body .took .entries));
+                        few = omega (arith, size, end-ready .less, end-ready .fits .inside, end-ready .fits .few);
                       });
                 }
 

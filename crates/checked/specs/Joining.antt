@@ -1,0 +1,62 @@
+-- From the outline and refusals 5 to 10 to the answer on the whole text.
+use Prim.Native.Nat.{ℕ, _≤_}
+use mathlib.Core.List.{List}
+use mathlib.Core.Path.{_≡_, refl, sym, ap, _∙_, subst}
+use lib.ListN.{length}
+use Rattle.node.specs.Result.{Result, Done, Refused, _>>=_}
+use Rattle.language.specs.Limits.{workBytes}
+use Rattle.language.specs.Tokens.{tokens}
+use Rattle.language.specs.Tree.{Spec}
+use Rattle.language.specs.Sections.{specOf}
+use Rattle.language.specs.Parsing.{wellFormed, parsed}
+use Rattle.lexer.specs.Lexing.{lexing, parsed-lexed}
+use Rattle.parser.specs.declared.Facts.{Facts}
+use Rattle.outline.specs.declared.Text.{Text}
+use Rattle.outline.specs.declared.Text.the-variants.{Accepted as Drawn, Refused as NotDrawn}
+use Rattle.outline.specs.Outlining.{Outlined, Says as Draws, Outlining}
+use Rattle.names.specs.declared.Naming.{Naming}
+use Rattle.names.specs.declared.Naming.the-variants.{Named, Refused as NotNamed}
+use Rattle.names.specs.Resolved.{Stored, TreeStored}
+use Rattle.checked.specs.declared.Checked.{Checked}
+use Rattle.checked.specs.declared.Checked.the-variants.{Refused as NotAccepted}
+use Rattle.checked.specs.Checking.{Finds, Forms, answer, Says, Checks}
+use Rattle.checked.specs.StoredLaws.{outline-stored}
+
+-- refusals 1 to 4, then 5 to 10
+then-assoc : {A B C : Type 0} (r : Result A) (f : A → Result B) (g : B → Result C) → (r >>= f) >>= g ≡ r >>= (λ a. f a >>= g)
+unfolding _>>=_
+then-assoc (Done a) f g = refl
+then-assoc (Refused n p) f g = refl
+
+parsed-formed : (text : List ℕ) → parsed text ≡ (lexing text >>= specOf) >>= wellFormed
+parsed-formed text = sym (then-assoc (lexing text) specOf wellFormed ∙ parsed-lexed text)
+
+not-outlined : (text : List ℕ) {n p : ℕ} → lexing text >>= specOf ≡ Refused n p → parsed text ≡ Refused n p
+unfolding _>>=_
+not-outlined text e = parsed-formed text ∙ ap (λ r. r >>= wellFormed) e
+
+outlined : (text : List ℕ) {x : Spec} → lexing text ≡ Done (tokens text) → specOf (tokens text) ≡ Done x → parsed text ≡ wellFormed x
+unfolding _>>=_
+outlined text e d = parsed-formed text ∙ ap (λ r. (r >>= specOf) >>= wellFormed) e ∙ ap (λ r. r >>= wellFormed) d
+
+module _ {text w v : List ℕ} {t : Text} (o : Outlining text w v t) where
+  pub refused : {n p : ℕ} (refs found : List ℕ) → t ≡ NotDrawn n p → Checks text w v refs found (NotAccepted n p)
+  refused refs found e = record { says = not-outlined text (subst (Draws text v) e (o .says)); size = o .size; beyond = o .beyond }
+
+  module _ {n m : ℕ} {f : Facts} (e : t ≡ Drawn n m f) (room : workBytes ≤ length w) where
+    drawn : Outlined text v n m f
+    drawn = subst (Draws text v) e (o .says)
+
+    stored : Stored text v n m (drawn .tree)
+    stored = outline-stored drawn (rw (o .size) room)
+
+    pub tree : TreeStored text v n m
+    tree = record { tree = drawn .tree; stored = stored }
+
+    says : (refs found : List ℕ) (r : Naming) → Finds (drawn .tree) refs found r → Says text v refs found (answer n m f r)
+    says refs found (Named k) h = record { tree = drawn .tree; read = outlined text (drawn .lexed .read) (drawn .read) ∙ h .0; stored = stored; resolved = h .1; facts = drawn .facts }
+    says refs found (NotNamed number place) h = outlined text (drawn .lexed .read) (drawn .read) ∙ h
+
+    pub checks : {r : Naming} {refs found : List ℕ} {a : Checked} → ((x : Spec) → Stored text v n m x → Forms x refs found r) → a ≡ answer n m f r → Checks text w v refs found a
+    checks {r} {refs} {found} h d =
+        record { says = subst (Says text v refs found) (sym d) (says refs found r (h (drawn .tree) stored .says)); size = o .size; beyond = o .beyond }

@@ -1,0 +1,26 @@
+-- Whether an operand fits: each way through the definition.
+use Rattle.types.specs.CodeLaws.{nowhere, here, fits-any, fits-definable, not-definable, fits-one, not-one}
+use Rattle.types.proofs.kinds.misfit.Statement.{statement}
+use Rattle.types.proofs.kinds.misfit.Tie as tie
+
+returns : tie.Need-returns
+returns c = nowhere _ ((c .before) .args .start) (fits-any ((c .before) .args .takes) ((c .before) .args .kind) ((c .if1) .taken))
+
+returns-2 : tie.Need-returns-2
+returns-2 c =
+    nowhere _ ((c .before .before .before) .args .start) (fits-definable ((c .before .before .before) .args .takes) ((c .before .before .before) .args .kind) ((c .before .before .if1) .left) ((c .before .if2) .taken) ((c .if3) .taken))
+
+returns-3 : tie.Need-returns-3
+returns-3 c =
+    here _ ((c .before .before .before) .args .start) (not-definable ((c .before .before .before) .args .takes) ((c .before .before .before) .args .kind) ((c .before .before .if1) .left) ((c .before .if2) .taken) ((c .if3) .left))
+
+returns-4 : tie.Need-returns-4
+returns-4 c =
+    nowhere _ ((c .before .before .before) .args .start) (fits-one ((c .before .before .before) .args .takes) ((c .before .before .before) .args .kind) ((c .before .before .if1) .left) ((c .before .if2) .left) ((c .if4) .taken))
+
+returns-5 : tie.Need-returns-5
+returns-5 c =
+    here _ ((c .before .before .before) .args .start) (not-one ((c .before .before .before) .args .takes) ((c .before .before .before) .args .kind) ((c .before .before .if1) .left) ((c .before .if2) .left) ((c .if4) .left))
+
+pub misfit-spec : {M : Type 1} → statement M
+misfit-spec = tie.close (tie.spec returns returns-2 returns-3 returns-4 returns-5)

@@ -1,0 +1,43 @@
+-- The sides of an equation: each way through the definition.
+use mathlib.Core.Path.{_∙_}
+use Rattle.types.specs.CodeLaws.{number-side, bus-side, value-side, no-side}
+use borrow.Author.Needs.{needs}
+use Rattle.types.proofs.kinds.sides_of.Statement.{statement}
+use Rattle.types.proofs.kinds.sides_of.Tie as tie
+
+misfit-requires : tie.Need-misfit-requires
+misfit-requires c κs = search needs
+
+returns : tie.Need-returns
+returns c =
+    (c .misfit) .ensures ∙ number-side ((c .before .before) .args .left) ((c .before .before) .args .right) ((c .before .before) .args .start) ((c .before .before) .args .other) ((c .before .if1) .taken)
+
+misfit-requires-2 : tie.Need-misfit-requires-2
+misfit-requires-2 c κs = search needs
+
+returns-2 : tie.Need-returns-2
+returns-2 c =
+    (c .misfit2) .ensures ∙ bus-side ((c .before .before .before) .args .left) ((c .before .before .before) .args .right) ((c .before .before .before) .args .start) ((c .before .before .before) .args .other) ((c .before .before .if1) .left) ((c .before .if2) .taken)
+
+misfit-requires-3 : tie.Need-misfit-requires-3
+misfit-requires-3 c κs = search needs
+
+returns-3 : tie.Need-returns-3
+returns-3 c =
+    (c .misfit3) .ensures ∙ value-side ((c .before .before .before .before) .args .left) ((c .before .before .before .before) .args .right) ((c .before .before .before .before) .args .start) ((c .before .before .before .before) .args .other) ((c .before .before .before .if1) .left) ((c .before .before .if2) .left) ((c .before .if3) .taken)
+
+returns-4 : tie.Need-returns-4
+returns-4 c =
+    no-side ((c .before .before .before) .args .left) ((c .before .before .before) .args .right) ((c .before .before .before) .args .start) ((c .before .before .before) .args .other) ((c .before .before .if1) .left) ((c .before .if2) .left) ((c .if3) .left)
+
+pub sides-of-spec : {M : Type 1} → statement M
+sides-of-spec =
+    tie.close
+    (tie.spec
+    misfit-requires
+    returns
+    misfit-requires-2
+    returns-2
+    misfit-requires-3
+    returns-3
+    returns-4)

@@ -1,0 +1,52 @@
+-- A declared name's type is put down where its reference points; a reference past the table stores nothing.
+use Rattle.types.specs.Declaring.{declares-none, declares-set, declares-out}
+use borrow.Author.Needs.{needs}
+use Rattle.types.proofs.table.declare.Statement.{statement}
+use Rattle.types.proofs.table.declare.Tie as tie
+
+cast-kind : tie.Need-cast-kind
+cast-kind c = search needs
+
+array-read-kind : tie.Need-array-read-kind
+array-read-kind c = search needs
+
+returns : tie.Need-returns
+returns c = declares-none ((c .before .before .before) .args .c) ((c .before .before .before) .args .table .now) ((c .if1) .taken)
+
+cast-reference : tie.Need-cast-reference
+cast-reference c = search needs
+
+wide-requires : tie.Need-wide-requires
+wide-requires c κs = search needs
+
+mul-table : tie.Need-mul-table
+mul-table c = search needs
+
+slice-write-table : tie.Need-slice-write-table
+slice-write-table c = search needs
+
+same-length : tie.Need-same-length
+same-length c = search needs
+
+returns-2 : tie.Need-returns-2
+returns-2 c =
+    declares-set ((c .before .before .before .before .before .before) .args .c) ((c .before .before .before .before .before .before) .args .table .now) ((c .wide) .result) ((c .before .before .before .if1) .left) ((c .wide) .ensures)
+
+returns-3 : tie.Need-returns-3
+returns-3 c =
+    declares-out ((c .before .before .before .before .before) .args .c) ((c .before .before .before .before .before) .args .table .now) ((c .before .before .if1) .left) ((c .before .before .before .before .before) .pre .1) ((c .if2) .left)
+
+pub declare-spec : {M : Type 1} → statement M
+declare-spec =
+    tie.close
+    (tie.spec
+    cast-kind
+    array-read-kind
+    returns
+    cast-reference
+    wide-requires
+    mul-table
+    slice-write-table
+    same-length
+    returns-2
+    returns-3)
