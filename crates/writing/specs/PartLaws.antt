@@ -87,14 +87,14 @@ moves-more from to n l {out} {out′} {w} {r} e h f p g =
     moves-next from to n l l e (f ∙ ap (moved from to) same) (fitting p (omega arith) .words)
 
 -- all of them
-pub moves-all : (from to i n : ℕ) (l : List ℕ) {out : List ℕ} → i ≡ n → out ≡ sets l to (moves from to i l) → to + n ≤ maxNodes → Puts (moves from to n l) l out to (to + n)
-moves-all from to i n l {out} e f h =
+pub moves-all : (from to i n : ℕ) (l into : List ℕ) {out : List ℕ} → i ≡ n → out ≡ sets into to (moves from to i l) → to + n ≤ maxNodes → Puts (moves from to n l) into out to (to + n)
+moves-all from to i n l into {out} e f h =
     let len = length-moves from to n l in
-    record { stored = λ g. record { next = omega arith; words = f ∙ ap (λ (k : ℕ). sets l to (moves from to k l)) e }; many = λ g. omega arith }
+    record { stored = λ g. record { next = omega arith; words = f ∙ ap (λ (k : ℕ). sets into to (moves from to k l)) e }; many = λ g. omega arith }
 
 -- those that do not fit
-pub moves-past : (from to n : ℕ) {l out : List ℕ} {r : ℕ} → maxNodes < to + n → maxNodes < r → Puts (moves from to n l) l out to r
-moves-past from to n {l} h g = let len = length-moves from to n l in record { stored = λ k. absurd (omega arith); many = λ k. omega arith }
+pub moves-past : (from to n : ℕ) (l : List ℕ) {into out : List ℕ} {r : ℕ} → maxNodes < to + n → maxNodes < r → Puts (moves from to n l) into out to r
+moves-past from to n l h g = let len = length-moves from to n l in record { stored = λ k. absurd (omega arith); many = λ k. omega arith }
 
 -- a formula that was written stands there
 pub stands : {f : Formula} {out out′ : List ℕ} {at r : ℕ} → Wrote f out out′ at r → length out ≡ maxNodes → r ≤ maxNodes → Stands f out′ at
@@ -122,10 +122,10 @@ stands-moves {f} {out} {from} s to =
     let g = s .room in
     ap (map (moved from to)) (s .words) ∙ moved-nodes from to from f (omega arith) (omega arith) (s .signals) ∙ ap (λ (k : ℕ). nodesFrom k f) (omega arith)
 
--- a copy of a formula that stands before it
-pub copied : {f : Formula} {out out′ : List ℕ} {from to n r : ℕ} → Stands f out from → n ≡ size f → Puts (moves from to n out) out out′ to r → Wrote f out out′ to r
-copied {f} {out} {out′} {from} {to} {n} {r} s e p = record {
-  puts = subst (λ (vs : List ℕ). Puts vs out out′ to r) (ap (λ (k : ℕ). moves from to k out) e ∙ stands-moves s to) p;
+-- a copy of a formula that stands before it, or in another table
+pub copied : {f : Formula} {table out out′ : List ℕ} {from to n r : ℕ} → Stands f table from → n ≡ size f → Puts (moves from to n table) out out′ to r → Wrote f out out′ to r
+copied {f} {table} {out} {out′} {from} {to} {n} {r} s e p = record {
+  puts = subst (λ (vs : List ℕ). Puts vs out out′ to r) (ap (λ (k : ℕ). moves from to k table) e ∙ stands-moves s to) p;
   signals = λ h. s .signals;
 }
 

@@ -73,6 +73,29 @@ pub fn copy(from: usize, size: usize, at: usize, out: &mut [u32; 8192]) -> usize
     at + size
 }
 
+// The nodes [from, from + size) of a table at `at` in another, moved. They lie in the table.
+pub fn copy_from(
+    table: &[u32; 8192],
+    from: usize,
+    size: usize,
+    at: usize,
+    out: &mut [u32; 8192],
+) -> usize
+    requires { ⌜ from + size ≤ maxNodes ⌝ }
+    ensures { λ r. ⌜ Puts (moves from at size (now (table .entry))) (now (out .entry)) (now (out .exit)) at r ⌝ }
+{
+    if MAX_NODES - size < at {
+        return TOO_MANY;
+    }
+    let mut i = 0;
+    while i < size {
+        let word = moved(table[from + i], from as u32, at as u32);
+        put(out, at + i, word);
+        i += 1;
+    }
+    at + size
+}
+
 // The nodes [from, from + size) of a table moved into a lent slice, from `at` on. They lie in the table, and there is room for them: the caller has counted the whole.
 pub fn copy_out(table: &[u32; 8192], from: usize, size: usize, result: &mut [u32], at: usize)
     requires { ⌜ (from + size ≤ maxNodes) × ((at + size ≤ maxNodes) × (at + size ≤ length (now result))) ⌝ }

@@ -20,7 +20,7 @@ sub-if1 : tie.Need-sub-if1 Inv-loop μ-loop
 sub-if1 c = omega arith
 
 returns : tie.Need-returns Inv-loop μ-loop
-returns c = moves-past (c .before .args .from) (c .before .args .at) (c .before .args .size) (omega arith) (omega arith)
+returns c = moves-past (c .before .args .from) (c .before .args .at) (c .before .args .size) _ (omega arith) (omega arith)
 
 loop-holds : tie.Need-loop-holds Inv-loop μ-loop
 loop-holds c = (omega arith, moves-none (c .before .args .from) (c .before .args .at) _)
@@ -67,7 +67,7 @@ add-result c = omega arith
 returns-2 : tie.Need-returns-2 Inv-loop μ-loop
 returns-2 c =
     let e : c .before .loop .i ≡ c .before .before .before .args .size = omega arith in
-    moves-all (c .before .before .before .args .from) (c .before .before .before .args .at) (c .before .loop .i) (c .before .before .before .args .size) _ e (c .before .loop .inv .1) (omega arith)
+    moves-all (c .before .before .before .args .from) (c .before .before .before .args .at) (c .before .loop .i) (c .before .before .before .args .size) _ _ e (c .before .loop .inv .1) (omega arith)
 
 pub copy-spec : {M : Type 1} → statement M
 copy-spec =

@@ -1,0 +1,9 @@
+pub mod Gathered
+pub mod Layout
+pub mod Folding
+pub mod GatheredLaws
+pub mod FoldingLaws
+pub mod WholeLaws
+pub mod Implied
+pub mod ImpliedLaws
+pub mod ExpandLaws

@@ -1,0 +1,103 @@
+-- From word to word: the rows so far are those of the words; at the end they are tested.
+use borrow.Author.Needs.{needs}
+use native.Mathlib.Omega.{arith}
+use Prim.Native.Nat.{_+_, _-_, _≤_, _<_}
+use mathlib.Core.Path.{_≡_, refl, sym, ap, _∙_}
+use Rattle.choices.specs.CoverageLaws.{rows-blank}
+use Rattle.choices.specs.PromiseLaws.{Tabling, tabling-none, tabling-skip, tabling-narrow, tabling-room, tabling-word, tabling-empty, tabling-all, tabling-wide, unnamed-is}
+use Rattle.choices.proofs.coverage.leaves_unnamed.Statement.{statement}
+use Rattle.choices.proofs.coverage.leaves_unnamed.Tie as tie
+
+abbrev Inv-loop : tie.InvT-loop
+Inv-loop text work from to rows₀ count₀ width₀ i₀ rows count width i = Tabling text work from to i rows count width
+
+abbrev μ-loop : tie.MeasureT-loop
+μ-loop text work from to rows₀ count₀ width₀ i₀ rows count width i = to - i
+
+loop-holds : tie.Need-loop-holds Inv-loop μ-loop
+loop-holds c = tabling-none _ _ _ _ _ (rows-blank _ refl)
+
+cell-at-requires : tie.Need-cell-at-requires Inv-loop μ-loop
+cell-at-requires c κs =
+    ((c .before .before .before .before) .pre .readable .room, omega (arith, (c .before .before .before .before) .pre .readable .few, (c .loop-test) .taken))
+
+add-i : tie.Need-add-i Inv-loop μ-loop
+add-i c = omega arith
+
+loop-less : tie.Need-loop-less Inv-loop μ-loop
+loop-less c = omega arith
+
+loop-again : tie.Need-loop-again Inv-loop μ-loop
+loop-again c =
+    tabling-skip ((c .before .before .before .before .before .before .before) .pre .regular) ((c .before .before .before .before .loop) .inv) ((c .before .before .before .loop-test) .taken) ((c .before .before .cell-at) .ensures .0) ((c .if1) .taken)
+
+cast-width : tie.Need-cast-width Inv-loop μ-loop
+cast-width c = omega arith
+
+cast-place : tie.Need-cast-place Inv-loop μ-loop
+cast-place c = omega arith
+
+marks-requires : tie.Need-marks-requires Inv-loop μ-loop
+marks-requires c κs =
+    (tabling-narrow ((c .before .before .before .before .before .before .before) .pre .regular) ((c .before .before .before .before .loop) .inv) ((c .before .before .before .loop-test) .taken) ((c .before .before .cell-at) .ensures .0) ((c .if1) .left), omega arith)
+
+mul-rows : tie.Need-mul-rows Inv-loop μ-loop
+mul-rows c =
+    omega (arith, tabling-room ((c .before .before .before .before .before .before .before .before) .pre .regular) ((c .before .before .before .before .before .loop) .inv) ((c .before .before .before .before .loop-test) .taken) ((c .before .before .before .cell-at) .ensures .0) ((c .before .if1) .left))
+
+array-set-from-rows : tie.Need-array-set-from-rows Inv-loop μ-loop
+array-set-from-rows c =
+    omega (arith, (c .before .before .before .before .before .loop) .inv .filled .all, tabling-room ((c .before .before .before .before .before .before .before .before) .pre .regular) ((c .before .before .before .before .before .loop) .inv) ((c .before .before .before .before .loop-test) .taken) ((c .before .before .before .cell-at) .ensures .0) ((c .before .if1) .left))
+
+add-count : tie.Need-add-count Inv-loop μ-loop
+add-count c =
+    omega (arith, tabling-room ((c .before .before .before .before .before .before .before .before) .pre .regular) ((c .before .before .before .before .before .loop) .inv) ((c .before .before .before .before .loop-test) .taken) ((c .before .before .before .cell-at) .ensures .0) ((c .before .if1) .left))
+
+add-i-2 : tie.Need-add-i-2 Inv-loop μ-loop
+add-i-2 c = omega arith
+
+loop-less-2 : tie.Need-loop-less-2 Inv-loop μ-loop
+loop-less-2 c = omega arith
+
+loop-again-2 : tie.Need-loop-again-2 Inv-loop μ-loop
+loop-again-2 c =
+    tabling-word ((c .before .before .before .before .before .before .before .before) .pre .regular) ((c .before .before .before .before .before .loop) .inv) ((c .before .before .before .before .loop-test) .taken) ((c .before .before .before .cell-at) .ensures .0) ((c .before .if1) .left) ((c .marks) .result) ((c .marks) .ensures .0) ((c .marks) .ensures .1)
+
+returns : tie.Need-returns Inv-loop μ-loop
+returns c = unnamed-is (tabling-empty ((c .before .before .loop) .inv) ((c .before .loop-test) .left) ((c .if2) .taken))
+
+slice-aggregate-covered : tie.Need-slice-aggregate-covered Inv-loop μ-loop
+slice-aggregate-covered c = search needs
+
+covered-requires : tie.Need-covered-requires Inv-loop μ-loop
+covered-requires c κs =
+    ((c .before .before .before .loop) .inv .filled, (omega arith, tabling-wide ((c .before .before .before .before .before .before) .pre .regular) ((c .before .before .before .loop) .inv) ((c .before .if2) .left)))
+
+returns-2 : tie.Need-returns-2 Inv-loop μ-loop
+returns-2 c =
+    unnamed-is (tabling-all ((c .before .before .before .before .loop) .inv) ((c .before .before .before .loop-test) .left) ((c .before .before .if2) .left) ((c .covered) .ensures))
+
+pub leaves-unnamed-spec : {M : Type 1} → statement M
+leaves-unnamed-spec =
+    tie.close
+    (tie.spec
+    Inv-loop
+    μ-loop
+    loop-holds
+    cell-at-requires
+    add-i
+    loop-less
+    loop-again
+    cast-width
+    cast-place
+    marks-requires
+    mul-rows
+    array-set-from-rows
+    add-count
+    add-i-2
+    loop-less-2
+    loop-again-2
+    returns
+    slice-aggregate-covered
+    covered-requires
+    returns-2)

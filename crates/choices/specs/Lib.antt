@@ -1,0 +1,11 @@
+pub mod Entries
+pub mod EntryLaws
+pub mod Literals
+pub mod LiteralLaws
+pub mod Folds
+pub mod FoldLaws
+pub mod Coverage
+pub mod CoverageLaws
+pub mod Promises
+pub mod PromiseLaws
+pub mod StoredWords

@@ -1,0 +1,5 @@
+pub mod Ports
+pub mod Firsts
+pub mod Listing
+pub mod EntryRuns
+pub mod ListingLaws
