@@ -19,12 +19,12 @@ joined-more : (o : Binary) (a : Formula) (bs : List Formula) (b : Formula) → j
 joined-more o a [] b = refl
 joined-more o a (c ∷ bs) b = joined-more o (Two o a c) bs b
 
-over-more : (all : Bool) (fs : List Formula) (a : Formula) → (fs ≡ [] → ⊥) → over all (fs ++ (a ∷ [])) ≡ Two (operator all) (over all fs) a
+pub over-more : (all : Bool) (fs : List Formula) (a : Formula) → (fs ≡ [] → ⊥) → over all (fs ++ (a ∷ [])) ≡ Two (operator all) (over all fs) a
 over-more all [] a h = absurd (h refl)
 over-more true (f ∷ fs) a h = joined-more And f fs a
 over-more false (f ∷ fs) a h = joined-more Or f fs a
 
-over-one : (all : Bool) (a : Formula) → over all (a ∷ []) ≡ a
+pub over-one : (all : Bool) (a : Formula) → over all (a ∷ []) ≡ a
 over-one true a = refl
 over-one false a = refl
 

@@ -12,7 +12,7 @@ use Rattle.notes.proofs.first.first_note.Statement.{statement}
 use Rattle.notes.proofs.first.first_note.Tie as tie
 
 returns : tie.Need-returns
-returns c = λ text refs count entries x s r. record { is = unnoted s r ((c .before .before .before) .args .r) ((c .if1) .taken) 0 }
+returns c = λ text refs count entries x s r. record { is = unnoted s r ((c .before .before .before) .args .r) (omega (arith, (c .if1) .taken)) 0 }
 
 mul-wide : tie.Need-mul-wide
 mul-wide c = search needs

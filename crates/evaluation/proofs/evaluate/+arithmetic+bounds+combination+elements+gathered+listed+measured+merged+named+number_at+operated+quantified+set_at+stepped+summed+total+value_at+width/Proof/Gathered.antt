@@ -1,0 +1,46 @@
+-- `gathered` meets its contract.
+use Prim.Native.Nat.{ℕ, _+_, _-_, _*_, _≤_, _<_}
+use mathlib.Core.Path.{_≡_, refl, sym, ap, _∙_}
+use native.Mathlib.Omega.{arith}
+use borrow.Author.Needs.{needs}
+use Rattle.evaluation.specs.OverLaws as L
+use Rattle.evaluation.specs.Entries.{kindAt}
+use Rattle.evaluation.specs.NameLaws as N
+use Rattle.evaluation.specs.OperationLaws as P
+use Rattle.evaluation.specs.Classes.{classOf}
+use Rattle.evaluation.specs.StepLaws as S
+use Rattle.evaluation.specs.KindLaws as K
+use Rattle.evaluation.specs.FitsLaws as F
+use Rattle.evaluation.specs.Operands as O
+use Rattle.evaluation.specs.TellingLaws as T
+use Rattle.evaluation.proofs.evaluate.gathered.Reads as gathered
+use Rattle.evaluation.proofs.evaluate.+arithmetic+bounds+combination+elements+gathered+listed+measured+merged+named+number_at+operated+quantified+set_at+stepped+summed+total+value_at+width.Lts-gathered as gathered-lts
+use Rattle.evaluation.proofs.evaluate.+arithmetic+bounds+combination+elements+gathered+listed+measured+merged+named+number_at+operated+quantified+set_at+stepped+summed+total+value_at+width.Proof.Calls.{gathered-at, gathered-calls}
+
+pub gathered-met : (t : ℕ) {M : Type 1} → gathered-lts.Closed (gathered-calls t) (gathered-at t) gathered.Post M
+gathered-met t =
+    gathered-lts.spec (gathered-calls t) (gathered-at t) gathered.Post
+    (λ c. L.over-some (λ W env d e f. O.big-of f (L.gather-class _ ((c .before .before .before .before .before .before .before .before .before .before .before .before .pre .1 .1 .1) .0) ((c .before .before .before .before .before .before .before .before .before .before .before .before .pre .1 .1 .1) .1))) (c .before .before .before .before .before .before .before .before .before .before .before .before .pre .1 .0))
+    (λ c. let i = L.over-some (λ W env d e f. O.big-of f (L.gather-class _ ((c .before .before .before .before .before .before .before .before .before .before .before .before .pre .1 .1 .1) .0) ((c .before .before .before .before .before .before .before .before .before .before .before .before .pre .1 .1 .1) .1))) (c .before .before .before .before .before .before .before .before .before .before .before .before .pre .1 .0) in omega arith)
+    (λ c κs. (let i = L.over-some (λ W env d e f. O.big-of f (L.gather-class _ ((c .before .before .before .before .before .before .before .before .before .before .before .before .pre .1 .1 .1) .0) ((c .before .before .before .before .before .before .before .before .before .before .before .before .pre .1 .1 .1) .1))) (c .before .before .before .before .before .before .before .before .before .before .before .before .pre .1 .0) in omega (arith, (c .before .before .before .before .before .before .before .before .before .before .before .before .pre .1 .0) .room .inside), (c .before .before .before .before .before .before .before .before .before .before .before .before .pre .1 .0) .room .work))
+    (λ c. omega (arith, (L.over-inside (λ W env d e f. O.big-of f (L.gather-class _ ((c .before .before .before .before .before .before .before .before .before .before .before .before .before .pre .1 .1 .1) .0) ((c .before .before .before .before .before .before .before .before .before .before .before .before .before .pre .1 .1 .1) .1))) (c .size-at .result) (c .size-at .ensures) (c .before .before .before .before .before .before .before .before .before .before .before .before .before .pre .1 .0))))
+    (λ c. search needs)
+    (λ c κs. (omega (arith, (c .before .before .before .before .before .before .before .before .before .before .before .before .before .before .pre .0), (L.over-inside (λ W env d e f. O.big-of f (L.gather-class _ ((c .before .before .before .before .before .before .before .before .before .before .before .before .before .before .pre .1 .1 .1) .0) ((c .before .before .before .before .before .before .before .before .before .before .before .before .before .before .pre .1 .1 .1) .1))) (c .before .size-at .result) (c .before .size-at .ensures) (c .before .before .before .before .before .before .before .before .before .before .before .before .before .before .pre .1 .0))), (L.over-set (λ W env d e f. O.big-of f (L.gather-class _ ((c .before .before .before .before .before .before .before .before .before .before .before .before .before .before .pre .1 .1 .1) .0) ((c .before .before .before .before .before .before .before .before .before .before .before .before .before .before .pre .1 .1 .1) .1))) (c .before .size-at .result) (c .before .size-at .ensures) (c .before .before .before .before .before .before .before .before .before .before .before .before .before .before .pre .1 .0), search needs)))
+    (λ c. search needs)
+    (λ c. search needs)
+    (λ c κs. search needs)
+    (λ c. search needs)
+    (λ c. search needs)
+    (λ c. search needs)
+    (λ c. search needs)
+    (λ c. rw (c .set .ensures) (L.set-alone (λ W env d e f. O.big-of f (L.gather-class _ ((c .before .before .before .before .before .before .before .before .before .before .before .before .before .before .before .before .before .before .before .before .before .before .before .before .before .before .before .pre .1 .1 .1) .0) ((c .before .before .before .before .before .before .before .before .before .before .before .before .before .before .before .before .before .before .before .before .before .before .before .before .before .before .before .pre .1 .1 .1) .1))) (c .before .before .before .before .before .before .before .before .before .before .before .before .before .before .size-at .result) (c .before .before .before .before .before .before .before .before .before .before .before .before .before .before .size-at .ensures) (c .before .before .before .before .before .before .before .before .before .before .before .before .set-at .ensures) (λ W x d e tx. T.refuses-set (c .before .enum-told .given .1) (T.set-no _ tx (c .before .enum-told .given .1)))))
+    (λ c. search needs)
+    (λ c. search needs)
+    (λ c κs. (omega (arith, (c .before .before .before .before .before .before .before .before .before .before .before .before .before .before .before .before .before .before .before .before .before .before .before .before .before .before .before .before .before .before .before .before .before .pre .0)), (L.over-again (λ W env d e f. O.big-of f (L.gather-class _ ((c .before .before .before .before .before .before .before .before .before .before .before .before .before .before .before .before .before .before .before .before .before .before .before .before .before .before .before .before .before .before .before .before .before .pre .1 .1 .1) .0) ((c .before .before .before .before .before .before .before .before .before .before .before .before .before .before .before .before .before .before .before .before .before .before .before .before .before .before .before .before .before .before .before .before .before .pre .1 .1 .1) .1))) (c .before .before .before .before .before .before .before .before .before .before .before .before .before .before .before .before .before .before .before .before .size-at .result) (c .before .before .before .before .before .before .before .before .before .before .before .before .before .before .before .before .before .before .before .before .size-at .ensures) (c .before .before .before .before .before .before .before .before .before .before .before .before .before .before .before .before .before .before .before .before .before .before .before .before .before .before .before .before .before .before .before .before .before .pre .1 .0) (record { sorts = c .before .before .before .before .before .before .before .before .before .before .before .before .before .before .before .before .before .before .set-at .kept .1 .1 .1 .0; numbers = c .before .before .before .before .before .before .before .before .before .before .before .before .before .before .before .before .before .before .set-at .kept .1 .1 .1 .1 .0; slots = c .before .before .before .before .before .before .before .before .before .before .before .before .before .before .before .before .before .before .set-at .kept .1 .1 .1 .1 .1 .1 .0 }) (c .before .before .before .before .before .before .before .before .before .before .before .before .before .before .before .before .before .before .set-at .ensures), (omega (arith, (c .before .before .before .before .before .before .before .before .before .before .before .before .before .before .before .before .before .before .before .before .before .before .before .before .before .before .before .before .before .before .before .before .before .pre .1 .1 .0)), ((c .before .before .before .before .before .before .before .before .before .before .before .before .before .before .before .before .before .before .before .before .before .before .before .before .before .before .before .before .before .before .before .before .before .pre .1 .1 .1), T.set-ordered (S.told (L.over-set (λ W env d e f. O.big-of f (L.gather-class _ ((c .before .before .before .before .before .before .before .before .before .before .before .before .before .before .before .before .before .before .before .before .before .before .before .before .before .before .before .before .before .before .before .before .before .pre .1 .1 .1) .0) ((c .before .before .before .before .before .before .before .before .before .before .before .before .before .before .before .before .before .before .before .before .before .before .before .before .before .before .before .before .before .before .before .before .before .pre .1 .1 .1) .1))) (c .before .before .before .before .before .before .before .before .before .before .before .before .before .before .before .before .before .before .before .before .size-at .result) (c .before .before .before .before .before .before .before .before .before .before .before .before .before .before .before .before .before .before .before .before .size-at .ensures) (c .before .before .before .before .before .before .before .before .before .before .before .before .before .before .before .before .before .before .before .before .before .before .before .before .before .before .before .before .before .before .before .before .before .pre .1 .0)) (c .before .before .before .before .before .before .before .before .before .before .before .before .before .before .before .before .before .before .set-at .ensures) .2) (c .before .before .before .before .before .before .before .x .given .1) (search needs))))))
+    (λ c κs. search needs)
+    (λ c. search needs)
+    (λ c. search needs)
+    (λ c. search needs)
+    (λ c. search needs)
+    (λ c. search needs)
+    (λ c. rw (c .set2 .ensures) (L.merged-works (λ W env d e f. O.big-of f (L.gather-class _ ((c .before .before .before .before .before .before .before .before .before .before .before .before .before .before .before .before .before .before .before .before .before .before .before .before .before .before .before .before .before .before .before .before .before .before .before .before .before .before .before .before .before .before .before .before .before .pre .1 .1 .1) .0) ((c .before .before .before .before .before .before .before .before .before .before .before .before .before .before .before .before .before .before .before .before .before .before .before .before .before .before .before .before .before .before .before .before .before .before .before .before .before .before .before .before .before .before .before .before .before .pre .1 .1 .1) .1))) (c .before .before .before .before .before .before .before .before .before .before .before .before .before .before .before .before .before .before .before .before .before .before .before .before .before .before .before .before .before .before .before .before .size-at .result) (c .before .before .before .before .before .before .before .before .before .before .before .before .before .before .before .before .before .before .before .before .before .before .before .before .before .before .before .before .before .before .before .before .size-at .ensures) (c .before .before .before .before .before .before .before .before .before .before .before .before .before .before .before .before .before .before .before .before .before .before .before .before .before .before .before .before .before .before .set-at .ensures) (c .before .before .before .before .before .before .before .before .before .before .before .before .before .before .before .before .before .before .before .x .given .1) (c .before .before .before .before .before .before .before .before .before .before .before .merged .ensures)))

@@ -1,0 +1,247 @@
+-- `merged` meets its contract.
+use Prim.Native.Nat.{ℕ, _+_, _-_, _*_, _≤_, _<_}
+use mathlib.Core.Path.{_≡_, refl, sym, ap, _∙_}
+use native.Mathlib.Omega.{arith}
+use borrow.Author.Needs.{needs}
+use lib.ListN.{length, getD, length-set, take}
+use Rattle.language.specs.Limits.{maxElements}
+use Rattle.evaluation.specs.Working.{source, state}
+use Rattle.evaluation.specs.FoldLaws as D
+use Rattle.evaluation.specs.MergedLaws as A
+use mathlib.Core.Path.{subst}
+use Rattle.language.specs.Values.{limited}
+use Rattle.language.specs.Sets.{combine}
+use Rattle.sets.specs.Operators.{combination}
+use Rattle.sets.specs.Answers.{SetIs}
+use Rattle.evaluation.specs.OverLaws as L
+use Rattle.evaluation.specs.Entries.{kindAt}
+use Rattle.evaluation.specs.NameLaws as N
+use Rattle.evaluation.specs.OperationLaws as P
+use Rattle.evaluation.specs.Classes.{classOf}
+use Rattle.evaluation.specs.StepLaws as S
+use Rattle.evaluation.specs.KindLaws as K
+use Rattle.evaluation.specs.FitsLaws as F
+use Rattle.evaluation.specs.Operands as O
+use Rattle.evaluation.specs.TellingLaws as T
+use Rattle.evaluation.proofs.evaluate.merged.Reads as merged
+use Rattle.evaluation.proofs.evaluate.+arithmetic+bounds+combination+elements+gathered+listed+measured+merged+named+number_at+operated+quantified+set_at+stepped+summed+total+value_at+width.Lts-merged as merged-lts
+use Rattle.evaluation.proofs.evaluate.+arithmetic+bounds+combination+elements+gathered+listed+measured+merged+named+number_at+operated+quantified+set_at+stepped+summed+total+value_at+width.Proof.Calls.{merged-at, merged-calls}
+
+abbrev Inv : merged-lts.InvT-loop
+Inv text work refs sorts₀ numbers₀ kept₀ slots₀ base depth k elements n out₀ kind place slot a next₀ size₀ i₀ sorts numbers kept slots out next size i = A.MergeFrom (source text work refs) base depth k (kind - 41) elements n (state sorts₀ numbers₀ kept₀ slots₀) (take size₀ out₀) i₀ (state sorts numbers kept slots) out size i × (length kept ≡ length kept₀) × (length out ≡ length out₀) × (1 ≤ i) × (length next ≡ 257)
+
+abbrev fuel : merged-lts.MeasureT-loop
+fuel text work refs sorts₀ numbers₀ kept₀ slots₀ base depth k elements n out₀ kind place slot a next₀ size₀ i₀ sorts numbers kept slots out next size i = n - i
+
+at-kind-at-requires : (t : ℕ) → merged-lts.Need-kind-at-requires (merged-calls t) (merged-at t) merged.Post Inv fuel
+at-kind-at-requires t c κs = let vR = c .before .before .before .before .before .before .before .before .before .pre .1 .0 in ((vR .room .inside, vR .room .work))
+
+at-place-at-requires : (t : ℕ) → merged-lts.Need-place-at-requires (merged-calls t) (merged-at t) merged.Post Inv fuel
+at-place-at-requires t c κs = let vR = c .before .before .before .before .before .before .before .before .before .before .pre .1 .0 in ((vR .room .inside, vR .room .work))
+
+at-returns : (t : ℕ) → merged-lts.Need-returns (merged-calls t) (merged-at t) merged.Post Inv fuel
+at-returns t c = let vG = c .before .before .before .before .before .before .before .before .before .before .before .before .before .pre .1 .1 .1 .1 in let vH = c .before .before .before .before .before .before .before .before .before .before .before .before .before .pre .1 .1 .1 .0 in let vK = c .before .before .before .kind-at .ensures in let vX = c .before .before .before .kind-at .result in let vEL = c .before .before .before .before .before .before .before .before .before .before .before .before .before .args .elements .now in let vNN = c .before .before .before .before .before .before .before .before .before .before .before .before .before .args .n in let vC = ap classOf (sym vK) ∙ L.gather-class vX (omega (arith, vK, vH .0)) (omega (arith, vK, vH .1)) in let vST0 = state (c .before .before .before .before .before .before .before .before .before .before .before .before .before .args .sorts .now) (c .before .before .before .before .before .before .before .before .before .before .before .before .before .args .numbers .now) (c .before .before .before .before .before .before .before .before .before .before .before .before .before .args .kept .now) (c .before .before .before .before .before .before .before .before .before .before .before .before .before .args .slots .now) in A.merged-refused _ _ _ _ (vX - 41) (omega (arith, vK, vH .0, vH .1)) vEL vNN vG (λ W env d e f. O.big-of f vC) (D.keeping-none vST0) (c .before .if1 .taken) (omega (arith, c .if2 .taken)) (c .before .before .place-at .ensures)
+
+at-returns-2 : (t : ℕ) → merged-lts.Need-returns-2 (merged-calls t) (merged-at t) merged.Post Inv fuel
+at-returns-2 t c = let vG = c .before .before .before .before .before .before .before .before .before .before .before .before .before .pre .1 .1 .1 .1 in let vH = c .before .before .before .before .before .before .before .before .before .before .before .before .before .pre .1 .1 .1 .0 in let vK = c .before .before .before .kind-at .ensures in let vX = c .before .before .before .kind-at .result in let vEL = c .before .before .before .before .before .before .before .before .before .before .before .before .before .args .elements .now in let vNN = c .before .before .before .before .before .before .before .before .before .before .before .before .before .args .n in let vC = ap classOf (sym vK) ∙ L.gather-class vX (omega (arith, vK, vH .0)) (omega (arith, vK, vH .1)) in let vST0 = state (c .before .before .before .before .before .before .before .before .before .before .before .before .before .args .sorts .now) (c .before .before .before .before .before .before .before .before .before .before .before .before .before .args .numbers .now) (c .before .before .before .before .before .before .before .before .before .before .before .before .before .args .kept .now) (c .before .before .before .before .before .before .before .before .before .before .before .before .before .args .slots .now) in A.merged-none _ _ _ _ (vX - 41) (omega (arith, vK, vH .0, vH .1)) vEL vNN vG (λ W env d e f. O.big-of f vC) (D.keeping-none vST0) (c .before .if1 .taken) (omega (arith, c .if2 .left, vK, vH .0, vH .1))
+
+at-add-slot : (t : ℕ) → merged-lts.Need-add-slot (merged-calls t) (merged-at t) merged.Post Inv fuel
+at-add-slot t c = let vR = c .before .before .before .before .before .before .before .before .before .before .before .before .pre .1 .0 in omega (arith, vR .room .slots)
+
+at-shared-slice-read-slots : (t : ℕ) → merged-lts.Need-shared-slice-read-slots (merged-calls t) (merged-at t) merged.Post Inv fuel
+at-shared-slice-read-slots t c = let vG = c .before .before .before .before .before .before .before .before .before .before .before .before .before .pre .1 .1 .1 .1 in omega (arith, vG .room)
+
+at-mul-slots : (t : ℕ) → merged-lts.Need-mul-slots (merged-calls t) (merged-at t) merged.Post Inv fuel
+at-mul-slots t c = let vR = c .before .before .before .before .before .before .before .before .before .before .before .before .before .pre .1 .0 in omega (arith, vR .room .slots)
+
+at-slice-write-slots : (t : ℕ) → merged-lts.Need-slice-write-slots (merged-calls t) (merged-at t) merged.Post Inv fuel
+at-slice-write-slots t c = let vR = c .before .before .before .before .before .before .before .before .before .before .before .before .before .pre .1 .0 in omega (arith, vR .room .slots)
+
+at-add-set-at : (t : ℕ) → merged-lts.Need-add-set-at (merged-calls t) (merged-at t) merged.Post Inv fuel
+at-add-set-at t c = let vR = c .before .before .before .before .before .before .before .before .before .before .before .before .before .before .before .before .before .pre .1 .0 in omega (arith, vR .room .slots)
+
+at-sub-set-at : (t : ℕ) → merged-lts.Need-sub-set-at (merged-calls t) (merged-at t) merged.Post Inv fuel
+at-sub-set-at t c = let vR = c .before .before .before .before .before .before .before .before .before .before .before .before .before .before .before .before .before .pre .1 .0 in let vH = c .before .before .before .before .before .before .before .before .before .before .before .before .before .before .before .before .before .pre .1 .1 .1 .0 in let vK = c .before .before .before .before .before .before .before .kind-at .ensures in let vX = c .before .before .before .before .before .before .before .kind-at .result in let vC = ap classOf (sym vK) ∙ L.gather-class vX (omega (arith, vK, vH .0)) (omega (arith, vK, vH .1)) in let i = (L.over-some (λ W env d e f. O.big-of f vC) vR) in omega arith
+
+at-set-at-requires : (t : ℕ) → merged-lts.Need-set-at-requires (merged-calls t) (merged-at t) merged.Post Inv fuel
+at-set-at-requires t c κs = (let i = (L.over-some (λ W env d e f. O.big-of f (ap classOf (sym (c .before .before .before .before .before .before .before .before .kind-at .ensures)) ∙ L.gather-class (c .before .before .before .before .before .before .before .before .kind-at .result) (omega (arith, (c .before .before .before .before .before .before .before .before .kind-at .ensures), (c .before .before .before .before .before .before .before .before .before .before .before .before .before .before .before .before .before .before .pre .1 .1 .1 .0) .0)) (omega (arith, (c .before .before .before .before .before .before .before .before .kind-at .ensures), (c .before .before .before .before .before .before .before .before .before .before .before .before .before .before .before .before .before .before .pre .1 .1 .1 .0) .1)))) (c .before .before .before .before .before .before .before .before .before .before .before .before .before .before .before .before .before .before .pre .1 .0)) in omega (arith, (c .before .before .before .before .before .before .before .before .before .before .before .before .before .before .before .before .before .before .pre .0)), ((let vR = c .before .before .before .before .before .before .before .before .before .before .before .before .before .before .before .before .before .before .pre .1 .0 in let vG = c .before .before .before .before .before .before .before .before .before .before .before .before .before .before .before .before .before .before .pre .1 .1 .1 .1 in let vH = c .before .before .before .before .before .before .before .before .before .before .before .before .before .before .before .before .before .before .pre .1 .1 .1 .0 in let vK = c .before .before .before .before .before .before .before .before .kind-at .ensures in let vX = c .before .before .before .before .before .before .before .before .kind-at .result in let vEL = c .before .before .before .before .before .before .before .before .before .before .before .before .before .before .before .before .before .before .args .elements .now in let vC = ap classOf (sym vK) ∙ L.gather-class vX (omega (arith, vK, vH .0)) (omega (arith, vK, vH .1)) in let vU = O.big-of (vR .fits) (vC) .under in let vST0 = state (c .before .before .before .before .before .before .before .before .before .before .before .before .before .before .before .before .before .before .args .sorts .now) (c .before .before .before .before .before .before .before .before .before .before .before .before .before .before .before .before .before .before .args .numbers .now) (c .before .before .before .before .before .before .before .before .before .before .before .before .before .before .before .before .before .before .args .kept .now) (c .before .before .before .before .before .before .before .before .before .before .before .before .before .before .before .before .before .before .args .slots .now) in let vR1 = D.operand-ready (D.keeping-none vST0) (getD vEL 0 0) (D.element-small {i = 0} vG (omega (arith, c .before .before .before .before .before .before .if1 .left))) (omega (arith, vR .room .slots)) vR (let i = (L.over-some (λ W env d e f. O.big-of f vC) vR) in omega arith) vU in vR1), (c .before .before .before .before .before .before .before .before .before .before .before .before .before .before .before .before .before .before .pre .1 .1 .0)))
+
+at-same-length : (t : ℕ) → merged-lts.Need-same-length (merged-calls t) (merged-at t) merged.Post Inv fuel
+at-same-length t c = c .before .before .before .before .before .before .before .before .before .before .before .before .set-at .kept .1 .1 .1 .0
+
+at-same-length-2 : (t : ℕ) → merged-lts.Need-same-length-2 (merged-calls t) (merged-at t) merged.Post Inv fuel
+at-same-length-2 t c = c .before .before .before .before .before .before .before .before .before .before .before .before .set-at .kept .1 .1 .1 .1 .0
+
+at-same-length-3 : (t : ℕ) → merged-lts.Need-same-length-3 (merged-calls t) (merged-at t) merged.Post Inv fuel
+at-same-length-3 t c = c .before .before .before .before .before .before .before .before .before .before .before .before .set-at .kept .1 .1 .1 .1 .1 .0
+
+at-same-length-4 : (t : ℕ) → merged-lts.Need-same-length-4 (merged-calls t) (merged-at t) merged.Post Inv fuel
+at-same-length-4 t c = c .before .before .before .before .before .before .before .before .before .before .before .before .set-at .kept .1 .1 .1 .1 .1 .1 .0 ∙ (length-set (c .before .before .before .before .before .before .before .before .before .before .before .before .before .before .before .before .before .before .before .before .before .before .before .before .before .before .before .before .before .before .before .args .slots .now) _ _)
+
+at-same-length-5 : (t : ℕ) → merged-lts.Need-same-length-5 (merged-calls t) (merged-at t) merged.Post Inv fuel
+at-same-length-5 t c = c .before .before .before .before .before .before .before .before .before .before .before .before .set-at .kept .1 .1 .1 .1 .1 .1 .1 .1 .1 .1 .0
+
+at-returns-3 : (t : ℕ) → merged-lts.Need-returns-3 (merged-calls t) (merged-at t) merged.Post Inv fuel
+at-returns-3 t c = let vR = c .before .before .before .before .before .before .before .before .before .before .before .before .before .before .before .before .before .before .before .before .before .before .before .before .before .before .before .before .before .before .before .pre .1 .0 in let vG = c .before .before .before .before .before .before .before .before .before .before .before .before .before .before .before .before .before .before .before .before .before .before .before .before .before .before .before .before .before .before .before .pre .1 .1 .1 .1 in let vH = c .before .before .before .before .before .before .before .before .before .before .before .before .before .before .before .before .before .before .before .before .before .before .before .before .before .before .before .before .before .before .before .pre .1 .1 .1 .0 in let vK = c .before .before .before .before .before .before .before .before .before .before .before .before .before .before .before .before .before .before .before .before .before .kind-at .ensures in let vX = c .before .before .before .before .before .before .before .before .before .before .before .before .before .before .before .before .before .before .before .before .before .kind-at .result in let vEL = c .before .before .before .before .before .before .before .before .before .before .before .before .before .before .before .before .before .before .before .before .before .before .before .before .before .before .before .before .before .before .before .args .elements .now in let vNN = c .before .before .before .before .before .before .before .before .before .before .before .before .before .before .before .before .before .before .before .before .before .before .before .before .before .before .before .before .before .before .before .args .n in let vC = ap classOf (sym vK) ∙ L.gather-class vX (omega (arith, vK, vH .0)) (omega (arith, vK, vH .1)) in let vST0 = state (c .before .before .before .before .before .before .before .before .before .before .before .before .before .before .before .before .before .before .before .before .before .before .before .before .before .before .before .before .before .before .before .args .sorts .now) (c .before .before .before .before .before .before .before .before .before .before .before .before .before .before .before .before .before .before .before .before .before .before .before .before .before .before .before .before .before .before .before .args .numbers .now) (c .before .before .before .before .before .before .before .before .before .before .before .before .before .before .before .before .before .before .before .before .before .before .before .before .before .before .before .before .before .before .before .args .kept .now) (c .before .before .before .before .before .before .before .before .before .before .before .before .before .before .before .before .before .before .before .before .before .before .before .before .before .before .before .before .before .before .before .args .slots .now) in A.merged-first-no _ _ _ _ (vX - 41) (omega (arith, vK, vH .0, vH .1)) vEL vNN vG (λ W env d e f. O.big-of f vC) (D.keeping-none vST0) (D.element-small {i = 0} vG (omega (arith, c .before .before .before .before .before .before .before .before .before .before .before .before .before .before .before .before .before .before .before .if1 .left))) (omega (arith, vR .room .slots)) (omega (arith, c .before .before .before .before .before .before .before .before .before .before .before .before .before .before .before .before .before .before .before .if1 .left)) (c .before .before .before .before .before .before .before .before .before .before .before .before .set-at .ensures) (record { sorts = c .before .before .before .before .before .before .before .before .before .before .before .before .set-at .kept .1 .1 .1 .0; numbers = c .before .before .before .before .before .before .before .before .before .before .before .before .set-at .kept .1 .1 .1 .1 .0; slots = c .before .before .before .before .before .before .before .before .before .before .before .before .set-at .kept .1 .1 .1 .1 .1 .1 .0 }) (c .enum-told .given .1) _
+
+at-loop-holds : (t : ℕ) → merged-lts.Need-loop-holds (merged-calls t) (merged-at t) merged.Post Inv fuel
+at-loop-holds t c = ((let vR = c .before .before .before .before .before .before .before .before .before .before .before .before .before .before .before .before .before .before .before .before .before .before .before .before .before .before .before .before .before .before .before .before .pre .1 .0 in let vG = c .before .before .before .before .before .before .before .before .before .before .before .before .before .before .before .before .before .before .before .before .before .before .before .before .before .before .before .before .before .before .before .before .pre .1 .1 .1 .1 in let vH = c .before .before .before .before .before .before .before .before .before .before .before .before .before .before .before .before .before .before .before .before .before .before .before .before .before .before .before .before .before .before .before .before .pre .1 .1 .1 .0 in let vK = c .before .before .before .before .before .before .before .before .before .before .before .before .before .before .before .before .before .before .before .before .before .before .kind-at .ensures in let vX = c .before .before .before .before .before .before .before .before .before .before .before .before .before .before .before .before .before .before .before .before .before .before .kind-at .result in let vEL = c .before .before .before .before .before .before .before .before .before .before .before .before .before .before .before .before .before .before .before .before .before .before .before .before .before .before .before .before .before .before .before .before .args .elements .now in let vNN = c .before .before .before .before .before .before .before .before .before .before .before .before .before .before .before .before .before .before .before .before .before .before .before .before .before .before .before .before .before .before .before .before .args .n in let vC = ap classOf (sym vK) ∙ L.gather-class vX (omega (arith, vK, vH .0)) (omega (arith, vK, vH .1)) in let vU = O.big-of (vR .fits) (vC) .under in let vST0 = state (c .before .before .before .before .before .before .before .before .before .before .before .before .before .before .before .before .before .before .before .before .before .before .before .before .before .before .before .before .before .before .before .before .args .sorts .now) (c .before .before .before .before .before .before .before .before .before .before .before .before .before .before .before .before .before .before .before .before .before .before .before .before .before .before .before .before .before .before .before .before .args .numbers .now) (c .before .before .before .before .before .before .before .before .before .before .before .before .before .before .before .before .before .before .before .before .before .before .before .before .before .before .before .before .before .before .before .before .args .kept .now) (c .before .before .before .before .before .before .before .before .before .before .before .before .before .before .before .before .before .before .before .before .before .before .before .before .before .before .before .before .before .before .before .before .args .slots .now) in let vR1 = D.operand-ready (D.keeping-none vST0) (getD vEL 0 0) (D.element-small {i = 0} vG (omega (arith, c .before .before .before .before .before .before .before .before .before .before .before .before .before .before .before .before .before .before .before .before .if1 .left))) (omega (arith, vR .room .slots)) vR (let i = (L.over-some (λ W env d e f. O.big-of f vC) vR) in omega arith) vU in let vB1 = T.set-small (S.told vR1 (c .before .before .before .before .before .before .before .before .before .before .before .before .before .set-at .ensures) .2) (c .before .x .given .1) in A.merge-here _ _ _ _ (vX - 41) (omega (arith, vK, vH .0, vH .1)) vEL vNN vG _ _ (omega (arith, c .before .before .before .before .before .before .before .before .before .before .before .before .before .before .before .before .before .before .before .before .if1 .left)) (vB1 .0) (vB1 .1)), refl, refl, omega arith, search needs)
+
+at-mul-slots-2 : (t : ℕ) → merged-lts.Need-mul-slots-2 (merged-calls t) (merged-at t) merged.Post Inv fuel
+at-mul-slots-2 t c = let vG = c .before .before .before .before .before .before .before .before .before .before .before .before .before .before .before .before .before .before .before .before .before .before .before .before .before .before .before .before .before .before .before .before .before .before .pre .1 .1 .1 .1 in omega (arith, vG .few)
+
+at-shared-slice-read-slots-2 : (t : ℕ) → merged-lts.Need-shared-slice-read-slots-2 (merged-calls t) (merged-at t) merged.Post Inv fuel
+at-shared-slice-read-slots-2 t c = let vG = c .before .before .before .before .before .before .before .before .before .before .before .before .before .before .before .before .before .before .before .before .before .before .before .before .before .before .before .before .before .before .before .before .before .before .before .pre .1 .1 .1 .1 in omega (arith, vG .room, vG .few)
+
+at-mul-slots-3 : (t : ℕ) → merged-lts.Need-mul-slots-3 (merged-calls t) (merged-at t) merged.Post Inv fuel
+at-mul-slots-3 t c = let vR = c .before .before .before .before .before .before .before .before .before .before .before .before .before .before .before .before .before .before .before .before .before .before .before .before .before .before .before .before .before .before .before .before .before .before .before .pre .1 .0 in let vEL = c .before .before .before .before .before .before .before .before .before .before .before .before .before .before .before .before .before .before .before .before .before .before .before .before .before .before .before .before .before .before .before .before .before .before .before .args .elements .now in let vIN = c .before .before .loop .inv .0 in (omega (arith, (c .before .before .before .before .before .before .before .before .before .before .before .before .before .before .before .before .before .before .before .before .before .before .before .before .before .before .before .before .before .before .before .before .before .before .before .good .1 .1 .1 .1 .1 .1 .0), vR .room .slots, vIN .fold .keeps .alike .slots, c .before .before .before .before .before .before .before .before .before .before .before .before .before .before .before .before .set-at .kept .1 .1 .1 .1 .1 .1 .0, length-set (c .before .before .before .before .before .before .before .before .before .before .before .before .before .before .before .before .before .before .before .before .before .before .before .before .before .before .before .before .before .before .before .before .before .before .before .args .slots .now) (c .before .before .before .before .before .before .before .before .before .before .before .before .before .before .before .before .before .before .before .before .before .before .before .before .before .before .before .before .before .before .before .before .before .before .before .args .base + c .before .before .before .before .before .before .before .before .before .before .before .before .before .before .before .before .before .before .before .before .before .before .before .before .before .before .before .before .before .before .before .before .before .before .before .args .depth) (getD vEL 0 0)))
+
+at-slice-write-slots-2 : (t : ℕ) → merged-lts.Need-slice-write-slots-2 (merged-calls t) (merged-at t) merged.Post Inv fuel
+at-slice-write-slots-2 t c = let vR = c .before .before .before .before .before .before .before .before .before .before .before .before .before .before .before .before .before .before .before .before .before .before .before .before .before .before .before .before .before .before .before .before .before .before .before .pre .1 .0 in let vEL = c .before .before .before .before .before .before .before .before .before .before .before .before .before .before .before .before .before .before .before .before .before .before .before .before .before .before .before .before .before .before .before .before .before .before .before .args .elements .now in let vIN = c .before .before .loop .inv .0 in (omega (arith, (c .before .before .before .before .before .before .before .before .before .before .before .before .before .before .before .before .before .before .before .before .before .before .before .before .before .before .before .before .before .before .before .before .before .before .before .good .1 .1 .1 .1 .1 .1 .0), vR .room .slots, vIN .fold .keeps .alike .slots, c .before .before .before .before .before .before .before .before .before .before .before .before .before .before .before .before .set-at .kept .1 .1 .1 .1 .1 .1 .0, length-set (c .before .before .before .before .before .before .before .before .before .before .before .before .before .before .before .before .before .before .before .before .before .before .before .before .before .before .before .before .before .before .before .before .before .before .before .args .slots .now) (c .before .before .before .before .before .before .before .before .before .before .before .before .before .before .before .before .before .before .before .before .before .before .before .before .before .before .before .before .before .before .before .before .before .before .before .args .base + c .before .before .before .before .before .before .before .before .before .before .before .before .before .before .before .before .before .before .before .before .before .before .before .before .before .before .before .before .before .before .before .before .before .before .before .args .depth) (getD vEL 0 0)))
+
+at-add-set-at-2 : (t : ℕ) → merged-lts.Need-add-set-at-2 (merged-calls t) (merged-at t) merged.Post Inv fuel
+at-add-set-at-2 t c = let vR = c .before .before .before .before .before .before .before .before .before .before .before .before .before .before .before .before .before .before .before .before .before .before .before .before .before .before .before .before .before .before .before .before .before .before .before .before .before .before .before .pre .1 .0 in omega (arith, (c .before .before .before .before .before .before .before .before .before .before .before .before .before .before .before .before .before .before .before .before .before .before .before .before .before .before .before .before .before .before .before .before .before .before .before .before .before .before .before .good .1 .1 .1 .1 .1 .1 .0), vR .room .slots)
+
+at-sub-set-at-2 : (t : ℕ) → merged-lts.Need-sub-set-at-2 (merged-calls t) (merged-at t) merged.Post Inv fuel
+at-sub-set-at-2 t c = let vR = c .before .before .before .before .before .before .before .before .before .before .before .before .before .before .before .before .before .before .before .before .before .before .before .before .before .before .before .before .before .before .before .before .before .before .before .before .before .before .before .pre .1 .0 in let vH = c .before .before .before .before .before .before .before .before .before .before .before .before .before .before .before .before .before .before .before .before .before .before .before .before .before .before .before .before .before .before .before .before .before .before .before .before .before .before .before .pre .1 .1 .1 .0 in let vK = c .before .before .before .before .before .before .before .before .before .before .before .before .before .before .before .before .before .before .before .before .before .before .before .before .before .before .before .before .before .kind-at .ensures in let vX = c .before .before .before .before .before .before .before .before .before .before .before .before .before .before .before .before .before .before .before .before .before .before .before .before .before .before .before .before .before .kind-at .result in let vC = ap classOf (sym vK) ∙ L.gather-class vX (omega (arith, vK, vH .0)) (omega (arith, vK, vH .1)) in let i = (L.over-some (λ W env d e f. O.big-of f vC) vR) in omega arith
+
+at-slice-aggregate-set-at : (t : ℕ) → merged-lts.Need-slice-aggregate-set-at (merged-calls t) (merged-at t) merged.Post Inv fuel
+at-slice-aggregate-set-at t c = sym (c .before .before .before .before .before .before .before .loop .inv .4)
+
+at-set-at-requires-2 : (t : ℕ) → merged-lts.Need-set-at-requires-2 (merged-calls t) (merged-at t) merged.Post Inv fuel
+at-set-at-requires-2 t c κs = (let i = (L.over-some (λ W env d e f. O.big-of f (ap classOf (sym (c .before .before .before .before .before .before .before .before .before .before .before .before .before .before .before .before .before .before .before .before .before .before .before .before .before .before .before .before .before .before .kind-at .ensures)) ∙ L.gather-class (c .before .before .before .before .before .before .before .before .before .before .before .before .before .before .before .before .before .before .before .before .before .before .before .before .before .before .before .before .before .before .kind-at .result) (omega (arith, (c .before .before .before .before .before .before .before .before .before .before .before .before .before .before .before .before .before .before .before .before .before .before .before .before .before .before .before .before .before .before .kind-at .ensures), (c .before .before .before .before .before .before .before .before .before .before .before .before .before .before .before .before .before .before .before .before .before .before .before .before .before .before .before .before .before .before .before .before .before .before .before .before .before .before .before .before .pre .1 .1 .1 .0) .0)) (omega (arith, (c .before .before .before .before .before .before .before .before .before .before .before .before .before .before .before .before .before .before .before .before .before .before .before .before .before .before .before .before .before .before .kind-at .ensures), (c .before .before .before .before .before .before .before .before .before .before .before .before .before .before .before .before .before .before .before .before .before .before .before .before .before .before .before .before .before .before .before .before .before .before .before .before .before .before .before .before .pre .1 .1 .1 .0) .1)))) (c .before .before .before .before .before .before .before .before .before .before .before .before .before .before .before .before .before .before .before .before .before .before .before .before .before .before .before .before .before .before .before .before .before .before .before .before .before .before .before .before .pre .1 .0)) in omega (arith, (c .before .before .before .before .before .before .before .before .before .before .before .before .before .before .before .before .before .before .before .before .before .before .before .before .before .before .before .before .before .before .before .before .before .before .before .before .before .before .before .before .pre .0)), ((let vR = c .before .before .before .before .before .before .before .before .before .before .before .before .before .before .before .before .before .before .before .before .before .before .before .before .before .before .before .before .before .before .before .before .before .before .before .before .before .before .before .before .pre .1 .0 in let vG = c .before .before .before .before .before .before .before .before .before .before .before .before .before .before .before .before .before .before .before .before .before .before .before .before .before .before .before .before .before .before .before .before .before .before .before .before .before .before .before .before .pre .1 .1 .1 .1 in let vH = c .before .before .before .before .before .before .before .before .before .before .before .before .before .before .before .before .before .before .before .before .before .before .before .before .before .before .before .before .before .before .before .before .before .before .before .before .before .before .before .before .pre .1 .1 .1 .0 in let vK = c .before .before .before .before .before .before .before .before .before .before .before .before .before .before .before .before .before .before .before .before .before .before .before .before .before .before .before .before .before .before .kind-at .ensures in let vX = c .before .before .before .before .before .before .before .before .before .before .before .before .before .before .before .before .before .before .before .before .before .before .before .before .before .before .before .before .before .before .kind-at .result in let vEL = c .before .before .before .before .before .before .before .before .before .before .before .before .before .before .before .before .before .before .before .before .before .before .before .before .before .before .before .before .before .before .before .before .before .before .before .before .before .before .before .before .args .elements .now in let vNN = c .before .before .before .before .before .before .before .before .before .before .before .before .before .before .before .before .before .before .before .before .before .before .before .before .before .before .before .before .before .before .before .before .before .before .before .before .before .before .before .before .args .n in let vC = ap classOf (sym vK) ∙ L.gather-class vX (omega (arith, vK, vH .0)) (omega (arith, vK, vH .1)) in let vU = O.big-of (vR .fits) (vC) .under in let vST0 = state (c .before .before .before .before .before .before .before .before .before .before .before .before .before .before .before .before .before .before .before .before .before .before .before .before .before .before .before .before .before .before .before .before .before .before .before .before .before .before .before .before .args .sorts .now) (c .before .before .before .before .before .before .before .before .before .before .before .before .before .before .before .before .before .before .before .before .before .before .before .before .before .before .before .before .before .before .before .before .before .before .before .before .before .before .before .before .args .numbers .now) (c .before .before .before .before .before .before .before .before .before .before .before .before .before .before .before .before .before .before .before .before .before .before .before .before .before .before .before .before .before .before .before .before .before .before .before .before .before .before .before .before .args .kept .now) (c .before .before .before .before .before .before .before .before .before .before .before .before .before .before .before .before .before .before .before .before .before .before .before .before .before .before .before .before .before .before .before .before .before .before .before .before .before .before .before .before .args .slots .now) in let vR1 = D.operand-ready (D.keeping-none vST0) (getD vEL 0 0) (D.element-small {i = 0} vG (omega (arith, c .before .before .before .before .before .before .before .before .before .before .before .before .before .before .before .before .before .before .before .before .before .before .before .before .before .before .before .before .if1 .left))) (omega (arith, vR .room .slots)) vR (let i = (L.over-some (λ W env d e f. O.big-of f vC) vR) in omega arith) vU in let vB1 = T.set-small (S.told vR1 (c .before .before .before .before .before .before .before .before .before .before .before .before .before .before .before .before .before .before .before .before .before .set-at .ensures) .2) (c .before .before .before .before .before .before .before .before .before .x .given .1) in let vFI = A.merged-first _ _ _ _ (vX - 41) (omega (arith, vK, vH .0, vH .1)) vEL vNN vG (λ W env d e f. O.big-of f vC) (D.keeping-none vST0) (D.element-small {i = 0} vG (omega (arith, c .before .before .before .before .before .before .before .before .before .before .before .before .before .before .before .before .before .before .before .before .before .before .before .before .before .before .before .before .if1 .left))) (omega (arith, vR .room .slots)) (omega (arith, c .before .before .before .before .before .before .before .before .before .before .before .before .before .before .before .before .before .before .before .before .before .before .before .before .before .before .before .before .if1 .left)) (c .before .before .before .before .before .before .before .before .before .before .before .before .before .before .before .before .before .before .before .before .before .set-at .ensures) (record { sorts = c .before .before .before .before .before .before .before .before .before .before .before .before .before .before .before .before .before .before .before .before .before .set-at .kept .1 .1 .1 .0; numbers = c .before .before .before .before .before .before .before .before .before .before .before .before .before .before .before .before .before .before .before .before .before .set-at .kept .1 .1 .1 .1 .0; slots = c .before .before .before .before .before .before .before .before .before .before .before .before .before .before .before .before .before .before .before .before .before .set-at .kept .1 .1 .1 .1 .1 .1 .0 }) (c .before .before .before .before .before .before .before .before .before .x .given .1) (vB1 .0) (vB1 .1) in let vIN = c .before .before .before .before .before .before .before .loop .inv .0 in let vJO = A.merge-join _ _ _ _ (vX - 41) (omega (arith, vK, vH .0, vH .1)) vEL vNN vG vFI vIN in let vR2 = D.operand-ready (vJO .fold .keeps) (getD vEL (c .before .before .before .before .before .before .before .loop .i) 0) (D.element-small {i = c .before .before .before .before .before .before .before .loop .i} vG (c .before .before .before .before .before .before .loop-test .taken)) (omega (arith, (c .before .before .before .before .before .before .before .before .before .before .before .before .before .before .before .before .before .before .before .before .before .before .before .before .before .before .before .before .before .before .before .before .before .before .before .before .before .before .before .before .good .1 .1 .1 .1 .1 .1 .0), vR .room .slots, vIN .fold .keeps .alike .slots, c .before .before .before .before .before .before .before .before .before .before .before .before .before .before .before .before .before .before .before .before .before .set-at .kept .1 .1 .1 .1 .1 .1 .0, length-set (c .before .before .before .before .before .before .before .before .before .before .before .before .before .before .before .before .before .before .before .before .before .before .before .before .before .before .before .before .before .before .before .before .before .before .before .before .before .before .before .before .args .slots .now) (c .before .before .before .before .before .before .before .before .before .before .before .before .before .before .before .before .before .before .before .before .before .before .before .before .before .before .before .before .before .before .before .before .before .before .before .before .before .before .before .before .args .base + c .before .before .before .before .before .before .before .before .before .before .before .before .before .before .before .before .before .before .before .before .before .before .before .before .before .before .before .before .before .before .before .before .before .before .before .before .before .before .before .before .args .depth) (getD vEL 0 0))) vR (let i = (L.over-some (λ W env d e f. O.big-of f vC) vR) in omega arith) vU in vR2), omega (arith, c .before .before .before .before .before .before .before .loop .inv .4)))
+
+at-same-length-6 : (t : ℕ) → merged-lts.Need-same-length-6 (merged-calls t) (merged-at t) merged.Post Inv fuel
+at-same-length-6 t c = let vIN = c .before .before .before .before .before .before .before .before .before .before .before .before .before .before .before .before .before .before .before .loop .inv .0 in c .before .before .before .before .before .before .before .before .before .before .before .set-at2 .kept .1 .1 .1 .0 ∙ ((vIN) .fold .keeps .alike .sorts) ∙ c .before .before .before .before .before .before .before .before .before .before .before .before .before .before .before .before .before .before .before .before .before .before .before .before .before .before .before .before .before .before .before .before .before .set-at .kept .1 .1 .1 .0
+
+at-same-length-7 : (t : ℕ) → merged-lts.Need-same-length-7 (merged-calls t) (merged-at t) merged.Post Inv fuel
+at-same-length-7 t c = let vIN = c .before .before .before .before .before .before .before .before .before .before .before .before .before .before .before .before .before .before .before .loop .inv .0 in c .before .before .before .before .before .before .before .before .before .before .before .set-at2 .kept .1 .1 .1 .1 .0 ∙ ((vIN) .fold .keeps .alike .numbers) ∙ c .before .before .before .before .before .before .before .before .before .before .before .before .before .before .before .before .before .before .before .before .before .before .before .before .before .before .before .before .before .before .before .before .before .set-at .kept .1 .1 .1 .1 .0
+
+at-same-length-8 : (t : ℕ) → merged-lts.Need-same-length-8 (merged-calls t) (merged-at t) merged.Post Inv fuel
+at-same-length-8 t c = c .before .before .before .before .before .before .before .before .before .before .before .set-at2 .kept .1 .1 .1 .1 .1 .0 ∙ (c .before .before .before .before .before .before .before .before .before .before .before .before .before .before .before .before .before .before .before .loop .inv .1) ∙ c .before .before .before .before .before .before .before .before .before .before .before .before .before .before .before .before .before .before .before .before .before .before .before .before .before .before .before .before .before .before .before .before .before .set-at .kept .1 .1 .1 .1 .1 .0
+
+at-same-length-9 : (t : ℕ) → merged-lts.Need-same-length-9 (merged-calls t) (merged-at t) merged.Post Inv fuel
+at-same-length-9 t c = let vIN = c .before .before .before .before .before .before .before .before .before .before .before .before .before .before .before .before .before .before .before .loop .inv .0 in c .before .before .before .before .before .before .before .before .before .before .before .set-at2 .kept .1 .1 .1 .1 .1 .1 .0 ∙ (length-set (c .before .before .before .before .before .before .before .before .before .before .before .before .before .before .before .before .before .before .before .loop .slots) _ _) ∙ ((vIN) .fold .keeps .alike .slots) ∙ c .before .before .before .before .before .before .before .before .before .before .before .before .before .before .before .before .before .before .before .before .before .before .before .before .before .before .before .before .before .before .before .before .before .set-at .kept .1 .1 .1 .1 .1 .1 .0 ∙ (length-set (c .before .before .before .before .before .before .before .before .before .before .before .before .before .before .before .before .before .before .before .before .before .before .before .before .before .before .before .before .before .before .before .before .before .before .before .before .before .before .before .before .before .before .before .before .before .before .before .before .before .before .before .before .args .slots .now) _ _)
+
+at-same-length-10 : (t : ℕ) → merged-lts.Need-same-length-10 (merged-calls t) (merged-at t) merged.Post Inv fuel
+at-same-length-10 t c = (c .before .before .before .before .before .before .before .before .before .before .before .before .before .before .before .before .before .before .before .loop .inv .2) ∙ c .before .before .before .before .before .before .before .before .before .before .before .before .before .before .before .before .before .before .before .before .before .before .before .before .before .before .before .before .before .before .before .before .before .set-at .kept .1 .1 .1 .1 .1 .1 .1 .1 .1 .1 .0
+
+at-returns-4 : (t : ℕ) → merged-lts.Need-returns-4 (merged-calls t) (merged-at t) merged.Post Inv fuel
+at-returns-4 t c = let vR = c .before .before .before .before .before .before .before .before .before .before .before .before .before .before .before .before .before .before .before .before .before .before .before .before .before .before .before .before .before .before .before .before .before .before .before .before .before .before .before .before .before .before .before .before .before .before .before .before .before .before .before .before .pre .1 .0 in let vG = c .before .before .before .before .before .before .before .before .before .before .before .before .before .before .before .before .before .before .before .before .before .before .before .before .before .before .before .before .before .before .before .before .before .before .before .before .before .before .before .before .before .before .before .before .before .before .before .before .before .before .before .before .pre .1 .1 .1 .1 in let vH = c .before .before .before .before .before .before .before .before .before .before .before .before .before .before .before .before .before .before .before .before .before .before .before .before .before .before .before .before .before .before .before .before .before .before .before .before .before .before .before .before .before .before .before .before .before .before .before .before .before .before .before .before .pre .1 .1 .1 .0 in let vK = c .before .before .before .before .before .before .before .before .before .before .before .before .before .before .before .before .before .before .before .before .before .before .before .before .before .before .before .before .before .before .before .before .before .before .before .before .before .before .before .before .before .before .kind-at .ensures in let vX = c .before .before .before .before .before .before .before .before .before .before .before .before .before .before .before .before .before .before .before .before .before .before .before .before .before .before .before .before .before .before .before .before .before .before .before .before .before .before .before .before .before .before .kind-at .result in let vEL = c .before .before .before .before .before .before .before .before .before .before .before .before .before .before .before .before .before .before .before .before .before .before .before .before .before .before .before .before .before .before .before .before .before .before .before .before .before .before .before .before .before .before .before .before .before .before .before .before .before .before .before .before .args .elements .now in let vNN = c .before .before .before .before .before .before .before .before .before .before .before .before .before .before .before .before .before .before .before .before .before .before .before .before .before .before .before .before .before .before .before .before .before .before .before .before .before .before .before .before .before .before .before .before .before .before .before .before .before .before .before .before .args .n in let vC = ap classOf (sym vK) ∙ L.gather-class vX (omega (arith, vK, vH .0)) (omega (arith, vK, vH .1)) in let vU = O.big-of (vR .fits) (vC) .under in let vST0 = state (c .before .before .before .before .before .before .before .before .before .before .before .before .before .before .before .before .before .before .before .before .before .before .before .before .before .before .before .before .before .before .before .before .before .before .before .before .before .before .before .before .before .before .before .before .before .before .before .before .before .before .before .before .args .sorts .now) (c .before .before .before .before .before .before .before .before .before .before .before .before .before .before .before .before .before .before .before .before .before .before .before .before .before .before .before .before .before .before .before .before .before .before .before .before .before .before .before .before .before .before .before .before .before .before .before .before .before .before .before .before .args .numbers .now) (c .before .before .before .before .before .before .before .before .before .before .before .before .before .before .before .before .before .before .before .before .before .before .before .before .before .before .before .before .before .before .before .before .before .before .before .before .before .before .before .before .before .before .before .before .before .before .before .before .before .before .before .before .args .kept .now) (c .before .before .before .before .before .before .before .before .before .before .before .before .before .before .before .before .before .before .before .before .before .before .before .before .before .before .before .before .before .before .before .before .before .before .before .before .before .before .before .before .before .before .before .before .before .before .before .before .before .before .before .before .args .slots .now) in let vR1 = D.operand-ready (D.keeping-none vST0) (getD vEL 0 0) (D.element-small {i = 0} vG (omega (arith, c .before .before .before .before .before .before .before .before .before .before .before .before .before .before .before .before .before .before .before .before .before .before .before .before .before .before .before .before .before .before .before .before .before .before .before .before .before .before .before .before .if1 .left))) (omega (arith, vR .room .slots)) vR (let i = (L.over-some (λ W env d e f. O.big-of f vC) vR) in omega arith) vU in let vB1 = T.set-small (S.told vR1 (c .before .before .before .before .before .before .before .before .before .before .before .before .before .before .before .before .before .before .before .before .before .before .before .before .before .before .before .before .before .before .before .before .before .set-at .ensures) .2) (c .before .before .before .before .before .before .before .before .before .before .before .before .before .before .before .before .before .before .before .before .before .x .given .1) in let vFI = A.merged-first _ _ _ _ (vX - 41) (omega (arith, vK, vH .0, vH .1)) vEL vNN vG (λ W env d e f. O.big-of f vC) (D.keeping-none vST0) (D.element-small {i = 0} vG (omega (arith, c .before .before .before .before .before .before .before .before .before .before .before .before .before .before .before .before .before .before .before .before .before .before .before .before .before .before .before .before .before .before .before .before .before .before .before .before .before .before .before .before .if1 .left))) (omega (arith, vR .room .slots)) (omega (arith, c .before .before .before .before .before .before .before .before .before .before .before .before .before .before .before .before .before .before .before .before .before .before .before .before .before .before .before .before .before .before .before .before .before .before .before .before .before .before .before .before .if1 .left)) (c .before .before .before .before .before .before .before .before .before .before .before .before .before .before .before .before .before .before .before .before .before .before .before .before .before .before .before .before .before .before .before .before .before .set-at .ensures) (record { sorts = c .before .before .before .before .before .before .before .before .before .before .before .before .before .before .before .before .before .before .before .before .before .before .before .before .before .before .before .before .before .before .before .before .before .set-at .kept .1 .1 .1 .0; numbers = c .before .before .before .before .before .before .before .before .before .before .before .before .before .before .before .before .before .before .before .before .before .before .before .before .before .before .before .before .before .before .before .before .before .set-at .kept .1 .1 .1 .1 .0; slots = c .before .before .before .before .before .before .before .before .before .before .before .before .before .before .before .before .before .before .before .before .before .before .before .before .before .before .before .before .before .before .before .before .before .set-at .kept .1 .1 .1 .1 .1 .1 .0 }) (c .before .before .before .before .before .before .before .before .before .before .before .before .before .before .before .before .before .before .before .before .before .x .given .1) (vB1 .0) (vB1 .1) in let vIN = c .before .before .before .before .before .before .before .before .before .before .before .before .before .before .before .before .before .before .before .loop .inv .0 in let vJO = A.merge-join _ _ _ _ (vX - 41) (omega (arith, vK, vH .0, vH .1)) vEL vNN vG vFI vIN in A.merged-no _ _ _ _ (vX - 41) (omega (arith, vK, vH .0, vH .1)) vEL vNN vG (λ W env d e f. O.big-of f vC) vJO (D.element-small {i = c .before .before .before .before .before .before .before .before .before .before .before .before .before .before .before .before .before .before .before .loop .i} vG (c .before .before .before .before .before .before .before .before .before .before .before .before .before .before .before .before .before .before .loop-test .taken)) (omega (arith, (c .before .before .before .before .before .before .before .before .before .before .before .before .before .before .before .before .before .before .before .before .before .before .before .before .before .before .before .before .before .before .before .before .before .before .before .before .before .before .before .before .before .before .before .before .before .before .before .before .before .before .before .before .good .1 .1 .1 .1 .1 .1 .0), vR .room .slots, vIN .fold .keeps .alike .slots, c .before .before .before .before .before .before .before .before .before .before .before .before .before .before .before .before .before .before .before .before .before .before .before .before .before .before .before .before .before .before .before .before .before .set-at .kept .1 .1 .1 .1 .1 .1 .0, length-set (c .before .before .before .before .before .before .before .before .before .before .before .before .before .before .before .before .before .before .before .before .before .before .before .before .before .before .before .before .before .before .before .before .before .before .before .before .before .before .before .before .before .before .before .before .before .before .before .before .before .before .before .before .args .slots .now) (c .before .before .before .before .before .before .before .before .before .before .before .before .before .before .before .before .before .before .before .before .before .before .before .before .before .before .before .before .before .before .before .before .before .before .before .before .before .before .before .before .before .before .before .before .before .before .before .before .before .before .before .before .args .base + c .before .before .before .before .before .before .before .before .before .before .before .before .before .before .before .before .before .before .before .before .before .before .before .before .before .before .before .before .before .before .before .before .before .before .before .before .before .before .before .before .before .before .before .before .before .before .before .before .before .before .before .before .args .depth) (getD vEL 0 0))) (c .before .before .before .before .before .before .before .before .before .before .before .before .before .before .before .before .before .before .loop-test .taken) (c .before .before .before .before .before .before .before .before .before .before .before .set-at2 .ensures) (record { sorts = c .before .before .before .before .before .before .before .before .before .before .before .set-at2 .kept .1 .1 .1 .0; numbers = c .before .before .before .before .before .before .before .before .before .before .before .set-at2 .kept .1 .1 .1 .1 .0; slots = c .before .before .before .before .before .before .before .before .before .before .before .set-at2 .kept .1 .1 .1 .1 .1 .1 .0 }) (c .enum-told2 .given .1) _
+
+at-sub-combine : (t : ℕ) → merged-lts.Need-sub-combine (merged-calls t) (merged-at t) merged.Post Inv fuel
+at-sub-combine t c = let vH = c .before .before .before .before .before .before .before .before .before .before .before .before .before .before .before .before .before .before .before .before .before .before .before .before .before .before .before .before .before .before .before .before .before .before .before .before .before .before .before .before .before .before .before .before .before .before .before .before .before .before .before .before .before .pre .1 .1 .1 .0 in let vK = c .before .before .before .before .before .before .before .before .before .before .before .before .before .before .before .before .before .before .before .before .before .before .before .before .before .before .before .before .before .before .before .before .before .before .before .before .before .before .before .before .before .before .before .kind-at .ensures in omega (arith, vK, vH .1)
+
+at-slice-aggregate-combine : (t : ℕ) → merged-lts.Need-slice-aggregate-combine (merged-calls t) (merged-at t) merged.Post Inv fuel
+at-slice-aggregate-combine t c = sym (c .before .before .before .before .before .before .before .before .before .before .before .before .before .before .set-at2 .kept .1 .1 .1 .1 .1 .1 .1 .1 .1 .1 .0 ∙ c .before .before .before .before .before .before .before .before .before .before .before .before .before .before .before .before .before .before .before .before .before .before .loop .inv .4)
+
+at-combine-requires : (t : ℕ) → merged-lts.Need-combine-requires (merged-calls t) (merged-at t) merged.Post Inv fuel
+at-combine-requires t c κs = (record { few = (c .before .before .before .before .before .before .before .before .before .before .before .before .before .before .before .before .before .before .before .before .before .before .loop .inv .0) .few; room = (omega (arith, (c .before .before .before .before .before .before .before .before .before .before .before .before .before .before .before .before .before .before .before .before .before .before .before .before .before .before .before .before .before .before .before .before .before .before .before .before .before .before .before .before .before .before .before .before .before .before .before .before .before .before .before .before .before .before .before .pre .1 .1 .0), c .before .before .before .before .before .before .before .before .before .before .before .before .before .before .before .before .before .before .before .before .before .before .loop .inv .2, c .before .before .before .before .before .before .before .before .before .before .before .before .before .before .before .before .before .before .before .before .before .before .before .before .before .before .before .before .before .before .before .before .before .before .before .before .set-at .kept .1 .1 .1 .1 .1 .1 .1 .1 .1 .1 .0)); ascends = (c .before .before .before .before .before .before .before .before .before .before .before .before .before .before .before .before .before .before .before .before .before .before .loop .inv .0) .rises }, T.set-ordered ((let vR = c .before .before .before .before .before .before .before .before .before .before .before .before .before .before .before .before .before .before .before .before .before .before .before .before .before .before .before .before .before .before .before .before .before .before .before .before .before .before .before .before .before .before .before .before .before .before .before .before .before .before .before .before .before .before .before .pre .1 .0 in let vG = c .before .before .before .before .before .before .before .before .before .before .before .before .before .before .before .before .before .before .before .before .before .before .before .before .before .before .before .before .before .before .before .before .before .before .before .before .before .before .before .before .before .before .before .before .before .before .before .before .before .before .before .before .before .before .before .pre .1 .1 .1 .1 in let vH = c .before .before .before .before .before .before .before .before .before .before .before .before .before .before .before .before .before .before .before .before .before .before .before .before .before .before .before .before .before .before .before .before .before .before .before .before .before .before .before .before .before .before .before .before .before .before .before .before .before .before .before .before .before .before .before .pre .1 .1 .1 .0 in let vK = c .before .before .before .before .before .before .before .before .before .before .before .before .before .before .before .before .before .before .before .before .before .before .before .before .before .before .before .before .before .before .before .before .before .before .before .before .before .before .before .before .before .before .before .before .before .kind-at .ensures in let vX = c .before .before .before .before .before .before .before .before .before .before .before .before .before .before .before .before .before .before .before .before .before .before .before .before .before .before .before .before .before .before .before .before .before .before .before .before .before .before .before .before .before .before .before .before .before .kind-at .result in let vEL = c .before .before .before .before .before .before .before .before .before .before .before .before .before .before .before .before .before .before .before .before .before .before .before .before .before .before .before .before .before .before .before .before .before .before .before .before .before .before .before .before .before .before .before .before .before .before .before .before .before .before .before .before .before .before .before .args .elements .now in let vNN = c .before .before .before .before .before .before .before .before .before .before .before .before .before .before .before .before .before .before .before .before .before .before .before .before .before .before .before .before .before .before .before .before .before .before .before .before .before .before .before .before .before .before .before .before .before .before .before .before .before .before .before .before .before .before .before .args .n in let vC = ap classOf (sym vK) ∙ L.gather-class vX (omega (arith, vK, vH .0)) (omega (arith, vK, vH .1)) in let vU = O.big-of (vR .fits) (vC) .under in let vST0 = state (c .before .before .before .before .before .before .before .before .before .before .before .before .before .before .before .before .before .before .before .before .before .before .before .before .before .before .before .before .before .before .before .before .before .before .before .before .before .before .before .before .before .before .before .before .before .before .before .before .before .before .before .before .before .before .before .args .sorts .now) (c .before .before .before .before .before .before .before .before .before .before .before .before .before .before .before .before .before .before .before .before .before .before .before .before .before .before .before .before .before .before .before .before .before .before .before .before .before .before .before .before .before .before .before .before .before .before .before .before .before .before .before .before .before .before .before .args .numbers .now) (c .before .before .before .before .before .before .before .before .before .before .before .before .before .before .before .before .before .before .before .before .before .before .before .before .before .before .before .before .before .before .before .before .before .before .before .before .before .before .before .before .before .before .before .before .before .before .before .before .before .before .before .before .before .before .before .args .kept .now) (c .before .before .before .before .before .before .before .before .before .before .before .before .before .before .before .before .before .before .before .before .before .before .before .before .before .before .before .before .before .before .before .before .before .before .before .before .before .before .before .before .before .before .before .before .before .before .before .before .before .before .before .before .before .before .before .args .slots .now) in let vR1 = D.operand-ready (D.keeping-none vST0) (getD vEL 0 0) (D.element-small {i = 0} vG (omega (arith, c .before .before .before .before .before .before .before .before .before .before .before .before .before .before .before .before .before .before .before .before .before .before .before .before .before .before .before .before .before .before .before .before .before .before .before .before .before .before .before .before .before .before .before .if1 .left))) (omega (arith, vR .room .slots)) vR (let i = (L.over-some (λ W env d e f. O.big-of f vC) vR) in omega arith) vU in let vB1 = T.set-small (S.told vR1 (c .before .before .before .before .before .before .before .before .before .before .before .before .before .before .before .before .before .before .before .before .before .before .before .before .before .before .before .before .before .before .before .before .before .before .before .before .set-at .ensures) .2) (c .before .before .before .before .before .before .before .before .before .before .before .before .before .before .before .before .before .before .before .before .before .before .before .before .x .given .1) in let vFI = A.merged-first _ _ _ _ (vX - 41) (omega (arith, vK, vH .0, vH .1)) vEL vNN vG (λ W env d e f. O.big-of f vC) (D.keeping-none vST0) (D.element-small {i = 0} vG (omega (arith, c .before .before .before .before .before .before .before .before .before .before .before .before .before .before .before .before .before .before .before .before .before .before .before .before .before .before .before .before .before .before .before .before .before .before .before .before .before .before .before .before .before .before .before .if1 .left))) (omega (arith, vR .room .slots)) (omega (arith, c .before .before .before .before .before .before .before .before .before .before .before .before .before .before .before .before .before .before .before .before .before .before .before .before .before .before .before .before .before .before .before .before .before .before .before .before .before .before .before .before .before .before .before .if1 .left)) (c .before .before .before .before .before .before .before .before .before .before .before .before .before .before .before .before .before .before .before .before .before .before .before .before .before .before .before .before .before .before .before .before .before .before .before .before .set-at .ensures) (record { sorts = c .before .before .before .before .before .before .before .before .before .before .before .before .before .before .before .before .before .before .before .before .before .before .before .before .before .before .before .before .before .before .before .before .before .before .before .before .set-at .kept .1 .1 .1 .0; numbers = c .before .before .before .before .before .before .before .before .before .before .before .before .before .before .before .before .before .before .before .before .before .before .before .before .before .before .before .before .before .before .before .before .before .before .before .before .set-at .kept .1 .1 .1 .1 .0; slots = c .before .before .before .before .before .before .before .before .before .before .before .before .before .before .before .before .before .before .before .before .before .before .before .before .before .before .before .before .before .before .before .before .before .before .before .before .set-at .kept .1 .1 .1 .1 .1 .1 .0 }) (c .before .before .before .before .before .before .before .before .before .before .before .before .before .before .before .before .before .before .before .before .before .before .before .before .x .given .1) (vB1 .0) (vB1 .1) in let vIN = c .before .before .before .before .before .before .before .before .before .before .before .before .before .before .before .before .before .before .before .before .before .before .loop .inv .0 in let vJO = A.merge-join _ _ _ _ (vX - 41) (omega (arith, vK, vH .0, vH .1)) vEL vNN vG vFI vIN in let vR2 = D.operand-ready (vJO .fold .keeps) (getD vEL (c .before .before .before .before .before .before .before .before .before .before .before .before .before .before .before .before .before .before .before .before .before .before .loop .i) 0) (D.element-small {i = c .before .before .before .before .before .before .before .before .before .before .before .before .before .before .before .before .before .before .before .before .before .before .loop .i} vG (c .before .before .before .before .before .before .before .before .before .before .before .before .before .before .before .before .before .before .before .before .before .loop-test .taken)) (omega (arith, (c .before .before .before .before .before .before .before .before .before .before .before .before .before .before .before .before .before .before .before .before .before .before .before .before .before .before .before .before .before .before .before .before .before .before .before .before .before .before .before .before .before .before .before .before .before .before .before .before .before .before .before .before .before .before .before .good .1 .1 .1 .1 .1 .1 .0), vR .room .slots, vIN .fold .keeps .alike .slots, c .before .before .before .before .before .before .before .before .before .before .before .before .before .before .before .before .before .before .before .before .before .before .before .before .before .before .before .before .before .before .before .before .before .before .before .before .set-at .kept .1 .1 .1 .1 .1 .1 .0, length-set (c .before .before .before .before .before .before .before .before .before .before .before .before .before .before .before .before .before .before .before .before .before .before .before .before .before .before .before .before .before .before .before .before .before .before .before .before .before .before .before .before .before .before .before .before .before .before .before .before .before .before .before .before .before .before .before .args .slots .now) (c .before .before .before .before .before .before .before .before .before .before .before .before .before .before .before .before .before .before .before .before .before .before .before .before .before .before .before .before .before .before .before .before .before .before .before .before .before .before .before .before .before .before .before .before .before .before .before .before .before .before .before .before .before .before .before .args .base + c .before .before .before .before .before .before .before .before .before .before .before .before .before .before .before .before .before .before .before .before .before .before .before .before .before .before .before .before .before .before .before .before .before .before .before .before .before .before .before .before .before .before .before .before .before .before .before .before .before .before .before .before .before .before .before .args .depth) (getD vEL 0 0))) vR (let i = (L.over-some (λ W env d e f. O.big-of f vC) vR) in omega arith) vU in S.told vR2 (c .before .before .before .before .before .before .before .before .before .before .before .before .before .before .set-at2 .ensures) .2)) (c .before .before .before .y .given .1) (omega (arith, c .before .before .before .before .before .before .before .before .before .before .before .before .before .before .before .before .before .before .before .before .before .before .loop .inv .4, c .before .before .before .before .before .before .before .before .before .before .before .before .before .before .set-at2 .kept .1 .1 .1 .1 .1 .1 .1 .1 .1 .1 .0)))
+
+at-same-length-11 : (t : ℕ) → merged-lts.Need-same-length-11 (merged-calls t) (merged-at t) merged.Post Inv fuel
+at-same-length-11 t c = let vIN = c .before .before .before .before .before .before .before .before .before .before .before .before .before .before .before .before .before .before .before .before .before .before .before .before .before .before .before .loop .inv .0 in c .before .before .before .before .before .before .before .before .before .before .before .before .before .before .before .before .before .before .before .set-at2 .kept .1 .1 .1 .0 ∙ ((vIN) .fold .keeps .alike .sorts) ∙ c .before .before .before .before .before .before .before .before .before .before .before .before .before .before .before .before .before .before .before .before .before .before .before .before .before .before .before .before .before .before .before .before .before .before .before .before .before .before .before .before .before .set-at .kept .1 .1 .1 .0
+
+at-same-length-12 : (t : ℕ) → merged-lts.Need-same-length-12 (merged-calls t) (merged-at t) merged.Post Inv fuel
+at-same-length-12 t c = let vIN = c .before .before .before .before .before .before .before .before .before .before .before .before .before .before .before .before .before .before .before .before .before .before .before .before .before .before .before .loop .inv .0 in c .before .before .before .before .before .before .before .before .before .before .before .before .before .before .before .before .before .before .before .set-at2 .kept .1 .1 .1 .1 .0 ∙ ((vIN) .fold .keeps .alike .numbers) ∙ c .before .before .before .before .before .before .before .before .before .before .before .before .before .before .before .before .before .before .before .before .before .before .before .before .before .before .before .before .before .before .before .before .before .before .before .before .before .before .before .before .before .set-at .kept .1 .1 .1 .1 .0
+
+at-same-length-13 : (t : ℕ) → merged-lts.Need-same-length-13 (merged-calls t) (merged-at t) merged.Post Inv fuel
+at-same-length-13 t c = c .before .before .before .before .before .before .before .before .before .before .before .before .before .before .before .before .before .before .before .set-at2 .kept .1 .1 .1 .1 .1 .0 ∙ (c .before .before .before .before .before .before .before .before .before .before .before .before .before .before .before .before .before .before .before .before .before .before .before .before .before .before .before .loop .inv .1) ∙ c .before .before .before .before .before .before .before .before .before .before .before .before .before .before .before .before .before .before .before .before .before .before .before .before .before .before .before .before .before .before .before .before .before .before .before .before .before .before .before .before .before .set-at .kept .1 .1 .1 .1 .1 .0
+
+at-same-length-14 : (t : ℕ) → merged-lts.Need-same-length-14 (merged-calls t) (merged-at t) merged.Post Inv fuel
+at-same-length-14 t c = let vIN = c .before .before .before .before .before .before .before .before .before .before .before .before .before .before .before .before .before .before .before .before .before .before .before .before .before .before .before .loop .inv .0 in c .before .before .before .before .before .before .before .before .before .before .before .before .before .before .before .before .before .before .before .set-at2 .kept .1 .1 .1 .1 .1 .1 .0 ∙ (length-set (c .before .before .before .before .before .before .before .before .before .before .before .before .before .before .before .before .before .before .before .before .before .before .before .before .before .before .before .loop .slots) _ _) ∙ ((vIN) .fold .keeps .alike .slots) ∙ c .before .before .before .before .before .before .before .before .before .before .before .before .before .before .before .before .before .before .before .before .before .before .before .before .before .before .before .before .before .before .before .before .before .before .before .before .before .before .before .before .before .set-at .kept .1 .1 .1 .1 .1 .1 .0 ∙ (length-set (c .before .before .before .before .before .before .before .before .before .before .before .before .before .before .before .before .before .before .before .before .before .before .before .before .before .before .before .before .before .before .before .before .before .before .before .before .before .before .before .before .before .before .before .before .before .before .before .before .before .before .before .before .before .before .before .before .before .before .before .before .args .slots .now) _ _)
+
+at-same-length-15 : (t : ℕ) → merged-lts.Need-same-length-15 (merged-calls t) (merged-at t) merged.Post Inv fuel
+at-same-length-15 t c = (c .before .before .before .before .combine .kept .1 .1 .0) ∙ (c .before .before .before .before .before .before .before .before .before .before .before .before .before .before .before .before .before .before .before .before .before .before .before .before .before .before .before .loop .inv .2) ∙ c .before .before .before .before .before .before .before .before .before .before .before .before .before .before .before .before .before .before .before .before .before .before .before .before .before .before .before .before .before .before .before .before .before .before .before .before .before .before .before .before .before .set-at .kept .1 .1 .1 .1 .1 .1 .1 .1 .1 .1 .0
+
+at-returns-5 : (t : ℕ) → merged-lts.Need-returns-5 (merged-calls t) (merged-at t) merged.Post Inv fuel
+at-returns-5 t c = let vR = c .before .before .before .before .before .before .before .before .before .before .before .before .before .before .before .before .before .before .before .before .before .before .before .before .before .before .before .before .before .before .before .before .before .before .before .before .before .before .before .before .before .before .before .before .before .before .before .before .before .before .before .before .before .before .before .before .before .before .before .before .pre .1 .0 in let vG = c .before .before .before .before .before .before .before .before .before .before .before .before .before .before .before .before .before .before .before .before .before .before .before .before .before .before .before .before .before .before .before .before .before .before .before .before .before .before .before .before .before .before .before .before .before .before .before .before .before .before .before .before .before .before .before .before .before .before .before .before .pre .1 .1 .1 .1 in let vH = c .before .before .before .before .before .before .before .before .before .before .before .before .before .before .before .before .before .before .before .before .before .before .before .before .before .before .before .before .before .before .before .before .before .before .before .before .before .before .before .before .before .before .before .before .before .before .before .before .before .before .before .before .before .before .before .before .before .before .before .before .pre .1 .1 .1 .0 in let vK = c .before .before .before .before .before .before .before .before .before .before .before .before .before .before .before .before .before .before .before .before .before .before .before .before .before .before .before .before .before .before .before .before .before .before .before .before .before .before .before .before .before .before .before .before .before .before .before .before .before .before .kind-at .ensures in let vX = c .before .before .before .before .before .before .before .before .before .before .before .before .before .before .before .before .before .before .before .before .before .before .before .before .before .before .before .before .before .before .before .before .before .before .before .before .before .before .before .before .before .before .before .before .before .before .before .before .before .before .kind-at .result in let vEL = c .before .before .before .before .before .before .before .before .before .before .before .before .before .before .before .before .before .before .before .before .before .before .before .before .before .before .before .before .before .before .before .before .before .before .before .before .before .before .before .before .before .before .before .before .before .before .before .before .before .before .before .before .before .before .before .before .before .before .before .before .args .elements .now in let vNN = c .before .before .before .before .before .before .before .before .before .before .before .before .before .before .before .before .before .before .before .before .before .before .before .before .before .before .before .before .before .before .before .before .before .before .before .before .before .before .before .before .before .before .before .before .before .before .before .before .before .before .before .before .before .before .before .before .before .before .before .before .args .n in let vC = ap classOf (sym vK) ∙ L.gather-class vX (omega (arith, vK, vH .0)) (omega (arith, vK, vH .1)) in let vU = O.big-of (vR .fits) (vC) .under in let vST0 = state (c .before .before .before .before .before .before .before .before .before .before .before .before .before .before .before .before .before .before .before .before .before .before .before .before .before .before .before .before .before .before .before .before .before .before .before .before .before .before .before .before .before .before .before .before .before .before .before .before .before .before .before .before .before .before .before .before .before .before .before .before .args .sorts .now) (c .before .before .before .before .before .before .before .before .before .before .before .before .before .before .before .before .before .before .before .before .before .before .before .before .before .before .before .before .before .before .before .before .before .before .before .before .before .before .before .before .before .before .before .before .before .before .before .before .before .before .before .before .before .before .before .before .before .before .before .before .args .numbers .now) (c .before .before .before .before .before .before .before .before .before .before .before .before .before .before .before .before .before .before .before .before .before .before .before .before .before .before .before .before .before .before .before .before .before .before .before .before .before .before .before .before .before .before .before .before .before .before .before .before .before .before .before .before .before .before .before .before .before .before .before .before .args .kept .now) (c .before .before .before .before .before .before .before .before .before .before .before .before .before .before .before .before .before .before .before .before .before .before .before .before .before .before .before .before .before .before .before .before .before .before .before .before .before .before .before .before .before .before .before .before .before .before .before .before .before .before .before .before .before .before .before .before .before .before .before .before .args .slots .now) in let vR1 = D.operand-ready (D.keeping-none vST0) (getD vEL 0 0) (D.element-small {i = 0} vG (omega (arith, c .before .before .before .before .before .before .before .before .before .before .before .before .before .before .before .before .before .before .before .before .before .before .before .before .before .before .before .before .before .before .before .before .before .before .before .before .before .before .before .before .before .before .before .before .before .before .before .before .if1 .left))) (omega (arith, vR .room .slots)) vR (let i = (L.over-some (λ W env d e f. O.big-of f vC) vR) in omega arith) vU in let vB1 = T.set-small (S.told vR1 (c .before .before .before .before .before .before .before .before .before .before .before .before .before .before .before .before .before .before .before .before .before .before .before .before .before .before .before .before .before .before .before .before .before .before .before .before .before .before .before .before .before .set-at .ensures) .2) (c .before .before .before .before .before .before .before .before .before .before .before .before .before .before .before .before .before .before .before .before .before .before .before .before .before .before .before .before .before .x .given .1) in let vFI = A.merged-first _ _ _ _ (vX - 41) (omega (arith, vK, vH .0, vH .1)) vEL vNN vG (λ W env d e f. O.big-of f vC) (D.keeping-none vST0) (D.element-small {i = 0} vG (omega (arith, c .before .before .before .before .before .before .before .before .before .before .before .before .before .before .before .before .before .before .before .before .before .before .before .before .before .before .before .before .before .before .before .before .before .before .before .before .before .before .before .before .before .before .before .before .before .before .before .before .if1 .left))) (omega (arith, vR .room .slots)) (omega (arith, c .before .before .before .before .before .before .before .before .before .before .before .before .before .before .before .before .before .before .before .before .before .before .before .before .before .before .before .before .before .before .before .before .before .before .before .before .before .before .before .before .before .before .before .before .before .before .before .before .if1 .left)) (c .before .before .before .before .before .before .before .before .before .before .before .before .before .before .before .before .before .before .before .before .before .before .before .before .before .before .before .before .before .before .before .before .before .before .before .before .before .before .before .before .before .set-at .ensures) (record { sorts = c .before .before .before .before .before .before .before .before .before .before .before .before .before .before .before .before .before .before .before .before .before .before .before .before .before .before .before .before .before .before .before .before .before .before .before .before .before .before .before .before .before .set-at .kept .1 .1 .1 .0; numbers = c .before .before .before .before .before .before .before .before .before .before .before .before .before .before .before .before .before .before .before .before .before .before .before .before .before .before .before .before .before .before .before .before .before .before .before .before .before .before .before .before .before .set-at .kept .1 .1 .1 .1 .0; slots = c .before .before .before .before .before .before .before .before .before .before .before .before .before .before .before .before .before .before .before .before .before .before .before .before .before .before .before .before .before .before .before .before .before .before .before .before .before .before .before .before .before .set-at .kept .1 .1 .1 .1 .1 .1 .0 }) (c .before .before .before .before .before .before .before .before .before .before .before .before .before .before .before .before .before .before .before .before .before .before .before .before .before .before .before .before .before .x .given .1) (vB1 .0) (vB1 .1) in let vIN = c .before .before .before .before .before .before .before .before .before .before .before .before .before .before .before .before .before .before .before .before .before .before .before .before .before .before .before .loop .inv .0 in let vJO = A.merge-join _ _ _ _ (vX - 41) (omega (arith, vK, vH .0, vH .1)) vEL vNN vG vFI vIN in let vR2 = D.operand-ready (vJO .fold .keeps) (getD vEL (c .before .before .before .before .before .before .before .before .before .before .before .before .before .before .before .before .before .before .before .before .before .before .before .before .before .before .before .loop .i) 0) (D.element-small {i = c .before .before .before .before .before .before .before .before .before .before .before .before .before .before .before .before .before .before .before .before .before .before .before .before .before .before .before .loop .i} vG (c .before .before .before .before .before .before .before .before .before .before .before .before .before .before .before .before .before .before .before .before .before .before .before .before .before .before .loop-test .taken)) (omega (arith, (c .before .before .before .before .before .before .before .before .before .before .before .before .before .before .before .before .before .before .before .before .before .before .before .before .before .before .before .before .before .before .before .before .before .before .before .before .before .before .before .before .before .before .before .before .before .before .before .before .before .before .before .before .before .before .before .before .before .before .before .before .good .1 .1 .1 .1 .1 .1 .0), vR .room .slots, vIN .fold .keeps .alike .slots, c .before .before .before .before .before .before .before .before .before .before .before .before .before .before .before .before .before .before .before .before .before .before .before .before .before .before .before .before .before .before .before .before .before .before .before .before .before .before .before .before .before .set-at .kept .1 .1 .1 .1 .1 .1 .0, length-set (c .before .before .before .before .before .before .before .before .before .before .before .before .before .before .before .before .before .before .before .before .before .before .before .before .before .before .before .before .before .before .before .before .before .before .before .before .before .before .before .before .before .before .before .before .before .before .before .before .before .before .before .before .before .before .before .before .before .before .before .before .args .slots .now) (c .before .before .before .before .before .before .before .before .before .before .before .before .before .before .before .before .before .before .before .before .before .before .before .before .before .before .before .before .before .before .before .before .before .before .before .before .before .before .before .before .before .before .before .before .before .before .before .before .before .before .before .before .before .before .before .before .before .before .before .before .args .base + c .before .before .before .before .before .before .before .before .before .before .before .before .before .before .before .before .before .before .before .before .before .before .before .before .before .before .before .before .before .before .before .before .before .before .before .before .before .before .before .before .before .before .before .before .before .before .before .before .before .before .before .before .before .before .before .before .before .before .before .before .args .depth) (getD vEL 0 0))) vR (let i = (L.over-some (λ W env d e f. O.big-of f vC) vR) in omega arith) vU in let vB2 = T.set-small (S.told vR2 (c .before .before .before .before .before .before .before .before .before .before .before .before .before .before .before .before .before .before .before .set-at2 .ensures) .2) (c .before .before .before .before .before .before .before .before .y .given .1) in A.merged-over _ _ _ _ (vX - 41) (omega (arith, vK, vH .0, vH .1)) vEL vNN vG (λ W env d e f. O.big-of f vC) vJO (D.element-small {i = c .before .before .before .before .before .before .before .before .before .before .before .before .before .before .before .before .before .before .before .before .before .before .before .before .before .before .before .loop .i} vG (c .before .before .before .before .before .before .before .before .before .before .before .before .before .before .before .before .before .before .before .before .before .before .before .before .before .before .loop-test .taken)) (omega (arith, (c .before .before .before .before .before .before .before .before .before .before .before .before .before .before .before .before .before .before .before .before .before .before .before .before .before .before .before .before .before .before .before .before .before .before .before .before .before .before .before .before .before .before .before .before .before .before .before .before .before .before .before .before .before .before .before .before .before .before .before .before .good .1 .1 .1 .1 .1 .1 .0), vR .room .slots, vIN .fold .keeps .alike .slots, c .before .before .before .before .before .before .before .before .before .before .before .before .before .before .before .before .before .before .before .before .before .before .before .before .before .before .before .before .before .before .before .before .before .before .before .before .before .before .before .before .before .set-at .kept .1 .1 .1 .1 .1 .1 .0, length-set (c .before .before .before .before .before .before .before .before .before .before .before .before .before .before .before .before .before .before .before .before .before .before .before .before .before .before .before .before .before .before .before .before .before .before .before .before .before .before .before .before .before .before .before .before .before .before .before .before .before .before .before .before .before .before .before .before .before .before .before .before .args .slots .now) (c .before .before .before .before .before .before .before .before .before .before .before .before .before .before .before .before .before .before .before .before .before .before .before .before .before .before .before .before .before .before .before .before .before .before .before .before .before .before .before .before .before .before .before .before .before .before .before .before .before .before .before .before .before .before .before .before .before .before .before .before .args .base + c .before .before .before .before .before .before .before .before .before .before .before .before .before .before .before .before .before .before .before .before .before .before .before .before .before .before .before .before .before .before .before .before .before .before .before .before .before .before .before .before .before .before .before .before .before .before .before .before .before .before .before .before .before .before .before .before .before .before .before .before .args .depth) (getD vEL 0 0))) (c .before .before .before .before .before .before .before .before .before .before .before .before .before .before .before .before .before .before .before .before .before .before .before .before .before .before .loop-test .taken) (c .before .before .before .before .before .before .before .before .before .before .before .before .before .before .before .before .before .before .before .set-at2 .ensures) (record { sorts = c .before .before .before .before .before .before .before .before .before .before .before .before .before .before .before .before .before .before .before .set-at2 .kept .1 .1 .1 .0; numbers = c .before .before .before .before .before .before .before .before .before .before .before .before .before .before .before .before .before .before .before .set-at2 .kept .1 .1 .1 .1 .0; slots = c .before .before .before .before .before .before .before .before .before .before .before .before .before .before .before .before .before .before .before .set-at2 .kept .1 .1 .1 .1 .1 .1 .0 }) (c .before .before .before .before .before .before .before .before .y .given .1) (vB2 .1) (omega (arith, (c .before .before .before .before .before .before .before .before .before .before .before .before .before .before .before .before .before .before .before .before .before .before .before .before .before .before .before .before .before .before .before .before .before .before .before .before .before .before .before .before .before .before .before .before .before .before .before .before .before .before .before .before .before .before .before .before .before .before .before .before .pre .1 .1 .0), c .before .before .before .before .before .before .before .before .before .before .before .before .before .before .before .before .before .before .before .before .before .before .before .before .before .before .before .loop .inv .2, c .before .before .before .before .before .before .before .before .before .before .before .before .before .before .before .before .before .before .before .before .before .before .before .before .before .before .before .before .before .before .before .before .before .before .before .before .before .before .before .before .before .set-at .kept .1 .1 .1 .1 .1 .1 .1 .1 .1 .1 .0)) (c .before .before .before .before .combine .result) (c .before .before .before .before .before .before .before .before .before .before .before .before .before .before .before .before .before .before .before .before .before .before .before .before .before .before .before .before .before .before .before .before .before .before .before .before .before .before .before .before .before .before .before .before .before .before .before .before .before .place-at .result) (41 + 1 - vX) (c .before .before .before .before .before .before .before .before .before .before .before .before .before .before .before .before .before .before .before .before .before .before .before .before .before .before .before .before .before .before .before .before .before .before .before .before .before .before .before .before .before .before .before .before .before .before .before .before .before .place-at .ensures) (omega (arith, vK, vH .0, vH .1)) (c .before .before .before .before .combine .ensures) (c .enum-told3 .given .1)
+
+at-add-i : (t : ℕ) → merged-lts.Need-add-i (merged-calls t) (merged-at t) merged.Post Inv fuel
+at-add-i t c = let vG = c .before .before .before .before .before .before .before .before .before .before .before .before .before .before .before .before .before .before .before .before .before .before .before .before .before .before .before .before .before .before .before .before .before .before .before .before .before .before .before .before .before .before .before .before .before .before .before .before .before .before .before .before .before .before .before .before .before .before .before .before .before .pre .1 .1 .1 .1 in omega (arith, vG .few)
+
+at-loop-less : (t : ℕ) → merged-lts.Need-loop-less (merged-calls t) (merged-at t) merged.Post Inv fuel
+at-loop-less t c = omega arith
+
+at-loop-again : (t : ℕ) → merged-lts.Need-loop-again (merged-calls t) (merged-at t) merged.Post Inv fuel
+at-loop-again t c = ((let vR = c .before .before .before .before .before .before .before .before .before .before .before .before .before .before .before .before .before .before .before .before .before .before .before .before .before .before .before .before .before .before .before .before .before .before .before .before .before .before .before .before .before .before .before .before .before .before .before .before .before .before .before .before .before .before .before .before .before .before .before .before .before .pre .1 .0 in let vG = c .before .before .before .before .before .before .before .before .before .before .before .before .before .before .before .before .before .before .before .before .before .before .before .before .before .before .before .before .before .before .before .before .before .before .before .before .before .before .before .before .before .before .before .before .before .before .before .before .before .before .before .before .before .before .before .before .before .before .before .before .before .pre .1 .1 .1 .1 in let vH = c .before .before .before .before .before .before .before .before .before .before .before .before .before .before .before .before .before .before .before .before .before .before .before .before .before .before .before .before .before .before .before .before .before .before .before .before .before .before .before .before .before .before .before .before .before .before .before .before .before .before .before .before .before .before .before .before .before .before .before .before .before .pre .1 .1 .1 .0 in let vK = c .before .before .before .before .before .before .before .before .before .before .before .before .before .before .before .before .before .before .before .before .before .before .before .before .before .before .before .before .before .before .before .before .before .before .before .before .before .before .before .before .before .before .before .before .before .before .before .before .before .before .before .kind-at .ensures in let vX = c .before .before .before .before .before .before .before .before .before .before .before .before .before .before .before .before .before .before .before .before .before .before .before .before .before .before .before .before .before .before .before .before .before .before .before .before .before .before .before .before .before .before .before .before .before .before .before .before .before .before .before .kind-at .result in let vEL = c .before .before .before .before .before .before .before .before .before .before .before .before .before .before .before .before .before .before .before .before .before .before .before .before .before .before .before .before .before .before .before .before .before .before .before .before .before .before .before .before .before .before .before .before .before .before .before .before .before .before .before .before .before .before .before .before .before .before .before .before .before .args .elements .now in let vNN = c .before .before .before .before .before .before .before .before .before .before .before .before .before .before .before .before .before .before .before .before .before .before .before .before .before .before .before .before .before .before .before .before .before .before .before .before .before .before .before .before .before .before .before .before .before .before .before .before .before .before .before .before .before .before .before .before .before .before .before .before .before .args .n in let vC = ap classOf (sym vK) ∙ L.gather-class vX (omega (arith, vK, vH .0)) (omega (arith, vK, vH .1)) in let vU = O.big-of (vR .fits) (vC) .under in let vST0 = state (c .before .before .before .before .before .before .before .before .before .before .before .before .before .before .before .before .before .before .before .before .before .before .before .before .before .before .before .before .before .before .before .before .before .before .before .before .before .before .before .before .before .before .before .before .before .before .before .before .before .before .before .before .before .before .before .before .before .before .before .before .before .args .sorts .now) (c .before .before .before .before .before .before .before .before .before .before .before .before .before .before .before .before .before .before .before .before .before .before .before .before .before .before .before .before .before .before .before .before .before .before .before .before .before .before .before .before .before .before .before .before .before .before .before .before .before .before .before .before .before .before .before .before .before .before .before .before .before .args .numbers .now) (c .before .before .before .before .before .before .before .before .before .before .before .before .before .before .before .before .before .before .before .before .before .before .before .before .before .before .before .before .before .before .before .before .before .before .before .before .before .before .before .before .before .before .before .before .before .before .before .before .before .before .before .before .before .before .before .before .before .before .before .before .before .args .kept .now) (c .before .before .before .before .before .before .before .before .before .before .before .before .before .before .before .before .before .before .before .before .before .before .before .before .before .before .before .before .before .before .before .before .before .before .before .before .before .before .before .before .before .before .before .before .before .before .before .before .before .before .before .before .before .before .before .before .before .before .before .before .before .args .slots .now) in let vR1 = D.operand-ready (D.keeping-none vST0) (getD vEL 0 0) (D.element-small {i = 0} vG (omega (arith, c .before .before .before .before .before .before .before .before .before .before .before .before .before .before .before .before .before .before .before .before .before .before .before .before .before .before .before .before .before .before .before .before .before .before .before .before .before .before .before .before .before .before .before .before .before .before .before .before .before .if1 .left))) (omega (arith, vR .room .slots)) vR (let i = (L.over-some (λ W env d e f. O.big-of f vC) vR) in omega arith) vU in let vB1 = T.set-small (S.told vR1 (c .before .before .before .before .before .before .before .before .before .before .before .before .before .before .before .before .before .before .before .before .before .before .before .before .before .before .before .before .before .before .before .before .before .before .before .before .before .before .before .before .before .before .set-at .ensures) .2) (c .before .before .before .before .before .before .before .before .before .before .before .before .before .before .before .before .before .before .before .before .before .before .before .before .before .before .before .before .before .before .x .given .1) in let vFI = A.merged-first _ _ _ _ (vX - 41) (omega (arith, vK, vH .0, vH .1)) vEL vNN vG (λ W env d e f. O.big-of f vC) (D.keeping-none vST0) (D.element-small {i = 0} vG (omega (arith, c .before .before .before .before .before .before .before .before .before .before .before .before .before .before .before .before .before .before .before .before .before .before .before .before .before .before .before .before .before .before .before .before .before .before .before .before .before .before .before .before .before .before .before .before .before .before .before .before .before .if1 .left))) (omega (arith, vR .room .slots)) (omega (arith, c .before .before .before .before .before .before .before .before .before .before .before .before .before .before .before .before .before .before .before .before .before .before .before .before .before .before .before .before .before .before .before .before .before .before .before .before .before .before .before .before .before .before .before .before .before .before .before .before .before .if1 .left)) (c .before .before .before .before .before .before .before .before .before .before .before .before .before .before .before .before .before .before .before .before .before .before .before .before .before .before .before .before .before .before .before .before .before .before .before .before .before .before .before .before .before .before .set-at .ensures) (record { sorts = c .before .before .before .before .before .before .before .before .before .before .before .before .before .before .before .before .before .before .before .before .before .before .before .before .before .before .before .before .before .before .before .before .before .before .before .before .before .before .before .before .before .before .set-at .kept .1 .1 .1 .0; numbers = c .before .before .before .before .before .before .before .before .before .before .before .before .before .before .before .before .before .before .before .before .before .before .before .before .before .before .before .before .before .before .before .before .before .before .before .before .before .before .before .before .before .before .set-at .kept .1 .1 .1 .1 .0; slots = c .before .before .before .before .before .before .before .before .before .before .before .before .before .before .before .before .before .before .before .before .before .before .before .before .before .before .before .before .before .before .before .before .before .before .before .before .before .before .before .before .before .before .set-at .kept .1 .1 .1 .1 .1 .1 .0 }) (c .before .before .before .before .before .before .before .before .before .before .before .before .before .before .before .before .before .before .before .before .before .before .before .before .before .before .before .before .before .before .x .given .1) (vB1 .0) (vB1 .1) in let vIN = c .before .before .before .before .before .before .before .before .before .before .before .before .before .before .before .before .before .before .before .before .before .before .before .before .before .before .before .before .loop .inv .0 in let vJO = A.merge-join _ _ _ _ (vX - 41) (omega (arith, vK, vH .0, vH .1)) vEL vNN vG vFI vIN in let vR2 = D.operand-ready (vJO .fold .keeps) (getD vEL (c .before .before .before .before .before .before .before .before .before .before .before .before .before .before .before .before .before .before .before .before .before .before .before .before .before .before .before .before .loop .i) 0) (D.element-small {i = c .before .before .before .before .before .before .before .before .before .before .before .before .before .before .before .before .before .before .before .before .before .before .before .before .before .before .before .before .loop .i} vG (c .before .before .before .before .before .before .before .before .before .before .before .before .before .before .before .before .before .before .before .before .before .before .before .before .before .before .before .loop-test .taken)) (omega (arith, (c .before .before .before .before .before .before .before .before .before .before .before .before .before .before .before .before .before .before .before .before .before .before .before .before .before .before .before .before .before .before .before .before .before .before .before .before .before .before .before .before .before .before .before .before .before .before .before .before .before .before .before .before .before .before .before .before .before .before .before .before .before .good .1 .1 .1 .1 .1 .1 .0), vR .room .slots, vIN .fold .keeps .alike .slots, c .before .before .before .before .before .before .before .before .before .before .before .before .before .before .before .before .before .before .before .before .before .before .before .before .before .before .before .before .before .before .before .before .before .before .before .before .before .before .before .before .before .before .set-at .kept .1 .1 .1 .1 .1 .1 .0, length-set (c .before .before .before .before .before .before .before .before .before .before .before .before .before .before .before .before .before .before .before .before .before .before .before .before .before .before .before .before .before .before .before .before .before .before .before .before .before .before .before .before .before .before .before .before .before .before .before .before .before .before .before .before .before .before .before .before .before .before .before .before .before .args .slots .now) (c .before .before .before .before .before .before .before .before .before .before .before .before .before .before .before .before .before .before .before .before .before .before .before .before .before .before .before .before .before .before .before .before .before .before .before .before .before .before .before .before .before .before .before .before .before .before .before .before .before .before .before .before .before .before .before .before .before .before .before .before .before .args .base + c .before .before .before .before .before .before .before .before .before .before .before .before .before .before .before .before .before .before .before .before .before .before .before .before .before .before .before .before .before .before .before .before .before .before .before .before .before .before .before .before .before .before .before .before .before .before .before .before .before .before .before .before .before .before .before .before .before .before .before .before .before .args .depth) (getD vEL 0 0))) vR (let i = (L.over-some (λ W env d e f. O.big-of f vC) vR) in omega arith) vU in let vB2 = T.set-small (S.told vR2 (c .before .before .before .before .before .before .before .before .before .before .before .before .before .before .before .before .before .before .before .before .set-at2 .ensures) .2) (c .before .before .before .before .before .before .before .before .before .y .given .1) in A.merge-more _ _ _ _ (vX - 41) (omega (arith, vK, vH .0, vH .1)) vEL vNN vG (λ W env d e f. O.big-of f vC) vIN (D.element-small {i = c .before .before .before .before .before .before .before .before .before .before .before .before .before .before .before .before .before .before .before .before .before .before .before .before .before .before .before .before .loop .i} vG (c .before .before .before .before .before .before .before .before .before .before .before .before .before .before .before .before .before .before .before .before .before .before .before .before .before .before .before .loop-test .taken)) (omega (arith, (c .before .before .before .before .before .before .before .before .before .before .before .before .before .before .before .before .before .before .before .before .before .before .before .before .before .before .before .before .before .before .before .before .before .before .before .before .before .before .before .before .before .before .before .before .before .before .before .before .before .before .before .before .before .before .before .before .before .before .before .before .before .good .1 .1 .1 .1 .1 .1 .0), vR .room .slots, vIN .fold .keeps .alike .slots, c .before .before .before .before .before .before .before .before .before .before .before .before .before .before .before .before .before .before .before .before .before .before .before .before .before .before .before .before .before .before .before .before .before .before .before .before .before .before .before .before .before .before .set-at .kept .1 .1 .1 .1 .1 .1 .0, length-set (c .before .before .before .before .before .before .before .before .before .before .before .before .before .before .before .before .before .before .before .before .before .before .before .before .before .before .before .before .before .before .before .before .before .before .before .before .before .before .before .before .before .before .before .before .before .before .before .before .before .before .before .before .before .before .before .before .before .before .before .before .before .args .slots .now) (c .before .before .before .before .before .before .before .before .before .before .before .before .before .before .before .before .before .before .before .before .before .before .before .before .before .before .before .before .before .before .before .before .before .before .before .before .before .before .before .before .before .before .before .before .before .before .before .before .before .before .before .before .before .before .before .before .before .before .before .before .before .args .base + c .before .before .before .before .before .before .before .before .before .before .before .before .before .before .before .before .before .before .before .before .before .before .before .before .before .before .before .before .before .before .before .before .before .before .before .before .before .before .before .before .before .before .before .before .before .before .before .before .before .before .before .before .before .before .before .before .before .before .before .before .before .args .depth) (getD vEL 0 0))) (c .before .before .before .before .before .before .before .before .before .before .before .before .before .before .before .before .before .before .before .before .before .before .before .before .before .before .before .loop-test .taken) (c .before .before .before .before .before .before .before .before .before .before .before .before .before .before .before .before .before .before .before .before .set-at2 .ensures) (record { sorts = c .before .before .before .before .before .before .before .before .before .before .before .before .before .before .before .before .before .before .before .before .set-at2 .kept .1 .1 .1 .0; numbers = c .before .before .before .before .before .before .before .before .before .before .before .before .before .before .before .before .before .before .before .before .set-at2 .kept .1 .1 .1 .1 .0; slots = c .before .before .before .before .before .before .before .before .before .before .before .before .before .before .before .before .before .before .before .before .set-at2 .kept .1 .1 .1 .1 .1 .1 .0 }) (c .before .before .before .before .before .before .before .before .before .y .given .1) (vB2 .1) (omega (arith, (c .before .before .before .before .before .before .before .before .before .before .before .before .before .before .before .before .before .before .before .before .before .before .before .before .before .before .before .before .before .before .before .before .before .before .before .before .before .before .before .before .before .before .before .before .before .before .before .before .before .before .before .before .before .before .before .before .before .before .before .before .before .pre .1 .1 .0), c .before .before .before .before .before .before .before .before .before .before .before .before .before .before .before .before .before .before .before .before .before .before .before .before .before .before .before .before .loop .inv .2, c .before .before .before .before .before .before .before .before .before .before .before .before .before .before .before .before .before .before .before .before .before .before .before .before .before .before .before .before .before .before .before .before .before .before .before .before .before .before .before .before .before .before .set-at .kept .1 .1 .1 .1 .1 .1 .1 .1 .1 .1 .0)) (c .before .before .before .before .before .combine .result) (c .before .before .before .before .before .before .before .before .before .before .before .before .before .before .before .before .before .before .before .before .before .before .before .before .before .before .before .before .before .before .before .before .before .before .before .before .before .before .before .before .before .before .before .before .before .before .before .before .before .before .place-at .result) (41 + 1 - vX) (c .before .before .before .before .before .before .before .before .before .before .before .before .before .before .before .before .before .before .before .before .before .before .before .before .before .before .before .before .before .before .before .before .before .before .before .before .before .before .before .before .before .before .before .before .before .before .before .before .before .before .place-at .ensures) (omega (arith, vK, vH .0, vH .1)) (c .before .before .before .before .before .combine .ensures) (c .before .z .given .1)), c .before .before .before .before .before .before .before .before .before .before .before .before .before .before .before .before .before .before .before .before .set-at2 .kept .1 .1 .1 .1 .1 .0 ∙ c .before .before .before .before .before .before .before .before .before .before .before .before .before .before .before .before .before .before .before .before .before .before .before .before .before .before .before .before .loop .inv .1, c .before .before .before .before .before .combine .kept .1 .1 .0 ∙ c .before .before .before .before .before .before .before .before .before .before .before .before .before .before .before .before .before .before .before .before .before .before .before .before .before .before .before .before .loop .inv .2, omega arith, c .before .before .before .before .before .before .before .before .before .before .before .before .before .before .before .before .before .before .before .before .set-at2 .kept .1 .1 .1 .1 .1 .1 .1 .1 .1 .1 .0 ∙ c .before .before .before .before .before .before .before .before .before .before .before .before .before .before .before .before .before .before .before .before .before .before .before .before .before .before .before .before .loop .inv .4)
+
+at-same-length-16 : (t : ℕ) → merged-lts.Need-same-length-16 (merged-calls t) (merged-at t) merged.Post Inv fuel
+at-same-length-16 t c = let vIN = c .before .loop .inv .0 in ((vIN) .fold .keeps .alike .sorts) ∙ c .before .before .before .before .before .before .before .before .before .before .before .before .before .before .before .set-at .kept .1 .1 .1 .0
+
+at-same-length-17 : (t : ℕ) → merged-lts.Need-same-length-17 (merged-calls t) (merged-at t) merged.Post Inv fuel
+at-same-length-17 t c = let vIN = c .before .loop .inv .0 in ((vIN) .fold .keeps .alike .numbers) ∙ c .before .before .before .before .before .before .before .before .before .before .before .before .before .before .before .set-at .kept .1 .1 .1 .1 .0
+
+at-same-length-18 : (t : ℕ) → merged-lts.Need-same-length-18 (merged-calls t) (merged-at t) merged.Post Inv fuel
+at-same-length-18 t c = (c .before .loop .inv .1) ∙ c .before .before .before .before .before .before .before .before .before .before .before .before .before .before .before .set-at .kept .1 .1 .1 .1 .1 .0
+
+at-same-length-19 : (t : ℕ) → merged-lts.Need-same-length-19 (merged-calls t) (merged-at t) merged.Post Inv fuel
+at-same-length-19 t c = let vIN = c .before .loop .inv .0 in ((vIN) .fold .keeps .alike .slots) ∙ c .before .before .before .before .before .before .before .before .before .before .before .before .before .before .before .set-at .kept .1 .1 .1 .1 .1 .1 .0 ∙ (length-set (c .before .before .before .before .before .before .before .before .before .before .before .before .before .before .before .before .before .before .before .before .before .before .before .before .before .before .before .before .before .before .before .before .before .before .args .slots .now) _ _)
+
+at-same-length-20 : (t : ℕ) → merged-lts.Need-same-length-20 (merged-calls t) (merged-at t) merged.Post Inv fuel
+at-same-length-20 t c = (c .before .loop .inv .2) ∙ c .before .before .before .before .before .before .before .before .before .before .before .before .before .before .before .set-at .kept .1 .1 .1 .1 .1 .1 .1 .1 .1 .1 .0
+
+at-returns-6 : (t : ℕ) → merged-lts.Need-returns-6 (merged-calls t) (merged-at t) merged.Post Inv fuel
+at-returns-6 t c = let vR = c .before .before .before .before .before .before .before .before .before .before .before .before .before .before .before .before .before .before .before .before .before .before .before .before .before .before .before .before .before .before .before .before .before .before .pre .1 .0 in let vG = c .before .before .before .before .before .before .before .before .before .before .before .before .before .before .before .before .before .before .before .before .before .before .before .before .before .before .before .before .before .before .before .before .before .before .pre .1 .1 .1 .1 in let vH = c .before .before .before .before .before .before .before .before .before .before .before .before .before .before .before .before .before .before .before .before .before .before .before .before .before .before .before .before .before .before .before .before .before .before .pre .1 .1 .1 .0 in let vK = c .before .before .before .before .before .before .before .before .before .before .before .before .before .before .before .before .before .before .before .before .before .before .before .before .kind-at .ensures in let vX = c .before .before .before .before .before .before .before .before .before .before .before .before .before .before .before .before .before .before .before .before .before .before .before .before .kind-at .result in let vEL = c .before .before .before .before .before .before .before .before .before .before .before .before .before .before .before .before .before .before .before .before .before .before .before .before .before .before .before .before .before .before .before .before .before .before .args .elements .now in let vNN = c .before .before .before .before .before .before .before .before .before .before .before .before .before .before .before .before .before .before .before .before .before .before .before .before .before .before .before .before .before .before .before .before .before .before .args .n in let vC = ap classOf (sym vK) ∙ L.gather-class vX (omega (arith, vK, vH .0)) (omega (arith, vK, vH .1)) in let vU = O.big-of (vR .fits) (vC) .under in let vST0 = state (c .before .before .before .before .before .before .before .before .before .before .before .before .before .before .before .before .before .before .before .before .before .before .before .before .before .before .before .before .before .before .before .before .before .before .args .sorts .now) (c .before .before .before .before .before .before .before .before .before .before .before .before .before .before .before .before .before .before .before .before .before .before .before .before .before .before .before .before .before .before .before .before .before .before .args .numbers .now) (c .before .before .before .before .before .before .before .before .before .before .before .before .before .before .before .before .before .before .before .before .before .before .before .before .before .before .before .before .before .before .before .before .before .before .args .kept .now) (c .before .before .before .before .before .before .before .before .before .before .before .before .before .before .before .before .before .before .before .before .before .before .before .before .before .before .before .before .before .before .before .before .before .before .args .slots .now) in let vR1 = D.operand-ready (D.keeping-none vST0) (getD vEL 0 0) (D.element-small {i = 0} vG (omega (arith, c .before .before .before .before .before .before .before .before .before .before .before .before .before .before .before .before .before .before .before .before .before .before .if1 .left))) (omega (arith, vR .room .slots)) vR (let i = (L.over-some (λ W env d e f. O.big-of f vC) vR) in omega arith) vU in let vB1 = T.set-small (S.told vR1 (c .before .before .before .before .before .before .before .before .before .before .before .before .before .before .before .set-at .ensures) .2) (c .before .before .before .x .given .1) in let vFI = A.merged-first _ _ _ _ (vX - 41) (omega (arith, vK, vH .0, vH .1)) vEL vNN vG (λ W env d e f. O.big-of f vC) (D.keeping-none vST0) (D.element-small {i = 0} vG (omega (arith, c .before .before .before .before .before .before .before .before .before .before .before .before .before .before .before .before .before .before .before .before .before .before .if1 .left))) (omega (arith, vR .room .slots)) (omega (arith, c .before .before .before .before .before .before .before .before .before .before .before .before .before .before .before .before .before .before .before .before .before .before .if1 .left)) (c .before .before .before .before .before .before .before .before .before .before .before .before .before .before .before .set-at .ensures) (record { sorts = c .before .before .before .before .before .before .before .before .before .before .before .before .before .before .before .set-at .kept .1 .1 .1 .0; numbers = c .before .before .before .before .before .before .before .before .before .before .before .before .before .before .before .set-at .kept .1 .1 .1 .1 .0; slots = c .before .before .before .before .before .before .before .before .before .before .before .before .before .before .before .set-at .kept .1 .1 .1 .1 .1 .1 .0 }) (c .before .before .before .x .given .1) (vB1 .0) (vB1 .1) in let vIN = c .before .loop .inv .0 in let vJO = A.merge-join _ _ _ _ (vX - 41) (omega (arith, vK, vH .0, vH .1)) vEL vNN vG vFI vIN in A.merged-end _ _ _ _ (vX - 41) (omega (arith, vK, vH .0, vH .1)) vEL vNN vG (λ W env d e f. O.big-of f vC) vJO (omega arith)
+
+pub merged-met : (t : ℕ) {M : Type 1} → merged-lts.Closed (merged-calls t) (merged-at t) merged.Post M
+merged-met t =
+    merged-lts.spec (merged-calls t) (merged-at t) merged.Post Inv fuel
+    (at-kind-at-requires t)
+    (at-place-at-requires t)
+    (at-returns t)
+    (at-returns-2 t)
+    (at-add-slot t)
+    (at-shared-slice-read-slots t)
+    (at-mul-slots t)
+    (at-slice-write-slots t)
+    (at-add-set-at t)
+    (at-sub-set-at t)
+    (at-set-at-requires t)
+    (λ c. search needs)
+    (λ c. search needs)
+    (at-same-length t)
+    (at-same-length-2 t)
+    (at-same-length-3 t)
+    (at-same-length-4 t)
+    (at-same-length-5 t)
+    (at-returns-3 t)
+    (at-loop-holds t)
+    (at-mul-slots-2 t)
+    (at-shared-slice-read-slots-2 t)
+    (at-mul-slots-3 t)
+    (at-slice-write-slots-2 t)
+    (at-add-set-at-2 t)
+    (at-sub-set-at-2 t)
+    (at-slice-aggregate-set-at t)
+    (at-set-at-requires-2 t)
+    (λ c. search needs)
+    (λ c. search needs)
+    (at-same-length-6 t)
+    (at-same-length-7 t)
+    (at-same-length-8 t)
+    (at-same-length-9 t)
+    (at-same-length-10 t)
+    (at-returns-4 t)
+    (λ c. search needs)
+    (at-sub-combine t)
+    (λ c. search needs)
+    (at-slice-aggregate-combine t)
+    (λ c. search needs)
+    (at-combine-requires t)
+    (λ c. search needs)
+    (λ c. search needs)
+    (at-same-length-11 t)
+    (at-same-length-12 t)
+    (at-same-length-13 t)
+    (at-same-length-14 t)
+    (at-same-length-15 t)
+    (at-returns-5 t)
+    (at-add-i t)
+    (at-loop-less t)
+    (at-loop-again t)
+    (at-same-length-16 t)
+    (at-same-length-17 t)
+    (at-same-length-18 t)
+    (at-same-length-19 t)
+    (at-same-length-20 t)
+    (at-returns-6 t)

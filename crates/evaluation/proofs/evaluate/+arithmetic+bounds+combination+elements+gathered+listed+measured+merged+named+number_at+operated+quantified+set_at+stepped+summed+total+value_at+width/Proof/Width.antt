@@ -1,0 +1,32 @@
+-- `width` meets its contract.
+use Prim.Native.Nat.{ℕ, _+_, _-_, _*_, _≤_, _<_}
+use mathlib.Core.Path.{_≡_, refl, sym, ap, _∙_}
+use native.Mathlib.Omega.{arith}
+use borrow.Author.Needs.{needs}
+use Rattle.evaluation.specs.OverLaws as L
+use Rattle.evaluation.specs.Entries.{kindAt}
+use Rattle.evaluation.specs.NameLaws as N
+use Rattle.evaluation.specs.OperationLaws as P
+use Rattle.evaluation.specs.Classes.{classOf}
+use Rattle.evaluation.specs.StepLaws as S
+use Rattle.evaluation.specs.KindLaws as K
+use Rattle.evaluation.specs.FitsLaws as F
+use Rattle.evaluation.specs.Operands as O
+use Rattle.evaluation.specs.TellingLaws as T
+use Rattle.evaluation.proofs.evaluate.width.Reads as width
+use Rattle.evaluation.proofs.evaluate.+arithmetic+bounds+combination+elements+gathered+listed+measured+merged+named+number_at+operated+quantified+set_at+stepped+summed+total+value_at+width.Lts-width as width-lts
+use Rattle.evaluation.proofs.evaluate.+arithmetic+bounds+combination+elements+gathered+listed+measured+merged+named+number_at+operated+quantified+set_at+stepped+summed+total+value_at+width.Proof.Calls.{width-at, width-calls}
+
+pub width-met : (t : ℕ) {M : Type 1} → width-lts.Closed (width-calls t) (width-at t) width.Post M
+width-met t =
+    width-lts.spec (width-calls t) (width-at t) width.Post
+    (λ c. S.one-inside (λ W env d e f. O.width-of f (ap classOf (c .before .before .before .before .before .before .before .before .before .before .before .before .pre .1 .1 .1))) (c .before .before .before .before .before .before .before .before .before .before .before .before .pre .1 .0))
+    (λ c κs. (let i = S.one-inside (λ W env d e f. O.width-of f (ap classOf (c .before .before .before .before .before .before .before .before .before .before .before .before .before .pre .1 .1 .1))) (c .before .before .before .before .before .before .before .before .before .before .before .before .before .pre .1 .0) in omega (arith, (c .before .before .before .before .before .before .before .before .before .before .before .before .before .pre .0)), (S.one-ready (λ W env d e f. O.width-of f (ap classOf (c .before .before .before .before .before .before .before .before .before .before .before .before .before .pre .1 .1 .1))) (c .before .before .before .before .before .before .before .before .before .before .before .before .before .pre .1 .0), (c .before .before .before .before .before .before .before .before .before .before .before .before .before .pre .1 .1 .0))))
+    (λ c κs. search needs)
+    (λ c κs. search needs)
+    (λ c. search needs)
+    (λ c. search needs)
+    (λ c. search needs)
+    (λ c. search needs)
+    (λ c. search needs)
+    (λ c. rw (c .number .ensures, c .before .as-width .ensures) (S.one-works (λ W env d e f. O.width-of f (ap classOf (c .before .before .before .before .before .before .before .before .before .before .before .before .before .before .before .before .before .before .before .before .before .before .before .before .before .before .pre .1 .1 .1))) (c .before .before .before .before .before .before .before .before .before .before .before .before .value-at .ensures) (λ W x tx. T.taken-width _ tx refl)))

@@ -1,0 +1,15 @@
+-- What the word of entry k says: its kind, how many entries its expression takes, the place of its token.
+use Prim.Native.Nat.{ℕ, _+_}
+use mathlib.Core.List.{List}
+use Rattle.words.specs.Words.{wordAt}
+use Rattle.lexer.specs.Stored.{offsetIn}
+use Rattle.entries.specs.Stored.{firstEntry, kindOf, indexOf, sizeOf}
+
+unfoldable pub kindAt : List ℕ → ℕ → ℕ
+kindAt w k = kindOf (wordAt w (firstEntry + k))
+
+unfoldable pub sizeAt : List ℕ → ℕ → ℕ
+sizeAt w k = sizeOf (wordAt w (firstEntry + k))
+
+unfoldable pub placeAt : List ℕ → ℕ → ℕ
+placeAt w k = offsetIn (wordAt w (indexOf (wordAt w (firstEntry + k))))
