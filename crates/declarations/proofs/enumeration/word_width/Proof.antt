@@ -1,0 +1,68 @@
+-- `word_width` meets its contract: no word stands before entry i.
+use Prim.Native.Nat.{ℕ, _-_, _≤_, min}
+use mathlib.Core.List.{List}
+use mathlib.Core.Path.{_≡_, refl, sym, ap, _∙_}
+use native.Mathlib.Omega.{arith}
+use borrow.Author.Needs.{needs}
+use Rattle.language.specs.Limits.{maxTokens}
+use Rattle.language.specs.Tokens.{Token, tokens}
+use Rattle.lexer.specs.Stored.{longest, lengthIn}
+use Rattle.entries.specs.Stored.{kindOf}
+use Rattle.names.specs.Interned.{Lexed}
+use Rattle.values.specs.Declaring.{EnumerationAt}
+use Rattle.declarations.specs.Enumerations.{Scanning, scanning-starts, scanning-word, scanning-more, scanning-other, scanning-past}
+use Rattle.declarations.proofs.enumeration.word_width.Statement.{statement}
+use Rattle.declarations.proofs.enumeration.word_width.Tie as tie
+
+abbrev Inv-loop : tie.InvT-loop
+Inv-loop work e i₀ i = (i ≤ maxTokens) × ((text : List ℕ) (count : ℕ) (words : List Token) (l : Lexed text work count) → EnumerationAt (tokens text) work e words → Scanning l words i)
+
+abbrev μ-loop : tie.MeasureT-loop
+μ-loop work e i₀ i = maxTokens - i
+
+add-i : tie.Need-add-i Inv-loop μ-loop
+add-i c = search needs
+
+loop-holds : tie.Need-loop-holds Inv-loop μ-loop
+loop-holds c = (omega arith, λ text count words l h. scanning-starts l words ((c .before) .args .e) h)
+
+entry-word-requires : tie.Need-entry-word-requires Inv-loop μ-loop
+entry-word-requires c κs = search needs
+
+token-word-requires : tie.Need-token-word-requires Inv-loop μ-loop
+token-word-requires c κs = search needs
+
+returns : tie.Need-returns Inv-loop μ-loop
+returns c = λ text count words l h. ap lengthIn ((c .token-word) .ensures) ∙ scanning-word l words ((c .before .before .before .before .loop) .i) ((c .before .before .before .before .loop) .inv .1 text count words l h) (ap kindOf (sym ((c .before .before .entry-word) .ensures)) ∙ (c .before .if1) .taken)
+
+returns-2 : tie.Need-returns-2 Inv-loop μ-loop
+returns-2 c = λ text count words l h. sym (ap (min longest) (scanning-other l words ((c .before .before .before .before .loop) .i) ((c .before .before .before .before .loop) .inv .1 text count words l h) (λ q. (c .before .if1) .left (ap kindOf ((c .before .before .entry-word) .ensures) ∙ q)) (λ q. (c .if2) .taken (ap kindOf ((c .before .before .entry-word) .ensures) ∙ q))))
+
+add-i-2 : tie.Need-add-i-2 Inv-loop μ-loop
+add-i-2 c = search needs
+
+loop-less : tie.Need-loop-less Inv-loop μ-loop
+loop-less c = omega (arith, (c .before .before .before .loop-test) .taken)
+
+loop-again : tie.Need-loop-again Inv-loop μ-loop
+loop-again c = (omega (arith, (c .before .before .before .loop-test) .taken), λ text count words l h. scanning-more l words ((c .before .before .before .before .loop) .i) ((c .before .before .before .before .loop) .inv .1 text count words l h) (ap kindOf (sym ((c .before .before .entry-word) .ensures)) ∙ (c .if2) .left))
+
+returns-3 : tie.Need-returns-3 Inv-loop μ-loop
+returns-3 c = λ text count words l h. sym (ap (min longest) (scanning-past l words ((c .before .loop) .i) ((c .before .loop) .inv .1 text count words l h) ((c .loop-test) .left)))
+
+pub word-width-spec : {M : Type 1} → statement M
+word-width-spec =
+    tie.close
+    (tie.spec
+    Inv-loop
+    μ-loop
+    add-i
+    loop-holds
+    entry-word-requires
+    token-word-requires
+    returns
+    returns-2
+    add-i-2
+    loop-less
+    loop-again
+    returns-3)

@@ -1,0 +1,89 @@
+-- The last steps: what the parameters leave is what the ports' turns ask for, and the ports' slices hold the ports of the text's declarations.
+use Prim.Native.Nat.{ℕ, zero, suc, _+_, _≤_, _<_, _^_}
+use mathlib.Core.Bool.{Bool, true, false}
+use mathlib.Core.List.{List, [], _∷_, _++_}
+use mathlib.Core.Path.{_≡_, refl, sym, ap, ap₂, _∙_, subst}
+use native.Mathlib.Omega.{arith}
+use lib.Dec.{eqb, leb}
+use lib.ListN.{length, getD, length-append}
+use borrow.Author.Tests.{eqb-true, le-leb, lt-leb}
+use Rattle.node.specs.Result.{Result, Done, Refused, _>>=_}
+use Rattle.language.specs.Limits.{maxBytes, maxNames, maxTokens, maxWidth, maxSignals, offsetBits}
+use Rattle.language.specs.Tokens.{Name, code, Token, isOf, tokens}
+use Rattle.language.specs.Tree.{Declaration, OneSignal, OfWidth, OfType, Spec}
+use Rattle.language.specs.Declared.{Table, Port, constants, inputs, outputs, Declarations, declarations}
+use Rattle.language.specs.Numbering.{inOrder}
+use Rattle.language.specs.Laws.Basics.Lists.{All, all-append, all-both}
+use Rattle.language.specs.Laws.Basics.Results.{value-of}
+use Rattle.language.specs.Laws.Grammar.TokenLaws.{Stands}
+use Rattle.language.specs.Laws.Grammar.Braces.{ProperDeclaration, ProperSubsection, ProperSpec}
+use Rattle.language.specs.Laws.Grammar.BracesReads.{spec-proper}
+use Rattle.language.specs.Laws.Values.NameLaws.{inputs-all, outputs-all}
+use Rattle.language.specs.Laws.Values.RegularWords.{RegularDefinition}
+use Rattle.language.specs.Laws.Values.DistinctNames.{declaredName}
+use Rattle.language.specs.Laws.Values.PortLaws.{PortFor, Pairs, ports-for}
+use Rattle.lexer.specs.LexingLaws.{token-stands}
+use Rattle.names.specs.References.{numberIn}
+use Rattle.names.specs.Resolved.{declaredNames}
+use Rattle.sets.specs.declared.Worked.{Worked}
+use Rattle.values.specs.Worked.{worldIn}
+use Rattle.notes.specs.Notes.{Notes}
+use Rattle.notes.specs.FirstTable.{firstTable}
+use Rattle.notes.specs.Owned.{OwnAt, DeclarationAt}
+use Rattle.ports.specs.Ports.{PortAt, PortsFrom, Ported}
+use Rattle.declarations.specs.Along.{Along}
+use Rattle.declarations.specs.Turnable.{Turnable}
+use Rattle.declarations.specs.Trees.{Tree, number-small}
+use Rattle.declarations.specs.Constants.{ConstantsTold}
+use Rattle.declarations.specs.Describing.{Filled, Described, enumerationFor, offsetAt, placed-from, place-offset}
+use Rattle.declarations.specs.Turns.{WidthsFrom}
+use Rattle.declarations.specs.Placing.{PortsPlaced}
+use Rattle.declarations.specs.Sizes.{Sizings, sizedAll}
+
+-- a name's token begins before the text's last byte
+name-near : (text : List ℕ) (t : Token) → length text ≤ maxBytes → Stands text t → isOf Name t ≡ true → t .at < 2 ^ offsetBits
+name-near text t short s e =
+    let class : 1 ≡ code (t .class) = eqb-true 1 (code (t .class)) e in
+    let some : 1 ≤ length (t .text) = s .some (ap (eqb 6) (sym class)) (ap (eqb 5) (sym class)) in
+    let inside = s .inside in
+    omega arith
+
+proper-name : (m : Declaration) → ProperDeclaration m → isOf Name (declaredName m) ≡ true
+proper-name (OneSignal n) h = h
+proper-name (OfWidth n e) h = h .0
+proper-name (OfType u n) h = h .1
+
+module _ {text w refs found : List ℕ} {entries names : ℕ} {x : Spec} (t : Tree text w refs found entries names x) where
+  proper : ProperSpec x
+  proper = value-of (t .stored .read) (spec-proper (tokens text))
+
+  pub names-proper : All (λ m. isOf Name (declaredName m) ≡ true) (inputs (x .main)) × All (λ m. isOf Name (declaredName m) ≡ true) (outputs (x .main))
+  names-proper = (
+    all-both (λ m h _. proper-name m h) (inputs (x .main)) (inputs-all ProperSubsection ProperDeclaration (λ ds g. g) (x .main) (proper .main)) (inputs-all ProperSubsection ProperDeclaration (λ ds g. g) (x .main) (proper .main)),
+    all-both (λ m h _. proper-name m h) (outputs (x .main)) (outputs-all ProperSubsection ProperDeclaration (λ ds g. g) (x .main) (proper .main)) (outputs-all ProperSubsection ProperDeclaration (λ ds g. g) (x .main) (proper .main)),
+  )
+
+  pub near : (m : Declaration) (k : ℕ) → DeclarationAt x text w refs m k → isOf Name (declaredName m) ≡ true → declaredName m .at < 2 ^ offsetBits
+  near m k h e =
+      let own = h .own .entry in
+      let l = t .stored .lexed in
+      let i = own .keeps .1 in
+      name-near text (declaredName m) (l .lexical .short) (subst (Stands text) (own .keeps .0) (token-stands (l .lexical) (own .index) (omega arith))) e
+
+  -- the turns' hypotheses
+  pub sizings : (places enumerations order offsets : List ℕ) (ins count : ℕ) (sorts numbers : List ℕ) (d : Table) → All RegularDefinition (x .definitions) → Notes (tokens text) w (worldIn x [] d) sorts numbers → PortsPlaced t places ins count → Described w refs found places count order enumerations offsets → Sizings text w refs found entries names places enumerations ins count sorts numbers x d
+  sizings places enumerations order offsets ins count sorts numbers d regular notes p h =
+      let a = p .ins-total in
+      let b = p .outs-total in
+      record {
+        tree = t;
+        regular = regular;
+        ins-placed = placed-from t places enumerations count 0 (inputs (x .main)) (omega arith) (h .enumerated) (p .ins-along);
+        outs-placed = placed-from t places enumerations count ins (outputs (x .main)) (omega arith) (h .enumerated) (p .outs-along);
+        ins-total = p .ins-total;
+        outs-total = p .outs-total;
+        notes = notes;
+      }
+
+  abbrev pub numberOf : Token → ℕ
+  numberOf n = numberIn (declaredNames x) n

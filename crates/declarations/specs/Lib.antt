@@ -1,0 +1,17 @@
+pub mod Turnable
+pub mod Along
+pub mod Trees
+pub mod Expressions
+pub mod Constants
+pub mod Enumerations
+pub mod Widths
+pub mod Turns
+pub mod Describing
+pub mod DescribingRoom
+pub mod Placing
+pub mod Stages
+pub mod Sizes
+pub mod Promise
+pub mod Final
+pub mod FinalPorts
+pub mod Closing

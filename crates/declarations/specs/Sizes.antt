@@ -1,0 +1,142 @@
+-- Inputs are sized, then outputs.
+use Prim.Native.Nat.{ℕ, suc, _+_, _≤_, _<_}
+use mathlib.Core.Bool.{Bool, true, false}
+use mathlib.Core.List.{List, [], _∷_}
+use mathlib.Core.Path.{_≡_, refl, sym, ap, _∙_, subst}
+use native.Mathlib.Omega.{arith}
+use lib.ListN.{length, getD}
+use Rattle.node.specs.Result.{Result, Done, Refused, _>>=_}
+use Rattle.language.specs.Limits.{maxNames, maxTokens}
+use Rattle.language.specs.Tokens.{tokens}
+use Rattle.language.specs.Tree.{Definition, Declaration, Spec}
+use Rattle.language.specs.Declared.{Table, Port, asDeclared, Turns, turns, inputs, outputs, Declarations}
+use Rattle.language.specs.Laws.Basics.Lists.{All}
+use Rattle.language.specs.Laws.Basics.Results.{done, bind, bind-any, value-of, Within}
+use Rattle.language.specs.Laws.Values.RegularWords.{RegularDefinition}
+use Rattle.sets.specs.declared.Worked.{Worked}
+use Rattle.values.specs.Worked.{worldIn}
+use Rattle.notes.specs.Notes.{Notes}
+use Rattle.declarations.specs.Trees.{Tree}
+use Rattle.declarations.specs.Constants.{Room}
+use Rattle.declarations.specs.Turns.{PlacedFrom, WidthsFrom, Declared, TurnsGiven, TurnsTold, Before}
+
+-- the ports of x, in `places`, and the table d before any of them is sized
+pub record Sizings (text w refs found : List ℕ) (entries names : ℕ) (places enumerations : List ℕ) (ins count : ℕ) (sorts numbers : List ℕ) (x : Spec) (d : Table) : Type 0 where
+  pub tree : Tree text w refs found entries names x
+  pub regular : All RegularDefinition (x .definitions)
+  pub ins-placed : PlacedFrom x text w refs places enumerations 0 (inputs (x .main))
+  pub outs-placed : PlacedFrom x text w refs places enumerations ins (outputs (x .main))
+  pub ins-total : length (inputs (x .main)) ≡ ins
+  pub outs-total : ins + length (outputs (x .main)) ≡ count
+  pub notes : Notes (tokens text) w (worldIn x [] d) sorts numbers
+
+pub record SizesGiven (text w refs places enumerations : List ℕ) (ins count : ℕ) (sorts numbers slots widths : List ℕ) : Type 0 where
+  pub found : List ℕ
+  pub entries : ℕ
+  pub names : ℕ
+  pub x : Spec
+  pub d : Table
+  pub sizings : Sizings text w refs found entries names places enumerations ins count sorts numbers x d
+  pub room : Room refs sorts numbers slots
+  pub few : count ≤ maxNames
+  pub places-room : maxNames ≤ length places
+  pub enumerations-room : maxNames ≤ length enumerations
+  pub widths-room : maxNames ≤ length widths
+
+-- what is left of `declarations` behind the parameters
+abbrev pub sizedAll : Spec → Table → Result Declarations
+sizedAll x d =
+    turns (x .definitions) false (inputs (x .main)) d >>= λ i. turns (x .definitions) true (outputs (x .main)) (i .table) >>= λ o.
+    Done (record { table = o .table; inputs = i .ports; outputs = o .ports })
+
+-- the answer
+abbrev pub SizesAre : List ℕ → List ℕ → Spec → Table → ℕ → (sorts numbers widths : List ℕ) → Worked → Type 0
+SizesAre text w x d ins sorts numbers widths (Worked.Value n) =
+    (D : Declarations) × (sizedAll x d ≡ Done D) × Notes (tokens text) w (worldIn x [] (D .table)) sorts numbers × WidthsFrom widths 0 (D .inputs) × WidthsFrom widths ins (D .outputs)
+SizesAre text w x d ins sorts numbers widths (Worked.Refused n p) = sizedAll x d ≡ Result.Refused n p
+
+pub record SizesTold (text w : List ℕ) (x : Spec) (d : Table) (ins : ℕ) (sorts numbers widths : List ℕ) (r : Worked) : Type 0 where
+  pub told : SizesAre text w x d ins sorts numbers widths r
+
+after : {A B : Type 0} (v : Result A) (f : A → Result B) (a : A) → v ≡ Done a → v >>= f ≡ f a
+unfolding _>>=_
+after v f a e = ap (λ u. u >>= f) e
+
+over : {A B : Type 0} (v : Result A) (f : A → Result B) (n p : ℕ) → v ≡ Result.Refused n p → v >>= f ≡ Result.Refused n p
+unfolding _>>=_
+over v f n p e = ap (λ u. u >>= f) e
+
+widths-kept : (old new : List ℕ) (n j : ℕ) (ps : List Port) → j + length ps ≤ n → Before n old new → WidthsFrom old j ps → WidthsFrom new j ps
+widths-kept old new n j [] l b h = tt
+widths-kept old new n j (p ∷ ps) l b h = ((b j (omega arith) ∙ h .0 .0, h .0 .1), widths-kept old new n (suc j) ps (omega arith) b (h .1))
+
+turns-length : (defs : List Definition) (output : Bool) (ds : List Declaration) (d : Table) (s : Turns) → turns defs output ds d ≡ Done s → length ds ≡ length (s .ports)
+turns-length defs output ds d s e = value-of e (within ds d)
+  where
+    within : (ds : List Declaration) (d : Table) → Within (λ s. length ds ≡ length (s .ports)) (turns defs output ds d)
+    within [] d = done refl
+    within (m ∷ ds) d = bind-any _ _ (λ p. bind _ _ (within ds ((p .name .text, asDeclared (p .width)) ∷ d)) (λ s h. done (ap suc h)))
+
+module _ (text w refs found : List ℕ) (entries names : ℕ) (places enumerations : List ℕ) (ins count : ℕ) (x : Spec) (d : Table) where
+  pub ins-declared : (sorts numbers : List ℕ) → Sizings text w refs found entries names places enumerations ins count sorts numbers x d → Declared text w refs found entries names places enumerations 0 ins sorts numbers x (inputs (x .main)) d
+  ins-declared sorts numbers h = record { tree = h .tree; regular = h .regular; placed = h .ins-placed; total = (let t = h .ins-total in omega arith); notes = h .notes }
+
+  -- after the inputs' turns
+  module _ (sorts numbers sorts′ numbers′ widths′ : List ℕ) (h : Sizings text w refs found entries names places enumerations ins count sorts numbers x d) (n : ℕ) (v : Worked) (q : v ≡ Worked.Value n) (f : TurnsTold text w x false (inputs (x .main)) d 0 sorts′ numbers′ widths′ v) where
+    pub first : TurnsTold text w x false (inputs (x .main)) d 0 sorts′ numbers′ widths′ (Worked.Value n)
+    first = subst (TurnsTold text w x false (inputs (x .main)) d 0 sorts′ numbers′ widths′) q f
+
+    unfoldable pub afterInputs : Turns
+    afterInputs = first .told .0
+
+    pub outs-declared : Declared text w refs found entries names places enumerations ins count sorts′ numbers′ x (outputs (x .main)) (afterInputs .table)
+    unfolding afterInputs
+    outs-declared = record { tree = h .tree; regular = h .regular; placed = h .outs-placed; total = h .outs-total; notes = first .told .2 }
+
+    unrolled : sizedAll x d ≡ (turns (x .definitions) true (outputs (x .main)) (afterInputs .table) >>= λ o. Done (record { table = o .table; inputs = afterInputs .ports; outputs = o .ports }))
+    unfolding afterInputs
+    unrolled = after (turns (x .definitions) false (inputs (x .main)) d) (λ i. turns (x .definitions) true (outputs (x .main)) (i .table) >>= λ o. Done (record { table = o .table; inputs = i .ports; outputs = o .ports })) (first .told .0) (first .told .1)
+
+    pub sizes-told : (sorts″ numbers″ widths″ : List ℕ) (r : Worked) → Before ins widths′ widths″ → TurnsTold text w x true (outputs (x .main)) (afterInputs .table) ins sorts″ numbers″ widths″ r → SizesTold text w x d ins sorts″ numbers″ widths″ r
+    unfolding afterInputs
+    sizes-told sorts″ numbers″ widths″ (Worked.Value m) b g =
+        let o = g .told .0 in
+        let c = portsLength in
+        record {
+          told = (
+            record { table = o .table; inputs = afterInputs .ports; outputs = o .ports },
+            unrolled ∙ after (turns (x .definitions) true (outputs (x .main)) (afterInputs .table)) (λ o. Done (record { table = o .table; inputs = afterInputs .ports; outputs = o .ports })) o (g .told .1),
+            g .told .2,
+            widths-kept widths′ widths″ ins 0 (afterInputs .ports) (let t = h .ins-total in omega arith) b (first .told .3),
+            g .told .3,
+          );
+        }
+      where
+        portsLength : length (inputs (x .main)) ≡ length (first .told .0 .ports)
+        portsLength = turns-length (x .definitions) false (inputs (x .main)) d (first .told .0) (first .told .1)
+    sizes-told sorts″ numbers″ widths″ (Worked.Refused m p) b g =
+        record { told = unrolled ∙ over (turns (x .definitions) true (outputs (x .main)) (afterInputs .table)) (λ o. Done (record { table = o .table; inputs = afterInputs .ports; outputs = o .ports })) m p (g .told) }
+
+  pub sizes-stopped : (sorts′ numbers′ widths′ : List ℕ) (v : Worked) (n p : ℕ) → v ≡ Worked.Refused n p → TurnsTold text w x false (inputs (x .main)) d 0 sorts′ numbers′ widths′ v → SizesTold text w x d ins sorts′ numbers′ widths′ v
+  sizes-stopped sorts′ numbers′ widths′ v n p q f =
+      let g : TurnsTold text w x false (inputs (x .main)) d 0 sorts′ numbers′ widths′ (Worked.Refused n p) = subst (TurnsTold text w x false (inputs (x .main)) d 0 sorts′ numbers′ widths′) q f in
+      subst (SizesTold text w x d ins sorts′ numbers′ widths′) (sym q)
+      (record { told = over (turns (x .definitions) false (inputs (x .main)) d) (λ i. turns (x .definitions) true (outputs (x .main)) (i .table) >>= λ o. Done (record { table = o .table; inputs = i .ports; outputs = o .ports })) n p (g .told) })
+
+-- the functions that are called ask for
+pub ins-given : {text w refs places enumerations : List ℕ} {ins count : ℕ} {sorts numbers slots widths : List ℕ} (g : SizesGiven text w refs places enumerations ins count sorts numbers slots widths) → TurnsGiven text w refs places enumerations 0 ins sorts numbers slots widths
+ins-given {text} {w} {refs} {places} {enumerations} {ins} {count} {sorts} {numbers} g =
+    let t = g .sizings .outs-total in
+    let few = g .few in
+    let a = g .places-room in
+    let b = g .enumerations-room in
+    let c = g .widths-room in
+    record { found = g .found; entries = g .entries; names = g .names; x = g .x; ds = inputs (g .x .main); d = g .d; declared = ins-declared text w refs (g .found) (g .entries) (g .names) places enumerations ins count (g .x) (g .d) sorts numbers (g .sizings); room = g .room; few = omega arith; places-room = omega arith; enumerations-room = omega arith; widths-room = omega arith }
+
+pub outs-given : {text w refs places enumerations : List ℕ} {ins count : ℕ} {sorts numbers slots widths : List ℕ} (g : SizesGiven text w refs places enumerations ins count sorts numbers slots widths) (sorts′ numbers′ slots′ widths′ : List ℕ) (t : Table) → Room refs sorts′ numbers′ slots′ → length widths′ ≡ length widths → Declared text w refs (g .found) (g .entries) (g .names) places enumerations ins count sorts′ numbers′ (g .x) (outputs (g .x .main)) t → TurnsGiven text w refs places enumerations ins count sorts′ numbers′ slots′ widths′
+outs-given g sorts′ numbers′ slots′ widths′ t room size h =
+    let few = g .few in
+    let a = g .places-room in
+    let b = g .enumerations-room in
+    let c = g .widths-room in
+    record { found = g .found; entries = g .entries; names = g .names; x = g .x; ds = outputs (g .x .main); d = t; declared = h; room = room; few = few; places-room = omega arith; enumerations-room = omega arith; widths-room = omega arith }

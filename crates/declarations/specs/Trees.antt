@@ -1,0 +1,39 @@
+-- A text's tree as the stages before leave it: stored, and its names resolved.
+use Prim.Native.Nat.{ℕ, _<_}
+use mathlib.Core.Bool.{true}
+use mathlib.Core.List.{List, []}
+use mathlib.Core.Path.{_≡_}
+use native.Mathlib.Omega.{arith}
+use lib.ListN.{length}
+use Rattle.language.specs.Limits.{maxTokens, maxNames}
+use Rattle.language.specs.Tokens.{Token, tokens}
+use Rattle.language.specs.Tree.{Expr, Definition, Spec}
+use Rattle.language.specs.Names.{visible}
+use Rattle.language.specs.Declared.{Table}
+use Rattle.language.specs.Expansion.{contextOf, defineAll}
+use Rattle.entries.specs.Flat.{outline}
+use Rattle.names.specs.References.{numberIn}
+use Rattle.names.specs.ResolvedLaws.{number-below}
+use Rattle.names.specs.Resolved.{Stored, declaredNames, Resolved}
+use Rattle.values.specs.Worked.{worldIn, Worked}
+use Rattle.values.specs.WorkedLaws.{tree-worked}
+use Rattle.values.specs.BodiesLaws.{bodies}
+use Rattle.notes.specs.Notes.{Notes}
+use Rattle.declarations.specs.Expressions.{Expression}
+
+pub record Tree (text w refs found : List ℕ) (entries names : ℕ) (x : Spec) : Type 0 where
+  pub count : ℕ
+  pub stored : Stored text w count entries x
+  pub resolved : Resolved x refs found names
+
+module _ {text w refs found : List ℕ} {entries names : ℕ} {x : Spec} (t : Tree text w refs found entries names x) where
+  -- an expression that is worked behind some definitions
+  pub tree-expression : (before : List Definition) (k : ℕ) (e : Expr) → Worked x text w refs before k e → (d : Table) (sorts numbers : List ℕ) → Notes (tokens text) w (worldIn x [] d) sorts numbers → Expression text w refs sorts numbers k (worldIn x [] d) (defineAll (contextOf [] d) before) e
+  tree-expression before k e h d sorts numbers n =
+      record { count = t .count; lexed = t .stored .lexed; known = h .known [] d; bodies = bodies x text w refs [] d (tree-worked (t .stored) (t .resolved)); notes = n }
+
+  pub tree-inside : (k : ℕ) → k < length (outline x) → k < maxTokens
+  tree-inside k l = let a = t .stored .total in let b = t .stored .few in omega arith
+
+  pub number-small : (n : Token) → visible (declaredNames x) n ≡ true → numberIn (declaredNames x) n < maxNames
+  number-small n v = let a = t .resolved .count in let b = t .resolved .few in let c = number-below (declaredNames x) n v in omega arith

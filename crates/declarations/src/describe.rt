@@ -1,0 +1,53 @@
+// Ports by position, as far as no width is needed.
+use crate::constants::wide;
+use crate::enumeration::enumeration_of;
+use crate::enumeration::token_word;
+use notes::choose::entry_word;
+ghost use mathlib.Core.Path.{_≡_};
+ghost use Prim.Native.Nat.{ℕ, _<_, _≤_};
+ghost use lib.ListN.{length, getD};
+ghost use Rattle.language.specs.Limits.{workBytes, maxTokens, maxNames};
+ghost use Rattle.declarations.specs.Describing.{enumerationFor, Described};
+ghost use Rattle.declarations.specs.DescribingRoom.{DescribeRoom};
+
+// The kind of a bus declared by an enumeration (crate entries, specs/Kinds).
+const TYPED: u32 = 61;
+
+// No entry has this number.
+const NO_ENTRY: u16 = 65535;
+
+// The entry of the enumeration that a port is declared by; its own entry is entry k.
+fn enumeration_for(work: &[u8], refs: &[u16], found: &[u16], k: usize) -> u16
+    requires { ⌜ (workBytes ≤ length (now work)) × ((k < maxTokens) × ((maxTokens ≤ length (now refs)) × (maxNames ≤ length (now found)))) ⌝ }
+    ensures { λ r. ⌜ r ≡ enumerationFor (now (work .entry)) (now (refs .entry)) (now (found .entry)) k ⌝ }
+{
+    let kind = entry_word(work, k) / 8192 / 8192;
+    if kind == TYPED {
+        return enumeration_of(work, refs, found, k) as u16;
+    }
+    NO_ENTRY
+}
+
+// The names' numbers, the enumerations' entries and the names' offsets of the ports whose own entries are in `places`.
+pub fn describe(
+    work: &[u8],
+    refs: &[u16],
+    found: &[u16],
+    places: &[u16],
+    count: usize,
+    order: &mut [u16],
+    enumerations: &mut [u16],
+    offsets: &mut [u32],
+)
+    requires { ⌜ DescribeRoom (now work) (now refs) (now found) (now places) count (now order) (now enumerations) (now offsets) ⌝ }
+    ensures { λ _. ⌜ Described (now (work .entry)) (now (refs .entry)) (now (found .entry)) (now (places .entry)) count (now (order .exit)) (now (enumerations .exit)) (now (offsets .exit)) ⌝ }
+{
+    let mut j: usize = 0;
+    while j < count {
+        let k = wide(places[j]);
+        order[j] = refs[k];
+        enumerations[j] = enumeration_for(work, refs, found, k);
+        offsets[j] = token_word(work, k) / 256 % 65536;
+        j += 1;
+    }
+}

@@ -1,0 +1,82 @@
+// The enumeration that a bus is declared by.
+use crate::constants::before;
+use crate::constants::wide;
+use notes::choose::entry_word;
+use words::get;
+ghost use mathlib.Core.List.{List};
+ghost use mathlib.Core.Path.{_≡_};
+ghost use Prim.Native.Nat.{ℕ, _-_, _<_, _≤_, _+_, min};
+ghost use lib.ListN.{length};
+ghost use Rattle.words.specs.Words.{wordAt};
+ghost use Rattle.language.specs.Limits.{workBytes, maxTokens, maxNames};
+ghost use Rattle.language.specs.Tokens.{Token, tokens};
+ghost use Rattle.language.specs.Declared.{wordWidth};
+ghost use Rattle.lexer.specs.Stored.{longest, offsetIn};
+ghost use Rattle.entries.specs.Stored.{firstEntry, indexOf};
+ghost use Rattle.names.specs.Interned.{Lexed};
+ghost use Rattle.values.specs.Declaring.{EnumerationAt};
+ghost use Rattle.declarations.specs.Enumerations.{enumerationOf};
+
+// '256 declared names', '8,192 tokens'.
+const MAX_NAMES: usize = 256;
+
+const TOKENS: usize = 8192;
+
+// Kinds of entries (crate entries, specs/Kinds).
+const ENUMERATION: u32 = 56;
+
+const IDENTIFIER: u32 = 57;
+
+const WORD: u32 = 58;
+
+// No entry has this number.
+pub const NO_ENTRY: usize = 65535;
+
+// The word of the token of entry k.
+pub fn token_word(work: &[u8], k: usize) -> u32
+    requires { ⌜ (workBytes ≤ length (now work)) × (k < maxTokens) ⌝ }
+    ensures { λ r. ⌜ r ≡ wordAt (now (work .entry)) (indexOf (wordAt (now (work .entry)) (firstEntry + k))) ⌝ }
+{
+    let word = entry_word(work, k);
+    let token = (word / 8192 % 8192) as usize;
+    get(work, token)
+}
+
+// The own entry of the enumeration that the entry before k names.
+pub fn enumeration_of(work: &[u8], refs: &[u16], found: &[u16], k: usize) -> usize
+    requires { ⌜ (workBytes ≤ length (now work)) × ((k < maxTokens) × ((maxTokens ≤ length (now refs)) × (maxNames ≤ length (now found)))) ⌝ }
+    ensures { λ r. ⌜ r ≡ enumerationOf (now (work .entry)) (now (refs .entry)) (now (found .entry)) k ⌝ }
+{
+    let r = wide(refs[before(k)]);
+    if r >= MAX_NAMES {
+        return NO_ENTRY;
+    }
+    let e = wide(found[r]);
+    if e >= TOKENS {
+        return NO_ENTRY;
+    }
+    let kind = entry_word(work, e) / 8192 / 8192;
+    if kind == ENUMERATION {
+        return e;
+    }
+    NO_ENTRY
+}
+
+// How wide the first word behind the enumeration's entry e is.
+pub fn word_width(work: &[u8], e: usize) -> u32
+    requires { ⌜ (workBytes ≤ length (now work)) × (e < maxTokens) ⌝ }
+    ensures { λ r. ⌜ ((text : List ℕ) (count : ℕ) (words : List Token) → Lexed text (now (work .entry)) count → EnumerationAt (tokens text) (now (work .entry)) e words → r ≡ min longest (wordWidth words)) ⌝ }
+{
+    let mut i = e + 1;
+    while i < TOKENS {
+        let kind = entry_word(work, i) / 8192 / 8192;
+        if kind == WORD {
+            return token_word(work, i) % 256;
+        }
+        if kind != IDENTIFIER {
+            return 0;
+        }
+        i += 1;
+    }
+    0
+}
