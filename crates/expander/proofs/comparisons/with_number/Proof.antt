@@ -1,0 +1,67 @@
+-- By what the right value is.
+use borrow.Author.Needs.{needs}
+use native.Mathlib.Omega.{arith}
+use Prim.Native.Nat.{_+_, _-_, _≤_, _<_}
+use mathlib.Core.Path.{_≡_, refl, sym, ap, _∙_, subst}
+use Rattle.node.specs.Result.{_>>=_}
+use Rattle.expander.specs.CompareSteps.{comparing-numbers, comparing-other}
+use Rattle.expander.proofs.comparisons.with_number.Statement.{statement}
+use Rattle.expander.proofs.comparisons.with_number.Tie as tie
+
+enum-known-y : tie.Need-enum-known-y
+enum-known-y c = search needs
+
+compare-requires : tie.Need-compare-requires
+compare-requires c κs = search needs
+
+constant-requires : tie.Need-constant-requires
+constant-requires c κs = search needs
+
+enum-told : tie.Need-enum-told
+enum-told c = search needs
+
+enum-told-2 : tie.Need-enum-told-2
+enum-told-2 c = search needs
+
+enum-told-3 : tie.Need-enum-told-3
+enum-told-3 c = search needs
+
+enum-told-4 : tie.Need-enum-told-4
+enum-told-4 c = search needs
+
+enum-told-5 : tie.Need-enum-told-5
+enum-told-5 c = search needs
+
+enum-known-y-2 : tie.Need-enum-known-y-2
+enum-known-y-2 c = search needs
+
+returns : tie.Need-returns
+returns c =
+    record { says = λ text w firsts. comparing-numbers refl ((c .before .before .before .before .y) .given .1) ((c .before .before .compare) .ensures) ((c .constant) .ensures) }
+
+returns-2 : tie.Need-returns-2
+unfolding _>>=_
+returns-2 c = record { says = λ text w firsts. comparing-other ((c .enum-told) .given .1) (λ ps W l r. refl) }
+
+returns-3 : tie.Need-returns-3
+unfolding _>>=_
+returns-3 c = record { says = λ text w firsts. comparing-other ((c .enum-told2) .given .1) (λ ps W l r. refl) }
+
+returns-4 : tie.Need-returns-4
+unfolding _>>=_
+returns-4 c = record { says = λ text w firsts. comparing-other ((c .enum-told3) .given .1) (λ ps W l r. refl) }
+
+returns-5 : tie.Need-returns-5
+unfolding _>>=_
+returns-5 c = record { says = λ text w firsts. comparing-other ((c .enum-told4) .given .1) (λ ps W l r. refl) }
+
+returns-6 : tie.Need-returns-6
+unfolding _>>=_
+returns-6 c = record { says = λ text w firsts. comparing-other ((c .enum-told5) .given .1) (λ ps W l r. refl) }
+
+returns-7 : tie.Need-returns-7
+unfolding _>>=_
+returns-7 c = record { says = λ text w firsts. comparing-other ((c .before .y2) .given .1) (λ ps W l r. refl) }
+
+pub with-number-spec : {M : Type 1} → statement M
+with-number-spec = tie.close (tie.spec enum-known-y compare-requires constant-requires enum-told enum-told-2 enum-told-3 enum-told-4 enum-told-5 enum-known-y-2 returns returns-2 returns-3 returns-4 returns-5 returns-6 returns-7)

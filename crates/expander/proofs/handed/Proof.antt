@@ -1,0 +1,22 @@
+-- A refusal as it is.
+use borrow.Author.Needs.{needs}
+use native.Mathlib.Omega.{arith}
+use Prim.Native.Nat.{_+_, _-_, _≤_, _<_}
+use mathlib.Core.Path.{_≡_, refl, sym, ap, _∙_, subst}
+use Rattle.expander.proofs.handed.Statement.{statement}
+use Rattle.expander.proofs.handed.Tie as tie
+
+enum-told : tie.Need-enum-told
+enum-told c = search needs
+
+enum-known-x : tie.Need-enum-known-x
+enum-known-x c = search needs
+
+returns : tie.Need-returns
+returns c = search needs
+
+returns-2 : tie.Need-returns-2
+returns-2 c = rw ((c .before .x) .given .1)
+
+pub handed-spec : {M : Type 1} → statement M
+handed-spec = tie.close (tie.spec enum-told enum-known-x returns returns-2)

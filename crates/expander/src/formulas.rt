@@ -1,0 +1,839 @@
+// The nodes of a stored expression's formula, clause by clause as the language's `expansion` has it: left operand first.
+ghost use mathlib.Core.Path.{_≡_};
+ghost use Prim.Native.Nat.{_≤_, _<_};
+ghost use lib.ListN.{take};
+ghost use Rattle.evaluation.specs.Entries.{kindAt};
+ghost use Rattle.evaluation.specs.Working.{source, state};
+ghost use Rattle.expander.specs.Shapes.{shapeOf, aName};
+ghost use Rattle.expander.specs.Expanding.{tables, Prepared, Writes};
+ghost use Rattle.expander.specs.Naming.{Defined};
+ghost use Rattle.expander.specs.Folding.{Elements, Gathered};
+use crate::MISFIT;
+use crate::NOT_VISIBLE;
+use crate::OUT_OF_RANGE;
+use crate::Written;
+use crate::atoms::compared;
+use crate::atoms::indexed;
+use crate::atoms::member;
+use crate::handed;
+use crate::marks::again;
+use crate::marks::mark;
+use crate::operators::binary_kind;
+use crate::operators::unary_kind;
+use crate::operators::window_kind;
+use crate::signals::signal_at;
+use choices::folds::Fold;
+use choices::folds::finish;
+use choices::folds::further;
+use evaluation::entry::kind_at;
+use evaluation::entry::place_at;
+use evaluation::entry::size_at;
+use evaluation::evaluate::number_at;
+use evaluation::evaluate::set_at;
+use sets::Worked;
+use writing::cap;
+use writing::constant;
+use writing::join;
+use writing::nexts;
+use writing::window::window;
+
+// The kinds of entries, and the first ones of groups (crate entries, specs/Kinds).
+const NAMED: u32 = 0;
+
+const TRUTHS: u32 = 2;
+
+const TRUE: u32 = 3;
+
+const INDEX: u32 = 4;
+
+const PAREN: u32 = 5;
+
+const UNARIES: u32 = 10;
+
+const ARITHMETIC: u32 = 14;
+
+const COMPARISONS: u32 = 22;
+
+const MEMBERSHIP: u32 = 28;
+
+const NEXTS: u32 = 36;
+
+const BIGS: u32 = 39;
+
+const BIG_AND: u32 = 43;
+
+const BINDERS: u32 = 45;
+
+// The sorts of names (crate values, specs/Sorts).
+const A_BODY: u8 = 1;
+
+const A_SIGNAL: u8 = 3;
+
+const NOTHING: u8 = 6;
+
+// '256 declared names': the references from here on are those of big operators' names.
+const MAX_NAMES: usize = 256;
+
+// The nodes of the expansion of the expression at entry k, from `at` on, under `depth` big operators' names, whose elements stand in the slots from `base` on. Its direct call of itself
+// keeps the array that `each` holds out of this frame.
+pub fn formula_at(
+    text: &[u8],
+    work: &[u8],
+    refs: &[u16],
+    sorts: &mut [u8],
+    numbers: &mut [u32],
+    kept: &mut [u32],
+    slots: &mut [u32],
+    firsts: &[u32],
+    written: &mut [u32],
+    out: &mut [u32],
+    table: &mut [u32; 8192],
+    base: usize,
+    depth: usize,
+    k: usize,
+    at: usize,
+) -> Written
+    requires { ⌜ Prepared (source (now text) (now work) (now refs)) (state (now sorts) (now numbers) (now kept) (now slots)) (tables (now firsts) (now written) (now table) at) (now out) base depth k ⌝ }
+    ensures { λ r. ⌜ Writes (source (now (text .entry)) (now (work .entry)) (now (refs .entry))) (state (now (sorts .entry)) (now (numbers .entry)) (now (kept .entry)) (now (slots .entry))) (state (now (sorts .exit)) (now (numbers .exit)) (now (kept .exit)) (now (slots .exit))) (tables (now (firsts .entry)) (now (written .entry)) (now (table .entry)) at) (now (written .exit)) (now (table .exit)) base depth k r ⌝ }
+{
+    let kind = kind_at(work, k);
+    if kind == PAREN {
+        return formula_at(
+            text,
+            work,
+            refs,
+            sorts,
+            numbers,
+            kept,
+            slots,
+            firsts,
+            written,
+            out,
+            table,
+            base,
+            depth,
+            k - 1,
+            at,
+        );
+    }
+    if kind == NAMED {
+        return named(
+            text,
+            work,
+            refs,
+            sorts,
+            numbers,
+            kept,
+            slots,
+            firsts,
+            written,
+            out,
+            table,
+            base,
+            depth,
+            k,
+            at,
+        );
+    }
+    if kind < TRUTHS {
+        return Written::Refused(MISFIT, 0);
+    }
+    if kind < INDEX {
+        return Written::At(constant(kind == TRUE, table, at));
+    }
+    if kind == INDEX {
+        return indexed(
+            text,
+            work,
+            refs,
+            sorts,
+            numbers,
+            kept,
+            slots,
+            firsts,
+            written,
+            out,
+            table,
+            base,
+            depth,
+            k,
+            at,
+        );
+    }
+    if kind < UNARIES {
+        return Written::Refused(MISFIT, 0);
+    }
+    if kind < ARITHMETIC {
+        return unary(
+            text,
+            work,
+            refs,
+            sorts,
+            numbers,
+            kept,
+            slots,
+            firsts,
+            written,
+            out,
+            table,
+            base,
+            depth,
+            k,
+            at,
+        );
+    }
+    operated(
+        text,
+        work,
+        refs,
+        sorts,
+        numbers,
+        kept,
+        slots,
+        firsts,
+        written,
+        out,
+        table,
+        base,
+        depth,
+        k,
+        at,
+    )
+}
+
+// An operator between operands, or one of several operands.
+fn operated(
+    text: &[u8],
+    work: &[u8],
+    refs: &[u16],
+    sorts: &mut [u8],
+    numbers: &mut [u32],
+    kept: &mut [u32],
+    slots: &mut [u32],
+    firsts: &[u32],
+    written: &mut [u32],
+    out: &mut [u32],
+    table: &mut [u32; 8192],
+    base: usize,
+    depth: usize,
+    k: usize,
+    at: usize,
+) -> Written
+    requires { ⌜ Prepared (source (now text) (now work) (now refs)) (state (now sorts) (now numbers) (now kept) (now slots)) (tables (now firsts) (now written) (now table) at) (now out) base depth k ⌝ }
+    requires { ⌜ 14 ≤ kindAt (now work) k ⌝ }
+    ensures { λ r. ⌜ Writes (source (now (text .entry)) (now (work .entry)) (now (refs .entry))) (state (now (sorts .entry)) (now (numbers .entry)) (now (kept .entry)) (now (slots .entry))) (state (now (sorts .exit)) (now (numbers .exit)) (now (kept .exit)) (now (slots .exit))) (tables (now (firsts .entry)) (now (written .entry)) (now (table .entry)) at) (now (written .exit)) (now (table .exit)) base depth k r ⌝ }
+{
+    let kind = kind_at(work, k);
+    if kind < COMPARISONS {
+        return Written::Refused(MISFIT, 0);
+    }
+    if kind < MEMBERSHIP {
+        return compared(
+            text,
+            work,
+            refs,
+            sorts,
+            numbers,
+            kept,
+            slots,
+            firsts,
+            written,
+            out,
+            table,
+            base,
+            depth,
+            k,
+            at,
+        );
+    }
+    if kind == MEMBERSHIP {
+        return member(
+            text,
+            work,
+            refs,
+            sorts,
+            numbers,
+            kept,
+            slots,
+            firsts,
+            written,
+            out,
+            table,
+            base,
+            depth,
+            k,
+            at,
+        );
+    }
+    if kind < NEXTS {
+        return binary(
+            text,
+            work,
+            refs,
+            sorts,
+            numbers,
+            kept,
+            slots,
+            firsts,
+            written,
+            out,
+            table,
+            base,
+            depth,
+            k,
+            at,
+        );
+    }
+    if kind == NEXTS {
+        return repeated(
+            text,
+            work,
+            refs,
+            sorts,
+            numbers,
+            kept,
+            slots,
+            firsts,
+            written,
+            out,
+            table,
+            base,
+            depth,
+            k,
+            at,
+        );
+    }
+    if kind < BIGS {
+        return between(
+            text,
+            work,
+            refs,
+            sorts,
+            numbers,
+            kept,
+            slots,
+            firsts,
+            written,
+            out,
+            table,
+            base,
+            depth,
+            k,
+            at,
+        );
+    }
+    if kind < BINDERS {
+        return each(
+            text,
+            work,
+            refs,
+            sorts,
+            numbers,
+            kept,
+            slots,
+            firsts,
+            written,
+            out,
+            table,
+            base,
+            depth,
+            k,
+            at,
+        );
+    }
+    Written::Refused(MISFIT, 0)
+}
+
+// A name: a single signal or a definition.
+fn named(
+    text: &[u8],
+    work: &[u8],
+    refs: &[u16],
+    sorts: &mut [u8],
+    numbers: &mut [u32],
+    kept: &mut [u32],
+    slots: &mut [u32],
+    firsts: &[u32],
+    written: &mut [u32],
+    out: &mut [u32],
+    table: &mut [u32; 8192],
+    base: usize,
+    depth: usize,
+    k: usize,
+    at: usize,
+) -> Written
+    requires { ⌜ Prepared (source (now text) (now work) (now refs)) (state (now sorts) (now numbers) (now kept) (now slots)) (tables (now firsts) (now written) (now table) at) (now out) base depth k ⌝ }
+    requires { ⌜ shapeOf (kindAt (now work) k) ≡ aName ⌝ }
+    ensures { λ r. ⌜ Writes (source (now (text .entry)) (now (work .entry)) (now (refs .entry))) (state (now (sorts .entry)) (now (numbers .entry)) (now (kept .entry)) (now (slots .entry))) (state (now (sorts .exit)) (now (numbers .exit)) (now (kept .exit)) (now (slots .exit))) (tables (now (firsts .entry)) (now (written .entry)) (now (table .entry)) at) (now (written .exit)) (now (table .exit)) base depth k r ⌝ }
+{
+    let r = refs[k] as usize;
+    if r >= MAX_NAMES {
+        return Written::Refused(MISFIT, 0);
+    }
+    let sort = sorts[r];
+    if sort == A_BODY {
+        return defined(
+            text,
+            work,
+            refs,
+            sorts,
+            numbers,
+            kept,
+            slots,
+            firsts,
+            written,
+            out,
+            table,
+            base,
+            depth,
+            k,
+            at,
+        );
+    }
+    if sort == A_SIGNAL {
+        return Written::At(signal_at(firsts, r, 0, table, at));
+    }
+    if sort == NOTHING {
+        return Written::Refused(NOT_VISIBLE, 0);
+    }
+    Written::Refused(MISFIT, 0)
+}
+
+// A definition: its nodes again where they stand already, else its body's, behind the slots in use.
+fn defined(
+    text: &[u8],
+    work: &[u8],
+    refs: &[u16],
+    sorts: &mut [u8],
+    numbers: &mut [u32],
+    kept: &mut [u32],
+    slots: &mut [u32],
+    firsts: &[u32],
+    written: &mut [u32],
+    out: &mut [u32],
+    table: &mut [u32; 8192],
+    base: usize,
+    depth: usize,
+    k: usize,
+    at: usize,
+) -> Written
+    requires { ⌜ Prepared (source (now text) (now work) (now refs)) (state (now sorts) (now numbers) (now kept) (now slots)) (tables (now firsts) (now written) (now table) at) (now out) base depth k ⌝ }
+    requires { ⌜ Defined (now work) (now refs) (now sorts) k ⌝ }
+    ensures { λ r. ⌜ Writes (source (now (text .entry)) (now (work .entry)) (now (refs .entry))) (state (now (sorts .entry)) (now (numbers .entry)) (now (kept .entry)) (now (slots .entry))) (state (now (sorts .exit)) (now (numbers .exit)) (now (kept .exit)) (now (slots .exit))) (tables (now (firsts .entry)) (now (written .entry)) (now (table .entry)) at) (now (written .exit)) (now (table .exit)) base depth k r ⌝ }
+{
+    let r = refs[k] as usize;
+    let v = written[r];
+    if v != 0 {
+        return Written::At(again(v, table, at));
+    }
+    let n = numbers[r] as usize;
+    let x = formula_at(
+        text,
+        work,
+        refs,
+        sorts,
+        numbers,
+        kept,
+        slots,
+        firsts,
+        written,
+        out,
+        table,
+        base + depth,
+        0,
+        n,
+        at,
+    );
+    let Written::At(m) = x else {
+        return x;
+    };
+    written[r] = mark(at, m);
+    x
+}
+
+fn unary(
+    text: &[u8],
+    work: &[u8],
+    refs: &[u16],
+    sorts: &mut [u8],
+    numbers: &mut [u32],
+    kept: &mut [u32],
+    slots: &mut [u32],
+    firsts: &[u32],
+    written: &mut [u32],
+    out: &mut [u32],
+    table: &mut [u32; 8192],
+    base: usize,
+    depth: usize,
+    k: usize,
+    at: usize,
+) -> Written
+    requires { ⌜ Prepared (source (now text) (now work) (now refs)) (state (now sorts) (now numbers) (now kept) (now slots)) (tables (now firsts) (now written) (now table) at) (now out) base depth k ⌝ }
+    requires { ⌜ (10 ≤ kindAt (now work) k) × (kindAt (now work) k < 14) ⌝ }
+    ensures { λ r. ⌜ Writes (source (now (text .entry)) (now (work .entry)) (now (refs .entry))) (state (now (sorts .entry)) (now (numbers .entry)) (now (kept .entry)) (now (slots .entry))) (state (now (sorts .exit)) (now (numbers .exit)) (now (kept .exit)) (now (slots .exit))) (tables (now (firsts .entry)) (now (written .entry)) (now (table .entry)) at) (now (written .exit)) (now (table .exit)) base depth k r ⌝ }
+{
+    let op = unary_kind(kind_at(work, k));
+    let x = formula_at(
+        text,
+        work,
+        refs,
+        sorts,
+        numbers,
+        kept,
+        slots,
+        firsts,
+        written,
+        out,
+        table,
+        base,
+        depth,
+        k - 1,
+        at,
+    );
+    let Written::At(m) = x else {
+        return x;
+    };
+    Written::At(cap(op, m, table))
+}
+
+fn binary(
+    text: &[u8],
+    work: &[u8],
+    refs: &[u16],
+    sorts: &mut [u8],
+    numbers: &mut [u32],
+    kept: &mut [u32],
+    slots: &mut [u32],
+    firsts: &[u32],
+    written: &mut [u32],
+    out: &mut [u32],
+    table: &mut [u32; 8192],
+    base: usize,
+    depth: usize,
+    k: usize,
+    at: usize,
+) -> Written
+    requires { ⌜ Prepared (source (now text) (now work) (now refs)) (state (now sorts) (now numbers) (now kept) (now slots)) (tables (now firsts) (now written) (now table) at) (now out) base depth k ⌝ }
+    requires { ⌜ (29 ≤ kindAt (now work) k) × (kindAt (now work) k < 36) ⌝ }
+    ensures { λ r. ⌜ Writes (source (now (text .entry)) (now (work .entry)) (now (refs .entry))) (state (now (sorts .entry)) (now (numbers .entry)) (now (kept .entry)) (now (slots .entry))) (state (now (sorts .exit)) (now (numbers .exit)) (now (kept .exit)) (now (slots .exit))) (tables (now (firsts .entry)) (now (written .entry)) (now (table .entry)) at) (now (written .exit)) (now (table .exit)) base depth k r ⌝ }
+{
+    let op = binary_kind(kind_at(work, k));
+    let left = k - 1 - size_at(work, k - 1);
+    let x = formula_at(
+        text,
+        work,
+        refs,
+        sorts,
+        numbers,
+        kept,
+        slots,
+        firsts,
+        written,
+        out,
+        table,
+        base,
+        depth,
+        left,
+        at,
+    );
+    let Written::At(m) = x else {
+        return x;
+    };
+    let y = formula_at(
+        text,
+        work,
+        refs,
+        sorts,
+        numbers,
+        kept,
+        slots,
+        firsts,
+        written,
+        out,
+        table,
+        base,
+        depth,
+        k - 1,
+        m,
+    );
+    let Written::At(n) = y else {
+        return y;
+    };
+    Written::At(join(op, m, n, table))
+}
+
+// X[n].
+fn repeated(
+    text: &[u8],
+    work: &[u8],
+    refs: &[u16],
+    sorts: &mut [u8],
+    numbers: &mut [u32],
+    kept: &mut [u32],
+    slots: &mut [u32],
+    firsts: &[u32],
+    written: &mut [u32],
+    out: &mut [u32],
+    table: &mut [u32; 8192],
+    base: usize,
+    depth: usize,
+    k: usize,
+    at: usize,
+) -> Written
+    requires { ⌜ Prepared (source (now text) (now work) (now refs)) (state (now sorts) (now numbers) (now kept) (now slots)) (tables (now firsts) (now written) (now table) at) (now out) base depth k ⌝ }
+    requires { ⌜ kindAt (now work) k ≡ 36 ⌝ }
+    ensures { λ r. ⌜ Writes (source (now (text .entry)) (now (work .entry)) (now (refs .entry))) (state (now (sorts .entry)) (now (numbers .entry)) (now (kept .entry)) (now (slots .entry))) (state (now (sorts .exit)) (now (numbers .exit)) (now (kept .exit)) (now (slots .exit))) (tables (now (firsts .entry)) (now (written .entry)) (now (table .entry)) at) (now (written .exit)) (now (table .exit)) base depth k r ⌝ }
+{
+    let left = k - 1 - size_at(work, k - 1);
+    let x = number_at(
+        text,
+        work,
+        refs,
+        sorts,
+        numbers,
+        kept,
+        slots,
+        base,
+        depth,
+        left,
+        out,
+    );
+    let Worked::Value(n) = x else {
+        return handed(x);
+    };
+    let y = formula_at(
+        text,
+        work,
+        refs,
+        sorts,
+        numbers,
+        kept,
+        slots,
+        firsts,
+        written,
+        out,
+        table,
+        base,
+        depth,
+        k - 1,
+        at,
+    );
+    let Written::At(m) = y else {
+        return y;
+    };
+    Written::At(nexts(n as usize, m, table))
+}
+
+// F[n:m] and G[n:m]: n, m, the test, then the operand.
+fn between(
+    text: &[u8],
+    work: &[u8],
+    refs: &[u16],
+    sorts: &mut [u8],
+    numbers: &mut [u32],
+    kept: &mut [u32],
+    slots: &mut [u32],
+    firsts: &[u32],
+    written: &mut [u32],
+    out: &mut [u32],
+    table: &mut [u32; 8192],
+    base: usize,
+    depth: usize,
+    k: usize,
+    at: usize,
+) -> Written
+    requires { ⌜ Prepared (source (now text) (now work) (now refs)) (state (now sorts) (now numbers) (now kept) (now slots)) (tables (now firsts) (now written) (now table) at) (now out) base depth k ⌝ }
+    requires { ⌜ (37 ≤ kindAt (now work) k) × (kindAt (now work) k < 39) ⌝ }
+    ensures { λ r. ⌜ Writes (source (now (text .entry)) (now (work .entry)) (now (refs .entry))) (state (now (sorts .entry)) (now (numbers .entry)) (now (kept .entry)) (now (slots .entry))) (state (now (sorts .exit)) (now (numbers .exit)) (now (kept .exit)) (now (slots .exit))) (tables (now (firsts .entry)) (now (written .entry)) (now (table .entry)) at) (now (written .exit)) (now (table .exit)) base depth k r ⌝ }
+{
+    let last = size_at(work, k - 1);
+    let second = k - 1 - last;
+    let first = second - size_at(work, second);
+    let x = number_at(
+        text,
+        work,
+        refs,
+        sorts,
+        numbers,
+        kept,
+        slots,
+        base,
+        depth,
+        first,
+        out,
+    );
+    let Worked::Value(n) = x else {
+        return handed(x);
+    };
+    let y = number_at(
+        text,
+        work,
+        refs,
+        sorts,
+        numbers,
+        kept,
+        slots,
+        base,
+        depth,
+        second,
+        out,
+    );
+    let Worked::Value(m) = y else {
+        return handed(y);
+    };
+    if m < n {
+        return Written::Refused(OUT_OF_RANGE, place_at(work, k));
+    }
+    let z = formula_at(
+        text,
+        work,
+        refs,
+        sorts,
+        numbers,
+        kept,
+        slots,
+        firsts,
+        written,
+        out,
+        table,
+        base,
+        depth,
+        k - 1,
+        at,
+    );
+    let Written::At(end) = z else {
+        return z;
+    };
+    let chained = window(
+        window_kind(kind_at(work, k)),
+        (m - n) as usize,
+        at,
+        end,
+        table,
+    );
+    Written::At(nexts(n as usize, chained, table))
+}
+
+// A big operator: its set, then its operand for each element.
+fn each(
+    text: &[u8],
+    work: &[u8],
+    refs: &[u16],
+    sorts: &mut [u8],
+    numbers: &mut [u32],
+    kept: &mut [u32],
+    slots: &mut [u32],
+    firsts: &[u32],
+    written: &mut [u32],
+    out: &mut [u32],
+    table: &mut [u32; 8192],
+    base: usize,
+    depth: usize,
+    k: usize,
+    at: usize,
+) -> Written
+    requires { ⌜ Prepared (source (now text) (now work) (now refs)) (state (now sorts) (now numbers) (now kept) (now slots)) (tables (now firsts) (now written) (now table) at) (now out) base depth k ⌝ }
+    requires { ⌜ (39 ≤ kindAt (now work) k) × (kindAt (now work) k < 45) ⌝ }
+    ensures { λ r. ⌜ Writes (source (now (text .entry)) (now (work .entry)) (now (refs .entry))) (state (now (sorts .entry)) (now (numbers .entry)) (now (kept .entry)) (now (slots .entry))) (state (now (sorts .exit)) (now (numbers .exit)) (now (kept .exit)) (now (slots .exit))) (tables (now (firsts .entry)) (now (written .entry)) (now (table .entry)) at) (now (written .exit)) (now (table .exit)) base depth k r ⌝ }
+{
+    let set = k - 2 - size_at(work, k - 1);
+    let mut elements = [0u32; 257];
+    let x = set_at(
+        text,
+        work,
+        refs,
+        sorts,
+        numbers,
+        kept,
+        slots,
+        base,
+        depth,
+        set,
+        &mut elements,
+    );
+    let Worked::Value(n) = x else {
+        return handed(x);
+    };
+    if kind_at(work, k) < BIG_AND {
+        return Written::Refused(MISFIT, 0);
+    }
+    folded(
+        text,
+        work,
+        refs,
+        sorts,
+        numbers,
+        kept,
+        slots,
+        firsts,
+        written,
+        out,
+        table,
+        base,
+        depth,
+        k,
+        at,
+        &elements,
+        n as usize,
+    )
+}
+
+// The operand for each of n elements, folded.
+fn folded(
+    text: &[u8],
+    work: &[u8],
+    refs: &[u16],
+    sorts: &mut [u8],
+    numbers: &mut [u32],
+    kept: &mut [u32],
+    slots: &mut [u32],
+    firsts: &[u32],
+    written: &mut [u32],
+    out: &mut [u32],
+    table: &mut [u32; 8192],
+    base: usize,
+    depth: usize,
+    k: usize,
+    at: usize,
+    elements: &[u32],
+    n: usize,
+) -> Written
+    requires { ⌜ Prepared (source (now text) (now work) (now refs)) (state (now sorts) (now numbers) (now kept) (now slots)) (tables (now firsts) (now written) (now table) at) (now out) base depth k ⌝ }
+    requires { ⌜ Elements (now elements) n k × ((43 ≤ kindAt (now work) k) × (kindAt (now work) k < 45)) ⌝ }
+    ensures { λ r. ⌜ Gathered (source (now (text .entry)) (now (work .entry)) (now (refs .entry))) (state (now (sorts .entry)) (now (numbers .entry)) (now (kept .entry)) (now (slots .entry))) (state (now (sorts .exit)) (now (numbers .exit)) (now (kept .exit)) (now (slots .exit))) (tables (now (firsts .entry)) (now (written .entry)) (now (table .entry)) at) (now (written .exit)) (now (table .exit)) base depth k (take n (now (elements .entry))) r ⌝ }
+{
+    let all = kind_at(work, k) == BIG_AND;
+    let free = base + depth;
+    let mut f = Fold {
+        some: false,
+        end: at,
+    };
+    let mut i = 0;
+    while i < n {
+        slots[free] = elements[i];
+        let end = f.end;
+        let x = formula_at(
+            text,
+            work,
+            refs,
+            sorts,
+            numbers,
+            kept,
+            slots,
+            firsts,
+            written,
+            out,
+            table,
+            base,
+            depth + 1,
+            k - 1,
+            end,
+        );
+        let Written::At(m) = x else {
+            return x;
+        };
+        f = further(all, f, m, table);
+        i += 1;
+    }
+    Written::At(finish(all, f, table))
+}

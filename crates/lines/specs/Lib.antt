@@ -1,0 +1,14 @@
+pub mod Items
+pub mod ItemLaws
+pub mod PassedLaws
+pub mod WorkedLaws
+pub mod KnownLines
+pub mod Gathering
+pub mod LineLaws
+pub mod WalkLaws
+pub mod Whole
+pub mod WholeLaws
+pub mod WorldLaws
+pub mod PortLaws
+pub mod SignalLaws
+pub mod ExpandedLaws
