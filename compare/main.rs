@@ -1,4 +1,4 @@
-//! Compares the proved library with the second converter on fresh tables and recordings: the answer, and every byte of the buffers with
+//! Compares the proved library with the second converter on fresh tables, recordings and texts: the answer, and every byte of the buffers with
 //! guards before and after them. The first difference is printed and ends the run.
 //!
 //! usage: compare SEED COUNT
@@ -8,6 +8,8 @@ use second::generate::prng::Prng;
 use second::generate::{recordings, tables};
 use second::{evaluator, rewriter};
 use std::collections::BTreeMap;
+
+mod reading;
 
 include!("../include/tlsf.rs");
 
@@ -136,10 +138,15 @@ fn main() {
     };
     let mut rng = Prng::new(seed);
     let (mut rewritings, mut evaluations) = (Tally::new(), Tally::new());
+    let (mut readings, mut conversions) = (Tally::new(), Tally::new());
     for _ in 0..times {
         compare_rewriting(&mut rng, &mut rewritings);
         compare_evaluation(&mut rng, &mut evaluations);
+        reading::compare_reading(&mut rng, &mut readings);
+        reading::compare_converting(&mut rng, &mut conversions);
     }
     report("rewrite", seed, &rewritings);
     report("evaluate", seed, &evaluations);
+    report("read", seed, &readings);
+    report("convert", seed, &conversions);
 }

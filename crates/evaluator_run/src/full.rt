@@ -54,7 +54,7 @@ fn fill_recording(recording: &mut [u8]) {
 // The answer, and the checksum of the rows.
 fn evaluate(nodes: &[u32], recording: &[u8], rows: &mut [u8]) {
     print::text(b"8,192 nodes over 2,048 positions");
-    print::answer(evaluator::evaluate(nodes, 2, recording, rows));
+    listing::answer(evaluator::evaluate(nodes, 2, recording, rows));
     print::checksum(rows);
 }
 

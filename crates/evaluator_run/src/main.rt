@@ -31,7 +31,7 @@ fn file() -> [u32; 17] {
 // The answer, the verdict and the bytes of the buffer after them.
 fn run(name: &[u8], nodes: &[u32], signals: u32, recording: &[u8], rows: &mut [u8]) {
     print::text(name);
-    print::answer(evaluator::evaluate(nodes, signals, recording, rows));
+    listing::answer(evaluator::evaluate(nodes, signals, recording, rows));
     print::verdict(evaluator::judge(nodes, signals, recording, rows));
     print::bytes(rows);
 }

@@ -1,9 +1,8 @@
-// What the program prints: answers, verdicts and bytes, a line each.
+// What the program prints: verdicts and bytes, a line each.
 ghost use mathlib.Core.Path.{_≡_};
 ghost use Prim.Native.Nat.{_<_};
 use evaluator::Verdict;
 use libc::STDOUT_FILENO;
-use node::Answer;
 
 // Writes a line.
 pub fn text(line: &[u8]) {
@@ -18,14 +17,6 @@ fn counts(word: &[u8], first: u32, second: u32) {
     io::write_all(STDOUT_FILENO, b" ");
     io::print_decimal(STDOUT_FILENO, second as u64);
     io::write_all(STDOUT_FILENO, b"\n");
-}
-
-// Writes an answer with its two numbers.
-pub fn answer(answer: Answer) {
-    match answer {
-        Answer::Accepted(nodes, signals) => counts(b"accepted ", nodes, signals),
-        Answer::Refused(number, place) => counts(b"refused ", number, place),
-    }
 }
 
 // Writes a verdict, a refusal with its two numbers.

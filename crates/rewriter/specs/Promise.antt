@@ -30,7 +30,7 @@ pub record Rewrites (form : ℕ) (nodes out out′ : List ℕ) (r : Answer) : Ty
 -- the last two follow from the first two
 module _ (form : ℕ) (nodes out out′ : List ℕ) where
   module _ (n s : ℕ) (e : Done (record { nodes = n; signals = s }) ≡ rewriting form nodes (length out)) (b : out′ ≡ rewritten form nodes out) where
-    accepted : Accepts form nodes (record { nodes = n; signals = s })
+    accepted : Accepts form nodes (length out) (record { nodes = n; signals = s })
     accepted = accepts (length out) (sym e)
 
     count : n ≡ size (target form nodes)

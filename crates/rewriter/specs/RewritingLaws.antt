@@ -51,12 +51,13 @@ module _ (number : ℕ) (nodes : List ℕ) (room : ℕ) where
   rewriting-fit h e = guard-pass 21 0 _ (le-leb number 2 h) ∙ rw e
 
 -- what an accepted answer says
-pub record Accepts (number : ℕ) (nodes : List ℕ) (c : Counts) : Type 0 where
+pub record Accepts (number : ℕ) (nodes : List ℕ) (room : ℕ) (c : Counts) : Type 0 where
   pub formed : Formed fieldLimit nodes
   pub few : size (target number nodes) ≤ maxNodes
+  pub fits : size (target number nodes) ≤ room
   pub counts : c ≡ record { nodes = size (target number nodes); signals = 0 }
 
-pub accepts : {number : ℕ} {nodes : List ℕ} {c : Counts} (room : ℕ) → rewriting number nodes room ≡ Done c → Accepts number nodes c
+pub accepts : {number : ℕ} {nodes : List ℕ} {c : Counts} (room : ℕ) → rewriting number nodes room ≡ Done c → Accepts number nodes room c
 unfolding rewriting fitting
 accepts {number} {nodes} {c} room e =
     let f : Formula = target number nodes in
@@ -64,10 +65,10 @@ accepts {number} {nodes} {c} room e =
     let q = bind-done (checked fieldLimit nodes) (λ _. fitting f room) (p .1) in
     let r = guard-done (leb (size f) maxNodes) 16 0 _ (q .2) in
     let s = guard-done (leb (size f) room) 18 0 (Done (record { nodes = size f; signals = 0 })) (r .1) in
-    record { formed = checked-done (q .1) .formed; few = leb-true (size f) maxNodes (r .0); counts = let g = s .1 in cc }
+    record { formed = checked-done (q .1) .formed; few = leb-true (size f) maxNodes (r .0); fits = leb-true (size f) room (s .0); counts = let g = s .1 in cc }
 
 -- an accepted table's form, the nodes written and any after them
-module _ (number : ℕ) (nodes out : List ℕ) {c : Counts} (a : Accepts number nodes c) where
+module _ (number : ℕ) (nodes out : List ℕ) {room : ℕ} {c : Counts} (a : Accepts number nodes room c) where
   target-signals : SignalsBelow fieldLimit (target number nodes)
   target-signals =
       let h = a .formed .some in form-signals number fieldLimit (root nodes) (tree-signals (a .formed) (length nodes - 1) (omega arith))

@@ -53,8 +53,8 @@ fn write_form(nodes: &[u32], form: u32, i: usize, out: &mut [u32], at: usize) ->
     }
 }
 
-// The first n words, to the front of `out`. It asks that both have as many.
-fn copy_words(from: &[u32], n: usize, out: &mut [u32])
+// The first n words, to the front of `out`. It is no entry point: it asks that both have as many, and its callers show it.
+pub fn copy_words(from: &[u32], n: usize, out: &mut [u32])
     requires { ⌜ (n ≤ length (now from)) × (n ≤ length (now out)) ⌝ }
     ensures { λ _. ⌜ now (out .exit) ≡ paste (now (out .entry)) 0 (now (from .entry)) n ⌝ }
 {

@@ -1,7 +1,6 @@
 // Runs the rewriter on each refusal of document 01's table, on its one file in full, and on the deepest tables.
 ghost use Prim.Native.Nat.{_<_, _≤_};
 use libc::STDOUT_FILENO;
-use node::Answer;
 use node::Node;
 use rewriter::AS_EXPANDED;
 use rewriter::CORE_FORM;
@@ -21,46 +20,10 @@ fn say_number(n: u64) {
     io::print_decimal(STDOUT_FILENO, n);
 }
 
-// A node's number, kind, first and second field.
-fn say_node(i: usize, word: u32) {
-    let node = Node { word };
-    io::print_decimal(STDOUT_FILENO, i as u64);
-    say_number(node.kind() as u64);
-    say_number(node.first() as u64);
-    say_number(node.second() as u64);
-    say(b"\n");
-}
-
 fn least(a: usize, b: usize) -> usize
     ensures { λ r. ⌜ r ≤ b ⌝ }
 {
     if a < b { a } else { b }
-}
-
-// The first n words of the result buffer.
-fn say_nodes(out: &[u32; 64], n: usize) {
-    let end = least(n, 64);
-    let mut i = 0;
-    while i < end {
-        say_node(i, out[i]);
-        i += 1;
-    }
-}
-
-fn say_answer(answer: Answer) {
-    match answer {
-        Answer::Accepted(nodes, signals) => {
-            say(b"accepted");
-            say_number(nodes as u64);
-            say_number(signals as u64);
-        }
-        Answer::Refused(number, place) => {
-            say(b"refused");
-            say_number(number as u64);
-            say_number(place as u64);
-        }
-    }
-    say(b"\n");
 }
 
 // A table in a form.
@@ -69,7 +32,7 @@ fn try_form(name: &[u8], nodes: &[u32], form: u32, out: &mut [u32]) {
     say(b", form");
     say_number(form as u64);
     say(b": ");
-    say_answer(rewriter::rewrite(nodes, form, out));
+    listing::answer(rewriter::rewrite(nodes, form, out));
 }
 
 // 21, 19 and others, with room for four nodes
@@ -106,7 +69,7 @@ fn long_table() {
 fn document(form: u32, n: usize) {
     let mut out = [UNTOUCHED; 64];
     try_form(b"the document's nodes", &tables::DOCUMENT, form, &mut out);
-    say_nodes(&out, n);
+    listing::nodes(&out, n);
 }
 
 // 18
@@ -118,7 +81,7 @@ fn short() {
         AS_EXPANDED,
         &mut out,
     );
-    say_node(0, out[0]);
+    listing::nodes(&out, 1);
 }
 
 // The first n nodes of a table in a form.

@@ -1,6 +1,7 @@
--- Every refusal of the rewriter and of the evaluator has a number that fits the packed word.
+-- Every refusal has a number that fits the packed word.
 use Prim.Native.Nat.{ℕ, suc, _^_, _<_}
 use mathlib.Core.Bool.{Bool, true, false}
+use mathlib.Core.Path.{refl}
 use mathlib.Core.List.{List, [], _∷_}
 use native.Mathlib.Omega.{arith}
 use Rattle.node.specs.Limits.{maxNodes, fieldLimit}
@@ -11,6 +12,11 @@ use Rattle.rewriter.specs.Rewriting.{target, fitting, rewriting}
 use Rattle.evaluator.specs.Recording.{filled, readable, lassoOf}
 use Rattle.evaluator.specs.Evaluation.{evaluation}
 use Rattle.evaluator.specs.declared.Lasso.{Lasso}
+use Rattle.language.specs.Reading.{Converted, reading}
+use Rattle.language.specs.Laws.Basics.Results.{refusal-of}
+use Rattle.claim.specs.Yields.{told}
+use Rattle.claim.specs.Converting.{converting}
+use Rattle.claim.specs.RefusalNumbers.{UpTo, reading-numbers, converting-numbers}
 use Rattle.tlsf_c.specs.Packed.{Fits}
 
 guard-fits : {A : Type 0} (b : Bool) (number place : ℕ) (r : Result A) → number < 2 ^ 31 → Fits r → Fits (guard b number place r)
@@ -55,3 +61,15 @@ unfolding evaluation
 evaluation-fits nodes signals bs room =
     guard-fits _ 15 0 _ (omega arith)
     (bind-fits (checked signals nodes) _ (checked-fits signals nodes) (λ c. readable-fits signals bs _ (guard-fits _ 18 0 (Done c) (omega arith) tt)))
+
+told-fits : (m : ℕ) → m < 2 ^ 31 → (r : Result Converted) → UpTo m r → Fits (told r)
+unfolding _>>=_
+told-fits m l (Done c) h = tt
+told-fits m l (Refused number place) h = let low = refusal-of refl h in omega arith
+
+pub reading-fits : (text : List ℕ) (work nodes signals : ℕ) → Fits (told (reading text work nodes signals))
+reading-fits text work nodes signals = told-fits 18 (omega arith) (reading text work nodes signals) (reading-numbers text work nodes signals)
+
+pub converting-fits : (text : List ℕ) (number work nodes signals : ℕ) → Fits (told (converting text number work nodes signals))
+converting-fits text number work nodes signals =
+    told-fits 21 (omega arith) (converting text number work nodes signals) (converting-numbers text number work nodes signals)

@@ -3,6 +3,8 @@
 ghost use mathlib.Core.Path.{_≡_};
 ghost use Rattle.node.specs.Answer.{says};
 ghost use Rattle.rewriter.specs.Promise.{Rewrites};
+ghost use Rattle.claim.specs.Reads.{Reads};
+ghost use Rattle.claim.specs.Converts.{Converts};
 ghost use Rattle.tlsf_c.specs.Packed.{packed, Fits};
 ghost use Rattle.tlsf_c.specs.Promise.{Packs, EvaluatesTo};
 use node::Answer;
@@ -26,6 +28,33 @@ fn pack(answer: Answer) -> u64
         Answer::Accepted(nodes, signals) => wide(nodes) * HIGH + wide(signals),
         Answer::Refused(number, place) => REFUSED + (wide(number) * HIGH + wide(place)),
     }
+}
+
+// reader::read
+#[no_mangle]
+pub extern "C" fn tlsf_read(
+    text: &[u8],
+    work: &mut [u8],
+    nodes: &mut [u32],
+    signals: &mut [u32],
+) -> u64
+    ensures { λ r. ⌜ Packs r (Reads (now (text .entry)) (now (work .entry)) (now (nodes .entry)) (now (signals .entry)) (now (work .exit)) (now (nodes .exit)) (now (signals .exit))) ⌝ }
+{
+    pack(reader::read(text, work, nodes, signals))
+}
+
+// converter::convert
+#[no_mangle]
+pub extern "C" fn tlsf_convert(
+    text: &[u8],
+    form: u32,
+    work: &mut [u8],
+    nodes: &mut [u32],
+    signals: &mut [u32],
+) -> u64
+    ensures { λ r. ⌜ Packs r (Converts (now (text .entry)) form (now (work .entry)) (now (nodes .entry)) (now (signals .entry)) (now (work .exit)) (now (nodes .exit)) (now (signals .exit))) ⌝ }
+{
+    pack(converter::convert(text, form, work, nodes, signals))
 }
 
 // rewriter::rewrite

@@ -1,14 +1,14 @@
--- `say_nodes` is safe and ends: the measure is what is left of the words.
+-- `nodes` is safe and ends: the measure is what is left of the words.
 use Prim.Native.Nat.{_≤_, _-_}
 use borrow.Author.Needs.{needs}
-use Rattle.rewriter_run.proofs.say_nodes.Statement.{statement}
-use Rattle.rewriter_run.proofs.say_nodes.Tie as tie
+use Rattle.listing.proofs.nodes.Statement.{statement}
+use Rattle.listing.proofs.nodes.Tie as tie
 
 abbrev Inv-loop : tie.InvT-loop
-Inv-loop out n end i₀ i = i ≤ end
+Inv-loop nodes n end i₀ i = i ≤ end
 
 abbrev μ-loop : tie.MeasureT-loop
-μ-loop out n end i₀ i = end - i
+μ-loop nodes n end i₀ i = end - i
 
 least-requires : tie.Need-least-requires Inv-loop μ-loop
 least-requires c κs = search needs
@@ -19,8 +19,8 @@ loop-holds c = search needs
 mul-say-node : tie.Need-mul-say-node Inv-loop μ-loop
 mul-say-node c = search needs
 
-element-copy-out-say-node : tie.Need-element-copy-out-say-node Inv-loop μ-loop
-element-copy-out-say-node c = search needs
+shared-slice-read-say-node : tie.Need-shared-slice-read-say-node Inv-loop μ-loop
+shared-slice-read-say-node c = search needs
 
 say-node-requires : tie.Need-say-node-requires Inv-loop μ-loop
 say-node-requires c κs = search needs
@@ -37,8 +37,8 @@ loop-again c = search needs
 returns : tie.Need-returns Inv-loop μ-loop
 returns c = search needs
 
-pub say-nodes-spec : {M : Type 1} → statement M
-say-nodes-spec =
+pub nodes-spec : {M : Type 1} → statement M
+nodes-spec =
     tie.close
     (tie.spec
     Inv-loop
@@ -46,7 +46,7 @@ say-nodes-spec =
     least-requires
     loop-holds
     mul-say-node
-    element-copy-out-say-node
+    shared-slice-read-say-node
     say-node-requires
     add-i
     loop-less

@@ -1,0 +1,83 @@
+-- `answer` meets its contract: refused by 1 to 10, or the answer on the checked tree.
+use Prim.Native.Nat.{ℕ}
+use native.Mathlib.Omega.{arith}
+use lib.ListN.{length-replicate}
+use Rattle.language.specs.Limits.{maxTokens, maxNames}
+use Rattle.reader.specs.Checking.{tree-refused, some-parsed, tree-answers}
+use borrow.Author.Needs.{needs}
+use Rattle.reader.proofs.answer.Statement.{statement}
+use Rattle.reader.proofs.answer.Tie as tie
+
+slice-aggregate-check : tie.Need-slice-aggregate-check
+slice-aggregate-check c = search needs
+
+slice-aggregate-check-2 : tie.Need-slice-aggregate-check-2
+slice-aggregate-check-2 c = search needs
+
+check-requires : tie.Need-check-requires
+check-requires c κs =
+    let start = c .before .before .before .before .before .before .before in
+    (start .pre, omega arith, omega arith)
+
+enum-known-checked : tie.Need-enum-known-checked
+enum-known-checked c = search needs
+
+slice-aggregate-convert : tie.Need-slice-aggregate-convert
+slice-aggregate-convert c = search needs
+
+slice-aggregate-convert-2 : tie.Need-slice-aggregate-convert-2
+slice-aggregate-convert-2 c = search needs
+
+convert-requires : tie.Need-convert-requires
+convert-requires c κs =
+    let checked-at = c .before .before .before .before .before .before in
+    let check-at = checked-at .before .before .before .before .before .before in
+    let start = check-at .before .before .before .before .before .before .before .before in
+    some-parsed (check-at .check .ensures) (checked-at .checked .given .1) (start .pre) (omega arith) (omega arith)
+
+enum-known-checked-2 : tie.Need-enum-known-checked-2
+enum-known-checked-2 c = search needs
+
+same-length : tie.Need-same-length
+same-length c = search needs
+
+same-length-2 : tie.Need-same-length-2
+same-length-2 c = search needs
+
+same-length-3 : tie.Need-same-length-3
+same-length-3 c = search needs
+
+returns : tie.Need-returns
+returns c =
+    let convert-at = c .before .before .before .before in
+    let checked-at = convert-at .before .before .before .before .before .before .before in
+    let check-at = checked-at .before .before .before .before .before .before in
+    tree-answers (check-at .check .ensures) (checked-at .checked .given .1) (convert-at .convert .ensures)
+
+same-length-4 : tie.Need-same-length-4
+same-length-4 c = search needs
+
+returns-2 : tie.Need-returns-2
+returns-2 c =
+    let checked-at = c .before in
+    let check-at = checked-at .before .before .before .before .before .before in
+    tree-refused (check-at .check .ensures) _ _ (checked-at .checked2 .given .1)
+
+pub answer-spec : {M : Type 1} → statement M
+answer-spec =
+    tie.close
+    (tie.spec
+    slice-aggregate-check
+    slice-aggregate-check-2
+    check-requires
+    enum-known-checked
+    slice-aggregate-convert
+    slice-aggregate-convert-2
+    convert-requires
+    enum-known-checked-2
+    same-length
+    same-length-2
+    same-length-3
+    returns
+    same-length-4
+    returns-2)

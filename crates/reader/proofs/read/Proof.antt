@@ -1,0 +1,43 @@
+-- `read` meets its contract: 17, or the answer on the text with the work buffer cleared.
+use native.Mathlib.Omega.{arith}
+use Rattle.reader.specs.Answers.{reads-short, reads-long}
+use borrow.Author.Needs.{needs}
+use Rattle.reader.proofs.read.Statement.{statement}
+use Rattle.reader.proofs.read.Tie as tie
+
+returns : tie.Need-returns
+returns c = reads-short _ (omega (arith, c .if1 .taken))
+
+answer-requires : tie.Need-answer-requires
+answer-requires c κs = search needs
+
+clear-requires : tie.Need-clear-requires
+clear-requires c κs = search needs
+
+same-length : tie.Need-same-length
+same-length c = search needs
+
+same-length-2 : tie.Need-same-length-2
+same-length-2 c = search needs
+
+same-length-3 : tie.Need-same-length-3
+same-length-3 c = search needs
+
+returns-2 : tie.Need-returns-2
+returns-2 c =
+    let clear-at = c .before .before in
+    let answer-at = clear-at .before .before .before .before .before .before .before .before in
+    let if-at = answer-at .before .before .before .before in
+    reads-long _ (omega (arith, if-at .if1 .left)) (answer-at .answer .ensures) (clear-at .clear .ensures)
+
+pub read-spec : {M : Type 1} → statement M
+read-spec =
+    tie.close
+    (tie.spec
+    returns
+    answer-requires
+    clear-requires
+    same-length
+    same-length-2
+    same-length-3
+    returns-2)

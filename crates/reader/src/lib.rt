@@ -1,0 +1,222 @@
+// The reader: from a text's bytes to its nodes and its signal list in the lent buffers (document 01, 'Reader order').
+use checked::Checked;
+use checked::check;
+use declarations::Declared;
+use declarations::declare::declare;
+use ending::finish;
+use lines::Gathering;
+use lines::gather;
+use node::Answer;
+use node::MAX_NODES;
+use parser::Facts;
+use ports::Signals;
+use words::clear;
+use writing::TOO_MANY;
+ghost use mathlib.Core.Path.{_≡_};
+ghost use Prim.Native.Nat.{_≤_};
+ghost use lib.ListN.{length};
+ghost use Rattle.language.specs.Limits.{workBytes};
+ghost use Rattle.language.specs.Tree.{Spec};
+ghost use Rattle.language.specs.Declared.{Declarations};
+ghost use Rattle.claim.specs.Reads.{Reads};
+ghost use Rattle.reader.specs.Listing.{startOf};
+ghost use Rattle.reader.specs.Answers.{Answers};
+ghost use Rattle.reader.specs.Lining.{Ready, SomeReady, Sized};
+ghost use Rattle.reader.specs.Naming.{Parsed, SomeParsed, Converts};
+ghost use Rattle.reader.specs.Finishing.{Finishes};
+
+mod ending;
+
+// The work buffer's 'first 65,536 bytes'; '8,192 tokens', '256 declared names', '255 signals', 'sets 256 elements' and one more.
+const WORK_BYTES: usize = 65536;
+
+const MAX_TOKENS: usize = 8192;
+
+const MAX_NAMES: usize = 256;
+
+const MAX_SIGNALS: usize = 255;
+
+const SET: usize = 257;
+
+// The words for a set of each declared name.
+const SETS: usize = MAX_NAMES * SET;
+
+// A refusal's number.
+const SHORT_WORK: u32 = 17;
+
+// Where the lines' nodes start: with too many signals nothing is written, and lines are worked through for their refusals alone.
+fn start(listed: Signals) -> usize
+    ensures { λ r. ⌜ r ≡ startOf listed ⌝ }
+{
+    match listed {
+        Signals::Listed(_) => 0,
+        Signals::TooMany(_) => TOO_MANY,
+    }
+}
+
+// The lines of a text whose names are worked out, and what follows them.
+fn expand(
+    text: &[u8],
+    work: &[u8],
+    refs: &[u16],
+    entries: usize,
+    facts: Facts,
+    sorts: &mut [u8],
+    numbers: &mut [u32],
+    kept: &mut [u32],
+    slots: &mut [u32],
+    order: &[u16],
+    enumerations: &[u16],
+    firsts: &[u32],
+    list: &[u32],
+    ports: usize,
+    ins: usize,
+    listed: Signals,
+    nodes: &mut [u32],
+    signals: &mut [u32],
+) -> Answer
+    requires { ⌜ SomeReady (now text) (now work) (now refs) entries facts (now sorts) (now numbers) (now kept) (now order) (now enumerations) (now firsts) (now list) ports ins listed ⌝ }
+    requires { ⌜ Sized (now work) (now refs) (now sorts) (now numbers) (now slots) (now firsts) ⌝ }
+    ensures { λ r. ⌜ ((x : Spec) (d : Declarations) → Ready (now (text .entry)) (now (work .entry)) (now (refs .entry)) entries facts (now (sorts .entry)) (now (numbers .entry)) (now (kept .entry)) (now (order .entry)) (now (enumerations .entry)) (now (firsts .entry)) (now (list .entry)) ports ins listed x d → Finishes x d (now (nodes .entry)) (now (signals .entry)) (now (nodes .exit)) (now (signals .exit)) r) ⌝ }
+{
+    let mut written = [0u32; MAX_NAMES];
+    let mut out = [0u32; SET];
+    let mut table = [0u32; MAX_NODES];
+    let mut lines = [0u32; MAX_NODES];
+    let from = start(listed);
+    let gathering = gather(
+        text,
+        work,
+        refs,
+        sorts,
+        numbers,
+        kept,
+        slots,
+        enumerations,
+        order,
+        firsts,
+        &mut written,
+        &mut out,
+        &mut table,
+        &mut lines,
+        entries,
+        ins,
+        ports,
+        from,
+    );
+    match gathering {
+        Gathering::Lines(count, at) => finish(
+            facts,
+            listed,
+            &lines,
+            count,
+            &table,
+            at,
+            list,
+            nodes,
+            signals,
+        ),
+        Gathering::Refused(number, place) => Answer::Refused(number, place),
+    }
+}
+
+// The declarations of a checked tree, and what follows them: refusals 11 to 18.
+fn convert(
+    text: &[u8],
+    work: &[u8],
+    refs: &[u16],
+    found: &[u16],
+    entries: usize,
+    names: usize,
+    facts: Facts,
+    nodes: &mut [u32],
+    signals: &mut [u32],
+) -> Answer
+    requires { ⌜ SomeParsed (now text) (now work) (now refs) (now found) entries names facts ⌝ }
+    ensures { λ r. ⌜ ((x : Spec) → Parsed (now (text .entry)) (now (work .entry)) (now (refs .entry)) (now (found .entry)) entries names facts x → Converts x (now (nodes .entry)) (now (signals .entry)) (now (nodes .exit)) (now (signals .exit)) r) ⌝ }
+{
+    let mut sorts = [0u8; MAX_NAMES];
+    let mut numbers = [0u32; MAX_NAMES];
+    let mut kept = [0u32; SETS];
+    let mut slots = [0u32; MAX_TOKENS];
+    let mut order = [0u16; MAX_NAMES];
+    let mut enumerations = [0u16; MAX_NAMES];
+    let mut firsts = [0u32; MAX_NAMES];
+    let mut list = [0u32; MAX_SIGNALS];
+    let declared = declare(
+        text,
+        work,
+        refs,
+        found,
+        entries,
+        names,
+        &mut sorts,
+        &mut numbers,
+        &mut kept,
+        &mut slots,
+        &mut order,
+        &mut enumerations,
+        &mut firsts,
+        &mut list,
+    );
+    match declared {
+        Declared::Ports(ports, ins, listed) => expand(
+            text,
+            work,
+            refs,
+            entries,
+            facts,
+            &mut sorts,
+            &mut numbers,
+            &mut kept,
+            &mut slots,
+            &order,
+            &enumerations,
+            &firsts,
+            &list,
+            ports,
+            ins,
+            listed,
+            nodes,
+            signals,
+        ),
+        Declared::Refused(number, place) => Answer::Refused(number, place),
+    }
+}
+
+// The answer on a text, with a work buffer that is long enough; what is left in its first 65,536 bytes is for the caller to clear.
+fn answer(text: &[u8], work: &mut [u8], nodes: &mut [u32], signals: &mut [u32]) -> Answer
+    requires { ⌜ workBytes ≤ length (now work) ⌝ }
+    ensures { λ r. ⌜ Answers (now (text .entry)) (now (work .entry)) (now (nodes .entry)) (now (signals .entry)) (now (work .exit)) (now (nodes .exit)) (now (signals .exit)) r ⌝ }
+{
+    let mut refs = [0u16; MAX_TOKENS];
+    let mut found = [0u16; MAX_NAMES];
+    let checked = check(text, work, &mut refs, &mut found);
+    match checked {
+        Checked::Accepted(counts, facts) => convert(
+            text,
+            work,
+            &refs,
+            &found,
+            counts.entries,
+            counts.names,
+            facts,
+            nodes,
+            signals,
+        ),
+        Checked::Refused(number, place) => Answer::Refused(number, place),
+    }
+}
+
+// Reads a text: its nodes and its signal list in front of the lent buffers, or a refusal. The first 65,536 bytes of the work buffer are zero after it, unless there are
+// fewer: then nothing is touched.
+pub fn read(text: &[u8], work: &mut [u8], nodes: &mut [u32], signals: &mut [u32]) -> Answer
+    ensures { λ r. ⌜ Reads (now (text .entry)) (now (work .entry)) (now (nodes .entry)) (now (signals .entry)) (now (work .exit)) (now (nodes .exit)) (now (signals .exit)) r ⌝ }
+{
+    if work.len() < WORK_BYTES {
+        return Answer::Refused(SHORT_WORK, 0);
+    }
+    let a = answer(text, work, nodes, signals);
+    clear(work, WORK_BYTES);
+    a
+}
