@@ -1,0 +1,198 @@
+//! The signal list with names: 1 bit output flag, 15 offset of the name, 8 index in the bus, 8 width.
+
+use std::collections::HashSet;
+
+pub struct Signal {
+    pub output: bool,
+    pub name: String,
+    /// Index and width of a bit of a bus.
+    pub bus: Option<(u32, u32)>,
+}
+
+impl Signal {
+    /// As a bench's table has it: `b[3]` for a bit of a bus.
+    pub fn label(&self) -> String {
+        match self.bus {
+            Some((index, _)) => format!("{}[{index}]", self.name),
+            None => self.name.clone(),
+        }
+    }
+}
+
+pub fn of(text: &[u8], entries: &[u32]) -> Vec<Signal> {
+    entries.iter().map(|&entry| signal(text, entry)).collect()
+}
+
+fn signal(text: &[u8], entry: u32) -> Signal {
+    let width = entry & 0xff;
+    Signal {
+        output: entry >> 31 == 1,
+        name: name_at(text, (entry >> 16 & 0x7fff) as usize),
+        bus: (width > 0).then_some((entry >> 8 & 0xff, width)),
+    }
+}
+
+fn name_at(text: &[u8], offset: usize) -> String {
+    let rest = text.get(offset..).unwrap_or_default();
+    let of_name = |byte: &u8| byte.is_ascii_alphanumeric() || b"_'@".contains(byte);
+    rest.iter().take_while(|byte| of_name(byte)).map(|&byte| char::from(byte)).collect()
+}
+
+// Words that Spot, Owl or SPIN take for operators or for words of a model.
+const RESERVED: [&str; 76] = [
+    "active",
+    "always",
+    "and",
+    "assert",
+    "atomic",
+    "bit",
+    "bool",
+    "break",
+    "byte",
+    "c_code",
+    "c_decl",
+    "c_expr",
+    "c_state",
+    "c_track",
+    "chan",
+    "d_step",
+    "do",
+    "else",
+    "empty",
+    "enabled",
+    "equivalent",
+    "eval",
+    "eventually",
+    "false",
+    "ff",
+    "fi",
+    "for",
+    "full",
+    "get_priority",
+    "goto",
+    "hidden",
+    "if",
+    "implies",
+    "init",
+    "inline",
+    "int",
+    "len",
+    "local",
+    "ltl",
+    "mtype",
+    "nempty",
+    "never",
+    "next",
+    "nfull",
+    "not",
+    "notrace",
+    "np_",
+    "od",
+    "of",
+    "or",
+    "pc_value",
+    "pid",
+    "printf",
+    "priority",
+    "proctype",
+    "provided",
+    "release",
+    "run",
+    "select",
+    "set_priority",
+    "short",
+    "show",
+    "skip",
+    "stronguntil",
+    "timeout",
+    "trace",
+    "true",
+    "tt",
+    "typedef",
+    "unless",
+    "unsigned",
+    "until",
+    "weakuntil",
+    "xor",
+    "xr",
+    "xs",
+];
+
+/// Names that Spot, Owl and SPIN read, each once: `b_3` for a bit of a bus; `taken` is none of them.
+pub fn ltl_names(signals: &[Signal], taken: Option<&str>) -> Vec<String> {
+    let wanted: Vec<String> = signals.iter().map(readable).collect();
+    let mut used: HashSet<String> = taken.map(str::to_string).into_iter().collect();
+    let mut names = vec![String::new(); signals.len()];
+    // Names that need no change come first, so that no bit of a bus takes one away.
+    for unchanged in [true, false] {
+        for (number, signal) in signals.iter().enumerate() {
+            if (wanted[number] == signal.name && signal.bus.is_none()) == unchanged {
+                names[number] = unused(&wanted[number], &mut used);
+            }
+        }
+    }
+    names
+}
+
+fn readable(signal: &Signal) -> String {
+    let mut name: String = signal
+        .name
+        .chars()
+        .map(|c| if c.is_ascii_alphanumeric() { c } else { '_' })
+        .collect();
+    if let Some((index, _)) = signal.bus {
+        name = format!("{name}_{index}");
+    }
+    let starts_low = name.starts_with(|c: char| c.is_ascii_lowercase());
+    if starts_low && !RESERVED.contains(&name.as_str()) {
+        name
+    } else {
+        format!("p_{name}")
+    }
+}
+
+fn unused(wanted: &str, used: &mut HashSet<String>) -> String {
+    let mut name = wanted.to_string();
+    let mut copy = 2;
+    while !used.insert(name.clone()) {
+        name = format!("{wanted}_{copy}");
+        copy += 1;
+    }
+    name
+}
+
+#[cfg(test)]
+mod tests {
+    use super::*;
+
+    fn single(name: &str) -> Signal {
+        Signal {
+            output: false,
+            name: name.to_string(),
+            bus: None,
+        }
+    }
+
+    fn bit(name: &str, index: u32) -> Signal {
+        Signal {
+            output: false,
+            name: name.to_string(),
+            bus: Some((index, 4)),
+        }
+    }
+
+    #[test]
+    fn ltl_names_are_unique_and_readable() {
+        let signals = [
+            bit("b", 3),
+            single("b_3"),
+            single("X"),
+            single("always"),
+            single("a'"),
+            single("a@"),
+            single("tick"),
+        ];
+        let names = ltl_names(&signals, Some("tick"));
+        assert_eq!(names, ["b_3_2", "b_3", "p_X", "p_always", "a_", "a__2", "tick_2"]);
+    }
+}

@@ -1,0 +1,167 @@
+//! Conversions in processes of their own: one that takes too long is ended, one that dies takes no other file with it.
+
+use crate::formula::{self, Formula, Refusal};
+use std::io::{self, ErrorKind, Read, Write};
+use std::os::fd::OwnedFd;
+use std::os::unix::net::UnixStream;
+use std::process::{Child, Command, Stdio};
+use std::sync::mpsc;
+use std::sync::Mutex;
+use std::thread;
+use std::time::Duration;
+
+/// Room for the deepest tables in every form, many times over.
+const STACK_BYTES: usize = 64 << 20;
+
+/// What became of a text.
+pub enum Outcome {
+    Accepted(Formula),
+    Refused(Refusal),
+    OutOfTime,
+    /// The worker could not be started, or ended without an answer.
+    Broken(String),
+}
+
+/// Workers that wait for a text, and the time that each text is given.
+pub struct Pool {
+    idle: Mutex<Vec<Worker>>,
+    limit: Option<Duration>,
+}
+
+impl Pool {
+    /// With 0 seconds there is no limit.
+    pub fn new(seconds: u64) -> Pool {
+        let limit = (seconds > 0).then(|| Duration::from_secs(seconds));
+        Pool {
+            idle: Mutex::new(Vec::new()),
+            limit,
+        }
+    }
+
+    pub fn convert(&self, text: &[u8], form: u32) -> Outcome {
+        let mut worker = match self.take() {
+            Ok(worker) => worker,
+            Err(error) => return Outcome::Broken(format!("no worker could be started: {error}")),
+        };
+        match worker.ask(text, form, self.limit) {
+            Ok(answer) => {
+                self.give_back(worker);
+                answer.map_or_else(Outcome::Refused, Outcome::Accepted)
+            }
+            Err(error) if matches!(error.kind(), ErrorKind::WouldBlock | ErrorKind::TimedOut) => Outcome::OutOfTime,
+            Err(error) => Outcome::Broken(format!("the conversion ended without an answer: {error}")),
+        }
+    }
+
+    fn take(&self) -> io::Result<Worker> {
+        let waiting = self.idle.lock().ok().and_then(|mut idle| idle.pop());
+        waiting.map_or_else(Worker::start, Ok)
+    }
+
+    fn give_back(&self, worker: Worker) {
+        if let Ok(mut idle) = self.idle.lock() {
+            idle.push(worker);
+        }
+    }
+}
+
+struct Worker {
+    child: Child,
+    stream: UnixStream,
+}
+
+impl Worker {
+    fn start() -> io::Result<Worker> {
+        let (stream, theirs) = UnixStream::pair()?;
+        let input = OwnedFd::from(theirs.try_clone()?);
+        let child = Command::new(std::env::current_exe()?)
+            .arg("worker")
+            .stdin(Stdio::from(input))
+            .stdout(Stdio::from(OwnedFd::from(theirs)))
+            .stderr(Stdio::null())
+            .spawn()?;
+        Ok(Worker { child, stream })
+    }
+
+    fn ask(&mut self, text: &[u8], form: u32, limit: Option<Duration>) -> io::Result<Result<Formula, Refusal>> {
+        self.stream.set_read_timeout(limit)?;
+        let mut request = words(&[form, text.len() as u32]);
+        request.extend_from_slice(text);
+        self.stream.write_all(&request)?;
+        let [refused, upper, lower] = read_words::<3>(&mut self.stream)?;
+        if refused == 1 {
+            return Ok(Err(Refusal {
+                number: upper,
+                place: lower as usize,
+            }));
+        }
+        let nodes = read_entries(&mut self.stream, upper)?;
+        let signals = read_entries(&mut self.stream, lower)?;
+        Ok(Ok(Formula { nodes, signals }))
+    }
+}
+
+impl Drop for Worker {
+    fn drop(&mut self) {
+        let _ = self.child.kill();
+        let _ = self.child.wait();
+    }
+}
+
+/// The worker's own side. Requests are read while an answer is worked out, so that it ends with whoever started it.
+pub fn serve() -> io::Result<()> {
+    let (requests, waiting) = mpsc::channel::<(u32, Vec<u8>)>();
+    thread::Builder::new().stack_size(STACK_BYTES).spawn(move || {
+        for (form, text) in waiting {
+            let reply = reply(formula::convert(&text, form));
+            let mut output = io::stdout().lock();
+            if output.write_all(&reply).and_then(|()| output.flush()).is_err() {
+                return;
+            }
+        }
+    })?;
+    let mut input = io::stdin().lock();
+    loop {
+        let Ok([form, size]) = read_words::<2>(&mut input) else {
+            return Ok(());
+        };
+        let mut text = vec![0; size as usize];
+        input.read_exact(&mut text)?;
+        if requests.send((form, text)).is_err() {
+            return Ok(());
+        }
+    }
+}
+
+fn reply(answer: Result<Formula, Refusal>) -> Vec<u8> {
+    match answer {
+        Ok(formula) => {
+            let mut reply = words(&[0, formula.nodes.len() as u32, formula.signals.len() as u32]);
+            reply.extend(words(&formula.nodes));
+            reply.extend(words(&formula.signals));
+            reply
+        }
+        Err(refusal) => words(&[1, refusal.number, refusal.place as u32]),
+    }
+}
+
+fn words(words: &[u32]) -> Vec<u8> {
+    words.iter().flat_map(|word| word.to_le_bytes()).collect()
+}
+
+fn read_words<const COUNT: usize>(input: &mut impl Read) -> io::Result<[u32; COUNT]> {
+    let mut read = [0; COUNT];
+    for word in &mut read {
+        let mut bytes = [0; 4];
+        input.read_exact(&mut bytes)?;
+        *word = u32::from_le_bytes(bytes);
+    }
+    Ok(read)
+}
+
+fn read_entries(input: &mut impl Read, count: u32) -> io::Result<Vec<u32>> {
+    let mut bytes = vec![0; count as usize * 4];
+    input.read_exact(&mut bytes)?;
+    let entry = |four: &[u8]| u32::from_le_bytes([four[0], four[1], four[2], four[3]]);
+    Ok(bytes.chunks_exact(4).map(entry).collect())
+}

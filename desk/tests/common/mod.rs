@@ -1,0 +1,109 @@
+//! Running the program in a folder of its own.
+#![allow(dead_code)]
+
+use std::fs;
+use std::io::Write;
+use std::path::{Path, PathBuf};
+use std::process::{Command, Output, Stdio};
+use std::sync::atomic::{AtomicUsize, Ordering};
+
+pub const STARRED: &str = "INFO { TITLE: \"t\" DESCRIPTION: \"d\" SEMANTICS: Mealy TARGET: Mealy } MAIN { INPUTS { r; } OUTPUTS { g; } GUARANTEE { G (r -> F g); } }";
+pub const HOLDS: [u8; 5] = [0x00, 0x30, 0x01, 0x02, 0x90];
+pub const FAILS: [u8; 5] = [0x00, 0x30, 0x01, 0x02, 0x80];
+
+/// A folder that is gone when it is dropped.
+pub struct Folder {
+    pub path: PathBuf,
+}
+
+impl Folder {
+    pub fn new() -> Folder {
+        static COUNT: AtomicUsize = AtomicUsize::new(0);
+        let number = COUNT.fetch_add(1, Ordering::Relaxed);
+        let path = std::env::temp_dir().join(format!("vasculpi-test-{}-{number}", std::process::id()));
+        fs::create_dir_all(&path).expect("a folder for the test");
+        Folder { path }
+    }
+
+    pub fn file(&self, name: &str, bytes: impl AsRef<[u8]>) -> PathBuf {
+        let path = self.path.join(name);
+        fs::write(&path, bytes).expect("a file for the test");
+        path
+    }
+
+    pub fn command(&self) -> Command {
+        let mut command = Command::new(env!("CARGO_BIN_EXE_vasculpi"));
+        command.current_dir(&self.path);
+        command
+    }
+
+    pub fn run(&self, arguments: &[&str]) -> Ran {
+        Ran::of(
+            self.command()
+                .args(arguments)
+                .stdin(Stdio::null())
+                .output()
+                .expect("the program starts"),
+        )
+    }
+
+    pub fn run_with_input(&self, arguments: &[&str], input: &[u8]) -> Ran {
+        let mut child = self
+            .command()
+            .args(arguments)
+            .stdin(Stdio::piped())
+            .stdout(Stdio::piped())
+            .stderr(Stdio::piped())
+            .spawn()
+            .expect("the program starts");
+        // The program may have read enough before the end.
+        let _ = child.stdin.take().expect("its input").write_all(input);
+        Ran::of(child.wait_with_output().expect("the program ends"))
+    }
+
+    pub fn read(&self, name: &str) -> Vec<u8> {
+        fs::read(self.path.join(name)).expect("a file that was written")
+    }
+
+    /// The names of what stands in the folder.
+    pub fn names(&self, below: &str) -> Vec<String> {
+        let entries = fs::read_dir(self.path.join(below)).expect("a folder");
+        let mut names: Vec<String> = entries
+            .map(|entry| entry.expect("an entry").file_name().to_string_lossy().into_owned())
+            .collect();
+        names.sort();
+        names
+    }
+}
+
+impl Drop for Folder {
+    fn drop(&mut self) {
+        let _ = fs::remove_dir_all(&self.path);
+    }
+}
+
+pub struct Ran {
+    pub status: i32,
+    pub out: Vec<u8>,
+    pub told: String,
+}
+
+impl Ran {
+    pub fn of(output: Output) -> Ran {
+        let told = String::from_utf8_lossy(&output.stderr).into_owned();
+        assert!(!told.contains("panicked"), "{told}");
+        Ran {
+            status: output.status.code().unwrap_or(-1),
+            out: output.stdout,
+            told,
+        }
+    }
+
+    pub fn text(&self) -> String {
+        String::from_utf8_lossy(&self.out).into_owned()
+    }
+}
+
+pub fn name(path: &Path) -> &str {
+    path.to_str().expect("a plain name")
+}

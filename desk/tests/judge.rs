@@ -1,0 +1,223 @@
+//! `judge`, `record` and `show`, and the timing diagram.
+
+mod common;
+
+use common::{Folder, FAILS, HOLDS, STARRED};
+
+fn starred() -> Folder {
+    let folder = Folder::new();
+    folder.file("t.tlsf", STARRED);
+    folder.file("holds", HOLDS);
+    folder.file("fails", FAILS);
+    folder
+}
+
+#[test]
+fn the_starred_recordings_in_every_form() {
+    let folder = starred();
+    for form in ["0", "1", "2"] {
+        let ran = folder.run(&["judge", "--form", form, "t.tlsf", "holds"]);
+        assert_eq!((ran.status, ran.text().as_str()), (0, "holds\n"));
+        let ran = folder.run(&["judge", "--form", form, "t.tlsf", "fails"]);
+        assert_eq!((ran.status, ran.text().as_str()), (1, "fails\n"));
+    }
+}
+
+#[test]
+fn rows_of_every_node() {
+    let ran = starred().run(&["judge", "--rows", "t.tlsf", "holds"]);
+    let lines: Vec<String> = ran.text().lines().map(str::to_string).collect();
+    assert_eq!(lines.len(), 18);
+    assert_eq!(lines[9], " 8 r       1(00)");
+    assert_eq!(lines[10], " 9 g       0(10)");
+    assert_eq!(lines[11], "10 F 9     1(11)");
+    assert_eq!(lines[17], "16 -> 0 15 1(11)");
+}
+
+#[test]
+fn the_text_on_standard_input() {
+    let folder = starred();
+    let ran = folder.run_with_input(&["judge", "-", "holds", "--form", "2", "--svg", "run.svg"], STARRED.as_bytes());
+    assert_eq!((ran.status, ran.text().as_str(), ran.told.as_str()), (0, "holds\n", ""));
+    assert!(String::from_utf8_lossy(&folder.read("run.svg")).contains("standard input on holds: holds"));
+}
+
+#[test]
+fn refused_or_unreadable() {
+    let folder = starred();
+    folder.file("bad.tlsf", "#");
+    folder.file("short", [0, 0x30]);
+    folder.file("long", [&HOLDS[..], &[0]].concat());
+    folder.file("spare", [0x00, 0x30, 0x01, 0x02, 0x91]);
+    folder.file("wide", [0x00, 0x10, 0x00, 0x03, 0x00]);
+    for (recording, place) in [
+        ("short", "byte 2 of 2"),
+        ("long", "byte 6 of 6"),
+        ("spare", "byte 4 of 5"),
+        ("wide", "byte 0 of 5"),
+    ] {
+        let ran = folder.run(&["judge", "t.tlsf", recording]);
+        assert_eq!((ran.status, ran.text().as_str()), (3, ""));
+        assert!(
+            ran.told.contains("error[20]") && ran.told.contains(place) && ran.told.contains("To mend it"),
+            "{}",
+            ran.told
+        );
+    }
+    assert_eq!(folder.run(&["judge", "bad.tlsf", "holds"]).status, 3);
+    assert_eq!(folder.run(&["judge", "t.tlsf", "missing"]).status, 2);
+    assert_eq!(folder.run(&["judge", "missing", "holds"]).status, 2);
+    let ran = folder.run(&["judge", "t.tlsf", "holds", "--svg", "no/such/folder.svg"]);
+    assert_eq!((ran.status, ran.text().as_str()), (2, "holds\n"));
+}
+
+/// Lines that are conjunctions themselves, and enumerations that imply lines.
+const LIFT: &str = "INFO { TITLE: \"t\" DESCRIPTION: \"d\" SEMANTICS: Mealy TARGET: Mealy }
+GLOBAL { DEFINITIONS { enum Floor = GROUND: 00 UPPER: 01, 10; enum One = ONE: 1; } }
+MAIN {
+  INPUTS { call; Floor floor; One one; }
+  OUTPUTS { open; Floor lamp; }
+  GUARANTEES { G (call -> F open); open && call; }
+  REQUIRE { call && one == ONE; floor == GROUND && !call; } ASSERT { open -> floor == GROUND }
+  PRESET { true; !open; }
+}
+";
+const LIFT_RUN: &str = "call,floor[0],floor[1],one[0],open,lamp[0],lamp[1]\n1,0,0,1,0,0,0\n0,0,0,0,1,0,1\n1,1,0,1,1,0,0\n";
+
+/// A row as it is drawn: 1 for every position under a block.
+fn drawn(svg: &str, label: &str, positions: usize) -> String {
+    let title = format!("<title>{label}</title>");
+    let row = svg.split("<g>").find(|row| row.contains(&title)).expect("a row with the label");
+    let row = row.split("</g>").next().unwrap_or_default();
+    let number = |text: &str| {
+        text.split(['"', ' '])
+            .next()
+            .and_then(|digits| digits.parse::<usize>().ok())
+            .expect("a number")
+    };
+    let line = row.rsplit("<path d=\"M").next().expect("a line");
+    let start = number(line);
+    let end = number(line.split('"').next().and_then(|line| line.rsplit('H').next()).expect("an end"));
+    let cell = (end - start) / positions;
+    let block = |rect: &str| (number(rect), number(rect.split("width=\"").nth(1).expect("a width")));
+    let blocks: Vec<(usize, usize)> = row.split("<rect x=\"").skip(1).map(block).collect();
+    let bit = |position: usize| {
+        let at = start + position * cell;
+        let covered = blocks.iter().any(|&(left, width)| left <= at && at < left + width);
+        if covered {
+            '1'
+        } else {
+            '0'
+        }
+    };
+    (0..positions).map(bit).collect()
+}
+
+#[test]
+fn the_diagram_has_the_texts_own_lines() {
+    for strict in [false, true] {
+        let folder = Folder::new();
+        folder.file(
+            "lift.tlsf",
+            if strict {
+                LIFT.replace("S: Mealy", "S: Mealy,Strict")
+            } else {
+                LIFT.to_string()
+            },
+        );
+        folder.file("run.csv", LIFT_RUN);
+        assert_eq!(
+            folder
+                .run(&["record", "--spec", "lift.tlsf", "--csv", "run.csv", "--loop", "1", "-o", "run"])
+                .told,
+            ""
+        );
+        let ran = folder.run(&["judge", "lift.tlsf", "run", "--svg", "run.svg"]);
+        assert!(ran.status < 2, "{}", ran.told);
+        let svg = String::from_utf8(folder.read("run.svg")).expect("UTF-8");
+        for (label, bits) in [
+            ("call", "101"),
+            ("floor[0]", "001"),
+            ("lamp[1]", "010"),
+            ("G (call -&gt; F open)", "111"),
+            ("open &amp;&amp; call", "001"),
+            ("call &amp;&amp; one == ONE", "101"),
+            ("floor == GROUND &amp;&amp; !call", "010"),
+            ("open -&gt; floor == GROUND", "110"),
+            ("true", "111"),
+            ("!open", "100"),
+        ] {
+            assert_eq!(drawn(&svg, label, 3), bits, "{label}");
+        }
+        assert!(svg.contains("loop: after 2 comes 1"));
+    }
+}
+
+#[test]
+fn a_table_becomes_a_recording_and_comes_back() {
+    let folder = Folder::new();
+    folder.file("lift.tlsf", LIFT);
+    folder.file("run.csv", LIFT_RUN);
+    assert_eq!(
+        folder
+            .run(&["record", "--spec", "lift.tlsf", "--csv", "run.csv", "--loop", "2", "-o", "run"])
+            .status,
+        0
+    );
+    assert_eq!(folder.read("run"), [0x00, 0x30, 0x02, 0x07, 0x90, 0x17, 0x60]);
+    let ran = folder.run(&["show", "run", "--spec", "lift.tlsf"]);
+    assert_eq!(
+        (ran.text().as_str(), ran.told.as_str()),
+        (LIFT_RUN, "positions 3, loop from 2, signals 7\n")
+    );
+    assert!(folder
+        .run(&["show", "run"])
+        .text()
+        .starts_with("s0,s1,s2,s3,s4,s5,s6\n1,0,0,1,0,0,0\n"));
+}
+
+#[test]
+fn signals_that_were_not_recorded_are_absent() {
+    let folder = starred();
+    folder.file("narrow", [0x00, 0x20, 0x00, 0x01, 0x80]);
+    assert_eq!(folder.run(&["show", "narrow", "--spec", "t.tlsf"]).text(), "r,g\n1,0\n0,0\n");
+    assert_eq!(folder.run(&["show", "narrow"]).text(), "s0\n1\n0\n");
+}
+
+#[test]
+fn faulty_tables_write_nothing() {
+    let folder = starred();
+    let long = format!("r,g\n{}", "0,0\n".repeat(2049));
+    for (csv, told) in [
+        ("r,q\n0,0\n", "t.csv:1:3: error: the text has no signal \"q\""),
+        ("r\n0\n", "t.csv:1:1: error: the column g is missing"),
+        ("r,g\n0,1\n0\n", "t.csv:3:1: error: 1 values where the header has 2 names"),
+        ("r,g\n0,yes\n", "t.csv:2:3: error: \"yes\" is neither 0 nor 1"),
+        (&long, "t.csv:2050:1: error: a recording has at most 2048 positions"),
+        ("", "t.csv:1:1: error: the column r is missing"),
+    ] {
+        folder.file("t.csv", csv);
+        let ran = folder.run(&["record", "--spec", "t.tlsf", "--csv", "t.csv", "--loop", "0", "-o", "made"]);
+        assert_eq!((ran.status, ran.told.trim_end()), (1, told));
+        assert!(!folder.path.join("made").exists());
+    }
+    folder.file("t.csv", "g,r\n1,0\n");
+    let loop_1 = folder.run(&["record", "--spec", "t.tlsf", "--csv", "t.csv", "--loop", "1", "-o", "made"]);
+    assert_eq!(
+        (loop_1.status, loop_1.told.as_str()),
+        (2, "error: --loop 1: the last position is 0\n")
+    );
+    assert_eq!(
+        folder
+            .run(&["record", "--spec", "t.tlsf", "--csv", "t.csv", "--loop", "0", "-o", "no/made"])
+            .status,
+        2
+    );
+    assert_eq!(
+        folder
+            .run(&["record", "--spec", "t.tlsf", "--csv", "missing", "--loop", "0", "-o", "made"])
+            .status,
+        2
+    );
+    assert_eq!(folder.names(""), ["fails", "holds", "t.csv", "t.tlsf"]);
+}

@@ -1,0 +1,158 @@
+//! The `ltl` output read by SPIN: its verdicts on generated lassos beside those of `judge`.
+//!
+//! SPIN as Debian builds it has no X, so the model has a tick that changes at every position, and the line is written with it.
+
+mod common;
+
+use common::Folder;
+use second::generate::prng::Prng;
+use second::generate::recordings;
+use second::recording::Lasso;
+use std::fmt::Write;
+use std::path::Path;
+use std::process::Command;
+
+const LASSOS: usize = 12;
+const TEXTS_PER_LASSO: usize = 10;
+const SIGNALS: [&str; 4] = ["a", "b[0]", "b[1]", "b_1"];
+/// What `b[0]`, `b[1]` and `b_1` are called in a line.
+const LTL_NAMES: [&str; 4] = ["a", "b_0", "b_1_2", "b_1"];
+/// SPIN's automata grow exponentially with the line: longer lines, and those that take it longer than a second, are passed over.
+const LONGEST_LINE: usize = 220;
+
+fn expression(rng: &mut Prng, levels: usize) -> String {
+    if levels == 0 || rng.one_in(6) {
+        return rng.pick(&SIGNALS).to_string();
+    }
+    let operator = *rng.pick(&["!", "X", "X", "X", "G", "F", "&&", "||", "->", "<->", "U", "R", "W"]);
+    let left = expression(rng, levels - 1);
+    match operator {
+        "!" | "X" | "G" | "F" => format!("({operator} {left})"),
+        _ => format!("({left} {operator} {})", expression(rng, levels - 1)),
+    }
+}
+
+fn text(rng: &mut Prng) -> String {
+    let semantics = *rng.pick(&["Mealy", "Mealy,Strict"]);
+    let mut text = format!(
+        "INFO {{ TITLE: \"t\" DESCRIPTION: \"d\" SEMANTICS: {semantics} TARGET: Mealy }} MAIN {{ INPUTS {{ a; b[2]; }} OUTPUTS {{ b_1; }}"
+    );
+    for section in ["INITIALLY", "PRESET", "REQUIRE", "ASSERT", "ASSUME"] {
+        if rng.one_in(6) {
+            let _ = write!(text, " {section} {{ {}; }}", expression(rng, 1));
+        }
+    }
+    let levels = rng.between(1, 3);
+    let _ = writeln!(text, " GUARANTEE {{ {}; }} }}", expression(rng, levels));
+    text
+}
+
+/// One transition for every position; the signals are set with it.
+fn model(lasso: &Lasso, claims: &[String]) -> String {
+    let (mut declared, mut set) = (String::new(), String::new());
+    for (number, name) in LTL_NAMES.iter().enumerate() {
+        let _ = writeln!(declared, "bool {name} = {};", u8::from(lasso.present(0, number)));
+        let _ = write!(set, "; {name} = (false");
+        for position in (0..lasso.positions()).filter(|&position| lasso.present(position, number)) {
+            let _ = write!(set, " || at == {position}");
+        }
+        set.push(')');
+    }
+    let (last, start) = (lasso.positions() - 1, lasso.loop_start);
+    let mut model = format!(
+        "short at = 0;\nbool tick = 0;\n{declared}active proctype lasso() {{ do :: d_step {{ at = (at == {last} -> {start} : at + 1); tick = !tick{set} }} od }}\n"
+    );
+    for (number, claim) in claims.iter().enumerate() {
+        let _ = writeln!(model, "ltl c{number} {{ {claim} }}");
+    }
+    model
+}
+
+fn succeed(folder: &Path, program: &str, arguments: &[&str]) -> String {
+    let output = Command::new(program)
+        .current_dir(folder)
+        .args(arguments)
+        .output()
+        .unwrap_or_else(|error| panic!("{program}: {error}"));
+    let out = String::from_utf8_lossy(&output.stdout).into_owned();
+    assert!(
+        output.status.success(),
+        "{program} {arguments:?}: {out}{}",
+        String::from_utf8_lossy(&output.stderr)
+    );
+    out
+}
+
+/// Whether SPIN reads the line and makes the claim's automaton within a second.
+fn is_quick(folder: &Folder, lasso: &Lasso, line: &str) -> bool {
+    folder.file("one.pml", model(lasso, &[line.to_string()]));
+    let output = Command::new("timeout")
+        .current_dir(&folder.path)
+        .args(["1", "spin", "-a", "one.pml"])
+        .output();
+    let output = output.unwrap_or_else(|error| panic!("timeout: {error}"));
+    const OUT_OF_TIME: i32 = 124;
+    assert!(
+        output.status.success() || output.status.code() == Some(OUT_OF_TIME),
+        "{line}: {}",
+        String::from_utf8_lossy(&output.stdout)
+    );
+    output.status.success()
+}
+
+fn spin_holds(folder: &Path, claim: usize) -> bool {
+    let out = succeed(folder, "timeout", &["60", "./pan", "-a", "-m100000", "-N", &format!("c{claim}")]);
+    let errors = out.split("errors: ").nth(1).and_then(|rest| rest.split_whitespace().next());
+    match errors {
+        Some("0") => true,
+        Some(_) => false,
+        None => panic!("no verdict: {out}"),
+    }
+}
+
+#[test]
+fn verdicts_equal_those_of_judge() {
+    let mut rng = Prng::new(2_026);
+    let (mut held, mut failed, mut without_next) = (0, 0, 0);
+    for _ in 0..LASSOS {
+        let folder = Folder::new();
+        let lasso = recordings::lasso(&mut rng, 6, SIGNALS.len());
+        folder.file("run", lasso.bytes(SIGNALS.len()));
+        let (mut claims, mut verdicts) = (Vec::new(), Vec::new());
+        while claims.len() < TEXTS_PER_LASSO {
+            let text = text(&mut rng);
+            let form = *rng.pick(&["0", "1", "2"]);
+            let syntax = *rng.pick(&["common", "spin"]);
+            let options = ["convert", "--to", "ltl", "--form", form, "--syntax", syntax];
+            let line = folder
+                .run_with_input(&[&options[..], &["--tick", "tick"]].concat(), text.as_bytes())
+                .text();
+            if line.len() > LONGEST_LINE || !is_quick(&folder, &lasso, line.trim_end()) {
+                continue;
+            }
+            let plain = folder.run_with_input(&options, text.as_bytes()).text();
+            without_next += usize::from(plain == line);
+            folder.file("t.tlsf", text);
+            let ran = folder.run(&["judge", "--form", form, "t.tlsf", "run"]);
+            assert!(ran.status < 2, "{}", ran.told);
+            verdicts.push(ran.status == 0);
+            claims.push(line.trim_end().to_string());
+        }
+        folder.file("model.pml", model(&lasso, &claims));
+        succeed(&folder.path, "timeout", &["60", "spin", "-a", "model.pml"]);
+        succeed(&folder.path, "gcc", &["-w", "-O0", "-DNOREDUCE", "-o", "pan", "pan.c"]);
+        for (number, verdict) in verdicts.into_iter().enumerate() {
+            assert_eq!(spin_holds(&folder.path, number), verdict, "{} on {lasso:?}", claims[number]);
+            if verdict {
+                held += 1;
+            } else {
+                failed += 1;
+            }
+        }
+    }
+    println!(
+        "SPIN agrees with judge on {} verdicts: {held} hold, {failed} fail; {without_next} lines have no X",
+        held + failed
+    );
+    assert!(held > 20 && failed > 20);
+}
