@@ -3,6 +3,7 @@ use Prim.Native.Nat.{ℕ}
 use mathlib.Core.Option.{Option, none, some}
 use mathlib.Core.Path.{_≡_, refl, sym, ap, _∙_}
 use Rattle.node.specs.Result.{Result, Done, Refused, _>>=_}
+use Rattle.node.specs.ResultLaws.{bind-at}
 use Rattle.language.specs.Tree.{Spec}
 use Rattle.language.specs.Places.{refuseAt, tooDeep}
 use Rattle.language.specs.Names.{notVisible, declaredAgain, tooMany}
@@ -40,10 +41,6 @@ unfolding refuseAt _>>=_
 then n none r k = refl
 then n (some p) r k = refl
 
-done-then : {A B : Type 0} (a : A) (k : A → Result B) → k a ≡ Done a >>= k
-unfolding _>>=_
-done-then a k = refl
-
 -- 9 and 10
 abbrev late : Spec → Result Spec
 late x = refuseAt 9 (wrongType x) (refuseAt 10 (wrongWords x) (Done x))
@@ -51,7 +48,7 @@ late x = refuseAt 9 (wrongType x) (refuseAt 10 (wrongWords x) (Done x))
 -- 6 to 8, then 9 and 10
 named-then : (x : Spec) → refuseAt 6 (notVisible x) (refuseAt 7 (declaredAgain x) (refuseAt 8 (tooMany x) (late x))) ≡ naming x >>= late
 named-then x =
-    ap (λ r. refuseAt 6 (notVisible x) (refuseAt 7 (declaredAgain x) r)) (ap (refuseAt 8 (tooMany x)) (done-then x late) ∙ then 8 (tooMany x) (Done x) late)
+    ap (λ r. refuseAt 6 (notVisible x) (refuseAt 7 (declaredAgain x) r)) (ap (refuseAt 8 (tooMany x)) (sym (bind-at x late)) ∙ then 8 (tooMany x) (Done x) late)
     ∙ ap (refuseAt 6 (notVisible x)) (then 7 (declaredAgain x) _ late) ∙ then 6 (notVisible x) _ late
 
 module _ (x : Spec) where

@@ -1,9 +1,10 @@
 -- From the outline and refusals 5 to 10 to the answer on the whole text.
 use Prim.Native.Nat.{ℕ, _≤_}
 use mathlib.Core.List.{List}
-use mathlib.Core.Path.{_≡_, refl, sym, ap, _∙_, subst}
+use mathlib.Core.Path.{_≡_, sym, ap, _∙_, subst}
 use lib.ListN.{length}
-use Rattle.node.specs.Result.{Result, Done, Refused, _>>=_}
+use Rattle.node.specs.Result.{Done, Refused, _>>=_}
+use Rattle.node.specs.ResultLaws.{bind-again}
 use Rattle.language.specs.Limits.{workBytes}
 use Rattle.language.specs.Tokens.{tokens}
 use Rattle.language.specs.Tree.{Spec}
@@ -22,14 +23,8 @@ use Rattle.checked.specs.declared.Checked.the-variants.{Refused as NotAc
 use Rattle.checked.specs.Checking.{Finds, Forms, answer, Says, Checks}
 use Rattle.checked.specs.StoredLaws.{outline-stored}
 
--- refusals 1 to 4, then 5 to 10
-then-assoc : {A B C : Type 0} (r : Result A) (f : A → Result B) (g : B → Result C) → (r >>= f) >>= g ≡ r >>= (λ a. f a >>= g)
-unfolding _>>=_
-then-assoc (Done a) f g = refl
-then-assoc (Refused n p) f g = refl
-
 parsed-formed : (text : List ℕ) → parsed text ≡ (lexing text >>= specOf) >>= wellFormed
-parsed-formed text = sym (then-assoc (lexing text) specOf wellFormed ∙ parsed-lexed text)
+parsed-formed text = sym (bind-again (lexing text) specOf wellFormed ∙ parsed-lexed text)
 
 not-outlined : (text : List ℕ) {n p : ℕ} → lexing text >>= specOf ≡ Refused n p → parsed text ≡ Refused n p
 unfolding _>>=_

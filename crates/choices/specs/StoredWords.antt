@@ -1,5 +1,5 @@
 -- The words behind an identifier's entry, and behind an enumeration's, as the parser stores them.
-use Prim.Native.Nat.{ℕ, zero, suc, _+_, _-_, _≤_, _<_, min}
+use Prim.Native.Nat.{ℕ, suc, _+_, _-_, _≤_, _<_}
 use mathlib.Core.Bool.{Bool, true, false}
 use mathlib.Core.List.{List, [], _∷_, _++_, map, append-assoc}
 use mathlib.Core.Option.{Option, none, some}
@@ -8,7 +8,7 @@ use native.Mathlib.Numerals.{add-one}
 use native.Mathlib.Decide.{decLt}
 use native.Mathlib.Omega.{arith}
 use lib.Dec.{eqb}
-use lib.ListN.{length, length-append}
+use lib.ListN.{length}
 use borrow.Author.Tests.{eqb-true}
 use Rattle.words.specs.Words.{wordAt}
 use Rattle.language.specs.Limits.{maxTokens, maxMarks}
@@ -16,7 +16,6 @@ use Rattle.language.specs.Tokens.{Token, tokens}
 use Rattle.language.specs.Tree.{Identifier}
 use Rattle.language.specs.Words.{wordsIn}
 use Rattle.language.specs.Laws.Basics.Lists.{All, all-append, all-left, all-right}
-use Rattle.lexer.specs.Stored.{offsetIn, lengthIn}
 use Rattle.lexer.specs.LexingLaws.{token-stands, token-near}
 use Rattle.entries.specs.Kinds as Kind
 use Rattle.entries.specs.Flat.{Entry, leaf, each, flatIdentifier}

@@ -1,7 +1,7 @@
 -- From the stages' answers to the answer of the whole.
-use Prim.Native.Nat.{ℕ, _+_, _≤_, _<_}
+use Prim.Native.Nat.{ℕ, _≤_}
 use mathlib.Core.List.{List, []}
-use mathlib.Core.Path.{_≡_, refl, sym, ap, _∙_, subst}
+use mathlib.Core.Path.{_≡_, sym, ap, _∙_, subst}
 use lib.ListN.{length, getD}
 use Rattle.node.specs.Result.{Result, Done, Refused, _>>=_}
 use Rattle.language.specs.Limits.{maxNames, maxTokens, maxSignals}
@@ -16,7 +16,6 @@ use Rattle.notes.specs.Notes.{Notes, notes-facts}
 use Rattle.notes.specs.NotesLaws.{notes-ported}
 use Rattle.notes.specs.FirstTable.{firstTable}
 use Rattle.ports.specs.Ports.{Ported, Room as ListRoom}
-use Rattle.ports.specs.Firsts.{numberedFrom}
 use Rattle.ports.specs.Listing.{Lists}
 use Rattle.ports.specs.declared.Signals.{Signals}
 use Rattle.ports.specs.declared.Signals.the-variants.{Listed, TooMany}
@@ -26,9 +25,8 @@ use Rattle.declarations.specs.Trees.{Tree}
 use Rattle.declarations.specs.Constants.{ConstantsTold, Room}
 use Rattle.declarations.specs.Describing.{Described}
 use Rattle.declarations.specs.Placing.{PortsPlaced}
-use Rattle.declarations.specs.Turns.{WidthsFrom}
-use Rattle.declarations.specs.Sizes.{Sizings, SizesGiven, SizesTold, sizedAll}
-use Rattle.declarations.specs.Promise.{Checked, Given, SignalsAre, WorkedOut, Declares}
+use Rattle.declarations.specs.Sizes.{SizesGiven, SizesTold, sizedAll}
+use Rattle.declarations.specs.Promise.{Given, SignalsAre, Declares}
 use Rattle.declarations.specs.Stages.{Given as TreeGiven}
 use Rattle.declarations.specs.Final.{sizings, numberOf}
 use Rattle.declarations.specs.FinalPorts.{inputs-are, ports-are, ports-ported, ports-noted, list-room, firsts-are}

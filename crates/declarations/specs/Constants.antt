@@ -6,7 +6,8 @@ use native.Mathlib.Numerals.{add-one}
 use native.Mathlib.Omega.{arith}
 use lib.ListN.{length, getD, set}
 use Rattle.node.specs.Result.{Result, Done, Refused, _>>=_}
-use Rattle.language.specs.Limits.{maxNames, maxTokens, maxNumber}
+use Rattle.node.specs.ResultLaws.{bind-refused}
+use Rattle.language.specs.Limits.{maxNames, maxTokens}
 use Rattle.language.specs.Tokens.{tokens}
 use Rattle.language.specs.Tree.{Expr, Parameter, Spec}
 use Rattle.language.specs.Values.{Value, number, value}
@@ -55,11 +56,6 @@ Constants text w x d sorts numbers (Worked.Refused n p) = constants (x .paramete
 
 pub record ConstantsTold (text w : List ℕ) (x : Spec) (d : Table) (sorts numbers : List ℕ) (r : Worked) : Type 0 where
   pub told : Constants text w x d sorts numbers r
-
--- one parameter, by its value
-bind-refused : {A B : Type 0} (v : Result A) (f : A → Result B) (n p : ℕ) → Result.Refused n p ≡ v → v >>= f ≡ Result.Refused n p
-unfolding _>>=_
-bind-refused v f n p e = ap (λ u. u >>= f) (sym e)
 
 bind-done : {A B : Type 0} (v : Result A) (f : A → Result B) (a : A) → Done a ≡ v → v >>= f ≡ f a
 unfolding _>>=_
@@ -124,7 +120,7 @@ module _ (text w refs found : List ℕ) (entries names : ℕ) (order : List ℕ)
     next-told k r q f = f (worldIn x [] (g .table)) (contextOf [] (g .table)) (next .own .value) (subst (λ i. Expression text w refs sorts numbers i (worldIn x [] (g .table)) (contextOf [] (g .table)) (next .own .value)) (sym q) next-expression)
 
     turning-refused : (n p : ℕ) → TellsNumber (Worked.Refused n p) (value (declared (g .table)) (next .own .value)) → ConstantsTold text w x d sorts numbers (Worked.Refused n p)
-    turning-refused n p h = record { told = unrolled ∙ bind-refused (value (declared (g .table)) (next .own .value) >>= number) _ n p (h .says) }
+    turning-refused n p h = record { told = unrolled ∙ bind-refused (value (declared (g .table)) (next .own .value) >>= number) n p _ (sym (h .says)) }
 
     pub turning-stopped : (r : Worked) (n p : ℕ) → r ≡ Worked.Refused n p → Tells r → ConstantsTold text w x d sorts numbers r
     turning-stopped r n p e h = subst (ConstantsTold text w x d sorts numbers) (sym e) (turning-refused n p (subst Tells e h))

@@ -1,15 +1,14 @@
 -- Ports by position, as far as no width is needed: the number and the offset of each one's name, and the entry of its enumeration.
-use Prim.Native.Nat.{ℕ, suc, _+_, _-_, _≤_, _<_}
+use Prim.Native.Nat.{ℕ, suc, _+_, _≤_, _<_}
 use mathlib.Core.Bool.{Bool, true, false}
 use mathlib.Core.List.{List, [], _∷_}
-use mathlib.Core.Path.{_≡_, refl, sym, ap, _∙_, subst}
+use mathlib.Core.Path.{_≡_, refl, sym, _∙_, subst}
 use native.Mathlib.Omega.{arith}
 use lib.Dec.{eqb, ltb}
 use lib.ListN.{length, getD, set}
 use lib.Seq.{getD-set-same, getD-set-other}
 use borrow.Author.Tests.{ltb-true, ltb-false, eq-eqb, ne-eqb}
 use Rattle.words.specs.Words.{wordAt}
-use Rattle.language.specs.Limits.{maxTokens}
 use Rattle.language.specs.Tokens.{tokens}
 use Rattle.language.specs.Tree.{Declaration, OneSignal, OfWidth, OfType, Spec}
 use Rattle.language.specs.Laws.Basics.Tests.{pick, leave}
@@ -18,15 +17,13 @@ use Rattle.lexer.specs.Stored.{offsetIn}
 use Rattle.entries.specs.Kinds as Kind
 use Rattle.entries.specs.Stored.{firstEntry, kindOf, indexOf}
 use Rattle.entries.specs.StoredLaws.{entry-kind}
-use Rattle.names.specs.References.{numberIn}
-use Rattle.names.specs.Resolved.{declaredNames}
 use Rattle.notes.specs.Owned.{DeclarationAt}
 use Rattle.declarations.specs.Along.{Along}
 use Rattle.declarations.specs.Turnable.{Turnable}
 use Rattle.declarations.specs.Trees.{Tree}
 use Rattle.declarations.specs.Enumerations.{noEntry, enumerationOf, enumerates, entry-offset}
 use Rattle.declarations.specs.Widths.{EnumeratedBy}
-use Rattle.declarations.specs.Turns.{Placed, PlacedFrom}
+use Rattle.declarations.specs.Turns.{PlacedFrom}
 
 -- the first n elements are those of f
 abbrev pub Filled : (ℕ → ℕ) → List ℕ → ℕ → Type 0

@@ -1,20 +1,20 @@
 -- The enumeration that a bus is declared by: its own entry, and the width of its words.
 use Prim.Native.Nat.{ℕ, zero, suc, _+_, _-_, _≤_, _<_, min}
-use mathlib.Core.Bool.{Bool, true, false, _||_, _&&_, false≢true}
-use mathlib.Core.List.{List, [], _∷_, _++_, append-assoc}
+use mathlib.Core.Bool.{Bool, true, false, _||_, _&&_}
+use mathlib.Core.List.{List, [], _∷_, _++_}
 use mathlib.Core.Option.{some}
 use mathlib.Core.Path.{_≡_, refl, sym, ap, _∙_, subst}
 use native.Mathlib.Numerals.{add-one}
 use native.Mathlib.Omega.{arith}
 use lib.Dec.{eqb, ltb}
-use lib.ListN.{length, getD, length-append, drop}
+use lib.ListN.{length, getD}
 use borrow.Author.Tests.{eqb-true, eqb-false, eq-eqb, ne-eqb, lt-ltb, le-ltb, ltb-true}
 use Rattle.words.specs.Words.{wordAt}
 use Rattle.language.specs.Bytes.{same}
 use Rattle.language.specs.Limits.{maxNames, maxTokens}
 use Rattle.language.specs.Tokens.{Token, tokens}
-use Rattle.language.specs.Grammar.{Tokens, front}
-use Rattle.language.specs.Tree.{Named, Identifier, Definition, Defined, Enumerated, OfType, Spec}
+use Rattle.language.specs.Grammar.{Tokens}
+use Rattle.language.specs.Tree.{Identifier, Definition, Defined, Enumerated, OfType, Spec}
 use Rattle.language.specs.Names.{Names, visible}
 use Rattle.language.specs.Words.{wordsIn}
 use Rattle.language.specs.Declared.{wordsOfType, wordWidth}

@@ -2,7 +2,7 @@
 use Prim.Native.Nat.{ℕ, _+_, _≤_, _<_}
 use mathlib.Core.Bool.{Bool, true, false}
 use mathlib.Core.List.{List, []}
-use mathlib.Core.Path.{_≡_, refl, sym, ap, _∙_, subst}
+use mathlib.Core.Path.{_≡_, refl, sym, _∙_, subst}
 use native.Mathlib.Omega.{arith}
 use lib.Dec.{ltb}
 use lib.ListN.{length, getD, set}
@@ -16,7 +16,7 @@ use Rattle.names.specs.Interned.{Lexed}
 use Rattle.values.specs.World.{World, meaningAt}
 use Rattle.values.specs.Known.{Known}
 use Rattle.values.specs.Bodies.{Bodies}
-use Rattle.evaluation.specs.Working.{source, state, Fits, Room, Ready}
+use Rattle.evaluation.specs.Working.{source, state, Fits, Ready}
 use Rattle.notes.specs.Notes.{Note, Notes, notes-facts}
 
 -- the expression e at entry k, outside every big operator

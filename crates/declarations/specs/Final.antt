@@ -1,19 +1,17 @@
 -- The last steps: what the parameters leave is what the ports' turns ask for, and the ports' slices hold the ports of the text's declarations.
-use Prim.Native.Nat.{ℕ, zero, suc, _+_, _≤_, _<_, _^_}
-use mathlib.Core.Bool.{Bool, true, false}
-use mathlib.Core.List.{List, [], _∷_, _++_}
-use mathlib.Core.Path.{_≡_, refl, sym, ap, ap₂, _∙_, subst}
+use Prim.Native.Nat.{ℕ, _≤_, _<_, _^_}
+use mathlib.Core.Bool.{true}
+use mathlib.Core.List.{List, []}
+use mathlib.Core.Path.{_≡_, sym, ap, subst}
 use native.Mathlib.Omega.{arith}
-use lib.Dec.{eqb, leb}
-use lib.ListN.{length, getD, length-append}
-use borrow.Author.Tests.{eqb-true, le-leb, lt-leb}
-use Rattle.node.specs.Result.{Result, Done, Refused, _>>=_}
-use Rattle.language.specs.Limits.{maxBytes, maxNames, maxTokens, maxWidth, maxSignals, offsetBits}
+use lib.Dec.{eqb}
+use lib.ListN.{length}
+use borrow.Author.Tests.{eqb-true}
+use Rattle.language.specs.Limits.{maxBytes, offsetBits}
 use Rattle.language.specs.Tokens.{Name, code, Token, isOf, tokens}
 use Rattle.language.specs.Tree.{Declaration, OneSignal, OfWidth, OfType, Spec}
-use Rattle.language.specs.Declared.{Table, Port, constants, inputs, outputs, Declarations, declarations}
-use Rattle.language.specs.Numbering.{inOrder}
-use Rattle.language.specs.Laws.Basics.Lists.{All, all-append, all-both}
+use Rattle.language.specs.Declared.{Table, inputs, outputs}
+use Rattle.language.specs.Laws.Basics.Lists.{All, all-both}
 use Rattle.language.specs.Laws.Basics.Results.{value-of}
 use Rattle.language.specs.Laws.Grammar.TokenLaws.{Stands}
 use Rattle.language.specs.Laws.Grammar.Braces.{ProperDeclaration, ProperSubsection, ProperSpec}
@@ -21,24 +19,16 @@ use Rattle.language.specs.Laws.Grammar.BracesReads.{spec-proper}
 use Rattle.language.specs.Laws.Values.NameLaws.{inputs-all, outputs-all}
 use Rattle.language.specs.Laws.Values.RegularWords.{RegularDefinition}
 use Rattle.language.specs.Laws.Values.DistinctNames.{declaredName}
-use Rattle.language.specs.Laws.Values.PortLaws.{PortFor, Pairs, ports-for}
 use Rattle.lexer.specs.LexingLaws.{token-stands}
 use Rattle.names.specs.References.{numberIn}
 use Rattle.names.specs.Resolved.{declaredNames}
-use Rattle.sets.specs.declared.Worked.{Worked}
 use Rattle.values.specs.Worked.{worldIn}
 use Rattle.notes.specs.Notes.{Notes}
-use Rattle.notes.specs.FirstTable.{firstTable}
-use Rattle.notes.specs.Owned.{OwnAt, DeclarationAt}
-use Rattle.ports.specs.Ports.{PortAt, PortsFrom, Ported}
-use Rattle.declarations.specs.Along.{Along}
-use Rattle.declarations.specs.Turnable.{Turnable}
-use Rattle.declarations.specs.Trees.{Tree, number-small}
-use Rattle.declarations.specs.Constants.{ConstantsTold}
-use Rattle.declarations.specs.Describing.{Filled, Described, enumerationFor, offsetAt, placed-from, place-offset}
-use Rattle.declarations.specs.Turns.{WidthsFrom}
+use Rattle.notes.specs.Owned.{DeclarationAt}
+use Rattle.declarations.specs.Trees.{Tree}
+use Rattle.declarations.specs.Describing.{Described, placed-from}
 use Rattle.declarations.specs.Placing.{PortsPlaced}
-use Rattle.declarations.specs.Sizes.{Sizings, sizedAll}
+use Rattle.declarations.specs.Sizes.{Sizings}
 
 -- a name's token begins before the text's last byte
 name-near : (text : List ℕ) (t : Token) → length text ≤ maxBytes → Stands text t → isOf Name t ≡ true → t .at < 2 ^ offsetBits

@@ -1,22 +1,21 @@
 -- The ports of a text's declarations, in the slices.
 use Prim.Native.Nat.{ℕ, zero, suc, _+_, _-_, _≤_, _<_, _^_}
 use mathlib.Core.Bool.{Bool, true, false, false≢true}
-use mathlib.Core.List.{List, [], _∷_, _++_, map}
-use mathlib.Core.Path.{_≡_, refl, sym, ap, ap₂, _∙_, subst}
+use mathlib.Core.List.{List, [], _∷_, _++_}
+use mathlib.Core.Path.{_≡_, refl, sym, ap, _∙_, subst}
 use native.Mathlib.Omega.{arith}
 use lib.Dec.{leb, ltb}
 use lib.ListN.{length, getD, length-append}
-use lib.Seq.{sets}
 use borrow.Author.Tests.{le-leb, lt-leb, ltb-true, ltb-false}
 use Rattle.node.specs.Result.{Done}
 use Rattle.language.specs.Bytes.{same}
-use Rattle.language.specs.Limits.{maxNames, maxTokens, maxWidth, maxSignals, offsetBits}
+use Rattle.language.specs.Limits.{maxNames, maxWidth, maxSignals, offsetBits}
 use Rattle.language.specs.Tokens.{Name, Token, isOf, tokens}
 use Rattle.language.specs.Tree.{Definition, Declaration, OneSignal, OfWidth, OfType, Spec}
-use Rattle.language.specs.Names.{Names, visible}
+use Rattle.language.specs.Names.{visible}
 use Rattle.language.specs.Declared.{Port, inputs, outputs, Declarations, declarations}
 use Rattle.language.specs.Numbering.{inOrder, firstOf}
-use Rattle.language.specs.Laws.Basics.Lists.{All, all-append, all-both, all-more}
+use Rattle.language.specs.Laws.Basics.Lists.{All, all-append, all-more}
 use Rattle.language.specs.Laws.Basics.Tests.{same-refl}
 use Rattle.language.specs.Laws.Values.DistinctNames.{Apart, Distinct, declaredName}
 use Rattle.language.specs.Laws.Values.PortLaws.{PortFor, Pairs, PortsFor, ports-for, pairs-right, portNames, ports-distinct}
@@ -24,17 +23,17 @@ use Rattle.names.specs.References.{numberIn}
 use Rattle.names.specs.ResolvedLaws.{number-apart}
 use Rattle.names.specs.Resolved.{declaredNames}
 use Rattle.notes.specs.Owned.{DeclarationAt}
-use Rattle.ports.specs.Ports.{PortAt, PortsFrom, Ported, Room}
+use Rattle.ports.specs.Ports.{PortsFrom, Ported, Room}
 use Rattle.ports.specs.Firsts.{Separate, numberedFrom, firsts-told}
 use Rattle.declarations.specs.Along.{Along, along-both, pairs-length}
 use Rattle.declarations.specs.Turnable.{Turnable, signals-turnable}
 use Rattle.declarations.specs.Trees.{Tree, number-small}
-use Rattle.declarations.specs.Enumerations.{noEntry, Enumerates}
+use Rattle.declarations.specs.Enumerations.{Enumerates}
 use Rattle.declarations.specs.Widths.{EnumeratedBy}
-use Rattle.declarations.specs.Describing.{Filled, Described, offsetAt, enumerationFor, placed-from, place-offset}
-use Rattle.declarations.specs.Turns.{Placed, PlacedFrom, WidthsFrom}
+use Rattle.declarations.specs.Describing.{Described, offsetAt, placed-from, place-offset}
+use Rattle.declarations.specs.Turns.{PlacedFrom, WidthsFrom}
 use Rattle.declarations.specs.Placing.{PortsPlaced, along-each}
-use Rattle.declarations.specs.Promise.{PortNoted, PortsNoted}
+use Rattle.declarations.specs.Promise.{PortsNoted}
 use Rattle.declarations.specs.Final.{numberOf, names-proper, near}
 
 ports-append : (R : Token → ℕ) (order offsets widths : List ℕ) (ins j : ℕ) (ps qs : List Port) → PortsFrom R order offsets widths ins j ps → PortsFrom R order offsets widths ins (j + length ps) qs → PortsFrom R order offsets widths ins j (ps ++ qs)

@@ -1,24 +1,20 @@
 -- The entries that are chosen are those of the parameters, of the inputs and of the outputs, and there is room for them.
 use Prim.Native.Nat.{ℕ, zero, suc, _+_, _-_, _≤_, _<_}
-use mathlib.Core.List.{List, [], _∷_, _++_}
-use mathlib.Core.Path.{_≡_, refl, sym, ap, _∙_, subst}
+use mathlib.Core.List.{List, [], _∷_}
+use mathlib.Core.Path.{_≡_, refl, ap, _∙_, subst}
 use native.Mathlib.Omega.{arith}
 use lib.ListN.{length, getD, length-append}
-use lib.Seq.{sets}
-use Rattle.language.specs.Limits.{maxNames, maxTokens}
-use Rattle.language.specs.Tree.{Expr, Parameter, Definition, Declaration, OneSignal, OfWidth, OfType, Subsection, Inputs, Outputs, Lines, Spec}
+use Rattle.language.specs.Limits.{maxNames}
+use Rattle.language.specs.Tree.{Expr, Parameter, Declaration, OneSignal, OfWidth, OfType, Subsection, Inputs, Outputs, Lines, Spec}
 use Rattle.language.specs.Places.{Entry, parameterLines, definitionLines, declarationLines, formulaLines, mainLines, allLines}
 use Rattle.language.specs.Names.{Names, declares, over}
 use Rattle.language.specs.Declared.{inputs, outputs}
-use Rattle.language.specs.Laws.Basics.Lists.{All}
 use Rattle.language.specs.Laws.Values.DistinctNames.{declaredName}
-use Rattle.language.specs.Laws.Values.PortLaws.{Pairs}
 use Rattle.entries.specs.Flat.{outline}
 use Rattle.names.specs.AlikeLaws.{pushed}
-use Rattle.names.specs.Resolved.{declaredNames}
-use Rattle.values.specs.VisibleLaws.{ownNames, over-definitions}
+use Rattle.values.specs.ElsewhereLaws.{ownNames, over-definitions}
 use Rattle.values.specs.WorkedLaws.{tree-worked}
-use Rattle.notes.specs.Chosen.{noHeading, Choice, chosen}
+use Rattle.notes.specs.Chosen.{noHeading, chosen}
 use Rattle.notes.specs.Choosing.{Chooses}
 use Rattle.notes.specs.ChosenLaws.{parameterChoice, portChoice, parameters-chosen, inputs-chosen, outputs-chosen}
 use Rattle.notes.specs.Owned.{ParameterAt, DeclarationAt, parameters-at, declarations-at}

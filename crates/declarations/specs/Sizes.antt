@@ -1,12 +1,12 @@
 -- Inputs are sized, then outputs.
-use Prim.Native.Nat.{ℕ, suc, _+_, _≤_, _<_}
+use Prim.Native.Nat.{ℕ, suc, _+_, _≤_}
 use mathlib.Core.Bool.{Bool, true, false}
 use mathlib.Core.List.{List, [], _∷_}
 use mathlib.Core.Path.{_≡_, refl, sym, ap, _∙_, subst}
 use native.Mathlib.Omega.{arith}
-use lib.ListN.{length, getD}
+use lib.ListN.{length}
 use Rattle.node.specs.Result.{Result, Done, Refused, _>>=_}
-use Rattle.language.specs.Limits.{maxNames, maxTokens}
+use Rattle.language.specs.Limits.{maxNames}
 use Rattle.language.specs.Tokens.{tokens}
 use Rattle.language.specs.Tree.{Definition, Declaration, Spec}
 use Rattle.language.specs.Declared.{Table, Port, asDeclared, Turns, turns, inputs, outputs, Declarations}

@@ -1,7 +1,7 @@
 -- From one stage to the next: what the notes and the chosen entries give to parameters, and what the ports' entries give to their turns.
-use Prim.Native.Nat.{ℕ, _+_, _≤_, _<_}
+use Prim.Native.Nat.{ℕ, _≤_, _<_}
 use mathlib.Core.List.{List, []}
-use mathlib.Core.Path.{_≡_, refl, sym, ap, _∙_, subst}
+use mathlib.Core.Path.{_≡_, refl}
 use native.Mathlib.Omega.{arith}
 use mathlib.Core.Bool.{Bool, true, false}
 use lib.Dec.{ltb}
@@ -10,7 +10,7 @@ use borrow.Author.Tests.{ltb-true, ltb-false}
 use Rattle.language.specs.Limits.{maxNames, maxTokens}
 use Rattle.language.specs.Tokens.{tokens}
 use Rattle.language.specs.Grammar.{Tokens}
-use Rattle.language.specs.Tree.{Spec, Declaration}
+use Rattle.language.specs.Tree.{Spec}
 use Rattle.language.specs.Declared.{inputs, outputs}
 use Rattle.language.specs.Laws.Values.DistinctNames.{declaredName}
 use Rattle.entries.specs.Flat.{Entry, outline}
@@ -26,7 +26,7 @@ use Rattle.notes.specs.ChosenLaws.{parameterChoice, portChoice}
 use Rattle.notes.specs.Owned.{DeclarationAt}
 use Rattle.declarations.specs.Turnable.{Turnable}
 use Rattle.declarations.specs.Trees.{Tree, tree-inside}
-use Rattle.declarations.specs.Constants.{Parameters, ParametersGiven, Room}
+use Rattle.declarations.specs.Constants.{Parameters, ParametersGiven}
 use Rattle.declarations.specs.DescribingRoom.{DescribeRoom}
 use Rattle.declarations.specs.Placing.{PortsPlaced, parameters-few, parameters-placed, ins-few, ports-placed, along-each}
 

@@ -1,18 +1,19 @@
 -- The names that get a value or a width at their turn: they are declared, and no definition defines one.
 use mathlib.Core.Bool.{true}
-use mathlib.Core.List.{List, [], _∷_, _++_}
+use mathlib.Core.List.{List, [], _∷_}
 use mathlib.Core.Option.{none}
 use mathlib.Core.Path.{_≡_, subst}
 use Rattle.language.specs.Tokens.{Token}
 use Rattle.language.specs.Tree.{Parameter, Declaration, Spec}
-use Rattle.language.specs.Places.{Entry, parameterLines, definitionLines, mainLines, allLines}
+use Rattle.language.specs.Places.{Entry, parameterLines, definitionLines, mainLines}
 use Rattle.language.specs.Names.{visible, declares, over, declaredAgain}
 use Rattle.language.specs.Declared.{inputs, outputs}
 use Rattle.language.specs.Laws.Basics.Lists.{All, all-both, all-left, all-right, all-more}
 use Rattle.language.specs.Laws.Values.DistinctNames.{Apart, Distinct, declaredName, declaredNames, signals-among, distinct-names, distinct-definitions}
 use Rattle.names.specs.Resolved.{declaredNames as allNames}
 use Rattle.values.specs.WorldsLaws.{Elsewhere}
-use Rattle.values.specs.VisibleLaws.{In, in-declared, ownNames, apart-elsewhere, behind-parameters, over-definitions, main-apart}
+use Rattle.names.specs.VisibleLaws.{In, in-declared}
+use Rattle.values.specs.ElsewhereLaws.{ownNames, apart-elsewhere, behind-parameters, over-definitions, main-apart}
 
 pub record Turnable (x : Spec) (t : Token) : Type 0 where
   pub shown : visible (allNames x) t ≡ true

@@ -1,19 +1,18 @@
 -- The width of a signal or a bus at its turn.
 use Prim.Native.Nat.{ℕ, zero, suc, _+_, _-_, _≤_, _<_, min}
-use mathlib.Core.Bool.{Bool, true, false, _&&_}
+use mathlib.Core.Bool.{Bool, _&&_}
 use mathlib.Core.List.{List, [], _∷_}
 use mathlib.Core.Path.{_≡_, refl, sym, ap, _∙_, subst}
 use native.Mathlib.Omega.{arith}
 use lib.Dec.{leb}
-use lib.ListN.{length}
 use borrow.Author.Tests.{le-leb, lt-leb}
 use Rattle.node.specs.Result.{Result, Done, Refused, _>>=_, guard}
 use Rattle.node.specs.ResultLaws.{guard-pass, guard-stop}
 use Rattle.words.specs.Words.{wordAt}
-use Rattle.language.specs.Limits.{maxWidth, maxTokens, maxNames}
+use Rattle.language.specs.Limits.{maxWidth, maxTokens}
 use Rattle.language.specs.Tokens.{Token, tokens}
 use Rattle.language.specs.Grammar.{Tokens}
-use Rattle.language.specs.Tree.{Expr, Named, Definition, Defined, Enumerated, Declaration, OneSignal, OfWidth, OfType, Spec}
+use Rattle.language.specs.Tree.{Expr, Definition, Defined, Enumerated, Declaration, OneSignal, OfWidth, OfType, Spec}
 use Rattle.language.specs.Values.{number, value}
 use Rattle.language.specs.Declared.{Table, Port, declared, defining, wordsOfType, wordWidth, sized, portOf, asDeclared}
 use Rattle.language.specs.Expansion.{Context, contextOf, define, defineAll}

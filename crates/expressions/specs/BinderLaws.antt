@@ -7,7 +7,7 @@ use mathlib.Core.Path.{_≡_, refl, sym, ap, _∙_}
 use lib.Dec.{eqb}
 use lib.ListN.{length}
 use Rattle.node.specs.Result.{Done, _>>=_}
-use Rattle.node.specs.ResultLaws.{not-done}
+use Rattle.node.specs.ResultLaws.{not-done, bind-again, bind-at, bind-where}
 use Rattle.node.specs.ResultLaws as Results
 use Rattle.language.specs.Tokens.{Class, Name, Token, isOf}
 use Rattle.language.specs.Operators.{loosest}
@@ -15,7 +15,7 @@ use Rattle.language.specs.Tree.{Expr, Each}
 use Rattle.language.specs.Grammar.{Tokens, Read, front, rest, stop, next, named, expect, expectOf, Binder, signOf, binderOf, bindersOf, over}
 use Rattle.language.specs.Laws.Basics.Tests.{split}
 use Rattle.expressions.specs.Readers.{reads, climbs, bigOf, roleAt, levelAt, folds}
-use Rattle.expressions.specs.ReaderLaws.{bind-same, bind-assoc, bind-done, reads-takes, rest-fits, climbs-zero}
+use Rattle.expressions.specs.ReaderLaws.{reads-takes, rest-fits, climbs-zero}
 
 -- what is left of an accepted answer is no longer than ts
 abbrev Shortens : {A : Type 0} → ℕ → Read A → Type 0
@@ -63,7 +63,7 @@ pub binders-fuel : (f g : ℕ) (ts : Tokens) → length ts < f → length ts < g
 binders-fuel zero g ts h l = absurd (omega arith)
 binders-fuel (suc f) zero ts h l = absurd (omega arith)
 binders-fuel (suc f) (suc g) ts h l =
-    bind-same (binderOf reads ts) _ _
+    bind-where (binderOf reads ts) _ _
     (λ (b, us) z.
     let k = binder-takes ts b us z in
     let m = rest-fits us in
@@ -86,8 +86,8 @@ afterBinder max t b ts =
 pub folds-step : (max : ℕ) (t : Token) (ts : Tokens) → folds max t ts ≡ (binderOf reads ts >>= λ (b, us). afterBinder max t b us)
 unfolding folds
 folds-step max t ts =
-    bind-assoc (binderOf reads ts) _ _
-    ∙ bind-same (binderOf reads ts) _ _
+    bind-again (binderOf reads ts) _ _
+    ∙ bind-where (binderOf reads ts) _ _
     (λ (b, us) z.
     let k = binder-takes ts b us z in
     let m = rest-fits us in
@@ -100,12 +100,12 @@ folds-step max t ts =
           | false ↦ expect "]" us >>= λ (d, vs). reads (levelAt t) vs >>= λ (e, xs). climbs max (Each t (bigOf (roleAt t)) (eqb max 0) (b .name) (b .range) e) xs
         ]
     go b us true e =
-        bind-assoc (bindersOf (length ts) reads (rest us)) _ _
-        ∙ bind-same (bindersOf (length ts) reads (rest us)) _ _
+        bind-again (bindersOf (length ts) reads (rest us)) _ _
+        ∙ bind-where (bindersOf (length ts) reads (rest us)) _ _
         (λ (bs, vs) _.
-        bind-done (b ∷ bs, vs) _
-        ∙ bind-same (reads (levelAt t) vs) _ _ (λ (x, xs) _. sym (bind-done (over t (bigOf (roleAt t)) true bs x, xs) _) ∙ ap (λ (r : Read Expr). r >>= λ (y, ys). climbs max (Each t (bigOf (roleAt t)) (eqb max 0) (b .name) (b .range) y) ys) (sym (climbs-zero (over t (bigOf (roleAt t)) true bs x) xs)))
-        ∙ sym (bind-assoc (reads (levelAt t) vs) _ _))
+        bind-at (b ∷ bs, vs) _
+        ∙ bind-where (reads (levelAt t) vs) _ _ (λ (x, xs) _. sym (bind-at (over t (bigOf (roleAt t)) true bs x, xs) _) ∙ ap (λ (r : Read Expr). r >>= λ (y, ys). climbs max (Each t (bigOf (roleAt t)) (eqb max 0) (b .name) (b .range) y) ys) (sym (climbs-zero (over t (bigOf (roleAt t)) true bs x) xs)))
+        ∙ sym (bind-again (reads (levelAt t) vs) _ _))
         ∙ ap (λ (r : Read (List Binder)). r >>= λ (bs, vs). (reads (levelAt t) vs >>= λ (x, xs). climbs 0 (over t (bigOf (roleAt t)) true bs x) xs) >>= λ (y, ys). climbs max (Each t (bigOf (roleAt t)) (eqb max 0) (b .name) (b .range) y) ys) e
-        ∙ sym (bind-assoc (bindersOf (suc (length (rest us))) reads (rest us)) _ _)
-    go b us false e = bind-assoc (expect "]" us) _ _ ∙ bind-same (expect "]" us) _ _ (λ (c, vs) _. bind-done (b ∷ [], vs) _)
+        ∙ sym (bind-again (bindersOf (suc (length (rest us))) reads (rest us)) _ _)
+    go b us false e = bind-again (expect "]" us) _ _ ∙ bind-where (expect "]" us) _ _ (λ (c, vs) _. bind-at (b ∷ [], vs) _)

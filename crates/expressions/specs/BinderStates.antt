@@ -8,6 +8,7 @@ use lib.Dec.{eqb, lit<}
 use lib.ListN.{drop}
 use borrow.Author.Tests.{eqb-true, eqb-false, eq-eqb, ne-eqb}
 use Rattle.node.specs.Result.{Done, _>>=_}
+use Rattle.node.specs.ResultLaws.{bind-at}
 use Rattle.words.specs.WordLaws.{length-put}
 use Rattle.language.specs.Tokens.{Name, Token}
 use Rattle.language.specs.Operators.{Big, Role, Plain, Counted, Windowed, Folding as Folds, loosest}
@@ -25,7 +26,6 @@ use Rattle.entries.specs.ReadsLaws.{kept-put, kept-then}
 use Rattle.expressions.specs.declared.stack.Machine.{Machine}
 use Rattle.expressions.specs.declared.stack.Turn.the-variants.{Next, Ended}
 use Rattle.expressions.specs.Readers.{reads, roleAt, bigOf, folds}
-use Rattle.expressions.specs.ReaderLaws.{bind-done}
 use Rattle.expressions.specs.Frames.{Bound, Member, Frame, resume, plug}
 use Rattle.expressions.specs.RoleLaws.{isMember, starts-fold, folds-member, folds-bounds}
 use Rattle.expressions.specs.Stack.{slotWord, putSlot}
@@ -221,7 +221,7 @@ module _ {ts : Tokens} {s : Cursor} {x : Read Expr} {w : List ℕ} {m : Machine}
               h .same
               ∙ ap (plug (h .frames))
               (reads-fold ∙ ap (λ (r : Read Token). r >>= λ (c, vs). folds (m .level) (here h) vs) (pick (next "[" (rest (drop (m .c .at) ts))) (Done (front (rest (drop (m .c .at) ts)), rest (rest (drop (m .c .at) ts)))) (stop (rest (drop (m .c .at) ts))) (next-sign h fold-inside "[" refl ∙ eq-eqb (kindAt w (nextOf (m .c))) 24 bracket))
-              ∙ bind-done (front (rest (drop (m .c .at) ts)), rest (rest (drop (m .c .at) ts))) _ ∙ ap (folds (m .level) (here h)) (sym (drop-two (m .c .at) ts)));
+              ∙ bind-at (front (rest (drop (m .c .at) ts)), rest (rest (drop (m .c .at) ts))) _ ∙ ap (folds (m .level) (here h)) (sym (drop-two (m .c .at) ts)));
         }
 
     pub turn-fold : {v : List ℕ} {n : Machine} → Named ts s x w v m (nextOf (nextOf (m .c))) n → Turned ts s x w v m (Next n)

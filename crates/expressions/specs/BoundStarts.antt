@@ -10,6 +10,7 @@ use lib.Dec.{lit<}
 use lib.ListN.{drop}
 use borrow.Author.Tests.{eq-eqb, ne-eqb}
 use Rattle.node.specs.Result.{Done, _>>=_}
+use Rattle.node.specs.ResultLaws.{bind-at}
 use Rattle.words.specs.WordLaws.{length-put}
 use Rattle.language.specs.Tokens.{Name, Token, isOf}
 use Rattle.language.specs.Tree.{Expr, Between, Empty}
@@ -25,7 +26,6 @@ use Rattle.entries.specs.ReadsLaws.{kept-put, kept-then}
 use Rattle.expressions.specs.declared.stack.Machine.{Machine}
 use Rattle.expressions.specs.declared.stack.Turn.the-variants.{Next, Ended}
 use Rattle.expressions.specs.Readers.{reads}
-use Rattle.expressions.specs.ReaderLaws.{bind-done}
 use Rattle.expressions.specs.BinderLaws.{afterBinder}
 use Rattle.expressions.specs.Frames.{Bound, Upper, Frame, turned, isStrict, resume, plug}
 use Rattle.expressions.specs.Stack.{slotWord, slotClass, slotIndex, slotLevel, topSlot, putSlot, Stacked}
@@ -51,7 +51,7 @@ module _ {ts : Tokens} {w : List ℕ} {c : Cursor} (ready : Ready ts w c) {B : T
   name-here e =
       let us = drop (c .at) ts in
       ap (λ (r : Read Token). r >>= K) (pick (isOf Name (front us)) (Done (front us, rest us)) (stop us) (next-class ready Name refl ∙ eq-eqb (kindAt w c) 1 e))
-      ∙ bind-done (front us, rest us) K ∙ ap (λ vs. K (front us, vs)) (sym (drop-next (c .at) ts))
+      ∙ bind-at (front us, rest us) K ∙ ap (λ vs. K (front us, vs)) (sym (drop-next (c .at) ts))
 
   name-other : (kindAt w c ≡ 1 → ⊥) → (expectOf Name (drop (c .at) ts) >>= K) ≡ stop (drop (c .at) ts)
   unfolding _>>=_

@@ -10,6 +10,7 @@ use lib.Dec.{lit<}
 use lib.ListN.{drop}
 use borrow.Author.Tests.{eq-eqb, ne-eqb}
 use Rattle.node.specs.Result.{Done, _>>=_}
+use Rattle.node.specs.ResultLaws.{bind-at}
 use Rattle.language.specs.Bytes.{ascii, isOneOf}
 use Rattle.language.specs.Tokens.{Token}
 use Rattle.language.specs.Tree.{Expr}
@@ -26,7 +27,6 @@ use Rattle.entries.specs.Reads.{Outcome}
 use Rattle.entries.specs.ReadsLaws.{kept-same}
 use Rattle.expressions.specs.declared.stack.Machine.{Machine}
 use Rattle.expressions.specs.declared.stack.Turn.the-variants.{Ended}
-use Rattle.expressions.specs.ReaderLaws.{bind-done}
 use Rattle.expressions.specs.Frames.{Round, Bars, Square, Last, Frame, turned, builtBy, plug}
 use Rattle.expressions.specs.Stack.{slotClass, topSlot}
 use Rattle.expressions.specs.StackLaws.{stacked-next}
@@ -44,7 +44,7 @@ module _ {ts : Tokens} {w : List ℕ} {c : Cursor} (ready : Ready ts w c) {B : T
   pub expect-here : kindAt w c ≡ fixed sign → (expect sign us >>= K) ≡ K (front us, drop (c .at + 1) ts)
   expect-here e =
       ap (λ (r : Read Token). r >>= K) (pick (next sign us) (Done (front us, rest us)) (stop us) (next-number ready sign known ∙ eq-eqb (kindAt w c) (fixed sign) e))
-      ∙ bind-done (front us, rest us) K ∙ ap (λ vs. K (front us, vs)) (sym (drop-next (c .at) ts))
+      ∙ bind-at (front us, rest us) K ∙ ap (λ vs. K (front us, vs)) (sym (drop-next (c .at) ts))
 
   pub expect-other : (kindAt w c ≡ fixed sign → ⊥) → (expect sign us >>= K) ≡ stop us
   unfolding _>>=_

@@ -9,6 +9,7 @@ use lib.Dec.{eqb, ltb}
 use lib.ListN.{length, length-append, drop, getD}
 use borrow.Author.Tests.{eqb-true, ltb-true}
 use Rattle.node.specs.Result.{Done}
+use Rattle.node.specs.ResultLaws.{bind-at}
 use Rattle.language.specs.Tokens.{Token}
 use Rattle.language.specs.Tree.{Expr}
 use Rattle.language.specs.Grammar.{Tokens, Read}
@@ -24,7 +25,6 @@ use Rattle.entries.specs.ReadsLaws.{kept-same, kept-put}
 use Rattle.expressions.specs.declared.stack.Machine.{Machine}
 use Rattle.expressions.specs.declared.stack.Turn.the-variants.{Next, Ended}
 use Rattle.expressions.specs.Readers.{climbs}
-use Rattle.expressions.specs.ReaderLaws.{bind-done}
 use Rattle.expressions.specs.Frames.{Class, Right, Sole, Stepped, Within, Cons, Over, Round, Bars, Square, Last, All, Count, Low, High, One, Two, More, Bound, Upper, Member, Frame, turned, resume, plug}
 use Rattle.expressions.specs.Stack.{slotIndex, slotClass, topSlot, Slot, SlotsAt, Stacked, Rooted, startOf, Trees}
 use Rattle.expressions.specs.StackLaws.{slot-class, slot-level, slot-index, stacked-apart, stacked-few, stacked-less, stacked-pop, stacked-emit}
@@ -153,7 +153,7 @@ module _ {ts : Tokens} {s : Cursor} {x : Read Expr} {w : List ℕ} {m : Machine}
           let number : classNumber (F .class) ≡ classNumber K = sym (top-class w ts (m .depth) (classNumber (F .class)) F (slotsOf Fs) (st .slots-at) .1) ∙ e in
           let is : F .class ≡ K = sym (class-of (F .class)) ∙ ap (λ n. getD classes n Right) number ∙ class-of K in
           let whole : Popping ts s x w m (turned (F .class) F) Fs =
-          record { tree = h .tree; rooted = h .rooted; firm-top = f .0; firm = f .1; stacked = st; same = same ∙ ap (plug Fs) (bind-done (h .tree, drop (m .c .at) ts) _) } in
+          record { tree = h .tree; rooted = h .rooted; firm-top = f .0; firm = f .1; stacked = st; same = same ∙ ap (plug Fs) (bind-at (h .tree, drop (m .c .at) ts) _) } in
           (F, Fs, subst (λ k. Popping ts s x w m (turned k F) Fs) is whole)
 
 -- the tree of a frame of one slot is complete at the cursor d

@@ -9,6 +9,7 @@ use lib.Dec.{lit<}
 use lib.ListN.{drop}
 use borrow.Author.Tests.{eq-eqb, ne-eqb}
 use Rattle.node.specs.Result.{Done, _>>=_}
+use Rattle.node.specs.ResultLaws.{bind-again, bind-where}
 use Rattle.words.specs.WordLaws.{length-put}
 use Rattle.language.specs.Operators.{loosest}
 use Rattle.language.specs.Tree.{Expr, Empty, Element}
@@ -25,7 +26,7 @@ use Rattle.entries.specs.ReadsLaws.{kept-put, kept-then}
 use Rattle.expressions.specs.declared.stack.Machine.{Machine}
 use Rattle.expressions.specs.declared.stack.Turn.the-variants.{Next}
 use Rattle.expressions.specs.Readers.{reads, climbs, listed}
-use Rattle.expressions.specs.ReaderLaws.{bind-same, bind-assoc, climbs-zero}
+use Rattle.expressions.specs.ReaderLaws.{climbs-zero}
 use Rattle.expressions.specs.ListLaws.{listed-more, listed-end}
 use Rattle.expressions.specs.Frames.{All, Two, More, Cons, Frame, frame, turned, withFirst, plug}
 use Rattle.expressions.specs.Stack.{slotWord, slotClass, slotIndex, slotLevel, topSlot, putSlot, Stacked, Rooted}
@@ -129,8 +130,8 @@ module _ {ts : Tokens} {s : Cursor} {x : Read Expr} {w : List ℕ} {m : Machine}
         let u = putSlot v (m .depth + 1) 17 0 (m .c .at) in
         let rest-same : (reads loosest (rest us) >>= λ (y, vs). listed y vs >>= λ (es, zs). Done (Element (h .tree) es, zs)) ≡ ((reads loosest (drop (m .c .at + 1) ts) >>= λ (y, vs). listed y vs) >>= λ (es, zs). climbs 0 (Element (h .tree) es) zs) =
         ap (λ vs. reads loosest vs >>= λ (y, zs). listed y zs >>= λ (es, ys). Done (Element (h .tree) es, ys)) (sym (drop-next (m .c .at) ts))
-        ∙ bind-same (reads loosest (drop (m .c .at + 1) ts)) _ _ (λ (y, vs) _. bind-same (listed y vs) _ _ (λ (es, zs) _. sym (climbs-zero (Element (h .tree) es) zs)))
-        ∙ sym (bind-assoc (reads loosest (drop (m .c .at + 1) ts)) _ _) in
+        ∙ bind-where (reads loosest (drop (m .c .at + 1) ts)) _ _ (λ (y, vs) _. bind-where (listed y vs) _ _ (λ (es, zs) _. sym (climbs-zero (Element (h .tree) es) zs)))
+        ∙ sym (bind-again (reads loosest (drop (m .c .at + 1) ts)) _ _) in
         subst (λ l. Went ts s x w (putSlot (putSlot w (m .depth) 5 l (m .c .at)) (m .depth + 1) 17 0 (m .c .at)) m (record { c = nextOf (m .c); depth = m .depth + 1 + 1; level = 17; complete = false })) (sym (h .level))
         (record {
           kept =

@@ -5,12 +5,13 @@ use mathlib.Core.Bool.{Bool, true, false}
 use mathlib.Core.Path.{_≡_, refl, sym, ap, _∙_}
 use lib.ListN.{length}
 use Rattle.node.specs.Result.{Result, Done, _>>=_}
+use Rattle.node.specs.ResultLaws.{bind-again, bind-at, bind-where}
 use Rattle.language.specs.Operators.{loosest}
 use Rattle.language.specs.Tree.{Expr, Empty, Element}
 use Rattle.language.specs.Grammar.{Tokens, Read, rest, next, expect, elements}
 use Rattle.language.specs.Laws.Basics.Tests.{pick, leave}
 use Rattle.expressions.specs.Readers.{reads, elementsFrom, listed}
-use Rattle.expressions.specs.ReaderLaws.{bind-same, bind-assoc, bind-done, reads-takes, rest-fits}
+use Rattle.expressions.specs.ReaderLaws.{reads-takes, rest-fits}
 
 -- the elements of a set from y on, and `}` behind them
 pub elements-listed : {B : Type 0} (f g : ℕ) (y : Expr) (H : Expr → Tokens → Result B) (ts : Tokens) → length ts < f → length ts < g
@@ -24,14 +25,14 @@ elements-listed (suc f) (suc g) y H ts h l =
         → (elim b [ true ↦ reads loosest (rest ts) >>= λ (x, us). elements f reads us >>= λ (es, vs). Done (Element x es, vs) | false ↦ expect "}" ts >>= λ (c, us). Done (Empty, us) ] >>= λ (es, us). H (Element y es) us)
         ≡ (elim b [ true ↦ reads loosest (rest ts) >>= λ (x, us). elementsFrom g x us >>= λ (es, vs). Done (Element y es, vs) | false ↦ Done (Element y Empty, ts) ] >>= λ (t, us). expect "}" us >>= λ (c, vs). H t vs)
     go true later =
-        bind-assoc (reads loosest (rest ts)) _ _
-        ∙ bind-same (reads loosest (rest ts)) _ _
+        bind-again (reads loosest (rest ts)) _ _
+        ∙ bind-where (reads loosest (rest ts)) _ _
         (λ (x, us) z.
-        bind-assoc (elements f reads us) _ _ ∙ bind-same (elements f reads us) _ _ (λ (es, vs) _. bind-done (Element x es, vs) _)
+        bind-again (elements f reads us) _ _ ∙ bind-where (elements f reads us) _ _ (λ (es, vs) _. bind-at (Element x es, vs) _)
         ∙ later x us (reads-takes loosest (rest ts) x us z)
-        ∙ bind-same (elementsFrom g x us) _ _ (λ (es, vs) _. sym (bind-done (Element y es, vs) _)) ∙ sym (bind-assoc (elementsFrom g x us) _ _))
-        ∙ sym (bind-assoc (reads loosest (rest ts)) _ _)
-    go false later = bind-assoc (expect "}" ts) _ _ ∙ bind-same (expect "}" ts) _ _ (λ (c, us) _. bind-done (Empty, us) _) ∙ sym (bind-done (Element y Empty, ts) _)
+        ∙ bind-where (elementsFrom g x us) _ _ (λ (es, vs) _. sym (bind-at (Element y es, vs) _)) ∙ sym (bind-again (elementsFrom g x us) _ _))
+        ∙ sym (bind-again (reads loosest (rest ts)) _ _)
+    go false later = bind-again (expect "}" ts) _ _ ∙ bind-where (expect "}" ts) _ _ (λ (c, us) _. bind-at (Empty, us) _) ∙ sym (bind-at (Element y Empty, ts) _)
 
 elements-fuel : (f g : ℕ) (e : Expr) (ts : Tokens) → length ts < f → length ts < g → elementsFrom f e ts ≡ elementsFrom g e ts
 elements-fuel zero g e ts h l = absurd (omega arith)
@@ -42,14 +43,14 @@ elements-fuel (suc f) (suc g) e ts h l = go (next "," ts) (λ x us k. let m = re
         → _≡_ {A = Read Expr} (elim b [ true ↦ reads loosest (rest ts) >>= λ (x, us). elementsFrom f x us >>= λ (es, vs). Done (Element e es, vs) | false ↦ Done (Element e Empty, ts) ])
         (elim b [ true ↦ reads loosest (rest ts) >>= λ (x, us). elementsFrom g x us >>= λ (es, vs). Done (Element e es, vs) | false ↦ Done (Element e Empty, ts) ])
     go true later =
-        bind-same (reads loosest (rest ts)) _ _ (λ (x, us) z. ap (λ (r : Read Expr). r >>= λ (es, vs). Done (Element e es, vs)) (later x us (reads-takes loosest (rest ts) x us z)))
+        bind-where (reads loosest (rest ts)) _ _ (λ (x, us) z. ap (λ (r : Read Expr). r >>= λ (es, vs). Done (Element e es, vs)) (later x us (reads-takes loosest (rest ts) x us z)))
     go false later = refl
 
 pub listed-more : (e : Expr) (ts : Tokens) → next "," ts ≡ true → listed e ts ≡ (reads loosest (rest ts) >>= λ (x, us). listed x us >>= λ (es, vs). Done (Element e es, vs))
 unfolding listed
 listed-more e ts h =
     pick (next "," ts) _ _ h
-    ∙ bind-same (reads loosest (rest ts)) _ _
+    ∙ bind-where (reads loosest (rest ts)) _ _
     (λ (x, us) z.
     let k = reads-takes loosest (rest ts) x us z in
     let m = rest-fits ts in

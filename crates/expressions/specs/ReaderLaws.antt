@@ -8,7 +8,8 @@ use mathlib.Core.Path.{_≡_, refl, sym, ap, _∙_}
 use lib.Dec.{leb, ltb}
 use borrow.Author.Tests.{ltb-true, lt-leb}
 use lib.ListN.{length, length-append}
-use Rattle.node.specs.Result.{Result, Done, Refused, _>>=_}
+use Rattle.node.specs.Result.{Done, _>>=_}
+use Rattle.node.specs.ResultLaws.{bind-where}
 use Rattle.language.specs.Tokens.{Token}
 use Rattle.language.specs.Operators.{InfixRow, infixes}
 use Rattle.language.specs.Tree.{Expr, Joined}
@@ -16,21 +17,6 @@ use Rattle.language.specs.Grammar.{Tokens, Read, front, rest, named, infixOf, r
 use Rattle.language.specs.Laws.Basics.Tests.{split, leave, and-left, and-right}
 use Rattle.language.specs.Laws.Grammar.GrammarLaws.{upTo, upTo-takes, upTo-operand, upTo-step}
 use Rattle.expressions.specs.Readers.{reads, climbs, infixRow, operatorAt, operatorIn}
-
--- one after another
-pub bind-same : {A B : Type 0} (x : Result A) (K L : A → Result B) → ((a : A) → x ≡ Done a → K a ≡ L a) → x >>= K ≡ x >>= L
-unfolding _>>=_
-bind-same (Done a) K L h = h a refl
-bind-same (Refused n p) K L h = refl
-
-pub bind-assoc : {A B C : Type 0} (x : Result A) (f : A → Result B) (g : B → Result C) → (x >>= f) >>= g ≡ x >>= λ a. f a >>= g
-unfolding _>>=_
-bind-assoc (Done a) f g = refl
-bind-assoc (Refused n p) f g = refl
-
-pub bind-done : {A B : Type 0} (a : A) (K : A → Result B) → Done a >>= K ≡ K a
-unfolding _>>=_
-bind-done a K = refl
 
 -- an accepted expression takes a token
 pub reads-takes : (max : ℕ) (ts : Tokens) (e : Expr) (us : Tokens) → reads max ts ≡ Done (e, us) → length us < length ts
@@ -65,7 +51,7 @@ climb-fuel (suc f) (suc g) max e ts h l =
     go : (o : Option InfixRow) → ((a : Expr) (us : Tokens) → length us < length (rest ts) → climb f reads max a us ≡ climb g reads max a us) → climbBy f max e (front ts) o ts ≡ climbBy g max e (front ts) o ts
     go none later = refl
     go (some r) later =
-        bind-same (reads (rightLevel r) (rest ts)) _ _ (λ (b, us) z. later (Joined (front ts) (r .operator) e b) us (reads-takes (rightLevel r) (rest ts) b us z))
+        bind-where (reads (rightLevel r) (rest ts)) _ _ (λ (b, us) z. later (Joined (front ts) (r .operator) e b) us (reads-takes (rightLevel r) (rest ts) b us z))
 
 climbs-by : (max : ℕ) (e : Expr) (ts : Tokens) (o : Option InfixRow) → allowed max (infixRow (front ts)) ≡ o → climbs max e ts ≡ climbBy (length ts) max e (front ts) o ts
 unfolding climbs infixRow
@@ -97,7 +83,7 @@ pub climbs-on : (max : ℕ) (e : Expr) (ts : Tokens) (r : InfixRow) → allowed 
 unfolding climbs operatorAt
 climbs-on max e ts r h i =
     climbs-by max e ts (some r) h
-    ∙ bind-same (reads (rightLevel r) (rest ts)) _ _
+    ∙ bind-where (reads (rightLevel r) (rest ts)) _ _
     (λ (b, us) z.
     let k = reads-takes (rightLevel r) (rest ts) b us z in
     let m = rest-fits ts in
@@ -113,4 +99,4 @@ pub reads-step : (max : ℕ) (ts : Tokens) → reads max ts ≡ (operandOf (leng
 unfolding reads climbs
 reads-step max ts =
     upTo-step max ts
-    ∙ bind-same (operandOf (length ts) upTo max ts) _ _ (λ (e, us) z. climb-fuel (length ts) (suc (length us)) max e us (operand-takes max ts e us z) (omega arith))
+    ∙ bind-where (operandOf (length ts) upTo max ts) _ _ (λ (e, us) z. climb-fuel (length ts) (suc (length us)) max e us (operand-takes max ts e us z) (omega arith))

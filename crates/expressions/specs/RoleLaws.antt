@@ -10,7 +10,7 @@ use lib.Dec.{eqb, leb}
 use lib.ListN.{length}
 use borrow.Author.Tests.{not-true}
 use Rattle.node.specs.Result.{Result, Done, _>>=_}
-use Rattle.node.specs.ResultLaws.{not-done}
+use Rattle.node.specs.ResultLaws.{not-done, bind-again, bind-at, bind-where}
 use Rattle.language.specs.Tokens.{Name, Token, isOf}
 use Rattle.language.specs.Operators.{FinallyIn, GloballyIn, Window, Big, Role, Plain, Counted, Windowed, Folding, PrefixRow, prefixes, loosest}
 use Rattle.language.specs.Tree.{Expr, Prefixed, Nexts, InWindow, Between}
@@ -18,7 +18,7 @@ use Rattle.language.specs.Grammar.{Tokens, Read, front, rest, stop, next, named
 use Rattle.language.specs.Laws.Basics.Tests.{pick, leave, and-left, some-none}
 use Rattle.language.specs.Laws.Grammar.ExprReads.{prefix-none}
 use Rattle.expressions.specs.Readers.{reads, climbs, prefixRow, levelAt, levelIn, roleAt, roleIn, soleOf, windowOf, bigOf, folds}
-use Rattle.expressions.specs.ReaderLaws.{bind-same, bind-assoc, bind-done, rest-fits}
+use Rattle.expressions.specs.ReaderLaws.{rest-fits}
 use Rattle.expressions.specs.BinderLaws.{binders-fuel, afterBinder, folds-step}
 use Rattle.expressions.specs.Frames.{Sole, Count, Low, Bound, frame, resume}
 use Rattle.expressions.specs.StartLaws.{reads-role}
@@ -33,7 +33,7 @@ takesOne (Folding o) bracket = false
 module _ (max f : ℕ) (t : Token) (level : ℕ) (ts : Tokens) where
   -- one operand
   sole : (w : Expr → Expr) → ((reads level ts >>= λ (e, us). Done (w e, us)) >>= λ (e, us). climbs max e us) ≡ (reads level ts >>= λ (e, us). climbs max (w e) us)
-  sole w = bind-assoc (reads level ts) _ _ ∙ bind-same (reads level ts) _ _ (λ (e, us) _. bind-done (w e, us) _)
+  sole w = bind-again (reads level ts) _ _ ∙ bind-where (reads level ts) _ _ (λ (e, us) _. bind-at (w e, us) _)
 
   role-sole : (o : Role) → takesOne o (next "[" ts) ≡ true → (roleOf f reads t level o ts >>= λ (e, us). climbs max e us) ≡ (reads level ts >>= λ (e, us). climbs max (Prefixed t (soleOf o) e) us)
   role-sole (Plain p) h = sole (λ e. Prefixed t p e)
@@ -45,7 +45,7 @@ module _ (max f : ℕ) (t : Token) (level : ℕ) (ts : Tokens) where
 -- an expression, a sign, then what K reads
 closed-then : {B : Type 0} (s : String) (K : Expr × Tokens → Result B) (ts : Tokens) → (closedBy reads s ts >>= K) ≡ (reads loosest ts >>= λ (x, us). expect s us >>= λ (c, vs). K (x, vs))
 closed-then s K ts =
-    bind-assoc (reads loosest ts) _ _ ∙ bind-same (reads loosest ts) _ _ (λ (x, us) _. bind-assoc (expect s us) _ _ ∙ bind-same (expect s us) _ _ (λ (c, vs) _. bind-done (x, vs) _))
+    bind-again (reads loosest ts) _ _ ∙ bind-where (reads loosest ts) _ _ (λ (x, us) _. bind-again (expect s us) _ _ ∙ bind-where (expect s us) _ _ (λ (c, vs) _. bind-at (x, vs) _))
 
 same-over : (n : ℕ) (t : Token) (bs : List Binder) (e : Expr) (xs : Tokens) (p q : Big) (a b : Bool) → p ≡ q → a ≡ b → climbs n (over t p a bs e) xs ≡ climbs n (over t q b bs e) xs
 same-over n t bs e xs p q a b h k = ap (λ o. climbs n (over t o a bs e) xs) h ∙ ap (λ c. climbs n (over t q c bs e) xs) k
@@ -74,24 +74,24 @@ module _ (max : ℕ) (ts : Tokens) (r : PrefixRow) (row : prefixRow (front ts) �
   starts-count h b =
       by-role Counted h
       ∙ ap (λ (q : Read Expr). q >>= λ (e, us). climbs max e us) (pick (next "[" (rest ts)) _ _ b)
-      ∙ bind-assoc (closedBy reads "]" (rest (rest ts))) _ _
+      ∙ bind-again (closedBy reads "]" (rest (rest ts))) _ _
       ∙ closed-then "]" _ (rest (rest ts))
-      ∙ bind-same (reads loosest (rest (rest ts))) _ _
-      (λ (n, us) _. bind-same (expect "]" us) _ _ (λ (c, vs) _. sole max (length ts) (front ts) (levelAt (front ts)) vs (λ e. Nexts (front ts) n e)))
+      ∙ bind-where (reads loosest (rest (rest ts))) _ _
+      (λ (n, us) _. bind-where (expect "]" us) _ _ (λ (c, vs) _. sole max (length ts) (front ts) (levelAt (front ts)) vs (λ e. Nexts (front ts) n e)))
 
   pub starts-window : (o : Window) → roleAt (front ts) ≡ Windowed o → next "[" (rest ts) ≡ true → reads max ts ≡ (reads loosest (rest (rest ts)) >>= λ (x, us). resume (frame Low max (front ts)) x us)
   starts-window o h b =
       by-role (Windowed o) h
       ∙ ap (λ (q : Read Expr). q >>= λ (e, us). climbs max e us) (pick (next "[" (rest ts)) _ _ b)
-      ∙ bind-assoc (closedBy reads ":" (rest (rest ts))) _ _
+      ∙ bind-again (closedBy reads ":" (rest (rest ts))) _ _
       ∙ closed-then ":" _ (rest (rest ts))
-      ∙ bind-same (reads loosest (rest (rest ts))) _ _
-      (λ (n, us) _. bind-same (expect ":" us) _ _
-      (λ (c, vs) _. bind-assoc (closedBy reads "]" vs) _ _ ∙ closed-then "]" _ vs
-      ∙ bind-same (reads loosest vs) _ _
-      (λ (m, xs) _. bind-same (expect "]" xs) _ _
+      ∙ bind-where (reads loosest (rest (rest ts))) _ _
+      (λ (n, us) _. bind-where (expect ":" us) _ _
+      (λ (c, vs) _. bind-again (closedBy reads "]" vs) _ _ ∙ closed-then "]" _ vs
+      ∙ bind-where (reads loosest vs) _ _
+      (λ (m, xs) _. bind-where (expect "]" xs) _ _
       (λ (d, ys) _. sole max (length ts) (front ts) (levelAt (front ts)) ys (λ e. InWindow (front ts) o n m e)
-      ∙ bind-same (reads (levelAt (front ts)) ys) _ _ (λ (e, zs) _. ap (λ q. climbs max (InWindow (front ts) (windowOf q) n m e) zs) (sym h))))))
+      ∙ bind-where (reads (levelAt (front ts)) ys) _ _ (λ (e, zs) _. ap (λ q. climbs max (InWindow (front ts) (windowOf q) n m e) zs) (sym h))))))
 
   -- the tokens behind the first are fewer
   fewer : length (rest ts) < length ts
@@ -106,15 +106,15 @@ module _ (max : ℕ) (ts : Tokens) (r : PrefixRow) (row : prefixRow (front ts) �
   unfolding folds
   starts-fold o h z =
       by-role (Folding o) h
-      ∙ bind-assoc (expect "[" (rest ts)) _ _
-      ∙ bind-same (expect "[" (rest ts)) _ _
+      ∙ bind-again (expect "[" (rest ts)) _ _
+      ∙ bind-where (expect "[" (rest ts)) _ _
       (λ (c, us) e.
       let k = expect-shorter "[" (rest ts) c us e in
       let m = fewer in
-      bind-assoc (bindersOf (length ts) reads us) _ _
-      ∙ bind-same (bindersOf (length ts) reads us) _ _
+      bind-again (bindersOf (length ts) reads us) _ _
+      ∙ bind-where (bindersOf (length ts) reads us) _ _
       (λ (bs, vs) _. sole max (length ts) (front ts) (levelAt (front ts)) vs (λ e. over (front ts) o false bs e)
-      ∙ bind-same (reads (levelAt (front ts)) vs) _ _ (λ (e, xs) _. same-over max (front ts) bs e xs o (bigOf (roleAt (front ts))) false (eqb max 0) (sym (ap bigOf h)) (sym z)))
+      ∙ bind-where (reads (levelAt (front ts)) vs) _ _ (λ (e, xs) _. same-over max (front ts) bs e xs o (bigOf (roleAt (front ts))) false (eqb max 0) (sym (ap bigOf h)) (sym z)))
       ∙ ap (λ (q : Read (List Binder)). q >>= λ (bs, vs). reads (levelAt (front ts)) vs >>= λ (e, xs). climbs max (over (front ts) (bigOf (roleAt (front ts))) (eqb max 0) bs e) xs) (binders-fuel (length ts) (suc (length us)) us (omega arith) (omega arith)))
     where
       expect-shorter : (s : String) (us : Tokens) (c : Token) (vs : Tokens) → expect s us ≡ Done (c, vs) → length vs ≤ length us
@@ -135,16 +135,16 @@ module _ (max : ℕ) (t : Token) (ts : Tokens) where
       ∙ ap (λ (r : Read Binder). r >>= λ (b, us). afterBinder max t b us)
       (pick isMember (membershipOf reads ts) (boundsOf reads ts) h
       ∙ ap (λ (r : Read Token). r >>= λ (i, us). reads loosest (rest us) >>= λ (s, vs). Done (record { name = i; range = s }, vs)) (pick (isOf Name (front ts)) (Done (front ts, rest ts)) (stop ts) (and-left (isOf Name (front ts)) _ h))
-      ∙ bind-done (front ts, rest ts) _)
-      ∙ bind-assoc (reads loosest (rest (rest ts))) _ _ ∙ bind-same (reads loosest (rest (rest ts))) _ _ (λ (s, vs) _. bind-done (record { name = front ts; range = s }, vs) _)
+      ∙ bind-at (front ts, rest ts) _)
+      ∙ bind-again (reads loosest (rest (rest ts))) _ _ ∙ bind-where (reads loosest (rest (rest ts))) _ _ (λ (s, vs) _. bind-at (record { name = front ts; range = s }, vs) _)
 
   pub folds-bounds : isMember ≡ false → folds max t ts ≡ (reads 8 ts >>= λ (x, us). resume (frame Bound max t) x us)
   folds-bounds h =
       folds-step max t ts
       ∙ ap (λ (r : Read Binder). r >>= λ (b, us). afterBinder max t b us) (leave isMember (membershipOf reads ts) (boundsOf reads ts) h)
-      ∙ bind-assoc (reads 8 ts) _ _
-      ∙ bind-same (reads 8 ts) _ _
-      (λ (a, us) _. bind-assoc (signOf us) _ _ ∙ bind-same (signOf us) _ _
-      (λ (low, vs) _. bind-assoc (expectOf Name vs) _ _ ∙ bind-same (expectOf Name vs) _ _
-      (λ (i, ws) _. bind-assoc (signOf ws) _ _ ∙ bind-same (signOf ws) _ _
-      (λ (high, xs) _. bind-assoc (reads 8 xs) _ _ ∙ bind-same (reads 8 xs) _ _ (λ (b, ys) _. bind-done (record { name = i; range = Between (low .0) (low .1) (high .1) a b }, ys) _)))))
+      ∙ bind-again (reads 8 ts) _ _
+      ∙ bind-where (reads 8 ts) _ _
+      (λ (a, us) _. bind-again (signOf us) _ _ ∙ bind-where (signOf us) _ _
+      (λ (low, vs) _. bind-again (expectOf Name vs) _ _ ∙ bind-where (expectOf Name vs) _ _
+      (λ (i, ws) _. bind-again (signOf ws) _ _ ∙ bind-where (signOf ws) _ _
+      (λ (high, xs) _. bind-again (reads 8 xs) _ _ ∙ bind-where (reads 8 xs) _ _ (λ (b, ys) _. bind-at (record { name = i; range = Between (low .0) (low .1) (high .1) a b }, ys) _)))))

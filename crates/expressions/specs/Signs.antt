@@ -6,6 +6,7 @@ use mathlib.Core.Path.{_≡_, refl, sym, ap, _∙_}
 use lib.Dec.{eqb}
 use lib.ListN.{drop}
 use Rattle.node.specs.Result.{Done, _>>=_}
+use Rattle.node.specs.ResultLaws.{bind-at}
 use Rattle.language.specs.Tokens.{Token}
 use Rattle.language.specs.Grammar.{Tokens, Read, front, rest, stop, named, signOf}
 use Rattle.language.specs.Laws.Basics.Tests.{pick, leave}
@@ -15,7 +16,6 @@ use Rattle.entries.specs.declared.Cursor.{Cursor}
 use Rattle.entries.specs.Cursors.{Ready, kindAt}
 use Rattle.entries.specs.CursorLaws.{drop-next}
 use Rattle.entries.specs.TokenReads.{next-named}
-use Rattle.expressions.specs.ReaderLaws.{bind-done}
 use Rattle.expressions.specs.Frames.{isStrict}
 
 -- `<` and `LE`; these or `<=` and `LEQ`
@@ -47,7 +47,7 @@ module _ {ts : Tokens} {w : List ℕ} {c : Cursor} (ready : Ready ts w c) {B : T
   sign-here e = go (isStrict (front us)) refl
     where
       ends : (b : Bool) → isStrict (front us) ≡ b → signOf us ≡ Done ((front us, b), rest us) → (signOf us >>= K) ≡ K ((front us, isStrict (front us)), drop (c .at + 1) ts)
-      ends b z q = ap (λ (r : Read (Token × Bool)). r >>= K) q ∙ bind-done ((front us, b), rest us) K ∙ ap (λ a. K ((front us, a), rest us)) (sym z) ∙ ap (λ vs. K ((front us, isStrict (front us)), vs)) (sym (drop-next (c .at) ts))
+      ends b z q = ap (λ (r : Read (Token × Bool)). r >>= K) q ∙ bind-at ((front us, b), rest us) K ∙ ap (λ a. K ((front us, a), rest us)) (sym z) ∙ ap (λ vs. K ((front us, isStrict (front us)), vs)) (sym (drop-next (c .at) ts))
 
       go : (b : Bool) → isStrict (front us) ≡ b → (signOf us >>= K) ≡ K ((front us, isStrict (front us)), drop (c .at + 1) ts)
       go true z = ends true z (pick (isStrict (front us)) _ _ z)

@@ -9,6 +9,7 @@ use lib.Dec.{eqb, leb}
 use lib.ListN.{length}
 use borrow.Author.Tests.{ne-eqb}
 use Rattle.node.specs.Result.{Done, Refused, _>>=_}
+use Rattle.node.specs.ResultLaws.{bind-again, bind-at, bind-where}
 use Rattle.language.specs.Tokens.{Name, Numeral as Digits, Token}
 use Rattle.language.specs.Operators.{Size, Measures, PrefixRow, loosest}
 use Rattle.language.specs.Tree.{Expr, Named, Numeral, Truth, Index, Paren, Prefixed, Listed, Empty, Element, Range}
@@ -17,7 +18,7 @@ use Rattle.language.specs.Laws.Basics.Tests.{pick, leave}
 use Rattle.lexer.specs.Numbers.{number, fixed, classNumber}
 use Rattle.lexer.specs.NumberLaws.{is-number, class-number}
 use Rattle.expressions.specs.Readers.{reads, climbs, prefixRow, listed}
-use Rattle.expressions.specs.ReaderLaws.{bind-same, bind-assoc, bind-done, reads-step, reads-takes, rest-fits}
+use Rattle.expressions.specs.ReaderLaws.{reads-step, reads-takes, rest-fits}
 use Rattle.expressions.specs.ListLaws.{elements-listed}
 use Rattle.expressions.specs.Frames.{Round, Bars, Square, One, Two, frame, withFirst, resume, one, two}
 
@@ -80,10 +81,10 @@ starter n = eqb n 1 || (eqb n 2 || (eqb n (fixed "true") || (eqb n (fixed "false
 -- brackets around an expression
 closed-start : (max : ℕ) (s : String) (w : Expr → Expr) (ts : Tokens) → ((closedBy reads s ts >>= λ (e, us). Done (w e, us)) >>= λ (e, us). climbs max e us) ≡ (reads loosest ts >>= λ (x, us). expect s us >>= λ (c, vs). climbs max (w x) vs)
 closed-start max s w ts =
-    bind-assoc (closedBy reads s ts) _ _
-    ∙ bind-assoc (reads loosest ts) _ _
-    ∙ bind-same (reads loosest ts) _ _
-    (λ (x, us) _. bind-assoc (expect s us) _ _ ∙ bind-same (expect s us) _ _ (λ (c, vs) _. bind-done (x, vs) _ ∙ bind-done (w x, vs) _))
+    bind-again (closedBy reads s ts) _ _
+    ∙ bind-again (reads loosest ts) _ _
+    ∙ bind-where (reads loosest ts) _ _
+    (λ (x, us) _. bind-again (expect s us) _ _ ∙ bind-where (expect s us) _ _ (λ (c, vs) _. bind-at (x, vs) _ ∙ bind-at (w x, vs) _))
 
 -- a set, from its first element on
 module _ (max f : ℕ) (t : Token) (x : Expr) where
@@ -96,7 +97,7 @@ module _ (max f : ℕ) (t : Token) (x : Expr) where
           ≡ elim b [ true ↦ reads loosest (rest ts) >>= λ (z, us). expect "}" us >>= λ (c, vs). climbs max (Range t x y z) vs | false ↦ listed y ts >>= λ (l, us). expect "}" us >>= λ (c, vs). climbs max (Listed t (Element x l)) vs ]
       go true = closed-start max "}" (λ z. Range t x y z) (rest ts)
       go false =
-          bind-assoc (elements f reads ts) _ _ ∙ bind-same (elements f reads ts) _ _ (λ (es, us) _. bind-done (Listed t (Element x (Element y es)), us) _)
+          bind-again (elements f reads ts) _ _ ∙ bind-where (elements f reads ts) _ _ (λ (es, us) _. bind-at (Listed t (Element x (Element y es)), us) _)
           ∙ elements-listed f (suc (length ts)) y (λ l us. climbs max (Listed t (Element x l)) us) ts h (omega arith)
 
   after-one : (ts : Tokens) → length ts < f → (afterOne f reads t x ts >>= λ (e, us). climbs max e us) ≡ one (frame One max t) x ts
@@ -106,9 +107,9 @@ module _ (max f : ℕ) (t : Token) (x : Expr) where
           → (elim b [ true ↦ reads loosest (rest ts) >>= λ (y, us). afterTwo f reads t x y us | false ↦ expect "}" ts >>= λ (c, us). Done (Listed t (Element x Empty), us) ] >>= λ (e, us). climbs max e us)
           ≡ elim b [ true ↦ reads loosest (rest ts) >>= λ (y, us). two (withFirst Two (frame One max t) x) y us | false ↦ expect "}" ts >>= λ (c, us). climbs max (Listed t (Element x Empty)) us ]
       go true =
-          bind-assoc (reads loosest (rest ts)) _ _
-          ∙ bind-same (reads loosest (rest ts)) _ _ (λ (y, us) z. let k = reads-takes loosest (rest ts) y us z in let m = rest-fits ts in after-two y us (omega arith))
-      go false = bind-assoc (expect "}" ts) _ _ ∙ bind-same (expect "}" ts) _ _ (λ (c, us) _. bind-done (Listed t (Element x Empty), us) _)
+          bind-again (reads loosest (rest ts)) _ _
+          ∙ bind-where (reads loosest (rest ts)) _ _ (λ (y, us) z. let k = reads-takes loosest (rest ts) y us z in let m = rest-fits ts in after-two y us (omega arith))
+      go false = bind-again (expect "}" ts) _ _ ∙ bind-where (expect "}" ts) _ _ (λ (c, us) _. bind-at (Listed t (Element x Empty), us) _)
 
 -- the first token has the number n, and no row of Table 1 that begins an operand
 module _ (max : ℕ) (ts : Tokens) (none-here : prefixRow (front ts) ≡ none) where
@@ -118,13 +119,13 @@ module _ (max : ℕ) (ts : Tokens) (none-here : prefixRow (front ts) ≡ none) w
       ∙ ap (λ (r : Read Expr). r >>= λ (e, us). climbs max e us) (atom-number (length ts) (front ts) (rest ts) ∙ ap (λ k. atomAt (length ts) k (front ts) (rest ts)) h)
 
   pub starts-numeral : number (front ts) ≡ 2 → reads max ts ≡ climbs max (Numeral (front ts)) (rest ts)
-  starts-numeral h = at-number 2 h ∙ bind-done (Numeral (front ts), rest ts) _
+  starts-numeral h = at-number 2 h ∙ bind-at (Numeral (front ts), rest ts) _
 
   pub starts-true : number (front ts) ≡ fixed "true" → reads max ts ≡ climbs max (Truth (front ts) true) (rest ts)
-  starts-true h = at-number (fixed "true") h ∙ bind-done (Truth (front ts) true, rest ts) _
+  starts-true h = at-number (fixed "true") h ∙ bind-at (Truth (front ts) true, rest ts) _
 
   pub starts-false : number (front ts) ≡ fixed "false" → reads max ts ≡ climbs max (Truth (front ts) false) (rest ts)
-  starts-false h = at-number (fixed "false") h ∙ bind-done (Truth (front ts) false, rest ts) _
+  starts-false h = at-number (fixed "false") h ∙ bind-at (Truth (front ts) false, rest ts) _
 
   pub starts-round : number (front ts) ≡ fixed "(" → reads max ts ≡ (reads loosest (rest ts) >>= λ (x, us). resume (frame Round max (front ts)) x us)
   starts-round h = at-number (fixed "(") h ∙ closed-start max ")" (λ e. Paren (front ts) e) (rest ts)
@@ -134,7 +135,7 @@ module _ (max : ℕ) (ts : Tokens) (none-here : prefixRow (front ts) ≡ none) w
 
   -- a name, alone or with an index
   pub starts-name : number (front ts) ≡ 1 → next "[" (rest ts) ≡ false → reads max ts ≡ climbs max (Named (front ts)) (rest ts)
-  starts-name h b = at-number 1 h ∙ ap (λ (r : Read Expr). r >>= λ (e, us). climbs max e us) (leave (next "[" (rest ts)) _ _ b) ∙ bind-done (Named (front ts), rest ts) _
+  starts-name h b = at-number 1 h ∙ ap (λ (r : Read Expr). r >>= λ (e, us). climbs max e us) (leave (next "[" (rest ts)) _ _ b) ∙ bind-at (Named (front ts), rest ts) _
 
   pub starts-index : number (front ts) ≡ 1 → next "[" (rest ts) ≡ true → reads max ts ≡ (reads loosest (rest (rest ts)) >>= λ (x, us). resume (frame Square max (front ts)) x us)
   starts-index h b =
@@ -144,13 +145,13 @@ module _ (max : ℕ) (ts : Tokens) (none-here : prefixRow (front ts) ≡ none) w
   -- a set without elements, or with some
   pub starts-empty : number (front ts) ≡ fixed "{" → next "}" (rest ts) ≡ true → reads max ts ≡ climbs max (Listed (front ts) Empty) (rest (rest ts))
   starts-empty h b =
-      at-number (fixed "{") h ∙ ap (λ (r : Read Expr). r >>= λ (e, us). climbs max e us) (pick (next "}" (rest ts)) _ _ b) ∙ bind-done (Listed (front ts) Empty, rest (rest ts)) _
+      at-number (fixed "{") h ∙ ap (λ (r : Read Expr). r >>= λ (e, us). climbs max e us) (pick (next "}" (rest ts)) _ _ b) ∙ bind-at (Listed (front ts) Empty, rest (rest ts)) _
 
   pub starts-set : number (front ts) ≡ fixed "{" → next "}" (rest ts) ≡ false → reads max ts ≡ (reads loosest (rest ts) >>= λ (x, us). resume (frame One max (front ts)) x us)
   starts-set h b =
       at-number (fixed "{") h ∙ ap (λ (r : Read Expr). r >>= λ (e, us). climbs max e us) (leave (next "}" (rest ts)) _ _ b)
-      ∙ bind-assoc (reads loosest (rest ts)) _ _
-      ∙ bind-same (reads loosest (rest ts)) _ _ (λ (x, us) z. let k = reads-takes loosest (rest ts) x us z in let m = rest-fits ts in after-one max (length ts) (front ts) x us (omega arith))
+      ∙ bind-again (reads loosest (rest ts)) _ _
+      ∙ bind-where (reads loosest (rest ts)) _ _ (λ (x, us) z. let k = reads-takes loosest (rest ts) x us z in let m = rest-fits ts in after-one max (length ts) (front ts) x us (omega arith))
 
   -- nothing begins here
   pub starts-not : ((k : ℕ) → starter k ≡ true → number (front ts) ≡ k → ⊥) → reads max ts ≡ stop ts

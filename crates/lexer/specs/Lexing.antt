@@ -7,6 +7,7 @@ use mathlib.Core.Path.{_≡_, refl, ap, _∙_}
 use lib.Dec.{leb}
 use lib.ListN.{length}
 use Rattle.node.specs.Result.{Result, Done, _>>=_, guard}
+use Rattle.node.specs.ResultLaws.{bind-at}
 use Rattle.language.specs.Limits.{maxBytes}
 use Rattle.language.specs.Tokens.{Token, tokens}
 use Rattle.language.specs.Tree.{Spec}
@@ -31,10 +32,6 @@ unfolding refuseAt _>>=_
 refuseAt-then number none r k = refl
 refuseAt-then number (some p) r k = refl
 
-done-then : {A B : Type 0} (a : A) (k : A → Result B) → Done a >>= k ≡ k a
-unfolding _>>=_
-done-then a k = refl
-
 -- the tree of a text is read from its tokens
 pub parsed-lexed : (text : List ℕ) → lexing text >>= (λ ts. specOf ts >>= wellFormed) ≡ parsed text
 unfolding lexing parsed
@@ -44,4 +41,4 @@ parsed-lexed text =
     guard-then (leb (length text) maxBytes) 1 maxBytes _ k
     ∙ ap (guard (leb (length text) maxBytes) 1 maxBytes)
     (refuseAt-then 2 (noToken ts) _ k
-    ∙ ap (refuseAt 2 (noToken ts)) (refuseAt-then 3 (tooManyTokens ts) _ k ∙ ap (refuseAt 3 (tooManyTokens ts)) (done-then ts k)))
+    ∙ ap (refuseAt 2 (noToken ts)) (refuseAt-then 3 (tooManyTokens ts) _ k ∙ ap (refuseAt 3 (tooManyTokens ts)) (bind-at ts k)))

@@ -4,7 +4,7 @@ use mathlib.Core.List.{List}
 use mathlib.Core.Path.{_≡_, subst}
 use Rattle.node.specs.Ltl.{Formula}
 use Rattle.node.specs.Result.{Done, Refused}
-use Rattle.node.specs.ResultLaws.{bind-done}
+use Rattle.node.specs.ResultLaws.{bind-done, bind-to}
 use Rattle.language.specs.Tree.{Part, Spec}
 use Rattle.language.specs.Declared.{Declarations}
 use Rattle.language.specs.Lines.{Line, lines}
@@ -16,7 +16,6 @@ use Rattle.assembly.specs.Layout.{Assembles}
 use Rattle.assembly.specs.ExpandLaws.{linesInTurn, Expands, expands, expand-refused}
 use Rattle.lines.specs.Gathering.{Answered}
 use Rattle.lines.specs.Whole.{Given, SomeGiven, Gathers}
-use Rattle.lines.specs.LineLaws.{then-done}
 use Rattle.lines.specs.declared.Gathering.{Gathering}
 use Rattle.lines.specs.declared.Gathering.the-variants.{Lines}
 
@@ -24,7 +23,7 @@ use Rattle.lines.specs.declared.Gathering.the-variants.{Lines}
 expansion-of : (x : Spec) (d : Declarations) (ls : List (Part × List Line)) {fs : List (Part × Formula)} → linesInTurn x d ls ≡ Done fs → (f : Formula) × (expand x d ls ≡ Done f)
 expansion-of x d ls e =
     let b = bind-done (gather (expandSection (defineAll (atSignals d) (x .definitions))) ls) (λ ss. Done (inTurn ss)) e in
-    (whole (x .strict) (section (b .0)), then-done (λ ss. Done (whole (x .strict) (section ss))) (b .1))
+    (whole (x .strict) (section (b .0)), bind-to _ _ (λ ss. Done (whole (x .strict) (section ss))) (b .1))
 
 module _ {s : Source} {st : State} {b : Tables} {table′ words words′ enumerations order : List ℕ} {entries ins ports : ℕ} {r : Gathering} (g : Gathers s st b table′ words words′ enumerations order entries ins ports r) where
   answer-is : {a : Gathering} → r ≡ a → {x : Spec} {d : Declarations} → Given s st b words enumerations order entries ins ports x d → Answered (λ n m all. GatheredFrom (b .at) all words′ n table′ m) a (linesInTurn x d (lines x d))

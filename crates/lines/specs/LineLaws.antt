@@ -1,12 +1,13 @@
 -- One line: what the expansion asks for is there, and its formula stands behind the others.
 use Prim.Native.Nat.{ℕ, _+_, _≤_}
 use mathlib.Core.List.{List, [], _∷_, _++_}
-use mathlib.Core.Path.{_≡_, refl, ap, subst}
+use mathlib.Core.Path.{_≡_, refl, subst}
 use native.Mathlib.Omega.{arith}
 use lib.ListN.{length}
 use Rattle.node.specs.Limits.{maxNodes}
 use Rattle.node.specs.Ltl.{Formula}
-use Rattle.node.specs.Result.{Result, Done, _>>=_}
+use Rattle.node.specs.Result.{Done}
+use Rattle.node.specs.ResultLaws.{bind-refused, bind-to}
 use Rattle.language.specs.Tree.{Expr, Part, Spec}
 use Rattle.language.specs.Declared.{Declarations}
 use Rattle.language.specs.Numbering.{inOrder}
@@ -23,14 +24,6 @@ use Rattle.assembly.specs.GatheredLaws.{line-room, line-fits}
 use Rattle.lines.specs.Gathering.{lineContext, world, Sizes, AtLine, SomeLine, WritesLine}
 use Rattle.lines.specs.declared.Gathering.{Gathering}
 use Rattle.lines.specs.declared.Gathering.the-variants.{Lines}
-
-pub then-done : {A B : Type 0} {r : Result A} {a : A} (k : A → Result B) → r ≡ Done a → (r >>= k) ≡ k a
-unfolding _>>=_
-then-done k e = ap (λ r. r >>= k) e
-
-pub then-refused : {A B : Type 0} {r : Result A} {n p : ℕ} (k : A → Result B) → r ≡ Result.Refused n p → (r >>= k) ≡ Result.Refused n p
-unfolding _>>=_
-then-refused k e = ap (λ r. r >>= k) e
 
 module _ {s : Source} {st : State} {b : Tables} {words : List ℕ} {count entries part k : ℕ} where
   line-expands : {start : ℕ} {x : Spec} {d : Declarations} {ls : List (Part × Formula)} {p : Part} {e : Expr} → AtLine s st b words count entries part k start x d ls p e
@@ -90,7 +83,7 @@ module _ {s : Source} {st : State} {b : Tables} {words : List ℕ} {count entrie
           record {
             says = record {
               all = ls ++ ((p, w .0) ∷ []);
-              are = then-done (λ f. Done (ls ++ ((p, f) ∷ []))) (w .1 .0);
+              are = bind-to _ _ (λ f. Done (ls ++ ((p, f) ∷ []))) (w .1 .0);
               told = record {
                 noted = w .1 .1 .noted;
                 lasting = w .1 .1 .lasting;
@@ -103,5 +96,5 @@ module _ {s : Source} {st : State} {b : Tables} {words : List ℕ} {count entrie
 
     pub line-refused : {n p : ℕ} → r ≡ Written.Refused n p → {words′ : List ℕ} → WritesLine s st st′ b written′ table′ words words′ count entries part k (Gathering.Refused n p)
     line-refused q = record {
-      says = λ {start} {x} {d} {ls} {p} a. record { says = then-refused (λ f. Done (ls ++ ((p, f) ∷ []))) (line-answered q a .says) };
+      says = λ {start} {x} {d} {ls} {p} a. record { says = bind-refused _ _ _ (λ f. Done (ls ++ ((p, f) ∷ []))) (line-answered q a .says) };
     }

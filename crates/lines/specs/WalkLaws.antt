@@ -7,7 +7,7 @@ use native.Mathlib.Numerals.{add-one}
 use lib.ListN.{length, length-map}
 use Rattle.node.specs.Ltl.{Formula}
 use Rattle.node.specs.Result.{Result, Done, Refused, _>>=_}
-use Rattle.node.specs.ResultLaws.{not-done}
+use Rattle.node.specs.ResultLaws.{not-done, bind-value}
 use Rattle.language.specs.Tokens.{Token, tokens}
 use Rattle.language.specs.Tree.{Expr, Part, Spec}
 use Rattle.language.specs.Declared.{Declarations}
@@ -22,7 +22,6 @@ use Rattle.expander.specs.Expanding.{Tables}
 use Rattle.lines.specs.Items.{Item, Passed, Heads, Line, items, entryOf, Headed, worked}
 use Rattle.lines.specs.ItemLaws.{items-entries, items-headed}
 use Rattle.lines.specs.PassedLaws.{items-other}
-use Rattle.lines.specs.WorkedLaws.{bind-same}
 use Rattle.lines.specs.KnownLines.{lines-known}
 use Rattle.lines.specs.Gathering.{lineContext, Reached, Sizes, Lengths, AtLine, SomeLine, Answered, then, WritesLine, Begins, SomeTree, WritesLines, Ahead, Progress, Walking}
 use Rattle.lines.specs.declared.Gathering.{Gathering}
@@ -168,7 +167,7 @@ module _ {s : Source} {st₀ : State} {b : Tables} {words₀ : List ℕ} {entrie
           reached = h .reached;
           rest = items x;
           ahead = record {
-            split = bind-same (worked (lineContext x d) (items x));
+            split = sym (bind-value (worked (lineContext x d) (items x)));
             there = subst (EntriesFrom (s .work) (tokens (s .text)) 0) (sym (items-entries x)) (t .stored .stored);
             total = omega (arith, length-map (items x) entryOf, ap length (items-entries x), t .stored .total);
             other = items-other x;

@@ -7,6 +7,7 @@ use lib.ListN.{length}
 use Rattle.node.specs.Limits.{maxNodes}
 use Rattle.node.specs.Ltl.{Formula}
 use Rattle.node.specs.Result.{Done, Refused, _>>=_}
+use Rattle.node.specs.ResultLaws.{bind-refused, bind-to}
 use Rattle.language.specs.Limits.{workBytes}
 use Rattle.language.specs.Tree.{Part, Require, Assert, partCode, Spec}
 use Rattle.language.specs.Declared.{Port, Declarations}
@@ -23,7 +24,6 @@ use Rattle.assembly.specs.declared.implied.Ends.{Ends}
 use Rattle.lines.specs.Items.{items, worked}
 use Rattle.lines.specs.WorkedLaws.{sections-in-turn}
 use Rattle.lines.specs.Gathering.{lineContext, SomeTree, WritesLines}
-use Rattle.lines.specs.LineLaws.{then-done, then-refused}
 use Rattle.lines.specs.Whole.{Given, SomeGiven, Gathers}
 use Rattle.lines.specs.declared.Gathering.{Gathering}
 use Rattle.lines.specs.declared.Gathering.the-variants.{Lines}
@@ -37,7 +37,7 @@ module _ (x : Spec) (d : Declarations) where
   lines-in-turn {ls} e =
       let c = lineContext x d in
       sections-in-turn c x ((Require, implied (d .inputs)) ∷ (Assert, implied (d .outputs)) ∷ [])
-      ∙ then-done (λ fs. gather (expandSection c) ((Require, implied (d .inputs)) ∷ (Assert, implied (d .outputs)) ∷ []) >>= λ u. Done (fs ++ inTurn u)) e
+      ∙ bind-to _ _ (λ fs. gather (expandSection c) ((Require, implied (d .inputs)) ∷ (Assert, implied (d .outputs)) ∷ []) >>= λ u. Done (fs ++ inTurn u)) e
       ∙ implied-behind c ls (d .inputs) (d .outputs)
       ∙ ap (λ (ps : List Port). Done ((ls ++ map (λ f. (Require, f)) (impliedFormulas ps (d .inputs))) ++ map (λ f. (Assert, f)) (impliedFormulas ps (d .outputs)))) (defined-ports (x .definitions) (atSignals d))
 
@@ -45,7 +45,7 @@ module _ (x : Spec) (d : Declarations) where
   lines-refused e =
       let c = lineContext x d in
       sections-in-turn c x ((Require, implied (d .inputs)) ∷ (Assert, implied (d .outputs)) ∷ [])
-      ∙ then-refused (λ fs. gather (expandSection c) ((Require, implied (d .inputs)) ∷ (Assert, implied (d .outputs)) ∷ []) >>= λ u. Done (fs ++ inTurn u)) e
+      ∙ bind-refused _ _ _ (λ fs. gather (expandSection c) ((Require, implied (d .inputs)) ∷ (Assert, implied (d .outputs)) ∷ []) >>= λ u. Done (fs ++ inTurn u)) e
 
 -- buses at a later index: signals have numbers there only if they have before
 module _ (text w enumerations order firsts : List ℕ) (ps : List Port) (m n : ℕ) (h : n ≤ maxNodes → m ≤ maxNodes) where

@@ -1,21 +1,15 @@
 -- The formulas of the lines as the walk meets them are those of the sections.
-use Prim.Native.Nat.{_+_}
 use mathlib.Core.List.{List, [], _∷_, _++_, map, append-assoc}
 use mathlib.Core.Path.{_≡_, refl, sym, ap, _∙_}
 use Rattle.node.specs.Ltl.{Formula}
 use Rattle.node.specs.Result.{Result, Done, Refused, _>>=_}
+use Rattle.node.specs.ResultLaws.{bind-value}
 use Rattle.language.specs.Tree.{Expr, Part, Subsection, Inputs, Outputs, Lines, Spec}
 use Rattle.language.specs.Lines.{Line as SectionLine, Written, writtenLines}
 use Rattle.language.specs.Expansion.{Context, expansion, gather, expandLine, expandSection, Sections}
 use Rattle.entries.specs.Flat.{Entry, flat, each, flatParameter, flatDefinition, flatDeclaration}
 use Rattle.assembly.specs.Gathered.{inTurn}
 use Rattle.lines.specs.Items.{Item, Passed, Line, itemsEach, lineItems, subsectionItems, items, worked}
-
--- nothing stands before the rest
-pub bind-same : {A : Type 0} (r : Result A) → r ≡ (r >>= λ a. Done a)
-unfolding _>>=_
-bind-same (Done a) = refl
-bind-same (Refused n p) = refl
 
 module _ (c : Context) where
   worked-passed : (es : List Entry) (is : List Item) → worked c (map Passed es ++ is) ≡ worked c is
@@ -34,7 +28,7 @@ module _ (c : Context) where
   worked-lines : (p : Part) (es : List Expr) (is : List Item)
       → worked c (itemsEach (lineItems p) es ++ is) ≡ (gather (expandLine c) (map Written es) >>= λ fs. worked c is >>= λ gs. Done (map (λ g. (p, g)) fs ++ gs))
   unfolding _>>=_
-  worked-lines p [] is = bind-same (worked c is)
+  worked-lines p [] is = sym (bind-value (worked c is))
   worked-lines p (e ∷ es) is =
       ap (worked c) (append-assoc (lineItems p e) (itemsEach (lineItems p) es) is ∙ append-assoc (map Passed (flat e)) (Line p e ∷ []) (itemsEach (lineItems p) es ++ is))
       ∙ worked-passed (flat e) (Line p e ∷ (itemsEach (lineItems p) es ++ is))

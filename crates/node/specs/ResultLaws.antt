@@ -28,3 +28,34 @@ pub bind-done : {A B : Type 0} (r : Result A) (k : A → Result B) {b : B} → r
 unfolding _>>=_
 bind-done (Done a) k e = (a, refl, e)
 bind-done (Refused n p) k e = absurd (not-done e)
+
+-- what comes behind a value, and behind a refusal
+pub bind-to : {A B : Type 0} (r : Result A) (a : A) (k : A → Result B) → r ≡ Done a → r >>= k ≡ k a
+unfolding _>>=_
+bind-to r a k e = rw e
+
+pub bind-at : {A B : Type 0} (a : A) (k : A → Result B) → Done a >>= k ≡ k a
+bind-at a k = bind-to (Done a) a k refl
+
+pub bind-refused : {A B : Type 0} (r : Result A) (number place : ℕ) (k : A → Result B) → r ≡ Refused number place → r >>= k ≡ Refused number place
+unfolding _>>=_
+bind-refused r number place k e = rw e
+
+-- a step replaced by an equal one, where it comes to it; steps regrouped; a step that does nothing
+pub bind-where : {A B : Type 0} (r : Result A) (k h : A → Result B) → ((a : A) → r ≡ Done a → k a ≡ h a) → r >>= k ≡ r >>= h
+unfolding _>>=_
+bind-where (Done a) k h e = e a refl
+bind-where (Refused n p) k h e = refl
+
+pub bind-same : {A B : Type 0} (r : Result A) (k h : A → Result B) → ((a : A) → k a ≡ h a) → r >>= k ≡ r >>= h
+bind-same r k h e = bind-where r k h (λ a _. e a)
+
+pub bind-again : {A B C : Type 0} (r : Result A) (k : A → Result B) (h : B → Result C) → (r >>= k) >>= h ≡ r >>= λ a. k a >>= h
+unfolding _>>=_
+bind-again (Done a) k h = refl
+bind-again (Refused n p) k h = refl
+
+pub bind-value : {A : Type 0} (r : Result A) → (r >>= λ a. Done a) ≡ r
+unfolding _>>=_
+bind-value (Done a) = refl
+bind-value (Refused n p) = refl

@@ -1,24 +1,23 @@
 -- The entries chosen in a text's outline are those of its parameters, of its inputs, of its outputs, one for each in order.
 use Prim.Native.Nat.{ℕ, suc, _+_, _-_, _≤_, _<_}
-use mathlib.Core.Bool.{Bool, true, false, _&&_, false≢true}
+use mathlib.Core.Bool.{Bool, true, false, _&&_}
 use mathlib.Core.List.{List, [], _∷_, _++_, append-assoc, append-nil}
-use mathlib.Core.Option.{Option, none, some}
+use mathlib.Core.Option.{Option, some}
 use mathlib.Core.Path.{_≡_, refl, sym, ap, ap₂, _∙_, subst}
 use native.Mathlib.Omega.{arith}
 use lib.Dec.{eqb, leb}
 use lib.ListN.{length, length-append}
-use borrow.Author.Tests.{eq-eqb, ne-eqb, eqb-true, eqb-false, lt-leb, le-leb}
+use borrow.Author.Tests.{eq-eqb, ne-eqb, eqb-true, eqb-false, lt-leb}
 use Rattle.language.specs.Tokens.{Token}
 use Rattle.language.specs.Tree.{Expr, Named, Identifier, Parameter, Definition, Defined, Enumerated, Declaration, OneSignal, OfWidth, OfType, Part, Initially, Preset, Require, Assert, Assume, Guarantee, partCode, Subsection, Inputs, Outputs, Lines, Spec}
 use Rattle.language.specs.Declared.{inputs, outputs}
 use Rattle.language.specs.Laws.Basics.Lists.{All, all-append, all-more}
 use Rattle.language.specs.Laws.Basics.Tests.{pick, leave}
-use Rattle.language.specs.Laws.Values.DistinctNames.{declaredName}
 use Rattle.language.specs.Laws.Values.PortLaws.{Pairs}
 use Rattle.entries.specs.Kinds as Kind
 use Rattle.entries.specs.Flat.{Entry, under, leaf, flat, each, flatParameter, flatIdentifier, flatDefinition, flatDeclaration, flatLine, head, flatSubsection, outline}
-use Rattle.values.specs.Worked.{EachFrom, definitionsStart, mainStart}
-use Rattle.notes.specs.Inside.{Inside, flat-inside}
+use Rattle.values.specs.Worked.{EachFrom, mainStart}
+use Rattle.notes.specs.Inside.{flat-inside}
 use Rattle.notes.specs.Chosen.{noHeading, Choice, choice, takes, chosen}
 
 module _ (c : Choice) (heading : ℕ) where

@@ -1,19 +1,19 @@
 -- What the names of a text are in the table before any turn, and which of them name no enumeration: by the entries that declare them.
 use Prim.Native.Nat.{ℕ, suc, _+_, _<_}
-use mathlib.Core.Bool.{Bool, true, false, false≢true}
-use mathlib.Core.List.{List, [], _∷_, _++_, map, append-assoc}
+use mathlib.Core.Bool.{true, false≢true}
+use mathlib.Core.List.{List, [], _∷_, _++_}
 use mathlib.Core.Option.{Option, none, some}
-use mathlib.Core.Path.{_≡_, refl, sym, ap, _∙_, subst}
+use mathlib.Core.Path.{_≡_, refl, sym, _∙_, subst}
 use native.Mathlib.Omega.{arith}
 use lib.ListN.{length}
-use Rattle.node.specs.Result.{Result, Done, Refused}
+use Rattle.node.specs.Result.{Done, Refused}
 use Rattle.language.specs.Bytes.{same}
 use Rattle.language.specs.Tokens.{Token}
 use Rattle.language.specs.Tree.{Expr, Named, Identifier, Parameter, Definition, Defined, Enumerated, Declaration, OneSignal, OfWidth, OfType, Subsection, Inputs, Outputs, Lines, Spec}
 use Rattle.language.specs.Places.{parameterLines, definitionLines, mainLines}
 use Rattle.language.specs.Names.{identifierNames, declares as declaresLine, over, declaredAgain}
 use Rattle.language.specs.Declared.{Declared, Single, WaitingBus, Table, find, identified, identifiers, wordsOfType, waiting, inputs, outputs}
-use Rattle.language.specs.Laws.Basics.Lists.{All, all-any, all-more, all-append, all-left, all-right, all-both, all-swap}
+use Rattle.language.specs.Laws.Basics.Lists.{All, all-any, all-more, all-left, all-right, all-both, all-swap}
 use Rattle.language.specs.Laws.Basics.Tests.{pick, leave, same-refl}
 use Rattle.language.specs.Laws.Values.DistinctNames.{Apart, Distinct, Across, apart-sym, across, distinct-left, distinct-right, declaredName, declaredNames, signals-among, distinct-names, distinct-definitions, distinct-signals}
 use Rattle.entries.specs.Kinds as Kind
@@ -22,7 +22,7 @@ use Rattle.names.specs.Roles.{declares}
 use Rattle.names.specs.Scan.{tokenOf}
 use Rattle.names.specs.Walkable.{entryOf}
 use Rattle.names.specs.Declaring.{Inner, inner-flat}
-use Rattle.values.specs.VisibleLaws.{ownNames, behind-parameters, of-definitions, over-definitions, main-apart}
+use Rattle.values.specs.ElsewhereLaws.{ownNames, behind-parameters, over-definitions, main-apart}
 use Rattle.values.specs.Entrywise.{Every, every-append, every-each, every-all, every-at}
 use Rattle.values.specs.DeclaringLaws.{words-inner}
 

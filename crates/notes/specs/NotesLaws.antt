@@ -3,21 +3,19 @@ use Prim.Native.Nat.{ℕ, _+_, _-_, _<_}
 use mathlib.Core.Bool.{Bool, true, false}
 use mathlib.Core.List.{List, [], _∷_}
 use mathlib.Core.Option.{none}
-use mathlib.Core.Path.{_≡_, refl, sym, ap, ap₂, _∙_, subst}
-use native.Mathlib.Omega.{arith}
+use mathlib.Core.Path.{_≡_, refl, sym, ap, _∙_, subst}
 use lib.Dec.{eqb}
 use lib.ListN.{length, getD, set}
 use lib.Seq.{getD-set-same, getD-set-other}
 use borrow.Author.Tests.{eqb-true, eqb-false}
-use Rattle.node.specs.Result.{Result, Done}
 use Rattle.language.specs.Bytes.{same}
 use Rattle.language.specs.Limits.{maxNames}
 use Rattle.language.specs.Tokens.{Token}
 use Rattle.language.specs.Grammar.{Tokens}
 use Rattle.language.specs.Tree.{Expr, Definition, Defined, Enumerated, Spec}
-use Rattle.language.specs.Names.{Names, visible, declares, over, declaredAgain}
+use Rattle.language.specs.Names.{visible, declares, over, declaredAgain}
 use Rattle.language.specs.Places.{allLines}
-use Rattle.language.specs.Declared.{Declared, Table, find, Port}
+use Rattle.language.specs.Declared.{Declared, Table, Port}
 use Rattle.language.specs.Expansion.{Context, contextOf, define}
 use Rattle.language.specs.Laws.Basics.Lists.{All, all-more, all-any}
 use Rattle.language.specs.Laws.Basics.Tests.{pick, leave, same-refl}
@@ -25,8 +23,8 @@ use Rattle.language.specs.Laws.Values.DistinctNames.{Apart, Distinct, apart-sym
 use Rattle.entries.specs.Flat.{flat, flatDefinition}
 use Rattle.names.specs.References.{numberIn}
 use Rattle.names.specs.Resolved.{declaredNames}
-use Rattle.values.specs.World.{Meaning, Stands, Defines, NoValue, World, meaningAt}
-use Rattle.values.specs.Worlds.{inTable, behind, meaning, worldOf}
+use Rattle.values.specs.World.{Meaning, Stands, Defines, NoValue, meaningAt}
+use Rattle.values.specs.Worlds.{inTable, behind, meaning}
 use Rattle.values.specs.WorldsLaws.{Elsewhere}
 use Rattle.values.specs.Worked.{definitionsStart, worldIn}
 use Rattle.notes.specs.Notes.{Note, Notes}

@@ -5,12 +5,12 @@ use mathlib.Core.List.{List, [], _∷_}
 use mathlib.Core.Path.{_≡_, refl, sym, ap, _∙_, subst}
 use native.Mathlib.Omega.{arith}
 use lib.Dec.{eqb, leb, ltb}
-use lib.ListN.{length, getD, set, length-set}
+use lib.ListN.{length, getD, set}
 use lib.Seq.{getD-set-same, getD-set-other}
-use borrow.Author.Tests.{leb-true, ltb-true, ltb-false, le-leb}
-use Rattle.node.specs.Result.{Result, Done, Refused}
+use borrow.Author.Tests.{leb-true, ltb-true, ltb-false}
+use Rattle.node.specs.Result.{Result}
 use Rattle.words.specs.Words.{wordAt}
-use Rattle.language.specs.Limits.{maxNames, maxTokens, workBytes}
+use Rattle.language.specs.Limits.{maxNames, maxTokens}
 use Rattle.language.specs.Tokens.{Token, tokens}
 use Rattle.language.specs.Grammar.{Tokens}
 use Rattle.language.specs.Tree.{Spec}
@@ -30,8 +30,8 @@ use Rattle.values.specs.Worked.{worldIn}
 use Rattle.values.specs.Sorts as Sort
 use Rattle.values.specs.DeclaringLaws.{declared-by, undeclared}
 use Rattle.values.specs.IdentifierLaws.{identifier-at}
-use Rattle.notes.specs.Notes.{WordsAt, Note, Notes}
-use Rattle.notes.specs.FirstTable.{firstTable, First, first-at}
+use Rattle.notes.specs.Notes.{WordsAt, Note}
+use Rattle.notes.specs.FirstTable.{firstTable, first-at}
 
 -- the note of a name by the kind of the entry k that declares it
 pub record Sorted (kind k sort n : ℕ) : Type 0 where

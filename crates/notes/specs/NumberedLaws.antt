@@ -1,7 +1,7 @@
 -- Lists by number, of which the last stands first, when what stands for the names changes.
-use Prim.Native.Nat.{ℕ, _<_}
+use Prim.Native.Nat.{ℕ}
 use mathlib.Core.Bool.{Bool, true, false, _||_, false≢true}
-use mathlib.Core.List.{List, [], _∷_, _++_, map}
+use mathlib.Core.List.{List, [], _∷_, map}
 use mathlib.Core.Path.{_≡_, refl, sym, ap, _∙_, subst}
 use native.Mathlib.Omega.{arith}
 use lib.Dec.{eqb}
@@ -10,7 +10,7 @@ use borrow.Author.Tests.{eqb-true, eqb-false, ne-eqb}
 use Rattle.language.specs.Bytes.{same}
 use Rattle.language.specs.Tokens.{Token}
 use Rattle.language.specs.Names.{Names, visible}
-use Rattle.language.specs.Laws.Basics.Lists.{All, all-more, all-right}
+use Rattle.language.specs.Laws.Basics.Lists.{All, all-more}
 use Rattle.language.specs.Laws.Basics.Tests.{leave, same-equal}
 use Rattle.language.specs.Laws.Values.DistinctNames.{Apart, Distinct, Across, apart-sym}
 use Rattle.names.specs.References.{numberIn}

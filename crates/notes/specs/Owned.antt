@@ -2,12 +2,12 @@
 use Prim.Native.Nat.{ℕ, suc, _+_, _-_, _<_}
 use mathlib.Core.Bool.{true, false}
 use mathlib.Core.List.{List, [], _∷_, _++_, append-assoc, append-nil}
-use mathlib.Core.Option.{Option, none, some}
-use mathlib.Core.Path.{_≡_, refl, sym, ap, _∙_, subst}
+use mathlib.Core.Option.{none, some}
+use mathlib.Core.Path.{_≡_, refl, sym, _∙_, subst}
 use native.Mathlib.Omega.{arith}
 use lib.ListN.{length, getD, length-append}
 use Rattle.language.specs.Tokens.{Token, tokens}
-use Rattle.language.specs.Tree.{Expr, Named, Identifier, Parameter, Definition, Defined, Enumerated, Declaration, OneSignal, OfWidth, OfType, partCode, Subsection, Inputs, Outputs, Lines, Spec}
+use Rattle.language.specs.Tree.{Expr, Named, Identifier, Parameter, Definition, Defined, Enumerated, Declaration, OneSignal, OfWidth, OfType, Subsection, Inputs, Outputs, Lines, Spec}
 use Rattle.language.specs.Laws.Basics.Lists.{All, all-append}
 use Rattle.language.specs.Laws.Values.DistinctNames.{declaredName}
 use Rattle.entries.specs.Kinds as Kind
@@ -22,7 +22,7 @@ use Rattle.names.specs.Refers.{run-one}
 use Rattle.names.specs.Resolved.{Stored, declaredNames, Resolved}
 use Rattle.names.specs.ResolvedLaws.{resolved-expr, resolved-entry}
 use Rattle.values.specs.Passing.{Left, left-same, left-all, pass-entry, pass-line}
-use Rattle.values.specs.Worked.{definitionsStart, mainStart, Worked, EachFrom, Parameterwise, Declarationwise, Linewise, Subsectionwise, TreeWorked}
+use Rattle.values.specs.Worked.{definitionsStart, mainStart, Worked, EachFrom, Parameterwise, Declarationwise, Subsectionwise, TreeWorked}
 use Rattle.notes.specs.ChosenLaws.{InSubsection}
 
 -- entry k declares the name t

@@ -3,30 +3,16 @@ use Prim.Native.Nat.{ℕ, suc}
 use mathlib.Core.List.{List, [], _∷_, _++_}
 use mathlib.Core.Bool.{true, false}
 use mathlib.Core.Option.{some}
-use mathlib.Core.Path.{_≡_, refl, sym, _∙_}
+use mathlib.Core.Path.{_≡_, sym, _∙_}
 use lib.ListN.{length}
-use Rattle.node.specs.Result.{Result, Done, Refused, _>>=_}
+use Rattle.node.specs.Result.{Done, _>>=_}
+use Rattle.node.specs.ResultLaws.{bind-again, bind-at, bind-same}
 use Rattle.language.specs.Tokens.{Token, Name, isOf}
 use Rattle.language.specs.Tree.{Identifier, Parameter, Definition, Declaration, OfWidth}
 use Rattle.language.specs.Grammar.{Tokens, Read, front, rest, next, expect, expectOf}
 use Rattle.language.specs.Sections.{expression, wordsOf, identifiersOf, parameterOf, definitionOf, optional}
 use Rattle.entries.specs.Kinds as Kind
 use Rattle.entries.specs.Flat.{Entry, leaf, under, flat, each, flatParameter, flatDefinition}
-
--- one reader after another, in two ways to write it
-pub then-assoc : {A B C : Type 0} (r : Result A) (k : A → Result B) (h : B → Result C) → (r >>= k) >>= h ≡ r >>= λ a. k a >>= h
-unfolding _>>=_
-then-assoc (Done a) k h = refl
-then-assoc (Refused number p) k h = refl
-
-pub then-same : {A B : Type 0} (r : Result A) {k h : A → Result B} → ((a : A) → k a ≡ h a) → r >>= k ≡ r >>= h
-unfolding _>>=_
-then-same (Done a) e = e a
-then-same (Refused number p) e = refl
-
-pub then-value : {A B : Type 0} (a : A) (k : A → Result B) → Done a >>= k ≡ k a
-unfolding _>>=_
-then-value a k = refl
 
 -- an identifier and its words
 abbrev pub identifierOf : Tokens → Read Identifier
@@ -74,6 +60,6 @@ pub identifiers-parts : (f : ℕ) (ts : Tokens) →
     elim (isOf Name (front us)) [ true ↦ identifiersOf f us >>= λ (is, vs). Done (i ∷ is, vs) | false ↦ Done (i ∷ [], us) ])
 identifiers-parts f ts =
     sym
-    (then-assoc (expectOf Name ts) _ _ ∙ then-same (expectOf Name ts) (λ (x, us).
-    then-assoc (expect ":" us) _ _ ∙ then-same (expect ":" us) (λ (c, vs).
-    then-assoc (wordsOf (length vs) vs) _ _ ∙ then-same (wordsOf (length vs) vs) (λ z. then-value _ _))))
+    (bind-again (expectOf Name ts) _ _ ∙ bind-same (expectOf Name ts) _ _ (λ (x, us).
+    bind-again (expect ":" us) _ _ ∙ bind-same (expect ":" us) _ _ (λ (c, vs).
+    bind-again (wordsOf (length vs) vs) _ _ ∙ bind-same (wordsOf (length vs) vs) _ _ (λ z. bind-at _ _))))

@@ -5,19 +5,11 @@ use mathlib.Core.List.{List, [], _∷_, _++_, append-assoc}
 use mathlib.Core.Bool.{true, false}
 use mathlib.Core.Path.{_≡_, refl, sym, ap, _∙_}
 use Rattle.node.specs.Result.{Result, Done, Refused, _>>=_}
+use Rattle.node.specs.ResultLaws.{bind-refused, bind-to}
 use Rattle.language.specs.Tokens.{Token, Marks}
 use Rattle.language.specs.Grammar.{Tokens, Read, rest, next, expect, expectOf}
 use Rattle.language.specs.Sections.{linesOf, wordsOf, tagOf, tagsOf}
 use Rattle.language.specs.Laws.Basics.Tests.{pick, leave}
-
--- a reader's answer, then the rest of the reading
-pub then-done : {A B : Type 0} {r : Result A} {a : A} (k : A → Result B) → r ≡ Done a → r >>= k ≡ k a
-unfolding _>>=_
-then-done k e = rw e
-
-pub then-refused : {A B : Type 0} {r : Result A} {number p : ℕ} (k : A → Result B) → r ≡ Refused number p → r >>= k ≡ Refused number p
-unfolding _>>=_
-then-refused k e = rw e
 
 pub then-id : {A B : Type 0} (r : Result (A × B)) → r ≡ (r >>= λ (a, b). Done (a, b))
 unfolding _>>=_
@@ -30,11 +22,11 @@ onto xs r = r >>= λ (ys, us). Done (xs ++ ys, us)
 
 pub onto-done : {A : Type 0} (xs : List A) {r : Read (List A)} {ys : List A} {us : Tokens} → r ≡ Done (ys, us) → onto xs r ≡ Done (xs ++ ys, us)
 unfolding onto
-onto-done xs e = then-done _ e
+onto-done xs e = bind-to _ _ _ e
 
 pub onto-refused : {A : Type 0} (xs : List A) {r : Read (List A)} {number p : ℕ} → r ≡ Refused number p → onto xs r ≡ Refused number p
 unfolding onto
-onto-refused xs e = then-refused _ e
+onto-refused xs e = bind-refused _ _ _ _ e
 
 pub onto-none : {A : Type 0} (r : Read (List A)) → r ≡ onto [] r
 unfolding onto _>>=_
@@ -53,31 +45,31 @@ module _ {A : Type 0} (line : Tokens → Read A) (f : ℕ) (ts : Tokens) where
 
   module _ (unclosed : next "}" ts ≡ false) where
     pub lines-refused : {number p : ℕ} → line ts ≡ Refused number p → linesOf (suc f) line ts ≡ Refused number p
-    lines-refused e = leave (next "}" ts) _ _ unclosed ∙ then-refused _ e
+    lines-refused e = leave (next "}" ts) _ _ unclosed ∙ bind-refused _ _ _ _ e
 
     module _ (x : A) (us : Tokens) (read : line ts ≡ Done (x, us)) where
       pub lines-more : next ";" us ≡ true → linesOf (suc f) line ts ≡ (linesOf f line (rest us) >>= λ (xs, vs). Done (x ∷ xs, vs))
-      lines-more e = leave (next "}" ts) _ _ unclosed ∙ then-done _ read ∙ pick (next ";" us) _ _ e
+      lines-more e = leave (next "}" ts) _ _ unclosed ∙ bind-to _ _ _ read ∙ pick (next ";" us) _ _ e
 
       pub lines-last : next ";" us ≡ false → linesOf (suc f) line ts ≡ (expect "}" us >>= λ (c, vs). Done (x ∷ [], vs))
-      lines-last e = leave (next "}" ts) _ _ unclosed ∙ then-done _ read ∙ leave (next ";" us) _ _ e
+      lines-last e = leave (next "}" ts) _ _ unclosed ∙ bind-to _ _ _ read ∙ leave (next ";" us) _ _ e
 
 module _ (f : ℕ) (ts : Tokens) where
   pub words-refused : {number p : ℕ} → expectOf Marks ts ≡ Refused number p → wordsOf (suc f) ts ≡ Refused number p
-  words-refused e = then-refused _ e
+  words-refused e = bind-refused _ _ _ _ e
 
   pub tags-refused : {number p : ℕ} → tagOf ts ≡ Refused number p → tagsOf (suc f) ts ≡ Refused number p
-  tags-refused e = then-refused _ e
+  tags-refused e = bind-refused _ _ _ _ e
 
   module _ (x : Token) (us : Tokens) where
     pub words-more : expectOf Marks ts ≡ Done (x, us) → next "," us ≡ true → wordsOf (suc f) ts ≡ (wordsOf f (rest us) >>= λ (xs, vs). Done (x ∷ xs, vs))
-    words-more r e = then-done _ r ∙ pick (next "," us) _ _ e
+    words-more r e = bind-to _ _ _ r ∙ pick (next "," us) _ _ e
 
     pub words-last : expectOf Marks ts ≡ Done (x, us) → next "," us ≡ false → wordsOf (suc f) ts ≡ Done (x ∷ [], us)
-    words-last r e = then-done _ r ∙ leave (next "," us) _ _ e
+    words-last r e = bind-to _ _ _ r ∙ leave (next "," us) _ _ e
 
     pub tags-more : tagOf ts ≡ Done (x, us) → next "," us ≡ true → tagsOf (suc f) ts ≡ tagsOf f (rest us)
-    tags-more r e = then-done _ r ∙ pick (next "," us) _ _ e
+    tags-more r e = bind-to _ _ _ r ∙ pick (next "," us) _ _ e
 
     pub tags-last : tagOf ts ≡ Done (x, us) → next "," us ≡ false → tagsOf (suc f) ts ≡ Done (x, us)
-    tags-last r e = then-done _ r ∙ leave (next "," us) _ _ e
+    tags-last r e = bind-to _ _ _ r ∙ leave (next "," us) _ _ e

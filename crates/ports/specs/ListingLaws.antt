@@ -1,8 +1,7 @@
 -- The listing from port to port.
-use Prim.Native.Nat.{ℕ, zero, suc, _+_, _≤_, _<_, max}
-use mathlib.Core.Bool.{Bool, true, false}
-use mathlib.Core.List.{List, [], _∷_, _++_}
-use mathlib.Core.Option.{Option, none, some}
+use Prim.Native.Nat.{ℕ, _+_, _≤_, _<_, max}
+use mathlib.Core.List.{List, [], _∷_}
+use mathlib.Core.Option.{some}
 use mathlib.Core.Path.{_≡_, refl, sym, ap, ap₂, _∙_, subst}
 use native.Mathlib.Numerals.{add-one}
 use native.Mathlib.Omega.{arith}
@@ -17,11 +16,10 @@ use Rattle.language.specs.Numbering.{signalsOf, entries, signalList, tooManySig
 use Rattle.language.specs.Laws.Basics.Tests.{pick, leave}
 use Rattle.language.specs.Laws.Values.EntryLaws.{flag}
 use Rattle.language.specs.Laws.Values.SignalLaws.{list-length, length-entries}
-use Rattle.ports.specs.Ports.{PortAt, PortsFrom, Ported}
+use Rattle.ports.specs.Ports.{PortsFrom, Ported}
 use Rattle.ports.specs.Firsts.{numberedFrom}
 use Rattle.ports.specs.EntryRuns.{run, entries-run, sets-append}
 use Rattle.ports.specs.Listing.{Lists}
-use Rattle.ports.specs.declared.Signals.{Signals}
 use Rattle.ports.specs.declared.Signals.the-variants.{Listed, TooMany}
 
 module _ (R : Token → ℕ) (numbers offsets widths : List ℕ) (ins count : ℕ) (ps : List Port) (firsts₀ list₀ : List ℕ) where

@@ -11,7 +11,6 @@ use Rattle.node.specs.declared.Answer.{Answer}
 use Rattle.words.specs.Words.{past, cleared as zeroed}
 use Rattle.words.specs.ClearingLaws.{cleared-same, cleared-zeros}
 use Rattle.language.specs.Limits.{workBytes}
-use Rattle.language.specs.Bytes.{if_then_else_}
 use Rattle.language.specs.Reading.{meant, delivered, reading, cleared, workAfter}
 use Rattle.language.specs.Laws.Buffers.{work-short, short-refused}
 use Rattle.language.specs.Laws.Basics.Tests.{pick}

@@ -10,7 +10,7 @@ use Rattle.node.specs.Limits.{maxNodes}
 use Rattle.node.specs.Ltl.{Formula}
 use Rattle.node.specs.Postorder.{size}
 use Rattle.node.specs.Result.{Result, Done, Refused, _>>=_, guard}
-use Rattle.node.specs.ResultLaws.{guard-pass, guard-stop}
+use Rattle.node.specs.ResultLaws.{guard-pass, guard-stop, bind-refused, bind-to}
 use Rattle.language.specs.Tree.{Spec}
 use Rattle.language.specs.Places.{refuseAt}
 use Rattle.language.specs.Parsing.{parsed}
@@ -28,48 +28,39 @@ fitted f list = guard (leb (size f) maxNodes) 16 0 (Done (record { formula = f; 
 abbrev pub ended : Spec → Declarations → Formula → Result Converted
 ended x d f = guard (sameModel (x .semantics) (x .target)) 14 (x .targetWord .at) (refuseAt 15 (tooManySignals 0 (inOrder d)) (fitted f (signalList (inOrder d))))
 
--- what comes behind a refusal, and behind a value
-pub refused-then : {A B : Type 0} {r : Result A} {n p : ℕ} (k : A → Result B) → r ≡ Refused n p → r >>= k ≡ Refused n p
-unfolding _>>=_
-refused-then k e = ap (λ r. r >>= k) e
-
-pub done-then : {A B : Type 0} {r : Result A} {a : A} (k : A → Result B) → r ≡ Done a → r >>= k ≡ k a
-unfolding _>>=_
-done-then k e = ap (λ r. r >>= k) e
-
 module _ (k : Converted → Result Converted) where
   pub text-refused : (text : List ℕ) {n p : ℕ} → parsed text ≡ Refused n p → meant text >>= k ≡ Refused n p
   unfolding meant
-  text-refused text e = refused-then k (refused-then converted e)
+  text-refused text e = bind-refused _ _ _ k (bind-refused _ _ _ converted e)
 
   pub text-parsed : (text : List ℕ) {x : Spec} → parsed text ≡ Done x → meant text >>= k ≡ converted x >>= k
   unfolding meant
-  text-parsed text e = ap (λ r. r >>= k) (done-then converted e)
+  text-parsed text e = ap (λ r. r >>= k) (bind-to _ _ converted e)
 
   module _ (x : Spec) where
     pub declarations-refused : {n p : ℕ} → declarations x ≡ Refused n p → converted x >>= k ≡ Refused n p
     unfolding converted
-    declarations-refused e = refused-then k (refused-then (λ d. expand x d (lines x d) >>= ended x d) e)
+    declarations-refused e = bind-refused _ _ _ k (bind-refused _ _ _ (λ d. expand x d (lines x d) >>= ended x d) e)
 
     pub declarations-done : {d : Declarations} → declarations x ≡ Done d → converted x >>= k ≡ (expand x d (lines x d) >>= ended x d) >>= k
     unfolding converted
-    declarations-done e = ap (λ r. r >>= k) (done-then (λ d. expand x d (lines x d) >>= ended x d) e)
+    declarations-done e = ap (λ r. r >>= k) (bind-to _ _ (λ d. expand x d (lines x d) >>= ended x d) e)
 
     module _ (d : Declarations) where
       pub line-refused : {n p : ℕ} → expand x d (lines x d) ≡ Refused n p → (expand x d (lines x d) >>= ended x d) >>= k ≡ Refused n p
-      line-refused e = refused-then k (refused-then (ended x d) e)
+      line-refused e = bind-refused _ _ _ k (bind-refused _ _ _ (ended x d) e)
 
       module _ {f : Formula} (e : expand x d (lines x d) ≡ Done f) where
         lines-done : (expand x d (lines x d) >>= ended x d) >>= k ≡ ended x d f >>= k
-        lines-done = ap (λ r. r >>= k) (done-then (ended x d) e)
+        lines-done = ap (λ r. r >>= k) (bind-to _ _ (ended x d) e)
 
         pub models-differ : sameModel (x .semantics) (x .target) ≡ false → (expand x d (lines x d) >>= ended x d) >>= k ≡ Refused 14 (x .targetWord .at)
-        models-differ m = lines-done ∙ refused-then k (guard-stop 14 (x .targetWord .at) _ m)
+        models-differ m = lines-done ∙ bind-refused _ _ _ k (guard-stop 14 (x .targetWord .at) _ m)
 
         module _ (m : sameModel (x .semantics) (x .target) ≡ true) where
           pub too-many : {p : ℕ} → tooManySignals 0 (inOrder d) ≡ some p → (expand x d (lines x d) >>= ended x d) >>= k ≡ Refused 15 p
           unfolding refuseAt
-          too-many s = lines-done ∙ refused-then k (guard-pass 14 (x .targetWord .at) _ m ∙ ap (λ o. refuseAt 15 o (fitted f (signalList (inOrder d)))) s)
+          too-many s = lines-done ∙ bind-refused _ _ _ k (guard-pass 14 (x .targetWord .at) _ m ∙ ap (λ o. refuseAt 15 o (fitted f (signalList (inOrder d)))) s)
 
           pub few-signals : tooManySignals 0 (inOrder d) ≡ none → (expand x d (lines x d) >>= ended x d) >>= k ≡ fitted f (signalList (inOrder d)) >>= k
           unfolding refuseAt
@@ -78,7 +69,7 @@ module _ (k : Converted → Result Converted) where
   -- 16
   module _ (f : Formula) (list : List ℕ) where
     pub too-large : maxNodes < size f → fitted f list >>= k ≡ Refused 16 0
-    too-large h = refused-then k (guard-stop 16 0 _ (lt-leb (size f) maxNodes h))
+    too-large h = bind-refused _ _ _ k (guard-stop 16 0 _ (lt-leb (size f) maxNodes h))
 
     pub not-too-large : size f ≤ maxNodes → fitted f list >>= k ≡ k (record { formula = f; signals = list })
-    not-too-large h = done-then k (guard-pass 16 0 _ (le-leb (size f) maxNodes h))
+    not-too-large h = bind-to _ _ k (guard-pass 16 0 _ (le-leb (size f) maxNodes h))

@@ -1,21 +1,19 @@
 -- 14 and 15 behind all lines, then what is handed over.
-use Prim.Native.Nat.{ℕ, suc, _≤_, _<_}
-use mathlib.Core.Bool.{Bool, true, false}
+use Prim.Native.Nat.{ℕ}
+use mathlib.Core.Bool.{true, false}
 use mathlib.Core.List.{List}
-use mathlib.Core.Option.{none, some}
-use mathlib.Core.Path.{_≡_, refl, sym, ap, _∙_, subst}
-use lib.ListN.{length, take}
+use mathlib.Core.Option.{some}
+use mathlib.Core.Path.{_≡_, refl, sym, ap, subst}
+use lib.ListN.{length}
 use native.Mathlib.Omega.{arith}
-use Rattle.node.specs.Limits.{maxNodes}
 use Rattle.node.specs.Ltl.{Formula}
 use Rattle.node.specs.Result.{Result, Done, Refused, _>>=_}
 use Rattle.node.specs.ResultLaws.{not-done}
 use Rattle.node.specs.declared.Answer.{Answer}
-use Rattle.language.specs.Limits.{maxSignals}
 use Rattle.language.specs.Tree.{Part, Model, Mealy, Moore, Spec}
 use Rattle.language.specs.Declared.{Declarations}
-use Rattle.language.specs.Numbering.{inOrder, signalList, tooManySignals}
-use Rattle.language.specs.Lines.{Line, lines}
+use Rattle.language.specs.Numbering.{inOrder, signalList}
+use Rattle.language.specs.Lines.{lines}
 use Rattle.language.specs.Expansion.{Sections, gather, atSignals, defineAll, expandSection, section, whole, expand}
 use Rattle.language.specs.Reading.{sameModel, Converted, delivered}
 use Rattle.language.specs.Laws.Values.SignalLaws.{signals-few}

@@ -1,5 +1,5 @@
 -- 16 and 18, and the handing over: the whole formula's nodes and the signal list in front of the lent buffers.
-use Prim.Native.Nat.{ℕ, _+_, _≤_, _<_}
+use Prim.Native.Nat.{ℕ, _≤_, _<_}
 use mathlib.Core.Bool.{Bool, true, false, _&&_}
 use mathlib.Core.List.{List, _++_}
 use mathlib.Core.Path.{_≡_, refl, sym, ap, ap₂, _∙_, subst}
@@ -17,7 +17,7 @@ use Rattle.node.specs.declared.Answer.{Answer}
 use Rattle.node.specs.declared.Answer.the-variants.{Accepted}
 use Rattle.language.specs.Limits.{maxSignals}
 use Rattle.language.specs.Expansion.{Sections, section, whole}
-use Rattle.language.specs.Reading.{Converted, delivered}
+use Rattle.language.specs.Reading.{delivered}
 use Rattle.writing.specs.Writing.{Wrote}
 use Rattle.writing.specs.WritingLaws.{ends, past}
 use Rattle.writing.specs.Parts.{moves}
@@ -25,7 +25,7 @@ use Rattle.assembly.specs.Gathered.{inTurn, Gathered, SomeGathered}
 use Rattle.assembly.specs.Layout.{Assembles}
 use Rattle.assembly.specs.WholeLaws as Whole
 use Rattle.reader.specs.Endings.{fitted, too-large, not-too-large}
-use Rattle.reader.specs.Hands.{Hands, hands-as, hands-refused, hands-accepted}
+use Rattle.reader.specs.Hands.{Hands, hands-refused, hands-accepted}
 
 -- the lines are gathered in a whole table, and the list has n signals at least
 pub record Assemblable (words : List ℕ) (count : ℕ) (table : List ℕ) (at : ℕ) (list : List ℕ) (n : ℕ) : Type 0 where

@@ -31,7 +31,7 @@ use Rattle.values.specs.World.{Meaning, Defines, NoValue, numbered, mean
 use Rattle.values.specs.AgreesLaws.{numbered-last, numbered-before}
 use Rattle.values.specs.Worlds.{inTable, behind, meaning}
 use Rattle.values.specs.WorldsLaws.{length-map, Elsewhere, behind-elsewhere}
-use Rattle.values.specs.VisibleLaws.{ownNames, apart-elsewhere, behind-parameters, of-definitions, over-definitions, main-apart, defined-later, enumerated-elsewhere}
+use Rattle.values.specs.ElsewhereLaws.{ownNames, apart-elsewhere, behind-parameters, of-definitions, over-definitions, main-apart, defined-later, enumerated-elsewhere}
 use Rattle.values.specs.Worked.{definitionsStart, worldIn}
 use Rattle.values.specs.WorkedLaws.{starts-next}
 use Rattle.values.specs.Entrywise.{Every, every-append, every-each, every-at}

@@ -1,6 +1,6 @@
 -- The enumerations and identifiers of a stored tree: what is behind the entry of each, and that an entry of another kind follows.
 use Prim.Native.Nat.{ℕ, suc, _+_, _≤_, _<_}
-use mathlib.Core.Bool.{true, false, false≢true}
+use mathlib.Core.Bool.{false≢true}
 use mathlib.Core.List.{List, [], _∷_, _++_, append-assoc}
 use mathlib.Core.Option.{Option, none, some}
 use mathlib.Core.Path.{_≡_, refl, sym, ap, _∙_, subst}
@@ -29,7 +29,7 @@ use Rattle.names.specs.Scan.{tokenOf}
 use Rattle.names.specs.Walkable.{entryOf}
 use Rattle.names.specs.Declaring.{Inner, inner-flat}
 use Rattle.names.specs.Resolved.{Stored, Resolved}
-use Rattle.values.specs.VisibleLaws.{ownNames, over-definitions}
+use Rattle.values.specs.ElsewhereLaws.{ownNames, over-definitions}
 use Rattle.values.specs.Entrywise.{Every, every-append, every-all, every-at}
 use Rattle.values.specs.Declaring.{IdentifierAt, EnumerationAt}
 use Rattle.values.specs.DeclaringLaws.{words-inner}

@@ -14,7 +14,7 @@ pub mod FactsLaws
 pub mod Worlds
 pub mod WorldsLaws
 pub mod Passing
-pub mod VisibleLaws
+pub mod ElsewhereLaws
 pub mod Worked
 pub mod WorkedLaws
 pub mod Declaring

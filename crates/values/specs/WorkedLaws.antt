@@ -27,9 +27,10 @@ use Rattle.names.specs.Resolved.{Stored, declaredNames, Resolved}
 use Rattle.values.specs.AgreesLaws.{Fits, agrees}
 use Rattle.values.specs.World.{Before}
 use Rattle.values.specs.Worlds.{meaning, worldOf}
-use Rattle.values.specs.WorldsLaws.{Among, table-before, behind-before, fits-between}
+use Rattle.values.specs.WorldsLaws.{table-before, behind-before, fits-between}
 use Rattle.values.specs.Passing.{Left, Here, left-same, left-all, pass-entry, pass-line}
-use Rattle.values.specs.VisibleLaws.{In, in-declared, among-more, among-all, ownNames, visible-elsewhere, behind-parameters, of-definitions, of-signals, signals-apart}
+use Rattle.names.specs.VisibleLaws.{In, Among, in-declared, among-more, among-all, of-signals}
+use Rattle.values.specs.ElsewhereLaws.{ownNames, visible-elsewhere, behind-parameters, of-definitions, signals-apart}
 use Rattle.values.specs.Worked.{worldIn, Worked, EachFrom, Parameterwise, Definitionwise, Linewise, Declarationwise, Subsectionwise, definitionsStart, mainStart, TreeWorked}
 
 -- at the lines ls, behind others, with the definitions `later` still to come: the names visible there

@@ -22,6 +22,7 @@ use Rattle.entries.specs.Flat.{flat, each, flatDefinition}
 use Rattle.names.specs.References.{numberIn, reference}
 use Rattle.names.specs.Numbering.{number-same, number-other}
 use Rattle.names.specs.WalkBinders.{reference-outside}
+use Rattle.names.specs.VisibleLaws.{Among}
 use Rattle.values.specs.World.{Meaning, Stands, Defines, NoValue, meant, formed, numbered, World, meaningAt, Before}
 use Rattle.values.specs.AgreesLaws.{numbered-last, numbered-before, denote-declared, formula-declared, Fits}
 use Rattle.values.specs.Worlds.{inTable, behind, meaning, worldOf}
@@ -117,9 +118,6 @@ number-held P other f (n ∷ ns) t h y = go (same (n .text) (t .text)) refl y (n
         let m = length-map f ns in
         let l = number-below ns t y in
         subst P (sym (numbered-before other (f n) (map f ns) _ (omega arith) ∙ ap (numbered other (map f ns)) z)) (ih y)
-
-abbrev pub Among : Names → Names → Type 0
-Among ns ms = (t : Token) → visible ns t ≡ true → visible ms t ≡ true
 
 -- t is none of the names that definitions define
 abbrev pub Elsewhere : Token → Definition → Type 0

@@ -1,8 +1,7 @@
 -- From entry to entry: where the entries end is where the rest of them does.
-use borrow.Author.Needs.{needs}
 use native.Mathlib.Omega.{arith}
-use Prim.Native.Nat.{_+_, _-_, _≤_, _<_}
-use mathlib.Core.Path.{_≡_, refl, sym, ap, _∙_}
+use Prim.Native.Nat.{_-_}
+use mathlib.Core.Path.{_≡_, refl, _∙_}
 use Rattle.language.specs.Limits.{maxTokens}
 use Rattle.choices.specs.Entries.{endFrom}
 use Rattle.choices.specs.EntryLaws.{end-past, end-low, end-high, end-more}

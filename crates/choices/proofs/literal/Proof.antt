@@ -1,6 +1,5 @@
 -- A signal, under `!` where it is to be absent.
 use borrow.Author.Needs.{needs}
-use native.Mathlib.Omega.{arith}
 use mathlib.Core.Path.{refl}
 use Rattle.node.specs.Ltl.{Not}
 use Rattle.choices.specs.LiteralLaws.{wrote-present, wrote-absent}

@@ -1,9 +1,8 @@
 -- From mark to mark: the literals so far are folded.
 use borrow.Author.Needs.{needs}
 use native.Mathlib.Omega.{arith}
-use Prim.Native.Nat.{_+_, _-_, _≤_, _<_}
-use mathlib.Core.Path.{_≡_, refl, sym, ap, _∙_}
-use mathlib.Core.Bool.{true, false}
+use Prim.Native.Nat.{_-_, _≤_}
+use mathlib.Core.Path.{refl, sym, _∙_}
 use Rattle.choices.specs.PromiseLaws.{Matched, matched-none, matched-star, matched-literal, matched-all}
 use Rattle.choices.proofs.matches.Statement.{statement}
 use Rattle.choices.proofs.matches.Tie as tie

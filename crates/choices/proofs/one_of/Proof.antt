@@ -1,8 +1,7 @@
 -- From word to word: those so far are folded.
 use borrow.Author.Needs.{needs}
 use native.Mathlib.Omega.{arith}
-use Prim.Native.Nat.{_+_, _-_, _≤_, _<_}
-use mathlib.Core.Path.{_≡_, refl, sym, ap, _∙_}
+use Prim.Native.Nat.{_-_}
 use Rattle.choices.specs.PromiseLaws.{Matching, matching-none, matching-skip, matching-word, matching-all, one-of-past}
 use Rattle.choices.proofs.one_of.Statement.{statement}
 use Rattle.choices.proofs.one_of.Tie as tie

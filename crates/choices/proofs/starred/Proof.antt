@@ -1,9 +1,4 @@
 -- A byte is one of three marks.
-use borrow.Author.Needs.{needs}
-use native.Mathlib.Omega.{arith}
-use Prim.Native.Nat.{_+_, _-_, _≤_, _<_}
-use mathlib.Core.Path.{_≡_, refl, sym, ap, _∙_}
-use Rattle.choices.specs.Literals.{isStar}
 use Rattle.choices.specs.LiteralLaws.{starred-absent, starred-other}
 use Rattle.choices.proofs.starred.Statement.{statement}
 use Rattle.choices.proofs.starred.Tie as tie

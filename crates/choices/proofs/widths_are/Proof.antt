@@ -1,8 +1,7 @@
 -- From word to word: whether all are as wide is whether the rest are.
-use borrow.Author.Needs.{needs}
 use native.Mathlib.Omega.{arith}
-use Prim.Native.Nat.{_+_, _-_, _≤_, _<_}
-use mathlib.Core.Path.{_≡_, refl, sym, ap, _∙_}
+use Prim.Native.Nat.{_-_}
+use mathlib.Core.Path.{_≡_, refl, sym, _∙_}
 use Rattle.choices.specs.PromiseLaws.{widthsFrom, widths-none, widths-skip, widths-same, widths-other, widths-are}
 use Rattle.choices.proofs.widths_are.Statement.{statement}
 use Rattle.choices.proofs.widths_are.Tie as tie

@@ -2,6 +2,5 @@
 pub mod Lists
 pub mod Tests
 pub mod NoPlace
-pub mod Binds
 pub mod Results
 pub mod Exactly

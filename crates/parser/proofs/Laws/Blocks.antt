@@ -7,6 +7,7 @@ use mathlib.Core.List.{List, [], _∷_, append-nil}
 use mathlib.Core.Path.{_≡_, refl, sym, ap, _∙_, subst}
 use lib.ListN.{length, drop, length-append, length-drop}
 use Rattle.node.specs.Result.{Done}
+use Rattle.node.specs.ResultLaws.{bind-refused, bind-to}
 use Rattle.language.specs.Tree.{Defined, Enumerated, OneSignal, OfWidth, OfType}
 use Rattle.language.specs.Grammar.{Tokens, Read, rest, next}
 use Rattle.language.specs.Sections.{linesOf, blockOf, optional}
@@ -24,7 +25,7 @@ use Rattle.parser.specs.declared.Line.{Line}
 use Rattle.parser.specs.declared.Line.the-variants.{Parameters, Definitions, Declarations, Formulas}
 use Rattle.parser.specs.Spelling.{Spells}
 use Rattle.parser.specs.Lines.{Item, lineOf, flatOf}
-use Rattle.parser.specs.Steps.{then-done, then-refused, lines-end, lines-refused, lines-more, lines-last}
+use Rattle.parser.specs.Steps.{lines-end, lines-refused, lines-more, lines-last}
 use Rattle.parser.proofs.Laws.Rows.{accepted, refusal, took-as, reads-done, reads-refused}
 use Rattle.parser.proofs.Laws.Passing.{Next, here, elsewhere, inside, past-ready, rest-past, took-past, reads-behind}
 use Rattle.parser.proofs.Laws.Loops.{Listing, listing-start, listing-more, going-refused, going-done, going-tail}
@@ -106,10 +107,10 @@ module _ (l : Line) where
   module _ {ts : Tokens} {w : List ℕ} {c : Cursor} (ready : Ready ts w c) where
     pub block-refused : {y : Parse} → (kindAt w c ≡ 20 → ⊥) → y ≡ refusedAt w c → Reads ts w w c (each (flatOf l)) (blockOf (lineOf l) (drop (c .at) ts)) y
     block-refused k e =
-        reads-refused (e ∙ ap (NotParsed 4) (ready-place ready)) (then-refused _ (leave (next "{" (drop (c .at) ts)) _ _ (elsewhere ready "{" refl k))) (kept-same w (c .out))
+        reads-refused (e ∙ ap (NotParsed 4) (ready-place ready)) (bind-refused _ _ _ _ (leave (next "{" (drop (c .at) ts)) _ _ (elsewhere ready "{" refl k))) (kept-same w (c .out))
 
     pub block-read : {v : List ℕ} {q : Parse} → kindAt w c ≡ 20 → Reads ts w v c (each (flatOf l)) (linesOf (length (rest (drop (c .at) ts))) (lineOf l) (rest (drop (c .at) ts))) q → Reads ts w v c (each (flatOf l)) (blockOf (lineOf l) (drop (c .at) ts)) q
-    block-read {v} {q} k r = subst (λ x. Reads ts w v c (each (flatOf l)) x q) (sym (then-done _ (pick (next "{" (drop (c .at) ts)) _ _ (here ready "{" refl k)))) r
+    block-read {v} {q} k r = subst (λ x. Reads ts w v c (each (flatOf l)) x q) (sym (bind-to _ _ _ (pick (next "{" (drop (c .at) ts)) _ _ (here ready "{" refl k)))) r
 
     -- a subsection that may be missing
     module _ (s : String) {word : ℕ} (spells : Spells s word) where

@@ -10,6 +10,7 @@ use Rattle.language.specs.Tokens.{Token, Name, isOf}
 use Rattle.language.specs.Tree.{Declaration, OfWidth, OfType, OneSignal}
 use Rattle.language.specs.Grammar.{Tokens, Read, front, rest, next, expectOf}
 use Rattle.node.specs.Result.{Done, _>>=_}
+use Rattle.node.specs.ResultLaws.{bind-refused, bind-to}
 use Rattle.language.specs.Sections.{expression, declarationOf}
 use Rattle.language.specs.Laws.Basics.Tests.{pick, leave}
 use Rattle.entries.specs.Kinds as Kind
@@ -23,7 +24,6 @@ use Rattle.entries.specs.Reads.{Kept, Took, Reads}
 use Rattle.entries.specs.ReadsLaws.{kept-same, kept-then}
 use Rattle.entries.specs.TokenReads.{took-none}
 use Rattle.parser.specs.Parts.{widthOf}
-use Rattle.parser.specs.Steps.{then-done, then-refused}
 use Rattle.parser.proofs.Laws.Rows.{Accepted, accepted, refusal, took-then, took-emit, writes, kept-emit, under-writes, reads-done, reads-refused}
 use Rattle.parser.proofs.Laws.LineReads.{closed}
 use Rattle.parser.proofs.Laws.Passing.{Next, Passed, stopped, inside, passed-ready, past-ready, rest-past, took-past, took-passed, expectOf-passed, expectOf-not, expect-passed, expect-not, keeps-here, here, elsewhere, class-here, class-elsewhere}
@@ -50,7 +50,7 @@ module _ {ts : Tokens} {w : List ℕ} {c d e : Cursor} (ready : Ready ts w c) (w
     bus-kept = subst (Kept w v) (g .out ∙ h .out) (r .kept)
 
     pub bus-refused : {n p : ℕ} → q ≡ NotParsed n p → Reads ts w v c flatDeclaration bus-answer q
-    bus-refused m = reads-refused m (then-refused _ (ap expression to-tokens ∙ refusal m r)) bus-kept
+    bus-refused m = reads-refused m (bind-refused _ _ _ _ (ap expression to-tokens ∙ refusal m r)) bus-kept
 
     module _ {f : Cursor} (m : q ≡ Parsed f) where
       width : Accepted ts v e f flat (expression (drop (e .at) ts))
@@ -58,7 +58,7 @@ module _ {ts : Tokens} {w : List ℕ} {c d e : Cursor} (ready : Ready ts w c) (w
 
       pub bus-unclosed : {y : Parse} {n p : ℕ} → y ≡ expected v f 25 → y ≡ NotParsed n p → Reads ts w v c flatDeclaration bus-answer y
       bus-unclosed x k =
-          reads-refused k (then-done _ (ap expression to-tokens ∙ width .read) ∙ then-refused _ (expect-not (width .took .ready) "]" refl (stopped v f 25 x k))) bus-kept
+          reads-refused k (bind-to _ _ _ (ap expression to-tokens ∙ width .read) ∙ bind-refused _ _ _ _ (expect-not (width .took .ready) "]" refl (stopped v f 25 x k))) bus-kept
 
       module _ {b : Cursor} (k : Passed v f b 25) where
         bus-took : Took ts v c b (flat (width .value))
@@ -76,7 +76,7 @@ module _ {ts : Tokens} {w : List ℕ} {c d e : Cursor} (ready : Ready ts w c) (w
         pub bus-read : {z : List ℕ} {y : Parse} → y ≡ Parsed (emittedOf b) → z ≡ putEntry v (b .out) Kind.bus (c .at) (b .out - c .out + 1) → Reads ts w z c flatDeclaration bus-answer y
         bus-read =
             closed Kind.bus (c .at) (some (front (drop (c .at) ts))) (OfWidth (front (drop (c .at) ts)) (width .value)) ready
-            (then-done _ (ap expression to-tokens ∙ width .read) ∙ then-done _ (expect-passed (width .took .ready) "]" refl k))
+            (bind-to _ _ _ (ap expression to-tokens ∙ width .read) ∙ bind-to _ _ _ (expect-passed (width .took .ready) "]" refl k))
             refl bus-kept bus-took bus-room (omega arith) bus-near (keeps-here ready (omega arith))
 
 -- a declaration by what follows its name
@@ -85,14 +85,14 @@ module _ {ts : Tokens} {w : List ℕ} {c : Cursor} (ready : Ready ts w c) where
   answer = declarationOf (drop (c .at) ts)
 
   pub declaration-name : {q : Parse} {n p : ℕ} → q ≡ expected w c 1 → q ≡ NotParsed n p → Reads ts w w c flatDeclaration answer q
-  declaration-name x m = reads-refused m (then-refused _ (expectOf-not ready Name refl (stopped w c 1 x m))) (kept-same w (c .out))
+  declaration-name x m = reads-refused m (bind-refused _ _ _ _ (expectOf-not ready Name refl (stopped w c 1 x m))) (kept-same w (c .out))
 
   module _ {d : Cursor} (h : Passed w c d 1) where
     pub name-ready : Ready ts w d
     name-ready = passed-ready ready h (omega arith)
 
     named-done : (k : Token × Tokens → Read Declaration) → expectOf Name (drop (c .at) ts) >>= k ≡ k (front (drop (c .at) ts), drop (d .at) ts)
-    named-done k = then-done k (expectOf-passed ready Name refl h)
+    named-done k = bind-to _ _ k (expectOf-passed ready Name refl h)
 
     name-within : c .at < c .count
     name-within = inside ready (h .kind) (omega arith)

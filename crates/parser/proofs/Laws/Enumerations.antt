@@ -1,5 +1,5 @@
 -- The loops over an identifier's words and over identifiers: one turn, and the ways out.
-use Prim.Native.Nat.{ℕ, _+_, _<_}
+use Prim.Native.Nat.{ℕ, _<_}
 use native.Mathlib.Omega.{arith}
 use mathlib.Core.List.{List, _∷_, _++_}
 use mathlib.Core.Path.{_≡_, refl, sym, ap, _∙_, subst}
@@ -9,6 +9,7 @@ use mathlib.Core.Bool.{true}
 use Rattle.language.specs.Bytes.{ascii, isOneOf}
 use Rattle.lexer.specs.Numbers.{spellings, fixed}
 use Rattle.node.specs.Result.{Done, _>>=_}
+use Rattle.node.specs.ResultLaws.{bind-refused, bind-to}
 use Rattle.language.specs.Tokens.{Token, Name, Marks, isOf}
 use Rattle.language.specs.Grammar.{Tokens, Read, front, expect, expectOf}
 use Rattle.language.specs.Sections.{wordsOf, identifiersOf}
@@ -21,7 +22,7 @@ use Rattle.entries.specs.Cursors.{kindAt, nextOf, expected}
 use Rattle.entries.specs.CursorLaws.{before-end}
 use Rattle.entries.specs.Reads.{Reads}
 use Rattle.parser.specs.Parts.{flatWord, identifierOf, identifiers-parts}
-use Rattle.parser.specs.Steps.{then-done, then-refused, words-refused, words-last, words-more}
+use Rattle.parser.specs.Steps.{words-refused, words-last, words-more}
 use Rattle.parser.proofs.Laws.Rows.{accepted, refusal, took-next, reads-refused, reads-tail}
 use Rattle.parser.proofs.Laws.Passing.{passed, stopped, expect-passed, took-passed, expect-not, here, elsewhere, class-here, class-elsewhere, rest-next}
 use Rattle.parser.proofs.Laws.Loops.{Listing, left-some, listing-more, going-refused, going-last}
@@ -49,20 +50,20 @@ module _ {ts : Tokens} {x : Read _} {w v z : List ℕ} {s d : Cursor} (h : Listi
 -- an identifier, and as long as a name follows
 module _ {ts : Tokens} {x : Read _} {w v z : List ℕ} {s d : Cursor} (h : Listing flatIdentifier 0 identifiersOf x ts w v s d) {q : Parse} (r : Reads ts v z d flatIdentifier (identifierOf (drop (d .at) ts)) q) where
   pub identifiers-stop : {n p : ℕ} → q ≡ NotParsed n p → Reads ts w z s (each flatIdentifier) x q
-  identifiers-stop m = going-refused (h .going) (r .kept) m (identifiers-parts (h .fuel) (drop (d .at) ts) ∙ then-refused _ (refusal m r))
+  identifiers-stop m = going-refused (h .going) (r .kept) m (identifiers-parts (h .fuel) (drop (d .at) ts) ∙ bind-refused _ _ _ _ (refusal m r))
 
   module _ {e : Cursor} (m : q ≡ Parsed e) where
     pub identifiers-end : (kindAt z e ≡ 1 → ⊥) → Reads ts w z s (each flatIdentifier) x (Parsed e)
     identifiers-end other =
         let a = accepted m r in
         going-last (h .going) (r .kept) (a .value)
-        (identifiers-parts (h .fuel) (drop (d .at) ts) ∙ then-done _ (a .read) ∙ leave (isOf Name (front (drop (e .at) ts))) _ _ (class-elsewhere (a .took .ready) Name refl other)) (a .took)
+        (identifiers-parts (h .fuel) (drop (d .at) ts) ∙ bind-to _ _ _ (a .read) ∙ leave (isOf Name (front (drop (e .at) ts))) _ _ (class-elsewhere (a .took .ready) Name refl other)) (a .took)
 
     pub identifiers-again : kindAt z e ≡ 1 → d .at < e .at → Listing flatIdentifier 0 identifiersOf x ts w z s e
     identifiers-again name l =
         let a = accepted m r in
         listing-more h (r .kept) (a .value)
-        (identifiers-parts (h .fuel) (drop (d .at) ts) ∙ then-done _ (a .read) ∙ pick (isOf Name (front (drop (e .at) ts))) _ _ (class-here (a .took .ready) Name refl name))
+        (identifiers-parts (h .fuel) (drop (d .at) ts) ∙ bind-to _ _ _ (a .read) ∙ pick (isOf Name (front (drop (e .at) ts))) _ _ (class-here (a .took .ready) Name refl name))
         (a .took) l (left-some (a .took .ready))
 
 -- a name with an entry of its own, a sign, and what follows: an identifier and its words, an enumeration and its identifiers
@@ -72,17 +73,17 @@ module _ {B C : Type 0} {ts : Tokens} {w v : List ℕ} {c : Cursor} (kind : ℕ)
   whole = expectOf Name (drop (c .at) ts) >>= λ (t, us). expect s us >>= λ (o, us). D us >>= λ (b, us). Done (make t b, us)
 
   pub name-refused : {n p : ℕ} → q ≡ NotParsed n p → Reads ts w v c f whole q
-  name-refused m = reads-refused m (then-refused _ (refusal m r)) (r .kept)
+  name-refused m = reads-refused m (bind-refused _ _ _ _ (refusal m r)) (r .kept)
 
   module _ {d : Cursor} (m : q ≡ Parsed d) {q′ : Parse} (sign : q′ ≡ expected v d (fixed s)) where
     pub sign-refused : {n p : ℕ} → q′ ≡ NotParsed n p → Reads ts w v c f whole q′
     sign-refused m′ =
         let a = accepted m r in
-        reads-refused m′ (then-done _ (a .read) ∙ then-refused _ (expect-not (a .took .ready) s known (stopped v d (fixed s) sign m′))) (r .kept)
+        reads-refused m′ (bind-to _ _ _ (a .read) ∙ bind-refused _ _ _ _ (expect-not (a .took .ready) s known (stopped v d (fixed s) sign m′))) (r .kept)
 
     pub rest-read : {e : Cursor} {z : List ℕ} {q″ : Parse} → q′ ≡ Parsed e → Reads ts v z e g (D (drop (e .at) ts)) q″ → Reads ts w z c f whole q″
     rest-read {e} m′ last =
         let a = accepted m r in
         let h = passed v d (fixed s) sign m′ in
-        reads-tail (make (a .value)) (then-done _ (a .read) ∙ then-done _ (expect-passed (a .took .ready) s known h))
+        reads-tail (make (a .value)) (bind-to _ _ _ (a .read) ∙ bind-to _ _ _ (expect-passed (a .took .ready) s known h))
         (flats (a .value)) (r .kept) (took-passed (a .took) h (omega arith)) last

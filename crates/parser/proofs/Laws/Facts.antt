@@ -8,7 +8,7 @@ use lib.Dec.{eqb}
 use lib.ListN.{drop}
 use borrow.Author.Tests.{eqb-true}
 use Rattle.node.specs.Result.{Result, Done, _>>=_}
-use Rattle.node.specs.ResultLaws.{not-done, bind-done}
+use Rattle.node.specs.ResultLaws.{not-done, bind-done, bind-to}
 use Rattle.language.specs.Bytes.{if_then_else_}
 use Rattle.language.specs.Tree.{Model, Mealy, Moore}
 use Rattle.language.specs.Grammar.{Tokens, Read, front, rest, stop, next, expect}
@@ -23,7 +23,6 @@ use Rattle.parser.specs.declared.Facts.{Facts}
 use Rattle.parser.specs.declared.Informed.{Informed}
 use Rattle.parser.specs.Information.{pairOf, toSemantics, toTarget, closingOf, Info, informationOf}
 use Rattle.parser.specs.Outlines.{modelCode, toldOf, Informs}
-use Rattle.parser.specs.Steps.{then-done}
 use Rattle.parser.proofs.Laws.Rows.{Accepted, accepted, refusal}
 use Rattle.parser.proofs.Laws.Skims.{Skims, skim-then, skim-map}
 
@@ -85,7 +84,7 @@ module _ {ts : Tokens} {w : List ℕ} {c d e f : Cursor} {q₁ q₂ q₃ q₄ : 
 
     said-read : answer ≡ Done (said, drop (g .at) ts)
     unfolding said
-    said-read = then-done _ (accepted m₁ r₁ .read) ∙ then-done _ (semantics .read) ∙ then-done _ (accepted m₃ r₃ .read) ∙ then-done _ (accepted m₄ r₄ .read)
+    said-read = bind-to _ _ _ (accepted m₁ r₁ .read) ∙ bind-to _ _ _ (semantics .read) ∙ bind-to _ _ _ (accepted m₃ r₃ .read) ∙ bind-to _ _ _ (accepted m₄ r₄ .read)
 
     pub informed : {k k′ p : ℕ} {b : Bool} {r : Informed} → k ≡ kindAt w d → b ≡ eqb (kindAt w e) 27 → k′ ≡ kindAt w f → p ≡ placeAt w f →
         r .next ≡ q₄ → r .facts ≡ record { semantics = k - 46; strict = b; target = k′ - 46; place = p } → Informs ts w c answer r

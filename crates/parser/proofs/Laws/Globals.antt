@@ -5,6 +5,7 @@ use mathlib.Core.List.{List, [], append-nil}
 use mathlib.Core.Path.{_≡_, refl, sym, ap, _∙_, subst}
 use lib.ListN.{drop}
 use Rattle.node.specs.Result.{Done, _>>=_}
+use Rattle.node.specs.ResultLaws.{bind-refused, bind-to}
 use Rattle.language.specs.Grammar.{Tokens, Read, next, expect}
 use Rattle.language.specs.Sections.{parameterOf, definitionOf, optional}
 use Rattle.language.specs.Laws.Basics.Tests.{pick, leave}
@@ -17,7 +18,6 @@ use Rattle.entries.specs.Reads.{Kept, Took, Reads}
 use Rattle.entries.specs.ReadsLaws.{kept-same, kept-then}
 use Rattle.entries.specs.TokenReads.{took-none, expect-reads}
 use Rattle.parser.specs.Parts.{Globals, globalsOf, flatGlobals}
-use Rattle.parser.specs.Steps.{then-done, then-refused}
 use Rattle.parser.proofs.Laws.Rows.{Accepted, accepted, refusal, took-then, reads-done, reads-refused, reads-tail}
 use Rattle.parser.proofs.Laws.Passing.{Next, Passed, stopped, here, elsewhere, inside, past-ready, rest-past, took-past, took-passed, expect-passed, expect-not}
 
@@ -42,7 +42,7 @@ module _ {ts : Tokens} {w : List ℕ} {c : Cursor} (ready : Ready ts w c) where
 
     pub global-open : {y : Parse} {i p : ℕ} → y ≡ expected w b 20 → y ≡ NotParsed i p → Reads ts w w c flatGlobals answer y
     unfolding after
-    global-open x m = reads-refused m (opened ∙ then-refused _ (expect-not global-ready "{" refl (stopped w b 20 x m))) (kept-same w (c .out))
+    global-open x m = reads-refused m (opened ∙ bind-refused _ _ _ _ (expect-not global-ready "{" refl (stopped w b 20 x m))) (kept-same w (c .out))
 
     module _ {d : Cursor} (h : Passed w b d 20) {v : List ℕ} {q : Parse} (r : Reads ts w v d (each flatParameter) (optional "PARAMETERS" parameterOf (drop (d .at) ts)) q) where
       to-parameters : Took ts w c d []
@@ -53,7 +53,7 @@ module _ {ts : Tokens} {w : List ℕ} {c : Cursor} (ready : Ready ts w c) where
 
       pub global-parameters : {i p : ℕ} → q ≡ NotParsed i p → Reads ts w v c flatGlobals answer q
       unfolding after
-      global-parameters m = reads-refused m (opened ∙ then-done _ (expect-passed global-ready "{" refl h) ∙ then-refused _ (refusal m r)) parameters-kept
+      global-parameters m = reads-refused m (opened ∙ bind-to _ _ _ (expect-passed global-ready "{" refl h) ∙ bind-refused _ _ _ _ (refusal m r)) parameters-kept
 
       module _ {e : Cursor} (m : q ≡ Parsed e) {z : List ℕ} {q′ : Parse} (r′ : Reads ts v z e (each flatDefinition) (optional "DEFINITIONS" definitionOf (drop (e .at) ts)) q′) where
         parameters : Accepted ts v d e (each flatParameter) (optional "PARAMETERS" parameterOf (drop (d .at) ts))
@@ -68,7 +68,7 @@ module _ {ts : Tokens} {w : List ℕ} {c : Cursor} (ready : Ready ts w c) where
         pub global-definitions : {i p : ℕ} → q′ ≡ NotParsed i p → Reads ts w z c flatGlobals answer q′
         unfolding after
         global-definitions m′ =
-            reads-refused m′ (opened ∙ then-done _ (expect-passed global-ready "{" refl h) ∙ then-done _ (parameters .read) ∙ then-refused _ (refusal m′ r′)) definitions-kept
+            reads-refused m′ (opened ∙ bind-to _ _ _ (expect-passed global-ready "{" refl h) ∙ bind-to _ _ _ (parameters .read) ∙ bind-refused _ _ _ _ (refusal m′ r′)) definitions-kept
 
         pub global-tail : {f : Cursor} {y : Parse} → q′ ≡ Parsed f → y ≡ expected z f 21 → Reads ts w z c flatGlobals answer y
         unfolding after
@@ -76,5 +76,5 @@ module _ {ts : Tokens} {w : List ℕ} {c : Cursor} (ready : Ready ts w c) where
             let a = accepted m′ r′ in
             subst (Reads ts w z c flatGlobals answer) (sym x)
             (reads-tail (λ t. (parameters .value, a .value))
-            (opened ∙ then-done _ (expect-passed global-ready "{" refl h) ∙ then-done _ (parameters .read) ∙ then-done _ (a .read))
+            (opened ∙ bind-to _ _ _ (expect-passed global-ready "{" refl h) ∙ bind-to _ _ _ (parameters .read) ∙ bind-to _ _ _ (a .read))
             (λ t. sym (append-nil _)) definitions-kept (took-then parameters-took (r′ .kept) (a .took)) (expect-reads (a .took .ready) "}" refl))

@@ -7,6 +7,7 @@ use mathlib.Core.Bool.{Bool, true, false}
 use mathlib.Core.Path.{_≡_, refl, sym, ap, _∙_}
 use lib.ListN.{length, drop, length-drop}
 use Rattle.node.specs.Result.{Done, _>>=_}
+use Rattle.node.specs.ResultLaws.{bind-again}
 use Rattle.language.specs.Bytes.{if_then_else_}
 use Rattle.language.specs.Tokens.{Token, Name, Quoted, isOf}
 use Rattle.language.specs.Tree.{Model, Mealy, Moore}
@@ -20,7 +21,6 @@ use Rattle.entries.specs.Cursors.{Ready, kindAt, expected}
 use Rattle.entries.specs.Reads.{Took}
 use Rattle.entries.specs.ReadsLaws.{kept-same}
 use Rattle.entries.specs.TokenReads.{took-none}
-use Rattle.parser.specs.Parts.{then-assoc}
 use Rattle.parser.specs.Information.{pairOf}
 use Rattle.parser.specs.Steps.{tags-refused, tags-more, tags-last}
 use Rattle.parser.proofs.Laws.Rows.{accepted, refusal, took-then, reads-done, reads-refused}
@@ -29,7 +29,7 @@ use Rattle.parser.proofs.Laws.Loops.{left-some}
 use Rattle.parser.proofs.Laws.Skims.{Skims, skims-as, skim-map, expect-spelt, expect-class}
 
 pub described-pair : (s : String) (ts : Tokens) → described s ts ≡ (pairOf s ":" ts >>= λ (c, us). expectOf Quoted us)
-described-pair s ts = sym (then-assoc (expect s ts) _ _)
+described-pair s ts = sym (bind-again (expect s ts) _ _)
 
 -- a value in place of the token
 valued : (b : Bool) (us : Tokens) → _≡_ {A = Read Model} (if b then Done (Moore, rest us) else stop us) ((if b then Done (front us, rest us) else stop us) >>= λ (t, vs). Done (Moore, vs))

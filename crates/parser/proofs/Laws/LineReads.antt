@@ -9,6 +9,7 @@ use Rattle.language.specs.Tokens.{Name}
 use Rattle.language.specs.Tree.{Parameter, Defined}
 use Rattle.language.specs.Grammar.{Tokens, Read, front, rest, next}
 use Rattle.node.specs.Result.{Done}
+use Rattle.node.specs.ResultLaws.{bind-refused, bind-to}
 use Rattle.language.specs.Sections.{expression, parameterOf, enumerationOf, definitionOf}
 use Rattle.language.specs.Laws.Basics.Tests.{pick, leave}
 use Rattle.entries.specs.Kinds as Kind
@@ -22,7 +23,6 @@ use Rattle.entries.specs.Reads.{Kept, Took, Reads}
 use Rattle.entries.specs.ReadsLaws.{kept-same, kept-then}
 use Rattle.entries.specs.TokenReads.{took-none}
 use Rattle.parser.specs.Parts.{flatValued}
-use Rattle.parser.specs.Steps.{then-done, then-refused}
 use Rattle.parser.proofs.Laws.Rows.{Accepted, accepted, refusal, took-then, took-as, kept-emit, took-under, under-writes, reads-done, reads-refused, reads-tail}
 use Rattle.parser.proofs.Laws.Passing.{Next, Passed, stopped, inside, passed-ready, rest-past, took-past, took-passed, expectOf-passed, expectOf-not, expect-passed, expect-not, keeps-here, here, elsewhere, reads-behind}
 
@@ -40,12 +40,12 @@ closed {ts = ts} {w} {v} {z} {s} {d} {es} {f} {x} {q} k j t a ready e flats kept
 -- `name = expression`
 module _ {ts : Tokens} {w : List ℕ} {c : Cursor} (ready : Ready ts w c) {f : Parameter → List Entry} where
   pub valued-name : {q : Parse} {n p : ℕ} → q ≡ expected w c 1 → q ≡ NotParsed n p → Reads ts w w c f (parameterOf (drop (c .at) ts)) q
-  valued-name x m = reads-refused m (then-refused _ (expectOf-not ready Name refl (stopped w c 1 x m))) (kept-same w (c .out))
+  valued-name x m = reads-refused m (bind-refused _ _ _ _ (expectOf-not ready Name refl (stopped w c 1 x m))) (kept-same w (c .out))
 
   module _ {d : Cursor} (h : Passed w c d 1) where
     pub valued-sign : {q : Parse} {n p : ℕ} → q ≡ expected w d 28 → q ≡ NotParsed n p → Reads ts w w c f (parameterOf (drop (c .at) ts)) q
     valued-sign x m =
-        reads-refused m (then-done _ (expectOf-passed ready Name refl h) ∙ then-refused _ (expect-not (passed-ready ready h (omega arith)) "=" refl (stopped w d 28 x m))) (kept-same w (c .out))
+        reads-refused m (bind-to _ _ _ (expectOf-passed ready Name refl h) ∙ bind-refused _ _ _ _ (expect-not (passed-ready ready h (omega arith)) "=" refl (stopped w d 28 x m))) (kept-same w (c .out))
 
 module _ {ts : Tokens} {w v : List ℕ} {c d e : Cursor} (ready : Ready ts w c) (h : Passed w c d 1) (g : Passed w d e 28) {q : Parse} (r : Reads ts w v e flat (expression (drop (e .at) ts)) q) where
   to-value : Took ts w c e []
@@ -56,7 +56,7 @@ module _ {ts : Tokens} {w v : List ℕ} {c d e : Cursor} (ready : Ready ts w c) 
 
   pub valued-refused : {f : Parameter → List Entry} {n p : ℕ} → q ≡ NotParsed n p → Reads ts w v c f (parameterOf (drop (c .at) ts)) q
   valued-refused m =
-      reads-refused m (then-done _ (expectOf-passed ready Name refl h) ∙ then-done _ (expect-passed (passed-ready ready h (omega arith)) "=" refl g) ∙ then-refused _ (refusal m r)) kept
+      reads-refused m (bind-to _ _ _ (expectOf-passed ready Name refl h) ∙ bind-to _ _ _ (expect-passed (passed-ready ready h (omega arith)) "=" refl g) ∙ bind-refused _ _ _ _ (refusal m r)) kept
 
   module _ {f : Cursor} (m : q ≡ Parsed f) (kind : ℕ) (small : kind < 64) where
     value : Accepted ts v e f flat (expression (drop (e .at) ts))
@@ -77,7 +77,7 @@ module _ {ts : Tokens} {w v : List ℕ} {c d e : Cursor} (ready : Ready ts w c) 
     pub valued-read : {z : List ℕ} {y : Parse} → y ≡ Parsed (emittedOf f) → z ≡ putEntry v (f .out) kind (c .at) (f .out - c .out + 1) → Reads ts w z c (flatValued kind) (parameterOf (drop (c .at) ts)) y
     valued-read =
         closed kind (c .at) (some (front (drop (c .at) ts))) (record { name = front (drop (c .at) ts); value = value .value }) ready
-        (then-done _ (expectOf-passed ready Name refl h) ∙ then-done _ (expect-passed (passed-ready ready h (omega arith)) "=" refl g) ∙ then-done _ (value .read))
+        (bind-to _ _ _ (expectOf-passed ready Name refl h) ∙ bind-to _ _ _ (expect-passed (passed-ready ready h (omega arith)) "=" refl g) ∙ bind-to _ _ _ (value .read))
         refl kept took room small near (keeps-here ready (inside ready (h .kind) (omega arith)))
 
 -- a formula behind the token before it

@@ -6,6 +6,7 @@ use mathlib.Core.Bool.{true}
 use mathlib.Core.Path.{_≡_, refl, sym, ap, _∙_, subst}
 use lib.ListN.{drop}
 use Rattle.node.specs.Result.{Done, _>>=_}
+use Rattle.node.specs.ResultLaws.{bind-refused, bind-to}
 use Rattle.language.specs.Tokens.{Class}
 use Rattle.language.specs.Grammar.{Tokens, Read, expect, expectOf}
 use Rattle.lexer.specs.Numbers.{classNumber}
@@ -18,7 +19,7 @@ use Rattle.entries.specs.Reads.{Reads}
 use Rattle.entries.specs.ReadsLaws.{kept-same}
 use Rattle.entries.specs.TokenReads.{noEntries, took-none, expect-reads, expectOf-reads}
 use Rattle.parser.specs.Spelling.{Spells}
-use Rattle.parser.specs.Steps.{then-done, then-refused, then-id}
+use Rattle.parser.specs.Steps.{then-id}
 use Rattle.parser.proofs.Laws.Rows.{accepted, refusal, reads-refused, reads-tail}
 
 abbrev pub Skims : {A : Type 0} → Tokens → List ℕ → Cursor → Read A → Parse → Type 0
@@ -27,13 +28,13 @@ Skims ts w c x q = Reads ts w w c noEntries x q
 module _ {A B : Type 0} {ts : Tokens} {w : List ℕ} {c : Cursor} {x : Read A} {q : Parse} (r : Skims ts w c x q) (K : A × Tokens → Read B) where
   -- refused
   pub skim-refused : {n p : ℕ} → q ≡ NotParsed n p → Skims ts w c (x >>= K) q
-  skim-refused m = reads-refused m (then-refused K (refusal m r)) (kept-same w (c .out))
+  skim-refused m = reads-refused m (bind-refused _ _ _ K (refusal m r)) (kept-same w (c .out))
 
   -- then the next
   pub skim-then : {d : Cursor} {q′ : Parse} → q ≡ Parsed d → ((a : A) → Skims ts w d (K (a, drop (d .at) ts)) q′) → Skims ts w c (x >>= K) q′
   skim-then m next =
       let a = accepted m r in
-      reads-tail (λ b. b) (then-done K (a .read) ∙ then-id (K (a .value, _))) (λ b. refl) (kept-same w (c .out)) (a .took) (next (a .value))
+      reads-tail (λ b. b) (bind-to _ _ K (a .read) ∙ then-id (K (a .value, _))) (λ b. refl) (kept-same w (c .out)) (a .took) (next (a .value))
 
 module _ {ts : Tokens} {w : List ℕ} {c : Cursor} (ready : Ready ts w c) where
   pub expect-spelt : (s : String) {k : ℕ} {q : Parse} → Spells s k → q ≡ expected w c k → Skims ts w c (expect s (drop (c .at) ts)) q

@@ -3,11 +3,12 @@ use mathlib.Core.List.{List, []}
 use mathlib.Core.Bool.{Bool, true, false}
 use mathlib.Core.Path.{_≡_, sym, _∙_}
 use Rattle.node.specs.Result.{Result, Done, _>>=_}
+use Rattle.node.specs.ResultLaws.{bind-again, bind-at, bind-same}
 use Rattle.language.specs.Tokens.{Token, End}
 use Rattle.language.specs.Tree.{Subsection, Model, Spec}
 use Rattle.language.specs.Grammar.{Tokens, Read, front, rest, next, expect, expectOf}
 use Rattle.language.specs.Sections.{described, modelOf, strictOf, infoEnd, infoOf, parameterOf, definitionOf, optional, globalOf, subsectionsOf, specOf}
-use Rattle.parser.specs.Parts.{then-assoc, then-same, then-value, Globals, globalsOf}
+use Rattle.parser.specs.Parts.{Globals, globalsOf}
 use Rattle.parser.specs.Information.{pairOf, titlesOf, toSemantics, toTarget, closingOf, Info, informationOf}
 use Rattle.parser.specs.Outlines.{sectionsOf}
 
@@ -39,28 +40,28 @@ module _ {B : Type 0} (H : Info × Tokens → Result B) where
     H (info m s n (front ts), vs)
 
   titles-row : (ts : Tokens) (K : Token × Tokens → Result B) → titlesOf ts >>= K ≡ (expect "{" ts >>= λ (w, ts). described "TITLE" ts >>= λ (w, ts). described "DESCRIPTION" ts >>= K)
-  titles-row ts K = then-assoc (expect "{" ts) _ K ∙ then-same (expect "{" ts) (λ (w, us). then-assoc (described "TITLE" us) _ K)
+  titles-row ts K = bind-again (expect "{" ts) _ K ∙ bind-same (expect "{" ts) _ _ (λ (w, us). bind-again (described "TITLE" us) _ K)
 
   information-row : (ts : Tokens) → informationOf ts >>= H ≡ row ts
   information-row ts =
-      then-assoc (toSemantics ts) _ H ∙ then-assoc (titlesOf ts) _ _ ∙ titles-row ts _
-      ∙ then-same (expect "{" ts) (λ (w, ts). then-same (described "TITLE" ts) (λ (w, ts). then-same (described "DESCRIPTION" ts) (λ (w, ts).
-      then-assoc (expect "SEMANTICS" ts) _ _ ∙ then-same (expect "SEMANTICS" ts) (λ (w, ts). then-same (expect ":" ts) (λ (w, ts).
-      then-assoc (modelOf ts) _ H ∙ then-same (modelOf ts) (λ (m, ts).
-      then-assoc (toTarget ts) _ H ∙ then-assoc (strictOf ts) _ _ ∙ then-same (strictOf ts) (λ (s, ts).
-      then-assoc (pairOf "TARGET" ":" ts) _ _ ∙ then-assoc (expect "TARGET" ts) _ _ ∙ then-same (expect "TARGET" ts) (λ (w, ts). then-same (expect ":" ts) (λ (w, ts).
-      then-value (s, ts) _ ∙ then-assoc (closingOf ts) _ H ∙ then-assoc (modelOf ts) _ _ ∙ then-same (modelOf ts) (λ (n, us).
-      then-assoc (infoEnd us) _ _ ∙ then-same (infoEnd us) (λ (w, vs). then-value (n, vs) _ ∙ then-value (info m s n (front ts), vs) H)))))))))))
+      bind-again (toSemantics ts) _ H ∙ bind-again (titlesOf ts) _ _ ∙ titles-row ts _
+      ∙ bind-same (expect "{" ts) _ _ (λ (w, ts). bind-same (described "TITLE" ts) _ _ (λ (w, ts). bind-same (described "DESCRIPTION" ts) _ _ (λ (w, ts).
+      bind-again (expect "SEMANTICS" ts) _ _ ∙ bind-same (expect "SEMANTICS" ts) _ _ (λ (w, ts). bind-same (expect ":" ts) _ _ (λ (w, ts).
+      bind-again (modelOf ts) _ H ∙ bind-same (modelOf ts) _ _ (λ (m, ts).
+      bind-again (toTarget ts) _ H ∙ bind-again (strictOf ts) _ _ ∙ bind-same (strictOf ts) _ _ (λ (s, ts).
+      bind-again (pairOf "TARGET" ":" ts) _ _ ∙ bind-again (expect "TARGET" ts) _ _ ∙ bind-same (expect "TARGET" ts) _ _ (λ (w, ts). bind-same (expect ":" ts) _ _ (λ (w, ts).
+      bind-at (s, ts) _ ∙ bind-again (closingOf ts) _ H ∙ bind-again (modelOf ts) _ _ ∙ bind-same (modelOf ts) _ _ (λ (n, us).
+      bind-again (infoEnd us) _ _ ∙ bind-same (infoEnd us) _ _ (λ (w, vs). bind-at (n, vs) _ ∙ bind-at (info m s n (front ts), vs) H)))))))))))
 
 info-row : {B : Type 0} (K : Spec × Tokens → Result B) (ts : Tokens) → infoOf ts >>= K ≡ (expect "INFO" ts >>= λ (w, ts). row (λ (i, us). K (fromInfo i, us)) ts)
 info-row K ts =
-    then-assoc (expect "INFO" ts) _ K ∙ then-same (expect "INFO" ts) (λ (w, ts). then-assoc (expect "{" ts) _ K ∙ then-same (expect "{" ts) (λ (w, ts).
-    then-assoc (described "TITLE" ts) _ K ∙ then-same (described "TITLE" ts) (λ (w, ts). then-assoc (described "DESCRIPTION" ts) _ K ∙ then-same (described "DESCRIPTION" ts) (λ (w, ts).
-    then-assoc (expect "SEMANTICS" ts) _ K ∙ then-same (expect "SEMANTICS" ts) (λ (w, ts). then-assoc (expect ":" ts) _ K ∙ then-same (expect ":" ts) (λ (w, ts).
-    then-assoc (modelOf ts) _ K ∙ then-same (modelOf ts) (λ (m, ts). then-assoc (strictOf ts) _ K ∙ then-same (strictOf ts) (λ (s, ts).
-    then-assoc (expect "TARGET" ts) _ K ∙ then-same (expect "TARGET" ts) (λ (w, ts). then-assoc (expect ":" ts) _ K ∙ then-same (expect ":" ts) (λ (w, ts).
-    then-assoc (modelOf ts) _ K ∙ then-same (modelOf ts) (λ (n, us). then-assoc (infoEnd us) _ K ∙ then-same (infoEnd us) (λ (w, vs).
-    then-value (fromInfo (info m s n (front ts)), vs) K))))))))))))
+    bind-again (expect "INFO" ts) _ K ∙ bind-same (expect "INFO" ts) _ _ (λ (w, ts). bind-again (expect "{" ts) _ K ∙ bind-same (expect "{" ts) _ _ (λ (w, ts).
+    bind-again (described "TITLE" ts) _ K ∙ bind-same (described "TITLE" ts) _ _ (λ (w, ts). bind-again (described "DESCRIPTION" ts) _ K ∙ bind-same (described "DESCRIPTION" ts) _ _ (λ (w, ts).
+    bind-again (expect "SEMANTICS" ts) _ K ∙ bind-same (expect "SEMANTICS" ts) _ _ (λ (w, ts). bind-again (expect ":" ts) _ K ∙ bind-same (expect ":" ts) _ _ (λ (w, ts).
+    bind-again (modelOf ts) _ K ∙ bind-same (modelOf ts) _ _ (λ (m, ts). bind-again (strictOf ts) _ K ∙ bind-same (strictOf ts) _ _ (λ (s, ts).
+    bind-again (expect "TARGET" ts) _ K ∙ bind-same (expect "TARGET" ts) _ _ (λ (w, ts). bind-again (expect ":" ts) _ K ∙ bind-same (expect ":" ts) _ _ (λ (w, ts).
+    bind-again (modelOf ts) _ K ∙ bind-same (modelOf ts) _ _ (λ (n, us). bind-again (infoEnd us) _ K ∙ bind-same (infoEnd us) _ _ (λ (w, vs).
+    bind-at (fromInfo (info m s n (front ts)), vs) K))))))))))))
 
 -- GLOBAL
 abbrev withGlobals : Info → Globals → Spec
@@ -84,21 +85,21 @@ global-row {B} i K ts = go (next "GLOBAL" ts)
 
     same : found >>= K ≡ pairs >>= K′
     same =
-        then-assoc (expect "{" (rest ts)) _ K ∙ then-same (expect "{" (rest ts)) (λ (c, ts). then-assoc (optional "PARAMETERS" parameterOf ts) _ K ∙ then-same (optional "PARAMETERS" parameterOf ts) (λ (ps, ts).
-        then-assoc (optional "DEFINITIONS" definitionOf ts) _ K ∙ then-same (optional "DEFINITIONS" definitionOf ts) (λ (ds, ts). then-assoc (expect "}" ts) _ K ∙ then-same (expect "}" ts) (λ (c, ts).
-        then-value (withGlobals i (ps, ds), ts) K ∙ sym (then-value ((ps, ds), ts) K′))
-        ∙ sym (then-assoc (expect "}" ts) _ K′)) ∙ sym (then-assoc (optional "DEFINITIONS" definitionOf ts) _ K′)) ∙ sym (then-assoc (optional "PARAMETERS" parameterOf ts) _ K′)) ∙ sym (then-assoc (expect "{" (rest ts)) _ K′)
+        bind-again (expect "{" (rest ts)) _ K ∙ bind-same (expect "{" (rest ts)) _ _ (λ (c, ts). bind-again (optional "PARAMETERS" parameterOf ts) _ K ∙ bind-same (optional "PARAMETERS" parameterOf ts) _ _ (λ (ps, ts).
+        bind-again (optional "DEFINITIONS" definitionOf ts) _ K ∙ bind-same (optional "DEFINITIONS" definitionOf ts) _ _ (λ (ds, ts). bind-again (expect "}" ts) _ K ∙ bind-same (expect "}" ts) _ _ (λ (c, ts).
+        bind-at (withGlobals i (ps, ds), ts) K ∙ sym (bind-at ((ps, ds), ts) K′))
+        ∙ sym (bind-again (expect "}" ts) _ K′)) ∙ sym (bind-again (optional "DEFINITIONS" definitionOf ts) _ K′)) ∙ sym (bind-again (optional "PARAMETERS" parameterOf ts) _ K′)) ∙ sym (bind-again (expect "{" (rest ts)) _ K′)
 
     go : (b : Bool) → (elim b [ true ↦ found | false ↦ Done (fromInfo i, ts) ]) >>= K ≡ (elim b [ true ↦ pairs | false ↦ Done (([], []), ts) ]) >>= K′
     go true = same
-    go false = then-value (fromInfo i, ts) K ∙ sym (then-value (([], []), ts) K′)
+    go false = bind-at (fromInfo i, ts) K ∙ sym (bind-at (([], []), ts) K′)
 
 sections-row : {B : Type 0} (K : (Globals × List Subsection) × Tokens → Result B) (ts : Tokens) →
     (globalsOf ts >>= λ (g, ts). expect "MAIN" ts >>= λ (w, ts). expect "{" ts >>= λ (w, ts). subsectionsOf 9 [] ts >>= λ (m, us). K ((g, m), us)) ≡ sectionsOf ts >>= K
 sections-row K ts =
     sym
-    (then-assoc (globalsOf ts) _ K ∙ then-same (globalsOf ts) (λ (g, ts). then-assoc (expect "MAIN" ts) _ K ∙ then-same (expect "MAIN" ts) (λ (w, ts).
-    then-assoc (expect "{" ts) _ K ∙ then-same (expect "{" ts) (λ (w, ts). then-assoc (subsectionsOf 9 [] ts) _ K ∙ then-same (subsectionsOf 9 [] ts) (λ (m, us). then-value ((g, m), us) K)))))
+    (bind-again (globalsOf ts) _ K ∙ bind-same (globalsOf ts) _ _ (λ (g, ts). bind-again (expect "MAIN" ts) _ K ∙ bind-same (expect "MAIN" ts) _ _ (λ (w, ts).
+    bind-again (expect "{" ts) _ K ∙ bind-same (expect "{" ts) _ _ (λ (w, ts). bind-again (subsectionsOf 9 [] ts) _ K ∙ bind-same (subsectionsOf 9 [] ts) _ _ (λ (m, us). bind-at ((g, m), us) K)))))
 
 -- MAIN and the end, after a text's other sections
 abbrev mainAfter : Spec × Tokens → Result Spec
@@ -112,5 +113,5 @@ mainAfter (s, ts) = do
 -- the whole
 pub spec-parts : (ts : Tokens) → specOf ts ≡ (expect "INFO" ts >>= λ (w, ts). informationOf ts >>= λ (i, ts). sectionsOf ts >>= λ (y, ts). expectOf End ts >>= λ (w, ts). Done (specWith i y))
 spec-parts ts =
-    info-row _ ts ∙ then-same (expect "INFO" ts) (λ (w, ts).
-    sym (information-row _ ts) ∙ then-same (informationOf ts) (λ (i, ts). global-row i mainAfter ts ∙ sections-row (λ (y, ts). expectOf End ts >>= λ (w, ts). Done (specWith i y)) ts))
+    info-row _ ts ∙ bind-same (expect "INFO" ts) _ _ (λ (w, ts).
+    sym (information-row _ ts) ∙ bind-same (informationOf ts) _ _ (λ (i, ts). global-row i mainAfter ts ∙ sections-row (λ (y, ts). expectOf End ts >>= λ (w, ts). Done (specWith i y)) ts))

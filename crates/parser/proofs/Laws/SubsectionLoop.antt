@@ -10,6 +10,7 @@ use lib.ListN.{length, drop, getD, set}
 use lib.Seq.{getD-set-same, getD-set-other}
 use borrow.Author.Tests.{eqb-true, eqb-false}
 use Rattle.node.specs.Result.{Done, _>>=_}
+use Rattle.node.specs.ResultLaws.{bind-refused, bind-to}
 use Rattle.language.specs.Tree.{Subsection, Inputs, Outputs, Lines}
 use Rattle.language.specs.Grammar.{Tokens, Read, front, rest, stop, expect}
 use Rattle.language.specs.Sections.{HeadingRow, headings, headingOf, seen, subsectionOf, subsectionsOf}
@@ -24,7 +25,6 @@ use Rattle.entries.specs.Reads.{Reads}
 use Rattle.entries.specs.ReadsLaws.{kept-same}
 use Rattle.entries.specs.TokenReads.{took-none}
 use Rattle.parser.specs.Headings.{rowOf, headingNumber, headingCode, endOf, marked}
-use Rattle.parser.specs.Steps.{then-done, then-refused}
 use Rattle.parser.proofs.Laws.Rows.{Accepted, accepted, refusal}
 use Rattle.parser.proofs.Laws.Loops.{Going, going-start, going-refused, going-rest, going-more}
 use Rattle.parser.proofs.Laws.HeadingRows.{below-at, heading-out, heading-most, fresh, heading-number, Row, no-row, row-of, left, left-less}
@@ -131,7 +131,7 @@ module _ {x : Read (List Subsection)} {marks : List ℕ} {ts : Tokens} {w v : Li
 
     module _ (e : marked (getD marks n 0) ≡ false) {z : List ℕ} {q : Parse} (r : Reads ts v z d flatSubsection (subsectionOf (row .row .heading) (rest (drop (d .at) ts))) q) where
       pub subsections-stop : {i p : ℕ} → q ≡ NotParsed i p → Reads ts w z s (each flatSubsection) x q
-      subsections-stop m = going-refused (h .going) (r .kept) m (step (h .fuel) (h .before) (some (row .row)) (drop (d .at) ts) (word-fresh e) ∙ then-refused _ (refusal m r))
+      subsections-stop m = going-refused (h .going) (r .kept) m (step (h .fuel) (h .before) (some (row .row)) (drop (d .at) ts) (word-fresh e) ∙ bind-refused _ _ _ _ (refusal m r))
 
       pub subsection-further : {f : Cursor} → q ≡ Parsed f → d .at < f .at
       subsection-further m = let a = accepted m r in omega (arith, flatSubsection-some (a .value), a .took .out, a .took .onward .slack)
@@ -155,7 +155,7 @@ module _ {x : Read (List Subsection)} {marks : List ℕ} {ts : Tokens} {w v : Li
                 enough = omega (arith, fewer, h .enough);
                 going =
                     going-more (h .going) (r .kept) (a .value)
-                    (step (h .fuel) (h .before) (some (row .row)) (drop (d .at) ts) (word-fresh e) ∙ then-done _ (a .read)
+                    (step (h .fuel) (h .before) (some (row .row)) (drop (d .at) ts) (word-fresh e) ∙ bind-to _ _ _ (a .read)
                     ∙ ap (λ k. subsectionsOf k (row .row .number ∷ h .before) (drop (f .at) ts) >>= λ (ss, us). Done (a .value ∷ ss, us)) o)
                     (a .took);
               }

@@ -8,6 +8,7 @@ use lib.Dec.{eqb, ltb}
 use lib.ListN.{length, drop}
 use borrow.Author.Tests.{ltb-true, ltb-false, eqb-true, eq-eqb, ne-eqb}
 use Rattle.node.specs.Result.{Done, Refused, _>>=_}
+use Rattle.node.specs.ResultLaws.{bind-refused, bind-to}
 use Rattle.language.specs.Tokens.{Token, End, isOf}
 use Rattle.language.specs.Tree.{Subsection}
 use Rattle.language.specs.Grammar.{Tokens, Read, front, rest, next, expect, expectOf}
@@ -32,7 +33,6 @@ use Rattle.parser.specs.declared.Outline.the-variants.{Accepted as Answe
 use Rattle.parser.specs.Parts.{Globals, globalsOf, flatGlobals}
 use Rattle.parser.specs.Information.{informationOf}
 use Rattle.parser.specs.Outlines.{Informs, sectionsOf, flatSections, startOf, Answer, Outlined, notAccepted}
-use Rattle.parser.specs.Steps.{then-done, then-refused}
 use Rattle.parser.proofs.Laws.Rows.{Accepted, accepted, refusal, reads-refused, reads-tail}
 use Rattle.parser.proofs.Laws.Passing.{Passed, Stopped, stopped, passed-ready, expect-passed, expect-not, took-passed, class-here, class-elsewhere}
 use Rattle.parser.proofs.Laws.SpecParts.{specWith, spec-parts}
@@ -43,7 +43,7 @@ module _ {ts : Tokens} {w v : List ℕ} {c : Cursor} {q : Parse} (r : Reads ts w
   answer = sectionsOf (drop (c .at) ts)
 
   pub sections-global : {n p : ℕ} → q ≡ NotParsed n p → Reads ts w v c flatSections answer q
-  sections-global m = reads-refused m (then-refused _ (refusal m r)) (r .kept)
+  sections-global m = reads-refused m (bind-refused _ _ _ _ (refusal m r)) (r .kept)
 
   module _ {d : Cursor} (m : q ≡ Parsed d) where
     globals : Accepted ts v c d flatGlobals (globalsOf (drop (c .at) ts))
@@ -53,7 +53,7 @@ module _ {ts : Tokens} {w v : List ℕ} {c : Cursor} {q : Parse} (r : Reads ts w
     main-ready = globals .took .ready
 
     pub sections-main : {y : Parse} {n p : ℕ} → y ≡ expected v d 54 → y ≡ NotParsed n p → Reads ts w v c flatSections answer y
-    sections-main x o = reads-refused o (then-done _ (globals .read) ∙ then-refused _ (expect-not main-ready "MAIN" refl (stopped v d 54 x o))) (r .kept)
+    sections-main x o = reads-refused o (bind-to _ _ _ (globals .read) ∙ bind-refused _ _ _ _ (expect-not main-ready "MAIN" refl (stopped v d 54 x o))) (r .kept)
 
     module _ {e : Cursor} (h : Passed v d e 54) where
       pub open-ready : Ready ts v e
@@ -61,7 +61,7 @@ module _ {ts : Tokens} {w v : List ℕ} {c : Cursor} {q : Parse} (r : Reads ts w
 
       pub sections-open : {y : Parse} {n p : ℕ} → y ≡ expected v e 20 → y ≡ NotParsed n p → Reads ts w v c flatSections answer y
       sections-open x o =
-          reads-refused o (then-done _ (globals .read) ∙ then-done _ (expect-passed main-ready "MAIN" refl h) ∙ then-refused _ (expect-not open-ready "{" refl (stopped v e 20 x o))) (r .kept)
+          reads-refused o (bind-to _ _ _ (globals .read) ∙ bind-to _ _ _ (expect-passed main-ready "MAIN" refl h) ∙ bind-refused _ _ _ _ (expect-not open-ready "{" refl (stopped v e 20 x o))) (r .kept)
 
       module _ {f : Cursor} (g : Passed v e f 20) where
         pub subsections-ready : Ready ts v f
@@ -70,7 +70,7 @@ module _ {ts : Tokens} {w v : List ℕ} {c : Cursor} {q : Parse} (r : Reads ts w
         pub sections-read : {z : List ℕ} {y : Parse} → Reads ts v z f (each flatSubsection) (subsectionsOf 9 [] (drop (f .at) ts)) y → Reads ts w z c flatSections answer y
         sections-read last =
             reads-tail (λ m. (globals .value, m))
-            (then-done _ (globals .read) ∙ then-done _ (expect-passed main-ready "MAIN" refl h) ∙ then-done _ (expect-passed open-ready "{" refl g))
+            (bind-to _ _ _ (globals .read) ∙ bind-to _ _ _ (expect-passed main-ready "MAIN" refl h) ∙ bind-to _ _ _ (expect-passed open-ready "{" refl g))
             (λ m. refl) (r .kept) (took-passed (took-passed (globals .took) h (omega arith)) g (omega arith)) last
 
 -- the first token, before which nothing is read
@@ -107,7 +107,7 @@ module _ {ts : Tokens} {w : List ℕ} {count end : ℕ} (fits : Fits w (startOf 
 
   pub first-refused : {n p : ℕ} → Stopped w (startOf count end) 40 n p → specOf ts ≡ Refused n p
   first-refused h =
-      spec-parts ts ∙ then-refused _ (leave (next "INFO" ts) _ _ (first-number ∙ ne-eqb _ _ (h .kind)) ∙ same (h .number) (h .place ∙ first-place))
+      spec-parts ts ∙ bind-refused _ _ _ _ (leave (next "INFO" ts) _ _ (first-number ∙ ne-eqb _ _ (h .kind)) ∙ same (h .number) (h .place ∙ first-place))
     where
       same : {n p q : ℕ} → n ≡ 4 → p ≡ q → _≡_ {A = Read Token} (Refused 4 q) (Refused n p)
       same e f = cc
@@ -129,7 +129,7 @@ module _ {ts : Tokens} {w : List ℕ} {count end : ℕ} (fits : Fits w (startOf 
 
     module _ {s : Informed} (i : Informs ts w c (informationOf (drop (c .at) ts)) s) where
       pub info-refused : {n p : ℕ} → s .next ≡ NotParsed n p → specOf ts ≡ Refused n p
-      info-refused m = spec-parts ts ∙ then-done _ first-read ∙ then-refused _ (refusal m (i .reads))
+      info-refused m = spec-parts ts ∙ bind-to _ _ _ first-read ∙ bind-refused _ _ _ _ (refusal m (i .reads))
 
       module _ {d : Cursor} (m : s .next ≡ Parsed d) where
         info : Accepted ts w c d (λ x. []) (informationOf (drop (c .at) ts))
@@ -146,7 +146,7 @@ module _ {ts : Tokens} {w : List ℕ} {count end : ℕ} (fits : Fits w (startOf 
           all-kept = kept-fewer (omega arith) (r .kept)
 
           pub body-refused : {n p : ℕ} → q ≡ NotParsed n p → specOf ts ≡ Refused n p
-          body-refused o = spec-parts ts ∙ then-done _ first-read ∙ then-done _ (info .read) ∙ then-refused _ (refusal o r)
+          body-refused o = spec-parts ts ∙ bind-to _ _ _ first-read ∙ bind-to _ _ _ (info .read) ∙ bind-refused _ _ _ _ (refusal o r)
 
           module _ {e : Cursor} (o : q ≡ Parsed e) where
             body : Accepted ts v d e flatSections (sectionsOf (drop (d .at) ts))
@@ -156,14 +156,14 @@ module _ {ts : Tokens} {w : List ℕ} {count end : ℕ} (fits : Fits w (startOf 
             end-ready = body .took .ready
 
             up-to-end : specOf ts ≡ (expectOf End (drop (e .at) ts) >>= λ (t, us). Done (specWith (info .value) (body .value)))
-            up-to-end = spec-parts ts ∙ then-done _ first-read ∙ then-done _ (info .read) ∙ then-done _ (body .read)
+            up-to-end = spec-parts ts ∙ bind-to _ _ _ first-read ∙ bind-to _ _ _ (info .read) ∙ bind-to _ _ _ (body .read)
 
             pub not-end : (kindAt v e ≡ 0 → ⊥) → specOf ts ≡ Refused 4 (placeAt v e)
             not-end k =
-                up-to-end ∙ then-refused _ (leave (isOf End (front (drop (e .at) ts))) _ _ (class-elsewhere end-ready End refl k)) ∙ ap (Refused 4) (sym (ready-place end-ready))
+                up-to-end ∙ bind-refused _ _ _ _ (leave (isOf End (front (drop (e .at) ts))) _ _ (class-elsewhere end-ready End refl k)) ∙ ap (Refused 4) (sym (ready-place end-ready))
 
             at-end : kindAt v e ≡ 0 → specOf ts ≡ Done (specWith (info .value) (body .value))
-            at-end k = up-to-end ∙ then-done _ (pick (isOf End (front (drop (e .at) ts))) _ _ (class-here end-ready End refl k))
+            at-end k = up-to-end ∙ bind-to _ _ _ (pick (isOf End (front (drop (e .at) ts))) _ _ (class-here end-ready End refl k))
 
             written : outline (specWith (info .value) (body .value)) ≡ flatSections (body .value)
             written = sym (append-assoc (each flatParameter (body .value .0 .0)) (each flatDefinition (body .value .0 .1)) (each flatSubsection (body .value .1)))

@@ -1,8 +1,7 @@
 -- `write_entries` meets its contract: after i entries the rest is still to be stored.
-use Prim.Native.Nat.{_-_, _≤_}
+use Prim.Native.Nat.{_-_}
 use mathlib.Core.Path.{refl}
 use native.Mathlib.Omega.{arith}
-use borrow.Author.Needs.{needs}
 use Rattle.ports.specs.EntryRuns.{Stores, stores-none, stores-more, stores-all}
 use Rattle.ports.proofs.write_entries.Statement.{statement}
 use Rattle.ports.proofs.write_entries.Tie as tie

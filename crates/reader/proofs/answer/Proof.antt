@@ -1,8 +1,5 @@
 -- `answer` meets its contract: refused by 1 to 10, or the answer on the checked tree.
-use Prim.Native.Nat.{ℕ}
 use native.Mathlib.Omega.{arith}
-use lib.ListN.{length-replicate}
-use Rattle.language.specs.Limits.{maxTokens, maxNames}
 use Rattle.reader.specs.Checking.{tree-refused, some-parsed, tree-answers}
 use borrow.Author.Needs.{needs}
 use Rattle.reader.proofs.answer.Statement.{statement}

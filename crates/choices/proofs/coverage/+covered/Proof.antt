@@ -1,8 +1,8 @@
 -- Bit by bit: the words whose mark admits it, from the next bit on; at the last a word is left or none.
 use borrow.Author.Needs.{needs}
 use native.Mathlib.Omega.{arith}
-use mathlib.Core.Path.{refl, sym, _∙_}
-use Prim.Native.Nat.{_-_, _+_}
+use mathlib.Core.Path.{refl}
+use Prim.Native.Nat.{_-_}
 use Rattle.choices.specs.CoverageLaws.{rows-blank, rows-none, covered-none, covered-not, covered-both}
 use Prim.Native.Nat.{ℕ, _<_}
 use borrow.Fn.Kinds.{In}

@@ -1,8 +1,5 @@
 -- A byte is one of three marks.
-use borrow.Author.Needs.{needs}
-use native.Mathlib.Omega.{arith}
-use Prim.Native.Nat.{_+_, _-_, _≤_, _<_}
-use mathlib.Core.Path.{_≡_, refl, sym, ap, _∙_}
+use mathlib.Core.Path.{sym, ap}
 use Rattle.language.specs.Numbering.{admits}
 use Rattle.choices.specs.LiteralLaws.{mark-absent, mark-present, mark-star}
 use Rattle.choices.proofs.coverage.admits.Statement.{statement}

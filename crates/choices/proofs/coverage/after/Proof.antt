@@ -1,9 +1,8 @@
 -- From row to row: those so far are kept that admit the bit.
 use borrow.Author.Needs.{needs}
 use native.Mathlib.Omega.{arith}
-use Prim.Native.Nat.{_+_, _-_, _≤_, _<_}
-use mathlib.Core.Path.{_≡_, refl, sym, ap, _∙_}
-use lib.ListN.{length-set}
+use Prim.Native.Nat.{_-_}
+use mathlib.Core.Path.{sym, _∙_}
 use Rattle.choices.specs.CoverageLaws.{Keeping, keeping-none, row-full, keeping-row, keeping-not, keeping-all}
 use Rattle.choices.proofs.coverage.after.Statement.{statement}
 use Rattle.choices.proofs.coverage.after.Tie as tie

@@ -1,8 +1,8 @@
 -- From word to word: the rows so far are those of the words; at the end they are tested.
 use borrow.Author.Needs.{needs}
 use native.Mathlib.Omega.{arith}
-use Prim.Native.Nat.{_+_, _-_, _≤_, _<_}
-use mathlib.Core.Path.{_≡_, refl, sym, ap, _∙_}
+use Prim.Native.Nat.{_-_}
+use mathlib.Core.Path.{refl}
 use Rattle.choices.specs.CoverageLaws.{rows-blank}
 use Rattle.choices.specs.PromiseLaws.{Tabling, tabling-none, tabling-skip, tabling-narrow, tabling-room, tabling-word, tabling-empty, tabling-all, tabling-wide, unnamed-is}
 use Rattle.choices.proofs.coverage.leaves_unnamed.Statement.{statement}

@@ -1,6 +1,5 @@
 -- The fold so far, or the constant over nothing.
 use borrow.Author.Needs.{needs}
-use native.Mathlib.Omega.{arith}
 use Rattle.choices.specs.FoldLaws.{finishes-some, finishes-none}
 use borrow.Author.Needs.{needs}
 use Rattle.choices.proofs.folds.finish.Statement.{statement}

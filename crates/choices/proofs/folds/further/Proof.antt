@@ -1,7 +1,6 @@
 -- The first formula, or one joined to those before it.
 use borrow.Author.Needs.{needs}
-use native.Mathlib.Omega.{arith}
-use mathlib.Core.Path.{refl, sym, ap, _∙_}
+use mathlib.Core.Path.{sym, ap}
 use Rattle.node.specs.Kinds.{binaryKind}
 use Rattle.choices.specs.FoldLaws.{operator, furthers-first, furthers-more}
 use borrow.Author.Needs.{needs}

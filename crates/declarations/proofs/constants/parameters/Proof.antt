@@ -1,6 +1,5 @@
 -- `parameters` meets its contract: those from position j on are still to be worked out.
-use Prim.Native.Nat.{_+_, _-_, _≤_, _<_}
-use mathlib.Core.List.{List}
+use Prim.Native.Nat.{_-_, _≤_, _<_}
 use mathlib.Core.Path.{_≡_, refl, sym, ap, _∙_, subst}
 use native.Mathlib.Omega.{arith}
 use borrow.Author.Needs.{needs}
@@ -8,7 +7,7 @@ use lib.ListN.{length, getD, length-set}
 use Rattle.language.specs.Limits.{maxNames, maxTokens}
 use Rattle.language.specs.Tree.{Spec}
 use Rattle.language.specs.Declared.{Table}
-use Rattle.declarations.specs.Constants.{Parameters, ParametersGiven, Room, Turning, turning-starts, next-inside, next-small, next-expression, next-workable, next-told, turning-stopped, turning-more, turning-all}
+use Rattle.declarations.specs.Constants.{Parameters, Turning, turning-starts, next-inside, next-small, next-workable, next-told, turning-stopped, turning-more, turning-all}
 use Rattle.declarations.proofs.constants.parameters.Statement.{statement}
 use Rattle.declarations.proofs.constants.parameters.Tie as tie
 

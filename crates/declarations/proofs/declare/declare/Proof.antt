@@ -1,7 +1,7 @@
 -- `declare` meets its contract: the arrays that it lends are long enough.
 use Prim.Native.Nat.{ℕ}
 use native.Mathlib.Omega.{arith}
-use lib.ListN.{length, length-replicate}
+use lib.ListN.{length-replicate}
 use borrow.Author.Needs.{needs}
 use borrow.Author.Needs.{needs}
 use Rattle.declarations.proofs.declare.declare.Statement.{statement}

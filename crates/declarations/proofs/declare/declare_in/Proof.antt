@@ -1,8 +1,7 @@
 -- `declare_in` meets its contract: each stage asks for what the stage before leaves.
-use mathlib.Core.Path.{_≡_, _∙_}
+use mathlib.Core.Path.{_∙_}
 use native.Mathlib.Omega.{arith}
 use borrow.Author.Needs.{needs}
-use Rattle.declarations.specs.Constants.{Room}
 use Rattle.declarations.specs.Final.{sizings}
 use Rattle.declarations.specs.Closing.{tree-given, constants-refused, tableAfter, notes-after, sizes-refused, closing-room, closing, sizes-given, refused-declares}
 use borrow.Author.Needs.{needs}

@@ -6,7 +6,7 @@ use borrow.Author.Needs.{needs}
 use lib.ListN.{length, getD, length-set}
 use Rattle.language.specs.Limits.{maxTokens}
 use Rattle.lexer.specs.Stored.{offsetIn}
-use Rattle.declarations.specs.Describing.{Filled, filled-more, offsetAt, enumerationFor, Described}
+use Rattle.declarations.specs.Describing.{Filled, filled-more, offsetAt, enumerationFor}
 use Rattle.declarations.proofs.describe.describe.Statement.{statement}
 use Rattle.declarations.proofs.describe.describe.Tie as tie
 

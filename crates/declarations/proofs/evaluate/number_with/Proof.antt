@@ -1,5 +1,4 @@
 -- `number_with` meets its contract: the copied notes say what the notes say.
-use Prim.Native.Nat.{_≤_}
 use mathlib.Core.List.{[]}
 use native.Mathlib.Omega.{arith}
 use borrow.Author.Needs.{needs}

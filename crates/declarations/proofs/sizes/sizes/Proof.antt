@@ -1,6 +1,5 @@
 -- `sizes` meets its contract: what the inputs' turns leave is what the outputs' turns ask for.
 use mathlib.Core.Bool.{true, false}
-use mathlib.Core.Path.{_≡_, _∙_}
 use native.Mathlib.Omega.{arith}
 use borrow.Author.Needs.{needs}
 use Rattle.language.specs.Declared.{inputs, outputs}

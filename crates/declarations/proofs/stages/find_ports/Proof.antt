@@ -1,5 +1,4 @@
 -- `find_ports` meets its contract: the chosen entries are the inputs' and the outputs'.
-use mathlib.Core.Path.{_≡_, _∙_}
 use native.Mathlib.Omega.{arith}
 use borrow.Author.Needs.{needs}
 use Rattle.declarations.specs.Stages.{ins-small, ports-found, describe-room}

@@ -1,9 +1,8 @@
 -- `globals` meets its contract: the notes hold of the first table, and the chosen entries are the parameters'.
-use mathlib.Core.Path.{_≡_, _∙_}
 use native.Mathlib.Omega.{arith}
 use borrow.Author.Needs.{needs}
 use Rattle.notes.specs.FirstTable.{firstTable}
-use Rattle.declarations.specs.Stages.{given-notes, parameters-fit, parameters-given}
+use Rattle.declarations.specs.Stages.{parameters-fit, parameters-given}
 use borrow.Author.Needs.{needs}
 use Rattle.declarations.proofs.stages.globals.Statement.{statement}
 use Rattle.declarations.proofs.stages.globals.Tie as tie

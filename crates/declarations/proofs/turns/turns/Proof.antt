@@ -1,5 +1,5 @@
 -- `turns` meets its contract: the declarations from position j on wait for their turn.
-use Prim.Native.Nat.{ℕ, _+_, _-_, _≤_, _<_}
+use Prim.Native.Nat.{ℕ, _-_, _≤_, _<_}
 use mathlib.Core.Bool.{Bool, true}
 use mathlib.Core.List.{List}
 use mathlib.Core.Path.{_≡_, refl, sym, ap, _∙_, subst}
@@ -9,7 +9,6 @@ use lib.ListN.{length, getD, length-set}
 use Rattle.language.specs.Limits.{maxNames, maxTokens}
 use Rattle.language.specs.Tree.{Spec, Declaration}
 use Rattle.language.specs.Declared.{Table}
-use Rattle.declarations.specs.Constants.{Room}
 use Rattle.declarations.specs.Turns.{Declared, Before, before-set, Turning, turning-starts, next-inside, next-small, next-sizable, turning-stopped, turning-more, turning-all}
 use Rattle.declarations.proofs.turns.turns.Statement.{statement}
 use Rattle.declarations.proofs.turns.turns.Tie as tie

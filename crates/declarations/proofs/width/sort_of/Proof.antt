@@ -1,5 +1,4 @@
 -- `sort_of` meets its contract.
-use mathlib.Core.Path.{refl}
 use borrow.Author.Needs.{needs}
 use Rattle.declarations.specs.Widths.{sort-bus}
 use borrow.Author.Needs.{needs}

@@ -1,11 +1,9 @@
 -- `width_of` meets its contract, kind by kind.
-use Prim.Native.Nat.{_-_, _<_}
-use mathlib.Core.Path.{_≡_, refl, sym, ap, _∙_, subst}
-use native.Mathlib.Omega.{arith}
+use mathlib.Core.Path.{sym, ap, _∙_, subst}
 use borrow.Author.Needs.{needs}
 use Rattle.lexer.specs.Stored.{offsetIn}
 use Rattle.entries.specs.Stored.{kindOf}
-use Rattle.declarations.specs.Widths.{Sizing, IsSized, sizing-place, sizing-inside, sizes-signal, typed-there, sizes-typed, sizes-untyped, sizing-workable, sizes-refused, sizes-bus}
+use Rattle.declarations.specs.Widths.{IsSized, sizing-place, sizes-signal, typed-there, sizes-typed, sizes-untyped, sizing-workable, sizes-refused, sizes-bus}
 use borrow.Author.Needs.{needs}
 use Rattle.declarations.proofs.width.width_of.Statement.{statement}
 use Rattle.declarations.proofs.width.width_of.Tie as tie

@@ -1,5 +1,5 @@
 -- `expressions::stack::start_of` meets its contract. The loop's invariant: from where it stands, as many trees as are left begin where all of them do.
-use Prim.Native.Nat.{_-_, _≤_}
+use Prim.Native.Nat.{_≤_}
 use native.Mathlib.Omega.{arith}
 use mathlib.Core.Path.{_≡_, refl, sym, _∙_}
 use lib.ListN.{length}

@@ -11,6 +11,7 @@ use native.Mathlib.Omega.{arith}
 use borrow.Author.Tests.{leb-true}
 use Rattle.node.specs.Operators.{X, F, G}
 use Rattle.node.specs.Result.{Done, Refused, _>>=_}
+use Rattle.node.specs.ResultLaws.{bind-to}
 use Rattle.language.specs.Bytes.{isOneOf}
 use Rattle.language.specs.Tokens.{Fixed, Name, Numeral as Digits, Token, isOf, is}
 use Rattle.language.specs.Operators.{Size, FinallyIn, GloballyIn, Measures, Applies, Role, Plain, Counted, Windowed, Folding, InfixRow, PrefixRow, prefixes, loosest}
@@ -21,7 +22,7 @@ use Rattle.language.specs.Laws.Basics.Tests.{pick, leave, both, and-fals
 use Rattle.language.specs.Laws.Grammar.TreeTokens.{InExpr, InBinder, in-over}
 use Rattle.language.specs.Laws.Grammar.Lookahead.{Alike, alike-front, Inner, inner-of, more, opened}
 use Rattle.language.specs.Laws.Grammar.ReaderLaws.{Reads, prefixed, rephrase, weaken, some-taken, wider, narrow, done}
-use Rattle.language.specs.Laws.Grammar.ReadersInRow.{bind-to, rest-less, rest-inner, bind-before, bind, choose, take, one}
+use Rattle.language.specs.Laws.Grammar.ReadersInRow.{rest-less, rest-inner, bind-before, bind, choose, take, one}
 use Rattle.language.specs.Laws.Grammar.TokenReads.{among, is-inner, named-inner, sign, Is, Follows, follows-at, brace, bracket, tighter, expect-reads, expectOf-reads, signOf-reads}
 
 -- the rows of Table 1 name signs and words

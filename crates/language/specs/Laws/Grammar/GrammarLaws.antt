@@ -9,6 +9,7 @@ use lib.ListN.{length, length-append}
 use native.Mathlib.Omega.{arith}
 use borrow.Author.Tests.{eqb-true, leb-true}
 use Rattle.node.specs.Result.{Done, _>>=_}
+use Rattle.node.specs.ResultLaws.{bind-refused, bind-to}
 use Rattle.language.specs.Tokens.{Fixed, Name, Token, code, isOf}
 use Rattle.language.specs.Operators.{LeftToRight, RightToLeft, Associativity, InfixRow, infixes, prefixes}
 use Rattle.language.specs.Tree.{Expr, Truth, Joined}
@@ -18,7 +19,7 @@ use Rattle.language.specs.Laws.Basics.Tests.{pick, leave, some-none}
 use Rattle.language.specs.Laws.Grammar.TreeTokens.{InExpr}
 use Rattle.language.specs.Laws.Grammar.Lookahead.{alike-front, Begins, Near, alike, opened, more, more-is, more-comm}
 use Rattle.language.specs.Laws.Grammar.ReaderLaws.{Reads, prefixed, transfer, rephrase, weaken, same-answer, free, takes, done}
-use Rattle.language.specs.Laws.Grammar.ReadersInRow.{bind-to, bind-refused, bind-less, bind-before, bind, none-reads}
+use Rattle.language.specs.Laws.Grammar.ReadersInRow.{bind-less, bind-before, bind, none-reads}
 use Rattle.language.specs.Laws.Grammar.TokenReads.{Is, Follows, tighter}
 use Rattle.language.specs.Laws.Grammar.ExprReads.{prefix-none, infix-none, row-inner, truth, nameOf-reads, operandOf-reads}
 

@@ -7,6 +7,7 @@ use mathlib.Core.Path.{_≡_, refl, sym, ap, _∙_}
 use lib.ListN.{length}
 use native.Mathlib.Omega.{arith}
 use Rattle.node.specs.Result.{Done}
+use Rattle.node.specs.ResultLaws.{bind-refused, bind-to}
 use Rattle.language.specs.Tokens.{Name, Marks, Quoted, Token, isOf, is}
 use Rattle.language.specs.Tree.{Identifier}
 use Rattle.language.specs.Grammar.{Tokens, Read, front, rest, stop, expect, expectOf}
@@ -16,7 +17,7 @@ use Rattle.language.specs.Laws.Basics.Tests.{leave}
 use Rattle.language.specs.Laws.Grammar.TreeTokens.{InIdentifier}
 use Rattle.language.specs.Laws.Grammar.Lookahead.{inner-of, Begins, Near, opened}
 use Rattle.language.specs.Laws.Grammar.ReaderLaws.{Reads, move, weaken, some-taken, done}
-use Rattle.language.specs.Laws.Grammar.ReadersInRow.{bind-to, bind-refused, rest-less, bind-less, bind, choose-both, choose, take, one, none-reads}
+use Rattle.language.specs.Laws.Grammar.ReadersInRow.{rest-less, bind-less, bind, choose-both, choose, take, one, none-reads}
 use Rattle.language.specs.Laws.Grammar.TokenReads.{is-inner, sign, plain, Is, expect-reads, expectOf-reads}
 
 -- a token that is not the sign

@@ -9,6 +9,7 @@ use lib.Dec.{eqb}
 use native.Mathlib.Omega.{arith}
 use borrow.Author.Tests.{eq-eqb}
 use Rattle.node.specs.Result.{Done, Refused, _>>=_}
+use Rattle.node.specs.ResultLaws.{bind-to}
 use Rattle.language.specs.Bytes.{isOneOf}
 use Rattle.language.specs.Tokens.{Fixed, Token, isOf, is}
 use Rattle.language.specs.Tree.{Subsection, Inputs, Outputs, Lines}
@@ -19,7 +20,7 @@ use Rattle.language.specs.Laws.Basics.Tests.{pick, leave, some-none, and
 use Rattle.language.specs.Laws.Grammar.TreeTokens.{InSubsection}
 use Rattle.language.specs.Laws.Grammar.Lookahead.{alike-front, begins-any, Near, alike, opened}
 use Rattle.language.specs.Laws.Grammar.ReaderLaws.{Reads, prefixed, transfer, rephrase, some-taken, narrow, done}
-use Rattle.language.specs.Laws.Grammar.ReadersInRow.{bind-to, bind}
+use Rattle.language.specs.Laws.Grammar.ReadersInRow.{bind}
 use Rattle.language.specs.Laws.Grammar.TokenReads.{sign, Is, follows-at, brace, expect-reads}
 use Rattle.language.specs.Laws.Grammar.ExprReads.{row-inner}
 use Rattle.language.specs.Laws.Grammar.ListReads.{blockOf-reads}

@@ -5,20 +5,13 @@ use mathlib.Core.Bool.{Bool, true, false, false≢true}
 use mathlib.Core.Path.{_≡_, refl, sym, ap, _∙_, subst}
 use lib.ListN.{length, length-append}
 use native.Mathlib.Omega.{arith}
-use Rattle.node.specs.Result.{Result, Done, Refused, _>>=_}
+use Rattle.node.specs.Result.{Done, Refused, _>>=_}
+use Rattle.node.specs.ResultLaws.{bind-refused, bind-to}
 use Rattle.language.specs.Tokens.{Token}
 use Rattle.language.specs.Grammar.{Tokens, Read, front, rest, stop}
 use Rattle.language.specs.Laws.Basics.Tests.{pick, leave}
 use Rattle.language.specs.Laws.Grammar.Lookahead.{Alike, alike-front, Inner, Begins, begins-more, Near, alike, opened, near-more, near-test}
 use Rattle.language.specs.Laws.Grammar.ReaderLaws.{Completes, Reads, move, prefixed, transfer}
-
-pub bind-to : {A B : Type 0} (r : Result A) (a : A) (K : A → Result B) → r ≡ Done a → r >>= K ≡ K a
-unfolding _>>=_
-bind-to r a K e = rw e
-
-pub bind-refused : {A B : Type 0} (r : Result A) (number p : ℕ) (K : A → Result B) → r ≡ Refused number p → r >>= K ≡ Refused number p
-unfolding _>>=_
-bind-refused r number p K e = rw e
 
 pub rest-less : (ts : Tokens) → length (rest ts) ≤ length ts - 1
 rest-less [] = omega arith

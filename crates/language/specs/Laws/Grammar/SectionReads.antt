@@ -7,6 +7,7 @@ use mathlib.Core.Path.{_≡_, refl, ap}
 use lib.ListN.{length}
 use native.Mathlib.Omega.{arith}
 use Rattle.node.specs.Result.{Done, _>>=_}
+use Rattle.node.specs.ResultLaws.{bind-refused}
 use Rattle.language.specs.Tokens.{Name, Quoted, Token, isOf, is}
 use Rattle.language.specs.Operators.{loosest}
 use Rattle.language.specs.Tree.{Expr, Definition, Defined, Enumerated, Parameter, Declaration, OneSignal, OfWidth, OfType, Model, Mealy, Moore, Spec}
@@ -16,7 +17,7 @@ use Rattle.language.specs.Laws.Basics.Lists.{Any}
 use Rattle.language.specs.Laws.Grammar.TreeTokens.{InExpr, InParameter, InDefinition, InDeclaration, InSpec}
 use Rattle.language.specs.Laws.Grammar.Lookahead.{inner-of}
 use Rattle.language.specs.Laws.Grammar.ReaderLaws.{Reads, rephrase, weaken, some-taken, done}
-use Rattle.language.specs.Laws.Grammar.ReadersInRow.{bind-refused, bind-before, bind, choose, take, one, one-of}
+use Rattle.language.specs.Laws.Grammar.ReadersInRow.{bind-before, bind, choose, take, one, one-of}
 use Rattle.language.specs.Laws.Grammar.TokenReads.{is-inner, sign, plain, Is, Follows, follows-at, brace, bracket, expect-reads, expectOf-reads}
 use Rattle.language.specs.Laws.Grammar.ExprReads.{truth}
 use Rattle.language.specs.Laws.Grammar.GrammarLaws.{upTo-reads}

@@ -7,6 +7,7 @@ use mathlib.Core.Path.{_≡_, refl, sym, ap, _∙_, subst}
 use lib.ListN.{length}
 use native.Mathlib.Omega.{arith}
 use Rattle.node.specs.Result.{Result, Done, Refused, _>>=_}
+use Rattle.node.specs.ResultLaws.{bind-refused, bind-to}
 use Rattle.language.specs.Tokens.{End, Token, isOf}
 use Rattle.language.specs.Tree.{Subsection, Spec}
 use Rattle.language.specs.Grammar.{Tokens, Read, front, rest, expect, expectOf}
@@ -17,7 +18,7 @@ use Rattle.language.specs.Laws.Basics.Results.{Answers}
 use Rattle.language.specs.Laws.Grammar.TreeTokens.{InSpec}
 use Rattle.language.specs.Laws.Grammar.Lookahead.{Alike, alike-front, alike-refl, Inner, alike, opened}
 use Rattle.language.specs.Laws.Grammar.ReaderLaws.{Accepts, Stops, Reads, some-taken, done}
-use Rattle.language.specs.Laws.Grammar.ReadersInRow.{bind-to, bind-refused, bind}
+use Rattle.language.specs.Laws.Grammar.ReadersInRow.{bind}
 use Rattle.language.specs.Laws.Grammar.TokenReads.{sign, plain, Is, expect-reads}
 use Rattle.language.specs.Laws.Grammar.SectionReads.{infoOf-reads, globalOf-reads}
 use Rattle.language.specs.Laws.Grammar.MainReads.{subsectionsOf-reads}

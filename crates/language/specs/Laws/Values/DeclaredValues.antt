@@ -8,7 +8,7 @@ use lib.Dec.{leb}
 use native.Mathlib.Omega.{arith}
 use borrow.Author.Tests.{leb-true, le-leb}
 use Rattle.node.specs.Result.{Result, Done, Refused, _>>=_}
-use Rattle.node.specs.ResultLaws.{bind-done}
+use Rattle.node.specs.ResultLaws.{bind-done, bind-again, bind-same, bind-to}
 use Rattle.language.specs.Limits.{maxWidth}
 use Rattle.language.specs.Bytes.{same}
 use Rattle.language.specs.Tokens.{Token}
@@ -18,8 +18,6 @@ use Rattle.language.specs.Values.{Number, Logic, Bus, Unsized, Choice, n
 use Rattle.language.specs.Declared.{Constant, Single, BusOf, Identifies, WaitingBus, Table, find, declared, defining, identifiers, wordsOfType, wordWidth, Port, sized, portOf, asDeclared, Turns, turns, waiting, constants, inputs, outputs, Declarations, declarations}
 use Rattle.language.specs.Laws.Basics.Lists.{All}
 use Rattle.language.specs.Laws.Basics.Tests.{pick, split, and-left, and-right, same-equal, same-refl}
-use Rattle.language.specs.Laws.Basics.Binds.{bind-same, bind-again}
-use Rattle.language.specs.Laws.Grammar.ReadersInRow.{bind-to}
 use Rattle.language.specs.Laws.Basics.Exactly.{Exactly, exactly, exactly-if, exactly-as}
 
 -- a name that stands somewhere, by what it is declared to be

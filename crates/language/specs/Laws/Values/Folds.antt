@@ -4,11 +4,10 @@ use Prim.Native.Nat.{ℕ}
 use mathlib.Core.Path.{_≡_, refl, sym, ap, _∙_}
 use mathlib.Core.List.{List, [], _∷_, _++_}
 use Rattle.node.specs.Result.{Result, Done, Refused, _>>=_}
+use Rattle.node.specs.ResultLaws.{bind-again, bind-refused, bind-same, bind-to, bind-value}
 use Rattle.language.specs.Operators.{Plus, Times, Cup, Cap, Big, BigSum, BigProduct, BigCap, BigCup, BigAnd, BigOr}
 use Rattle.language.specs.Sets.{combine}
 use Rattle.language.specs.Values.{Value, Number, Set, Logic, number, set, calculate, limited, onward, folded, big}
-use Rattle.language.specs.Laws.Basics.Binds.{bind-same, bind-again, bind-value}
-use Rattle.language.specs.Laws.Grammar.ReadersInRow.{bind-to, bind-refused}
 
 -- any fold
 module _ {A : Type 0} (step : A → A → Result A) (none : Result A) (f : ℕ → Result A) where

@@ -1,6 +1,5 @@
 -- `store` meets its contract: a place past the end stores nothing.
 use mathlib.Core.Path.{sym}
-use native.Mathlib.Omega.{arith}
 use lib.Seq.{set-out}
 use borrow.Author.Needs.{needs}
 use borrow.Author.Needs.{needs}

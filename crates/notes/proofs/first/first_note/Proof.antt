@@ -1,9 +1,8 @@
 -- `first_note` meets its contract.
 use Prim.Native.Nat.{_<_}
-use mathlib.Core.Path.{_≡_, refl, sym, ap, _∙_, subst}
+use mathlib.Core.Path.{sym, ap, subst}
 use native.Mathlib.Omega.{arith}
 use borrow.Author.Needs.{needs}
-use lib.ListN.{getD}
 use Rattle.language.specs.Limits.{maxTokens}
 use Rattle.entries.specs.Stored.{kindOf}
 use Rattle.notes.specs.Noting.{found-inside, noted-as, unnoted}

@@ -1,5 +1,4 @@
 -- `finish` meets its contract: 14, 15, and what is handed over.
-use native.Mathlib.Omega.{arith}
 use Rattle.reader.specs.Finishing.{finish-models, finish-many, finish-few, finish-gathering}
 use borrow.Author.Needs.{needs}
 use Rattle.reader.proofs.ending.finish.Statement.{statement}

@@ -1,49 +1,17 @@
--- The names visible at a line: they are declared, and no definition that is still to come defines one of them (refusal 7).
-use mathlib.Core.Bool.{true, _||_, false≢true}
+-- The names visible at a line: no definition that is still to come defines one of them (refusal 7).
+use mathlib.Core.Bool.{true, false≢true}
 use mathlib.Core.List.{List, [], _∷_, _++_, append-assoc}
-use mathlib.Core.Path.{_≡_, refl, sym, ap, ap₂, _∙_, subst}
+use mathlib.Core.Path.{_≡_, refl, sym, ap, _∙_, subst}
 use Rattle.language.specs.Bytes.{same}
 use Rattle.language.specs.Tokens.{Token}
 use Rattle.language.specs.Tree.{Expr, Identifier, Definition, Defined, Enumerated, Parameter, Spec}
-use Rattle.language.specs.Places.{Entry, ParameterLine, DefinitionLine, DeclarationLine, FormulaLine, parameterLines, definitionLines, mainLines, allLines}
+use Rattle.language.specs.Places.{Entry, DefinitionLine, parameterLines, definitionLines, mainLines, allLines}
 use Rattle.language.specs.Names.{Names, visible, declares, declaresSignal, over}
 use Rattle.language.specs.Laws.Basics.Lists.{All, all-more, all-left, all-right, all-append, all-both, all-swap}
-use Rattle.language.specs.Laws.Basics.Tests.{or-left, or-right, or-cases, same-equal, same-refl}
+use Rattle.language.specs.Laws.Basics.Tests.{or-cases, same-equal}
 use Rattle.language.specs.Laws.Values.DistinctNames.{Apart, apart-sym, Distinct, distinct-right, Across, across}
-use Rattle.names.specs.AlikeLaws.{alike-pushed}
-use Rattle.names.specs.Resolved.{declaredNames}
-use Rattle.values.specs.WorldsLaws.{Among, Elsewhere}
-
--- a name of its own list is visible
-abbrev pub In : Names → Token → Type 0
-In ns n = visible ns n ≡ true
-
-visible-text : (ns : Names) (t u : Token) → t .text ≡ u .text → visible ns t ≡ visible ns u
-visible-text [] t u e = refl
-visible-text (n ∷ ns) t u e = ap₂ _||_ (ap (same (n .text)) e) (visible-text ns t u e)
-
-visible-left : (ns ms : Names) (t : Token) → visible ns t ≡ true → visible (ns ++ ms) t ≡ true
-visible-left [] ms t y = absurd (false≢true y)
-visible-left (n ∷ ns) ms t y = or-cases (same (n .text) (t .text)) (visible ns t) (λ e. or-left _ (visible (ns ++ ms) t) e) (λ e. or-right (same (n .text) (t .text)) _ (visible-left ns ms t e)) y
-
-in-own : (ns : Names) → All (In ns) ns
-in-own [] = tt
-in-own (n ∷ ns) = (or-left _ (visible ns n) (same-refl (n .text)), all-more (λ m h. or-right (same (n .text) (m .text)) _ h) ns (in-own ns))
-
-pub in-declared : (x : Spec) → All (In (declaredNames x)) (over declares (allLines x))
-in-declared x =
-    let ns = over declares (allLines x) in
-    all-more (λ n h. alike-pushed ns [] .sees n ∙ visible-left ns [] n h) ns (in-own ns)
-
-pub among-more : (ms ns names : Names) → All (In names) ms → Among ns names → Among (ms ++ ns) names
-among-more [] ns names h g t y = g t y
-among-more (m ∷ ms) ns names h g t y =
-    or-cases (same (m .text) (t .text)) (visible (ms ++ ns) t)
-    (λ e. sym (visible-text names m t (same-equal (m .text) (t .text) e)) ∙ h .0)
-    (λ e. among-more ms ns names (h .1) g t e) y
-
-pub among-all : (ns names : Names) → All (In names) ns → Among ns names
-among-all ns names h t y = among-more ns [] names h (λ u z. absurd (false≢true z)) t (visible-left ns [] t y)
+use Rattle.names.specs.VisibleLaws.{of-signals}
+use Rattle.values.specs.WorldsLaws.{Elsewhere}
 
 -- the names of some definitions
 abbrev pub ownNames : List Definition → Names
@@ -75,16 +43,6 @@ module _ (P : Token → Type 0) where
   of-definitions (d ∷ ds) ls h =
       let own = declares (DefinitionLine d) in
       all-append P own (ownNames ds) (all-left P own (over declares (definitionLines ds ls)) h) (of-definitions ds ls (all-right P own (over declares (definitionLines ds ls)) h))
-
-  -- signals are declared by lines
-  pub of-signals : (ls : List Entry) → All P (over declares ls) → All P (over declaresSignal ls)
-  of-signals [] h = tt
-  of-signals (ParameterLine x e ∷ ls) h = of-signals ls (h .1)
-  of-signals (DefinitionLine d ∷ ls) h = of-signals ls (all-right P (declares (DefinitionLine d)) (over declares ls) h)
-  of-signals (DeclarationLine d ∷ ls) h =
-      let own = declares (DeclarationLine d) in
-      all-append P own (over declaresSignal ls) (all-left P own (over declares ls) h) (of-signals ls (all-right P own (over declares ls) h))
-  of-signals (FormulaLine e ∷ ls) h = of-signals ls h
 
 pub over-definitions : (ds : List Definition) (ls : List Entry) → over declares (definitionLines ds ls) ≡ ownNames ds ++ over declares ls
 over-definitions [] ls = refl
