@@ -1,4 +1,5 @@
 // From a text's bytes to its checked tree: refusals 1 to 10, or the tree in the work buffer with what each of its names refers to.
+// `check` asks for a work buffer and tables of full length; `read` refuses a shorter buffer (17) and lends the tables.
 use depth::too_deep;
 use enumerations::wrong_words;
 use names::Naming;

@@ -1,4 +1,5 @@
 // The words of enumerations, which stand behind their identifiers' entries: as nodes, by their width, and whether they leave a word unnamed.
+// The functions ask for the entry of an identifier or an enumeration of a stored tree: their callers come to it by a name's reference.
 use enumerations::byte_at;
 use node::MAX_NODES;
 use node::Node;

@@ -1,4 +1,5 @@
 // What the declared names of a text stand for: parameters' numbers, widths of buses, the signals by number.
+// The functions ask for a checked tree, whose names are resolved, and for arrays of full length: `read` calls `declare` with both.
 mod constants;
 pub mod declare;
 mod describe;

@@ -1,4 +1,5 @@
 // Refusal 5 over the stored tree: 'tree too deep', at the outermost expression's first token. One pass, with a stack of the operands' levels and starts.
+// `too_deep` asks for a work buffer of full length and entries within it.
 use traversal::FIRST_LINE;
 use traversal::Place;
 use traversal::cell_at;

@@ -1,4 +1,5 @@
 // How a text's tree stands in the work buffer: the cursor by which the parser reads tokens and writes entries.
+// A cursor's methods ask that it stands on a token and that there is room for an entry: a token that was read pays for each entry.
 use words::get;
 use words::put;
 ghost use mathlib.Core.Path.{_≡_};

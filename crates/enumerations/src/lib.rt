@@ -1,5 +1,6 @@
 // Refusal 10 over the stored tree: 'words unequal, too long or many, or one valuation under two identifiers', at 'the later word'. One pass, with the words of one
 // enumeration in 16 rows of 8 marks.
+// `wrong_words` asks for a work buffer of full length, entries within it, and no more.
 use traversal::Cell;
 use traversal::Place;
 use traversal::cell_at;

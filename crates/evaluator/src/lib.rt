@@ -1,4 +1,5 @@
 // The evaluator: a row of bits for every node of a table over a recorded lasso word, and the verdict (document 01, 'Recordings').
+// The public entry points `evaluate` and `judge` ask nothing; the functions of the modules ask for what `examine` has tested before any is called.
 ghost use mathlib.Core.Path.{_≡_};
 ghost use lib.ListN.{length};
 ghost use Rattle.node.specs.Answer.{says};

@@ -1,4 +1,5 @@
 // The lexer: a text's bytes to one word for each token in a lent buffer (refusals 1 to 3).
+// `lex` asks for a buffer with room for the token words; `read` refuses a shorter one (17). The pieces ask for a place within the text.
 mod numbers;
 mod piece;
 mod search;

@@ -1,4 +1,5 @@
 // The lines of a text: their formulas one after the other in a table of nodes, with a word for each that has its part and its size.
+// `gather` asks for a checked tree, its declarations worked out, and arrays of full length: `read` has all three.
 use assembly::ASSERT;
 use assembly::REQUIRE;
 use assembly::add_line;

@@ -1,4 +1,5 @@
 // Names over the stored tree: refusals 6, 7 and 8, and each name resolved once.
+// `resolve` and its parts ask for a stored outline and for arrays of full length, which `resolve` itself makes.
 mod declare;
 mod entry;
 mod intern;

@@ -1,4 +1,5 @@
 // A text's bytes to its outline: lexer, then parser (refusals 1 to 4).
+// `outlined` asks for a work buffer of full length; `read` refuses a shorter one (17).
 use lexer::Lexed;
 use lexer::lex;
 use parser::Facts;

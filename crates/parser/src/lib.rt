@@ -1,4 +1,5 @@
 // The parser: a text's tokens to its outline, the entries of its tree (refusal 4).
+// `parse` asks for stored tokens, as `lex` leaves them; its parts ask for a cursor on them.
 mod blocks;
 mod enumeration;
 mod info;

@@ -1,4 +1,5 @@
 // Signals by number: the signal list of a text's ports, the number of each name's first signal, and refusal 15.
+// `list_signals` asks for tables of full length and for ports whose names and widths are noted, as `declarations` leaves them.
 ghost use mathlib.Core.List.{List};
 ghost use mathlib.Core.Path.{_≡_};
 ghost use Prim.Native.Nat.{ℕ, _+_, _<_, _≤_, _^_, max};

@@ -1,4 +1,5 @@
 // One pass over the entries of a text's tree, operands before their operators, with a stack of what is known of the operands.
+// The functions ask for an index within the lent buffers and a kind of six bits: every pass goes over the entries, whose words hold no others.
 use words::get;
 ghost use mathlib.Core.Path.{_≡_};
 ghost use Prim.Native.Nat.{_-_, _≤_, _<_};

@@ -1,4 +1,5 @@
 // Refusal 9 over the stored tree: 'operand, width, declaring type or a line's expression of a wrong type'. One pass, with a stack of the operands' types and starts.
+// `wrong_type` asks for buffers of full length and entries within them.
 mod kinds;
 mod table;
 

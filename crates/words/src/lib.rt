@@ -1,4 +1,5 @@
 // Big-endian 32-bit words in a lent byte buffer: word i is the bytes 4 i to 4 i + 3.
+// `get` and `put` ask for a word that lies in the buffer.
 ghost use mathlib.Core.Path.{_≡_};
 ghost use Prim.Native.Nat.{_+_, _*_, _≤_, _<_, min};
 ghost use lib.ListN.{length};

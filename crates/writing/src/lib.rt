@@ -1,4 +1,5 @@
 // Writing a formula's nodes into a table of 8,192: every node through `put`, which answers the next index, 8,193 where there is no room.
+// The functions ask for operator codes and signal numbers that a node's fields hold; nobody has to ask for room, since what does not fit is the index 8,193.
 use node::MAX_NODES;
 use node::Node;
 ghost use mathlib.Core.List.{_∷_, []};
