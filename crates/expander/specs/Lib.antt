@@ -1,4 +1,5 @@
 pub mod Shapes
+pub mod Prefixes
 pub mod ShapeLaws
 pub mod Expanding
 pub mod Answering
@@ -21,3 +22,5 @@ pub mod CallLaws
 pub mod CompareSteps
 pub mod BusSteps
 pub mod FormulaCalls
+pub mod Chains
+pub mod ChainLaws

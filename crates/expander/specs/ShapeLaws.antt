@@ -5,6 +5,7 @@ use mathlib.Core.List.{List, [], _∷_, _++_}
 use mathlib.Core.Option.{Option, none, some}
 use mathlib.Core.Path.{_≡_, refl, sym, ap, _∙_, subst}
 use native.Mathlib.Omega.{arith}
+use native.Mathlib.Decide.{decLt}
 use lib.Dec.{eqb}
 use lib.ListN.{length, List·getD-eq-default}
 use borrow.Author.Tests.{eqb-true, eqb-false}
@@ -21,6 +22,7 @@ use Rattle.entries.specs.Stored.{EndsAt, At}
 use Rattle.entries.specs.StoredLaws.{entry-kind, ends-own}
 use Rattle.sets.specs.Operators.{comparison}
 use Rattle.evaluation.specs.Entries.{kindAt}
+use Rattle.expander.specs.Prefixes.{Operand}
 use Rattle.expander.specs.Shapes.{Shape, aName, aMisfit, anIndex, aParen, aMembership, aNexts, aTruth, aUnary, aComparison, aBinary, aWindow, aBig, shapes, shapeOf, ofPrefix, ofInfix, ofExpr, UnaryIs, BinaryIs, WindowIs}
 
 of-truth : (b : Bool) → shapeOf (Kind.truth b) ≡ aTruth b
@@ -122,6 +124,19 @@ pub misfit-values : (k : ℕ) → 14 ≤ k → k < 22 → shapeOf k ≡ aMisfit
 misfit-values k h l =
     from Misfit 14 k refl (from Misfit 15 k refl (from Misfit 16 k refl (from Misfit 17 k refl (from Misfit 18 k refl (from Misfit 19 k refl (from Misfit 20 k refl (from Misfit 21 k refl (λ g. absurd (omega arith))))))))) h
 
+-- a value's kind before the comparisons: no parenthesis, no prefix operator of formulas
+pub misfit-operands : (k : ℕ) → Operand k → 5 ≤ k → k < 22 → shapeOf k ≡ aMisfit
+misfit-operands k h l m = go (decLt k 10) (decLt k 14)
+  where
+    beyond : Dec (5 < k) → 6 ≤ k
+    beyond (yes b) = omega arith
+    beyond (no b) = absurd (h .no-parenthesis (omega arith))
+
+    go : Dec (k < 10) → Dec (k < 14) → shapeOf k ≡ aMisfit
+    go (yes a) d = misfit-measures k (beyond (decLt 5 k)) a
+    go (no a) (yes b) = absurd (h .no-operator (omega arith) b)
+    go (no a) (no b) = misfit-values k (omega arith) m
+
 pub misfit-sets : (k : ℕ) → 45 ≤ k → shapeOf k ≡ aMisfit
 misfit-sets k h = List·getD-eq-default shapes aMisfit {n = k} (omega arith)
 
@@ -145,6 +160,12 @@ big-kind k h l =
     let P : ℕ → Type 0 = BigIs in
     from P 39 k (record { operator = BigSum; shape = refl }) (from P 40 k (record { operator = BigProduct; shape = refl }) (from P 41 k (record { operator = BigCap; shape = refl }) (from P 42 k (record { operator = BigCup; shape = refl })
     (from P 43 k (record { operator = BigAnd; shape = refl }) (from P 44 k (record { operator = BigOr; shape = refl }) (λ g. absurd (omega arith))))))) h
+
+-- a prefix operator's shape
+pub unary-shape : (k : ℕ) → 10 ≤ k → k < 14 → (o : Unary) × (shapeOf k ≡ aUnary o)
+unary-shape k h l =
+    let P : ℕ → Type 0 = λ i. (o : Unary) × (shapeOf i ≡ aUnary o) in
+    from P 10 k (Not, refl) (from P 11 k (X, refl) (from P 12 k (G, refl) (from P 13 k (F, refl) (λ g. absurd (omega arith))))) h
 
 pub unary-small : (o : Unary) → unaryKind o < 16
 unary-small Not = omega arith

@@ -11,8 +11,8 @@ use Rattle.expander.specs.CallLaws.{before-room}
 use Rattle.expander.specs.FormulaCalls.{entry-room, window-some, window-second, window-inside, first-ready, second-ready, third-prepared}
 use Rattle.expander.specs.ValueSteps as steps
 use Rattle.expander.proofs.formulas.between.Reads as between
-use Rattle.expander.proofs.formulas.+between+binary+defined+each+folded+formula_at+named+operated+repeated+unary.Lts-between as between-lts
-use Rattle.expander.proofs.formulas.+between+binary+defined+each+folded+formula_at+named+operated+repeated+unary.Proof.Calls.{between-at, between-calls}
+use Rattle.expander.proofs.formulas.+between+binary+defined+each+folded+formula_at+named+operand_at+repeated.Lts-between as between-lts
+use Rattle.expander.proofs.formulas.+between+binary+defined+each+folded+formula_at+named+operand_at+repeated.Proof.Calls.{between-at, between-calls}
 
 pub between-met : (t : ℕ) {M : Type 1} → between-lts.Closed (between-calls t) (between-at t) between.Post M
 between-met t =

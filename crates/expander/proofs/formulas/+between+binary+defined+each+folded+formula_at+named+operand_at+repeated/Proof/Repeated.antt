@@ -10,8 +10,8 @@ use Rattle.expander.specs.CallLaws.{before-room, two-some, two-inside, l
 use Rattle.expander.specs.FormulaCalls.{valued-prepared}
 use Rattle.expander.specs.ValueSteps.{nexts-left, nexts-right, nexts-done}
 use Rattle.expander.proofs.formulas.repeated.Reads as repeated
-use Rattle.expander.proofs.formulas.+between+binary+defined+each+folded+formula_at+named+operated+repeated+unary.Lts-repeated as repeated-lts
-use Rattle.expander.proofs.formulas.+between+binary+defined+each+folded+formula_at+named+operated+repeated+unary.Proof.Calls.{repeated-at, repeated-calls}
+use Rattle.expander.proofs.formulas.+between+binary+defined+each+folded+formula_at+named+operand_at+repeated.Lts-repeated as repeated-lts
+use Rattle.expander.proofs.formulas.+between+binary+defined+each+folded+formula_at+named+operand_at+repeated.Proof.Calls.{repeated-at, repeated-calls}
 
 pub repeated-met : (t : ℕ) {M : Type 1} → repeated-lts.Closed (repeated-calls t) (repeated-at t) repeated.Post M
 repeated-met t =
