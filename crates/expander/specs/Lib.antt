@@ -1,6 +1,3 @@
-pub mod Shapes
-pub mod Prefixes
-pub mod ShapeLaws
 pub mod Expanding
 pub mod Answering
 pub mod LastingLaws

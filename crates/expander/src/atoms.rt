@@ -7,7 +7,7 @@ ghost use mathlib.Core.Bool.{false};
 ghost use Rattle.language.specs.Limits.{maxElements};
 ghost use Rattle.evaluation.specs.Working.{source, state, Ready};
 ghost use Rattle.expander.specs.Expanding.{tables, Prepared, Writes};
-ghost use Rattle.expander.specs.Prefixes.{Operand};
+ghost use Rattle.shapes.specs.Prefixes.{Operand};
 ghost use Rattle.expander.specs.Buses.{reachedOf, unreachedOf, BusAt};
 use crate::MISFIT;
 use crate::NOT_VISIBLE;

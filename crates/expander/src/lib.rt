@@ -7,7 +7,6 @@ mod atoms;
 mod comparisons;
 pub mod formulas;
 mod marks;
-mod operators;
 mod prefixes;
 mod signals;
 

@@ -1,7 +1,5 @@
 -- `capped` meets its contract. The loop's invariant: the operators up to entry i stand above the nodes, which end at n.
 use Prim.Native.Nat.{_-_, _≤_}
-use mathlib.Core.Path.{_≡_, sym}
-use native.Mathlib.Numerals.{add-one}
 use native.Mathlib.Omega.{arith}
 use Rattle.expander.specs.Chains.{Capped}
 use Rattle.expander.specs.ChainLaws.{capped-none, capped-next, capped-last}

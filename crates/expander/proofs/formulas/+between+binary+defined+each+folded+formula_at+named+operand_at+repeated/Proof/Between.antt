@@ -1,12 +1,10 @@
 -- `between` meets its contract.
-use Prim.Native.Nat.{ℕ, _+_, _-_, _*_, _≤_, _<_}
-use mathlib.Core.Path.{_≡_, refl, sym, ap, _∙_}
+use Prim.Native.Nat.{ℕ}
+use mathlib.Core.Path.{_∙_}
 use native.Mathlib.Omega.{arith}
 use borrow.Author.Needs.{needs}
-use lib.ListN.{length, getD, take, length-set}
 use Rattle.language.specs.Expansion.{windowOperator}
-use Rattle.expander.specs.Shapes.{shapeOf}
-use Rattle.expander.specs.ShapeLaws.{windowOf, window-shape, window-op, binary-small}
+use Rattle.shapes.specs.ShapeLaws.{window-shape, window-op, binary-small}
 use Rattle.expander.specs.CallLaws.{before-room}
 use Rattle.expander.specs.FormulaCalls.{entry-room, window-some, window-second, window-inside, first-ready, second-ready, third-prepared}
 use Rattle.expander.specs.ValueSteps as steps

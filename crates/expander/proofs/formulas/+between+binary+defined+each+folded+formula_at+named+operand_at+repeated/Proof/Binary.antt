@@ -1,11 +1,10 @@
 -- `binary` meets its contract.
-use Prim.Native.Nat.{ℕ, _+_, _-_, _*_, _≤_, _<_}
-use mathlib.Core.Path.{_≡_, refl, sym, ap, _∙_}
+use Prim.Native.Nat.{ℕ}
+use mathlib.Core.Path.{sym, ap, _∙_}
 use native.Mathlib.Omega.{arith}
 use borrow.Author.Needs.{needs}
-use lib.ListN.{length, getD, take, length-set}
-use Rattle.expander.specs.Shapes.{shapeOf}
-use Rattle.expander.specs.ShapeLaws.{binary-small}
+use Rattle.shapes.specs.Shapes.{shapeOf}
+use Rattle.shapes.specs.ShapeLaws.{binary-small}
 use Rattle.expander.specs.Operands.{binary-of}
 use Rattle.expander.specs.CallLaws.{before-room, two-some, two-inside}
 use Rattle.expander.specs.FormulaCalls.{entry-room, left-prepared, right-prepared}

@@ -1,9 +1,8 @@
 -- `defined` meets its contract.
-use Prim.Native.Nat.{ℕ, _+_, _-_, _*_, _≤_, _<_}
-use mathlib.Core.Path.{_≡_, refl, sym, ap, _∙_}
+use Prim.Native.Nat.{ℕ}
 use native.Mathlib.Omega.{arith}
 use borrow.Author.Needs.{needs}
-use lib.ListN.{length, getD, take, length-set}
+use lib.ListN.{getD, length-set}
 use Rattle.expander.specs.FormulaCalls.{again-ready, body-earlier, body-prepared, body-longer}
 use Rattle.expander.specs.NameSteps.{body-again, body-no, body-done}
 use Rattle.expander.proofs.formulas.defined.Reads as defined

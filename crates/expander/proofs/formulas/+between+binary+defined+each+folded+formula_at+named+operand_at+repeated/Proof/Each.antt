@@ -1,10 +1,9 @@
 -- `each` meets its contract.
-use Prim.Native.Nat.{ℕ, _+_, _-_, _*_, _≤_, _<_}
-use mathlib.Core.Path.{_≡_, refl, sym, ap, _∙_}
+use Prim.Native.Nat.{ℕ}
+use mathlib.Core.Path.{_∙_}
 use native.Mathlib.Omega.{arith}
 use borrow.Author.Needs.{needs}
-use lib.ListN.{length, getD, take, length-set}
-use Rattle.expander.specs.ShapeLaws.{big-kind}
+use Rattle.shapes.specs.ShapeLaws.{big-kind}
 use Rattle.expander.specs.CallLaws.{before-room}
 use Rattle.expander.specs.FormulaCalls.{entry-room, big-some, big-inside, set-ready, big-prepared, big-elements}
 use Rattle.expander.specs.EachSteps.{each-set, each-misfit, each-done}

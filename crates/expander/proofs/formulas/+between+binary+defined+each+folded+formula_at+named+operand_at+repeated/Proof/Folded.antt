@@ -1,12 +1,12 @@
 -- `folded` meets its contract.
-use Prim.Native.Nat.{ℕ, _+_, _-_, _*_, _≤_, _<_}
-use mathlib.Core.Path.{_≡_, refl, sym, ap, _∙_}
+use Prim.Native.Nat.{ℕ, _+_, _-_, _<_}
+use mathlib.Core.Path.{_≡_, refl, ap, _∙_}
 use native.Mathlib.Omega.{arith}
 use borrow.Author.Needs.{needs}
-use lib.ListN.{length, getD, take, length-set}
+use lib.ListN.{length, getD, length-set}
 use lib.Dec.{eqb}
 use Rattle.evaluation.specs.Working.{source, state}
-use Rattle.expander.specs.ShapeLaws.{big-kind}
+use Rattle.shapes.specs.ShapeLaws.{big-kind}
 use Rattle.expander.specs.Expanding.{tables}
 use Rattle.expander.specs.FoldSteps.{gathering-none, gathering-more, gathering-no, gathering-all}
 use Rattle.expander.specs.FormulaCalls.{entry-room, unchanged, Turn, turn-room, turn-prepared}

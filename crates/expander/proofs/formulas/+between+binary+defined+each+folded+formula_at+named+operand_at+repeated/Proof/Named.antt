@@ -1,9 +1,7 @@
 -- `named` meets its contract.
-use Prim.Native.Nat.{ℕ, _+_, _-_, _*_, _≤_, _<_}
-use mathlib.Core.Path.{_≡_, refl, sym, ap, _∙_}
+use Prim.Native.Nat.{ℕ}
 use native.Mathlib.Omega.{arith}
 use borrow.Author.Needs.{needs}
-use lib.ListN.{length, getD, take, length-set}
 use Rattle.expander.specs.NameSteps.{name-bound, name-nothing, name-signal, name-other}
 use Rattle.expander.proofs.formulas.named.Reads as named
 use Rattle.expander.proofs.formulas.+between+binary+defined+each+folded+formula_at+named+operand_at+repeated.Lts-named as named-lts

@@ -1,10 +1,9 @@
 -- `repeated` meets its contract.
-use Prim.Native.Nat.{ℕ, _+_, _-_, _*_, _≤_, _<_}
-use mathlib.Core.Path.{_≡_, refl, sym, ap, _∙_}
+use Prim.Native.Nat.{ℕ}
+use mathlib.Core.Path.{ap, _∙_}
 use native.Mathlib.Omega.{arith}
 use borrow.Author.Needs.{needs}
-use lib.ListN.{length, getD, take, length-set}
-use Rattle.expander.specs.Shapes.{shapeOf}
+use Rattle.shapes.specs.Shapes.{shapeOf}
 use Rattle.expander.specs.Operands.{nexts-of}
 use Rattle.expander.specs.CallLaws.{before-room, two-some, two-inside, left-ready}
 use Rattle.expander.specs.FormulaCalls.{valued-prepared}

@@ -1,7 +1,7 @@
 -- A stored expression's shape by its kind; the shapes of ranges of kinds.
-use Prim.Native.Nat.{ℕ, zero, suc, _+_, _-_, _≤_, _<_}
+use Prim.Native.Nat.{ℕ, suc, _-_, _≤_, _<_}
 use mathlib.Core.Bool.{Bool, true, false}
-use mathlib.Core.List.{List, [], _∷_, _++_}
+use mathlib.Core.List.{List, [], _++_}
 use mathlib.Core.Option.{Option, none, some}
 use mathlib.Core.Path.{_≡_, refl, sym, ap, _∙_, subst}
 use native.Mathlib.Omega.{arith}
@@ -12,7 +12,7 @@ use borrow.Author.Tests.{eqb-true, eqb-false}
 use Rattle.node.specs.Operators.{Unary, Not, X, G, F, Binary, And, Or, Implies, Iff, U, R, W}
 use Rattle.node.specs.Kinds.{unaryKind, binaryKind}
 use Rattle.language.specs.Tokens.{Token}
-use Rattle.language.specs.Operators.{Arithmetic, Plus, Minus, Times, Divide, Modulo, Measure, Size, Min, Max, Combination, Cup, Cap, Without, Comparison, Equal, Unequal, Less, AtMost, Greater, AtLeast, Big, BigSum, BigProduct, BigCap, BigCup, BigAnd, BigOr, Window, FinallyIn, GloballyIn, Infix, Calculates, Combines, Compares, Membership, Connects, Prefix, Measures, WidthOf, Applies}
+use Rattle.language.specs.Operators.{Plus, Minus, Times, Divide, Modulo, Size, Min, Max, Cup, Cap, Without, Equal, Unequal, Less, AtMost, Greater, AtLeast, Big, BigSum, BigProduct, BigCap, BigCup, BigAnd, BigOr, Window, FinallyIn, GloballyIn, Infix, Calculates, Combines, Compares, Membership, Connects, Prefix, Measures, WidthOf, Applies}
 use Rattle.language.specs.Expansion.{windowOperator}
 use Rattle.language.specs.Tree.{Expr, Named, Numeral, Truth, Index, Paren, Prefixed, Joined, Nexts, InWindow, Each, Between, Listed, Empty, Element, Range}
 use Rattle.language.specs.Grammar.{Tokens}
@@ -22,8 +22,8 @@ use Rattle.entries.specs.Stored.{EndsAt, At}
 use Rattle.entries.specs.StoredLaws.{entry-kind, ends-own}
 use Rattle.sets.specs.Operators.{comparison}
 use Rattle.evaluation.specs.Entries.{kindAt}
-use Rattle.expander.specs.Prefixes.{Operand}
-use Rattle.expander.specs.Shapes.{Shape, aName, aMisfit, anIndex, aParen, aMembership, aNexts, aTruth, aUnary, aComparison, aBinary, aWindow, aBig, shapes, shapeOf, ofPrefix, ofInfix, ofExpr, UnaryIs, BinaryIs, WindowIs}
+use Rattle.shapes.specs.Prefixes.{Operand}
+use Rattle.shapes.specs.Shapes.{aMisfit, aTruth, aUnary, aComparison, aWindow, aBig, shapes, shapeOf, ofPrefix, ofInfix, ofExpr, WindowIs}
 
 of-truth : (b : Bool) → shapeOf (Kind.truth b) ≡ aTruth b
 of-truth true = refl
