@@ -4,24 +4,24 @@ use mathlib.Core.Bool.{Bool, true, false}
 use mathlib.Core.List.{List, []}
 use mathlib.Core.Path.{_≡_, refl, sym, ap, ap₂, _∙_, subst}
 use native.Mathlib.Omega.{arith}
-use lib.Dec.{eqb, ltb}
-use lib.ListN.{length, getD}
+use lib.Dec.{eqb}
+use lib.ListN.{getD}
 use borrow.Author.Tests.{eqb-true, eqb-false, lt-ltb, le-ltb}
 use Rattle.node.specs.Limits.{maxNodes, fieldLimit}
-use Rattle.node.specs.Ltl.{Formula, Signal}
-use Rattle.node.specs.Result.{Result, Done, Refused, _>>=_, guard}
+use Rattle.node.specs.Ltl.{Signal}
+use Rattle.node.specs.Result.{Result, Done, Refused, _>>=_}
 use Rattle.node.specs.ResultLaws.{guard-pass, guard-stop}
-use Rattle.language.specs.Limits.{maxNames, maxNumber}
+use Rattle.language.specs.Limits.{maxNames}
 use Rattle.language.specs.Tree.{Expr, Index}
-use Rattle.language.specs.Declared.{Port, BusOf}
+use Rattle.language.specs.Declared.{Port}
 use Rattle.language.specs.Numbering.{firstOf}
 use Rattle.language.specs.Tokens.{Token, tokens}
-use Rattle.language.specs.Values.{Value, Sized, number, value, bus}
+use Rattle.language.specs.Values.{Value, number, bus}
 use Rattle.language.specs.Expansion.{Context, expansion, bitAt}
 use Rattle.sets.specs.declared.Worked.{Worked}
 use Rattle.entries.specs.Kinds as Kind
 use Rattle.entries.specs.Flat.{flat}
-use Rattle.values.specs.World.{World, Meaning, Stands, Defines, nameAt, meaningAt, meant}
+use Rattle.values.specs.World.{World, Meaning, Defines, nameAt, meaningAt, meant}
 use Rattle.values.specs.Agrees.{Uses}
 use Rattle.values.specs.UsedLaws.{used-value, used-element, index-body}
 use Rattle.values.specs.Sorts as Sort
@@ -34,10 +34,10 @@ use Rattle.evaluation.specs.declared.Worth.the-variants.{Formula as AFormula, I
 use Rattle.evaluation.specs.Working.{Source, State, Fits, Ready, NumberAt, ValueAt}
 use Rattle.evaluation.specs.FitsLaws.{held-then, entries, within, Alike, roomed}
 use Rattle.evaluation.specs.TellingLaws.{number-done, number-no}
-use Rattle.expander.specs.Shapes.{Shape, anIndex, shapeOf, View, view}
-use Rattle.expander.specs.ShapeLaws.{expr-shape}
+use Rattle.shapes.specs.Shapes.{Shape, anIndex, shapeOf, View, view}
+use Rattle.shapes.specs.ShapeLaws.{expr-shape}
 use Rattle.expander.specs.NameSteps.{last-sort}
-use Rattle.expander.specs.Expanding.{Tables, tables, Expands, Prepared, Answered, Writes}
+use Rattle.expander.specs.Expanding.{Tables, Expands, Prepared, Writes}
 use Rattle.expander.specs.Answering.{refusedOf, Signalled}
 use Rattle.expander.specs.ExpandLaws.{valued, put, ready}
 use Rattle.expander.specs.Buses.{busOf, reachedOf, unreachedOf, Reaching, BusAt}

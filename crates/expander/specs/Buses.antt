@@ -1,10 +1,10 @@
 -- The bus whose bit is asked for.
-use Prim.Native.Nat.{ℕ, _+_, _<_, _≤_}
+use Prim.Native.Nat.{ℕ, _+_, _<_}
 use mathlib.Core.Bool.{false}
 use mathlib.Core.List.{List}
 use mathlib.Core.Path.{_≡_}
 use Rattle.node.specs.Result.{Result, Done, _>>=_}
-use Rattle.language.specs.Limits.{maxNames, maxWidth}
+use Rattle.language.specs.Limits.{maxNames}
 use Rattle.language.specs.Tree.{Expr, Named, Numeral, Truth, Index, Paren, Prefixed, Joined, Nexts, InWindow, Each, Between, Listed, Empty, Element, Range}
 use Rattle.language.specs.Values.{Sized, bus, misfit}
 use Rattle.language.specs.Declared.{BusOf}

@@ -1,8 +1,8 @@
 -- What the calls on operands ask for: from what the expression itself was given.
 use Prim.Native.Nat.{ℕ, _+_, _-_, _≤_, _<_}
-use mathlib.Core.Bool.{Bool, false}
+use mathlib.Core.Bool.{false}
 use mathlib.Core.List.{List}
-use mathlib.Core.Path.{_≡_, refl, sym, ap, _∙_, subst}
+use mathlib.Core.Path.{_≡_, refl, sym, ap}
 use native.Mathlib.Omega.{arith}
 use lib.ListN.{length}
 use Rattle.node.specs.Result.{Result}
@@ -14,13 +14,13 @@ use Rattle.language.specs.Values.{Value}
 use Rattle.language.specs.Expansion.{Context}
 use Rattle.values.specs.World.{World}
 use Rattle.evaluation.specs.Entries.{sizeAt}
-use Rattle.evaluation.specs.Working.{Source, State, Fits, Room, Ready, Works, SetAt}
+use Rattle.evaluation.specs.Working.{Source, State, Ready, Works, SetAt}
 use Rattle.evaluation.specs.TellingLaws.{set-small}
 use Rattle.sets.specs.declared.Worked.{Worked}
 use Rattle.evaluation.specs.FitsLaws.{Alike, roomed}
-use Rattle.expander.specs.Expanding.{Tables, tables, Expands, Space, Prepared, Puts}
-use Rattle.expander.specs.ExpandLaws.{elsewhere, valued, prepared, ready}
-use Rattle.expander.specs.Operands.{One, Two}
+use Rattle.expander.specs.Expanding.{Tables, tables, Expands, Space, Prepared}
+use Rattle.expander.specs.ExpandLaws.{elsewhere, valued, ready}
+use Rattle.expander.specs.Operands.{Two}
 
 -- buffers of the same sizes
 pub spaced : {s : Source} {st st′ : State} {b : Tables} {written′ table′ out out′ : List ℕ} {m base depth k base′ depth′ j : ℕ} → Alike st st′ → length written′ ≡ length (b .written) → length out′ ≡ length out

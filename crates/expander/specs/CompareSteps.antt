@@ -1,27 +1,24 @@
 -- Comparisons: of a bus and an identifier by the identifier's words, of two values by what they are.
 use Prim.Native.Nat.{ℕ, zero, suc, _+_, _-_, _≤_, _<_}
 use mathlib.Core.Bool.{Bool, true, false}
-use mathlib.Core.List.{List, []}
+use mathlib.Core.List.{List}
 use mathlib.Core.Path.{_≡_, refl, sym, ap, ap₂, _∙_, subst}
 use native.Mathlib.Omega.{arith}
 use lib.Dec.{eqb}
-use lib.ListN.{length, getD}
-use Rattle.node.specs.Limits.{maxNodes}
+use lib.ListN.{getD}
 use Rattle.node.specs.Operators.{Not}
 use Rattle.node.specs.Ltl.{Formula, One}
 use Rattle.node.specs.Result.{Result, Done, Refused, _>>=_, guard}
 use Rattle.node.specs.ResultLaws.{guard-pass, guard-stop}
-use Rattle.language.specs.Limits.{maxTokens, maxNames, maxSignals, maxWidth}
+use Rattle.language.specs.Limits.{maxNames, maxWidth}
 use Rattle.language.specs.Tokens.{Token, tokens}
-use Rattle.language.specs.Operators.{Comparison, Equal, Unequal, Less, AtMost, Greater, AtLeast}
+use Rattle.language.specs.Operators.{Comparison}
 use Rattle.language.specs.Tree.{Expr}
-use Rattle.language.specs.Values.{Value, value, Choice, Sized, misfit, number, choice, bus}
-use Rattle.language.specs.Declared.{Port, BusOf, Identifies}
-use Rattle.language.specs.Numbering.{firstOf}
+use Rattle.language.specs.Values.{Value, value, Sized, misfit, bus}
+use Rattle.language.specs.Declared.{Port, BusOf}
 use Rattle.language.specs.Expansion as Expansion
 use Rattle.language.specs.Expansion.{against, compared, oneOf, widthIs, test}
 use Rattle.entries.specs.Kinds as Kind
-use Rattle.names.specs.Interned.{Lexed}
 use Rattle.sets.specs.Operators.{comparison}
 use Rattle.writing.specs.Writing as Writing
 use Rattle.writing.specs.Writing.{Wrote, Caps}
@@ -34,11 +31,11 @@ use Rattle.choices.specs.StoredWords.{identifier-words}
 use Rattle.evaluation.specs.Entries.{kindAt, sizeAt}
 use Rattle.evaluation.specs.Working.{Source, State, ValueAt}
 use Rattle.evaluation.specs.FitsLaws.{held-then}
-use Rattle.evaluation.specs.Telling.{wordsOf, worth, Sound, Tells}
+use Rattle.evaluation.specs.Telling.{wordsOf, worth, Sound}
 use Rattle.evaluation.specs.declared.Worth.{Worth}
 use Rattle.evaluation.specs.declared.Worth.the-variants.{Formula as AFormula, Identifier}
-use Rattle.expander.specs.Shapes.{aComparison, shapeOf}
-use Rattle.expander.specs.Expanding.{Tables, tables, Signals, Worldly, Expands, Prepared, Puts, Answered, Writes}
+use Rattle.shapes.specs.Shapes.{aComparison, shapeOf}
+use Rattle.expander.specs.Expanding.{Tables, tables, Expands, Prepared, Puts, Answered, Writes}
 use Rattle.expander.specs.ExpandLaws.{elsewhere, valued as valuedThen, put}
 use Rattle.expander.specs.Operands.{comparison-of}
 use Rattle.expander.specs.StepLaws.{same-truth}

@@ -1,6 +1,6 @@
 -- A big operator: its set, then the fold.
 use Prim.Native.Nat.{ℕ, zero, suc, _+_, _-_, _≤_, _<_}
-use mathlib.Core.Bool.{Bool, true, false}
+use mathlib.Core.Bool.{Bool}
 use mathlib.Core.List.{List, [], _∷_}
 use mathlib.Core.Path.{_≡_, refl, sym, ap, _∙_, subst}
 use native.Mathlib.Omega.{arith}
@@ -11,8 +11,8 @@ use Rattle.node.specs.Ltl.{Formula}
 use Rattle.node.specs.Result.{Result, Done, Refused, _>>=_}
 use Rattle.language.specs.Limits.{maxNumber}
 use Rattle.language.specs.Operators.{Big, BigSum, BigProduct, BigCap, BigCup, BigAnd, BigOr}
-use Rattle.language.specs.Values.{misfit, set, value}
-use Rattle.language.specs.Expansion.{Context, at, expansion, gather, bigFormula}
+use Rattle.language.specs.Values.{misfit}
+use Rattle.language.specs.Expansion.{at, expansion, gather, bigFormula}
 use Rattle.language.specs.Laws.Values.SetLaws.{Ascending}
 use Rattle.sets.specs.declared.Worked.{Worked}
 use Rattle.entries.specs.Kinds as Kind
@@ -22,10 +22,10 @@ use Rattle.evaluation.specs.Working.{Source, State, Held, SetAt}
 use Rattle.evaluation.specs.FitsLaws.{held-then}
 use Rattle.evaluation.specs.TellingLaws.{set-done, set-no}
 use Rattle.choices.specs.Folds.{over}
-use Rattle.expander.specs.Shapes.{aBig, shapeOf}
-use Rattle.expander.specs.ShapeLaws.{operator-kind}
+use Rattle.shapes.specs.Shapes.{aBig, shapeOf}
+use Rattle.shapes.specs.ShapeLaws.{operator-kind}
 use Rattle.expander.specs.Expanding.{Tables, tables, Puts, Answered, Writes}
-use Rattle.expander.specs.Answering.{refusedOf, answered-done, answered-no}
+use Rattle.expander.specs.Answering.{refusedOf}
 use Rattle.expander.specs.ExpandLaws.{valued}
 use Rattle.expander.specs.Operands.{big-of}
 use Rattle.expander.specs.Folding.{Gathered}

@@ -1,27 +1,24 @@
 -- What fits an expression fits its operands, and goes on to fit after one of them was worked out or written.
-use Prim.Native.Nat.{ℕ, suc, _+_, _-_, _≤_, _<_}
-use mathlib.Core.Bool.{Bool, true, false}
-use mathlib.Core.List.{List, [], _∷_, _++_}
-use mathlib.Core.Path.{_≡_, refl, sym, ap, _∙_, subst}
+use Prim.Native.Nat.{ℕ, _+_}
+use mathlib.Core.Bool.{false}
+use mathlib.Core.List.{List}
+use mathlib.Core.Path.{_≡_, sym, _∙_, subst}
 use native.Mathlib.Omega.{arith}
-use lib.ListN.{length}
-use Rattle.node.specs.Limits.{maxNodes}
 use Rattle.node.specs.Ltl.{Formula}
 use Rattle.language.specs.Tokens.{tokens}
 use Rattle.language.specs.Tree.{Expr}
 use Rattle.language.specs.Declared.{Port}
 use Rattle.language.specs.Expansion.{Context}
-use Rattle.entries.specs.Flat.{flat}
 use Rattle.writing.specs.Writing.{Wrote}
 use Rattle.writing.specs.WritingLaws.{ends}
 use Rattle.writing.specs.PartLaws.{length-stays}
 use Rattle.values.specs.World.{World}
 use Rattle.values.specs.Known.{Known}
 use Rattle.evaluation.specs.Entries.{kindAt}
-use Rattle.evaluation.specs.Working.{Source, State, Noted, Held, Fits, Room, Ready}
-use Rattle.evaluation.specs.FitsLaws.{along, same-entry, later, entries}
-use Rattle.expander.specs.Shapes.{Shape, shapeOf, View, view}
-use Rattle.expander.specs.ShapeLaws.{expr-shape}
+use Rattle.evaluation.specs.Working.{Source, State, Noted, Held, Room, Ready}
+use Rattle.evaluation.specs.FitsLaws.{along, later, entries}
+use Rattle.shapes.specs.Shapes.{Shape, shapeOf, View, view}
+use Rattle.shapes.specs.ShapeLaws.{expr-shape}
 use Rattle.expander.specs.Expanding.{Tables, tables, Expands, Space, Prepared, Puts}
 use Rattle.expander.specs.LastingLaws.{wrote-stays, lasting-stays}
 

@@ -1,7 +1,7 @@
 -- From element to element of a big operator's set.
 use Prim.Native.Nat.{ℕ, suc, _+_, _-_, _≤_, _<_}
 use mathlib.Core.Bool.{Bool, true, false}
-use mathlib.Core.List.{List, [], _∷_, _++_, append-nil}
+use mathlib.Core.List.{List, [], _∷_, _++_}
 use mathlib.Core.Path.{_≡_, refl, sym, ap, ap₂, _∙_, subst}
 use native.Mathlib.Numerals.{add-one}
 use native.Mathlib.Omega.{arith}
@@ -9,38 +9,30 @@ use lib.Dec.{eqb}
 use lib.ListN.{length, getD, take, drop, set, take-append-drop}
 use lib.Seq.{take-suc, take-take, drop-cons, getD-take, getD-set-other, length-take-le}
 use Rattle.node.specs.Limits.{maxNodes}
-use Rattle.node.specs.Ltl.{Formula, Two}
+use Rattle.node.specs.Ltl.{Formula}
 use Rattle.node.specs.Result.{Result, Done, Refused, _>>=_}
 use Rattle.language.specs.Limits.{maxNumber}
 use Rattle.language.specs.Tokens.{Token}
-use Rattle.language.specs.Operators.{Big, BigSum, BigProduct, BigCap, BigCup, BigAnd, BigOr}
 use Rattle.language.specs.Tree.{Expr}
-use Rattle.language.specs.Values.{misfit, value}
 use Rattle.language.specs.Declared.{Port}
-use Rattle.language.specs.Expansion.{Context, at, expansion, gather, bigFormula, conjunction, disjunction}
-use Rattle.language.specs.Laws.Values.SetLaws.{Ascending}
-use Rattle.sets.specs.declared.Worked.{Worked}
+use Rattle.language.specs.Expansion.{Context, at, expansion, gather}
 use Rattle.writing.specs.Writing.{Wrote}
 use Rattle.writing.specs.WritingLaws.{ends}
 use Rattle.writing.specs.PartLaws.{length-stays}
 use Rattle.values.specs.World.{World}
-use Rattle.evaluation.specs.Entries.{kindAt, sizeAt}
+use Rattle.evaluation.specs.Entries.{kindAt}
 use Rattle.evaluation.specs.Working.{Source, State, state, Fits}
 use Rattle.evaluation.specs.FitsLaws.{later, bound}
 use Rattle.choices.specs.Folds.{over, Begun, Folded, Furthers, Finishes}
 use Rattle.choices.specs.FoldLaws.{operator, over-one, over-more, folded-none}
 use Rattle.choices.specs.declared.folds.Fold.{Fold}
-use Rattle.expander.specs.Shapes.{aBig, shapeOf}
-use Rattle.expander.specs.ShapeLaws.{BigIs}
-use Rattle.expander.specs.Expanding.{Tables, tables, Plain, Expands, Lasting, Puts, Answered, Writes}
-use Rattle.expander.specs.Answering.{refusedOf, answered-done, answered-no}
+use Rattle.expander.specs.Expanding.{Tables, tables, Expands, Writes}
+use Rattle.expander.specs.Answering.{answered-done, answered-no}
 use Rattle.expander.specs.LastingLaws.{Stays, wrote-stays, lasting-stays}
-use Rattle.expander.specs.ExpandLaws.{valued}
-use Rattle.expander.specs.Operands.{big-of}
 use Rattle.expander.specs.StepLaws.{two-stays}
 use Rattle.expander.specs.ValueSteps.{begins-same, begins-stays}
 use Rattle.expander.specs.PlainLaws.{plain-at}
-use Rattle.expander.specs.Folding.{Elements, Under, Gathered, Sofar, Gathering}
+use Rattle.expander.specs.Folding.{Under, Gathered, Gathering}
 use Rattle.expander.specs.declared.Written.{Written}
 use Rattle.expander.specs.declared.Written.the-variants.{At}
 

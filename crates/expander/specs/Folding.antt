@@ -6,7 +6,7 @@ use mathlib.Core.Path.{_≡_}
 use lib.Dec.{eqb}
 use lib.ListN.{length, getD, take}
 use Rattle.node.specs.Ltl.{Formula}
-use Rattle.node.specs.Result.{Result, Done, _>>=_}
+use Rattle.node.specs.Result.{Done, _>>=_}
 use Rattle.language.specs.Limits.{maxNumber}
 use Rattle.language.specs.Tokens.{Token, tokens}
 use Rattle.language.specs.Tree.{Expr}

@@ -2,9 +2,9 @@
 use Prim.Native.Nat.{ℕ, _+_, _-_, _≤_, _<_}
 use mathlib.Core.Bool.{Bool, false}
 use mathlib.Core.List.{List, []}
-use mathlib.Core.Path.{_≡_, refl, sym, ap, _∙_, subst}
+use mathlib.Core.Path.{_≡_, refl, sym, ap, _∙_}
 use native.Mathlib.Omega.{arith}
-use lib.ListN.{length, getD, take, length-set}
+use lib.ListN.{length, getD, length-set}
 use Rattle.node.specs.Limits.{maxNodes}
 use Rattle.node.specs.PostorderLaws.{size-pos}
 use Rattle.node.specs.Result.{Result}
@@ -20,11 +20,11 @@ use Rattle.writing.specs.WritingLaws.{ends}
 use Rattle.values.specs.World.{World}
 use Rattle.values.specs.Sorts as Sort
 use Rattle.evaluation.specs.Entries.{kindAt, sizeAt}
-use Rattle.evaluation.specs.Working.{Source, State, Fits, Room, Ready, Works, SetAt}
+use Rattle.evaluation.specs.Working.{Source, State, Ready, Works, SetAt}
 use Rattle.evaluation.specs.FitsLaws.{Alike, roomed}
 use Rattle.evaluation.specs.TellingLaws.{set-small}
-use Rattle.expander.specs.Shapes.{aName, aWindow, aBig, shapeOf}
-use Rattle.expander.specs.Expanding.{Tables, tables, Expands, Space, Prepared, Puts, Writes}
+use Rattle.shapes.specs.Shapes.{aName, aWindow, aBig, shapeOf}
+use Rattle.expander.specs.Expanding.{Tables, tables, Expands, Prepared, Writes}
 use Rattle.expander.specs.Answering.{answered-done}
 use Rattle.expander.specs.ExpandLaws.{elsewhere, valued, written, prepared, ready}
 use Rattle.expander.specs.Operands.{One, Two, window-of, big-of}

@@ -3,15 +3,14 @@ use Prim.Native.Nat.{ℕ, zero, suc, _+_, _≤_, _<_}
 use mathlib.Core.List.{List, [], _∷_, _++_}
 use mathlib.Core.Path.{_≡_, refl, sym, ap, ap₂, _∙_}
 use native.Mathlib.Omega.{arith}
-use native.Mathlib.Decide.{decLt}
 use lib.ListN.{length, getD, length-append}
 use lib.Seq.{sets}
 use Rattle.node.specs.Limits.{maxNodes}
 use Rattle.node.specs.Ltl.{Formula}
 use Rattle.node.specs.Postorder.{size}
-use Rattle.writing.specs.Writing.{Stored, Puts, Wrote}
+use Rattle.writing.specs.Writing.{Puts, Wrote}
 use Rattle.writing.specs.WritingLaws.{sets-append, ends}
-use Rattle.writing.specs.Parts.{part, Stands}
+use Rattle.writing.specs.Parts.{part}
 use Rattle.writing.specs.PartLaws.{fitting, getD-sets-below, below-stays}
 use Rattle.values.specs.World.{World}
 use Rattle.expander.specs.Expanding.{Lasts, Lasting}

@@ -1,5 +1,3 @@
-pub mod Shapes
-pub mod ShapeLaws
 pub mod Expanding
 pub mod Answering
 pub mod LastingLaws
@@ -21,3 +19,5 @@ pub mod CallLaws
 pub mod CompareSteps
 pub mod BusSteps
 pub mod FormulaCalls
+pub mod Chains
+pub mod ChainLaws

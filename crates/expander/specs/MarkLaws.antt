@@ -1,16 +1,14 @@
 -- A definition's nodes by their note.
-use Prim.Native.Nat.{ℕ, _+_, _-_, _*_, _/_, _%_, _≤_, _<_, _^_}
+use Prim.Native.Nat.{ℕ, _+_, _/_, _%_, _≤_, _<_}
 use mathlib.Core.List.{List}
-use mathlib.Core.Path.{_≡_, refl, sym, ap, ap₂, _∙_, subst}
+use mathlib.Core.Path.{_≡_, ap, _∙_, subst}
 use native.Mathlib.Omega.{arith}
-use Rattle.node.specs.BitFields.{join, above, below}
 use Rattle.node.specs.FieldLaws.{above-join, below-join}
 use Rattle.node.specs.Limits.{maxNodes, fieldLimit}
-use Rattle.node.specs.Ltl.{Formula}
 use Rattle.node.specs.Postorder.{size}
-use Rattle.writing.specs.Writing.{Puts, Wrote}
+use Rattle.writing.specs.Writing.{Puts}
 use Rattle.writing.specs.WritingLaws.{wrote-none}
-use Rattle.writing.specs.Parts.{moves, Stands}
+use Rattle.writing.specs.Parts.{moves}
 use Rattle.writing.specs.PartLaws.{copied}
 use Rattle.values.specs.World.{World}
 use Rattle.expander.specs.Expanding.{packed, Lasts}

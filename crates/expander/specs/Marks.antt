@@ -1,5 +1,5 @@
 -- Where a definition's nodes stand, in one number, and those nodes once more.
-use Prim.Native.Nat.{ℕ, _+_, _-_, _/_, _%_, _≤_, _<_}
+use Prim.Native.Nat.{ℕ, _+_, _-_, _/_, _%_, _≤_}
 use mathlib.Core.List.{List}
 use mathlib.Core.Path.{_≡_}
 use Rattle.node.specs.Limits.{maxNodes, fieldLimit}

@@ -1,5 +1,5 @@
 -- A name's formula, by what is noted of it.
-use Prim.Native.Nat.{ℕ, _+_, _-_, _≤_, _<_}
+use Prim.Native.Nat.{ℕ, _+_, _≤_, _<_}
 use mathlib.Core.Bool.{Bool, true, false}
 use mathlib.Core.List.{List, []}
 use mathlib.Core.Path.{_≡_, refl, sym, ap, ap₂, _∙_, subst}
@@ -10,20 +10,18 @@ use lib.Seq.{getD-set-same, getD-set-other}
 use borrow.Author.Tests.{eqb-true, eqb-false}
 use Rattle.node.specs.Limits.{maxNodes}
 use Rattle.node.specs.Ltl.{Formula, Signal}
-use Rattle.node.specs.Postorder.{size}
-use Rattle.node.specs.PostorderLaws.{size-pos}
-use Rattle.node.specs.Result.{Result, Done, Refused}
+use Rattle.node.specs.Result.{Done, Refused}
 use Rattle.language.specs.Limits.{maxNames}
 use Rattle.language.specs.Tokens.{Token, tokens}
-use Rattle.language.specs.Tree.{Expr, Named}
-use Rattle.language.specs.Values.{Number, Set, misfit}
+use Rattle.language.specs.Tree.{Expr}
+use Rattle.language.specs.Values.{misfit}
 use Rattle.language.specs.Declared.{Declared, Constant, Single, BusOf, Identifies, WaitingBus, Port, valueAt}
 use Rattle.language.specs.Numbering.{firstOf}
 use Rattle.language.specs.Expansion.{Context, expansion, signalOf}
 use Rattle.writing.specs.Writing.{Wrote}
 use Rattle.writing.specs.WritingLaws.{ends}
 use Rattle.writing.specs.PartLaws.{stands}
-use Rattle.values.specs.World.{Meaning, Stands, Defines, NoValue, World, nameAt, meaningAt, meant, formed}
+use Rattle.values.specs.World.{Meaning, Stands, Defines, NoValue, World, meaningAt, meant, formed}
 use Rattle.values.specs.Sorts as Sort
 use Rattle.values.specs.Facts.{IsBus, Fact}
 use Rattle.values.specs.Agrees.{Uses}
@@ -31,13 +29,12 @@ use Rattle.values.specs.UsedLaws.{used-formula, used-no-formula, named-body}
 use Rattle.evaluation.specs.Entries.{kindAt}
 use Rattle.evaluation.specs.Working.{Source, State}
 use Rattle.evaluation.specs.FitsLaws.{within}
-use Rattle.expander.specs.Shapes.{aName, shapeOf}
-use Rattle.expander.specs.Expanding.{Tables, tables, packed, Plain, Lasts, Lasting, Expands, Puts, Answered, Writes}
+use Rattle.shapes.specs.Shapes.{aName, shapeOf}
+use Rattle.expander.specs.Expanding.{Tables, packed, Plain, Lasts, Lasting, Expands, Writes}
 use Rattle.expander.specs.Answering.{Signalled, answered-done, answered-no}
 use Rattle.expander.specs.ExpandLaws.{viewed, become, put}
 use Rattle.expander.specs.PlainLaws.{NoFormula, no-formula}
 use Rattle.expander.specs.Marks.{Marked, Again}
-use Rattle.expander.specs.Naming.{Defined}
 use Rattle.expander.specs.declared.Written.{Written}
 use Rattle.expander.specs.declared.Written.the-variants.{At}
 

@@ -6,7 +6,7 @@ use lib.ListN.{getD}
 use Rattle.language.specs.Limits.{maxNames}
 use Rattle.values.specs.Sorts as Sort
 use Rattle.evaluation.specs.Entries.{kindAt}
-use Rattle.expander.specs.Shapes.{aName, shapeOf}
+use Rattle.shapes.specs.Shapes.{aName, shapeOf}
 
 pub record Defined (work refs sorts : List ℕ) (k : ℕ) : Type 0 where
   pub name : shapeOf (kindAt work k) ≡ aName

@@ -1,7 +1,7 @@
 -- The operands of an expression by the shape of its kind: where they stand, that what fits the expression fits them, and its formula by theirs.
-use Prim.Native.Nat.{ℕ, suc, _+_, _-_, _≤_, _<_}
-use mathlib.Core.Bool.{Bool, true, false}
-use mathlib.Core.List.{List, [], _∷_, _++_}
+use Prim.Native.Nat.{ℕ, _+_, _-_, _≤_}
+use mathlib.Core.Bool.{false}
+use mathlib.Core.List.{List, _∷_, _++_}
 use mathlib.Core.Option.{Option, some}
 use mathlib.Core.Path.{_≡_, refl, sym, ap, _∙_, subst}
 use native.Mathlib.Omega.{arith}
@@ -13,8 +13,8 @@ use Rattle.node.specs.Result.{Result, Done, _>>=_, guard}
 use Rattle.language.specs.Tokens.{Token, tokens}
 use Rattle.language.specs.Grammar.{Tokens}
 use Rattle.language.specs.Operators.{Comparison, Window, Big, Compares, Membership, Connects, Applies}
-use Rattle.language.specs.Tree.{Expr, Named, Index, Paren, Prefixed, Joined, Nexts, InWindow, Each}
-use Rattle.language.specs.Values.{number, set, bus, value}
+use Rattle.language.specs.Tree.{Expr}
+use Rattle.language.specs.Values.{number, set, value}
 use Rattle.language.specs.Sets.{memberOf}
 use Rattle.language.specs.Declared.{Port}
 use Rattle.language.specs.Expansion.{Context, at, expansion, compared, truth, nexts, chain, windowOperator, bigFormula, bitAt}
@@ -26,9 +26,9 @@ use Rattle.values.specs.Known.{Known}
 use Rattle.values.specs.KnownLaws.{own-more, known-index, known-paren, known-prefixed, known-joined, known-nexts, known-window, known-each}
 use Rattle.evaluation.specs.Entries.{kindAt, sizeAt, placeAt}
 use Rattle.evaluation.specs.ClassLaws.{has-entry, size-is, place-is}
-use Rattle.evaluation.specs.Working.{Source, State, Fits}
+use Rattle.evaluation.specs.Working.{Source, State}
 use Rattle.evaluation.specs.FitsLaws.{own-size}
-use Rattle.expander.specs.Shapes.{anIndex, aParen, aMembership, aNexts, aUnary, aComparison, aBinary, aWindow, aBig, shapeOf}
+use Rattle.shapes.specs.Shapes.{anIndex, aParen, aMembership, aNexts, aUnary, aComparison, aBinary, aWindow, aBig, shapeOf}
 use Rattle.expander.specs.Expanding.{Tables, Expands}
 use Rattle.expander.specs.Buses.{busOf}
 use Rattle.expander.specs.ExpandLaws.{viewed, aside, elsewhere, become}

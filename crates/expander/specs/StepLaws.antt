@@ -2,10 +2,10 @@
 use Prim.Native.Nat.{ℕ, _+_, _-_, _≤_, _<_}
 use mathlib.Core.Bool.{Bool, true, false}
 use mathlib.Core.List.{List, [], _∷_, _++_, append-assoc}
-use mathlib.Core.Path.{_≡_, refl, sym, ap, ap₂, _∙_, subst}
+use mathlib.Core.Path.{_≡_, refl, sym, ap, _∙_, subst}
 use native.Mathlib.Omega.{arith}
 use native.Mathlib.Decide.{decLt}
-use lib.ListN.{length, length-append}
+use lib.ListN.{length-append}
 use Rattle.node.specs.Limits.{maxNodes}
 use Rattle.node.specs.Operators.{Unary, Binary}
 use Rattle.node.specs.Kinds.{unaryKind, binaryKind}
@@ -13,7 +13,7 @@ use Rattle.node.specs.Fields.{pack}
 use Rattle.node.specs.Ltl.{Formula, One, Two}
 use Rattle.node.specs.Postorder.{size, nodesFrom}
 use Rattle.node.specs.PostorderLaws.{length-nodes}
-use Rattle.node.specs.Result.{Result, Done, Refused, _>>=_}
+use Rattle.node.specs.Result.{Done, Refused, _>>=_}
 use Rattle.language.specs.Expansion as Expansion
 use Rattle.writing.specs.Writing as Writing
 use Rattle.writing.specs.Writing.{Wrote, Caps, Joins}
@@ -21,7 +21,7 @@ use Rattle.writing.specs.WritingLaws.{ends, past, after, puts-as}
 use Rattle.evaluation.specs.Entries.{kindAt, sizeAt}
 use Rattle.evaluation.specs.Working.{Source, State}
 use Rattle.evaluation.specs.FitsLaws.{held-then}
-use Rattle.expander.specs.Shapes.{aMisfit, aParen, aTruth, aUnary, aBinary, shapeOf}
+use Rattle.shapes.specs.Shapes.{aMisfit, aParen, aTruth, aUnary, aBinary, shapeOf}
 use Rattle.expander.specs.Expanding.{Tables, tables, Puts, Answered, Writes}
 use Rattle.expander.specs.Answering.{answered-done, answered-no}
 use Rattle.expander.specs.LastingLaws.{Stays, more-stays, lasting-stays}

@@ -1,8 +1,8 @@
 -- How the functions of the expansion go on from values: X[n], F[n:m] and G[n:m], IN.
 use Prim.Native.Nat.{ℕ, zero, suc, _+_, _-_, _≤_, _<_}
-use mathlib.Core.Bool.{Bool, true, false}
+use mathlib.Core.Bool.{Bool}
 use mathlib.Core.List.{List, [], _∷_, _++_, append-nil, append-assoc}
-use mathlib.Core.Path.{_≡_, refl, sym, ap, ap₂, _∙_, subst}
+use mathlib.Core.Path.{_≡_, refl, sym, ap, _∙_, subst}
 use native.Mathlib.Omega.{arith}
 use native.Mathlib.Decide.{decLt}
 use lib.Dec.{leb}
@@ -26,15 +26,15 @@ use Rattle.language.specs.Expansion.{windowOperator}
 use Rattle.sets.specs.declared.Worked.{Worked}
 use Rattle.writing.specs.Writing as Writing
 use Rattle.writing.specs.Writing.{Puts, Wrote, Nexts}
-use Rattle.writing.specs.WritingLaws.{ends, past, wrote-none}
+use Rattle.writing.specs.WritingLaws.{ends, wrote-none}
 use Rattle.writing.specs.Windows.{Windowed}
 use Rattle.values.specs.World.{World}
 use Rattle.evaluation.specs.Entries.{kindAt, sizeAt, placeAt}
 use Rattle.evaluation.specs.Working.{Source, State, NumberAt, SetAt}
 use Rattle.evaluation.specs.FitsLaws.{held-then}
 use Rattle.evaluation.specs.TellingLaws.{number-done, number-no, set-done, set-no}
-use Rattle.expander.specs.Shapes.{aMembership, aNexts, aWindow, shapeOf}
-use Rattle.expander.specs.Expanding.{Tables, tables, Expands, Answered, Writes}
+use Rattle.shapes.specs.Shapes.{aMembership, aNexts, aWindow, shapeOf}
+use Rattle.expander.specs.Expanding.{Tables, Expands, Writes}
 use Rattle.expander.specs.Answering.{refusedOf, answered-done, answered-no}
 use Rattle.expander.specs.LastingLaws.{Stays, stays-then, more-stays, lasting-stays}
 use Rattle.expander.specs.ExpandLaws.{valued, put}

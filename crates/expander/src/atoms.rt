@@ -7,6 +7,7 @@ ghost use mathlib.Core.Bool.{false};
 ghost use Rattle.language.specs.Limits.{maxElements};
 ghost use Rattle.evaluation.specs.Working.{source, state, Ready};
 ghost use Rattle.expander.specs.Expanding.{tables, Prepared, Writes};
+ghost use Rattle.shapes.specs.Prefixes.{Operand};
 ghost use Rattle.expander.specs.Buses.{reachedOf, unreachedOf, BusAt};
 use crate::MISFIT;
 use crate::NOT_VISIBLE;
@@ -26,7 +27,16 @@ use sets::Worked;
 use sets::listed::contains;
 use writing::constant;
 
+// The kinds of entries, and the first ones of groups (crate entries, specs/Kinds).
+const TRUTHS: u32 = 2;
+
+const TRUE: u32 = 3;
+
+const INDEX: u32 = 4;
+
 const COMPARISONS: u32 = 22;
+
+const MEMBERSHIP: u32 = 28;
 
 // The sorts of names (crate values, specs/Sorts).
 const A_BODY: u8 = 1;
@@ -43,8 +53,97 @@ pub enum Reached {
     Refused(u32, u32),
 }
 
+// An expression without operands that are formulas.
+pub fn atom_at(
+    text: &[u8],
+    work: &[u8],
+    refs: &[u16],
+    sorts: &mut [u8],
+    numbers: &mut [u32],
+    kept: &mut [u32],
+    slots: &mut [u32],
+    firsts: &[u32],
+    written: &mut [u32],
+    out: &mut [u32],
+    table: &mut [u32; 8192],
+    base: usize,
+    depth: usize,
+    k: usize,
+    at: usize,
+) -> Written
+    requires { ⌜ Prepared (source (now text) (now work) (now refs)) (state (now sorts) (now numbers) (now kept) (now slots)) (tables (now firsts) (now written) (now table) at) (now out) base depth k ⌝ }
+    requires { ⌜ (kindAt (now work) k ≡ 0 → ⊥) × ((kindAt (now work) k < 29) × Operand (kindAt (now work) k)) ⌝ }
+    ensures { λ r. ⌜ Writes (source (now (text .entry)) (now (work .entry)) (now (refs .entry))) (state (now (sorts .entry)) (now (numbers .entry)) (now (kept .entry)) (now (slots .entry))) (state (now (sorts .exit)) (now (numbers .exit)) (now (kept .exit)) (now (slots .exit))) (tables (now (firsts .entry)) (now (written .entry)) (now (table .entry)) at) (now (written .exit)) (now (table .exit)) base depth k r ⌝ }
+{
+    let kind = kind_at(work, k);
+    if kind < TRUTHS {
+        return Written::Refused(MISFIT, 0);
+    }
+    if kind < INDEX {
+        return Written::At(constant(kind == TRUE, table, at));
+    }
+    if kind == INDEX {
+        return indexed(
+            text,
+            work,
+            refs,
+            sorts,
+            numbers,
+            kept,
+            slots,
+            firsts,
+            written,
+            out,
+            table,
+            base,
+            depth,
+            k,
+            at,
+        );
+    }
+    if kind < COMPARISONS {
+        return Written::Refused(MISFIT, 0);
+    }
+    if kind < MEMBERSHIP {
+        return compared(
+            text,
+            work,
+            refs,
+            sorts,
+            numbers,
+            kept,
+            slots,
+            firsts,
+            written,
+            out,
+            table,
+            base,
+            depth,
+            k,
+            at,
+        );
+    }
+    member(
+        text,
+        work,
+        refs,
+        sorts,
+        numbers,
+        kept,
+        slots,
+        firsts,
+        written,
+        out,
+        table,
+        base,
+        depth,
+        k,
+        at,
+    )
+}
+
 // Both operands are worked out; a refusal of the left one counts first.
-pub fn compared(
+fn compared(
     text: &[u8],
     work: &[u8],
     refs: &[u16],
@@ -105,7 +204,7 @@ pub fn compared(
 }
 
 // IN.
-pub fn member(
+fn member(
     text: &[u8],
     work: &[u8],
     refs: &[u16],
@@ -163,7 +262,7 @@ pub fn member(
 }
 
 // A bit of a bus.
-pub fn indexed(
+fn indexed(
     text: &[u8],
     work: &[u8],
     refs: &[u16],

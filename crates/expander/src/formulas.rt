@@ -4,23 +4,21 @@ ghost use Prim.Native.Nat.{_≤_, _<_};
 ghost use lib.ListN.{take};
 ghost use Rattle.evaluation.specs.Entries.{kindAt};
 ghost use Rattle.evaluation.specs.Working.{source, state};
-ghost use Rattle.expander.specs.Shapes.{shapeOf, aName};
+ghost use Rattle.shapes.specs.Shapes.{shapeOf, aName};
 ghost use Rattle.expander.specs.Expanding.{tables, Prepared, Writes};
 ghost use Rattle.expander.specs.Naming.{Defined};
+ghost use Rattle.shapes.specs.Prefixes.{Operand};
 ghost use Rattle.expander.specs.Folding.{Elements, Gathered};
 use crate::MISFIT;
 use crate::NOT_VISIBLE;
 use crate::OUT_OF_RANGE;
 use crate::Written;
-use crate::atoms::compared;
-use crate::atoms::indexed;
-use crate::atoms::member;
+use crate::atoms::atom_at;
 use crate::handed;
 use crate::marks::again;
 use crate::marks::mark;
-use crate::operators::binary_kind;
-use crate::operators::unary_kind;
-use crate::operators::window_kind;
+use crate::prefixes::below;
+use crate::prefixes::capped;
 use crate::signals::signal_at;
 use choices::folds::Fold;
 use choices::folds::finish;
@@ -31,8 +29,8 @@ use evaluation::entry::size_at;
 use evaluation::evaluate::number_at;
 use evaluation::evaluate::set_at;
 use sets::Worked;
-use writing::cap;
-use writing::constant;
+use shapes::binary_kind;
+use shapes::window_kind;
 use writing::join;
 use writing::nexts;
 use writing::window::window;
@@ -40,21 +38,7 @@ use writing::window::window;
 // The kinds of entries, and the first ones of groups (crate entries, specs/Kinds).
 const NAMED: u32 = 0;
 
-const TRUTHS: u32 = 2;
-
-const TRUE: u32 = 3;
-
-const INDEX: u32 = 4;
-
-const PAREN: u32 = 5;
-
-const UNARIES: u32 = 10;
-
-const ARITHMETIC: u32 = 14;
-
-const COMPARISONS: u32 = 22;
-
-const MEMBERSHIP: u32 = 28;
+const CONNECTIVES: u32 = 29;
 
 const NEXTS: u32 = 36;
 
@@ -74,8 +58,10 @@ const NOTHING: u8 = 6;
 // '256 declared names': the references from here on are those of big operators' names.
 const MAX_NAMES: usize = 256;
 
-// The nodes of the expansion of the expression at entry k, from `at` on, under `depth` big operators' names, whose elements stand in the slots from `base` on. Its direct call of itself
-// keeps the array that `each` holds out of this frame.
+// The nodes of the expansion of the expression at entry k, from `at` on, under `depth` big operators' names, whose elements stand in the slots from `base` on.
+// What a level takes of the stack, as compiled: the compiler takes all of this module into `formula_at` but `each`, which holds an array. A level of an operator between formulas (2 tokens),
+// of X[n] (4), of F[n:m] (6) or of a definition's use (4) takes 852 bytes; a name of a big operator (4 and more) 1,524 more for `each`; prefix operators and parentheses none. That is
+// 594 bytes a token at most, 4.9 MB for 8,192 tokens.
 pub fn formula_at(
     text: &[u8],
     work: &[u8],
@@ -96,26 +82,53 @@ pub fn formula_at(
     requires { ⌜ Prepared (source (now text) (now work) (now refs)) (state (now sorts) (now numbers) (now kept) (now slots)) (tables (now firsts) (now written) (now table) at) (now out) base depth k ⌝ }
     ensures { λ r. ⌜ Writes (source (now (text .entry)) (now (work .entry)) (now (refs .entry))) (state (now (sorts .entry)) (now (numbers .entry)) (now (kept .entry)) (now (slots .entry))) (state (now (sorts .exit)) (now (numbers .exit)) (now (kept .exit)) (now (slots .exit))) (tables (now (firsts .entry)) (now (written .entry)) (now (table .entry)) at) (now (written .exit)) (now (table .exit)) base depth k r ⌝ }
 {
+    let low = below(work, k);
+    let x = operand_at(
+        text,
+        work,
+        refs,
+        sorts,
+        numbers,
+        kept,
+        slots,
+        firsts,
+        written,
+        out,
+        table,
+        base,
+        depth,
+        low,
+        at,
+    );
+    let Written::At(m) = x else {
+        return x;
+    };
+    Written::At(capped(work, low, k, m, table))
+}
+
+// An expression that is no prefix operator and no parenthesis.
+fn operand_at(
+    text: &[u8],
+    work: &[u8],
+    refs: &[u16],
+    sorts: &mut [u8],
+    numbers: &mut [u32],
+    kept: &mut [u32],
+    slots: &mut [u32],
+    firsts: &[u32],
+    written: &mut [u32],
+    out: &mut [u32],
+    table: &mut [u32; 8192],
+    base: usize,
+    depth: usize,
+    k: usize,
+    at: usize,
+) -> Written
+    requires { ⌜ Prepared (source (now text) (now work) (now refs)) (state (now sorts) (now numbers) (now kept) (now slots)) (tables (now firsts) (now written) (now table) at) (now out) base depth k ⌝ }
+    requires { ⌜ Operand (kindAt (now work) k) ⌝ }
+    ensures { λ r. ⌜ Writes (source (now (text .entry)) (now (work .entry)) (now (refs .entry))) (state (now (sorts .entry)) (now (numbers .entry)) (now (kept .entry)) (now (slots .entry))) (state (now (sorts .exit)) (now (numbers .exit)) (now (kept .exit)) (now (slots .exit))) (tables (now (firsts .entry)) (now (written .entry)) (now (table .entry)) at) (now (written .exit)) (now (table .exit)) base depth k r ⌝ }
+{
     let kind = kind_at(work, k);
-    if kind == PAREN {
-        return formula_at(
-            text,
-            work,
-            refs,
-            sorts,
-            numbers,
-            kept,
-            slots,
-            firsts,
-            written,
-            out,
-            table,
-            base,
-            depth,
-            k - 1,
-            at,
-        );
-    }
     if kind == NAMED {
         return named(
             text,
@@ -135,119 +148,8 @@ pub fn formula_at(
             at,
         );
     }
-    if kind < TRUTHS {
-        return Written::Refused(MISFIT, 0);
-    }
-    if kind < INDEX {
-        return Written::At(constant(kind == TRUE, table, at));
-    }
-    if kind == INDEX {
-        return indexed(
-            text,
-            work,
-            refs,
-            sorts,
-            numbers,
-            kept,
-            slots,
-            firsts,
-            written,
-            out,
-            table,
-            base,
-            depth,
-            k,
-            at,
-        );
-    }
-    if kind < UNARIES {
-        return Written::Refused(MISFIT, 0);
-    }
-    if kind < ARITHMETIC {
-        return unary(
-            text,
-            work,
-            refs,
-            sorts,
-            numbers,
-            kept,
-            slots,
-            firsts,
-            written,
-            out,
-            table,
-            base,
-            depth,
-            k,
-            at,
-        );
-    }
-    operated(
-        text,
-        work,
-        refs,
-        sorts,
-        numbers,
-        kept,
-        slots,
-        firsts,
-        written,
-        out,
-        table,
-        base,
-        depth,
-        k,
-        at,
-    )
-}
-
-// An operator between operands, or one of several operands.
-fn operated(
-    text: &[u8],
-    work: &[u8],
-    refs: &[u16],
-    sorts: &mut [u8],
-    numbers: &mut [u32],
-    kept: &mut [u32],
-    slots: &mut [u32],
-    firsts: &[u32],
-    written: &mut [u32],
-    out: &mut [u32],
-    table: &mut [u32; 8192],
-    base: usize,
-    depth: usize,
-    k: usize,
-    at: usize,
-) -> Written
-    requires { ⌜ Prepared (source (now text) (now work) (now refs)) (state (now sorts) (now numbers) (now kept) (now slots)) (tables (now firsts) (now written) (now table) at) (now out) base depth k ⌝ }
-    requires { ⌜ 14 ≤ kindAt (now work) k ⌝ }
-    ensures { λ r. ⌜ Writes (source (now (text .entry)) (now (work .entry)) (now (refs .entry))) (state (now (sorts .entry)) (now (numbers .entry)) (now (kept .entry)) (now (slots .entry))) (state (now (sorts .exit)) (now (numbers .exit)) (now (kept .exit)) (now (slots .exit))) (tables (now (firsts .entry)) (now (written .entry)) (now (table .entry)) at) (now (written .exit)) (now (table .exit)) base depth k r ⌝ }
-{
-    let kind = kind_at(work, k);
-    if kind < COMPARISONS {
-        return Written::Refused(MISFIT, 0);
-    }
-    if kind < MEMBERSHIP {
-        return compared(
-            text,
-            work,
-            refs,
-            sorts,
-            numbers,
-            kept,
-            slots,
-            firsts,
-            written,
-            out,
-            table,
-            base,
-            depth,
-            k,
-            at,
-        );
-    }
-    if kind == MEMBERSHIP {
-        return member(
+    if kind < CONNECTIVES {
+        return atom_at(
             text,
             work,
             refs,
@@ -449,51 +351,6 @@ fn defined(
     };
     written[r] = mark(at, m);
     x
-}
-
-fn unary(
-    text: &[u8],
-    work: &[u8],
-    refs: &[u16],
-    sorts: &mut [u8],
-    numbers: &mut [u32],
-    kept: &mut [u32],
-    slots: &mut [u32],
-    firsts: &[u32],
-    written: &mut [u32],
-    out: &mut [u32],
-    table: &mut [u32; 8192],
-    base: usize,
-    depth: usize,
-    k: usize,
-    at: usize,
-) -> Written
-    requires { ⌜ Prepared (source (now text) (now work) (now refs)) (state (now sorts) (now numbers) (now kept) (now slots)) (tables (now firsts) (now written) (now table) at) (now out) base depth k ⌝ }
-    requires { ⌜ (10 ≤ kindAt (now work) k) × (kindAt (now work) k < 14) ⌝ }
-    ensures { λ r. ⌜ Writes (source (now (text .entry)) (now (work .entry)) (now (refs .entry))) (state (now (sorts .entry)) (now (numbers .entry)) (now (kept .entry)) (now (slots .entry))) (state (now (sorts .exit)) (now (numbers .exit)) (now (kept .exit)) (now (slots .exit))) (tables (now (firsts .entry)) (now (written .entry)) (now (table .entry)) at) (now (written .exit)) (now (table .exit)) base depth k r ⌝ }
-{
-    let op = unary_kind(kind_at(work, k));
-    let x = formula_at(
-        text,
-        work,
-        refs,
-        sorts,
-        numbers,
-        kept,
-        slots,
-        firsts,
-        written,
-        out,
-        table,
-        base,
-        depth,
-        k - 1,
-        at,
-    );
-    let Written::At(m) = x else {
-        return x;
-    };
-    Written::At(cap(op, m, table))
 }
 
 fn binary(

@@ -7,7 +7,7 @@ mod atoms;
 mod comparisons;
 pub mod formulas;
 mod marks;
-mod operators;
+mod prefixes;
 mod signals;
 
 // A value that fits nowhere: no text that has passed refusal 9 comes to this. So are a name that stands for nothing, and refusals 6, 11 and 13 of document 01.

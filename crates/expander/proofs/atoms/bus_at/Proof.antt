@@ -1,10 +1,9 @@
 -- By what is noted of the name.
 use borrow.Author.Needs.{needs}
 use native.Mathlib.Omega.{arith}
-use Prim.Native.Nat.{_+_, _-_, _≤_, _<_}
-use mathlib.Core.Path.{_≡_, refl, sym, ap, _∙_, subst}
+use mathlib.Core.Path.{ap}
 use lib.ListN.{getD}
-use Rattle.expander.specs.Shapes.{shapeOf}
+use Rattle.shapes.specs.Shapes.{shapeOf}
 use Rattle.expander.specs.BusSteps.{bus-bound, bus-nothing, bus-waiting, bus-sized, bus-other, body-ready, bus-body}
 use Rattle.expander.proofs.atoms.bus_at.Statement.{statement}
 use Rattle.expander.proofs.atoms.bus_at.Tie as tie

@@ -1,16 +1,12 @@
 -- The values of both operands, then their comparison.
-use borrow.Author.Needs.{needs}
 use native.Mathlib.Omega.{arith}
-use Prim.Native.Nat.{_+_, _-_, _≤_, _<_}
-use mathlib.Core.Path.{_≡_, refl, sym, ap, _∙_, subst}
-use Rattle.language.specs.Limits.{maxElements}
+use Prim.Native.Nat.{_-_}
+use mathlib.Core.Path.{sym, ap, _∙_}
 use Rattle.sets.specs.Operators.{comparison}
-use Rattle.expander.specs.Shapes.{shapeOf}
-use Rattle.expander.specs.ShapeLaws.{comparison-kind}
-use Rattle.expander.specs.Operands.{comparison-of, membership-of}
-use Rattle.expander.specs.CallLaws.{before-room, two-some, two-inside, left-ready, right-ready, right-few}
+use Rattle.shapes.specs.ShapeLaws.{comparison-kind}
+use Rattle.expander.specs.Operands.{comparison-of}
+use Rattle.expander.specs.CallLaws.{before-room, two-some, two-inside, left-ready, right-ready}
 use Rattle.expander.specs.CompareSteps.{comparable, compared-writes}
-use Rattle.expander.specs.ValueSteps.{member-left, member-right, member-done}
 use Rattle.expander.proofs.atoms.compared.Statement.{statement}
 use Rattle.expander.proofs.atoms.compared.Tie as tie
 

@@ -1,9 +1,8 @@
 -- The index, then the bus, then the bit.
 use borrow.Author.Needs.{needs}
 use native.Mathlib.Omega.{arith}
-use Prim.Native.Nat.{_+_, _-_, _≤_, _<_}
-use mathlib.Core.Path.{_≡_, refl, sym, ap, _∙_, subst}
-use Rattle.expander.specs.Shapes.{shapeOf}
+use mathlib.Core.Path.{ap, _∙_}
+use Rattle.shapes.specs.Shapes.{shapeOf}
 use Rattle.expander.specs.BusSteps.{index-some, index-ready, index-again, index-left, index-bus, index-large, index-done, index-name, index-fits}
 use Rattle.expander.proofs.atoms.indexed.Statement.{statement}
 use Rattle.expander.proofs.atoms.indexed.Tie as tie

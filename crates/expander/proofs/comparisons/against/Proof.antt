@@ -1,9 +1,6 @@
 -- The widths, then the words.
 use borrow.Author.Needs.{needs}
 use native.Mathlib.Omega.{arith}
-use Prim.Native.Nat.{_+_, _-_, _≤_, _<_}
-use mathlib.Core.Path.{_≡_, refl, sym, ap, _∙_, subst}
-use Rattle.choices.specs.EntryLaws.{end-bound}
 use Rattle.expander.specs.CompareSteps.{against-misfit, against-width, against-equal, against-unequal, against-readable, as-end}
 use Rattle.expander.proofs.comparisons.against.Statement.{statement}
 use Rattle.expander.proofs.comparisons.against.Tie as tie

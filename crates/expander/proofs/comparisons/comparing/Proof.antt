@@ -1,8 +1,5 @@
 -- By what the left value is.
 use borrow.Author.Needs.{needs}
-use native.Mathlib.Omega.{arith}
-use Prim.Native.Nat.{_+_, _-_, _≤_, _<_}
-use mathlib.Core.Path.{_≡_, refl, sym, ap, _∙_, subst}
 use Rattle.expander.specs.CompareSteps.{comparing-as, comparable-as, comparing-set, comparing-formula, comparing-unsized, comparing-refused}
 use Rattle.expander.proofs.comparisons.comparing.Statement.{statement}
 use Rattle.expander.proofs.comparisons.comparing.Tie as tie

@@ -1,8 +1,6 @@
 -- By what the right value is.
 use borrow.Author.Needs.{needs}
-use native.Mathlib.Omega.{arith}
-use Prim.Native.Nat.{_+_, _-_, _≤_, _<_}
-use mathlib.Core.Path.{_≡_, refl, sym, ap, _∙_, subst}
+use mathlib.Core.Path.{refl}
 use Rattle.node.specs.Result.{_>>=_}
 use Rattle.expander.specs.CompareSteps.{comparing-bus, comparing-other, bus-ready}
 use Rattle.expander.proofs.comparisons.with_bus.Statement.{statement}

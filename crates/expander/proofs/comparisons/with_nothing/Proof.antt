@@ -1,8 +1,5 @@
 -- By what the right value is.
 use borrow.Author.Needs.{needs}
-use native.Mathlib.Omega.{arith}
-use Prim.Native.Nat.{_+_, _-_, _≤_, _<_}
-use mathlib.Core.Path.{_≡_, refl, sym, ap, _∙_, subst}
 use Rattle.expander.proofs.comparisons.with_nothing.Statement.{statement}
 use Rattle.expander.proofs.comparisons.with_nothing.Tie as tie
 

@@ -1,8 +1,5 @@
 -- The nodes are copied; past the last node nothing is.
-use borrow.Author.Needs.{needs}
 use native.Mathlib.Omega.{arith}
-use Prim.Native.Nat.{_+_, _-_, _≤_, _<_}
-use mathlib.Core.Path.{_≡_, refl, sym, ap, _∙_, subst}
 use Rattle.expander.specs.MarkLaws.{again-past, again-copied}
 use Rattle.expander.proofs.marks.again.Statement.{statement}
 use Rattle.expander.proofs.marks.again.Tie as tie

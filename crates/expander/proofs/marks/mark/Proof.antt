@@ -1,8 +1,6 @@
 -- Where the nodes stand and how many; past the last node one.
-use borrow.Author.Needs.{needs}
 use native.Mathlib.Omega.{arith}
-use Prim.Native.Nat.{_+_, _-_, _≤_, _<_}
-use mathlib.Core.Path.{_≡_, refl, sym, ap, _∙_, subst}
+use mathlib.Core.Path.{refl}
 use Rattle.expander.proofs.marks.mark.Statement.{statement}
 use Rattle.expander.proofs.marks.mark.Tie as tie
 

@@ -1,8 +1,6 @@
 -- The signal of the name's first and an index; past the last node none.
 use borrow.Author.Needs.{needs}
 use native.Mathlib.Omega.{arith}
-use Prim.Native.Nat.{_+_, _-_, _≤_, _<_}
-use mathlib.Core.Path.{_≡_, refl, sym, ap, _∙_, subst}
 use Rattle.expander.specs.Answering.{signalled, signalled-past}
 use Rattle.expander.proofs.signals.signal_at.Statement.{statement}
 use Rattle.expander.proofs.signals.signal_at.Tie as tie

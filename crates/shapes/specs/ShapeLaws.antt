@@ -1,17 +1,18 @@
 -- A stored expression's shape by its kind; the shapes of ranges of kinds.
-use Prim.Native.Nat.{ℕ, zero, suc, _+_, _-_, _≤_, _<_}
+use Prim.Native.Nat.{ℕ, suc, _-_, _≤_, _<_}
 use mathlib.Core.Bool.{Bool, true, false}
-use mathlib.Core.List.{List, [], _∷_, _++_}
+use mathlib.Core.List.{List, [], _++_}
 use mathlib.Core.Option.{Option, none, some}
 use mathlib.Core.Path.{_≡_, refl, sym, ap, _∙_, subst}
 use native.Mathlib.Omega.{arith}
+use native.Mathlib.Decide.{decLt}
 use lib.Dec.{eqb}
 use lib.ListN.{length, List·getD-eq-default}
 use borrow.Author.Tests.{eqb-true, eqb-false}
 use Rattle.node.specs.Operators.{Unary, Not, X, G, F, Binary, And, Or, Implies, Iff, U, R, W}
 use Rattle.node.specs.Kinds.{unaryKind, binaryKind}
 use Rattle.language.specs.Tokens.{Token}
-use Rattle.language.specs.Operators.{Arithmetic, Plus, Minus, Times, Divide, Modulo, Measure, Size, Min, Max, Combination, Cup, Cap, Without, Comparison, Equal, Unequal, Less, AtMost, Greater, AtLeast, Big, BigSum, BigProduct, BigCap, BigCup, BigAnd, BigOr, Window, FinallyIn, GloballyIn, Infix, Calculates, Combines, Compares, Membership, Connects, Prefix, Measures, WidthOf, Applies}
+use Rattle.language.specs.Operators.{Plus, Minus, Times, Divide, Modulo, Size, Min, Max, Cup, Cap, Without, Equal, Unequal, Less, AtMost, Greater, AtLeast, Big, BigSum, BigProduct, BigCap, BigCup, BigAnd, BigOr, Window, FinallyIn, GloballyIn, Infix, Calculates, Combines, Compares, Membership, Connects, Prefix, Measures, WidthOf, Applies}
 use Rattle.language.specs.Expansion.{windowOperator}
 use Rattle.language.specs.Tree.{Expr, Named, Numeral, Truth, Index, Paren, Prefixed, Joined, Nexts, InWindow, Each, Between, Listed, Empty, Element, Range}
 use Rattle.language.specs.Grammar.{Tokens}
@@ -21,7 +22,8 @@ use Rattle.entries.specs.Stored.{EndsAt, At}
 use Rattle.entries.specs.StoredLaws.{entry-kind, ends-own}
 use Rattle.sets.specs.Operators.{comparison}
 use Rattle.evaluation.specs.Entries.{kindAt}
-use Rattle.expander.specs.Shapes.{Shape, aName, aMisfit, anIndex, aParen, aMembership, aNexts, aTruth, aUnary, aComparison, aBinary, aWindow, aBig, shapes, shapeOf, ofPrefix, ofInfix, ofExpr, UnaryIs, BinaryIs, WindowIs}
+use Rattle.shapes.specs.Prefixes.{Operand}
+use Rattle.shapes.specs.Shapes.{aMisfit, aTruth, aUnary, aComparison, aWindow, aBig, shapes, shapeOf, ofPrefix, ofInfix, ofExpr, WindowIs}
 
 of-truth : (b : Bool) → shapeOf (Kind.truth b) ≡ aTruth b
 of-truth true = refl
@@ -122,6 +124,19 @@ pub misfit-values : (k : ℕ) → 14 ≤ k → k < 22 → shapeOf k ≡ aMisfit
 misfit-values k h l =
     from Misfit 14 k refl (from Misfit 15 k refl (from Misfit 16 k refl (from Misfit 17 k refl (from Misfit 18 k refl (from Misfit 19 k refl (from Misfit 20 k refl (from Misfit 21 k refl (λ g. absurd (omega arith))))))))) h
 
+-- a value's kind before the comparisons: no parenthesis, no prefix operator of formulas
+pub misfit-operands : (k : ℕ) → Operand k → 5 ≤ k → k < 22 → shapeOf k ≡ aMisfit
+misfit-operands k h l m = go (decLt k 10) (decLt k 14)
+  where
+    beyond : Dec (5 < k) → 6 ≤ k
+    beyond (yes b) = omega arith
+    beyond (no b) = absurd (h .no-parenthesis (omega arith))
+
+    go : Dec (k < 10) → Dec (k < 14) → shapeOf k ≡ aMisfit
+    go (yes a) d = misfit-measures k (beyond (decLt 5 k)) a
+    go (no a) (yes b) = absurd (h .no-operator (omega arith) b)
+    go (no a) (no b) = misfit-values k (omega arith) m
+
 pub misfit-sets : (k : ℕ) → 45 ≤ k → shapeOf k ≡ aMisfit
 misfit-sets k h = List·getD-eq-default shapes aMisfit {n = k} (omega arith)
 
@@ -145,6 +160,12 @@ big-kind k h l =
     let P : ℕ → Type 0 = BigIs in
     from P 39 k (record { operator = BigSum; shape = refl }) (from P 40 k (record { operator = BigProduct; shape = refl }) (from P 41 k (record { operator = BigCap; shape = refl }) (from P 42 k (record { operator = BigCup; shape = refl })
     (from P 43 k (record { operator = BigAnd; shape = refl }) (from P 44 k (record { operator = BigOr; shape = refl }) (λ g. absurd (omega arith))))))) h
+
+-- a prefix operator's shape
+pub unary-shape : (k : ℕ) → 10 ≤ k → k < 14 → (o : Unary) × (shapeOf k ≡ aUnary o)
+unary-shape k h l =
+    let P : ℕ → Type 0 = λ i. (o : Unary) × (shapeOf i ≡ aUnary o) in
+    from P 10 k (Not, refl) (from P 11 k (X, refl) (from P 12 k (G, refl) (from P 13 k (F, refl) (λ g. absurd (omega arith))))) h
 
 pub unary-small : (o : Unary) → unaryKind o < 16
 unary-small Not = omega arith

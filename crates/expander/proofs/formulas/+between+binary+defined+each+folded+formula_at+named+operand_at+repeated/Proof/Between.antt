@@ -1,18 +1,16 @@
 -- `between` meets its contract.
-use Prim.Native.Nat.{ℕ, _+_, _-_, _*_, _≤_, _<_}
-use mathlib.Core.Path.{_≡_, refl, sym, ap, _∙_}
+use Prim.Native.Nat.{ℕ}
+use mathlib.Core.Path.{_∙_}
 use native.Mathlib.Omega.{arith}
 use borrow.Author.Needs.{needs}
-use lib.ListN.{length, getD, take, length-set}
 use Rattle.language.specs.Expansion.{windowOperator}
-use Rattle.expander.specs.Shapes.{shapeOf}
-use Rattle.expander.specs.ShapeLaws.{windowOf, window-shape, window-op, binary-small}
+use Rattle.shapes.specs.ShapeLaws.{window-shape, window-op, binary-small}
 use Rattle.expander.specs.CallLaws.{before-room}
 use Rattle.expander.specs.FormulaCalls.{entry-room, window-some, window-second, window-inside, first-ready, second-ready, third-prepared}
 use Rattle.expander.specs.ValueSteps as steps
 use Rattle.expander.proofs.formulas.between.Reads as between
-use Rattle.expander.proofs.formulas.+between+binary+defined+each+folded+formula_at+named+operated+repeated+unary.Lts-between as between-lts
-use Rattle.expander.proofs.formulas.+between+binary+defined+each+folded+formula_at+named+operated+repeated+unary.Proof.Calls.{between-at, between-calls}
+use Rattle.expander.proofs.formulas.+between+binary+defined+each+folded+formula_at+named+operand_at+repeated.Lts-between as between-lts
+use Rattle.expander.proofs.formulas.+between+binary+defined+each+folded+formula_at+named+operand_at+repeated.Proof.Calls.{between-at, between-calls}
 
 pub between-met : (t : ℕ) {M : Type 1} → between-lts.Closed (between-calls t) (between-at t) between.Post M
 between-met t =

@@ -1,18 +1,17 @@
 -- `binary` meets its contract.
-use Prim.Native.Nat.{ℕ, _+_, _-_, _*_, _≤_, _<_}
-use mathlib.Core.Path.{_≡_, refl, sym, ap, _∙_}
+use Prim.Native.Nat.{ℕ}
+use mathlib.Core.Path.{sym, ap, _∙_}
 use native.Mathlib.Omega.{arith}
 use borrow.Author.Needs.{needs}
-use lib.ListN.{length, getD, take, length-set}
-use Rattle.expander.specs.Shapes.{shapeOf}
-use Rattle.expander.specs.ShapeLaws.{binary-small}
+use Rattle.shapes.specs.Shapes.{shapeOf}
+use Rattle.shapes.specs.ShapeLaws.{binary-small}
 use Rattle.expander.specs.Operands.{binary-of}
 use Rattle.expander.specs.CallLaws.{before-room, two-some, two-inside}
 use Rattle.expander.specs.FormulaCalls.{entry-room, left-prepared, right-prepared}
 use Rattle.expander.specs.StepLaws.{binary-left, binary-right, binary-done}
 use Rattle.expander.proofs.formulas.binary.Reads as binary
-use Rattle.expander.proofs.formulas.+between+binary+defined+each+folded+formula_at+named+operated+repeated+unary.Lts-binary as binary-lts
-use Rattle.expander.proofs.formulas.+between+binary+defined+each+folded+formula_at+named+operated+repeated+unary.Proof.Calls.{binary-at, binary-calls}
+use Rattle.expander.proofs.formulas.+between+binary+defined+each+folded+formula_at+named+operand_at+repeated.Lts-binary as binary-lts
+use Rattle.expander.proofs.formulas.+between+binary+defined+each+folded+formula_at+named+operand_at+repeated.Proof.Calls.{binary-at, binary-calls}
 
 pub binary-met : (t : ℕ) {M : Type 1} → binary-lts.Closed (binary-calls t) (binary-at t) binary.Post M
 binary-met t =

@@ -1,14 +1,13 @@
 -- `defined` meets its contract.
-use Prim.Native.Nat.{ℕ, _+_, _-_, _*_, _≤_, _<_}
-use mathlib.Core.Path.{_≡_, refl, sym, ap, _∙_}
+use Prim.Native.Nat.{ℕ}
 use native.Mathlib.Omega.{arith}
 use borrow.Author.Needs.{needs}
-use lib.ListN.{length, getD, take, length-set}
+use lib.ListN.{getD, length-set}
 use Rattle.expander.specs.FormulaCalls.{again-ready, body-earlier, body-prepared, body-longer}
 use Rattle.expander.specs.NameSteps.{body-again, body-no, body-done}
 use Rattle.expander.proofs.formulas.defined.Reads as defined
-use Rattle.expander.proofs.formulas.+between+binary+defined+each+folded+formula_at+named+operated+repeated+unary.Lts-defined as defined-lts
-use Rattle.expander.proofs.formulas.+between+binary+defined+each+folded+formula_at+named+operated+repeated+unary.Proof.Calls.{defined-at, defined-calls}
+use Rattle.expander.proofs.formulas.+between+binary+defined+each+folded+formula_at+named+operand_at+repeated.Lts-defined as defined-lts
+use Rattle.expander.proofs.formulas.+between+binary+defined+each+folded+formula_at+named+operand_at+repeated.Proof.Calls.{defined-at, defined-calls}
 
 pub defined-met : (t : ℕ) {M : Type 1} → defined-lts.Closed (defined-calls t) (defined-at t) defined.Post M
 defined-met t =

@@ -1,12 +1,10 @@
 -- Kind by kind.
-use borrow.Author.Needs.{needs}
 use native.Mathlib.Omega.{arith}
-use Prim.Native.Nat.{_+_, _-_, _≤_, _<_}
-use mathlib.Core.Path.{_≡_, refl, sym, ap, _∙_, subst}
+use mathlib.Core.Path.{_≡_, refl, ap}
 use Rattle.node.specs.Operators.{And, Or, Implies, Iff, U, R, W}
-use Rattle.expander.specs.Shapes.{shapeOf}
-use Rattle.expander.proofs.operators.binary_kind.Statement.{statement}
-use Rattle.expander.proofs.operators.binary_kind.Tie as tie
+use Rattle.shapes.specs.Shapes.{shapeOf}
+use Rattle.shapes.proofs.binary_kind.Statement.{statement}
+use Rattle.shapes.proofs.binary_kind.Tie as tie
 
 returns : tie.Need-returns
 returns c = record { operator = And; shape = ap shapeOf ((c .match) .keys1); node = refl }

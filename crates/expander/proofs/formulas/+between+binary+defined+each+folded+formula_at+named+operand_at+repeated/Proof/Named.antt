@@ -1,13 +1,11 @@
 -- `named` meets its contract.
-use Prim.Native.Nat.{ℕ, _+_, _-_, _*_, _≤_, _<_}
-use mathlib.Core.Path.{_≡_, refl, sym, ap, _∙_}
+use Prim.Native.Nat.{ℕ}
 use native.Mathlib.Omega.{arith}
 use borrow.Author.Needs.{needs}
-use lib.ListN.{length, getD, take, length-set}
 use Rattle.expander.specs.NameSteps.{name-bound, name-nothing, name-signal, name-other}
 use Rattle.expander.proofs.formulas.named.Reads as named
-use Rattle.expander.proofs.formulas.+between+binary+defined+each+folded+formula_at+named+operated+repeated+unary.Lts-named as named-lts
-use Rattle.expander.proofs.formulas.+between+binary+defined+each+folded+formula_at+named+operated+repeated+unary.Proof.Calls.{named-at, named-calls}
+use Rattle.expander.proofs.formulas.+between+binary+defined+each+folded+formula_at+named+operand_at+repeated.Lts-named as named-lts
+use Rattle.expander.proofs.formulas.+between+binary+defined+each+folded+formula_at+named+operand_at+repeated.Proof.Calls.{named-at, named-calls}
 
 pub named-met : (t : ℕ) {M : Type 1} → named-lts.Closed (named-calls t) (named-at t) named.Post M
 named-met t =

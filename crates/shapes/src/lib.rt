@@ -1,6 +1,6 @@
 // The operators' kinds in nodes, by the kinds of their entries (crate entries, specs/Kinds). The functions are asked for kinds of operators alone.
 ghost use Prim.Native.Nat.{_≤_, _<_};
-ghost use Rattle.expander.specs.Shapes.{UnaryIs, BinaryIs, WindowIs};
+ghost use Rattle.shapes.specs.Shapes.{UnaryIs, BinaryIs, WindowIs};
 use node::Node;
 
 pub fn unary_kind(kind: u32) -> u32

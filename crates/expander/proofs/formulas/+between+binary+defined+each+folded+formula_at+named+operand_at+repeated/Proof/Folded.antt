@@ -1,18 +1,18 @@
 -- `folded` meets its contract.
-use Prim.Native.Nat.{ℕ, _+_, _-_, _*_, _≤_, _<_}
-use mathlib.Core.Path.{_≡_, refl, sym, ap, _∙_}
+use Prim.Native.Nat.{ℕ, _+_, _-_, _<_}
+use mathlib.Core.Path.{_≡_, refl, ap, _∙_}
 use native.Mathlib.Omega.{arith}
 use borrow.Author.Needs.{needs}
-use lib.ListN.{length, getD, take, length-set}
+use lib.ListN.{length, getD, length-set}
 use lib.Dec.{eqb}
 use Rattle.evaluation.specs.Working.{source, state}
-use Rattle.expander.specs.ShapeLaws.{big-kind}
+use Rattle.shapes.specs.ShapeLaws.{big-kind}
 use Rattle.expander.specs.Expanding.{tables}
 use Rattle.expander.specs.FoldSteps.{gathering-none, gathering-more, gathering-no, gathering-all}
 use Rattle.expander.specs.FormulaCalls.{entry-room, unchanged, Turn, turn-room, turn-prepared}
 use Rattle.expander.proofs.formulas.folded.Reads as folded
-use Rattle.expander.proofs.formulas.+between+binary+defined+each+folded+formula_at+named+operated+repeated+unary.Lts-folded as folded-lts
-use Rattle.expander.proofs.formulas.+between+binary+defined+each+folded+formula_at+named+operated+repeated+unary.Proof.Calls.{folded-at, folded-calls}
+use Rattle.expander.proofs.formulas.+between+binary+defined+each+folded+formula_at+named+operand_at+repeated.Lts-folded as folded-lts
+use Rattle.expander.proofs.formulas.+between+binary+defined+each+folded+formula_at+named+operand_at+repeated.Proof.Calls.{folded-at, folded-calls}
 
 abbrev Inv : folded-lts.InvT-loop
 Inv text work refs sorts₀ numbers₀ kept₀ slots₀ firsts written₀ out₀ table₀ base depth k at elements n all free f₀ i₀ sorts numbers kept slots written out table f i =

@@ -1,16 +1,15 @@
 -- `each` meets its contract.
-use Prim.Native.Nat.{ℕ, _+_, _-_, _*_, _≤_, _<_}
-use mathlib.Core.Path.{_≡_, refl, sym, ap, _∙_}
+use Prim.Native.Nat.{ℕ}
+use mathlib.Core.Path.{_∙_}
 use native.Mathlib.Omega.{arith}
 use borrow.Author.Needs.{needs}
-use lib.ListN.{length, getD, take, length-set}
-use Rattle.expander.specs.ShapeLaws.{big-kind}
+use Rattle.shapes.specs.ShapeLaws.{big-kind}
 use Rattle.expander.specs.CallLaws.{before-room}
 use Rattle.expander.specs.FormulaCalls.{entry-room, big-some, big-inside, set-ready, big-prepared, big-elements}
 use Rattle.expander.specs.EachSteps.{each-set, each-misfit, each-done}
 use Rattle.expander.proofs.formulas.each.Reads as each
-use Rattle.expander.proofs.formulas.+between+binary+defined+each+folded+formula_at+named+operated+repeated+unary.Lts-each as each-lts
-use Rattle.expander.proofs.formulas.+between+binary+defined+each+folded+formula_at+named+operated+repeated+unary.Proof.Calls.{each-at, each-calls}
+use Rattle.expander.proofs.formulas.+between+binary+defined+each+folded+formula_at+named+operand_at+repeated.Lts-each as each-lts
+use Rattle.expander.proofs.formulas.+between+binary+defined+each+folded+formula_at+named+operand_at+repeated.Proof.Calls.{each-at, each-calls}
 
 pub each-met : (t : ℕ) {M : Type 1} → each-lts.Closed (each-calls t) (each-at t) each.Post M
 each-met t =

@@ -5,56 +5,50 @@ use borrow.Fn.Kinds.{In}
 use borrow.Fn.PlainCycle.{Measures, is, falls, and}
 use Rattle.expander.proofs.formulas.between.Reads as between
 use Rattle.expander.proofs.formulas.between.Kinds as between-kinds
-use Rattle.expander.proofs.formulas.+between+binary+defined+each+folded+formula_at+named+operated+repeated+unary.Lts-between as between-lts
+use Rattle.expander.proofs.formulas.+between+binary+defined+each+folded+formula_at+named+operand_at+repeated.Lts-between as between-lts
 use Rattle.expander.proofs.formulas.binary.Reads as binary
 use Rattle.expander.proofs.formulas.binary.Kinds as binary-kinds
-use Rattle.expander.proofs.formulas.+between+binary+defined+each+folded+formula_at+named+operated+repeated+unary.Lts-binary as binary-lts
+use Rattle.expander.proofs.formulas.+between+binary+defined+each+folded+formula_at+named+operand_at+repeated.Lts-binary as binary-lts
 use Rattle.expander.proofs.formulas.defined.Reads as defined
 use Rattle.expander.proofs.formulas.defined.Kinds as defined-kinds
-use Rattle.expander.proofs.formulas.+between+binary+defined+each+folded+formula_at+named+operated+repeated+unary.Lts-defined as defined-lts
+use Rattle.expander.proofs.formulas.+between+binary+defined+each+folded+formula_at+named+operand_at+repeated.Lts-defined as defined-lts
 use Rattle.expander.proofs.formulas.each.Reads as each
 use Rattle.expander.proofs.formulas.each.Kinds as each-kinds
-use Rattle.expander.proofs.formulas.+between+binary+defined+each+folded+formula_at+named+operated+repeated+unary.Lts-each as each-lts
+use Rattle.expander.proofs.formulas.+between+binary+defined+each+folded+formula_at+named+operand_at+repeated.Lts-each as each-lts
 use Rattle.expander.proofs.formulas.folded.Reads as folded
 use Rattle.expander.proofs.formulas.folded.Kinds as folded-kinds
-use Rattle.expander.proofs.formulas.+between+binary+defined+each+folded+formula_at+named+operated+repeated+unary.Lts-folded as folded-lts
+use Rattle.expander.proofs.formulas.+between+binary+defined+each+folded+formula_at+named+operand_at+repeated.Lts-folded as folded-lts
 use Rattle.expander.proofs.formulas.formula_at.Reads as formula-at
 use Rattle.expander.proofs.formulas.formula_at.Kinds as formula-at-kinds
-use Rattle.expander.proofs.formulas.+between+binary+defined+each+folded+formula_at+named+operated+repeated+unary.Lts-formula_at as formula-at-lts
+use Rattle.expander.proofs.formulas.+between+binary+defined+each+folded+formula_at+named+operand_at+repeated.Lts-formula_at as formula-at-lts
 use Rattle.expander.proofs.formulas.named.Reads as named
 use Rattle.expander.proofs.formulas.named.Kinds as named-kinds
-use Rattle.expander.proofs.formulas.+between+binary+defined+each+folded+formula_at+named+operated+repeated+unary.Lts-named as named-lts
-use Rattle.expander.proofs.formulas.operated.Reads as operated
-use Rattle.expander.proofs.formulas.operated.Kinds as operated-kinds
-use Rattle.expander.proofs.formulas.+between+binary+defined+each+folded+formula_at+named+operated+repeated+unary.Lts-operated as operated-lts
+use Rattle.expander.proofs.formulas.+between+binary+defined+each+folded+formula_at+named+operand_at+repeated.Lts-named as named-lts
+use Rattle.expander.proofs.formulas.operand_at.Reads as operand-at
+use Rattle.expander.proofs.formulas.operand_at.Kinds as operand-at-kinds
+use Rattle.expander.proofs.formulas.+between+binary+defined+each+folded+formula_at+named+operand_at+repeated.Lts-operand_at as operand-at-lts
 use Rattle.expander.proofs.formulas.repeated.Reads as repeated
 use Rattle.expander.proofs.formulas.repeated.Kinds as repeated-kinds
-use Rattle.expander.proofs.formulas.+between+binary+defined+each+folded+formula_at+named+operated+repeated+unary.Lts-repeated as repeated-lts
-use Rattle.expander.proofs.formulas.unary.Reads as unary
-use Rattle.expander.proofs.formulas.unary.Kinds as unary-kinds
-use Rattle.expander.proofs.formulas.+between+binary+defined+each+folded+formula_at+named+operated+repeated+unary.Lts-unary as unary-lts
+use Rattle.expander.proofs.formulas.+between+binary+defined+each+folded+formula_at+named+operand_at+repeated.Lts-repeated as repeated-lts
 use Rattle.expander.proofs.marks.again.Reads as again-reads
-use Rattle.expander.proofs.operators.binary_kind.Reads as binary-kind-reads
-use Rattle.writing.proofs.cap.Reads as cap-reads
-use Rattle.expander.proofs.atoms.compared.Reads as compared-reads
-use Rattle.writing.proofs.constant.Reads as constant-reads
+use Rattle.expander.proofs.atoms.atom_at.Reads as atom-at-reads
+use Rattle.expander.proofs.prefixes.below.Reads as below-reads
+use Rattle.expander.proofs.prefixes.capped.Reads as capped-reads
+use Rattle.shapes.proofs.binary_kind.Reads as binary-kind-reads
 use Rattle.choices.proofs.folds.finish.Reads as finish-reads
 use Rattle.choices.proofs.folds.further.Reads as further-reads
 use Rattle.expander.proofs.handed.Reads as handed-reads
-use Rattle.expander.proofs.atoms.indexed.Reads as indexed-reads
 use Rattle.writing.proofs.join.Reads as join-reads
 use Rattle.evaluation.proofs.entry.kind_at.Reads as kind-at-reads
 use Rattle.expander.proofs.marks.mark.Reads as mark-reads
-use Rattle.expander.proofs.atoms.member.Reads as member-reads
 use Rattle.writing.proofs.nexts.Reads as nexts-reads
 use Rattle.evaluation.proofs.evaluate.number_at.Reads as number-at-reads
 use Rattle.evaluation.proofs.entry.place_at.Reads as place-at-reads
 use Rattle.evaluation.proofs.evaluate.set_at.Reads as set-at-reads
 use Rattle.expander.proofs.signals.signal_at.Reads as signal-at-reads
 use Rattle.evaluation.proofs.entry.size_at.Reads as size-at-reads
-use Rattle.expander.proofs.operators.unary_kind.Reads as unary-kind-reads
 use Rattle.writing.proofs.window.window.Reads as window-reads
-use Rattle.expander.proofs.operators.window_kind.Reads as window-kind-reads
+use Rattle.shapes.proofs.window_kind.Reads as window-kind-reads
 
 abbrev pub μ-between : Measures 11 between-kinds.ps ℕ
 μ-between κs a = 4 * a .1 .1 .1 .1 .1 .1 .1 .1 .1 .1 .1 .1 .1 .0 + 1
@@ -63,7 +57,7 @@ abbrev pub μ-binary : Measures 11 binary-kinds.ps ℕ
 μ-binary κs a = 4 * a .1 .1 .1 .1 .1 .1 .1 .1 .1 .1 .1 .1 .1 .0 + 1
 
 abbrev pub μ-defined : Measures 11 defined-kinds.ps ℕ
-μ-defined κs a = 4 * a .1 .1 .1 .1 .1 .1 .1 .1 .1 .1 .1 .1 .1 .0 + 1
+μ-defined κs a = 4 * a .1 .1 .1 .1 .1 .1 .1 .1 .1 .1 .1 .1 .1 .0 + 0
 
 abbrev pub μ-each : Measures 11 each-kinds.ps ℕ
 μ-each κs a = 4 * a .1 .1 .1 .1 .1 .1 .1 .1 .1 .1 .1 .1 .1 .0 + 1
@@ -75,16 +69,13 @@ abbrev pub μ-formula-at : Measures 11 formula-at-kinds.ps ℕ
 μ-formula-at κs a = 4 * a .1 .1 .1 .1 .1 .1 .1 .1 .1 .1 .1 .1 .1 .0 + 3
 
 abbrev pub μ-named : Measures 11 named-kinds.ps ℕ
-μ-named κs a = 4 * a .1 .1 .1 .1 .1 .1 .1 .1 .1 .1 .1 .1 .1 .0 + 2
+μ-named κs a = 4 * a .1 .1 .1 .1 .1 .1 .1 .1 .1 .1 .1 .1 .1 .0 + 1
 
-abbrev pub μ-operated : Measures 11 operated-kinds.ps ℕ
-μ-operated κs a = 4 * a .1 .1 .1 .1 .1 .1 .1 .1 .1 .1 .1 .1 .1 .0 + 2
+abbrev pub μ-operand-at : Measures 11 operand-at-kinds.ps ℕ
+μ-operand-at κs a = 4 * a .1 .1 .1 .1 .1 .1 .1 .1 .1 .1 .1 .1 .1 .0 + 2
 
 abbrev pub μ-repeated : Measures 11 repeated-kinds.ps ℕ
 μ-repeated κs a = 4 * a .1 .1 .1 .1 .1 .1 .1 .1 .1 .1 .1 .1 .1 .0 + 1
-
-abbrev pub μ-unary : Measures 11 unary-kinds.ps ℕ
-μ-unary κs a = 4 * a .1 .1 .1 .1 .1 .1 .1 .1 .1 .1 .1 .1 .1 .0 + 1
 
 abbrev pub between-at : ℕ → In 11 between-kinds.ps
 between-at t = and 11 between-kinds.ps (is 11 between-kinds.ps μ-between t) between.Pre
@@ -128,23 +119,17 @@ named-at t = and 11 named-kinds.ps (is 11 named-kinds.ps μ-named t) named.Pre
 abbrev pub named-below : ℕ → In 11 named-kinds.ps
 named-below t = and 11 named-kinds.ps (falls 11 named-kinds.ps _<_ μ-named t) named.Pre
 
-abbrev pub operated-at : ℕ → In 11 operated-kinds.ps
-operated-at t = and 11 operated-kinds.ps (is 11 operated-kinds.ps μ-operated t) operated.Pre
+abbrev pub operand-at-at : ℕ → In 11 operand-at-kinds.ps
+operand-at-at t = and 11 operand-at-kinds.ps (is 11 operand-at-kinds.ps μ-operand-at t) operand-at.Pre
 
-abbrev pub operated-below : ℕ → In 11 operated-kinds.ps
-operated-below t = and 11 operated-kinds.ps (falls 11 operated-kinds.ps _<_ μ-operated t) operated.Pre
+abbrev pub operand-at-below : ℕ → In 11 operand-at-kinds.ps
+operand-at-below t = and 11 operand-at-kinds.ps (falls 11 operand-at-kinds.ps _<_ μ-operand-at t) operand-at.Pre
 
 abbrev pub repeated-at : ℕ → In 11 repeated-kinds.ps
 repeated-at t = and 11 repeated-kinds.ps (is 11 repeated-kinds.ps μ-repeated t) repeated.Pre
 
 abbrev pub repeated-below : ℕ → In 11 repeated-kinds.ps
 repeated-below t = and 11 repeated-kinds.ps (falls 11 repeated-kinds.ps _<_ μ-repeated t) repeated.Pre
-
-abbrev pub unary-at : ℕ → In 11 unary-kinds.ps
-unary-at t = and 11 unary-kinds.ps (is 11 unary-kinds.ps μ-unary t) unary.Pre
-
-abbrev pub unary-below : ℕ → In 11 unary-kinds.ps
-unary-below t = and 11 unary-kinds.ps (falls 11 unary-kinds.ps _<_ μ-unary t) unary.Pre
 
 abbrev pub between-calls : ℕ → between-lts.Claims
 between-calls t = (size-at-reads.Asked, size-at-reads.Learnt, number-at-reads.Asked, number-at-reads.Learnt, handed-reads.Asked, handed-reads.Learnt, place-at-reads.Asked, place-at-reads.Learnt, formula-at-below t, formula-at.Post, kind-at-reads.Asked, kind-at-reads.Learnt, window-kind-reads.Asked, window-kind-reads.Learnt, window-reads.Asked, window-reads.Learnt, nexts-reads.Asked, nexts-reads.Learnt)
@@ -162,16 +147,13 @@ abbrev pub folded-calls : ℕ → folded-lts.Claims
 folded-calls t = (kind-at-reads.Asked, kind-at-reads.Learnt, formula-at-below t, formula-at.Post, further-reads.Asked, further-reads.Learnt, finish-reads.Asked, finish-reads.Learnt)
 
 abbrev pub formula-at-calls : ℕ → formula-at-lts.Claims
-formula-at-calls t = (kind-at-reads.Asked, kind-at-reads.Learnt, formula-at-below t, formula-at.Post, named-below t, named.Post, constant-reads.Asked, constant-reads.Learnt, indexed-reads.Asked, indexed-reads.Learnt, unary-below t, unary.Post, operated-below t, operated.Post)
+formula-at-calls t = (below-reads.Asked, below-reads.Learnt, operand-at-below t, operand-at.Post, capped-reads.Asked, capped-reads.Learnt)
 
 abbrev pub named-calls : ℕ → named-lts.Claims
 named-calls t = (defined-below t, defined.Post, signal-at-reads.Asked, signal-at-reads.Learnt)
 
-abbrev pub operated-calls : ℕ → operated-lts.Claims
-operated-calls t = (kind-at-reads.Asked, kind-at-reads.Learnt, compared-reads.Asked, compared-reads.Learnt, member-reads.Asked, member-reads.Learnt, binary-below t, binary.Post, repeated-below t, repeated.Post, between-below t, between.Post, each-below t, each.Post)
+abbrev pub operand-at-calls : ℕ → operand-at-lts.Claims
+operand-at-calls t = (kind-at-reads.Asked, kind-at-reads.Learnt, named-below t, named.Post, atom-at-reads.Asked, atom-at-reads.Learnt, binary-below t, binary.Post, repeated-below t, repeated.Post, between-below t, between.Post, each-below t, each.Post)
 
 abbrev pub repeated-calls : ℕ → repeated-lts.Claims
 repeated-calls t = (size-at-reads.Asked, size-at-reads.Learnt, number-at-reads.Asked, number-at-reads.Learnt, handed-reads.Asked, handed-reads.Learnt, formula-at-below t, formula-at.Post, nexts-reads.Asked, nexts-reads.Learnt)
-
-abbrev pub unary-calls : ℕ → unary-lts.Claims
-unary-calls t = (kind-at-reads.Asked, kind-at-reads.Learnt, unary-kind-reads.Asked, unary-kind-reads.Learnt, formula-at-below t, formula-at.Post, cap-reads.Asked, cap-reads.Learnt)

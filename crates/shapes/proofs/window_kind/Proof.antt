@@ -1,12 +1,10 @@
 -- Kind by kind.
-use borrow.Author.Needs.{needs}
 use native.Mathlib.Omega.{arith}
-use Prim.Native.Nat.{_+_, _-_, _≤_, _<_}
-use mathlib.Core.Path.{_≡_, refl, sym, ap, _∙_, subst}
+use mathlib.Core.Path.{_≡_, refl, ap}
 use Rattle.language.specs.Operators.{FinallyIn, GloballyIn}
-use Rattle.expander.specs.Shapes.{shapeOf}
-use Rattle.expander.proofs.operators.window_kind.Statement.{statement}
-use Rattle.expander.proofs.operators.window_kind.Tie as tie
+use Rattle.shapes.specs.Shapes.{shapeOf}
+use Rattle.shapes.proofs.window_kind.Statement.{statement}
+use Rattle.shapes.proofs.window_kind.Tie as tie
 
 returns : tie.Need-returns
 returns c = record { operator = FinallyIn; shape = ap shapeOf ((c .if1) .taken); node = refl }
