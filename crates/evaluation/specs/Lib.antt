@@ -19,4 +19,6 @@ pub mod OverLaws
 pub mod FoldLaws
 pub mod TotalLaws
 pub mod MergedLaws
+pub mod Joining
+pub mod JoiningLaws
 pub mod ElementLaws

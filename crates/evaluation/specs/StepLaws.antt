@@ -75,13 +75,13 @@ module _ {s : Source} {st : State} {base depth k : ℕ} {F : ℕ → Result Valu
   pub two-inside : Ready s st base depth false k → 1 + j ≤ k
   two-inside R = let i = t (R .W) (R .env) (R .c) (R .e) (R .fits) .inside in omega arith
 
-  left-fits : {W : World} {env : List ℕ} {c : Context} {e : Expr} (f : Fits s st base depth false k W env c e) → Fits s st base depth false (k - 1 - j) W env c (t W env c e f .left)
+  pub left-fits : {W : World} {env : List ℕ} {c : Context} {e : Expr} (f : Fits s st base depth false k W env c e) → Fits s st base depth false (k - 1 - j) W env c (t W env c e f .left)
   left-fits {W} {env} {c} {e} f = subst (λ i. Fits s st base depth false (k - 1 - i) W env c (t W env c e f .left)) (sym q) (t W env c e f .fits-left)
 
   pub two-left : Ready s st base depth false k → Ready s st base depth false (k - 1 - j)
   two-left R = record { room = roomed alike (omega arith) (omega arith) (R .room); W = R .W; env = R .env; c = R .c; e = _; fits = left-fits (R .fits) }
 
-  right-fits : {st' : State} {P : World → Result Value → Type 0} → Works s st st' base depth false (k - 1 - j) P → {W : World} {env : List ℕ} {c : Context} {e : Expr} (f : Fits s st base depth false k W env c e) → Fits s st' base depth false (k - 1) W env c (t W env c e f .right)
+  pub right-fits : {st' : State} {P : World → Result Value → Type 0} → Works s st st' base depth false (k - 1 - j) P → {W : World} {env : List ℕ} {c : Context} {e : Expr} (f : Fits s st base depth false k W env c e) → Fits s st' base depth false (k - 1) W env c (t W env c e f .right)
   right-fits v {W} {env} {c} {e} f = later (v .held) (v .noted W env c _ (left-fits f)) (t W env c e f .fits-right)
 
   pub two-right : {st' : State} {P : World → Result Value → Type 0} → Ready s st base depth false k → Alike st st' → Works s st st' base depth false (k - 1 - j) P → Ready s st' base depth false (k - 1)

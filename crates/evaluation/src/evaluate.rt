@@ -8,6 +8,7 @@ ghost use Rattle.language.specs.Limits.{maxElements};
 ghost use Rattle.evaluation.specs.Entries.{kindAt};
 ghost use Rattle.evaluation.specs.Working.{source, state, Ready, ValueAt, NumberAt, SetAt};
 ghost use Rattle.sets.specs.Combined.{Ordered};
+ghost use Rattle.evaluation.specs.Joining.{CombinedAt, JoinedAt};
 ghost use Rattle.evaluation.specs.Folding.{ElementReady, ElementsAt, TotalAt, MergedAt};
 use crate::Worth;
 use crate::answers::as_number;
@@ -44,8 +45,6 @@ const MEASURES: u32 = 6;
 
 const WIDTH: u32 = 9;
 
-const UNARIES: u32 = 10;
-
 const ARITHMETIC: u32 = 14;
 
 const COMBINATIONS: u32 = 19;
@@ -81,8 +80,9 @@ const NOT_VISIBLE: u32 = 6;
 const OUT_OF_RANGE: u32 = 11;
 
 // The value of the expression at entry k, under `depth` big operators' names, whose elements stand in the slots from `base` on. Its direct call of itself keeps
-// LLVM from taking the arrays of other functions into this frame. Frames at -O3: value_at 496 bytes; operated 1,936, with arithmetic, combination, summed, gathered
-// and total in it; merged 1,392, elements 416, stepped 352, bounds 320, quantified 224, listed 208.
+// LLVM from taking the arrays of other functions into this frame; the tests stand in such an order that the functions of deep texts are taken into it whole.
+// Frames at -O3, and 48 bytes of arguments for a call: value_at 624 bytes, with operated, arithmetic, measured, named, chained and listed in it; elements 416,
+// stepped 352, bounds 320, quantified 224; with arrays of 257 numbers gathered 2,448, summed 1,440, combination 1,392, joined 1,360.
 pub fn value_at(
     text: &[u8],
     work: &[u8],
@@ -101,23 +101,59 @@ pub fn value_at(
     ensures { λ r. ⌜ ValueAt (source (now (text .entry)) (now (work .entry)) (now (refs .entry))) (state (now (sorts .entry)) (now (numbers .entry)) (now (kept .entry)) (now (slots .entry))) (state (now (sorts .exit)) (now (numbers .exit)) (now (kept .exit)) (now (slots .exit))) base depth k (now (out .exit)) r ⌝ }
 {
     let kind = kind_at(work, k);
-    if kind == PAREN {
-        return value_at(
-            text,
-            work,
-            refs,
-            sorts,
-            numbers,
-            kept,
-            slots,
-            base,
-            depth,
-            k - 1,
-            out,
-        );
+    if kind < COMBINATIONS {
+        if kind >= MEASURES {
+            return operated(
+                text,
+                work,
+                refs,
+                sorts,
+                numbers,
+                kept,
+                slots,
+                base,
+                depth,
+                k,
+                out,
+            );
+        }
+        if kind == PAREN {
+            return value_at(
+                text,
+                work,
+                refs,
+                sorts,
+                numbers,
+                kept,
+                slots,
+                base,
+                depth,
+                k - 1,
+                out,
+            );
+        }
+        if kind == NAMED {
+            return named(
+                text,
+                work,
+                refs,
+                sorts,
+                numbers,
+                kept,
+                slots,
+                base,
+                depth,
+                k,
+                out,
+            );
+        }
+        if kind == NUMERAL {
+            return number(numeral(text, place_at(work, k)));
+        }
+        return Worth::Formula;
     }
-    if kind == NAMED {
-        return named(
+    if kind < COMPARISONS {
+        return chained(
             text,
             work,
             refs,
@@ -131,11 +167,73 @@ pub fn value_at(
             out,
         );
     }
-    if kind == NUMERAL {
-        return number(numeral(text, place_at(work, k)));
-    }
-    if kind < MEASURES {
+    if kind < BIG_NUMBERS {
         return Worth::Formula;
+    }
+    if kind < BINDERS {
+        return big(
+            text,
+            work,
+            refs,
+            sorts,
+            numbers,
+            kept,
+            slots,
+            base,
+            depth,
+            k,
+            out,
+        );
+    }
+    braces(
+        text,
+        work,
+        refs,
+        sorts,
+        numbers,
+        kept,
+        slots,
+        base,
+        depth,
+        k,
+        out,
+    )
+}
+
+// SIZE, MIN, MAX, SIZEOF, an operator between two numbers.
+fn operated(
+    text: &[u8],
+    work: &[u8],
+    refs: &[u16],
+    sorts: &mut [u8],
+    numbers: &mut [u32],
+    kept: &mut [u32],
+    slots: &mut [u32],
+    base: usize,
+    depth: usize,
+    k: usize,
+    out: &mut [u32],
+) -> Worth
+    requires { ⌜ Ready (source (now text) (now work) (now refs)) (state (now sorts) (now numbers) (now kept) (now slots)) base depth false k ⌝ }
+    requires { ⌜ maxElements < length (now out) ⌝ }
+    requires { ⌜ (6 ≤ kindAt (now work) k) × (kindAt (now work) k < 19) ⌝ }
+    ensures { λ r. ⌜ ValueAt (source (now (text .entry)) (now (work .entry)) (now (refs .entry))) (state (now (sorts .entry)) (now (numbers .entry)) (now (kept .entry)) (now (slots .entry))) (state (now (sorts .exit)) (now (numbers .exit)) (now (kept .exit)) (now (slots .exit))) base depth k (now (out .exit)) r ⌝ }
+{
+    let kind = kind_at(work, k);
+    if kind >= ARITHMETIC {
+        return arithmetic(
+            text,
+            work,
+            refs,
+            sorts,
+            numbers,
+            kept,
+            slots,
+            base,
+            depth,
+            k,
+            out,
+        );
     }
     if kind < WIDTH {
         return measured(
@@ -167,26 +265,11 @@ pub fn value_at(
             out,
         );
     }
-    if kind < ARITHMETIC {
-        return Worth::Formula;
-    }
-    operated(
-        text,
-        work,
-        refs,
-        sorts,
-        numbers,
-        kept,
-        slots,
-        base,
-        depth,
-        k,
-        out,
-    )
+    Worth::Formula
 }
 
-// An operator between two operands, a big operator or a set.
-fn operated(
+// A big operator.
+fn big(
     text: &[u8],
     work: &[u8],
     refs: &[u16],
@@ -201,43 +284,10 @@ fn operated(
 ) -> Worth
     requires { ⌜ Ready (source (now text) (now work) (now refs)) (state (now sorts) (now numbers) (now kept) (now slots)) base depth false k ⌝ }
     requires { ⌜ maxElements < length (now out) ⌝ }
-    requires { ⌜ 14 ≤ kindAt (now work) k ⌝ }
+    requires { ⌜ (39 ≤ kindAt (now work) k) × (kindAt (now work) k < 45) ⌝ }
     ensures { λ r. ⌜ ValueAt (source (now (text .entry)) (now (work .entry)) (now (refs .entry))) (state (now (sorts .entry)) (now (numbers .entry)) (now (kept .entry)) (now (slots .entry))) (state (now (sorts .exit)) (now (numbers .exit)) (now (kept .exit)) (now (slots .exit))) base depth k (now (out .exit)) r ⌝ }
 {
     let kind = kind_at(work, k);
-    if kind < COMBINATIONS {
-        return arithmetic(
-            text,
-            work,
-            refs,
-            sorts,
-            numbers,
-            kept,
-            slots,
-            base,
-            depth,
-            k,
-            out,
-        );
-    }
-    if kind < COMPARISONS {
-        return combination(
-            text,
-            work,
-            refs,
-            sorts,
-            numbers,
-            kept,
-            slots,
-            base,
-            depth,
-            k,
-            out,
-        );
-    }
-    if kind < BIG_NUMBERS {
-        return Worth::Formula;
-    }
     if kind < BIG_SETS {
         return summed(
             text,
@@ -268,8 +318,43 @@ fn operated(
             out,
         );
     }
-    if kind < BINDERS {
-        return quantified(
+    quantified(
+        text,
+        work,
+        refs,
+        sorts,
+        numbers,
+        kept,
+        slots,
+        base,
+        depth,
+        k,
+        out,
+    )
+}
+
+// A set in braces or between bounds.
+fn braces(
+    text: &[u8],
+    work: &[u8],
+    refs: &[u16],
+    sorts: &mut [u8],
+    numbers: &mut [u32],
+    kept: &mut [u32],
+    slots: &mut [u32],
+    base: usize,
+    depth: usize,
+    k: usize,
+    out: &mut [u32],
+) -> Worth
+    requires { ⌜ Ready (source (now text) (now work) (now refs)) (state (now sorts) (now numbers) (now kept) (now slots)) base depth false k ⌝ }
+    requires { ⌜ maxElements < length (now out) ⌝ }
+    requires { ⌜ 45 ≤ kindAt (now work) k ⌝ }
+    ensures { λ r. ⌜ ValueAt (source (now (text .entry)) (now (work .entry)) (now (refs .entry))) (state (now (sorts .entry)) (now (numbers .entry)) (now (kept .entry)) (now (slots .entry))) (state (now (sorts .exit)) (now (numbers .exit)) (now (kept .exit)) (now (slots .exit))) base depth k (now (out .exit)) r ⌝ }
+{
+    let kind = kind_at(work, k);
+    if kind == LISTED {
+        return listed(
             text,
             work,
             refs,
@@ -285,21 +370,6 @@ fn operated(
     }
     if kind < LISTED {
         return bounds(
-            text,
-            work,
-            refs,
-            sorts,
-            numbers,
-            kept,
-            slots,
-            base,
-            depth,
-            k,
-            out,
-        );
-    }
-    if kind == LISTED {
-        return listed(
             text,
             work,
             refs,
@@ -589,7 +659,9 @@ fn arithmetic(
     number(calculate(place_at(work, k), kind_at(work, k) - ARITHMETIC, a, b))
 }
 
-fn combination(
+// An operator between two sets. A left operand of a single entry is worked out again after the right one, so that no array is held in a chain like
+// `s (\) s (\) ..`.
+fn chained(
     text: &[u8],
     work: &[u8],
     refs: &[u16],
@@ -623,6 +695,75 @@ fn combination(
     let Worked::Value(n) = x else {
         return set(x);
     };
+    if size_at(work, k - 1 - size_at(work, k - 1)) != 1 {
+        return combination(
+            text,
+            work,
+            refs,
+            sorts,
+            numbers,
+            kept,
+            slots,
+            base,
+            depth,
+            k,
+            n as usize,
+            out,
+        );
+    }
+    let y = set_at(
+        text,
+        work,
+        refs,
+        sorts,
+        numbers,
+        kept,
+        slots,
+        base,
+        depth,
+        k - 1,
+        out,
+    );
+    let Worked::Value(m) = y else {
+        return set(y);
+    };
+    joined(
+        text,
+        work,
+        refs,
+        sorts,
+        numbers,
+        kept,
+        slots,
+        base,
+        depth,
+        k,
+        m as usize,
+        out,
+    )
+}
+
+// The right operand with the left one, whose n elements stand in `out`.
+fn combination(
+    text: &[u8],
+    work: &[u8],
+    refs: &[u16],
+    sorts: &mut [u8],
+    numbers: &mut [u32],
+    kept: &mut [u32],
+    slots: &mut [u32],
+    base: usize,
+    depth: usize,
+    k: usize,
+    n: usize,
+    out: &mut [u32],
+) -> Worth
+    requires { ⌜ Ready (source (now text) (now work) (now refs)) (state (now sorts) (now numbers) (now kept) (now slots)) base depth false k ⌝ }
+    requires { ⌜ maxElements < length (now out) ⌝ }
+    requires { ⌜ (19 ≤ kindAt (now work) k) × (kindAt (now work) k < 22) ⌝ }
+    requires { ⌜ Ordered (now out) n ⌝ }
+    ensures { λ r. ⌜ CombinedAt (source (now (text .entry)) (now (work .entry)) (now (refs .entry))) (state (now (sorts .entry)) (now (numbers .entry)) (now (kept .entry)) (now (slots .entry))) (state (now (sorts .exit)) (now (numbers .exit)) (now (kept .exit)) (now (slots .exit))) base depth k (now (out .entry)) n (now (out .exit)) r ⌝ }
+{
     let mut right = [0u32; 257];
     let y = set_at(
         text,
@@ -644,9 +785,58 @@ fn combination(
         place_at(work, k),
         kind_at(work, k) - COMBINATIONS,
         out,
-        n as usize,
+        n,
         &right,
         m as usize,
+    ))
+}
+
+// The left operand with the right one, whose n elements stand in `out`.
+fn joined(
+    text: &[u8],
+    work: &[u8],
+    refs: &[u16],
+    sorts: &mut [u8],
+    numbers: &mut [u32],
+    kept: &mut [u32],
+    slots: &mut [u32],
+    base: usize,
+    depth: usize,
+    k: usize,
+    n: usize,
+    out: &mut [u32],
+) -> Worth
+    requires { ⌜ Ready (source (now text) (now work) (now refs)) (state (now sorts) (now numbers) (now kept) (now slots)) base depth false k ⌝ }
+    requires { ⌜ maxElements < length (now out) ⌝ }
+    requires { ⌜ (19 ≤ kindAt (now work) k) × (kindAt (now work) k < 22) ⌝ }
+    requires { ⌜ Ordered (now out) n ⌝ }
+    ensures { λ r. ⌜ JoinedAt (source (now (text .entry)) (now (work .entry)) (now (refs .entry))) (state (now (sorts .entry)) (now (numbers .entry)) (now (kept .entry)) (now (slots .entry))) (state (now (sorts .exit)) (now (numbers .exit)) (now (kept .exit)) (now (slots .exit))) base depth k (now (out .entry)) n (now (out .exit)) r ⌝ }
+{
+    let mut right = [0u32; 257];
+    copy(out, 0, n, &mut right, 0);
+    let x = set_at(
+        text,
+        work,
+        refs,
+        sorts,
+        numbers,
+        kept,
+        slots,
+        base,
+        depth,
+        k - 1 - size_at(work, k - 1),
+        out,
+    );
+    let Worked::Value(m) = x else {
+        return set(x);
+    };
+    set(combine(
+        place_at(work, k),
+        kind_at(work, k) - COMBINATIONS,
+        out,
+        m as usize,
+        &right,
+        n,
     ))
 }
 

@@ -1,21 +1,14 @@
 -- `gathered` meets its contract.
-use Prim.Native.Nat.{ℕ, _+_, _-_, _*_, _≤_, _<_}
-use mathlib.Core.Path.{_≡_, refl, sym, ap, _∙_}
+use Prim.Native.Nat.{ℕ}
 use native.Mathlib.Omega.{arith}
 use borrow.Author.Needs.{needs}
 use Rattle.evaluation.specs.OverLaws as L
-use Rattle.evaluation.specs.Entries.{kindAt}
-use Rattle.evaluation.specs.NameLaws as N
-use Rattle.evaluation.specs.OperationLaws as P
-use Rattle.evaluation.specs.Classes.{classOf}
 use Rattle.evaluation.specs.StepLaws as S
-use Rattle.evaluation.specs.KindLaws as K
-use Rattle.evaluation.specs.FitsLaws as F
 use Rattle.evaluation.specs.Operands as O
 use Rattle.evaluation.specs.TellingLaws as T
 use Rattle.evaluation.proofs.evaluate.gathered.Reads as gathered
-use Rattle.evaluation.proofs.evaluate.+arithmetic+bounds+combination+elements+gathered+listed+measured+merged+named+number_at+operated+quantified+set_at+stepped+summed+total+value_at+width.Lts-gathered as gathered-lts
-use Rattle.evaluation.proofs.evaluate.+arithmetic+bounds+combination+elements+gathered+listed+measured+merged+named+number_at+operated+quantified+set_at+stepped+summed+total+value_at+width.Proof.Calls.{gathered-at, gathered-calls}
+use Rattle.evaluation.proofs.evaluate.+arithmetic+big+bounds+braces+chained+combination+elements+gathered+joined+listed+measured+merged+named+number_at+operated+quantified+set_at+stepped+summed+total+value_at+width.Lts-gathered as gathered-lts
+use Rattle.evaluation.proofs.evaluate.+arithmetic+big+bounds+braces+chained+combination+elements+gathered+joined+listed+measured+merged+named+number_at+operated+quantified+set_at+stepped+summed+total+value_at+width.Proof.Calls.{gathered-at, gathered-calls}
 
 pub gathered-met : (t : ℕ) {M : Type 1} → gathered-lts.Closed (gathered-calls t) (gathered-at t) gathered.Post M
 gathered-met t =

@@ -1,23 +1,19 @@
 -- `bounds` meets its contract.
-use Prim.Native.Nat.{ℕ, _+_, _-_, _*_, _≤_, _<_}
-use mathlib.Core.Path.{_≡_, refl, sym, ap, _∙_}
+use Prim.Native.Nat.{ℕ}
+use mathlib.Core.Path.{sym, ap, _∙_}
 use native.Mathlib.Omega.{arith}
 use borrow.Author.Needs.{needs}
 use Prim.Native.Nat.{_%_}
 use lib.Dec.{leb, eqb}
-use Rattle.evaluation.specs.OverLaws as L
-use Rattle.evaluation.specs.Entries.{kindAt}
-use Rattle.evaluation.specs.NameLaws as N
 use Rattle.evaluation.specs.OperationLaws as P
 use Rattle.evaluation.specs.Classes.{classOf}
 use Rattle.evaluation.specs.StepLaws as S
 use Rattle.evaluation.specs.KindLaws as K
-use Rattle.evaluation.specs.FitsLaws as F
 use Rattle.evaluation.specs.Operands as O
 use Rattle.evaluation.specs.TellingLaws as T
 use Rattle.evaluation.proofs.evaluate.bounds.Reads as bounds
-use Rattle.evaluation.proofs.evaluate.+arithmetic+bounds+combination+elements+gathered+listed+measured+merged+named+number_at+operated+quantified+set_at+stepped+summed+total+value_at+width.Lts-bounds as bounds-lts
-use Rattle.evaluation.proofs.evaluate.+arithmetic+bounds+combination+elements+gathered+listed+measured+merged+named+number_at+operated+quantified+set_at+stepped+summed+total+value_at+width.Proof.Calls.{bounds-at, bounds-calls}
+use Rattle.evaluation.proofs.evaluate.+arithmetic+big+bounds+braces+chained+combination+elements+gathered+joined+listed+measured+merged+named+number_at+operated+quantified+set_at+stepped+summed+total+value_at+width.Lts-bounds as bounds-lts
+use Rattle.evaluation.proofs.evaluate.+arithmetic+big+bounds+braces+chained+combination+elements+gathered+joined+listed+measured+merged+named+number_at+operated+quantified+set_at+stepped+summed+total+value_at+width.Proof.Calls.{bounds-at, bounds-calls}
 
 pub bounds-met : (t : ℕ) {M : Type 1} → bounds-lts.Closed (bounds-calls t) (bounds-at t) bounds.Post M
 bounds-met t =

@@ -1,31 +1,20 @@
 -- `merged` meets its contract.
-use Prim.Native.Nat.{ℕ, _+_, _-_, _*_, _≤_, _<_}
+use Prim.Native.Nat.{ℕ, _+_, _-_, _≤_}
 use mathlib.Core.Path.{_≡_, refl, sym, ap, _∙_}
 use native.Mathlib.Omega.{arith}
 use borrow.Author.Needs.{needs}
 use lib.ListN.{length, getD, length-set, take}
-use Rattle.language.specs.Limits.{maxElements}
 use Rattle.evaluation.specs.Working.{source, state}
 use Rattle.evaluation.specs.FoldLaws as D
 use Rattle.evaluation.specs.MergedLaws as A
-use mathlib.Core.Path.{subst}
-use Rattle.language.specs.Values.{limited}
-use Rattle.language.specs.Sets.{combine}
-use Rattle.sets.specs.Operators.{combination}
-use Rattle.sets.specs.Answers.{SetIs}
 use Rattle.evaluation.specs.OverLaws as L
-use Rattle.evaluation.specs.Entries.{kindAt}
-use Rattle.evaluation.specs.NameLaws as N
-use Rattle.evaluation.specs.OperationLaws as P
 use Rattle.evaluation.specs.Classes.{classOf}
 use Rattle.evaluation.specs.StepLaws as S
-use Rattle.evaluation.specs.KindLaws as K
-use Rattle.evaluation.specs.FitsLaws as F
 use Rattle.evaluation.specs.Operands as O
 use Rattle.evaluation.specs.TellingLaws as T
 use Rattle.evaluation.proofs.evaluate.merged.Reads as merged
-use Rattle.evaluation.proofs.evaluate.+arithmetic+bounds+combination+elements+gathered+listed+measured+merged+named+number_at+operated+quantified+set_at+stepped+summed+total+value_at+width.Lts-merged as merged-lts
-use Rattle.evaluation.proofs.evaluate.+arithmetic+bounds+combination+elements+gathered+listed+measured+merged+named+number_at+operated+quantified+set_at+stepped+summed+total+value_at+width.Proof.Calls.{merged-at, merged-calls}
+use Rattle.evaluation.proofs.evaluate.+arithmetic+big+bounds+braces+chained+combination+elements+gathered+joined+listed+measured+merged+named+number_at+operated+quantified+set_at+stepped+summed+total+value_at+width.Lts-merged as merged-lts
+use Rattle.evaluation.proofs.evaluate.+arithmetic+big+bounds+braces+chained+combination+elements+gathered+joined+listed+measured+merged+named+number_at+operated+quantified+set_at+stepped+summed+total+value_at+width.Proof.Calls.{merged-at, merged-calls}
 
 abbrev Inv : merged-lts.InvT-loop
 Inv text work refs sorts₀ numbers₀ kept₀ slots₀ base depth k elements n out₀ kind place slot a next₀ size₀ i₀ sorts numbers kept slots out next size i = A.MergeFrom (source text work refs) base depth k (kind - 41) elements n (state sorts₀ numbers₀ kept₀ slots₀) (take size₀ out₀) i₀ (state sorts numbers kept slots) out size i × (length kept ≡ length kept₀) × (length out ≡ length out₀) × (1 ≤ i) × (length next ≡ 257)

@@ -1,5 +1,5 @@
 -- `total` meets its contract.
-use Prim.Native.Nat.{ℕ, _+_, _-_, _*_, _≤_, _<_}
+use Prim.Native.Nat.{ℕ, _+_, _-_, _*_, _≤_}
 use mathlib.Core.Path.{_≡_, refl, sym, ap, _∙_}
 use native.Mathlib.Omega.{arith}
 use borrow.Author.Needs.{needs}
@@ -8,18 +8,13 @@ use Rattle.evaluation.specs.Working.{source, state}
 use Rattle.evaluation.specs.FoldLaws as D
 use Rattle.evaluation.specs.TotalLaws as A
 use Rattle.evaluation.specs.OverLaws as L
-use Rattle.evaluation.specs.Entries.{kindAt}
-use Rattle.evaluation.specs.NameLaws as N
-use Rattle.evaluation.specs.OperationLaws as P
 use Rattle.evaluation.specs.Classes.{classOf}
 use Rattle.evaluation.specs.StepLaws as S
-use Rattle.evaluation.specs.KindLaws as K
-use Rattle.evaluation.specs.FitsLaws as F
 use Rattle.evaluation.specs.Operands as O
 use Rattle.evaluation.specs.TellingLaws as T
 use Rattle.evaluation.proofs.evaluate.total.Reads as total
-use Rattle.evaluation.proofs.evaluate.+arithmetic+bounds+combination+elements+gathered+listed+measured+merged+named+number_at+operated+quantified+set_at+stepped+summed+total+value_at+width.Lts-total as total-lts
-use Rattle.evaluation.proofs.evaluate.+arithmetic+bounds+combination+elements+gathered+listed+measured+merged+named+number_at+operated+quantified+set_at+stepped+summed+total+value_at+width.Proof.Calls.{total-at, total-calls}
+use Rattle.evaluation.proofs.evaluate.+arithmetic+big+bounds+braces+chained+combination+elements+gathered+joined+listed+measured+merged+named+number_at+operated+quantified+set_at+stepped+summed+total+value_at+width.Lts-total as total-lts
+use Rattle.evaluation.proofs.evaluate.+arithmetic+big+bounds+braces+chained+combination+elements+gathered+joined+listed+measured+merged+named+number_at+operated+quantified+set_at+stepped+summed+total+value_at+width.Proof.Calls.{total-at, total-calls}
 
 abbrev Inv : total-lts.InvT-loop
 Inv text work refs sorts₀ numbers₀ kept₀ slots₀ base depth k elements n out₀ kind place slot a sum₀ i₀ sorts numbers kept slots out sum i = A.SumFrom (source text work refs) base depth k (kind - 39) elements n (state sorts₀ numbers₀ kept₀ slots₀) sum₀ i₀ (state sorts numbers kept slots) sum i × (length kept ≡ length kept₀) × (length out ≡ length out₀) × (1 ≤ i)

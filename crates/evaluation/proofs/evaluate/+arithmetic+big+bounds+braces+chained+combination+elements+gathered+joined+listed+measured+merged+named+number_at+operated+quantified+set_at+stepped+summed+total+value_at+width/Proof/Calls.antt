@@ -5,58 +5,70 @@ use borrow.Fn.Kinds.{In}
 use borrow.Fn.PlainCycle.{Measures, is, falls, and}
 use Rattle.evaluation.proofs.evaluate.arithmetic.Reads as arithmetic
 use Rattle.evaluation.proofs.evaluate.arithmetic.Kinds as arithmetic-kinds
-use Rattle.evaluation.proofs.evaluate.+arithmetic+bounds+combination+elements+gathered+listed+measured+merged+named+number_at+operated+quantified+set_at+stepped+summed+total+value_at+width.Lts-arithmetic as arithmetic-lts
+use Rattle.evaluation.proofs.evaluate.+arithmetic+big+bounds+braces+chained+combination+elements+gathered+joined+listed+measured+merged+named+number_at+operated+quantified+set_at+stepped+summed+total+value_at+width.Lts-arithmetic as arithmetic-lts
 use Rattle.evaluation.proofs.evaluate.bounds.Reads as bounds
 use Rattle.evaluation.proofs.evaluate.bounds.Kinds as bounds-kinds
-use Rattle.evaluation.proofs.evaluate.+arithmetic+bounds+combination+elements+gathered+listed+measured+merged+named+number_at+operated+quantified+set_at+stepped+summed+total+value_at+width.Lts-bounds as bounds-lts
+use Rattle.evaluation.proofs.evaluate.+arithmetic+big+bounds+braces+chained+combination+elements+gathered+joined+listed+measured+merged+named+number_at+operated+quantified+set_at+stepped+summed+total+value_at+width.Lts-bounds as bounds-lts
 use Rattle.evaluation.proofs.evaluate.combination.Reads as combination
 use Rattle.evaluation.proofs.evaluate.combination.Kinds as combination-kinds
-use Rattle.evaluation.proofs.evaluate.+arithmetic+bounds+combination+elements+gathered+listed+measured+merged+named+number_at+operated+quantified+set_at+stepped+summed+total+value_at+width.Lts-combination as combination-lts
+use Rattle.evaluation.proofs.evaluate.+arithmetic+big+bounds+braces+chained+combination+elements+gathered+joined+listed+measured+merged+named+number_at+operated+quantified+set_at+stepped+summed+total+value_at+width.Lts-combination as combination-lts
 use Rattle.evaluation.proofs.evaluate.elements.Reads as elements
 use Rattle.evaluation.proofs.evaluate.elements.Kinds as elements-kinds
-use Rattle.evaluation.proofs.evaluate.+arithmetic+bounds+combination+elements+gathered+listed+measured+merged+named+number_at+operated+quantified+set_at+stepped+summed+total+value_at+width.Lts-elements as elements-lts
+use Rattle.evaluation.proofs.evaluate.+arithmetic+big+bounds+braces+chained+combination+elements+gathered+joined+listed+measured+merged+named+number_at+operated+quantified+set_at+stepped+summed+total+value_at+width.Lts-elements as elements-lts
 use Rattle.evaluation.proofs.evaluate.gathered.Reads as gathered
 use Rattle.evaluation.proofs.evaluate.gathered.Kinds as gathered-kinds
-use Rattle.evaluation.proofs.evaluate.+arithmetic+bounds+combination+elements+gathered+listed+measured+merged+named+number_at+operated+quantified+set_at+stepped+summed+total+value_at+width.Lts-gathered as gathered-lts
+use Rattle.evaluation.proofs.evaluate.+arithmetic+big+bounds+braces+chained+combination+elements+gathered+joined+listed+measured+merged+named+number_at+operated+quantified+set_at+stepped+summed+total+value_at+width.Lts-gathered as gathered-lts
 use Rattle.evaluation.proofs.evaluate.listed.Reads as listed
 use Rattle.evaluation.proofs.evaluate.listed.Kinds as listed-kinds
-use Rattle.evaluation.proofs.evaluate.+arithmetic+bounds+combination+elements+gathered+listed+measured+merged+named+number_at+operated+quantified+set_at+stepped+summed+total+value_at+width.Lts-listed as listed-lts
+use Rattle.evaluation.proofs.evaluate.+arithmetic+big+bounds+braces+chained+combination+elements+gathered+joined+listed+measured+merged+named+number_at+operated+quantified+set_at+stepped+summed+total+value_at+width.Lts-listed as listed-lts
 use Rattle.evaluation.proofs.evaluate.measured.Reads as measured
 use Rattle.evaluation.proofs.evaluate.measured.Kinds as measured-kinds
-use Rattle.evaluation.proofs.evaluate.+arithmetic+bounds+combination+elements+gathered+listed+measured+merged+named+number_at+operated+quantified+set_at+stepped+summed+total+value_at+width.Lts-measured as measured-lts
+use Rattle.evaluation.proofs.evaluate.+arithmetic+big+bounds+braces+chained+combination+elements+gathered+joined+listed+measured+merged+named+number_at+operated+quantified+set_at+stepped+summed+total+value_at+width.Lts-measured as measured-lts
 use Rattle.evaluation.proofs.evaluate.merged.Reads as merged
 use Rattle.evaluation.proofs.evaluate.merged.Kinds as merged-kinds
-use Rattle.evaluation.proofs.evaluate.+arithmetic+bounds+combination+elements+gathered+listed+measured+merged+named+number_at+operated+quantified+set_at+stepped+summed+total+value_at+width.Lts-merged as merged-lts
+use Rattle.evaluation.proofs.evaluate.+arithmetic+big+bounds+braces+chained+combination+elements+gathered+joined+listed+measured+merged+named+number_at+operated+quantified+set_at+stepped+summed+total+value_at+width.Lts-merged as merged-lts
 use Rattle.evaluation.proofs.evaluate.named.Reads as named
 use Rattle.evaluation.proofs.evaluate.named.Kinds as named-kinds
-use Rattle.evaluation.proofs.evaluate.+arithmetic+bounds+combination+elements+gathered+listed+measured+merged+named+number_at+operated+quantified+set_at+stepped+summed+total+value_at+width.Lts-named as named-lts
+use Rattle.evaluation.proofs.evaluate.+arithmetic+big+bounds+braces+chained+combination+elements+gathered+joined+listed+measured+merged+named+number_at+operated+quantified+set_at+stepped+summed+total+value_at+width.Lts-named as named-lts
 use Rattle.evaluation.proofs.evaluate.number_at.Reads as number-at
 use Rattle.evaluation.proofs.evaluate.number_at.Kinds as number-at-kinds
-use Rattle.evaluation.proofs.evaluate.+arithmetic+bounds+combination+elements+gathered+listed+measured+merged+named+number_at+operated+quantified+set_at+stepped+summed+total+value_at+width.Lts-number_at as number-at-lts
+use Rattle.evaluation.proofs.evaluate.+arithmetic+big+bounds+braces+chained+combination+elements+gathered+joined+listed+measured+merged+named+number_at+operated+quantified+set_at+stepped+summed+total+value_at+width.Lts-number_at as number-at-lts
 use Rattle.evaluation.proofs.evaluate.operated.Reads as operated
 use Rattle.evaluation.proofs.evaluate.operated.Kinds as operated-kinds
-use Rattle.evaluation.proofs.evaluate.+arithmetic+bounds+combination+elements+gathered+listed+measured+merged+named+number_at+operated+quantified+set_at+stepped+summed+total+value_at+width.Lts-operated as operated-lts
+use Rattle.evaluation.proofs.evaluate.+arithmetic+big+bounds+braces+chained+combination+elements+gathered+joined+listed+measured+merged+named+number_at+operated+quantified+set_at+stepped+summed+total+value_at+width.Lts-operated as operated-lts
 use Rattle.evaluation.proofs.evaluate.quantified.Reads as quantified
 use Rattle.evaluation.proofs.evaluate.quantified.Kinds as quantified-kinds
-use Rattle.evaluation.proofs.evaluate.+arithmetic+bounds+combination+elements+gathered+listed+measured+merged+named+number_at+operated+quantified+set_at+stepped+summed+total+value_at+width.Lts-quantified as quantified-lts
+use Rattle.evaluation.proofs.evaluate.+arithmetic+big+bounds+braces+chained+combination+elements+gathered+joined+listed+measured+merged+named+number_at+operated+quantified+set_at+stepped+summed+total+value_at+width.Lts-quantified as quantified-lts
 use Rattle.evaluation.proofs.evaluate.set_at.Reads as set-at
 use Rattle.evaluation.proofs.evaluate.set_at.Kinds as set-at-kinds
-use Rattle.evaluation.proofs.evaluate.+arithmetic+bounds+combination+elements+gathered+listed+measured+merged+named+number_at+operated+quantified+set_at+stepped+summed+total+value_at+width.Lts-set_at as set-at-lts
+use Rattle.evaluation.proofs.evaluate.+arithmetic+big+bounds+braces+chained+combination+elements+gathered+joined+listed+measured+merged+named+number_at+operated+quantified+set_at+stepped+summed+total+value_at+width.Lts-set_at as set-at-lts
 use Rattle.evaluation.proofs.evaluate.stepped.Reads as stepped
 use Rattle.evaluation.proofs.evaluate.stepped.Kinds as stepped-kinds
-use Rattle.evaluation.proofs.evaluate.+arithmetic+bounds+combination+elements+gathered+listed+measured+merged+named+number_at+operated+quantified+set_at+stepped+summed+total+value_at+width.Lts-stepped as stepped-lts
+use Rattle.evaluation.proofs.evaluate.+arithmetic+big+bounds+braces+chained+combination+elements+gathered+joined+listed+measured+merged+named+number_at+operated+quantified+set_at+stepped+summed+total+value_at+width.Lts-stepped as stepped-lts
 use Rattle.evaluation.proofs.evaluate.summed.Reads as summed
 use Rattle.evaluation.proofs.evaluate.summed.Kinds as summed-kinds
-use Rattle.evaluation.proofs.evaluate.+arithmetic+bounds+combination+elements+gathered+listed+measured+merged+named+number_at+operated+quantified+set_at+stepped+summed+total+value_at+width.Lts-summed as summed-lts
+use Rattle.evaluation.proofs.evaluate.+arithmetic+big+bounds+braces+chained+combination+elements+gathered+joined+listed+measured+merged+named+number_at+operated+quantified+set_at+stepped+summed+total+value_at+width.Lts-summed as summed-lts
 use Rattle.evaluation.proofs.evaluate.total.Reads as total
 use Rattle.evaluation.proofs.evaluate.total.Kinds as total-kinds
-use Rattle.evaluation.proofs.evaluate.+arithmetic+bounds+combination+elements+gathered+listed+measured+merged+named+number_at+operated+quantified+set_at+stepped+summed+total+value_at+width.Lts-total as total-lts
+use Rattle.evaluation.proofs.evaluate.+arithmetic+big+bounds+braces+chained+combination+elements+gathered+joined+listed+measured+merged+named+number_at+operated+quantified+set_at+stepped+summed+total+value_at+width.Lts-total as total-lts
 use Rattle.evaluation.proofs.evaluate.value_at.Reads as value-at
 use Rattle.evaluation.proofs.evaluate.value_at.Kinds as value-at-kinds
-use Rattle.evaluation.proofs.evaluate.+arithmetic+bounds+combination+elements+gathered+listed+measured+merged+named+number_at+operated+quantified+set_at+stepped+summed+total+value_at+width.Lts-value_at as value-at-lts
+use Rattle.evaluation.proofs.evaluate.+arithmetic+big+bounds+braces+chained+combination+elements+gathered+joined+listed+measured+merged+named+number_at+operated+quantified+set_at+stepped+summed+total+value_at+width.Lts-value_at as value-at-lts
 use Rattle.evaluation.proofs.evaluate.width.Reads as width
 use Rattle.evaluation.proofs.evaluate.width.Kinds as width-kinds
-use Rattle.evaluation.proofs.evaluate.+arithmetic+bounds+combination+elements+gathered+listed+measured+merged+named+number_at+operated+quantified+set_at+stepped+summed+total+value_at+width.Lts-width as width-lts
+use Rattle.evaluation.proofs.evaluate.+arithmetic+big+bounds+braces+chained+combination+elements+gathered+joined+listed+measured+merged+named+number_at+operated+quantified+set_at+stepped+summed+total+value_at+width.Lts-width as width-lts
+use Rattle.evaluation.proofs.evaluate.big.Reads as big
+use Rattle.evaluation.proofs.evaluate.big.Kinds as big-kinds
+use Rattle.evaluation.proofs.evaluate.+arithmetic+big+bounds+braces+chained+combination+elements+gathered+joined+listed+measured+merged+named+number_at+operated+quantified+set_at+stepped+summed+total+value_at+width.Lts-big as big-lts
+use Rattle.evaluation.proofs.evaluate.braces.Reads as braces
+use Rattle.evaluation.proofs.evaluate.braces.Kinds as braces-kinds
+use Rattle.evaluation.proofs.evaluate.+arithmetic+big+bounds+braces+chained+combination+elements+gathered+joined+listed+measured+merged+named+number_at+operated+quantified+set_at+stepped+summed+total+value_at+width.Lts-braces as braces-lts
+use Rattle.evaluation.proofs.evaluate.chained.Reads as chained
+use Rattle.evaluation.proofs.evaluate.chained.Kinds as chained-kinds
+use Rattle.evaluation.proofs.evaluate.+arithmetic+big+bounds+braces+chained+combination+elements+gathered+joined+listed+measured+merged+named+number_at+operated+quantified+set_at+stepped+summed+total+value_at+width.Lts-chained as chained-lts
+use Rattle.evaluation.proofs.evaluate.joined.Reads as joined
+use Rattle.evaluation.proofs.evaluate.joined.Kinds as joined-kinds
+use Rattle.evaluation.proofs.evaluate.+arithmetic+big+bounds+braces+chained+combination+elements+gathered+joined+listed+measured+merged+named+number_at+operated+quantified+set_at+stepped+summed+total+value_at+width.Lts-joined as joined-lts
 use Rattle.evaluation.proofs.answers.as_number.Reads as as-number-reads
 use Rattle.evaluation.proofs.answers.as_set.Reads as as-set-reads
 use Rattle.evaluation.proofs.answers.as_width.Reads as as-width-reads
@@ -129,6 +141,18 @@ abbrev pub μ-value-at : Measures 8 value-at-kinds.ps ℕ
 
 abbrev pub μ-width : Measures 8 width-kinds.ps ℕ
 μ-width κs a = 8 * a .1 .1 .1 .1 .1 .1 .1 .1 .1 .0 + 3
+
+abbrev pub μ-big : Measures 8 big-kinds.ps ℕ
+μ-big κs a = 8 * a .1 .1 .1 .1 .1 .1 .1 .1 .1 .0 + 5
+
+abbrev pub μ-braces : Measures 8 braces-kinds.ps ℕ
+μ-braces κs a = 8 * a .1 .1 .1 .1 .1 .1 .1 .1 .1 .0 + 5
+
+abbrev pub μ-chained : Measures 8 chained-kinds.ps ℕ
+μ-chained κs a = 8 * a .1 .1 .1 .1 .1 .1 .1 .1 .1 .0 + 5
+
+abbrev pub μ-joined : Measures 8 joined-kinds.ps ℕ
+μ-joined κs a = 8 * a .1 .1 .1 .1 .1 .1 .1 .1 .1 .0 + 4
 
 abbrev pub arithmetic-at : ℕ → In 8 arithmetic-kinds.ps
 arithmetic-at t =
@@ -250,6 +274,30 @@ width-at t = and 8 width-kinds.ps (is 8 width-kinds.ps μ-width t) width.Pre
 abbrev pub width-below : ℕ → In 8 width-kinds.ps
 width-below t = and 8 width-kinds.ps (falls 8 width-kinds.ps _<_ μ-width t) width.Pre
 
+abbrev pub big-at : ℕ → In 8 big-kinds.ps
+big-at t = and 8 big-kinds.ps (is 8 big-kinds.ps μ-big t) big.Pre
+
+abbrev pub big-below : ℕ → In 8 big-kinds.ps
+big-below t = and 8 big-kinds.ps (falls 8 big-kinds.ps _<_ μ-big t) big.Pre
+
+abbrev pub braces-at : ℕ → In 8 braces-kinds.ps
+braces-at t = and 8 braces-kinds.ps (is 8 braces-kinds.ps μ-braces t) braces.Pre
+
+abbrev pub braces-below : ℕ → In 8 braces-kinds.ps
+braces-below t = and 8 braces-kinds.ps (falls 8 braces-kinds.ps _<_ μ-braces t) braces.Pre
+
+abbrev pub chained-at : ℕ → In 8 chained-kinds.ps
+chained-at t = and 8 chained-kinds.ps (is 8 chained-kinds.ps μ-chained t) chained.Pre
+
+abbrev pub chained-below : ℕ → In 8 chained-kinds.ps
+chained-below t = and 8 chained-kinds.ps (falls 8 chained-kinds.ps _<_ μ-chained t) chained.Pre
+
+abbrev pub joined-at : ℕ → In 8 joined-kinds.ps
+joined-at t = and 8 joined-kinds.ps (is 8 joined-kinds.ps μ-joined t) joined.Pre
+
+abbrev pub joined-below : ℕ → In 8 joined-kinds.ps
+joined-below t = and 8 joined-kinds.ps (falls 8 joined-kinds.ps _<_ μ-joined t) joined.Pre
+
 abbrev pub arithmetic-calls : ℕ → arithmetic-lts.Claims
 arithmetic-calls t = (size-at-reads.Asked, size-at-reads.Learnt, number-at-below t, number-at.Post, number-reads.Asked, number-reads.Learnt, place-at-reads.Asked, place-at-reads.Learnt, kind-at-reads.Asked, kind-at-reads.Learnt, calculate-reads.Asked, calculate-reads.Learnt)
 
@@ -257,7 +305,7 @@ abbrev pub bounds-calls : ℕ → bounds-lts.Claims
 bounds-calls t = (size-at-reads.Asked, size-at-reads.Learnt, number-at-below t, number-at.Post, set-reads.Asked, set-reads.Learnt, kind-at-reads.Asked, kind-at-reads.Learnt, place-at-reads.Asked, place-at-reads.Learnt, between-reads.Asked, between-reads.Learnt)
 
 abbrev pub combination-calls : ℕ → combination-lts.Claims
-combination-calls t = (size-at-reads.Asked, size-at-reads.Learnt, set-at-below t, set-at.Post, set-reads.Asked, set-reads.Learnt, place-at-reads.Asked, place-at-reads.Learnt, kind-at-reads.Asked, kind-at-reads.Learnt, combine-reads.Asked, combine-reads.Learnt)
+combination-calls t = (set-at-below t, set-at.Post, set-reads.Asked, set-reads.Learnt, place-at-reads.Asked, place-at-reads.Learnt, kind-at-reads.Asked, kind-at-reads.Learnt, combine-reads.Asked, combine-reads.Learnt)
 
 abbrev pub elements-calls : ℕ → elements-lts.Claims
 elements-calls t = (kind-at-reads.Asked, kind-at-reads.Learnt, number-at-below t, number-at.Post, insert-reads.Asked, insert-reads.Learnt, size-at-reads.Asked, size-at-reads.Learnt, elements-below t, elements.Post)
@@ -281,7 +329,7 @@ abbrev pub number-at-calls : ℕ → number-at-lts.Claims
 number-at-calls t = (value-at-below t, value-at.Post, as-number-reads.Asked, as-number-reads.Learnt)
 
 abbrev pub operated-calls : ℕ → operated-lts.Claims
-operated-calls t = (kind-at-reads.Asked, kind-at-reads.Learnt, arithmetic-below t, arithmetic.Post, combination-below t, combination.Post, summed-below t, summed.Post, gathered-below t, gathered.Post, quantified-below t, quantified.Post, bounds-below t, bounds.Post, listed-below t, listed.Post, stepped-below t, stepped.Post)
+operated-calls t = (kind-at-reads.Asked, kind-at-reads.Learnt, arithmetic-below t, arithmetic.Post, measured-below t, measured.Post, width-below t, width.Post)
 
 abbrev pub quantified-calls : ℕ → quantified-lts.Claims
 quantified-calls t = (size-at-reads.Asked, size-at-reads.Learnt, set-at-below t, set-at.Post, set-reads.Asked, set-reads.Learnt)
@@ -299,7 +347,19 @@ abbrev pub total-calls : ℕ → total-lts.Claims
 total-calls t = (kind-at-reads.Asked, kind-at-reads.Learnt, place-at-reads.Asked, place-at-reads.Learnt, number-at-below t, number-at.Post, calculate-reads.Asked, calculate-reads.Learnt)
 
 abbrev pub value-at-calls : ℕ → value-at-lts.Claims
-value-at-calls t = (kind-at-reads.Asked, kind-at-reads.Learnt, value-at-below t, value-at.Post, named-below t, named.Post, place-at-reads.Asked, place-at-reads.Learnt, numeral-reads.Asked, numeral-reads.Learnt, number-reads.Asked, number-reads.Learnt, measured-below t, measured.Post, width-below t, width.Post, operated-below t, operated.Post)
+value-at-calls t = (kind-at-reads.Asked, kind-at-reads.Learnt, operated-below t, operated.Post, value-at-below t, value-at.Post, named-below t, named.Post, place-at-reads.Asked, place-at-reads.Learnt, numeral-reads.Asked, numeral-reads.Learnt, number-reads.Asked, number-reads.Learnt, chained-below t, chained.Post, big-below t, big.Post, braces-below t, braces.Post)
 
 abbrev pub width-calls : ℕ → width-lts.Claims
 width-calls t = (value-at-below t, value-at.Post, as-width-reads.Asked, as-width-reads.Learnt, number-reads.Asked, number-reads.Learnt)
+
+abbrev pub big-calls : ℕ → big-lts.Claims
+big-calls t = (kind-at-reads.Asked, kind-at-reads.Learnt, summed-below t, summed.Post, gathered-below t, gathered.Post, quantified-below t, quantified.Post)
+
+abbrev pub braces-calls : ℕ → braces-lts.Claims
+braces-calls t = (kind-at-reads.Asked, kind-at-reads.Learnt, listed-below t, listed.Post, bounds-below t, bounds.Post, stepped-below t, stepped.Post)
+
+abbrev pub chained-calls : ℕ → chained-lts.Claims
+chained-calls t = (size-at-reads.Asked, size-at-reads.Learnt, set-at-below t, set-at.Post, set-reads.Asked, set-reads.Learnt, combination-below t, combination.Post, joined-below t, joined.Post)
+
+abbrev pub joined-calls : ℕ → joined-lts.Claims
+joined-calls t = (copy-reads.Asked, copy-reads.Learnt, size-at-reads.Asked, size-at-reads.Learnt, set-at-below t, set-at.Post, set-reads.Asked, set-reads.Learnt, place-at-reads.Asked, place-at-reads.Learnt, kind-at-reads.Asked, kind-at-reads.Learnt, combine-reads.Asked, combine-reads.Learnt)
