@@ -1,6 +1,7 @@
 //! Times the proved library beside other implementations of the same job, on the same input, in one run: the best of many runs, in turn. Prints times, ratios, how the
 //! time of a text grows, and the stack that the deepest tables need.
 
+mod day;
 mod evaluation;
 mod inputs;
 mod plain;

@@ -1,7 +1,8 @@
 //! The reader and the converter beside the second converter: the same texts, the same result buffers, the answers and results compared.
 
+use crate::day;
+use crate::inputs::limits;
 use crate::inputs::texts::{Kind, ARBITERS, DOORS};
-use crate::inputs::{limits, Random};
 use crate::timing::{best, micro, RUNS};
 use crate::{tlsf_convert, tlsf_read};
 use second::answer::Answer;
@@ -9,23 +10,23 @@ use second::reader::Reading;
 use second::{reader, rewriter};
 use std::hint::black_box;
 
-const WORK: usize = 65_536;
+pub const WORK: usize = 65_536;
 
 const NODES: usize = 8192;
 
 const SIGNALS: usize = 255;
 
-const KB: usize = 1024;
+pub const KB: usize = 1024;
 
 /// What both lend and fill.
 #[derive(Clone, PartialEq)]
-struct Results {
+pub struct Results {
     nodes: Vec<u32>,
     signals: Vec<u32>,
 }
 
 impl Results {
-    fn new() -> Results {
+    pub fn new() -> Results {
         Results {
             nodes: vec![0; NODES],
             signals: vec![0; SIGNALS],
@@ -47,13 +48,13 @@ impl Results {
 
 /// A reading, or a conversion to a form.
 #[derive(Clone, Copy)]
-enum Job {
+pub enum Job {
     Read,
     Convert(u32),
 }
 
 impl Job {
-    fn library(self, text: &[u8], work: &mut [u8], results: &mut Results) -> u64 {
+    pub fn library(self, text: &[u8], work: &mut [u8], results: &mut Results) -> u64 {
         let (at, size) = (text.as_ptr(), text.len());
         let (lent, room) = (work.as_mut_ptr(), work.len());
         let nodes = results.nodes.as_mut_ptr();
@@ -66,7 +67,7 @@ impl Job {
         }
     }
 
-    fn second(self, text: &[u8], results: &mut Results) -> u64 {
+    pub fn second(self, text: &[u8], results: &mut Results) -> u64 {
         let mut reading = reader::read(text, WORK, NODES, SIGNALS);
         let (Job::Convert(form), Answer::Accepted { signals, .. }) = (self, reading.answer) else {
             return results.put(&reading);
@@ -209,60 +210,19 @@ fn bench_conversions() {
     heading("Converter, us a text");
     for size in [1, 8, 32] {
         for form in [0, 1, 2] {
-            let text = DOORS.text(size * KB);
-            let name = format!("{}, form {form}", DOORS.name);
+            let text = ARBITERS.text(size * KB);
+            let name = format!("{}, form {form}", ARBITERS.name);
             row(&name, text.len(), &Times::of(Job::Convert(form), &text));
         }
     }
 }
 
-/// A day's files: of six in ten some 1 to 2 KB, of three 4 to 8 KB, of one 16 to 32 KB; kinds and forms in turn.
-fn day() -> Vec<(Vec<u8>, u32)> {
-    let mut random = Random(0x2545_f491_4f6c_dd1d);
-    let mut file = |n: usize| {
-        let smallest = [1, 1, 1, 1, 1, 1, 4, 4, 4, 16][n % 10] * KB;
-        let size = smallest + random.below(smallest as u64 + 1) as usize;
-        let kind = [DOORS, ARBITERS][n / 10 % 2].text(size);
-        (kind, (n % 3) as u32)
-    };
-    (0..1300).map(&mut file).collect()
-}
-
-fn bench_day() {
-    let files = day();
-    let bytes: usize = files.iter().map(|(text, _)| text.len()).sum();
-    let mut work = vec![0u8; WORK];
-    let (mut ours, mut theirs) = (Results::new(), Results::new());
-    let mut library = || {
-        for (text, form) in &files {
-            black_box(Job::Convert(*form).library(text, &mut work, &mut ours));
-        }
-    };
-    let mut second = || {
-        for (text, form) in &files {
-            black_box(Job::Convert(*form).second(text, &mut theirs));
-        }
-    };
-    let [library, second] = best(1, [&mut library, &mut second]);
-    println!(
-        "\nA day's 1,300 files of 1 to 32 KB, {} KB together, converted to forms 0, 1, 2 in turn:",
-        bytes / KB
-    );
-    println!(
-        "  library {:.1} ms, {:.0} conversions a second; second {:.1} ms, {:.0} a second; ratio {:.2}",
-        library * 1e3,
-        1300.0 / library,
-        second * 1e3,
-        1300.0 / second,
-        library / second
-    );
-}
-
 pub fn bench() {
     println!("Texts: best of {RUNS} runs in turn. No buffer is cleared between runs; the library leaves the work buffer zero, which its time includes.");
-    println!("'second' is second/ built without overflow checks, called on a deep stack instead of a thread of its own, its results copied into the same buffers.");
+    println!("'second' is second/, the straightforward Rust for texts, built without overflow checks, called on a deep stack instead of a thread of its own,");
+    println!("its results copied into the same buffers.");
     bench_sizes();
     [DOORS, ARBITERS].iter().for_each(bench_growth);
     bench_conversions();
-    bench_day();
+    day::bench();
 }

@@ -5,7 +5,7 @@ use std::time::Instant;
 pub const RUNS: usize = 60;
 
 /// Seconds that a call takes, called `batch` times.
-fn seconds(batch: usize, run: &mut dyn FnMut()) -> f64 {
+pub fn seconds(batch: usize, run: &mut dyn FnMut()) -> f64 {
     let start = Instant::now();
     for _ in 0..batch {
         run();
