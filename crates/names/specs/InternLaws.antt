@@ -24,7 +24,8 @@ use Rattle.words.specs.Words.{wordAt}
 use Rattle.names.specs.Trie.{maxNodes, Trie, Spells}
 use Rattle.names.specs.Spellings.{never-empty}
 use Rattle.names.specs.SpellLaws.{part, spells-few}
-use Rattle.names.specs.Interned.{tokenAt, IsName, Lexed, Interned, Indexed}
+use Rattle.names.specs.Interned.{tokenAt, IsName, Lexed, top, Interned, Indexed, Begun}
+use Rattle.names.specs.TopLaws.{top-least}
 
 -- a token ends before the next begins
 next-token : (from : ℕ) (ts : List Token) (j : ℕ) → Rising from ts → suc j < length ts → tokenAt ts j .at + length (tokenAt ts j .text) ≤ tokenAt ts (suc j) .at
@@ -64,14 +65,14 @@ module _ {text w : List ℕ} {count : ℕ} (h : Lexed text w count) (j : ℕ) (l
       omega arith
 
   -- there is room for the nodes of its bytes
-  pub name-room : {n : ℕ} → n ≤ t .at + 1 → IsName (tokens text) j → n + lengthIn (wordAt w j) ≤ maxNodes
-  name-room b n = let i = name-inside n in let s = h .lexical .short in let f = offset-at (h .lexical) (h .stored) j before in omega arith
+  pub name-room : {n : ℕ} → n ≤ t .at + 1 → IsName (tokens text) j → n + lengthIn (wordAt w j) ≤ length text + 1
+  name-room b n = let i = name-inside n in let f = offset-at (h .lexical) (h .stored) j before in omega arith
 
   pub next-place : t .at + length (t .text) ≤ tokenAt (tokens text) (suc j) .at
   next-place = next-token 0 (tokens text) j (tokens-rise text) before
 
 -- before the first token there is the empty spelling alone
-trie-start : {first next byte : List ℕ} → maxNodes ≤ length first → maxNodes ≤ length next → maxNodes ≤ length byte → ((k : ℕ) → getD first k 0 ≡ 0) → Trie first next byte 1
+trie-start : {first next byte : List ℕ} → length byte ≤ length first → length byte ≤ length next → 1 ≤ length byte → ((k : ℕ) → getD first k 0 ≡ 0) → Trie first next byte 1
 trie-start a b c none =
     record {
       str = λ k. [];
@@ -89,9 +90,9 @@ trie-start a b c none =
       unused = λ k l. none k;
     }
 
-indexed-start : (ts : List Token) {first next byte ids : List ℕ} → Trie first next byte 1 → maxTokens ≤ length ids → Indexed ts 0 first next byte 1 ids
-indexed-start ts t l =
-    record { trie = t; few = omega arith; room = l; inside = λ i m n. absurd (omega arith); spells = λ i m n. absurd (omega arith) }
+indexed-start : (ts : List Token) {first next byte ids : List ℕ} → Trie first next byte 1 → maxTokens ≤ length ids → ((i : ℕ) → getD ids i 0 ≡ 0) → Indexed ts 0 first next byte 1 ids
+indexed-start ts t l none =
+    record { trie = t; few = omega arith; room = l; inside = λ i. let e = none i in omega arith; spells = λ i m n. absurd (omega arith) }
 
 module _ {ts : List Token} {j : ℕ} {first next byte ids : List ℕ} {n : ℕ} (x : Indexed ts j first next byte n ids) where
   -- the last of the tokens passed, or one before it
@@ -111,34 +112,32 @@ module _ {ts : List Token} {j : ℕ} {first next byte ids : List ℕ} {n : ℕ} 
         trie = x .trie;
         few = (let f = x .few in omega arith);
         room = x .room;
-        inside = last-or-before (λ i. IsName ts i → getD ids i 0 < n) (x .inside) (λ y. absurd (false≢true (sym other ∙ y)));
+        inside = x .inside;
         spells = last-or-before (λ i. IsName ts i → x .trie .str (getD ids i 0) ≡ tokenAt ts i .text) (x .spells) (λ y. absurd (false≢true (sym other ∙ y)));
       }
 
   pub indexed-name : {first′ next′ byte′ : List ℕ} {m r : ℕ} → tokenAt ts j .at + length (tokenAt ts j .text) ≤ tokenAt ts (suc j) .at → j < maxTokens → Spells (x .trie) first′ next′ byte′ (tokenAt ts j .text) m r → Indexed ts (suc j) first′ next′ byte′ m (set ids j r)
   indexed-name {r = r} up l s =
       let here : getD (set ids j r) j 0 ≡ r = getD-set-same ids j r 0 (let q = x .room in omega arith) in
-      let there : (i : ℕ) → i < j → getD (set ids j r) i 0 ≡ getD ids i 0 = λ i k. getD-set-other ids j i r 0 (λ e. omega arith) in
+      let there : (i : ℕ) → i ≢ j → getD (set ids j r) i 0 ≡ getD ids i 0 = λ i d. getD-set-other ids j i r 0 d in
       record {
         trie = s .trie;
         few = (let f = x .few in let g = s .few in omega arith);
         room = (let q = x .room in let z = length-set ids j r in omega arith);
-        inside =
-            last-or-before (λ i. IsName ts i → getD (set ids j r) i 0 < _) (λ i k y. let e = there i k in let f = x .inside i k y in let g = s .less in omega arith)
-            (λ y. let f = s .inside in omega arith);
+        inside = λ i. inside′ i here there (s .inside) (s .less) (eqb i j) refl;
         spells =
             last-or-before (λ i. IsName ts i → s .trie .str (getD (set ids j r) i 0) ≡ tokenAt ts i .text)
-            (λ i k y. ap (s .trie .str) (there i k) ∙ s .kept (getD ids i 0) (x .inside i k y) ∙ x .spells i k y)
+            (λ i k y. ap (s .trie .str) (there i (λ e. omega arith)) ∙ s .kept (getD ids i 0) (x .inside i) ∙ x .spells i k y)
             (λ y. ap (s .trie .str) here ∙ s .spells);
       }
+    where
+      inside′ : {m : ℕ} (i : ℕ) → getD (set ids j r) j 0 ≡ r → ((i : ℕ) → i ≢ j → getD (set ids j r) i 0 ≡ getD ids i 0) → r < m → n ≤ m → (b : Bool) → eqb i j ≡ b → getD (set ids j r) i 0 < m
+      inside′ i here there l g true e = let d = ap (λ k. getD (set ids j r) k 0) (eqb-true i j e) in omega arith
+      inside′ i here there l g false e = let d = there i (eqb-false i j e) in let f = x .inside i in omega arith
 
   -- names are equal where their nodes are
-  pub interned : tokenAt ts j .at ≤ maxBytes → Interned ts j ids
-  interned low =
-      record {
-        fits = λ i l y. (let f = x .few in let g = x .inside i l y in omega arith);
-        told = λ i k li lk yi yk. alike i k li lk yi yk (eqb (getD ids i 0) (getD ids k 0)) refl;
-      }
+  pub interned : Interned ts j ids
+  interned = record { told = λ i k li lk yi yk. alike i k li lk yi yk (eqb (getD ids i 0) (getD ids k 0)) refl }
     where
       alike : (i k : ℕ) → i < j → k < j → IsName ts i → IsName ts k → (b : Bool) → eqb (getD ids i 0) (getD ids k 0) ≡ b → eqb (getD ids i 0) (getD ids k 0) ≡ same (tokenAt ts i .text) (tokenAt ts k .text)
       alike i k li lk yi yk true e =
@@ -149,7 +148,7 @@ module _ {ts : List Token} {j : ℕ} {first next byte ids : List ℕ} {n : ℕ} 
           go : (b : Bool) → same (tokenAt ts i .text) (tokenAt ts k .text) ≡ b → eqb (getD ids i 0) (getD ids k 0) ≡ same (tokenAt ts i .text) (tokenAt ts k .text)
           go true f =
               absurd (eqb-false (getD ids i 0) (getD ids k 0) e
-              (x .trie .distinct (getD ids i 0) (getD ids k 0) (x .inside i li yi) (x .inside k lk yk)
+              (x .trie .distinct (getD ids i 0) (getD ids k 0) (x .inside i) (x .inside k)
               (x .spells i li yi ∙ same-equal (tokenAt ts i .text) (tokenAt ts k .text) f ∙ sym (x .spells k lk yk))))
           go false f = e ∙ sym f
 
@@ -162,8 +161,8 @@ module _ {text w : List ℕ} {count j word : ℕ} (h : Lexed text w count) (l : 
   numbered-other d = rw add-one (indexed-other x (next-place h j l) (no-name h j l (λ y. d (ap numberIn e ∙ y))))
 
   -- its bytes lie in the text, and there is room for a node for each
-  pub name-bounds : word / 256 / 65_536 ≡ 1 → (word / 256 % 65_536 + word % 256 ≤ length text) × (n + word % 256 ≤ maxNodes)
-  name-bounds y = rw (e) (name-inside h j l (is-name y), name-room h j l (x .few) (is-name y))
+  pub name-bounds : word / 256 / 65_536 ≡ 1 → (word / 256 % 65_536 + word % 256 ≤ length text) × (n + word % 256 ≤ maxNodes) × (n + word % 256 ≤ length text + 1)
+  name-bounds y = let b = name-room h j l (x .few) (is-name y) in let s = h .lexical .short in rw (e) (name-inside h j l (is-name y), omega arith, b)
 
   few-enough : j < maxTokens
   few-enough = let t = h .total in let f = h .lexical .few in omega arith
@@ -180,10 +179,10 @@ module _ {text w : List ℕ} {count j word : ℕ} (h : Lexed text w count) (l : 
       let f = spells-few (word / 256 % 65_536) (word % 256) text s (b .0) in
       omega (arith, s .inside, b .1)
 
--- the text's end is at most as far as a text may be long
-pub interned-all : {text w : List ℕ} {count : ℕ} → Lexed text w count → {first next byte ids : List ℕ} {n : ℕ} → Indexed (tokens text) count first next byte n ids → Interned (tokens text) count ids
-interned-all {count = count} h x =
-    interned x (let e = h .total in let s = token-stands (h .lexical) count (omega arith) .inside in let b = h .lexical .short in omega arith)
+-- there are at most as many numbers as bytes, and one
+pub interned-all : {text w : List ℕ} {count : ℕ} → Lexed text w count → {first next byte ids : List ℕ} {n : ℕ} → Indexed (tokens text) count first next byte n ids → Interned (tokens text) count ids × (top ids ≤ length text + 1)
+interned-all {text} {count = count} h {ids = ids} x =
+    (interned x, top-least ids (length text + 1) (λ i. let e = h .total in let s = token-stands (h .lexical) count (omega arith) .inside in let f = x .few in let l = x .inside i in omega arith))
 
 pub until : {ts : List Token} {j count : ℕ} {first next byte ids : List ℕ} {n : ℕ} → Indexed ts j first next byte n ids → j ≡ count → Indexed ts count first next byte n ids
 until x e = rw (sym e) x
@@ -194,9 +193,13 @@ nothing zero k = refl
 nothing (suc n) zero = refl
 nothing (suc n) (suc k) = nothing n k
 
-pub indexed-zeros : (ts : List Token) (a b c : ℕ) {ids : List ℕ} → maxNodes ≤ a → maxNodes ≤ b → maxNodes ≤ c → maxTokens ≤ length ids → Indexed ts 0 (replicate a 0) (replicate b 0) (replicate c 0) 1 ids
-indexed-zeros ts a b c ha hb hc l =
-    indexed-start ts (trie-start (rw (length-replicate {A = ℕ} a 0) ha) (rw (length-replicate {A = ℕ} b 0) hb) (rw (length-replicate {A = ℕ} c 0) hc) (nothing a)) l
+pub begun-zeros : {text : List ℕ} (a b c d : ℕ) → c ≤ a → c ≤ b → length text < c → maxTokens ≤ d → Begun text (replicate a 0) (replicate b 0) (replicate c 0) (replicate d 0)
+begun-zeros {text} a b c d la lb lc ld =
+    let x = length-replicate {A = ℕ} a 0 in
+    let y = length-replicate {A = ℕ} b 0 in
+    let z = length-replicate {A = ℕ} c 0 in
+    let w = length-replicate {A = ℕ} d 0 in
+    record { indexed = indexed-start (tokens text) (trie-start (omega arith) (omega arith) (omega arith) (nothing a)) (omega arith) (nothing d); room = omega arith }
 
 -- what the lexer promises, and what a later stage has kept of it
 pub lexed-from : {text w : List ℕ} {count : ℕ} → Tokenized text w count → workBytes ≤ length w → Lexed text w count

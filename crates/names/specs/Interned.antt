@@ -1,6 +1,6 @@
 -- Every name token has a number that tells its spelling: names are equal where their numbers are.
-use Prim.Native.Nat.{ℕ, _+_, _≤_, _<_}
-use mathlib.Core.List.{List}
+use Prim.Native.Nat.{ℕ, suc, _+_, _≤_, _<_, max}
+use mathlib.Core.List.{List, [], _∷_}
 use mathlib.Core.Bool.{true}
 use mathlib.Core.Path.{_≡_}
 use lib.Dec.{eqb}
@@ -11,7 +11,7 @@ use Rattle.language.specs.Tokens.{Token, Name, isOf, tokens}
 use Rattle.language.specs.Grammar.{front}
 use Rattle.lexer.specs.Stored.{TokensStored}
 use Rattle.lexer.specs.LexingLaws.{Lexical}
-use Rattle.names.specs.Trie.{maxNodes, Trie}
+use Rattle.names.specs.Trie.{Trie}
 
 -- token j of a text
 abbrev pub tokenAt : List Token → ℕ → Token
@@ -27,9 +27,13 @@ pub record Lexed (text w : List ℕ) (count : ℕ) : Type 0 where
   pub total : length (tokens text) ≡ count + 1
   pub room : workBytes ≤ length w
 
+-- above all numbers: how long a table over them is at least
+unfoldable pub top : List ℕ → ℕ
+top [] = 1
+top (x ∷ xs) = max (suc x) (top xs)
+
 -- the numbers of the first `count` tokens
 pub record Interned (ts : List Token) (count : ℕ) (ids : List ℕ) : Type 0 where
-  pub fits : (j : ℕ) → j < count → IsName ts j → getD ids j 0 < maxNodes
   pub told : (j k : ℕ) → j < count → k < count → IsName ts j → IsName ts k → eqb (getD ids j 0) (getD ids k 0) ≡ same (tokenAt ts j .text) (tokenAt ts k .text)
 
 -- while they are made: the numbers of the first j tokens are nodes of a tree of spellings, which has at most as many nodes as bytes were passed, and one
@@ -37,5 +41,10 @@ pub record Indexed (ts : List Token) (j : ℕ) (first next byte : List ℕ) (n :
   pub trie : Trie first next byte n
   pub few : n ≤ tokenAt ts j .at + 1
   pub room : maxTokens ≤ length ids
-  pub inside : (i : ℕ) → i < j → IsName ts i → getD ids i 0 < n
+  pub inside : (i : ℕ) → getD ids i 0 < n
   pub spells : (i : ℕ) → i < j → IsName ts i → trie .str (getD ids i 0) ≡ tokenAt ts i .text
+
+-- before the first token, in arrays with room for a node for each byte
+pub record Begun (text first next byte ids : List ℕ) : Type 0 where
+  pub indexed : Indexed (tokens text) 0 first next byte 1 ids
+  pub room : length text < length byte

@@ -11,6 +11,7 @@ pub mod TrieGrowth
 pub mod TrieSearch
 pub mod SpellLaws
 pub mod Interned
+pub mod TopLaws
 pub mod InternLaws
 pub mod Tables
 pub mod TableLaws

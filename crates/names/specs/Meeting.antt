@@ -20,11 +20,10 @@ use Rattle.entries.specs.Stored.{firstEntry, kindOf, indexOf}
 use Rattle.names.specs.Roles.{uses, binds, declares}
 use Rattle.names.specs.Scan.{tokenOf}
 use Rattle.names.specs.Declaring.{declaredIn, fewer}
-use Rattle.names.specs.Trie.{maxNodes}
 use Rattle.names.specs.Interned.{tokenAt}
 use Rattle.names.specs.Tables.{noPlace, placeOf, least, Placed}
 use Rattle.names.specs.TableLaws.{place-none, place-min, again-least, shows-push, least-none}
-use Rattle.names.specs.Walkable.{names, Walkable, Table, entryOf, rest-at, NameAt, kind-there, name-there, place-there, number-there}
+use Rattle.names.specs.Walkable.{names, Walkable, Table, entryOf, rest-at, NameAt, kind-there, name-there, place-there}
 
 -- the names declared from entry k on, of kinds from `low` on
 abbrev pub declaredFrom : {w ids : List ℕ} {entries : ℕ} → Walkable w ids entries → ℕ → ℕ → Names
@@ -81,9 +80,6 @@ module _ {w ids : List ℕ} {entries : ℕ} (h : Walkable w ids entries) (low : 
     name-here e ej =
         subst (λ i. NameAt (tokens (h .text)) (h .count) i (tokenOf own)) (sym ej)
         (name-there h k l (declares-all low (own .kind) enough (ap (declares low) (sym kinds) ∙ e)))
-
-    pub met-inside : {j id : ℕ} → declares low kind ≡ true → j ≡ indexOf (wordAt w (firstEntry + k)) → id ≡ getD ids j 0 → id < maxNodes
-    met-inside e ej ei = let f = number-there h k l (name-here e ej) in omega arith
 
     -- an entry that declares none of them
     pub met-other : {table : List ℕ} {place : ℕ} → Met h low (k + 1) table place → declares low kind ≡ false → Met h low k table place

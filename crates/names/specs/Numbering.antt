@@ -22,11 +22,10 @@ use Rattle.names.specs.Roles.{declares}
 use Rattle.names.specs.Scan.{tokenOf}
 use Rattle.names.specs.AlikeLaws.{pushed}
 use Rattle.names.specs.Declaring.{declaredIn}
-use Rattle.names.specs.Trie.{maxNodes}
 use Rattle.names.specs.Interned.{tokenAt}
 use Rattle.names.specs.Tables.{noPlace}
 use Rattle.names.specs.TableLaws.{shows-set}
-use Rattle.names.specs.Walkable.{Walkable, Table, entryOf, rest-at, NameAt, kind-there, name-there, place-there, number-there}
+use Rattle.names.specs.Walkable.{Walkable, Table, entryOf, rest-at, NameAt, kind-there, name-there, place-there}
 use Rattle.names.specs.Meeting.{declaredFrom, declared-here, declared-there, declares-all}
 use Rattle.names.specs.References.{numberIn, lastFirst, DeclaresAt, Where}
 
@@ -108,9 +107,6 @@ module _ {w ids : List ℕ} {entries : ℕ} (h : Walkable w ids entries) where
       name-here ej =
           subst (λ i. NameAt (tokens (h .text)) (h .count) i (tokenOf own)) (sym ej)
           (name-there h k l (declares-all Kind.parameter (own .kind) (omega arith) declaring))
-
-      pub numbered-inside : {j id : ℕ} → j ≡ indexOf (wordAt w (firstEntry + k)) → id ≡ getD ids j 0 → id < maxNodes
-      numbered-inside ej ei = let f = number-there h k l (name-here ej) in omega arith
 
       more : declaredFrom h Kind.parameter k ≡ tokenOf own ∷ declaredFrom h Kind.parameter (k + 1)
       more = ap (declaredIn Kind.parameter) rest ∙ declared-here Kind.parameter own (drop (k + 1) (h .es)) declaring

@@ -1,5 +1,5 @@
 -- What the walks have found is what refusals 6, 7 and 8 say of the tree, and what its names refer to.
-use Prim.Native.Nat.{ℕ, zero, suc, _-_, _*_, _≤_, _<_, min}
+use Prim.Native.Nat.{ℕ, zero, suc, _+_, _-_, _*_, _≤_, _<_, min}
 use mathlib.Core.List.{List, []}
 use mathlib.Core.Bool.{Bool, true, false}
 use mathlib.Core.Logic.{_⊎_, inl, inr}
@@ -25,8 +25,8 @@ use Rattle.names.specs.Declaring.{declaredIn}
 use Rattle.names.specs.DeclaringLaws.{declared-outline}
 use Rattle.names.specs.Balanced.{balanced-outline}
 use Rattle.names.specs.NameReads.{names-read}
-use Rattle.names.specs.Trie.{maxNodes}
-use Rattle.names.specs.Interned.{Interned}
+use Rattle.names.specs.Interned.{top, Interned}
+use Rattle.names.specs.TopLaws.{below-top}
 use Rattle.names.specs.Tables.{noPlace, placeOf}
 use Rattle.names.specs.TableLaws.{place-some, place-none, place-min}
 use Rattle.names.specs.Walkable.{Walkable, Table}
@@ -44,16 +44,21 @@ abbrev pub walkable : {text w ids : List ℕ} {count entries : ℕ} {x : Spec} �
 walkable {text} {count = count} {x = x} s i r =
     record { text = text; count = count; es = outline x; lexed = s .lexed; total = s .total; few = s .few; stored = s .stored; named = names-read (tokens text) (s .read); balanced = balanced-outline x; interned = i; room = r }
 
--- a table that holds no place
-pub record Blank (table : List ℕ) : Type 0 where
-  pub room : maxNodes ≤ length table
-  pub empty : (i : ℕ) → i < maxNodes → getD table i 0 ≡ noPlace
+-- a table over the spellings of a text that holds no place
+pub record Blank (text table : List ℕ) : Type 0 where
+  pub room : length text < length table
+  pub empty : (i : ℕ) → i < length table → getD table i 0 ≡ noPlace
 
-pub blank-table : {w ids table : List ℕ} {entries : ℕ} (h : Walkable w ids entries) → Blank table → Table h table (λ t. noPlace)
-blank-table {ids = ids} h b = record { room = b .room; holds = λ j l y. b .empty (getD ids j 0) (h .interned .fits j l y) }
+pub blank-room : {text : List ℕ} (ids : List ℕ) {table : List ℕ} → top ids ≤ length text + 1 → Blank text table → top ids ≤ length table
+blank-room ids t b = let r = b .room in omega arith
 
-pub blank-replicate : (n : ℕ) → maxNodes ≤ n → Blank (replicate n noPlace)
-blank-replicate n l = record { room = rw (length-replicate {A = ℕ} n noPlace) l; empty = λ i m. getD-replicate n i noPlace 0 (omega arith) }
+pub blank-table : {text w ids table : List ℕ} {entries : ℕ} (h : Walkable w ids entries) → top ids ≤ length text + 1 → Blank text table → Table h table (λ t. noPlace)
+blank-table {ids = ids} h t b =
+    let r = blank-room ids t b in
+    record { room = r; holds = λ j l y. b .empty (getD ids j 0) (let m = below-top ids j in omega arith) }
+
+pub blank-replicate : {text : List ℕ} (n : ℕ) → length text < n → Blank text (replicate n noPlace)
+blank-replicate n l = let z = length-replicate {A = ℕ} n noPlace in record { room = omega arith; empty = λ i m. getD-replicate n i noPlace 0 (omega arith) }
 
 module _ {w ids : List ℕ} {entries : ℕ} (h : Walkable w ids entries) where
   abbrev all : Names
@@ -79,7 +84,7 @@ module _ {w ids : List ℕ} {entries : ℕ} (h : Walkable w ids entries) where
   first-visible = refl
 
   -- the walk begins
-  pub walk-begins : {seen table found stack refs : List ℕ} {place count rest : ℕ} → Met h Kind.signal 0 seen place → Numbered h entries table found count rest → 3 * maxTokens ≤ length stack → maxTokens ≤ length refs → Walking h (lastFirst all) 0 seen table stack refs 0 noPlace noPlace
+  pub walk-begins : {seen table found stack refs : List ℕ} {place count rest : ℕ} → Met h Kind.signal 0 seen place → Numbered h entries table found count rest → 3 * entries ≤ length stack → maxTokens ≤ length refs → Walking h (lastFirst all) 0 seen table stack refs 0 noPlace noPlace
   unfolding openBefore visibleBefore reference
   walk-begins {table = table} m n a b =
       record {

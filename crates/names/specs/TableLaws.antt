@@ -18,6 +18,7 @@ use Rattle.language.specs.Laws.Basics.Lists.{All}
 use Rattle.language.specs.Laws.Basics.Tests.{pick, leave, same-equal}
 use Rattle.names.specs.AlikeLaws.{met}
 use Rattle.names.specs.Interned.{tokenAt, IsName, Interned}
+use Rattle.names.specs.TopLaws.{below-top}
 use Rattle.names.specs.Tables.{noPlace, placeOf, least, Placed, Shows}
 
 pub place-some : (v : ℕ) → v < noPlace → placeOf v ≡ some v
@@ -117,7 +118,7 @@ module _ {ts : List Token} {count : ℕ} {ids : List ℕ} (known : Interned ts c
       holds j k y true e =
           let here : getD ids i 0 ≡ getD ids j 0 = eqb-true (getD ids i 0) (getD ids j 0) e in
           ap (λ d. getD (set table (getD ids i 0) v) d 0) (sym here)
-          ∙ getD-set-same table (getD ids i 0) v 0 (let a = s .room in let b = known .fits i l name in omega arith)
+          ∙ getD-set-same table (getD ids i 0) v 0 (let a = s .room in let b = below-top ids i in omega arith)
           ∙ sym (f (tokenAt ts j) (sym (known .told i j l k name y) ∙ e))
       holds j k y false e =
           getD-set-other table (getD ids i 0) (getD ids j 0) v 0 (λ z. eqb-false (getD ids i 0) (getD ids j 0) e (sym z))

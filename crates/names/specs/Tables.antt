@@ -10,8 +10,7 @@ use lib.ListN.{length, getD}
 use Rattle.language.specs.Bytes.{same}
 use Rattle.language.specs.Tokens.{Token}
 use Rattle.language.specs.Names.{Names}
-use Rattle.names.specs.Trie.{maxNodes}
-use Rattle.names.specs.Interned.{tokenAt, IsName}
+use Rattle.names.specs.Interned.{tokenAt, IsName, top}
 
 abbrev pub noPlace : ℕ
 noPlace = 65_535
@@ -30,5 +29,5 @@ Placed t = t .at < noPlace
 
 -- what a table holds at the numbers of the names of a text: m of each
 pub record Shows (ts : List Token) (count : ℕ) (ids table : List ℕ) (m : Token → ℕ) : Type 0 where
-  pub room : maxNodes ≤ length table
+  pub room : top ids ≤ length table
   pub holds : (j : ℕ) → j < count → IsName ts j → getD table (getD ids j 0) 0 ≡ m (tokenAt ts j)

@@ -7,7 +7,7 @@ use mathlib.Core.Logic.{_≢_}
 use mathlib.Core.Path.{_≡_}
 use lib.ListN.{length, getD}
 
--- node 0, and one for each byte of a text
+-- node 0, and one for each byte of the longest text
 abbrev pub maxNodes : ℕ
 maxNodes = 32_769
 
@@ -19,12 +19,12 @@ more s b = s ++ (b ∷ [])
 abbrev pub Child : (ℕ → List ℕ) → List ℕ → ℕ → ℕ → ℕ → Type 0
 Child str byte n p k = (k < n) × (str k ≡ more (str p) (getD byte k 0))
 
--- the n nodes of three arrays, and their spellings
+-- the n nodes of three arrays, and their spellings; there is room for as many as there are bytes
 pub record Trie (first next byte : List ℕ) (n : ℕ) : Type 0 where
   pub str : ℕ → List ℕ
-  pub first-room : maxNodes ≤ length first
-  pub next-room : maxNodes ≤ length next
-  pub byte-room : maxNodes ≤ length byte
+  pub first-room : length byte ≤ length first
+  pub next-room : length byte ≤ length next
+  pub byte-room : n ≤ length byte
   pub rooted : 0 < n
   pub root : str 0 ≡ []
   pub distinct : (i k : ℕ) → i < n → k < n → str i ≡ str k → i ≡ k

@@ -6,15 +6,15 @@ use mathlib.Core.Logic.{_≢_, _⊎_, inl, inr}
 use mathlib.Core.Path.{_≡_, refl, sym, ap, _∙_, subst}
 use native.Mathlib.Omega.{arith}
 use lib.Dec.{eqb}
-use lib.ListN.{getD, set, length-set}
+use lib.ListN.{length, getD, set, length-set}
 use lib.Seq.{getD-set-same, getD-set-other}
 use borrow.Author.Tests.{eq-eqb, ne-eqb}
 use Rattle.language.specs.Laws.Basics.Tests.{pick, leave}
-use Rattle.names.specs.Trie.{maxNodes, more, Child, Trie, Sought, Reached, nodesWith, Steps}
+use Rattle.names.specs.Trie.{more, Child, Trie, Sought, Reached, nodesWith, Steps}
 use Rattle.names.specs.Spellings.{same-front, never-more, never-empty, equal-or-not}
 
 -- One node more: a child of node p by byte b, where there is none.
-module _ {first next byte : List ℕ} {n : ℕ} (t : Trie first next byte n) (p b : ℕ) (inside : p < n) (room : n < maxNodes) (absent : (k : ℕ) → k < n → t .str k ≢ more (t .str p) b) where
+module _ {first next byte : List ℕ} {n : ℕ} (t : Trie first next byte n) (p b : ℕ) (inside : p < n) (room : n < length byte) (absent : (k : ℕ) → k < n → t .str k ≢ more (t .str p) b) where
   abbrev str′ : ℕ → List ℕ
   str′ k = elim (eqb k n) [ true ↦ more (t .str p) b | false ↦ t .str k ]
 
@@ -34,7 +34,7 @@ module _ {first next byte : List ℕ} {n : ℕ} (t : Trie first next byte n) (p 
   str-old k l = leave (eqb k n) _ _ (ne-eqb k n (λ e. omega arith))
 
   byte-new : getD byte′ n 0 ≡ b
-  byte-new = getD-set-same byte n b 0 (let r = t .byte-room in omega arith)
+  byte-new = getD-set-same byte n b 0 room
 
   byte-old : (k : ℕ) → k < n → getD byte′ k 0 ≡ getD byte k 0
   byte-old k l = getD-set-other byte n k b 0 (λ e. omega arith)
@@ -101,9 +101,9 @@ module _ {first next byte : List ℕ} {n : ℕ} (t : Trie first next byte n) (p 
   grown-trie =
       record {
         str = str′;
-        first-room = (let l = length-set first p n in let r = t .first-room in omega arith);
-        next-room = (let l = length-set next n (getD first p 0) in let r = t .next-room in omega arith);
-        byte-room = (let l = length-set byte n b in let r = t .byte-room in omega arith);
+        first-room = (let l = length-set first p n in let m = length-set byte n b in let r = t .first-room in omega arith);
+        next-room = (let l = length-set next n (getD first p 0) in let m = length-set byte n b in let r = t .next-room in omega arith);
+        byte-room = (let l = length-set byte n b in omega arith);
         rooted = omega arith;
         root = str-old 0 (t .rooted) ∙ t .root;
         distinct = distinct′;
@@ -200,7 +200,7 @@ module _ {first next byte : List ℕ} {n : ℕ} (t : Trie first next byte n) (p 
       let same : n ≡ nodesWith n r = omega arith in
       (omega arith, subst (λ m. Reached t p b first next byte m r) same (record { trie = t; kept = λ k l. refl; inside = l; spells = s .found d }))
 
-  pub step-new : r ≡ 0 → p < n → n < maxNodes → Steps t p b (set first p n) (set next n (getD first p 0)) (set byte n b) n
+  pub step-new : r ≡ 0 → p < n → n < length byte → Steps t p b (set first p n) (set next n (getD first p 0)) (set byte n b) n
   step-new z inside room =
       let same : n + 1 ≡ nodesWith n n = omega arith in
       (omega arith, subst (λ m. Reached t p b (set first p n) (set next n (getD first p 0)) (set byte n b) m n) same (reached-new t p b inside room (s .missing z)))

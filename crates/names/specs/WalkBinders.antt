@@ -24,11 +24,11 @@ use Rattle.names.specs.RoleLaws.{Role, binds-only, ends-only, after-role
 use Rattle.names.specs.Scan.{tokenOf, outer, after}
 use Rattle.names.specs.ScanLaws.{first-none, neither}
 use Rattle.names.specs.Balanced.{Balanced, after-binder, after-end}
-use Rattle.names.specs.Trie.{maxNodes}
-use Rattle.names.specs.Interned.{tokenAt}
+use Rattle.names.specs.Interned.{tokenAt, top}
+use Rattle.names.specs.TopLaws.{below-top}
 use Rattle.names.specs.Tables.{placeOf, least, Placed}
 use Rattle.names.specs.TableLaws.{place-min, again-least, shows-set, shows-push, shows-pop}
-use Rattle.names.specs.Walkable.{binds-names, Walkable, Table, entryOf, NameAt, place-there, number-there}
+use Rattle.names.specs.Walkable.{binds-names, Walkable, Table, entryOf, NameAt, place-there}
 use Rattle.names.specs.References.{reference, numberIn}
 use Rattle.names.specs.Walking.{openAfter, openBefore, Held, Open, visibleAt, Walking}
 use Rattle.names.specs.WalkLaws.{walk-on}
@@ -198,8 +198,8 @@ module _ {w ids : List ℕ} {entries : ℕ} (h : Walkable w ids entries) (declar
       held-own : {id : ℕ} → id ≡ getD stack (3 * (depth - 1)) 0 → id ≡ getD ids (last .held .index) 0
       held-own ei = ei ∙ ap (λ d. getD stack (3 * d) 0) around-depth ∙ last .held .own
 
-      pub end-inside : {id : ℕ} → id ≡ getD stack (3 * (depth - 1)) 0 → id < maxNodes
-      end-inside ei = let e = held-own ei in let f = number-there h k l (last .held .name) in omega arith
+      pub end-inside : {id : ℕ} → id ≡ getD stack (3 * (depth - 1)) 0 → id < top ids
+      end-inside ei = let e = held-own ei in let f = below-top ids (last .held .index) in omega arith
 
       pub walk-end : {id v x : ℕ} → id ≡ getD stack (3 * (depth - 1)) 0 → v ≡ getD stack (3 * (depth - 1) + 1) 0 → x ≡ getD stack (3 * (depth - 1) + 2) 0 → Walking h declared (k + 1) (set seen id v) (set table id x) stack refs (depth - 1) p q
       walk-end {id} {v} {x} ei ev ex =

@@ -21,11 +21,10 @@ use Rattle.names.specs.RoleLaws.{Role, uses-only, declares-only, after-r
 use Rattle.names.specs.Scan.{tokenOf, after}
 use Rattle.names.specs.ScanLaws.{first-none, neither}
 use Rattle.names.specs.Balanced.{Balanced, after-declared, after-quiet}
-use Rattle.names.specs.Trie.{maxNodes}
 use Rattle.names.specs.Interned.{tokenAt}
 use Rattle.names.specs.Tables.{placeOf, least, Placed}
 use Rattle.names.specs.TableLaws.{place-min, hiddenPlace, hidden-least, shows-push}
-use Rattle.names.specs.Walkable.{names, uses-names, binds-names, declares-names, Walkable, Table, entryOf, NameAt, kind-there, name-there, place-there, number-there}
+use Rattle.names.specs.Walkable.{names, uses-names, binds-names, declares-names, Walkable, Table, entryOf, NameAt, kind-there, name-there, place-there}
 use Rattle.names.specs.References.{reference}
 use Rattle.names.specs.Walking.{openAfter, openBefore, Open, visibleAt, Walking}
 use Rattle.names.specs.WalkLaws.{walk-on, rest}
@@ -40,18 +39,6 @@ module _ {w ids : List ℕ} {entries : ℕ} (h : Walkable w ids entries) (k : �
   -- the name of an entry that has one
   pub own-name : {j : ℕ} → names kind ≡ true → j ≡ indexOf (wordAt w (firstEntry + k)) → NameAt (tokens (h .text)) (h .count) j (tokenOf own)
   own-name y e = subst (λ i. NameAt (tokens (h .text)) (h .count) i (tokenOf own)) (sym e) (name-there h k l (ap names (sym own-kind) ∙ y))
-
-  own-inside : {j id : ℕ} → names kind ≡ true → j ≡ indexOf (wordAt w (firstEntry + k)) → id ≡ getD ids j 0 → id < maxNodes
-  own-inside y ej ei = let f = number-there h k l (own-name y ej) in omega arith
-
-  pub use-inside : {j id : ℕ} → uses kind ≡ true → j ≡ indexOf (wordAt w (firstEntry + k)) → id ≡ getD ids j 0 → id < maxNodes
-  use-inside y = own-inside (uses-names kind y)
-
-  pub bind-inside : {j id : ℕ} → binds kind ≡ true → j ≡ indexOf (wordAt w (firstEntry + k)) → id ≡ getD ids j 0 → id < maxNodes
-  bind-inside y = own-inside (binds-names kind y)
-
-  pub declare-inside : {j id : ℕ} → declares Kind.parameter kind ≡ true → j ≡ indexOf (wordAt w (firstEntry + k)) → id ≡ getD ids j 0 → id < maxNodes
-  declare-inside y = own-inside (declares-names kind y)
 
   -- what a table holds for it
   pub own-held : {table : List ℕ} {m : Token → ℕ} {j id v : ℕ} → Table h table m → NameAt (tokens (h .text)) (h .count) j (tokenOf own) → id ≡ getD ids j 0 → v ≡ getD table id 0 → v ≡ m (tokenOf own)

@@ -73,7 +73,7 @@ module _ {w ids : List ℕ} {entries : ℕ} (h : Walkable w ids entries) (declar
     pub meets : placeOf q ≡ first (placeOf q₀) (here nowhere again (visibleAt h declared k) own)
     pub refers : names (own .kind) ≡ true → getD refs k 0 ≡ reference declared open-next (tokenOf own)
     pub others : (i : ℕ) → i < k → getD refs i 0 ≡ getD refs₀ i 0
-    pub stack-room : 3 * maxTokens ≤ length stack
+    pub stack-room : 3 * entries ≤ length stack
     pub refs-room : maxTokens ≤ length refs
 
   pub walk-on : {seen table stack refs seen₀ table₀ stack₀ refs₀ : List ℕ} {depth p q depth₀ p₀ q₀ : ℕ} (s : Walking h declared k seen₀ table₀ stack₀ refs₀ depth₀ p₀ q₀) → Next seen table stack refs depth p q s → Walking h declared (k + 1) seen table stack refs depth p q

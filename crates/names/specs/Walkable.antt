@@ -21,7 +21,6 @@ use Rattle.entries.specs.StoredLaws.{entry-kind, entry-index}
 use Rattle.names.specs.Roles.{uses, binds, declares}
 use Rattle.names.specs.Scan.{tokenOf}
 use Rattle.names.specs.Balanced.{Balanced}
-use Rattle.names.specs.Trie.{maxNodes}
 use Rattle.names.specs.Interned.{tokenAt, IsName, Lexed, Interned}
 use Rattle.names.specs.Tables.{Placed, Shows}
 
@@ -124,10 +123,6 @@ module _ {w ids : List ℕ} {entries : ℕ} (h : Walkable w ids entries) (k : �
       let b = h .lexed .lexical .short in
       let same : tokenAt (tokens (h .text)) j .at ≡ t .at = ap (λ u. u .at) (sym (n .token)) in
       (offset-at (h .lexed .lexical) (h .lexed .stored) j (omega arith) ∙ same, omega arith, omega arith)
-
-  -- its number is that of a node
-  pub number-there : {j : ℕ} {t : Token} → NameAt (tokens (h .text)) (h .count) j t → getD ids j 0 < maxNodes
-  number-there {j} n = h .interned .fits j (n .inside) (n .name)
 
 -- a table over the numbers of the text's names
 abbrev pub Table : {w ids : List ℕ} {entries : ℕ} → Walkable w ids entries → List ℕ → (Token → ℕ) → Type 0

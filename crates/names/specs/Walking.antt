@@ -67,5 +67,5 @@ module _ {w ids : List ℕ} {entries : ℕ} (h : Walkable w ids entries) (declar
     pub hides : scan hidden nowhere (visibleAt 0) (h .es) ≡ first (placeOf hiddenAt) (scan hidden nowhere (visibleAt k) (drop k (h .es)))
     pub meets : scan nowhere again (visibleAt 0) (h .es) ≡ first (placeOf againAt) (scan nowhere again (visibleAt k) (drop k (h .es)))
     pub refers : (i : ℕ) → i < k → names (entryOf (h .es) i .kind) ≡ true → getD refs i 0 ≡ refersTo declared (h .es) i
-    pub stack-room : 3 * maxTokens ≤ length stack
+    pub stack-room : 3 * entries ≤ length stack
     pub refs-room : maxTokens ≤ length refs

@@ -8,7 +8,7 @@ ghost use mathlib.Core.Path.{_≡_};
 ghost use Prim.Native.Nat.{_+_, _≤_, _<_, min, max};
 ghost use lib.ListN.{length};
 ghost use Rattle.entries.specs.Kinds as Kind;
-ghost use Rattle.names.specs.Trie.{maxNodes};
+ghost use Rattle.names.specs.Interned.{top};
 ghost use Rattle.names.specs.Tables.{noPlace};
 ghost use Rattle.names.specs.Walkable.{Walkable, Table};
 ghost use Rattle.names.specs.Meeting.{Met};
@@ -45,7 +45,7 @@ fn declare_one(
     place: u32,
     table: &mut [u16],
 ) -> u32
-    requires { ⌜ Walkable (now work) (now ids) entries × (k < entries) × (Kind.parameter ≤ low) × (maxNodes ≤ length (now table)) ⌝ }
+    requires { ⌜ Walkable (now work) (now ids) entries × (k < entries) × (Kind.parameter ≤ low) × (top (now ids) ≤ length (now table)) ⌝ }
     ensures { λ r. ⌜ ((h : Walkable (now (work .entry)) (now (ids .entry)) entries) → Met h low (k + 1) (now (table .entry)) place → Met h low k (now (table .exit)) r) ⌝ }
 {
     let kind = kind_at(work, k);
@@ -63,7 +63,7 @@ fn declare_one(
 // The first place where two declared names of the kinds from `low` on meet; the table then holds their smallest places. `low` is that of parameters, for all
 // names, or that of signals, for signals and buses. It asks for the entries that `resolve` was given, and for a table that holds no place.
 pub fn declare(work: &[u8], ids: &[u16], entries: usize, low: u32, table: &mut [u16]) -> u32
-    requires { ⌜ Walkable (now work) (now ids) entries × (Kind.parameter ≤ low) × (maxNodes ≤ length (now table)) ⌝ }
+    requires { ⌜ Walkable (now work) (now ids) entries × (Kind.parameter ≤ low) × (top (now ids) ≤ length (now table)) ⌝ }
     ensures { λ r. ⌜ ((h : Walkable (now (work .entry)) (now (ids .entry)) entries) → Table h (now (table .entry)) (λ t. noPlace) → Met h low 0 (now (table .exit)) r) ⌝ }
 {
     let mut place = NOWHERE;

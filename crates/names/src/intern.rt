@@ -1,12 +1,10 @@
 // A number for each name token, by which names are compared from here on (specs/Interned): the node of its spelling.
-use crate::trie::NODES;
 use crate::trie::spell;
 use words::get;
 ghost use Prim.Native.Nat.{_+_, _≤_, _<_};
 ghost use lib.ListN.{length};
-ghost use Rattle.language.specs.Limits.{maxTokens};
 ghost use Rattle.language.specs.Tokens.{tokens};
-ghost use Rattle.names.specs.Interned.{Lexed, Interned, Indexed};
+ghost use Rattle.names.specs.Interned.{Lexed, Interned, Indexed, Begun, top};
 
 // The number of a name token (crate lexer, specs/Numbers).
 const NAME: u32 = 1;
@@ -23,7 +21,7 @@ fn number(
     nodes: usize,
     ids: &mut [u16],
 ) -> usize
-    requires { ⌜ Lexed (now text) (now work) count × (j < count) × Indexed (tokens (now text)) j (now first) (now next) (now byte) nodes (now ids) ⌝ }
+    requires { ⌜ Lexed (now text) (now work) count × (j < count) × Indexed (tokens (now text)) j (now first) (now next) (now byte) nodes (now ids) × (length (now text) < length (now byte)) ⌝ }
     ensures { λ r. ⌜ Indexed (tokens (now (text .entry))) (j + 1) (now (first .exit)) (now (next .exit)) (now (byte .exit)) r (now (ids .exit)) ⌝ }
 {
     let word = get(work, j);
@@ -37,8 +35,9 @@ fn number(
     spelt.nodes
 }
 
-// The numbers of all tokens, in a tree of spellings that holds the empty one alone, as `intern` makes it.
-fn number_all(
+// The numbers of all tokens that are names, in a tree of spellings that holds the empty one alone. It asks for what the lexer leaves and for arrays as `resolve`
+// makes them, and is called by `resolve_in` alone.
+pub fn intern(
     text: &[u8],
     work: &[u8],
     count: usize,
@@ -47,8 +46,8 @@ fn number_all(
     byte: &mut [u8],
     ids: &mut [u16],
 )
-    requires { ⌜ Lexed (now text) (now work) count × Indexed (tokens (now text)) 0 (now first) (now next) (now byte) 1 (now ids) ⌝ }
-    ensures { λ _. ⌜ Interned (tokens (now (text .entry))) count (now (ids .exit)) ⌝ }
+    requires { ⌜ Lexed (now text) (now work) count × Begun (now text) (now first) (now next) (now byte) (now ids) ⌝ }
+    ensures { λ _. ⌜ Interned (tokens (now (text .entry))) count (now (ids .exit)) × (top (now (ids .exit)) ≤ length (now (text .entry)) + 1) ⌝ }
 {
     let mut nodes = 1;
     let mut j = 0;
@@ -56,15 +55,4 @@ fn number_all(
         nodes = number(text, work, count, j, first, next, byte, nodes, ids);
         j += 1;
     }
-}
-
-// The numbers of all tokens that are names. It asks for what the lexer leaves, and is called by `resolve` alone.
-pub fn intern(text: &[u8], work: &[u8], count: usize, ids: &mut [u16])
-    requires { ⌜ Lexed (now text) (now work) count × (maxTokens ≤ length (now ids)) ⌝ }
-    ensures { λ _. ⌜ Interned (tokens (now (text .entry))) count (now (ids .exit)) ⌝ }
-{
-    let mut first = [0u16; NODES];
-    let mut next = [0u16; NODES];
-    let mut byte = [0u8; NODES];
-    number_all(text, work, count, &mut first, &mut next, &mut byte, ids);
 }

@@ -7,7 +7,7 @@ use crate::trie::wide;
 ghost use Prim.Native.Nat.{_+_, _≤_, _<_};
 ghost use lib.ListN.{length};
 ghost use Rattle.language.specs.Limits.{maxNames};
-ghost use Rattle.names.specs.Trie.{maxNodes};
+ghost use Rattle.names.specs.Interned.{top};
 ghost use Rattle.names.specs.Tables.{noPlace};
 ghost use Rattle.names.specs.Walkable.{Walkable, Table};
 ghost use Rattle.names.specs.Numbering.{Numbered};
@@ -35,7 +35,7 @@ fn number_one(
     table: &mut [u16],
     declared: &mut [u16],
 ) -> Tally
-    requires { ⌜ Walkable (now work) (now ids) entries × (k < entries) × (before .count ≤ k) × (maxNodes ≤ length (now table)) × (maxNames ≤ length (now declared)) ⌝ }
+    requires { ⌜ Walkable (now work) (now ids) entries × (k < entries) × (before .count ≤ k) × (top (now ids) ≤ length (now table)) × (maxNames ≤ length (now declared)) ⌝ }
     ensures { λ r. ⌜ ((h : Walkable (now (work .entry)) (now (ids .entry)) entries) → Numbered h k (now (table .entry)) (now (declared .entry)) (before .count) (before .place) → Numbered h (k + 1) (now (table .exit)) (now (declared .exit)) (r .count) (r .place)) × (r .count ≤ k + 1) ⌝ }
 {
     let kind = kind_at(work, k);
@@ -74,7 +74,7 @@ pub fn number_declared(
     table: &mut [u16],
     declared: &mut [u16],
 ) -> Tally
-    requires { ⌜ Walkable (now work) (now ids) entries × (maxNodes ≤ length (now table)) × (maxNames ≤ length (now declared)) ⌝ }
+    requires { ⌜ Walkable (now work) (now ids) entries × (top (now ids) ≤ length (now table)) × (maxNames ≤ length (now declared)) ⌝ }
     ensures { λ r. ⌜ ((h : Walkable (now (work .entry)) (now (ids .entry)) entries) → Table h (now (table .entry)) (λ t. noPlace) → Numbered h entries (now (table .exit)) (now (declared .exit)) (r .count) (r .place)) ⌝ }
 {
     let mut tally = Tally { count: 0, place: 0 };

@@ -6,9 +6,6 @@ ghost use lib.ListN.{length};
 ghost use Rattle.names.specs.Trie.{maxNodes, Trie, Sought, nodesWith, Steps, Spells};
 ghost use Rattle.names.specs.SpellLaws.{part};
 
-// The empty spelling, and one node for each byte of the longest text (specs/Trie, maxNodes).
-pub const NODES: usize = 32769;
-
 pub fn wide(x: u16) -> usize
     ensures { λ r. ⌜ (r ≡ x) × (r < 65536) ⌝ }
 {
@@ -39,7 +36,7 @@ pub fn step(
     node: usize,
     b: u8,
 ) -> usize
-    requires { ⌜ Trie (now first) (now next) (now byte) nodes × (node < nodes) × (nodes < maxNodes) ⌝ }
+    requires { ⌜ Trie (now first) (now next) (now byte) nodes × (node < nodes) × (nodes < maxNodes) × (nodes < length (now byte)) ⌝ }
     ensures { λ r. ⌜ ((t : Trie (now (first .entry)) (now (next .entry)) (now (byte .entry)) nodes) → Steps t node b (now (first .exit)) (now (next .exit)) (now (byte .exit)) r) ⌝ }
 {
     let old = child(first, next, byte, nodes, node, b);
@@ -66,7 +63,7 @@ pub struct Spelt {
 }
 
 // The node of a text's bytes `len` of them from `at` on, made where it is not there. It asks for room for a node for each byte, which
-// `intern` has, since a text is no longer than the arrays.
+// there is, since a text is no longer than the arrays.
 pub fn spell(
     text: &[u8],
     at: usize,
@@ -76,7 +73,7 @@ pub fn spell(
     byte: &mut [u8],
     nodes: usize,
 ) -> Spelt
-    requires { ⌜ Trie (now first) (now next) (now byte) nodes × (at + len ≤ length (now text)) × (nodes + len ≤ maxNodes) ⌝ }
+    requires { ⌜ Trie (now first) (now next) (now byte) nodes × (at + len ≤ length (now text)) × (nodes + len ≤ maxNodes) × (nodes + len ≤ length (now byte)) ⌝ }
     ensures { λ r. ⌜ ((t : Trie (now (first .entry)) (now (next .entry)) (now (byte .entry)) nodes) → Spells t (now (first .exit)) (now (next .exit)) (now (byte .exit)) (part at len (now (text .entry))) (r .nodes) (r .node)) ⌝ }
 {
     let mut count = nodes;

@@ -38,8 +38,12 @@ const MAX_SIGNALS: usize = 255;
 
 const SET: usize = 257;
 
-// The words for a set of each declared name.
+// The words for a set of each declared name, and of each where there are few names.
 const SETS: usize = MAX_NAMES * SET;
+
+const FEW_NAMES: usize = 32;
+
+const FEW_SETS: usize = FEW_NAMES * SET;
 
 // A refusal's number.
 const SHORT_WORK: u32 = 17;
@@ -120,8 +124,8 @@ fn expand(
     }
 }
 
-// The declarations of a checked tree, and what follows them: refusals 11 to 18.
-fn convert(
+// The declarations of a checked tree, and what follows them: refusals 11 to 18. Sets of definitions are kept as far as there is room.
+fn convert_in(
     text: &[u8],
     work: &[u8],
     refs: &[u16],
@@ -129,6 +133,7 @@ fn convert(
     entries: usize,
     names: usize,
     facts: Facts,
+    kept: &mut [u32],
     nodes: &mut [u32],
     signals: &mut [u32],
 ) -> Answer
@@ -137,7 +142,6 @@ fn convert(
 {
     let mut sorts = [0u8; MAX_NAMES];
     let mut numbers = [0u32; MAX_NAMES];
-    let mut kept = [0u32; SETS];
     let mut slots = [0u32; MAX_TOKENS];
     let mut order = [0u16; MAX_NAMES];
     let mut enumerations = [0u16; MAX_NAMES];
@@ -152,7 +156,7 @@ fn convert(
         names,
         &mut sorts,
         &mut numbers,
-        &mut kept,
+        kept,
         &mut slots,
         &mut order,
         &mut enumerations,
@@ -168,7 +172,7 @@ fn convert(
             facts,
             &mut sorts,
             &mut numbers,
-            &mut kept,
+            kept,
             &mut slots,
             &order,
             &enumerations,
@@ -182,6 +186,51 @@ fn convert(
         ),
         Declared::Refused(number, place) => Answer::Refused(number, place),
     }
+}
+
+// `convert_in` with room for all sets: little of it where there are few names, since clearing it would take more time than the text.
+fn convert(
+    text: &[u8],
+    work: &[u8],
+    refs: &[u16],
+    found: &[u16],
+    entries: usize,
+    names: usize,
+    facts: Facts,
+    nodes: &mut [u32],
+    signals: &mut [u32],
+) -> Answer
+    requires { ⌜ SomeParsed (now text) (now work) (now refs) (now found) entries names facts ⌝ }
+    ensures { λ r. ⌜ ((x : Spec) → Parsed (now (text .entry)) (now (work .entry)) (now (refs .entry)) (now (found .entry)) entries names facts x → Converts x (now (nodes .entry)) (now (signals .entry)) (now (nodes .exit)) (now (signals .exit)) r) ⌝ }
+{
+    if names <= FEW_NAMES {
+        let mut kept = [0u32; FEW_SETS];
+        return convert_in(
+            text,
+            work,
+            refs,
+            found,
+            entries,
+            names,
+            facts,
+            &mut kept,
+            nodes,
+            signals,
+        );
+    }
+    let mut kept = [0u32; SETS];
+    convert_in(
+        text,
+        work,
+        refs,
+        found,
+        entries,
+        names,
+        facts,
+        &mut kept,
+        nodes,
+        signals,
+    )
 }
 
 // The answer on a text, with a work buffer that is long enough; what is left in its first 65,536 bytes is for the caller to clear.

@@ -1,29 +1,10 @@
--- `names::resolve` meets its contract: the arrays that it lends are long enough, and the tables hold no place.
-use native.Mathlib.Omega.{arith}
-use Rattle.names.specs.ResolveLaws.{blank-replicate, zeros-long}
+-- `names::resolve` meets its contract: either function does what it promises.
 use borrow.Author.Needs.{needs}
 use Rattle.names.proofs.resolve.Statement.{statement}
 use Rattle.names.proofs.resolve.Tie as tie
 
-slice-aggregate-resolve-in : tie.Need-slice-aggregate-resolve-in
-slice-aggregate-resolve-in c = search needs
-
-slice-aggregate-resolve-in-2 : tie.Need-slice-aggregate-resolve-in-2
-slice-aggregate-resolve-in-2 c = search needs
-
-slice-aggregate-resolve-in-3 : tie.Need-slice-aggregate-resolve-in-3
-slice-aggregate-resolve-in-3 c = search needs
-
-slice-aggregate-resolve-in-4 : tie.Need-slice-aggregate-resolve-in-4
-slice-aggregate-resolve-in-4 c = search needs
-
-slice-aggregate-resolve-in-5 : tie.Need-slice-aggregate-resolve-in-5
-slice-aggregate-resolve-in-5 c = search needs
-
-resolve-in-requires : tie.Need-resolve-in-requires
-resolve-in-requires c κs =
-    let start = c .before .before .before .before .before .before .before .before .before .before .before in
-    (start .pre .0, zeros-long 8_192 (omega arith), blank-replicate 32_769 (omega arith), blank-replicate 32_769 (omega arith), blank-replicate 32_769 (omega arith), zeros-long 24_576 (omega arith), start .pre .1, start .pre .2)
+resolve-short-requires : tie.Need-resolve-short-requires
+resolve-short-requires c κs = search needs
 
 same-length : tie.Need-same-length
 same-length c = search needs
@@ -34,16 +15,27 @@ same-length-2 c = search needs
 returns : tie.Need-returns
 returns c = search needs
 
+resolve-long-requires : tie.Need-resolve-long-requires
+resolve-long-requires c κs = search needs
+
+same-length-3 : tie.Need-same-length-3
+same-length-3 c = search needs
+
+same-length-4 : tie.Need-same-length-4
+same-length-4 c = search needs
+
+returns-2 : tie.Need-returns-2
+returns-2 c = search needs
+
 pub resolve-spec : {M : Type 1} → statement M
 resolve-spec =
     tie.close
     (tie.spec
-    slice-aggregate-resolve-in
-    slice-aggregate-resolve-in-2
-    slice-aggregate-resolve-in-3
-    slice-aggregate-resolve-in-4
-    slice-aggregate-resolve-in-5
-    resolve-in-requires
+    resolve-short-requires
     same-length
     same-length-2
-    returns)
+    returns
+    resolve-long-requires
+    same-length-3
+    same-length-4
+    returns-2)

@@ -1,6 +1,6 @@
 -- `names::resolve_in` meets its contract: names are numbered, declared names met and numbered, then the walk goes over the tree.
 use native.Mathlib.Omega.{arith}
-use Rattle.names.specs.ResolveLaws.{walkable, blank-table, walk-begins, answers}
+use Rattle.names.specs.ResolveLaws.{walkable, blank-room, blank-table, walk-begins, answers}
 use borrow.Author.Needs.{needs}
 use Rattle.names.proofs.resolve_in.Statement.{statement}
 use Rattle.names.proofs.resolve_in.Tie as tie
@@ -10,28 +10,28 @@ intern-requires c κs = search needs
 
 declare-requires : tie.Need-declare-requires
 declare-requires c κs =
-    let start = c .before .before .before .before .before .before .before .before .before .before .before .before .before .before .before in
-    ((walkable (start .pre .0 .stored) ((c .before .before .before .before .intern) .ensures) (let e = (c .before .before .before .before .intern) .kept .1 .1 .1 .0 in let r = start .pre .1 in omega arith)), omega arith, start .pre .2 .room)
+    let start = c .before .before .before .before .before .before .before .before .before .before .before .before .before .before .before .before .before .before .before .before .before .before .before .before .before .before .before in
+    ((walkable (start .pre .0 .stored) ((c .before .before .before .before .before .before .before .before .before .before .intern) .ensures .0) (let e = (c .before .before .before .before .before .before .before .before .before .before .intern) .kept .1 .1 .1 .1 .1 .1 .0 in let r = start .pre .1 .indexed .room in omega arith)), omega arith, blank-room _ ((c .before .before .before .before .before .before .before .before .before .before .intern) .ensures .1) (start .pre .2))
 
 declare-requires-2 : tie.Need-declare-requires-2
 declare-requires-2 c κs =
-    let start = c .before .before .before .before .before .before .before .before .before .before .before .before .before .before .before .before .before .before .before .before in
-    let intern = c .before .before .before .before .before .before .before .before .before .intern in
-    ((walkable (start .pre .0 .stored) (intern .ensures) (let e = intern .kept .1 .1 .1 .0 in let r = start .pre .1 in omega arith)), omega arith, start .pre .3 .room)
+    let start = c .before .before .before .before .before .before .before .before .before .before .before .before .before .before .before .before .before .before .before .before .before .before .before .before .before .before .before .before .before .before .before .before in
+    let intern = c .before .before .before .before .before .before .before .before .before .before .before .before .before .before .before .intern in
+    ((walkable (start .pre .0 .stored) (intern .ensures .0) (let e = intern .kept .1 .1 .1 .1 .1 .1 .0 in let r = start .pre .1 .indexed .room in omega arith)), omega arith, blank-room _ (intern .ensures .1) (start .pre .3))
 
 number-declared-requires : tie.Need-number-declared-requires
 number-declared-requires c κs =
-    let start = c .before .before .before .before .before .before .before .before .before .before .before .before .before .before .before .before .before .before .before .before .before .before .before .before .before .before in
-    let intern = c .before .before .before .before .before .before .before .before .before .before .before .before .before .before .before .intern in
-    ((walkable (start .pre .0 .stored) (intern .ensures) (let e = intern .kept .1 .1 .1 .0 in let r = start .pre .1 in omega arith)), start .pre .4 .room, start .pre .7)
+    let start = c .before .before .before .before .before .before .before .before .before .before .before .before .before .before .before .before .before .before .before .before .before .before .before .before .before .before .before .before .before .before .before .before .before .before .before .before .before .before in
+    let intern = c .before .before .before .before .before .before .before .before .before .before .before .before .before .before .before .before .before .before .before .before .before .intern in
+    ((walkable (start .pre .0 .stored) (intern .ensures .0) (let e = intern .kept .1 .1 .1 .1 .1 .1 .0 in let r = start .pre .1 .indexed .room in omega arith)), blank-room _ (intern .ensures .1) (start .pre .4), start .pre .7)
 
 walk-all-requires : tie.Need-walk-all-requires
 walk-all-requires c κs =
-    let start = c .before .before .before .before .before .before .before .before .before .before .before .before .before .before .before .before .before .before .before .before .before .before .before .before .before .before .before .before .before .before .before .before .before .before .before .before in
-    let intern = c .before .before .before .before .before .before .before .before .before .before .before .before .before .before .before .before .before .before .before .before .before .before .before .before .before .intern in
+    let start = c .before .before .before .before .before .before .before .before .before .before .before .before .before .before .before .before .before .before .before .before .before .before .before .before .before .before .before .before .before .before .before .before .before .before .before .before .before .before .before .before .before .before .before .before .before .before .before .before in
+    let intern = c .before .before .before .before .before .before .before .before .before .before .before .before .before .before .before .before .before .before .before .before .before .before .before .before .before .before .before .before .before .before .before .intern in
     let declare2 = c .before .before .before .before .before .before .before .before .before .before .before .before .before .before .before .declare2 in
     let number-declared = c .before .before .before .before .before .before .before .before .before .number-declared in
-    let h = (walkable (start .pre .0 .stored) (intern .ensures) (let e = intern .kept .1 .1 .1 .0 in let r = start .pre .1 in omega arith)) in record { walkable = h; declared = _; walking = (walk-begins h (declare2 .ensures h (blank-table h (start .pre .3))) (number-declared .ensures h (blank-table h (start .pre .4))) (start .pre .5) (start .pre .6)) }
+    let h = (walkable (start .pre .0 .stored) (intern .ensures .0) (let e = intern .kept .1 .1 .1 .1 .1 .1 .0 in let r = start .pre .1 .indexed .room in omega arith)) in record { walkable = h; declared = _; walking = (walk-begins h (declare2 .ensures h (blank-table h (intern .ensures .1) (start .pre .3))) (number-declared .ensures h (blank-table h (intern .ensures .1) (start .pre .4))) (start .pre .5) (start .pre .6)) }
 
 smaller-requires : tie.Need-smaller-requires
 smaller-requires c κs = search needs
@@ -41,22 +41,28 @@ answer-requires c κs = search needs
 
 same-length : tie.Need-same-length
 same-length c =
-    let intern = c .before .before .before .before .before .before .before .before .before .before .before .before .before .before .before .before .before .before .before .before .before .before .before .before .before .before .before .before .before .before .before .before .before .before .before .before .intern in
+    let intern = c .before .before .before .before .before .before .before .before .before .before .before .before .before .before .before .before .before .before .before .before .before .before .before .before .before .before .before .before .before .before .before .before .before .before .before .before .before .before .before .before .before .before .intern in
     intern .kept .1 .1 .1 .0
 
 same-length-2 : tie.Need-same-length-2
 same-length-2 c =
-    let declare = c .before .before .before .before .before .before .before .before .before .before .before .before .before .before .before .before .before .before .before .before .before .before .before .before .before .before .before .before .before .before .before .declare in
-    declare .kept .1 .1 .1 .1 .0
+    let intern = c .before .before .before .before .before .before .before .before .before .before .before .before .before .before .before .before .before .before .before .before .before .before .before .before .before .before .before .before .before .before .before .before .before .before .before .before .before .before .before .before .before .before .intern in
+    intern .kept .1 .1 .1 .1 .0
 
 same-length-3 : tie.Need-same-length-3
-same-length-3 c = search needs
+same-length-3 c =
+    let intern = c .before .before .before .before .before .before .before .before .before .before .before .before .before .before .before .before .before .before .before .before .before .before .before .before .before .before .before .before .before .before .before .before .before .before .before .before .before .before .before .before .before .before .intern in
+    intern .kept .1 .1 .1 .1 .1 .0
 
 same-length-4 : tie.Need-same-length-4
-same-length-4 c = search needs
+same-length-4 c =
+    let intern = c .before .before .before .before .before .before .before .before .before .before .before .before .before .before .before .before .before .before .before .before .before .before .before .before .before .before .before .before .before .before .before .before .before .before .before .before .before .before .before .before .before .before .intern in
+    intern .kept .1 .1 .1 .1 .1 .1 .0
 
 same-length-5 : tie.Need-same-length-5
-same-length-5 c = search needs
+same-length-5 c =
+    let declare = c .before .before .before .before .before .before .before .before .before .before .before .before .before .before .before .before .before .before .before .before .before .before .before .before .before .before .before .before .before .before .before .declare in
+    declare .kept .1 .1 .1 .1 .0
 
 same-length-6 : tie.Need-same-length-6
 same-length-6 c = search needs
@@ -64,15 +70,24 @@ same-length-6 c = search needs
 same-length-7 : tie.Need-same-length-7
 same-length-7 c = search needs
 
+same-length-8 : tie.Need-same-length-8
+same-length-8 c = search needs
+
+same-length-9 : tie.Need-same-length-9
+same-length-9 c = search needs
+
+same-length-10 : tie.Need-same-length-10
+same-length-10 c = search needs
+
 returns : tie.Need-returns
 returns c =
-    let intern = c .before .before .before .before .before .before .before .before .before .before .before .before .before .before .before .before .before .before .before .before .before .before .before .before .before .before .before .before .before .before .before .before .before .before .before .before .intern in
-    let start = c .before .before .before .before .before .before .before .before .before .before .before .before .before .before .before .before .before .before .before .before .before .before .before .before .before .before .before .before .before .before .before .before .before .before .before .before .before .before .before .before .before .before .before .before .before .before .before in
+    let intern = c .before .before .before .before .before .before .before .before .before .before .before .before .before .before .before .before .before .before .before .before .before .before .before .before .before .before .before .before .before .before .before .before .before .before .before .before .before .before .before .before .before .before .intern in
+    let start = c .before .before .before .before .before .before .before .before .before .before .before .before .before .before .before .before .before .before .before .before .before .before .before .before .before .before .before .before .before .before .before .before .before .before .before .before .before .before .before .before .before .before .before .before .before .before .before .before .before .before .before .before .before .before .before .before .before .before .before in
     let declare = c .before .before .before .before .before .before .before .before .before .before .before .before .before .before .before .before .before .before .before .before .before .before .before .before .before .before .before .before .before .before .before .declare in
     let number-declared = c .before .before .before .before .before .before .before .before .before .before .before .before .before .before .before .before .before .before .before .before .number-declared in
     let walk-all = c .before .before .before .before .before .before .before .before .before .before .walk-all in
     let declare2 = c .before .before .before .before .before .before .before .before .before .before .before .before .before .before .before .before .before .before .before .before .before .before .before .before .before .before .declare2 in
-    λ x st. let h = walkable st (intern .ensures) (let e = intern .kept .1 .1 .1 .0 in let r = start .pre .1 in omega arith) in answers st (intern .ensures) (let e = intern .kept .1 .1 .1 .0 in let r = start .pre .1 in omega arith) (declare .ensures h (blank-table h (start .pre .2))) (number-declared .ensures h (blank-table h (start .pre .4))) (walk-all .ensures h _ (walk-begins h (declare2 .ensures h (blank-table h (start .pre .3))) (number-declared .ensures h (blank-table h (start .pre .4))) (start .pre .5) (start .pre .6))) ((c .before .smaller) .ensures) ((c .answer) .ensures)
+    λ x st. let h = walkable st (intern .ensures .0) (let e = intern .kept .1 .1 .1 .1 .1 .1 .0 in let r = start .pre .1 .indexed .room in omega arith) in answers st (intern .ensures .0) (let e = intern .kept .1 .1 .1 .1 .1 .1 .0 in let r = start .pre .1 .indexed .room in omega arith) (declare .ensures h (blank-table h (intern .ensures .1) (start .pre .2))) (number-declared .ensures h (blank-table h (intern .ensures .1) (start .pre .4))) (walk-all .ensures h _ (walk-begins h (declare2 .ensures h (blank-table h (intern .ensures .1) (start .pre .3))) (number-declared .ensures h (blank-table h (intern .ensures .1) (start .pre .4))) (start .pre .5) (start .pre .6))) ((c .before .smaller) .ensures) ((c .answer) .ensures)
 
 pub resolve-in-spec : {M : Type 1} → statement M
 resolve-in-spec =
@@ -92,4 +107,7 @@ resolve-in-spec =
     same-length-5
     same-length-6
     same-length-7
+    same-length-8
+    same-length-9
+    same-length-10
     returns)

@@ -1,72 +1,13 @@
--- `convert` meets its contract: refused by a declaration, or the answer on the lines.
-use native.Mathlib.Omega.{arith}
-use Rattle.reader.specs.Naming.{parsed-given, names-refused, names-ready, names-convert, some-ready}
+-- `convert` meets its contract: whatever room there is for sets, the answer is that of `convert_in`.
 use borrow.Author.Needs.{needs}
 use Rattle.reader.proofs.convert.Statement.{statement}
 use Rattle.reader.proofs.convert.Tie as tie
 
-slice-aggregate-declare : tie.Need-slice-aggregate-declare
-slice-aggregate-declare c = search needs
+slice-aggregate-convert-in : tie.Need-slice-aggregate-convert-in
+slice-aggregate-convert-in c = search needs
 
-slice-aggregate-declare-2 : tie.Need-slice-aggregate-declare-2
-slice-aggregate-declare-2 c = search needs
-
-slice-aggregate-declare-3 : tie.Need-slice-aggregate-declare-3
-slice-aggregate-declare-3 c = search needs
-
-slice-aggregate-declare-4 : tie.Need-slice-aggregate-declare-4
-slice-aggregate-declare-4 c = search needs
-
-slice-aggregate-declare-5 : tie.Need-slice-aggregate-declare-5
-slice-aggregate-declare-5 c = search needs
-
-slice-aggregate-declare-6 : tie.Need-slice-aggregate-declare-6
-slice-aggregate-declare-6 c = search needs
-
-slice-aggregate-declare-7 : tie.Need-slice-aggregate-declare-7
-slice-aggregate-declare-7 c = search needs
-
-slice-aggregate-declare-8 : tie.Need-slice-aggregate-declare-8
-slice-aggregate-declare-8 c = search needs
-
-declare-requires : tie.Need-declare-requires
-declare-requires c κs =
-    let start = c .before .before .before .before .before .before .before .before .before .before .before .before .before .before in
-    (parsed-given (start .pre), record { sorts-room = omega arith; numbers-room = omega arith; slots-room = omega arith; order-room = omega arith; enumerations-room = omega arith; firsts-room = omega arith; list-room = omega arith })
-
-enum-known-declared : tie.Need-enum-known-declared
-enum-known-declared c = search needs
-
-slice-aggregate-expand : tie.Need-slice-aggregate-expand
-slice-aggregate-expand c = search needs
-
-slice-aggregate-expand-2 : tie.Need-slice-aggregate-expand-2
-slice-aggregate-expand-2 c = search needs
-
-slice-aggregate-expand-3 : tie.Need-slice-aggregate-expand-3
-slice-aggregate-expand-3 c = search needs
-
-slice-aggregate-expand-4 : tie.Need-slice-aggregate-expand-4
-slice-aggregate-expand-4 c = search needs
-
-slice-aggregate-expand-5 : tie.Need-slice-aggregate-expand-5
-slice-aggregate-expand-5 c = search needs
-
-slice-aggregate-expand-6 : tie.Need-slice-aggregate-expand-6
-slice-aggregate-expand-6 c = search needs
-
-slice-aggregate-expand-7 : tie.Need-slice-aggregate-expand-7
-slice-aggregate-expand-7 c = search needs
-
-slice-aggregate-expand-8 : tie.Need-slice-aggregate-expand-8
-slice-aggregate-expand-8 c = search needs
-
-expand-requires : tie.Need-expand-requires
-expand-requires c κs =
-    (some-ready ((c .before .before .before .before .before .before .before .before .before .before .before .before .before .before .before .before .before .before .before .before .before .before .before .before .before .before .before .before .before .before .before .before .before .before .before .before) .pre) ((c .before .before .before .before .before .before .before .before .before .before .before .before .before .before .before .before .before .before .before .before .before .declare) .ensures) ((c .before .before .before .before .before .before .before .before .before .before .before .declared) .given .1) (omega arith) (omega arith) (omega arith) (omega arith) (omega arith), record { work-room = (c .before .before .before .before .before .before .before .before .before .before .before .before .before .before .before .before .before .before .before .before .before .before .before .before .before .before .before .before .before .before .before .before .before .before .before .before) .pre .work-room; refs-room = (c .before .before .before .before .before .before .before .before .before .before .before .before .before .before .before .before .before .before .before .before .before .before .before .before .before .before .before .before .before .before .before .before .before .before .before .before) .pre .refs-room; sorts-room = omega arith; numbers-room = omega arith; slots-room = omega arith; firsts-room = omega arith })
-
-enum-known-declared-2 : tie.Need-enum-known-declared-2
-enum-known-declared-2 c = search needs
+convert-in-requires : tie.Need-convert-in-requires
+convert-in-requires c κs = search needs
 
 same-length : tie.Need-same-length
 same-length c = search needs
@@ -75,43 +16,34 @@ same-length-2 : tie.Need-same-length-2
 same-length-2 c = search needs
 
 returns : tie.Need-returns
-returns c =
-    let expand-at = c .before .before .before .before .before .before .before .before in
-    let declared-at = expand-at .before .before .before .before .before .before .before .before .before .before .before .before in
-    let declare-at = declared-at .before .before .before .before .before .before .before .before .before .before in
-    λ x h. names-convert h (declare-at .declare .ensures) (declared-at .declared .given .1) (expand-at .expand .ensures x _ (names-ready h (declare-at .declare .ensures) (declared-at .declared .given .1) (omega arith) (omega arith) (omega arith) (omega arith) (omega arith)))
+returns c = search needs
+
+slice-aggregate-convert-in-2 : tie.Need-slice-aggregate-convert-in-2
+slice-aggregate-convert-in-2 c = search needs
+
+convert-in-requires-2 : tie.Need-convert-in-requires-2
+convert-in-requires-2 c κs = search needs
+
+same-length-3 : tie.Need-same-length-3
+same-length-3 c = search needs
+
+same-length-4 : tie.Need-same-length-4
+same-length-4 c = search needs
 
 returns-2 : tie.Need-returns-2
-returns-2 c =
-    let declared-at = c .before in
-    let declare-at = declared-at .before .before .before .before .before .before .before .before .before .before in
-    λ x h. names-refused h (declare-at .declare .ensures) _ _ (declared-at .declared2 .given .1)
+returns-2 c = search needs
 
 pub convert-spec : {M : Type 1} → statement M
 convert-spec =
     tie.close
     (tie.spec
-    slice-aggregate-declare
-    slice-aggregate-declare-2
-    slice-aggregate-declare-3
-    slice-aggregate-declare-4
-    slice-aggregate-declare-5
-    slice-aggregate-declare-6
-    slice-aggregate-declare-7
-    slice-aggregate-declare-8
-    declare-requires
-    enum-known-declared
-    slice-aggregate-expand
-    slice-aggregate-expand-2
-    slice-aggregate-expand-3
-    slice-aggregate-expand-4
-    slice-aggregate-expand-5
-    slice-aggregate-expand-6
-    slice-aggregate-expand-7
-    slice-aggregate-expand-8
-    expand-requires
-    enum-known-declared-2
+    slice-aggregate-convert-in
+    convert-in-requires
     same-length
     same-length-2
     returns
+    slice-aggregate-convert-in-2
+    convert-in-requires-2
+    same-length-3
+    same-length-4
     returns-2)

@@ -3,7 +3,8 @@ use Prim.Native.Nat.{min}
 use mathlib.Core.Path.{sym, ap, _∙_}
 use native.Mathlib.Omega.{arith}
 use borrow.Author.Tests.{not-true, not-false}
-use Rattle.names.specs.Meeting.{met-inside, met-other, met-more}
+use Rattle.names.specs.TopLaws.{inside-top}
+use Rattle.names.specs.Meeting.{met-other, met-more}
 use borrow.Author.Needs.{needs}
 use Rattle.names.proofs.declare.declare_one.Statement.{statement}
 use Rattle.names.proofs.declare.declare_one.Tie as tie
@@ -41,7 +42,7 @@ slice-read-word c =
     let start = c .before .before .before .before .before .before .before .before .before .before .before in
     let kind-at = c .before .before .before .before .before .before .before .kind-at in
     let declares = c .before .before .before .before .before .before .declares in
-    let f = met-inside (start .pre .0) _ (start .pre .2) _ (start .pre .1) (kind-at .ensures) (sym (declares .ensures) ∙ not-false _ ((c .before .before .before .before .before .if1) .left)) ((c .before .before .before .before .token-at) .ensures) ((c .before .wide) .ensures .0) in let r = start .pre .3 in omega arith
+    let f = inside-top _ _ (start .pre .3) ((c .before .wide) .ensures .0) in omega arith
 
 word-requires : tie.Need-word-requires
 word-requires c κs = search needs
@@ -62,7 +63,7 @@ slice-write-table c =
     let declares = c .before .before .before .before .before .before .before .before .declares in
     let if1 = c .before .before .before .before .before .before .before .if1 in
     let token-at = c .before .before .before .before .before .before .token-at in
-    let f = met-inside (start .pre .0) _ (start .pre .2) _ (start .pre .1) (kind-at .ensures) (sym (declares .ensures) ∙ not-false _ (if1 .left)) (token-at .ensures) ((c .before .before .before .wide) .ensures .0) in let r = start .pre .3 in omega arith
+    let f = inside-top _ _ (start .pre .3) ((c .before .before .before .wide) .ensures .0) in omega arith
 
 larger-requires : tie.Need-larger-requires
 larger-requires c κs = search needs

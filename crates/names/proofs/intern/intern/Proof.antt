@@ -1,36 +1,72 @@
--- `names::intern::intern` meets its contract: the arrays begin as the tree of the empty spelling.
-use Rattle.names.specs.InternLaws.{indexed-zeros}
+-- `names::intern::intern` meets its contract: after j turns the first j tokens have their numbers.
+use Prim.Native.Nat.{_≤_, _-_}
+use mathlib.Core.Path.{_≡_, refl, _∙_}
 use native.Mathlib.Omega.{arith}
 use borrow.Author.Needs.{needs}
+use lib.ListN.{length}
+use Rattle.language.specs.Tokens.{tokens}
+use Rattle.names.specs.Interned.{Indexed}
+use Rattle.names.specs.InternLaws.{until, interned-all}
 use Rattle.names.proofs.intern.intern.Statement.{statement}
 use Rattle.names.proofs.intern.intern.Tie as tie
 
-slice-aggregate-number-all : tie.Need-slice-aggregate-number-all
-slice-aggregate-number-all c = search needs
+abbrev Inv-loop : tie.InvT-loop
+Inv-loop text work count first₀ next₀ byte₀ ids₀ nodes₀ j₀ first next byte ids nodes j =
+    (j ≤ count) × (length first ≡ length first₀) × (length next ≡ length next₀) × (length byte ≡ length byte₀) × (length ids ≡ length ids₀) × Indexed (tokens text) j first next byte nodes ids
 
-slice-aggregate-number-all-2 : tie.Need-slice-aggregate-number-all-2
-slice-aggregate-number-all-2 c = search needs
+abbrev μ-loop : tie.MeasureT-loop
+μ-loop text work count first₀ next₀ byte₀ ids₀ nodes₀ j₀ first next byte ids nodes j = count - j
 
-slice-aggregate-number-all-3 : tie.Need-slice-aggregate-number-all-3
-slice-aggregate-number-all-3 c = search needs
+loop-holds : tie.Need-loop-holds Inv-loop μ-loop
+loop-holds c = (omega arith, refl, refl, refl, refl, (c .before .before .before .before .before .before) .pre .1 .indexed)
 
-number-all-requires : tie.Need-number-all-requires
-number-all-requires c κs =
-    ((c .before .before .before .before .before .before .before) .pre .0, indexed-zeros _ 32_769 32_769 32_769 (omega arith) (omega arith) (omega arith) ((c .before .before .before .before .before .before .before) .pre .1))
+number-requires : tie.Need-number-requires Inv-loop μ-loop
+number-requires c κs =
+    let start = c .before .before .before .before .before .before .before .before .before .before .before .before in
+    (start .pre .0, (c .before .before .before .before .loop-test) .taken, (c .before .before .before .before .before .loop) .inv .5, let e = (c .before .before .before .before .before .loop) .inv .3 in let r = start .pre .1 .room in omega arith)
 
-same-length : tie.Need-same-length
+add-j : tie.Need-add-j Inv-loop μ-loop
+add-j c = search needs
+
+loop-less : tie.Need-loop-less Inv-loop μ-loop
+loop-less c = search needs
+
+loop-again : tie.Need-loop-again Inv-loop μ-loop
+loop-again c =
+    let loop = c .before .before .before .before .before .before .before .before .before .before .before .before .before .before .loop in
+    let number = c .before .before .before .before .before .before .before .before .number in
+    let n = loop .inv in (omega arith, number .kept .1 .1 .1 .1 .0 ∙ n .1, number .kept .1 .1 .1 .1 .1 .0 ∙ n .2, number .kept .1 .1 .1 .1 .1 .1 .0 ∙ n .3, number .kept .1 .1 .1 .1 .1 .1 .1 .1 .0 ∙ n .4, number .ensures)
+
+same-length : tie.Need-same-length Inv-loop μ-loop
 same-length c = search needs
 
-returns : tie.Need-returns
-returns c = search needs
+same-length-2 : tie.Need-same-length-2 Inv-loop μ-loop
+same-length-2 c = search needs
+
+same-length-3 : tie.Need-same-length-3 Inv-loop μ-loop
+same-length-3 c = search needs
+
+same-length-4 : tie.Need-same-length-4 Inv-loop μ-loop
+same-length-4 c = search needs
+
+returns : tie.Need-returns Inv-loop μ-loop
+returns c =
+    let start = c .before .before .before .before .before .before .before .before in
+    interned-all (start .pre .0) (until ((c .before .loop) .inv .5) (omega arith))
 
 pub intern-spec : {M : Type 1} → statement M
 intern-spec =
     tie.close
     (tie.spec
-    slice-aggregate-number-all
-    slice-aggregate-number-all-2
-    slice-aggregate-number-all-3
-    number-all-requires
+    Inv-loop
+    μ-loop
+    loop-holds
+    number-requires
+    add-j
+    loop-less
+    loop-again
     same-length
+    same-length-2
+    same-length-3
+    same-length-4
     returns)

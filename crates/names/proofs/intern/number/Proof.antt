@@ -23,7 +23,7 @@ cast-len c = search needs
 spell-requires : tie.Need-spell-requires
 spell-requires c κs =
     let start = c .before .before .before .before .before .before .before .before .before .before .before in
-    let b = name-bounds (start .pre .0) (start .pre .1) ((c .before .before .before .before .get) .ensures) (start .pre .2) ((c .before .before .before .if1) .left) in (start .pre .2 .trie, b .0, b .1)
+    let b = name-bounds (start .pre .0) (start .pre .1) ((c .before .before .before .before .get) .ensures) (start .pre .2) ((c .before .before .before .if1) .left) in (start .pre .2 .trie, b .0, b .1, let r = start .pre .3 in omega (arith, b .2))
 
 cast-ids : tie.Need-cast-ids
 cast-ids c =

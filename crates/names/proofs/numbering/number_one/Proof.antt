@@ -2,7 +2,8 @@
 use mathlib.Core.Path.{sym, _∙_}
 use native.Mathlib.Omega.{arith}
 use borrow.Author.Tests.{not-true, not-false}
-use Rattle.names.specs.Numbering.{numbered-other, numbered-inside, numbered-name, numbered-first, numbered-behind}
+use Rattle.names.specs.TopLaws.{inside-top}
+use Rattle.names.specs.Numbering.{numbered-other, numbered-name, numbered-first, numbered-behind}
 use borrow.Author.Needs.{needs}
 use Rattle.names.proofs.numbering.number_one.Statement.{statement}
 use Rattle.names.proofs.numbering.number_one.Tie as tie
@@ -37,12 +38,12 @@ cast-table c =
 mul-table : tie.Need-mul-table
 mul-table c =
     let start = c .before .before .before .before .before .before .before .before .before .before in
-    let f = numbered-inside (start .pre .0) _ (start .pre .1) ((c .before .before .before .before .before .kind-at) .ensures) (sym ((c .before .before .before .before .declares) .ensures) ∙ not-false _ ((c .before .before .before .if1) .left)) ((c .before .before .token-at) .ensures) ((c .wide) .ensures .0) in record { fits = omega arith }
+    let f = ((c .wide) .ensures .1) in record { fits = omega arith }
 
 slice-write-table : tie.Need-slice-write-table
 slice-write-table c =
     let start = c .before .before .before .before .before .before .before .before .before .before in
-    let f = numbered-inside (start .pre .0) _ (start .pre .1) ((c .before .before .before .before .before .kind-at) .ensures) (sym ((c .before .before .before .before .declares) .ensures) ∙ not-false _ ((c .before .before .before .if1) .left)) ((c .before .before .token-at) .ensures) ((c .wide) .ensures .0) in let r = start .pre .3 in omega arith
+    let f = inside-top _ _ (start .pre .3) ((c .wide) .ensures .0) in omega arith
 
 cast-declared : tie.Need-cast-declared
 cast-declared c =

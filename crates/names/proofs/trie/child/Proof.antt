@@ -17,7 +17,7 @@ mul-wide : tie.Need-mul-wide Inv-loop μ-loop
 mul-wide c = search needs
 
 shared-slice-read-wide : tie.Need-shared-slice-read-wide Inv-loop μ-loop
-shared-slice-read-wide c = let r = (c .before .before .before .before) .pre .0 .first-room in omega arith
+shared-slice-read-wide c = let t = (c .before .before .before .before) .pre .0 in let r = t .first-room in let b = t .byte-room in omega arith
 
 wide-requires : tie.Need-wide-requires Inv-loop μ-loop
 wide-requires c κs = search needs
@@ -43,7 +43,7 @@ mul-wide-2 c =
 shared-slice-read-wide-2 : tie.Need-shared-slice-read-wide-2 Inv-loop μ-loop
 shared-slice-read-wide-2 c =
     let start = c .before .before .before .before .before .before .before .before .before .before in
-    let t = start .pre .0 in let r = t .next-room in let s = (c .before .before .before .before .loop) .inv t .inside in omega arith
+    let t = start .pre .0 in let r = t .next-room in let b = t .byte-room in let s = (c .before .before .before .before .loop) .inv t .inside in omega arith
 
 wide-requires-2 : tie.Need-wide-requires-2 Inv-loop μ-loop
 wide-requires-2 c κs = search needs

@@ -30,7 +30,8 @@ step-requires c κs =
     let start = c .before .before .before .before .before .before .before .before .before .before in
     let s = (c .before .before .before .before .before .loop) .inv .4 (start .pre .0) in
     let f = spells-few _ _ _ s (omega arith) in
-    (s .trie, s .inside, omega arith)
+    let e = (c .before .before .before .before .before .loop) .inv .3 in
+    (s .trie, s .inside, omega arith, omega arith)
 
 nodes-with-requires : tie.Need-nodes-with-requires Inv-loop μ-loop
 nodes-with-requires c κs =

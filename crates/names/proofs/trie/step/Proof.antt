@@ -55,7 +55,7 @@ same-length-6 c = search needs
 returns-2 : tie.Need-returns-2
 returns-2 c =
     let start = c .before .before .before .before .before .before .before .before .before in
-    λ t. step-new t _ _ _ ((c .before .before .child) .ensures t) ((c .before .if1) .left) (start .pre .1) (start .pre .2)
+    λ t. step-new t _ _ _ ((c .before .before .child) .ensures t) ((c .before .if1) .left) (start .pre .1) (start .pre .3)
 
 pub step-spec : {M : Type 1} → statement M
 step-spec =

@@ -3,7 +3,7 @@ use Prim.Native.Nat.{min, max}
 use mathlib.Core.Path.{refl, ap, _∙_}
 use native.Mathlib.Omega.{arith}
 use lib.ListN.{length-set}
-use Rattle.names.specs.WalkEntries.{bind-inside}
+use Rattle.names.specs.TopLaws.{inside-top}
 use Rattle.names.specs.WalkBinders.{walk-bind}
 use borrow.Author.Needs.{needs}
 use Rattle.names.proofs.walk.bind_name.Statement.{statement}
@@ -30,7 +30,7 @@ mul-word c = search needs
 slice-read-word : tie.Need-slice-read-word
 slice-read-word c =
     let start = c .before .before .before .before .before .before .before .before .before .before .before in
-    let f = bind-inside (start .pre .0 .walkable) _ (start .pre .0 .inside) refl (start .pre .1) ((c .before .before .before .before .token-at) .ensures) ((c .before .wide) .ensures .0) in let r = start .pre .0 .walking .shown .room in omega arith
+    let f = inside-top _ _ (start .pre .0 .walking .shown .room) ((c .before .wide) .ensures .0) in omega arith
 
 word-requires : tie.Need-word-requires
 word-requires c κs = search needs
@@ -60,7 +60,7 @@ slice-read-stack : tie.Need-slice-read-stack
 slice-read-stack c =
     let start = c .before .before .before .before .before .before .before .before .before .before .before .before .before in
     let token-at = c .before .before .before .before .before .before .token-at in
-    let f = bind-inside (start .pre .0 .walkable) _ (start .pre .0 .inside) refl (start .pre .1) (token-at .ensures) ((c .before .before .before .wide) .ensures .0) in let r = start .pre .0 .walking .shown .room in omega arith
+    let f = inside-top _ _ (start .pre .0 .walking .shown .room) ((c .before .before .before .wide) .ensures .0) in omega arith
 
 add-stack : tie.Need-add-stack
 add-stack c = search needs
@@ -80,7 +80,7 @@ slice-read-stack-2 : tie.Need-slice-read-stack-2
 slice-read-stack-2 c =
     let start = c .before .before .before .before .before .before .before .before .before .before .before .before .before .before in
     let token-at = c .before .before .before .before .before .before .before .token-at in
-    let f = bind-inside (start .pre .0 .walkable) _ (start .pre .0 .inside) refl (start .pre .1) (token-at .ensures) ((c .before .before .before .before .wide) .ensures .0) in let r = start .pre .0 .walking .points .room in omega arith
+    let f = inside-top _ _ (start .pre .0 .walking .points .room) ((c .before .before .before .before .wide) .ensures .0) in omega arith
 
 add-stack-2 : tie.Need-add-stack-2
 add-stack-2 c = search needs
@@ -106,7 +106,7 @@ slice-write-seen : tie.Need-slice-write-seen
 slice-write-seen c =
     let start = c .before .before .before .before .before .before .before .before .before .before .before .before .before .before .before in
     let token-at = c .before .before .before .before .before .before .before .before .token-at in
-    let f = bind-inside (start .pre .0 .walkable) _ (start .pre .0 .inside) refl (start .pre .1) (token-at .ensures) ((c .before .before .before .before .before .wide) .ensures .0) in let r = start .pre .0 .walking .shown .room in omega arith
+    let f = inside-top _ _ (start .pre .0 .walking .shown .room) ((c .before .before .before .before .before .wide) .ensures .0) in omega arith
 
 mul-table : tie.Need-mul-table
 mul-table c = search needs
@@ -115,7 +115,7 @@ slice-write-table : tie.Need-slice-write-table
 slice-write-table c =
     let start = c .before .before .before .before .before .before .before .before .before .before .before .before .before .before .before in
     let token-at = c .before .before .before .before .before .before .before .before .token-at in
-    let f = bind-inside (start .pre .0 .walkable) _ (start .pre .0 .inside) refl (start .pre .1) (token-at .ensures) ((c .before .before .before .before .before .wide) .ensures .0) in let r = start .pre .0 .walking .points .room in omega arith
+    let f = inside-top _ _ (start .pre .0 .walking .points .room) ((c .before .before .before .before .before .wide) .ensures .0) in omega arith
 
 mul-refs : tie.Need-mul-refs
 mul-refs c = search needs

@@ -1,7 +1,8 @@
 -- `names::walk::declare_name` meets its contract: the walk over an entry that declares a name.
 use mathlib.Core.Path.{refl}
 use native.Mathlib.Omega.{arith}
-use Rattle.names.specs.WalkEntries.{declare-inside, walk-declare}
+use Rattle.names.specs.TopLaws.{inside-top}
+use Rattle.names.specs.WalkEntries.{walk-declare}
 use borrow.Author.Needs.{needs}
 use Rattle.names.proofs.walk.declare_name.Statement.{statement}
 use Rattle.names.proofs.walk.declare_name.Tie as tie
@@ -27,7 +28,7 @@ mul-refs c = search needs
 slice-read-refs : tie.Need-slice-read-refs
 slice-read-refs c =
     let start = c .before .before .before .before .before .before .before .before .before .before .before in
-    let f = declare-inside (start .pre .0 .walkable) _ (start .pre .0 .inside) refl (start .pre .1) ((c .before .before .before .before .token-at) .ensures) ((c .before .wide) .ensures .0) in let r = start .pre .0 .walking .points .room in omega arith
+    let f = inside-top _ _ (start .pre .0 .walking .points .room) ((c .before .wide) .ensures .0) in omega arith
 
 mul-refs-2 : tie.Need-mul-refs-2
 mul-refs-2 c = search needs
@@ -41,7 +42,7 @@ mul-word c = search needs
 slice-read-word : tie.Need-slice-read-word
 slice-read-word c =
     let start = c .before .before .before .before .before .before .before .before .before .before .before .before in
-    let f = declare-inside (start .pre .0 .walkable) _ (start .pre .0 .inside) refl (start .pre .1) ((c .before .before .before .before .before .token-at) .ensures) ((c .before .before .wide) .ensures .0) in let r = start .pre .0 .walking .shown .room in omega arith
+    let f = inside-top _ _ (start .pre .0 .walking .shown .room) ((c .before .before .wide) .ensures .0) in omega arith
 
 word-requires : tie.Need-word-requires
 word-requires c κs = search needs
@@ -59,7 +60,7 @@ slice-write-seen : tie.Need-slice-write-seen
 slice-write-seen c =
     let start = c .before .before .before .before .before .before .before .before .before .before .before .before .before .before in
     let token-at = c .before .before .before .before .before .before .before .token-at in
-    let f = declare-inside (start .pre .0 .walkable) _ (start .pre .0 .inside) refl (start .pre .1) (token-at .ensures) ((c .before .before .before .before .wide) .ensures .0) in let r = start .pre .0 .walking .shown .room in omega arith
+    let f = inside-top _ _ (start .pre .0 .walking .shown .room) ((c .before .before .before .before .wide) .ensures .0) in omega arith
 
 same-length : tie.Need-same-length
 same-length c = search needs

@@ -2,7 +2,8 @@
 use Prim.Native.Nat.{min}
 use mathlib.Core.Path.{refl, ap, _∙_}
 use native.Mathlib.Omega.{arith}
-use Rattle.names.specs.WalkEntries.{use-inside, walk-use}
+use Rattle.names.specs.TopLaws.{inside-top}
+use Rattle.names.specs.WalkEntries.{walk-use}
 use borrow.Author.Needs.{needs}
 use Rattle.names.proofs.walk.use_name.Statement.{statement}
 use Rattle.names.proofs.walk.use_name.Tie as tie
@@ -28,7 +29,7 @@ mul-word c = search needs
 slice-read-word : tie.Need-slice-read-word
 slice-read-word c =
     let start = c .before .before .before .before .before .before .before .before .before .before .before in
-    let f = use-inside (start .pre .0 .walkable) _ (start .pre .0 .inside) refl (start .pre .1) ((c .before .before .before .before .token-at) .ensures) ((c .before .wide) .ensures .0) in let r = start .pre .0 .walking .shown .room in omega arith
+    let f = inside-top _ _ (start .pre .0 .walking .shown .room) ((c .before .wide) .ensures .0) in omega arith
 
 word-requires : tie.Need-word-requires
 word-requires c κs = search needs
@@ -43,7 +44,7 @@ slice-read-refs : tie.Need-slice-read-refs
 slice-read-refs c =
     let start = c .before .before .before .before .before .before .before .before .before .before .before .before .before .before in
     let token-at = c .before .before .before .before .before .before .before .token-at in
-    let f = use-inside (start .pre .0 .walkable) _ (start .pre .0 .inside) refl (start .pre .1) (token-at .ensures) ((c .before .before .before .before .wide) .ensures .0) in let r = start .pre .0 .walking .points .room in omega arith
+    let f = inside-top _ _ (start .pre .0 .walking .points .room) ((c .before .before .before .before .wide) .ensures .0) in omega arith
 
 mul-refs-2 : tie.Need-mul-refs-2
 mul-refs-2 c = search needs

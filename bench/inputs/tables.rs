@@ -1,22 +1,12 @@
-//! What the benchmark runs on: tables, trees and recordings drawn from a seed, and the deepest tables.
+//! Tables, trees and recordings drawn from a seed, and the deepest tables.
 
+use super::Random;
 use crate::plain::{pack, rewrite};
 
 pub const MAX_NODES: usize = 8192;
 
 /// The kinds of one operand and of two.
 const UNARY: [u32; 4] = [3, 8, 9, 10];
-
-pub struct Random(pub u64);
-
-impl Random {
-    pub fn below(&mut self, n: u64) -> u64 {
-        self.0 ^= self.0 << 13;
-        self.0 ^= self.0 >> 7;
-        self.0 ^= self.0 << 17;
-        self.0 % n
-    }
-}
 
 /// A shared table of `count` nodes over `signals` signals, every kind in it.
 pub fn table(random: &mut Random, count: u32, signals: u32) -> Vec<u32> {
