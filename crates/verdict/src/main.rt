@@ -24,6 +24,7 @@ fn print(verdict: Verdict) {
 fn run(fd: i32, text: &mut [u8], start: &mut [u8], work: &mut [u8]) {
     let first = input::fill(fd, start);
     let size = input::size(fd, first, work);
+    libc::close(fd);
     if size == input::UNREADABLE {
         os::fail(b"verdict: the recording cannot be read");
         return;
