@@ -22,7 +22,7 @@ fn room() -> [u8; 2097152]
     [0; 2097152]
 }
 
-// The verdict on a table. The rows stand in this function, so that they take no stack while the text is read.
+// The verdict on a table. The rows take 2 MB of stack; compiled into its caller, also while the text is read.
 fn verdict(nodes: &[u32], signals: u32, recording: &[u8]) -> Verdict
     ensures { λ r. ⌜ finds r ≡ verdictOf (now (nodes .entry)) signals (now (recording .entry)) (rowsSize (now (nodes .entry)) (now (recording .entry))) ⌝ }
 {

@@ -28,8 +28,9 @@
 //! assert_eq!(answer, Answer::Refused { number: 2, place: 0 });
 //! ```
 //!
-//! The library has no variables of its own: any number of threads may call it at once. The stack is not checked: the deepest tables take [`rewrite`] 1.5 MB of it; for
-//! [`read`] and [`convert`] see README.md, 'Limits of what is proved', and read texts from strangers in a process of their own.
+//! The library has no variables of its own: any number of threads may call it at once. The stack is not checked: the deepest tables take [`rewrite`] 1.5 MB of it; a
+//! thread that calls [`read`] or [`convert`] wants 8 MB, where Rust's own have 2 MB, and a text that nests thousands of levels by way of definitions may take more
+//! (README.md, 'Limits of what is proved'): read texts from strangers in a process of their own.
 
 #![no_std]
 #![warn(missing_docs)]
