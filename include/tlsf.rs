@@ -1,9 +1,14 @@
-// The proved library for callers in Rust: what tlsf.h declares, and on the same terms. `include!` it.
+// The proved library for callers in Rust, as tlsf.h declares it and on the same terms: a slice is a pointer and the number of its elements; an answer is one word,
+// accepted = nodes * 2^32 + signals, refused = 2^63 + number * 2^32 + place. For `include!`; rust/tlsf is the same for safe Rust.
+//
+// Safety: every pointer is aligned for its elements and not null, also where their number is 0, and what a call writes overlaps nothing else that it is passed. A
+// slice's `as_ptr` or `as_mut_ptr` with its `len` is such a pair. Nothing else is asked of a caller: any bytes in any buffer are answered.
 #[allow(dead_code)]
 extern "C" {
+    /// Reads a text: `work` of 65,536 bytes or more, zero afterwards; the formula's nodes to the front of `nodes`, the signal list to the front of `signals`.
     fn tlsf_read(
         text: *const u8,
-        size: usize,
+        text_size: usize,
         work: *mut u8,
         work_size: usize,
         nodes: *mut u32,
@@ -11,9 +16,11 @@ extern "C" {
         signals: *mut u32,
         signal_room: usize,
     ) -> u64;
+
+    /// Reads a text and writes its formula in a form: 0 as expanded, 1 negation form, 2 core form.
     fn tlsf_convert(
         text: *const u8,
-        size: usize,
+        text_size: usize,
         form: u32,
         work: *mut u8,
         work_size: usize,
@@ -22,14 +29,24 @@ extern "C" {
         signals: *mut u32,
         signal_room: usize,
     ) -> u64;
-    fn tlsf_rewrite(nodes: *const u32, count: usize, form: u32, out: *mut u32, room: usize) -> u64;
+
+    /// Writes a form of a table's root to the front of `out`.
+    fn tlsf_rewrite(
+        nodes: *const u32,
+        node_count: usize,
+        form: u32,
+        out: *mut u32,
+        out_room: usize,
+    ) -> u64;
+
+    /// Fills a row of bits, rounded up to bytes, for every node over a recording.
     fn tlsf_evaluate(
         nodes: *const u32,
-        count: usize,
+        node_count: usize,
         signals: u32,
         recording: *const u8,
-        size: usize,
+        recording_size: usize,
         rows: *mut u8,
-        room: usize,
+        row_room: usize,
     ) -> u64;
 }

@@ -1,8 +1,43 @@
 //! The proved library for safe Rust: slices in, an [`Answer`] out, nothing allocated, no `unsafe` for callers.
 //!
-//! Document 01 (scope) says what each function yields and when it refuses; `docs/REFUSALS.md` has a page for every refusal.
+//! A TLSF v1.1 text becomes the nodes of an LTL formula and a signal list ([`read`], [`convert`]), nodes become a normal form ([`rewrite`]), and a recorded run tells
+//! where each node holds ([`evaluate`], [`judge`]). Any bytes in any slice are answered; a refused call changes no result. `docs/REFUSALS.md` has a page for
+//! every refusal.
+//!
+//! ```
+//! use tlsf::{Answer, Signal, Verdict};
+//!
+//! let text = br#"INFO { TITLE: "t" DESCRIPTION: "d" SEMANTICS: Mealy TARGET: Mealy }
+//!     MAIN { INPUTS { r; } OUTPUTS { g; } GUARANTEE { G (r -> F g); } }"#;
+//!
+//! // From the text to the formula: room for every result.
+//! let mut work = [0; tlsf::WORK_BYTES];
+//! let mut nodes = [0; tlsf::MOST_NODES];
+//! let mut signals = [0; tlsf::MOST_SIGNALS];
+//! let answer = tlsf::convert(text, tlsf::AS_EXPANDED, &mut work, &mut nodes, &mut signals);
+//! assert_eq!(answer, Answer::Accepted { nodes: 17, signals: 2 });
+//! assert_eq!(Signal::of(signals[1]).name(text), b"g");
+//!
+//! // From the formula to the verdict: three positions of two signals, after the last one the second again.
+//! let mut rows = [0; 17];
+//! assert_eq!(tlsf::judge(&nodes[..17], 2, &[0x00, 0x30, 0x01, 0x02, 0x90], &mut rows), Verdict::Holds);
+//! assert_eq!(tlsf::judge(&nodes[..17], 2, &[0x00, 0x30, 0x01, 0x02, 0x80], &mut rows), Verdict::Fails);
+//!
+//! // What is no TLSF is refused, with a number and a place.
+//! let answer = tlsf::read(b"# a note", &mut work, &mut nodes, &mut signals);
+//! assert_eq!(answer, Answer::Refused { number: 2, place: 0 });
+//! ```
+//!
+//! The library has no variables of its own: any number of threads may call it at once. The stack is not checked: the deepest tables take [`rewrite`] 1.5 MB of it; a
+//! thread that calls [`read`] or [`convert`] wants 8 MB, where Rust's own have 2 MB, and a text that nests thousands of levels by way of definitions may take more
+//! (README.md, 'Limits of what is proved'): read texts from strangers in a process of their own.
 
 #![no_std]
+#![warn(missing_docs)]
+
+mod parts;
+
+pub use parts::{holds_at, positions, row_bytes, Node, Signal};
 
 mod library {
     include!(concat!(env!("CARGO_MANIFEST_DIR"), "/../../include/tlsf.rs"));
@@ -72,13 +107,34 @@ pub const MOST_SIGNALS: usize = 255;
 pub const MOST_TEXT_BYTES: usize = 32_768;
 /// A recording has at most this many positions.
 pub const MOST_POSITIONS: usize = 2_048;
+/// A recording has at most this many bytes: 4, and 2,048 letters of 255 bits.
+pub const MOST_RECORDING_BYTES: usize = 65_284;
 
-/// Document 01: every answer is either accepted with its counts or a refusal, number and place.
+/// Form 0: nothing shared, nothing simplified.
+pub const AS_EXPANDED: u32 = 0;
+/// Form 1: `!` only on signals, no `->` and no `<->`.
+pub const NEGATION_FORM: u32 = 1;
+/// Form 2: only true, signals, `!`, `||`, X and U.
+pub const CORE_FORM: u32 = 2;
+
+/// Every answer is either accepted with its counts or a refusal with its number and place.
 #[derive(Clone, Copy, Debug, PartialEq, Eq)]
 #[must_use]
 pub enum Answer {
-    Accepted { nodes: usize, signals: usize },
-    Refused { number: u32, place: usize },
+    /// How many nodes and signals.
+    Accepted {
+        /// The nodes written; of [`evaluate`], the nodes given.
+        nodes: usize,
+        /// The signals written, 0 from [`rewrite`]; of [`evaluate`], the count given.
+        signals: usize,
+    },
+    /// Why and where.
+    Refused {
+        /// 1 to 21, as in `docs/REFUSALS.md`.
+        number: u32,
+        /// A byte's offset in the text or recording, or a node's number.
+        place: usize,
+    },
 }
 
 impl Answer {
@@ -100,22 +156,60 @@ impl Answer {
     }
 }
 
-/// Reads a TLSF text: its formula's nodes come to the front of `nodes`, its signal list to the front of `signals`.
+/// Does the root hold at position 0, or a refusal?
+#[derive(Clone, Copy, Debug, PartialEq, Eq)]
+#[must_use]
+pub enum Verdict {
+    /// It holds.
+    Holds,
+    /// It does not.
+    Fails,
+    /// Why and where, as in [`Answer::Refused`].
+    Refused {
+        /// 1 to 21, as in `docs/REFUSALS.md`.
+        number: u32,
+        /// A byte's offset in the recording, or a node's number.
+        place: usize,
+    },
+}
+
+/// Reads a TLSF text: its formula's nodes come to the front of `nodes`, in postorder with the root last, and its signal list to the front of `signals`, inputs first.
+///
+/// The first [`WORK_BYTES`] of `work` are zero after every answer, whatever they held before; a shorter one is refused (17) and left as it was. Elements past a
+/// result are left as they were. Refused by 17, then 1 to 16, then 18 if either result does not fit.
 pub fn read(text: &[u8], work: &mut [u8], nodes: &mut [u32], signals: &mut [u32]) -> Answer {
     library::read(text, work, nodes, signals)
 }
 
-/// Reads a TLSF text and writes its formula in a form: 0 as expanded, 1 negation form, 2 core form.
+/// Reads a TLSF text and writes its formula in a form, [`AS_EXPANDED`], [`NEGATION_FORM`] or [`CORE_FORM`]: as [`read`] and then [`rewrite`], with nothing written by
+/// a refusal.
+///
+/// Accepted with the form's nodes and the text's signals. Refused by 17, then 1 to 16 for the text, then 21, 16 and 18 for the form.
 pub fn convert(text: &[u8], form: u32, work: &mut [u8], nodes: &mut [u32], signals: &mut [u32]) -> Answer {
     library::convert(text, form, work, nodes, signals)
 }
 
-/// Writes the form of a table's root to the front of `out`.
+/// Writes a form of a table's root to the front of `out`, in postorder, nothing shared. The table has 1 to [`MOST_NODES`] nodes, operands before their operators.
+///
+/// Refused by 21, 19, 16, 18.
 pub fn rewrite(nodes: &[u32], form: u32, out: &mut [u32]) -> Answer {
     library::rewrite(nodes, form, out)
 }
 
-/// Fills a row of bits for every node over a recorded lasso word, most significant bit first, each row rounded up to bytes.
+/// Fills a row of bits for every node over a recorded run: [`row_bytes`] bytes each, node 0's first; [`holds_at`] reads them. `signals` is how many signals the nodes
+/// may name.
+///
+/// A recording is bits, most significant first: 12 positions N, 12 loop start L, 8 signals K, then N letters of K bits, signal 0 first, zero bits to a full byte.
+/// After position N-1 comes L. Signals K and above are absent. Refused by 15, 19, 20, 18.
 pub fn evaluate(nodes: &[u32], signals: u32, recording: &[u8], rows: &mut [u8]) -> Answer {
     library::evaluate(nodes, signals, recording, rows)
+}
+
+/// Fills the rows as [`evaluate`] does, and tells whether the root, the last node, holds at position 0.
+pub fn judge(nodes: &[u32], signals: u32, recording: &[u8], rows: &mut [u8]) -> Verdict {
+    match evaluate(nodes, signals, recording, rows) {
+        Answer::Refused { number, place } => Verdict::Refused { number, place },
+        Answer::Accepted { .. } if holds_at(rows, positions(recording), nodes.len() - 1, 0) => Verdict::Holds,
+        Answer::Accepted { .. } => Verdict::Fails,
+    }
 }

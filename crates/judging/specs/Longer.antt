@@ -1,0 +1,37 @@
+-- A recording that is longer than any of the format: its first bytes and its length decide the answer (document 01, refusal 20: '0 for the header; the length if
+-- wrong'). So a file of any size is judged by its beginning. Laws in LongerLaws.
+use Prim.Native.Nat.{ℕ, _≤_}
+use mathlib.Core.Path.{_≡_}
+use mathlib.Core.Bool.{Bool, _&&_}
+use mathlib.Core.List.{List}
+use lib.Dec.{eqb, ltb}
+use lib.ListN.{length, take}
+use Rattle.node.specs.Result.{Result, Done, Refused}
+use Rattle.evaluator.specs.Evaluation.{finds}
+use Rattle.evaluator.specs.Limits.{pick, told}
+use Rattle.evaluator.specs.declared.Verdict.{Verdict}
+use Rattle.language.specs.Reading.{workAfter}
+use Rattle.judging.specs.Judging.{judging}
+
+-- the longest recording: 4 bytes, then 2,048 letters of 255 bits
+abbrev pub longest : ℕ
+longest = 65_284
+
+-- a recording begins with some bytes, which are all of it unless they are more than the longest has; its length is told
+pub record Begins (start : List ℕ) (size : ℕ) (whole : List ℕ) : Type 0 where
+  pub front : take (length start) whole ≡ start
+  pub enough : length start ≤ longest → whole ≡ start
+  pub sized : size ≡ told (length whole)
+
+-- a refusal's place with another length in it: 20 tells one at any place but the header's
+abbrev pub placeTold : (size number place : ℕ) → ℕ
+placeTold size number place = pick (eqb number 20 && ltb 0 place) size place
+
+abbrev pub moved : ℕ → Result Bool → Result Bool
+moved size (Done b) = Done b
+moved size (Refused number place) = Refused number (placeTold size number place)
+
+-- what `judge_start` promises: the verdict of every recording that begins so
+pub record JudgesStart (text start : List ℕ) (size : ℕ) (work work′ : List ℕ) (r : Verdict) : Type 0 where
+  pub answer : (whole : List ℕ) → Begins start size whole → finds r ≡ judging text whole (length work)
+  pub workLeft : work′ ≡ workAfter work
