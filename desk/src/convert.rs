@@ -65,6 +65,9 @@ pub fn run(arguments: &Convert) -> Result<Status, Stop> {
 }
 
 fn check_usage(arguments: &Convert, paths: &[PathBuf]) -> Result<(), Stop> {
+    if arguments.to != Target::Ltl && (arguments.syntax.is_some() || arguments.tick.is_some()) {
+        return Err(Stop::unusable("--syntax and --tick go with --to ltl"));
+    }
     let Some(folder) = &arguments.out else {
         if arguments.to == Target::Nodes && paths.len() > 1 {
             return Err(Stop::unusable("the nodes of many files need --out DIR"));

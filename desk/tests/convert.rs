@@ -110,6 +110,8 @@ fn wrong_usage_is_2() {
         &["convert", "--to", "nodes", "a.tlsf", "x/a.tlsf"],
         &["convert", "--out", "out", "a.tlsf", "x/a.tlsf"],
         &["convert", "--to", "ltl", "--tick", "X", "a.tlsf"],
+        &["convert", "--tick", "t", "a.tlsf"],
+        &["convert", "--to", "json", "--syntax", "spin", "a.tlsf"],
         &["check"],
         &["explain", "22"],
         &["nothing"],
