@@ -94,19 +94,29 @@ fn write_beside(path: &Path, bytes: &[u8], parts: &mut Vec<(PathBuf, PathBuf)>) 
     if path.extension().is_some_and(|ending| ending == "tlsf") {
         return Err(io::Error::new(ErrorKind::InvalidInput, "the name is a text's"));
     }
-    // What a link leads to is replaced, not the link.
-    let path = fs::canonicalize(path).unwrap_or_else(|_| path.to_path_buf());
+    let mut path = path.to_path_buf();
+    if path.is_symlink() {
+        // What a link leads to is replaced, not the link.
+        path = fs::canonicalize(&path)?;
+    }
     match fs::metadata(&path) {
         Ok(data) if data.is_dir() => return Err(io::Error::new(ErrorKind::InvalidInput, "it is a folder")),
         Ok(data) if !data.is_file() => return OpenOptions::new().write(true).open(&path)?.write_all(bytes),
         _ => {}
     }
     let part = beside(&path)?;
-    // One that an ended process of the same number left.
-    let _ = fs::remove_file(&part);
-    let mut file = OpenOptions::new().write(true).create_new(true).open(&part)?;
+    let mut file = created(&part)?;
     parts.push((part, path));
     file.write_all(bytes)
+}
+
+/// A new file, also where an ended process of the same number left one.
+fn created(part: &Path) -> io::Result<File> {
+    let create = || OpenOptions::new().write(true).create_new(true).open(part);
+    match create() {
+        Err(error) if error.kind() == ErrorKind::AlreadyExists => fs::remove_file(part).and_then(|()| create()),
+        created => created,
+    }
 }
 
 fn beside(path: &Path) -> io::Result<PathBuf> {

@@ -49,7 +49,7 @@ impl Pool {
                 Ok(worker) => worker,
                 Err(error) => return Outcome::Broken(format!("no worker could be started: {}", files::reason(&error))),
             };
-            match worker.ask(text, form, self.limit) {
+            match worker.ask(text, form) {
                 Ok(answer) => {
                     self.give_back(worker);
                     return answer.map_or_else(Outcome::Refused, Outcome::Accepted);
@@ -63,7 +63,7 @@ impl Pool {
 
     fn take(&self) -> io::Result<Worker> {
         let waiting = self.idle.lock().ok().and_then(|mut idle| idle.pop());
-        waiting.map_or_else(Worker::start, Ok)
+        waiting.map_or_else(|| Worker::start(self.limit), Ok)
     }
 
     fn give_back(&self, worker: Worker) {
@@ -80,8 +80,9 @@ struct Worker {
 }
 
 impl Worker {
-    fn start() -> io::Result<Worker> {
+    fn start(limit: Option<Duration>) -> io::Result<Worker> {
         let (stream, theirs) = UnixStream::pair()?;
+        stream.set_read_timeout(limit)?;
         let input = OwnedFd::from(theirs.try_clone()?);
         let child = Command::new(std::env::current_exe()?)
             .arg("worker")
@@ -96,8 +97,7 @@ impl Worker {
         })
     }
 
-    fn ask(&mut self, text: &[u8], form: u32, limit: Option<Duration>) -> io::Result<Result<Formula, Refusal>> {
-        self.stream.set_read_timeout(limit)?;
+    fn ask(&mut self, text: &[u8], form: u32) -> io::Result<Result<Formula, Refusal>> {
         let mut request = words(&[form, text.len() as u32]);
         request.extend_from_slice(text);
         self.stream.write_all(&request)?;
@@ -108,8 +108,8 @@ impl Worker {
                 place: lower as usize,
             })
         } else {
-            let nodes = read_entries(&mut self.stream, upper)?;
-            let signals = read_entries(&mut self.stream, lower)?;
+            let nodes = read_entries(&mut self.stream, upper as usize)?;
+            let signals = read_entries(&mut self.stream, lower as usize)?;
             Ok(Formula { nodes, signals })
         };
         self.has_answered = true;
@@ -180,16 +180,12 @@ fn words(words: &[u32]) -> Vec<u8> {
 
 fn read_words<const COUNT: usize>(input: &mut impl Read) -> io::Result<[u32; COUNT]> {
     let mut read = [0; COUNT];
-    for word in &mut read {
-        let mut bytes = [0; 4];
-        input.read_exact(&mut bytes)?;
-        *word = u32::from_le_bytes(bytes);
-    }
+    read.copy_from_slice(&read_entries(input, COUNT)?);
     Ok(read)
 }
 
-fn read_entries(input: &mut impl Read, count: u32) -> io::Result<Vec<u32>> {
-    let mut bytes = vec![0; count as usize * 4];
+fn read_entries(input: &mut impl Read, count: usize) -> io::Result<Vec<u32>> {
+    let mut bytes = vec![0; count * 4];
     input.read_exact(&mut bytes)?;
     let entry = |four: &[u8]| u32::from_le_bytes([four[0], four[1], four[2], four[3]]);
     Ok(bytes.chunks_exact(4).map(entry).collect())
