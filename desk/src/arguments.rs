@@ -22,6 +22,8 @@ pub enum Command {
     /// Exit status: 0 all accepted, 1 some refused or given up, 2 usage or files that cannot be read.
     Check(Check),
     /// Print the page of a refusal, or the list of all
+    ///
+    /// Exit status: 0 printed, 2 usage or a number that no refusal has.
     Explain {
         /// The refusal's number, 1 to 21
         number: Option<u32>,
@@ -47,7 +49,7 @@ pub enum Command {
 
 #[derive(Args)]
 pub struct Convert {
-    /// The texts; standard input if there is none, or for -
+    /// TLSF files; standard input if there is none, or for -
     #[arg(value_name = "FILE")]
     pub files: Vec<PathBuf>,
     #[command(flatten)]
@@ -55,16 +57,16 @@ pub struct Convert {
     /// What to write
     #[arg(long, value_enum, default_value_t = Target::Listing)]
     pub to: Target,
-    /// With --to ltl: whose syntax
-    #[arg(long, value_enum, default_value_t = Syntax::Common)]
-    pub syntax: Syntax,
+    /// With --to ltl: whose syntax [default: common]
+    #[arg(long, value_enum)]
+    pub syntax: Option<Syntax>,
     /// With --to ltl: write X with U and a signal of this name that changes at every position, for a SPIN without X
     #[arg(long, value_name = "NAME", value_parser = plain_name)]
     pub tick: Option<String>,
     /// Write a file for every accepted text into this folder, whole or not at all
     #[arg(long, value_name = "DIR")]
     pub out: Option<PathBuf>,
-    /// Write what became of every file, and the counts, as JSON
+    /// Write what became of every file, and the counts, as JSON; - is standard output
     #[arg(long, value_name = "FILE.json")]
     pub report: Option<PathBuf>,
     /// How refusals are shown [default: full for one file, short for many]
@@ -76,7 +78,7 @@ pub struct Convert {
 
 #[derive(Args)]
 pub struct Check {
-    /// The texts; - is standard input
+    /// TLSF files; - is standard input
     #[arg(value_name = "FILE", required = true)]
     pub files: Vec<PathBuf>,
     #[command(flatten)]
@@ -90,16 +92,16 @@ pub struct Check {
 
 #[derive(Args)]
 pub struct Judge {
-    /// The text
+    /// The TLSF file; - is standard input
     pub spec: PathBuf,
-    /// The recording
+    /// The recording, as `record` writes it
     pub recording: PathBuf,
     #[command(flatten)]
     pub form: FormOption,
     /// Print the row of every node too
     #[arg(long)]
     pub rows: bool,
-    /// Write a timing diagram: signals and the text's own lines over the positions
+    /// Write a timing diagram: signals and the text's own lines over the positions; - is standard output
     #[arg(long, value_name = "FILE")]
     pub svg: Option<PathBuf>,
     #[command(flatten)]
@@ -108,16 +110,16 @@ pub struct Judge {
 
 #[derive(Args)]
 pub struct Record {
-    /// The text whose signals are recorded
+    /// The TLSF file whose signals are recorded
     #[arg(long)]
     pub spec: PathBuf,
-    /// The bench's table
+    /// The bench's table; - is standard input
     #[arg(long, value_name = "FILE")]
     pub csv: PathBuf,
     /// The position that comes after the last one, from 0
     #[arg(long = "loop", value_name = "L")]
     pub loop_start: usize,
-    /// The recording to write, whole or not at all
+    /// The recording to write, whole or not at all; - is standard output
     #[arg(short, long = "output", value_name = "RECORDING")]
     pub output: PathBuf,
     #[command(flatten)]
@@ -126,9 +128,9 @@ pub struct Record {
 
 #[derive(Args)]
 pub struct Show {
-    /// The recording
+    /// The recording; - is standard input
     pub recording: PathBuf,
-    /// The text whose signals it has; without it they are s0, s1 and so on
+    /// The TLSF file whose signals it has; without it they are s0, s1 and so on
     #[arg(long)]
     pub spec: Option<PathBuf>,
     #[command(flatten)]

@@ -7,7 +7,7 @@ use crate::formula::{Formula, Refusal};
 use crate::message;
 use crate::output::Output;
 use crate::status::Status;
-use crate::worker::{Outcome, Pool};
+use crate::worker::{Outcome, Pool, OUT_OF_TIME};
 use indicatif::{ProgressBar, ProgressStyle};
 use rayon::prelude::*;
 use std::path::{Path, PathBuf};
@@ -99,13 +99,13 @@ fn convert(path: &Path, task: &Task, pool: &Pool) -> Became {
 }
 
 /// What is told of a file that has no result; nothing of an accepted one.
-pub fn told(path: &Path, became: &Became, seconds: u64) -> String {
+pub fn told(path: &Path, became: &Became) -> String {
     let file = files::shown(path);
     match became {
         Became::Accepted { .. } => String::new(),
         Became::Refused { message, .. } => message.clone(),
-        Became::OutOfTime => format!("{file}: error: given up after {seconds} s (--seconds)\n"),
-        Became::Broken(reason) => format!("{file}: error: {reason}\n"),
+        Became::OutOfTime => format!("error: {file}: {OUT_OF_TIME}\n"),
+        Became::Broken(reason) => format!("error: {file}: {reason}\n"),
         Became::Unreadable(message) | Became::Unwritable(message) => format!("error: {message}\n"),
     }
 }

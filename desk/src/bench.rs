@@ -9,7 +9,7 @@ use crate::node;
 use crate::recording;
 use crate::spec;
 use crate::status::{Status, Stop};
-use crate::table::{self, Fault};
+use crate::table;
 use crate::worker::Pool;
 use std::path::Path;
 
@@ -18,7 +18,10 @@ pub fn record(arguments: &Record) -> Result<Status, Stop> {
     let spec = spec::read(&arguments.spec, 0, &pool, Status::Bad)?;
     let labels = spec.labels();
     let csv = files::read_all(&arguments.csv)?;
-    let letters = table::letters(&csv, &labels).map_err(|fault| at_fault(&arguments.csv, &fault))?;
+    let letters = table::letters(&csv, &labels).map_err(|fault| Stop {
+        message: message::of_table(&arguments.csv, &csv, &fault),
+        status: Status::Bad,
+    })?;
     if arguments.loop_start >= letters.len() {
         let message = format!("--loop {}: the last position is {}", arguments.loop_start, letters.len() - 1);
         return Err(Stop::unusable(message));
@@ -31,14 +34,6 @@ pub fn record(arguments: &Record) -> Result<Status, Stop> {
     }
     files::write_whole(&arguments.output, &recording)?;
     Ok(Status::Good)
-}
-
-fn at_fault(path: &Path, fault: &Fault) -> Stop {
-    let Fault { line, column, message } = fault;
-    Stop {
-        message: format!("{}:{line}:{column}: error: {message}\n", files::shown(path)),
-        status: Status::Bad,
-    }
 }
 
 fn transposed(letters: &[Vec<bool>], signals: usize) -> Vec<Vec<bool>> {

@@ -14,16 +14,15 @@ use std::time::Instant;
 
 pub fn check(arguments: &Check) -> Status {
     let accepted = |_: &Path, _: &[u8], formula: &Formula| counted(formula, None);
-    let seconds = arguments.limit.seconds;
     let task = Task {
         form: arguments.form.form,
-        seconds,
+        seconds: arguments.limit.seconds,
         messages: arguments.messages,
         accepted: &accepted,
     };
     let became = batch::run(&arguments.files, &task);
     for (path, became) in arguments.files.iter().zip(&became) {
-        files::tell(&batch::told(path, became, seconds));
+        files::tell(&batch::told(path, became));
     }
     batch::status(&became)
 }
@@ -40,19 +39,16 @@ pub fn run(arguments: &Convert) -> Result<Status, Stop> {
     let many = paths.len() > 1;
     let usual = if many { Messages::Short } else { Messages::Full };
     let messages = arguments.messages.unwrap_or(usual);
-    let seconds = arguments.limit.seconds;
-    let became = batch::run(
-        &paths,
-        &Task {
-            form: arguments.form.form,
-            seconds,
-            messages,
-            accepted: &accepted,
-        },
-    );
+    let task = Task {
+        form: arguments.form.form,
+        seconds: arguments.limit.seconds,
+        messages,
+        accepted: &accepted,
+    };
+    let became = batch::run(&paths, &task);
     print_results(arguments, &became)?;
     for (path, became) in paths.iter().zip(&became) {
-        files::tell(&batch::told(path, became, seconds));
+        files::tell(&batch::told(path, became));
         if let (Became::Accepted { nodes, signals, .. }, true) = (became, many) {
             files::tell(&format!("{}: accepted, {nodes} nodes, {signals} signals\n", files::shown(path)));
         }
@@ -69,6 +65,9 @@ pub fn run(arguments: &Convert) -> Result<Status, Stop> {
 }
 
 fn check_usage(arguments: &Convert, paths: &[PathBuf]) -> Result<(), Stop> {
+    if arguments.to != Target::Ltl && (arguments.syntax.is_some() || arguments.tick.is_some()) {
+        return Err(Stop::unusable("--syntax and --tick go with --to ltl"));
+    }
     let Some(folder) = &arguments.out else {
         if arguments.to == Target::Nodes && paths.len() > 1 {
             return Err(Stop::unusable("the nodes of many files need --out DIR"));
@@ -85,7 +84,10 @@ fn check_usage(arguments: &Convert, paths: &[PathBuf]) -> Result<(), Stop> {
             )));
         }
     }
-    std::fs::create_dir_all(folder).map_err(|error| Stop::unusable(format!("{}: cannot be made a folder: {error}", files::shown(folder))))
+    std::fs::create_dir_all(folder).map_err(|error| {
+        let reason = files::reason(&error);
+        Stop::unusable(format!("{}: cannot be made a folder: {reason}", files::shown(folder)))
+    })
 }
 
 /// In the folder, with the target's name in place of `.tlsf`.
@@ -100,7 +102,7 @@ fn named(folder: &Path, path: &Path, ending: &str) -> PathBuf {
     }
     .unwrap_or_default()
     .to_os_string();
-    if files::is_standard_input(path) {
+    if files::is_standard(path) {
         name = "standard-input".into();
     }
     name.push(".");
@@ -116,14 +118,11 @@ fn write(arguments: &Convert, path: &Path, text: &[u8], formula: &Formula) -> Be
     let Some(folder) = &arguments.out else {
         return counted(formula, Some(output));
     };
-    let names = output
-        .names
-        .as_ref()
-        .map(|names| files::write_whole(&named(folder, path, "names"), names.as_bytes()));
-    let written = names
-        .unwrap_or(Ok(()))
-        .and_then(|()| files::write_whole(&output_path(folder, path, arguments.to), &output.bytes));
-    match written {
+    let mut outputs = vec![(output_path(folder, path, arguments.to), &output.bytes[..])];
+    if let Some(names) = &output.names {
+        outputs.push((named(folder, path, "names"), names.as_bytes()));
+    }
+    match files::write_all_whole(&outputs) {
         Ok(()) => counted(formula, None),
         Err(message) => Became::Unwritable(message),
     }

@@ -1,5 +1,9 @@
-//! A timing diagram as SVG. True is a filled block under a high line, false a low line: no colour is needed to tell them apart.
+//! A timing diagram as SVG. True is a hatched block under a high line, false a low line: no colour is needed to tell them apart.
+//!
+//! Many positions are drawn in strips, one under the other, each with all rows and their labels.
 
+use crate::layout::{Layout, Strip, BLOCK_HEIGHT, CHARACTER_WIDTH, HEAD_HEIGHT, INDENT, LINE_HEIGHT, MARGIN, NUMBERS_HEIGHT};
+use crate::svg::Picture;
 use std::fmt::Write;
 
 /// A row of the diagram.
@@ -17,203 +21,119 @@ pub struct Diagram {
     pub loop_start: usize,
 }
 
-const ROW_HEIGHT: usize = 26;
-const BLOCK_HEIGHT: usize = 14;
-const GROUP_HEIGHT: usize = 24;
-const HEAD_HEIGHT: usize = 64;
-const FOOT_HEIGHT: usize = 56;
-const MARGIN: usize = 16;
-const CHARACTER_WIDTH: usize = 8;
-const MOST_LABEL: usize = 64;
-/// The positions share this width, within the bounds of a cell's width.
-const TIMES_WIDTH: usize = 960;
-const CELL_WIDTHS: (usize, usize) = (8, 36);
+const BOLD: &str = " font-weight=\"bold\"";
+const SMALL: &str = " font-size=\"11\"";
+const SMALL_CENTRED: &str = " font-size=\"11\" text-anchor=\"middle\"";
+const TRACE: &str = " fill=\"none\" stroke=\"black\" stroke-width=\"2\"";
+const RULE: &str = " stroke=\"#ccc\"";
+const LEADER: &str = " stroke=\"#aaa\" stroke-dasharray=\"1 5\"";
+const LOOP_EDGE: &str = " stroke=\"black\" stroke-width=\"1.5\" stroke-dasharray=\"5 3\"";
+const LOOP_BACK: &str = " stroke=\"black\" stroke-width=\"1.5\"";
+const LOOP_ARROW: &str = " stroke=\"black\" stroke-width=\"1.5\" marker-end=\"url(#arrow)\"";
 
 impl Diagram {
     pub fn svg(&self) -> String {
-        let mut svg = String::new();
-        let (width, height) = (self.width(), self.height());
-        let _ = write!(
-            svg,
-            "<svg xmlns=\"http://www.w3.org/2000/svg\" width=\"{width}\" height=\"{height}\" viewBox=\"0 0 {width} {height}\" \
-             font-family=\"monospace\" font-size=\"13\">\n\
-             <defs><pattern id=\"true\" width=\"6\" height=\"6\" patternUnits=\"userSpaceOnUse\">\
-             <rect width=\"6\" height=\"6\" fill=\"#d8d8d8\"/><path d=\"M0 6L6 0\" stroke=\"#555\" stroke-width=\"1\"/></pattern>\
-             <marker id=\"arrow\" viewBox=\"0 0 10 10\" refX=\"9\" refY=\"5\" markerWidth=\"8\" markerHeight=\"8\" orient=\"auto\">\
-             <path d=\"M0 0L10 5L0 10Z\"/></marker></defs>\n\
-             <rect width=\"{width}\" height=\"{height}\" fill=\"white\"/>\n"
-        );
-        let _ = writeln!(
-            svg,
-            "<text x=\"{MARGIN}\" y=\"24\" font-size=\"15\" font-weight=\"bold\">{}</text>",
-            escaped(&self.title)
-        );
-        self.draw_positions(&mut svg);
-        self.draw_rows(&mut svg);
-        self.draw_loop(&mut svg);
-        self.draw_legend(&mut svg);
-        svg.push_str("</svg>\n");
-        svg
-    }
-
-    fn draw_positions(&self, svg: &mut String) {
-        let (top, bottom) = (HEAD_HEIGHT - 6, self.height() - FOOT_HEIGHT);
-        let step = self.label_step();
-        for position in (0..self.positions).step_by(step) {
-            let x = self.x(position);
-            let middle = x + self.cell() / 2;
-            let _ = writeln!(svg, "<path d=\"M{x} {top}V{bottom}\" stroke=\"#ccc\" stroke-width=\"1\"/>");
-            let _ = writeln!(
-                svg,
-                "<text x=\"{middle}\" y=\"{}\" text-anchor=\"middle\" font-size=\"11\">{position}</text>",
-                top - 4
-            );
+        let layout = Layout::of(self);
+        let mut picture = Picture::new(layout.width(), layout.height(), &self.title);
+        picture.text(MARGIN, 24, " font-size=\"15\" font-weight=\"bold\"", &self.title);
+        draw_legend(&mut picture);
+        for strip in layout.strips() {
+            draw_positions(&mut picture, &layout, &strip);
+            self.draw_rows(&mut picture, &layout, &strip);
+            self.draw_loop(&mut picture, &layout, &strip);
         }
+        picture.finished()
     }
 
-    fn draw_rows(&self, svg: &mut String) {
-        let mut y = HEAD_HEIGHT;
-        let mut group = "";
-        for row in &self.rows {
-            if row.group != group {
-                group = &row.group;
-                y += GROUP_HEIGHT;
-                let _ = writeln!(
-                    svg,
-                    "<text x=\"{MARGIN}\" y=\"{}\" font-weight=\"bold\">{}</text>",
-                    y - 6,
-                    escaped(group)
-                );
+    pub fn begins_group(&self, number: usize) -> bool {
+        number == 0 || self.rows[number - 1].group != self.rows[number].group
+    }
+
+    fn draw_rows(&self, picture: &mut Picture, layout: &Layout, strip: &Strip) {
+        for (number, row) in self.rows.iter().enumerate() {
+            let top = strip.top + layout.row_tops[number];
+            if self.begins_group(number) {
+                picture.text(MARGIN, top - 6, BOLD, &row.group);
             }
-            self.draw_row(svg, row, y);
-            y += ROW_HEIGHT;
+            picture.begin_group(&row.label);
+            draw_label(picture, layout, &layout.labels[number], top);
+            draw_trace(picture, layout, strip, &row.bits, top);
+            picture.end_group();
         }
     }
 
-    fn draw_row(&self, svg: &mut String, row: &Row, y: usize) {
-        let (high, low) = (y + 5, y + 5 + BLOCK_HEIGHT);
-        let (cut, label) = (escaped(&cut(&row.label)), escaped(&row.label));
-        let _ = writeln!(
-            svg,
-            "<g><title>{label}</title><text x=\"{}\" y=\"{}\">{cut}</text>",
-            MARGIN + 12,
-            low - 2
-        );
-        let level = |bit: bool| if bit { high } else { low };
-        let mut line = String::new();
-        let mut from = 0;
-        while let Some(&bit) = row.bits.get(from) {
-            let to = row.bits[from..]
-                .iter()
-                .position(|&other| other != bit)
-                .map_or(row.bits.len(), |run| from + run);
-            let (left, right) = (self.x(from), self.x(to));
-            if bit {
-                let width = right - left;
-                let _ = writeln!(
-                    svg,
-                    "<rect x=\"{left}\" y=\"{high}\" width=\"{width}\" height=\"{BLOCK_HEIGHT}\" fill=\"url(#true)\"/>"
-                );
+    /// From the last position back to the loop's start: a line under every strip that has a part of the loop.
+    fn draw_loop(&self, picture: &mut Picture, layout: &Layout, strip: &Strip) {
+        let (is_first, is_last) = (strip.has(self.loop_start), strip.end == self.positions);
+        if self.loop_start >= strip.end {
+            return;
+        }
+        let (left, right) = (strip.x(layout, self.loop_start.max(strip.start)), strip.x(layout, strip.end));
+        let top = strip.top + NUMBERS_HEIGHT - 6;
+        let back = strip.top + layout.rows_height() + 14;
+        for (x, is_edge) in [(left, is_first), (right, is_last)] {
+            if is_edge {
+                picture.path(format_args!("M{x} {top}V{back}"), LOOP_EDGE);
             }
-            let _ = write!(line, "{}{left} {}H{right}", if from == 0 { "M" } else { "L" }, level(bit));
-            from = to;
         }
-        let _ = writeln!(svg, "<path d=\"{line}\" fill=\"none\" stroke=\"black\" stroke-width=\"2\"/></g>");
-    }
-
-    fn draw_loop(&self, svg: &mut String) {
-        let (left, right) = (self.x(self.loop_start), self.x(self.positions));
-        let (top, bottom) = (HEAD_HEIGHT - 6, self.height() - FOOT_HEIGHT);
-        let back = bottom + 14;
-        let (start, last) = (self.loop_start, self.positions.saturating_sub(1));
-        for x in [left, right] {
-            let _ = writeln!(
-                svg,
-                "<path d=\"M{x} {top}V{back}\" stroke=\"black\" stroke-width=\"1.5\" stroke-dasharray=\"5 3\"/>"
-            );
+        let line = if is_first { LOOP_ARROW } else { LOOP_BACK };
+        picture.path(format_args!("M{right} {back}H{left}"), line);
+        if is_first || is_last {
+            let note = format!("loop: after {} comes {}", self.positions.saturating_sub(1), self.loop_start);
+            let fits = left + note.len() * CHARACTER_WIDTH <= layout.width() - MARGIN;
+            let (x, anchor) = if fits { (left, "") } else { (right, " text-anchor=\"end\"") };
+            picture.text(x, back + 18, anchor, &note);
         }
-        let _ = writeln!(
-            svg,
-            "<path d=\"M{right} {back}H{left}\" stroke=\"black\" stroke-width=\"1.5\" marker-end=\"url(#arrow)\"/>"
-        );
-        let _ = writeln!(
-            svg,
-            "<text x=\"{left}\" y=\"{}\">loop: after {last} comes {start}</text>",
-            back + 20
-        );
-    }
-
-    fn draw_legend(&self, svg: &mut String) {
-        let (left, high) = (MARGIN + 12, self.height() - FOOT_HEIGHT + 20);
-        let low = high + BLOCK_HEIGHT;
-        let (step, end) = (left + 24, left + 88);
-        let _ = writeln!(
-            svg,
-            "<rect x=\"{left}\" y=\"{high}\" width=\"24\" height=\"{BLOCK_HEIGHT}\" fill=\"url(#true)\"/>"
-        );
-        let _ = writeln!(
-            svg,
-            "<path d=\"M{left} {high}H{step}M{end} {low}h24\" stroke=\"black\" stroke-width=\"2\"/>"
-        );
-        for (x, word) in [(step, "true"), (end + 24, "false")] {
-            let _ = writeln!(svg, "<text x=\"{}\" y=\"{low}\" font-size=\"11\">{word}</text>", x + 6);
-        }
-    }
-
-    fn cell(&self) -> usize {
-        (TIMES_WIDTH / self.positions.max(1)).clamp(CELL_WIDTHS.0, CELL_WIDTHS.1)
-    }
-
-    /// Every position that has room for its number, in round steps.
-    fn label_step(&self) -> usize {
-        let needed = (self.positions.to_string().len() + 1) * 7;
-        [1, 2, 5, 10, 20, 50, 100]
-            .into_iter()
-            .find(|step| step * self.cell() >= needed)
-            .unwrap_or(100)
-    }
-
-    fn label_width(&self) -> usize {
-        let longest = self.rows.iter().map(|row| cut(&row.label).chars().count()).max().unwrap_or(0);
-        longest.max(20) * CHARACTER_WIDTH + 12
-    }
-
-    fn x(&self, position: usize) -> usize {
-        2 * MARGIN + self.label_width() + position * self.cell()
-    }
-
-    fn width(&self) -> usize {
-        let title = self.title.chars().count() * 10 + 2 * MARGIN;
-        let note = self.x(self.loop_start) + 28 * CHARACTER_WIDTH + MARGIN;
-        (self.x(self.positions) + MARGIN).max(title).max(note)
-    }
-
-    fn height(&self) -> usize {
-        let starts = |number: usize| number == 0 || self.rows[number - 1].group != self.rows[number].group;
-        let groups = (0..self.rows.len()).filter(|&number| starts(number)).count();
-        HEAD_HEIGHT + groups * GROUP_HEIGHT + self.rows.len() * ROW_HEIGHT + FOOT_HEIGHT
     }
 }
 
-fn cut(label: &str) -> String {
-    if label.chars().count() <= MOST_LABEL {
-        return label.to_string();
-    }
-    let start: String = label.chars().take(MOST_LABEL - 3).collect();
-    format!("{start}...")
+fn draw_legend(picture: &mut Picture) {
+    let (left, high) = (INDENT, HEAD_HEIGHT - 24);
+    let low = high + BLOCK_HEIGHT;
+    let (step, end) = (left + 24, left + 88);
+    picture.block(left, high, 24, BLOCK_HEIGHT);
+    picture.path(format_args!("M{left} {high}H{step}M{end} {low}h24"), TRACE);
+    picture.text(step + 6, low, SMALL, "true");
+    picture.text(end + 30, low, SMALL, "false");
 }
 
-fn escaped(text: &str) -> String {
-    let mut escaped = String::new();
-    for c in text.chars() {
-        match c {
-            '&' => escaped.push_str("&amp;"),
-            '<' => escaped.push_str("&lt;"),
-            '>' => escaped.push_str("&gt;"),
-            '"' => escaped.push_str("&quot;"),
-            c if c.is_control() || matches!(c, '\u{fffe}' | '\u{ffff}') => escaped.push('\u{fffd}'),
-            c => escaped.push(c),
-        }
+fn draw_positions(picture: &mut Picture, layout: &Layout, strip: &Strip) {
+    let (top, bottom) = (strip.top + NUMBERS_HEIGHT - 6, strip.top + layout.rows_height());
+    for position in (strip.start..strip.end).filter(|position| position % layout.number_step == 0) {
+        let x = strip.x(layout, position);
+        picture.path(format_args!("M{x} {top}V{bottom}"), RULE);
+        picture.text(x + layout.cell / 2, top - 4, SMALL_CENTRED, &position.to_string());
     }
-    escaped
+}
+
+fn draw_label(picture: &mut Picture, layout: &Layout, label: &[String], top: usize) {
+    let first = top + 5 + BLOCK_HEIGHT;
+    for (number, line) in label.iter().enumerate() {
+        picture.text(INDENT, first - 2 + number * LINE_HEIGHT, "", line);
+    }
+    let length = label.first().map_or(0, |line| line.chars().count());
+    let (from, to) = (INDENT + (length + 1) * CHARACTER_WIDTH, layout.left - 8);
+    if from < to {
+        picture.path(format_args!("M{from} {}H{to}", first - 3), LEADER);
+    }
+}
+
+fn draw_trace(picture: &mut Picture, layout: &Layout, strip: &Strip, bits: &[bool], top: usize) {
+    let (high, low) = (top + 5, top + 5 + BLOCK_HEIGHT);
+    let mut line = String::new();
+    let mut from = strip.start;
+    while let Some(&bit) = bits.get(from).filter(|_| from < strip.end) {
+        let run = bits[from..strip.end.min(bits.len())]
+            .iter()
+            .take_while(|&&other| other == bit)
+            .count();
+        let (left, right) = (strip.x(layout, from), strip.x(layout, from + run));
+        if bit {
+            picture.block(left, high, right - left, BLOCK_HEIGHT);
+        }
+        let level = if bit { high } else { low };
+        let _ = write!(line, "{}{left} {level}H{right}", if line.is_empty() { "M" } else { "L" });
+        from += run;
+    }
+    picture.path(line, TRACE);
 }

@@ -7,12 +7,16 @@ use std::ops::Range;
 const BEFORE: usize = 60;
 const AFTER: usize = 60;
 
+const BYTE_ORDER_MARK: &[u8] = "\u{feff}".as_bytes();
+
 pub struct Excerpt {
     pub file: String,
     /// From 1.
     pub line: usize,
     /// From 1, in characters.
     pub column: usize,
+    /// What stands at the place, if the line does not show it.
+    pub unseen: Option<String>,
     source: String,
     /// Where the place is in the source.
     at: Range<usize>,
@@ -21,7 +25,12 @@ pub struct Excerpt {
 impl Excerpt {
     pub fn new(file: String, text: &[u8], place: usize) -> Excerpt {
         let place = place.min(text.len());
-        let start = text[..place].iter().rposition(|&byte| byte == b'\n').map_or(0, |at| at + 1);
+        let first = if text[..place].starts_with(BYTE_ORDER_MARK) {
+            BYTE_ORDER_MARK.len()
+        } else {
+            0
+        };
+        let start = text[..place].iter().rposition(|&byte| byte == b'\n').map_or(first, |at| at + 1);
         let end = text[place..]
             .iter()
             .position(|&byte| byte == b'\n')
@@ -44,6 +53,7 @@ impl Excerpt {
             file,
             line: text[..start].iter().filter(|&&byte| byte == b'\n').count() + 1,
             column: before.len() + 1,
+            unseen: unseen(&text[place..]),
             source,
             at: at..at + width,
         }
@@ -54,9 +64,25 @@ impl Excerpt {
     }
 }
 
+fn unseen(rest: &[u8]) -> Option<String> {
+    let Some(byte) = rest.first() else {
+        return Some("the text ends here".to_string());
+    };
+    if rest.starts_with(BYTE_ORDER_MARK) {
+        return Some("a byte order mark".to_string());
+    }
+    let shown = rest
+        .utf8_chunks()
+        .next()
+        .is_some_and(|chunk| chunk.valid().chars().next().is_some_and(|c| harmless(c) == c));
+    (!shown).then(|| format!("0x{byte:02x}"))
+}
+
+// Nothing that a terminal would act on, and nothing that would stand elsewhere than it is, or not at all.
 fn harmless(c: char) -> char {
     match c {
-        '\t' => ' ',
+        '\t' | '\r' => ' ',
+        '\u{200b}'..='\u{200f}' | '\u{202a}'..='\u{202e}' | '\u{2060}'..='\u{206f}' | '\u{feff}' => '\u{fffd}',
         c if c.is_control() => '\u{fffd}',
         c => c,
     }
@@ -104,8 +130,30 @@ mod tests {
             assert!(!excerpt.source.contains(['\x1b', '\r', '\n']));
             assert!(excerpt.source.is_char_boundary(excerpt.at.start) && excerpt.source.is_char_boundary(excerpt.at.end));
         }
-        let excerpt = Excerpt::new("f".to_string(), text, 9);
-        assert_eq!((excerpt.line, excerpt.column), (2, 2));
+    }
+
+    // The line and the column of a place, what is shown of the line up to it and from it on, and what cannot be shown.
+    fn told(text: &[u8], place: usize) -> (usize, usize, String, String, String) {
+        let excerpt = Excerpt::new("f".to_string(), text, place);
+        let (before, after) = excerpt.source.split_at(excerpt.at.start);
+        let unseen = excerpt.unseen.clone().unwrap_or_default();
+        (excerpt.line, excerpt.column, before.to_string(), after.to_string(), unseen)
+    }
+
+    #[test]
+    fn columns_are_characters() {
+        let due = |line, column, before: &str, after: &str, unseen: &str| (line, column, before.into(), after.into(), unseen.into());
+        assert_eq!(told("\n\tä→x#y\r\nz".as_bytes(), 8), due(2, 5, " ä→x", "#y", ""));
+        assert_eq!(told("a\rb#".as_bytes(), 3), due(1, 4, "a b", "#", ""));
+        assert_eq!(told("→".as_bytes(), 0), due(1, 1, "", "→", ""));
+        assert_eq!(told(b"a;", 2), due(1, 3, "a;", "", "the text ends here"));
+        assert_eq!(told(b"a;\n", 3), due(2, 1, "", "", "the text ends here"));
+        assert_eq!(told(b"", 0), due(1, 1, "", "", "the text ends here"));
+        assert_eq!(told(b"a\x00", 1), due(1, 2, "a", "\u{fffd}", "0x00"));
+        assert_eq!(told(b"a\xff", 1), due(1, 2, "a", "\u{fffd}", "0xff"));
+        assert_eq!(told("\u{feff}a".as_bytes(), 0), due(1, 1, "", "\u{fffd}a", "a byte order mark"));
+        assert_eq!(told("\u{feff}a".as_bytes(), 3), due(1, 1, "", "a", ""));
+        assert_eq!(told("\u{202e}a".as_bytes(), 3), due(1, 2, "\u{fffd}", "a", ""));
     }
 
     #[test]

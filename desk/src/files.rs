@@ -1,25 +1,34 @@
 //! Files in and out.
 
+use std::ffi::OsString;
 use std::fs::{self, File, OpenOptions};
-use std::io::{self, Read, Write};
+use std::io::{self, ErrorKind, Read, Write};
 use std::path::{Path, PathBuf};
+use std::sync::atomic::{AtomicBool, Ordering};
 
 /// More than any recording or table of a bench has.
 const MOST_BYTES: u64 = 16 << 20;
 
-pub fn is_standard_input(path: &Path) -> bool {
+/// Standard input, or standard output where a file is written.
+pub fn is_standard(path: &Path) -> bool {
     path == Path::new("-")
 }
 
 /// A file's name as it is shown: no byte that a terminal would act on.
 pub fn shown(path: &Path) -> String {
-    if is_standard_input(path) {
+    if is_standard(path) {
         return "standard input".to_string();
     }
     path.to_string_lossy()
         .chars()
         .map(|c| if c.is_control() { '\u{fffd}' } else { c })
         .collect()
+}
+
+/// What went wrong, without the system's number for it.
+pub fn reason(error: &io::Error) -> String {
+    let reason = error.to_string();
+    reason.split(" (os error ").next().unwrap_or_default().to_string()
 }
 
 /// A text, or as much of it as shows that it is too long.
@@ -36,52 +45,85 @@ pub fn read_all(path: &Path) -> Result<Vec<u8>, String> {
 }
 
 fn read_at_most(path: &Path, most: u64) -> Result<Vec<u8>, String> {
+    static STANDARD_INPUT_IS_READ: AtomicBool = AtomicBool::new(false);
     let mut bytes = Vec::new();
-    let read = if is_standard_input(path) {
-        io::stdin().lock().take(most).read_to_end(&mut bytes)
-    } else {
+    let read = if !is_standard(path) {
         File::open(path).and_then(|file| file.take(most).read_to_end(&mut bytes))
+    } else if STANDARD_INPUT_IS_READ.swap(true, Ordering::Relaxed) {
+        return Err("standard input: can stand for one file only".to_string());
+    } else {
+        io::stdin().lock().take(most).read_to_end(&mut bytes)
     };
     match read {
         Ok(_) => Ok(bytes),
-        Err(error) => Err(format!("{}: cannot be read: {error}", shown(path))),
+        Err(error) => Err(format!("{}: cannot be read: {}", shown(path), reason(&error))),
     }
 }
 
-/// Writes a file whole or not at all: beside its place first, then moved there.
+/// Writes a file whole or not at all; `-` is standard output.
 pub fn write_whole(path: &Path, bytes: &[u8]) -> Result<(), String> {
-    let written = if is_special(path) {
-        OpenOptions::new().write(true).open(path).and_then(|mut file| file.write_all(bytes))
-    } else {
-        write_and_move(path, bytes)
-    };
-    written.map_err(|error| format!("{}: cannot be written: {error}", shown(path)))
-}
-
-// A device or a pipe is written to, not replaced.
-fn is_special(path: &Path) -> bool {
-    fs::metadata(path).is_ok_and(|data| !data.is_file() && !data.is_dir())
-}
-
-fn write_and_move(path: &Path, bytes: &[u8]) -> io::Result<()> {
-    let part = beside(path)?;
-    let written = OpenOptions::new()
-        .write(true)
-        .create_new(true)
-        .open(&part)
-        .and_then(|mut file| file.write_all(bytes))
-        .and_then(|()| fs::rename(&part, path));
-    if written.as_ref().is_err_and(|error| error.kind() != io::ErrorKind::AlreadyExists) {
-        let _ = fs::remove_file(&part);
+    if is_standard(path) {
+        return print(bytes);
     }
-    written
+    write_all_whole(&[(path.to_path_buf(), bytes)])
+}
+
+/// Writes files that belong together: beside their places first, and only if all are whole they are moved there.
+pub fn write_all_whole(files: &[(PathBuf, &[u8])]) -> Result<(), String> {
+    let mut parts = Vec::new();
+    let moved = files.iter().try_for_each(|(path, bytes)| {
+        let written = write_beside(path, bytes, &mut parts);
+        written.map_err(|error| format!("{}: cannot be written: {}", shown(path), reason(&error)))
+    });
+    let moved = moved.and_then(|()| {
+        parts.iter().try_for_each(|(part, path)| {
+            let moved = fs::rename(part, path);
+            moved.map_err(|error| format!("{}: cannot be written: {}", shown(path), reason(&error)))
+        })
+    });
+    if moved.is_err() {
+        for (part, _) in parts {
+            let _ = fs::remove_file(part);
+        }
+    }
+    moved
+}
+
+/// Writes a part that is to be moved to the path; a device or a pipe is written to instead.
+fn write_beside(path: &Path, bytes: &[u8], parts: &mut Vec<(PathBuf, PathBuf)>) -> io::Result<()> {
+    if path.extension().is_some_and(|ending| ending == "tlsf") {
+        return Err(io::Error::new(ErrorKind::InvalidInput, "the name is a text's"));
+    }
+    let mut path = path.to_path_buf();
+    if path.is_symlink() {
+        // What a link leads to is replaced, not the link.
+        path = fs::canonicalize(&path)?;
+    }
+    match fs::metadata(&path) {
+        Ok(data) if data.is_dir() => return Err(io::Error::new(ErrorKind::InvalidInput, "it is a folder")),
+        Ok(data) if !data.is_file() => return OpenOptions::new().write(true).open(&path)?.write_all(bytes),
+        _ => {}
+    }
+    let part = beside(&path)?;
+    let mut file = created(&part)?;
+    parts.push((part, path));
+    file.write_all(bytes)
+}
+
+/// A new file, also where an ended process of the same number left one.
+fn created(part: &Path) -> io::Result<File> {
+    let create = || OpenOptions::new().write(true).create_new(true).open(part);
+    match create() {
+        Err(error) if error.kind() == ErrorKind::AlreadyExists => fs::remove_file(part).and_then(|()| create()),
+        created => created,
+    }
 }
 
 fn beside(path: &Path) -> io::Result<PathBuf> {
     let Some(name) = path.file_name() else {
-        return Err(io::Error::new(io::ErrorKind::InvalidInput, "no file name"));
+        return Err(io::Error::new(ErrorKind::InvalidInput, "no file name"));
     };
-    let mut part = std::ffi::OsString::from(".");
+    let mut part = OsString::from(".");
     part.push(name);
     part.push(format!(".{}.part", std::process::id()));
     Ok(path.with_file_name(part))
@@ -91,7 +133,7 @@ fn beside(path: &Path) -> io::Result<PathBuf> {
 pub fn print(bytes: &[u8]) -> Result<(), String> {
     let mut output = io::stdout().lock();
     match output.write_all(bytes).and_then(|()| output.flush()) {
-        Err(error) if error.kind() != io::ErrorKind::BrokenPipe => Err(format!("standard output: cannot be written: {error}")),
+        Err(error) if error.kind() != ErrorKind::BrokenPipe => Err(format!("standard output: cannot be written: {}", reason(&error))),
         _ => Ok(()),
     }
 }

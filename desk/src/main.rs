@@ -10,6 +10,7 @@ mod explain;
 mod files;
 mod formula;
 mod judge;
+mod layout;
 mod lines;
 mod listing;
 mod ltl;
@@ -23,6 +24,7 @@ mod scan;
 mod signals;
 mod spec;
 mod status;
+mod svg;
 mod table;
 mod worker;
 

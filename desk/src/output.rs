@@ -1,6 +1,6 @@
 //! What `convert` writes for an accepted text.
 
-use crate::arguments::{Convert, Target};
+use crate::arguments::{Convert, Syntax, Target};
 use crate::formula::Formula;
 use crate::listing;
 use crate::ltl::{self, Style};
@@ -38,7 +38,7 @@ fn line(arguments: &Convert, text: &[u8], formula: &Formula) -> Result<Output, S
     let signals = signals::of(text, &formula.signals);
     let names = signals::ltl_names(&signals, arguments.tick.as_deref());
     let style = Style {
-        syntax: arguments.syntax,
+        syntax: arguments.syntax.unwrap_or(Syntax::Common),
         tick: arguments.tick.as_deref(),
     };
     match ltl::line(&formula.nodes, &names, &style) {

@@ -26,6 +26,10 @@ impl Page {
         self.line_after(PLACE).starts_with("Always 0")
     }
 
+    pub fn has_example(&self) -> bool {
+        self.text.contains("\n```")
+    }
+
     fn line_after(&self, start: &str) -> &'static str {
         self.text.lines().find_map(|line| line.strip_prefix(start)).unwrap_or_default()
     }
@@ -65,5 +69,7 @@ mod tests {
         }
         let without: Vec<u32> = pages().filter(Page::has_no_place).map(|page| page.number).collect();
         assert_eq!(without, [16, 17, 18, 21]);
+        let examples: Vec<u32> = pages().filter(Page::has_example).map(|page| page.number).collect();
+        assert_eq!(examples, (1..=16).collect::<Vec<u32>>());
     }
 }

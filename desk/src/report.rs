@@ -5,6 +5,7 @@ use crate::batch::Became;
 use crate::convert::output_path;
 use crate::files;
 use crate::refusals;
+use crate::worker::OUT_OF_TIME;
 use serde_json::{json, Map, Value};
 use std::collections::BTreeMap;
 use std::path::{Path, PathBuf};
@@ -52,7 +53,7 @@ pub fn summary(became: &[Became], elapsed: Duration) -> String {
         summary.push_str(&format!("{count:>6} refused by {number}: {}\n", title(number)));
     }
     let others = [
-        (counts.out_of_time, "given up, out of time"),
+        (counts.out_of_time, OUT_OF_TIME),
         (counts.broken, "ended without a result"),
         (counts.unreadable, "cannot be read"),
         (counts.unwritable, "cannot be written"),

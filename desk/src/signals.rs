@@ -38,85 +38,17 @@ fn name_at(text: &[u8], offset: usize) -> String {
     rest.iter().take_while(|byte| of_name(byte)).map(|&byte| char::from(byte)).collect()
 }
 
-// Words that Spot, Owl or SPIN take for operators or for words of a model.
-const RESERVED: [&str; 76] = [
-    "active",
-    "always",
-    "and",
-    "assert",
-    "atomic",
-    "bit",
-    "bool",
-    "break",
-    "byte",
-    "c_code",
-    "c_decl",
-    "c_expr",
-    "c_state",
-    "c_track",
-    "chan",
-    "d_step",
-    "do",
-    "else",
-    "empty",
-    "enabled",
-    "equivalent",
-    "eval",
-    "eventually",
-    "false",
-    "ff",
-    "fi",
-    "for",
-    "full",
-    "get_priority",
-    "goto",
-    "hidden",
-    "if",
-    "implies",
-    "init",
-    "inline",
-    "int",
-    "len",
-    "local",
-    "ltl",
-    "mtype",
-    "nempty",
-    "never",
-    "next",
-    "nfull",
-    "not",
-    "notrace",
-    "np_",
-    "od",
-    "of",
-    "or",
-    "pc_value",
-    "pid",
-    "printf",
-    "priority",
-    "proctype",
-    "provided",
-    "release",
-    "run",
-    "select",
-    "set_priority",
-    "short",
-    "show",
-    "skip",
-    "stronguntil",
-    "timeout",
-    "trace",
-    "true",
-    "tt",
-    "typedef",
-    "unless",
-    "unsigned",
-    "until",
-    "weakuntil",
-    "xor",
-    "xr",
-    "xs",
-];
+// Words that Spot, Owl or SPIN take for operators and constants.
+const OPERATORS: &str = "always and equivalent eventually false ff implies next not or release stronguntil true tt until weakuntil xor";
+// Words of SPIN's models.
+const WORDS_OF_MODELS: &str =
+    "active assert atomic bit bool break byte c_code c_decl c_expr c_state c_track chan d_step do else empty enabled eval fi \
+    for full get_priority goto hidden if in init inline int len local ltl mtype nempty never nfull notrace np_ od of \
+    pc_value pid printf printm priority proctype provided run select set_priority short show skip timeout trace unless xr xs";
+// Words of C, and names that the C program has that SPIN writes.
+const WORDS_OF_C: &str =
+    "asm auto case char const continue default double enum extern float linux long rand register restrict return signed \
+    sizeof static struct sv switch typedef typeof uchar uint ulong union unix unsigned ushort void volatile while";
 
 /// Names that Spot, Owl and SPIN read, each once: `b_3` for a bit of a bus; `taken` is none of them.
 pub fn ltl_names(signals: &[Signal], taken: Option<&str>) -> Vec<String> {
@@ -144,7 +76,10 @@ fn readable(signal: &Signal) -> String {
         name = format!("{name}_{index}");
     }
     let starts_low = name.starts_with(|c: char| c.is_ascii_lowercase());
-    if starts_low && !RESERVED.contains(&name.as_str()) {
+    let mut reserved = [OPERATORS, WORDS_OF_MODELS, WORDS_OF_C]
+        .into_iter()
+        .flat_map(|words| words.split(' '));
+    if starts_low && reserved.all(|word| word != name) {
         name
     } else {
         format!("p_{name}")

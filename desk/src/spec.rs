@@ -6,7 +6,7 @@ use crate::formula::Formula;
 use crate::message;
 use crate::signals::{self, Signal};
 use crate::status::{Status, Stop};
-use crate::worker::{Outcome, Pool};
+use crate::worker::{Outcome, Pool, OUT_OF_TIME};
 use std::path::Path;
 
 pub struct Spec {
@@ -28,7 +28,7 @@ pub fn of_text(path: &Path, text: Vec<u8>, form: u32, pool: &Pool, refused: Stat
             return Ok(Spec { text, formula, signals });
         }
         Outcome::Refused(refusal) => message::of_text(path, &text, refusal, Messages::Full),
-        Outcome::OutOfTime => format!("error: {}: given up, out of time (--seconds)\n", files::shown(path)),
+        Outcome::OutOfTime => format!("error: {}: {OUT_OF_TIME}\n", files::shown(path)),
         Outcome::Broken(reason) => format!("error: {}: {reason}\n", files::shown(path)),
     };
     Err(Stop { message, status: refused })

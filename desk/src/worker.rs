@@ -1,5 +1,6 @@
 //! Conversions in processes of their own: one that takes too long is ended, one that dies takes no other file with it.
 
+use crate::files;
 use crate::formula::{self, Formula, Refusal};
 use std::io::{self, ErrorKind, Read, Write};
 use std::os::fd::OwnedFd;
@@ -8,10 +9,13 @@ use std::process::{Child, Command, Stdio};
 use std::sync::mpsc;
 use std::sync::Mutex;
 use std::thread;
-use std::time::Duration;
+use std::time::{Duration, Instant};
 
 /// Room for the deepest tables in every form, many times over.
 const STACK_BYTES: usize = 64 << 20;
+
+/// What is told of a text that took too long.
+pub const OUT_OF_TIME: &str = "given up, out of time (--seconds)";
 
 /// What became of a text.
 pub enum Outcome {
@@ -38,24 +42,28 @@ impl Pool {
         }
     }
 
+    /// A worker that has answered other texts may end by no fault of this one: only one that was started for it tells that it is broken.
     pub fn convert(&self, text: &[u8], form: u32) -> Outcome {
-        let mut worker = match self.take() {
-            Ok(worker) => worker,
-            Err(error) => return Outcome::Broken(format!("no worker could be started: {error}")),
-        };
-        match worker.ask(text, form, self.limit) {
-            Ok(answer) => {
-                self.give_back(worker);
-                answer.map_or_else(Outcome::Refused, Outcome::Accepted)
+        loop {
+            let mut worker = match self.take() {
+                Ok(worker) => worker,
+                Err(error) => return Outcome::Broken(format!("no worker could be started: {}", files::reason(&error))),
+            };
+            match worker.ask(text, form) {
+                Ok(answer) => {
+                    self.give_back(worker);
+                    return answer.map_or_else(Outcome::Refused, Outcome::Accepted);
+                }
+                Err(error) if matches!(error.kind(), ErrorKind::WouldBlock | ErrorKind::TimedOut) => return Outcome::OutOfTime,
+                Err(_) if worker.has_answered => {}
+                Err(_) => return Outcome::Broken(format!("the conversion ended without an answer ({})", worker.ending())),
             }
-            Err(error) if matches!(error.kind(), ErrorKind::WouldBlock | ErrorKind::TimedOut) => Outcome::OutOfTime,
-            Err(error) => Outcome::Broken(format!("the conversion ended without an answer: {error}")),
         }
     }
 
     fn take(&self) -> io::Result<Worker> {
         let waiting = self.idle.lock().ok().and_then(|mut idle| idle.pop());
-        waiting.map_or_else(Worker::start, Ok)
+        waiting.map_or_else(|| Worker::start(self.limit), Ok)
     }
 
     fn give_back(&self, worker: Worker) {
@@ -68,11 +76,13 @@ impl Pool {
 struct Worker {
     child: Child,
     stream: UnixStream,
+    has_answered: bool,
 }
 
 impl Worker {
-    fn start() -> io::Result<Worker> {
+    fn start(limit: Option<Duration>) -> io::Result<Worker> {
         let (stream, theirs) = UnixStream::pair()?;
+        stream.set_read_timeout(limit)?;
         let input = OwnedFd::from(theirs.try_clone()?);
         let child = Command::new(std::env::current_exe()?)
             .arg("worker")
@@ -80,24 +90,43 @@ impl Worker {
             .stdout(Stdio::from(OwnedFd::from(theirs)))
             .stderr(Stdio::null())
             .spawn()?;
-        Ok(Worker { child, stream })
+        Ok(Worker {
+            child,
+            stream,
+            has_answered: false,
+        })
     }
 
-    fn ask(&mut self, text: &[u8], form: u32, limit: Option<Duration>) -> io::Result<Result<Formula, Refusal>> {
-        self.stream.set_read_timeout(limit)?;
+    fn ask(&mut self, text: &[u8], form: u32) -> io::Result<Result<Formula, Refusal>> {
         let mut request = words(&[form, text.len() as u32]);
         request.extend_from_slice(text);
         self.stream.write_all(&request)?;
         let [refused, upper, lower] = read_words::<3>(&mut self.stream)?;
-        if refused == 1 {
-            return Ok(Err(Refusal {
+        let answer = if refused == 1 {
+            Err(Refusal {
                 number: upper,
                 place: lower as usize,
-            }));
+            })
+        } else {
+            let nodes = read_entries(&mut self.stream, upper as usize)?;
+            let signals = read_entries(&mut self.stream, lower as usize)?;
+            Ok(Formula { nodes, signals })
+        };
+        self.has_answered = true;
+        Ok(answer)
+    }
+
+    /// How the process of a worker that no longer answers ended.
+    fn ending(&mut self) -> String {
+        let patience = Instant::now() + Duration::from_secs(1);
+        while Instant::now() < patience {
+            match self.child.try_wait() {
+                Ok(Some(status)) => return status.to_string(),
+                Ok(None) => thread::sleep(Duration::from_millis(1)),
+                Err(error) => return files::reason(&error),
+            }
         }
-        let nodes = read_entries(&mut self.stream, upper)?;
-        let signals = read_entries(&mut self.stream, lower)?;
-        Ok(Ok(Formula { nodes, signals }))
+        "its process still runs".to_string()
     }
 }
 
@@ -151,16 +180,12 @@ fn words(words: &[u32]) -> Vec<u8> {
 
 fn read_words<const COUNT: usize>(input: &mut impl Read) -> io::Result<[u32; COUNT]> {
     let mut read = [0; COUNT];
-    for word in &mut read {
-        let mut bytes = [0; 4];
-        input.read_exact(&mut bytes)?;
-        *word = u32::from_le_bytes(bytes);
-    }
+    read.copy_from_slice(&read_entries(input, COUNT)?);
     Ok(read)
 }
 
-fn read_entries(input: &mut impl Read, count: u32) -> io::Result<Vec<u32>> {
-    let mut bytes = vec![0; count as usize * 4];
+fn read_entries(input: &mut impl Read, count: usize) -> io::Result<Vec<u32>> {
+    let mut bytes = vec![0; count * 4];
     input.read_exact(&mut bytes)?;
     let entry = |four: &[u8]| u32::from_le_bytes([four[0], four[1], four[2], four[3]]);
     Ok(bytes.chunks_exact(4).map(entry).collect())

@@ -2,21 +2,7 @@
 
 mod common;
 
-use common::{Folder, STARRED};
-use std::io::Read;
-use std::process::Stdio;
-
-const STARRED_LISTING: &str = "accepted 17 2\n0 0 0 0\n1 0 0 0\n2 0 0 0\n3 9 2 0\n4 0 0 0\n5 4 3 4\n6 0 0 0\n7 9 6 0\n8 2 0 0\n9 2 1 0\n10 10 9 0\n11 6 8 10\n12 9 11 0\n13 4 7 12\n14 6 5 13\n15 4 1 14\n16 6 0 15\n";
-
-fn with_bus() -> String {
-    STARRED.replace("r;", "b[4]; b_3;").replace("G (r -> F g)", "G (b[3] -> (b_3 W g))")
-}
-
-// 256 to the 5 sums of nothing.
-fn endless() -> String {
-    let sums = "+[i IN {0,1..255}] ".to_string() + &["j", "k", "l", "m"].map(|name| format!("+[{name} IN {{0,1..255}}] ")).concat();
-    STARRED.replace("G (r -> F g)", &format!("({sums} 0) == 0"))
-}
+use common::{with_bus, Folder, STARRED, STARRED_LISTING};
 
 #[test]
 fn document_01s_listing_from_file_and_from_standard_input() {
@@ -114,72 +100,6 @@ fn refusals_at_the_ends() {
 }
 
 #[test]
-fn one_bad_file_never_stops_the_others() {
-    let folder = Folder::new();
-    folder.file("a.tlsf", STARRED);
-    folder.file("b.tlsf", "#");
-    folder.file("c.tlsf", endless());
-    folder.file("e.tlsf", with_bus());
-    let files = ["a.tlsf", "b.tlsf", "c.tlsf", "missing.tlsf", ".", "e.tlsf"];
-    let options = [
-        "convert",
-        "--to",
-        "ltl",
-        "--out",
-        "out",
-        "--seconds",
-        "1",
-        "--report",
-        "report.json",
-    ];
-    let ran = folder.run(&[&options[..], &files].concat());
-    assert_eq!(ran.status, 2);
-    assert_eq!(folder.names("out"), ["a.ltl", "a.names", "e.ltl", "e.names"]);
-    let lines: Vec<&str> = ran.told.lines().collect();
-    assert_eq!(lines[0], "a.tlsf: accepted, 17 nodes, 2 signals");
-    assert_eq!(lines[1], "b.tlsf:1:1: error[2]: A byte that begins no token");
-    assert_eq!(lines[2], "c.tlsf: error: given up after 1 s (--seconds)");
-    assert!(lines[3].starts_with("error: missing.tlsf: cannot be read: "));
-    assert!(lines[4].starts_with("error: .: cannot be read: "));
-    assert!(lines[5].starts_with("e.tlsf: accepted, "));
-    assert!(ran.told.contains(
-        "2 accepted, 1 refused\n     1 refused by 2: A byte that begins no token\n     1 given up, out of time\n     2 cannot be read\n"
-    ));
-    let report: serde_json::Value = serde_json::from_slice(&folder.read("report.json")).expect("JSON");
-    assert_eq!(report["summary"]["refused"]["2"], 1);
-    assert_eq!(report["summary"]["out of time"], 1);
-    let answers: Vec<&str> = report["files"]
-        .as_array()
-        .expect("files")
-        .iter()
-        .filter_map(|file| file["answer"].as_str())
-        .collect();
-    assert_eq!(
-        answers,
-        ["accepted", "refused", "out of time", "unreadable", "unreadable", "accepted"]
-    );
-}
-
-#[test]
-fn outputs_are_whole_or_not_there() {
-    let folder = Folder::new();
-    folder.file("a.tlsf", STARRED);
-    folder.file("b.tlsf", STARRED);
-    folder.file("taken", "");
-    let ran = folder.run(&["convert", "--out", "taken", "a.tlsf"]);
-    assert_eq!(ran.status, 2);
-    assert!(ran.told.contains("taken: cannot be made a folder"), "{}", ran.told);
-    std::fs::create_dir_all(folder.path.join("out/a.listing")).expect("a folder in the way");
-    let ran = folder.run(&["convert", "--out", "out", "a.tlsf", "b.tlsf"]);
-    assert_eq!(ran.status, 2);
-    assert!(ran.told.contains("a.listing: cannot be written"), "{}", ran.told);
-    assert_eq!(folder.names("out"), ["a.listing", "b.listing"]);
-    assert_eq!(folder.read("out/b.listing"), STARRED_LISTING.as_bytes());
-    let ran = folder.run(&["convert", "--report", "no/such/folder.json", "a.tlsf"]);
-    assert_eq!((ran.status, ran.text().as_str()), (2, STARRED_LISTING));
-}
-
-#[test]
 fn wrong_usage_is_2() {
     let folder = Folder::new();
     folder.file("a.tlsf", STARRED);
@@ -190,6 +110,8 @@ fn wrong_usage_is_2() {
         &["convert", "--to", "nodes", "a.tlsf", "x/a.tlsf"],
         &["convert", "--out", "out", "a.tlsf", "x/a.tlsf"],
         &["convert", "--to", "ltl", "--tick", "X", "a.tlsf"],
+        &["convert", "--tick", "t", "a.tlsf"],
+        &["convert", "--to", "json", "--syntax", "spin", "a.tlsf"],
         &["check"],
         &["explain", "22"],
         &["nothing"],
@@ -223,67 +145,4 @@ fn explain_prints_the_pages() {
     assert!(ran.status == 0 && ran.text().starts_with("13. A width or an index that does not fit\n\n"));
     assert!(ran.text().contains("To mend it: ") && !ran.text().contains("14. "));
     assert_eq!(folder.run(&["explain"]).text().lines().count(), 21);
-}
-
-#[test]
-fn a_pipe_closed_early_is_no_fault() {
-    let folder = Folder::new();
-    let large = STARRED.replace("F g", "X[8000] g");
-    let files: Vec<String> = (0..20).map(|number| format!("{number}.tlsf")).collect();
-    for file in &files {
-        folder.file(file, &large);
-    }
-    let mut child = folder
-        .command()
-        .arg("convert")
-        .args(&files)
-        .stdout(Stdio::piped())
-        .stderr(Stdio::piped())
-        .spawn()
-        .expect("the program starts");
-    let mut first = [0; 8];
-    child
-        .stdout
-        .take()
-        .expect("its output")
-        .read_exact(&mut first)
-        .expect("some output");
-    assert_eq!(&first, b"accepted");
-    let ran = common::Ran::of(child.wait_with_output().expect("the program ends"));
-    assert_eq!(ran.status, 0);
-    assert!(ran.told.contains("20 accepted, 0 refused"));
-}
-
-#[test]
-fn a_full_device_is_told() {
-    let folder = Folder::new();
-    folder.file("a.tlsf", STARRED);
-    let full = std::fs::OpenOptions::new().write(true).open("/dev/full").expect("a full device");
-    let ran = common::Ran::of(
-        folder
-            .command()
-            .args(["convert", "a.tlsf"])
-            .stdout(full)
-            .output()
-            .expect("the program starts"),
-    );
-    assert_eq!(ran.status, 2);
-    assert!(ran.told.contains("standard output: cannot be written"), "{}", ran.told);
-    assert_eq!(folder.run(&["convert", "--report", "/dev/full", "a.tlsf"]).status, 2);
-}
-
-#[test]
-fn nobody_to_be_told() {
-    let folder = Folder::new();
-    folder.file("b.tlsf", "#");
-    let program = env!("CARGO_BIN_EXE_vasculpi");
-    let closed = format!("'{program}' check b.tlsf 2>&-; test $? = 1 && '{program}' convert b.tlsf >&- 2>&-; test $? -lt 3");
-    let ran = common::Ran::of(
-        std::process::Command::new("sh")
-            .current_dir(&folder.path)
-            .args(["-c", &closed])
-            .output()
-            .expect("sh"),
-    );
-    assert_eq!(ran.status, 0);
 }

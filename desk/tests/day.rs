@@ -1,9 +1,10 @@
-//! A day's load: 1,300 generated files in one run, each with the second converter's answer.
+//! A day's load: 1,300 files in one run, each with the second converter's answer, and what it takes beside reading the files alone.
 
 mod common;
 
-use common::Folder;
+use common::{texts, Folder};
 use second::answer::Answer;
+use second::generate::damage::damage_bytes;
 use second::generate::prng::Prng;
 use second::generate::{any_text, sound_text};
 use second::{listing, reader};
@@ -11,38 +12,55 @@ use std::fs;
 use std::time::Instant;
 
 const FILES: usize = 1_300;
+/// Two processors have this many hundredths in a second.
+const MOST_PROCESSOR_TIME: u64 = 200;
 
-#[test]
-fn a_day_in_one_run() {
+/// The hundredths of a second that the processes started here, and those that they started, have spent on a processor.
+fn processor_time() -> u64 {
+    let stat = fs::read_to_string("/proc/self/stat").expect("what the system counts");
+    let fields: Vec<&str> = stat.rsplit(')').next().unwrap_or_default().split_whitespace().collect();
+    [13, 14].map(|field| fields[field].parse::<u64>().expect("a number")).iter().sum()
+}
+
+/// Converts the texts in one run, and compares each answer with the second converter's.
+fn a_day(title: &str, texts: &[Vec<u8>]) {
     let folder = Folder::new();
-    let mut rng = Prng::new(1_300);
-    let names: Vec<String> = (0..FILES).map(|number| format!("{number:04}.tlsf")).collect();
-    let mut bytes = 0;
-    for name in &names {
-        // Three of four are meant to be good, as at the desk.
-        let text = if rng.one_in(4) { any_text(&mut rng) } else { sound_text(&mut rng) };
-        bytes += text.len();
+    let names: Vec<String> = (0..texts.len()).map(|number| format!("{number:04}.tlsf")).collect();
+    for (name, text) in names.iter().zip(texts) {
         folder.file(name, text);
     }
+    let names: Vec<&str> = names.iter().map(String::as_str).collect();
     let start = Instant::now();
-    let texts: Vec<Vec<u8>> = names.iter().map(|name| folder.read(name)).collect();
+    let bytes: usize = names.iter().map(|name| folder.read(name).len()).sum();
     let reading = start.elapsed();
+    let (start, used) = (Instant::now(), processor_time());
+    let ran = folder.run(&[&["convert", "--out", "out", "--report", "report.json"], &names[..]].concat());
+    let (converting, used) = (start.elapsed(), processor_time() - used);
     let start = Instant::now();
-    let ran = folder.run(&[&["convert", "--out", "out", "--report", "report.json"], &refs(&names)[..]].concat());
-    let converting = start.elapsed();
-    let summary = ran
-        .told
-        .lines()
-        .find(|line| line.contains(" accepted, ") && line.contains(" refused"))
-        .unwrap_or_default();
-    println!("{FILES} files of {bytes} bytes: reading alone {reading:.2?}, convert --out --report {converting:.2?}; {summary}");
-    let start = Instant::now();
-    let checked = folder.run(&[&["check", "--messages", "short"], &refs(&names)[..]].concat());
-    println!("check {:.2?}", start.elapsed());
+    let checked = folder.run(&[&["check", "--messages", "short"], &names[..]].concat());
+    let checking = start.elapsed();
+    let accepted = compare(&folder, &names, texts);
+    println!(
+        "{} {title}, {bytes} bytes in all, {accepted} accepted: reading alone {reading:.2?}, convert --out --report {converting:.2?} \
+         ({:.2} s of processors), check {checking:.2?}",
+        names.len(),
+        used as f64 / 100.0
+    );
     assert_eq!((ran.status, checked.status), (1, 1));
+    assert_eq!(checked.told.lines().count(), names.len() - accepted);
+    let report: serde_json::Value = serde_json::from_slice(&folder.read("report.json")).expect("JSON");
+    assert_eq!(report["summary"]["accepted"], accepted);
+    assert!(
+        used < MOST_PROCESSOR_TIME,
+        "{used} hundredths of a second: over a second on two processors"
+    );
+}
+
+/// How many are accepted, all answers being the second converter's.
+fn compare(folder: &Folder, names: &[&str], texts: &[Vec<u8>]) -> usize {
     let mut accepted = 0;
     for (name, text) in names.iter().zip(texts) {
-        let due = reader::read_freely(&text);
+        let due = reader::read_freely(text);
         let written = fs::read_to_string(folder.path.join("out").join(name.replace(".tlsf", ".listing")));
         match due.answer {
             Answer::Accepted { .. } => {
@@ -53,11 +71,34 @@ fn a_day_in_one_run() {
         }
     }
     assert_eq!(folder.names("out").len(), accepted);
-    assert_eq!(checked.told.lines().count(), FILES - accepted);
-    let report: serde_json::Value = serde_json::from_slice(&folder.read("report.json")).expect("JSON");
-    assert_eq!(report["summary"]["accepted"], accepted);
+    accepted
 }
 
-fn refs(names: &[String]) -> Vec<&str> {
-    names.iter().map(String::as_str).collect()
+fn small_texts() -> Vec<Vec<u8>> {
+    let mut rng = Prng::new(1_300);
+    // Three of four are meant to be good, as at the desk.
+    let text = |_| if rng.one_in(4) { any_text(&mut rng) } else { sound_text(&mut rng) };
+    (0..FILES).map(text).collect()
+}
+
+fn large_texts() -> Vec<Vec<u8>> {
+    let mut rng = Prng::new(30_000);
+    let text = |_| {
+        // From 1 to 30 KB, as many of each magnitude.
+        let bytes = 1_000 << rng.below(5);
+        let bytes = rng.between(bytes, 2 * bytes).min(30_000);
+        let mut text = texts::text(&mut rng, bytes).into_bytes();
+        if rng.one_in(4) {
+            damage_bytes(&mut rng, &mut text);
+        }
+        text
+    };
+    (0..FILES).map(text).collect()
+}
+
+// One after the other, so that neither takes the other's time.
+#[test]
+fn two_days() {
+    a_day("small texts", &small_texts());
+    a_day("texts of 1 to 30 KB", &large_texts());
 }

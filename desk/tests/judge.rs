@@ -188,17 +188,28 @@ fn signals_that_were_not_recorded_are_absent() {
 fn faulty_tables_write_nothing() {
     let folder = starred();
     let long = format!("r,g\n{}", "0,0\n".repeat(2049));
-    for (csv, told) in [
-        ("r,q\n0,0\n", "t.csv:1:3: error: the text has no signal \"q\""),
-        ("r\n0\n", "t.csv:1:1: error: the column g is missing"),
-        ("r,g\n0,1\n0\n", "t.csv:3:1: error: 1 values where the header has 2 names"),
-        ("r,g\n0,yes\n", "t.csv:2:3: error: \"yes\" is neither 0 nor 1"),
-        (&long, "t.csv:2050:1: error: a recording has at most 2048 positions"),
-        ("", "t.csv:1:1: error: the column r is missing"),
+    for (csv, place, told) in [
+        ("r,q\n0,0\n", "t.csv:1:3", "the text has no signal \"q\""),
+        ("r\n0\n", "t.csv:1:2", "the column g is missing"),
+        ("r,g\r\n0,1\r\n0\r\n", "t.csv:3:1", "1 value where the header has 2 names"),
+        ("\u{feff}r,g\n0,yes\n", "t.csv:2:3", "\"yes\" is neither 0 nor 1"),
+        ("r,gä\n0,0\n", "t.csv:1:3", "the text has no signal \"gä\""),
+        (&long, "t.csv:2050:1", "a recording has at most 2048 positions"),
+        ("", "t.csv:1:1", "the column r is missing"),
     ] {
         folder.file("t.csv", csv);
         let ran = folder.run(&["record", "--spec", "t.tlsf", "--csv", "t.csv", "--loop", "0", "-o", "made"]);
-        assert_eq!((ran.status, ran.told.trim_end()), (1, told));
+        assert_eq!(ran.status, 1);
+        let lines: Vec<&str> = ran.told.lines().collect();
+        assert_eq!((lines[0], lines[1].trim()), (&*format!("error: {told}"), &*format!("--> {place}")));
+        let (row, column) = place[6..].split_once(':').expect("line and column");
+        let row = csv
+            .trim_start_matches('\u{feff}')
+            .lines()
+            .nth(row.parse::<usize>().expect("a line") - 1);
+        assert!(lines[3].ends_with(&format!("| {}", row.unwrap_or_default())), "{}", ran.told);
+        let caret = lines[4].split_once("| ").map(|(_, rest)| rest.find('^'));
+        assert_eq!(caret, Some(column.parse::<usize>().ok().map(|column| column - 1)), "{}", ran.told);
         assert!(!folder.path.join("made").exists());
     }
     folder.file("t.csv", "g,r\n1,0\n");

@@ -110,6 +110,39 @@ fn spin_holds(folder: &Path, claim: usize) -> bool {
     }
 }
 
+/// Words of SPIN's models and of C, operators of all three, and other names that a maker may well choose.
+const AWKWARD: &str = "active assert atomic bit bool break byte chan do else empty enabled eval fi for full goto hidden if in init inline int \
+    len local ltl mtype never nfull od of pid printf priority proctype provided return run select short show skip timeout trace typedef unless \
+    unsigned xr xs np_ d_step c_code always eventually until weakuntil release next implies equivalent and or not xor tt ff \
+    asm auto case char const continue default double extern float long register restrict signed sizeof static struct switch typeof union void \
+    volatile while unix linux rand uchar ushort uint ulong now step depth state min max main exit error start stop open close lock A X U V _ _pid a' a@";
+
+#[test]
+fn awkward_names_are_read() {
+    let folder = Folder::new();
+    let declared: Vec<&str> = AWKWARD.split_whitespace().collect();
+    let list: String = declared.iter().map(|name| format!("{name}; ")).collect();
+    let all = declared.join(" || ");
+    folder.file(
+        "t.tlsf",
+        format!("INFO {{ TITLE: \"t\" DESCRIPTION: \"d\" SEMANTICS: Mealy TARGET: Mealy }} MAIN {{ INPUTS {{ {list}}} OUTPUTS {{ }} GUARANTEE {{ G F ({all}); }} }}"),
+    );
+    let ran = folder.run(&["convert", "--to", "ltl", "--syntax", "spin", "t.tlsf"]);
+    assert_eq!(ran.status, 0, "{}", ran.told);
+    let names: Vec<&str> = ran.told.lines().filter_map(|line| line.rsplit(' ').next()).collect();
+    assert_eq!(names.len(), declared.len());
+    let variables: String = names.iter().map(|name| format!("bool {name} = 1;\n")).collect();
+    let set: String = names.iter().map(|name| format!("; {name} = !{name}")).collect();
+    let line = ran.text();
+    // The automaton of a claim over all of them would take long: the claim is read, and the program has every name.
+    folder.file(
+        "t.pml",
+        format!("{variables}active proctype lasso() {{ do :: d_step {{ skip{set} }} od }}\nltl c {{ {line} }}\n"),
+    );
+    succeed(&folder.path, "timeout", &["60", "spin", "-a", "t.pml"]);
+    succeed(&folder.path, "gcc", &["-w", "-fsyntax-only", "pan.c"]);
+}
+
 #[test]
 fn verdicts_equal_those_of_judge() {
     let mut rng = Prng::new(2_026);

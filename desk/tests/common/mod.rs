@@ -1,6 +1,8 @@
 //! Running the program in a folder of its own.
 #![allow(dead_code)]
 
+pub mod texts;
+
 use std::fs;
 use std::io::Write;
 use std::path::{Path, PathBuf};
@@ -8,8 +10,20 @@ use std::process::{Command, Output, Stdio};
 use std::sync::atomic::{AtomicUsize, Ordering};
 
 pub const STARRED: &str = "INFO { TITLE: \"t\" DESCRIPTION: \"d\" SEMANTICS: Mealy TARGET: Mealy } MAIN { INPUTS { r; } OUTPUTS { g; } GUARANTEE { G (r -> F g); } }";
+pub const STARRED_LISTING: &str = "accepted 17 2\n0 0 0 0\n1 0 0 0\n2 0 0 0\n3 9 2 0\n4 0 0 0\n5 4 3 4\n6 0 0 0\n7 9 6 0\n8 2 0 0\n9 2 1 0\n10 10 9 0\n11 6 8 10\n12 9 11 0\n13 4 7 12\n14 6 5 13\n15 4 1 14\n16 6 0 15\n";
 pub const HOLDS: [u8; 5] = [0x00, 0x30, 0x01, 0x02, 0x90];
 pub const FAILS: [u8; 5] = [0x00, 0x30, 0x01, 0x02, 0x80];
+
+/// With a bus, one of whose bits has another signal's name in a line of LTL.
+pub fn with_bus() -> String {
+    STARRED.replace("r;", "b[4]; b_3;").replace("G (r -> F g)", "G (b[3] -> (b_3 W g))")
+}
+
+/// 256 to the 5 sums of nothing.
+pub fn endless() -> String {
+    let sums = "+[i IN {0,1..255}] ".to_string() + &["j", "k", "l", "m"].map(|name| format!("+[{name} IN {{0,1..255}}] ")).concat();
+    STARRED.replace("G (r -> F g)", &format!("({sums} 0) == 0"))
+}
 
 /// A folder that is gone when it is dropped.
 pub struct Folder {

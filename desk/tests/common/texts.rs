@@ -1,0 +1,90 @@
+//! Texts of any size as makers write them: parameters, definitions, buses, an enumeration, long names, comments and blanks.
+
+use second::generate::prng::Prng;
+use std::fmt::Write;
+
+const HEAD: &str = "INFO {
+  TITLE: \"Sorting plant\"
+  DESCRIPTION: \"Belts, gates and lamps of one hall – generated\"
+  SEMANTICS: Mealy
+  TARGET: Mealy
+}
+
+GLOBAL {
+  PARAMETERS {
+    gates = 4;
+  }
+  DEFINITIONS {
+    // the hall's modes
+    enum Mode =
+      IDLE: 00
+      SORTING: 01
+      CLEARING: 10, 11;
+    quiet = !start_button && &&[0 <= i < gates] !item_at[i];
+  }
+}
+
+MAIN {
+  INPUTS {
+    start_button;
+    stop_button;
+    item_at[gates];
+    Mode hall_mode;
+  }
+  OUTPUTS {
+    belt_motor;
+    warning_lamp;
+    open_gate[gates];
+  }
+  PRESET {
+    !belt_motor;
+    &&[0 <= i < gates] !open_gate[i];
+  }
+  ASSUME {
+    G F quiet;
+  }
+  GUARANTEE {
+";
+
+const SIGNALS: [&str; 8] = [
+    "start_button",
+    "stop_button",
+    "item_at[0]",
+    "item_at[gates - 1]",
+    "belt_motor",
+    "warning_lamp",
+    "open_gate[1]",
+    "hall_mode == SORTING",
+];
+
+/// A text of about so many bytes.
+pub fn text(rng: &mut Prng, bytes: usize) -> String {
+    let mut text = HEAD.to_string();
+    while text.len() < bytes {
+        line(rng, &mut text);
+    }
+    text.push_str("  }\n}\n");
+    text
+}
+
+fn line(rng: &mut Prng, text: &mut String) {
+    let _ = match rng.below(8) {
+        0..=2 => writeln!(text, "    // what the belt owes the gates, paragraph {}", rng.below(100)),
+        3 => writeln!(text, "    /* the hall's own rules */\n"),
+        4 => writeln!(text, "    &&[0 <= i < gates] G (item_at[i] -> F open_gate[i]);"),
+        5 => writeln!(text, "    G (hall_mode == CLEARING -> F[1:{}] !belt_motor);", rng.between(1, 4)),
+        _ => writeln!(text, "    G {};", expression(rng, 3)),
+    };
+}
+
+fn expression(rng: &mut Prng, levels: usize) -> String {
+    if levels == 0 || rng.one_in(4) {
+        return format!("({})", rng.pick(&SIGNALS));
+    }
+    let operator = *rng.pick(&["!", "X", "F", "&&", "||", "->", "U", "W", "R"]);
+    let left = expression(rng, levels - 1);
+    match operator {
+        "!" | "X" | "F" => format!("({operator} {left})"),
+        _ => format!("({left} {operator} {})", expression(rng, levels - 1)),
+    }
+}
