@@ -54,7 +54,10 @@ impl Caller {
         match rng.below(20) {
             0..=1 => self.rewrite(case, &mut rng),
             2..=4 => self.evaluate(case, &mut rng),
-            _ => self.text(case, &mut rng),
+            _ => {
+                let text = inputs::text(&mut rng);
+                self.text(case, &mut rng, &text)
+            }
         }
     }
 
@@ -67,9 +70,9 @@ impl Caller {
         self.state.enter(case.index, Stage::Library);
     }
 
-    fn text(&mut self, case: Case, rng: &mut Prng) -> Result<(), Difference> {
-        let text = inputs::text(rng);
-        let due = reader::read_freely(&text);
+    /// One text, read or converted.
+    pub fn text(&mut self, case: Case, rng: &mut Prng, text: &[u8]) -> Result<(), Difference> {
+        let due = reader::read_freely(text);
         let job = match rng.one_in(3) {
             true => Job::Read,
             false => Job::Convert(inputs::form(rng)),
@@ -81,21 +84,21 @@ impl Caller {
             signals: inputs::room(rng, full.signals.len(), MOST_WORDS),
         };
         let expected = within(full, rooms);
-        self.input.hold(rng, lent::bytes(), &text);
+        self.input.hold(rng, lent::bytes(), text);
         self.work.lend(rng, lent::bytes(), rooms.work);
         self.nodes.lend(rng, lent::words(), rooms.nodes);
         self.signals.lend(rng, lent::words(), rooms.signals);
-        self.begin(case, &text);
+        self.begin(case, text);
         let answer = self.call_text(job);
         let misfits = [
-            self.input.misfit(&text),
+            self.input.misfit(text),
             self.work.misfit(cleared(rooms.work)),
             self.nodes.misfit(&expected.nodes),
             self.signals.misfit(&expected.signals),
         ];
         let what = || format!("{} with {rooms:?}", job.name());
         let number = usize::from(job != Job::Read);
-        self.settle(number, what, &text, answer, expected.answer, &misfits)
+        self.settle(number, what, text, answer, expected.answer, &misfits)
     }
 
     fn call_text(&self, job: Job) -> u64 {

@@ -1,20 +1,10 @@
 //! Hostile input for the proved library, through its C interface. See `fuzz/run`.
 
-mod calls;
-mod faulty;
-mod inputs;
-mod mutation;
-mod pages;
-mod shapes;
-mod state;
-mod system;
-mod watch;
-mod worker;
-
 use compare::case::Case;
 use compare::library::PROVED;
+use fuzz::watch::Watch;
+use fuzz::{faulty, worker};
 use std::path::Path;
-use watch::Watch;
 
 const USAGE: &str = "usage: fuzz/run SECONDS [SEED]
        fuzz/run --case SEED INDEX

@@ -1,5 +1,7 @@
 //! Texts of extreme shapes: deep, long, wide, doubling. Where big operators nest, the product of their elements stays small.
 
+mod chains;
+
 use second::generate::prng::Prng;
 
 const INFO: &str = "INFO{TITLE:\"\"DESCRIPTION:\"\"SEMANTICS:Mealy TARGET:Mealy}";
@@ -8,11 +10,11 @@ const SHAPES: [fn(&mut Prng) -> String; 18] = [
     nested_brackets,
     prefix_chain,
     operator_chain,
-    chained_formulas,
-    chained_numbers,
-    chained_sets,
-    doubling_formulas,
-    doubling_numbers,
+    chains::chained_formulas,
+    chains::chained_numbers,
+    chains::chained_sets,
+    chains::doubling_formulas,
+    chains::doubling_numbers,
     many_names,
     long_names,
     many_lines,
@@ -92,65 +94,6 @@ fn operator_chain(rng: &mut Prng) -> String {
     let most = *rng.pick(&[256, 4_100]);
     let chain = vec![leaf; size(rng, most).max(1)].join(sign);
     text("", "a", &format!("{chain};({chain})==0;0 IN({chain})"))
-}
-
-/// Definitions that use the one before, so that depth adds up.
-fn chained(rng: &mut Prng, first: &str, step: impl Fn(&mut Prng, &str) -> String) -> String {
-    let count = size(rng, 250);
-    let mut definitions = format!("d0={first};");
-    for number in 1..=count {
-        let body = step(rng, &format!("d{}", number - 1));
-        definitions.push_str(&format!("d{number}={body};"));
-    }
-    let line = match first.as_bytes()[0] {
-        b'a' => format!("d{count}"),
-        b'{' => format!("1 IN d{count}"),
-        _ => format!("d{count}==1"),
-    };
-    text(&definitions, "a", &line)
-}
-
-fn chained_formulas(rng: &mut Prng) -> String {
-    let levels = rng.below(30);
-    let sign = *rng.pick(&["!", "X ", "G "]);
-    chained(rng, "a", |rng, before| match rng.below(40) {
-        0 => format!("{before} U a"),
-        1 => format!("(a W ({before}))"),
-        _ => format!("{}{before}", sign.repeat(levels)),
-    })
-}
-
-fn chained_numbers(rng: &mut Prng) -> String {
-    let levels = rng.below(14);
-    let step = *rng.pick(&["1/", "1*", "0+", "(", "MAX{", "7%"]);
-    let close = match step {
-        "(" => ")",
-        "MAX{" => "}",
-        _ => "",
-    };
-    chained(rng, "1", |_, before| {
-        format!("{}{before}{}", step.repeat(levels), close.repeat(levels))
-    })
-}
-
-fn chained_sets(rng: &mut Prng) -> String {
-    let more = rng.below(3);
-    chained(rng, "{1}", |rng, before| match (more, rng.below(4)) {
-        (0, _) => format!("({before})"),
-        (1, 0) => format!("{before}(+){{{}}}", rng.below(600)),
-        (_, 1) => format!("{before}(*){before}"),
-        _ => format!("{before}(+){before}"),
-    })
-}
-
-fn doubling_formulas(rng: &mut Prng) -> String {
-    let sign = *rng.pick(&["&&", "<->", " U ", "->"]);
-    chained(rng, "a", |_, before| format!("({before}){sign}({before})"))
-}
-
-fn doubling_numbers(rng: &mut Prng) -> String {
-    let sign = *rng.pick(&["*", "/", "%", "-", "+"]);
-    chained(rng, "1", |_, before| format!("({before}){sign}({before})"))
 }
 
 fn many_names(rng: &mut Prng) -> String {
