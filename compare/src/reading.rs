@@ -1,0 +1,217 @@
+//! Texts: what the library's reader and converter answer, and every byte of the three lent buffers, beside the second converter.
+
+use crate::answers::{count, in_words, packed, Tally};
+use crate::case::{Case, Difference};
+use crate::lent::{self, Lent};
+use crate::library::Library;
+use crate::rooms::room;
+use crate::texts;
+use second::answer::Answer;
+use second::generate::prng::Prng;
+use second::reader::{self, Reading};
+use second::{limits, rewriter};
+
+/// How a text is handed to the library.
+#[derive(Clone, Copy, Debug, PartialEq)]
+pub enum Job {
+    Read,
+    Convert(u32),
+}
+
+impl Job {
+    pub fn name(self) -> &'static str {
+        match self {
+            Job::Read => "read",
+            Job::Convert(0) => "convert, form 0",
+            Job::Convert(1) => "convert, form 1",
+            Job::Convert(2) => "convert, form 2",
+            Job::Convert(_) => "convert, no form",
+        }
+    }
+}
+
+/// The lengths of the three lent buffers.
+#[derive(Clone, Copy, Debug)]
+pub struct Rooms {
+    pub work: usize,
+    pub nodes: usize,
+    pub signals: usize,
+}
+
+struct Buffers {
+    work: Lent<'static, u8>,
+    nodes: Lent<'static, u32>,
+    signals: Lent<'static, u32>,
+}
+
+/// A text read once and converted to each form, each time with other rooms and fillings.
+pub fn compare(
+    case: Case,
+    rng: &mut Prng,
+    library: &Library,
+    tally: &mut Tally,
+) -> Result<(), Difference> {
+    let text = texts::text(rng, case.index);
+    let due = reader::read_freely(&text);
+    let mut jobs = vec![Job::Read, Job::Convert(0), Job::Convert(1), Job::Convert(2)];
+    if rng.one_in(20) {
+        jobs.push(Job::Convert(3 + rng.draw() as u32 % 5));
+    }
+    for job in jobs {
+        let full = converted(&due, job);
+        let rooms = Rooms {
+            work: work_length(rng),
+            nodes: room(rng, full.nodes.len()),
+            signals: room(rng, full.signals.len()),
+        };
+        let expected = within(full, rooms);
+        check_rooms(rng, &text, job, rooms, &expected)?;
+        compare_call(rng, library, &text, job, rooms, &expected)?;
+        count(tally, job.name(), expected.answer);
+    }
+    Ok(())
+}
+
+/// A work buffer: one byte short, much too short, just enough, or longer.
+fn work_length(rng: &mut Prng) -> usize {
+    match rng.below(16) {
+        0 => limits::WORK_BYTES - 1,
+        1 if rng.one_in(3) => rng.below(limits::WORK_BYTES),
+        2..=4 => limits::WORK_BYTES + rng.between(1, 20),
+        5 => limits::WORK_BYTES + rng.below(limits::WORK_BYTES),
+        _ => limits::WORK_BYTES,
+    }
+}
+
+fn refused(answer: Answer) -> Reading {
+    Reading {
+        answer,
+        nodes: Vec::new(),
+        signals: Vec::new(),
+    }
+}
+
+/// Read, then rewritten, with all the room that is needed.
+pub fn converted(read: &Reading, job: Job) -> Reading {
+    let Job::Convert(form) = job else {
+        return read.clone();
+    };
+    let Answer::Accepted { signals, .. } = read.answer else {
+        return read.clone();
+    };
+    let written = rewriter::rewrite(&read.nodes, form, usize::MAX);
+    let Answer::Accepted { nodes, .. } = written.answer else {
+        return refused(written.answer);
+    };
+    Reading {
+        answer: Answer::Accepted { nodes, signals },
+        nodes: written.nodes,
+        signals: read.signals.clone(),
+    }
+}
+
+/// 17 comes first, 18 for either result buffer last.
+pub fn within(full: Reading, rooms: Rooms) -> Reading {
+    if rooms.work < limits::WORK_BYTES {
+        return refused(Answer::refused(17, 0));
+    }
+    let short = full.nodes.len() > rooms.nodes || full.signals.len() > rooms.signals;
+    match full.answer {
+        Answer::Accepted { .. } if short => refused(Answer::refused(18, 0)),
+        _ => full,
+    }
+}
+
+/// Now and then the second converter itself is given the rooms.
+fn check_rooms(
+    rng: &mut Prng,
+    text: &[u8],
+    job: Job,
+    rooms: Rooms,
+    expected: &Reading,
+) -> Result<(), Difference> {
+    if job != Job::Read || !rng.one_in(16) {
+        return Ok(());
+    }
+    let own = reader::read(text, rooms.work, rooms.nodes, rooms.signals);
+    if own == *expected {
+        return Ok(());
+    }
+    Err(Difference {
+        job: format!("the second converter's own answer with {rooms:?}"),
+        library: in_words(packed(own.answer)),
+        due: in_words(packed(expected.answer)),
+        input: text.to_vec(),
+    })
+}
+
+fn compare_call(
+    rng: &mut Prng,
+    library: &Library,
+    text: &[u8],
+    job: Job,
+    rooms: Rooms,
+    expected: &Reading,
+) -> Result<(), Difference> {
+    let mut left = Buffers {
+        work: lent::bytes().lend(rng, rooms.work),
+        nodes: lent::words().lend(rng, rooms.nodes),
+        signals: lent::words().lend(rng, rooms.signals),
+    };
+    let mut given = text.to_vec();
+    let answer = call(library, job, &mut given, &mut left);
+    let mut wrong = misfits(&left, rooms, expected);
+    if given != text {
+        wrong.push("the lent text was changed".to_string());
+    }
+    if answer == packed(expected.answer) && wrong.is_empty() {
+        return Ok(());
+    }
+    Err(Difference {
+        job: format!("{} with {rooms:?}", job.name()),
+        library: format!("{} {}", in_words(answer), wrong.join("; ")),
+        due: in_words(packed(expected.answer)),
+        input: text.to_vec(),
+    })
+}
+
+fn call(library: &Library, job: Job, text: &mut [u8], left: &mut Buffers) -> u64 {
+    let (text, size) = (text.as_mut_ptr(), text.len());
+    let (work, work_size) = (left.work.pointer(), left.work.room());
+    let (nodes, node_room) = (left.nodes.pointer(), left.nodes.room());
+    let (list, list_room) = (left.signals.pointer(), left.signals.room());
+    match job {
+        Job::Read => unsafe {
+            (library.read)(
+                text, size, work, work_size, nodes, node_room, list, list_room,
+            )
+        },
+        Job::Convert(form) => unsafe {
+            (library.convert)(
+                text, size, form, work, work_size, nodes, node_room, list, list_room,
+            )
+        },
+    }
+}
+
+/// What is due in front of a work buffer: zeros, or nothing where it is short.
+pub fn cleared(work: usize) -> &'static [u8] {
+    static ZEROS: [u8; limits::WORK_BYTES] = [0; limits::WORK_BYTES];
+    match work < limits::WORK_BYTES {
+        true => &[],
+        false => &ZEROS,
+    }
+}
+
+/// What does not stand in the buffers as due: results in front, the work buffer cleared unless it is short.
+fn misfits(left: &Buffers, rooms: Rooms, expected: &Reading) -> Vec<String> {
+    let named = |name: &str, misfit: Option<String>| misfit.map(|m| format!("{name}: {m}"));
+    [
+        named("work buffer", left.work.misfit(cleared(rooms.work))),
+        named("nodes", left.nodes.misfit(&expected.nodes)),
+        named("signal list", left.signals.misfit(&expected.signals)),
+    ]
+    .into_iter()
+    .flatten()
+    .collect()
+}
