@@ -1,27 +1,27 @@
 -- A stored expression's kind, size and place.
-use Prim.Native.Nat.{ℕ, zero, suc, _+_, _-_, _≤_, _<_}
+use Prim.Native.Nat.{ℕ, suc, _<_}
 use mathlib.Core.Bool.{Bool, true, false, false≢true}
 use mathlib.Core.List.{List, [], _∷_, _++_}
 use mathlib.Core.Option.{Option, none, some}
-use mathlib.Core.Path.{_≡_, refl, sym, ap, _∙_, subst}
+use mathlib.Core.Path.{_≡_, refl, ap, _∙_}
 use native.Mathlib.Omega.{arith}
-use lib.ListN.{length, drop, length-append}
+use lib.ListN.{length, length-append}
 use Rattle.node.specs.Operators.{Unary, Not, X, G, F, Binary, And, Or, Implies, Iff, U, R, W}
 use Rattle.words.specs.Words.{wordAt}
 use Rattle.language.specs.Tokens.{Token, tokens}
-use Rattle.language.specs.Operators.{Arithmetic, Plus, Minus, Times, Divide, Modulo, Measure, Size, Min, Max, Combination, Cup, Cap, Without, Comparison, Equal, Unequal, Less, AtMost, Greater, AtLeast, Big, BigSum, BigProduct, BigCap, BigCup, BigAnd, BigOr, Window, FinallyIn, GloballyIn, Infix, Calculates, Combines, Compares, Membership, Connects, Prefix, Measures, WidthOf, Applies}
+use Rattle.language.specs.Operators.{Arithmetic, Plus, Minus, Times, Divide, Modulo, Size, Min, Max, Combination, Cup, Cap, Without, Comparison, Equal, Unequal, Less, AtMost, Greater, AtLeast, Big, BigSum, BigProduct, BigCap, BigCup, BigAnd, BigOr, Window, FinallyIn, GloballyIn, Infix, Calculates, Combines, Compares, Membership, Connects, Prefix, Measures, WidthOf, Applies}
 use Rattle.language.specs.Tree.{Expr, Named, Numeral, Truth, Index, Paren, Prefixed, Joined, Nexts, InWindow, Each, Between, Listed, Empty, Element, Range}
-use Rattle.language.specs.Grammar.{Tokens, front}
+use Rattle.language.specs.Grammar.{Tokens}
 use Rattle.lexer.specs.Stored.{offsetIn}
 use Rattle.lexer.specs.LexingLaws.{offset-at}
 use Rattle.entries.specs.Kinds as Kind
 use Rattle.entries.specs.Flat.{Entry, under, flat}
-use Rattle.entries.specs.Stored.{firstEntry, kindOf, indexOf, EntryAt, EndsAt, At}
+use Rattle.entries.specs.Stored.{EndsAt, At}
 use Rattle.entries.specs.StoredLaws.{entry-kind, entry-index, ends-own, expr-size}
 use Rattle.names.specs.Interned.{Lexed}
 use Rattle.language.specs.Laws.Grammar.Braces.{Proper}
 use Rattle.evaluation.specs.Entries.{kindAt, sizeAt, placeAt}
-use Rattle.evaluation.specs.Classes.{Class, aName, aNumeral, aFormula, aParen, aWidth, aListing, anElement, aRange, aBig, aBetween, classOf, ofPrefix, ofInfix, ofExpr}
+use Rattle.evaluation.specs.Classes.{aFormula, aBig, aBetween, classOf, ofPrefix, ofInfix, ofExpr}
 
 some-entry : (n : ℕ) (t : Option Token) (es : List Entry) → 0 < length (under n t es)
 some-entry n t es = let l = length-append es (record { kind = n; token = t; size = suc (length es) } ∷ []) in omega arith

@@ -1,24 +1,23 @@
 -- Sets in braces, element by element.
-use Prim.Native.Nat.{ℕ, zero, suc, _+_, _-_, _≤_, _<_, _^_}
-use mathlib.Core.Bool.{Bool, true, false, false≢true}
+use Prim.Native.Nat.{ℕ, suc, _+_, _-_, _≤_, _<_}
+use mathlib.Core.Bool.{true, false, false≢true}
 use mathlib.Core.List.{List, [], _++_}
 use mathlib.Core.Option.{none, some}
 use mathlib.Core.Path.{_≡_, refl, sym, ap, _∙_, subst}
 use native.Mathlib.Omega.{arith}
-use lib.ListN.{length, take, length-append}
+use lib.ListN.{length, length-append}
 use borrow.Author.Tests.{le-leb}
 use Rattle.node.specs.Result.{Result, Done, _>>=_}
-use Rattle.node.specs.ResultLaws.{guard-pass}
+use Rattle.node.specs.ResultLaws.{guard-pass, bind-again}
 use Rattle.language.specs.Limits.{maxNumber, maxElements}
-use Rattle.language.specs.Tokens.{Token, tokens}
+use Rattle.language.specs.Tokens.{Token}
 use Rattle.language.specs.Tree.{Expr, Named, Numeral, Truth, Index, Paren, Prefixed, Joined, Nexts, InWindow, Each, Between, Listed, Empty, Element, Range}
 use Rattle.language.specs.Sets.{insert}
 use Rattle.language.specs.Values.{Value, Set, number, set, limited, value}
 use Rattle.language.specs.Expansion.{Context}
 use Rattle.language.specs.Laws.Grammar.Braces.{Proper}
-use Rattle.language.specs.Laws.Basics.Binds.{bind-again}
 use Rattle.language.specs.Laws.Values.SetLaws.{insert-ascending}
-use Rattle.language.specs.Laws.Values.ValueLaws.{Ordered, limited-sane}
+use Rattle.language.specs.Laws.Values.ValueLaws.{limited-sane}
 use Rattle.entries.specs.Kinds as Kind
 use Rattle.entries.specs.Flat.{flat}
 use Rattle.sets.specs.Answers.{SetIs}

@@ -1,17 +1,15 @@
 -- What fits an expression fits its operands, and goes on to fit after another operand was worked out.
-use Prim.Native.Nat.{ℕ, suc, _+_, _-_, _≤_, _<_}
-use mathlib.Core.Bool.{Bool, true, false}
+use Prim.Native.Nat.{ℕ, suc, _+_, _≤_, _<_}
+use mathlib.Core.Bool.{Bool, false}
 use mathlib.Core.List.{List, [], _∷_}
-use mathlib.Core.Path.{_≡_, refl, sym, ap, _∙_, subst}
+use mathlib.Core.Path.{_≡_, refl, sym, _∙_, subst}
 use native.Mathlib.Omega.{arith}
-use lib.ListN.{length, getD, set, length-set}
-use lib.Seq.{getD-set-other}
-use Rattle.language.specs.Limits.{maxTokens, maxNames, maxNumber, workBytes}
+use lib.ListN.{length, set}
+use Rattle.language.specs.Limits.{maxNumber}
 use Rattle.language.specs.Tokens.{Token, tokens}
 use Rattle.language.specs.Tree.{Expr}
 use Rattle.language.specs.Expansion.{Context}
 use Rattle.entries.specs.Flat.{flat}
-use Rattle.entries.specs.Stored.{At}
 use Rattle.language.specs.Expansion.{at}
 use Rattle.values.specs.World.{World, Defines, meaningAt}
 use Rattle.values.specs.Known.{Known}
@@ -20,7 +18,7 @@ use Rattle.values.specs.SlotsLaws.{slots-kept, slots-more}
 use Rattle.evaluation.specs.Entries.{kindAt, sizeAt}
 use Rattle.evaluation.specs.Classes.{Class, classOf, ofExpr, View, view}
 use Rattle.evaluation.specs.ClassLaws.{has-entry, expr-class, size-is}
-use Rattle.evaluation.specs.Working.{Source, State, Noted, Fits, Room, Held, Ready}
+use Rattle.evaluation.specs.Working.{Source, State, Noted, Fits, Room, Held}
 
 -- another expression in the same context
 pub along : {s : Source} {st : State} {base depth k j : ℕ} {a b : Bool} {W : World} {env : List ℕ} {c : Context} {e d : Expr} → Fits s st base depth a k W env c e → Known (tokens (s .text)) (s .work) (s .refs) W env c b j d → Fits s st base depth b j W env c d

@@ -1,6 +1,6 @@
 -- Folds over the elements of a set that stand in an array, element by element.
-use Prim.Native.Nat.{ℕ, zero, suc, _+_, _-_, _*_, _≤_, _<_}
-use mathlib.Core.Bool.{Bool, true, false}
+use Prim.Native.Nat.{ℕ, zero, suc, _+_, _-_, _≤_, _<_}
+use mathlib.Core.Bool.{false}
 use mathlib.Core.List.{List, [], _∷_}
 use mathlib.Core.Path.{_≡_, refl, sym, ap, _∙_, subst}
 use native.Mathlib.Omega.{arith}
@@ -8,8 +8,7 @@ use native.Mathlib.Numerals.{add-one}
 use lib.ListN.{length, getD, set as put, take, drop, length-set}
 use lib.Seq.{drop-cons, length-take-le, getD-take, getD-set-other}
 use Rattle.node.specs.Result.{Result, Done, _>>=_}
-use Rattle.language.specs.Limits.{maxNumber, maxElements}
-use Rattle.language.specs.Tokens.{tokens}
+use Rattle.language.specs.Limits.{maxNumber}
 use Rattle.language.specs.Tree.{Expr}
 use Rattle.language.specs.Operators.{Big}
 use Rattle.language.specs.Values.{Value, Number, naming, onward, folded, value}
@@ -18,8 +17,7 @@ use Rattle.language.specs.Laws.Basics.Lists.{All}
 use Rattle.language.specs.Laws.Values.SetLaws.{ascending-all}
 use Rattle.sets.specs.Combined.{Ordered}
 use Rattle.values.specs.World.{World}
-use Rattle.evaluation.specs.Entries.{sizeAt}
-use Rattle.evaluation.specs.Working.{Source, State, Noted, Fits, Room, Ready, Held, Works}
+use Rattle.evaluation.specs.Working.{Source, State, Noted, Fits, Ready, Held, Works}
 use Rattle.evaluation.specs.FitsLaws.{later, bound, Alike, alike, roomed}
 use Rattle.evaluation.specs.Operands.{Under}
 

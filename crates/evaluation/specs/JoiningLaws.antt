@@ -14,7 +14,7 @@ use Rattle.language.specs.Operators.{Combination}
 use Rattle.language.specs.Sets.{combine}
 use Rattle.language.specs.Values.{Value, Set, set, limited}
 use Rattle.language.specs.Expansion.{Context}
-use Rattle.language.specs.Laws.Basics.Binds.{bind-same}
+use Rattle.node.specs.ResultLaws.{bind-same}
 use Rattle.language.specs.Laws.Values.SetLaws.{Ascending}
 use Rattle.language.specs.Laws.Values.ValueLaws.{Ordered}
 use Rattle.sets.specs.Operators.{combination}

@@ -1,12 +1,10 @@
 -- The class of a kind by the range that it lies in.
 use Prim.Native.Nat.{ℕ, zero, suc, _+_, _-_, _%_, _≤_, _<_}
-use mathlib.Core.Bool.{true, false}
-use mathlib.Core.Path.{_≡_, refl, sym, ap, _∙_, subst}
+use mathlib.Core.Path.{_≡_, refl, subst}
 use native.Mathlib.Omega.{arith}
 use lib.Dec.{leb, eqb}
-use Rattle.language.specs.Operators.{BigSum, BigProduct, BigCap, BigCup, BigAnd, BigOr}
 use Rattle.sets.specs.Operators.{arithmetic, measurement, combination}
-use Rattle.evaluation.specs.Classes.{Class, aFormula, aMeasure, aCalculation, aCombination, aBetween, classOf}
+use Rattle.evaluation.specs.Classes.{aFormula, aMeasure, aCalculation, aCombination, aBetween, classOf}
 
 -- what holds of the n numbers from a on
 pub from : (P : ℕ → Type 0) (a n : ℕ) → ((j : ℕ) → j < n → P (a + j)) → (k : ℕ) → a ≤ k → k < a + n → P k

@@ -1,11 +1,10 @@
 -- Big operators of sets: `(*)` and `(+)` over the elements of a set.
-use Prim.Native.Nat.{ℕ, zero, suc, _+_, _-_, _*_, _≤_, _<_}
-use mathlib.Core.Bool.{Bool, true, false}
+use Prim.Native.Nat.{ℕ, zero, suc, _+_, _-_, _≤_, _<_}
+use mathlib.Core.Bool.{false}
 use mathlib.Core.List.{List, []}
 use mathlib.Core.Path.{_≡_, refl, sym, ap, _∙_, subst}
 use native.Mathlib.Omega.{arith}
 use lib.ListN.{length, getD, take}
-use lib.Dec.{leb}
 use lib.Seq.{length-take-le}
 use borrow.Author.Tests.{le-leb}
 use Rattle.node.specs.ResultLaws.{guard-pass}
@@ -25,13 +24,12 @@ use Rattle.sets.specs.Combined.{Ordered}
 use Rattle.sets.specs.declared.Worked.{Worked}
 use Rattle.values.specs.World.{World}
 use Rattle.evaluation.specs.Entries.{placeAt}
-use Rattle.evaluation.specs.Working.{Source, State, Fits, Works, SetAt, TellsSet}
-use Rattle.evaluation.specs.Folding.{overSet, TellsMerged, MergedAt}
+use Rattle.evaluation.specs.Working.{Source, State, Fits, SetAt}
+use Rattle.evaluation.specs.Folding.{MergedAt}
 use Rattle.evaluation.specs.FitsLaws.{Alike}
-use Rattle.evaluation.specs.TellingLaws.{set-small}
 use Rattle.evaluation.specs.OverLaws.{bigSetOf}
 use Rattle.evaluation.specs.Operands.{Under, Over}
-use Rattle.evaluation.specs.FoldLaws.{part, fold-none, fold-first, fold-no, onward-more, onward-no, onward-over, onward-end, bumped, Keeping, operand-keeps, operand-told, Whole, fromFirst, onFrom, operandAt, Fold, fold-here, fold-join}
+use Rattle.evaluation.specs.FoldLaws.{fold-none, fold-first, fold-no, onward-more, onward-no, onward-over, onward-end, bumped, Keeping, operand-keeps, operand-told, Whole, fromFirst, onFrom, operandAt, Fold, fold-here, fold-join}
 
 -- the operator with the number i, 0 for `(*)` and 1 for `(+)`
 abbrev pub joins : ℕ → ℕ → List ℕ → List ℕ → Result (List ℕ)

@@ -1,16 +1,16 @@
 -- Numerals and names.
-use Prim.Native.Nat.{ℕ, suc, _+_, _-_, _*_, _≤_, _<_}
-use mathlib.Core.Bool.{Bool, true, false}
+use Prim.Native.Nat.{ℕ, _+_, _-_, _*_, _≤_, _<_}
+use mathlib.Core.Bool.{true, false}
 use mathlib.Core.List.{List, [], _∷_}
 use mathlib.Core.Option.{some}
-use mathlib.Core.Path.{_≡_, refl, sym, ap, ap₂, _∙_, subst}
+use mathlib.Core.Path.{_≡_, sym, ap, ap₂, _∙_, subst}
 use native.Mathlib.Decide.{decLt}
 use native.Mathlib.Omega.{arith}
-use lib.ListN.{length, getD, drop, take}
-use Rattle.node.specs.Result.{Result, Done, _>>=_}
+use lib.ListN.{length, getD, drop}
+use Rattle.node.specs.Result.{Done}
 use Rattle.language.specs.Limits.{maxNames, maxNumber, maxElements}
 use Rattle.language.specs.Tokens.{Token, Numeral as Digits, isOf, tokens}
-use Rattle.language.specs.Tree.{Expr, Named, Numeral}
+use Rattle.language.specs.Tree.{Expr, Named}
 use Rattle.language.specs.Grammar.{front}
 use Rattle.language.specs.Values.{Value, inRange, decimal, value}
 use Rattle.language.specs.Expansion.{Context}
@@ -39,7 +39,7 @@ use Rattle.evaluation.specs.Entries.{kindAt, placeAt}
 use Rattle.evaluation.specs.Classes.{aName, aNumeral, classOf}
 use Rattle.evaluation.specs.ClassLaws.{place-is}
 use Rattle.evaluation.specs.Taking.{numbered}
-use Rattle.evaluation.specs.Working.{Source, State, Fits, Ready, Works, ValueAt}
+use Rattle.evaluation.specs.Working.{Source, State, Fits, Ready, ValueAt}
 use Rattle.evaluation.specs.FitsLaws.{same-expr, viewed, within, alike, roomed}
 use Rattle.evaluation.specs.TellingLaws.{gives-number}
 use Rattle.evaluation.specs.StepLaws.{none-works}

@@ -9,7 +9,7 @@ use lib.Dec.{leb, eqb}
 use lib.ListN.{length, take, drop}
 use Rattle.language.specs.Limits.{maxName}
 use Rattle.language.specs.Bytes.{ascii, isBlank, isDigit, isNameStart, isNameByte, isMark, starts, isOneOf}
-use Rattle.language.specs.Tokens.{Class, Fixed, Name, Numeral, Quoted, Marks, Wrong, Blank, code, Token, isOf, Piece, run, lineSize, quotedSize, commentSize, signs, signAt, words, wordAt, closed, pieceAt, enumeratingAfter, lex, tokens}
+use Rattle.language.specs.Tokens.{Class, Numeral, Quoted, Wrong, Blank, code, Token, isOf, Piece, run, quotedSize, commentSize, signs, signAt, words, wordAt, closed, pieceAt, enumeratingAfter, lex, tokens}
 use Rattle.language.specs.Grammar.{front}
 use Rattle.language.specs.Laws.Basics.Lists.{All}
 use Rattle.language.specs.Laws.Basics.Tests.{split}

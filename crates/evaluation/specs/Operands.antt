@@ -1,7 +1,7 @@
 -- The operands of an expression by the class of its kind: where they stand, that what fits the expression fits them, and its value by theirs.
-use Prim.Native.Nat.{ℕ, suc, _+_, _-_, _≤_, _<_}
-use mathlib.Core.Bool.{Bool, true, false}
-use mathlib.Core.List.{List, [], _∷_, _++_}
+use Prim.Native.Nat.{ℕ, _+_, _-_, _≤_}
+use mathlib.Core.Bool.{Bool, false}
+use mathlib.Core.List.{List, _∷_, _++_}
 use mathlib.Core.Option.{Option, some}
 use mathlib.Core.Path.{_≡_, refl, sym, ap, _∙_, subst}
 use native.Mathlib.Omega.{arith}
@@ -9,20 +9,20 @@ use lib.ListN.{length, length-append}
 use Rattle.node.specs.Result.{Result, Done, _>>=_}
 use Rattle.language.specs.Tokens.{Token, tokens}
 use Rattle.language.specs.Operators.{Arithmetic, Combination, Measure, Big, Calculates, Combines, Measures, WidthOf}
-use Rattle.language.specs.Tree.{Expr, Named, Numeral, Paren, Prefixed, Joined, Each, Between, Listed, Empty, Element, Range}
+use Rattle.language.specs.Tree.{Expr}
 use Rattle.language.specs.Values.{Value, Number, Set, number, set, bus, calculate, measure, limited, range, between, big, naming, value}
-use Rattle.language.specs.Sets.{combine, insert}
+use Rattle.language.specs.Sets.{combine}
 use Rattle.language.specs.Expansion.{Context, at}
-use Rattle.language.specs.Laws.Basics.Binds.{bind-same, bind-again}
+use Rattle.node.specs.ResultLaws.{bind-same, bind-again}
 use Rattle.entries.specs.Kinds as Kind
 use Rattle.entries.specs.Flat.{Entry, under, flat}
 use Rattle.entries.specs.Stored.{EndsAt}
 use Rattle.language.specs.Grammar.{Tokens}
 use Rattle.values.specs.World.{World}
 use Rattle.values.specs.Known.{Known}
-use Rattle.values.specs.KnownLaws.{own-more, known-paren, known-prefixed, known-joined, known-between, known-listed, known-element, known-range, known-each}
+use Rattle.values.specs.KnownLaws.{own-more, known-paren, known-prefixed, known-joined, known-between, known-range, known-each}
 use Rattle.evaluation.specs.Entries.{kindAt, sizeAt, placeAt}
-use Rattle.evaluation.specs.Classes.{aParen, aWidth, aListing, anElement, aRange, aMeasure, aCalculation, aCombination, aBig, aBetween, classOf, View}
+use Rattle.evaluation.specs.Classes.{aParen, aWidth, aRange, aMeasure, aCalculation, aCombination, aBig, aBetween, classOf}
 use Rattle.evaluation.specs.ClassLaws.{has-entry, size-is, place-is}
 use Rattle.evaluation.specs.Folding.{overSet}
 use Rattle.evaluation.specs.Working.{Source, State, Fits}

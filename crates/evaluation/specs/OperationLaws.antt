@@ -1,10 +1,10 @@
 -- What the leaves of crate sets answer, as the answer for an expression; p is its place, i the number of its operator.
-use Prim.Native.Nat.{ℕ, _-_, _≤_, _<_}
+use Prim.Native.Nat.{ℕ, _<_}
 use mathlib.Core.Bool.{Bool}
 use mathlib.Core.List.{List}
-use mathlib.Core.Path.{_≡_, refl, sym, ap, ap₂, _∙_, subst}
+use mathlib.Core.Path.{_≡_, ap₂, _∙_, subst}
 use lib.ListN.{length, take}
-use Rattle.node.specs.Result.{Result, Done, _>>=_}
+use Rattle.node.specs.Result.{Result}
 use Rattle.language.specs.Limits.{maxElements}
 use Rattle.language.specs.Grammar.{Tokens}
 use Rattle.language.specs.Sets.{combine}
@@ -15,7 +15,6 @@ use Rattle.sets.specs.Operators.{arithmetic, measurement, combination}
 use Rattle.sets.specs.Answers.{says, SetIs}
 use Rattle.sets.specs.declared.Worked.{Worked}
 use Rattle.values.specs.World.{World}
-use Rattle.evaluation.specs.declared.Worth.{Worth}
 use Rattle.evaluation.specs.Telling.{Tells}
 use Rattle.evaluation.specs.Taking.{numbered, setted}
 use Rattle.evaluation.specs.Working.{TellsNumber, TellsSet}

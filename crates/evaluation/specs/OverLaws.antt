@@ -1,30 +1,26 @@
 -- Big operators: the set first, then the operand at each of its elements, folded to the left.
-use Prim.Native.Nat.{ℕ, zero, suc, _+_, _-_, _*_, _≤_, _<_}
-use mathlib.Core.Bool.{Bool, true, false}
-use mathlib.Core.List.{List, [], _∷_}
-use mathlib.Core.Path.{_≡_, refl, sym, ap, _∙_, subst}
+use Prim.Native.Nat.{ℕ, zero, suc, _+_, _-_, _≤_, _<_}
+use mathlib.Core.Bool.{false}
+use mathlib.Core.List.{List}
+use mathlib.Core.Path.{_≡_, refl, sym, _∙_, subst}
 use native.Mathlib.Omega.{arith}
-use lib.ListN.{length, take}
 use Rattle.node.specs.Result.{Result, Done, _>>=_}
-use Rattle.language.specs.Tokens.{tokens}
 use Rattle.language.specs.Tree.{Expr}
 use Rattle.language.specs.Grammar.{Tokens}
 use Rattle.language.specs.Operators.{Big, BigSum, BigProduct, BigCap, BigCup, BigAnd, BigOr}
-use Rattle.language.specs.Values.{Value, Logic, number, set, big, value}
+use Rattle.language.specs.Values.{Value, Logic, set, big}
 use Rattle.language.specs.Expansion.{Context}
-use Rattle.language.specs.Laws.Basics.Binds.{bind-again}
 use Rattle.sets.specs.declared.Worked.{Worked}
 use Rattle.values.specs.World.{World}
-use Rattle.evaluation.specs.declared.Worth.{Worth}
 use Rattle.evaluation.specs.declared.Worth.the-variants.{Formula}
 use Rattle.evaluation.specs.Telling.{Tells}
 use Rattle.evaluation.specs.Taking.{numbered, setted}
-use Rattle.evaluation.specs.Entries.{kindAt, sizeAt, placeAt}
+use Rattle.evaluation.specs.Entries.{sizeAt}
 use Rattle.evaluation.specs.Classes.{aBig, classOf}
 use Rattle.evaluation.specs.Folding.{overSet, TellsTotal, TellsMerged, TotalAt, MergedAt}
-use Rattle.evaluation.specs.Working.{Source, State, Fits, Room, Ready, Held, Works, TellsNumber, TellsSet, ValueAt, SetAt}
+use Rattle.evaluation.specs.Working.{Source, State, Fits, Ready, Works, ValueAt, SetAt}
 use Rattle.evaluation.specs.FitsLaws.{later, held-then, Alike, alike, roomed}
-use Rattle.evaluation.specs.TellingLaws.{set-done, number-small, set-small}
+use Rattle.evaluation.specs.TellingLaws.{set-done}
 use Rattle.evaluation.specs.KindLaws.{from}
 use Rattle.evaluation.specs.Operands.{Over}
 

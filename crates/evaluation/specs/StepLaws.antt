@@ -1,15 +1,14 @@
 -- From the operands' answers to the expression's: one operand after the other, each in the state that the one before has left.
 use Prim.Native.Nat.{ℕ, zero, suc, _+_, _-_, _≤_, _<_}
-use mathlib.Core.Bool.{Bool, true, false, false≢true}
+use mathlib.Core.Bool.{Bool, false, false≢true}
 use mathlib.Core.List.{List, [], _∷_}
 use mathlib.Core.Path.{_≡_, refl, sym, ap, _∙_, subst}
 use native.Mathlib.Omega.{arith}
 use lib.ListN.{length, getD}
 use native.Mathlib.Decide.{decLt}
-use Rattle.node.specs.Result.{Result, Done}
-use Rattle.language.specs.Tokens.{tokens}
+use Rattle.node.specs.Result.{Result}
 use Rattle.language.specs.Tree.{Expr, Element}
-use Rattle.language.specs.Values.{Value, Logic, value}
+use Rattle.language.specs.Values.{Value, value}
 use Rattle.language.specs.Expansion.{Context}
 use Rattle.values.specs.World.{World}
 use Rattle.evaluation.specs.declared.Worth.{Worth}
@@ -18,8 +17,8 @@ use Rattle.evaluation.specs.Entries.{kindAt, sizeAt, placeAt}
 use Rattle.language.specs.Laws.Grammar.Braces.{Proper}
 use Rattle.evaluation.specs.Classes.{aFormula, anElement, aRange, classes, classOf, ofExpr, View, view}
 use Rattle.evaluation.specs.Taking.{asNumber, asSet}
-use Rattle.evaluation.specs.Working.{Source, State, Noted, Fits, Room, Ready, Held, Works, ValueAt, NumberAt, SetAt}
-use Rattle.evaluation.specs.FitsLaws.{later, held-none, held-then, fits-class, viewed, Alike, alike, alike-then, roomed}
+use Rattle.evaluation.specs.Working.{Source, State, Fits, Ready, Works, ValueAt, NumberAt, SetAt}
+use Rattle.evaluation.specs.FitsLaws.{later, held-none, held-then, fits-class, viewed, Alike, alike, roomed}
 use Rattle.evaluation.specs.TellingLaws.{taken-number, taken-set}
 use Rattle.evaluation.specs.Operands.{One, Two, Three, ranged}
 

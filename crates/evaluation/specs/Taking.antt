@@ -1,5 +1,4 @@
 -- An answer taken as a number, as a set, as a bus of which the width is asked; and a number and a set as answers.
-use Prim.Native.Nat.{ℕ}
 use Rattle.sets.specs.declared.Worked.{Worked}
 use Rattle.evaluation.specs.declared.Worth.{Worth}
 use Rattle.evaluation.specs.declared.Worth.the-variants.{Number, Set, Formula, Bus, Unsized, Identifier}

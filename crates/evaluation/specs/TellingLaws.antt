@@ -1,14 +1,14 @@
 -- Answers taken as numbers and as sets, handed on, and put together.
 use Prim.Native.Nat.{ℕ, _≤_, _<_}
 use mathlib.Core.List.{List}
-use mathlib.Core.Path.{_≡_, refl, sym, ap, _∙_, subst}
+use mathlib.Core.Path.{_≡_, sym, ap, _∙_, subst}
 use native.Mathlib.Omega.{arith}
 use lib.ListN.{take, length}
 use lib.Seq.{length-take-le}
 use Rattle.node.specs.Result.{Result, Done, _>>=_}
-use Rattle.language.specs.Limits.{maxNumber, maxElements, maxWidth}
+use Rattle.language.specs.Limits.{maxNumber, maxElements}
 use Rattle.language.specs.Grammar.{Tokens}
-use Rattle.language.specs.Values.{Value, Logic, Choice, number, set, bus, Sized}
+use Rattle.language.specs.Values.{Value, number, set, bus}
 use Rattle.language.specs.Laws.Basics.Results.{Within, value-of}
 use Rattle.language.specs.Laws.Values.ValueLaws.{SaneNumber, Ordered, SaneSet}
 use Rattle.sets.specs.Combined.{Ordered as InOrder}

@@ -8,7 +8,7 @@ use lib.ListN.{length, getD, take}
 use Rattle.node.specs.Result.{Result, Done, _>>=_}
 use Rattle.language.specs.Limits.{maxNumber}
 use Rattle.language.specs.Tree.{Expr}
-use Rattle.language.specs.Values.{Value, Number, naming, number, calculate, onward, folded, big, value}
+use Rattle.language.specs.Values.{Value, Number, number, calculate, folded, big}
 use Rattle.language.specs.Expansion.{Context}
 use Rattle.language.specs.Laws.Basics.Results.{value-of}
 use Rattle.language.specs.Laws.Values.ValueLaws.{calculate-sane}
@@ -18,12 +18,12 @@ use Rattle.sets.specs.Combined.{Ordered}
 use Rattle.sets.specs.declared.Worked.{Worked}
 use Rattle.values.specs.World.{World}
 use Rattle.evaluation.specs.Entries.{placeAt}
-use Rattle.evaluation.specs.Working.{Source, State, Fits, Works, NumberAt, TellsNumber, small}
-use Rattle.evaluation.specs.Folding.{overSet, TellsTotal, TotalAt}
+use Rattle.evaluation.specs.Working.{Source, State, Fits, NumberAt, small}
+use Rattle.evaluation.specs.Folding.{TotalAt}
 use Rattle.evaluation.specs.FitsLaws.{Alike}
 use Rattle.evaluation.specs.OverLaws.{bigNumberOf}
 use Rattle.evaluation.specs.Operands.{Under, Over}
-use Rattle.evaluation.specs.FoldLaws.{part, fold-none, fold-first, fold-no, onward-more, onward-no, onward-over, onward-end, bumped, Keeping, operand-keeps, operand-told, Whole, fromFirst, onFrom, operandAt, Fold, fold-here, fold-join}
+use Rattle.evaluation.specs.FoldLaws.{fold-none, fold-first, fold-no, onward-more, onward-no, onward-over, onward-end, bumped, Keeping, operand-keeps, operand-told, Whole, fromFirst, onFrom, operandAt, Fold, fold-here, fold-join}
 
 -- the fold of the operator with the number i, 0 for `+` and 1 for `*`
 sum-is : (i : ℕ) → i < 2 → (p : ℕ) (F : ℕ → Result Value) (m : List ℕ) → big p (bigNumberOf i) F m ≡ (folded (calculate p (arithmetic (i * 2))) (Done i) (λ v. F v >>= number) m >>= λ n. Done (Number n))

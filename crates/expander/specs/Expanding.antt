@@ -11,7 +11,7 @@ use Rattle.node.specs.Result.{Result, Done}
 use Rattle.language.specs.Limits.{maxTokens, maxNames, maxElements, maxSignals}
 use Rattle.language.specs.Tokens.{Token, tokens}
 use Rattle.language.specs.Tree.{Expr}
-use Rattle.language.specs.Values.{Value, Number, Set, misfit}
+use Rattle.language.specs.Values.{Number, Set, misfit}
 use Rattle.language.specs.Declared.{Port, Single, BusOf, Identifies}
 use Rattle.language.specs.Numbering.{firstOf}
 use Rattle.language.specs.Expansion.{Context, expansion}

@@ -11,7 +11,7 @@ use lib.ListN.{length, getD, drop, take, set, length-set, replicate, length-repl
 use lib.Seq.{getD-set-same, getD-set-other}
 use borrow.Author.Tests.{eq-eqb, ne-eqb, eqb-true, eqb-false}
 use Rattle.language.specs.Bytes.{same}
-use Rattle.language.specs.Limits.{maxTokens, maxBytes, workBytes}
+use Rattle.language.specs.Limits.{maxTokens, workBytes}
 use Rattle.language.specs.Tokens.{Token, Name, isOf, tokens}
 use Rattle.language.specs.Laws.Basics.Tests.{same-equal, same-refl}
 use Rattle.language.specs.Laws.Grammar.TokenLaws.{Rising, tokens-rise}

@@ -5,7 +5,7 @@ use mathlib.Core.Bool.{Bool, true, _||_}
 use mathlib.Core.Option.{none, some}
 use mathlib.Core.Path.{_≡_, refl, sym, ap, _∙_, subst}
 use native.Mathlib.Omega.{arith}
-use lib.ListN.{length, getD, drop}
+use lib.ListN.{length, drop}
 use Rattle.words.specs.Words.{wordAt}
 use Rattle.language.specs.Limits.{maxTokens}
 use Rattle.language.specs.Tokens.{Token, Name, isOf, tokens}

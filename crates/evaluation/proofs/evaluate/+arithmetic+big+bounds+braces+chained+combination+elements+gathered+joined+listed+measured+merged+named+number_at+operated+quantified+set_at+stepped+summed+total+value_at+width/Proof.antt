@@ -1,5 +1,4 @@
 -- The cycle of `value_at` meets its contracts.
-use Prim.Native.Nat.{ℕ}
 use Rattle.evaluation.proofs.evaluate.+arithmetic+big+bounds+braces+chained+combination+elements+gathered+joined+listed+measured+merged+named+number_at+operated+quantified+set_at+stepped+summed+total+value_at+width.Proof.Calls.{μ-arithmetic, μ-big, μ-bounds, μ-braces, μ-chained, μ-combination, μ-elements, μ-gathered, μ-joined, μ-listed, μ-measured, μ-merged, μ-named, μ-number-at, μ-operated, μ-quantified, μ-set-at, μ-stepped, μ-summed, μ-total, μ-value-at, μ-width}
 use Rattle.evaluation.proofs.evaluate.+arithmetic+big+bounds+braces+chained+combination+elements+gathered+joined+listed+measured+merged+named+number_at+operated+quantified+set_at+stepped+summed+total+value_at+width.Proof.Arithmetic.{arithmetic-met}
 use Rattle.evaluation.proofs.evaluate.+arithmetic+big+bounds+braces+chained+combination+elements+gathered+joined+listed+measured+merged+named+number_at+operated+quantified+set_at+stepped+summed+total+value_at+width.Proof.Joined.{joined-met}
