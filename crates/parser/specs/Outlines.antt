@@ -3,7 +3,7 @@ use Prim.Native.Nat.{ℕ, _≤_}
 use mathlib.Core.List.{List, [], _++_}
 use mathlib.Core.Path.{_≡_}
 use lib.ListN.{length, drop}
-use Rattle.node.specs.Result.{Result, Done, Refused}
+use Rattle.node.specs.Result.{Result, Done, Refused, _>>=_}
 use Rattle.language.specs.Limits.{maxTokens}
 use Rattle.language.specs.Tree.{Subsection, Model, Mealy, Moore, Spec}
 use Rattle.language.specs.Grammar.{Tokens, Read, expect}
