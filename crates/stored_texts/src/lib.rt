@@ -50,7 +50,7 @@ fn run_argument(detail: Detail, i: usize) {
     run_file(detail, &name[..size]);
 }
 
-// Details every text of the files that the arguments name; a file has less than 65,536 bytes.
+// Prints the answers on every text of the files that the arguments name; a file has less than 65,536 bytes.
 pub fn run(detail: Detail) {
     for i in 1..os::arg_count() {
         run_argument(detail, i);

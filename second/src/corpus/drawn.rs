@@ -4,59 +4,44 @@ use super::{files, File, Stored, SEPARATOR};
 use crate::answer::Answer;
 use crate::generate::{self, prng::Prng};
 use crate::reader;
-use std::collections::BTreeMap;
 
 const SEED: u64 = 20_261_116;
 
-/// How many texts of each answer are stored: 0 stands for accepted, another number for its refusal.
-const WANTED: [(u32, usize); 17] = [
-    (0, 1_150),
-    (1, 3),
-    (2, 80),
-    (3, 4),
-    (4, 120),
-    (5, 60),
-    (6, 80),
-    (7, 80),
-    (8, 40),
-    (9, 80),
-    (10, 80),
-    (11, 80),
-    (12, 80),
-    (13, 80),
-    (14, 80),
-    (15, 40),
-    (16, 40),
+/// How many accepted texts are stored of those that have so many bytes or more, the longest first.
+const ACCEPTED: [(usize, usize); 3] = [(8_192, 8), (800, 200), (0, 950)];
+
+/// How many texts are stored of each refusal, from 1 to 16.
+const REFUSED: [usize; 16] = [
+    3, 80, 4, 120, 60, 80, 80, 16, 80, 80, 80, 80, 80, 80, 16, 30,
 ];
 
-/// A text is long from so many bytes on, and so many accepted ones are stored.
-const LONG: usize = 8_192;
-const LONG_ACCEPTED: usize = 8;
-
-fn number_of(answer: &Answer) -> u32 {
-    match answer {
-        Answer::Accepted { .. } => 0,
-        Answer::Refused(refusal) => refusal.number,
+/// Which of the counts a text belongs to: those of the accepted ones stand first.
+fn row(text: &[u8]) -> usize {
+    match reader::read_freely(text).answer {
+        Answer::Accepted { .. } => {
+            let row = ACCEPTED.iter().position(|&(bytes, _)| text.len() >= bytes);
+            row.expect("every length has a row")
+        }
+        Answer::Refused(refusal) => ACCEPTED.len() + refusal.number as usize - 1,
     }
 }
 
 /// The texts in the order in which they are drawn, the empty one first.
 pub fn texts() -> Vec<Stored> {
     let mut rng = Prng::new(SEED);
-    let mut wanted = BTreeMap::from(WANTED);
-    let mut long = LONG_ACCEPTED;
+    let mut wanted: Vec<usize> = ACCEPTED.iter().map(|&(_, count)| count).collect();
+    wanted.extend(REFUSED);
     let mut stored = vec![Stored::new("0", "")];
-    while wanted.values().any(|&many| many > 0) {
+    while wanted.iter().any(|&count| count > 0) {
         let text = generate::any_text(&mut rng);
-        let number = number_of(&reader::read_freely(&text).answer);
-        let left = wanted.get_mut(&number).expect("every answer is wanted");
-        let is_long = number == 0 && text.len() >= LONG;
-        if *left == 0 || is_long && long == 0 || text.contains(&SEPARATOR) {
+        if text.contains(&SEPARATOR) {
             continue;
         }
-        *left -= 1;
-        long -= usize::from(is_long);
-        stored.push(Stored::new(stored.len().to_string(), text));
+        let left = &mut wanted[row(&text)];
+        if *left > 0 {
+            *left -= 1;
+            stored.push(Stored::new(stored.len().to_string(), text));
+        }
     }
     stored
 }

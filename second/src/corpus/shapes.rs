@@ -55,7 +55,7 @@ const fn shape(
     }
 }
 
-pub const SHAPES: [Shape; 37] = [
+pub const SHAPES: [Shape; 36] = [
     shape(Sort::Formula, "negations", "!", "", 1),
     shape(Sort::Formula, "X", "X ", "", 1),
     shape(Sort::Formula, "G", "G ", "", 1),
@@ -73,7 +73,6 @@ pub const SHAPES: [Shape; 37] = [
     shape(Sort::Formula, "big disjunctions", "||[0<i#<2]", "", 1),
     shape(Sort::Number, "numbers in parentheses", "(", ")", 1),
     shape(Sort::Number, "divisions", "1/", "", 1),
-    shape(Sort::Number, "remainders", "1%", "", 1),
     shape(Sort::Number, "products", "", "*1", 1),
     shape(Sort::Number, "sums", "", "+0", 1),
     shape(Sort::Number, "differences", "", "-0", 1),
