@@ -4,6 +4,8 @@
 //! either by a sentence of document 01 or by a reading's letter and number (T5, G12).
 
 pub mod answer;
+pub mod converter;
+pub mod corpus;
 pub mod enumeration;
 pub mod evaluator;
 pub mod expansion;
