@@ -1,6 +1,6 @@
 //! Texts: what the library's reader and converter answer, and every byte of the three lent buffers, beside the second converter.
 
-use crate::answers::{count, in_words, packed, Tally};
+use crate::answers::{count, in_words, packed, Seen, Tally};
 use crate::case::{Case, Difference};
 use crate::lent::{self, Lent};
 use crate::library::Library;
@@ -53,6 +53,9 @@ pub fn compare(
 ) -> Result<(), Difference> {
     let text = texts::text(rng, case.index);
     let due = reader::read_freely(&text);
+    *tally
+        .entry(("texts", length_class(&text, &due)))
+        .or_default() += 1;
     let mut jobs = vec![Job::Read, Job::Convert(0), Job::Convert(1), Job::Convert(2)];
     if rng.one_in(20) {
         jobs.push(Job::Convert(3 + rng.draw() as u32 % 5));
@@ -70,6 +73,18 @@ pub fn compare(
         count(tally, job.name(), expected.answer);
     }
     Ok(())
+}
+
+/// How long a text is, and whether it is accepted where there is room.
+fn length_class(text: &[u8], due: &Reading) -> Seen {
+    Seen::Other(match (due.answer.is_accepted(), text.len()) {
+        (true, ..1_024) => "accepted under 1 KB",
+        (true, 1_024..8_192) => "accepted under 8 KB",
+        (true, _) => "accepted from 8 KB on",
+        (false, ..1_024) => "refused under 1 KB",
+        (false, 1_024..8_192) => "refused under 8 KB",
+        (false, _) => "refused from 8 KB on",
+    })
 }
 
 /// A work buffer: one byte short, much too short, just enough, or longer.

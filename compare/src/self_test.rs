@@ -60,6 +60,12 @@ pub fn report(command: &str, faults: &'static [Fault], compare: Compare) -> i32 
         }
     }
     std::fs::remove_dir_all(&folder).unwrap_or_default();
+    let library = planted(&faults[0]);
+    let compared = |case: Case, tally: &mut Tally| compare(case, &library, tally);
+    if run::report(command, &arguments(0, CASES), compared) != 1 {
+        println!("a run that differs does not end with status 1");
+        missed += 1;
+    }
     let total = faults.len();
     println!("{command}: {total} planted faults, {missed} missed");
     i32::from(missed > 0)

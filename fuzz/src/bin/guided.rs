@@ -16,9 +16,8 @@ mod loops {
         static __afl_fuzz_len: *const u32;
     }
 
-    /// AFL++ looks for these in the program's bytes.
-    #[used]
-    static SIGNATURES: [&str; 2] = ["##SIG_AFL_PERSISTENT##", "##SIG_AFL_DEFER_FORKSRV##"];
+    /// AFL++ looks for these in the program's bytes, so that they have to stay in it, each with its zero byte.
+    const SIGNATURES: [&str; 2] = ["##SIG_AFL_PERSISTENT##\0", "##SIG_AFL_DEFER_FORKSRV##\0"];
 
     /// Texts come in shared memory.
     #[no_mangle]
@@ -47,6 +46,7 @@ mod loops {
     pub fn run() {
         let file = std::env::args().nth(1);
         let state = std::env::temp_dir().join(format!("fuzz-guided-{}", std::process::id()));
+        std::hint::black_box(SIGNATURES);
         unsafe { __afl_manual_init() };
         stack::deep(|| {
             let mut caller = Caller::new(PROVED, State::of(&state), false);
