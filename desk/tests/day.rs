@@ -24,7 +24,7 @@ fn processor_time() -> u64 {
 
 /// Converts the texts in one run, and compares each answer with the second converter's.
 fn a_day(title: &str, texts: &[Vec<u8>]) {
-    let folder = Folder::new();
+    let folder = Folder::in_memory();
     let names: Vec<String> = (0..texts.len()).map(|number| format!("{number:04}.tlsf")).collect();
     for (name, text) in names.iter().zip(texts) {
         folder.file(name, text);

@@ -9,15 +9,18 @@ use second::generate::prng::Prng;
 use second::generate::recordings;
 use second::recording::Lasso;
 use std::fmt::Write;
+use std::os::unix::process::ExitStatusExt;
 use std::path::Path;
 use std::process::Command;
 
-const LASSOS: usize = 12;
+const LASSOS: usize = 8;
 const TEXTS_PER_LASSO: usize = 10;
 const SIGNALS: [&str; 4] = ["a", "b[0]", "b[1]", "b_1"];
 /// What `b[0]`, `b[1]` and `b_1` are called in a line.
 const LTL_NAMES: [&str; 4] = ["a", "b_0", "b_1_2", "b_1"];
-/// SPIN's automata grow exponentially with the line: longer lines, and those that take it longer than a second, are passed over.
+/// SPIN's automata grow exponentially with a line's temporal operators: lines that have more, that are longer, or that take it more than a second of a
+/// processor are passed over.
+const MOST_TEMPORAL: usize = 7;
 const LONGEST_LINE: usize = 220;
 
 fn expression(rng: &mut Prng, levels: usize) -> String {
@@ -83,17 +86,16 @@ fn succeed(folder: &Path, program: &str, arguments: &[&str]) -> String {
     out
 }
 
-/// Whether SPIN reads the line and makes the claim's automaton within a second.
+/// Whether SPIN reads the line and makes the claim's automaton within a second of a processor.
 fn is_quick(folder: &Folder, lasso: &Lasso, line: &str) -> bool {
     folder.file("one.pml", model(lasso, &[line.to_string()]));
-    let output = Command::new("timeout")
+    let output = Command::new("sh")
         .current_dir(&folder.path)
-        .args(["1", "spin", "-a", "one.pml"])
+        .args(["-c", "ulimit -t 1; exec spin -a one.pml"])
         .output();
-    let output = output.unwrap_or_else(|error| panic!("timeout: {error}"));
-    const OUT_OF_TIME: i32 = 124;
+    let output = output.unwrap_or_else(|error| panic!("sh: {error}"));
     assert!(
-        output.status.success() || output.status.code() == Some(OUT_OF_TIME),
+        output.status.success() || output.status.signal().is_some(),
         "{line}: {}",
         String::from_utf8_lossy(&output.stdout)
     );
@@ -101,7 +103,7 @@ fn is_quick(folder: &Folder, lasso: &Lasso, line: &str) -> bool {
 }
 
 fn spin_holds(folder: &Path, claim: usize) -> bool {
-    let out = succeed(folder, "timeout", &["60", "./pan", "-a", "-m100000", "-N", &format!("c{claim}")]);
+    let out = succeed(folder, "timeout", &["600", "./pan", "-a", "-m100000", "-N", &format!("c{claim}")]);
     let errors = out.split("errors: ").nth(1).and_then(|rest| rest.split_whitespace().next());
     match errors {
         Some("0") => true,
@@ -115,7 +117,7 @@ const AWKWARD: &str = "active assert atomic bit bool break byte chan do else emp
     len local ltl mtype never nfull od of pid printf priority proctype provided return run select short show skip timeout trace typedef unless \
     unsigned xr xs np_ d_step c_code always eventually until weakuntil release next implies equivalent and or not xor tt ff \
     asm auto case char const continue default double extern float long register restrict signed sizeof static struct switch typeof union void \
-    volatile while unix linux rand uchar ushort uint ulong now step depth state min max main exit error start stop open close lock A X U V _ _pid a' a@";
+    volatile while unix linux rand uchar ushort uint ulong now step depth state min max main exit error start stop open close lock A Xa U1 Ga V _ _pid a' a@";
 
 #[test]
 fn awkward_names_are_read() {
@@ -139,7 +141,7 @@ fn awkward_names_are_read() {
         "t.pml",
         format!("{variables}active proctype lasso() {{ do :: d_step {{ skip{set} }} od }}\nltl c {{ {line} }}\n"),
     );
-    succeed(&folder.path, "timeout", &["60", "spin", "-a", "t.pml"]);
+    succeed(&folder.path, "timeout", &["600", "spin", "-a", "t.pml"]);
     succeed(&folder.path, "gcc", &["-w", "-fsyntax-only", "pan.c"]);
 }
 
@@ -160,7 +162,8 @@ fn verdicts_equal_those_of_judge() {
             let line = folder
                 .run_with_input(&[&options[..], &["--tick", "tick"]].concat(), text.as_bytes())
                 .text();
-            if line.len() > LONGEST_LINE || !is_quick(&folder, &lasso, line.trim_end()) {
+            let temporal: usize = [" U ", " V ", "[] ", "<> "].iter().map(|sign| line.matches(sign).count()).sum();
+            if temporal > MOST_TEMPORAL || line.len() > LONGEST_LINE || !is_quick(&folder, &lasso, line.trim_end()) {
                 continue;
             }
             let plain = folder.run_with_input(&options, text.as_bytes()).text();
@@ -172,7 +175,7 @@ fn verdicts_equal_those_of_judge() {
             claims.push(line.trim_end().to_string());
         }
         folder.file("model.pml", model(&lasso, &claims));
-        succeed(&folder.path, "timeout", &["60", "spin", "-a", "model.pml"]);
+        succeed(&folder.path, "timeout", &["600", "spin", "-a", "model.pml"]);
         succeed(&folder.path, "gcc", &["-w", "-O0", "-DNOREDUCE", "-o", "pan", "pan.c"]);
         for (number, verdict) in verdicts.into_iter().enumerate() {
             assert_eq!(spin_holds(&folder.path, number), verdict, "{} on {lasso:?}", claims[number]);
@@ -187,5 +190,5 @@ fn verdicts_equal_those_of_judge() {
         "SPIN agrees with judge on {} verdicts: {held} hold, {failed} fail; {without_next} lines have no X",
         held + failed
     );
-    assert!(held > 20 && failed > 20);
+    assert!(held > 10 && failed > 10);
 }

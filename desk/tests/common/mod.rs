@@ -32,9 +32,23 @@ pub struct Folder {
 
 impl Folder {
     pub fn new() -> Folder {
+        Folder::below(&std::env::temp_dir())
+    }
+
+    /// In memory where the system has a folder there, so that no disk is measured.
+    pub fn in_memory() -> Folder {
+        let memory = Path::new("/dev/shm");
+        if memory.is_dir() {
+            Folder::below(memory)
+        } else {
+            Folder::new()
+        }
+    }
+
+    fn below(place: &Path) -> Folder {
         static COUNT: AtomicUsize = AtomicUsize::new(0);
         let number = COUNT.fetch_add(1, Ordering::Relaxed);
-        let path = std::env::temp_dir().join(format!("vasculpi-test-{}-{number}", std::process::id()));
+        let path = place.join(format!("vasculpi-test-{}-{number}", std::process::id()));
         fs::create_dir_all(&path).expect("a folder for the test");
         Folder { path }
     }
