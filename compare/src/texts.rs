@@ -11,10 +11,13 @@ pub const LENGTHS: u64 = limits::TEXT_BYTES as u64 + 2;
 const STRIDE: u64 = 10_007;
 
 pub fn text(rng: &mut Prng, index: u64) -> Vec<u8> {
-    match index % 4 {
-        0 => of_length(rng, (index / 4 % LENGTHS * STRIDE % LENGTHS) as usize),
-        _ => generate::any_text(rng),
+    if index % 4 > 0 {
+        return generate::any_text(rng);
     }
+    let length = (index / 4 % LENGTHS * STRIDE % LENGTHS) as usize;
+    let text = of_length(rng, length);
+    assert_eq!(text.len(), length, "the text has the length that was set");
+    text
 }
 
 /// A text of so many bytes.
@@ -23,7 +26,7 @@ pub fn of_length(rng: &mut Prng, length: usize) -> Vec<u8> {
         0 => random_bytes(rng, length),
         1 => {
             let mut text = long::filled(rng, length + 200);
-            text.truncate(length);
+            text.resize(length, b' ');
             text
         }
         2..=5 => padded(rng, |rng| long::filled(rng, length), length),
