@@ -8,7 +8,7 @@ use Rattle.language.specs.Bytes.{ascii}
 use Rattle.language.specs.Places.{refuseAt}
 use Rattle.language.specs.Parsing.{parsed}
 use Rattle.language.specs.Reading.{meant, converted}
-use Rattle.second_cases.specs.Held.{Rejected, Text, textsHeld}
+use Rattle.second_cases.specs.Held.{Accepted, Rejected, Text, textsHeld}
 
 cases-0 : List Text
 cases-0 =
