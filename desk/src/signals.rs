@@ -125,9 +125,12 @@ mod tests {
             single("always"),
             single("a'"),
             single("a@"),
+            single("a_"),
             single("tick"),
+            single("switch"),
         ];
         let names = ltl_names(&signals, Some("tick"));
-        assert_eq!(names, ["b_3_2", "b_3", "p_X", "p_always", "a_", "a__2", "tick_2"]);
+        let due = ["b_3_2", "b_3", "p_X", "p_always", "a__2", "a__3", "a_", "tick_2", "p_switch"];
+        assert_eq!(names, due);
     }
 }

@@ -144,5 +144,16 @@ fn explain_prints_the_pages() {
     let ran = folder.run(&["explain", "13"]);
     assert!(ran.status == 0 && ran.text().starts_with("13. A width or an index that does not fit\n\n"));
     assert!(ran.text().contains("To mend it: ") && !ran.text().contains("14. "));
+    assert!(
+        ran.text().contains("\nIts answer: refused 13 166\n") && !ran.text().contains('`'),
+        "{}",
+        ran.text()
+    );
+    assert!(
+        ran.text()
+            .contains("\nThe mended line:\n\n      GUARANTEE { G (button[1] -> F open); }\n"),
+        "{}",
+        ran.text()
+    );
     assert_eq!(folder.run(&["explain"]).text().lines().count(), 21);
 }
