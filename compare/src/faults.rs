@@ -1,6 +1,6 @@
 //! The library with a planted fault: each entry point calls the proved one and then spoils something, as wrong code would have.
 
-use crate::library::{Library, PROVED};
+use crate::library::{Job, Library, TextCall, PROVED};
 use std::sync::atomic::{AtomicUsize, Ordering};
 
 /// What a call was lent and what it answered; no buffer where the entry point has none.
@@ -91,6 +91,21 @@ fn nothing(answer: u64) -> Left {
     }
 }
 
+unsafe fn spoiled_text(job: Job, call: TextCall) -> u64 {
+    let left = Left {
+        input: call.text.0.cast_mut(),
+        input_size: call.text.1,
+        work: call.work.0,
+        work_size: call.work.1,
+        nodes: call.nodes.0,
+        node_room: call.nodes.1,
+        signals: call.signals.0,
+        signal_room: call.signals.1,
+        ..nothing(PROVED.text(job, call))
+    };
+    spoiled(Where::Texts, left)
+}
+
 unsafe extern "C" fn read(
     text: *const u8,
     size: usize,
@@ -101,28 +116,13 @@ unsafe extern "C" fn read(
     signals: *mut u32,
     signal_room: usize,
 ) -> u64 {
-    let answer = (PROVED.read)(
-        text,
-        size,
-        work,
-        work_size,
-        nodes,
-        node_room,
-        signals,
-        signal_room,
-    );
-    let left = Left {
-        input: text.cast_mut(),
-        input_size: size,
-        work,
-        work_size,
-        nodes,
-        node_room,
-        signals,
-        signal_room,
-        ..nothing(answer)
+    let call = TextCall {
+        text: (text, size),
+        work: (work, work_size),
+        nodes: (nodes, node_room),
+        signals: (signals, signal_room),
     };
-    spoiled(Where::Texts, left)
+    spoiled_text(Job::Read, call)
 }
 
 unsafe extern "C" fn convert(
@@ -136,29 +136,13 @@ unsafe extern "C" fn convert(
     signals: *mut u32,
     signal_room: usize,
 ) -> u64 {
-    let answer = (PROVED.convert)(
-        text,
-        size,
-        form,
-        work,
-        work_size,
-        nodes,
-        node_room,
-        signals,
-        signal_room,
-    );
-    let left = Left {
-        input: text.cast_mut(),
-        input_size: size,
-        work,
-        work_size,
-        nodes,
-        node_room,
-        signals,
-        signal_room,
-        ..nothing(answer)
+    let call = TextCall {
+        text: (text, size),
+        work: (work, work_size),
+        nodes: (nodes, node_room),
+        signals: (signals, signal_room),
     };
-    spoiled(Where::Texts, left)
+    spoiled_text(Job::Convert(form), call)
 }
 
 unsafe extern "C" fn rewrite(

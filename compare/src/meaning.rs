@@ -3,7 +3,7 @@
 
 use crate::answers::{in_words, unpacked, Seen, Tally};
 use crate::case::{Case, Difference};
-use crate::library::Library;
+use crate::library::{Job, Library, TextCall};
 use crate::words::Word;
 use crate::{long, words};
 use second::answer::Answer;
@@ -92,19 +92,13 @@ fn converted(library: &Library, text: &[u8], form: u32) -> Result<Option<Convert
     let mut work = vec![0; limits::WORK_BYTES];
     let mut nodes = vec![0; limits::NODES];
     let mut signals = vec![0; limits::SIGNALS];
-    let answer = unsafe {
-        (library.convert)(
-            text.as_ptr(),
-            text.len(),
-            form,
-            work.as_mut_ptr(),
-            work.len(),
-            nodes.as_mut_ptr(),
-            nodes.len(),
-            signals.as_mut_ptr(),
-            signals.len(),
-        )
+    let call = TextCall {
+        text: (text.as_ptr(), text.len()),
+        work: (work.as_mut_ptr(), work.len()),
+        nodes: (nodes.as_mut_ptr(), nodes.len()),
+        signals: (signals.as_mut_ptr(), signals.len()),
     };
+    let answer = unsafe { library.text(Job::Convert(form), call) };
     match unpacked(answer) {
         Answer::Accepted {
             nodes: size,

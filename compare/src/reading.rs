@@ -3,32 +3,13 @@
 use crate::answers::{count, in_words, packed, Seen, Tally};
 use crate::case::{Case, Difference};
 use crate::lent::{self, Lent};
-use crate::library::Library;
+use crate::library::{Job, Library, TextCall};
 use crate::rooms::room;
 use crate::texts;
 use second::answer::Answer;
 use second::generate::prng::Prng;
 use second::reader::{self, Reading};
 use second::{limits, rewriter};
-
-/// How a text is handed to the library.
-#[derive(Clone, Copy, Debug, PartialEq)]
-pub enum Job {
-    Read,
-    Convert(u32),
-}
-
-impl Job {
-    pub fn name(self) -> &'static str {
-        match self {
-            Job::Read => "read",
-            Job::Convert(0) => "convert, form 0",
-            Job::Convert(1) => "convert, form 1",
-            Job::Convert(2) => "convert, form 2",
-            Job::Convert(_) => "convert, no form",
-        }
-    }
-}
 
 /// The lengths of the three lent buffers.
 #[derive(Clone, Copy, Debug)]
@@ -174,7 +155,13 @@ fn compare_call(
         signals: lent::words().lend(rng, rooms.signals),
     };
     let mut given = text.to_vec();
-    let answer = call(library, job, &mut given, &mut left);
+    let call = TextCall {
+        text: (given.as_mut_ptr(), given.len()),
+        work: (left.work.pointer(), rooms.work),
+        nodes: (left.nodes.pointer(), rooms.nodes),
+        signals: (left.signals.pointer(), rooms.signals),
+    };
+    let answer = unsafe { library.text(job, call) };
     let mut wrong = misfits(&left, rooms, expected);
     if given != text {
         wrong.push("the lent text was changed".to_string());
@@ -188,25 +175,6 @@ fn compare_call(
         due: in_words(packed(expected.answer)),
         input: text.to_vec(),
     })
-}
-
-fn call(library: &Library, job: Job, text: &mut [u8], left: &mut Buffers) -> u64 {
-    let (text, size) = (text.as_mut_ptr(), text.len());
-    let (work, work_size) = (left.work.pointer(), left.work.room());
-    let (nodes, node_room) = (left.nodes.pointer(), left.nodes.room());
-    let (list, list_room) = (left.signals.pointer(), left.signals.room());
-    match job {
-        Job::Read => unsafe {
-            (library.read)(
-                text, size, work, work_size, nodes, node_room, list, list_room,
-            )
-        },
-        Job::Convert(form) => unsafe {
-            (library.convert)(
-                text, size, form, work, work_size, nodes, node_room, list, list_room,
-            )
-        },
-    }
 }
 
 /// What is due in front of a work buffer: zeros, or nothing where it is short.

@@ -7,8 +7,8 @@ use crate::worker;
 use compare::answers::{in_words, packed};
 use compare::case::{Case, Difference};
 use compare::lent;
-use compare::library::Library;
-use compare::reading::{cleared, converted, within, Job, Rooms};
+use compare::library::{Job, Library, TextCall};
+use compare::reading::{cleared, converted, within, Rooms};
 use compare::rewriting;
 use second::answer::Answer;
 use second::generate::prng::Prng;
@@ -89,7 +89,13 @@ impl Caller {
         self.nodes.lend(rng, lent::words(), rooms.nodes);
         self.signals.lend(rng, lent::words(), rooms.signals);
         self.begin(case, text);
-        let answer = self.call_text(job);
+        let call = TextCall {
+            text: (self.input.pointer(), text.len()),
+            work: (self.work.pointer(), rooms.work),
+            nodes: (self.nodes.pointer(), rooms.nodes),
+            signals: (self.signals.pointer(), rooms.signals),
+        };
+        let answer = unsafe { self.library.text(job, call) };
         let misfits = [
             self.input.misfit(text),
             self.work.misfit(cleared(rooms.work)),
@@ -99,25 +105,6 @@ impl Caller {
         let what = || format!("{} with {rooms:?}", job.name());
         let number = usize::from(job != Job::Read);
         self.settle(number, what, text, answer, expected.answer, &misfits)
-    }
-
-    fn call_text(&self, job: Job) -> u64 {
-        let (text, size) = (self.input.pointer(), self.input.room());
-        let (work, work_size) = (self.work.pointer(), self.work.room());
-        let (nodes, node_room) = (self.nodes.pointer(), self.nodes.room());
-        let (list, list_room) = (self.signals.pointer(), self.signals.room());
-        match job {
-            Job::Read => unsafe {
-                (self.library.read)(
-                    text, size, work, work_size, nodes, node_room, list, list_room,
-                )
-            },
-            Job::Convert(form) => unsafe {
-                (self.library.convert)(
-                    text, size, form, work, work_size, nodes, node_room, list, list_room,
-                )
-            },
-        }
     }
 
     fn rewrite(&mut self, case: Case, rng: &mut Prng) -> Result<(), Difference> {
