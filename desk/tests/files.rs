@@ -32,13 +32,13 @@ fn one_bad_file_never_stops_the_others() {
     assert_eq!(folder.names("out"), ["a.ltl", "a.names", "e.ltl", "e.names"]);
     let lines: Vec<&str> = ran.told.lines().collect();
     assert_eq!(lines[0], "a.tlsf: accepted, 17 nodes, 2 signals");
-    assert_eq!(lines[1], "b.tlsf:1:1: error[2]: A byte that begins no token");
+    assert_eq!(lines[1], "b.tlsf:1:1: error[2]: What begins here is no token");
     assert_eq!(lines[2], "error: c.tlsf: given up, out of time (--seconds)");
     assert!(lines[3].starts_with("error: missing.tlsf: cannot be read: "));
     assert!(lines[4].starts_with("error: .: cannot be read: "));
     assert!(lines[5].starts_with("e.tlsf: accepted, "));
     assert!(ran.told.contains(
-        "2 accepted, 1 refused\n     1 refused by 2: A byte that begins no token\n     1 given up, out of time (--seconds)\n     2 cannot be read\n"
+        "2 accepted, 1 refused\n     1 refused by 2: What begins here is no token\n     1 given up, out of time (--seconds)\n     2 cannot be read\n"
     ));
     let report: serde_json::Value = serde_json::from_slice(&folder.read("report.json")).expect("JSON");
     assert_eq!(report["summary"]["refused"]["2"], 1);
