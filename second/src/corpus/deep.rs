@@ -121,33 +121,3 @@ pub fn texts() -> Vec<Stored> {
     texts.extend(signs.map(|(sort, sign)| bound_names(sort, sign)));
     texts
 }
-
-/// How the names start of those that need more than 8 MB of stack by today's reader: they are not
-/// run yet.
-const BEYOND_THE_STACK: [&str; 17] = [
-    "deep negations",
-    "deep X:",
-    "deep G:",
-    "deep divisions",
-    "deep products",
-    "deep sums",
-    "deep differences",
-    "deep MIN {",
-    "deep MAX {",
-    "deep SIZE {",
-    "deep bars: 2020",
-    "deep unions",
-    "deep intersections",
-    "deep set differences",
-    "deep sets of sizes",
-    "deep names of (+)",
-    "deep names of (*)",
-];
-
-/// Those that are run.
-pub fn stored() -> Vec<Stored> {
-    let beyond = |name: &str| BEYOND_THE_STACK.iter().any(|start| name.starts_with(start));
-    let mut texts = texts();
-    texts.retain(|stored| !beyond(&stored.name));
-    texts
-}

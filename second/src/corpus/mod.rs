@@ -122,7 +122,7 @@ fn reader_data() -> Vec<File> {
     data.extend(files("components", &components::components()));
     data.extend(files("starred", &cases::starred()));
     data.extend(files("doubling", &cases::doubling()));
-    data.extend(files("deep", &deep::stored()));
+    data.extend(files("deep", &deep::texts()));
     data
 }
 
