@@ -7,9 +7,8 @@
    answered. A result is written to the front of its buffer, and the elements after it are left as they were. A refused call changes no result buffer.
 
    Memory and threads. The library has no variables of its own, allocates nothing and calls nothing but memcpy and memset: any number of threads may call it at once,
-   each with buffers of its own. The stack is not checked: the deepest tables take tlsf_rewrite 1.5 MB of it; a thread that calls tlsf_read or tlsf_convert wants the
-   usual 8 MB, and a text that nests thousands of levels by way of definitions may take more (README.md, 'Limits of what is proved'): read texts from strangers in a
-   process of their own. */
+   each with buffers of its own. The stack is not checked: the deepest tables take tlsf_rewrite 1.5 MB of it, and the deepest texts that were made take tlsf_read and
+   tlsf_convert 7.4 MB, so that a thread that calls them wants the usual 8 MB (README.md, 'Stack and time'). */
 #ifndef TLSF_H
 #define TLSF_H
 

@@ -28,9 +28,9 @@
 //! assert_eq!(answer, Answer::Refused { number: 2, place: 0 });
 //! ```
 //!
-//! The library has no variables of its own: any number of threads may call it at once. The stack is not checked: the deepest tables take [`rewrite`] 1.5 MB of it; a
-//! thread that calls [`read`] or [`convert`] wants 8 MB, where Rust's own have 2 MB, and a text that nests thousands of levels by way of definitions may take more
-//! (README.md, 'Limits of what is proved'): read texts from strangers in a process of their own.
+//! The library has no variables of its own: any number of threads may call it at once. The stack is not checked: the deepest tables take [`rewrite`] 1.5 MB of it, and
+//! the deepest texts that were made take [`read`] and [`convert`] 7.4 MB, so that a thread that calls them wants 8 MB, where Rust's own have 2 MB (README.md, 'Stack
+//! and time').
 
 #![no_std]
 #![warn(missing_docs)]
