@@ -167,8 +167,20 @@ fn weak(nodes: &[u32], a: usize, b: usize, out: &mut [u32], at: usize) -> usize
     join(Node::OR, m, n, out)
 }
 
-// A node's formula in core form.
+// A node's formula in core form. A signal is told by one test, before the jump by kind: about half of a tree's nodes are leaves.
 pub fn core(nodes: &[u32], i: usize, out: &mut [u32], at: usize) -> usize
+    requires { ⌜ Ready (now nodes) i (now out) at ⌝ }
+    ensures { λ r. ⌜ Wrote r (core' (treeAt (now (nodes .entry)) i)) (now (out .entry)) (now (out .exit)) at ⌝ }
+{
+    let node = fields_at(nodes, i);
+    if node.kind == Node::SIGNAL {
+        return signal(node.first, out, at);
+    }
+    inner(nodes, i, out, at)
+}
+
+// The same by the node's kind. `core` has written a signal by then; its arm stands here since the contract is of every node.
+fn inner(nodes: &[u32], i: usize, out: &mut [u32], at: usize) -> usize
     requires { ⌜ Ready (now nodes) i (now out) at ⌝ }
     ensures { λ r. ⌜ Wrote r (core' (treeAt (now (nodes .entry)) i)) (now (out .entry)) (now (out .exit)) at ⌝ }
 {

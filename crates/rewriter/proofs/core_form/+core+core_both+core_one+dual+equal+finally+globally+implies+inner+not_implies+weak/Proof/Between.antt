@@ -5,24 +5,24 @@ use native.Mathlib.Omega.{arith}
 use borrow.Author.Needs.{needs}
 use Rattle.rewriter.specs.WritingLaws.{room-after, unary-full, unary-wrote, end, lower, binary-full, binary-full-right, binary-wrote, ends, not-binary-full, not-binary-full-right, not-binary-wrote}
 use Rattle.rewriter.proofs.core_form.core_both.Reads as core-both
-use Rattle.rewriter.proofs.core_form.+core+core_both+core_one+dual+equal+finally+globally+implies+not_implies+weak.Lts-core_both as core-both-lts
+use Rattle.rewriter.proofs.core_form.+core+core_both+core_one+dual+equal+finally+globally+implies+inner+not_implies+weak.Lts-core_both as core-both-lts
 use Rattle.rewriter.proofs.core_form.core_one.Reads as core-one
-use Rattle.rewriter.proofs.core_form.+core+core_both+core_one+dual+equal+finally+globally+implies+not_implies+weak.Lts-core_one as core-one-lts
+use Rattle.rewriter.proofs.core_form.+core+core_both+core_one+dual+equal+finally+globally+implies+inner+not_implies+weak.Lts-core_one as core-one-lts
 use Rattle.rewriter.proofs.core_form.dual.Reads as dual
-use Rattle.rewriter.proofs.core_form.+core+core_both+core_one+dual+equal+finally+globally+implies+not_implies+weak.Lts-dual as dual-lts
+use Rattle.rewriter.proofs.core_form.+core+core_both+core_one+dual+equal+finally+globally+implies+inner+not_implies+weak.Lts-dual as dual-lts
 use Rattle.rewriter.proofs.core_form.equal.Reads as equal
-use Rattle.rewriter.proofs.core_form.+core+core_both+core_one+dual+equal+finally+globally+implies+not_implies+weak.Lts-equal as equal-lts
+use Rattle.rewriter.proofs.core_form.+core+core_both+core_one+dual+equal+finally+globally+implies+inner+not_implies+weak.Lts-equal as equal-lts
 use Rattle.rewriter.proofs.core_form.finally.Reads as finally
-use Rattle.rewriter.proofs.core_form.+core+core_both+core_one+dual+equal+finally+globally+implies+not_implies+weak.Lts-finally as finally-lts
+use Rattle.rewriter.proofs.core_form.+core+core_both+core_one+dual+equal+finally+globally+implies+inner+not_implies+weak.Lts-finally as finally-lts
 use Rattle.rewriter.proofs.core_form.globally.Reads as globally
-use Rattle.rewriter.proofs.core_form.+core+core_both+core_one+dual+equal+finally+globally+implies+not_implies+weak.Lts-globally as globally-lts
+use Rattle.rewriter.proofs.core_form.+core+core_both+core_one+dual+equal+finally+globally+implies+inner+not_implies+weak.Lts-globally as globally-lts
 use Rattle.rewriter.proofs.core_form.implies.Reads as implies
-use Rattle.rewriter.proofs.core_form.+core+core_both+core_one+dual+equal+finally+globally+implies+not_implies+weak.Lts-implies as implies-lts
+use Rattle.rewriter.proofs.core_form.+core+core_both+core_one+dual+equal+finally+globally+implies+inner+not_implies+weak.Lts-implies as implies-lts
 use Rattle.rewriter.proofs.core_form.not_implies.Reads as not-implies
-use Rattle.rewriter.proofs.core_form.+core+core_both+core_one+dual+equal+finally+globally+implies+not_implies+weak.Lts-not_implies as not-implies-lts
+use Rattle.rewriter.proofs.core_form.+core+core_both+core_one+dual+equal+finally+globally+implies+inner+not_implies+weak.Lts-not_implies as not-implies-lts
 use Rattle.rewriter.proofs.core_form.weak.Reads as weak
-use Rattle.rewriter.proofs.core_form.+core+core_both+core_one+dual+equal+finally+globally+implies+not_implies+weak.Lts-weak as weak-lts
-use Rattle.rewriter.proofs.core_form.+core+core_both+core_one+dual+equal+finally+globally+implies+not_implies+weak.Proof.Calls.{core-both-at, core-both-calls, core-one-at, core-one-calls, dual-at, dual-calls, equal-at, equal-calls, finally-at, finally-calls, globally-at, globally-calls, implies-at, implies-calls, not-implies-at, not-implies-calls, weak-at, weak-calls}
+use Rattle.rewriter.proofs.core_form.+core+core_both+core_one+dual+equal+finally+globally+implies+inner+not_implies+weak.Lts-weak as weak-lts
+use Rattle.rewriter.proofs.core_form.+core+core_both+core_one+dual+equal+finally+globally+implies+inner+not_implies+weak.Proof.Calls.{core-both-at, core-both-calls, core-one-at, core-one-calls, dual-at, dual-calls, equal-at, equal-calls, finally-at, finally-calls, globally-at, globally-calls, implies-at, implies-calls, not-implies-at, not-implies-calls, weak-at, weak-calls}
 
 pub core-one-met : (t : ℕ) {M : Type 1} → core-one-lts.Closed (core-one-calls t) (core-one-at t) core-one.Post M
 core-one-met t =
