@@ -12,10 +12,10 @@ use Rattle.evaluation.proofs.evaluate.+arithmetic+big+bounds+braces+cha
 pub listed-met : (t : ℕ) {M : Type 1} → listed-lts.Closed (listed-calls t) (listed-at t) listed.Post M
 listed-met t =
     listed-lts.spec (listed-calls t) (listed-at t) listed.Post
-    (λ c κs. (((c .before .before .before .before .before .before .before .before .pre .1 .0) .room .inside, (c .before .before .before .before .before .before .before .before .pre .1 .0) .room .work)))
-    (λ c. W.empty-works (ap classOf (c .before .before .before .before .before .before .before .before .before .before .pre .1 .1 .1)) (sym (c .before .size-at .ensures) ∙ c .if1 .taken))
-    (λ c. W.braced-some (ap classOf (c .before .before .before .before .before .before .before .before .before .before .before .before .before .before .pre .1 .1 .1)) (λ z. c .before .before .before .before .if1 .left ((c .before .before .before .before .before .size-at .ensures) ∙ z)) (c .before .before .before .before .before .before .before .before .before .before .before .before .before .before .pre .1 .0))
-    (λ c κs. (let i = W.braced-some (ap classOf (c .before .before .before .before .before .before .before .before .before .before .before .before .before .before .before .pre .1 .1 .1)) (λ z. c .before .before .before .before .before .if1 .left ((c .before .before .before .before .before .before .size-at .ensures) ∙ z)) (c .before .before .before .before .before .before .before .before .before .before .before .before .before .before .before .pre .1 .0) in omega (arith, (c .before .before .before .before .before .before .before .before .before .before .before .before .before .before .before .pre .0)), (W.braced-ready (ap classOf (c .before .before .before .before .before .before .before .before .before .before .before .before .before .before .before .pre .1 .1 .1)) (λ z. c .before .before .before .before .before .if1 .left ((c .before .before .before .before .before .before .size-at .ensures) ∙ z)) (c .before .before .before .before .before .before .before .before .before .before .before .before .before .before .before .pre .1 .0), (c .before .before .before .before .before .before .before .before .before .before .before .before .before .before .before .pre .1 .1 .0))))
+    (λ c κs. let start = c .before .before .before .before .before .before .before .before in (((start .pre .1 .0) .room .inside, (start .pre .1 .0) .room .work)))
+    (λ c. let start = c .before .before .before .before .before .before .before .before .before .before in W.empty-works (ap classOf (start .pre .1 .1 .1)) (sym (c .before .size-at .ensures) ∙ c .if1 .taken))
+    (λ c. let at-if1 = c .before .before .before .before in let at-size-at = at-if1 .before in let start = at-size-at .before .before .before .before .before .before .before .before .before in W.braced-some (ap classOf (start .pre .1 .1 .1)) (λ z. at-if1 .if1 .left ((at-size-at .size-at .ensures) ∙ z)) (start .pre .1 .0))
+    (λ c κs. let at-if1 = c .before .before .before .before .before in let at-size-at = at-if1 .before in let start = at-size-at .before .before .before .before .before .before .before .before .before in (let i = W.braced-some (ap classOf (start .pre .1 .1 .1)) (λ z. at-if1 .if1 .left ((at-size-at .size-at .ensures) ∙ z)) (start .pre .1 .0) in omega (arith, (start .pre .0)), (W.braced-ready (ap classOf (start .pre .1 .1 .1)) (λ z. at-if1 .if1 .left ((at-size-at .size-at .ensures) ∙ z)) (start .pre .1 .0), (start .pre .1 .1 .0))))
     (λ c. search needs)
     (λ c. search needs)
     (λ c κs. search needs)
@@ -24,8 +24,8 @@ listed-met t =
     (λ c. search needs)
     (λ c. search needs)
     (λ c. search needs)
-    (λ c. rw (c .set .ensures) (W.braced-no (ap classOf (c .before .before .before .before .before .before .before .before .before .before .before .before .before .before .before .before .before .before .before .before .before .before .before .before .before .before .before .before .before .pre .1 .1 .1)) (λ z. c .before .before .before .before .before .before .before .before .before .before .before .before .before .before .before .before .before .before .before .if1 .left ((c .before .before .before .before .before .before .before .before .before .before .before .before .before .before .before .before .before .before .before .before .size-at .ensures) ∙ z)) (c .before .before .before .before .before .before .before .before .before .before .before .before .before .elements .ensures) (c .before .enum-told .given .1)))
-    (λ c κs. (((c .before .before .before .before .before .before .before .before .before .before .before .before .before .before .before .before .before .before .before .before .before .before .before .before .before .before .before .before .before .pre .1 .0) .room .inside, (c .before .before .before .before .before .before .before .before .before .before .before .before .before .before .before .before .before .before .before .before .before .before .before .before .before .before .before .before .before .pre .1 .0) .room .work)))
+    (λ c. let at-elements = c .before .before .before .before .before .before .before .before .before .before .before .before .before in let at-if1 = at-elements .before .before .before .before .before .before in let at-size-at = at-if1 .before in let start = at-size-at .before .before .before .before .before .before .before .before .before in rw (c .set .ensures) (W.braced-no (ap classOf (start .pre .1 .1 .1)) (λ z. at-if1 .if1 .left ((at-size-at .size-at .ensures) ∙ z)) (at-elements .elements .ensures) (c .before .enum-told .given .1)))
+    (λ c κs. let start = c .before .before .before .before .before .before .before .before .before .before .before .before .before .before .before .before .before .before .before .before .before .before .before .before .before .before .before .before .before in (((start .pre .1 .0) .room .inside, (start .pre .1 .0) .room .work)))
     (λ c. search needs)
     (λ c κs. search needs)
     (λ c κs. search needs)
@@ -34,4 +34,4 @@ listed-met t =
     (λ c. search needs)
     (λ c. search needs)
     (λ c. search needs)
-    (λ c. rw (c .set2 .ensures) (W.braced-done (ap classOf (c .before .before .before .before .before .before .before .before .before .before .before .before .before .before .before .before .before .before .before .before .before .before .before .before .before .before .before .before .before .before .before .before .before .pre .1 .1 .1)) (λ z. c .before .before .before .before .before .before .before .before .before .before .before .before .before .before .before .before .before .before .before .before .before .before .before .if1 .left ((c .before .before .before .before .before .before .before .before .before .before .before .before .before .before .before .before .before .before .before .before .before .before .before .before .size-at .ensures) ∙ z)) (c .before .before .before .before .before .before .before .before .before .before .before .before .before .before .before .before .before .elements .ensures) (c .before .before .before .before .before .x .given .1) (c .before .limited .ensures) (c .before .before .before .place-at .ensures)))
+    (λ c. let at-place-at = c .before .before .before in let at-x = at-place-at .before .before in let at-elements = at-x .before .before .before .before .before .before .before .before .before .before .before .before in let at-if1 = at-elements .before .before .before .before .before .before in let at-size-at = at-if1 .before in let start = at-size-at .before .before .before .before .before .before .before .before .before in rw (c .set2 .ensures) (W.braced-done (ap classOf (start .pre .1 .1 .1)) (λ z. at-if1 .if1 .left ((at-size-at .size-at .ensures) ∙ z)) (at-elements .elements .ensures) (at-x .x .given .1) (c .before .limited .ensures) (at-place-at .place-at .ensures)))

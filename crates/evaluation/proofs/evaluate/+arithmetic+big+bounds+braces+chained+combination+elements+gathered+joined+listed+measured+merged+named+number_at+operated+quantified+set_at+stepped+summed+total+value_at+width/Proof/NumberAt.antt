@@ -10,11 +10,11 @@ use Rattle.evaluation.proofs.evaluate.+arithmetic+big+bounds+braces+cha
 pub number-at-met : (t : ℕ) {M : Type 1} → number-at-lts.Closed (number-at-calls t) (number-at-at t) number-at.Post M
 number-at-met t =
     number-at-lts.spec (number-at-calls t) (number-at-at t) number-at.Post
-    (λ c κs. (omega (arith, (c .before .before .before .before .before .before .before .before .before .before .before .before .before .pre .0)), ((c .before .before .before .before .before .before .before .before .before .before .before .before .before .pre .1 .0), (c .before .before .before .before .before .before .before .before .before .before .before .before .before .pre .1 .1))))
+    (λ c κs. let start = c .before .before .before .before .before .before .before .before .before .before .before .before .before in (omega (arith, (start .pre .0)), ((start .pre .1 .0), (start .pre .1 .1))))
     (λ c κs. search needs)
     (λ c. search needs)
     (λ c. search needs)
     (λ c. search needs)
     (λ c. search needs)
     (λ c. search needs)
-    (λ c. rw (c .as-number .ensures) (S.number-works (c .before .before .before .before .before .before .before .before .before .before .before .value-at .ensures)))
+    (λ c. let at-value-at = c .before .before .before .before .before .before .before .before .before .before .before in rw (c .as-number .ensures) (S.number-works (at-value-at .value-at .ensures)))

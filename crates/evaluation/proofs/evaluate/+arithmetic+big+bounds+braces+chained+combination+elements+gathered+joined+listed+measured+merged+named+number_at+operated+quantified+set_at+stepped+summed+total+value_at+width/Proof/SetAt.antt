@@ -10,11 +10,11 @@ use Rattle.evaluation.proofs.evaluate.+arithmetic+big+bounds+braces+cha
 pub set-at-met : (t : ℕ) {M : Type 1} → set-at-lts.Closed (set-at-calls t) (set-at-at t) set-at.Post M
 set-at-met t =
     set-at-lts.spec (set-at-calls t) (set-at-at t) set-at.Post
-    (λ c κs. (omega (arith, (c .before .before .before .before .before .before .before .before .before .before .before .before .before .pre .0)), ((c .before .before .before .before .before .before .before .before .before .before .before .before .before .pre .1 .0), (c .before .before .before .before .before .before .before .before .before .before .before .before .before .pre .1 .1))))
+    (λ c κs. let start = c .before .before .before .before .before .before .before .before .before .before .before .before .before in (omega (arith, (start .pre .0)), ((start .pre .1 .0), (start .pre .1 .1))))
     (λ c κs. search needs)
     (λ c. search needs)
     (λ c. search needs)
     (λ c. search needs)
     (λ c. search needs)
     (λ c. search needs)
-    (λ c. rw (c .as-set .ensures) (S.set-works (c .before .before .before .before .before .before .before .before .before .before .before .value-at .ensures)))
+    (λ c. let at-value-at = c .before .before .before .before .before .before .before .before .before .before .before in rw (c .as-set .ensures) (S.set-works (at-value-at .value-at .ensures)))
