@@ -20,7 +20,7 @@ use Rattle.sets.specs.declared.Worked.{Worked}
 use Rattle.values.specs.World.{World}
 use Rattle.values.specs.Sorts as Sort
 use Rattle.values.specs.Worked.{worldIn}
-use Rattle.evaluation.specs.Working.{TellsNumber}
+use Rattle.operands.specs.Working.{TellsNumber}
 use Rattle.notes.specs.Notes.{Notes}
 use Rattle.notes.specs.NotesLaws.{names-distinct, notes-turn}
 use Rattle.notes.specs.Owned.{ParameterAt}

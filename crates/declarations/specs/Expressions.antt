@@ -16,7 +16,7 @@ use Rattle.names.specs.Interned.{Lexed}
 use Rattle.values.specs.World.{World, meaningAt}
 use Rattle.values.specs.Known.{Known}
 use Rattle.values.specs.Bodies.{Bodies}
-use Rattle.evaluation.specs.Working.{source, state, Fits, Ready}
+use Rattle.operands.specs.Working.{source, state, Fits, Ready}
 use Rattle.notes.specs.Notes.{Note, Notes, notes-facts}
 
 -- the expression e at entry k, outside every big operator

@@ -30,7 +30,7 @@ use Rattle.values.specs.World.{World, Stands}
 use Rattle.values.specs.Sorts as Sort
 use Rattle.values.specs.Declaring.{EnumerationAt}
 use Rattle.values.specs.Worked.{worldIn}
-use Rattle.evaluation.specs.Working.{TellsNumber}
+use Rattle.operands.specs.Working.{TellsNumber}
 use Rattle.notes.specs.Notes.{Note, Notes}
 use Rattle.notes.specs.Owned.{DeclarationAt, kindOf as kindOfDeclaration}
 use Rattle.declarations.specs.Trees.{Tree, tree-expression, tree-inside}

@@ -9,7 +9,7 @@ ghost use Rattle.language.specs.Tree.{Expr};
 ghost use Rattle.language.specs.Values.{value};
 ghost use Rattle.language.specs.Expansion.{Context};
 ghost use Rattle.values.specs.World.{World};
-ghost use Rattle.evaluation.specs.Working.{TellsNumber};
+ghost use Rattle.operands.specs.Working.{TellsNumber};
 ghost use Rattle.declarations.specs.Expressions.{Expression, Workable, Copied};
 
 // '256 declared names'.

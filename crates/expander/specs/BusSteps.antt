@@ -26,14 +26,14 @@ use Rattle.values.specs.Agrees.{Uses}
 use Rattle.values.specs.UsedLaws.{used-value, used-element, index-body}
 use Rattle.values.specs.Sorts as Sort
 use Rattle.values.specs.Facts.{Fact}
-use Rattle.evaluation.specs.Entries.{kindAt, placeAt}
-use Rattle.evaluation.specs.ClassLaws.{place-is}
-use Rattle.evaluation.specs.Telling.{Tells}
-use Rattle.evaluation.specs.declared.Worth.{Worth}
-use Rattle.evaluation.specs.declared.Worth.the-variants.{Formula as AFormula, Identifier}
-use Rattle.evaluation.specs.Working.{Source, State, Fits, Ready, NumberAt, ValueAt}
-use Rattle.evaluation.specs.FitsLaws.{held-then, entries, within, Alike, roomed}
-use Rattle.evaluation.specs.TellingLaws.{number-done, number-no}
+use Rattle.operands.specs.Entries.{kindAt, placeAt}
+use Rattle.operands.specs.ClassLaws.{place-is}
+use Rattle.operands.specs.Telling.{Tells}
+use Rattle.operands.specs.declared.Worth.{Worth}
+use Rattle.operands.specs.declared.Worth.the-variants.{Formula as AFormula, Identifier}
+use Rattle.operands.specs.Working.{Source, State, Fits, Ready, NumberAt, ValueAt}
+use Rattle.operands.specs.FitsLaws.{held-then, entries, within, Alike, roomed}
+use Rattle.operands.specs.TellingLaws.{number-done, number-no}
 use Rattle.shapes.specs.Shapes.{Shape, anIndex, shapeOf, View, view}
 use Rattle.shapes.specs.ShapeLaws.{expr-shape}
 use Rattle.expander.specs.NameSteps.{last-sort}

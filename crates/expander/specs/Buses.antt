@@ -10,9 +10,9 @@ use Rattle.language.specs.Values.{Sized, bus, misfit}
 use Rattle.language.specs.Declared.{BusOf}
 use Rattle.language.specs.Expansion.{Context}
 use Rattle.values.specs.World.{World, Stands, nameAt, meaningAt}
-use Rattle.evaluation.specs.Working.{Source, State, Noted, Held, Fits}
-use Rattle.evaluation.specs.declared.Worth.{Worth}
-use Rattle.evaluation.specs.declared.Worth.the-variants.{Formula, Identifier}
+use Rattle.operands.specs.Working.{Source, State, Noted, Held, Fits}
+use Rattle.operands.specs.declared.Worth.{Worth}
+use Rattle.operands.specs.declared.Worth.the-variants.{Formula, Identifier}
 use Rattle.expander.specs.declared.atoms.Reached.{Reached}
 use Rattle.expander.specs.declared.Written.{Written}
 

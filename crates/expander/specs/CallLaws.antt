@@ -13,11 +13,11 @@ use Rattle.language.specs.Declared.{Port}
 use Rattle.language.specs.Values.{Value}
 use Rattle.language.specs.Expansion.{Context}
 use Rattle.values.specs.World.{World}
-use Rattle.evaluation.specs.Entries.{sizeAt}
-use Rattle.evaluation.specs.Working.{Source, State, Ready, Works, SetAt}
-use Rattle.evaluation.specs.TellingLaws.{set-small}
+use Rattle.operands.specs.Entries.{sizeAt}
+use Rattle.operands.specs.Working.{Source, State, Ready, Works, SetAt}
+use Rattle.operands.specs.TellingLaws.{set-small}
 use Rattle.sets.specs.declared.Worked.{Worked}
-use Rattle.evaluation.specs.FitsLaws.{Alike, roomed}
+use Rattle.operands.specs.FitsLaws.{Alike, roomed}
 use Rattle.expander.specs.Expanding.{Tables, tables, Expands, Space, Prepared}
 use Rattle.expander.specs.ExpandLaws.{elsewhere, valued, ready}
 use Rattle.expander.specs.Operands.{Two}

@@ -5,8 +5,8 @@ use mathlib.Core.Path.{_≡_, refl, sym, ap, _∙_, subst}
 use native.Mathlib.Omega.{arith}
 use native.Mathlib.Decide.{decLt}
 use Rattle.writing.specs.Writing.{Caps}
-use Rattle.evaluation.specs.Entries.{kindAt}
-use Rattle.evaluation.specs.Working.{Source, State}
+use Rattle.operands.specs.Entries.{kindAt}
+use Rattle.operands.specs.Working.{Source, State}
 use Rattle.shapes.specs.Shapes.{shapeOf, UnaryIs}
 use Rattle.shapes.specs.ShapeLaws.{unary-shape}
 use Rattle.shapes.specs.Prefixes.{Prefix, parenthesis, operator, Operand, Run, Below}

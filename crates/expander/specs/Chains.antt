@@ -2,7 +2,7 @@
 use Prim.Native.Nat.{ℕ}
 use mathlib.Core.List.{List}
 use mathlib.Core.Path.{_≡_}
-use Rattle.evaluation.specs.Working.{Source, State}
+use Rattle.operands.specs.Working.{Source, State}
 use Rattle.expander.specs.Expanding.{Tables, Writes}
 use Rattle.expander.specs.declared.Written.the-variants.{At}
 

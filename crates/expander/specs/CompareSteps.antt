@@ -28,12 +28,12 @@ use Rattle.choices.specs.Entries.{wordsEnd, Words}
 use Rattle.choices.specs.EntryLaws.{end-bound}
 use Rattle.choices.specs.Promises.{Readable, OneOf, WidthsAre}
 use Rattle.choices.specs.StoredWords.{identifier-words}
-use Rattle.evaluation.specs.Entries.{kindAt, sizeAt}
-use Rattle.evaluation.specs.Working.{Source, State, ValueAt}
-use Rattle.evaluation.specs.FitsLaws.{held-then}
-use Rattle.evaluation.specs.Telling.{wordsOf, worth, Sound}
-use Rattle.evaluation.specs.declared.Worth.{Worth}
-use Rattle.evaluation.specs.declared.Worth.the-variants.{Formula as AFormula, Identifier}
+use Rattle.operands.specs.Entries.{kindAt, sizeAt}
+use Rattle.operands.specs.Working.{Source, State, ValueAt}
+use Rattle.operands.specs.FitsLaws.{held-then}
+use Rattle.operands.specs.Telling.{wordsOf, worth, Sound}
+use Rattle.operands.specs.declared.Worth.{Worth}
+use Rattle.operands.specs.declared.Worth.the-variants.{Formula as AFormula, Identifier}
 use Rattle.shapes.specs.Shapes.{aComparison, shapeOf}
 use Rattle.expander.specs.Expanding.{Tables, tables, Expands, Prepared, Puts, Answered, Writes}
 use Rattle.expander.specs.ExpandLaws.{elsewhere, valued as valuedThen, put}

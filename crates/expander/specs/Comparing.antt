@@ -16,9 +16,9 @@ use Rattle.sets.specs.Operators.{comparison}
 use Rattle.writing.specs.Writing.{Wrote}
 use Rattle.values.specs.World.{World}
 use Rattle.choices.specs.Entries.{wordsEnd, Words}
-use Rattle.evaluation.specs.Telling.{Tells}
-use Rattle.evaluation.specs.declared.Worth.{Worth}
-use Rattle.evaluation.specs.declared.Worth.the-variants.{Formula, Identifier}
+use Rattle.operands.specs.Telling.{Tells}
+use Rattle.operands.specs.declared.Worth.{Worth}
+use Rattle.operands.specs.declared.Worth.the-variants.{Formula, Identifier}
 use Rattle.expander.specs.Expanding.{Signals, Worldly, Answered}
 use Rattle.expander.specs.declared.Written.{Written}
 

@@ -16,11 +16,11 @@ use Rattle.language.specs.Expansion.{at, expansion, gather, bigFormula}
 use Rattle.language.specs.Laws.Values.SetLaws.{Ascending}
 use Rattle.sets.specs.declared.Worked.{Worked}
 use Rattle.entries.specs.Kinds as Kind
-use Rattle.evaluation.specs.Entries.{kindAt, sizeAt}
+use Rattle.operands.specs.Entries.{kindAt, sizeAt}
 use Rattle.values.specs.World.{World}
-use Rattle.evaluation.specs.Working.{Source, State, Held, SetAt}
-use Rattle.evaluation.specs.FitsLaws.{held-then}
-use Rattle.evaluation.specs.TellingLaws.{set-done, set-no}
+use Rattle.operands.specs.Working.{Source, State, Held, SetAt}
+use Rattle.operands.specs.FitsLaws.{held-then}
+use Rattle.operands.specs.TellingLaws.{set-done, set-no}
 use Rattle.choices.specs.Folds.{over}
 use Rattle.shapes.specs.Shapes.{aBig, shapeOf}
 use Rattle.shapes.specs.ShapeLaws.{operator-kind}

@@ -14,9 +14,9 @@ use Rattle.writing.specs.WritingLaws.{ends}
 use Rattle.writing.specs.PartLaws.{length-stays}
 use Rattle.values.specs.World.{World}
 use Rattle.values.specs.Known.{Known}
-use Rattle.evaluation.specs.Entries.{kindAt}
-use Rattle.evaluation.specs.Working.{Source, State, Noted, Held, Room, Ready}
-use Rattle.evaluation.specs.FitsLaws.{along, later, entries}
+use Rattle.operands.specs.Entries.{kindAt}
+use Rattle.operands.specs.Working.{Source, State, Noted, Held, Room, Ready}
+use Rattle.operands.specs.FitsLaws.{along, later, entries}
 use Rattle.shapes.specs.Shapes.{Shape, shapeOf, View, view}
 use Rattle.shapes.specs.ShapeLaws.{expr-shape}
 use Rattle.expander.specs.Expanding.{Tables, tables, Expands, Space, Prepared, Puts}

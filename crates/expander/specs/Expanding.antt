@@ -22,7 +22,7 @@ use Rattle.values.specs.World.{World, Stands, Defines, nameAt, meaningAt}
 use Rattle.values.specs.Bodies.{Ported}
 use Rattle.values.specs.Facts.{IsIdentifier}
 use Rattle.choices.specs.StoredWords.{Short}
-use Rattle.evaluation.specs.Working.{Source, State, Noted, Fits, Room, Held}
+use Rattle.operands.specs.Working.{Source, State, Noted, Fits, Room, Held}
 use Rattle.expander.specs.declared.Written.{Written}
 use Rattle.expander.specs.declared.Written.the-variants.{At}
 

@@ -20,9 +20,9 @@ use Rattle.writing.specs.Writing.{Wrote}
 use Rattle.writing.specs.WritingLaws.{ends}
 use Rattle.writing.specs.PartLaws.{length-stays}
 use Rattle.values.specs.World.{World}
-use Rattle.evaluation.specs.Entries.{kindAt}
-use Rattle.evaluation.specs.Working.{Source, State, state, Fits}
-use Rattle.evaluation.specs.FitsLaws.{later, bound}
+use Rattle.operands.specs.Entries.{kindAt}
+use Rattle.operands.specs.Working.{Source, State, state, Fits}
+use Rattle.operands.specs.FitsLaws.{later, bound}
 use Rattle.choices.specs.Folds.{over, Begun, Folded, Furthers, Finishes}
 use Rattle.choices.specs.FoldLaws.{operator, over-one, over-more, folded-none}
 use Rattle.choices.specs.declared.folds.Fold.{Fold}

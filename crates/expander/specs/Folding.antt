@@ -14,8 +14,8 @@ use Rattle.language.specs.Declared.{Port}
 use Rattle.language.specs.Expansion.{Context, at, expansion, gather}
 use Rattle.values.specs.World.{World}
 use Rattle.values.specs.Known.{Known}
-use Rattle.evaluation.specs.Entries.{kindAt}
-use Rattle.evaluation.specs.Working.{Source, State, Noted, Held}
+use Rattle.operands.specs.Entries.{kindAt}
+use Rattle.operands.specs.Working.{Source, State, Noted, Held}
 use Rattle.choices.specs.Folds.{over, Folded}
 use Rattle.choices.specs.declared.folds.Fold.{Fold}
 use Rattle.expander.specs.Expanding.{Tables, tables, Expands, Lasting, Puts, Answered}

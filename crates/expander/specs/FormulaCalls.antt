@@ -19,10 +19,10 @@ use Rattle.sets.specs.declared.Worked.{Worked}
 use Rattle.writing.specs.WritingLaws.{ends}
 use Rattle.values.specs.World.{World}
 use Rattle.values.specs.Sorts as Sort
-use Rattle.evaluation.specs.Entries.{kindAt, sizeAt}
-use Rattle.evaluation.specs.Working.{Source, State, Ready, Works, SetAt}
-use Rattle.evaluation.specs.FitsLaws.{Alike, roomed}
-use Rattle.evaluation.specs.TellingLaws.{set-small}
+use Rattle.operands.specs.Entries.{kindAt, sizeAt}
+use Rattle.operands.specs.Working.{Source, State, Ready, Works, SetAt}
+use Rattle.operands.specs.FitsLaws.{Alike, roomed}
+use Rattle.operands.specs.TellingLaws.{set-small}
 use Rattle.shapes.specs.Shapes.{aName, aWindow, aBig, shapeOf}
 use Rattle.expander.specs.Expanding.{Tables, tables, Expands, Prepared, Writes}
 use Rattle.expander.specs.Answering.{answered-done}

@@ -26,9 +26,9 @@ use Rattle.values.specs.Sorts as Sort
 use Rattle.values.specs.Facts.{IsBus, Fact}
 use Rattle.values.specs.Agrees.{Uses}
 use Rattle.values.specs.UsedLaws.{used-formula, used-no-formula, named-body}
-use Rattle.evaluation.specs.Entries.{kindAt}
-use Rattle.evaluation.specs.Working.{Source, State}
-use Rattle.evaluation.specs.FitsLaws.{within}
+use Rattle.operands.specs.Entries.{kindAt}
+use Rattle.operands.specs.Working.{Source, State}
+use Rattle.operands.specs.FitsLaws.{within}
 use Rattle.shapes.specs.Shapes.{aName, shapeOf}
 use Rattle.expander.specs.Expanding.{Tables, packed, Plain, Lasts, Lasting, Expands, Writes}
 use Rattle.expander.specs.Answering.{Signalled, answered-done, answered-no}

@@ -5,7 +5,7 @@ use mathlib.Core.Path.{_≡_}
 use lib.ListN.{getD}
 use Rattle.language.specs.Limits.{maxNames}
 use Rattle.values.specs.Sorts as Sort
-use Rattle.evaluation.specs.Entries.{kindAt}
+use Rattle.operands.specs.Entries.{kindAt}
 use Rattle.shapes.specs.Shapes.{aName, shapeOf}
 
 pub record Defined (work refs sorts : List ℕ) (k : ℕ) : Type 0 where

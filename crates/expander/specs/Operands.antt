@@ -24,10 +24,10 @@ use Rattle.entries.specs.Stored.{EndsAt}
 use Rattle.values.specs.World.{World}
 use Rattle.values.specs.Known.{Known}
 use Rattle.values.specs.KnownLaws.{own-more, known-index, known-paren, known-prefixed, known-joined, known-nexts, known-window, known-each}
-use Rattle.evaluation.specs.Entries.{kindAt, sizeAt, placeAt}
-use Rattle.evaluation.specs.ClassLaws.{has-entry, size-is, place-is}
-use Rattle.evaluation.specs.Working.{Source, State}
-use Rattle.evaluation.specs.FitsLaws.{own-size}
+use Rattle.operands.specs.Entries.{kindAt, sizeAt, placeAt}
+use Rattle.operands.specs.ClassLaws.{has-entry, size-is, place-is}
+use Rattle.operands.specs.Working.{Source, State}
+use Rattle.operands.specs.FitsLaws.{own-size}
 use Rattle.shapes.specs.Shapes.{anIndex, aParen, aMembership, aNexts, aUnary, aComparison, aBinary, aWindow, aBig, shapeOf}
 use Rattle.expander.specs.Expanding.{Tables, Expands}
 use Rattle.expander.specs.Buses.{busOf}

@@ -18,9 +18,9 @@ use Rattle.language.specs.Expansion as Expansion
 use Rattle.writing.specs.Writing as Writing
 use Rattle.writing.specs.Writing.{Wrote, Caps, Joins}
 use Rattle.writing.specs.WritingLaws.{ends, past, after, puts-as}
-use Rattle.evaluation.specs.Entries.{kindAt, sizeAt}
-use Rattle.evaluation.specs.Working.{Source, State}
-use Rattle.evaluation.specs.FitsLaws.{held-then}
+use Rattle.operands.specs.Entries.{kindAt, sizeAt}
+use Rattle.operands.specs.Working.{Source, State}
+use Rattle.operands.specs.FitsLaws.{held-then}
 use Rattle.shapes.specs.Shapes.{aMisfit, aParen, aTruth, aUnary, aBinary, shapeOf}
 use Rattle.expander.specs.Expanding.{Tables, tables, Puts, Answered, Writes}
 use Rattle.expander.specs.Answering.{answered-done, answered-no}

@@ -29,10 +29,10 @@ use Rattle.writing.specs.Writing.{Puts, Wrote, Nexts}
 use Rattle.writing.specs.WritingLaws.{ends, wrote-none}
 use Rattle.writing.specs.Windows.{Windowed}
 use Rattle.values.specs.World.{World}
-use Rattle.evaluation.specs.Entries.{kindAt, sizeAt, placeAt}
-use Rattle.evaluation.specs.Working.{Source, State, NumberAt, SetAt}
-use Rattle.evaluation.specs.FitsLaws.{held-then}
-use Rattle.evaluation.specs.TellingLaws.{number-done, number-no, set-done, set-no}
+use Rattle.operands.specs.Entries.{kindAt, sizeAt, placeAt}
+use Rattle.operands.specs.Working.{Source, State, NumberAt, SetAt}
+use Rattle.operands.specs.FitsLaws.{held-then}
+use Rattle.operands.specs.TellingLaws.{number-done, number-no, set-done, set-no}
 use Rattle.shapes.specs.Shapes.{aMembership, aNexts, aWindow, shapeOf}
 use Rattle.expander.specs.Expanding.{Tables, Expands, Writes}
 use Rattle.expander.specs.Answering.{refusedOf, answered-done, answered-no}

@@ -2,7 +2,7 @@
 ghost use mathlib.Core.Path.{_≡_};
 ghost use Prim.Native.Nat.{_≤_, _<_};
 ghost use lib.ListN.{length};
-ghost use Rattle.evaluation.specs.declared.Worth.{Worth};
+ghost use Rattle.operands.specs.declared.Worth.{Worth};
 ghost use Rattle.expander.specs.Comparing.{Against, Againsts, Comparable, Comparing, WithNumber, otherwise};
 use crate::MISFIT;
 use crate::WRONG_WIDTH;
@@ -10,8 +10,8 @@ use crate::Written;
 use choices::one_of;
 use choices::widths_are;
 use choices::words_end;
-use evaluation::Worth;
 use node::Node;
+use operands::Worth;
 use sets::numbers::compare;
 use writing::cap;
 use writing::constant;

@@ -14,7 +14,7 @@ use Rattle.language.specs.Operators.{loosest}
 use Rattle.language.specs.Tree.{Expr, Each}
 use Rattle.language.specs.Grammar.{Tokens, Read, front, rest, stop, next, named, expect, expectOf, Binder, signOf, binderOf, bindersOf, over}
 use Rattle.language.specs.Laws.Basics.Tests.{split}
-use Rattle.expressions.specs.Readers.{reads, climbs, bigOf, roleAt, levelAt, folds}
+use Rattle.operators.specs.Readers.{reads, climbs, bigOf, roleAt, levelAt, folds}
 use Rattle.expressions.specs.ReaderLaws.{reads-takes, rest-fits, climbs-zero}
 
 -- what is left of an accepted answer is no longer than ts

@@ -25,7 +25,7 @@ use Rattle.entries.specs.Reads.{Kept}
 use Rattle.entries.specs.ReadsLaws.{kept-put, kept-then}
 use Rattle.expressions.specs.declared.stack.Machine.{Machine}
 use Rattle.expressions.specs.declared.stack.Turn.the-variants.{Next, Ended}
-use Rattle.expressions.specs.Readers.{reads, roleAt, bigOf, folds}
+use Rattle.operators.specs.Readers.{reads, roleAt, bigOf, folds}
 use Rattle.expressions.specs.Frames.{Bound, Member, Frame, resume, plug}
 use Rattle.expressions.specs.RoleLaws.{isMember, starts-fold, folds-member, folds-bounds}
 use Rattle.expressions.specs.Stack.{slotWord, putSlot}
@@ -34,7 +34,7 @@ use Rattle.expressions.specs.Machines.{Pushes, pushedOf}
 use Rattle.expressions.specs.States.{slot, credits, State, Turned}
 use Rattle.expressions.specs.StateLaws.{here, keeps-here, refuses-at, pushed}
 use Rattle.expressions.specs.StartStates.{drop-two, inside, next-sign}
-use Rattle.expressions.specs.Tables.{roleNumber, soleKind, prefixAt}
+use Rattle.operators.specs.Tables.{roleNumber, soleKind, prefixAt}
 use Rattle.expressions.specs.RoleStates.{found, not-end, tight}
 use Rattle.expressions.specs.Binders.{amongAt, memberAt, Folding, Named}
 

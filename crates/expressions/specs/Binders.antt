@@ -15,7 +15,7 @@ use Rattle.entries.specs.declared.Cursor.{Cursor}
 use Rattle.entries.specs.Cursors.{kindAt, nextOf}
 use Rattle.entries.specs.Reads.{Kept}
 use Rattle.expressions.specs.declared.stack.Machine.{Machine}
-use Rattle.expressions.specs.Readers.{folds}
+use Rattle.operators.specs.Readers.{folds}
 use Rattle.expressions.specs.Frames.{Over, Frame, plug}
 use Rattle.expressions.specs.Stack.{Stacked}
 use Rattle.expressions.specs.States.{slotsOf, base, Firm, credits, Marked, State, weight}

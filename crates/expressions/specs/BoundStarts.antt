@@ -25,7 +25,7 @@ use Rattle.entries.specs.TokenReads.{next-class}
 use Rattle.entries.specs.ReadsLaws.{kept-put, kept-then}
 use Rattle.expressions.specs.declared.stack.Machine.{Machine}
 use Rattle.expressions.specs.declared.stack.Turn.the-variants.{Next, Ended}
-use Rattle.expressions.specs.Readers.{reads}
+use Rattle.operators.specs.Readers.{reads}
 use Rattle.expressions.specs.BinderLaws.{afterBinder}
 use Rattle.expressions.specs.Frames.{Bound, Upper, Frame, turned, isStrict, resume, plug}
 use Rattle.expressions.specs.Stack.{slotWord, slotClass, slotIndex, slotLevel, topSlot, putSlot, Stacked}

@@ -20,9 +20,9 @@ use Rattle.entries.specs.Cursors.{Ready, kindAt, nextOf}
 use Rattle.entries.specs.CursorLaws.{ready-kind, before-end, drop-next}
 use Rattle.expressions.specs.declared.stack.Machine.{Machine}
 use Rattle.expressions.specs.declared.stack.Turn.the-variants.{Next}
-use Rattle.expressions.specs.Readers.{reads, climbs, infixRow, operatorAt}
+use Rattle.operators.specs.Readers.{reads, climbs, infixRow, operatorAt}
 use Rattle.expressions.specs.ReaderLaws.{climbs-stop, climbs-on}
-use Rattle.expressions.specs.Tables.{infixAt}
+use Rattle.operators.specs.Tables.{infixAt}
 use Rattle.expressions.specs.OperatorLaws.{InfixFound, infix-none, infix-some}
 use Rattle.expressions.specs.Frames.{Right, Frame, plug}
 use Rattle.expressions.specs.Stack.{putSlot, Stacked}

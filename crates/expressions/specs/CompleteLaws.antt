@@ -24,7 +24,7 @@ use Rattle.entries.specs.Reads.{Outcome}
 use Rattle.entries.specs.ReadsLaws.{kept-same, kept-put}
 use Rattle.expressions.specs.declared.stack.Machine.{Machine}
 use Rattle.expressions.specs.declared.stack.Turn.the-variants.{Next, Ended}
-use Rattle.expressions.specs.Readers.{climbs}
+use Rattle.operators.specs.Readers.{climbs}
 use Rattle.expressions.specs.Frames.{Class, Right, Sole, Stepped, Within, Cons, Over, Round, Bars, Square, Last, All, Count, Low, High, One, Two, More, Bound, Upper, Member, Frame, turned, resume, plug}
 use Rattle.expressions.specs.Stack.{slotIndex, slotClass, topSlot, Slot, SlotsAt, Stacked, Rooted, startOf, Trees}
 use Rattle.expressions.specs.StackLaws.{slot-class, slot-level, slot-index, stacked-apart, stacked-few, stacked-less, stacked-pop, stacked-emit}

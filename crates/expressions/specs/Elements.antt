@@ -25,7 +25,7 @@ use Rattle.entries.specs.Reads.{Kept}
 use Rattle.entries.specs.ReadsLaws.{kept-put, kept-then}
 use Rattle.expressions.specs.declared.stack.Machine.{Machine}
 use Rattle.expressions.specs.declared.stack.Turn.the-variants.{Next}
-use Rattle.expressions.specs.Readers.{reads, climbs, listed}
+use Rattle.operators.specs.Readers.{reads, climbs, listed}
 use Rattle.expressions.specs.ReaderLaws.{climbs-zero}
 use Rattle.expressions.specs.ListLaws.{listed-more, listed-end}
 use Rattle.expressions.specs.Frames.{All, Two, More, Cons, Frame, frame, turned, withFirst, plug}

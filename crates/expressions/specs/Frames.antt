@@ -9,7 +9,7 @@ use Rattle.language.specs.Tokens.{Name, Token}
 use Rattle.language.specs.Operators.{Size, Measures, loosest}
 use Rattle.language.specs.Tree.{Expr, Index, Paren, Prefixed, Joined, Nexts, InWindow, Each, Between, Listed, Empty, Element, Range}
 use Rattle.language.specs.Grammar.{Tokens, Read, rest, next, named, expect, expectOf, signOf, Binder}
-use Rattle.expressions.specs.Readers.{reads, climbs, operatorAt, levelAt, roleAt, soleOf, windowOf, bigOf, listed}
+use Rattle.operators.specs.Readers.{reads, climbs, operatorAt, levelAt, roleAt, soleOf, windowOf, bigOf, listed}
 use Rattle.expressions.specs.BinderLaws.{afterBinder}
 
 -- what the expression read is

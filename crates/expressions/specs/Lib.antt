@@ -1,12 +1,9 @@
-pub mod Readers
 pub mod ReaderLaws
 pub mod ListLaws
 pub mod BinderLaws
 pub mod Frames
 pub mod StartLaws
 pub mod RoleLaws
-pub mod Tables
-pub mod TableLaws
 pub mod Stack
 pub mod StackLaws
 pub mod Machines

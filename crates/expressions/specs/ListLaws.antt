@@ -10,7 +10,7 @@ use Rattle.language.specs.Operators.{loosest}
 use Rattle.language.specs.Tree.{Expr, Empty, Element}
 use Rattle.language.specs.Grammar.{Tokens, Read, rest, next, expect, elements}
 use Rattle.language.specs.Laws.Basics.Tests.{pick, leave}
-use Rattle.expressions.specs.Readers.{reads, elementsFrom, listed}
+use Rattle.operators.specs.Readers.{reads, elementsFrom, listed}
 use Rattle.expressions.specs.ReaderLaws.{reads-takes, rest-fits}
 
 -- the elements of a set from y on, and `}` behind them

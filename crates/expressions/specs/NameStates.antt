@@ -26,10 +26,10 @@ use Rattle.entries.specs.Reads.{Kept}
 use Rattle.expressions.specs.declared.stack.Machine.{Machine}
 use Rattle.expressions.specs.declared.stack.Turn.{Turn}
 use Rattle.expressions.specs.declared.stack.Turn.the-variants.{Next, Ended}
-use Rattle.expressions.specs.Readers.{reads, levelAt, folds}
+use Rattle.operators.specs.Readers.{reads, levelAt, folds}
 use Rattle.expressions.specs.BinderLaws.{afterBinder}
 use Rattle.expressions.specs.Frames.{Over, Frame, bound, resume, plug}
-use Rattle.expressions.specs.Tables.{prefixAt}
+use Rattle.operators.specs.Tables.{prefixAt}
 use Rattle.expressions.specs.OperatorLaws.{prefix-some}
 use Rattle.expressions.specs.Stack.{slotIndex, slotLevel, topSlot, Stacked, Rooted}
 use Rattle.expressions.specs.StackLaws.{slot-level, slot-index, stacked-apart, stacked-few, stacked-less, stacked-next}

@@ -15,9 +15,9 @@ use Rattle.language.specs.Grammar.{rightLevel}
 use Rattle.language.specs.Laws.Basics.Tests.{and-left, and-right, some-none}
 use Rattle.lexer.specs.Numbers.{number, numbered}
 use Rattle.entries.specs.Kinds as Kind
-use Rattle.expressions.specs.Readers.{infixRow, prefixRow, operatorIn, operatorAt, levelIn, levelAt, roleIn, roleAt}
-use Rattle.expressions.specs.Tables.{rowBy, infixBy, prefixBy, infixWord, prefixWord, roleNumber, windowKind, soleKind, infixAt, prefixAt}
-use Rattle.expressions.specs.TableLaws.{infix-number, prefix-number}
+use Rattle.operators.specs.Readers.{infixRow, prefixRow, operatorIn, operatorAt, levelIn, levelAt, roleIn, roleAt}
+use Rattle.operators.specs.Tables.{rowBy, infixBy, prefixBy, infixWord, prefixWord, roleNumber, windowKind, soleKind, infixAt, prefixAt}
+use Rattle.operators.specs.TableLaws.{infix-number, prefix-number}
 
 -- what a test says of every row holds of the row found
 every : {R : Type 0} → (R → Bool) → List R → Bool

@@ -16,7 +16,7 @@ use Rattle.language.specs.Tree.{Expr, Joined}
 use Rattle.language.specs.Grammar.{Tokens, Read, front, rest, named, infixOf, rightLevel, allowed, operandOf, climb}
 use Rattle.language.specs.Laws.Basics.Tests.{split, leave, and-left, and-right}
 use Rattle.language.specs.Laws.Grammar.GrammarLaws.{upTo, upTo-takes, upTo-operand, upTo-step}
-use Rattle.expressions.specs.Readers.{reads, climbs, infixRow, operatorAt, operatorIn}
+use Rattle.operators.specs.Readers.{reads, climbs, infixRow, operatorAt, operatorIn}
 
 -- an accepted expression takes a token
 pub reads-takes : (max : ℕ) (ts : Tokens) (e : Expr) (us : Tokens) → reads max ts ≡ Done (e, us) → length us < length ts

@@ -22,9 +22,9 @@ use Rattle.entries.specs.ReadsLaws.{kept-put}
 use Rattle.expressions.specs.declared.stack.Machine.{Machine}
 use Rattle.expressions.specs.declared.stack.Turn.{Turn}
 use Rattle.expressions.specs.declared.stack.Turn.the-variants.{Next, Ended}
-use Rattle.expressions.specs.Readers.{reads, levelAt}
+use Rattle.operators.specs.Readers.{reads, levelAt}
 use Rattle.expressions.specs.Frames.{Stepped, Within, Last, Count, Low, High, One, Two, Frame, turned, withFirst, withSecond, resume, plug}
-use Rattle.expressions.specs.Tables.{prefixAt}
+use Rattle.operators.specs.Tables.{prefixAt}
 use Rattle.expressions.specs.OperatorLaws.{prefix-some}
 use Rattle.expressions.specs.Stack.{slotWord, slotIndex, slotLevel, slotClass, topSlot, putSlot, Stacked}
 use Rattle.expressions.specs.StackLaws.{slot-level, slot-index, stacked-apart, stacked-few, stacked-less, stacked-next, stacked-pop, stacked-push}

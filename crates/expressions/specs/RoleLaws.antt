@@ -17,7 +17,7 @@ use Rattle.language.specs.Tree.{Expr, Prefixed, Nexts, InWindow, Between}
 use Rattle.language.specs.Grammar.{Tokens, Read, front, rest, stop, next, named, expect, expectOf, prefixOf, closedBy, Binder, signOf, membershipOf, boundsOf, bindersOf, over, roleOf}
 use Rattle.language.specs.Laws.Basics.Tests.{pick, leave, and-left, some-none}
 use Rattle.language.specs.Laws.Grammar.ExprReads.{prefix-none}
-use Rattle.expressions.specs.Readers.{reads, climbs, prefixRow, levelAt, levelIn, roleAt, roleIn, soleOf, windowOf, bigOf, folds}
+use Rattle.operators.specs.Readers.{reads, climbs, prefixRow, levelAt, levelIn, roleAt, roleIn, soleOf, windowOf, bigOf, folds}
 use Rattle.expressions.specs.ReaderLaws.{rest-fits}
 use Rattle.expressions.specs.BinderLaws.{binders-fuel, afterBinder, folds-step}
 use Rattle.expressions.specs.Frames.{Sole, Count, Low, Bound, frame, resume}

@@ -17,9 +17,9 @@ use Rattle.entries.specs.Cursors.{kindAt, refusedAt, nextOf}
 use Rattle.entries.specs.CursorLaws.{ready-kind}
 use Rattle.expressions.specs.declared.stack.Machine.{Machine}
 use Rattle.expressions.specs.declared.stack.Turn.the-variants.{Next, Ended}
-use Rattle.expressions.specs.Readers.{levelAt, roleAt, soleOf, windowOf}
+use Rattle.operators.specs.Readers.{levelAt, roleAt, soleOf, windowOf}
 use Rattle.expressions.specs.Frames.{Sole, Count, Low}
-use Rattle.expressions.specs.Tables.{roleNumber, soleKind, windowKind, prefixAt}
+use Rattle.operators.specs.Tables.{roleNumber, soleKind, windowKind, prefixAt}
 use Rattle.expressions.specs.OperatorLaws.{PrefixFound, prefix-some}
 use Rattle.expressions.specs.StartLaws.{reads-loose}
 use Rattle.expressions.specs.RoleLaws.{takesOne, starts-sole, starts-count, starts-window}

@@ -20,7 +20,7 @@ use Rattle.entries.specs.TokenReads.{next-number}
 use Rattle.expressions.specs.declared.stack.Machine.{Machine}
 use Rattle.expressions.specs.declared.stack.Turn.{Turn}
 use Rattle.expressions.specs.declared.stack.Turn.the-variants.{Next, Ended}
-use Rattle.expressions.specs.Readers.{climbs}
+use Rattle.operators.specs.Readers.{climbs}
 use Rattle.expressions.specs.Frames.{All, One, Frame, turned, plug}
 use Rattle.expressions.specs.Stack.{slotClass, topSlot, Stacked, Rooted}
 use Rattle.expressions.specs.StackLaws.{stacked-less, stacked-next}

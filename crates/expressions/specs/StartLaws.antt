@@ -17,7 +17,7 @@ use Rattle.language.specs.Grammar.{Tokens, Read, front, rest, stop, next, expec
 use Rattle.language.specs.Laws.Basics.Tests.{pick, leave}
 use Rattle.lexer.specs.Numbers.{number, fixed, classNumber}
 use Rattle.lexer.specs.NumberLaws.{is-number, class-number}
-use Rattle.expressions.specs.Readers.{reads, climbs, prefixRow, listed}
+use Rattle.operators.specs.Readers.{reads, climbs, prefixRow, listed}
 use Rattle.expressions.specs.ReaderLaws.{reads-step, reads-takes, rest-fits}
 use Rattle.expressions.specs.ListLaws.{elements-listed}
 use Rattle.expressions.specs.Frames.{Round, Bars, Square, One, Two, frame, withFirst, resume, one, two}

@@ -23,9 +23,9 @@ use Rattle.entries.specs.CursorLaws.{ready-kind, ready-next, before-end, drop-n
 use Rattle.entries.specs.TokenReads.{next-number}
 use Rattle.expressions.specs.declared.stack.Machine.{Machine}
 use Rattle.expressions.specs.declared.stack.Turn.the-variants.{Next, Ended}
-use Rattle.expressions.specs.Readers.{reads, climbs, prefixRow}
+use Rattle.operators.specs.Readers.{reads, climbs, prefixRow}
 use Rattle.expressions.specs.Frames.{Class, Round, Bars, Square, One, frame, resume}
-use Rattle.expressions.specs.Tables.{prefixAt}
+use Rattle.operators.specs.Tables.{prefixAt}
 use Rattle.expressions.specs.OperatorLaws.{prefix-none}
 use Rattle.expressions.specs.StartLaws.{starter, starts-numeral, starts-true, starts-false, starts-round, starts-bars, starts-name, starts-index, starts-empty, starts-set, starts-not}
 use Rattle.expressions.specs.Stack.{putSlot}

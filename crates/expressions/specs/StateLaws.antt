@@ -22,7 +22,7 @@ use Rattle.entries.specs.Reads.{Kept, Outcome}
 use Rattle.entries.specs.ReadsLaws.{kept-same, kept-put}
 use Rattle.expressions.specs.declared.stack.Machine.{Machine}
 use Rattle.expressions.specs.declared.stack.Turn.the-variants.{Next, Ended}
-use Rattle.expressions.specs.Readers.{reads, climbs}
+use Rattle.operators.specs.Readers.{reads, climbs}
 use Rattle.expressions.specs.Frames.{Class, Frame, frame, resume, plug}
 use Rattle.expressions.specs.Stack.{slotWord, putSlot, Stacked, Rooted}
 use Rattle.expressions.specs.StackLaws.{stacked-apart, stacked-few, stacked-push, stacked-emit}

@@ -19,9 +19,9 @@ use Rattle.entries.specs.Reads.{Kept, Outcome}
 use Rattle.expressions.specs.declared.stack.Machine.{Machine}
 use Rattle.expressions.specs.declared.stack.Turn.{Turn}
 use Rattle.expressions.specs.declared.stack.Turn.the-variants.{Next, Ended}
-use Rattle.expressions.specs.Readers.{reads, climbs, roleAt, soleOf, windowOf, bigOf}
+use Rattle.operators.specs.Readers.{reads, climbs, roleAt, soleOf, windowOf, bigOf}
 use Rattle.expressions.specs.Frames.{Class, Right, Sole, Stepped, Within, Cons, Over, Round, Bars, Square, Last, All, Count, Low, High, One, Two, More, Bound, Upper, Member, Frame, frame, plug}
-use Rattle.expressions.specs.Tables.{soleKind, windowKind, infixAt, prefixAt}
+use Rattle.operators.specs.Tables.{soleKind, windowKind, infixAt, prefixAt}
 use Rattle.expressions.specs.Stack.{Slot, Stacked, Rooted}
 
 -- the numbers of the classes, from 1 on

@@ -20,9 +20,9 @@ use Rattle.entries.specs.declared.Cursor.{Cursor}
 use Rattle.entries.specs.Cursors.{Ready}
 use Rattle.expressions.specs.declared.stack.Machine.{Machine}
 use Rattle.expressions.specs.declared.stack.Turn.the-variants.{Next}
-use Rattle.expressions.specs.Readers.{climbs, roleAt, windowOf}
+use Rattle.operators.specs.Readers.{climbs, roleAt, windowOf}
 use Rattle.expressions.specs.Frames.{Class, Right, Sole, Stepped, Within, Cons, Over, Frame, turned, builtBy, plug}
-use Rattle.expressions.specs.Tables.{infixAt, prefixAt}
+use Rattle.operators.specs.Tables.{infixAt, prefixAt}
 use Rattle.expressions.specs.OperatorLaws.{PrefixFound, infix-some, prefix-some}
 use Rattle.expressions.specs.Stack.{slotIndex, slotClass, topSlot, Stacked}
 use Rattle.expressions.specs.StackLaws.{slot-index}

@@ -1,7 +1,6 @@
 // Operators between operands, and the end of an expression.
 use crate::close::close;
 use crate::close::whole;
-use crate::infixes::infix;
 use crate::names::names;
 use crate::roles::operand;
 use crate::sets::all;
@@ -11,6 +10,7 @@ use crate::stack::Machine;
 use crate::stack::RIGHT;
 use crate::stack::Turn;
 use entries::Parse;
+use operators::infixes::infix;
 ghost use mathlib.Core.Bool.{true};
 ghost use Rattle.expressions.specs.States.{Standing, Steps};
 ghost use Rattle.expressions.specs.Complete.{Completed, Ends};

@@ -1,6 +1,4 @@
 // An expression is complete: its frame makes a tree of it.
-use crate::infixes::infix;
-use crate::prefixes::prefix;
 use crate::stack::BARS;
 use crate::stack::CONS;
 use crate::stack::LAST;
@@ -14,6 +12,8 @@ use crate::stack::Turn;
 use crate::stack::WITHIN;
 use crate::stack::start_of;
 use entries::Cursor;
+use operators::infixes::infix;
+use operators::prefixes::prefix;
 use words::get;
 ghost use mathlib.Core.Path.{_≡_};
 ghost use Prim.Native.Nat.{_≤_, _<_};

@@ -2,9 +2,7 @@
 // The functions ask for a cursor on stored tokens with room for the entries to come, as `parser` has it.
 mod climb;
 mod close;
-mod infixes;
 mod names;
-mod prefixes;
 mod roles;
 mod sets;
 mod stack;

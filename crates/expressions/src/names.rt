@@ -1,6 +1,5 @@
 // The bounds or the set of a big operator's name is complete: the name is bound.
 use crate::close::operator;
-use crate::prefixes::prefix;
 use crate::roles::binder;
 use crate::sets::grow;
 use crate::stack::BOUND;
@@ -11,6 +10,7 @@ use crate::stack::Turn;
 use crate::stack::UPPER;
 use crate::start::NAME;
 use entries::Cursor;
+use operators::prefixes::prefix;
 use words::get;
 ghost use mathlib.Core.Path.{_≡_};
 ghost use Prim.Native.Nat.{_≤_, _<_};

@@ -1,5 +1,4 @@
 // How an operand begins with an operator, and how a name of a big operator does.
-use crate::prefixes::prefix;
 use crate::stack::BOUND;
 use crate::stack::BOUNDS;
 use crate::stack::COUNT;
@@ -15,11 +14,12 @@ use crate::start::OPEN_BRACKET;
 use crate::start::atom;
 use entries::Cursor;
 use entries::Parse;
+use operators::prefixes::prefix;
 ghost use mathlib.Core.Path.{_≡_};
 ghost use mathlib.Core.Bool.{true, false};
 ghost use Prim.Native.Nat.{_/_, _%_, _≤_};
 ghost use Rattle.entries.specs.Cursors.{Fits, kindAt};
-ghost use Rattle.expressions.specs.Tables.{prefixAt};
+ghost use Rattle.operators.specs.Tables.{prefixAt};
 ghost use Rattle.expressions.specs.States.{Standing, Steps};
 ghost use Rattle.expressions.specs.Binders.{amongAt, memberAt, Naming, Names};
 

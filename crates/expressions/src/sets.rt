@@ -1,7 +1,6 @@
 // A part of an operator's brackets or of a set is complete: what follows it.
 use crate::close::build;
 use crate::close::operator;
-use crate::prefixes::prefix;
 use crate::stack::ALL;
 use crate::stack::CONS;
 use crate::stack::COUNT;
@@ -18,6 +17,7 @@ use crate::stack::Turn;
 use crate::stack::WITHIN;
 use crate::stack::start_of;
 use entries::Cursor;
+use operators::prefixes::prefix;
 ghost use mathlib.Core.Path.{_≡_};
 ghost use Prim.Native.Nat.{_≤_, _<_};
 ghost use Rattle.entries.specs.Cursors.{emittedOf};

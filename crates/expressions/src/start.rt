@@ -1,5 +1,4 @@
 // How an operand begins.
-use crate::prefixes::prefix;
 use crate::stack::BARS;
 use crate::stack::BOUND;
 use crate::stack::BOUNDS;
@@ -16,10 +15,11 @@ use crate::stack::SQUARE;
 use crate::stack::Turn;
 use entries::Cursor;
 use entries::Parse;
+use operators::prefixes::prefix;
 ghost use mathlib.Core.Path.{_≡_};
 ghost use mathlib.Core.Bool.{false};
 ghost use Rattle.entries.specs.Cursors.{kindAt};
-ghost use Rattle.expressions.specs.Tables.{prefixAt};
+ghost use Rattle.operators.specs.Tables.{prefixAt};
 ghost use Rattle.expressions.specs.States.{Standing, Steps};
 ghost use Rattle.expressions.specs.Starts.{Leafs, leafOf, leafWritten};
 

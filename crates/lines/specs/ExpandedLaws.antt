@@ -9,7 +9,7 @@ use Rattle.language.specs.Tree.{Part, Spec}
 use Rattle.language.specs.Declared.{Declarations}
 use Rattle.language.specs.Lines.{Line, lines}
 use Rattle.language.specs.Expansion.{gather, defineAll, atSignals, expandSection, section, whole, expand}
-use Rattle.evaluation.specs.Working.{Source, State}
+use Rattle.operands.specs.Working.{Source, State}
 use Rattle.expander.specs.Expanding.{Tables}
 use Rattle.assembly.specs.Gathered.{inTurn, GatheredFrom, SomeGathered}
 use Rattle.assembly.specs.Layout.{Assembles}

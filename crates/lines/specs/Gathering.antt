@@ -17,7 +17,7 @@ use Rattle.entries.specs.Stored.{EntriesFrom}
 use Rattle.names.specs.Resolved.{Stored}
 use Rattle.values.specs.World.{World}
 use Rattle.values.specs.Worked.{Worked, worldIn, TreeWorked}
-use Rattle.evaluation.specs.Working.{Source, State, Noted}
+use Rattle.operands.specs.Working.{Source, State, Noted}
 use Rattle.expander.specs.Expanding.{Signals, Worldly, Lasting, Tables}
 use Rattle.assembly.specs.Gathered.{GatheredFrom}
 use Rattle.lines.specs.Items.{Item, items, entryOf, Headed, worked}

@@ -17,7 +17,7 @@ use Rattle.entries.specs.Flat.{Entry}
 use Rattle.entries.specs.Stored.{EntryAt, EntriesFrom}
 use Rattle.traversal.specs.Cells.{Sees, cellAt, entry-seen, OfToken}
 use Rattle.traversal.specs.declared.Cell.{Cell}
-use Rattle.evaluation.specs.Working.{Source, State}
+use Rattle.operands.specs.Working.{Source, State}
 use Rattle.expander.specs.Expanding.{Tables}
 use Rattle.lines.specs.Items.{Item, Passed, Heads, Line, items, entryOf, Headed, worked}
 use Rattle.lines.specs.ItemLaws.{items-entries, items-headed}

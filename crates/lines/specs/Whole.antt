@@ -5,7 +5,7 @@ use Rattle.language.specs.Tree.{Spec}
 use Rattle.language.specs.Declared.{Declarations}
 use Rattle.language.specs.Numbering.{inOrder}
 use Rattle.language.specs.Lines.{lines}
-use Rattle.evaluation.specs.Working.{Source, State}
+use Rattle.operands.specs.Working.{Source, State}
 use Rattle.expander.specs.Expanding.{Tables}
 use Rattle.assembly.specs.Gathered.{GatheredFrom}
 use Rattle.assembly.specs.Implied.{Buses}

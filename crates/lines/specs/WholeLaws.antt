@@ -15,7 +15,7 @@ use Rattle.language.specs.Numbering.{inOrder}
 use Rattle.language.specs.Lines.{implied, lines}
 use Rattle.language.specs.Expansion.{gather, atSignals, expandSection}
 use Rattle.language.specs.Laws.Values.NameLaws.{defined-ports}
-use Rattle.evaluation.specs.Working.{Source, State}
+use Rattle.operands.specs.Working.{Source, State}
 use Rattle.expander.specs.Expanding.{Tables}
 use Rattle.assembly.specs.Gathered.{inTurn, GatheredFrom}
 use Rattle.assembly.specs.Implied.{impliedFormulas, BusesFrom, Buses, AddsAll, Ready}

@@ -27,7 +27,7 @@ use Rattle.values.specs.Worlds.{inTable, behind}
 use Rattle.values.specs.Worked.{definitionsStart}
 use Rattle.values.specs.WorkedLaws.{tree-worked}
 use Rattle.values.specs.BodiesLaws.{world-all, ported}
-use Rattle.evaluation.specs.Working.{Source, State, Noted}
+use Rattle.operands.specs.Working.{Source, State, Noted}
 use Rattle.expander.specs.Expanding.{Signals, Plain, Worldly, Tables}
 use Rattle.expander.specs.PlainLaws.{plain-context, plain-define}
 use Rattle.assembly.specs.GatheredLaws.{gathered-none}

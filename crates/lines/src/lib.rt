@@ -8,7 +8,7 @@ use assembly::implied::implied;
 use expander::Written;
 use expander::formulas::formula_at;
 use traversal::cell_at;
-ghost use Rattle.evaluation.specs.Working.{source, state};
+ghost use Rattle.operands.specs.Working.{source, state};
 ghost use Rattle.expander.specs.Expanding.{tables};
 ghost use Rattle.lines.specs.Gathering.{Sizes, SomeLine, WritesLine, SomeTree, WritesLines};
 ghost use Rattle.lines.specs.Whole.{SomeGiven, Gathers};

@@ -15,7 +15,7 @@ use Rattle.language.specs.Reading.{meant, delivered, reading, cleared, workAfte
 use Rattle.language.specs.Laws.Buffers.{work-short, short-refused}
 use Rattle.language.specs.Laws.Basics.Tests.{pick}
 use Rattle.claim.specs.Reads.{Reads, reads}
-use Rattle.reader.specs.Hands.{Hands, hands-as, hands-refused}
+use Rattle.ending.specs.Hands.{Hands, hands-as, hands-refused}
 
 -- the first bytes zero, by both definitions
 cleared-is : (n : ℕ) (w : List ℕ) → n ≤ length w → zeroed n w ≡ cleared n w

@@ -20,7 +20,7 @@ use Rattle.names.specs.Resolved.{declaredNames}
 use Rattle.ports.specs.declared.Signals.{Signals}
 use Rattle.ports.specs.declared.Signals.the-variants.{Listed, TooMany}
 use Rattle.notes.specs.NotesLaws.{names-distinct}
-use Rattle.evaluation.specs.Working.{source, state}
+use Rattle.operands.specs.Working.{source, state}
 use Rattle.expander.specs.Expanding.{tables, Signals as Numbered}
 use Rattle.assembly.specs.Implied.{BusAt, BusesFrom}
 use Rattle.declarations.specs.Promise.{Checked, PortNoted, PortsNoted, SignalsAre, WorkedOut}
@@ -29,7 +29,7 @@ use Rattle.lines.specs.Whole.{Given}
 use Rattle.lines.specs.WorldLaws.{begins}
 use Rattle.lines.specs.SignalLaws.{signals}
 use Rattle.lines.specs.PortLaws.{regular-ports, bus-at, ports-buses}
-use Rattle.reader.specs.Listing.{startOf}
+use Rattle.ending.specs.Listing.{startOf}
 
 module _ {text w refs found : List ℕ} {entries names : ℕ} {x : Spec} (c : Checked text w refs found entries names x)
     {sorts numbers kept order enumerations firsts list list′ : List ℕ} {ports ins : ℕ} {s : Signals} (h : WorkedOut text w x sorts numbers kept order enumerations firsts list list′ ports ins s) where

@@ -1,10 +1,4 @@
-pub mod Endings
-pub mod Hands
 pub mod Answers
-pub mod Copying
-pub mod Handing
-pub mod Listing
-pub mod Finishing
 pub mod Beginning
 pub mod Lining
 pub mod Naming

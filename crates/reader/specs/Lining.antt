@@ -13,7 +13,7 @@ use Rattle.language.specs.Reading.{delivered}
 use Rattle.parser.specs.declared.Facts.{Facts}
 use Rattle.parser.specs.Outlines.{factsOf}
 use Rattle.ports.specs.declared.Signals.{Signals}
-use Rattle.evaluation.specs.Working.{source, state}
+use Rattle.operands.specs.Working.{source, state}
 use Rattle.expander.specs.Expanding.{tables}
 use Rattle.assembly.specs.Gathered.{GatheredFrom}
 use Rattle.assembly.specs.ExpandLaws.{linesInTurn, expand-refused}
@@ -22,10 +22,10 @@ use Rattle.lines.specs.declared.Gathering.the-variants.{Lines}
 use Rattle.lines.specs.Gathering as Walk
 use Rattle.lines.specs.Gathering.{Sizes, Formulas}
 use Rattle.lines.specs.Whole.{Given, SomeGiven, Gathers}
-use Rattle.reader.specs.Endings.{line-refused}
-use Rattle.reader.specs.Hands.{hands-refused}
-use Rattle.reader.specs.Listing.{startOf, Listing}
-use Rattle.reader.specs.Finishing.{Complete, SomeComplete, Finishes}
+use Rattle.ending.specs.Endings.{line-refused}
+use Rattle.ending.specs.Hands.{hands-refused}
+use Rattle.ending.specs.Listing.{startOf, Listing}
+use Rattle.ending.specs.Finishing.{Complete, SomeComplete, Finishes}
 
 -- names are worked out: the lines of the text may be too, into a whole table, with no definition's formula noted
 pub record Ready (text w refs : List ℕ) (entries : ℕ) (f : Facts) (sorts numbers kept order enumerations firsts list : List ℕ) (ports ins : ℕ) (s : Signals) (x : Spec) (d : Declarations) : Type 0 where

@@ -20,10 +20,10 @@ use Rattle.declarations.specs.declared.Declared.{Declared}
 use Rattle.declarations.specs.declared.Declared.the-variants.{Ports, Refused as NotDeclared}
 use Rattle.declarations.specs.Promise as Promise
 use Rattle.declarations.specs.Promise.{Checked, SignalsAre, WorkedOut, Declares}
-use Rattle.reader.specs.Endings.{declarations-refused, declarations-done}
-use Rattle.reader.specs.Hands.{Hands, hands-as, hands-refused}
-use Rattle.reader.specs.Listing.{Listing}
-use Rattle.reader.specs.Finishing.{Finishes}
+use Rattle.ending.specs.Endings.{declarations-refused, declarations-done}
+use Rattle.ending.specs.Hands.{Hands, hands-as, hands-refused}
+use Rattle.ending.specs.Listing.{Listing}
+use Rattle.ending.specs.Finishing.{Finishes}
 use Rattle.reader.specs.Beginning.{given}
 use Rattle.reader.specs.Lining.{Ready, SomeReady}
 

@@ -19,13 +19,11 @@ ghost use Rattle.language.specs.Limits.{workBytes};
 ghost use Rattle.language.specs.Tree.{Spec};
 ghost use Rattle.language.specs.Declared.{Declarations};
 ghost use Rattle.claim.specs.Reads.{Reads};
-ghost use Rattle.reader.specs.Listing.{startOf};
+ghost use Rattle.ending.specs.Listing.{startOf};
 ghost use Rattle.reader.specs.Answers.{Answers};
 ghost use Rattle.reader.specs.Lining.{Ready, SomeReady, Sized};
 ghost use Rattle.reader.specs.Naming.{Parsed, SomeParsed, Converts};
-ghost use Rattle.reader.specs.Finishing.{Finishes};
-
-mod ending;
+ghost use Rattle.ending.specs.Finishing.{Finishes};
 
 // The work buffer's 'first 65,536 bytes'; '8,192 tokens', '256 declared names', '255 signals', 'sets 256 elements' and one more.
 const WORK_BYTES: usize = 65536;

@@ -2,7 +2,7 @@
 use Prim.Native.Nat.{ℕ, _≤_, _<_}
 use mathlib.Core.List.{List}
 use mathlib.Core.Path.{_≡_}
-use Rattle.evaluation.specs.Entries.{kindAt}
+use Rattle.operands.specs.Entries.{kindAt}
 
 -- by kind (crate entries, specs/Kinds)
 pub data Prefix (kind : ℕ) : Type 0 where

@@ -21,7 +21,7 @@ use Rattle.entries.specs.Flat.{Entry, under, flat}
 use Rattle.entries.specs.Stored.{EndsAt, At}
 use Rattle.entries.specs.StoredLaws.{entry-kind, ends-own}
 use Rattle.sets.specs.Operators.{comparison}
-use Rattle.evaluation.specs.Entries.{kindAt}
+use Rattle.operands.specs.Entries.{kindAt}
 use Rattle.shapes.specs.Prefixes.{Operand}
 use Rattle.shapes.specs.Shapes.{aMisfit, aTruth, aUnary, aComparison, aWindow, aBig, shapes, shapeOf, ofPrefix, ofInfix, ofExpr, WindowIs}
 

@@ -33,7 +33,7 @@ fn form_asked() -> u32 {
 }
 
 // Converts the text and prints the listing.
-fn run(text: &[u8], form: u32) {
+fn convert(text: &[u8], form: u32) {
     let mut work = io::large_buffer();
     let mut nodes: [u32; MAX_NODES] = [0; MAX_NODES];
     let mut signals = [0u32; 255];
@@ -45,10 +45,20 @@ fn run(text: &[u8], form: u32) {
     listing::nodes(&nodes, n as usize);
 }
 
+// Reads the text and converts it. An input that cannot be read is told on standard error, and nothing is printed: it is no empty text.
+fn run(text: &mut [u8], form: u32) {
+    let n = input::fill(STDIN_FILENO, text);
+    if n == input::UNREADABLE {
+        os::fail(b"tlsf: the text cannot be read");
+        return;
+    }
+    let t = input::within(n, text);
+    convert(&text[..t], form);
+}
+
 // A text of more than 32,768 bytes is refused by 1 wherever it ends, so that the first 65,536 tell enough.
 fn main() {
     let form = form_asked();
     let mut text = io::large_buffer();
-    let n = io::read_full(STDIN_FILENO, &mut text);
-    run(&text[..n], form);
+    run(&mut text, form);
 }

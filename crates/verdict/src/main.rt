@@ -6,8 +6,6 @@ use libc::STDIN_FILENO;
 use libc::STDOUT_FILENO;
 use node::Answer;
 
-mod input;
-
 fn print(verdict: Verdict) {
     match verdict {
         Verdict::Refused(number, place) => listing::answer(Answer::Refused(number, place)),

@@ -3,7 +3,7 @@ use Prim.Native.Nat.{_-_}
 use mathlib.Core.Path.{_∙_}
 use native.Mathlib.Omega.{arith}
 use borrow.Author.Needs.{needs}
-use Rattle.evaluation.specs.Working.{source, state}
+use Rattle.operands.specs.Working.{source, state}
 use Rattle.expander.specs.Expanding.{tables}
 use Rattle.lines.specs.Gathering.{Lengths, Walking}
 use Rattle.lines.specs.WalkLaws.{lengths-same, sizes-stay, walking-starts, walking-all, walking-heading, walking-passed, some-line, some-begun, walking-line, walking-refused}

@@ -3,7 +3,7 @@ use borrow.Author.Needs.{needs}
 use native.Mathlib.Omega.{arith}
 use mathlib.Core.Path.{ap, _∙_}
 use lib.Dec.{lit<}
-use Rattle.expressions.specs.Tables.{infixAt}
+use Rattle.operators.specs.Tables.{infixAt}
 use Rattle.expressions.specs.StateAsks.{asks-kind}
 use Rattle.expressions.specs.Climbs.{ends-none, ends-loose, operator-inside, turn-right}
 use Rattle.expressions.specs.StateLaws.{facts}

@@ -7,7 +7,7 @@ use denote.Ref.{now}
 use Prim.Native.Nat.{_/_, _%_, _≤_}
 use mathlib.Core.Path.{subst}
 use Rattle.entries.specs.Cursors.{kindAt, nextOf}
-use Rattle.expressions.specs.Tables.{prefixAt}
+use Rattle.operators.specs.Tables.{prefixAt}
 use Rattle.expressions.specs.StateAsks.{asks-kind, asks-next, asks-second, asks-third, asks-push}
 use Rattle.expressions.specs.RoleStates.{not-end, turn-loose, turn-plain, turn-bare, turn-count, turn-low}
 use Rattle.expressions.proofs.roles.operand.Statement.{statement}

@@ -5,12 +5,12 @@ use native.Mathlib.Omega.{arith}
 use borrow.Author.Needs.{needs}
 use Prim.Native.Nat.{_%_}
 use lib.Dec.{leb, eqb}
-use Rattle.evaluation.specs.OperationLaws as P
-use Rattle.evaluation.specs.Classes.{classOf}
-use Rattle.evaluation.specs.StepLaws as S
-use Rattle.evaluation.specs.KindLaws as K
-use Rattle.evaluation.specs.Operands as O
-use Rattle.evaluation.specs.TellingLaws as T
+use Rattle.operands.specs.OperationLaws as P
+use Rattle.operands.specs.Classes.{classOf}
+use Rattle.operands.specs.StepLaws as S
+use Rattle.operands.specs.KindLaws as K
+use Rattle.operands.specs.Operands as O
+use Rattle.operands.specs.TellingLaws as T
 use Rattle.evaluation.proofs.evaluate.bounds.Reads as bounds
 use Rattle.evaluation.proofs.evaluate.+arithmetic+big+bounds+braces+chained+combination+elements+gathered+joined+listed+measured+merged+named+number_at+operated+quantified+set_at+stepped+summed+total+value_at+width.Lts-bounds as bounds-lts
 use Rattle.evaluation.proofs.evaluate.+arithmetic+big+bounds+braces+chained+combination+elements+gathered+joined+listed+measured+merged+named+number_at+operated+quantified+set_at+stepped+summed+total+value_at+width.Proof.Calls.{bounds-at, bounds-calls}

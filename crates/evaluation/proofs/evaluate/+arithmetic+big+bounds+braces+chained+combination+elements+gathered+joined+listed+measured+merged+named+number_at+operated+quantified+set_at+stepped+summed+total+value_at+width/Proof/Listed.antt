@@ -3,8 +3,8 @@ use Prim.Native.Nat.{ℕ}
 use mathlib.Core.Path.{sym, ap, _∙_}
 use native.Mathlib.Omega.{arith}
 use borrow.Author.Needs.{needs}
-use Rattle.evaluation.specs.ElementLaws as W
-use Rattle.evaluation.specs.Classes.{classOf}
+use Rattle.operands.specs.ElementLaws as W
+use Rattle.operands.specs.Classes.{classOf}
 use Rattle.evaluation.proofs.evaluate.listed.Reads as listed
 use Rattle.evaluation.proofs.evaluate.+arithmetic+big+bounds+braces+chained+combination+elements+gathered+joined+listed+measured+merged+named+number_at+operated+quantified+set_at+stepped+summed+total+value_at+width.Lts-listed as listed-lts
 use Rattle.evaluation.proofs.evaluate.+arithmetic+big+bounds+braces+chained+combination+elements+gathered+joined+listed+measured+merged+named+number_at+operated+quantified+set_at+stepped+summed+total+value_at+width.Proof.Calls.{listed-at, listed-calls}

@@ -3,11 +3,11 @@ use Prim.Native.Nat.{ℕ, _-_}
 use mathlib.Core.Path.{ap}
 use native.Mathlib.Omega.{arith}
 use borrow.Author.Needs.{needs}
-use Rattle.evaluation.specs.OperationLaws as P
-use Rattle.evaluation.specs.StepLaws as S
-use Rattle.evaluation.specs.KindLaws as K
-use Rattle.evaluation.specs.Operands as O
-use Rattle.evaluation.specs.TellingLaws as T
+use Rattle.operands.specs.OperationLaws as P
+use Rattle.operands.specs.StepLaws as S
+use Rattle.operands.specs.KindLaws as K
+use Rattle.operands.specs.Operands as O
+use Rattle.operands.specs.TellingLaws as T
 use Rattle.evaluation.proofs.evaluate.measured.Reads as measured
 use Rattle.evaluation.proofs.evaluate.+arithmetic+big+bounds+braces+chained+combination+elements+gathered+joined+listed+measured+merged+named+number_at+operated+quantified+set_at+stepped+summed+total+value_at+width.Lts-measured as measured-lts
 use Rattle.evaluation.proofs.evaluate.+arithmetic+big+bounds+braces+chained+combination+elements+gathered+joined+listed+measured+merged+named+number_at+operated+quantified+set_at+stepped+summed+total+value_at+width.Proof.Calls.{measured-at, measured-calls}

@@ -4,8 +4,8 @@ use mathlib.Core.Path.{refl, ap}
 use native.Mathlib.Omega.{arith}
 use borrow.Author.Needs.{needs}
 use lib.ListN.{getD}
-use Rattle.evaluation.specs.NameLaws as N
-use Rattle.evaluation.specs.Classes.{classOf}
+use Rattle.operands.specs.NameLaws as N
+use Rattle.operands.specs.Classes.{classOf}
 use Rattle.evaluation.proofs.evaluate.named.Reads as named
 use Rattle.evaluation.proofs.evaluate.+arithmetic+big+bounds+braces+chained+combination+elements+gathered+joined+listed+measured+merged+named+number_at+operated+quantified+set_at+stepped+summed+total+value_at+width.Lts-named as named-lts
 use Rattle.evaluation.proofs.evaluate.+arithmetic+big+bounds+braces+chained+combination+elements+gathered+joined+listed+measured+merged+named+number_at+operated+quantified+set_at+stepped+summed+total+value_at+width.Proof.Calls.{named-at, named-calls}

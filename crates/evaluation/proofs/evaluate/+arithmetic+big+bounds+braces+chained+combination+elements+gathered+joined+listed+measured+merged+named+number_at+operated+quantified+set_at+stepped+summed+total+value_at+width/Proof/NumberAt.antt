@@ -2,7 +2,7 @@
 use Prim.Native.Nat.{ℕ}
 use native.Mathlib.Omega.{arith}
 use borrow.Author.Needs.{needs}
-use Rattle.evaluation.specs.StepLaws as S
+use Rattle.operands.specs.StepLaws as S
 use Rattle.evaluation.proofs.evaluate.number_at.Reads as number-at
 use Rattle.evaluation.proofs.evaluate.+arithmetic+big+bounds+braces+chained+combination+elements+gathered+joined+listed+measured+merged+named+number_at+operated+quantified+set_at+stepped+summed+total+value_at+width.Lts-number_at as number-at-lts
 use Rattle.evaluation.proofs.evaluate.+arithmetic+big+bounds+braces+chained+combination+elements+gathered+joined+listed+measured+merged+named+number_at+operated+quantified+set_at+stepped+summed+total+value_at+width.Proof.Calls.{number-at-at, number-at-calls}

@@ -2,9 +2,9 @@
 use Prim.Native.Nat.{ℕ}
 use native.Mathlib.Omega.{arith}
 use borrow.Author.Needs.{needs}
-use Rattle.evaluation.specs.Entries.{kindAt}
-use Rattle.evaluation.specs.StepLaws as S
-use Rattle.evaluation.specs.KindLaws as K
+use Rattle.operands.specs.Entries.{kindAt}
+use Rattle.operands.specs.StepLaws as S
+use Rattle.operands.specs.KindLaws as K
 use Rattle.evaluation.proofs.evaluate.operated.Reads as operated
 use Rattle.evaluation.proofs.evaluate.+arithmetic+big+bounds+braces+chained+combination+elements+gathered+joined+listed+measured+merged+named+number_at+operated+quantified+set_at+stepped+summed+total+value_at+width.Lts-operated as operated-lts
 use Rattle.evaluation.proofs.evaluate.+arithmetic+big+bounds+braces+chained+combination+elements+gathered+joined+listed+measured+merged+named+number_at+operated+quantified+set_at+stepped+summed+total+value_at+width.Proof.Calls.{operated-at, operated-calls}

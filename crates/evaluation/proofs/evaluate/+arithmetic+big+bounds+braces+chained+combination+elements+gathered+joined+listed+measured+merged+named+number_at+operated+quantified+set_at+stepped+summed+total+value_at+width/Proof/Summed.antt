@@ -2,10 +2,10 @@
 use Prim.Native.Nat.{ℕ}
 use native.Mathlib.Omega.{arith}
 use borrow.Author.Needs.{needs}
-use Rattle.evaluation.specs.OverLaws as L
-use Rattle.evaluation.specs.StepLaws as S
-use Rattle.evaluation.specs.Operands as O
-use Rattle.evaluation.specs.TellingLaws as T
+use Rattle.operands.specs.OverLaws as L
+use Rattle.operands.specs.StepLaws as S
+use Rattle.operands.specs.Operands as O
+use Rattle.operands.specs.TellingLaws as T
 use Rattle.evaluation.proofs.evaluate.summed.Reads as summed
 use Rattle.evaluation.proofs.evaluate.+arithmetic+big+bounds+braces+chained+combination+elements+gathered+joined+listed+measured+merged+named+number_at+operated+quantified+set_at+stepped+summed+total+value_at+width.Lts-summed as summed-lts
 use Rattle.evaluation.proofs.evaluate.+arithmetic+big+bounds+braces+chained+combination+elements+gathered+joined+listed+measured+merged+named+number_at+operated+quantified+set_at+stepped+summed+total+value_at+width.Proof.Calls.{summed-at, summed-calls}

@@ -4,14 +4,14 @@ use mathlib.Core.Path.{_≡_, refl, sym, ap, _∙_}
 use native.Mathlib.Omega.{arith}
 use borrow.Author.Needs.{needs}
 use lib.ListN.{length, getD, length-set}
-use Rattle.evaluation.specs.Working.{source, state}
-use Rattle.evaluation.specs.FoldLaws as D
-use Rattle.evaluation.specs.TotalLaws as A
-use Rattle.evaluation.specs.OverLaws as L
-use Rattle.evaluation.specs.Classes.{classOf}
-use Rattle.evaluation.specs.StepLaws as S
-use Rattle.evaluation.specs.Operands as O
-use Rattle.evaluation.specs.TellingLaws as T
+use Rattle.operands.specs.Working.{source, state}
+use Rattle.operands.specs.FoldLaws as D
+use Rattle.operands.specs.TotalLaws as A
+use Rattle.operands.specs.OverLaws as L
+use Rattle.operands.specs.Classes.{classOf}
+use Rattle.operands.specs.StepLaws as S
+use Rattle.operands.specs.Operands as O
+use Rattle.operands.specs.TellingLaws as T
 use Rattle.evaluation.proofs.evaluate.total.Reads as total
 use Rattle.evaluation.proofs.evaluate.+arithmetic+big+bounds+braces+chained+combination+elements+gathered+joined+listed+measured+merged+named+number_at+operated+quantified+set_at+stepped+summed+total+value_at+width.Lts-total as total-lts
 use Rattle.evaluation.proofs.evaluate.+arithmetic+big+bounds+braces+chained+combination+elements+gathered+joined+listed+measured+merged+named+number_at+operated+quantified+set_at+stepped+summed+total+value_at+width.Proof.Calls.{total-at, total-calls}

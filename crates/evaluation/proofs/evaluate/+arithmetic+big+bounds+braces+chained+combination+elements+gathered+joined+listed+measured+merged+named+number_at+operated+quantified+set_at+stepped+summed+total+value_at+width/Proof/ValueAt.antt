@@ -3,12 +3,12 @@ use Prim.Native.Nat.{ℕ}
 use mathlib.Core.Path.{sym, ap, _∙_}
 use native.Mathlib.Omega.{arith}
 use borrow.Author.Needs.{needs}
-use Rattle.evaluation.specs.Entries.{kindAt}
-use Rattle.evaluation.specs.Classes.{classOf}
-use Rattle.evaluation.specs.StepLaws as S
-use Rattle.evaluation.specs.KindLaws as K
-use Rattle.evaluation.specs.Operands as O
-use Rattle.evaluation.specs.NameLaws as N
+use Rattle.operands.specs.Entries.{kindAt}
+use Rattle.operands.specs.Classes.{classOf}
+use Rattle.operands.specs.StepLaws as S
+use Rattle.operands.specs.KindLaws as K
+use Rattle.operands.specs.Operands as O
+use Rattle.operands.specs.NameLaws as N
 use Rattle.evaluation.proofs.evaluate.value_at.Reads as value-at
 use Rattle.evaluation.proofs.evaluate.+arithmetic+big+bounds+braces+chained+combination+elements+gathered+joined+listed+measured+merged+named+number_at+operated+quantified+set_at+stepped+summed+total+value_at+width.Lts-value_at as value-at-lts
 use Rattle.evaluation.proofs.evaluate.+arithmetic+big+bounds+braces+chained+combination+elements+gathered+joined+listed+measured+merged+named+number_at+operated+quantified+set_at+stepped+summed+total+value_at+width.Proof.Calls.{value-at-at, value-at-calls}

@@ -3,10 +3,10 @@ use Prim.Native.Nat.{ℕ}
 use mathlib.Core.Path.{refl, ap}
 use native.Mathlib.Omega.{arith}
 use borrow.Author.Needs.{needs}
-use Rattle.evaluation.specs.Classes.{classOf}
-use Rattle.evaluation.specs.StepLaws as S
-use Rattle.evaluation.specs.Operands as O
-use Rattle.evaluation.specs.TellingLaws as T
+use Rattle.operands.specs.Classes.{classOf}
+use Rattle.operands.specs.StepLaws as S
+use Rattle.operands.specs.Operands as O
+use Rattle.operands.specs.TellingLaws as T
 use Rattle.evaluation.proofs.evaluate.width.Reads as width
 use Rattle.evaluation.proofs.evaluate.+arithmetic+big+bounds+braces+chained+combination+elements+gathered+joined+listed+measured+merged+named+number_at+operated+quantified+set_at+stepped+summed+total+value_at+width.Lts-width as width-lts
 use Rattle.evaluation.proofs.evaluate.+arithmetic+big+bounds+braces+chained+combination+elements+gathered+joined+listed+measured+merged+named+number_at+operated+quantified+set_at+stepped+summed+total+value_at+width.Proof.Calls.{width-at, width-calls}

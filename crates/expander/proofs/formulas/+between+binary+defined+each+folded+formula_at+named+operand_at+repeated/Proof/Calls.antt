@@ -39,14 +39,14 @@ use Rattle.choices.proofs.folds.finish.Reads as finish-reads
 use Rattle.choices.proofs.folds.further.Reads as further-reads
 use Rattle.expander.proofs.handed.Reads as handed-reads
 use Rattle.writing.proofs.join.Reads as join-reads
-use Rattle.evaluation.proofs.entry.kind_at.Reads as kind-at-reads
+use Rattle.operands.proofs.entry.kind_at.Reads as kind-at-reads
 use Rattle.expander.proofs.marks.mark.Reads as mark-reads
 use Rattle.writing.proofs.nexts.Reads as nexts-reads
 use Rattle.evaluation.proofs.evaluate.number_at.Reads as number-at-reads
-use Rattle.evaluation.proofs.entry.place_at.Reads as place-at-reads
+use Rattle.operands.proofs.entry.place_at.Reads as place-at-reads
 use Rattle.evaluation.proofs.evaluate.set_at.Reads as set-at-reads
 use Rattle.expander.proofs.signals.signal_at.Reads as signal-at-reads
-use Rattle.evaluation.proofs.entry.size_at.Reads as size-at-reads
+use Rattle.operands.proofs.entry.size_at.Reads as size-at-reads
 use Rattle.writing.proofs.window.window.Reads as window-reads
 use Rattle.shapes.proofs.window_kind.Reads as window-kind-reads
 

@@ -5,7 +5,7 @@ use native.Mathlib.Omega.{arith}
 use borrow.Author.Needs.{needs}
 use lib.ListN.{length, getD, length-set}
 use lib.Dec.{eqb}
-use Rattle.evaluation.specs.Working.{source, state}
+use Rattle.operands.specs.Working.{source, state}
 use Rattle.shapes.specs.ShapeLaws.{big-kind}
 use Rattle.expander.specs.Expanding.{tables}
 use Rattle.expander.specs.FoldSteps.{gathering-none, gathering-more, gathering-no, gathering-all}

@@ -1,0 +1,116 @@
+-- 14 and 15 behind all lines, then what is handed over.
+use Prim.Native.Nat.{ℕ}
+use mathlib.Core.Bool.{true, false}
+use mathlib.Core.List.{List}
+use mathlib.Core.Option.{some}
+use mathlib.Core.Path.{_≡_, refl, sym, ap, subst}
+use lib.ListN.{length}
+use native.Mathlib.Omega.{arith}
+use Rattle.node.specs.Ltl.{Formula}
+use Rattle.node.specs.Result.{Result, Done, Refused, _>>=_}
+use Rattle.node.specs.ResultLaws.{not-done}
+use Rattle.node.specs.declared.Answer.{Answer}
+use Rattle.language.specs.Tree.{Part, Model, Mealy, Moore, Spec}
+use Rattle.language.specs.Declared.{Declarations}
+use Rattle.language.specs.Numbering.{inOrder, signalList}
+use Rattle.language.specs.Lines.{lines}
+use Rattle.language.specs.Expansion.{Sections, gather, atSignals, defineAll, expandSection, section, whole, expand}
+use Rattle.language.specs.Reading.{sameModel, Converted, delivered}
+use Rattle.language.specs.Laws.Values.SignalLaws.{signals-few}
+use Rattle.parser.specs.declared.Facts.{Facts}
+use Rattle.parser.specs.Outlines.{modelCode, factsOf}
+use Rattle.ports.specs.declared.Signals.{Signals}
+use Rattle.ports.specs.declared.Signals.the-variants.{Listed, TooMany}
+use Rattle.assembly.specs.Gathered.{inTurn, Gathered, GatheredFrom}
+use Rattle.assembly.specs.ExpandLaws.{linesInTurn}
+use Rattle.ending.specs.Endings.{ended, fitted, models-differ, too-many, few-signals}
+use Rattle.ending.specs.Listing.{startOf, Listing}
+use Rattle.ending.specs.Hands.{Hands, hands-as, hands-refused}
+use Rattle.ending.specs.Handing.{Assemblable, HandsOver}
+
+-- all lines of the text x are worked out and gathered, by what it declares
+pub record Complete (f : Facts) (s : Signals) (words : List ℕ) (count : ℕ) (table : List ℕ) (at : ℕ) (list : List ℕ) (x : Spec) (d : Declarations) : Type 0 where
+  pub facts : f ≡ factsOf x
+  pub listing : Listing s d list
+  pub all : List (Part × Formula)
+  pub turned : linesInTurn x d (lines x d) ≡ Done all
+  pub gathered : GatheredFrom (startOf s) all words count table at
+
+pub record SomeComplete (f : Facts) (s : Signals) (words : List ℕ) (count : ℕ) (table : List ℕ) (at : ℕ) (list : List ℕ) : Type 0 where
+  pub x : Spec
+  pub d : Declarations
+  pub gathers : Complete f s words count table at list x d
+
+-- the answer on a text, its declarations given
+abbrev pub Finishes : Spec → Declarations → (nodes signals nodes′ signals′ : List ℕ) → Answer → Type 0
+Finishes x d nodes signals nodes′ signals′ r = Hands ((expand x d (lines x d) >>= ended x d) >>= delivered (length nodes) (length signals)) nodes signals nodes′ signals′ r
+
+-- models by their codes
+same-models : (a b : Model) → modelCode a ≡ modelCode b → sameModel a b ≡ true
+same-models Mealy Mealy e = refl
+same-models Mealy Moore e = absurd (omega arith)
+same-models Moore Mealy e = absurd (omega arith)
+same-models Moore Moore e = refl
+
+other-models : (a b : Model) → (modelCode a ≡ modelCode b → ⊥) → sameModel a b ≡ false
+other-models Mealy Mealy e = absurd (e refl)
+other-models Mealy Moore e = refl
+other-models Moore Mealy e = refl
+other-models Moore Moore e = absurd (e refl)
+
+-- lines that are all worked out make a formula of their sections
+pub record Sectioned (x : Spec) (d : Declarations) (all : List (Part × Formula)) : Type 0 where
+  pub sections : Sections
+  pub same : all ≡ inTurn sections
+  pub is : expand x d (lines x d) ≡ Done (whole (x .strict) (section sections))
+
+sectioned : (x : Spec) (d : Declarations) {all : List (Part × Formula)} → linesInTurn x d (lines x d) ≡ Done all → Sectioned x d all
+unfolding _>>=_
+sectioned x d {all} e = go (gather (expandSection (defineAll (atSignals d) (x .definitions))) (lines x d)) refl e
+  where
+    go : (s : Result Sections) → gather (expandSection (defineAll (atSignals d) (x .definitions))) (lines x d) ≡ s → (s >>= λ ss. Done (inTurn ss)) ≡ Done all → Sectioned x d all
+    go (Done ss) q e = record { sections = ss; same = (let z : all ≡ inTurn ss = cc in z); is = ap (λ (r : Result Sections). r >>= λ ss. Done (whole (x .strict) (section ss))) q }
+    go (Refused n p) q e = absurd (not-done e)
+
+module _ {f : Facts} {s : Signals} {words table list : List ℕ} {count at : ℕ} {x : Spec} {d : Declarations} (g : Complete f s words count table at list x d) (nodes signals : List ℕ) where
+  abbrev end : Converted → Result Converted
+  end = delivered (length nodes) (length signals)
+
+  made : Sectioned x d (g .all)
+  made = sectioned x d (g .turned)
+
+  pub finish-models : (f .semantics ≡ f .target → ⊥) → Finishes x d nodes signals nodes signals (Answer.Refused 14 (f .place))
+  finish-models h =
+      let same = g .facts in
+      subst (λ (i : Facts). Finishes x d nodes signals nodes signals (Answer.Refused 14 (i .place))) (sym same)
+      (hands-refused nodes signals (models-differ end x d (made .is) (other-models (x .semantics) (x .target) (subst (λ (i : Facts). i .semantics ≡ i .target → ⊥) same h))))
+
+  module _ (h : f .semantics ≡ f .target) where
+    model : sameModel (x .semantics) (x .target) ≡ true
+    model = same-models (x .semantics) (x .target) (subst (λ (i : Facts). i .semantics ≡ i .target) (g .facts) h)
+
+    pub finish-many : {p : ℕ} → s ≡ TooMany p → Finishes x d nodes signals nodes signals (Answer.Refused 15 p)
+    finish-many q = hands-refused nodes signals (too-many end x d (made .is) model (subst (λ i. Listing i d list) q (g .listing)))
+
+    pub finish-few : {n : ℕ} {nodes′ signals′ : List ℕ} {r : Answer} → s ≡ Listed n → HandsOver (f .strict) words count table at list n nodes signals nodes′ signals′ r
+        → Finishes x d nodes signals nodes′ signals′ r
+    finish-few {n} {nodes′} {signals′} {r} q o =
+        let l : Listing (Listed n) d list = subst (λ i. Listing i d list) q (g .listing) in
+        let t : Gathered (inTurn (made .sections)) words count table at =
+        subst (λ a. Gathered a words count table at) (made .same) (subst (λ i. GatheredFrom (startOf i) (g .all) words count table at) q (g .gathered)) in
+        let strict : f .strict ≡ x .strict = ap (λ (i : Facts). i .strict) (g .facts) in
+        hands-as (few-signals end x d (made .is) model (l .0))
+        (subst (λ b. Hands (fitted (whole b (section (made .sections))) (signalList (inOrder d)) >>= end) nodes signals nodes′ signals′ r) strict
+        (subst (λ a. Hands (fitted (whole (f .strict) (section (made .sections))) a >>= end) nodes signals nodes′ signals′ r) (l .1 .1 .0) (o .hands (made .sections) t)))
+
+-- what the handing over asks for
+pub finish-gathering : {f : Facts} {s : Signals} {words table list : List ℕ} {count at n : ℕ} → SomeComplete f s words count table at list → s ≡ Listed n → Assemblable words count table at list n
+finish-gathering {f} {s} {words} {table} {list} {count} {at} {n} h q =
+    let g = h .gathers in
+    let l : Listing (Listed n) (h .d) list = subst (λ i. Listing i (h .d) list) q (g .listing) in
+    let few = signals-few 0 (inOrder (h .d)) (omega arith) (l .0) in
+    record {
+      gathered = record { some = g .all; gathered = subst (λ i. GatheredFrom (startOf i) (g .all) words count table at) q (g .gathered) };
+      few = omega (arith, l .1 .0);
+      listed = l .1 .1 .1;
+    }

@@ -1,0 +1,71 @@
+// Files read to their end, for the programs: as many bytes as there is room for, and how many there are.
+ghost use Prim.Native.Nat.{_≤_, min};
+ghost use mathlib.Core.Path.{_≡_};
+ghost use lib.ListN.{length};
+ghost use Rattle.io.specs.Counts.{Counts};
+
+// Told in place of a number of bytes where a read fails.
+pub const UNREADABLE: usize = 18446744073709551615;
+
+// The last place that 32 bits can tell.
+const LAST_PLACE: usize = 4294967295;
+
+fn least(a: usize, b: usize) -> usize
+    ensures { λ r. ⌜ r ≡ min a b ⌝ }
+{
+    if a < b { a } else { b }
+}
+
+// As many of some bytes as the buffer has. It takes the buffer and not its length, so that a caller may lend that part of it without a proof.
+pub fn within(n: usize, buf: &[u8]) -> usize
+    ensures { λ r. ⌜ Counts r (now (buf .entry)) ⌝ }
+{
+    least(n, buf.len())
+}
+
+// One read into the buffer from an index on.
+fn more(fd: i32, buf: &mut [u8], from: usize) -> usize
+    requires { ⌜ from ≤ length (now buf) ⌝ }
+{
+    let got = libc::read(fd, &mut buf[from..]);
+    if got < 0 {
+        return UNREADABLE;
+    }
+    io::count(got, &buf[from..])
+}
+
+// Reads until the buffer is full or the input ends, and tells how many bytes it has put there.
+pub fn fill(fd: i32, buf: &mut [u8]) -> usize {
+    let mut done = 0;
+    while done < buf.len() {
+        let got = more(fd, buf, done);
+        if got == UNREADABLE {
+            return UNREADABLE;
+        }
+        if got == 0 {
+            return done;
+        }
+        done += least(got, buf.len() - done);
+    }
+    done
+}
+
+// How many bytes there are, some of which have been read; counted up to the last place.
+pub fn size(fd: i32, first: usize, spare: &mut [u8]) -> usize {
+    let mut total = first;
+    while total < LAST_PLACE {
+        let got = fill(fd, spare);
+        if got == UNREADABLE {
+            return UNREADABLE;
+        }
+        if got == 0 {
+            return total;
+        }
+        total += least(got, LAST_PLACE - total);
+    }
+    total
+}
+
+pub fn told(size: usize) -> u32 {
+    least(size, LAST_PLACE) as u32
+}

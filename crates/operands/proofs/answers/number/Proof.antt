@@ -1,0 +1,20 @@
+use borrow.Author.Needs.{needs}
+use Rattle.operands.proofs.answers.number.Statement.{statement}
+use Rattle.operands.proofs.answers.number.Tie as tie
+use Rattle.operands.proofs.answers.number.Reads as reads
+use Rattle.operands.proofs.answers.number.Lts as lts
+
+enum-known-w : tie.Need-enum-known-w
+enum-known-w c = search needs
+
+enum-known-w-2 : tie.Need-enum-known-w-2
+enum-known-w-2 c = search needs
+
+returns : tie.Need-returns
+returns c = rw (c .before .w .given .1)
+
+returns-2 : tie.Need-returns-2
+returns-2 c = rw (c .before .w2 .given .1)
+
+pub number-spec : {M : Type 1} → statement M
+number-spec = tie.close (tie.spec enum-known-w enum-known-w-2 returns returns-2)

@@ -1,0 +1,26 @@
+use Rattle.operands.specs.Entries.{placeAt}
+use borrow.Author.Needs.{needs}
+use Rattle.operands.proofs.entry.place_at.Statement.{statement}
+use Rattle.operands.proofs.entry.place_at.Tie as tie
+use Rattle.operands.proofs.entry.place_at.Reads as reads
+use Rattle.operands.proofs.entry.place_at.Lts as lts
+use Rattle.words.proofs.get.Reads as get-reads
+
+add-get : tie.Need-add-get
+add-get c = search needs
+
+get-requires : tie.Need-get-requires
+get-requires c κs = search needs
+
+cast-token : tie.Need-cast-token
+cast-token c = search needs
+
+get-requires-2 : tie.Need-get-requires-2
+get-requires-2 c κs = search needs
+
+returns : tie.Need-returns
+unfolding placeAt
+returns c = rw (c .get2 .ensures, c .before .get .ensures)
+
+pub place-at-spec : {M : Type 1} → statement M
+place-at-spec = tie.close (tie.spec add-get get-requires cast-token get-requires-2 returns)

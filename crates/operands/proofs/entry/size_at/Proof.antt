@@ -1,0 +1,23 @@
+use Rattle.operands.specs.Entries.{sizeAt}
+use borrow.Author.Needs.{needs}
+use Rattle.operands.proofs.entry.size_at.Statement.{statement}
+use Rattle.operands.proofs.entry.size_at.Tie as tie
+use Rattle.operands.proofs.entry.size_at.Reads as reads
+use Rattle.operands.proofs.entry.size_at.Lts as lts
+use Rattle.words.proofs.get.Reads as get-reads
+
+add-get : tie.Need-add-get
+add-get c = search needs
+
+get-requires : tie.Need-get-requires
+get-requires c κs = search needs
+
+cast-result : tie.Need-cast-result
+cast-result c = search needs
+
+returns : tie.Need-returns
+unfolding sizeAt
+returns c = search needs
+
+pub size-at-spec : {M : Type 1} → statement M
+size-at-spec = tie.close (tie.spec add-get get-requires cast-result returns)

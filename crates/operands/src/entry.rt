@@ -1,0 +1,32 @@
+// What a stored entry says. The functions are called with entries that are there.
+use entries::FIRST_ENTRY;
+use words::get;
+ghost use mathlib.Core.Path.{_≡_};
+ghost use Prim.Native.Nat.{_≤_, _<_};
+ghost use lib.ListN.{length};
+ghost use Rattle.language.specs.Limits.{maxTokens, workBytes};
+ghost use Rattle.operands.specs.Entries.{kindAt, sizeAt, placeAt};
+
+pub fn kind_at(work: &[u8], k: usize) -> u32
+    requires { ⌜ (k < maxTokens) × (workBytes ≤ length (now work)) ⌝ }
+    ensures { λ r. ⌜ r ≡ kindAt (now (work .entry)) k ⌝ }
+{
+    get(work, FIRST_ENTRY + k) / 8192 / 8192
+}
+
+// How many entries the expression takes.
+pub fn size_at(work: &[u8], k: usize) -> usize
+    requires { ⌜ (k < maxTokens) × (workBytes ≤ length (now work)) ⌝ }
+    ensures { λ r. ⌜ r ≡ sizeAt (now (work .entry)) k ⌝ }
+{
+    (get(work, FIRST_ENTRY + k) % 8192) as usize
+}
+
+// The place of its token.
+pub fn place_at(work: &[u8], k: usize) -> u32
+    requires { ⌜ (k < maxTokens) × (workBytes ≤ length (now work)) ⌝ }
+    ensures { λ r. ⌜ r ≡ placeAt (now (work .entry)) k ⌝ }
+{
+    let token = (get(work, FIRST_ENTRY + k) / 8192 % 8192) as usize;
+    get(work, token) / 256 % 65536
+}

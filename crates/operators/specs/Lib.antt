@@ -1,0 +1,3 @@
+pub mod Readers
+pub mod Tables
+pub mod TableLaws

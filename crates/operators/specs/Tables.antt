@@ -1,0 +1,57 @@
+-- Table 1's rows by the numbers of tokens, packed into words as the code has them.
+use Prim.Native.Nat.{ℕ}
+use Prim.Native.String.{String}
+use mathlib.Core.List.{List, [], _∷_}
+use mathlib.Core.Bool.{true, false}
+use mathlib.Core.Option.{Option, none, some}
+use Rattle.node.specs.BitFields.{join}
+use Rattle.language.specs.Operators.{Role, Plain, Counted, Windowed, Folding, InfixRow, infixes, PrefixRow, prefixes}
+use Rattle.language.specs.Grammar.{rightLevel}
+use Rattle.lexer.specs.Numbers.{numbered}
+use Rattle.entries.specs.Kinds as Kind
+use Rattle.operators.specs.Readers.{soleOf}
+
+-- the first row that has a token of this number among its names
+abbrev pub rowBy : {R : Type 0} → (R → List String) → List R → ℕ → Option R
+rowBy names [] n = none
+rowBy names (r ∷ rs) n = elim (numbered (names r) n) [ true ↦ some r | false ↦ rowBy names rs n ]
+
+abbrev pub infixBy : ℕ → Option InfixRow
+infixBy n = rowBy (λ (r : InfixRow). r .names) infixes n
+
+abbrev pub prefixBy : ℕ → Option PrefixRow
+prefixBy n = rowBy (λ (r : PrefixRow). r .names) prefixes n
+
+-- the entry's kind, the right operand's level, the level
+abbrev pub infixWord : Option InfixRow → ℕ
+infixWord none = 0
+infixWord (some r) = join 5 (join 5 (Kind.joining (r .operator)) (rightLevel r)) (r .level)
+
+abbrev pub roleNumber : Role → ℕ
+roleNumber (Plain p) = 1
+roleNumber Counted = 2
+roleNumber (Windowed o) = 3
+roleNumber (Folding o) = 4
+
+-- the kind of the entry with a count or a window; without, or of the big operator
+abbrev pub windowKind : Role → ℕ
+windowKind (Plain p) = 0
+windowKind Counted = Kind.nexts
+windowKind (Windowed o) = Kind.window o
+windowKind (Folding o) = 0
+
+abbrev pub soleKind : Role → ℕ
+soleKind (Plain p) = Kind.before p
+soleKind Counted = Kind.before (soleOf Counted)
+soleKind (Windowed o) = Kind.before (soleOf (Windowed o))
+soleKind (Folding o) = Kind.big o
+
+abbrev pub prefixWord : Option PrefixRow → ℕ
+prefixWord none = 0
+prefixWord (some r) = join 5 (join 3 (join 6 (windowKind (r .role)) (soleKind (r .role))) (roleNumber (r .role))) (r .level)
+
+unfoldable pub infixAt : ℕ → ℕ
+infixAt n = infixWord (infixBy n)
+
+unfoldable pub prefixAt : ℕ → ℕ
+prefixAt n = prefixWord (prefixBy n)

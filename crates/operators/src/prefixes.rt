@@ -1,0 +1,167 @@
+// Table 1 of document 001 by the numbers of tokens, operators before their operand: a new one is a new row here.
+ghost use mathlib.Core.Path.{_≡_};
+ghost use Rattle.operators.specs.Tables.{prefixAt};
+
+// An operator before its operand: the kind of its entry with a window or a count, without, its role, its level.
+const WINDOW: u32 = 16384;
+
+const SOLE: u32 = 256;
+
+const ROLE: u32 = 32;
+
+const PLAIN: u32 = 1 * ROLE;
+
+const COUNTED: u32 = 2 * ROLE;
+
+const WINDOWED: u32 = 3 * ROLE;
+
+const FOLDING: u32 = 4 * ROLE;
+
+const SUM: u32 = 39 * SOLE + FOLDING + 1;
+
+const PRODUCT: u32 = 40 * SOLE + FOLDING + 1;
+
+const SIZE: u32 = 6 * SOLE + PLAIN + 1;
+
+const MIN: u32 = 7 * SOLE + PLAIN + 1;
+
+const MAX: u32 = 8 * SOLE + PLAIN + 1;
+
+const SIZEOF: u32 = 9 * SOLE + PLAIN + 1;
+
+const BIG_CAP: u32 = 41 * SOLE + FOLDING + 5;
+
+const BIG_CUP: u32 = 42 * SOLE + FOLDING + 5;
+
+const NOT: u32 = 10 * SOLE + PLAIN + 11;
+
+const NEXT: u32 = 36 * WINDOW + 11 * SOLE + COUNTED + 11;
+
+const FINALLY: u32 = 37 * WINDOW + 13 * SOLE + WINDOWED + 11;
+
+const GLOBALLY: u32 = 38 * WINDOW + 12 * SOLE + WINDOWED + 11;
+
+const BIG_AND: u32 = 43 * SOLE + FOLDING + 11;
+
+const BIG_OR: u32 = 44 * SOLE + FOLDING + 11;
+
+// How many numbers of tokens there are: five classes, then signs and words.
+const COUNT: u32 = 104;
+
+const PREFIX: [u32; 104] = [
+    0,
+    0,
+    0,
+    0,
+    0,
+    0,
+    BIG_CAP,
+    BIG_CUP,
+    0,
+    0,
+    0,
+    0,
+    0,
+    0,
+    0,
+    0,
+    0,
+    BIG_AND,
+    BIG_OR,
+    0,
+    0,
+    0,
+    0,
+    0,
+    0,
+    0,
+    0,
+    0,
+    0,
+    0,
+    0,
+    0,
+    PRODUCT,
+    0,
+    0,
+    SUM,
+    0,
+    0,
+    0,
+    NOT,
+    0,
+    0,
+    0,
+    0,
+    0,
+    0,
+    0,
+    0,
+    0,
+    0,
+    0,
+    0,
+    0,
+    0,
+    0,
+    0,
+    0,
+    0,
+    0,
+    0,
+    0,
+    0,
+    0,
+    0,
+    0,
+    0,
+    0,
+    0,
+    SUM,
+    PRODUCT,
+    SIZE,
+    MIN,
+    MAX,
+    SIZEOF,
+    0,
+    0,
+    0,
+    0,
+    0,
+    BIG_CAP,
+    BIG_CUP,
+    0,
+    0,
+    0,
+    0,
+    0,
+    0,
+    0,
+    0,
+    0,
+    0,
+    NOT,
+    NEXT,
+    FINALLY,
+    GLOBALLY,
+    BIG_AND,
+    BIG_AND,
+    BIG_OR,
+    BIG_OR,
+    0,
+    0,
+    0,
+    0,
+    0,
+];
+
+// The row of an operator before its operand, 0 if the number is none.
+pub fn prefix(number: u32) -> u32
+    ensures { λ r. ⌜ r ≡ prefixAt number ⌝ }
+{
+    if number < COUNT {
+        let n = number as usize;
+        return PREFIX[n];
+    }
+    0
+}
