@@ -1,5 +1,5 @@
 -- How the numbers of names are made, one token after the other.
-use Prim.Native.Nat.{ℕ, zero, suc, _+_, _/_, _%_, _≤_, _<_}
+use Prim.Native.Nat.{ℕ, zero, suc, _+_, _*_, _/_, _%_, _≤_, _<_}
 use mathlib.Core.List.{List, [], _∷_}
 use mathlib.Core.Bool.{Bool, true, false, false≢true}
 use mathlib.Core.Logic.{_≢_}
@@ -22,7 +22,6 @@ use Rattle.lexer.specs.LexingLaws.{lexical, token-stands, number-at, offset-at,
 use Rattle.lexer.specs.Stored.{numberIn, offsetIn, lengthIn}
 use Rattle.words.specs.Words.{wordAt}
 use Rattle.names.specs.Trie.{maxNodes, Trie, Spells}
-use Rattle.names.specs.Spellings.{never-empty}
 use Rattle.names.specs.SpellLaws.{part, spells-few}
 use Rattle.names.specs.Interned.{tokenAt, IsName, Lexed, top, Interned, Indexed, Begun}
 use Rattle.names.specs.TopLaws.{top-least}
@@ -72,29 +71,30 @@ module _ {text w : List ℕ} {count : ℕ} (h : Lexed text w count) (j : ℕ) (l
   next-place = next-token 0 (tokens text) j (tokens-rise text) before
 
 -- before the first token there is the empty spelling alone
-trie-start : {first next byte : List ℕ} → length byte ≤ length first → length byte ≤ length next → 1 ≤ length byte → ((k : ℕ) → getD first k 0 ≡ 0) → Trie first next byte 1
-trie-start a b c none =
+trie-start : {links byte : List ℕ} → 3 * length byte ≤ length links → 1 ≤ length byte → ((k : ℕ) → getD byte k 0 < 256) → ((l : ℕ) → getD links l 0 ≡ 0) → Trie links byte 1
+trie-start a c small none =
     record {
       str = λ k. [];
-      first-room = a;
-      next-room = b;
+      parent = λ k. 0;
+      links-room = a;
       byte-room = c;
       rooted = omega arith;
       root = refl;
       distinct = λ i k l r e. omega arith;
-      parent = λ k p l. absurd (omega arith);
-      newest = λ p l d. absurd (d (none p));
-      before = λ p k l x d. absurd (never-empty [] _ (x .1));
-      none-newer = λ p k l x. absurd (never-empty [] _ (x .1));
-      none-between = λ p k i l x y m. absurd (never-empty [] _ (x .1));
-      unused = λ k l. none k;
+      child = λ k p l. absurd (omega arith);
+      small = λ k l. small k;
+      inside = λ l. let e = none l in omega arith;
+      rising = λ l d. absurd (d (none l));
+      once = λ l m d. absurd (d (none l));
+      owned = λ l d. absurd (d (none l));
+      found = λ k p l. absurd (omega arith);
     }
 
-indexed-start : (ts : List Token) {first next byte ids : List ℕ} → Trie first next byte 1 → maxTokens ≤ length ids → ((i : ℕ) → getD ids i 0 ≡ 0) → Indexed ts 0 first next byte 1 ids
+indexed-start : (ts : List Token) {links byte ids : List ℕ} → Trie links byte 1 → maxTokens ≤ length ids → ((i : ℕ) → getD ids i 0 ≡ 0) → Indexed ts 0 links byte 1 ids
 indexed-start ts t l none =
     record { trie = t; few = omega arith; room = l; inside = λ i. let e = none i in omega arith; spells = λ i m n. absurd (omega arith) }
 
-module _ {ts : List Token} {j : ℕ} {first next byte ids : List ℕ} {n : ℕ} (x : Indexed ts j first next byte n ids) where
+module _ {ts : List Token} {j : ℕ} {links byte ids : List ℕ} {n : ℕ} (x : Indexed ts j links byte n ids) where
   -- the last of the tokens passed, or one before it
   last-or-before : (P : ℕ → Type 0) → ((i : ℕ) → i < j → P i) → P j → (i : ℕ) → i < suc j → P i
   last-or-before P f g i l = go (eqb i j) refl
@@ -106,7 +106,7 @@ module _ {ts : List Token} {j : ℕ} {first next byte ids : List ℕ} {n : ℕ} 
           before-it : (a b : ℕ) → a ≢ b → a < suc b → a < b
           before-it a b d l = omega arith
 
-  pub indexed-other : tokenAt ts j .at + length (tokenAt ts j .text) ≤ tokenAt ts (suc j) .at → isOf Name (tokenAt ts j) ≡ false → Indexed ts (suc j) first next byte n ids
+  pub indexed-other : tokenAt ts j .at + length (tokenAt ts j .text) ≤ tokenAt ts (suc j) .at → isOf Name (tokenAt ts j) ≡ false → Indexed ts (suc j) links byte n ids
   indexed-other up other =
       record {
         trie = x .trie;
@@ -116,7 +116,7 @@ module _ {ts : List Token} {j : ℕ} {first next byte ids : List ℕ} {n : ℕ} 
         spells = last-or-before (λ i. IsName ts i → x .trie .str (getD ids i 0) ≡ tokenAt ts i .text) (x .spells) (λ y. absurd (false≢true (sym other ∙ y)));
       }
 
-  pub indexed-name : {first′ next′ byte′ : List ℕ} {m r : ℕ} → tokenAt ts j .at + length (tokenAt ts j .text) ≤ tokenAt ts (suc j) .at → j < maxTokens → Spells (x .trie) first′ next′ byte′ (tokenAt ts j .text) m r → Indexed ts (suc j) first′ next′ byte′ m (set ids j r)
+  pub indexed-name : {links′ byte′ : List ℕ} {m r : ℕ} → tokenAt ts j .at + length (tokenAt ts j .text) ≤ tokenAt ts (suc j) .at → j < maxTokens → Spells (x .trie) links′ byte′ (tokenAt ts j .text) m r → Indexed ts (suc j) links′ byte′ m (set ids j r)
   indexed-name {r = r} up l s =
       let here : getD (set ids j r) j 0 ≡ r = getD-set-same ids j r 0 (let q = x .room in omega arith) in
       let there : (i : ℕ) → i ≢ j → getD (set ids j r) i 0 ≡ getD ids i 0 = λ i d. getD-set-other ids j i r 0 d in
@@ -153,11 +153,11 @@ module _ {ts : List Token} {j : ℕ} {first next byte ids : List ℕ} {n : ℕ} 
           go false f = e ∙ sym f
 
 -- one token, by its word
-module _ {text w : List ℕ} {count j word : ℕ} (h : Lexed text w count) (l : j < count) (e : word ≡ wordAt w j) {first next byte ids : List ℕ} {n : ℕ} (x : Indexed (tokens text) j first next byte n ids) where
+module _ {text w : List ℕ} {count j word : ℕ} (h : Lexed text w count) (l : j < count) (e : word ≡ wordAt w j) {links byte ids : List ℕ} {n : ℕ} (x : Indexed (tokens text) j links byte n ids) where
   is-name : word / 256 / 65_536 ≡ 1 → IsName (tokens text) j
   is-name y = name-number h j l (ap numberIn (sym e) ∙ y)
 
-  pub numbered-other : word / 256 / 65_536 ≢ 1 → Indexed (tokens text) (j + 1) first next byte n ids
+  pub numbered-other : word / 256 / 65_536 ≢ 1 → Indexed (tokens text) (j + 1) links byte n ids
   numbered-other d = rw add-one (indexed-other x (next-place h j l) (no-name h j l (λ y. d (ap numberIn e ∙ y))))
 
   -- its bytes lie in the text, and there is room for a node for each
@@ -167,24 +167,24 @@ module _ {text w : List ℕ} {count j word : ℕ} (h : Lexed text w count) (l : 
   few-enough : j < maxTokens
   few-enough = let t = h .total in let f = h .lexical .few in omega arith
 
-  pub numbered-name : word / 256 / 65_536 ≡ 1 → {first′ next′ byte′ : List ℕ} {m r : ℕ} → Spells (x .trie) first′ next′ byte′ (part (word / 256 % 65_536) (word % 256) text) m r → Indexed (tokens text) (j + 1) first′ next′ byte′ m (set ids j r)
-  numbered-name y {first′} {next′} {byte′} {m} {r} s =
+  pub numbered-name : word / 256 / 65_536 ≡ 1 → {links′ byte′ : List ℕ} {m r : ℕ} → Spells (x .trie) links′ byte′ (part (word / 256 % 65_536) (word % 256) text) m r → Indexed (tokens text) (j + 1) links′ byte′ m (set ids j r)
+  numbered-name y {links′} {byte′} {m} {r} s =
       rw add-one
       (indexed-name x (next-place h j l) few-enough
-      (subst (λ u. Spells (x .trie) first′ next′ byte′ u m r) (ap (λ v. part (offsetIn v) (lengthIn v) text) e ∙ name-part h j l (is-name y)) s))
+      (subst (λ u. Spells (x .trie) links′ byte′ u m r) (ap (λ v. part (offsetIn v) (lengthIn v) text) e ∙ name-part h j l (is-name y)) s))
 
-  pub node-small : word / 256 / 65_536 ≡ 1 → {first′ next′ byte′ : List ℕ} {m r : ℕ} → Spells (x .trie) first′ next′ byte′ (part (word / 256 % 65_536) (word % 256) text) m r → r < maxNodes
+  pub node-small : word / 256 / 65_536 ≡ 1 → {links′ byte′ : List ℕ} {m r : ℕ} → Spells (x .trie) links′ byte′ (part (word / 256 % 65_536) (word % 256) text) m r → r < maxNodes
   node-small y s =
       let b = name-bounds y in
       let f = spells-few (word / 256 % 65_536) (word % 256) text s (b .0) in
       omega (arith, s .inside, b .1)
 
 -- there are at most as many numbers as bytes, and one
-pub interned-all : {text w : List ℕ} {count : ℕ} → Lexed text w count → {first next byte ids : List ℕ} {n : ℕ} → Indexed (tokens text) count first next byte n ids → Interned (tokens text) count ids × (top ids ≤ length text + 1)
+pub interned-all : {text w : List ℕ} {count : ℕ} → Lexed text w count → {links byte ids : List ℕ} {n : ℕ} → Indexed (tokens text) count links byte n ids → Interned (tokens text) count ids × (top ids ≤ length text + 1)
 interned-all {text} {count = count} h {ids = ids} x =
     (interned x, top-least ids (length text + 1) (λ i. let e = h .total in let s = token-stands (h .lexical) count (omega arith) .inside in let f = x .few in let l = x .inside i in omega arith))
 
-pub until : {ts : List Token} {j count : ℕ} {first next byte ids : List ℕ} {n : ℕ} → Indexed ts j first next byte n ids → j ≡ count → Indexed ts count first next byte n ids
+pub until : {ts : List Token} {j count : ℕ} {links byte ids : List ℕ} {n : ℕ} → Indexed ts j links byte n ids → j ≡ count → Indexed ts count links byte n ids
 until x e = rw (sym e) x
 
 -- arrays of zeros
@@ -193,13 +193,12 @@ nothing zero k = refl
 nothing (suc n) zero = refl
 nothing (suc n) (suc k) = nothing n k
 
-pub begun-zeros : {text : List ℕ} (a b c d : ℕ) → c ≤ a → c ≤ b → length text < c → maxTokens ≤ d → Begun text (replicate a 0) (replicate b 0) (replicate c 0) (replicate d 0)
-begun-zeros {text} a b c d la lb lc ld =
+pub begun-zeros : {text : List ℕ} (a b d : ℕ) → 3 * b ≤ a → length text < b → maxTokens ≤ d → Begun text (replicate a 0) (replicate b 0) (replicate d 0)
+begun-zeros {text} a b d la lb ld =
     let x = length-replicate {A = ℕ} a 0 in
     let y = length-replicate {A = ℕ} b 0 in
-    let z = length-replicate {A = ℕ} c 0 in
     let w = length-replicate {A = ℕ} d 0 in
-    record { indexed = indexed-start (tokens text) (trie-start (omega arith) (omega arith) (omega arith) (nothing a)) (omega arith) (nothing d); room = omega arith }
+    record { indexed = indexed-start (tokens text) (trie-start (omega arith) (omega arith) (λ k. let e = nothing b k in omega arith) (nothing a)) (omega arith) (nothing d); room = omega arith }
 
 -- what the lexer promises, and what a later stage has kept of it
 pub lexed-from : {text w : List ℕ} {count : ℕ} → Tokenized text w count → workBytes ≤ length w → Lexed text w count

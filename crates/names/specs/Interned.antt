@@ -37,14 +37,14 @@ pub record Interned (ts : List Token) (count : ℕ) (ids : List ℕ) : Type 0 wh
   pub told : (j k : ℕ) → j < count → k < count → IsName ts j → IsName ts k → eqb (getD ids j 0) (getD ids k 0) ≡ same (tokenAt ts j .text) (tokenAt ts k .text)
 
 -- while they are made: the numbers of the first j tokens are nodes of a tree of spellings, which has at most as many nodes as bytes were passed, and one
-pub record Indexed (ts : List Token) (j : ℕ) (first next byte : List ℕ) (n : ℕ) (ids : List ℕ) : Type 0 where
-  pub trie : Trie first next byte n
+pub record Indexed (ts : List Token) (j : ℕ) (links byte : List ℕ) (n : ℕ) (ids : List ℕ) : Type 0 where
+  pub trie : Trie links byte n
   pub few : n ≤ tokenAt ts j .at + 1
   pub room : maxTokens ≤ length ids
   pub inside : (i : ℕ) → getD ids i 0 < n
   pub spells : (i : ℕ) → i < j → IsName ts i → trie .str (getD ids i 0) ≡ tokenAt ts i .text
 
 -- before the first token, in arrays with room for a node for each byte
-pub record Begun (text first next byte ids : List ℕ) : Type 0 where
-  pub indexed : Indexed (tokens text) 0 first next byte 1 ids
+pub record Begun (text links byte ids : List ℕ) : Type 0 where
+  pub indexed : Indexed (tokens text) 0 links byte 1 ids
   pub room : length text < length byte

@@ -7,6 +7,7 @@ pub mod Declaring
 pub mod DeclaringLaws
 pub mod Trie
 pub mod Spellings
+pub mod TrieDepth
 pub mod TrieGrowth
 pub mod TrieSearch
 pub mod SpellLaws

@@ -21,12 +21,12 @@ unfolding part
 part-more at i text l =
     rw (add-one) (take-suc (drop at text) i 0 (rw length-drop (omega arith)) ∙ ap (more (take i (drop at text))) (getD-drop at text i 0))
 
-module _ {first next byte : List ℕ} {n : ℕ} (t : Trie first next byte n) where
-  pub spells-none : {s : List ℕ} → s ≡ [] → Spells t first next byte s n 0
+module _ {links byte : List ℕ} {n : ℕ} (t : Trie links byte n) where
+  pub spells-none : {s : List ℕ} → s ≡ [] → Spells t links byte s n 0
   spells-none e =
       record { trie = t; kept = λ k l. refl; inside = t .rooted; spells = t .root ∙ sym e; less = omega arith; few = omega arith }
 
-  stepped : {first′ next′ byte′ first″ next″ byte″ s u : List ℕ} {m r b q : ℕ} (h : Spells t first′ next′ byte′ s m r) → Steps (h .trie) r b first″ next″ byte″ q → u ≡ more s b → Spells t first″ next″ byte″ u (nodesWith m q) q
+  stepped : {links′ byte′ links″ byte″ s u : List ℕ} {m r b q : ℕ} (h : Spells t links′ byte′ s m r) → Steps (h .trie) r b links″ byte″ q → u ≡ more s b → Spells t links″ byte″ u (nodesWith m q) q
   stepped {s = s} {m = m} {b = b} {q = q} h g e =
       let l = h .less in
       let f = h .few in
@@ -41,11 +41,11 @@ module _ {first next byte : List ℕ} {n : ℕ} (t : Trie first next byte n) whe
         few = omega (arith, g .0);
       }
 
-  pub spells-more : {first′ next′ byte′ first″ next″ byte″ s u : List ℕ} {m r b q w : ℕ} (h : Spells t first′ next′ byte′ s m r) → Steps (h .trie) r b first″ next″ byte″ q → u ≡ more s b → w ≡ nodesWith m q → Spells t first″ next″ byte″ u w q
-  spells-more {first″ = first″} {next″ = next″} {byte″ = byte″} {u = u} {q = q} h g e f = subst (λ w. Spells t first″ next″ byte″ u w q) (sym f) (stepped h g e)
+  pub spells-more : {links′ byte′ links″ byte″ s u : List ℕ} {m r b q w : ℕ} (h : Spells t links′ byte′ s m r) → Steps (h .trie) r b links″ byte″ q → u ≡ more s b → w ≡ nodesWith m q → Spells t links″ byte″ u w q
+  spells-more {links″ = links″} {byte″ = byte″} {u = u} {q = q} h g e f = subst (λ w. Spells t links″ byte″ u w q) (sym f) (stepped h g e)
 
 -- all the bytes
-pub spells-all : {first next byte first′ next′ byte′ : List ℕ} {n m r : ℕ} {t : Trie first next byte n} (at i k : ℕ) (text : List ℕ) → Spells t first′ next′ byte′ (part at i text) m r → i ≡ k → Spells t first′ next′ byte′ (part at k text) m r
+pub spells-all : {links byte links′ byte′ : List ℕ} {n m r : ℕ} {t : Trie links byte n} (at i k : ℕ) (text : List ℕ) → Spells t links′ byte′ (part at i text) m r → i ≡ k → Spells t links′ byte′ (part at k text) m r
 spells-all at i k text h e = rw (sym e) h
 
 pub part-length : (at n : ℕ) (text : List ℕ) → at + n ≤ length text → length (part at n text) ≡ n
@@ -53,5 +53,5 @@ unfolding part
 part-length at n text h = length-take-le n (drop at text) (rw length-drop (omega arith))
 
 -- a byte makes at most one node
-pub spells-few : {first next byte first′ next′ byte′ : List ℕ} {n m r : ℕ} {t : Trie first next byte n} (at i : ℕ) (text : List ℕ) → Spells t first′ next′ byte′ (part at i text) m r → at + i ≤ length text → m ≤ n + i
+pub spells-few : {links byte links′ byte′ : List ℕ} {n m r : ℕ} {t : Trie links byte n} (at i : ℕ) (text : List ℕ) → Spells t links′ byte′ (part at i text) m r → at + i ≤ length text → m ≤ n + i
 spells-few at i text h l = let f = h .few in let p = part-length at i text l in omega arith

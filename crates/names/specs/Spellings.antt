@@ -1,5 +1,5 @@
 -- Spellings with one byte more: when they are equal.
-use Prim.Native.Nat.{ℕ, suc}
+use Prim.Native.Nat.{ℕ, suc, _<_}
 use mathlib.Core.List.{List, [], _∷_, append-cancel-right}
 use mathlib.Core.Bool.{Bool, true, false}
 use mathlib.Core.Logic.{_≢_, _⊎_, inl, inr}
@@ -38,3 +38,6 @@ equal-or-not a b = go (eqb a b) refl
     go : (c : Bool) → eqb a b ≡ c → (a ≡ b) ⊎ (a ≢ b)
     go true e = inl (eqb-true a b e)
     go false e = inr (eqb-false a b e)
+
+pub positive : (a : ℕ) → a ≢ 0 → 0 < a
+positive a d = omega arith

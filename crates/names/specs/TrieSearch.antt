@@ -1,84 +1,105 @@
 -- How a tree of spellings is searched for a child.
-use Prim.Native.Nat.{ℕ, _<_}
+use Prim.Native.Nat.{ℕ, _*_, _/_, _%_, _<_}
 use mathlib.Core.List.{List}
-use mathlib.Core.Bool.{Bool, true, false}
+use mathlib.Core.Bool.{true, false}
 use mathlib.Core.Logic.{_≢_, _⊎_, inl, inr}
-use mathlib.Core.Path.{_≡_, refl, sym, ap, _∙_}
+use mathlib.Core.Path.{_≡_, sym, ap, ap₂, _∙_, subst}
 use native.Mathlib.Omega.{arith}
-use lib.Dec.{ltb}
+use lib.Dec.{eqb}
 use lib.ListN.{getD}
-use borrow.Author.Tests.{ltb-true, ltb-false}
-use Rattle.names.specs.Trie.{more, Child, Trie, Sought}
-use Rattle.names.specs.Spellings.{same-byte, never-empty, equal-or-not}
+use borrow.Author.Tests.{eq-eqb, ne-eqb}
+use Rattle.language.specs.Laws.Basics.Tests.{pick, leave}
+use Rattle.names.specs.Trie.{more, childLink, siblingLink, owner, Leads, here, further, Passed, start, another, Trie, Sought}
+use Rattle.names.specs.TrieDepth.{few-passed}
+use Rattle.names.specs.Spellings.{same-front, same-byte, never-empty, equal-or-not, positive}
 
--- A search goes from a node's newest child to the one before: `at` is a child, or 0, and no child after it has the byte.
-pub record Seeking {first next byte : List ℕ} {n : ℕ} (t : Trie first next byte n) (p b at : ℕ) : Type 0 where
-  pub inside : at < n
-  pub child : at ≢ 0 → Child (t .str) byte n p at
-  pub passed : (k : ℕ) → Child (t .str) byte n p k → at < k → getD byte k 0 ≢ b
+-- whose children a link leads to
+pub owner-child : (parent : ℕ → ℕ) (p : ℕ) → owner parent (childLink p) ≡ p
+unfolding owner
+owner-child parent p =
+    let e : childLink p % 3 ≡ 2 = omega arith in
+    pick (eqb (childLink p % 3) 2) _ _ (eq-eqb (childLink p % 3) 2 e) ∙ omega arith
 
-module _ {first next byte : List ℕ} {n : ℕ} (t : Trie first next byte n) (p b : ℕ) (l : p < n) where
-  pub seek-first : Seeking t p b (getD first p 0)
-  seek-first =
-      record {
-        inside = within (getD first p 0) (λ d. t .newest p l d .0);
-        child = t .newest p l;
-        passed = λ k c less. absurd (let m = t .none-newer p k l c in omega arith);
-      }
-    where
-      within : (m : ℕ) → (m ≢ 0 → m < n) → m < n
-      within m f = go (equal-or-not m 0)
-        where
-          go : (m ≡ 0) ⊎ (m ≢ 0) → m < n
-          go (inl e) = let r = t .rooted in omega arith
-          go (inr d) = f d
+pub owner-sibling : (parent : ℕ → ℕ) (k bits : ℕ) → owner parent (siblingLink k bits) ≡ parent k
+unfolding owner
+owner-sibling parent k bits =
+    let d : siblingLink k bits % 3 ≢ 2 = λ e. omega arith in
+    let q : siblingLink k bits / 3 ≡ k = omega arith in
+    leave (eqb (siblingLink k bits % 3) 2) _ _ (ne-eqb (siblingLink k bits % 3) 2 d) ∙ ap parent q
 
-  -- the child before, if this one has another byte; its number is smaller
-  pub seek-before : (at : ℕ) → Seeking t p b at → at ≢ 0 → getD byte at 0 ≢ b → Seeking t p b (getD next at 0) × (getD next at 0 < at)
-  seek-before at s d other = go (equal-or-not (getD next at 0) 0)
-    where
-      passed′ : (k : ℕ) → Child (t .str) byte n p k → getD next at 0 < k → getD byte k 0 ≢ b
-      passed′ k c less = past (equal-or-not k at)
-        where
-          past : (k ≡ at) ⊎ (k ≢ at) → getD byte k 0 ≢ b
-          past (inl e) = λ f. other (ap (λ m. getD byte m 0) (sym e) ∙ f)
-          past (inr f) = later (below k at f)
-            where
-              below : (i j : ℕ) → i ≢ j → (i < j) ⊎ (j < i)
-              below i j h = order (ltb i j) refl
-                where
-                  order : (c : Bool) → ltb i j ≡ c → (i < j) ⊎ (j < i)
-                  order true e = inl (ltb-true i j e)
-                  order false e = inr (let m = ltb-false i j e in omega arith)
+pub owner-same : (parent′ parent : ℕ → ℕ) (l : ℕ) → parent′ (l / 3) ≡ parent (l / 3) → owner parent′ l ≡ owner parent l
+unfolding owner
+owner-same parent′ parent l e = ap (λ m. elim (eqb (l % 3) 2) [ true ↦ l / 3 | false ↦ m ]) e
 
-              later : (k < at) ⊎ (at < k) → getD byte k 0 ≢ b
-              later (inl h) = absurd (let m = t .none-between p at k l (s .child d) c h in omega arith)
-              later (inr h) = s .passed k c h
+-- A search is at link l, with these bits left: the link is one of p's, and a child of p by byte b lies ahead.
+pub record Seeking {links byte : List ℕ} {n : ℕ} (t : Trie links byte n) (p b l bits : ℕ) : Type 0 where
+  pub inside : l < 3 * n
+  pub owned : owner (t .parent) l ≡ p
+  pub passed : (d : ℕ) × Passed links byte p b d l bits
+  pub ahead : (k : ℕ) → 0 < k → k < n → t .parent k ≡ p → getD byte k 0 ≡ b → Leads links byte b k l bits
 
-      go : (getD next at 0 ≡ 0) ⊎ (getD next at 0 ≢ 0) → Seeking t p b (getD next at 0) × (getD next at 0 < at)
-      go (inl e) =
-          (record { inside = (let r = t .rooted in omega arith); child = λ f. absurd (f e); passed = passed′ }, omega arith)
-      go (inr f) =
-          let q = t .before p at l (s .child d) f in
-          (record { inside = q .0 .0; child = λ _. q .0; passed = passed′ }, q .1)
+module _ {links byte : List ℕ} {n : ℕ} (t : Trie links byte n) (p b : ℕ) (h : p < n) where
+  pub seek-start : {bits : ℕ} → bits ≡ b → Seeking t p b (childLink p) bits
+  seek-start e =
+      subst (Seeking t p b (childLink p)) (sym e)
+      (record {
+        inside = omega arith;
+        owned = owner-child (t .parent) p;
+        passed = (0, start);
+        ahead =
+            λ k s i q f. subst (λ c. Leads links byte c k (childLink p) c) f (subst (λ m. Leads links byte (getD byte k 0) k (childLink m) (getD byte k 0)) q (t .found k s i));
+      })
 
-  -- the child with the byte; and that there is none
-  pub sought-found : (at : ℕ) → Seeking t p b at → at ≢ 0 → getD byte at 0 ≡ b → Sought t p b at
-  sought-found at s d e =
-      record { inside = s .inside; found = λ f. s .child d .1 ∙ ap (more (t .str p)) e; missing = λ z. absurd (d z) }
+  module _ {l bits at : ℕ} (s : Seeking t p b l bits) (e : at ≡ getD links l 0) where
+    pub seek-inside : at < n
+    seek-inside = let i = t .inside l in omega arith
 
-  pub sought-missing : (at : ℕ) → Seeking t p b at → at ≡ 0 → Sought t p b 0
-  sought-missing at s z =
-      record {
-        inside = t .rooted;
-        found = λ f. absurd (f refl);
-        missing = λ e k h g. none k h g (equal-or-not k 0);
-      }
-    where
-      none : (k : ℕ) → k < n → t .str k ≡ more (t .str p) b → (k ≡ 0) ⊎ (k ≢ 0) → ⊥
-      none k h g (inl e) = never-empty (t .str p) b (sym (t .root) ∙ ap (t .str) (sym e) ∙ g)
-      none k h g (inr d) =
-          let q = t .parent k (omega arith) h in
-          let same = sym (q .1 .1) ∙ g in
-          let byte-is = same-byte (t .str (q .0)) (t .str p) (getD byte k 0) b same in
-          s .passed k (h, g ∙ ap (more (t .str p)) (sym byte-is)) (omega arith) byte-is
+    -- a further link, if the node there has another byte; it lies behind
+    pub seek-further : at ≢ 0 → getD byte at 0 ≢ b → Seeking t p b (siblingLink at bits) (bits / 2) × (l < siblingLink at bits)
+    seek-further d other =
+        subst (λ m. Seeking t p b (siblingLink m bits) (bits / 2) × (l < siblingLink m bits)) (sym e) (
+          record {
+            inside = (let i = t .inside l in omega arith);
+            owned = owner-sibling (t .parent) (getD links l 0) bits ∙ t .owned l some ∙ s .owned;
+            passed = (_, another (s .passed .1) some differs);
+            ahead = λ k j i q f. next k f (s .ahead k j i q f);
+          },
+          (let r = t .rising l some in omega arith),
+        )
+      where
+        some : getD links l 0 ≢ 0
+        some z = d (e ∙ z)
+
+        differs : getD byte (getD links l 0) 0 ≢ b
+        differs f = other (ap (λ m. getD byte m 0) e ∙ f)
+
+        next : (k : ℕ) → getD byte k 0 ≡ b → Leads links byte b k l bits → Leads links byte b k (siblingLink (getD links l 0) bits) (bits / 2)
+        next k f (here g) = absurd (differs (ap (λ m. getD byte m 0) g ∙ f))
+        next k f (further _ _ x) = x
+
+    -- the search ends: the node there has the byte, or there is none
+    pub seek-ends : b < 256 → (at ≢ 0 → getD byte at 0 ≡ b) → Sought t p b l
+    seek-ends small ends =
+        record {
+          inside = s .inside;
+          owned = s .owned;
+          count = s .passed .0;
+          bits = bits;
+          passed = s .passed .1;
+          few = few-passed t small (s .passed .1);
+          found =
+              λ d. t .child (getD links l 0) (positive (getD links l 0) d) (t .inside l) .1 ∙ ap₂ more (ap (t .str) (t .owned l d ∙ s .owned)) (ap (λ m. getD byte m 0) (sym e) ∙ ends (λ z. d (sym e ∙ z)));
+          missing = λ z k i g. none z k i g (equal-or-not k 0);
+        }
+      where
+        behind : (k : ℕ) → getD links l 0 ≡ 0 → k ≢ 0 → Leads links byte b k l bits → ⊥
+        behind k z d (here g) = d (sym g ∙ z)
+        behind k z d (further f _ _) = f z
+
+        none : getD links l 0 ≡ 0 → (k : ℕ) → k < n → t .str k ≡ more (t .str p) b → (k ≡ 0) ⊎ (k ≢ 0) → ⊥
+        none z k i g (inl q) = never-empty (t .str p) b (sym (t .root) ∙ ap (t .str) (sym q) ∙ g)
+        none z k i g (inr d) =
+            let c = t .child k (positive k d) i in
+            let same = sym (c .1) ∙ g in
+            let mine : t .parent k ≡ p = t .distinct (t .parent k) p (c .0) h (same-front (t .str (t .parent k)) (t .str p) (getD byte k 0) b same) in
+            behind k z d (s .ahead k (positive k d) i mine (same-byte (t .str (t .parent k)) (t .str p) (getD byte k 0) b same))

@@ -15,14 +15,13 @@ fn number(
     work: &[u8],
     count: usize,
     j: usize,
-    first: &mut [u16],
-    next: &mut [u16],
+    links: &mut [u16],
     byte: &mut [u8],
     nodes: usize,
     ids: &mut [u16],
 ) -> usize
-    requires { ⌜ Lexed (now text) (now work) count × (j < count) × Indexed (tokens (now text)) j (now first) (now next) (now byte) nodes (now ids) × (length (now text) < length (now byte)) ⌝ }
-    ensures { λ r. ⌜ Indexed (tokens (now (text .entry))) (j + 1) (now (first .exit)) (now (next .exit)) (now (byte .exit)) r (now (ids .exit)) ⌝ }
+    requires { ⌜ Lexed (now text) (now work) count × (j < count) × Indexed (tokens (now text)) j (now links) (now byte) nodes (now ids) × (length (now text) < length (now byte)) ⌝ }
+    ensures { λ r. ⌜ Indexed (tokens (now (text .entry))) (j + 1) (now (links .exit)) (now (byte .exit)) r (now (ids .exit)) ⌝ }
 {
     let word = get(work, j);
     if word / 256 / 65536 != NAME {
@@ -30,7 +29,7 @@ fn number(
     }
     let at = (word / 256 % 65536) as usize;
     let len = (word % 256) as usize;
-    let spelt = spell(text, at, len, first, next, byte, nodes);
+    let spelt = spell(text, at, len, links, byte, nodes);
     ids[j] = spelt.node as u16;
     spelt.nodes
 }
@@ -41,18 +40,17 @@ pub fn intern(
     text: &[u8],
     work: &[u8],
     count: usize,
-    first: &mut [u16],
-    next: &mut [u16],
+    links: &mut [u16],
     byte: &mut [u8],
     ids: &mut [u16],
 )
-    requires { ⌜ Lexed (now text) (now work) count × Begun (now text) (now first) (now next) (now byte) (now ids) ⌝ }
+    requires { ⌜ Lexed (now text) (now work) count × Begun (now text) (now links) (now byte) (now ids) ⌝ }
     ensures { λ _. ⌜ Interned (tokens (now (text .entry))) count (now (ids .exit)) × (top (now (ids .exit)) ≤ length (now (text .entry)) + 1) ⌝ }
 {
     let mut nodes = 1;
     let mut j = 0;
     while j < count {
-        nodes = number(text, work, count, j, first, next, byte, nodes, ids);
+        nodes = number(text, work, count, j, links, byte, nodes, ids);
         j += 1;
     }
 }

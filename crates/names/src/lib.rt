@@ -79,8 +79,7 @@ fn resolve_in(
     work: &[u8],
     count: usize,
     entries: usize,
-    first: &mut [u16],
-    next: &mut [u16],
+    links: &mut [u16],
     byte: &mut [u8],
     ids: &mut [u16],
     met: &mut [u16],
@@ -90,10 +89,10 @@ fn resolve_in(
     refs: &mut [u16],
     declared: &mut [u16],
 ) -> Naming
-    requires { ⌜ TreeStored (now text) (now work) count entries × Begun (now text) (now first) (now next) (now byte) (now ids) × Blank (now text) (now met) × Blank (now text) (now seen) × Blank (now text) (now table) × (3 * entries ≤ length (now stack)) × (maxTokens ≤ length (now refs)) × (maxNames ≤ length (now declared)) ⌝ }
+    requires { ⌜ TreeStored (now text) (now work) count entries × Begun (now text) (now links) (now byte) (now ids) × Blank (now text) (now met) × Blank (now text) (now seen) × Blank (now text) (now table) × (3 * entries ≤ length (now stack)) × (maxTokens ≤ length (now refs)) × (maxNames ≤ length (now declared)) ⌝ }
     ensures { λ r. ⌜ ((x : Spec) → Stored (now (text .entry)) (now (work .entry)) count entries x → Answers x (now (refs .exit)) (now (declared .exit)) r) ⌝ }
 {
-    intern(text, work, count, first, next, byte, ids);
+    intern(text, work, count, links, byte, ids);
     let again = declare(work, ids, entries, PARAMETER, met);
     declare(work, ids, entries, SIGNAL, seen);
     let tally = number_declared(work, ids, entries, table, declared);
@@ -113,8 +112,7 @@ fn resolve_short(
     requires { ⌜ TreeStored (now text) (now work) count entries × (length (now text) ≤ 4096) × (entries ≤ 1024) × (maxTokens ≤ length (now refs)) × (maxNames ≤ length (now declared)) ⌝ }
     ensures { λ r. ⌜ ((x : Spec) → Stored (now (text .entry)) (now (work .entry)) count entries x → Answers x (now (refs .exit)) (now (declared .exit)) r) ⌝ }
 {
-    let mut first = [0u16; SHORT_NODES];
-    let mut next = [0u16; SHORT_NODES];
+    let mut links = [0u16; 3 * SHORT_NODES];
     let mut byte = [0u8; SHORT_NODES];
     let mut ids = [0u16; TOKENS];
     let mut met = [NO_PLACE; SHORT_NODES];
@@ -126,8 +124,7 @@ fn resolve_short(
         work,
         count,
         entries,
-        &mut first,
-        &mut next,
+        &mut links,
         &mut byte,
         &mut ids,
         &mut met,
@@ -151,8 +148,7 @@ fn resolve_long(
     requires { ⌜ TreeStored (now text) (now work) count entries × (maxTokens ≤ length (now refs)) × (maxNames ≤ length (now declared)) ⌝ }
     ensures { λ r. ⌜ ((x : Spec) → Stored (now (text .entry)) (now (work .entry)) count entries x → Answers x (now (refs .exit)) (now (declared .exit)) r) ⌝ }
 {
-    let mut first = [0u16; NODES];
-    let mut next = [0u16; NODES];
+    let mut links = [0u16; 3 * NODES];
     let mut byte = [0u8; NODES];
     let mut ids = [0u16; TOKENS];
     let mut met = [NO_PLACE; NODES];
@@ -164,8 +160,7 @@ fn resolve_long(
         work,
         count,
         entries,
-        &mut first,
-        &mut next,
+        &mut links,
         &mut byte,
         &mut ids,
         &mut met,

@@ -1,10 +1,19 @@
-// A tree of spellings in three arrays (specs/Trie): a name's node stands for its bytes, so that two names are equal where their nodes are. A step from a node
-// looks at each of its children at most once, and a node has at most 65, one for each byte of a name: no choice of names takes more than 65 steps a byte.
+// A tree of spellings in two arrays (specs/Trie): a name's node stands for its bytes, so that two names are equal where their nodes are. The children of a node stand in
+// a search tree by the bits of their bytes. Two bytes that agree in all eight are equal: no choice of names has a step pass more than eight other children.
 ghost use mathlib.Core.Path.{_≡_};
 ghost use Prim.Native.Nat.{_+_, _≤_, _<_};
 ghost use lib.ListN.{length};
 ghost use Rattle.names.specs.Trie.{maxNodes, Trie, Sought, nodesWith, Steps, Spells};
 ghost use Rattle.names.specs.SpellLaws.{part};
+
+// Of the three links of a node, the one to its first child; the others lead to further children of its parent, by a bit of the byte that is sought.
+const CHILD: usize = 2;
+
+fn wide_byte(x: u8) -> usize
+    ensures { λ r. ⌜ r ≡ x ⌝ }
+{
+    x as usize
+}
 
 pub fn wide(x: u16) -> usize
     ensures { λ r. ⌜ (r ≡ x) × (r < 65536) ⌝ }
@@ -12,40 +21,38 @@ pub fn wide(x: u16) -> usize
     x as usize
 }
 
-// The child of a node by one byte, 0 if there is none. Like `step` it asks for the tree that `intern` makes, and is called by nobody else.
-fn child(first: &[u16], next: &[u16], byte: &[u8], nodes: usize, node: usize, b: u8) -> usize
-    requires { ⌜ Trie (now first) (now next) (now byte) nodes × (node < nodes) × (nodes < maxNodes + 1) ⌝ }
-    ensures { λ r. ⌜ ((t : Trie (now (first .entry)) (now (next .entry)) (now (byte .entry)) nodes) → Sought t node b r) ⌝ }
+// The link to the child of a node by one byte, or the link where it is to stand if there is none. Like `step` it asks for the tree that `intern` makes, and is called
+// by nobody else.
+fn seek(links: &[u16], byte: &[u8], nodes: usize, node: usize, b: u8) -> usize
+    requires { ⌜ Trie (now links) (now byte) nodes × (node < nodes) × (nodes < maxNodes + 1) ⌝ }
+    ensures { λ r. ⌜ ((t : Trie (now (links .entry)) (now (byte .entry)) nodes) → Sought t node b r) ⌝ }
 {
-    let mut at = wide(first[node]);
+    let mut link = 3 * node + CHILD;
+    let mut bits = wide_byte(b);
+    let mut at = wide(links[link]);
     while at != 0 {
         if byte[at] == b {
-            return at;
+            return link;
         }
-        at = wide(next[at]);
+        link = 3 * at + bits % 2;
+        bits = bits / 2;
+        at = wide(links[link]);
     }
-    0
+    link
 }
 
 // The child of a node by one byte, made if it is not there: then it is node `nodes`, and there is one node more, for which there must be room.
-pub fn step(
-    first: &mut [u16],
-    next: &mut [u16],
-    byte: &mut [u8],
-    nodes: usize,
-    node: usize,
-    b: u8,
-) -> usize
-    requires { ⌜ Trie (now first) (now next) (now byte) nodes × (node < nodes) × (nodes < maxNodes) × (nodes < length (now byte)) ⌝ }
-    ensures { λ r. ⌜ ((t : Trie (now (first .entry)) (now (next .entry)) (now (byte .entry)) nodes) → Steps t node b (now (first .exit)) (now (next .exit)) (now (byte .exit)) r) ⌝ }
+pub fn step(links: &mut [u16], byte: &mut [u8], nodes: usize, node: usize, b: u8) -> usize
+    requires { ⌜ Trie (now links) (now byte) nodes × (node < nodes) × (nodes < maxNodes) × (nodes < length (now byte)) ⌝ }
+    ensures { λ r. ⌜ ((t : Trie (now (links .entry)) (now (byte .entry)) nodes) → Steps t node b (now (links .exit)) (now (byte .exit)) r) ⌝ }
 {
-    let old = child(first, next, byte, nodes, node, b);
+    let link = seek(links, byte, nodes, node, b);
+    let old = wide(links[link]);
     if old != 0 {
         return old;
     }
     byte[nodes] = b;
-    next[nodes] = first[node];
-    first[node] = nodes as u16;
+    links[link] = nodes as u16;
     nodes
 }
 
@@ -68,19 +75,18 @@ pub fn spell(
     text: &[u8],
     at: usize,
     len: usize,
-    first: &mut [u16],
-    next: &mut [u16],
+    links: &mut [u16],
     byte: &mut [u8],
     nodes: usize,
 ) -> Spelt
-    requires { ⌜ Trie (now first) (now next) (now byte) nodes × (at + len ≤ length (now text)) × (nodes + len ≤ maxNodes) × (nodes + len ≤ length (now byte)) ⌝ }
-    ensures { λ r. ⌜ ((t : Trie (now (first .entry)) (now (next .entry)) (now (byte .entry)) nodes) → Spells t (now (first .exit)) (now (next .exit)) (now (byte .exit)) (part at len (now (text .entry))) (r .nodes) (r .node)) ⌝ }
+    requires { ⌜ Trie (now links) (now byte) nodes × (at + len ≤ length (now text)) × (nodes + len ≤ maxNodes) × (nodes + len ≤ length (now byte)) ⌝ }
+    ensures { λ r. ⌜ ((t : Trie (now (links .entry)) (now (byte .entry)) nodes) → Spells t (now (links .exit)) (now (byte .exit)) (part at len (now (text .entry))) (r .nodes) (r .node)) ⌝ }
 {
     let mut count = nodes;
     let mut node = 0;
     let mut i = 0;
     while i < len {
-        node = step(first, next, byte, count, node, text[at + i]);
+        node = step(links, byte, count, node, text[at + i]);
         count = nodes_with(count, node);
         i += 1;
     }

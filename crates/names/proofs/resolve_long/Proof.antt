@@ -27,15 +27,12 @@ slice-aggregate-resolve-in-6 c = search needs
 slice-aggregate-resolve-in-7 : tie.Need-slice-aggregate-resolve-in-7
 slice-aggregate-resolve-in-7 c = search needs
 
-slice-aggregate-resolve-in-8 : tie.Need-slice-aggregate-resolve-in-8
-slice-aggregate-resolve-in-8 c = search needs
-
 resolve-in-requires : tie.Need-resolve-in-requires
 resolve-in-requires c κs =
-    let start = c .before .before .before .before .before .before .before .before .before .before .before .before .before .before in
+    let start = c .before .before .before .before .before .before .before .before .before .before .before .before .before in
     let room = start .pre .0 .stored .lexed .lexical .short in
     let few = start .pre .0 .stored .few in
-    (start .pre .0, begun-zeros 32_769 32_769 32_769 8_192 (omega arith) (omega arith) (omega arith) (omega arith), blank-replicate 32_769 (omega arith), blank-replicate 32_769 (omega arith), blank-replicate 32_769 (omega arith), zeros-long 24_576 (omega arith), start .pre .1, start .pre .2)
+    (start .pre .0, begun-zeros 98_307 32_769 8_192 (omega arith) (omega arith) (omega arith), blank-replicate 32_769 (omega arith), blank-replicate 32_769 (omega arith), blank-replicate 32_769 (omega arith), zeros-long 24_576 (omega arith), start .pre .1, start .pre .2)
 
 same-length : tie.Need-same-length
 same-length c = search needs
@@ -57,7 +54,6 @@ resolve-long-spec =
     slice-aggregate-resolve-in-5
     slice-aggregate-resolve-in-6
     slice-aggregate-resolve-in-7
-    slice-aggregate-resolve-in-8
     resolve-in-requires
     same-length
     same-length-2

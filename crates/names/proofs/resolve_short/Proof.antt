@@ -27,15 +27,12 @@ slice-aggregate-resolve-in-6 c = search needs
 slice-aggregate-resolve-in-7 : tie.Need-slice-aggregate-resolve-in-7
 slice-aggregate-resolve-in-7 c = search needs
 
-slice-aggregate-resolve-in-8 : tie.Need-slice-aggregate-resolve-in-8
-slice-aggregate-resolve-in-8 c = search needs
-
 resolve-in-requires : tie.Need-resolve-in-requires
 resolve-in-requires c κs =
-    let start = c .before .before .before .before .before .before .before .before .before .before .before .before .before .before in
+    let start = c .before .before .before .before .before .before .before .before .before .before .before .before .before in
     let room = start .pre .1 in
     let few = start .pre .2 in
-    (start .pre .0, begun-zeros 4_097 4_097 4_097 8_192 (omega arith) (omega arith) (omega arith) (omega arith), blank-replicate 4_097 (omega arith), blank-replicate 4_097 (omega arith), blank-replicate 4_097 (omega arith), zeros-long 3_072 (omega arith), start .pre .3, start .pre .4)
+    (start .pre .0, begun-zeros 12_291 4_097 8_192 (omega arith) (omega arith) (omega arith), blank-replicate 4_097 (omega arith), blank-replicate 4_097 (omega arith), blank-replicate 4_097 (omega arith), zeros-long 3_072 (omega arith), start .pre .3, start .pre .4)
 
 same-length : tie.Need-same-length
 same-length c = search needs
@@ -57,7 +54,6 @@ resolve-short-spec =
     slice-aggregate-resolve-in-5
     slice-aggregate-resolve-in-6
     slice-aggregate-resolve-in-7
-    slice-aggregate-resolve-in-8
     resolve-in-requires
     same-length
     same-length-2

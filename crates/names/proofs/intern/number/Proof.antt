@@ -11,8 +11,9 @@ get-requires c κs = search needs
 
 returns : tie.Need-returns
 returns c =
-    let start = c .before .before .before .before .before .before .before .before in
-    numbered-other (start .pre .0) (start .pre .1) ((c .before .get) .ensures) (start .pre .2) ((c .if1) .taken)
+    let start = c .before .before .before .before .before .before .before in
+    let get = c .before .get in
+    numbered-other (start .pre .0) (start .pre .1) (get .ensures) (start .pre .2) ((c .if1) .taken)
 
 cast-at : tie.Need-cast-at
 cast-at c = search needs
@@ -22,15 +23,17 @@ cast-len c = search needs
 
 spell-requires : tie.Need-spell-requires
 spell-requires c κs =
-    let start = c .before .before .before .before .before .before .before .before .before .before .before in
-    let b = name-bounds (start .pre .0) (start .pre .1) ((c .before .before .before .before .get) .ensures) (start .pre .2) ((c .before .before .before .if1) .left) in (start .pre .2 .trie, b .0, b .1, let r = start .pre .3 in omega (arith, b .2))
+    let start = c .before .before .before .before .before .before .before .before .before in
+    let get = c .before .before .before .get in
+    let if1 = c .before .before .if1 in
+    let b = name-bounds (start .pre .0) (start .pre .1) (get .ensures) (start .pre .2) (if1 .left) in (start .pre .2 .trie, b .0, b .1, let r = start .pre .3 in omega (arith, b .2))
 
 cast-ids : tie.Need-cast-ids
 cast-ids c =
-    let start = c .before .before .before .before .before .before .before .before .before .before .before .before .before .before .before .before .before .before .before in
-    let get = c .before .before .before .before .before .before .before .before .before .before .before .before .get in
-    let if1 = c .before .before .before .before .before .before .before .before .before .before .before .if1 in
-    let spell = c .before .before .before .before .before .before .before .spell in
+    let start = c .before .before .before .before .before .before .before .before .before .before .before .before .before .before .before in
+    let get = c .before .before .before .before .before .before .before .before .before .get in
+    let if1 = c .before .before .before .before .before .before .before .before .if1 in
+    let spell = c .before .before .before .before .before .spell in
     let s = node-small (start .pre .0) (start .pre .1) (get .ensures) (start .pre .2) (if1 .left) (spell .ensures (start .pre .2 .trie)) in record { fits = omega arith }
 
 mul-ids : tie.Need-mul-ids
@@ -48,15 +51,12 @@ same-length-2 c = search needs
 same-length-3 : tie.Need-same-length-3
 same-length-3 c = search needs
 
-same-length-4 : tie.Need-same-length-4
-same-length-4 c = search needs
-
 returns-2 : tie.Need-returns-2
 returns-2 c =
-    let start = c .before .before .before .before .before .before .before .before .before .before .before .before .before .before .before .before .before .before .before in
-    let get = c .before .before .before .before .before .before .before .before .before .before .before .before .get in
-    let if1 = c .before .before .before .before .before .before .before .before .before .before .before .if1 in
-    let spell = c .before .before .before .before .before .before .before .spell in
+    let start = c .before .before .before .before .before .before .before .before .before .before .before .before .before .before .before in
+    let get = c .before .before .before .before .before .before .before .before .before .get in
+    let if1 = c .before .before .before .before .before .before .before .before .if1 in
+    let spell = c .before .before .before .before .before .spell in
     numbered-name (start .pre .0) (start .pre .1) (get .ensures) (start .pre .2) (if1 .left) (spell .ensures (start .pre .2 .trie))
 
 pub number-spec : {M : Type 1} → statement M
@@ -74,5 +74,4 @@ number-spec =
     same-length
     same-length-2
     same-length-3
-    same-length-4
     returns-2)

@@ -10,14 +10,14 @@ use Rattle.names.proofs.trie.spell.Statement.{statement}
 use Rattle.names.proofs.trie.spell.Tie as tie
 
 abbrev Inv-loop : tie.InvT-loop
-Inv-loop text at len first₀ next₀ byte₀ nodes count₀ node₀ i₀ first next byte count node i =
-    (i ≤ len) × (length first ≡ length first₀) × (length next ≡ length next₀) × (length byte ≡ length byte₀) × ((t : Trie first₀ next₀ byte₀ nodes) → Spells t first next byte (part at i text) count node)
+Inv-loop text at len links₀ byte₀ nodes count₀ node₀ i₀ links byte count node i =
+    (i ≤ len) × (length links ≡ length links₀) × (length byte ≡ length byte₀) × ((t : Trie links₀ byte₀ nodes) → Spells t links byte (part at i text) count node)
 
 abbrev μ-loop : tie.MeasureT-loop
-μ-loop text at len first₀ next₀ byte₀ nodes count₀ node₀ i₀ first next byte count node i = len - i
+μ-loop text at len links₀ byte₀ nodes count₀ node₀ i₀ links byte count node i = len - i
 
 loop-holds : tie.Need-loop-holds Inv-loop μ-loop
-loop-holds c = (omega arith, refl, refl, refl, λ t. spells-none t (part-none _ _))
+loop-holds c = (omega arith, refl, refl, λ t. spells-none t (part-none _ _))
 
 add-step : tie.Need-add-step Inv-loop μ-loop
 add-step c = search needs
@@ -27,19 +27,21 @@ shared-slice-read-step c = search needs
 
 step-requires : tie.Need-step-requires Inv-loop μ-loop
 step-requires c κs =
-    let start = c .before .before .before .before .before .before .before .before .before .before in
-    let s = (c .before .before .before .before .before .loop) .inv .4 (start .pre .0) in
+    let loop = c .before .before .before .before .loop in
+    let start = c .before .before .before .before .before .before .before .before in
+    let s = loop .inv .3 (start .pre .0) in
     let f = spells-few _ _ _ s (omega arith) in
-    let e = (c .before .before .before .before .before .loop) .inv .3 in
+    let e = loop .inv .2 in
     (s .trie, s .inside, omega arith, omega arith)
 
 nodes-with-requires : tie.Need-nodes-with-requires Inv-loop μ-loop
 nodes-with-requires c κs =
-    let loop = c .before .before .before .before .before .before .before .before .before .before .before .before .loop in
-    let start = c .before .before .before .before .before .before .before .before .before .before .before .before .before .before .before .before .before in
-    let s = loop .inv .4 (start .pre .0) in
+    let loop = c .before .before .before .before .before .before .before .before .before .loop in
+    let start = c .before .before .before .before .before .before .before .before .before .before .before .before .before in
+    let step = c .before .before .before .before .step in
+    let s = loop .inv .3 (start .pre .0) in
     let f = spells-few _ _ _ s (omega arith) in
-    omega (arith, (c .before .before .before .before .before .before .step) .ensures (s .trie) .0)
+    omega (arith, step .ensures (s .trie) .0)
 
 add-i : tie.Need-add-i Inv-loop μ-loop
 add-i c = search needs
@@ -49,10 +51,10 @@ loop-less c = search needs
 
 loop-again : tie.Need-loop-again Inv-loop μ-loop
 loop-again c =
-    let loop = c .before .before .before .before .before .before .before .before .before .before .before .before .before .loop in
-    let step = c .before .before .before .before .before .before .before .step in
+    let loop = c .before .before .before .before .before .before .before .before .before .before .loop in
+    let step = c .before .before .before .before .before .step in
     let n = loop .inv in
-    (omega arith, step .kept .0 ∙ n .1, step .kept .1 .0 ∙ n .2, step .kept .1 .1 .0 ∙ n .3, λ t. spells-more t (n .4 t) (step .ensures (n .4 t .trie)) (part-more _ _ _ (omega arith)) ((c .nodes-with) .ensures))
+    (omega arith, step .kept .0 ∙ n .1, step .kept .1 .0 ∙ n .2, λ t. spells-more t (n .3 t) (step .ensures (n .3 t .trie)) (part-more _ _ _ (omega arith)) ((c .nodes-with) .ensures))
 
 same-length : tie.Need-same-length Inv-loop μ-loop
 same-length c = search needs
@@ -60,11 +62,10 @@ same-length c = search needs
 same-length-2 : tie.Need-same-length-2 Inv-loop μ-loop
 same-length-2 c = search needs
 
-same-length-3 : tie.Need-same-length-3 Inv-loop μ-loop
-same-length-3 c = search needs
-
 returns : tie.Need-returns Inv-loop μ-loop
-returns c = λ t. spells-all _ _ _ _ ((c .before .loop) .inv .4 t) (omega arith)
+returns c =
+    let loop = c .before .loop in
+    λ t. spells-all _ _ _ _ (loop .inv .3 t) (omega arith)
 
 pub spell-spec : {M : Type 1} → statement M
 spell-spec =
@@ -82,5 +83,4 @@ spell-spec =
     loop-again
     same-length
     same-length-2
-    same-length-3
     returns)
