@@ -22,7 +22,7 @@ use Rattle.language.specs.Laws.Values.RegularWords.{Regular}
 use Rattle.entries.specs.Kinds as Kind
 use Rattle.entries.specs.Flat.{each, flatIdentifier}
 use Rattle.entries.specs.Stored.{firstEntry, kindOf, EntriesFrom}
-use Rattle.names.specs.Interned.{Lexed}
+use Rattle.spellings.specs.Interned.{Lexed}
 use Rattle.writing.specs.Writing.{Wrote}
 use Rattle.choices.specs.Entries.{identifiersEnd, Words}
 use Rattle.choices.specs.EntryLaws.{end-bound}

@@ -12,7 +12,7 @@ use Rattle.language.specs.Words.{wrongWords}
 use Rattle.lexer.specs.LexingLaws.{offset-at}
 use Rattle.parser.specs.declared.Facts.{Facts}
 use Rattle.outline.specs.Outlining.{Outlined}
-use Rattle.names.specs.InternLaws.{lexed-from}
+use Rattle.spellings.specs.InternLaws.{lexed-from}
 use Rattle.names.specs.Resolved.{Stored, Resolved}
 use Rattle.traversal.specs.declared.Place.{Place}
 use Rattle.traversal.specs.Places.{placed}

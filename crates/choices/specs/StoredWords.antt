@@ -20,7 +20,7 @@ use Rattle.lexer.specs.LexingLaws.{token-stands, token-near}
 use Rattle.entries.specs.Kinds as Kind
 use Rattle.entries.specs.Flat.{Entry, leaf, each, flatIdentifier}
 use Rattle.entries.specs.Stored.{firstEntry, kindOf, EntriesFrom}
-use Rattle.names.specs.Interned.{Lexed}
+use Rattle.spellings.specs.Interned.{Lexed}
 use Rattle.traversal.specs.Cells.{Told, Seen, cellAt, TokensTell, entries-seen}
 use Rattle.enumerations.specs.Pass.{bytesAt}
 use Rattle.enumerations.specs.WordLaws.{Spelled}

@@ -25,7 +25,7 @@ use Rattle.entries.specs.Kinds as Kind
 use Rattle.entries.specs.Flat.{Entry, leaf, each, flatIdentifier, outline}
 use Rattle.entries.specs.Stored.{firstEntry, kindOf, indexOf, EntryAt, EntriesFrom}
 use Rattle.entries.specs.StoredLaws.{entry-kind, entry-index}
-use Rattle.names.specs.Interned.{Lexed}
+use Rattle.spellings.specs.Interned.{Lexed}
 use Rattle.names.specs.Tables.{noPlace}
 use Rattle.names.specs.Scan.{tokenOf}
 use Rattle.names.specs.Walkable.{entryOf}

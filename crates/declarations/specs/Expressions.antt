@@ -12,7 +12,7 @@ use Rattle.language.specs.Limits.{maxNames, maxTokens}
 use Rattle.language.specs.Tokens.{tokens}
 use Rattle.language.specs.Tree.{Expr}
 use Rattle.language.specs.Expansion.{Context}
-use Rattle.names.specs.Interned.{Lexed}
+use Rattle.spellings.specs.Interned.{Lexed}
 use Rattle.values.specs.World.{World, meaningAt}
 use Rattle.values.specs.Known.{Known}
 use Rattle.values.specs.Bodies.{Bodies}

@@ -23,7 +23,7 @@ use Rattle.lexer.specs.Stored.{longest, offsetIn}
 use Rattle.entries.specs.Kinds as Kind
 use Rattle.entries.specs.Stored.{firstEntry, kindOf, indexOf}
 use Rattle.entries.specs.StoredLaws.{entry-kind}
-use Rattle.names.specs.Interned.{Lexed}
+use Rattle.spellings.specs.Interned.{Lexed}
 use Rattle.sets.specs.Answers.{says}
 use Rattle.sets.specs.declared.Worked.{Worked}
 use Rattle.values.specs.World.{World, Stands}

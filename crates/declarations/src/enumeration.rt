@@ -13,7 +13,7 @@ ghost use Rattle.language.specs.Tokens.{Token, tokens};
 ghost use Rattle.language.specs.Declared.{wordWidth};
 ghost use Rattle.lexer.specs.Stored.{longest, offsetIn};
 ghost use Rattle.entries.specs.Stored.{firstEntry, indexOf};
-ghost use Rattle.names.specs.Interned.{Lexed};
+ghost use Rattle.spellings.specs.Interned.{Lexed};
 ghost use Rattle.values.specs.Declaring.{EnumerationAt};
 ghost use Rattle.declarations.specs.Enumerations.{enumerationOf};
 

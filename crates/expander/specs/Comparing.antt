@@ -11,7 +11,7 @@ use Rattle.language.specs.Values.{Value}
 use Rattle.language.specs.Declared.{Port}
 use Rattle.language.specs.Numbering.{firstOf}
 use Rattle.language.specs.Expansion.{against, compared}
-use Rattle.names.specs.Interned.{Lexed}
+use Rattle.spellings.specs.Interned.{Lexed}
 use Rattle.sets.specs.Operators.{comparison}
 use Rattle.writing.specs.Writing.{Wrote}
 use Rattle.values.specs.World.{World}

@@ -19,7 +19,7 @@ use Rattle.language.specs.Laws.Basics.Lists.{All, all-any, all-append}
 use Rattle.language.specs.Laws.Values.RegularWords.{Regular, RegularDefinition, regular-type}
 use Rattle.language.specs.Laws.Values.PortLaws.{PortFor, ports-for, pairs-right}
 use Rattle.entries.specs.Kinds as Kind
-use Rattle.names.specs.Interned.{Lexed}
+use Rattle.spellings.specs.Interned.{Lexed}
 use Rattle.values.specs.Declaring.{EnumerationAt}
 use Rattle.assembly.specs.Implied.{BusAt, BusesFrom, Buses}
 use Rattle.assembly.specs.ImpliedLaws.{bus-stored}

@@ -5,15 +5,6 @@ pub mod AlikeLaws
 pub mod OutlineLaws
 pub mod Declaring
 pub mod DeclaringLaws
-pub mod Trie
-pub mod Spellings
-pub mod TrieDepth
-pub mod TrieGrowth
-pub mod TrieSearch
-pub mod SpellLaws
-pub mod Interned
-pub mod TopLaws
-pub mod InternLaws
 pub mod Tables
 pub mod TableLaws
 pub mod Walkable

@@ -20,7 +20,7 @@ use Rattle.entries.specs.Stored.{firstEntry, kindOf, indexOf}
 use Rattle.names.specs.Roles.{uses, binds, declares}
 use Rattle.names.specs.Scan.{tokenOf}
 use Rattle.names.specs.Declaring.{declaredIn, fewer}
-use Rattle.names.specs.Interned.{tokenAt}
+use Rattle.spellings.specs.Interned.{tokenAt}
 use Rattle.names.specs.Tables.{noPlace, placeOf, least, Placed}
 use Rattle.names.specs.TableLaws.{place-none, place-min, again-least, shows-push, least-none}
 use Rattle.names.specs.Walkable.{names, Walkable, Table, entryOf, rest-at, NameAt, kind-there, name-there, place-there}

@@ -22,7 +22,7 @@ use Rattle.names.specs.Roles.{declares}
 use Rattle.names.specs.Scan.{tokenOf}
 use Rattle.names.specs.AlikeLaws.{pushed}
 use Rattle.names.specs.Declaring.{declaredIn}
-use Rattle.names.specs.Interned.{tokenAt}
+use Rattle.spellings.specs.Interned.{tokenAt}
 use Rattle.names.specs.Tables.{noPlace}
 use Rattle.names.specs.TableLaws.{shows-set}
 use Rattle.names.specs.Walkable.{Walkable, Table, entryOf, rest-at, NameAt, kind-there, name-there, place-there}

@@ -25,8 +25,8 @@ use Rattle.names.specs.Declaring.{declaredIn}
 use Rattle.names.specs.DeclaringLaws.{declared-outline}
 use Rattle.names.specs.Balanced.{balanced-outline}
 use Rattle.names.specs.NameReads.{names-read}
-use Rattle.names.specs.Interned.{top, Interned}
-use Rattle.names.specs.TopLaws.{below-top}
+use Rattle.spellings.specs.Interned.{top, Interned}
+use Rattle.spellings.specs.TopLaws.{below-top}
 use Rattle.names.specs.Tables.{noPlace, placeOf}
 use Rattle.names.specs.TableLaws.{place-some, place-none, place-min}
 use Rattle.names.specs.Walkable.{Walkable, Table}

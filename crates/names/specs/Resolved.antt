@@ -14,7 +14,7 @@ use Rattle.language.specs.Places.{refuseAt, allLines}
 use Rattle.language.specs.Names.{Names, declares, over, notVisible, declaredAgain, tooMany}
 use Rattle.entries.specs.Flat.{outline}
 use Rattle.entries.specs.Stored.{EntriesFrom}
-use Rattle.names.specs.Interned.{Lexed}
+use Rattle.spellings.specs.Interned.{Lexed}
 use Rattle.names.specs.Walkable.{names, entryOf}
 use Rattle.names.specs.Walking.{refersTo}
 use Rattle.names.specs.References.{lastFirst, Where}

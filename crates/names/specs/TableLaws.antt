@@ -17,8 +17,8 @@ use Rattle.language.specs.Names.{Names, visible, hidden, again}
 use Rattle.language.specs.Laws.Basics.Lists.{All}
 use Rattle.language.specs.Laws.Basics.Tests.{pick, leave, same-equal}
 use Rattle.names.specs.AlikeLaws.{met}
-use Rattle.names.specs.Interned.{tokenAt, IsName, Interned}
-use Rattle.names.specs.TopLaws.{below-top}
+use Rattle.spellings.specs.Interned.{tokenAt, IsName, Interned}
+use Rattle.spellings.specs.TopLaws.{below-top}
 use Rattle.names.specs.Tables.{noPlace, placeOf, least, Placed, Shows}
 
 pub place-some : (v : ℕ) → v < noPlace → placeOf v ≡ some v

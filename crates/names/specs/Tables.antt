@@ -10,7 +10,7 @@ use lib.ListN.{length, getD}
 use Rattle.language.specs.Bytes.{same}
 use Rattle.language.specs.Tokens.{Token}
 use Rattle.language.specs.Names.{Names}
-use Rattle.names.specs.Interned.{tokenAt, IsName, top}
+use Rattle.spellings.specs.Interned.{tokenAt, IsName, top}
 
 abbrev pub noPlace : ℕ
 noPlace = 65_535

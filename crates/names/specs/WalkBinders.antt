@@ -24,8 +24,8 @@ use Rattle.names.specs.RoleLaws.{Role, binds-only, ends-only, after-role
 use Rattle.names.specs.Scan.{tokenOf, outer, after}
 use Rattle.names.specs.ScanLaws.{first-none, neither}
 use Rattle.names.specs.Balanced.{Balanced, after-binder, after-end}
-use Rattle.names.specs.Interned.{tokenAt, top}
-use Rattle.names.specs.TopLaws.{below-top}
+use Rattle.spellings.specs.Interned.{tokenAt, top}
+use Rattle.spellings.specs.TopLaws.{below-top}
 use Rattle.names.specs.Tables.{placeOf, least, Placed}
 use Rattle.names.specs.TableLaws.{place-min, again-least, shows-set, shows-push, shows-pop}
 use Rattle.names.specs.Walkable.{binds-names, Walkable, Table, entryOf, NameAt, place-there}

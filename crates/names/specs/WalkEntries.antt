@@ -21,7 +21,7 @@ use Rattle.names.specs.RoleLaws.{Role, uses-only, declares-only, after-r
 use Rattle.names.specs.Scan.{tokenOf, after}
 use Rattle.names.specs.ScanLaws.{first-none, neither}
 use Rattle.names.specs.Balanced.{Balanced, after-declared, after-quiet}
-use Rattle.names.specs.Interned.{tokenAt}
+use Rattle.spellings.specs.Interned.{tokenAt}
 use Rattle.names.specs.Tables.{placeOf, least, Placed}
 use Rattle.names.specs.TableLaws.{place-min, hiddenPlace, hidden-least, shows-push}
 use Rattle.names.specs.Walkable.{names, uses-names, declares-names, Walkable, Table, entryOf, NameAt, kind-there, name-there, place-there}

@@ -21,7 +21,7 @@ use Rattle.entries.specs.StoredLaws.{entry-kind, entry-index}
 use Rattle.names.specs.Roles.{uses, binds, declares}
 use Rattle.names.specs.Scan.{tokenOf}
 use Rattle.names.specs.Balanced.{Balanced}
-use Rattle.names.specs.Interned.{tokenAt, IsName, Lexed, Interned}
+use Rattle.spellings.specs.Interned.{tokenAt, IsName, Lexed, Interned}
 use Rattle.names.specs.Tables.{Placed, Shows}
 
 -- an entry that uses, brings or declares a name

@@ -2,27 +2,25 @@
 // `resolve` and its parts ask for a stored outline and for arrays of full length, which `resolve` itself makes.
 mod declare;
 mod entry;
-mod intern;
 mod numbering;
-mod trie;
 mod walk;
 
 use crate::declare::NOWHERE;
 use crate::declare::declare;
 use crate::declare::smaller;
-use crate::intern::intern;
 use crate::numbering::MAX_NAMES;
 use crate::numbering::PARAMETER;
 use crate::numbering::Tally;
 use crate::numbering::number_declared;
 use crate::walk::walk_all;
+use spellings::intern::intern;
 ghost use mathlib.Core.Path.{_≡_};
 ghost use Prim.Native.Nat.{_*_, _≤_};
 ghost use lib.ListN.{length};
 ghost use Rattle.language.specs.Limits.{maxTokens, maxNames};
 ghost use Rattle.language.specs.Tree.{Spec};
 ghost use Rattle.names.specs.Answering.{answerOf};
-ghost use Rattle.names.specs.Interned.{Begun};
+ghost use Rattle.spellings.specs.Interned.{Begun};
 ghost use Rattle.names.specs.ResolveLaws.{Blank};
 ghost use Rattle.names.specs.Resolved.{Stored, TreeStored, Answers};
 

@@ -13,7 +13,7 @@ use crate::entry::token_at;
 use crate::entry::uses;
 use crate::numbering::MAX_NAMES;
 use crate::numbering::PARAMETER;
-use crate::trie::wide;
+use spellings::trie::wide;
 ghost use mathlib.Core.Path.{_≡_};
 ghost use mathlib.Core.Bool.{true};
 ghost use Prim.Native.Nat.{_+_, _<_};

@@ -12,7 +12,7 @@ use Rattle.language.specs.Values.{Value, number, set, value}
 use Rattle.language.specs.Expansion.{Context}
 use Rattle.language.specs.Laws.Basics.Lists.{All}
 use Rattle.language.specs.Laws.Values.ValueLaws.{Ordered}
-use Rattle.names.specs.Interned.{Lexed}
+use Rattle.spellings.specs.Interned.{Lexed}
 use Rattle.sets.specs.Answers.{says, count, SetIs}
 use Rattle.sets.specs.declared.Worked.{Worked}
 use Rattle.values.specs.World.{World}

@@ -1,7 +1,4 @@
 pub mod Rewriting
-pub mod Writing
-pub mod WritingLaws
-pub mod KeptLaws
 pub mod RewritingLaws
 pub mod OwnNodes
 pub mod Fitting

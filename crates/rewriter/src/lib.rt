@@ -7,17 +7,14 @@ ghost use Rattle.node.specs.Limits.{maxNodes, fieldLimit};
 ghost use Rattle.node.specs.Table.{root, treeAt};
 ghost use Rattle.node.specs.TableLaws.{Formed};
 ghost use Rattle.forms.specs.Forms.{form as form'};
-ghost use Rattle.rewriter.specs.Writing.{Wrote, Ready};
+ghost use Rattle.trees.specs.Writing.{Wrote, Ready};
 ghost use Rattle.rewriter.specs.Fitting.{HandsOver, Fitted};
 ghost use Rattle.rewriter.specs.Promise.{Rewrites};
 use node::Answer;
 use node::MAX_NODES;
-
-// The modules are the crate's own: their functions ask for a table that has passed the check, which `rewrite` has made sure of.
-mod copy;
-mod core_form;
-mod negation_form;
-mod write;
+use trees::copy::copy;
+use trees::core_form::core;
+use trees::negation_form::plain;
 
 // The forms by their numbers.
 pub const AS_EXPANDED: u32 = 0;
@@ -47,9 +44,9 @@ fn write_form(nodes: &[u32], form: u32, i: usize, out: &mut [u32], at: usize) ->
     ensures { λ r. ⌜ Wrote r (form' form (treeAt (now (nodes .entry)) i)) (now (out .entry)) (now (out .exit)) at ⌝ }
 {
     match form {
-        AS_EXPANDED => copy::copy(nodes, i, out, at),
-        NEGATION_FORM => negation_form::plain(nodes, i, out, at),
-        _ => core_form::core(nodes, i, out, at),
+        AS_EXPANDED => copy(nodes, i, out, at),
+        NEGATION_FORM => plain(nodes, i, out, at),
+        _ => core(nodes, i, out, at),
     }
 }
 

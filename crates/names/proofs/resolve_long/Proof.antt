@@ -1,6 +1,6 @@
 -- `names::resolve_long` meets its contract: the arrays that it lends are long enough, and the tables hold no place.
 use native.Mathlib.Omega.{arith}
-use Rattle.names.specs.InternLaws.{begun-zeros}
+use Rattle.spellings.specs.InternLaws.{begun-zeros}
 use Rattle.names.specs.ResolveLaws.{blank-replicate, zeros-long}
 use borrow.Author.Needs.{needs}
 use Rattle.names.proofs.resolve_long.Statement.{statement}

@@ -1,6 +1,6 @@
 -- `names::resolve_short` meets its contract: its arrays are long enough for a short text, and the tables hold no place.
 use native.Mathlib.Omega.{arith}
-use Rattle.names.specs.InternLaws.{begun-zeros}
+use Rattle.spellings.specs.InternLaws.{begun-zeros}
 use Rattle.names.specs.ResolveLaws.{blank-replicate, zeros-long}
 use borrow.Author.Needs.{needs}
 use Rattle.names.proofs.resolve_short.Statement.{statement}

@@ -2,7 +2,7 @@
 use Prim.Native.Nat.{ℕ}
 use native.Mathlib.Omega.{arith}
 use lib.ListN.{length-replicate}
-use Rattle.rewriter.specs.WritingLaws.{stored-length}
+use Rattle.trees.specs.WritingLaws.{stored-length}
 use Rattle.rewriter.specs.Fitting.{root-ready, fitted-over}
 use borrow.Author.Needs.{needs}
 use Rattle.rewriter.proofs.fit_small.Statement.{statement}

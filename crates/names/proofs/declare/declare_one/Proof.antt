@@ -3,7 +3,7 @@ use Prim.Native.Nat.{min}
 use mathlib.Core.Path.{sym, ap, _∙_}
 use native.Mathlib.Omega.{arith}
 use borrow.Author.Tests.{not-true, not-false}
-use Rattle.names.specs.TopLaws.{inside-top}
+use Rattle.spellings.specs.TopLaws.{inside-top}
 use Rattle.names.specs.Meeting.{met-other, met-more}
 use borrow.Author.Needs.{needs}
 use Rattle.names.proofs.declare.declare_one.Statement.{statement}

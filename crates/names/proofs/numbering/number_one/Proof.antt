@@ -2,7 +2,7 @@
 use mathlib.Core.Path.{sym, _∙_}
 use native.Mathlib.Omega.{arith}
 use borrow.Author.Tests.{not-true, not-false}
-use Rattle.names.specs.TopLaws.{inside-top}
+use Rattle.spellings.specs.TopLaws.{inside-top}
 use Rattle.names.specs.Numbering.{numbered-other, numbered-name, numbered-first, numbered-behind}
 use borrow.Author.Needs.{needs}
 use Rattle.names.proofs.numbering.number_one.Statement.{statement}

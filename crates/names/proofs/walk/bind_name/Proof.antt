@@ -3,7 +3,7 @@ use Prim.Native.Nat.{min, max}
 use mathlib.Core.Path.{refl, ap, _∙_}
 use native.Mathlib.Omega.{arith}
 use lib.ListN.{length-set}
-use Rattle.names.specs.TopLaws.{inside-top}
+use Rattle.spellings.specs.TopLaws.{inside-top}
 use Rattle.names.specs.WalkBinders.{walk-bind}
 use borrow.Author.Needs.{needs}
 use Rattle.names.proofs.walk.bind_name.Statement.{statement}

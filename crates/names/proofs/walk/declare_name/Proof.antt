@@ -1,7 +1,7 @@
 -- `names::walk::declare_name` meets its contract: the walk over an entry that declares a name.
 use mathlib.Core.Path.{refl}
 use native.Mathlib.Omega.{arith}
-use Rattle.names.specs.TopLaws.{inside-top}
+use Rattle.spellings.specs.TopLaws.{inside-top}
 use Rattle.names.specs.WalkEntries.{walk-declare}
 use borrow.Author.Needs.{needs}
 use Rattle.names.proofs.walk.declare_name.Statement.{statement}

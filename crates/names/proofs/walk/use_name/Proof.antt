@@ -2,7 +2,7 @@
 use Prim.Native.Nat.{min}
 use mathlib.Core.Path.{refl, ap, _∙_}
 use native.Mathlib.Omega.{arith}
-use Rattle.names.specs.TopLaws.{inside-top}
+use Rattle.spellings.specs.TopLaws.{inside-top}
 use Rattle.names.specs.WalkEntries.{walk-use}
 use borrow.Author.Needs.{needs}
 use Rattle.names.proofs.walk.use_name.Statement.{statement}

@@ -1,0 +1,9 @@
+pub mod Trie
+pub mod TrieSearch
+pub mod TrieGrowth
+pub mod TrieDepth
+pub mod Spellings
+pub mod SpellLaws
+pub mod Interned
+pub mod InternLaws
+pub mod TopLaws

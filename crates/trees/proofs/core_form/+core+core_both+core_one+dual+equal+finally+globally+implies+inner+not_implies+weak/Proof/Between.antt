@@ -1,0 +1,136 @@
+-- The functions between a node and its operands meet their contracts: the operands are stored, then the operators.
+use Prim.Native.Nat.{ℕ}
+use mathlib.Core.Path.{refl}
+use native.Mathlib.Omega.{arith}
+use borrow.Author.Needs.{needs}
+use Rattle.trees.specs.WritingLaws.{room-after, unary-full, unary-wrote, end, lower, binary-full, binary-full-right, binary-wrote, ends, not-binary-full, not-binary-full-right, not-binary-wrote}
+use Rattle.trees.proofs.core_form.core_both.Reads as core-both
+use Rattle.trees.proofs.core_form.+core+core_both+core_one+dual+equal+finally+globally+implies+inner+not_implies+weak.Lts-core_both as core-both-lts
+use Rattle.trees.proofs.core_form.core_one.Reads as core-one
+use Rattle.trees.proofs.core_form.+core+core_both+core_one+dual+equal+finally+globally+implies+inner+not_implies+weak.Lts-core_one as core-one-lts
+use Rattle.trees.proofs.core_form.dual.Reads as dual
+use Rattle.trees.proofs.core_form.+core+core_both+core_one+dual+equal+finally+globally+implies+inner+not_implies+weak.Lts-dual as dual-lts
+use Rattle.trees.proofs.core_form.equal.Reads as equal
+use Rattle.trees.proofs.core_form.+core+core_both+core_one+dual+equal+finally+globally+implies+inner+not_implies+weak.Lts-equal as equal-lts
+use Rattle.trees.proofs.core_form.finally.Reads as finally
+use Rattle.trees.proofs.core_form.+core+core_both+core_one+dual+equal+finally+globally+implies+inner+not_implies+weak.Lts-finally as finally-lts
+use Rattle.trees.proofs.core_form.globally.Reads as globally
+use Rattle.trees.proofs.core_form.+core+core_both+core_one+dual+equal+finally+globally+implies+inner+not_implies+weak.Lts-globally as globally-lts
+use Rattle.trees.proofs.core_form.implies.Reads as implies
+use Rattle.trees.proofs.core_form.+core+core_both+core_one+dual+equal+finally+globally+implies+inner+not_implies+weak.Lts-implies as implies-lts
+use Rattle.trees.proofs.core_form.not_implies.Reads as not-implies
+use Rattle.trees.proofs.core_form.+core+core_both+core_one+dual+equal+finally+globally+implies+inner+not_implies+weak.Lts-not_implies as not-implies-lts
+use Rattle.trees.proofs.core_form.weak.Reads as weak
+use Rattle.trees.proofs.core_form.+core+core_both+core_one+dual+equal+finally+globally+implies+inner+not_implies+weak.Lts-weak as weak-lts
+use Rattle.trees.proofs.core_form.+core+core_both+core_one+dual+equal+finally+globally+implies+inner+not_implies+weak.Proof.Calls.{core-both-at, core-both-calls, core-one-at, core-one-calls, dual-at, dual-calls, equal-at, equal-calls, finally-at, finally-calls, globally-at, globally-calls, implies-at, implies-calls, not-implies-at, not-implies-calls, weak-at, weak-calls}
+
+pub core-one-met : (t : ℕ) {M : Type 1} → core-one-lts.Closed (core-one-calls t) (core-one-at t) core-one.Post M
+core-one-met t =
+    core-one-lts.spec (core-one-calls t) (core-one-at t) core-one.Post
+    (λ c κs. let s = (c .before .before .before) in (omega (arith, s .pre .0), lower _ (s .pre .1 .0) (omega arith) (s .pre .1 .0 .room)))
+    (λ c. search needs)
+    (λ c. unary-full _ _ (c .if1 .taken) ((c .before .before .before) .core .ensures))
+    (λ c κs. let s = (c .before .before .before .before .before .before .before .before) in end _ _ (s .pre .1 .1 .small) (s .pre .1 .0 .room) ((c .before .before .before .before) .core .ensures .stored ((c .before) .if1 .left)))
+    (λ c. search needs)
+    (λ c. unary-wrote _ _ ((c .before .before .before .before .before .before .before) .core .ensures .stored ((c .before .before .before .before) .if1 .left)) ((c .before .before .before .before .before .before .before .before .before .before .before) .pre .1 .1 .number) ((c .before .before) .cap .ensures))
+
+pub core-both-met : (t : ℕ) {M : Type 1} → core-both-lts.Closed (core-both-calls t) (core-both-at t) core-both.Post M
+core-both-met t =
+    core-both-lts.spec (core-both-calls t) (core-both-at t) core-both.Post
+    (λ c κs. let s = (c .before .before .before) in (omega (arith, s .pre .0), lower _ (s .pre .1 .0) (omega arith) (s .pre .1 .0 .room)))
+    (λ c. search needs)
+    (λ c. binary-full _ _ _ (c .if1 .taken) ((c .before .before .before) .core .ensures))
+    (λ c κs. let s = (c .before .before .before .before .before .before .before .before) in (omega (arith, s .pre .0), lower _ (s .pre .1 .0) (omega arith) (room-after (s .pre .1 .0 .room) ((c .before .before .before .before) .core .ensures .stored ((c .before) .if1 .left)))))
+    (λ c. search needs)
+    (λ c. binary-full-right _ _ _ (c .if2 .taken) ((c .before .before .before .before .before .before .before .before) .core .ensures .stored ((c .before .before .before .before .before) .if1 .left)) ((c .before .before .before) .core2 .ensures))
+    (λ c κs. let s = (c .before .before .before .before .before .before .before .before .before .before .before .before .before) in ends _ _ _ (s .pre .1 .1 .small) (s .pre .1 .0 .room) ((c .before .before .before .before .before .before .before .before .before) .core .ensures .stored ((c .before .before .before .before .before .before) .if1 .left)) ((c .before .before .before .before) .core2 .ensures .stored ((c .before) .if2 .left)))
+    (λ c. search needs)
+    (λ c. binary-wrote _ _ _ ((c .before .before .before .before .before .before .before .before .before .before .before .before) .core .ensures .stored ((c .before .before .before .before .before .before .before .before .before) .if1 .left)) ((c .before .before .before .before .before .before .before) .core2 .ensures .stored ((c .before .before .before .before) .if2 .left)) ((c .before .before .before .before .before .before .before .before .before .before .before .before .before .before .before .before) .pre .1 .1 .number) ((c .before .before) .join .ensures))
+
+pub dual-met : (t : ℕ) {M : Type 1} → dual-lts.Closed (dual-calls t) (dual-at t) dual.Post M
+dual-met t =
+    dual-lts.spec (dual-calls t) (dual-at t) dual.Post
+    (λ c κs. let s = (c .before .before .before) in (omega (arith, s .pre .0), (lower _ (s .pre .1 .0) (omega arith) (s .pre .1 .0 .room), search needs)))
+    (λ c. search needs)
+    (λ c. not-binary-full _ _ _ (c .if1 .taken) ((c .before .before .before) .core-one .ensures))
+    (λ c κs. let s = (c .before .before .before .before .before .before .before .before) in (omega (arith, s .pre .0), (lower _ (s .pre .1 .0) (omega arith) (room-after (s .pre .1 .0 .room) ((c .before .before .before .before) .core-one .ensures .stored ((c .before) .if1 .left))), search needs)))
+    (λ c. search needs)
+    (λ c. not-binary-full-right _ _ _ (c .if2 .taken) ((c .before .before .before .before .before .before .before .before) .core-one .ensures .stored ((c .before .before .before .before .before) .if1 .left)) ((c .before .before .before) .core-one2 .ensures))
+    (λ c κs. let s = (c .before .before .before .before .before .before .before .before .before .before .before .before .before) in ends _ _ _ (s .pre .1 .1 .small) (s .pre .1 .0 .room) ((c .before .before .before .before .before .before .before .before .before) .core-one .ensures .stored ((c .before .before .before .before .before .before) .if1 .left)) ((c .before .before .before .before) .core-one2 .ensures .stored ((c .before) .if2 .left)))
+    (λ c. search needs)
+    (λ c. not-binary-wrote _ _ _ ((c .before .before .before .before .before .before .before .before .before .before .before .before) .core-one .ensures .stored ((c .before .before .before .before .before .before .before .before .before) .if1 .left)) ((c .before .before .before .before .before .before .before) .core-one2 .ensures .stored ((c .before .before .before .before) .if2 .left)) ((c .before .before .before .before .before .before .before .before .before .before .before .before .before .before .before .before) .pre .1 .1 .number) ((c .before .before) .join-not .ensures))
+
+pub implies-met : (t : ℕ) {M : Type 1} → implies-lts.Closed (implies-calls t) (implies-at t) implies.Post M
+implies-met t =
+    implies-lts.spec (implies-calls t) (implies-at t) implies.Post
+    (λ c κs. let s = (c .before .before .before) in (omega (arith, s .pre .0), (lower _ (s .pre .1) (omega arith) (s .pre .1 .room), search needs)))
+    (λ c. search needs)
+    (λ c. binary-full _ _ _ (c .if1 .taken) ((c .before .before .before) .core-one .ensures))
+    (λ c κs. let s = (c .before .before .before .before .before .before .before .before) in (omega (arith, s .pre .0), lower _ (s .pre .1) (omega arith) (room-after (s .pre .1 .room) ((c .before .before .before .before) .core-one .ensures .stored ((c .before) .if1 .left)))))
+    (λ c. search needs)
+    (λ c. binary-full-right _ _ _ (c .if2 .taken) ((c .before .before .before .before .before .before .before .before) .core-one .ensures .stored ((c .before .before .before .before .before) .if1 .left)) ((c .before .before .before) .core .ensures))
+    (λ c κs. let s = (c .before .before .before .before .before .before .before .before .before .before .before .before .before) in ends 5 _ _ (omega arith) (s .pre .1 .room) ((c .before .before .before .before .before .before .before .before .before) .core-one .ensures .stored ((c .before .before .before .before .before .before) .if1 .left)) ((c .before .before .before .before) .core .ensures .stored ((c .before) .if2 .left)))
+    (λ c. search needs)
+    (λ c. binary-wrote _ _ _ ((c .before .before .before .before .before .before .before .before .before .before .before .before) .core-one .ensures .stored ((c .before .before .before .before .before .before .before .before .before) .if1 .left)) ((c .before .before .before .before .before .before .before) .core .ensures .stored ((c .before .before .before .before) .if2 .left)) refl ((c .before .before) .join .ensures))
+
+pub not-implies-met : (t : ℕ) {M : Type 1} → not-implies-lts.Closed (not-implies-calls t) (not-implies-at t) not-implies.Post M
+not-implies-met t =
+    not-implies-lts.spec (not-implies-calls t) (not-implies-at t) not-implies.Post
+    (λ c κs. let s = (c .before .before .before) in (omega (arith, s .pre .0), lower _ (s .pre .1) (omega arith) (s .pre .1 .room)))
+    (λ c. search needs)
+    (λ c. unary-full _ _ (c .if1 .taken) ((c .before .before .before) .implies .ensures))
+    (λ c κs. let s = (c .before .before .before .before .before .before .before .before) in end 3 _ (omega arith) (s .pre .1 .room) ((c .before .before .before .before) .implies .ensures .stored ((c .before) .if1 .left)))
+    (λ c. search needs)
+    (λ c. unary-wrote _ _ ((c .before .before .before .before .before .before .before) .implies .ensures .stored ((c .before .before .before .before) .if1 .left)) refl ((c .before .before) .cap .ensures))
+
+pub equal-met : (t : ℕ) {M : Type 1} → equal-lts.Closed (equal-calls t) (equal-at t) equal.Post M
+equal-met t =
+    equal-lts.spec (equal-calls t) (equal-at t) equal.Post
+    (λ c κs. let s = (c .before .before .before) in (omega (arith, s .pre .0), lower _ (s .pre .1) (omega arith) (s .pre .1 .room)))
+    (λ c. search needs)
+    (λ c. not-binary-full _ _ _ (c .if1 .taken) ((c .before .before .before) .not-implies .ensures))
+    (λ c κs. let s = (c .before .before .before .before .before .before .before .before) in (omega (arith, s .pre .0), lower _ (s .pre .1) (omega arith) (room-after (s .pre .1 .room) ((c .before .before .before .before) .not-implies .ensures .stored ((c .before) .if1 .left)))))
+    (λ c. search needs)
+    (λ c. not-binary-full-right _ _ _ (c .if2 .taken) ((c .before .before .before .before .before .before .before .before) .not-implies .ensures .stored ((c .before .before .before .before .before) .if1 .left)) ((c .before .before .before) .not-implies2 .ensures))
+    (λ c κs. let s = (c .before .before .before .before .before .before .before .before .before .before .before .before .before) in ends 5 _ _ (omega arith) (s .pre .1 .room) ((c .before .before .before .before .before .before .before .before .before) .not-implies .ensures .stored ((c .before .before .before .before .before .before) .if1 .left)) ((c .before .before .before .before) .not-implies2 .ensures .stored ((c .before) .if2 .left)))
+    (λ c. search needs)
+    (λ c. not-binary-wrote _ _ _ ((c .before .before .before .before .before .before .before .before .before .before .before .before) .not-implies .ensures .stored ((c .before .before .before .before .before .before .before .before .before) .if1 .left)) ((c .before .before .before .before .before .before .before) .not-implies2 .ensures .stored ((c .before .before .before .before) .if2 .left)) refl ((c .before .before) .join-not .ensures))
+
+pub finally-met : (t : ℕ) {M : Type 1} → finally-lts.Closed (finally-calls t) (finally-at t) finally.Post M
+finally-met t =
+    finally-lts.spec (finally-calls t) (finally-at t) finally.Post
+    (λ c κs. let s = (c .before .before .before) in (omega arith, s .pre .1 .room))
+    (λ c. search needs)
+    (λ c. binary-full _ _ _ (c .if1 .taken) ((c .before .before .before) .constant .ensures))
+    (λ c κs. let s = (c .before .before .before .before .before .before .before .before) in (omega (arith, s .pre .0), lower _ (s .pre .1) (omega arith) (room-after (s .pre .1 .room) ((c .before .before .before .before) .constant .ensures .stored ((c .before) .if1 .left)))))
+    (λ c. search needs)
+    (λ c. binary-full-right _ _ _ (c .if2 .taken) ((c .before .before .before .before .before .before .before .before) .constant .ensures .stored ((c .before .before .before .before .before) .if1 .left)) ((c .before .before .before) .core .ensures))
+    (λ c κs. let s = (c .before .before .before .before .before .before .before .before .before .before .before .before .before) in ends 11 _ _ (omega arith) (s .pre .1 .room) ((c .before .before .before .before .before .before .before .before .before) .constant .ensures .stored ((c .before .before .before .before .before .before) .if1 .left)) ((c .before .before .before .before) .core .ensures .stored ((c .before) .if2 .left)))
+    (λ c. search needs)
+    (λ c. binary-wrote _ _ _ ((c .before .before .before .before .before .before .before .before .before .before .before .before) .constant .ensures .stored ((c .before .before .before .before .before .before .before .before .before) .if1 .left)) ((c .before .before .before .before .before .before .before) .core .ensures .stored ((c .before .before .before .before) .if2 .left)) refl ((c .before .before) .join .ensures))
+
+pub globally-met : (t : ℕ) {M : Type 1} → globally-lts.Closed (globally-calls t) (globally-at t) globally.Post M
+globally-met t =
+    globally-lts.spec (globally-calls t) (globally-at t) globally.Post
+    (λ c κs. let s = (c .before .before .before) in (omega arith, s .pre .1 .room))
+    (λ c. search needs)
+    (λ c. not-binary-full _ _ _ (c .if1 .taken) ((c .before .before .before) .constant .ensures))
+    (λ c κs. let s = (c .before .before .before .before .before .before .before .before) in (omega (arith, s .pre .0), (lower _ (s .pre .1) (omega arith) (room-after (s .pre .1 .room) ((c .before .before .before .before) .constant .ensures .stored ((c .before) .if1 .left))), search needs)))
+    (λ c. search needs)
+    (λ c. not-binary-full-right _ _ _ (c .if2 .taken) ((c .before .before .before .before .before .before .before .before) .constant .ensures .stored ((c .before .before .before .before .before) .if1 .left)) ((c .before .before .before) .core-one .ensures))
+    (λ c κs. let s = (c .before .before .before .before .before .before .before .before .before .before .before .before .before) in ends 11 _ _ (omega arith) (s .pre .1 .room) ((c .before .before .before .before .before .before .before .before .before) .constant .ensures .stored ((c .before .before .before .before .before .before) .if1 .left)) ((c .before .before .before .before) .core-one .ensures .stored ((c .before) .if2 .left)))
+    (λ c. search needs)
+    (λ c. not-binary-wrote _ _ _ ((c .before .before .before .before .before .before .before .before .before .before .before .before) .constant .ensures .stored ((c .before .before .before .before .before .before .before .before .before) .if1 .left)) ((c .before .before .before .before .before .before .before) .core-one .ensures .stored ((c .before .before .before .before) .if2 .left)) refl ((c .before .before) .join-not .ensures))
+
+pub weak-met : (t : ℕ) {M : Type 1} → weak-lts.Closed (weak-calls t) (weak-at t) weak.Post M
+weak-met t =
+    weak-lts.spec (weak-calls t) (weak-at t) weak.Post
+    (λ c κs. let s = (c .before .before .before) in (omega (arith, s .pre .0), (lower _ (s .pre .1) (omega arith) (s .pre .1 .room), search needs)))
+    (λ c. search needs)
+    (λ c. binary-full _ _ _ (c .if1 .taken) ((c .before .before .before) .core-both .ensures))
+    (λ c κs. let s = (c .before .before .before .before .before .before .before .before) in (omega (arith, s .pre .0), lower _ (s .pre .1) (omega arith) (room-after (s .pre .1 .room) ((c .before .before .before .before) .core-both .ensures .stored ((c .before) .if1 .left)))))
+    (λ c. search needs)
+    (λ c. binary-full-right _ _ _ (c .if2 .taken) ((c .before .before .before .before .before .before .before .before) .core-both .ensures .stored ((c .before .before .before .before .before) .if1 .left)) ((c .before .before .before) .globally .ensures))
+    (λ c κs. let s = (c .before .before .before .before .before .before .before .before .before .before .before .before .before) in ends 5 _ _ (omega arith) (s .pre .1 .room) ((c .before .before .before .before .before .before .before .before .before) .core-both .ensures .stored ((c .before .before .before .before .before .before) .if1 .left)) ((c .before .before .before .before) .globally .ensures .stored ((c .before) .if2 .left)))
+    (λ c. search needs)
+    (λ c. binary-wrote _ _ _ ((c .before .before .before .before .before .before .before .before .before .before .before .before) .core-both .ensures .stored ((c .before .before .before .before .before .before .before .before .before) .if1 .left)) ((c .before .before .before .before .before .before .before) .globally .ensures .stored ((c .before .before .before .before) .if2 .left)) refl ((c .before .before) .join .ensures))
