@@ -45,14 +45,18 @@ pub fn alike_names() -> Vec<u8> {
     text.into_bytes()
 }
 
-/// Tags against a tree of spellings: a name of eight bytes that has, at each byte, all other bytes beside it, and that name again and again.
+/// Tags against a tree of spellings that has the children of a spelling in a search tree by the bits of their bytes, lowest first: a name of 32 bytes that has, at
+/// each byte, others before it that agree with it in one bit more each, and that name again and again.
 pub fn crowded_spellings() -> Vec<u8> {
-    let name = &b"aaaaaaaa"[..];
-    let mut tags = vec![name.to_vec()];
+    let name = &[b'a'; 32][..];
+    let mut tags = Vec::new();
     for length in 0..name.len() {
         let bytes = if length == 0 { STARTING } else { FOLLOWING };
-        let others = bytes.iter().filter(|byte| **byte != name[length]);
-        tags.extend(others.map(|byte| [&name[..length], &[*byte][..]].concat()));
+        for shared in 0..8 {
+            let agrees = |byte: &&u8| (**byte ^ name[length]).trailing_zeros() == shared;
+            let other = bytes.iter().find(agrees);
+            tags.extend(other.map(|byte| [&name[..length], &[*byte][..]].concat()));
+        }
     }
     // 26 tokens besides the tags and the commas between them.
     tags.resize((MAX_TOKENS - 26) / 2, name.to_vec());
