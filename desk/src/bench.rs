@@ -14,6 +14,7 @@ use crate::worker::Pool;
 use std::path::Path;
 
 pub fn record(arguments: &Record) -> Result<Status, Stop> {
+    files::check_apart(&arguments.output, [&arguments.spec, &arguments.csv])?;
     let pool = Pool::new(arguments.limit.seconds);
     let spec = spec::read(&arguments.spec, 0, &pool, Status::Bad)?;
     let labels = spec.labels();

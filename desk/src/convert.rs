@@ -68,6 +68,9 @@ fn check_usage(arguments: &Convert, paths: &[PathBuf]) -> Result<(), Stop> {
     if arguments.to != Target::Ltl && (arguments.syntax.is_some() || arguments.tick.is_some()) {
         return Err(Stop::unusable("--syntax and --tick go with --to ltl"));
     }
+    if let Some(report) = &arguments.report {
+        files::check_apart(report, paths)?;
+    }
     let Some(folder) = &arguments.out else {
         if arguments.to == Target::Nodes && paths.len() > 1 {
             return Err(Stop::unusable("the nodes of many files need --out DIR"));
@@ -79,7 +82,7 @@ fn check_usage(arguments: &Convert, paths: &[PathBuf]) -> Result<(), Stop> {
         if let Some(other) = taken.insert(output_path(folder, path, arguments.to), path) {
             let (one, two) = (files::shown(other), files::shown(path));
             return Err(Stop::unusable(format!(
-                "{one} and {two} would be written to one file in {}",
+                "{one} and {two} would be written to one file in {}: give them other names, or convert them to two folders",
                 files::shown(folder)
             )));
         }

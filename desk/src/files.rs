@@ -3,6 +3,7 @@
 use std::ffi::OsString;
 use std::fs::{self, File, OpenOptions};
 use std::io::{self, ErrorKind, Read, Write};
+use std::os::unix::fs::MetadataExt;
 use std::path::{Path, PathBuf};
 use std::sync::atomic::{AtomicBool, Ordering};
 
@@ -58,6 +59,23 @@ fn read_at_most(path: &Path, most: u64) -> Result<Vec<u8>, String> {
         Ok(_) => Ok(bytes),
         Err(error) => Err(format!("{}: cannot be read: {}", shown(path), reason(&error))),
     }
+}
+
+/// Refuses to write where the same command reads: a table, a recording or a text would be lost.
+pub fn check_apart<'a>(output: &Path, inputs: impl IntoIterator<Item = &'a PathBuf>) -> Result<(), String> {
+    let Some(place) = place_of(output) else {
+        return Ok(());
+    };
+    if inputs.into_iter().any(|input| place_of(input) == Some(place)) {
+        return Err(format!("{}: cannot be written: the same command reads it", shown(output)));
+    }
+    Ok(())
+}
+
+/// Which file it is, by whatever name; nothing for what is no file.
+fn place_of(path: &Path) -> Option<(u64, u64)> {
+    let data = fs::metadata(path).ok().filter(|data| data.is_file() && !is_standard(path))?;
+    Some((data.dev(), data.ino()))
 }
 
 /// Writes a file whole or not at all; `-` is standard output.

@@ -14,6 +14,9 @@ use crate::worker::Pool;
 use std::path::Path;
 
 pub fn run(arguments: &Judge) -> Result<Status, Stop> {
+    if let Some(svg) = &arguments.svg {
+        files::check_apart(svg, [&arguments.spec, &arguments.recording])?;
+    }
     let pool = Pool::new(arguments.limit.seconds);
     let spec = spec::read(&arguments.spec, arguments.form.form, &pool, Status::Refused)?;
     let recording = files::read_all(&arguments.recording)?;

@@ -1,6 +1,7 @@
 //! Running the program in a folder of its own.
 #![allow(dead_code)]
 
+pub mod drawing;
 pub mod texts;
 
 use std::fs;
@@ -33,6 +34,11 @@ pub struct Folder {
 impl Folder {
     pub fn new() -> Folder {
         Folder::below(&std::env::temp_dir())
+    }
+
+    /// Beside what is built.
+    pub fn on_disk() -> Folder {
+        Folder::below(Path::new(env!("CARGO_TARGET_TMPDIR")))
     }
 
     /// In memory where the system has a folder there, so that no disk is measured.
@@ -134,4 +140,18 @@ impl Ran {
 
 pub fn name(path: &Path) -> &str {
     path.to_str().expect("a plain name")
+}
+
+/// What the text calls each signal of its list, bits of buses as `b[3]`.
+pub fn labels(text: &[u8], signals: &[u32]) -> Vec<String> {
+    let of_name = |byte: &&u8| byte.is_ascii_alphanumeric() || b"_'@".contains(byte);
+    let label = |&entry: &u32| {
+        let rest = &text[(entry >> 16 & 0x7fff) as usize..];
+        let name: String = rest.iter().take_while(of_name).map(|&byte| char::from(byte)).collect();
+        match entry & 0xff {
+            0 => name,
+            _ => format!("{name}[{}]", entry >> 8 & 0xff),
+        }
+    };
+    signals.iter().map(label).collect()
 }

@@ -1,4 +1,5 @@
-//! Texts of any size as makers write them: parameters, definitions, buses, an enumeration, long names, comments and blanks.
+//! Texts of any size as makers write them: parameters, definitions, buses, an enumeration, long names, comments and blanks. And small ones that have every
+//! operator below every other.
 
 use second::generate::prng::Prng;
 use std::fmt::Write;
@@ -86,5 +87,37 @@ fn expression(rng: &mut Prng, levels: usize) -> String {
     match operator {
         "!" | "X" | "F" => format!("({operator} {left})"),
         _ => format!("({left} {operator} {})", expression(rng, levels - 1)),
+    }
+}
+
+/// The signals of a small text: one bit of the bus would have another signal's name in a line of LTL.
+pub const SMALL_SIGNALS: [&str; 4] = ["a", "b[0]", "b[1]", "b_1"];
+
+const OPERATORS: [&str; 11] = ["!", "X", "G", "F", "&&", "||", "->", "<->", "U", "R", "W"];
+
+/// A text whose guarantee has at most so many levels, each of the other sections being there now and then.
+pub fn small_text(rng: &mut Prng, levels: usize) -> String {
+    let semantics = *rng.pick(&["Mealy", "Mealy,Strict"]);
+    let mut text = format!(
+        "INFO {{ TITLE: \"t\" DESCRIPTION: \"d\" SEMANTICS: {semantics} TARGET: Mealy }} MAIN {{ INPUTS {{ a; b[2]; }} OUTPUTS {{ b_1; }}"
+    );
+    for section in ["INITIALLY", "PRESET", "REQUIRE", "ASSERT", "ASSUME"] {
+        if rng.one_in(6) {
+            let _ = write!(text, " {section} {{ {}; }}", small_expression(rng, 1));
+        }
+    }
+    let _ = writeln!(text, " GUARANTEE {{ {}; }} }}", small_expression(rng, levels));
+    text
+}
+
+fn small_expression(rng: &mut Prng, levels: usize) -> String {
+    if levels == 0 || rng.one_in(6) {
+        return rng.pick(&SMALL_SIGNALS).to_string();
+    }
+    let operator = *rng.pick(&OPERATORS);
+    let left = small_expression(rng, levels - 1);
+    match operator {
+        "!" | "X" | "G" | "F" => format!("({operator} {left})"),
+        _ => format!("({left} {operator} {})", small_expression(rng, levels - 1)),
     }
 }
