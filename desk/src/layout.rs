@@ -18,7 +18,7 @@ const FOOT_HEIGHT: usize = 16;
 
 /// A label's lines are broken here unless a name needs more, and a signal's name with its index never does.
 const LABEL_CHARACTERS: (usize, usize) = (48, 72);
-const LABEL_LINES: usize = 4;
+const LABEL_LINES: usize = 8;
 
 /// The positions of a strip share this width, within the bounds of a cell's width.
 const STRIP_WIDTH: usize = 960;
@@ -184,7 +184,8 @@ mod tests {
     fn labels_are_broken_and_names_never_cut() {
         assert_eq!(broken("a && b", 4), ["a &&", "b"]);
         assert_eq!(broken("abcdef", 4), ["abcd", "ef"]);
-        assert_eq!(broken("a b c d e f g h i j", 4), ["a b", "c d", "e f", "g..."]);
+        let lines = broken("a b c d e f g h i j k l m n o p q r", 4);
+        assert_eq!(lines, ["a b", "c d", "e f", "g h", "i j", "k l", "m n", "o..."]);
         let name = format!("{}[254]", "n".repeat(64));
         assert_eq!(Layout::of(&diagram(&name, 1, 1)).labels, [[name]]);
     }
