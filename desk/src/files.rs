@@ -107,7 +107,8 @@ pub fn write_all_whole(files: &[(PathBuf, &[u8])]) -> Result<(), String> {
     moved
 }
 
-/// Writes a part that is to be moved to the path; a device or a pipe is written to instead.
+/// Writes a part that is to be moved to the path, unless a file with the same bytes stands there: its time stays, and some disks make files slowly where
+/// others were just deleted. A device or a pipe is written to itself.
 fn write_beside(path: &Path, bytes: &[u8], parts: &mut Vec<(PathBuf, PathBuf)>) -> io::Result<()> {
     if path.extension().is_some_and(|ending| ending == "tlsf") {
         return Err(io::Error::new(ErrorKind::InvalidInput, "the name is a text's"));
@@ -120,6 +121,7 @@ fn write_beside(path: &Path, bytes: &[u8], parts: &mut Vec<(PathBuf, PathBuf)>) 
     match fs::metadata(&path) {
         Ok(data) if data.is_dir() => return Err(io::Error::new(ErrorKind::InvalidInput, "it is a folder")),
         Ok(data) if !data.is_file() => return OpenOptions::new().write(true).open(&path)?.write_all(bytes),
+        Ok(data) if data.len() == bytes.len() as u64 && fs::read(&path).is_ok_and(|there| there == bytes) => return Ok(()),
         _ => {}
     }
     let part = beside(&path)?;

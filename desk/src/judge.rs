@@ -103,15 +103,16 @@ fn diagram(arguments: &Judge, text: Vec<u8>, recording: &[u8], pool: &Pool, verd
         bits: rows.row(root),
     });
     Ok(Diagram {
-        title: format!(
-            "{} on {}: {verdict}",
-            files::shown(&arguments.spec),
-            files::shown(&arguments.recording)
-        ),
+        title: format!("{} on {}: {verdict}", name(&arguments.spec), name(&arguments.recording)),
         rows: drawn,
         positions: rows.positions,
         loop_start: recording::loop_start(recording),
     })
+}
+
+// Without folders, which would make a picture wider than its rows.
+fn name(path: &Path) -> String {
+    files::shown(path.file_name().map_or(path, Path::new))
 }
 
 /// A table of every signal, whose rows are the recording's.

@@ -56,7 +56,12 @@ impl std::fmt::Display for Best {
 }
 
 /// Converts the texts in one run, compares each answer with the second converter's, and measures.
-fn a_day(title: &str, texts: &[Vec<u8>], place: &str, folder: Folder) {
+fn a_day(title: &str, texts: &[Vec<u8>], folder: &Folder) {
+    let place = if folder.path.starts_with("/dev/shm") {
+        "in memory"
+    } else {
+        "on disk"
+    };
     let names: Vec<String> = (0..texts.len()).map(|number| format!("{number:04}.tlsf")).collect();
     for (name, text) in names.iter().zip(texts) {
         folder.file(name, text);
@@ -71,14 +76,18 @@ fn a_day(title: &str, texts: &[Vec<u8>], place: &str, folder: Folder) {
         let ran = folder.run(&[&["convert", "--out", &out, "--report", "report.json"], &names[..]].concat());
         assert_eq!(ran.status, 1);
     });
-    let accepted = compare(&folder, &names, texts);
+    let accepted = compare(folder, &names, texts);
+    let again = best(|| {
+        let ran = folder.run(&[&["convert", "--out", "out0"], &names[..]].concat());
+        assert_eq!(ran.status, 1);
+    });
     let checking = best(|| {
         let ran = folder.run(&[&["check", "--messages", "short"], &names[..]].concat());
         assert_eq!((ran.status, ran.told.lines().count()), (1, names.len() - accepted));
     });
     println!(
         "{} {title}, {bytes} bytes in all, {accepted} accepted, {place}, best of {RUNS}: reading alone {:.3} s, convert --out --report {converting}, \
-         check {checking}",
+         once more to the same folder {again}, check {checking}",
         names.len(),
         reading.clock.as_secs_f64(),
     );
@@ -133,8 +142,8 @@ fn large_texts() -> Vec<Vec<u8>> {
 // One after the other, so that neither takes the other's time.
 #[test]
 fn two_days() {
-    a_day("small texts", &small_texts(), "in memory", Folder::in_memory());
+    a_day("small texts", &small_texts(), &Folder::in_memory());
     let texts = large_texts();
-    a_day("texts of 1 to 30 KB", &texts, "in memory", Folder::in_memory());
-    a_day("texts of 1 to 30 KB", &texts, "on disk", Folder::on_disk());
+    a_day("texts of 1 to 30 KB", &texts, &Folder::in_memory());
+    a_day("texts of 1 to 30 KB", &texts, &Folder::on_disk());
 }

@@ -40,7 +40,9 @@ fn the_text_on_standard_input() {
     let folder = starred();
     let ran = folder.run_with_input(&["judge", "-", "holds", "--form", "2", "--svg", "run.svg"], STARRED.as_bytes());
     assert_eq!((ran.status, ran.text().as_str(), ran.told.as_str()), (0, "holds\n", ""));
-    assert!(String::from_utf8_lossy(&folder.read("run.svg")).contains("standard input on holds: holds"));
+    assert!(String::from_utf8_lossy(&folder.read("run.svg")).contains(">standard input on holds: holds<"));
+    let ran = folder.run_with_input(&["judge", "-", "./holds", "--svg", "-"], STARRED.as_bytes());
+    assert!(ran.text().starts_with("holds\n<svg ") && ran.text().contains(">standard input on holds: holds<"));
 }
 
 #[test]
