@@ -4,7 +4,7 @@
 
 mod common;
 
-use common::texts::{small_text, SMALL_SIGNALS};
+use common::texts::{operator_text, small_text, SMALL_SIGNALS};
 use common::Folder;
 use second::generate::prng::Prng;
 use second::generate::recordings;
@@ -14,9 +14,10 @@ use std::os::unix::process::ExitStatusExt;
 use std::path::Path;
 use std::process::Command;
 
-const LASSOS: usize = 10;
-/// In turn in each form and each syntax.
-const TEXTS_PER_LASSO: usize = 18;
+const LASSOS: usize = 9;
+/// In turn in each form and each syntax: texts of one temporal operator, and texts of any.
+const PLAIN_PER_LASSO: usize = 12;
+const TEXTS_PER_LASSO: usize = 12;
 const WAYS: [(&str, &str); 6] = [
     ("0", "common"),
     ("1", "common"),
@@ -26,8 +27,8 @@ const WAYS: [(&str, &str); 6] = [
     ("2", "spin"),
 ];
 /// Of each temporal operator so many at least stand in the texts that are compared.
-const LEAST: usize = 15;
-const TEMPORAL: [&str; 6] = ["(X ", "(G ", "(F ", " U ", " R ", " W "];
+const LEAST: usize = 25;
+const TEMPORAL: [&str; 6] = ["X", "G", "F", "U", "R", "W"];
 /// What `b[0]`, `b[1]` and `b_1` are called in a line.
 const LTL_NAMES: [&str; 4] = ["a", "b_0", "b_1_2", "b_1"];
 /// SPIN's automata grow exponentially with a line's temporal operators: lines that have more, that are longer, or that take it more than a second of a
@@ -143,10 +144,9 @@ struct Claim {
 }
 
 /// A line written in a way of `WAYS` that SPIN reads in its time.
-fn claim(rng: &mut Prng, folder: &Folder, lasso: &Lasso, (form, syntax): (&str, &str)) -> Claim {
+fn claim(folder: &Folder, lasso: &Lasso, (form, syntax): (&str, &str), mut text: impl FnMut() -> String) -> Claim {
     loop {
-        let levels = rng.between(1, 3);
-        let text = small_text(rng, levels);
+        let text = text();
         let options = ["convert", "--to", "ltl", "--form", form, "--syntax", syntax, "--tick", "tick"];
         let line = folder.run_with_input(&options, text.as_bytes()).text().trim_end().to_string();
         let temporal: usize = [" U ", " V ", "[] ", "<> "].iter().map(|sign| line.matches(sign).count()).sum();
@@ -163,16 +163,30 @@ fn claim(rng: &mut Prng, folder: &Folder, lasso: &Lasso, (form, syntax): (&str, 
     }
 }
 
+/// The claims on one lasso; over some lassos every operator stands alone in every way.
+fn claims(rng: &mut Prng, folder: &Folder, lasso: &Lasso, number: usize) -> Vec<Claim> {
+    let ways = || WAYS.into_iter().cycle().enumerate();
+    let operator = |at: usize| TEMPORAL[(at + at / WAYS.len() + 2 * number) % TEMPORAL.len()];
+    let mut claims: Vec<Claim> = Vec::new();
+    for (at, way) in ways().take(PLAIN_PER_LASSO) {
+        claims.push(claim(folder, lasso, way, || operator_text(rng, operator(at))));
+    }
+    for (_, way) in ways().take(TEXTS_PER_LASSO) {
+        let levels = rng.between(1, 3);
+        claims.push(claim(folder, lasso, way, || small_text(rng, levels)));
+    }
+    claims
+}
+
 #[test]
 fn verdicts_equal_those_of_judge() {
     let mut rng = Prng::new(2_026);
-    let mut claims = Vec::new();
-    for _ in 0..LASSOS {
+    let mut all = Vec::new();
+    for number in 0..LASSOS {
         let folder = Folder::new();
         let lasso = recordings::lasso(&mut rng, 6, SMALL_SIGNALS.len());
         folder.file("run", lasso.bytes(SMALL_SIGNALS.len()));
-        let ways = WAYS.into_iter().cycle().take(TEXTS_PER_LASSO);
-        let asked: Vec<Claim> = ways.map(|way| claim(&mut rng, &folder, &lasso, way)).collect();
+        let asked = claims(&mut rng, &folder, &lasso, number);
         let lines: Vec<&str> = asked.iter().map(|claim| claim.line.as_str()).collect();
         folder.file("model.pml", model(&lasso, &lines));
         succeed(&folder.path, "timeout", &["600", "spin", "-a", "model.pml"]);
@@ -180,16 +194,20 @@ fn verdicts_equal_those_of_judge() {
         for (number, claim) in asked.iter().enumerate() {
             assert_eq!(spin_holds(&folder.path, number), claim.holds, "{} on {lasso:?}", claim.line);
         }
-        claims.extend(asked);
+        all.extend(asked);
     }
-    let held = claims.iter().filter(|claim| claim.holds).count();
-    let count = |sign: &&str| claims.iter().map(|claim| claim.text.matches(sign).count()).sum::<usize>();
+    let held = all.iter().filter(|claim| claim.holds).count();
+    let count = |operator: &&str| {
+        let signs = [format!("({operator} "), format!(" {operator} ")];
+        let of_text = |claim: &Claim| signs.iter().map(|sign| claim.text.matches(sign).count()).sum::<usize>();
+        all.iter().map(of_text).sum()
+    };
     let counts: Vec<usize> = TEMPORAL.iter().map(count).collect();
     println!(
         "SPIN agrees with judge on {} verdicts: {held} hold, {} fail; X, G, F, U, R, W {counts:?} times",
-        claims.len(),
-        claims.len() - held
+        all.len(),
+        all.len() - held
     );
-    assert!(held > claims.len() / 5 && held < claims.len() * 4 / 5);
+    assert!(held > all.len() / 5 && held < all.len() * 4 / 5);
     assert!(counts.iter().all(|count| *count >= LEAST));
 }

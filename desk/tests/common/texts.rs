@@ -84,10 +84,7 @@ fn expression(rng: &mut Prng, levels: usize) -> String {
     }
     let operator = *rng.pick(&["!", "X", "F", "&&", "||", "->", "U", "W", "R"]);
     let left = expression(rng, levels - 1);
-    match operator {
-        "!" | "X" | "F" => format!("({operator} {left})"),
-        _ => format!("({left} {operator} {})", expression(rng, levels - 1)),
-    }
+    applied(operator, &left, || expression(rng, levels - 1))
 }
 
 /// The signals of a small text: one bit of the bus would have another signal's name in a line of LTL.
@@ -97,17 +94,30 @@ const OPERATORS: [&str; 11] = ["!", "X", "G", "F", "&&", "||", "->", "<->", "U",
 
 /// A text whose guarantee has at most so many levels, each of the other sections being there now and then.
 pub fn small_text(rng: &mut Prng, levels: usize) -> String {
-    let semantics = *rng.pick(&["Mealy", "Mealy,Strict"]);
-    let mut text = format!(
-        "INFO {{ TITLE: \"t\" DESCRIPTION: \"d\" SEMANTICS: {semantics} TARGET: Mealy }} MAIN {{ INPUTS {{ a; b[2]; }} OUTPUTS {{ b_1; }}"
-    );
+    let mut sections = String::new();
     for section in ["INITIALLY", "PRESET", "REQUIRE", "ASSERT", "ASSUME"] {
         if rng.one_in(6) {
-            let _ = write!(text, " {section} {{ {}; }}", small_expression(rng, 1));
+            let _ = write!(sections, "{section} {{ {}; }} ", small_expression(rng, 1));
         }
     }
-    let _ = writeln!(text, " GUARANTEE {{ {}; }} }}", small_expression(rng, levels));
-    text
+    let guarantee = small_expression(rng, levels);
+    small_frame(rng, &sections, &guarantee)
+}
+
+/// A text that says of two signals what an operator says.
+pub fn operator_text(rng: &mut Prng, operator: &str) -> String {
+    let (left, right) = (rng.below(SMALL_SIGNALS.len()), rng.between(1, SMALL_SIGNALS.len() - 1));
+    let right = SMALL_SIGNALS[(left + right) % SMALL_SIGNALS.len()];
+    let guarantee = applied(operator, SMALL_SIGNALS[left], || right.to_string());
+    small_frame(rng, "", &guarantee)
+}
+
+fn small_frame(rng: &mut Prng, sections: &str, guarantee: &str) -> String {
+    let semantics = *rng.pick(&["Mealy", "Mealy,Strict"]);
+    format!(
+        "INFO {{ TITLE: \"t\" DESCRIPTION: \"d\" SEMANTICS: {semantics} TARGET: Mealy }} \
+         MAIN {{ INPUTS {{ a; b[2]; }} OUTPUTS {{ b_1; }} {sections}GUARANTEE {{ {guarantee}; }} }}\n"
+    )
 }
 
 fn small_expression(rng: &mut Prng, levels: usize) -> String {
@@ -116,8 +126,12 @@ fn small_expression(rng: &mut Prng, levels: usize) -> String {
     }
     let operator = *rng.pick(&OPERATORS);
     let left = small_expression(rng, levels - 1);
+    applied(operator, &left, || small_expression(rng, levels - 1))
+}
+
+fn applied(operator: &str, left: &str, right: impl FnOnce() -> String) -> String {
     match operator {
         "!" | "X" | "G" | "F" => format!("({operator} {left})"),
-        _ => format!("({left} {operator} {})", small_expression(rng, levels - 1)),
+        _ => format!("({left} {operator} {})", right()),
     }
 }
