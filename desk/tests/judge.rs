@@ -148,6 +148,20 @@ fn a_table_becomes_a_recording_and_comes_back() {
         0
     );
     assert_eq!(folder.read("run"), [0x00, 0x30, 0x02, 0x07, 0x90, 0x17, 0x60]);
+    let turned = |line: &str| line.split(',').rev().collect::<Vec<&str>>().join(",") + "\n";
+    folder.file("turned.csv", LIFT_RUN.lines().map(turned).collect::<String>());
+    folder.run(&[
+        "record",
+        "--spec",
+        "lift.tlsf",
+        "--csv",
+        "turned.csv",
+        "--loop",
+        "2",
+        "-o",
+        "turned",
+    ]);
+    assert_eq!(folder.read("turned"), folder.read("run"));
     let ran = folder.run(&["show", "run", "--spec", "lift.tlsf"]);
     assert_eq!(
         (ran.text().as_str(), ran.told.as_str()),

@@ -4,7 +4,7 @@
 
 mod common;
 
-use common::texts::{operator_text, small_text, SMALL_SIGNALS};
+use common::texts::{operator_text, pair_text, small_text, SMALL_SIGNALS};
 use common::Folder;
 use second::generate::prng::Prng;
 use second::generate::recordings;
@@ -15,9 +15,10 @@ use std::path::Path;
 use std::process::Command;
 
 const LASSOS: usize = 9;
-/// In turn in each form and each syntax: texts of one temporal operator, and texts of any.
-const PLAIN_PER_LASSO: usize = 12;
-const TEXTS_PER_LASSO: usize = 12;
+/// In turn in each form and each syntax: texts of one temporal operator, of two operators, and of any.
+const PLAIN_PER_LASSO: usize = 6;
+const PAIRS_PER_LASSO: usize = 18;
+const TEXTS_PER_LASSO: usize = 6;
 const WAYS: [(&str, &str); 6] = [
     ("0", "common"),
     ("1", "common"),
@@ -166,10 +167,13 @@ fn claim(folder: &Folder, lasso: &Lasso, (form, syntax): (&str, &str), mut text:
 /// The claims on one lasso; over some lassos every operator stands alone in every way.
 fn claims(rng: &mut Prng, folder: &Folder, lasso: &Lasso, number: usize) -> Vec<Claim> {
     let ways = || WAYS.into_iter().cycle().enumerate();
-    let operator = |at: usize| TEMPORAL[(at + at / WAYS.len() + 2 * number) % TEMPORAL.len()];
+    let operator = |at: usize| TEMPORAL[(at + number) % TEMPORAL.len()];
     let mut claims: Vec<Claim> = Vec::new();
     for (at, way) in ways().take(PLAIN_PER_LASSO) {
         claims.push(claim(folder, lasso, way, || operator_text(rng, operator(at))));
+    }
+    for (_, way) in ways().take(PAIRS_PER_LASSO) {
+        claims.push(claim(folder, lasso, way, || pair_text(rng)));
     }
     for (_, way) in ways().take(TEXTS_PER_LASSO) {
         let levels = rng.between(1, 3);

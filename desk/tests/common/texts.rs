@@ -106,9 +106,23 @@ pub fn small_text(rng: &mut Prng, levels: usize) -> String {
 
 /// A text that says of two signals what an operator says.
 pub fn operator_text(rng: &mut Prng, operator: &str) -> String {
-    let (left, right) = (rng.below(SMALL_SIGNALS.len()), rng.between(1, SMALL_SIGNALS.len() - 1));
-    let right = SMALL_SIGNALS[(left + right) % SMALL_SIGNALS.len()];
-    let guarantee = applied(operator, SMALL_SIGNALS[left], || right.to_string());
+    let mut signals = SMALL_SIGNALS;
+    rng.shuffle(&mut signals);
+    let guarantee = applied(operator, signals[0], || signals[1].to_string());
+    small_frame(rng, "", &guarantee)
+}
+
+/// A text that has one operator, temporal or not, as an operand of another.
+pub fn pair_text(rng: &mut Prng) -> String {
+    let mut signals = SMALL_SIGNALS;
+    rng.shuffle(&mut signals);
+    let (outer, inner) = (*rng.pick(&OPERATORS), *rng.pick(&OPERATORS));
+    let inner = applied(inner, signals[0], || signals[1].to_string());
+    let guarantee = if rng.one_in(2) {
+        applied(outer, &inner, || signals[2].to_string())
+    } else {
+        applied(outer, signals[2], || inner)
+    };
     small_frame(rng, "", &guarantee)
 }
 
