@@ -4,7 +4,7 @@
 
 mod common;
 
-use common::texts::{operator_text, pair_text, small_text, SMALL_SIGNALS};
+use common::texts::{nested_text, operator_text, small_text, SMALL_SIGNALS};
 use common::Folder;
 use second::generate::prng::Prng;
 use second::generate::recordings;
@@ -14,11 +14,30 @@ use std::os::unix::process::ExitStatusExt;
 use std::path::Path;
 use std::process::Command;
 
-const LASSOS: usize = 9;
-/// In turn in each form and each syntax: texts of one temporal operator, of two operators, and of any.
+const LASSOS: usize = 8;
+/// In turn in each form and each syntax: texts of one temporal operator, and of any.
 const PLAIN_PER_LASSO: usize = 6;
-const PAIRS_PER_LASSO: usize = 18;
-const TEXTS_PER_LASSO: usize = 6;
+const TEXTS_PER_LASSO: usize = 12;
+/// In turn in each syntax: formulas that a reader of SPIN's precedences takes for others where their parentheses are missing.
+const NESTED_PER_LASSO: usize = 12;
+const NESTED: [&str; 16] = [
+    "! (x U y)",
+    "! (x R y)",
+    "! (x W y)",
+    "! (F x)",
+    "z U (x R y)",
+    "z R (x U y)",
+    "(x R y) U z",
+    "z U (x U y)",
+    "(G x) R y",
+    "(x -> y) && z",
+    "(x <-> y) && z",
+    "(x || y) && z",
+    "(x -> y) || z",
+    "(x <-> y) || z",
+    "(x -> y) -> z",
+    "(! x) U y",
+];
 const WAYS: [(&str, &str); 6] = [
     ("0", "common"),
     ("1", "common"),
@@ -28,7 +47,7 @@ const WAYS: [(&str, &str); 6] = [
     ("2", "spin"),
 ];
 /// Of each temporal operator so many at least stand in the texts that are compared.
-const LEAST: usize = 25;
+const LEAST: usize = 15;
 const TEMPORAL: [&str; 6] = ["X", "G", "F", "U", "R", "W"];
 /// What `b[0]`, `b[1]` and `b_1` are called in a line.
 const LTL_NAMES: [&str; 4] = ["a", "b_0", "b_1_2", "b_1"];
@@ -172,8 +191,10 @@ fn claims(rng: &mut Prng, folder: &Folder, lasso: &Lasso, number: usize) -> Vec<
     for (at, way) in ways().take(PLAIN_PER_LASSO) {
         claims.push(claim(folder, lasso, way, || operator_text(rng, operator(at))));
     }
-    for (_, way) in ways().take(PAIRS_PER_LASSO) {
-        claims.push(claim(folder, lasso, way, || pair_text(rng)));
+    for at in 0..NESTED_PER_LASSO {
+        let formula = NESTED[(at + number * NESTED_PER_LASSO) / 2 % NESTED.len()];
+        let way = ("0", ["common", "spin"][at % 2]);
+        claims.push(claim(folder, lasso, way, || nested_text(rng, formula)));
     }
     for (_, way) in ways().take(TEXTS_PER_LASSO) {
         let levels = rng.between(1, 3);

@@ -112,17 +112,14 @@ pub fn operator_text(rng: &mut Prng, operator: &str) -> String {
     small_frame(rng, "", &guarantee)
 }
 
-/// A text that has one operator, temporal or not, as an operand of another.
-pub fn pair_text(rng: &mut Prng) -> String {
+/// A text that says of three signals what a formula of x, y and z says.
+pub fn nested_text(rng: &mut Prng, formula: &str) -> String {
     let mut signals = SMALL_SIGNALS;
     rng.shuffle(&mut signals);
-    let (outer, inner) = (*rng.pick(&OPERATORS), *rng.pick(&OPERATORS));
-    let inner = applied(inner, signals[0], || signals[1].to_string());
-    let guarantee = if rng.one_in(2) {
-        applied(outer, &inner, || signals[2].to_string())
-    } else {
-        applied(outer, signals[2], || inner)
-    };
+    let mut guarantee = formula.to_string();
+    for (letter, signal) in ["x", "y", "z"].iter().zip(signals) {
+        guarantee = guarantee.replace(letter, signal);
+    }
     small_frame(rng, "", &guarantee)
 }
 
