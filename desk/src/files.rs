@@ -1,5 +1,6 @@
 //! Files in and out.
 
+use std::collections::HashSet;
 use std::ffi::OsString;
 use std::fs::{self, File, OpenOptions};
 use std::io::{self, ErrorKind, Read, Write};
@@ -61,18 +62,24 @@ fn read_at_most(path: &Path, most: u64) -> Result<Vec<u8>, String> {
     }
 }
 
-/// Refuses to write where the same command reads: a table, a recording or a text would be lost.
-pub fn check_apart<'a>(output: &Path, inputs: impl IntoIterator<Item = &'a PathBuf>) -> Result<(), String> {
-    let Some(place) = place_of(output) else {
-        return Ok(());
-    };
-    if inputs.into_iter().any(|input| place_of(input) == Some(place)) {
-        return Err(format!("{}: cannot be written: the same command reads it", shown(output)));
+/// The files that a command reads, by whatever name.
+pub struct Inputs(HashSet<(u64, u64)>);
+
+impl Inputs {
+    pub fn of<'a>(paths: impl IntoIterator<Item = &'a PathBuf>) -> Inputs {
+        Inputs(paths.into_iter().filter_map(|path| place_of(path)).collect())
     }
-    Ok(())
+
+    /// Refuses to write where the same command reads: a table, a recording or a text would be lost.
+    pub fn check_apart(&self, output: &Path) -> Result<(), String> {
+        match place_of(output) {
+            Some(place) if self.0.contains(&place) => Err(format!("{}: cannot be written: the same command reads it", shown(output))),
+            _ => Ok(()),
+        }
+    }
 }
 
-/// Which file it is, by whatever name; nothing for what is no file.
+/// Nothing for what is no file.
 fn place_of(path: &Path) -> Option<(u64, u64)> {
     let data = fs::metadata(path).ok().filter(|data| data.is_file() && !is_standard(path))?;
     Some((data.dev(), data.ino()))

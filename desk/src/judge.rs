@@ -2,7 +2,7 @@
 
 use crate::arguments::Judge;
 use crate::diagram::{Diagram, Row};
-use crate::files;
+use crate::files::{self, Inputs};
 use crate::formula::{self, Rows};
 use crate::lines;
 use crate::message;
@@ -15,7 +15,7 @@ use std::path::Path;
 
 pub fn run(arguments: &Judge) -> Result<Status, Stop> {
     if let Some(svg) = &arguments.svg {
-        files::check_apart(svg, [&arguments.spec, &arguments.recording])?;
+        Inputs::of([&arguments.spec, &arguments.recording]).check_apart(svg)?;
     }
     let pool = Pool::new(arguments.limit.seconds);
     let spec = spec::read(&arguments.spec, arguments.form.form, &pool, Status::Refused)?;

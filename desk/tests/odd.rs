@@ -103,6 +103,7 @@ fn no_output_takes_an_inputs_place() {
     let folder = Folder::new();
     folder.file("t.tlsf", STARRED);
     folder.file("t.txt", STARRED);
+    folder.file("t.ltl", STARRED);
     folder.file("run", HOLDS);
     folder.file("run.csv", "r,g\n1,0\n");
     fs::hard_link(folder.path.join("run"), folder.path.join("same")).expect("a link");
@@ -113,6 +114,7 @@ fn no_output_takes_an_inputs_place() {
         &["record", "--spec", "t.tlsf", "--csv", "run.csv", "--loop", "0", "-o", "run.csv"],
         &["record", "--spec", "t.txt", "--csv", "run.csv", "--loop", "0", "-o", "t.txt"],
         &["convert", "t.tlsf", "t.txt", "--report", "t.txt"],
+        &["convert", "t.tlsf", "t.ltl", "--to", "ltl", "--out", "."],
     ] {
         let ran = folder.run(arguments);
         assert_eq!((ran.status, ran.text().as_str()), (2, ""), "{arguments:?}");
