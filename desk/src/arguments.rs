@@ -15,11 +15,11 @@ pub struct Arguments {
 pub enum Command {
     /// Convert texts to LTL
     ///
-    /// Exit status: 0 all accepted, 1 some refused or given up, 2 usage, or files that cannot be read or written.
+    /// Exit status: 0 all accepted, 1 some refused, given up or ended without a result, 2 usage, or files that cannot be read or written.
     Convert(Convert),
     /// Check texts: no output but refusals
     ///
-    /// Exit status: 0 all accepted, 1 some refused or given up, 2 usage or files that cannot be read.
+    /// Exit status: 0 all accepted, 1 some refused, given up or ended without a result, 2 usage or files that cannot be read.
     Check(Check),
     /// Print the page of a refusal, or the list of all
     ///

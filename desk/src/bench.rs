@@ -1,7 +1,7 @@
 //! `record` and `show`: from a bench's table to a recording and back.
 
 use crate::arguments::{Record, Show};
-use crate::files;
+use crate::files::{self, Inputs};
 use crate::formula;
 use crate::judge::signal_nodes;
 use crate::message;
@@ -14,6 +14,7 @@ use crate::worker::Pool;
 use std::path::Path;
 
 pub fn record(arguments: &Record) -> Result<Status, Stop> {
+    Inputs::of([&arguments.spec, &arguments.csv]).check_apart(&arguments.output)?;
     let pool = Pool::new(arguments.limit.seconds);
     let spec = spec::read(&arguments.spec, 0, &pool, Status::Bad)?;
     let labels = spec.labels();

@@ -2,7 +2,7 @@
 
 use crate::arguments::{Check, Convert, Messages, Target};
 use crate::batch::{self, Became, Task};
-use crate::files;
+use crate::files::{self, Inputs};
 use crate::formula::Formula;
 use crate::listing;
 use crate::output::{self, Output};
@@ -68,6 +68,10 @@ fn check_usage(arguments: &Convert, paths: &[PathBuf]) -> Result<(), Stop> {
     if arguments.to != Target::Ltl && (arguments.syntax.is_some() || arguments.tick.is_some()) {
         return Err(Stop::unusable("--syntax and --tick go with --to ltl"));
     }
+    let inputs = Inputs::of(paths);
+    if let Some(report) = &arguments.report {
+        inputs.check_apart(report)?;
+    }
     let Some(folder) = &arguments.out else {
         if arguments.to == Target::Nodes && paths.len() > 1 {
             return Err(Stop::unusable("the nodes of many files need --out DIR"));
@@ -76,10 +80,12 @@ fn check_usage(arguments: &Convert, paths: &[PathBuf]) -> Result<(), Stop> {
     };
     let mut taken: HashMap<PathBuf, &PathBuf> = HashMap::new();
     for path in paths {
+        inputs.check_apart(&output_path(folder, path, arguments.to))?;
+        inputs.check_apart(&named(folder, path, "names"))?;
         if let Some(other) = taken.insert(output_path(folder, path, arguments.to), path) {
             let (one, two) = (files::shown(other), files::shown(path));
             return Err(Stop::unusable(format!(
-                "{one} and {two} would be written to one file in {}",
+                "{one} and {two} would be written to one file in {}: give them other names, or convert them to two folders",
                 files::shown(folder)
             )));
         }

@@ -26,6 +26,7 @@ const SMALL: &str = " font-size=\"11\"";
 const SMALL_CENTRED: &str = " font-size=\"11\" text-anchor=\"middle\"";
 const TRACE: &str = " fill=\"none\" stroke=\"black\" stroke-width=\"2\"";
 const RULE: &str = " stroke=\"#ccc\"";
+const SHORTEST_LEADER: usize = 24;
 const LEADER: &str = " stroke=\"#aaa\" stroke-dasharray=\"1 5\"";
 const LOOP_EDGE: &str = " stroke=\"black\" stroke-width=\"1.5\" stroke-dasharray=\"5 3\"";
 const LOOP_BACK: &str = " stroke=\"black\" stroke-width=\"1.5\"";
@@ -70,7 +71,7 @@ impl Diagram {
         }
         let (left, right) = (strip.x(layout, self.loop_start.max(strip.start)), strip.x(layout, strip.end));
         let top = strip.top + NUMBERS_HEIGHT - 6;
-        let back = strip.top + layout.rows_height() + 14;
+        let back = strip.top + layout.loop_top();
         for (x, is_edge) in [(left, is_first), (right, is_last)] {
             if is_edge {
                 picture.path(format_args!("M{x} {top}V{back}"), LOOP_EDGE);
@@ -103,6 +104,9 @@ fn draw_positions(picture: &mut Picture, layout: &Layout, strip: &Strip) {
         let x = strip.x(layout, position);
         picture.path(format_args!("M{x} {top}V{bottom}"), RULE);
         picture.text(x + layout.cell / 2, top - 4, SMALL_CENTRED, &position.to_string());
+        if layout.has_foot_numbers() {
+            picture.text(x + layout.cell / 2, bottom + 12, SMALL_CENTRED, &position.to_string());
+        }
     }
 }
 
@@ -113,7 +117,7 @@ fn draw_label(picture: &mut Picture, layout: &Layout, label: &[String], top: usi
     }
     let length = label.first().map_or(0, |line| line.chars().count());
     let (from, to) = (INDENT + (length + 1) * CHARACTER_WIDTH, layout.left - 8);
-    if from < to {
+    if from + SHORTEST_LEADER < to {
         picture.path(format_args!("M{from} {}H{to}", first - 3), LEADER);
     }
 }

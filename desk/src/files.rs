@@ -1,8 +1,10 @@
 //! Files in and out.
 
+use std::collections::HashSet;
 use std::ffi::OsString;
 use std::fs::{self, File, OpenOptions};
 use std::io::{self, ErrorKind, Read, Write};
+use std::os::unix::fs::MetadataExt;
 use std::path::{Path, PathBuf};
 use std::sync::atomic::{AtomicBool, Ordering};
 
@@ -60,6 +62,29 @@ fn read_at_most(path: &Path, most: u64) -> Result<Vec<u8>, String> {
     }
 }
 
+/// The files that a command reads, by whatever name.
+pub struct Inputs(HashSet<(u64, u64)>);
+
+impl Inputs {
+    pub fn of<'a>(paths: impl IntoIterator<Item = &'a PathBuf>) -> Inputs {
+        Inputs(paths.into_iter().filter_map(|path| place_of(path)).collect())
+    }
+
+    /// Refuses to write where the same command reads: a table, a recording or a text would be lost.
+    pub fn check_apart(&self, output: &Path) -> Result<(), String> {
+        match place_of(output) {
+            Some(place) if self.0.contains(&place) => Err(format!("{}: cannot be written: the same command reads it", shown(output))),
+            _ => Ok(()),
+        }
+    }
+}
+
+/// Nothing for what is no file.
+fn place_of(path: &Path) -> Option<(u64, u64)> {
+    let data = fs::metadata(path).ok().filter(|data| data.is_file() && !is_standard(path))?;
+    Some((data.dev(), data.ino()))
+}
+
 /// Writes a file whole or not at all; `-` is standard output.
 pub fn write_whole(path: &Path, bytes: &[u8]) -> Result<(), String> {
     if is_standard(path) {
@@ -89,7 +114,8 @@ pub fn write_all_whole(files: &[(PathBuf, &[u8])]) -> Result<(), String> {
     moved
 }
 
-/// Writes a part that is to be moved to the path; a device or a pipe is written to instead.
+/// Writes a part that is to be moved to the path, unless a file with the same bytes stands there: its time stays, and some disks make files slowly where
+/// others were just deleted. A device or a pipe is written to itself.
 fn write_beside(path: &Path, bytes: &[u8], parts: &mut Vec<(PathBuf, PathBuf)>) -> io::Result<()> {
     if path.extension().is_some_and(|ending| ending == "tlsf") {
         return Err(io::Error::new(ErrorKind::InvalidInput, "the name is a text's"));
@@ -102,6 +128,7 @@ fn write_beside(path: &Path, bytes: &[u8], parts: &mut Vec<(PathBuf, PathBuf)>) 
     match fs::metadata(&path) {
         Ok(data) if data.is_dir() => return Err(io::Error::new(ErrorKind::InvalidInput, "it is a folder")),
         Ok(data) if !data.is_file() => return OpenOptions::new().write(true).open(&path)?.write_all(bytes),
+        Ok(data) if data.len() == bytes.len() as u64 && fs::read(&path).is_ok_and(|there| there == bytes) => return Ok(()),
         _ => {}
     }
     let part = beside(&path)?;

@@ -2,7 +2,7 @@
 
 use crate::arguments::Judge;
 use crate::diagram::{Diagram, Row};
-use crate::files;
+use crate::files::{self, Inputs};
 use crate::formula::{self, Rows};
 use crate::lines;
 use crate::message;
@@ -14,6 +14,9 @@ use crate::worker::Pool;
 use std::path::Path;
 
 pub fn run(arguments: &Judge) -> Result<Status, Stop> {
+    if let Some(svg) = &arguments.svg {
+        Inputs::of([&arguments.spec, &arguments.recording]).check_apart(svg)?;
+    }
     let pool = Pool::new(arguments.limit.seconds);
     let spec = spec::read(&arguments.spec, arguments.form.form, &pool, Status::Refused)?;
     let recording = files::read_all(&arguments.recording)?;
@@ -100,15 +103,16 @@ fn diagram(arguments: &Judge, text: Vec<u8>, recording: &[u8], pool: &Pool, verd
         bits: rows.row(root),
     });
     Ok(Diagram {
-        title: format!(
-            "{} on {}: {verdict}",
-            files::shown(&arguments.spec),
-            files::shown(&arguments.recording)
-        ),
+        title: format!("{} on {}: {verdict}", name(&arguments.spec), name(&arguments.recording)),
         rows: drawn,
         positions: rows.positions,
         loop_start: recording::loop_start(recording),
     })
+}
+
+// Without folders, which would make a picture wider than its rows.
+fn name(path: &Path) -> String {
+    files::shown(path.file_name().map_or(path, Path::new))
 }
 
 /// A table of every signal, whose rows are the recording's.

@@ -12,10 +12,13 @@ pub const CHARACTER_WIDTH: usize = 8;
 const ROW_HEIGHT: usize = 26;
 const GROUP_HEIGHT: usize = 24;
 const LOOP_HEIGHT: usize = 44;
+/// Where the rows are higher than a screen, the positions have their numbers below them too.
+const SCREEN_HEIGHT: usize = 800;
+const FOOT_HEIGHT: usize = 16;
 
 /// A label's lines are broken here unless a name needs more, and a signal's name with its index never does.
 const LABEL_CHARACTERS: (usize, usize) = (48, 72);
-const LABEL_LINES: usize = 4;
+const LABEL_LINES: usize = 8;
 
 /// The positions of a strip share this width, within the bounds of a cell's width.
 const STRIP_WIDTH: usize = 960;
@@ -114,8 +117,18 @@ impl Layout {
         self.rows_height
     }
 
+    pub fn has_foot_numbers(&self) -> bool {
+        self.rows_height > SCREEN_HEIGHT
+    }
+
+    /// Where the line back to the loop's start stands below the top of its strip.
+    pub fn loop_top(&self) -> usize {
+        self.strip_height() - LOOP_HEIGHT + 14
+    }
+
     fn strip_height(&self) -> usize {
-        self.rows_height + LOOP_HEIGHT
+        let foot = if self.has_foot_numbers() { FOOT_HEIGHT } else { 0 };
+        self.rows_height + foot + LOOP_HEIGHT
     }
 
     pub fn width(&self) -> usize {
@@ -171,7 +184,8 @@ mod tests {
     fn labels_are_broken_and_names_never_cut() {
         assert_eq!(broken("a && b", 4), ["a &&", "b"]);
         assert_eq!(broken("abcdef", 4), ["abcd", "ef"]);
-        assert_eq!(broken("a b c d e f g h i j", 4), ["a b", "c d", "e f", "g..."]);
+        let lines = broken("a b c d e f g h i j k l m n o p q r", 4);
+        assert_eq!(lines, ["a b", "c d", "e f", "g h", "i j", "k l", "m n", "o..."]);
         let name = format!("{}[254]", "n".repeat(64));
         assert_eq!(Layout::of(&diagram(&name, 1, 1)).labels, [[name]]);
     }

@@ -26,12 +26,20 @@ const SECTIONS: [(&[u8], &str); 9] = [
 ];
 
 impl Written {
-    /// The line as it is shown: without its `;`, each run of blanks as one.
+    /// The line as it is shown: without its `;` and its comments, each run of blanks as one.
     pub fn shown(&self, text: &[u8]) -> String {
-        let bytes = text.get(self.start..self.end).unwrap_or_default();
-        let line = String::from_utf8_lossy(bytes);
-        let words: Vec<&str> = line.trim_end_matches(';').split_whitespace().collect();
-        words.join(" ")
+        let mut shown = Vec::new();
+        let mut at = self.start;
+        while at < self.end {
+            let (piece, end) = piece(text, at);
+            match piece {
+                Piece::Nothing if shown.ends_with(b" ") => {}
+                Piece::Nothing => shown.push(b' '),
+                _ => shown.extend_from_slice(&text[at..end]),
+            }
+            at = end;
+        }
+        String::from_utf8_lossy(&shown).trim_end_matches([' ', ';']).to_string()
     }
 }
 
@@ -142,8 +150,9 @@ mod tests {
     #[test]
     fn lines_of_sections() {
         let text = b"INFO { TITLE: \"ASSUME { x; }\" SEMANTICS: Mealy,Strict TARGET: Mealy } MAIN { INPUTS { a; }
-            OUTPUTS { b[2]; } ASSERT { /* one; /* two */ */ a; // three;
-            &&[i IN {0, 1}]  b[i] } GUARANTEES { G a; } PRESET { } }";
+            OUTPUTS { b[2]; } ASSERT { /* one; /* two */ */ a /* four */ ; // three;
+            &&[i IN {0, 1}] // five
+              b[i] } GUARANTEES { G a; } PRESET { } }";
         let outline = outline(text);
         let shown: Vec<(&str, String)> = outline.lines.iter().map(|line| (line.section, line.shown(text))).collect();
         let expected = [("ASSERT", "a"), ("ASSERT", "&&[i IN {0, 1}] b[i]"), ("GUARANTEE", "G a")];

@@ -11,8 +11,10 @@ use std::sync::Mutex;
 use std::thread;
 use std::time::{Duration, Instant};
 
-/// Room for the deepest tables in every form, many times over.
-const STACK_BYTES: usize = 64 << 20;
+/// Room for the deepest texts in every form, many times over.
+const STACK_KB: usize = 64 << 10;
+/// Names another size in the environment, in KB as `ulimit -s` has it.
+const STACK_VARIABLE: &str = "VASCULPI_STACK";
 
 /// What is told of a text that took too long.
 pub const OUT_OF_TIME: &str = "given up, out of time (--seconds)";
@@ -140,7 +142,7 @@ impl Drop for Worker {
 /// The worker's own side. Requests are read while an answer is worked out, so that it ends with whoever started it.
 pub fn serve() -> io::Result<()> {
     let (requests, waiting) = mpsc::channel::<(u32, Vec<u8>)>();
-    thread::Builder::new().stack_size(STACK_BYTES).spawn(move || {
+    thread::Builder::new().stack_size(stack_bytes()).spawn(move || {
         for (form, text) in waiting {
             let reply = reply(formula::convert(&text, form));
             let mut output = io::stdout().lock();
@@ -160,6 +162,11 @@ pub fn serve() -> io::Result<()> {
             return Ok(());
         }
     }
+}
+
+fn stack_bytes() -> usize {
+    let named = std::env::var(STACK_VARIABLE).ok().and_then(|size| size.parse::<usize>().ok());
+    named.unwrap_or(STACK_KB).saturating_mul(1024)
 }
 
 fn reply(answer: Result<Formula, Refusal>) -> Vec<u8> {

@@ -9,9 +9,11 @@ use second::generate::prng::Prng;
 use second::generate::{any_text, sound_text};
 use second::{listing, reader};
 use std::fs;
-use std::time::Instant;
+use std::time::{Duration, Instant};
 
 const FILES: usize = 1_300;
+/// Of so many runs the best counts: other work on the machine only adds.
+const RUNS: usize = 5;
 /// Two processors have this many hundredths in a second.
 const MOST_PROCESSOR_TIME: u64 = 200;
 
@@ -22,37 +24,78 @@ fn processor_time() -> u64 {
     [13, 14].map(|field| fields[field].parse::<u64>().expect("a number")).iter().sum()
 }
 
-/// Converts the texts in one run, and compares each answer with the second converter's.
-fn a_day(title: &str, texts: &[Vec<u8>]) {
-    let folder = Folder::in_memory();
+/// The shortest time by the clock and on the processors, each of its own run.
+struct Best {
+    clock: Duration,
+    processors: u64,
+}
+
+fn best(mut run: impl FnMut()) -> Best {
+    let mut best = Best {
+        clock: Duration::MAX,
+        processors: u64::MAX,
+    };
+    for _ in 0..RUNS {
+        let (start, used) = (Instant::now(), processor_time());
+        run();
+        best.clock = best.clock.min(start.elapsed());
+        best.processors = best.processors.min(processor_time() - used);
+    }
+    best
+}
+
+impl std::fmt::Display for Best {
+    fn fmt(&self, f: &mut std::fmt::Formatter) -> std::fmt::Result {
+        write!(
+            f,
+            "{:.2} s ({:.2} s of processors)",
+            self.clock.as_secs_f64(),
+            self.processors as f64 / 100.0
+        )
+    }
+}
+
+/// Converts the texts in one run, compares each answer with the second converter's, and measures.
+fn a_day(title: &str, texts: &[Vec<u8>], folder: &Folder) {
+    let place = if folder.path.starts_with("/dev/shm") {
+        "in memory"
+    } else {
+        "on disk"
+    };
     let names: Vec<String> = (0..texts.len()).map(|number| format!("{number:04}.tlsf")).collect();
     for (name, text) in names.iter().zip(texts) {
         folder.file(name, text);
     }
     let names: Vec<&str> = names.iter().map(String::as_str).collect();
-    let start = Instant::now();
-    let bytes: usize = names.iter().map(|name| folder.read(name).len()).sum();
-    let reading = start.elapsed();
-    let (start, used) = (Instant::now(), processor_time());
-    let ran = folder.run(&[&["convert", "--out", "out", "--report", "report.json"], &names[..]].concat());
-    let (converting, used) = (start.elapsed(), processor_time() - used);
-    let start = Instant::now();
-    let checked = folder.run(&[&["check", "--messages", "short"], &names[..]].concat());
-    let checking = start.elapsed();
-    let accepted = compare(&folder, &names, texts);
+    let mut bytes = 0;
+    let reading = best(|| bytes = names.iter().map(|name| folder.read(name).len()).sum());
+    // A new folder for each run: a file is replaced faster on some disks, and made more slowly where many were deleted.
+    let mut outs = (0..RUNS).map(|run| format!("out{run}"));
+    let converting = best(|| {
+        let out = outs.next().expect("a folder for every run");
+        let ran = folder.run(&[&["convert", "--out", &out, "--report", "report.json"], &names[..]].concat());
+        assert_eq!(ran.status, 1);
+    });
+    let accepted = compare(folder, &names, texts);
+    let again = best(|| {
+        let ran = folder.run(&[&["convert", "--out", "out0"], &names[..]].concat());
+        assert_eq!(ran.status, 1);
+    });
+    let checking = best(|| {
+        let ran = folder.run(&[&["check", "--messages", "short"], &names[..]].concat());
+        assert_eq!((ran.status, ran.told.lines().count()), (1, names.len() - accepted));
+    });
     println!(
-        "{} {title}, {bytes} bytes in all, {accepted} accepted: reading alone {reading:.2?}, convert --out --report {converting:.2?} \
-         ({:.2} s of processors), check {checking:.2?}",
+        "{} {title}, {bytes} bytes in all, {accepted} accepted, {place}, best of {RUNS}: reading alone {:.3} s, convert --out --report {converting}, \
+         once more to the same folder {again}, check {checking}",
         names.len(),
-        used as f64 / 100.0
+        reading.clock.as_secs_f64(),
     );
-    assert_eq!((ran.status, checked.status), (1, 1));
-    assert_eq!(checked.told.lines().count(), names.len() - accepted);
     let report: serde_json::Value = serde_json::from_slice(&folder.read("report.json")).expect("JSON");
     assert_eq!(report["summary"]["accepted"], accepted);
     assert!(
-        used < MOST_PROCESSOR_TIME,
-        "{used} hundredths of a second: over a second on two processors"
+        converting.processors < MOST_PROCESSOR_TIME,
+        "{converting}: over a second on two processors"
     );
 }
 
@@ -61,7 +104,7 @@ fn compare(folder: &Folder, names: &[&str], texts: &[Vec<u8>]) -> usize {
     let mut accepted = 0;
     for (name, text) in names.iter().zip(texts) {
         let due = reader::read_freely(text);
-        let written = fs::read_to_string(folder.path.join("out").join(name.replace(".tlsf", ".listing")));
+        let written = fs::read_to_string(folder.path.join("out0").join(name.replace(".tlsf", ".listing")));
         match due.answer {
             Answer::Accepted { .. } => {
                 assert_eq!(written.ok(), Some(listing::listing(&due)), "{name}");
@@ -70,7 +113,7 @@ fn compare(folder: &Folder, names: &[&str], texts: &[Vec<u8>]) -> usize {
             Answer::Refused(_) => assert!(written.is_err(), "{name}"),
         }
     }
-    assert_eq!(folder.names("out").len(), accepted);
+    assert_eq!(folder.names("out0").len(), accepted);
     accepted
 }
 
@@ -99,6 +142,8 @@ fn large_texts() -> Vec<Vec<u8>> {
 // One after the other, so that neither takes the other's time.
 #[test]
 fn two_days() {
-    a_day("small texts", &small_texts());
-    a_day("texts of 1 to 30 KB", &large_texts());
+    a_day("small texts", &small_texts(), &Folder::in_memory());
+    let texts = large_texts();
+    a_day("texts of 1 to 30 KB", &texts, &Folder::in_memory());
+    a_day("texts of 1 to 30 KB", &texts, &Folder::on_disk());
 }

@@ -5,7 +5,7 @@ mod common;
 use common::{endless, with_bus, Folder, Ran, STARRED, STARRED_LISTING};
 use std::fs;
 use std::io::Read;
-use std::os::unix::fs::symlink;
+use std::os::unix::fs::{symlink, MetadataExt};
 use std::process::{Command, Stdio};
 
 #[test]
@@ -178,6 +178,23 @@ fn files_that_belong_together_come_together() {
         (2, "error: out/a.names: cannot be written: it is a folder\n")
     );
     assert_eq!(folder.names("out"), ["a.names"]);
+}
+
+#[test]
+fn files_with_the_same_bytes_stay_as_they_are() {
+    let folder = Folder::new();
+    let convert = |text: &str| {
+        folder.file("a.tlsf", text);
+        assert_eq!(folder.run(&["convert", "--out", "out", "a.tlsf"]).status, 0);
+        fs::metadata(folder.path.join("out/a.listing")).expect("a listing").ino()
+    };
+    let first = convert(STARRED);
+    assert_eq!(convert(&STARRED.replace("G (r", "G  (r")), first);
+    let changed = STARRED.replace("r -> F g", "g -> F r");
+    assert_ne!(convert(&changed), first);
+    let listing = folder.run(&["convert", "a.tlsf"]).out;
+    assert!(listing.len() == STARRED_LISTING.len() && folder.read("out/a.listing") == listing);
+    assert_eq!(folder.names("out"), ["a.listing"]);
 }
 
 #[test]

@@ -2,6 +2,7 @@
 
 mod common;
 
+use common::drawing;
 use common::{Folder, FAILS, HOLDS, STARRED};
 
 fn starred() -> Folder {
@@ -39,7 +40,9 @@ fn the_text_on_standard_input() {
     let folder = starred();
     let ran = folder.run_with_input(&["judge", "-", "holds", "--form", "2", "--svg", "run.svg"], STARRED.as_bytes());
     assert_eq!((ran.status, ran.text().as_str(), ran.told.as_str()), (0, "holds\n", ""));
-    assert!(String::from_utf8_lossy(&folder.read("run.svg")).contains("standard input on holds: holds"));
+    assert!(String::from_utf8_lossy(&folder.read("run.svg")).contains(">standard input on holds: holds<"));
+    let ran = folder.run_with_input(&["judge", "-", "./holds", "--svg", "-"], STARRED.as_bytes());
+    assert!(ran.text().starts_with("holds\n<svg ") && ran.text().contains(">standard input on holds: holds<"));
 }
 
 #[test]
@@ -84,33 +87,13 @@ MAIN {
 ";
 const LIFT_RUN: &str = "call,floor[0],floor[1],one[0],open,lamp[0],lamp[1]\n1,0,0,1,0,0,0\n0,0,0,0,1,0,1\n1,1,0,1,1,0,0\n";
 
-/// A row as it is drawn: 1 for every position under a block.
-fn drawn(svg: &str, label: &str, positions: usize) -> String {
-    let title = format!("<title>{label}</title>");
-    let row = svg.split("<g>").find(|row| row.contains(&title)).expect("a row with the label");
-    let row = row.split("</g>").next().unwrap_or_default();
-    let number = |text: &str| {
-        text.split(['"', ' '])
-            .next()
-            .and_then(|digits| digits.parse::<usize>().ok())
-            .expect("a number")
-    };
-    let line = row.rsplit("<path d=\"M").next().expect("a line");
-    let start = number(line);
-    let end = number(line.split('"').next().and_then(|line| line.rsplit('H').next()).expect("an end"));
-    let cell = (end - start) / positions;
-    let block = |rect: &str| (number(rect), number(rect.split("width=\"").nth(1).expect("a width")));
-    let blocks: Vec<(usize, usize)> = row.split("<rect x=\"").skip(1).map(block).collect();
-    let bit = |position: usize| {
-        let at = start + position * cell;
-        let covered = blocks.iter().any(|&(left, width)| left <= at && at < left + width);
-        if covered {
-            '1'
-        } else {
-            '0'
-        }
-    };
-    (0..positions).map(bit).collect()
+/// A row as it is drawn: 1 for every position where it is true.
+fn drawn(svg: &str, title: &str, positions: usize) -> String {
+    let strips = drawing::strips(svg);
+    let rows = &strips.first().expect("a strip").rows;
+    let row = rows.iter().find(|row| row.title == title).expect("a row with the title");
+    let bits = row.bits((row.right() - row.left()) / positions);
+    bits.into_iter().map(|bit| if bit { '1' } else { '0' }).collect()
 }
 
 #[test]
@@ -139,11 +122,11 @@ fn the_diagram_has_the_texts_own_lines() {
             ("call", "101"),
             ("floor[0]", "001"),
             ("lamp[1]", "010"),
-            ("G (call -&gt; F open)", "111"),
-            ("open &amp;&amp; call", "001"),
-            ("call &amp;&amp; one == ONE", "101"),
-            ("floor == GROUND &amp;&amp; !call", "010"),
-            ("open -&gt; floor == GROUND", "110"),
+            ("G (call -> F open)", "111"),
+            ("open && call", "001"),
+            ("call && one == ONE", "101"),
+            ("floor == GROUND && !call", "010"),
+            ("open -> floor == GROUND", "110"),
             ("true", "111"),
             ("!open", "100"),
         ] {
@@ -165,6 +148,20 @@ fn a_table_becomes_a_recording_and_comes_back() {
         0
     );
     assert_eq!(folder.read("run"), [0x00, 0x30, 0x02, 0x07, 0x90, 0x17, 0x60]);
+    let turned = |line: &str| line.split(',').rev().collect::<Vec<&str>>().join(",") + "\n";
+    folder.file("turned.csv", LIFT_RUN.lines().map(turned).collect::<String>());
+    folder.run(&[
+        "record",
+        "--spec",
+        "lift.tlsf",
+        "--csv",
+        "turned.csv",
+        "--loop",
+        "2",
+        "-o",
+        "turned",
+    ]);
+    assert_eq!(folder.read("turned"), folder.read("run"));
     let ran = folder.run(&["show", "run", "--spec", "lift.tlsf"]);
     assert_eq!(
         (ran.text().as_str(), ran.told.as_str()),

@@ -4,6 +4,7 @@
 
 mod common;
 
+use common::texts::{nested_text, operator_text, small_text, SMALL_SIGNALS};
 use common::Folder;
 use second::generate::prng::Prng;
 use second::generate::recordings;
@@ -14,8 +15,40 @@ use std::path::Path;
 use std::process::Command;
 
 const LASSOS: usize = 8;
-const TEXTS_PER_LASSO: usize = 10;
-const SIGNALS: [&str; 4] = ["a", "b[0]", "b[1]", "b_1"];
+/// In turn in each form and each syntax: texts of one temporal operator, and of any.
+const PLAIN_PER_LASSO: usize = 6;
+const TEXTS_PER_LASSO: usize = 12;
+/// In turn in each syntax: formulas that a reader of SPIN's precedences takes for others where their parentheses are missing.
+const NESTED_PER_LASSO: usize = 12;
+const NESTED: [&str; 16] = [
+    "! (x U y)",
+    "! (x R y)",
+    "! (x W y)",
+    "! (F x)",
+    "z U (x R y)",
+    "z R (x U y)",
+    "(x R y) U z",
+    "z U (x U y)",
+    "(G x) R y",
+    "(x -> y) && z",
+    "(x <-> y) && z",
+    "(x || y) && z",
+    "(x -> y) || z",
+    "(x <-> y) || z",
+    "(x -> y) -> z",
+    "(! x) U y",
+];
+const WAYS: [(&str, &str); 6] = [
+    ("0", "common"),
+    ("1", "common"),
+    ("2", "common"),
+    ("0", "spin"),
+    ("1", "spin"),
+    ("2", "spin"),
+];
+/// Of each temporal operator so many at least stand in the texts that are compared.
+const LEAST: usize = 15;
+const TEMPORAL: [&str; 6] = ["X", "G", "F", "U", "R", "W"];
 /// What `b[0]`, `b[1]` and `b_1` are called in a line.
 const LTL_NAMES: [&str; 4] = ["a", "b_0", "b_1_2", "b_1"];
 /// SPIN's automata grow exponentially with a line's temporal operators: lines that have more, that are longer, or that take it more than a second of a
@@ -23,35 +56,8 @@ const LTL_NAMES: [&str; 4] = ["a", "b_0", "b_1_2", "b_1"];
 const MOST_TEMPORAL: usize = 7;
 const LONGEST_LINE: usize = 220;
 
-fn expression(rng: &mut Prng, levels: usize) -> String {
-    if levels == 0 || rng.one_in(6) {
-        return rng.pick(&SIGNALS).to_string();
-    }
-    let operator = *rng.pick(&["!", "X", "X", "X", "G", "F", "&&", "||", "->", "<->", "U", "R", "W"]);
-    let left = expression(rng, levels - 1);
-    match operator {
-        "!" | "X" | "G" | "F" => format!("({operator} {left})"),
-        _ => format!("({left} {operator} {})", expression(rng, levels - 1)),
-    }
-}
-
-fn text(rng: &mut Prng) -> String {
-    let semantics = *rng.pick(&["Mealy", "Mealy,Strict"]);
-    let mut text = format!(
-        "INFO {{ TITLE: \"t\" DESCRIPTION: \"d\" SEMANTICS: {semantics} TARGET: Mealy }} MAIN {{ INPUTS {{ a; b[2]; }} OUTPUTS {{ b_1; }}"
-    );
-    for section in ["INITIALLY", "PRESET", "REQUIRE", "ASSERT", "ASSUME"] {
-        if rng.one_in(6) {
-            let _ = write!(text, " {section} {{ {}; }}", expression(rng, 1));
-        }
-    }
-    let levels = rng.between(1, 3);
-    let _ = writeln!(text, " GUARANTEE {{ {}; }} }}", expression(rng, levels));
-    text
-}
-
 /// One transition for every position; the signals are set with it.
-fn model(lasso: &Lasso, claims: &[String]) -> String {
+fn model(lasso: &Lasso, claims: &[&str]) -> String {
     let (mut declared, mut set) = (String::new(), String::new());
     for (number, name) in LTL_NAMES.iter().enumerate() {
         let _ = writeln!(declared, "bool {name} = {};", u8::from(lasso.present(0, number)));
@@ -88,7 +94,7 @@ fn succeed(folder: &Path, program: &str, arguments: &[&str]) -> String {
 
 /// Whether SPIN reads the line and makes the claim's automaton within a second of a processor.
 fn is_quick(folder: &Folder, lasso: &Lasso, line: &str) -> bool {
-    folder.file("one.pml", model(lasso, &[line.to_string()]));
+    folder.file("one.pml", model(lasso, &[line]));
     let output = Command::new("sh")
         .current_dir(&folder.path)
         .args(["-c", "ulimit -t 1; exec spin -a one.pml"])
@@ -103,7 +109,12 @@ fn is_quick(folder: &Folder, lasso: &Lasso, line: &str) -> bool {
 }
 
 fn spin_holds(folder: &Path, claim: usize) -> bool {
-    let out = succeed(folder, "timeout", &["600", "./pan", "-a", "-m100000", "-N", &format!("c{claim}")]);
+    let out = succeed(
+        folder,
+        "timeout",
+        &["600", "./pan", "-a", "-m10000", "-w12", "-N", &format!("c{claim}")],
+    );
+    assert!(!out.contains("search depth too small"), "{out}");
     let errors = out.split("errors: ").nth(1).and_then(|rest| rest.split_whitespace().next());
     match errors {
         Some("0") => true,
@@ -141,54 +152,87 @@ fn awkward_names_are_read() {
         "t.pml",
         format!("{variables}active proctype lasso() {{ do :: d_step {{ skip{set} }} od }}\nltl c {{ {line} }}\n"),
     );
-    succeed(&folder.path, "timeout", &["600", "spin", "-a", "t.pml"]);
+    succeed(&folder.path, "timeout", &["60", "spin", "-a", "t.pml"]);
     succeed(&folder.path, "gcc", &["-w", "-fsyntax-only", "pan.c"]);
+}
+
+/// A line that SPIN is asked of, and what `judge` says of its text.
+struct Claim {
+    text: String,
+    line: String,
+    holds: bool,
+}
+
+/// A line written in a way of `WAYS` that SPIN reads in its time.
+fn claim(folder: &Folder, lasso: &Lasso, (form, syntax): (&str, &str), mut text: impl FnMut() -> String) -> Claim {
+    loop {
+        let text = text();
+        let options = ["convert", "--to", "ltl", "--form", form, "--syntax", syntax, "--tick", "tick"];
+        let line = folder.run_with_input(&options, text.as_bytes()).text().trim_end().to_string();
+        let temporal: usize = [" U ", " V ", "[] ", "<> "].iter().map(|sign| line.matches(sign).count()).sum();
+        if temporal > MOST_TEMPORAL || line.len() > LONGEST_LINE || !is_quick(folder, lasso, &line) {
+            continue;
+        }
+        let judged = folder.run_with_input(&["judge", "--form", form, "-", "run"], text.as_bytes());
+        assert!(judged.status < 2, "{}", judged.told);
+        return Claim {
+            text,
+            line,
+            holds: judged.status == 0,
+        };
+    }
+}
+
+/// The claims on one lasso; over some lassos every operator stands alone in every way.
+fn claims(rng: &mut Prng, folder: &Folder, lasso: &Lasso, number: usize) -> Vec<Claim> {
+    let ways = || WAYS.into_iter().cycle().enumerate();
+    let operator = |at: usize| TEMPORAL[(at + number) % TEMPORAL.len()];
+    let mut claims: Vec<Claim> = Vec::new();
+    for (at, way) in ways().take(PLAIN_PER_LASSO) {
+        claims.push(claim(folder, lasso, way, || operator_text(rng, operator(at))));
+    }
+    for at in 0..NESTED_PER_LASSO {
+        let formula = NESTED[(at + number * NESTED_PER_LASSO) / 2 % NESTED.len()];
+        let way = ("0", ["common", "spin"][at % 2]);
+        claims.push(claim(folder, lasso, way, || nested_text(rng, formula)));
+    }
+    for (_, way) in ways().take(TEXTS_PER_LASSO) {
+        let levels = rng.between(1, 3);
+        claims.push(claim(folder, lasso, way, || small_text(rng, levels)));
+    }
+    claims
 }
 
 #[test]
 fn verdicts_equal_those_of_judge() {
     let mut rng = Prng::new(2_026);
-    let (mut held, mut failed, mut without_next) = (0, 0, 0);
-    for _ in 0..LASSOS {
+    let mut all = Vec::new();
+    for number in 0..LASSOS {
         let folder = Folder::new();
-        let lasso = recordings::lasso(&mut rng, 6, SIGNALS.len());
-        folder.file("run", lasso.bytes(SIGNALS.len()));
-        let (mut claims, mut verdicts) = (Vec::new(), Vec::new());
-        while claims.len() < TEXTS_PER_LASSO {
-            let text = text(&mut rng);
-            let form = *rng.pick(&["0", "1", "2"]);
-            let syntax = *rng.pick(&["common", "spin"]);
-            let options = ["convert", "--to", "ltl", "--form", form, "--syntax", syntax];
-            let line = folder
-                .run_with_input(&[&options[..], &["--tick", "tick"]].concat(), text.as_bytes())
-                .text();
-            let temporal: usize = [" U ", " V ", "[] ", "<> "].iter().map(|sign| line.matches(sign).count()).sum();
-            if temporal > MOST_TEMPORAL || line.len() > LONGEST_LINE || !is_quick(&folder, &lasso, line.trim_end()) {
-                continue;
-            }
-            let plain = folder.run_with_input(&options, text.as_bytes()).text();
-            without_next += usize::from(plain == line);
-            folder.file("t.tlsf", text);
-            let ran = folder.run(&["judge", "--form", form, "t.tlsf", "run"]);
-            assert!(ran.status < 2, "{}", ran.told);
-            verdicts.push(ran.status == 0);
-            claims.push(line.trim_end().to_string());
-        }
-        folder.file("model.pml", model(&lasso, &claims));
+        let lasso = recordings::lasso(&mut rng, 6, SMALL_SIGNALS.len());
+        folder.file("run", lasso.bytes(SMALL_SIGNALS.len()));
+        let asked = claims(&mut rng, &folder, &lasso, number);
+        let lines: Vec<&str> = asked.iter().map(|claim| claim.line.as_str()).collect();
+        folder.file("model.pml", model(&lasso, &lines));
         succeed(&folder.path, "timeout", &["600", "spin", "-a", "model.pml"]);
         succeed(&folder.path, "gcc", &["-w", "-O0", "-DNOREDUCE", "-o", "pan", "pan.c"]);
-        for (number, verdict) in verdicts.into_iter().enumerate() {
-            assert_eq!(spin_holds(&folder.path, number), verdict, "{} on {lasso:?}", claims[number]);
-            if verdict {
-                held += 1;
-            } else {
-                failed += 1;
-            }
+        for (number, claim) in asked.iter().enumerate() {
+            assert_eq!(spin_holds(&folder.path, number), claim.holds, "{} on {lasso:?}", claim.line);
         }
+        all.extend(asked);
     }
+    let held = all.iter().filter(|claim| claim.holds).count();
+    let count = |operator: &&str| {
+        let signs = [format!("({operator} "), format!(" {operator} ")];
+        let of_text = |claim: &Claim| signs.iter().map(|sign| claim.text.matches(sign).count()).sum::<usize>();
+        all.iter().map(of_text).sum()
+    };
+    let counts: Vec<usize> = TEMPORAL.iter().map(count).collect();
     println!(
-        "SPIN agrees with judge on {} verdicts: {held} hold, {failed} fail; {without_next} lines have no X",
-        held + failed
+        "SPIN agrees with judge on {} verdicts: {held} hold, {} fail; X, G, F, U, R, W {counts:?} times",
+        all.len(),
+        all.len() - held
     );
-    assert!(held > 10 && failed > 10);
+    assert!(held > all.len() / 5 && held < all.len() * 4 / 5);
+    assert!(counts.iter().all(|count| *count >= LEAST));
 }

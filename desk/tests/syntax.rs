@@ -1,17 +1,25 @@
 //! The `ltl` output read by the grammar that Spot, Owl and SPIN share whatever their precedences: no two operators meet without parentheses, but for a
-//! chain of `&&` or of `||`. Read so, every line is the formula of the table, its derived operators written out as the README has them.
+//! chain of `&&` or of `||`. Read so, every line is the formula of the second converter's table, its derived operators written out as the README has them.
 
 mod common;
 
-use common::Folder;
+use common::{labels, texts, Folder};
+use second::converter::convert;
 use second::generate::prng::Prng;
 use second::generate::sound_text;
-use serde_json::Value;
-use std::fs;
+use second::limits;
+use second::node::Node;
+use second::reader::{self, Reading};
+use serde_json::{json, Value};
+use std::collections::HashSet;
 
-const TEXTS: usize = 400;
+const TEXTS: usize = 300;
+const FORMS: [u32; 3] = [0, 1, 2];
+/// Of each operator that a form may have, so many at least are read in each syntax.
+const LEAST: usize = 30;
 const TICK: &str = "tick";
-/// Longer lines show nothing that shorter ones do not.
+/// Larger texts and longer lines show nothing that smaller ones do not.
+const MOST_NODES: usize = 400;
 const LONGEST_LINE: usize = 60_000;
 
 struct Grammar {
@@ -115,12 +123,22 @@ impl<'a> Reader<'a> {
     }
 }
 
+const KINDS: [&str; 14] = [
+    "true", "false", "signal", "!", "&&", "||", "->", "<->", "X", "G", "F", "U", "R", "W",
+];
+const FORBIDDEN: [&[&str]; 3] = [&[], &["->", "<->"], &["false", "&&", "->", "<->", "G", "F", "R", "W"]];
+
+fn kind(node: Node) -> &'static str {
+    KINDS[node.kind() as usize]
+}
+
 /// The formula of a node, each operator in its own parentheses.
-fn formula(nodes: &[Value], at: &Value, names: &[&str], grammar: &Grammar) -> String {
-    let operand = |field: usize| formula(nodes, &node_at(nodes, at)[field], names, grammar);
-    let (a, b) = (|| operand(1), || operand(2));
-    match (kind(nodes, at), grammar.syntax) {
-        ("signal", _) => names[node_at(nodes, at)[1].as_u64().expect("a number") as usize].to_string(),
+fn formula(nodes: &[u32], at: usize, names: &[&str], grammar: &Grammar) -> String {
+    let node = Node(nodes[at]);
+    let a = || formula(nodes, node.first(), names, grammar);
+    let b = || formula(nodes, node.second(), names, grammar);
+    match (kind(node), grammar.syntax) {
+        ("signal", _) => names[node.first()].to_string(),
         (constant @ ("true" | "false"), _) => constant.to_string(),
         ("X", _) if grammar.tick => {
             let a = a();
@@ -141,68 +159,146 @@ fn formula(nodes: &[Value], at: &Value, names: &[&str], grammar: &Grammar) -> St
     }
 }
 
-fn node_at<'a>(nodes: &'a [Value], at: &Value) -> &'a Value {
-    &nodes[at.as_u64().expect("a number") as usize]
-}
-
-fn kind(nodes: &[Value], at: &Value) -> &'static str {
-    const KINDS: [&str; 14] = [
-        "true", "false", "signal", "!", "&&", "||", "->", "<->", "X", "G", "F", "U", "R", "W",
-    ];
-    KINDS[node_at(nodes, at)[0].as_u64().expect("a kind") as usize]
-}
-
 /// What all three take for a name: a small letter first, and no word of theirs.
 fn is_readable(name: &str) -> bool {
     name.starts_with(|c: char| c.is_ascii_lowercase())
         && !["true", "false", "always", "until", "or", "and", "not", "tt", "ff"].contains(&name)
 }
 
-#[test]
-fn every_line_is_read_as_the_formula() {
-    let folder = Folder::new();
-    let mut rng = Prng::new(77);
-    let files: Vec<String> = (0..TEXTS).map(|number| format!("{number}.tlsf")).collect();
-    for file in &files {
-        folder.file(file, sound_text(&mut rng));
+/// The names of a line, each once, beside number, direction and the text's own name of the same signal.
+fn names<'a>(list: &'a str, text: &[u8], signals: &[u32]) -> Vec<&'a str> {
+    let mut names = Vec::new();
+    for (number, (line, label)) in list.lines().zip(labels(text, signals)).enumerate() {
+        let fields: Vec<&str> = line.split(' ').collect();
+        let direction = if signals[number] >> 31 == 1 { "output" } else { "input" };
+        assert_eq!(fields[..3], [&number.to_string(), direction, &label]);
+        let like = label.replace(['\'', '@', '['], "_").replace(']', "");
+        assert!(
+            is_readable(fields[3]) && fields[3].trim_start_matches("p_").starts_with(like.trim_start_matches("p_")),
+            "{line}"
+        );
+        names.push(fields[3]);
     }
-    let names: Vec<&str> = files.iter().map(String::as_str).collect();
-    let (mut read, mut longest) = (0, 0);
-    for (number, grammar) in GRAMMARS.iter().enumerate() {
-        let form = ["0", "1", "2", "0"][number];
-        let ltl = format!("ltl{number}");
+    assert_eq!((list.lines().count(), names.len()), (signals.len(), signals.len()));
+    assert_eq!(names.iter().collect::<HashSet<_>>().len(), names.len(), "{list}");
+    names
+}
+
+fn is_small(text: &[u8]) -> bool {
+    reader::read_freely(text).nodes.len() <= MOST_NODES
+}
+
+/// The texts of one form with what the second converter makes of them.
+struct Corpus {
+    folder: Folder,
+    form: u32,
+    texts: Vec<Vec<u8>>,
+    due: Vec<Reading>,
+}
+
+impl Corpus {
+    fn new(form: u32) -> Corpus {
+        let folder = Folder::in_memory();
+        let mut rng = Prng::new(77 + u64::from(form));
+        let text = |number| match number % 2 {
+            0 => sound_text(&mut rng),
+            _ => texts::small_text(&mut rng, 4).into_bytes(),
+        };
+        let texts: Vec<Vec<u8>> = (0..).map(text).filter(|text| is_small(text)).take(TEXTS).collect();
+        for (number, text) in texts.iter().enumerate() {
+            folder.file(&format!("{number}.tlsf"), text);
+        }
+        let freely = |text: &Vec<u8>| convert(text, form, limits::WORK_BYTES, limits::NODES, limits::SIGNALS);
+        let due = texts.iter().map(freely).collect();
+        Corpus { folder, form, texts, due }
+    }
+
+    fn convert(&self, options: &[&str]) -> String {
+        let files: Vec<String> = (0..TEXTS).map(|number| format!("{number}.tlsf")).collect();
+        let files: Vec<&str> = files.iter().map(String::as_str).collect();
+        let form = self.form.to_string();
+        let ran = self.folder.run(&[&["convert", "--form", &form], options, &files].concat());
+        assert!(ran.status < 2, "{}", ran.told);
+        ran.told
+    }
+
+    fn accepted(&self) -> impl Iterator<Item = (usize, &Reading)> {
+        self.due.iter().enumerate().filter(|(_, due)| due.answer.is_accepted())
+    }
+
+    fn read(&self, file: String) -> String {
+        String::from_utf8(self.folder.read(&file)).expect("UTF-8")
+    }
+
+    /// How many lines are read, how long the longest is, and how many nodes of each kind they have.
+    fn read_lines(&self, grammar: &Grammar) -> (usize, usize, [usize; 14]) {
         let tick: &[&str] = if grammar.tick { &["--tick", TICK] } else { &[] };
-        let options = ["convert", "--form", form, "--to", "ltl", "--syntax", grammar.syntax, "--out", &ltl];
-        let ran = folder.run(&[&options[..], tick, &names].concat());
-        let json = folder.run(&[&["convert", "--form", form, "--to", "json", "--out", "json"], &names[..]].concat());
-        assert!(ran.status < 2 && json.status < 2, "{}", ran.told);
-        for file in folder.names(&ltl).iter().filter(|file| file.ends_with(".ltl")) {
-            let line = fs::read_to_string(folder.path.join(&ltl).join(file)).expect("a line");
+        let out = format!("{}{}", grammar.syntax, tick.concat());
+        let told = self.convert(&[&["--to", "ltl", "--syntax", grammar.syntax, "--out", &out], tick].concat());
+        let (mut read, mut longest, mut kinds) = (0, 0, [0; 14]);
+        let is_given_up = |number: usize| told.contains(&format!("error: {number}.tlsf: the line is longer than 16 MiB"));
+        for (number, due) in self.accepted().filter(|(number, _)| !is_given_up(*number)) {
+            let line = self.read(format!("{out}/{number}.ltl"));
             let line = line.strip_suffix('\n').expect("a line feed at its end");
+            let list = self.read(format!("{out}/{number}.names"));
+            let names = names(&list, &self.texts[number], &due.signals);
             if line.len() > LONGEST_LINE {
                 continue;
             }
-            let json: Value = serde_json::from_slice(&folder.read(&format!("json/{}", file.replace(".ltl", ".json")))).expect("JSON");
-            let list = fs::read_to_string(folder.path.join(&ltl).join(file.replace(".ltl", ".names"))).expect("the names");
-            let names: Vec<&str> = list.lines().filter_map(|line| line.rsplit(' ').next()).collect();
-            assert!(names.iter().all(|name| is_readable(name)), "{list}");
             let tokens = tokens(line);
             let mut reader = Reader {
                 tokens: &tokens,
                 grammar,
                 names: &names,
             };
-            let nodes = json["nodes"].as_array().expect("nodes");
-            assert_eq!(
-                reader.line(),
-                formula(nodes, &Value::from(nodes.len() - 1), &names, grammar),
-                "{file}"
-            );
-            assert!(reader.tokens.is_empty(), "{file}: {:?} is left", reader.tokens);
+            assert_eq!(reader.line(), formula(&due.nodes, due.nodes.len() - 1, &names, grammar), "{number}");
+            assert!(reader.tokens.is_empty(), "{number}: {:?} is left", reader.tokens);
             read += 1;
             longest = longest.max(line.len());
+            due.nodes.iter().for_each(|&node| kinds[Node(node).kind() as usize] += 1);
+        }
+        let written = self.accepted().filter(|(number, _)| !is_given_up(*number)).count();
+        assert_eq!(self.folder.names(&out).len(), 2 * written);
+        (read, longest, kinds)
+    }
+}
+
+#[test]
+fn every_line_is_read_as_the_formula() {
+    let (mut read, mut longest) = (0, 0);
+    for form in FORMS {
+        let corpus = Corpus::new(form);
+        for grammar in &GRAMMARS {
+            let (lines, longest_line, kinds) = corpus.read_lines(grammar);
+            read += lines;
+            longest = longest.max(longest_line);
+            for (kind, count) in KINDS.iter().zip(kinds) {
+                let allowed = !FORBIDDEN[form as usize].contains(kind);
+                assert!(if allowed { count >= LEAST } else { count == 0 }, "{kind}: {count} in form {form}");
+            }
         }
     }
     println!("{read} lines of LTL, the longest of {longest} bytes, are read as their formulas");
-    assert!(read > 2 * TEXTS);
+    assert!(read > 9 * TEXTS);
+}
+
+#[test]
+fn json_and_nodes_are_the_table() {
+    for form in FORMS {
+        let corpus = Corpus::new(form);
+        corpus.convert(&["--to", "json", "--out", "json"]);
+        corpus.convert(&["--to", "nodes", "--out", "nodes"]);
+        for (number, due) in corpus.accepted() {
+            let json: Value = serde_json::from_str(&corpus.read(format!("json/{number}.json"))).expect("JSON");
+            let fields = |&node: &u32| json!([Node(node).kind(), Node(node).first(), Node(node).second()]);
+            assert_eq!(json["nodes"], due.nodes.iter().map(fields).collect::<Value>(), "{number}");
+            assert_eq!(json["counts"], json!({ "nodes": due.nodes.len(), "signals": due.signals.len() }));
+            assert_eq!((&json["form"], &json["kinds"]), (&json!(form), &json!(KINDS)));
+            let signals = json["signals"].as_array().expect("signals");
+            let names: Vec<&str> = signals.iter().filter_map(|signal| signal["name"].as_str()).collect();
+            assert_eq!(names, labels(&corpus.texts[number], &due.signals));
+            let bytes: Vec<u8> = due.nodes.iter().flat_map(|node| node.to_be_bytes()).collect();
+            assert_eq!(corpus.folder.read(&format!("nodes/{number}.nodes")), bytes, "{number}");
+        }
+    }
 }

@@ -1,8 +1,9 @@
-//! Workers that are ended from outside, as a fault of the stack or the system would end them.
+//! Workers that end: by a fault of their stack, or from outside, as the system would end them.
 
 mod common;
 
 use common::{endless, Folder, Ran, STARRED};
+use second::corpus::deep;
 use std::fs;
 use std::process::{Child, Command, Stdio};
 use std::thread::sleep;
@@ -135,4 +136,53 @@ fn workers_end_with_the_program() {
     program.kill().expect("the program is ended");
     program.wait().expect("it ends");
     persist(|| left.iter().all(|worker| process(worker.id.clone()).is_none()));
+}
+
+// Rust ends a process by SIGABRT where a thread meets the end of its stack, the system by SIGSEGV where it steps beyond.
+fn ended_by_its_stack(line: &str) -> bool {
+    let of_text = line.starts_with("error: deep") && line.contains(".tlsf: the conversion ended without an answer (signal: ");
+    of_text && (line.contains("SIGABRT") || line.contains("SIGSEGV"))
+}
+
+#[test]
+fn a_stack_that_is_too_small_takes_no_other_file_with_it() {
+    let folder = Folder::new();
+    let deep = deep::texts();
+    let mut files: Vec<String> = (0..deep.len()).map(|number| format!("deep{number}.tlsf")).collect();
+    for (file, stored) in files.iter().zip(&deep) {
+        folder.file(file, &stored.text);
+    }
+    for number in 0..20 {
+        files.insert(2 * number, format!("{number}.tlsf"));
+        folder.file(&files[2 * number], STARRED);
+    }
+    let convert = |stack: &str, out: &str| {
+        let mut command = folder.command();
+        command
+            .env("VASCULPI_STACK", stack)
+            .args(["convert", "--out", out, "--report", "report.json"]);
+        let ran = Ran::of(command.args(&files).output().expect("the program starts"));
+        let report: serde_json::Value = serde_json::from_slice(&folder.read("report.json")).expect("JSON");
+        (ran, report["summary"].clone())
+    };
+    let (ran, summary) = convert("2048", "small");
+    let ended = ran.told.lines().filter(|line| ended_by_its_stack(line)).count();
+    assert_eq!((ran.status, &summary["broken"]), (1, &ended.into()), "{}", ran.told);
+    assert!(
+        ended > 0 && ran.told.contains(&format!("\n{ended:>6} ended without a result\n")),
+        "{}",
+        ran.told
+    );
+    let small = folder.names("small");
+    assert!((0..20).all(|number| small.contains(&format!("{number}.listing"))), "{small:?}");
+    assert_eq!(small.len(), summary["accepted"]);
+    // With the stack that they have otherwise, all end.
+    let (ran, summary) = convert("", "all");
+    assert_eq!(
+        (&summary["broken"], &summary["out of time"]),
+        (&0.into(), &0.into()),
+        "{}",
+        ran.told
+    );
+    assert_eq!(folder.names("all").len(), summary["accepted"]);
 }

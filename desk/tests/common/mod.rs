@@ -1,10 +1,11 @@
 //! Running the program in a folder of its own.
 #![allow(dead_code)]
 
+pub mod drawing;
 pub mod texts;
 
 use std::fs;
-use std::io::Write;
+use std::io::{self, Write};
 use std::path::{Path, PathBuf};
 use std::process::{Command, Output, Stdio};
 use std::sync::atomic::{AtomicUsize, Ordering};
@@ -32,25 +33,25 @@ pub struct Folder {
 
 impl Folder {
     pub fn new() -> Folder {
-        Folder::below(&std::env::temp_dir())
+        Folder::below(&std::env::temp_dir()).expect("a folder for the test")
+    }
+
+    /// Beside what is built.
+    pub fn on_disk() -> Folder {
+        Folder::below(Path::new(env!("CARGO_TARGET_TMPDIR"))).expect("a folder for the test")
     }
 
     /// In memory where the system has a folder there, so that no disk is measured.
     pub fn in_memory() -> Folder {
-        let memory = Path::new("/dev/shm");
-        if memory.is_dir() {
-            Folder::below(memory)
-        } else {
-            Folder::new()
-        }
+        Folder::below(Path::new("/dev/shm")).unwrap_or_else(|_| Folder::new())
     }
 
-    fn below(place: &Path) -> Folder {
+    fn below(place: &Path) -> io::Result<Folder> {
         static COUNT: AtomicUsize = AtomicUsize::new(0);
         let number = COUNT.fetch_add(1, Ordering::Relaxed);
         let path = place.join(format!("vasculpi-test-{}-{number}", std::process::id()));
-        fs::create_dir_all(&path).expect("a folder for the test");
-        Folder { path }
+        fs::create_dir(&path)?;
+        Ok(Folder { path })
     }
 
     pub fn file(&self, name: &str, bytes: impl AsRef<[u8]>) -> PathBuf {
@@ -134,4 +135,18 @@ impl Ran {
 
 pub fn name(path: &Path) -> &str {
     path.to_str().expect("a plain name")
+}
+
+/// What the text calls each signal of its list, bits of buses as `b[3]`.
+pub fn labels(text: &[u8], signals: &[u32]) -> Vec<String> {
+    let of_name = |byte: &&u8| byte.is_ascii_alphanumeric() || b"_'@".contains(byte);
+    let label = |&entry: &u32| {
+        let rest = &text[(entry >> 16 & 0x7fff) as usize..];
+        let name: String = rest.iter().take_while(of_name).map(|&byte| char::from(byte)).collect();
+        match entry & 0xff {
+            0 => name,
+            _ => format!("{name}[{}]", entry >> 8 & 0xff),
+        }
+    };
+    signals.iter().map(label).collect()
 }

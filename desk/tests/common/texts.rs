@@ -1,4 +1,5 @@
-//! Texts of any size as makers write them: parameters, definitions, buses, an enumeration, long names, comments and blanks.
+//! Texts of any size as makers write them: parameters, definitions, buses, an enumeration, long names, comments and blanks. And small ones that have every
+//! operator below every other.
 
 use second::generate::prng::Prng;
 use std::fmt::Write;
@@ -83,8 +84,65 @@ fn expression(rng: &mut Prng, levels: usize) -> String {
     }
     let operator = *rng.pick(&["!", "X", "F", "&&", "||", "->", "U", "W", "R"]);
     let left = expression(rng, levels - 1);
+    applied(operator, &left, || expression(rng, levels - 1))
+}
+
+/// The signals of a small text: one bit of the bus would have another signal's name in a line of LTL.
+pub const SMALL_SIGNALS: [&str; 4] = ["a", "b[0]", "b[1]", "b_1"];
+
+const OPERATORS: [&str; 11] = ["!", "X", "G", "F", "&&", "||", "->", "<->", "U", "R", "W"];
+
+/// A text whose guarantee has at most so many levels, each of the other sections being there now and then.
+pub fn small_text(rng: &mut Prng, levels: usize) -> String {
+    let mut sections = String::new();
+    for section in ["INITIALLY", "PRESET", "REQUIRE", "ASSERT", "ASSUME"] {
+        if rng.one_in(6) {
+            let _ = write!(sections, "{section} {{ {}; }} ", small_expression(rng, 1));
+        }
+    }
+    let guarantee = small_expression(rng, levels);
+    small_frame(rng, &sections, &guarantee)
+}
+
+/// A text that says of two signals what an operator says.
+pub fn operator_text(rng: &mut Prng, operator: &str) -> String {
+    let mut signals = SMALL_SIGNALS;
+    rng.shuffle(&mut signals);
+    let guarantee = applied(operator, signals[0], || signals[1].to_string());
+    small_frame(rng, "", &guarantee)
+}
+
+/// A text that says of three signals what a formula of x, y and z says.
+pub fn nested_text(rng: &mut Prng, formula: &str) -> String {
+    let mut signals = SMALL_SIGNALS;
+    rng.shuffle(&mut signals);
+    let mut guarantee = formula.to_string();
+    for (letter, signal) in ["x", "y", "z"].iter().zip(signals) {
+        guarantee = guarantee.replace(letter, signal);
+    }
+    small_frame(rng, "", &guarantee)
+}
+
+fn small_frame(rng: &mut Prng, sections: &str, guarantee: &str) -> String {
+    let semantics = *rng.pick(&["Mealy", "Mealy,Strict"]);
+    format!(
+        "INFO {{ TITLE: \"t\" DESCRIPTION: \"d\" SEMANTICS: {semantics} TARGET: Mealy }} \
+         MAIN {{ INPUTS {{ a; b[2]; }} OUTPUTS {{ b_1; }} {sections}GUARANTEE {{ {guarantee}; }} }}\n"
+    )
+}
+
+fn small_expression(rng: &mut Prng, levels: usize) -> String {
+    if levels == 0 || rng.one_in(6) {
+        return rng.pick(&SMALL_SIGNALS).to_string();
+    }
+    let operator = *rng.pick(&OPERATORS);
+    let left = small_expression(rng, levels - 1);
+    applied(operator, &left, || small_expression(rng, levels - 1))
+}
+
+fn applied(operator: &str, left: &str, right: impl FnOnce() -> String) -> String {
     match operator {
-        "!" | "X" | "F" => format!("({operator} {left})"),
-        _ => format!("({left} {operator} {})", expression(rng, levels - 1)),
+        "!" | "X" | "G" | "F" => format!("({operator} {left})"),
+        _ => format!("({left} {operator} {})", right()),
     }
 }
