@@ -1,5 +1,5 @@
 // One formula of the formulas of a text's lines (document 01, 'Expansion').
-// Its functions ask for lines whose nodes stand in the table one after the other and for names that are noted: `lines` and `reader`, which alone call them,
+// Its functions ask for lines whose nodes stand in the table one after the other and for names that are noted: `lines` and `ending`, which alone call them,
 // have written both.
 use choices::folds::Fold;
 use choices::folds::finish;

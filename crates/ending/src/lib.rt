@@ -1,4 +1,5 @@
 // The end of the reading: 14 to 16, 18, and what is handed over.
+// `finish` asks for the lines of a text with their nodes in the table and for the signal list, which `read`, its only caller, has at hand.
 use assembly::assemble;
 use node::Answer;
 use node::MAX_NODES;
