@@ -2,12 +2,15 @@
 //! time of a text grows, and the stack that the deepest tables need.
 
 mod day;
+mod diagnosing;
 mod evaluation;
 mod inputs;
 mod plain;
+mod reaching;
 mod reading;
 mod rewriting;
 mod timing;
+mod writing;
 
 include!("../include/tlsf.rs");
 
@@ -18,6 +21,9 @@ fn bench_all() {
     reading::bench();
     rewriting::bench();
     evaluation::bench();
+    diagnosing::bench();
+    reaching::bench();
+    writing::bench();
 }
 
 fn main() {

@@ -31,6 +31,61 @@ pub fn is_table(nodes: &[u32]) -> bool {
     (1..=8192).contains(&nodes.len()) && nodes.iter().enumerate().all(fits)
 }
 
+/// What a node looks at: no signal; signals, so many letters ahead at most; signals, without a bound.
+#[derive(Clone, Copy)]
+enum Span {
+    Silent,
+    Ahead(u32),
+    Endless,
+}
+
+impl Span {
+    fn wider(self, other: Span) -> Span {
+        match (self, other) {
+            (Span::Silent, span) | (span, Span::Silent) => span,
+            (Span::Ahead(m), Span::Ahead(n)) => Span::Ahead(m.max(n)),
+            _ => Span::Endless,
+        }
+    }
+
+    fn later(self) -> Span {
+        match self {
+            Span::Ahead(n) => Span::Ahead(n + 1),
+            span => span,
+        }
+    }
+
+    fn forever(self) -> Span {
+        match self {
+            Span::Silent => Span::Silent,
+            _ => Span::Endless,
+        }
+    }
+}
+
+/// How far ahead the root of a table of the format looks: the last letter that counts, none where there is no bound.
+pub fn reach(nodes: &[u32]) -> Option<u32> {
+    let mut spans: Vec<Span> = Vec::with_capacity(nodes.len());
+    for &node in nodes {
+        let a = || spans[first(node)];
+        let b = || spans[second(node)];
+        spans.push(match kind(node) {
+            0 | 1 => Span::Silent,
+            2 => Span::Ahead(0),
+            3 => a(),
+            4..=7 => a().wider(b()),
+            8 => a().later(),
+            9 | 10 => a().forever(),
+            _ => a().wider(b()).forever(),
+        });
+    }
+    match spans[nodes.len() - 1] {
+        Span::Silent => Some(0),
+        Span::Ahead(n) => Some(n),
+        Span::Endless => None,
+    }
+}
+
 /// A temporal operator, backwards round the loop twice.
 fn temporal(code: u32, a: &[bool], b: &[bool], start: usize, row: &mut [bool]) {
     let step = |p: usize, v: bool| match code {

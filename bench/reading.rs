@@ -2,7 +2,7 @@
 
 use crate::day;
 use crate::inputs::limits;
-use crate::inputs::texts::{Kind, ARBITERS, DOORS};
+use crate::inputs::texts::{with_models, Kind, ARBITERS, DOORS};
 use crate::timing::{best, micro, RUNS};
 use crate::{tlsf_convert, tlsf_read};
 use second::answer::Answer;
@@ -217,11 +217,55 @@ fn bench_conversions() {
     }
 }
 
+/// A text that targets the other model beside the same text with equal models.
+fn bench_models() {
+    println!("\nReader, a text that targets the other model, us a text");
+    println!(
+        "  {:<44} {:>6} {:>9} {:>9} {:>6}",
+        "text", "bytes", "converted", "equal", "ratio"
+    );
+    for kind in [DOORS, ARBITERS] {
+        for (semantics, target) in [("Moore", "Mealy"), ("Mealy", "Moore")] {
+            let plain = kind.text(8 * KB);
+            let texts = [semantics, target].map(|stated| with_models(&plain, stated, target));
+            let mut work = vec![0u8; WORK];
+            let mut answers = texts.iter().map(|text| {
+                let (mut ours, mut theirs) = (Results::new(), Results::new());
+                let answer = Job::Read.library(text, &mut work, &mut ours);
+                assert_eq!(answer, Job::Read.second(text, &mut theirs), "the answers differ");
+                assert!(ours == theirs, "the results differ");
+                answer >> 32
+            });
+            let nodes = [answers.next(), answers.next()].map(|count| count.expect("two texts"));
+            let (mut lent, mut results) = (vec![0u8; WORK], Results::new());
+            let (mut room, mut others) = (vec![0u8; WORK], Results::new());
+            let mut converted = || {
+                black_box(Job::Read.library(black_box(&texts[0]), &mut lent, &mut results));
+            };
+            let mut equal = || {
+                black_box(Job::Read.library(black_box(&texts[1]), &mut room, &mut others));
+            };
+            let [converted, equal] = best(1, [&mut converted, &mut equal]);
+            println!(
+                "  {:<44} {:>6} {:>9} {:>9} {:>6.2}   {} nodes, {} with equal models",
+                format!("{}, {semantics} to {target}", kind.name),
+                texts[0].len(),
+                micro(converted),
+                micro(equal),
+                converted / equal,
+                nodes[0],
+                nodes[1]
+            );
+        }
+    }
+}
+
 pub fn bench() {
     println!("Texts: best of {RUNS} runs in turn. No buffer is cleared between runs; the library leaves the work buffer zero, which its time includes.");
     println!("'second' is second/, the straightforward Rust for texts, built without overflow checks, called on a deep stack instead of a thread of its own,");
     println!("its results copied into the same buffers.");
     bench_sizes();
+    bench_models();
     [DOORS, ARBITERS].iter().for_each(bench_growth);
     bench_conversions();
     day::bench();

@@ -2,6 +2,8 @@
 
 #[path = "../second/src/answer.rs"]
 pub mod answer;
+#[path = "../second/src/basic.rs"]
+pub mod basic;
 #[path = "../second/src/enumeration.rs"]
 pub mod enumeration;
 #[path = "../second/src/expansion.rs"]

@@ -30,6 +30,16 @@ extern "C" {
         signal_room: usize,
     ) -> u64;
 
+    /// Reads a text and writes a basic one of its nodes to the front of `out`: accepted = bytes * 2^32.
+    fn tlsf_write_basic(
+        text: *const u8,
+        text_size: usize,
+        work: *mut u8,
+        work_size: usize,
+        out: *mut u8,
+        out_room: usize,
+    ) -> u64;
+
     /// Writes a form of a table's root to the front of `out`.
     fn tlsf_rewrite(
         nodes: *const u32,
@@ -49,4 +59,20 @@ extern "C" {
         rows: *mut u8,
         row_room: usize,
     ) -> u64;
+
+    /// Which line of a text failed on a recording, the rows as `tlsf_evaluate` leaves them: accepted = section * 2^32 + line, 1 PRESET, 2 ASSERT, 3 GUARANTEE, lines from
+    /// 1; 0 where the recording holds.
+    fn tlsf_diagnose(
+        text: *const u8,
+        text_size: usize,
+        recording: *const u8,
+        recording_size: usize,
+        work: *mut u8,
+        work_size: usize,
+        rows: *mut u8,
+        row_room: usize,
+    ) -> u64;
+
+    /// How far ahead a table's root looks: accepted = reach * 2^32, or 1 where there is no bound.
+    fn tlsf_reach(nodes: *const u32, node_count: usize) -> u64;
 }

@@ -10,9 +10,14 @@ const UNARY: [u32; 4] = [3, 8, 9, 10];
 
 /// A shared table of `count` nodes over `signals` signals, every kind in it.
 pub fn table(random: &mut Random, count: u32, signals: u32) -> Vec<u32> {
+    table_of(random, count, signals, &Vec::from_iter(0..14))
+}
+
+/// The same of some kinds; its first node is signal 0.
+pub fn table_of(random: &mut Random, count: u32, signals: u32, kinds: &[u32]) -> Vec<u32> {
     let mut nodes = vec![pack(2, 0, 0)];
     for n in 1..count {
-        let k = random.below(14) as u32;
+        let k = kinds[random.below(kinds.len() as u64) as usize];
         let a = random.below(n as u64) as u32;
         let b = random.below(n as u64) as u32;
         nodes.push(match k {

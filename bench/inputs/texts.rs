@@ -99,3 +99,12 @@ impl Kind {
         text
     }
 }
+
+/// The same text with other models.
+pub fn with_models(text: &[u8], semantics: &str, target: &str) -> Vec<u8> {
+    let text = std::str::from_utf8(text).expect("a text of these kinds");
+    let [stated, targeted] = ["SEMANTICS:   ", "TARGET:      "].map(|word| format!("{word}Mealy"));
+    text.replacen(&stated, &stated.replace("Mealy", semantics), 1)
+        .replacen(&targeted, &targeted.replace("Mealy", target), 1)
+        .into_bytes()
+}

@@ -53,6 +53,11 @@ pub fn count(tally: &mut Tally, job: &'static str, answer: Answer) {
     *tally.entry((job, seen)).or_default() += 1;
 }
 
+/// Counts something that is no answer.
+pub fn see(tally: &mut Tally, job: &'static str, what: &'static str) {
+    *tally.entry((job, Seen::Other(what))).or_default() += 1;
+}
+
 pub fn merge(into: &mut Tally, from: Tally) {
     for (key, times) in from {
         *into.entry(key).or_default() += times;

@@ -17,7 +17,7 @@ pub struct Fillings<T> {
     drawn: Vec<T>,
 }
 
-impl<T: Copy> Fillings<T> {
+impl<T: Copy + PartialEq + LowerHex> Fillings<T> {
     fn new(zero: T, one: T, mut draw: impl FnMut() -> T) -> Fillings<T> {
         Fillings {
             zeros: vec![zero; POOL],
@@ -40,10 +40,13 @@ impl<T: Copy> Fillings<T> {
     /// A room with its guards.
     pub fn lend(&self, rng: &mut Prng, room: usize) -> Lent<'_, T> {
         let before = self.cells(rng, room + 2 * GUARD);
-        Lent {
-            before,
-            cells: before.to_vec(),
-        }
+        Lent::new(before, GUARD)
+    }
+
+    /// A room full of ones that begins so many cells later than others do.
+    pub fn lend_ones(&self, room: usize, later: usize) -> Lent<'_, T> {
+        let guard = GUARD + later;
+        Lent::new(&self.ones[..room + 2 * guard], guard)
     }
 }
 
@@ -66,20 +69,35 @@ pub fn words() -> &'static Fillings<u32> {
 pub struct Lent<'f, T> {
     before: &'f [T],
     cells: Vec<T>,
+    /// Cells before and after the room.
+    guard: usize,
 }
 
 impl<T: Copy + PartialEq + LowerHex> Lent<'_, T> {
+    fn new(before: &[T], guard: usize) -> Lent<'_, T> {
+        Lent {
+            before,
+            cells: before.to_vec(),
+            guard,
+        }
+    }
+
     pub fn room(&self) -> usize {
-        self.cells.len() - 2 * GUARD
+        self.cells.len() - 2 * self.guard
     }
 
     pub fn pointer(&mut self) -> *mut T {
-        self.cells[GUARD..].as_mut_ptr()
+        self.cells[self.guard..].as_mut_ptr()
+    }
+
+    /// The first cells of the room, as they stand.
+    pub fn front(&self, size: usize) -> &[T] {
+        &self.cells[self.guard..self.guard + size]
     }
 
     /// The first cell that is not as due, in words: `written` from the front of the room on, all others as before.
     pub fn misfit(&self, written: &[T]) -> Option<String> {
-        let (front, end) = (GUARD, GUARD + written.len());
+        let (front, end) = (self.guard, self.guard + written.len());
         let fits = self.cells[..front] == self.before[..front]
             && self.cells[front..end] == *written
             && self.cells[end..] == self.before[end..];
@@ -91,7 +109,7 @@ impl<T: Copy + PartialEq + LowerHex> Lent<'_, T> {
             _ => self.before[at],
         };
         let at = (0..self.cells.len()).find(|at| self.cells[*at] != due(*at))?;
-        let cell = at as isize - GUARD as isize;
+        let cell = at as isize - self.guard as isize;
         let (left, due) = (self.cells[at], due(at));
         Some(format!(
             "cell {cell} of a room of {}: library {left:#x}, due {due:#x}",

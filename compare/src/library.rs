@@ -11,6 +11,9 @@ pub mod linked {
         convert: tlsf_convert,
         rewrite: tlsf_rewrite,
         evaluate: tlsf_evaluate,
+        reach: tlsf_reach,
+        write: tlsf_write_basic,
+        diagnose: tlsf_diagnose,
     };
 }
 
@@ -34,12 +37,22 @@ pub type Rewrite = unsafe extern "C" fn(*const u32, usize, u32, *mut u32, usize)
 pub type Evaluate =
     unsafe extern "C" fn(*const u32, usize, u32, *const u8, usize, *mut u8, usize) -> u64;
 
+pub type Reach = unsafe extern "C" fn(*const u32, usize) -> u64;
+
+pub type Write = unsafe extern "C" fn(*const u8, usize, *mut u8, usize, *mut u8, usize) -> u64;
+
+pub type Diagnose =
+    unsafe extern "C" fn(*const u8, usize, *const u8, usize, *mut u8, usize, *mut u8, usize) -> u64;
+
 #[derive(Clone, Copy)]
 pub struct Library {
     pub read: Read,
     pub convert: Convert,
     pub rewrite: Rewrite,
     pub evaluate: Evaluate,
+    pub reach: Reach,
+    pub write: Write,
+    pub diagnose: Diagnose,
 }
 
 /// The library as linked.

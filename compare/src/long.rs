@@ -3,7 +3,12 @@
 use second::generate::prng::Prng;
 use second::token;
 
-const INFO: &str = "INFO{TITLE:\"\"DESCRIPTION:\"\"SEMANTICS:Mealy TARGET:Mealy}";
+const INFO: [&str; 4] = [
+    "INFO{TITLE:\"\"DESCRIPTION:\"\"SEMANTICS:Mealy TARGET:Mealy}",
+    "INFO{TITLE:\"\"DESCRIPTION:\"\"SEMANTICS:Mealy,Strict TARGET:Mealy}",
+    "INFO{TITLE:\"\"DESCRIPTION:\"\"SEMANTICS:Mealy TARGET:Moore}",
+    "INFO{TITLE:\"\"DESCRIPTION:\"\"SEMANTICS:Moore TARGET:Mealy}",
+];
 
 /// What closes a text in which a section stands open.
 const END: &str = "}}";
@@ -22,7 +27,8 @@ pub fn filled(rng: &mut Prng, length: usize) -> Vec<u8> {
     let mut names = names(rng);
     let mut budget = *rng.pick(&[300, 2_000, 4_000, 7_500, usize::MAX]);
     let definitions = definitions(rng, length / 3, &mut names);
-    let mut text = format!("{INFO}{definitions}MAIN{{INPUTS{{a;b[9]}}OUTPUTS{{c;d[7]}}");
+    let info = *rng.pick(&INFO);
+    let mut text = format!("{info}{definitions}MAIN{{INPUTS{{a;b[9]}}OUTPUTS{{c;d[7]}}");
     let mut sections = SECTIONS;
     rng.shuffle(&mut sections);
     for (number, section) in sections.iter().enumerate() {

@@ -1,9 +1,10 @@
 //! The source's own meaning beside the library: at every position of a lasso word, whether an accepted text holds (the second converter's reading of the
 //! source, without expansion) equals the root's row that `tlsf_evaluate` fills for each form that fits.
 
-use crate::answers::{in_words, unpacked, Seen, Tally};
+use crate::answers::{in_words, see, unpacked, Tally};
 use crate::case::{Case, Difference};
 use crate::library::{Job, Library, TextCall};
+use crate::reading::models;
 use crate::words::Word;
 use crate::{long, words};
 use second::answer::Answer;
@@ -24,6 +25,7 @@ struct Converted {
 pub fn compare(case: Case, library: &Library, tally: &mut Tally) -> Result<(), Difference> {
     let mut rng = case.rng();
     let (text, reading) = accepted_text(&mut rng);
+    see(tally, "texts", models(&text));
     let mut forms = Vec::new();
     for form in 0..3 {
         match converted(library, &text, form)? {
@@ -55,10 +57,6 @@ const FITS_NOT: [&str; 3] = [
     "form 1 does not fit",
     "form 2 does not fit",
 ];
-
-fn see(tally: &mut Tally, group: &'static str, what: &'static str) {
-    *tally.entry((group, Seen::Other(what))).or_default() += 1;
-}
 
 fn difference(text: &[u8], library: impl Into<String>, due: impl Into<String>) -> Difference {
     Difference {

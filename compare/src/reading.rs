@@ -1,6 +1,6 @@
 //! Texts: what the library's reader and converter answer, and every byte of the three lent buffers, beside the second converter.
 
-use crate::answers::{count, in_words, packed, Seen, Tally};
+use crate::answers::{count, in_words, packed, see, Seen, Tally};
 use crate::case::{Case, Difference};
 use crate::lent::{self, Lent};
 use crate::library::{Job, Library, TextCall};
@@ -9,6 +9,7 @@ use crate::texts;
 use second::answer::Answer;
 use second::generate::prng::Prng;
 use second::reader::{self, Reading};
+use second::syntax::Model;
 use second::{limits, rewriter};
 
 /// The lengths of the three lent buffers.
@@ -37,6 +38,9 @@ pub fn compare(
     *tally
         .entry(("texts", length_class(&text, &due)))
         .or_default() += 1;
+    if due.answer.is_accepted() {
+        see(tally, "accepted texts", models(&text));
+    }
     let mut jobs = vec![Job::Read, Job::Convert(0), Job::Convert(1), Job::Convert(2)];
     if rng.one_in(20) {
         jobs.push(Job::Convert(3 + rng.draw() as u32 % 5));
@@ -56,6 +60,16 @@ pub fn compare(
     Ok(())
 }
 
+/// The models of a text that is accepted.
+pub fn models(text: &[u8]) -> &'static str {
+    let (syntax, _) = reader::check_text(text).expect("the text is accepted");
+    match (syntax.info.semantics, syntax.info.target) {
+        (Model::Moore, Model::Mealy) => "Moore to Mealy",
+        (Model::Mealy, Model::Moore) => "Mealy to Moore",
+        _ => "equal models",
+    }
+}
+
 /// How long a text is, and whether it is accepted where there is room.
 fn length_class(text: &[u8], due: &Reading) -> Seen {
     Seen::Other(match (due.answer.is_accepted(), text.len()) {
@@ -69,7 +83,7 @@ fn length_class(text: &[u8], due: &Reading) -> Seen {
 }
 
 /// A work buffer: one byte short, much too short, just enough, or longer.
-fn work_length(rng: &mut Prng) -> usize {
+pub fn work_length(rng: &mut Prng) -> usize {
     match rng.below(16) {
         0 => limits::WORK_BYTES - 1,
         1 if rng.one_in(3) => rng.below(limits::WORK_BYTES),

@@ -39,7 +39,9 @@ static uint32_t form_of(const char *word) {
 }
 
 static int refused(tlsf_answer answer) {
-  printf("refused %u %u\n", (unsigned)tlsf_refusal_number(answer), (unsigned)tlsf_refusal_place(answer));
+  uint32_t number = tlsf_refusal_number(answer);
+  printf("refused %u %u\n", (unsigned)number, (unsigned)tlsf_refusal_place(answer));
+  fprintf(stderr, "%s\n", tlsf_refusal_title(number));
   return 2;
 }
 
@@ -107,6 +109,17 @@ int main(int count, char **words) {
   }
   print_formula(text_size, node_count - 1);
   putchar('\n');
+
+  /* How many letters a recording needs: after the last that counts no other does. */
+  answer = tlsf_reach(nodes, node_count);
+  if (tlsf_is_refused(answer)) {
+    return refused(answer);
+  }
+  if (tlsf_reach_is_bounded(answer)) {
+    printf("letters 0 to %u decide\n", (unsigned)tlsf_reach_last(answer));
+  } else {
+    puts("no number of letters decides");
+  }
 
   /* From the formula to the verdict: the root at position 0. */
   answer = tlsf_evaluate(nodes, node_count, signal_count, recording, recording_size, rows, sizeof rows);

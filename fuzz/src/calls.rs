@@ -4,15 +4,15 @@ use crate::inputs;
 use crate::pages::Paged;
 use crate::state::{Stage, State};
 use crate::worker;
-use compare::answers::{in_words, packed};
+use compare::answers::{in_words, packed, unpacked};
 use compare::case::{Case, Difference};
 use compare::lent;
 use compare::library::{Job, Library, TextCall};
 use compare::reading::{cleared, converted, within, Rooms};
-use compare::rewriting;
+use compare::{diagnosing, rewriting, writing};
 use second::answer::Answer;
-use second::generate::prng::Prng;
-use second::{evaluator, reader, rewriter};
+use second::generate::{clashes, failing, prng::Prng};
+use second::{basic, evaluator, limits, reach, reader, rewriter};
 
 /// The most that is lent: of bytes, of words, and of rows.
 pub const MOST_BYTES: usize = 140_000;
@@ -25,6 +25,8 @@ pub struct Caller {
     /// Whether inputs are written to a file before the call.
     keep: bool,
     input: Paged<u8>,
+    /// A recording beside a text.
+    recording: Paged<u8>,
     table: Paged<u32>,
     work: Paged<u8>,
     nodes: Paged<u32>,
@@ -39,6 +41,7 @@ impl Caller {
             state,
             keep,
             input: Paged::new(MOST_BYTES),
+            recording: Paged::new(MOST_BYTES),
             table: Paged::new(MOST_WORDS),
             work: Paged::new(MOST_BYTES),
             nodes: Paged::new(MOST_WORDS),
@@ -54,6 +57,9 @@ impl Caller {
         match rng.below(20) {
             0..=1 => self.rewrite(case, &mut rng),
             2..=4 => self.evaluate(case, &mut rng),
+            5 => self.reach(case, &mut rng),
+            6..=8 => self.write(case, &mut rng),
+            9..=10 => self.diagnose(case, &mut rng),
             _ => {
                 let text = inputs::text(&mut rng);
                 self.text(case, &mut rng, &text)
@@ -126,6 +132,86 @@ impl Caller {
         ];
         let what = || format!("rewrite in form {form}, room {room}");
         self.settle(2, what, &input, answer, expected.answer, &misfits)
+    }
+
+    fn reach(&mut self, case: Case, rng: &mut Prng) -> Result<(), Difference> {
+        let nodes = inputs::table(rng, 1 << 14);
+        let due = reach::reach(&nodes);
+        self.table.hold(rng, lent::words(), &nodes);
+        let input = rewriting::bytes(&nodes);
+        self.begin(case, &input);
+        let answer = unsafe { (self.library.reach)(self.table.pointer(), self.table.room()) };
+        let misfits = [self.table.misfit(&nodes)];
+        let due = unpacked(compare::reach::packed(due));
+        self.settle(4, || "reach".to_string(), &input, answer, due, &misfits)
+    }
+
+    fn write(&mut self, case: Case, rng: &mut Prng) -> Result<(), Difference> {
+        let text = match rng.one_in(4) {
+            true => clashes::text(rng),
+            false => inputs::text(rng),
+        };
+        let full = basic::write(&text, limits::WORK_BYTES, usize::MAX);
+        let due = full.as_ref().map_or(0, Vec::len);
+        let work = inputs::work_length(rng);
+        let room = inputs::room(rng, due, MOST_ROWS);
+        let expected = writing::within(full, work, room);
+        self.input.hold(rng, lent::bytes(), &text);
+        self.work.lend(rng, lent::bytes(), work);
+        self.rows.lend(rng, lent::bytes(), room);
+        self.begin(case, &text);
+        let (input, size) = (self.input.pointer(), self.input.room());
+        let (lent, out) = (self.work.pointer(), self.rows.pointer());
+        let answer = unsafe { (self.library.write)(input, size, lent, work, out, room) };
+        let due = writing::answer(&expected);
+        let misfits = [
+            self.input.misfit(&text),
+            self.work.misfit(cleared(work)),
+            self.rows.misfit(&expected.unwrap_or_default()),
+        ];
+        let what = || format!("write, work buffer {work}, room {room}");
+        self.settle(5, what, &text, answer, due, &misfits)
+    }
+
+    fn diagnose(&mut self, case: Case, rng: &mut Prng) -> Result<(), Difference> {
+        let text = match rng.one_in(2) {
+            true => failing::text(rng),
+            false => inputs::text(rng),
+        };
+        let reading = reader::read_freely(&text);
+        let signals = reading.signals.len();
+        // The meaning takes the square of the positions for each operator.
+        let nodes = reading.nodes.len();
+        let recording = inputs::recording(rng, signals as u32, nodes.max(nodes * nodes / 100));
+        let full = diagnosing::due(&text, &reading, &recording);
+        let work = inputs::work_length(rng);
+        let room = inputs::room(rng, full.rows.len(), MOST_ROWS);
+        let due = diagnosing::within(full, work, room);
+        self.input.hold(rng, lent::bytes(), &text);
+        self.recording.hold(rng, lent::bytes(), &recording);
+        self.work.lend(rng, lent::bytes(), work);
+        self.rows.lend(rng, lent::bytes(), room);
+        self.begin(case, &text);
+        let answer = unsafe {
+            (self.library.diagnose)(
+                self.input.pointer(),
+                self.input.room(),
+                self.recording.pointer(),
+                self.recording.room(),
+                self.work.pointer(),
+                work,
+                self.rows.pointer(),
+                room,
+            )
+        };
+        let misfits = [
+            self.input.misfit(&text),
+            self.recording.misfit(&recording),
+            self.work.misfit(cleared(work)),
+            self.rows.misfit(&due.rows),
+        ];
+        let what = || format!("diagnose, work buffer {work}, room {room}, {recording:02x?}");
+        self.settle(6, what, &text, answer, due.answer, &misfits)
     }
 
     fn evaluate(&mut self, case: Case, rng: &mut Prng) -> Result<(), Difference> {

@@ -119,7 +119,11 @@ pub fn recording(rng: &mut Prng, signals: u32, nodes: usize) -> Vec<u8> {
             bytes(rng, most)
         }
         1..=3 => {
-            let recorded = rng.below(signals.min(255) as usize + 1);
+            let all = signals.min(255) as usize;
+            let recorded = match rng.one_in(6) {
+                true => rng.below(all + 1),
+                false => all,
+            };
             let positions = rng.between(1, most);
             let start = rng.below(positions + 1);
             let header = (positions << 20 | start << 8 | recorded) as u32;
@@ -132,7 +136,10 @@ pub fn recording(rng: &mut Prng, signals: u32, nodes: usize) -> Vec<u8> {
             }
             bytes
         }
-        _ if nodes > 2_000 => recordings::lasso(rng, 40, 3).bytes(3),
+        _ if nodes > 2_000 => {
+            let recorded = signals.min(255) as usize;
+            recordings::lasso(rng, 40, recorded).bytes(recorded)
+        }
         _ => recordings::recording(rng, signals.min(255) as usize),
     }
 }

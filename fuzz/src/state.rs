@@ -15,10 +15,12 @@ pub enum Stage {
     Library,
 }
 
-pub const JOBS: [&str; 4] = ["read", "convert", "rewrite", "evaluate"];
+pub const JOBS: [&str; 7] = [
+    "read", "convert", "rewrite", "evaluate", "reach", "write", "diagnose",
+];
 
-/// Accepted, and refusals up to 21.
-const ANSWERS: usize = 22;
+/// Accepted, and refusals up to 23.
+const ANSWERS: usize = 24;
 
 const INDEX: usize = 0;
 const STAGE: usize = 1;

@@ -28,6 +28,12 @@ impl Refusal {
     }
 }
 
+impl From<Refusal> for Answer {
+    fn from(refusal: Refusal) -> Answer {
+        Answer::Refused(refusal)
+    }
+}
+
 impl Answer {
     pub fn refused(number: u32, place: usize) -> Answer {
         Answer::Refused(Refusal::new(number, place))

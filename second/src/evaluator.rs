@@ -41,7 +41,7 @@ pub fn evaluate(nodes: &[u32], signals: usize, recording: &[u8], room: usize) ->
     }
 }
 
-// 01: 'Evaluator: 15, 19, 20, 18'.
+// 01: 'Evaluator: 15, 19, 20, 18'; 02, F-5: 23 'directly after 20'.
 fn evaluate_in_order(
     nodes: &[u32],
     signals: usize,
@@ -53,6 +53,7 @@ fn evaluate_in_order(
     }
     table::check(nodes, Some(signals))?;
     let lasso = recording::parse(recording, signals)?;
+    recording::check_full(recording, signals)?;
     let row_bytes = lasso.positions().div_ceil(8);
     if nodes.len() * row_bytes > room {
         return Err(Refusal::new(18, 0));

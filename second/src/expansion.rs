@@ -76,7 +76,7 @@ impl Expander<'_, '_> {
 
     fn named(&mut self, name: TokenId) -> Worked<Formula> {
         match self.values.names.referent(name) {
-            Referent::Signal(signal) => Ok(Formula::signal(self.values.first_number(signal))),
+            Referent::Signal(signal) => Ok(self.bit(signal, 0)),
             Referent::Definition(definition) => self.defined(definition),
             other => unreachable!("types were checked: {other:?}"),
         }
@@ -94,8 +94,18 @@ impl Expander<'_, '_> {
 
     fn bus_bit(&mut self, name: TokenId, index: ExprId) -> Worked<Formula> {
         let index = self.values.index(name, index)?;
-        let first = self.values.first_number(self.values.declared(name));
-        Ok(Formula::signal(first + index as usize))
+        Ok(self.bit(self.values.declared(name), index as usize))
+    }
+
+    /// A declared signal, or a bit of a declared bus. 02, F-2: 'From Moore to Mealy each input node gets an X above it;
+    /// from Mealy to Moore each output node does'.
+    fn bit(&self, declared: usize, index: usize) -> Formula {
+        let signal = Formula::signal(self.values.first_number(declared) + index);
+        let syntax = self.values.syntax;
+        if syntax.info.is_late(syntax.signals[declared].output) {
+            return Formula::unary(Node::NEXT, &signal);
+        }
+        signal
     }
 
     fn binary(&mut self, binary: Binary, left: ExprId, right: ExprId) -> Worked<Formula> {
@@ -123,9 +133,21 @@ impl Expander<'_, '_> {
     }
 
     fn one_of(&self, bus: usize, words: &[Vec<u8>]) -> Formula {
-        let first = self.values.first_number(bus);
-        let words = words.iter().map(|word| word_formula(first, word));
+        let words = words.iter().map(|word| self.word(bus, word));
         Formula::fold(Node::OR, words, false)
+    }
+
+    // 01: 'per word the literals of its unstarred marks, bit 0 first, folded with `&&`'.
+    fn word(&self, bus: usize, word: &[u8]) -> Formula {
+        let literals = word.iter().enumerate().filter_map(|(bit, mark)| {
+            let signal = self.bit(bus, bit);
+            match mark {
+                b'1' => Some(signal),
+                b'0' => Some(Formula::unary(Node::NOT, &signal)),
+                _ => None,
+            }
+        });
+        Formula::fold(Node::AND, literals, true)
     }
 
     // E2, E3: nested folds to the left; over nothing `&&` is true, `||` false.
@@ -170,19 +192,6 @@ impl Expander<'_, '_> {
             }
         }
     }
-}
-
-// 01: 'per word the literals of its unstarred marks, bit 0 first, folded with `&&`'.
-fn word_formula(first: usize, word: &[u8]) -> Formula {
-    let literals = word.iter().enumerate().filter_map(|(bit, mark)| {
-        let signal = Formula::signal(first + bit);
-        match mark {
-            b'1' => Some(signal),
-            b'0' => Some(Formula::unary(Node::NOT, &signal)),
-            _ => None,
-        }
-    });
-    Formula::fold(Node::AND, literals, true)
 }
 
 fn unary_kind(unary: Unary) -> u32 {

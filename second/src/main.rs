@@ -2,10 +2,11 @@
 
 mod runs;
 
-use second::{limits, listing, reader};
+use second::{basic, limits, listing, reader};
 use std::io::Read;
 
 const USAGE: &str = "usage: second read < text
+       second write < text
        second stats SEED COUNT
        second cases SEED COUNT [LONGEST]
        second rooms SEED COUNT [LONGEST]
@@ -21,6 +22,7 @@ fn main() {
     let longest = number(3).map(|longest| longest as usize);
     match command {
         "read" => read(),
+        "write" => write(),
         "stats" => runs::stats(seed, count),
         "cases" => runs::cases(seed, count, longest.unwrap_or(200)),
         "rooms" => runs::rooms(seed, count, longest.unwrap_or(200)),
@@ -34,10 +36,22 @@ fn main() {
 }
 
 fn read() {
+    runs::print(&listing::listing(&reader::read_freely(&input())));
+}
+
+/// The basic text with a line feed, or the refusal.
+fn write() {
+    match basic::write(&input(), limits::WORK_BYTES, usize::MAX) {
+        Ok(written) => runs::print(&format!("{}\n", String::from_utf8_lossy(&written))),
+        Err(refusal) => runs::print(&format!("{}\n", listing::answer_line(&refusal.into()))),
+    }
+}
+
+fn input() -> Vec<u8> {
     let mut text = Vec::new();
     // P1: one byte more than the limit is enough to refuse the text with 1.
     let most = limits::TEXT_BYTES as u64 + 1;
     let input = std::io::stdin().take(most).read_to_end(&mut text);
     input.expect("standard input can be read");
-    runs::print(&listing::listing(&reader::read_freely(&text)));
+    text
 }

@@ -17,6 +17,13 @@ type Meant<T> = Result<T, Refusal>;
 
 /// At which positions of the lasso a text holds; refusals 1 to 13 are handed up.
 pub fn meaning(text: &[u8], word: &Lasso) -> Meant<Vec<bool>> {
+    let sections = sections(text, word)?;
+    let positions = 0..word.positions();
+    Ok(positions.map(|t| sections.holds_at(word, t)).collect())
+}
+
+/// Where each line of the text holds; refusals 1 to 13 are handed up.
+pub fn sections(text: &[u8], word: &Lasso) -> Meant<Sections> {
     stack::deep(|| {
         let (syntax, names) = reader::check_text(text)?;
         let values = Values::of(&syntax, &names)?;
@@ -25,8 +32,56 @@ pub fn meaning(text: &[u8], word: &Lasso) -> Meant<Vec<bool>> {
             word,
             definitions: HashMap::new(),
         };
-        meaning.text()
+        meaning.sections()
     })
+}
+
+/// The lines of a section, in their order: for each position whether it holds there.
+pub type Lines = Vec<Vec<bool>>;
+
+/// Where the lines of all sections hold.
+pub struct Sections {
+    pub strict: bool,
+    pub initially: Lines,
+    pub preset: Lines,
+    pub require: Lines,
+    pub assert: Lines,
+    pub assume: Lines,
+    pub guarantee: Lines,
+}
+
+/// 01: a section 'holds where all its lines do'.
+pub fn all_hold(lines: &Lines, t: usize) -> bool {
+    lines.iter().all(|line| line[t])
+}
+
+impl Sections {
+    /// 01: 'The text holds at t if INITIALLY fails there, or PRESET holds at t and, should REQUIRE hold at each
+    /// position from t on and ASSUME at t, ASSERT holds at each from t on and GUARANTEE at t.'
+    pub fn holds_at(&self, word: &Lasso, t: usize) -> bool {
+        let each = |lines: &Lines| positions_from(word, t).all(|p| all_hold(lines, p));
+        let asked = each(&self.require) && all_hold(&self.assume, t);
+        let guaranteed = all_hold(&self.guarantee, t);
+        let promised = if self.strict {
+            self.owed_strictly(word, t) && (!asked || guaranteed)
+        } else {
+            !asked || each(&self.assert) && guaranteed
+        };
+        !all_hold(&self.initially, t) || all_hold(&self.preset, t) && promised
+    }
+
+    // 01: 'ASSERT is owed at each p from t on with REQUIRE true at t to p'.
+    fn owed_strictly(&self, word: &Lasso, t: usize) -> bool {
+        positions_from(word, t)
+            .take_while(|p| all_hold(&self.require, *p))
+            .all(|p| all_hold(&self.assert, p))
+    }
+}
+
+/// The positions met from t on: from t to the end, and round the loop once.
+fn positions_from(word: &Lasso, t: usize) -> impl Iterator<Item = usize> + '_ {
+    let count = 2 * word.positions();
+    std::iter::successors(Some(t), |p| Some(word.after(*p))).take(count)
 }
 
 struct Meaning<'s> {
@@ -37,30 +92,22 @@ struct Meaning<'s> {
 
 // Sections.
 impl Meaning<'_> {
-    fn text(&mut self) -> Meant<Vec<bool>> {
-        let initially = self.section(SectionKind::Initially)?;
-        let preset = self.section(SectionKind::Preset)?;
-        let require = self.section(SectionKind::Require)?;
-        let assert = self.section(SectionKind::Assert)?;
-        let assume = self.section(SectionKind::Assume)?;
-        let guarantee = self.section(SectionKind::Guarantee)?;
-        let strict = self.values.syntax.info.strict;
-        let holds = |t: usize| {
-            let asked = self.at_each_from(&require, t) && assume[t];
-            let promised = if strict {
-                self.owed_strictly(&require, &assert, t) && (!asked || guarantee[t])
-            } else {
-                !asked || self.at_each_from(&assert, t) && guarantee[t]
-            };
-            !initially[t] || preset[t] && promised
-        };
-        Ok((0..self.word.positions()).map(holds).collect())
+    fn sections(&mut self) -> Meant<Sections> {
+        Ok(Sections {
+            strict: self.values.syntax.info.strict,
+            initially: self.lines(SectionKind::Initially)?,
+            preset: self.lines(SectionKind::Preset)?,
+            require: self.lines(SectionKind::Require)?,
+            assert: self.lines(SectionKind::Assert)?,
+            assume: self.lines(SectionKind::Assume)?,
+            guarantee: self.lines(SectionKind::Guarantee)?,
+        })
     }
 
-    // 01: 'An implied bus line counts as a line of its section, which holds where all its lines do'.
-    fn section(&mut self, kind: SectionKind) -> Meant<Where> {
+    // 01: 'An implied bus line counts as a line of its section'; 02, F-7: 'implied ones after the written'.
+    fn lines(&mut self, kind: SectionKind) -> Meant<Lines> {
         let syntax = self.values.syntax;
-        let mut lines = self.implied_lines(kind);
+        let mut lines = Vec::new();
         for section in &syntax.sections {
             if section.kind == kind {
                 for line in &section.lines {
@@ -68,7 +115,8 @@ impl Meaning<'_> {
                 }
             }
         }
-        Ok(self.each_position(|t| lines.iter().all(|line| line[t])))
+        lines.extend(self.implied_lines(kind));
+        Ok(lines.iter().map(|line| line.to_vec()).collect())
     }
 
     fn implied_lines(&self, kind: SectionKind) -> Vec<Where> {
@@ -82,27 +130,21 @@ impl Meaning<'_> {
             if let (Shape::Enumerated(type_name), true) = (signal.shape, owner == kind) {
                 let enumeration = self.values.enumeration_of(type_name);
                 let words = enumeration::all_words(self.values.syntax, enumeration);
-                lines.push(self.matches_one(number, &words));
+                // F7.5: one for each bus whose enumeration leaves some word unnamed.
+                if enumeration::leaves_some_unnamed(&words) {
+                    lines.push(self.matches_one(number, &words));
+                }
             }
         }
         lines
     }
 
-    /// The positions met from t on: from t to the end, and round the loop once.
     fn positions_from(&self, t: usize) -> impl Iterator<Item = usize> + '_ {
-        let count = 2 * self.word.positions();
-        std::iter::successors(Some(t), |p| Some(self.word.after(*p))).take(count)
+        positions_from(self.word, t)
     }
 
     fn at_each_from(&self, row: &Where, t: usize) -> bool {
         self.positions_from(t).all(|p| row[p])
-    }
-
-    // 01: 'ASSERT is owed at each p from t on with REQUIRE true at t to p'.
-    fn owed_strictly(&self, require: &Where, assert: &Where, t: usize) -> bool {
-        self.positions_from(t)
-            .take_while(|p| require[*p])
-            .all(|p| assert[p])
     }
 
     fn each_position(&self, holds: impl Fn(usize) -> bool) -> Where {
@@ -152,10 +194,7 @@ impl Meaning<'_> {
 
     fn named(&mut self, name: TokenId) -> Meant<Where> {
         match self.values.names.referent(name) {
-            Referent::Signal(signal) => {
-                let number = self.values.first_number(signal);
-                Ok(self.each_position(|t| self.word.present(t, number)))
-            }
+            Referent::Signal(signal) => Ok(self.bit(signal, 0)),
             Referent::Definition(definition) => self.defined(definition),
             other => unreachable!("types were checked: {other:?}"),
         }
@@ -174,8 +213,17 @@ impl Meaning<'_> {
     // 01: 'a signal or bus bit holds where it is present'.
     fn bus_bit(&mut self, name: TokenId, index: ExprId) -> Meant<Where> {
         let index = self.values.index(name, index)? as usize;
-        let number = self.values.first_number(self.values.declared(name)) + index;
-        Ok(self.each_position(|t| self.word.present(t, number)))
+        Ok(self.bit(self.values.declared(name), index))
+    }
+
+    // 02, F-2: 'For a converted file, the source's meaning reads the shifted signals one position later'.
+    fn bit(&self, declared: usize, index: usize) -> Where {
+        let syntax = self.values.syntax;
+        let number = self.values.first_number(declared) + index;
+        match syntax.info.is_late(syntax.signals[declared].output) {
+            true => self.each_position(|t| self.word.present(self.word.after(t), number)),
+            false => self.each_position(|t| self.word.present(t, number)),
+        }
     }
 
     fn unary(&self, unary: Unary, operand: &Where) -> Where {
@@ -250,9 +298,10 @@ impl Meaning<'_> {
 
     // 01: 'a bus equals a value if its bits match one of the value's words'.
     fn matches_one(&self, bus: usize, words: &[Vec<u8>]) -> Where {
-        let first = self.values.first_number(bus);
+        let width = self.values.taken(bus);
+        let bits: Vec<Where> = (0..width).map(|bit| self.bit(bus, bit)).collect();
         self.each_position(|t| {
-            let bit = |bit: usize| self.word.present(t, first + bit);
+            let bit = |bit: usize| bits[bit][t];
             words.iter().any(|word| enumeration::matches(word, bit))
         })
     }

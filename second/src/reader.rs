@@ -8,7 +8,7 @@ use crate::limits;
 use crate::names::{self, Names};
 use crate::parser;
 use crate::stack;
-use crate::syntax::*;
+use crate::syntax::{Model, Syntax};
 use crate::token;
 use crate::types;
 use crate::values::Values;
@@ -48,28 +48,65 @@ pub fn read_freely(text: &[u8]) -> Reading {
 
 type Results = (Vec<u32>, Vec<u32>);
 
-// 01: 'Reader order: 17, then 1 to 10 each over the whole text, first place first; 11 to 13 as
-// evaluation meets them; 14, 15, 16, 18.'
 fn read_in_order(
     text: &[u8],
     work_len: usize,
     node_room: usize,
     signal_room: usize,
 ) -> Result<Results, Refusal> {
-    check_work_buffer(work_len)?;
-    let (syntax, names) = check_text(text)?;
-    let mut values = Values::of(&syntax, &names)?;
-    let formula = expansion::expand(&mut values)?;
-    check_target(&syntax)?;
-    check_signal_count(&values)?;
-    check_node_count(&formula)?;
-    let nodes = formula.nodes().expect("a tree within the limit is kept");
-    let signals = signal_list(&values);
+    let Understood { nodes, signals, .. } = understand(text, work_len)?;
     // Refusal 18; E7: either result buffer.
     if nodes.len() > node_room || signals.len() > signal_room {
         return Err(Refusal::new(18, 0));
     }
-    Ok((nodes, signals))
+    Ok((nodes, signals.iter().map(Signal::entry).collect()))
+}
+
+/// What an accepted text says.
+pub struct Understood {
+    pub nodes: Vec<u32>,
+    pub signals: Vec<Signal>,
+    /// TARGET's model.
+    pub target: Model,
+}
+
+/// A signal of the list, a bus having one for each bit.
+pub struct Signal {
+    pub output: bool,
+    /// The declared name, and its place in the text.
+    pub name: Vec<u8>,
+    pub place: usize,
+    /// Its index in the bus, none for a single signal.
+    pub index: Option<u32>,
+    /// The width of the bus, 0 for a single signal.
+    pub width: u32,
+}
+
+impl Signal {
+    /// 01: 'A signal list entry is 32 bits: 1 output flag, 15 offset of the name, 8 index in the
+    /// bus, 8 width (index and width 0 for a single signal)'.
+    fn entry(&self) -> u32 {
+        let flag = u32::from(self.output) << 31;
+        let index = self.index.unwrap_or(0);
+        flag | (self.place as u32) << 16 | index << 8 | self.width
+    }
+}
+
+/// The reader without result buffers, so without 18, on a deep stack.
+// 01: 'Reader order: 17, then 1 to 10 each over the whole text, first place first; 11 to 13 as
+// evaluation meets them; 14, 15, 16, 18'; 02, F-2: '14 no longer occurs'.
+pub fn understand(text: &[u8], work_len: usize) -> Result<Understood, Refusal> {
+    check_work_buffer(work_len)?;
+    let (syntax, names) = check_text(text)?;
+    let mut values = Values::of(&syntax, &names)?;
+    let formula = expansion::expand(&mut values)?;
+    check_signal_count(&values)?;
+    check_node_count(&formula)?;
+    Ok(Understood {
+        nodes: formula.nodes().expect("a tree within the limit is kept"),
+        signals: signals(&values),
+        target: syntax.info.target,
+    })
 }
 
 /// Refusals 1 to 10; otherwise the parsed text and what its names stand for.
@@ -86,14 +123,6 @@ pub fn check_text(text: &[u8]) -> Result<(Syntax<'_>, Names), Refusal> {
 fn check_work_buffer(work_len: usize) -> Result<(), Refusal> {
     if work_len < limits::WORK_BYTES {
         return Err(Refusal::new(17, 0));
-    }
-    Ok(())
-}
-
-// Refusal 14 at TARGET's word.
-fn check_target(syntax: &Syntax) -> Result<(), Refusal> {
-    if syntax.info.target != syntax.info.semantics {
-        return syntax.refusal(14, syntax.info.target_word);
     }
     Ok(())
 }
@@ -118,16 +147,19 @@ fn check_node_count(formula: &Formula) -> Result<(), Refusal> {
     Ok(())
 }
 
-/// 01: 'A signal list entry is 32 bits: 1 output flag, 15 offset of the name, 8 index in the bus,
-/// 8 width (index and width 0 for a single signal)'.
-fn signal_list(values: &Values) -> Vec<u32> {
+// 01: 'Signals number from 0, inputs first, a bus taking consecutive numbers'.
+fn signals(values: &Values) -> Vec<Signal> {
     let mut list = Vec::new();
-    for (number, signal) in values.syntax.signals.iter().enumerate() {
-        let flag = u32::from(signal.output) << 31;
-        let offset = (values.syntax.place(signal.name) as u32) << 16;
-        let width = values.width(number).unwrap_or(0);
+    for (number, declared) in values.syntax.signals.iter().enumerate() {
+        let width = values.width(number);
         for index in 0..values.taken(number) as u32 {
-            list.push(flag | offset | index << 8 | width);
+            list.push(Signal {
+                output: declared.output,
+                name: values.syntax.bytes(declared.name).to_vec(),
+                place: values.syntax.place(declared.name),
+                index: width.map(|_| index),
+                width: width.unwrap_or(0),
+            });
         }
     }
     list

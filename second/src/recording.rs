@@ -1,4 +1,4 @@
-//! Recordings of lasso words: refusal 20.
+//! Recordings of lasso words: refusals 20 and 23.
 
 use crate::answer::Refusal;
 use crate::limits;
@@ -37,7 +37,7 @@ impl Lasso {
         self.loop_start + (reached - self.loop_start) % round
     }
 
-    /// 01: 'Signals K and above are absent throughout'.
+    /// A signal that the word does not speak of is absent. (After F-5 no recording that passes has one, F5.3.)
     pub fn present(&self, position: usize, signal: usize) -> bool {
         self.letters[position].get(signal) == Some(&true)
     }
@@ -72,6 +72,14 @@ pub fn pack_bits(bits: impl IntoIterator<Item = bool>) -> Vec<u8> {
 
 fn bit(bytes: &[u8], number: usize) -> bool {
     bytes[number / 8] & 0x80 >> (number % 8) != 0
+}
+
+/// 02, F-5: '23, K below the signal count, place 0', of a recording that 20 let pass (F5.1).
+pub fn check_full(recording: &[u8], signal_count: usize) -> Result<(), Refusal> {
+    if usize::from(recording[HEADER_BYTES - 1]) < signal_count {
+        return Err(Refusal::new(23, 0));
+    }
+    Ok(())
 }
 
 /// Refusal 20 in the order of its places; otherwise the lasso.

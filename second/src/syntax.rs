@@ -150,8 +150,19 @@ pub struct Info {
     pub semantics: Model,
     pub strict: bool,
     pub target: Model,
-    /// TARGET's word.
-    pub target_word: TokenId,
+}
+
+impl Info {
+    /// 001, 3.2: 'a specification in Moore semantics can be converted into Mealy semantics by prefixing all
+    /// occurrences of input atomic propositions with an additional X-operator. Similarly, we can convert from Mealy
+    /// semantics to Moore semantics by prefixing outputs'. Whether an input or output is read one position later.
+    pub fn is_late(&self, output: bool) -> bool {
+        match (self.semantics, self.target) {
+            (Model::Moore, Model::Mealy) => !output,
+            (Model::Mealy, Model::Moore) => output,
+            _ => false,
+        }
+    }
 }
 
 /// `name = expression`.

@@ -41,8 +41,9 @@ fn every_answer_occurs_and_most_texts_are_short() {
         };
         *answers.entry(number).or_default() += 1;
     }
+    // 02, F-2: '14 no longer occurs'.
     for number in 0..=16 {
-        assert!(answers.contains_key(&number), "{number}: {answers:?}");
+        assert_eq!(answers.contains_key(&number), number != 14, "{answers:?}");
     }
     assert!(short > 2000, "{short}");
 }
@@ -71,13 +72,18 @@ fn keeps_to_form(nodes: &[u32], form: u32) -> bool {
 #[test]
 fn meaning_equals_the_verdicts_of_all_forms() {
     let mut rng = Prng::new(3);
-    let mut compared = 0;
+    let (mut compared, mut converted) = (0, 0);
     for _ in 0..10_000 {
         let text = generate::any_text(&mut rng);
         let reading = read_freely(&text);
         if !reading.answer.is_accepted() {
             continue;
         }
+        let info = second::reader::check_text(&text)
+            .expect("an accepted text")
+            .0
+            .info;
+        converted += usize::from(info.semantics != info.target);
         let forms: Vec<Vec<u32>> = (0..3)
             .map(|form| (form, rewrite(&reading.nodes, form, 8192)))
             .filter(|(_, done)| done.answer != Answer::refused(16, 0))
@@ -100,6 +106,7 @@ fn meaning_equals_the_verdicts_of_all_forms() {
         compared += 1;
     }
     assert!(compared > 2500, "{compared}");
+    assert!(4 * converted > compared, "{converted} of {compared}");
 }
 
 #[test]

@@ -26,6 +26,8 @@ fn listings() {
     assert!(listing.starts_with("accepted 13 0\n0 0 0 0\n"));
     assert!(listing.ends_with("\n12 6 0 11\n"));
     assert_eq!(run(&["read"], b""), "refused 4 0\n");
+    assert!(run(&["write"], text).starts_with("INFO { TITLE : \"converted\" "));
+    assert_eq!(run(&["write"], b""), "refused 4 0\n");
     assert_eq!(run(&["read"], &[b' '; 32769]), "refused 1 32768\n");
     assert_eq!(run(&["read"], &[b' '; 100_000]), "refused 1 32768\n");
     assert_eq!(run(&["read"], b" #"), "refused 2 1\n");

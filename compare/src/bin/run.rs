@@ -1,18 +1,21 @@
-//! Each case: a table to rewrite, a recording to evaluate, and a text to read and to convert to each form.
+//! Each case: a table to rewrite and one to look ahead from, recordings to evaluate, a text to write in the basic format, one to diagnose on a recording, and a text to read and to convert to each form.
 
 use compare::answers::Tally;
 use compare::arguments::{self, Wanted};
 use compare::case::{Case, Difference};
 use compare::library::{Library, PROVED};
-use compare::{evaluation, reading, rewriting, run, self_test, spoils};
+use compare::{diagnosing, evaluation, reach, reading, rewriting, run, self_test, spoils, writing};
 
 const COMMAND: &str = "compare/run";
 
 fn compare(case: Case, library: &Library, tally: &mut Tally) -> Result<(), Difference> {
     let mut rng = case.rng();
     rewriting::compare(&mut rng, library, tally)?;
-    evaluation::compare(&mut rng, library, tally)?;
-    reading::compare(case, &mut rng, library, tally)
+    reach::compare(&mut rng, library, tally)?;
+    evaluation::compare(case, &mut rng, library, tally)?;
+    reading::compare(case, &mut rng, library, tally)?;
+    writing::compare(&mut rng, library, tally)?;
+    diagnosing::compare(&mut rng, library, tally)
 }
 
 fn main() {

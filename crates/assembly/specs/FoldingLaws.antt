@@ -35,7 +35,8 @@ lines-first k p [] ls = go (eqb k (partCode p))
 lines-first k p (f ∷ fs) ls = go (eqb k (partCode p)) (lines-first k p fs ls)
   where
     go : (b : Bool) → _≡_ {A = List Formula} (linesIn k (map (λ f. (p, f)) fs ++ ls)) (elim b [ true ↦ fs ++ linesIn k ls | false ↦ linesIn k ls ])
-        → _≡_ {A = List Formula} (elim b [ true ↦ f ∷ linesIn k (map (λ f. (p, f)) fs ++ ls) | false ↦ linesIn k (map (λ f. (p, f)) fs ++ ls) ]) (elim b [ true ↦ (f ∷ fs) ++ linesIn k ls | false ↦ linesIn k ls ])
+        → _≡_ {A = List Formula} (elim b [ true ↦ f ∷ linesIn k (map (λ f. (p, f)) fs ++ ls) | false ↦ linesIn k (map (λ f. (p, f)) fs ++ ls) ])
+        (elim b [ true ↦ (f ∷ fs) ++ linesIn k ls | false ↦ linesIn k ls ])
     go true e = ap (λ (x : List Formula). f ∷ x) e
     go false e = e
 
@@ -67,7 +68,8 @@ lines-take k ls l e =
     lines-last k ls l
     ∙ ap (λ (b : Bool). linesIn k ls ++ elim b [ true ↦ l .1 ∷ [] | false ↦ [] ]) (eq-eqb k (partCode (l .0)) e)
 
-pub passed-none : (part : ℕ) {ls : List (Part × Formula)} {words table out : List ℕ} {count at : ℕ} → Lined ls words count table → Passed part ls table out out at 0 0 (record { some = false; end = at })
+pub passed-none : (part : ℕ) {ls : List (Part × Formula)} {words table out : List ℕ} {count at : ℕ} → Lined ls words count table
+    → Passed part ls table out out at 0 0 (record { some = false; end = at })
 passed-none part {ls} {out = out} {at = at} l = record { done = []; rest = ls; split = refl; index = refl; stand = l .stand; folded = folded-none true out at }
 
 -- the line ahead, of which w is the word

@@ -50,43 +50,44 @@ gathered-none start words e = record {
   many = λ h. omega arith;
 }
 
-module _ {start : ℕ} {ls : List (Part × Formula)} {f : Formula} {words table table′ : List ℕ} {count at next : ℕ} (g : GatheredFrom start ls words count table at) (w : Wrote f table table′ at next) where
-  -- a line that fits comes after those that fit, and they are no more than the table's nodes
-  pub line-fits : next ≤ maxNodes → (at ≤ maxNodes) × (next ≡ at + size f)
-  line-fits h = let e = ends w h in (omega arith, e)
+module _ {start : ℕ} {ls : List (Part × Formula)} {f : Formula} {words table table′ : List ℕ} {count at next : ℕ} (g : GatheredFrom start ls words count table at) (w : Wrote f table table′ at next)
+  where
+    -- a line that fits comes after those that fit, and they are no more than the table's nodes
+    pub line-fits : next ≤ maxNodes → (at ≤ maxNodes) × (next ≡ at + size f)
+    line-fits h = let e = ends w h in (omega arith, e)
 
-  line-few : next ≤ maxNodes → count < maxNodes
-  line-few h =
-      let n = line-fits h in
-      let c = g .lined (n .0) .counted in
-      omega (arith, extent-length ls, g .ends (n .0), size-pos f)
+    line-few : next ≤ maxNodes → count < maxNodes
+    line-few h =
+        let n = line-fits h in
+        let c = g .lined (n .0) .counted in
+        omega (arith, extent-length ls, g .ends (n .0), size-pos f)
 
-  pub line-room : (p : Part) {part : ℕ} → part ≡ partCode p → maxNodes ≤ length words → LineRoom part at next words count
-  line-room p e l = record { known = omega (arith, part-known p); long = l; behind = λ h. let n = line-fits h in omega arith; few = line-few }
+    pub line-room : (p : Part) {part : ℕ} → part ≡ partCode p → maxNodes ≤ length words → LineRoom part at next words count
+    line-room p e l = record { known = omega (arith, part-known p); long = l; behind = λ h. let n = line-fits h in omega arith; few = line-few }
 
-  more-many : (p : Part) → maxNodes < next → maxNodes < start + extent (ls ++ ((p, f) ∷ []))
-  more-many p h = go (decLt maxNodes at)
-    where
-      go : Dec (maxNodes < at) → maxNodes < start + extent (ls ++ ((p, f) ∷ []))
-      go (yes l) = omega (arith, extent-last ls (p, f), g .many l)
-      go (no l) = omega (arith, extent-last ls (p, f), past w h, g .ends (omega arith))
+    more-many : (p : Part) → maxNodes < next → maxNodes < start + extent (ls ++ ((p, f) ∷ []))
+    more-many p h = go (decLt maxNodes at)
+      where
+        go : Dec (maxNodes < at) → maxNodes < start + extent (ls ++ ((p, f) ∷ []))
+        go (yes l) = omega (arith, extent-last ls (p, f), g .many l)
+        go (no l) = omega (arith, extent-last ls (p, f), past w h, g .ends (omega arith))
 
-  -- its word goes behind theirs
-  more-lined : (p : Part) {words′ : List ℕ} → maxNodes ≤ length words → words′ ≡ set words count (join fieldBits (partCode p) (next - at)) → next ≤ maxNodes
-      → Lined (ls ++ ((p, f) ∷ [])) words′ (suc count) table′
-  more-lined p {words′} l e h =
-      let n = line-fits h in
-      let r = line-few h in
-      let d = g .lined (n .0) in
-      let z : next - at ≡ size f = omega arith in
-      let y : 0 + extent ls ≡ at = omega (arith, g .ends (n .0)) in
-      record {
-        counted = length-append ls ((p, f) ∷ []) ∙ omega (arith, d .counted);
-        listed = ap (take (suc count)) e ∙ take-suc-set words count _ (omega arith)
-            ∙ ap₂ (λ (ws : List ℕ) (k : ℕ). ws ++ (join fieldBits (partCode p) k ∷ [])) (d .listed) z
-            ∙ sym (map-append word ls ((p, f) ∷ []));
-        stand = table-last ls (p, f) 0 (d .stand) y (w .puts) h (stands w (g .sized (n .0)) h);
-      }
+    -- its word goes behind theirs
+    more-lined : (p : Part) {words′ : List ℕ} → maxNodes ≤ length words → words′ ≡ set words count (join fieldBits (partCode p) (next - at)) → next ≤ maxNodes
+        → Lined (ls ++ ((p, f) ∷ [])) words′ (suc count) table′
+    more-lined p {words′} l e h =
+        let n = line-fits h in
+        let r = line-few h in
+        let d = g .lined (n .0) in
+        let z : next - at ≡ size f = omega arith in
+        let y : 0 + extent ls ≡ at = omega (arith, g .ends (n .0)) in
+        record {
+          counted = length-append ls ((p, f) ∷ []) ∙ omega (arith, d .counted);
+          listed = ap (take (suc count)) e ∙ take-suc-set words count _ (omega arith)
+              ∙ ap₂ (λ (ws : List ℕ) (k : ℕ). ws ++ (join fieldBits (partCode p) k ∷ [])) (d .listed) z
+              ∙ sym (map-append word ls ((p, f) ∷ []));
+          stand = table-last ls (p, f) 0 (d .stand) y (w .puts) h (stands w (g .sized (n .0)) h);
+        }
 
 -- a line that does not fit, and one that does
 pub adds-none : {part at next : ℕ} {words words′ : List ℕ} {count r : ℕ} → maxNodes < next → Adds part at next words words′ count r

@@ -48,7 +48,8 @@ pub record Buses (text w enumerations order firsts : List ℕ) (ps : List Port) 
 
 -- whatever lines were gathered: now those of these formulas are too
 pub record AddsAll (part : ℕ) (e : Ends) (table words table′ words′ : List ℕ) (r : Ends) (fs : List Formula) : Type 0 where
-  pub more : (p : Part) → part ≡ partCode p → {start : ℕ} {ls : List (Part × Formula)} → GatheredFrom start ls words (e .count) table (e .at) → GatheredFrom start (ls ++ map (λ f. (p, f)) fs) words′ (r .count) table′ (r .at)
+  pub more : (p : Part) → part ≡ partCode p → {start : ℕ} {ls : List (Part × Formula)} → GatheredFrom start ls words (e .count) table (e .at)
+      → GatheredFrom start (ls ++ map (λ f. (p, f)) fs) words′ (r .count) table′ (r .at)
 
 -- lines are gathered, there is room for more, and the work buffer holds entries
 pub record Room (part : ℕ) (w : List ℕ) (e : Ends) (table words : List ℕ) : Type 0 where

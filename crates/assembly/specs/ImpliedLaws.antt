@@ -56,7 +56,8 @@ extent-more : (ls ms : List (Part × Formula)) → extent ls ≤ extent (ls ++ m
 extent-more [] ms = omega arith
 extent-more (l ∷ ls) ms = omega (arith, extent-more ls ms)
 
-room-before : {part : ℕ} {e r : Ends} {w table words table′ words′ : List ℕ} {fs : List Formula} → Room part w e table words → AddsAll part e table words table′ words′ r fs → r .at ≤ maxNodes → e .at ≤ maxNodes
+room-before : {part : ℕ} {e r : Ends} {w table words table′ words′ : List ℕ} {fs : List Formula} → Room part w e table words → AddsAll part e table words table′ words′ r fs → r .at ≤ maxNodes
+    → e .at ≤ maxNodes
 room-before {e = e} {r = r} {fs = fs} m a h = go (decLt maxNodes (e .at))
   where
     go : Dec (maxNodes < e .at) → e .at ≤ maxNodes
@@ -65,7 +66,8 @@ room-before {e = e} {r = r} {fs = fs} m a h = go (decLt maxNodes (e .at))
         absurd (omega (arith, m .gathered .many l, extent-more (m .some) (map (λ f. (m .section, f)) fs), g .ends h, g .starts h))
     go (no l) = omega arith
 
-room-after : {part : ℕ} {e r : Ends} {w table words table′ words′ : List ℕ} {fs : List Formula} → Room part w e table words → AddsAll part e table words table′ words′ r fs → length words′ ≡ length words
+room-after : {part : ℕ} {e r : Ends} {w table words table′ words′ : List ℕ} {fs : List Formula} → Room part w e table words → AddsAll part e table words table′ words′ r fs
+    → length words′ ≡ length words
     → Room part w r table′ words′
 room-after m a l = record {
   section = m .section;
@@ -78,7 +80,8 @@ room-after m a l = record {
 }
 
 -- one bus, whose words end at `to`
-bus-words : {enumeration first to m : ℕ} {text w : List ℕ} {ps : List Port} {q : Port} → to ≡ identifiersEnd w enumeration → Bus text w enumeration first m ps q → Words text w (enumeration + 1) to (q .words)
+bus-words : {enumeration first to m : ℕ} {text w : List ℕ} {ps : List Port} {q : Port} → to ≡ identifiersEnd w enumeration → Bus text w enumeration first m ps q
+    → Words text w (enumeration + 1) to (q .words)
 bus-words end b = rw end (b .words)
 
 module _ {part enumeration first to : ℕ} {text w : List ℕ} {e : Ends} {table words : List ℕ} (end : to ≡ identifiersEnd w enumeration) (b : BusReady part text w enumeration first e table words) where
@@ -163,7 +166,8 @@ module _ (part : ℕ) (text w enumerations order firsts : List ℕ) (to : ℕ) (
       go [] s b t = absurd (omega arith)
       go (q ∷ rest) s b t = record { done = g .done; port = q; rest = rest; split = s; bus = b .0; buses = b .1; total = omega arith; adds = g .adds }
 
-  going-on : {j : ℕ} {r d : Ends} {table′ words′ table″ words″ : List ℕ} (n : Next j r table′ words′) → AddsAll part r table′ words′ table″ words″ d (impliedFormulas ps (n .port ∷ [])) → Going (suc j) d table″ words″
+  going-on : {j : ℕ} {r d : Ends} {table′ words′ table″ words″ : List ℕ} (n : Next j r table′ words′) → AddsAll part r table′ words′ table″ words″ d (impliedFormulas ps (n .port ∷ []))
+      → Going (suc j) d table″ words″
   going-on n a = record {
     done = n .done ++ (n .port ∷ []);
     rest = n .rest;
@@ -178,16 +182,17 @@ module _ (part : ℕ) (text w enumerations order firsts : List ℕ) (to : ℕ) (
       let none : impliedFormulas ps (n .port ∷ []) ≡ [] = one-formula ps (n .port) (ap leavesUnnamed (n .bus .untyped (omega arith))) in
       going-on n (rw none (adds-nothing part r table′ words′))
 
-  module _ {j t k : ℕ} {r : Ends} {table′ words′ : List ℕ} (m : Room part w e table words) (n : Next j r table′ words′) (c : t ≡ getD enumerations j 0) (d : k ≡ getD order j 0) (h : t < maxTokens) where
-    bus-here : Bus text w t (getD firsts k 0) (r .at) ps (n .port)
-    bus-here = rw (c, d) (bus-later (room-before m (n .adds)) (n .bus .typed (omega arith)))
+  module _ {j t k : ℕ} {r : Ends} {table′ words′ : List ℕ} (m : Room part w e table words) (n : Next j r table′ words′) (c : t ≡ getD enumerations j 0) (d : k ≡ getD order j 0) (h : t < maxTokens)
+    where
+      bus-here : Bus text w t (getD firsts k 0) (r .at) ps (n .port)
+      bus-here = rw (c, d) (bus-later (room-before m (n .adds)) (n .bus .typed (omega arith)))
 
-    pub going-ready : length words′ ≡ length words → BusReady part text w t (getD firsts k 0) r table′ words′
-    going-ready l = record { room = room-after m (n .adds) l; entry = h; ports = ps; port = n .port; bus = bus-here }
+      pub going-ready : length words′ ≡ length words → BusReady part text w t (getD firsts k 0) r table′ words′
+      going-ready l = record { room = room-after m (n .adds) l; entry = h; ports = ps; port = n .port; bus = bus-here }
 
-    pub going-typed : {d : Ends} {table″ words″ : List ℕ}
-        → ((ps : List Port) (q : Port) → Bus text w t (getD firsts k 0) (r .at) ps q → AddsAll part r table′ words′ table″ words″ d (impliedFormulas ps (q ∷ []))) → Going (suc j) d table″ words″
-    going-typed f = going-on n (f ps (n .port) bus-here)
+      pub going-typed : {d : Ends} {table″ words″ : List ℕ}
+          → ((ps : List Port) (q : Port) → Bus text w t (getD firsts k 0) (r .at) ps q → AddsAll part r table′ words′ table″ words″ d (impliedFormulas ps (q ∷ []))) → Going (suc j) d table″ words″
+      going-typed f = going-on n (f ps (n .port) bus-here)
 
   pub going-all : {j : ℕ} {r : Ends} {table′ words′ : List ℕ} → Going j r table′ words′ → to ≤ j → AddsAll part e table words table′ words′ r (impliedFormulas ps qs)
   going-all {j} {r} {table′} {words′} g h = go (g .rest) (g .split) (g .total)

@@ -31,7 +31,8 @@ abbrev pub Assembles : Bool → List ℕ → ℕ → List ℕ → ℕ → List �
 Assembles strict words count table m out out′ r = (ss : Sections) → Gathered (inTurn ss) words count table m → Wrote (whole strict (section ss)) out out′ 0 r
 
 -- the layout put together
-pub assembled : (strict : Bool) (f : Part → Formula) {out out′ : List ℕ} {r : ℕ} → Wrote (Two Implies (f Initially) (Two And (preset strict f) (Two Implies (assumed f) (promised strict f)))) out out′ 0 r
+pub assembled : (strict : Bool) (f : Part → Formula) {out out′ : List ℕ} {r : ℕ}
+    → Wrote (Two Implies (f Initially) (Two And (preset strict f) (Two Implies (assumed f) (promised strict f)))) out out′ 0 r
     → Wrote (whole strict f) out out′ 0 r
 assembled false f w = w
 assembled true f w = w

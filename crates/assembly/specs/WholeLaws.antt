@@ -42,7 +42,8 @@ parts-size [] = omega arith
 parts-size (l ∷ ls) = go (l .0) (parts-size ls)
   where
     go : (p : Part) → extent ls ≤ sum (linesIn 0 ls) + sum (linesIn 1 ls) + sum (linesIn 2 ls) + sum (linesIn 3 ls) + sum (linesIn 4 ls) + sum (linesIn 5 ls)
-        → extent (l ∷ ls) ≤ sum (linesIn 0 ((p, l .1) ∷ ls)) + sum (linesIn 1 ((p, l .1) ∷ ls)) + sum (linesIn 2 ((p, l .1) ∷ ls)) + sum (linesIn 3 ((p, l .1) ∷ ls)) + sum (linesIn 4 ((p, l .1) ∷ ls)) + sum (linesIn 5 ((p, l .1) ∷ ls))
+        → extent (l ∷ ls) ≤ sum (linesIn 0 ((p, l .1) ∷ ls)) + sum (linesIn 1 ((p, l .1) ∷ ls)) + sum (linesIn 2 ((p, l .1) ∷ ls)) + sum (linesIn 3 ((p, l .1) ∷ ls)) + sum
+        (linesIn 4 ((p, l .1) ∷ ls)) + sum (linesIn 5 ((p, l .1) ∷ ls))
     go Initially h = omega arith
     go Preset h = omega arith
     go Require h = omega arith

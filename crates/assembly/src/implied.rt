@@ -1,26 +1,19 @@
 // The implied lines: 'A bus declared by an enumeration that leaves some word unnamed adds ..' (document 01, 'Expansion').
 use crate::add_line;
+use basics::u16_usize::wide;
 use choices::coverage::leaves_unnamed;
 use choices::identifiers_end;
 use choices::one_of;
+use language::limits;
+use node::MAX_NODES;
 ghost use mathlib.Core.List.{List, _∷_, []};
-ghost use mathlib.Core.Path.{_≡_};
 ghost use Rattle.language.specs.Declared.{Port};
 ghost use Rattle.assembly.specs.Implied.{Bus, Buses, BusReady, Ready, AddsAll, impliedFormulas};
-
-// Entries of the work buffer have smaller indices.
-const MAX_ENTRIES: usize = 8192;
 
 // Where the table's next node goes, and how many lines there are.
 pub struct Ends {
     pub at: usize,
     pub count: usize,
-}
-
-fn wide(x: u16) -> usize
-    ensures { λ r. ⌜ r ≡ x ⌝ }
-{
-    x as usize
 }
 
 // The line of one bus, if it adds one: the entry of its enumeration, and the number of its first signal.
@@ -31,11 +24,12 @@ fn imply(
     enumeration: usize,
     first: u32,
     e: Ends,
-    table: &mut [u32; 8192],
+    table: &mut [u32; MAX_NODES],
     lines: &mut [u32],
 ) -> Ends
     requires { ⌜ BusReady part (now text) (now work) enumeration first e (now table) (now lines) ⌝ }
-    ensures { λ r. ⌜ ((ps : List Port) (q : Port) → Bus (now (text .entry)) (now (work .entry)) enumeration first (e .at) ps q → AddsAll part e (now (table .entry)) (now (lines .entry)) (now (table .exit)) (now (lines .exit)) r (impliedFormulas ps (q ∷ []))) ⌝ }
+    ensures { λ r. ⌜ ((ps : List Port) (q : Port) → Bus (now (text .entry)) (now (work .entry)) enumeration first (e .at) ps q
+        → AddsAll part e (now (table .entry)) (now (lines .entry)) (now (table .exit)) (now (lines .exit)) r (impliedFormulas ps (q ∷ []))) ⌝ }
 {
     let from = enumeration + 1;
     let to = identifiers_end(work, enumeration);
@@ -60,17 +54,18 @@ pub fn implied(
     from: usize,
     to: usize,
     e: Ends,
-    table: &mut [u32; 8192],
+    table: &mut [u32; MAX_NODES],
     lines: &mut [u32],
 ) -> Ends
     requires { ⌜ Ready part (now text) (now work) (now enumerations) (now order) (now firsts) from to e (now table) (now lines) ⌝ }
-    ensures { λ r. ⌜ ((ps qs : List Port) → Buses (now (text .entry)) (now (work .entry)) (now (enumerations .entry)) (now (order .entry)) (now (firsts .entry)) ps (e .at) from to qs → AddsAll part e (now (table .entry)) (now (lines .entry)) (now (table .exit)) (now (lines .exit)) r (impliedFormulas ps qs)) ⌝ }
+    ensures { λ r. ⌜ ((ps qs : List Port) → Buses (now (text .entry)) (now (work .entry)) (now (enumerations .entry)) (now (order .entry)) (now (firsts .entry)) ps (e .at) from to qs
+        → AddsAll part e (now (table .entry)) (now (lines .entry)) (now (table .exit)) (now (lines .exit)) r (impliedFormulas ps qs)) ⌝ }
 {
     let mut r = e;
     let mut j = from;
     while j < to {
         let enumeration = wide(enumerations[j]);
-        if enumeration < MAX_ENTRIES {
+        if enumeration < limits::MAX_TOKENS {
             let name = wide(order[j]);
             r = imply(part, text, work, enumeration, firsts[name], r, table, lines);
         }

@@ -48,9 +48,9 @@ fn section(
     part: u32,
     lines: &[u32],
     count: usize,
-    table: &[u32; 8192],
+    table: &[u32; MAX_NODES],
     at: usize,
-    out: &mut [u32; 8192],
+    out: &mut [u32; MAX_NODES],
 ) -> usize
     requires { ⌜ SomeLined (now lines) count (now table) ⌝ }
     ensures { λ r. ⌜ ((p : Part) → part ≡ partCode p → Writes (λ f. f p) (now (lines .entry)) count (now (table .entry)) (now (out .entry)) (now (out .exit)) at r) ⌝ }
@@ -80,9 +80,9 @@ fn preset(
     strict: bool,
     lines: &[u32],
     count: usize,
-    table: &[u32; 8192],
+    table: &[u32; MAX_NODES],
     at: usize,
-    out: &mut [u32; 8192],
+    out: &mut [u32; MAX_NODES],
 ) -> usize
     requires { ⌜ SomeLined (now lines) count (now table) ⌝ }
     ensures { λ r. ⌜ Writes (preset' strict) (now (lines .entry)) count (now (table .entry)) (now (out .entry)) (now (out .exit)) at r ⌝ }
@@ -102,9 +102,9 @@ fn preset(
 fn assumed(
     lines: &[u32],
     count: usize,
-    table: &[u32; 8192],
+    table: &[u32; MAX_NODES],
     at: usize,
-    out: &mut [u32; 8192],
+    out: &mut [u32; MAX_NODES],
 ) -> usize
     requires { ⌜ SomeLined (now lines) count (now table) ⌝ }
     ensures { λ r. ⌜ Writes assumed' (now (lines .entry)) count (now (table .entry)) (now (out .entry)) (now (out .exit)) at r ⌝ }
@@ -120,9 +120,9 @@ fn promised(
     strict: bool,
     lines: &[u32],
     count: usize,
-    table: &[u32; 8192],
+    table: &[u32; MAX_NODES],
     at: usize,
-    out: &mut [u32; 8192],
+    out: &mut [u32; MAX_NODES],
 ) -> usize
     requires { ⌜ SomeLined (now lines) count (now table) ⌝ }
     ensures { λ r. ⌜ Writes (promised' strict) (now (lines .entry)) count (now (table .entry)) (now (out .entry)) (now (out .exit)) at r ⌝ }
@@ -141,9 +141,9 @@ pub fn assemble(
     strict: bool,
     lines: &[u32],
     count: usize,
-    table: &[u32; 8192],
+    table: &[u32; MAX_NODES],
     m: usize,
-    out: &mut [u32; 8192],
+    out: &mut [u32; MAX_NODES],
 ) -> usize
     requires { ⌜ SomeGathered (now lines) count (now table) m ⌝ }
     ensures { λ r. ⌜ Assembles strict (now (lines .entry)) count (now (table .entry)) m (now (out .entry)) (now (out .exit)) r ⌝ }

@@ -20,7 +20,7 @@ use Rattle.names.specs.declared.Naming.the-variants.{Named, Refused as NotNamed
 use Rattle.names.specs.Resolved.{Stored, TreeStored}
 use Rattle.checked.specs.declared.Checked.{Checked}
 use Rattle.checked.specs.declared.Checked.the-variants.{Refused as NotAccepted}
-use Rattle.checked.specs.Checking.{Finds, Forms, answer, Says, Checks}
+use Rattle.checked.specs.Checking.{Finds, Forms, answer, unchecked, Says, Checks}
 use Rattle.checked.specs.StoredLaws.{outline-stored}
 
 parsed-formed : (text : List ℕ) → parsed text ≡ (lexing text >>= specOf) >>= wellFormed
@@ -35,8 +35,12 @@ unfolding _>>=_
 outlined text e d = parsed-formed text ∙ ap (λ r. (r >>= specOf) >>= wellFormed) e ∙ ap (λ r. r >>= wellFormed) d
 
 module _ {text w v : List ℕ} {t : Text} (o : Outlining text w v t) where
-  pub refused : {n p : ℕ} (refs found : List ℕ) → t ≡ NotDrawn n p → Checks text w v refs found (NotAccepted n p)
+  refused : {n p : ℕ} (refs found : List ℕ) → t ≡ NotDrawn n p → Checks text w v refs found (NotAccepted n p)
   refused refs found e = record { says = not-outlined text (subst (Draws text v) e (o .says)); size = o .size; beyond = o .beyond }
+
+  -- a refusal of the outline, handed up
+  pub handed-up : {n p : ℕ} {r : Checked} (refs found : List ℕ) → t ≡ NotDrawn n p → r ≡ unchecked t → Checks text w v refs found r
+  handed-up refs found e u = subst (Checks text w v refs found) (sym (u ∙ ap unchecked e)) (refused refs found e)
 
   module _ {n m : ℕ} {f : Facts} (e : t ≡ Drawn n m f) (room : workBytes ≤ length w) where
     drawn : Outlined text v n m f

@@ -4,6 +4,7 @@ use depth::too_deep;
 use enumerations::wrong_words;
 use names::Naming;
 use names::resolve;
+use node::refusals;
 use outline::Text;
 use outline::outlined;
 use parser::Facts;
@@ -15,13 +16,7 @@ ghost use lib.ListN.{length};
 ghost use Rattle.language.specs.Limits.{maxTokens, maxNames, workBytes};
 ghost use Rattle.language.specs.Tree.{Spec};
 ghost use Rattle.names.specs.Resolved.{Stored, TreeStored};
-ghost use Rattle.checked.specs.Checking.{Forms, answer as answer', Checks};
-
-const TOO_DEEP: u32 = 5;
-
-const WRONG_TYPE: u32 = 9;
-
-const WRONG_WORDS: u32 = 10;
+ghost use Rattle.checked.specs.Checking.{Forms, answer as answer', unchecked as unchecked', Checks};
 
 // How many tokens, entries and declared names a text has.
 pub struct Counts {
@@ -50,7 +45,7 @@ fn well_formed(
 {
     let deep = too_deep(work, entries);
     if let Place::At(place) = deep {
-        return Naming::Refused(TOO_DEEP, place);
+        return Naming::Refused(refusals::TOO_DEEP, place);
     }
     let naming = resolve(text, work, tokens, entries, refs, found);
     let Naming::Named(_) = naming else {
@@ -58,11 +53,11 @@ fn well_formed(
     };
     let wrong = wrong_type(work, refs, entries);
     if let Place::At(place) = wrong {
-        return Naming::Refused(WRONG_TYPE, place);
+        return Naming::Refused(refusals::WRONG_TYPE, place);
     }
     let word = wrong_words(text, work, entries);
     if let Place::At(place) = word {
-        return Naming::Refused(WRONG_WORDS, place);
+        return Naming::Refused(refusals::WRONG_WORDS, place);
     }
     naming
 }
@@ -83,6 +78,16 @@ fn answer(tokens: usize, entries: usize, facts: Facts, naming: Naming) -> Checke
     }
 }
 
+// A refusal of the outline.
+fn unchecked(outline: Text) -> Checked
+    ensures { λ r. ⌜ r ≡ unchecked' outline ⌝ }
+{
+    match outline {
+        Text::Refused(number, place) => Checked::Refused(number, place),
+        Text::Accepted(_, _, _) => Checked::Refused(0, 0),
+    }
+}
+
 // A text's checked tree. An inner stage: the reader has tested the length of the work buffer (refusal 17), and lends arrays for what names refer to and for the
 // entries of the declared names.
 pub fn check(text: &[u8], work: &mut [u8], refs: &mut [u16], found: &mut [u16]) -> Checked
@@ -90,11 +95,9 @@ pub fn check(text: &[u8], work: &mut [u8], refs: &mut [u16], found: &mut [u16]) 
     ensures { λ r. ⌜ Checks (now (text .entry)) (now (work .entry)) (now (work .exit)) (now (refs .exit)) (now (found .exit)) r ⌝ }
 {
     let outline = outlined(text, work);
-    match outline {
-        Text::Accepted(tokens, entries, facts) => {
-            let naming = well_formed(text, work, tokens, entries, refs, found);
-            answer(tokens, entries, facts, naming)
-        }
-        Text::Refused(number, place) => Checked::Refused(number, place),
-    }
+    let Text::Accepted(tokens, entries, facts) = outline else {
+        return unchecked(outline);
+    };
+    let naming = well_formed(text, work, tokens, entries, refs, found);
+    answer(tokens, entries, facts, naming)
 }

@@ -1,6 +1,7 @@
 // Runs the stages up to the checked tree on the texts that its arguments name: each row of refusals 1 to 10 and their order, each limit at and one beyond, and the
 // deepest texts. No stage calls itself: whatever the text, some 580 KB of stack are enough.
 use checked::Checked;
+use language::limits;
 use libc::STDOUT_FILENO;
 
 fn number(word: &[u8], n: u64) {
@@ -34,8 +35,8 @@ fn run(name: &[u8]) {
     let size = io::read_full(file, &mut text);
     libc::close(file);
     let mut work = io::large_buffer();
-    let mut refs = [0u16; 8192];
-    let mut found = [0u16; 256];
+    let mut refs = [0u16; limits::MAX_TOKENS];
+    let mut found = [0u16; limits::MAX_NAMES];
     io::write_all(STDOUT_FILENO, name);
     say(checked::check(&text[..size], &mut work, &mut refs, &mut found));
 }

@@ -78,7 +78,8 @@ module _ {holds : Bool} {rows : List (List ℕ)} {count i width j : ℕ} {kept :
   passed =
       ap (λ (n : ℕ). after holds (rests i width (take n rows))) (add-one j)
       ∙ ap (λ (l : List (List ℕ)). after holds (rests i width l)) (take-suc rows j [] (omega (arith, more, table .few, table .all)))
-      ∙ ap (after holds) (map-append (rest i width) (take j rows) (getD rows j [] ∷ []) ∙ ap (λ (v : List Mark). rests i width (take j rows) ++ (v ∷ [])) (rest-cons i width (getD rows j []) bit (omega (arith, row-full))))
+      ∙ ap (after holds) (map-append (rest i width) (take j rows) (getD rows j [] ∷ []) ∙ ap (λ (v : List Mark). rests i width (take j rows) ++ (v ∷ []))
+      (rest-cons i width (getD rows j []) bit (omega (arith, row-full))))
       ∙ after-more holds (rests i width (take j rows)) _ _
       ∙ ap (λ (l : List (List Mark)). l ++ remaining holds (markOf (getD (getD rows j []) i 0)) (rest (i + 1) width (getD rows j []))) (sym (h .same))
 
@@ -106,7 +107,8 @@ module _ {holds : Bool} {rows : List (List ℕ)} {count i width j : ℕ} {kept :
         filled = h .filled;
         fewer = omega arith;
         inside = omega arith;
-        same = sym (passed ∙ ap (λ (b : Bool). rests (i + 1) width (take k kept) ++ (elim b [ true ↦ rest (i + 1) width (getD rows j []) ∷ [] | false ↦ [] ])) e ∙ append-none (rests (i + 1) width (take k kept)));
+        same = sym (passed ∙ ap (λ (b : Bool). rests (i + 1) width (take k kept) ++ (elim b [ true ↦ rest (i + 1) width (getD rows j []) ∷ [] | false ↦ [] ])) e ∙ append-none
+            (rests (i + 1) width (take k kept)));
       }
     where
       append-none : (l : List (List Mark)) → l ++ [] ≡ l

@@ -52,7 +52,8 @@ module _ {all : Bool} {f : Fold} where
         record { begun = (not-none fs a, rw (same, ← b .1 .0, ← b .1 .1) w) };
   }
 
-  pub furthers-more : (op r r′ : ℕ) (out out′ : List ℕ) → f .some ≡ true → op ≡ binaryKind (operator all) → Joins op out out′ (f .end) r r′ → Furthers all f r out out′ (record { some = true; end = r′ })
+  pub furthers-more : (op r r′ : ℕ) (out out′ : List ℕ) → f .some ≡ true → op ≡ binaryKind (operator all) → Joins op out out′ (f .end) r r′
+      → Furthers all f r out out′ (record { some = true; end = r′ })
   furthers-more op r r′ out out′ e k j = record {
     folded = λ {fs} {a} {before} {between} {at} h w.
         let b = begun-of e h in

@@ -84,7 +84,8 @@ module _ (ps : List Port) (x : List ℕ) where
         ap (λ (n : ℕ). literalsAt text place n) (add-one i)
         ∙ ap (literals ps x 0) (map-append markOf (bytesAt text place i) _)
         ∙ literals-more 0 (map markOf (bytesAt text place i)) _
-        ∙ ap₂ (λ (k : ℕ) (c : ℕ). literalsAt text place i ++ literals ps x k (markOf c ∷ [])) (let l = length-map (bytesAt text place i) markOf in let m = length-bytes text place i in omega arith) (sym here)
+        ∙ ap₂ (λ (k : ℕ) (c : ℕ). literalsAt text place i ++ literals ps x k (markOf c ∷ [])) (let l = length-map (bytesAt text place i) markOf in let m = length-bytes text place i in omega arith)
+        (sym here)
 
     pub star-more : isStar (markOf b) ≡ true → literalsAt text place (i + 1) ≡ literalsAt text place i
     star-more h = one-more ∙ ap (λ (l : List Formula). literalsAt text place i ++ l) (one-star i (markOf b) h) ∙ append-nil (literalsAt text place i)

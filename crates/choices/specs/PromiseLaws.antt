@@ -145,7 +145,8 @@ unfolding rowsAt
 matching-all {text} {w} {from} {to} {first} {out} {at} {i} {f} {out′} {out″} {r} m l few h = record {
   wrote = λ ps name ws here e.
       let same : disjunction (map (λ (x : ℕ). matching ps name (rowIn text x)) (m .done)) ≡ oneOf ps name ws =
-      ap disjunction (ap (map (λ (x : ℕ). matching ps name (rowIn text x))) (passed-all (m .passed) l) ∙ map-rows text ps name (wordsAt w from (to - from)) ∙ ap (map (matching ps name)) (here .rows)) ∙ sym (one-of-texts ps name ws) in
+      ap disjunction (ap (map (λ (x : ℕ). matching ps name (rowIn text x))) (passed-all (m .passed) l) ∙ map-rows text ps name (wordsAt w from (to - from)) ∙ ap (map (matching ps name)) (here .rows))
+      ∙ sym (one-of-texts ps name ws) in
       subst (λ (g : Formula). Wrote g out out″ at r) same (h .wrote (m .folded ps name (e few)));
 }
 
@@ -214,7 +215,8 @@ module _ {text w : List ℕ} {from to i : ℕ} {rows : List (List ℕ)} {count w
           wide = λ l. tabling-width;
         }
 
-pub tabling-wide : {text w : List ℕ} {from to i : ℕ} {rows : List (List ℕ)} {count width : ℕ} → Regular (rowsAt text w from to) → Tabling text w from to i rows count width → (count ≡ 0 → ⊥) → width ≤ 8
+pub tabling-wide : {text w : List ℕ} {from to i : ℕ} {rows : List (List ℕ)} {count width : ℕ} → Regular (rowsAt text w from to) → Tabling text w from to i rows count width → (count ≡ 0 → ⊥)
+    → width ≤ 8
 tabling-wide r t h = let e = t .wide (omega arith) in let n = r .narrow in omega arith
 
 -- the words' rows are all there

@@ -1,8 +1,10 @@
 // The coverage test: do the words of an enumeration name every valuation of its bits?
 use crate::ABSENT;
 use crate::PRESENT;
-use crate::WORD;
+use entries::kinds;
 use enumerations::marks;
+use lexer::fields::LENGTHS;
+use lexer::fields::OFFSETS;
 use traversal::cell_at;
 ghost use mathlib.Core.Path.{_≡_};
 ghost use Prim.Native.Nat.{_+_, _-_, _≤_, _<_};
@@ -79,13 +81,13 @@ pub fn leaves_unnamed(text: &[u8], work: &[u8], from: usize, to: usize) -> bool
     let mut i = from;
     while i < to {
         let c = cell_at(work, i);
-        if c.kind != WORD {
+        if c.kind != kinds::WORD {
             i += 1;
             continue;
         }
         let token = c.token;
-        width = (token % 256) as usize;
-        let place = (token / 256 % 65536) as usize;
+        width = (token % LENGTHS) as usize;
+        let place = (token / LENGTHS % OFFSETS) as usize;
         rows[count] = marks(text, place, width);
         count += 1;
         i += 1;

@@ -1,8 +1,8 @@
 // Formulas one after another, folded to the left with `&&` or `||` as they are written (document 01: 'one element is itself', 'over nothing `&&` is true, `||` false').
+use node::MAX_NODES;
 use node::Node;
 use writing::constant;
 use writing::join;
-ghost use Prim.Native.Nat.{_≤_};
 ghost use Rattle.choices.specs.Folds.{Furthers, Finishes};
 
 // Whether there was a formula yet, and where what is written ends.
@@ -12,7 +12,7 @@ pub struct Fold {
 }
 
 // One formula more, written from `f.end` up to r; `all` for `&&`.
-pub fn further(all: bool, f: Fold, r: usize, out: &mut [u32; 8192]) -> Fold
+pub fn further(all: bool, f: Fold, r: usize, out: &mut [u32; MAX_NODES]) -> Fold
     ensures { λ g. ⌜ Furthers all f r (now (out .entry)) (now (out .exit)) g ⌝ }
 {
     let some = f.some;
@@ -28,7 +28,7 @@ pub fn further(all: bool, f: Fold, r: usize, out: &mut [u32; 8192]) -> Fold
 }
 
 // Where the fold ends.
-pub fn finish(all: bool, f: Fold, out: &mut [u32; 8192]) -> usize
+pub fn finish(all: bool, f: Fold, out: &mut [u32; MAX_NODES]) -> usize
     ensures { λ r. ⌜ Finishes all f (now (out .entry)) (now (out .exit)) r ⌝ }
 {
     let some = f.some;

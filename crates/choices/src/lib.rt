@@ -1,6 +1,10 @@
 // The words of enumerations, which stand behind their identifiers' entries: as nodes, by their width, and whether they leave a word unnamed.
 // The functions ask for the entry of an identifier or an enumeration of a stored tree: their callers come to it by a name's reference.
+use entries::kinds;
 use enumerations::byte_at;
+use language::limits;
+use lexer::fields::LENGTHS;
+use lexer::fields::OFFSETS;
 use node::MAX_NODES;
 use node::Node;
 use traversal::cell_at;
@@ -8,7 +12,7 @@ use writing::TOO_MANY;
 use writing::cap;
 use writing::signal;
 ghost use mathlib.Core.Path.{_≡_};
-ghost use Prim.Native.Nat.{ℕ, _+_, _≤_, _<_};
+ghost use Prim.Native.Nat.{_≤_, _<_};
 ghost use lib.ListN.{length};
 ghost use Rattle.node.specs.Limits.{fieldLimit, maxNodes};
 ghost use Rattle.language.specs.Limits.{workBytes, maxTokens, maxSignals};
@@ -24,13 +28,6 @@ use folds::further;
 pub mod coverage;
 pub mod folds;
 
-const MAX_ENTRIES: usize = 8192;
-
-// Kinds of entries: behind an enumeration's stand those of its identifiers, behind each of these its words'.
-const IDENTIFIER: u32 = 57;
-
-pub const WORD: u32 = 58;
-
 // The marks that are no star.
 pub const ABSENT: u8 = 48;
 
@@ -42,13 +39,13 @@ fn end_from(work: &[u8], low: u32, i: usize) -> usize
     ensures { λ r. ⌜ r ≡ endFrom (now (work .entry)) low i ⌝ }
 {
     let mut j = i;
-    while j < MAX_ENTRIES {
+    while j < limits::MAX_TOKENS {
         let c = cell_at(work, j);
         let kind = c.kind;
         if kind < low {
             return j;
         }
-        if WORD < kind {
+        if kinds::WORD < kind {
             return j;
         }
         j += 1;
@@ -61,7 +58,7 @@ pub fn words_end(work: &[u8], identifier: usize) -> usize
     requires { ⌜ (workBytes ≤ length (now work)) × (identifier < maxTokens) ⌝ }
     ensures { λ r. ⌜ r ≡ wordsEnd (now (work .entry)) identifier ⌝ }
 {
-    end_from(work, WORD, identifier + 1)
+    end_from(work, kinds::WORD, identifier + 1)
 }
 
 // Where the identifiers and their words behind an enumeration's entry end.
@@ -69,7 +66,7 @@ pub fn identifiers_end(work: &[u8], enumeration: usize) -> usize
     requires { ⌜ (workBytes ≤ length (now work)) × (enumeration < maxTokens) ⌝ }
     ensures { λ r. ⌜ r ≡ identifiersEnd (now (work .entry)) enumeration ⌝ }
 {
-    end_from(work, IDENTIFIER, enumeration + 1)
+    end_from(work, kinds::IDENTIFIER, enumeration + 1)
 }
 
 // Have the words in the entries [from, to) n marks each?
@@ -80,11 +77,11 @@ pub fn widths_are(work: &[u8], from: usize, to: usize, n: u32) -> bool
     let mut i = from;
     while i < to {
         let c = cell_at(work, i);
-        if c.kind != WORD {
+        if c.kind != kinds::WORD {
             i += 1;
             continue;
         }
-        if c.token % 256 != n {
+        if c.token % LENGTHS != n {
             return false;
         }
         i += 1;
@@ -102,7 +99,7 @@ fn starred(mark: u8) -> bool
 }
 
 // Signal k, or that it is absent. Its number fits the field, as the signal's own.
-fn literal(present: bool, k: u32, out: &mut [u32; 8192], at: usize) -> usize
+fn literal(present: bool, k: u32, out: &mut [u32; MAX_NODES], at: usize) -> usize
     requires { ⌜ k < fieldLimit ⌝ }
     ensures { λ r. ⌜ Wrote (literal' present k) (now (out .entry)) (now (out .exit)) at r ⌝ }
 {
@@ -114,12 +111,12 @@ fn literal(present: bool, k: u32, out: &mut [u32; 8192], at: usize) -> usize
 }
 
 // One word, whose token has this word: 'the literals of its unstarred marks, bit 0 first, folded with `&&` (all stars: true)'.
-fn matches(text: &[u8], token: u32, first: u32, out: &mut [u32; 8192], at: usize) -> usize
+fn matches(text: &[u8], token: u32, first: u32, out: &mut [u32; MAX_NODES], at: usize) -> usize
     requires { ⌜ first ≤ maxSignals ⌝ }
     ensures { λ r. ⌜ Matches (now (text .entry)) token first (now (out .entry)) (now (out .exit)) at r ⌝ }
 {
-    let place = (token / 256 % 65536) as usize;
-    let n = token % 256;
+    let place = (token / LENGTHS % OFFSETS) as usize;
+    let n = token % LENGTHS;
     let mut f = Fold {
         some: false,
         end: at,
@@ -146,7 +143,7 @@ pub fn one_of(
     from: usize,
     to: usize,
     first: u32,
-    out: &mut [u32; 8192],
+    out: &mut [u32; MAX_NODES],
     at: usize,
 ) -> usize
     requires { ⌜ Readable (now work) to × (at ≤ maxNodes → first ≤ maxSignals) ⌝ }
@@ -162,7 +159,7 @@ pub fn one_of(
     let mut i = from;
     while i < to {
         let c = cell_at(work, i);
-        if c.kind != WORD {
+        if c.kind != kinds::WORD {
             i += 1;
             continue;
         }

@@ -1,7 +1,7 @@
 -- The converter's answer by stages: what the reader answers on buffers of the largest result, then what the rewriter makes of it; and what it has accepted.
 use Prim.Native.Nat.{ℕ, _≤_}
 use mathlib.Core.Path.{_≡_, refl, sym, ap, ap₂, _∙_}
-use mathlib.Core.Bool.{Bool, true, false, _&&_}
+use mathlib.Core.Bool.{_&&_}
 use mathlib.Core.List.{List}
 use lib.Dec.{leb}
 use lib.ListN.{length}
@@ -9,18 +9,13 @@ use borrow.Author.Tests.{le-leb, leb-true}
 use Rattle.node.specs.Limits.{maxNodes}
 use Rattle.node.specs.Postorder.{size}
 use Rattle.node.specs.Result.{Result, Done, Refused, _>>=_, guard}
-use Rattle.node.specs.ResultLaws.{guard-pass, guard-done}
+use Rattle.node.specs.ResultLaws.{guard-pass, guard-done, guard-bind}
 use Rattle.forms.specs.Forms.{form}
 use Rattle.language.specs.Limits.{maxSignals, workBytes}
 use Rattle.language.specs.Reading.{Converted, meant, delivered, reading}
 use Rattle.language.specs.Laws.Buffers.{delivered-same}
 use Rattle.language.specs.Laws.Meaning.Acceptance.{accepts, list-limited}
 use Rattle.claim.specs.Converting.{inForm, formed, converting}
-
-guard-bind : {A B : Type 0} (b : Bool) (number place : ℕ) (r : Result A) (k : A → Result B) → guard b number place r >>= k ≡ guard b number place (r >>= k)
-unfolding guard _>>=_
-guard-bind true number place r k = refl
-guard-bind false number place r k = refl
 
 -- no accepted text is too large for the largest buffers
 all-delivered : (text : List ℕ) → meant text >>= delivered maxNodes maxSignals ≡ meant text

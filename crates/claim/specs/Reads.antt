@@ -6,14 +6,9 @@ use lib.ListN.{length}
 use Rattle.node.specs.Result.{Done}
 use Rattle.node.specs.declared.Answer.{Answer}
 use Rattle.language.specs.Reading.{Converted, reading}
-use Rattle.claim.specs.Claim.{Leaves, reader-claim}
+use Rattle.claim.specs.Claim.{Leaves}
 use Rattle.claim.specs.Yields.{Yields}
 
 pub record Reads (text work nodes signals work′ nodes′ signals′ : List ℕ) (r : Answer) : Type 0 where
   pub yields : Yields (reading text (length work) (length nodes) (length signals)) work nodes signals work′ nodes′ signals′ r
   pub leaves : (c : Converted) → reading text (length work) (length nodes) (length signals) ≡ Done c → Leaves text nodes′ signals′ c
-
--- the second follows from the first
-module _ (text : List ℕ) {work nodes signals work′ nodes′ signals′ : List ℕ} {r : Answer} where
-  pub reads : Yields (reading text (length work) (length nodes) (length signals)) work nodes signals work′ nodes′ signals′ r → Reads text work nodes signals work′ nodes′ signals′ r
-  reads y = record { yields = y; leaves = λ c e. rw (y .nodesLeft, y .signalsLeft, e) (reader-claim text (length work) nodes signals c e) }

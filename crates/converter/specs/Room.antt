@@ -19,7 +19,8 @@ use Rattle.rewriter.specs.Rewriting.{fitting, rewriting}
 use Rattle.rewriter.specs.RewritingLaws.{rewriting-form}
 use Rattle.rewriter.specs.OwnNodes.{own-rewriting}
 use Rattle.language.specs.Reading.{Converted, meant}
-use Rattle.claim.specs.Claim.{nodesOf, text-few, text-small}
+use Rattle.claim.specs.Claim.{nodesOf}
+use Rattle.claim.specs.ClaimLaws.{text-few, text-small}
 use Rattle.claim.specs.Yields.{told}
 use Rattle.claim.specs.Converting.{inForm, formed}
 

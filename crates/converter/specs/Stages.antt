@@ -19,12 +19,15 @@ use Rattle.rewriter.specs.OwnNodes.{own-root}
 use Rattle.language.specs.Limits.{maxSignals}
 use Rattle.language.specs.Reading.{Converted, meant, reading, nodesAfter, signalsAfter, workAfter}
 use Rattle.language.specs.Laws.Buffers.{accepted-meant}
-use Rattle.claim.specs.Claim.{nodesOf, text-few, text-small}
-use Rattle.claim.specs.Yields.{told, accepted, refused, told-done, told-refused}
+use Rattle.claim.specs.Claim.{nodesOf}
+use Rattle.claim.specs.ClaimLaws.{text-few, text-small}
+use Rattle.claim.specs.Yields.{told}
+use Rattle.claim.specs.YieldsLaws.{accepted, refused, told-done, told-refused}
 use Rattle.claim.specs.Reads.{Reads}
 use Rattle.claim.specs.Converting.{inForm, formed, conversion}
 use Rattle.claim.specs.ConvertingLaws.{converting-reads, formed-done}
-use Rattle.claim.specs.Converts.{Converts, converts}
+use Rattle.claim.specs.Converts.{Converts}
+use Rattle.claim.specs.ConvertsLaws.{converts}
 use Rattle.converter.specs.Room.{room, withSignals, formed-told}
 use Rattle.converter.specs.WritingOut.{listLeft, WritesOut}
 

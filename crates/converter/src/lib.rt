@@ -1,13 +1,12 @@
 // The converter: from a text to the nodes of a form. It reads into a table and a list of its own, so that a refusal of the reader or of the rewriter changes no
 // result buffer.
+use basics::copy_words;
+use node::MAX_SIGNALS;
 ghost use Rattle.claim.specs.Converts.{Converts};
 ghost use Rattle.converter.specs.Room.{Lends};
 ghost use Rattle.converter.specs.WritingOut.{WritesOut};
 use node::Answer;
 use node::MAX_NODES;
-
-// 'Limits: .. 255 signals': the longest signal list.
-const MAX_SIGNALS: usize = 255;
 
 // How many nodes may be written: none where the signal list does not fit, so that 18 stands for either result buffer and the form's own refusals come before it.
 fn room(nodes: usize, signals: usize, listed: usize) -> usize
@@ -31,7 +30,7 @@ fn write_out(
     let Answer::Accepted(_, _) = rewritten else {
         return rewritten;
     };
-    rewriter::copy_words(list, list.len(), signals);
+    copy_words(list, list.len(), signals);
     rewritten
 }
 

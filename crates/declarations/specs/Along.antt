@@ -3,8 +3,8 @@ use Prim.Native.Nat.{ℕ, suc, _+_, _≤_, _<_}
 use mathlib.Core.List.{List, [], _∷_, _++_}
 use mathlib.Core.Path.{_≡_, refl, sym, ap, _∙_, subst}
 use native.Mathlib.Omega.{arith}
-use lib.ListN.{length, getD, take, drop, set, length-append, List·getD-append}
-use lib.Seq.{sets, sets-eq, length-take-le, getD-append-add, getD-set-other}
+use lib.ListN.{length, getD, take, drop, length-append, List·getD-append}
+use lib.Seq.{sets, sets-eq, length-take-le, getD-append-add}
 use Rattle.language.specs.Laws.Basics.Lists.{All}
 use Rattle.language.specs.Laws.Values.PortLaws.{Pairs}
 
@@ -37,7 +37,3 @@ sets-read l i vs k h m =
     let t = length-take-le i l (omega arith) in
     ap (λ s. getD s (i + k) 0) (sets-eq vs l i h) ∙ ap (λ n. getD ((take i l ++ vs) ++ drop (i + length vs) l) (n + k) 0) (sym t)
     ∙ List·getD-append (take i l ++ vs) (drop (i + length vs) l) 0 (length (take i l) + k) (let s = length-append (take i l) vs in omega arith) ∙ getD-append-add (take i l) vs k 0
-
-pub sets-before : (l : List ℕ) (i : ℕ) (vs : List ℕ) (k : ℕ) → k < i → getD (sets l i vs) k 0 ≡ getD l k 0
-sets-before l i [] k h = refl
-sets-before l i (v ∷ vs) k h = sets-before (set l i v) (suc i) vs k (omega arith) ∙ getD-set-other l i k v 0 (λ e. omega arith)

@@ -106,7 +106,18 @@ module _ (text w refs found : List ℕ) (entries names : ℕ) (order : List ℕ)
 
     pub next-workable : (slots : List ℕ) → Room refs sorts numbers slots → Workable text w refs sorts numbers slots (getD order j 0 - 1)
     next-workable slots r =
-        record { W = worldIn x [] (g .table); c = contextOf [] (g .table); e = next .own .value; expression = next-expression; refs-room = r .refs-room; sorts-room = r .sorts-room; numbers-room = r .numbers-room; slots-room = r .slots-room; inside = (let l = next-inside in omega arith) }
+        record {
+          W = worldIn x [] (g .table);
+          c = contextOf [] (g .table);
+          e = next .own .value;
+          expression = next-expression;
+          refs-room = r .refs-room;
+          sorts-room = r .sorts-room;
+          numbers-room =
+              r .numbers-room;
+          slots-room = r .slots-room;
+          inside = (let l = next-inside in omega arith);
+        }
 
     -- its value
     unrolled : constants (x .parameters) d ≡ (value (declared (g .table)) (next .own .value) >>= number >>= λ n. constants (next .later) ((next .own .name .text, Constant n) ∷ g .table))
@@ -116,8 +127,10 @@ module _ (text w refs found : List ℕ) (entries names : ℕ) (order : List ℕ)
     Tells r = TellsNumber r (value (declared (g .table)) (next .own .value))
 
     -- as it is worked out, at entry k
-    pub next-told : (k : ℕ) (r : Worked) → k ≡ getD order j 0 - 1 → ((W : World) (c : Context) (e : Expr) → Expression text w refs sorts numbers k W c e → TellsNumber r (value (c .values) e)) → Tells r
-    next-told k r q f = f (worldIn x [] (g .table)) (contextOf [] (g .table)) (next .own .value) (subst (λ i. Expression text w refs sorts numbers i (worldIn x [] (g .table)) (contextOf [] (g .table)) (next .own .value)) (sym q) next-expression)
+    pub next-told : (k : ℕ) (r : Worked) → k ≡ getD order j 0 - 1 → ((W : World) (c : Context) (e : Expr) → Expression text w refs sorts numbers k W c e → TellsNumber r (value (c .values) e))
+        → Tells r
+    next-told k r q f = f (worldIn x [] (g .table)) (contextOf [] (g .table)) (next .own .value)
+        (subst (λ i. Expression text w refs sorts numbers i (worldIn x [] (g .table)) (contextOf [] (g .table)) (next .own .value)) (sym q) next-expression)
 
     turning-refused : (n p : ℕ) → TellsNumber (Worked.Refused n p) (value (declared (g .table)) (next .own .value)) → ConstantsTold text w x d sorts numbers (Worked.Refused n p)
     turning-refused n p h = record { told = unrolled ∙ bind-refused (value (declared (g .table)) (next .own .value) >>= number) n p _ (sym (h .says)) }
@@ -125,7 +138,8 @@ module _ (text w refs found : List ℕ) (entries names : ℕ) (order : List ℕ)
     pub turning-stopped : (r : Worked) (n p : ℕ) → r ≡ Worked.Refused n p → Tells r → ConstantsTold text w x d sorts numbers r
     turning-stopped r n p e h = subst (ConstantsTold text w x d sorts numbers) (sym e) (turning-refused n p (subst Tells e h))
 
-    pub turning-more : (v : Worked) (r n : ℕ) → v ≡ Worked.Value n → r ≡ getD refs (getD order j 0) 0 → maxNames ≤ length sorts → maxNames ≤ length numbers → Tells v → Turning (j + 1) (set sorts r Sort.number) (set numbers r n)
+    pub turning-more : (v : Worked) (r n : ℕ) → v ≡ Worked.Value n → r ≡ getD refs (getD order j 0) 0 → maxNames ≤ length sorts → maxNames ≤ length numbers → Tells v
+        → Turning (j + 1) (set sorts r Sort.number) (set numbers r n)
     turning-more v r n u e a b t =
         let h : Tells (Worked.Value n) = subst Tells u t in
         let q = e ∙ next-number in
@@ -140,7 +154,8 @@ module _ (text w refs found : List ℕ) (entries names : ℕ) (order : List ℕ)
           places = next .after;
           total = (let i = g .total in let l = ap length (next .is) in omega arith);
           notes = subst (λ i. Notes (tokens text) w (worldIn x [] ((next .own .name .text, Constant n) ∷ g .table)) (set sorts i Sort.number) (set numbers i n)) (sym q)
-              (notes-turn x (tokens text) w (next .own .name) (names-distinct x (g .tree .resolved .distinct)) (next .turnable .shown) (next .turnable .undefined) [] (g .table) (Constant n) sorts numbers Sort.number n (omega arith) (omega arith) (refl, (refl, h .small)) (g .notes));
+              (notes-turn x (tokens text) w (next .own .name) (names-distinct x (g .tree .resolved .distinct)) (next .turnable .shown) (next .turnable .undefined) [] (g .table) (Constant n) sorts
+              numbers Sort.number n (omega arith) (omega arith) (refl, (refl, h .small)) (g .notes));
         })
 
   pub turning-all : (j : ℕ) (sorts numbers : List ℕ) (n : ℕ) → count ≤ j → Turning j sorts numbers → ConstantsTold text w x d sorts numbers (Worked.Value n)

@@ -12,7 +12,7 @@ use Rattle.words.specs.Words.{wordAt}
 use Rattle.language.specs.Tokens.{tokens}
 use Rattle.language.specs.Tree.{Declaration, OneSignal, OfWidth, OfType, Spec}
 use Rattle.language.specs.Laws.Basics.Tests.{pick, leave}
-use Rattle.language.specs.Laws.Values.DistinctNames.{declaredName}
+use Rattle.language.specs.Listed.{declaredName}
 use Rattle.lexer.specs.Stored.{offsetIn}
 use Rattle.entries.specs.Kinds as Kind
 use Rattle.entries.specs.Stored.{firstEntry, kindOf, indexOf}
@@ -64,7 +64,8 @@ module _ {text w refs found : List ℕ} {entries names : ℕ} {x : Spec} (t : Tr
   abbrev At : Declaration → ℕ → Type 0
   At m k = DeclarationAt x text w refs m k × Turnable x (declaredName m)
 
-  pub placed-from : (places enumerations : List ℕ) (count j : ℕ) (ms : List Declaration) → j + length ms ≤ count → Filled (λ i. enumerationFor w refs found (getD places i 0)) enumerations count → Along (λ m k. DeclarationAt x text w refs m k × Turnable x (declaredName m)) places j ms → PlacedFrom x text w refs places enumerations j ms
+  pub placed-from : (places enumerations : List ℕ) (count j : ℕ) (ms : List Declaration) → j + length ms ≤ count → Filled (λ i. enumerationFor w refs found (getD places i 0)) enumerations count
+      → Along (λ m k. DeclarationAt x text w refs m k × Turnable x (declaredName m)) places j ms → PlacedFrom x text w refs places enumerations j ms
   placed-from places enumerations count j [] l f h = tt
   placed-from places enumerations count j (m ∷ ms) l f h = (
     record { there = h .0 .0; turnable = h .0 .1; enumerated = subst (EnumeratedBy (tokens text) w (x .definitions) m) (sym (f j (omega arith))) (by-kind m (getD places j 0) (h .0 .0)) },

@@ -1,5 +1,5 @@
 -- The enumeration that a bus is declared by: its own entry, and the width of its words.
-use Prim.Native.Nat.{ℕ, zero, suc, _+_, _-_, _≤_, _<_, min}
+use Prim.Native.Nat.{ℕ, suc, _+_, _-_, _≤_, _<_, min}
 use mathlib.Core.Bool.{Bool, true, false, _||_, _&&_}
 use mathlib.Core.List.{List, [], _∷_, _++_}
 use mathlib.Core.Option.{some}
@@ -28,7 +28,7 @@ use Rattle.entries.specs.StoredLaws.{entry-kind, entry-index}
 use Rattle.spellings.specs.Interned.{Lexed}
 use Rattle.names.specs.Tables.{noPlace}
 use Rattle.names.specs.Scan.{tokenOf}
-use Rattle.names.specs.Walkable.{entryOf}
+use Rattle.names.specs.Walkable.{entryOf, stored-at}
 use Rattle.names.specs.References.{numberIn}
 use Rattle.names.specs.Numbering.{number-other}
 use Rattle.names.specs.WalkBinders.{reference-outside}
@@ -86,11 +86,6 @@ pub record Enumerates (ts : Tokens) (w : List ℕ) (e : ℕ) (words : List Token
   pub wordless : e ≡ noEntry → words ≡ []
   pub there : (e ≡ noEntry → ⊥) → (e < maxTokens) × EnumerationAt ts w e words
 
-stored-at : (w : List ℕ) (ts : List Token) (i : ℕ) (es : List Entry) (k : ℕ) → k < length es → EntriesFrom w ts i es → EntryAt w ts (i + k) (entryOf es k)
-stored-at w ts i [] k l h = absurd (omega arith)
-stored-at w ts i (n ∷ es) zero l h = subst (λ d. EntryAt w ts d n) (omega arith) (h .0)
-stored-at w ts i (n ∷ es) (suc k) l h = subst (λ d. EntryAt w ts d (entryOf es k)) (omega arith) (stored-at w ts (suc i) es k (omega arith) (h .1))
-
 number-visible : (ns : Names) (t : Token) → numberIn ns t < noPlace → visible ns t ≡ true
 unfolding numberIn
 number-visible [] t l = absurd (omega arith)
@@ -103,7 +98,8 @@ number-visible (n ∷ ns) t l = go (same (n .text) (t .text)) refl (number-visib
 words-text : (ds : List Definition) (t u : Token) → t .text ≡ u .text → wordsOfType ds t ≡ wordsOfType ds u
 words-text [] t u e = refl
 words-text (Defined x b ∷ ds) t u e = words-text ds t u e
-words-text (Enumerated x is ∷ ds) t u e = ap {B = List Token} (λ s. elim (same (x .text) s) [ true ↦ wordsIn is | false ↦ wordsOfType ds t ]) e ∙ ap {B = List Token} (λ l. elim (same (x .text) (u .text)) [ true ↦ wordsIn is | false ↦ l ]) (words-text ds t u e)
+words-text (Enumerated x is ∷ ds) t u e = ap {B = List Token} (λ s. elim (same (x .text) s) [ true ↦ wordsIn is | false ↦ wordsOfType ds t ]) e ∙ ap {B = List Token}
+    (λ l. elim (same (x .text) (u .text)) [ true ↦ wordsIn is | false ↦ l ]) (words-text ds t u e)
 
 module _ {text w refs found : List ℕ} {entries names : ℕ} {x : Spec} (t : Tree text w refs found entries names x) where
   pub tree-entry : (k : ℕ) → k < length (outline x) → EntryAt w (tokens text) k (entryOf (outline x) k)
@@ -128,9 +124,11 @@ module _ {text w refs found : List ℕ} {entries names : ℕ} {x : Spec} (t : Tr
       let first = first-at x (t .resolved .distinct) e inside (f .declares .declaring) in
       let tested : (ltb r maxNames && ltb e maxTokens) ≡ true = ap (λ a. a && ltb e maxTokens) (lt-ltb r maxNames low) ∙ lt-ltb e maxTokens small in
       subst (λ i. Enumerates (tokens text) w i (wordsOfType (x .definitions) u)) (sym (pick (ltb r maxNames && ltb e maxTokens) _ _ tested))
-      (go e small (isEnumeration w e) refl (λ y. subst (EnumerationAt (tokens text) w e) words (enumeration-at (t .stored) (t .resolved) e inside (sym kind ∙ eqb-true _ _ y))) (λ y. sym words ∙ first .wordless (λ q. eqb-false _ _ y (kind ∙ q))))
+      (go e small (isEnumeration w e) refl (λ y. subst (EnumerationAt (tokens text) w e) words (enumeration-at (t .stored) (t .resolved) e inside (sym kind ∙ eqb-true _ _ y)))
+      (λ y. sym words ∙ first .wordless (λ q. eqb-false _ _ y (kind ∙ q))))
     where
-      go : (e : ℕ) → e < maxTokens → (b : Bool) → isEnumeration w e ≡ b → (isEnumeration w e ≡ true → EnumerationAt (tokens text) w e (wordsOfType (x .definitions) u)) → (isEnumeration w e ≡ false → wordsOfType (x .definitions) u ≡ []) → Enumerates (tokens text) w (elim b [ true ↦ e | false ↦ noEntry ]) (wordsOfType (x .definitions) u)
+      go : (e : ℕ) → e < maxTokens → (b : Bool) → isEnumeration w e ≡ b → (isEnumeration w e ≡ true → EnumerationAt (tokens text) w e (wordsOfType (x .definitions) u))
+          → (isEnumeration w e ≡ false → wordsOfType (x .definitions) u ≡ []) → Enumerates (tokens text) w (elim b [ true ↦ e | false ↦ noEntry ]) (wordsOfType (x .definitions) u)
       go e small true y f g = record { wordless = λ q. absurd (omega arith); there = λ _. (small, f y) }
       go e small false y f g = record { wordless = λ _. g y; there = λ q. absurd (q refl) }
 
@@ -161,20 +159,32 @@ module _ {text w : List ℕ} {count : ℕ} (lexed : Lexed text w count) (words :
     pub no-word : kindAt (i + length (There ws js)) ≡ Kind.word → ⊥
 
   pub scanning-starts : (e : ℕ) → EnumerationAt (tokens text) w e words → Scanning (e + 1)
-  scanning-starts e h = subst Scanning (sym (add-one e)) (record { ws = []; js = h .identifiers; there = h .stored; width = ap wordWidth (sym (h .all)); few = h .few; no-identifier = h .no-identifier; no-word = h .no-word })
+  scanning-starts e h = subst Scanning (sym (add-one e)) (record
+      { ws = []; js = h .identifiers; there = h .stored; width = ap wordWidth (sym (h .all)); few = h .few; no-identifier = h .no-identifier; no-word = h .no-word })
 
   module _ (i : ℕ) (s : Scanning i) where
-    by : (P : Type 0) → ((v : Token) (ws : List Token) (js : List Identifier) → EntryAt w (tokens text) i (record { kind = Kind.word; token = some v; size = 1 }) → wordWidth words ≡ length (v .text) → P) →
+    by : (P : Type 0) → ((v : Token) (ws : List Token) (js : List Identifier) → EntryAt w (tokens text) i (record { kind = Kind.word; token = some v; size = 1 }) → wordWidth words ≡ length (v .text)
+        → P) →
         ((n : Identifier) (js : List Identifier) → EntryAt w (tokens text) i (record { kind = Kind.identifier; token = some (n .name); size = 1 }) → Scanning (suc i) → P) →
         (wordWidth words ≡ 0 → (kindAt i ≡ Kind.identifier → ⊥) → (kindAt i ≡ Kind.word → ⊥) → P) → P
     by P f g h = go (s .ws) (s .js) (s .there) (s .width) (s .few) (s .no-identifier) (s .no-word)
       where
-        go : (ws : List Token) (js : List Identifier) → EntriesFrom w (tokens text) i (There ws js) → wordWidth words ≡ wordWidth (ws ++ wordsIn js) → i + length (There ws js) ≤ maxTokens → (kindAt (i + length (There ws js)) ≡ Kind.identifier → ⊥) → (kindAt (i + length (There ws js)) ≡ Kind.word → ⊥) → P
+        go : (ws : List Token) (js : List Identifier) → EntriesFrom w (tokens text) i (There ws js) → wordWidth words ≡ wordWidth (ws ++ wordsIn js) → i + length (There ws js) ≤ maxTokens
+            → (kindAt (i + length (There ws js)) ≡ Kind.identifier → ⊥) → (kindAt (i + length (There ws js)) ≡ Kind.word → ⊥) → P
         go (v ∷ ws) js t q b c d = f v ws js (t .0) q
         go [] [] t q b c d = let z : i + 0 ≡ i = omega arith in h q (subst (λ k. kindAt k ≡ Kind.identifier → ⊥) z c) (subst (λ k. kindAt k ≡ Kind.word → ⊥) z d)
         go [] (n ∷ js) t q b c d =
             let z : i + suc (length (There (n .words) js)) ≡ suc i + length (There (n .words) js) = omega arith in
-            g n js (t .0) (record { ws = n .words; js = js; there = t .1; width = q; few = omega arith; no-identifier = subst (λ k. kindAt k ≡ Kind.identifier → ⊥) z c; no-word = subst (λ k. kindAt k ≡ Kind.word → ⊥) z d })
+            g n js (t .0) (record {
+              ws = n .words;
+              js = js;
+              there = t .1;
+              width = q;
+              few = omega arith;
+              no-identifier = subst (λ k. kindAt k ≡ Kind.identifier → ⊥) z c;
+              no-word = subst
+                  (λ k. kindAt k ≡ Kind.word → ⊥) z d;
+            })
 
     pub scanning-word : kindAt i ≡ Kind.word → lengthIn (wordAt w (indexOf (wordAt w (firstEntry + i)))) ≡ min longest (wordWidth words)
     scanning-word k =

@@ -18,7 +18,7 @@ use Rattle.language.specs.Laws.Grammar.Braces.{ProperDeclaration, ProperSubsect
 use Rattle.language.specs.Laws.Grammar.BracesReads.{spec-proper}
 use Rattle.language.specs.Laws.Values.NameLaws.{inputs-all, outputs-all}
 use Rattle.language.specs.Laws.Values.RegularWords.{RegularDefinition}
-use Rattle.language.specs.Laws.Values.DistinctNames.{declaredName}
+use Rattle.language.specs.Listed.{declaredName}
 use Rattle.lexer.specs.LexingLaws.{token-stands}
 use Rattle.names.specs.References.{numberIn}
 use Rattle.names.specs.Resolved.{declaredNames}
@@ -49,8 +49,10 @@ module _ {text w refs found : List ℕ} {entries names : ℕ} {x : Spec} (t : Tr
 
   pub names-proper : All (λ m. isOf Name (declaredName m) ≡ true) (inputs (x .main)) × All (λ m. isOf Name (declaredName m) ≡ true) (outputs (x .main))
   names-proper = (
-    all-both (λ m h _. proper-name m h) (inputs (x .main)) (inputs-all ProperSubsection ProperDeclaration (λ ds g. g) (x .main) (proper .main)) (inputs-all ProperSubsection ProperDeclaration (λ ds g. g) (x .main) (proper .main)),
-    all-both (λ m h _. proper-name m h) (outputs (x .main)) (outputs-all ProperSubsection ProperDeclaration (λ ds g. g) (x .main) (proper .main)) (outputs-all ProperSubsection ProperDeclaration (λ ds g. g) (x .main) (proper .main)),
+    all-both (λ m h _. proper-name m h) (inputs (x .main)) (inputs-all ProperSubsection ProperDeclaration (λ ds g. g) (x .main) (proper .main))
+        (inputs-all ProperSubsection ProperDeclaration (λ ds g. g) (x .main) (proper .main)),
+    all-both (λ m h _. proper-name m h) (outputs (x .main)) (outputs-all ProperSubsection ProperDeclaration (λ ds g. g) (x .main) (proper .main))
+        (outputs-all ProperSubsection ProperDeclaration (λ ds g. g) (x .main) (proper .main)),
   )
 
   pub near : (m : Declaration) (k : ℕ) → DeclarationAt x text w refs m k → isOf Name (declaredName m) ≡ true → declaredName m .at < 2 ^ offsetBits
@@ -61,7 +63,9 @@ module _ {text w refs found : List ℕ} {entries names : ℕ} {x : Spec} (t : Tr
       name-near text (declaredName m) (l .lexical .short) (subst (Stands text) (own .keeps .0) (token-stands (l .lexical) (own .index) (omega arith))) e
 
   -- the turns' hypotheses
-  pub sizings : (places enumerations order offsets : List ℕ) (ins count : ℕ) (sorts numbers : List ℕ) (d : Table) → All RegularDefinition (x .definitions) → Notes (tokens text) w (worldIn x [] d) sorts numbers → PortsPlaced t places ins count → Described w refs found places count order enumerations offsets → Sizings text w refs found entries names places enumerations ins count sorts numbers x d
+  pub sizings : (places enumerations order offsets : List ℕ) (ins count : ℕ) (sorts numbers : List ℕ) (d : Table) → All RegularDefinition (x .definitions)
+      → Notes (tokens text) w (worldIn x [] d) sorts numbers → PortsPlaced t places ins count → Described w refs found places count order enumerations offsets
+      → Sizings text w refs found entries names places enumerations ins count sorts numbers x d
   sizings places enumerations order offsets ins count sorts numbers d regular notes p h =
       let a = p .ins-total in
       let b = p .outs-total in

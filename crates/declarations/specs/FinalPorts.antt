@@ -17,7 +17,8 @@ use Rattle.language.specs.Declared.{Port, inputs, outputs, Declarations, declar
 use Rattle.language.specs.Numbering.{inOrder, firstOf}
 use Rattle.language.specs.Laws.Basics.Lists.{All, all-append, all-more}
 use Rattle.language.specs.Laws.Basics.Tests.{same-refl}
-use Rattle.language.specs.Laws.Values.DistinctNames.{Apart, Distinct, declaredName}
+use Rattle.language.specs.Listed.{declaredName}
+use Rattle.language.specs.Laws.Values.DistinctNames.{Apart, Distinct}
 use Rattle.language.specs.Laws.Values.PortLaws.{PortFor, Pairs, PortsFor, ports-for, pairs-right, portNames, ports-distinct}
 use Rattle.names.specs.References.{numberIn}
 use Rattle.names.specs.ResolvedLaws.{number-apart}
@@ -36,11 +37,17 @@ use Rattle.declarations.specs.Placing.{PortsPlaced, along-each}
 use Rattle.declarations.specs.Promise.{PortsNoted}
 use Rattle.declarations.specs.Final.{numberOf, names-proper, near}
 
-ports-append : (R : Token → ℕ) (order offsets widths : List ℕ) (ins j : ℕ) (ps qs : List Port) → PortsFrom R order offsets widths ins j ps → PortsFrom R order offsets widths ins (j + length ps) qs → PortsFrom R order offsets widths ins j (ps ++ qs)
+ports-append : (R : Token → ℕ) (order offsets widths : List ℕ) (ins j : ℕ) (ps qs : List Port) → PortsFrom R order offsets widths ins j ps → PortsFrom R order offsets widths ins (j + length ps) qs
+    → PortsFrom R order offsets widths ins j (ps ++ qs)
 ports-append R order offsets widths ins j [] qs h g = subst (λ i. PortsFrom R order offsets widths ins i qs) (omega arith) g
-ports-append R order offsets widths ins j (p ∷ ps) qs h g = (h .0, ports-append R order offsets widths ins (suc j) ps qs (h .1) (subst (λ i. PortsFrom R order offsets widths ins i qs) (omega arith) g))
+ports-append R order offsets widths ins j (p ∷ ps) qs h g = (
+  h .0,
+  ports-append R order offsets widths ins (suc j) ps qs (h .1)
+      (subst (λ i. PortsFrom R order offsets widths ins i qs) (omega arith) g),
+)
 
-noted-append : (x : Spec) (ts : List Token) (w order enumerations : List ℕ) (j : ℕ) (ps qs : List Port) → PortsNoted x ts w order enumerations j ps → PortsNoted x ts w order enumerations (j + length ps) qs → PortsNoted x ts w order enumerations j (ps ++ qs)
+noted-append : (x : Spec) (ts : List Token) (w order enumerations : List ℕ) (j : ℕ) (ps qs : List Port) → PortsNoted x ts w order enumerations j ps
+    → PortsNoted x ts w order enumerations (j + length ps) qs → PortsNoted x ts w order enumerations j (ps ++ qs)
 noted-append x ts w order enumerations j [] qs h g = subst (λ i. PortsNoted x ts w order enumerations i qs) (omega arith) g
 noted-append x ts w order enumerations j (p ∷ ps) qs h g = (h .0, noted-append x ts w order enumerations (suc j) ps qs (h .1) (subst (λ i. PortsNoted x ts w order enumerations i qs) (omega arith) g))
 
@@ -53,17 +60,21 @@ widths-at widths j (p ∷ ps) h i a b = go (i - j) refl (widths-at widths (suc j
     go (suc d) e ih = ih (omega arith) (omega arith)
 
 -- the words of a port's enumeration
-enumerates-for : (ts : List Token) (w : List ℕ) (defs : List Definition) (output : Bool) (m : Declaration) (p : Port) (e : ℕ) → PortFor defs output m p → EnumeratedBy ts w defs m e → Enumerates ts w e (p .words)
+enumerates-for : (ts : List Token) (w : List ℕ) (defs : List Definition) (output : Bool) (m : Declaration) (p : Port) (e : ℕ) → PortFor defs output m p → EnumeratedBy ts w defs m e
+    → Enumerates ts w e (p .words)
 enumerates-for ts w defs output (OneSignal n) p e f h = record { wordless = λ _. f .shaped .1; there = λ q. absurd (q h) }
 enumerates-for ts w defs output (OfWidth n b) p e f h = record { wordless = λ _. f .shaped .1; there = λ q. absurd (q h) }
 enumerates-for ts w defs output (OfType u n) p e f h = subst (Enumerates ts w e) (sym (f .shaped .1)) h
 
-module _ {text w refs found : List ℕ} {entries names : ℕ} {x : Spec} (t : Tree text w refs found entries names x) (places order enumerations offsets widths : List ℕ) (ins count : ℕ) (p : PortsPlaced t places ins count) (h : Described w refs found places count order enumerations offsets) where
+module _ {text w refs found : List ℕ} {entries names : ℕ} {x : Spec} (t : Tree text w refs found entries names x) (places order enumerations offsets widths : List ℕ) (ins count : ℕ)
+    (p : PortsPlaced t places ins count) (h : Described w refs found places count order enumerations offsets) where
   abbrev At : Declaration → ℕ → Type 0
   At m k = DeclarationAt x text w refs m k × Turnable x (declaredName m)
 
   -- one heading's ports
-  section-ports : (output : Bool) (ds : List Declaration) (ps : List Port) (j : ℕ) → j + length ds ≤ count → ((i : ℕ) → j ≤ i → i < j + length ds → leb ins i ≡ output) → Pairs (PortFor (x .definitions) output) ds ps → Along (λ m k. DeclarationAt x text w refs m k × Turnable x (declaredName m)) places j ds → WidthsFrom widths j ps → PortsFrom (numberOf t) order offsets widths ins j ps
+  section-ports : (output : Bool) (ds : List Declaration) (ps : List Port) (j : ℕ) → j + length ds ≤ count → ((i : ℕ) → j ≤ i → i < j + length ds → leb ins i ≡ output)
+      → Pairs (PortFor (x .definitions) output) ds ps → Along (λ m k. DeclarationAt x text w refs m k × Turnable x (declaredName m)) places j ds → WidthsFrom widths j ps
+      → PortsFrom (numberOf t) order offsets widths ins j ps
   section-ports output [] [] j l o f a b = tt
   section-ports output [] (q ∷ ps) j l o f a b = absurd f
   section-ports output (m ∷ ds) [] j l o f a b = absurd f
@@ -77,7 +88,8 @@ module _ {text w refs found : List ℕ} {entries names : ℕ} {x : Spec} (t : Tr
     section-ports output ds ps (suc j) (omega arith) (λ i c d. o i (omega arith) (omega arith)) (f .1) (a .1) (b .1),
   )
 
-  section-noted : (output : Bool) (ds : List Declaration) (ps : List Port) (j : ℕ) → j + length ds ≤ count → Pairs (PortFor (x .definitions) output) ds ps → PlacedFrom x text w refs places enumerations j ds → PortsNoted x (tokens text) w order enumerations j ps
+  section-noted : (output : Bool) (ds : List Declaration) (ps : List Port) (j : ℕ) → j + length ds ≤ count → Pairs (PortFor (x .definitions) output) ds ps
+      → PlacedFrom x text w refs places enumerations j ds → PortsNoted x (tokens text) w order enumerations j ps
   section-noted output [] [] j l f a = tt
   section-noted output [] (q ∷ ps) j l f a = absurd f
   section-noted output (m ∷ ds) [] j l f a = absurd f
@@ -115,7 +127,8 @@ module _ {text w refs found : List ℕ} {entries names : ℕ} {x : Spec} (t : Tr
         record {
           ports = ports-append (numberOf t) order offsets widths ins 0 (D .inputs) (D .outputs)
               (section-ports false (inputs (x .main)) (D .inputs) 0 (omega arith) (λ i l m. lt-leb ins i (omega arith)) (both .ins) (p .ins-along) wi)
-              (subst (λ i. PortsFrom (numberOf t) order offsets widths ins i (D .outputs)) at (section-ports true (outputs (x .main)) (D .outputs) ins (omega arith) (λ i l m. le-leb ins i l) (both .outs) (p .outs-along) wo));
+              (subst (λ i. PortsFrom (numberOf t) order offsets widths ins i (D .outputs)) at
+              (section-ports true (outputs (x .main)) (D .outputs) ins (omega arith) (λ i l m. le-leb ins i l) (both .outs) (p .outs-along) wo));
           total = ports-are;
         }
 
@@ -127,7 +140,9 @@ module _ {text w refs found : List ℕ} {entries names : ℕ} {x : Spec} (t : Tr
         let at : ins ≡ 0 + length (D .inputs) = omega arith in
         noted-append x (tokens text) w order enumerations 0 (D .inputs) (D .outputs)
         (section-noted false (inputs (x .main)) (D .inputs) 0 (omega arith) (both .ins) (placed-from t places enumerations count 0 (inputs (x .main)) (omega arith) (h .enumerated) (p .ins-along)))
-        (subst (λ i. PortsNoted x (tokens text) w order enumerations i (D .outputs)) at (section-noted true (outputs (x .main)) (D .outputs) ins (omega arith) (both .outs) (placed-from t places enumerations count ins (outputs (x .main)) (omega arith) (h .enumerated) (p .outs-along))))
+        (subst (λ i. PortsNoted x (tokens text) w order enumerations i (D .outputs)) at
+        (section-noted true (outputs (x .main)) (D .outputs) ins (omega arith) (both .outs)
+        (placed-from t places enumerations count ins (outputs (x .main)) (omega arith) (h .enumerated) (p .outs-along))))
 
     -- the room that the listing asks for
     abbrev Fine : ℕ → Type 0
@@ -147,10 +162,12 @@ module _ {text w refs found : List ℕ} {entries names : ℕ} {x : Spec} (t : Tr
         go : (b : Bool) → ltb i ins ≡ b → Fine (getD places i 0)
         go true e =
             along-each (λ m k. (DeclarationAt x text w refs m k × Turnable x (declaredName m)) × (isOf Name (declaredName m) ≡ true)) Fine fine places 0 (inputs (x .main))
-            (along-both (λ m k. DeclarationAt x text w refs m k × Turnable x (declaredName m)) (λ m. isOf Name (declaredName m) ≡ true) places 0 (inputs (x .main)) (p .ins-along) (names-proper t .0)) i (omega arith) (let q = p .ins-total in let r = ltb-true i ins e in omega arith)
+            (along-both (λ m k. DeclarationAt x text w refs m k × Turnable x (declaredName m)) (λ m. isOf Name (declaredName m) ≡ true) places 0 (inputs (x .main)) (p .ins-along) (names-proper t .0))
+            i (omega arith) (let q = p .ins-total in let r = ltb-true i ins e in omega arith)
         go false e =
             along-each (λ m k. (DeclarationAt x text w refs m k × Turnable x (declaredName m)) × (isOf Name (declaredName m) ≡ true)) Fine fine places ins (outputs (x .main))
-            (along-both (λ m k. DeclarationAt x text w refs m k × Turnable x (declaredName m)) (λ m. isOf Name (declaredName m) ≡ true) places ins (outputs (x .main)) (p .outs-along) (names-proper t .1)) i (ltb-false i ins e) (let q = p .outs-total in omega arith)
+            (along-both (λ m k. DeclarationAt x text w refs m k × Turnable x (declaredName m)) (λ m. isOf Name (declaredName m) ≡ true) places ins (outputs (x .main)) (p .outs-along)
+            (names-proper t .1)) i (ltb-false i ins e) (let q = p .outs-total in omega arith)
 
     all-narrow : (i : ℕ) → i < count → getD widths i 0 ≤ maxWidth
     all-narrow i l = go (ltb i ins) refl
@@ -159,7 +176,8 @@ module _ {text w refs found : List ℕ} {entries names : ℕ} {x : Spec} (t : Tr
         go true e = widths-at widths 0 (D .inputs) wi i (omega arith) (let q = inputs-are in let r = ltb-true i ins e in omega arith)
         go false e = widths-at widths ins (D .outputs) wo i (ltb-false i ins e) (let q = outs-length in let r = p .outs-total in omega arith)
 
-    pub list-room : (firsts list : List ℕ) → maxNames ≤ length order → maxNames ≤ length offsets → maxNames ≤ length widths → maxNames ≤ length firsts → maxSignals ≤ length list → Room order offsets widths count firsts list
+    pub list-room : (firsts list : List ℕ) → maxNames ≤ length order → maxNames ≤ length offsets → maxNames ≤ length widths → maxNames ≤ length firsts → maxSignals ≤ length list
+        → Room order offsets widths count firsts list
     list-room firsts list a b c d e =
         let few = p .few in
         record {
@@ -191,7 +209,9 @@ module _ {text w refs found : List ℕ} {entries names : ℕ} {x : Spec} (t : Tr
           apart qs (a .1) (b .1),
         )
 
-    pub firsts-are : (firsts : List ℕ) → maxNames ≤ length firsts → All (λ q. getD (numberedFrom (numberOf t) 0 (inOrder D) firsts) (numberOf t (q .name)) 0 ≡ firstOf (inOrder D) (q .name .text)) (inOrder D)
+    pub firsts-are : (firsts : List ℕ) → maxNames ≤ length firsts
+        → All (λ q. getD (numberedFrom (numberOf t) 0 (inOrder D) firsts) (numberOf t (q .name)) 0 ≡ firstOf (inOrder D) (q .name .text)) (inOrder D)
     firsts-are firsts room =
         all-more (λ q e. e ∙ omega arith) (inOrder D)
-        (firsts-told (numberOf t) 0 (inOrder D) firsts (all-more (λ q v. (let s = number-small t (q .name) v in omega arith)) (inOrder D) shown) (separate (inOrder D) shown (ports-distinct x D (t .resolved .distinct) is)) (ports-distinct x D (t .resolved .distinct) is))
+        (firsts-told (numberOf t) 0 (inOrder D) firsts (all-more (λ q v. (let s = number-small t (q .name) v in omega arith)) (inOrder D) shown)
+        (separate (inOrder D) shown (ports-distinct x D (t .resolved .distinct) is)) (ports-distinct x D (t .resolved .distinct) is))

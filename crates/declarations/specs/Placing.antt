@@ -9,7 +9,7 @@ use Rattle.language.specs.Tree.{Expr, Parameter, Declaration, OneSignal, OfWidt
 use Rattle.language.specs.Places.{Entry, parameterLines, definitionLines, declarationLines, formulaLines, mainLines, allLines}
 use Rattle.language.specs.Names.{Names, declares, over}
 use Rattle.language.specs.Declared.{inputs, outputs}
-use Rattle.language.specs.Laws.Values.DistinctNames.{declaredName}
+use Rattle.language.specs.Listed.{declaredName}
 use Rattle.entries.specs.Flat.{outline}
 use Rattle.names.specs.AlikeLaws.{pushed}
 use Rattle.values.specs.ElsewhereLaws.{ownNames, over-definitions}
@@ -18,7 +18,8 @@ use Rattle.notes.specs.Chosen.{noHeading, chosen}
 use Rattle.notes.specs.Choosing.{Chooses}
 use Rattle.notes.specs.ChosenLaws.{parameterChoice, portChoice, parameters-chosen, inputs-chosen, outputs-chosen}
 use Rattle.notes.specs.Owned.{ParameterAt, DeclarationAt, parameters-at, declarations-at}
-use Rattle.declarations.specs.Along.{Along, along-from, along-both, pairs-length, sets-read, sets-before}
+use Rattle.basics.specs.Lists.{getD-sets-below}
+use Rattle.declarations.specs.Along.{Along, along-from, along-both, pairs-length, sets-read}
 use Rattle.declarations.specs.Turnable.{Turnable, parameters-turnable, signals-turnable}
 use Rattle.declarations.specs.Trees.{Tree}
 
@@ -62,15 +63,20 @@ module _ {text w refs found : List ℕ} {entries names : ℕ} {x : Spec} (t : Tr
   pub parameters-few : length (x .parameters) ≤ maxNames
   parameters-few = let a = all-few in omega arith
 
-  pub parameters-placed : (old new : List ℕ) (count : ℕ) → maxNames ≤ length old → Chooses parameterChoice (outline x) old 0 new count → Along (λ p k. ParameterAt x text w refs p k × Turnable x (p .name)) new 0 (x .parameters) × (length (x .parameters) ≡ count)
+  pub parameters-placed : (old new : List ℕ) (count : ℕ) → maxNames ≤ length old → Chooses parameterChoice (outline x) old 0 new count
+      → Along (λ p k. ParameterAt x text w refs p k × Turnable x (p .name)) new 0 (x .parameters) × (length (x .parameters) ≡ count)
   parameters-placed old new count room h =
       let ks = chosen parameterChoice noHeading 0 (outline x) in
       let P = ParameterAt x text w refs in
       let pairs = parameters-chosen P x (parameters-at (t .stored) (t .resolved) (tree-worked (t .stored) (t .resolved))) in
       let n = pairs-length P (x .parameters) ks pairs in
       let few = all-few in
-      let e = h .end in
-      (along-both P (λ p. Turnable x (p .name)) new 0 (x .parameters) (along-from P new ks 0 (x .parameters) pairs (λ i l. ap (λ s. getD s (0 + i) 0) (h .stored) ∙ sets-read old 0 ks i (omega arith) l)) (parameters-turnable x (t .resolved .distinct)), omega arith)
+      let e = h .end in (
+        along-both P (λ p. Turnable x (p .name)) new 0 (x .parameters)
+            (along-from P new ks 0 (x .parameters) pairs (λ i l. ap (λ s. getD s (0 + i) 0) (h .stored) ∙ sets-read old 0 ks i (omega arith) l)) (parameters-turnable x (t .resolved .distinct)),
+        omega
+            arith,
+      )
 
   abbrev Port : Declaration → ℕ → Type 0
   Port m k = DeclarationAt x text w refs m k × Turnable x (declaredName m)
@@ -78,7 +84,8 @@ module _ {text w refs found : List ℕ} {entries names : ℕ} {x : Spec} (t : Tr
   pub ins-few : (old new : List ℕ) (ins : ℕ) → Chooses (portChoice 0) (outline x) old 0 new ins → ins ≤ maxNames
   ins-few old new ins h =
       let P = DeclarationAt x text w refs in
-      let a = pairs-length P (inputs (x .main)) (chosen (portChoice 0) noHeading 0 (outline x)) (inputs-chosen P x (declarations-at (t .stored) (t .resolved) (tree-worked (t .stored) (t .resolved)))) in
+      let a = pairs-length P (inputs (x .main)) (chosen (portChoice 0) noHeading 0 (outline x)) (inputs-chosen P x (declarations-at (t .stored) (t .resolved) (tree-worked (t .stored) (t .resolved))))
+      in
       let few = all-few in
       let e = h .end in
       omega arith
@@ -91,7 +98,8 @@ module _ {text w refs found : List ℕ} {entries names : ℕ} {x : Spec} (t : Tr
     pub outs-total : ins + length (outputs (x .main)) ≡ count
     pub few : count ≤ maxNames
 
-  pub ports-placed : (old mid new : List ℕ) (ins count : ℕ) → maxNames ≤ length old → length mid ≡ length old → Chooses (portChoice 0) (outline x) old 0 mid ins → Chooses (portChoice 1) (outline x) mid ins new count → PortsPlaced new ins count
+  pub ports-placed : (old mid new : List ℕ) (ins count : ℕ) → maxNames ≤ length old → length mid ≡ length old → Chooses (portChoice 0) (outline x) old 0 mid ins
+      → Chooses (portChoice 1) (outline x) mid ins new count → PortsPlaced new ins count
   ports-placed old mid new ins count room size h g =
       let P = DeclarationAt x text w refs in
       let at = declarations-at (t .stored) (t .resolved) (tree-worked (t .stored) (t .resolved)) in
@@ -108,15 +116,19 @@ module _ {text w refs found : List ℕ} {entries names : ℕ} {x : Spec} (t : Tr
       let f = g .end in
       let turn = signals-turnable x (t .resolved .distinct) in
       record {
-        ins-along = along-both P (λ m. Turnable x (declaredName m)) new 0 I (along-from P new is 0 I ip (λ i l. ap (λ s. getD s (0 + i) 0) (g .stored) ∙ sets-before mid ins os (0 + i) (omega arith) ∙ ap (λ s. getD s (0 + i) 0) (h .stored) ∙ sets-read old 0 is i (omega arith) l)) (turn .0);
-        outs-along = along-both P (λ m. Turnable x (declaredName m)) new ins O (along-from P new os ins O op (λ i l. ap (λ s. getD s (ins + i) 0) (g .stored) ∙ sets-read mid ins os i (omega arith) l)) (turn .1);
+        ins-along = along-both P (λ m. Turnable x (declaredName m)) new 0 I
+            (along-from P new is 0 I ip (λ i l. ap (λ s. getD s (0 + i) 0) (g .stored) ∙ getD-sets-below mid ins os (0 + i) (omega arith) ∙ ap (λ s. getD s (0 + i) 0) (h .stored) ∙ sets-read old 0 is
+            i (omega arith) l)) (turn .0);
+        outs-along = along-both P (λ m. Turnable x (declaredName m)) new ins O
+            (along-from P new os ins O op (λ i l. ap (λ s. getD s (ins + i) 0) (g .stored) ∙ sets-read mid ins os i (omega arith) l)) (turn .1);
         ins-total = omega arith;
         outs-total = omega arith;
         few = omega arith;
       }
 
 -- what holds of all entries along things
-pub along-each : {A : Type 0} (P : A → ℕ → Type 0) (Q : ℕ → Type 0) → ((a : A) (k : ℕ) → P a k → Q k) → (order : List ℕ) (j : ℕ) (l : List A) → Along P order j l → (i : ℕ) → j ≤ i → i < j + length l → Q (getD order i 0)
+pub along-each : {A : Type 0} (P : A → ℕ → Type 0) (Q : ℕ → Type 0) → ((a : A) (k : ℕ) → P a k → Q k) → (order : List ℕ) (j : ℕ) (l : List A) → Along P order j l → (i : ℕ) → j ≤ i → i < j + length l
+    → Q (getD order i 0)
 along-each P Q f order j [] h i a b = absurd (omega arith)
 along-each P Q f order j (x ∷ l) h i a b = go (i - j) refl (along-each P Q f order (suc j) l (h .1) i)
   where

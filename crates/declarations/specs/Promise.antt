@@ -51,7 +51,8 @@ PortsNoted x ts w order enumerations j (p ∷ ps) = PortNoted x ts w order enume
 -- the signals: how many there are, their list and the number of each name's first; or the place of 15
 abbrev pub SignalsAre : Spec → List Port → (firsts list list′ : List ℕ) → Signals → Type 0
 SignalsAre x ps firsts list list′ (Listed n) =
-    (tooManySignals 0 ps ≡ none) × ((n ≡ length (signalList ps)) × ((list′ ≡ sets list 0 (signalList ps)) × All (λ p. getD firsts (numberIn (declaredNames x) (p .name)) 0 ≡ firstOf ps (p .name .text)) ps))
+    (tooManySignals 0 ps ≡ none) × ((n ≡ length (signalList ps)) ×
+    ((list′ ≡ sets list 0 (signalList ps)) × All (λ p. getD firsts (numberIn (declaredNames x) (p .name)) 0 ≡ firstOf ps (p .name .text)) ps))
 SignalsAre x ps firsts list list′ (TooMany place) = tooManySignals 0 ps ≡ some place
 
 pub record WorkedOut (text w : List ℕ) (x : Spec) (sorts numbers kept order enumerations firsts list list′ : List ℕ) (count ins : ℕ) (signals : Signals) : Type 0 where

@@ -58,11 +58,11 @@ SizesAre text w x d ins sorts numbers widths (Worked.Refused n p) = sizedAll x d
 pub record SizesTold (text w : List ℕ) (x : Spec) (d : Table) (ins : ℕ) (sorts numbers widths : List ℕ) (r : Worked) : Type 0 where
   pub told : SizesAre text w x d ins sorts numbers widths r
 
-after : {A B : Type 0} (v : Result A) (f : A → Result B) (a : A) → v ≡ Done a → v >>= f ≡ f a
+pub after : {A B : Type 0} (v : Result A) (f : A → Result B) (a : A) → v ≡ Done a → v >>= f ≡ f a
 unfolding _>>=_
 after v f a e = ap (λ u. u >>= f) e
 
-over : {A B : Type 0} (v : Result A) (f : A → Result B) (n p : ℕ) → v ≡ Result.Refused n p → v >>= f ≡ Result.Refused n p
+pub over : {A B : Type 0} (v : Result A) (f : A → Result B) (n p : ℕ) → v ≡ Result.Refused n p → v >>= f ≡ Result.Refused n p
 unfolding _>>=_
 over v f n p e = ap (λ u. u >>= f) e
 
@@ -78,11 +78,13 @@ turns-length defs output ds d s e = value-of e (within ds d)
     within (m ∷ ds) d = bind-any _ _ (λ p. bind _ _ (within ds ((p .name .text, asDeclared (p .width)) ∷ d)) (λ s h. done (ap suc h)))
 
 module _ (text w refs found : List ℕ) (entries names : ℕ) (places enumerations : List ℕ) (ins count : ℕ) (x : Spec) (d : Table) where
-  pub ins-declared : (sorts numbers : List ℕ) → Sizings text w refs found entries names places enumerations ins count sorts numbers x d → Declared text w refs found entries names places enumerations 0 ins sorts numbers x (inputs (x .main)) d
+  pub ins-declared : (sorts numbers : List ℕ) → Sizings text w refs found entries names places enumerations ins count sorts numbers x d
+      → Declared text w refs found entries names places enumerations 0 ins sorts numbers x (inputs (x .main)) d
   ins-declared sorts numbers h = record { tree = h .tree; regular = h .regular; placed = h .ins-placed; total = (let t = h .ins-total in omega arith); notes = h .notes }
 
   -- after the inputs' turns
-  module _ (sorts numbers sorts′ numbers′ widths′ : List ℕ) (h : Sizings text w refs found entries names places enumerations ins count sorts numbers x d) (n : ℕ) (v : Worked) (q : v ≡ Worked.Value n) (f : TurnsTold text w x false (inputs (x .main)) d 0 sorts′ numbers′ widths′ v) where
+  module _ (sorts numbers sorts′ numbers′ widths′ : List ℕ) (h : Sizings text w refs found entries names places enumerations ins count sorts numbers x d) (n : ℕ) (v : Worked) (q : v ≡ Worked.Value n)
+      (f : TurnsTold text w x false (inputs (x .main)) d 0 sorts′ numbers′ widths′ v) where
     pub first : TurnsTold text w x false (inputs (x .main)) d 0 sorts′ numbers′ widths′ (Worked.Value n)
     first = subst (TurnsTold text w x false (inputs (x .main)) d 0 sorts′ numbers′ widths′) q f
 
@@ -95,9 +97,11 @@ module _ (text w refs found : List ℕ) (entries names : ℕ) (places enumeratio
 
     unrolled : sizedAll x d ≡ (turns (x .definitions) true (outputs (x .main)) (afterInputs .table) >>= λ o. Done (record { table = o .table; inputs = afterInputs .ports; outputs = o .ports }))
     unfolding afterInputs
-    unrolled = after (turns (x .definitions) false (inputs (x .main)) d) (λ i. turns (x .definitions) true (outputs (x .main)) (i .table) >>= λ o. Done (record { table = o .table; inputs = i .ports; outputs = o .ports })) (first .told .0) (first .told .1)
+    unrolled = after (turns (x .definitions) false (inputs (x .main)) d)
+        (λ i. turns (x .definitions) true (outputs (x .main)) (i .table) >>= λ o. Done (record { table = o .table; inputs = i .ports; outputs = o .ports })) (first .told .0) (first .told .1)
 
-    pub sizes-told : (sorts″ numbers″ widths″ : List ℕ) (r : Worked) → Before ins widths′ widths″ → TurnsTold text w x true (outputs (x .main)) (afterInputs .table) ins sorts″ numbers″ widths″ r → SizesTold text w x d ins sorts″ numbers″ widths″ r
+    pub sizes-told : (sorts″ numbers″ widths″ : List ℕ) (r : Worked) → Before ins widths′ widths″ → TurnsTold text w x true (outputs (x .main)) (afterInputs .table) ins sorts″ numbers″ widths″ r
+        → SizesTold text w x d ins sorts″ numbers″ widths″ r
     unfolding afterInputs
     sizes-told sorts″ numbers″ widths″ (Worked.Value m) b g =
         let o = g .told .0 in
@@ -105,7 +109,8 @@ module _ (text w refs found : List ℕ) (entries names : ℕ) (places enumeratio
         record {
           told = (
             record { table = o .table; inputs = afterInputs .ports; outputs = o .ports },
-            unrolled ∙ after (turns (x .definitions) true (outputs (x .main)) (afterInputs .table)) (λ o. Done (record { table = o .table; inputs = afterInputs .ports; outputs = o .ports })) o (g .told .1),
+            unrolled ∙ after (turns (x .definitions) true (outputs (x .main)) (afterInputs .table)) (λ o. Done (record { table = o .table; inputs = afterInputs .ports; outputs = o .ports })) o
+                (g .told .1),
             g .told .2,
             widths-kept widths′ widths″ ins 0 (afterInputs .ports) (let t = h .ins-total in omega arith) b (first .told .3),
             g .told .3,
@@ -115,28 +120,67 @@ module _ (text w refs found : List ℕ) (entries names : ℕ) (places enumeratio
         portsLength : length (inputs (x .main)) ≡ length (first .told .0 .ports)
         portsLength = turns-length (x .definitions) false (inputs (x .main)) d (first .told .0) (first .told .1)
     sizes-told sorts″ numbers″ widths″ (Worked.Refused m p) b g =
-        record { told = unrolled ∙ over (turns (x .definitions) true (outputs (x .main)) (afterInputs .table)) (λ o. Done (record { table = o .table; inputs = afterInputs .ports; outputs = o .ports })) m p (g .told) }
+        record {
+          told = unrolled ∙ over (turns (x .definitions) true (outputs (x .main)) (afterInputs .table))
+              (λ o. Done (record { table = o .table; inputs = afterInputs .ports; outputs = o .ports })) m p (g .told);
+        }
 
-  pub sizes-stopped : (sorts′ numbers′ widths′ : List ℕ) (v : Worked) (n p : ℕ) → v ≡ Worked.Refused n p → TurnsTold text w x false (inputs (x .main)) d 0 sorts′ numbers′ widths′ v → SizesTold text w x d ins sorts′ numbers′ widths′ v
+  pub sizes-stopped : (sorts′ numbers′ widths′ : List ℕ) (v : Worked) (n p : ℕ) → v ≡ Worked.Refused n p → TurnsTold text w x false (inputs (x .main)) d 0 sorts′ numbers′ widths′ v
+      → SizesTold text w x d ins sorts′ numbers′ widths′ v
   sizes-stopped sorts′ numbers′ widths′ v n p q f =
       let g : TurnsTold text w x false (inputs (x .main)) d 0 sorts′ numbers′ widths′ (Worked.Refused n p) = subst (TurnsTold text w x false (inputs (x .main)) d 0 sorts′ numbers′ widths′) q f in
       subst (SizesTold text w x d ins sorts′ numbers′ widths′) (sym q)
-      (record { told = over (turns (x .definitions) false (inputs (x .main)) d) (λ i. turns (x .definitions) true (outputs (x .main)) (i .table) >>= λ o. Done (record { table = o .table; inputs = i .ports; outputs = o .ports })) n p (g .told) })
+      (record {
+        told = over (turns (x .definitions) false (inputs (x .main)) d)
+            (λ i. turns (x .definitions) true (outputs (x .main)) (i .table) >>= λ o. Done (record { table = o .table; inputs = i .ports; outputs = o .ports })) n p (g .told);
+      })
 
 -- the functions that are called ask for
-pub ins-given : {text w refs places enumerations : List ℕ} {ins count : ℕ} {sorts numbers slots widths : List ℕ} (g : SizesGiven text w refs places enumerations ins count sorts numbers slots widths) → TurnsGiven text w refs places enumerations 0 ins sorts numbers slots widths
+pub ins-given : {text w refs places enumerations : List ℕ} {ins count : ℕ} {sorts numbers slots widths : List ℕ} (g : SizesGiven text w refs places enumerations ins count sorts numbers slots widths)
+    → TurnsGiven text w refs places enumerations 0 ins sorts numbers slots widths
 ins-given {text} {w} {refs} {places} {enumerations} {ins} {count} {sorts} {numbers} g =
     let t = g .sizings .outs-total in
     let few = g .few in
     let a = g .places-room in
     let b = g .enumerations-room in
     let c = g .widths-room in
-    record { found = g .found; entries = g .entries; names = g .names; x = g .x; ds = inputs (g .x .main); d = g .d; declared = ins-declared text w refs (g .found) (g .entries) (g .names) places enumerations ins count (g .x) (g .d) sorts numbers (g .sizings); room = g .room; few = omega arith; places-room = omega arith; enumerations-room = omega arith; widths-room = omega arith }
+    record {
+      found = g .found;
+      entries = g .entries;
+      names = g .names;
+      x = g .x;
+      ds = inputs (g .x .main);
+      d = g .d;
+      declared = ins-declared text w refs (g .found) (g .entries) (g .names) places
+          enumerations ins count (g .x) (g .d) sorts numbers (g .sizings);
+      room = g .room;
+      few = omega arith;
+      places-room = omega arith;
+      enumerations-room = omega arith;
+      widths-room = omega arith;
+    }
 
-pub outs-given : {text w refs places enumerations : List ℕ} {ins count : ℕ} {sorts numbers slots widths : List ℕ} (g : SizesGiven text w refs places enumerations ins count sorts numbers slots widths) (sorts′ numbers′ slots′ widths′ : List ℕ) (t : Table) → Room refs sorts′ numbers′ slots′ → length widths′ ≡ length widths → Declared text w refs (g .found) (g .entries) (g .names) places enumerations ins count sorts′ numbers′ (g .x) (outputs (g .x .main)) t → TurnsGiven text w refs places enumerations ins count sorts′ numbers′ slots′ widths′
+pub outs-given : {text w refs places enumerations : List ℕ} {ins count : ℕ} {sorts numbers slots widths : List ℕ} (g : SizesGiven text w refs places enumerations ins count sorts numbers slots widths)
+    (sorts′ numbers′ slots′ widths′ : List ℕ) (t : Table) → Room refs sorts′ numbers′ slots′ → length widths′ ≡ length widths
+    → Declared text w refs (g .found) (g .entries) (g .names) places enumerations ins count sorts′ numbers′ (g .x) (outputs (g .x .main)) t
+    → TurnsGiven text w refs places enumerations ins count sorts′ numbers′ slots′ widths′
 outs-given g sorts′ numbers′ slots′ widths′ t room size h =
     let few = g .few in
     let a = g .places-room in
     let b = g .enumerations-room in
     let c = g .widths-room in
-    record { found = g .found; entries = g .entries; names = g .names; x = g .x; ds = outputs (g .x .main); d = t; declared = h; room = room; few = few; places-room = omega arith; enumerations-room = omega arith; widths-room = omega arith }
+    record {
+      found = g .found;
+      entries = g .entries;
+      names = g .names;
+      x = g .x;
+      ds = outputs (g .x .main);
+      d = t;
+      declared = h;
+      room = room;
+      few = few;
+      places-room = omega arith;
+      enumerations-room =
+          omega arith;
+      widths-room = omega arith;
+    }

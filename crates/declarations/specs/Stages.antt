@@ -12,7 +12,7 @@ use Rattle.language.specs.Tokens.{tokens}
 use Rattle.language.specs.Grammar.{Tokens}
 use Rattle.language.specs.Tree.{Spec}
 use Rattle.language.specs.Declared.{inputs, outputs}
-use Rattle.language.specs.Laws.Values.DistinctNames.{declaredName}
+use Rattle.language.specs.Listed.{declaredName}
 use Rattle.entries.specs.Flat.{Entry, outline}
 use Rattle.entries.specs.Stored.{EntriesFrom}
 use Rattle.names.specs.Resolved.{Stored, Resolved}
@@ -42,26 +42,38 @@ abbrev pub Choosing : List ℕ → ℕ → Choice → List ℕ → ℕ → List 
 Choosing w entries c old from new r = (ts : Tokens) (es : List Entry) → EntriesFrom w ts 0 es → length es ≡ entries → Chooses c es old from new r
 
 abbrev pub Noting : List ℕ → List ℕ → ℕ → List ℕ → List ℕ → Type 0
-Noting w found names sorts numbers = (text refs : List ℕ) (count entries : ℕ) (x : Spec) → Stored text w count entries x → Resolved x refs found names → Notes (tokens text) w (worldIn x [] (firstTable x)) sorts numbers
+Noting w found names sorts numbers = (text refs : List ℕ) (count entries : ℕ) (x : Spec) → Stored text w count entries x → Resolved x refs found names
+    → Notes (tokens text) w (worldIn x [] (firstTable x)) sorts numbers
 
 module _ {text w refs found : List ℕ} {entries names : ℕ} where
   pub given-notes : Given text w refs found entries names → NotesGiven w found names
   given-notes g = record { text = text; refs = refs; count = g .tree .count; entries = entries; tree = g .x; stored = g .tree .stored; resolved = g .tree .resolved; room = g .found-room }
 
-  pub parameters-fit : (old new : List ℕ) (count : ℕ) (sorts numbers : List ℕ) → maxNames ≤ length old → Choosing w entries parameterChoice old 0 new count → Noting w found names sorts numbers → (x : Spec) → Tree text w refs found entries names x → Parameters text w refs found entries names new count sorts numbers x (firstTable x)
+  pub parameters-fit : (old new : List ℕ) (count : ℕ) (sorts numbers : List ℕ) → maxNames ≤ length old → Choosing w entries parameterChoice old 0 new count → Noting w found names sorts numbers
+      → (x : Spec) → Tree text w refs found entries names x → Parameters text w refs found entries names new count sorts numbers x (firstTable x)
   parameters-fit old new count sorts numbers room f n x t =
       let p = parameters-placed t old new count room (f (tokens text) (outline x) (t .stored .stored) (t .stored .total)) in
       record { tree = t; places = p .0; total = p .1; notes = n text refs (t .count) entries x (t .stored) (t .resolved) }
 
-  pub parameters-given : (old new : List ℕ) (count : ℕ) (sorts numbers slots : List ℕ) → maxNames ≤ length old → length new ≡ length old → Choosing w entries parameterChoice old 0 new count → Noting w found names sorts numbers → maxNames ≤ length sorts → maxNames ≤ length numbers → maxTokens ≤ length slots → (g : Given text w refs found entries names) → ParametersGiven text w refs found entries names new count sorts numbers slots
+  pub parameters-given : (old new : List ℕ) (count : ℕ) (sorts numbers slots : List ℕ) → maxNames ≤ length old → length new ≡ length old → Choosing w entries parameterChoice old 0 new count
+      → Noting w found names sorts numbers → maxNames ≤ length sorts → maxNames ≤ length numbers → maxTokens ≤ length slots → (g : Given text w refs found entries names)
+      → ParametersGiven text w refs found entries names new count sorts numbers slots
   parameters-given old new count sorts numbers slots room size f n a b c g =
       let p = parameters-fit old new count sorts numbers room f n (g .x) (g .tree) in
-      record { x = g .x; d = firstTable (g .x); parameters = p; room = record { refs-room = g .refs-room; sorts-room = a; numbers-room = b; slots-room = c }; order-room = (let q = p .total in let few = parameters-few (g .tree) in omega arith) }
+      record {
+        x = g .x;
+        d = firstTable (g .x);
+        parameters = p;
+        room = record { refs-room = g .refs-room; sorts-room = a; numbers-room = b; slots-room = c };
+        order-room =
+            (let q = p .total in let few = parameters-few (g .tree) in omega arith);
+      }
 
   pub ins-small : (old new : List ℕ) (ins : ℕ) → Choosing w entries (portChoice 0) old 0 new ins → Given text w refs found entries names → ins ≤ maxNames
   ins-small old new ins f g = ins-few (g .tree) old new ins (f (tokens text) (outline (g .x)) (g .tree .stored .stored) (g .tree .stored .total))
 
-  pub ports-found : (old mid new : List ℕ) (ins count : ℕ) → maxNames ≤ length old → length mid ≡ length old → Choosing w entries (portChoice 0) old 0 mid ins → Choosing w entries (portChoice 1) mid ins new count → (x : Spec) (t : Tree text w refs found entries names x) → PortsPlaced t new ins count
+  pub ports-found : (old mid new : List ℕ) (ins count : ℕ) → maxNames ≤ length old → length mid ≡ length old → Choosing w entries (portChoice 0) old 0 mid ins
+      → Choosing w entries (portChoice 1) mid ins new count → (x : Spec) (t : Tree text w refs found entries names x) → PortsPlaced t new ins count
   ports-found old mid new ins count room size f g x t =
       ports-placed t old mid new ins count room size (f (tokens text) (outline x) (t .stored .stored) (t .stored .total)) (g (tokens text) (outline x) (t .stored .stored) (t .stored .total))
 
@@ -69,10 +81,24 @@ module _ {text w refs found : List ℕ} {entries names : ℕ} where
   ports-inside places ins count x t p i l = go (ltb i ins) refl
     where
       go : (b : Bool) → ltb i ins ≡ b → getD places i 0 < maxTokens
-      go true e = along-each (λ m k. DeclarationAt x text w refs m k × Turnable x (declaredName m)) (λ k. k < maxTokens) (λ m k h. tree-inside t k (h .0 .own .inside)) places 0 (inputs (x .main)) (p .ins-along) i (omega arith) (let q = p .ins-total in let r = ltb-true i ins e in omega arith)
-      go false e = along-each (λ m k. DeclarationAt x text w refs m k × Turnable x (declaredName m)) (λ k. k < maxTokens) (λ m k h. tree-inside t k (h .0 .own .inside)) places ins (outputs (x .main)) (p .outs-along) i (ltb-false i ins e) (let q = p .outs-total in omega arith)
+      go true e = along-each (λ m k. DeclarationAt x text w refs m k × Turnable x (declaredName m)) (λ k. k < maxTokens) (λ m k h. tree-inside t k (h .0 .own .inside)) places 0 (inputs (x .main))
+          (p .ins-along) i (omega arith) (let q = p .ins-total in let r = ltb-true i ins e in omega arith)
+      go false e = along-each (λ m k. DeclarationAt x text w refs m k × Turnable x (declaredName m)) (λ k. k < maxTokens) (λ m k h. tree-inside t k (h .0 .own .inside)) places ins (outputs (x .main))
+          (p .outs-along) i (ltb-false i ins e) (let q = p .outs-total in omega arith)
 
-  pub describe-room : (places : List ℕ) (ins count : ℕ) (order enumerations offsets : List ℕ) (g : Given text w refs found entries names) → PortsPlaced (g .tree) places ins count → maxNames ≤ length places → maxNames ≤ length order → maxNames ≤ length enumerations → maxNames ≤ length offsets → DescribeRoom w refs found places count order enumerations offsets
+  pub describe-room : (places : List ℕ) (ins count : ℕ) (order enumerations offsets : List ℕ) (g : Given text w refs found entries names) → PortsPlaced (g .tree) places ins count
+      → maxNames ≤ length places → maxNames ≤ length order → maxNames ≤ length enumerations → maxNames ≤ length offsets → DescribeRoom w refs found places count order enumerations offsets
   describe-room places ins count order enumerations offsets g p a b c d =
       let few = p .few in
-      record { work = g .tree .stored .lexed .room; refs-room = g .refs-room; found-room = g .found-room; few = few; places-room = omega arith; order-room = omega arith; enumerations-room = omega arith; offsets-room = omega arith; inside = ports-inside places ins count (g .x) (g .tree) p }
+      record {
+        work = g .tree .stored .lexed .room;
+        refs-room = g .refs-room;
+        found-room = g .found-room;
+        few = few;
+        places-room = omega arith;
+        order-room = omega arith;
+        enumerations-room = omega
+            arith;
+        offsets-room = omega arith;
+        inside = ports-inside places ins count (g .x) (g .tree) p;
+      }

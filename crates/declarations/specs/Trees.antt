@@ -28,7 +28,8 @@ pub record Tree (text w refs found : List ℕ) (entries names : ℕ) (x : Spec) 
 
 module _ {text w refs found : List ℕ} {entries names : ℕ} {x : Spec} (t : Tree text w refs found entries names x) where
   -- an expression that is worked behind some definitions
-  pub tree-expression : (before : List Definition) (k : ℕ) (e : Expr) → Worked x text w refs before k e → (d : Table) (sorts numbers : List ℕ) → Notes (tokens text) w (worldIn x [] d) sorts numbers → Expression text w refs sorts numbers k (worldIn x [] d) (defineAll (contextOf [] d) before) e
+  pub tree-expression : (before : List Definition) (k : ℕ) (e : Expr) → Worked x text w refs before k e → (d : Table) (sorts numbers : List ℕ) → Notes (tokens text) w (worldIn x [] d) sorts numbers
+      → Expression text w refs sorts numbers k (worldIn x [] d) (defineAll (contextOf [] d) before) e
   tree-expression before k e h d sorts numbers n =
       record { count = t .count; lexed = t .stored .lexed; known = h .known [] d; bodies = bodies x text w refs [] d (tree-worked (t .stored) (t .resolved)); notes = n }
 

@@ -9,7 +9,8 @@ use Rattle.language.specs.Places.{Entry, parameterLines, definitionLines, mainL
 use Rattle.language.specs.Names.{visible, declares, over, declaredAgain}
 use Rattle.language.specs.Declared.{inputs, outputs}
 use Rattle.language.specs.Laws.Basics.Lists.{All, all-both, all-left, all-right, all-more}
-use Rattle.language.specs.Laws.Values.DistinctNames.{Apart, Distinct, declaredName, declaredNames, signals-among, distinct-names, distinct-definitions}
+use Rattle.language.specs.Listed.{declaredName}
+use Rattle.language.specs.Laws.Values.DistinctNames.{Apart, Distinct, declaredNames, signals-among, distinct-names, distinct-definitions}
 use Rattle.names.specs.Resolved.{declaredNames as allNames}
 use Rattle.values.specs.WorldsLaws.{Elsewhere}
 use Rattle.names.specs.VisibleLaws.{In, in-declared}
@@ -40,13 +41,15 @@ module _ (x : Spec) (once : declaredAgain x ≡ none) where
 
   pub parameters-turnable : All (λ p. Turnable x (p .name)) (x .parameters)
   parameters-turnable =
-      all-both (λ p a b. record { shown = a; undefined = b }) (x .parameters) (of-parameters (In (allNames x)) (x .parameters) rest (in-declared x)) (parameters-free (x .parameters) (distinct-names x once))
+      all-both (λ p a b. record { shown = a; undefined = b }) (x .parameters) (of-parameters (In (allNames x)) (x .parameters) rest (in-declared x))
+      (parameters-free (x .parameters) (distinct-names x once))
 
   pub signals-turnable : All (λ m. Turnable x (declaredName m)) (inputs (x .main)) × All (λ m. Turnable x (declaredName m)) (outputs (x .main))
   signals-turnable =
       let F = ownNames (x .definitions) in
       let M = over declares (mainLines (x .main)) in
-      let seen : All (In (allNames x)) M = all-right (In (allNames x)) F M (subst (All (In (allNames x))) (over-definitions (x .definitions) (mainLines (x .main))) (behind-parameters (In (allNames x)) (x .parameters) rest (in-declared x))) in
+      let seen : All (In (allNames x)) M = all-right (In (allNames x)) F M
+      (subst (All (In (allNames x))) (over-definitions (x .definitions) (mainLines (x .main))) (behind-parameters (In (allNames x)) (x .parameters) rest (in-declared x))) in
       let free = all-more (λ n a. apart-elsewhere (x .definitions) n a) M (main-apart x (distinct-definitions x once)) in
       let both : All (Turnable x) M = all-both (λ n a b. record { shown = a; undefined = b }) M seen free in
       let s = signals-among (Turnable x) (x .main) both in

@@ -13,7 +13,7 @@ use Rattle.language.specs.Tokens.{tokens}
 use Rattle.language.specs.Tree.{Definition, Declaration, Spec}
 use Rattle.language.specs.Declared.{Table, Port, portOf, asDeclared, Turns, turns}
 use Rattle.language.specs.Laws.Basics.Lists.{All}
-use Rattle.language.specs.Laws.Values.DistinctNames.{declaredName}
+use Rattle.language.specs.Listed.{declaredName}
 use Rattle.language.specs.Laws.Values.RegularWords.{RegularDefinition}
 use Rattle.names.specs.References.{numberIn}
 use Rattle.names.specs.Resolved.{declaredNames}
@@ -93,12 +93,14 @@ unfolding _>>=_
 onward-none (Done s) = refl
 onward-none (Refused n p) = refl
 
-onward-refused : (defs : List Definition) (output : Bool) (done : List Port) (m : Declaration) (ds : List Declaration) (d : Table) (n p : ℕ) → portOf defs output d m ≡ Result.Refused n p → onward defs output done (m ∷ ds) d ≡ Result.Refused n p
+onward-refused : (defs : List Definition) (output : Bool) (done : List Port) (m : Declaration) (ds : List Declaration) (d : Table) (n p : ℕ) → portOf defs output d m ≡ Result.Refused n p
+    → onward defs output done (m ∷ ds) d ≡ Result.Refused n p
 unfolding _>>=_
 onward-refused defs output done m ds d n p e =
     ap (λ v. v >>= (λ p. turns defs output ds ((p .name .text, asDeclared (p .width)) ∷ d) >>= λ s. Done (record { table = s .table; ports = p ∷ s .ports })) >>= λ s. Done (handed done s)) e
 
-onward-more : (defs : List Definition) (output : Bool) (done : List Port) (m : Declaration) (ds : List Declaration) (d : Table) (q : Port) → portOf defs output d m ≡ Done q → onward defs output done (m ∷ ds) d ≡ onward defs output (done ++ q ∷ []) ds ((q .name .text, asDeclared (q .width)) ∷ d)
+onward-more : (defs : List Definition) (output : Bool) (done : List Port) (m : Declaration) (ds : List Declaration) (d : Table) (q : Port) → portOf defs output d m ≡ Done q
+    → onward defs output done (m ∷ ds) d ≡ onward defs output (done ++ q ∷ []) ds ((q .name .text, asDeclared (q .width)) ∷ d)
 unfolding _>>=_
 onward-more defs output done m ds d q e =
     ap (λ v. v >>= (λ p. turns defs output ds ((p .name .text, asDeclared (p .width)) ∷ d) >>= λ s. Done (record { table = s .table; ports = p ∷ s .ports })) >>= λ s. Done (handed done s)) e
@@ -134,7 +136,20 @@ module _ (text w refs found : List ℕ) (entries names : ℕ) (places enumeratio
 
   pub turning-starts : (sorts numbers widths : List ℕ) → Declared text w refs found entries names places enumerations from to sorts numbers x ds d → Turning from sorts numbers widths
   turning-starts sorts numbers widths h =
-      record { tree = h .tree; regular = h .regular; done = []; left = ds; table = d; same = onward-none (turns (x .definitions) output ds d); placed = h .placed; total = h .total; reached = omega arith; notes = h .notes; sized = tt }
+      record {
+        tree = h .tree;
+        regular = h .regular;
+        done = [];
+        left = ds;
+        table = d;
+        same = onward-none (turns (x .definitions) output ds d);
+        placed = h .placed;
+        total = h .total;
+        reached = omega
+            arith;
+        notes = h .notes;
+        sized = tt;
+      }
 
   module _ (j : ℕ) (sorts numbers widths : List ℕ) (inside : j < to) (g : Turning j sorts numbers widths) where
     pub record Next : Type 0 where
@@ -170,16 +185,20 @@ module _ (text w refs found : List ℕ) (entries names : ℕ) (places enumeratio
     unrolled = g .same ∙ ap (λ l. onward (x .definitions) output (g .done) l (g .table)) (next .is)
 
     -- its width, as it is worked out at entry k with the enumeration e
-    module _ (k e : ℕ) (hk : k ≡ getD places j 0) (he : e ≡ getD enumerations j 0) (v : Worked) (f : (found : List ℕ) (entries names : ℕ) (x : Spec) (d : Table) (m : Declaration) → Sizing text w refs found entries names sorts numbers k e x d m → Sizes (x .definitions) d m v) where
+    module _ (k e : ℕ) (hk : k ≡ getD places j 0) (he : e ≡ getD enumerations j 0) (v : Worked)
+        (f : (found : List ℕ) (entries names : ℕ) (x : Spec) (d : Table) (m : Declaration) → Sizing text w refs found entries names sorts numbers k e x d m → Sizes (x .definitions) d m v) where
       told : Sizes (x .definitions) (g .table) (next .own) v
-      told = f found entries names x (g .table) (next .own) (subst (λ i. Sizing text w refs found entries names sorts numbers i e x (g .table) (next .own)) (sym hk) (subst (λ i. Sizing text w refs found entries names sorts numbers (getD places j 0) i x (g .table) (next .own)) (sym he) next-sizing))
+      told = f found entries names x (g .table) (next .own) (subst (λ i. Sizing text w refs found entries names sorts numbers i e x (g .table) (next .own)) (sym hk)
+          (subst (λ i. Sizing text w refs found entries names sorts numbers (getD places j 0) i x (g .table) (next .own)) (sym he) next-sizing))
 
       pub turning-stopped : (n p : ℕ) → v ≡ Worked.Refused n p → TurnsTold text w x output ds d from sorts numbers widths v
       turning-stopped n p q =
           let h : Sizes (x .definitions) (g .table) (next .own) (Worked.Refused n p) = subst (Sizes (x .definitions) (g .table) (next .own)) q told in
-          subst (TurnsTold text w x output ds d from sorts numbers widths) (sym q) (record { told = unrolled ∙ onward-refused (x .definitions) output (g .done) (next .own) (next .later) (g .table) n p (h .told output) })
+          subst (TurnsTold text w x output ds d from sorts numbers widths) (sym q)
+          (record { told = unrolled ∙ onward-refused (x .definitions) output (g .done) (next .own) (next .later) (g .table) n p (h .told output) })
 
-      pub turning-more : (n r sort : ℕ) → v ≡ Worked.Value n → r ≡ getD refs k 0 → sort ≡ sortOf n → maxNames ≤ length sorts → maxNames ≤ length numbers → j < length widths → Turning (j + 1) (set sorts r sort) (set numbers r n) (set widths j n)
+      pub turning-more : (n r sort : ℕ) → v ≡ Worked.Value n → r ≡ getD refs k 0 → sort ≡ sortOf n → maxNames ≤ length sorts → maxNames ≤ length numbers → j < length widths
+          → Turning (j + 1) (set sorts r sort) (set numbers r n) (set widths j n)
       turning-more n r sort q hr hs a b c =
           let h : Sizes (x .definitions) (g .table) (next .own) (Worked.Value n) = subst (Sizes (x .definitions) (g .table) (next .own)) q told in
           let p : Port = portFor (x .definitions) output (next .own) n in
@@ -199,15 +218,27 @@ module _ (text w refs found : List ℕ) (entries names : ℕ) (places enumeratio
             total = (let i = g .total in let l = ap length (next .is) in omega arith);
             reached = (let l = length-append (g .done) (p ∷ []) in omega arith);
             notes = subst (λ i. Notes (tokens text) w (worldIn x [] ((t .text, asDeclared n) ∷ g .table)) (set sorts i sort) (set numbers i n)) at
-                (subst (λ s. Notes (tokens text) w (worldIn x [] ((t .text, asDeclared n) ∷ g .table)) (set sorts (numberIn (declaredNames x) t) s) (set numbers (numberIn (declaredNames x) t) n)) (sym hs)
-                (notes-turn x (tokens text) w t (names-distinct x (g .tree .resolved .distinct)) (next .placed .turnable .shown) (next .placed .turnable .undefined) [] (g .table) (asDeclared n) sorts numbers (sortOf n) n (omega arith) (omega arith) (sized-note (tokens text) w n (h .told .1)) (g .notes)));
-            sized = widths-more (set widths j n) from (g .done) p (widths-kept widths j n from (g .done) (omega arith) (g .sized)) (subst (λ i. getD (set widths j n) i 0 ≡ n) (sym z) (getD-set-same widths j n 0 c), h .told .1);
+                (subst (λ s. Notes (tokens text) w (worldIn x [] ((t .text, asDeclared n) ∷ g .table)) (set sorts (numberIn (declaredNames x) t) s) (set numbers (numberIn (declaredNames x) t) n))
+                (sym hs)
+                (notes-turn x (tokens text) w t (names-distinct x (g .tree .resolved .distinct)) (next .placed .turnable .shown) (next .placed .turnable .undefined) [] (g .table) (asDeclared n) sorts
+                numbers (sortOf n) n (omega arith) (omega arith) (sized-note (tokens text) w n (h .told .1)) (g .notes)));
+            sized = widths-more (set widths j n) from (g .done) p (widths-kept widths j n from (g .done) (omega arith) (g .sized))
+                (subst (λ i. getD (set widths j n) i 0 ≡ n) (sym z) (getD-set-same widths j n 0 c), h .told .1);
           })
 
   pub turning-all : (j : ℕ) (sorts numbers widths : List ℕ) (n : ℕ) → to ≤ j → Turning j sorts numbers widths → TurnsTold text w x output ds d from sorts numbers widths (Worked.Value n)
   unfolding _>>=_
-  turning-all j sorts numbers widths n l g = record { told = (record { table = g .table; ports = g .done ++ [] }, end (g .left) (g .total) (g .same), g .notes, subst (WidthsFrom widths from) (sym (append-nil (g .done))) (g .sized)) }
+  turning-all j sorts numbers widths n l g = record {
+    told = (
+      record { table = g .table; ports = g .done ++ [] },
+      end (g .left) (g .total) (g .same),
+      g .notes,
+      subst (WidthsFrom widths from)
+          (sym (append-nil (g .done))) (g .sized),
+    );
+  }
     where
-      end : (left : List Declaration) → j + length left ≡ to → turns (x .definitions) output ds d ≡ onward (x .definitions) output (g .done) left (g .table) → turns (x .definitions) output ds d ≡ Done (record { table = g .table; ports = g .done ++ [] })
+      end : (left : List Declaration) → j + length left ≡ to → turns (x .definitions) output ds d ≡ onward (x .definitions) output (g .done) left (g .table)
+          → turns (x .definitions) output ds d ≡ Done (record { table = g .table; ports = g .done ++ [] })
       end [] t e = e
       end (m ∷ ms) t e = absurd (omega arith)

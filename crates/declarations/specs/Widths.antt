@@ -1,7 +1,7 @@
 -- The width of a signal or a bus at its turn.
 use Prim.Native.Nat.{ℕ, zero, suc, _+_, _-_, _≤_, _<_, min}
 use mathlib.Core.Bool.{Bool, _&&_}
-use mathlib.Core.List.{List, [], _∷_}
+use mathlib.Core.List.{List, []}
 use mathlib.Core.Path.{_≡_, refl, sym, ap, _∙_, subst}
 use native.Mathlib.Omega.{arith}
 use lib.Dec.{leb}
@@ -12,12 +12,12 @@ use Rattle.words.specs.Words.{wordAt}
 use Rattle.language.specs.Limits.{maxWidth, maxTokens}
 use Rattle.language.specs.Tokens.{Token, tokens}
 use Rattle.language.specs.Grammar.{Tokens}
-use Rattle.language.specs.Tree.{Expr, Definition, Defined, Enumerated, Declaration, OneSignal, OfWidth, OfType, Spec}
+use Rattle.language.specs.Tree.{Expr, Definition, Declaration, OneSignal, OfWidth, OfType, Spec}
 use Rattle.language.specs.Values.{number, value}
 use Rattle.language.specs.Declared.{Table, Port, declared, defining, wordsOfType, wordWidth, sized, portOf, asDeclared}
-use Rattle.language.specs.Expansion.{Context, contextOf, define, defineAll}
+use Rattle.language.specs.Expansion.{Context, contextOf, defineAll}
 use Rattle.language.specs.Laws.Basics.Lists.{All}
-use Rattle.language.specs.Laws.Values.DistinctNames.{declaredName}
+use Rattle.language.specs.Listed.{declaredName}
 use Rattle.language.specs.Laws.Values.RegularWords.{RegularDefinition, regular-type}
 use Rattle.lexer.specs.Stored.{longest, offsetIn}
 use Rattle.entries.specs.Kinds as Kind
@@ -37,6 +37,7 @@ use Rattle.declarations.specs.Trees.{Tree, tree-expression, tree-inside}
 use Rattle.declarations.specs.Expressions.{Expression, Workable}
 use Rattle.declarations.specs.Enumerations.{noEntry, Enumerates, entry-offset}
 use Rattle.declarations.specs.Constants.{Room}
+use Rattle.language.specs.Laws.Values.NameLaws.{defined-values}
 
 -- the words of a declaration's enumeration
 abbrev pub wordsFor : List Definition → Declaration → List Token
@@ -88,20 +89,25 @@ no-value : (n p m : ℕ) → Worked.Refused n p ≡ Worked.Value m → ⊥
 no-value n p m e = let z : _≡_ {A = ℕ} 0 1 = cc in omega arith
 
 pub sized-none : (n place : ℕ) → n < 1 → IsSized n place (Worked.Refused 13 place)
-sized-none n place l = record { is = sym (guard-stop 13 place (Done n) (ap (λ b. b && leb n maxWidth) (lt-leb 1 n l))); same = λ m e. absurd (no-value 13 place m e); small = λ m e. absurd (no-value 13 place m e) }
+sized-none n place l = record {
+  is = sym (guard-stop 13 place (Done n) (ap (λ b. b && leb n maxWidth) (lt-leb 1 n l)));
+  same = λ m e. absurd (no-value 13 place m e);
+  small = λ m e. absurd
+      (no-value 13 place m e);
+}
 
 pub sized-wide : (n place : ℕ) → maxWidth < n → IsSized n place (Worked.Refused 13 place)
 sized-wide n place l =
-    record { is = sym (guard-stop 13 place (Done n) (ap (λ b. b && leb n maxWidth) (le-leb 1 n (omega arith)) ∙ lt-leb n maxWidth l)); same = λ m e. absurd (no-value 13 place m e); small = λ m e. absurd (no-value 13 place m e) }
+    record {
+      is = sym (guard-stop 13 place (Done n) (ap (λ b. b && leb n maxWidth) (le-leb 1 n (omega arith)) ∙ lt-leb n maxWidth l));
+      same = λ m e. absurd (no-value 13 place m e);
+      small = λ m e.
+          absurd (no-value 13 place m e);
+    }
 
 pub sized-fits : (n place : ℕ) → 1 ≤ n → n ≤ maxWidth → IsSized n place (Worked.Value n)
 sized-fits n place l h =
     record { is = sym (guard-pass 13 place (Done n) (ap (λ b. b && leb n maxWidth) (le-leb 1 n l) ∙ le-leb n maxWidth h)); same = λ m e. cc; small = λ m e. (let q : m ≡ n = cc in omega arith) }
-
-defined-values : (ds : List Definition) (c : Context) → defineAll c ds .values ≡ defining (c .values) ds
-defined-values [] c = refl
-defined-values (Defined x e ∷ ds) c = defined-values ds (define c x e)
-defined-values (Enumerated x is ∷ ds) c = defined-values ds c
 
 -- a number that is sized
 after : {A B : Type 0} (v : Result A) (f : A → Result B) (a : A) → Done a ≡ v → v >>= f ≡ f a
@@ -113,11 +119,13 @@ unfolding _>>=_
 over v f n p e = ap (λ u. u >>= f) (sym e)
 
 module _ (defs : List Definition) (d : Table) where
-  sized-port : (m : Declaration) (x : Token) (n : ℕ) (r : Worked) → ((output : Bool) → portOf defs output d m ≡ (sized x n >>= λ k. Done (portFor defs output m k))) → IsSized n (x .at) r → SizedBy defs d m r
+  sized-port : (m : Declaration) (x : Token) (n : ℕ) (r : Worked) → ((output : Bool) → portOf defs output d m ≡ (sized x n >>= λ k. Done (portFor defs output m k))) → IsSized n (x .at) r
+      → SizedBy defs d m r
   sized-port m x n (Worked.Value k) f h = ((λ output. f output ∙ after (sized x n) (λ j. Done (portFor defs output m j)) k (h .is)), h .small k refl)
   sized-port m x n (Worked.Refused k p) f h = λ output. f output ∙ over (sized x n) (λ j. Done (portFor defs output m j)) k p (h .is)
 
-module _ {text w refs found : List ℕ} {entries names : ℕ} {sorts numbers : List ℕ} {k e : ℕ} {x : Spec} {d : Table} {m : Declaration} (s : Sizing text w refs found entries names sorts numbers k e x d m) where
+module _ {text w refs found : List ℕ} {entries names : ℕ} {sorts numbers : List ℕ} {k e : ℕ} {x : Spec} {d : Table} {m : Declaration}
+    (s : Sizing text w refs found entries names sorts numbers k e x d m) where
   abbrev kind : ℕ
   kind = kindOf (wordAt w (firstEntry + k))
 
@@ -151,7 +159,9 @@ module _ (text w refs found : List ℕ) (entries names : ℕ) (sorts numbers : L
   typed-there (OfWidth n b) s q l = absurd (let z = sizing-kind s in omega arith)
   typed-there (OfType u n) s q l = s .enumerated .there l .0
 
-  pub sizes-typed : (m : Declaration) → Sized m → kindOf (wordAt w (firstEntry + k)) ≡ Kind.typed → (e ≡ noEntry → ⊥) → (n : ℕ) → ((text : List ℕ) (count : ℕ) (words : List Token) → Lexed text w count → EnumerationAt (tokens text) w e words → n ≡ min longest (wordWidth words)) → (r : Worked) → IsSized n (declaredName m .at) r → Sizes (x .definitions) d m r
+  pub sizes-typed : (m : Declaration) → Sized m → kindOf (wordAt w (firstEntry + k)) ≡ Kind.typed → (e ≡ noEntry → ⊥) → (n : ℕ)
+      → ((text : List ℕ) (count : ℕ) (words : List Token) → Lexed text w count → EnumerationAt (tokens text) w e words → n ≡ min longest (wordWidth words)) → (r : Worked)
+      → IsSized n (declaredName m .at) r → Sizes (x .definitions) d m r
   sizes-typed (OneSignal t) s q l n f r h = absurd (let z = sizing-kind s in omega arith)
   sizes-typed (OfWidth t b) s q l n f r h = absurd (let z = sizing-kind s in omega arith)
   sizes-typed (OfType u t) s q l n f r h =
@@ -169,17 +179,31 @@ module _ (text w refs found : List ℕ) (entries names : ℕ) (sorts numbers : L
       record { told = sized-port (x .definitions) d (OfType u t) t 0 r (λ output. ap (λ i. sized t i >>= λ j. Done (portFor (x .definitions) output (OfType u t) j)) (ap wordWidth none)) h }
 
   -- a bus by its width
-  pub sizing-workable : (slots : List ℕ) → Room refs sorts numbers slots → (m : Declaration) → Sized m → (kindOf (wordAt w (firstEntry + k)) ≡ Kind.signal → ⊥) → (kindOf (wordAt w (firstEntry + k)) ≡ Kind.typed → ⊥) → Workable text w refs sorts numbers slots (k - 1)
+  pub sizing-workable : (slots : List ℕ) → Room refs sorts numbers slots → (m : Declaration) → Sized m → (kindOf (wordAt w (firstEntry + k)) ≡ Kind.signal → ⊥)
+      → (kindOf (wordAt w (firstEntry + k)) ≡ Kind.typed → ⊥) → Workable text w refs sorts numbers slots (k - 1)
   sizing-workable slots r (OneSignal n) s a b = absurd (a (sizing-kind s))
   sizing-workable slots r (OfWidth n v) s a b =
-      record { W = worldIn x [] d; c = defineAll (contextOf [] d) (x .definitions); e = v; expression = tree-expression (s .tree) (x .definitions) (k - 1) v (s .there .width) d sorts numbers (s .notes); refs-room = r .refs-room; sorts-room = r .sorts-room; numbers-room = r .numbers-room; slots-room = r .slots-room; inside = (let i = sizing-inside s in omega arith) }
+      record {
+        W = worldIn x [] d;
+        c = defineAll (contextOf [] d) (x .definitions);
+        e = v;
+        expression = tree-expression (s .tree) (x .definitions) (k - 1) v (s .there .width) d sorts numbers
+            (s .notes);
+        refs-room = r .refs-room;
+        sorts-room = r .sorts-room;
+        numbers-room = r .numbers-room;
+        slots-room = r .slots-room;
+        inside = (let i = sizing-inside s in omega arith);
+      }
   sizing-workable slots r (OfType u n) s a b = absurd (b (sizing-kind s))
 
-  module _ (m : Declaration) (s : Sized m) (a : kindOf (wordAt w (firstEntry + k)) ≡ Kind.signal → ⊥) (b : kindOf (wordAt w (firstEntry + k)) ≡ Kind.typed → ⊥) (i : ℕ) (at : i ≡ k - 1) (v : Worked) (f : (W : World) (c : Context) (e : Expr) → Expression text w refs sorts numbers i W c e → TellsNumber v (value (c .values) e)) where
+  module _ (m : Declaration) (s : Sized m) (a : kindOf (wordAt w (firstEntry + k)) ≡ Kind.signal → ⊥) (b : kindOf (wordAt w (firstEntry + k)) ≡ Kind.typed → ⊥) (i : ℕ) (at : i ≡ k - 1) (v : Worked)
+      (f : (W : World) (c : Context) (e : Expr) → Expression text w refs sorts numbers i W c e → TellsNumber v (value (c .values) e)) where
     told : (n : Token) (y : Expr) → Sized (OfWidth n y) → says v ≡ (value (defining (declared d) (x .definitions)) y >>= number)
     told n y s =
         let c : Context = defineAll (contextOf [] d) (x .definitions) in
-        let g = f (worldIn x [] d) c y (subst (λ j. Expression text w refs sorts numbers j (worldIn x [] d) c y) (sym at) (tree-expression (s .tree) (x .definitions) (k - 1) y (s .there .width) d sorts numbers (s .notes))) in
+        let g = f (worldIn x [] d) c y (subst (λ j. Expression text w refs sorts numbers j (worldIn x [] d) c y) (sym at)
+        (tree-expression (s .tree) (x .definitions) (k - 1) y (s .there .width) d sorts numbers (s .notes))) in
         g .says ∙ ap (λ sc. value sc y >>= number) (defined-values (x .definitions) (contextOf [] d))
 
     pub sizes-refused : (n p : ℕ) → v ≡ Worked.Refused n p → Sizes (x .definitions) d m v
@@ -190,7 +214,10 @@ module _ (text w refs found : List ℕ) (entries names : ℕ) (sorts numbers : L
         go (OfType u t) s = absurd (b (sizing-kind s))
         go (OfWidth t y) s =
             let g : Result.Refused n p ≡ (value (defining (declared d) (x .definitions)) y >>= number) = ap says (sym q) ∙ told t y s in
-            record { told = λ output. over (value (defining (declared d) (x .definitions)) y >>= number >>= sized t) (λ j. Done (portFor (x .definitions) output (OfWidth t y) j)) n p (sym (over _ (sized t) n p g)) }
+            record {
+              told = λ output. over (value (defining (declared d) (x .definitions)) y >>= number >>= sized t) (λ j. Done (portFor (x .definitions) output (OfWidth t y) j)) n p
+                  (sym (over _ (sized t) n p g));
+            }
 
     pub sizes-bus : (n : ℕ) → v ≡ Worked.Value n → (r : Worked) → IsSized n (declaredName m .at) r → Sizes (x .definitions) d m r
     sizes-bus n q r h = go m s h
@@ -200,7 +227,10 @@ module _ (text w refs found : List ℕ) (entries names : ℕ) (sorts numbers : L
         go (OfType u t) s h = absurd (b (sizing-kind s))
         go (OfWidth t y) s h =
             let g : Done n ≡ (value (defining (declared d) (x .definitions)) y >>= number) = ap says (sym q) ∙ told t y s in
-            record { told = sized-port (x .definitions) d (OfWidth t y) t n r (λ output. ap (λ u. u >>= λ j. Done (portFor (x .definitions) output (OfWidth t y) j)) (after (value (defining (declared d) (x .definitions)) y >>= number) (sized t) n g)) h }
+            record {
+              told = sized-port (x .definitions) d (OfWidth t y) t n r
+                  (λ output. ap (λ u. u >>= λ j. Done (portFor (x .definitions) output (OfWidth t y) j)) (after (value (defining (declared d) (x .definitions)) y >>= number) (sized t) n g)) h;
+            }
 
 -- the note of a name after its turn
 abbrev pub sortOf : ℕ → ℕ

@@ -1,21 +1,13 @@
 // Parameters, in order.
 use crate::evaluate::number_of;
+use basics::u16_usize::wide;
 use sets::Worked;
-ghost use mathlib.Core.List.{List};
+use values::sorts;
 ghost use mathlib.Core.Path.{_≡_};
-ghost use Prim.Native.Nat.{ℕ, _-_, _<_};
+ghost use Prim.Native.Nat.{_-_};
 ghost use Rattle.language.specs.Tree.{Spec};
 ghost use Rattle.language.specs.Declared.{Table};
 ghost use Rattle.declarations.specs.Constants.{Parameters, ParametersGiven, ConstantsTold};
-
-// The note of a name that stands for a number (crate values, specs/Sorts).
-const NUMBER: u8 = 0;
-
-pub fn wide(x: u16) -> usize
-    ensures { λ r. ⌜ r ≡ x ⌝ }
-{
-    x as usize
-}
 
 // The entry before one.
 pub fn before(k: usize) -> usize
@@ -40,7 +32,8 @@ pub fn parameters(
     slots: &mut [u32],
 ) -> Worked
     requires { ⌜ ParametersGiven (now text) (now work) (now refs) (now found) entries names (now order) count (now sorts) (now numbers) (now slots) ⌝ }
-    ensures { λ r. ⌜ ((x : Spec) (d : Table) → Parameters (now (text .entry)) (now (work .entry)) (now (refs .entry)) (now (found .entry)) entries names (now (order .entry)) count (now (sorts .entry)) (now (numbers .entry)) x d → ConstantsTold (now (text .entry)) (now (work .entry)) x d (now (sorts .exit)) (now (numbers .exit)) r) ⌝ }
+    ensures { λ r. ⌜ ((x : Spec) (d : Table) → Parameters (now (text .entry)) (now (work .entry)) (now (refs .entry)) (now (found .entry)) entries names (now (order .entry)) count
+        (now (sorts .entry)) (now (numbers .entry)) x d → ConstantsTold (now (text .entry)) (now (work .entry)) x d (now (sorts .exit)) (now (numbers .exit)) r) ⌝ }
 {
     let mut j: usize = 0;
     while j < count {
@@ -50,7 +43,7 @@ pub fn parameters(
         let Worked::Value(n) = worked else {
             return worked;
         };
-        sorts[r] = NUMBER;
+        sorts[r] = sorts::NUMBER;
         numbers[r] = n;
         j += 1;
     }

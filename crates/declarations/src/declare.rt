@@ -3,9 +3,9 @@ use crate::Declared;
 use crate::sizes::sizes;
 use crate::stages::find_ports;
 use crate::stages::globals;
+use language::limits;
 use ports::list_signals;
 use sets::Worked;
-ghost use mathlib.Core.List.{List};
 ghost use mathlib.Core.Path.{_≡_};
 ghost use Prim.Native.Nat.{ℕ, _≤_};
 ghost use lib.ListN.{length};
@@ -15,9 +15,6 @@ ghost use Rattle.sets.specs.declared.Worked.{Worked as Answered};
 ghost use Rattle.declarations.specs.declared.Declared.{Declared as Result};
 ghost use Rattle.declarations.specs.Promise.{Checked, Given, Declares};
 ghost use Rattle.declarations.specs.Closing.{Rooms};
-
-// '256 declared names': a port has a name.
-const MAX_NAMES: usize = 256;
 
 // A refusal, handed up.
 fn refused(worked: Worked) -> Declared
@@ -49,8 +46,12 @@ fn declare_in(
     offsets: &mut [u32],
     widths: &mut [u32],
 ) -> Declared
-    requires { ⌜ Given (now text) (now work) (now refs) (now found) entries names × (Rooms (now sorts) (now numbers) (now slots) (now order) (now enumerations) (now firsts) (now list) × ((maxNames ≤ length (now places)) × ((maxNames ≤ length (now offsets)) × (maxNames ≤ length (now widths))))) ⌝ }
-    ensures { λ r. ⌜ ((x : Spec) → Checked (now (text .entry)) (now (work .entry)) (now (refs .entry)) (now (found .entry)) entries names x → Declares (now (text .entry)) (now (work .entry)) x (now (sorts .exit)) (now (numbers .exit)) (now (kept .exit)) (now (order .exit)) (now (enumerations .exit)) (now (firsts .exit)) (now (list .entry)) (now (list .exit)) r) ⌝ }
+    requires { ⌜ Given (now text) (now work) (now refs) (now found) entries names ×
+        (Rooms (now sorts) (now numbers) (now slots) (now order) (now enumerations) (now firsts) (now list) ×
+        ((maxNames ≤ length (now places)) × ((maxNames ≤ length (now offsets)) × (maxNames ≤ length (now widths))))) ⌝ }
+    ensures { λ r. ⌜ ((x : Spec) → Checked (now (text .entry)) (now (work .entry)) (now (refs .entry)) (now (found .entry)) entries names x
+        → Declares (now (text .entry)) (now (work .entry)) x (now (sorts .exit)) (now (numbers .exit)) (now (kept .exit)) (now (order .exit)) (now (enumerations .exit)) (now (firsts .exit))
+        (now (list .entry)) (now (list .exit)) r) ⌝ }
 {
     let worked = globals(
         text,
@@ -122,11 +123,13 @@ pub fn declare(
     list: &mut [u32],
 ) -> Declared
     requires { ⌜ Given (now text) (now work) (now refs) (now found) entries names × Rooms (now sorts) (now numbers) (now slots) (now order) (now enumerations) (now firsts) (now list) ⌝ }
-    ensures { λ r. ⌜ ((x : Spec) → Checked (now (text .entry)) (now (work .entry)) (now (refs .entry)) (now (found .entry)) entries names x → Declares (now (text .entry)) (now (work .entry)) x (now (sorts .exit)) (now (numbers .exit)) (now (kept .exit)) (now (order .exit)) (now (enumerations .exit)) (now (firsts .exit)) (now (list .entry)) (now (list .exit)) r) ⌝ }
+    ensures { λ r. ⌜ ((x : Spec) → Checked (now (text .entry)) (now (work .entry)) (now (refs .entry)) (now (found .entry)) entries names x
+        → Declares (now (text .entry)) (now (work .entry)) x (now (sorts .exit)) (now (numbers .exit)) (now (kept .exit)) (now (order .exit)) (now (enumerations .exit)) (now (firsts .exit))
+        (now (list .entry)) (now (list .exit)) r) ⌝ }
 {
-    let mut places = [0u16; MAX_NAMES];
-    let mut offsets = [0u32; MAX_NAMES];
-    let mut widths = [0u32; MAX_NAMES];
+    let mut places = [0u16; limits::MAX_NAMES];
+    let mut offsets = [0u32; limits::MAX_NAMES];
+    let mut widths = [0u32; limits::MAX_NAMES];
     declare_in(
         text,
         work,

@@ -1,17 +1,19 @@
 // Ports by position, as far as no width is needed.
-use crate::constants::wide;
 use crate::enumeration::enumeration_of;
 use crate::enumeration::token_word;
+use basics::u16_usize::wide;
+use entries::fields::SIZES;
+use entries::fields::TOKENS;
+use entries::kinds;
+use lexer::fields::LENGTHS;
+use lexer::fields::OFFSETS;
 use notes::choose::entry_word;
 ghost use mathlib.Core.Path.{_≡_};
-ghost use Prim.Native.Nat.{ℕ, _<_, _≤_};
-ghost use lib.ListN.{length, getD};
+ghost use Prim.Native.Nat.{_<_, _≤_};
+ghost use lib.ListN.{length};
 ghost use Rattle.language.specs.Limits.{workBytes, maxTokens, maxNames};
 ghost use Rattle.declarations.specs.Describing.{enumerationFor, Described};
 ghost use Rattle.declarations.specs.DescribingRoom.{DescribeRoom};
-
-// The kind of a bus declared by an enumeration (crate entries, specs/Kinds).
-const TYPED: u32 = 61;
 
 // No entry has this number.
 const NO_ENTRY: u16 = 65535;
@@ -21,8 +23,8 @@ fn enumeration_for(work: &[u8], refs: &[u16], found: &[u16], k: usize) -> u16
     requires { ⌜ (workBytes ≤ length (now work)) × ((k < maxTokens) × ((maxTokens ≤ length (now refs)) × (maxNames ≤ length (now found)))) ⌝ }
     ensures { λ r. ⌜ r ≡ enumerationFor (now (work .entry)) (now (refs .entry)) (now (found .entry)) k ⌝ }
 {
-    let kind = entry_word(work, k) / 8192 / 8192;
-    if kind == TYPED {
+    let kind = entry_word(work, k) / SIZES / TOKENS;
+    if kind == kinds::TYPED {
         return enumeration_of(work, refs, found, k) as u16;
     }
     NO_ENTRY
@@ -47,7 +49,7 @@ pub fn describe(
         let k = wide(places[j]);
         order[j] = refs[k];
         enumerations[j] = enumeration_for(work, refs, found, k);
-        offsets[j] = token_word(work, k) / 256 % 65536;
+        offsets[j] = token_word(work, k) / LENGTHS % OFFSETS;
         j += 1;
     }
 }

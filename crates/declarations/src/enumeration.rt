@@ -1,33 +1,26 @@
 // The enumeration that a bus is declared by.
 use crate::constants::before;
-use crate::constants::wide;
+use basics::u16_usize::wide;
+use entries::fields::SIZES;
+use entries::fields::TOKENS;
+use entries::kinds;
+use language::limits;
+use lexer::fields::LENGTHS;
 use notes::choose::entry_word;
 use words::get;
 ghost use mathlib.Core.List.{List};
 ghost use mathlib.Core.Path.{_≡_};
-ghost use Prim.Native.Nat.{ℕ, _-_, _<_, _≤_, _+_, min};
+ghost use Prim.Native.Nat.{ℕ, _<_, _≤_, _+_, min};
 ghost use lib.ListN.{length};
 ghost use Rattle.words.specs.Words.{wordAt};
 ghost use Rattle.language.specs.Limits.{workBytes, maxTokens, maxNames};
 ghost use Rattle.language.specs.Tokens.{Token, tokens};
 ghost use Rattle.language.specs.Declared.{wordWidth};
-ghost use Rattle.lexer.specs.Stored.{longest, offsetIn};
+ghost use Rattle.lexer.specs.Stored.{longest};
 ghost use Rattle.entries.specs.Stored.{firstEntry, indexOf};
 ghost use Rattle.spellings.specs.Interned.{Lexed};
 ghost use Rattle.values.specs.Declaring.{EnumerationAt};
 ghost use Rattle.declarations.specs.Enumerations.{enumerationOf};
-
-// '256 declared names', '8,192 tokens'.
-const MAX_NAMES: usize = 256;
-
-const TOKENS: usize = 8192;
-
-// Kinds of entries (crate entries, specs/Kinds).
-const ENUMERATION: u32 = 56;
-
-const IDENTIFIER: u32 = 57;
-
-const WORD: u32 = 58;
 
 // No entry has this number.
 pub const NO_ENTRY: usize = 65535;
@@ -38,7 +31,7 @@ pub fn token_word(work: &[u8], k: usize) -> u32
     ensures { λ r. ⌜ r ≡ wordAt (now (work .entry)) (indexOf (wordAt (now (work .entry)) (firstEntry + k))) ⌝ }
 {
     let word = entry_word(work, k);
-    let token = (word / 8192 % 8192) as usize;
+    let token = (word / SIZES % TOKENS) as usize;
     get(work, token)
 }
 
@@ -48,15 +41,15 @@ pub fn enumeration_of(work: &[u8], refs: &[u16], found: &[u16], k: usize) -> usi
     ensures { λ r. ⌜ r ≡ enumerationOf (now (work .entry)) (now (refs .entry)) (now (found .entry)) k ⌝ }
 {
     let r = wide(refs[before(k)]);
-    if r >= MAX_NAMES {
+    if r >= limits::MAX_NAMES {
         return NO_ENTRY;
     }
     let e = wide(found[r]);
-    if e >= TOKENS {
+    if e >= limits::MAX_TOKENS {
         return NO_ENTRY;
     }
-    let kind = entry_word(work, e) / 8192 / 8192;
-    if kind == ENUMERATION {
+    let kind = entry_word(work, e) / SIZES / TOKENS;
+    if kind == kinds::ENUMERATION {
         return e;
     }
     NO_ENTRY
@@ -65,15 +58,16 @@ pub fn enumeration_of(work: &[u8], refs: &[u16], found: &[u16], k: usize) -> usi
 // How wide the first word behind the enumeration's entry e is.
 pub fn word_width(work: &[u8], e: usize) -> u32
     requires { ⌜ (workBytes ≤ length (now work)) × (e < maxTokens) ⌝ }
-    ensures { λ r. ⌜ ((text : List ℕ) (count : ℕ) (words : List Token) → Lexed text (now (work .entry)) count → EnumerationAt (tokens text) (now (work .entry)) e words → r ≡ min longest (wordWidth words)) ⌝ }
+    ensures { λ r. ⌜ ((text : List ℕ) (count : ℕ) (words : List Token) → Lexed text (now (work .entry)) count → EnumerationAt (tokens text) (now (work .entry)) e words
+        → r ≡ min longest (wordWidth words)) ⌝ }
 {
     let mut i = e + 1;
-    while i < TOKENS {
-        let kind = entry_word(work, i) / 8192 / 8192;
-        if kind == WORD {
-            return token_word(work, i) % 256;
+    while i < limits::MAX_TOKENS {
+        let kind = entry_word(work, i) / SIZES / TOKENS;
+        if kind == kinds::WORD {
+            return token_word(work, i) % LENGTHS;
         }
-        if kind != IDENTIFIER {
+        if kind != kinds::IDENTIFIER {
             return 0;
         }
         i += 1;

@@ -1,7 +1,7 @@
 // An expression of a declaration as a number, worked out on copies of the notes.
 use evaluation::evaluate::number_at;
+use language::limits;
 use sets::Worked;
-ghost use mathlib.Core.Path.{_≡_};
 ghost use Prim.Native.Nat.{_≤_, _<_};
 ghost use lib.ListN.{length};
 ghost use Rattle.language.specs.Limits.{maxNames, maxElements};
@@ -12,18 +12,12 @@ ghost use Rattle.values.specs.World.{World};
 ghost use Rattle.operands.specs.Working.{TellsNumber};
 ghost use Rattle.declarations.specs.Expressions.{Expression, Workable, Copied};
 
-// '256 declared names'.
-const MAX_NAMES: usize = 256;
-
-// A set's elements, and one more.
-const ROOM: usize = 257;
-
 fn copy_sorts(from: &[u8], to: &mut [u8])
     requires { ⌜ (maxNames ≤ length (now from)) × (maxNames ≤ length (now to)) ⌝ }
     ensures { λ _. ⌜ Copied (now (from .entry)) (now (to .exit)) ⌝ }
 {
     let mut i: usize = 0;
-    while i < MAX_NAMES {
+    while i < limits::MAX_NAMES {
         to[i] = from[i];
         i += 1;
     }
@@ -34,7 +28,7 @@ fn copy_numbers(from: &[u32], to: &mut [u32])
     ensures { λ _. ⌜ Copied (now (from .entry)) (now (to .exit)) ⌝ }
 {
     let mut i: usize = 0;
-    while i < MAX_NAMES {
+    while i < limits::MAX_NAMES {
         to[i] = from[i];
         i += 1;
     }
@@ -54,8 +48,10 @@ fn number_with(
     counted: &mut [u32],
     out: &mut [u32],
 ) -> Worked
-    requires { ⌜ Workable (now text) (now work) (now refs) (now sorts) (now numbers) (now slots) k × ((maxNames ≤ length (now sorted)) × ((maxNames ≤ length (now counted)) × (maxElements < length (now out)))) ⌝ }
-    ensures { λ r. ⌜ ((W : World) (c : Context) (e : Expr) → Expression (now (text .entry)) (now (work .entry)) (now (refs .entry)) (now (sorts .entry)) (now (numbers .entry)) k W c e → TellsNumber r (value (c .values) e)) ⌝ }
+    requires { ⌜ Workable (now text) (now work) (now refs) (now sorts) (now numbers) (now slots) k ×
+        ((maxNames ≤ length (now sorted)) × ((maxNames ≤ length (now counted)) × (maxElements < length (now out)))) ⌝ }
+    ensures { λ r. ⌜ ((W : World) (c : Context) (e : Expr) → Expression (now (text .entry)) (now (work .entry)) (now (refs .entry)) (now (sorts .entry)) (now (numbers .entry)) k W c e
+        → TellsNumber r (value (c .values) e)) ⌝ }
 {
     copy_sorts(sorts, sorted);
     copy_numbers(numbers, counted);
@@ -74,11 +70,12 @@ pub fn number_of(
     k: usize,
 ) -> Worked
     requires { ⌜ Workable (now text) (now work) (now refs) (now sorts) (now numbers) (now slots) k ⌝ }
-    ensures { λ r. ⌜ ((W : World) (c : Context) (e : Expr) → Expression (now (text .entry)) (now (work .entry)) (now (refs .entry)) (now (sorts .entry)) (now (numbers .entry)) k W c e → TellsNumber r (value (c .values) e)) ⌝ }
+    ensures { λ r. ⌜ ((W : World) (c : Context) (e : Expr) → Expression (now (text .entry)) (now (work .entry)) (now (refs .entry)) (now (sorts .entry)) (now (numbers .entry)) k W c e
+        → TellsNumber r (value (c .values) e)) ⌝ }
 {
-    let mut sorted = [0u8; MAX_NAMES];
-    let mut counted = [0u32; MAX_NAMES];
-    let mut out = [0u32; ROOM];
+    let mut sorted = [0u8; limits::MAX_NAMES];
+    let mut counted = [0u32; limits::MAX_NAMES];
+    let mut out = [0u32; limits::SET_ROOM];
     number_with(
         text,
         work,

@@ -23,7 +23,9 @@ pub fn sizes(
     widths: &mut [u32],
 ) -> Worked
     requires { ⌜ SizesGiven (now text) (now work) (now refs) (now places) (now enumerations) ins count (now sorts) (now numbers) (now slots) (now widths) ⌝ }
-    ensures { λ r. ⌜ ((found : List ℕ) (entries names : ℕ) (x : Spec) (d : Table) → Sizings (now (text .entry)) (now (work .entry)) (now (refs .entry)) found entries names (now (places .entry)) (now (enumerations .entry)) ins count (now (sorts .entry)) (now (numbers .entry)) x d → SizesTold (now (text .entry)) (now (work .entry)) x d ins (now (sorts .exit)) (now (numbers .exit)) (now (widths .exit)) r) ⌝ }
+    ensures { λ r. ⌜ ((found : List ℕ) (entries names : ℕ) (x : Spec) (d : Table)
+        → Sizings (now (text .entry)) (now (work .entry)) (now (refs .entry)) found entries names (now (places .entry)) (now (enumerations .entry)) ins count (now (sorts .entry))
+        (now (numbers .entry)) x d → SizesTold (now (text .entry)) (now (work .entry)) x d ins (now (sorts .exit)) (now (numbers .exit)) (now (widths .exit)) r) ⌝ }
 {
     let inputs = turns(
         text,

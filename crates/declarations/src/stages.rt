@@ -1,13 +1,12 @@
 // The stages before any bus is sized: notes and parameters, then the ports' entries.
 use crate::constants::parameters;
 use crate::describe::describe;
+use entries::kinds;
 use notes::choose::NO_HEADING;
 use notes::choose::choose;
 use notes::first::note_names;
 use sets::Worked;
-ghost use mathlib.Core.List.{List};
-ghost use mathlib.Core.Path.{_≡_};
-ghost use Prim.Native.Nat.{ℕ, _≤_};
+ghost use Prim.Native.Nat.{_≤_};
 ghost use lib.ListN.{length};
 ghost use Rattle.language.specs.Limits.{maxTokens, maxNames};
 ghost use Rattle.language.specs.Tree.{Spec};
@@ -17,13 +16,6 @@ ghost use Rattle.declarations.specs.Constants.{ConstantsTold};
 ghost use Rattle.declarations.specs.Describing.{Described};
 ghost use Rattle.declarations.specs.Placing.{PortsPlaced};
 ghost use Rattle.declarations.specs.Stages.{Given};
-
-// Kinds of entries (crate entries, specs/Kinds): parameters; signals and buses from the first to the last.
-const PARAMETER: u32 = 54;
-
-const SIGNAL: u32 = 59;
-
-const TYPED: u32 = 61;
 
 // The headings of INPUTS and OUTPUTS.
 const INPUTS: u32 = 0;
@@ -50,11 +42,21 @@ pub fn globals(
     kept: &mut [u32],
     slots: &mut [u32],
 ) -> Worked
-    requires { ⌜ Given (now text) (now work) (now refs) (now found) entries names × ((maxNames ≤ length (now places)) × ((maxNames ≤ length (now sorts)) × ((maxNames ≤ length (now numbers)) × (maxTokens ≤ length (now slots))))) ⌝ }
-    ensures { λ r. ⌜ ((x : Spec) → Tree (now (text .entry)) (now (work .entry)) (now (refs .entry)) (now (found .entry)) entries names x → ConstantsTold (now (text .entry)) (now (work .entry)) x (firstTable x) (now (sorts .exit)) (now (numbers .exit)) r) ⌝ }
+    requires { ⌜ Given (now text) (now work) (now refs) (now found) entries names ×
+        ((maxNames ≤ length (now places)) × ((maxNames ≤ length (now sorts)) × ((maxNames ≤ length (now numbers)) × (maxTokens ≤ length (now slots))))) ⌝ }
+    ensures { λ r. ⌜ ((x : Spec) → Tree (now (text .entry)) (now (work .entry)) (now (refs .entry)) (now (found .entry)) entries names x
+        → ConstantsTold (now (text .entry)) (now (work .entry)) x (firstTable x) (now (sorts .exit)) (now (numbers .exit)) r) ⌝ }
 {
     note_names(work, found, names, sorts, numbers);
-    let count = choose(work, entries, NO_HEADING, PARAMETER, PARAMETER, places, 0);
+    let count = choose(
+        work,
+        entries,
+        NO_HEADING,
+        kinds::PARAMETER,
+        kinds::PARAMETER,
+        places,
+        0,
+    );
     parameters(
         text,
         work,
@@ -84,11 +86,29 @@ pub fn find_ports(
     enumerations: &mut [u16],
     offsets: &mut [u32],
 ) -> Ports
-    requires { ⌜ Given (now text) (now work) (now refs) (now found) entries names × ((maxNames ≤ length (now places)) × ((maxNames ≤ length (now order)) × ((maxNames ≤ length (now enumerations)) × (maxNames ≤ length (now offsets))))) ⌝ }
-    ensures { λ r. ⌜ ((x : Spec) (t : Tree (now (text .entry)) (now (work .entry)) (now (refs .entry)) (now (found .entry)) entries names x) → PortsPlaced t (now (places .exit)) (r .ins) (r .count)) × Described (now (work .entry)) (now (refs .entry)) (now (found .entry)) (now (places .exit)) (r .count) (now (order .exit)) (now (enumerations .exit)) (now (offsets .exit)) ⌝ }
+    requires { ⌜ Given (now text) (now work) (now refs) (now found) entries names ×
+        ((maxNames ≤ length (now places)) × ((maxNames ≤ length (now order)) × ((maxNames ≤ length (now enumerations)) × (maxNames ≤ length (now offsets))))) ⌝ }
+    ensures { λ r. ⌜ ((x : Spec) (t : Tree (now (text .entry)) (now (work .entry)) (now (refs .entry)) (now (found .entry)) entries names x) → PortsPlaced t (now (places .exit)) (r .ins) (r .count))
+        × Described (now (work .entry)) (now (refs .entry)) (now (found .entry)) (now (places .exit)) (r .count) (now (order .exit)) (now (enumerations .exit)) (now (offsets .exit)) ⌝ }
 {
-    let ins = choose(work, entries, INPUTS, SIGNAL, TYPED, places, 0);
-    let count = choose(work, entries, OUTPUTS, SIGNAL, TYPED, places, ins);
+    let ins = choose(
+        work,
+        entries,
+        INPUTS,
+        kinds::SIGNAL,
+        kinds::TYPED,
+        places,
+        0,
+    );
+    let count = choose(
+        work,
+        entries,
+        OUTPUTS,
+        kinds::SIGNAL,
+        kinds::TYPED,
+        places,
+        ins,
+    );
     describe(
         work,
         refs,

@@ -1,7 +1,7 @@
 // Signals and buses, each sized at its own turn.
-use crate::constants::wide;
 use crate::width::sort_of;
 use crate::width::width_of;
+use basics::u16_usize::wide;
 use sets::Worked;
 ghost use mathlib.Core.Bool.{Bool};
 ghost use mathlib.Core.List.{List};
@@ -26,7 +26,10 @@ pub fn turns(
     widths: &mut [u32],
 ) -> Worked
     requires { ⌜ TurnsGiven (now text) (now work) (now refs) (now places) (now enumerations) from to (now sorts) (now numbers) (now slots) (now widths) ⌝ }
-    ensures { λ r. ⌜ ((found : List ℕ) (entries names : ℕ) (x : Spec) (output : Bool) (ds : List Declaration) (d : Table) → Declared (now (text .entry)) (now (work .entry)) (now (refs .entry)) found entries names (now (places .entry)) (now (enumerations .entry)) from to (now (sorts .entry)) (now (numbers .entry)) x ds d → TurnsTold (now (text .entry)) (now (work .entry)) x output ds d from (now (sorts .exit)) (now (numbers .exit)) (now (widths .exit)) r) × Before from (now (widths .entry)) (now (widths .exit)) ⌝ }
+    ensures { λ r. ⌜ ((found : List ℕ) (entries names : ℕ) (x : Spec) (output : Bool) (ds : List Declaration) (d : Table)
+        → Declared (now (text .entry)) (now (work .entry)) (now (refs .entry)) found entries names (now (places .entry)) (now (enumerations .entry)) from to (now (sorts .entry))
+        (now (numbers .entry)) x ds d → TurnsTold (now (text .entry)) (now (work .entry)) x output ds d from (now (sorts .exit)) (now (numbers .exit)) (now (widths .exit)) r) × Before from
+        (now (widths .entry)) (now (widths .exit)) ⌝ }
 {
     let mut j = from;
     while j < to {

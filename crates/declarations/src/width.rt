@@ -4,8 +4,16 @@ use crate::enumeration::NO_ENTRY;
 use crate::enumeration::token_word;
 use crate::enumeration::word_width;
 use crate::evaluate::number_of;
+use entries::fields::SIZES;
+use entries::fields::TOKENS;
+use entries::kinds;
+use language::limits;
+use lexer::fields::LENGTHS;
+use lexer::fields::OFFSETS;
+use node::refusals;
 use notes::choose::entry_word;
 use sets::Worked;
+use values::sorts;
 ghost use mathlib.Core.List.{List};
 ghost use mathlib.Core.Path.{_≡_};
 ghost use Prim.Native.Nat.{ℕ};
@@ -13,36 +21,24 @@ ghost use Rattle.language.specs.Tree.{Spec, Declaration};
 ghost use Rattle.language.specs.Declared.{Table};
 ghost use Rattle.declarations.specs.Widths.{Sizing, Sizable, Sizes, IsSized, sortOf};
 
-// Kinds of entries (crate entries, specs/Kinds).
-const SIGNAL: u32 = 59;
-
-const TYPED: u32 = 61;
-
-// 'width 0 or over 255'.
-const BAD_WIDTH: u32 = 13;
-
-// 'buses 255 wide'.
-const MAX_WIDTH: u32 = 255;
-
-// The notes of a single signal and of a bus (crate values, specs/Sorts).
-const SINGLE: u8 = 3;
-
-const BUS: u8 = 2;
-
 pub fn sort_of(width: u32) -> u8
     ensures { λ r. ⌜ r ≡ sortOf width ⌝ }
 {
-    if width == 0 { SINGLE } else { BUS }
+    if width == 0 {
+        sorts::SIGNAL
+    } else {
+        sorts::BUS
+    }
 }
 
 fn sized(n: u32, place: u32) -> Worked
     ensures { λ r. ⌜ IsSized n place r ⌝ }
 {
     if n < 1 {
-        return Worked::Refused(BAD_WIDTH, place);
+        return Worked::Refused(refusals::WRONG_WIDTH, place);
     }
-    if n > MAX_WIDTH {
-        return Worked::Refused(BAD_WIDTH, place);
+    if n > limits::MAX_WIDTH {
+        return Worked::Refused(refusals::WRONG_WIDTH, place);
     }
     Worked::Value(n)
 }
@@ -60,14 +56,15 @@ pub fn width_of(
     e: usize,
 ) -> Worked
     requires { ⌜ Sizable (now text) (now work) (now refs) (now sorts) (now numbers) (now slots) k e ⌝ }
-    ensures { λ r. ⌜ ((found : List ℕ) (entries names : ℕ) (x : Spec) (d : Table) (m : Declaration) → Sizing (now (text .entry)) (now (work .entry)) (now (refs .entry)) found entries names (now (sorts .entry)) (now (numbers .entry)) k e x d m → Sizes (x .definitions) d m r) ⌝ }
+    ensures { λ r. ⌜ ((found : List ℕ) (entries names : ℕ) (x : Spec) (d : Table) (m : Declaration)
+        → Sizing (now (text .entry)) (now (work .entry)) (now (refs .entry)) found entries names (now (sorts .entry)) (now (numbers .entry)) k e x d m → Sizes (x .definitions) d m r) ⌝ }
 {
-    let kind = entry_word(work, k) / 8192 / 8192;
-    if kind == SIGNAL {
+    let kind = entry_word(work, k) / SIZES / TOKENS;
+    if kind == kinds::SIGNAL {
         return Worked::Value(0);
     }
-    let place = token_word(work, k) / 256 % 65536;
-    if kind == TYPED {
+    let place = token_word(work, k) / LENGTHS % OFFSETS;
+    if kind == kinds::TYPED {
         if e == NO_ENTRY {
             return sized(0, place);
         }

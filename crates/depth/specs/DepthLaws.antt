@@ -123,7 +123,8 @@ module _ (cell : ℕ → Cell) where
         comes = record {
           place = suc (inside .place);
           seen = inside .seen .1;
-          runs = ap (λ us. run step cell us i (state before [] f)) split ∙ inside .runs ∙ ap (run step cell es (suc (inside .place))) (ends ∙ ap₂ (λ g d. state (c .kind) [] (first g d)) (first-none f) (deep-capped e));
+          runs = ap (λ us. run step cell us i (state before [] f)) split ∙ inside .runs ∙ ap (run step cell es (suc (inside .place)))
+              (ends ∙ ap₂ (λ g d. state (c .kind) [] (first g d)) (first-none f) (deep-capped e));
         };
       }
 
@@ -133,19 +134,26 @@ module _ (cell : ℕ → Cell) where
 
   alone : (j : ℕ) → ltb j firstLine ≡ false → eqb j Kind.element ≡ false → eqb j Kind.listed ≡ false → getD arities j 0 ≡ 0 → Lonely j
   alone j out other unlisted arity =
-      record { steps = λ c k before f e. line-steps c before [] f (ap (λ j. ltb j firstLine) e ∙ out) (fixed-operands j before c e other unlisted arity) ∙ ap (state (c .kind) []) (first-none f); stays = λ _ _. refl }
+      record {
+        steps = λ c k before f e. line-steps c before [] f (ap (λ j. ltb j firstLine) e ∙ out) (fixed-operands j before c e other unlisted arity) ∙ ap (state (c .kind) []) (first-none f);
+        stays = λ _ _. refl;
+      }
 
   by : (us es : List Entry) → All (λ e. Lonely (e .kind)) us →
       (i before : ℕ) (f : Option ℕ) → Seen Offset cell i (us ++ es) → Lines (us ++ es) i (state before [] f) es (first f none)
-  by us es a i before f h = subst (Lines (us ++ es) i (state before [] f) es) (sym (first-none f)) (alone-done nothing (OfToken Offset) tt cell step idle (λ k _. k) (λ _ l. deepLine l) (λ _ l. ProperLine l) us es a tt i before f h)
+  by us es a i before f h = subst (Lines (us ++ es) i (state before [] f) es) (sym (first-none f))
+      (alone-done nothing (OfToken Offset) tt cell step idle (λ k _. k) (λ _ l. deepLine l) (λ _ l. ProperLine l) us es a tt i before f h)
 
   line-done : (k : Unit {0}) (l : Line) → ProperLine l → (es : List Entry) (i before : ℕ) (f : Option ℕ) → Seen Offset cell i (entriesOf l ++ es) →
       Lines (entriesOf l ++ es) i (state before [] f) es (first f (deepLine l))
   line-done k (ParameterLine x e) p = held Kind.parameter (some x) e refl refl refl refl p
   line-done k (DefinitionLine (Defined x e)) p = held Kind.definition (some x) e refl refl refl refl p
   line-done k (DefinitionLine (Enumerated x is)) p =
-      λ es. by (leaf Kind.enumeration x ++ each flatIdentifier is) es
-      (alone Kind.enumeration refl refl refl refl, identifiers-alone nothing (OfToken Offset) tt cell step idle (λ k _. k) (λ _ l. deepLine l) (λ _ l. ProperLine l) (alone Kind.identifier refl refl refl refl) (alone Kind.word refl refl refl refl) is)
+      λ es. by (leaf Kind.enumeration x ++ each flatIdentifier is) es (
+        alone Kind.enumeration refl refl refl refl,
+        identifiers-alone nothing (OfToken Offset) tt cell step idle (λ k _. k) (λ _ l. deepLine l) (λ _ l. ProperLine l)
+            (alone Kind.identifier refl refl refl refl) (alone Kind.word refl refl refl refl) is,
+      )
   line-done k (DeclarationLine (OneSignal x)) p = λ es. by (leaf Kind.signal x) es (alone Kind.signal refl refl refl refl, tt)
   line-done k (DeclarationLine (OfWidth x e)) p = held Kind.bus (some x) e refl refl refl refl (p .1)
   line-done k (DeclarationLine (OfType u x)) p = held Kind.typed (some x) (Named u) refl refl refl refl (refl, p .0)
@@ -164,5 +172,6 @@ first-deep (l ∷ ls) = ap (first (deepLine l)) (first-deep ls)
 pub finds-deep : (w : List ℕ) (ts : Tokens) (n : ℕ) (x : Spec) → TokensTell Offset w ts → TreeStored w ts n x → passed step (cellAt w) (state 0 [] none) n .found ≡ tooDeep x
 finds-deep w ts n x told t =
     let cell = cellAt w in
-    let ends = text-holds nothing (OfToken Offset) tt cell step (λ _ before f. state before [] f) (λ k _. k) (λ _ l. deepLine l) (λ _ l. ProperLine l) (line-done cell) (alone cell Kind.heading refl refl refl refl) x tt 0 0 none (each-proper (allLines x) (proper-lines x (t .proper))) (entries-seen Offset w ts told 0 (outline x) (t .entries)) in
+    let ends = text-holds nothing (OfToken Offset) tt cell step (λ _ before f. state before [] f) (λ k _. k) (λ _ l. deepLine l) (λ _ l. ProperLine l) (line-done cell)
+    (alone cell Kind.heading refl refl refl refl) x tt 0 0 none (each-proper (allLines x) (proper-lines x (t .proper))) (entries-seen Offset w ts told 0 (outline x) (t .entries)) in
     ap (λ (s : State). s .found) (passed-all step cell (state 0 [] none) (outline x) n (t .count) ∙ ends .runs) ∙ first-deep (allLines x)

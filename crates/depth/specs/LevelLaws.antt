@@ -63,7 +63,8 @@ highest-none ls from to most h = let z = ap highest (no-part ls from to h) in om
 
 pub highest-part : (ls : List ℕ) (from to most : ℕ) → to ≤ length ls → from < to → max (max most (getD ls from 0)) (highest (slice (from + 1) to ls)) ≡ max most (highest (slice from to ls))
 highest-part ls from to most few inside =
-    ap (λ j. max (max most (getD ls from 0)) (highest (slice j to ls))) (add-one from) ∙ max-assoc most (getD ls from 0) (highest (slice (suc from) to ls)) ∙ ap (λ l. max most (highest l)) (sym (slice-cons from to ls 0 inside few))
+    ap (λ j. max (max most (getD ls from 0)) (highest (slice j to ls))) (add-one from) ∙ max-assoc most (getD ls from 0) (highest (slice (suc from) to ls)) ∙ ap (λ l. max most (highest l))
+    (sym (slice-cons from to ls 0 inside few))
   where
     max-assoc : (a b c : ℕ) → max (max a b) c ≡ max a (max b c)
     max-assoc a b c = omega arith

@@ -9,7 +9,45 @@ use lib.ListN.{getD}
 use native.Mathlib.Omega.{arith}
 use Rattle.node.specs.Operators.{Not, X, G, F, And, Or, Implies, Iff, U, R, W}
 use Rattle.language.specs.Tokens.{Token}
-use Rattle.language.specs.Operators.{Plus, Minus, Times, Divide, Modulo, Size, Min, Max, Cup, Cap, Without, Equal, Unequal, Less, AtMost, Greater, AtLeast, Big, BigSum, BigProduct, BigCap, BigCup, BigAnd, BigOr, Window, FinallyIn, GloballyIn, Infix, Calculates, Combines, Compares, Membership, Connects, Prefix, Measures, WidthOf, Applies}
+use Rattle.language.specs.Operators.{
+  Plus,
+  Minus,
+  Times,
+  Divide,
+  Modulo,
+  Size,
+  Min,
+  Max,
+  Cup,
+  Cap,
+  Without,
+  Equal,
+  Unequal,
+  Less,
+  AtMost,
+  Greater,
+  AtLeast,
+  Big,
+  BigSum,
+  BigProduct,
+  BigCap,
+  BigCup,
+  BigAnd,
+  BigOr,
+  Window,
+  FinallyIn,
+  GloballyIn,
+  Infix,
+  Calculates,
+  Combines,
+  Compares,
+  Membership,
+  Connects,
+  Prefix,
+  Measures,
+  WidthOf,
+  Applies,
+}
 use Rattle.language.specs.Tree.{Expr, Named, Numeral, Truth, Index, Paren, Prefixed, Joined, Nexts, InWindow, Each, Between, Listed, Empty, Element, Range}
 use Rattle.language.specs.Places.{levels}
 use Rattle.lexer.specs.Stored.{offsetIn}
@@ -124,7 +162,8 @@ module _ {N : Type 0} (bind : Token → N → N) where
   raised k n s qs t h = own-level k (highestOf qs) s t ∙ ap (λ m. capped (suc m)) h ∙ cap-suc n
 
   -- a big operator
-  each-level : (t : Token) (o : Big) (further : Bool) (i : Token) (a b : Expr) → levelOf (Kind.big o) (max (capped (levels a)) (max (capped (levels b)) 0)) (Kind.binder further) ≡ capped (levels (Each t o further i a b))
+  each-level : (t : Token) (o : Big) (further : Bool) (i : Token) (a b : Expr)
+      → levelOf (Kind.big o) (max (capped (levels a)) (max (capped (levels b)) 0)) (Kind.binder further) ≡ capped (levels (Each t o further i a b))
   each-level t o false i a b = first-level (Kind.big o) _ _ (big-level o) refl ∙ ap (λ m. capped (suc m)) (cap-two (levels a) (levels b)) ∙ cap-suc _
   each-level t o true i a b = further-level (Kind.big o) _ _ (big-level o) (λ z. omega arith) ∙ cap-two (levels a) (levels b)
 
@@ -155,5 +194,7 @@ module _ {N : Type 0} (bind : Token → N → N) where
   values q c z i =
       let qs = operandsOf bind q in
       ap₂ (λ (l s : ℕ). record { level = l; start = s })
-      (ap₂ (λ ls ss. levelOf (c .kind) (highest ls) (firstOf ss)) (map-map (λ (x : Operand). x .level) value qs) (map-map (λ (x : Operand). x .start) value qs) ∙ ap (λ k. levelOf k (highestOf qs) (firstOf (map startPart qs))) (z .kind) ∙ part-level q i)
-      (ap (λ ss. startOf (c .kind) (offsetIn (c .token)) (firstOf ss)) (map-map (λ (x : Operand). x .start) value qs) ∙ ap (λ k. startOf k (offsetIn (c .token)) (firstOf (map startPart qs))) (z .kind) ∙ starts bind q (offsetIn (c .token)) (told (c .token) (tokenOf q) (z .token)) i)
+      (ap₂ (λ ls ss. levelOf (c .kind) (highest ls) (firstOf ss)) (map-map (λ (x : Operand). x .level) value qs) (map-map (λ (x : Operand). x .start) value qs) ∙ ap
+      (λ k. levelOf k (highestOf qs) (firstOf (map startPart qs))) (z .kind) ∙ part-level q i)
+      (ap (λ ss. startOf (c .kind) (offsetIn (c .token)) (firstOf ss)) (map-map (λ (x : Operand). x .start) value qs) ∙ ap (λ k. startOf k (offsetIn (c .token)) (firstOf (map startPart qs)))
+      (z .kind) ∙ starts bind q (offsetIn (c .token)) (told (c .token) (tokenOf q) (z .token)) i)

@@ -85,8 +85,10 @@ module _ (s : State) (p : Progress) (ls ss : List ℕ) (c : Cell) (below : ℕ) 
       record {
         before = sym (ap (λ (r : State). r .before) moved);
         count = omega (arith, kept, ap length stack, length-append (take below (s .stack)) (node c xs ∷ []));
-        levels = stack-push (λ (x : Operand). x .level) (s .stack) ls (p .top) below (a .levels) low (node c xs) l room (hl ∙ ap₂ (λ u v. levelOf (c .kind) (highest u) (firstOf v)) part-levels part-starts) ∙ sym (ap levelsOf stack);
-        starts = stack-push (λ (x : Operand). x .start) (s .stack) ss (p .top) below (a .starts) low (node c xs) t room′ (ht ∙ ap (λ v. startOf (c .kind) (offsetIn (c .token)) (firstOf v)) part-starts) ∙ sym (ap startsOf stack);
+        levels = stack-push (λ (x : Operand). x .level) (s .stack) ls (p .top) below (a .levels) low (node c xs) l room
+            (hl ∙ ap₂ (λ u v. levelOf (c .kind) (highest u) (firstOf v)) part-levels part-starts) ∙ sym (ap levelsOf stack);
+        starts = stack-push (λ (x : Operand). x .start) (s .stack) ss (p .top) below (a .starts) low (node c xs) t room′
+            (ht ∙ ap (λ v. startOf (c .kind) (offsetIn (c .token)) (firstOf v)) part-starts) ∙ sym (ap startsOf stack);
         found = found-more f g hg hf ∙ sym (ap (λ (r : State). placed (r .found)) moved);
       }
 
@@ -104,7 +106,8 @@ module _ (s : State) (p : Progress) (ls ss : List ℕ) (c : Cell) (below : ℕ) 
       }
 
 -- none passed, and one more
-pub reached-none : (w ls ss : List ℕ) (p : Progress) → workBytes ≤ length w → length ls ≡ maxTokens → length ss ≡ maxTokens → p ≡ record { before = 0; top = 0; found = placed none } → Reached w 0 p ls ss
+pub reached-none : (w ls ss : List ℕ) (p : Progress) → workBytes ≤ length w → length ls ≡ maxTokens → length ss ≡ maxTokens → p ≡ record { before = 0; top = 0; found = placed none }
+    → Reached w 0 p ls ss
 reached-none w ls ss p room l r e =
     let s : after w 0 ≡ state 0 [] none = passed-none step (cellAt w) (state 0 [] none) in
     record {
@@ -112,7 +115,8 @@ reached-none w ls ss p room l r e =
       few = omega (arith, ap (λ (q : Progress). q .top) e);
       levels = l;
       starts = r;
-      agrees = subst (λ (t : State). Agrees t p ls ss) (sym s) (subst (λ q. Agrees (state 0 [] none) q ls ss) (sym e) (record { before = refl; count = refl; levels = refl; starts = refl; found = refl }));
+      agrees = subst (λ (t : State). Agrees t p ls ss) (sym s) (subst (λ q. Agrees (state 0 [] none) q ls ss) (sym e)
+          (record { before = refl; count = refl; levels = refl; starts = refl; found = refl }));
     }
 
 pub reached-more : (w : List ℕ) (i : ℕ) (p q : Progress) (ls ss ms us : List ℕ) → Reached w i p ls ss → length ms ≡ length ls → length us ≡ length ss → q .top ≤ i + 1

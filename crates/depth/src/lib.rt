@@ -1,6 +1,9 @@
 // Refusal 5 over the stored tree: 'tree too deep', at the outermost expression's first token. One pass, with a stack of the operands' levels and starts.
 // `too_deep` asks for a work buffer of full length and entries within it.
-use traversal::FIRST_LINE;
+use entries::kinds;
+use language::limits;
+use lexer::fields::LENGTHS;
+use lexer::fields::OFFSETS;
 use traversal::Place;
 use traversal::cell_at;
 use traversal::first_of;
@@ -16,11 +19,6 @@ ghost use Rattle.traversal.specs.Places.{placed};
 ghost use Rattle.depth.specs.Progress.{Reached};
 ghost use Rattle.depth.specs.ProgressLaws.{TooDeep};
 ghost use Rattle.depth.specs.Depth.{capped, highest as highest', levelOf, faultOf};
-
-pub const MAX_LEVELS: u32 = 256;
-
-// The kind of a big operator's first name.
-const FIRST_NAME: u32 = 45;
 
 // By kind: 1 for a level of its own, 2 if that depends on the first operand.
 const OWN_LEVELS: [u8; 64] = *b"\
@@ -60,10 +58,10 @@ fn highest(levels: &[u32], from: usize, to: usize) -> u32
 fn raised(n: u32) -> u32
     ensures { λ r. ⌜ r ≡ capped (n + 1) ⌝ }
 {
-    if n < MAX_LEVELS {
+    if n < limits::MAX_LEVELS {
         n + 1
     } else {
-        MAX_LEVELS + 1
+        limits::MAX_LEVELS + 1
     }
 }
 
@@ -76,7 +74,7 @@ fn level_of(kind: u32, most: u32, start: u32) -> u32
         return raised(most);
     }
     if own == 2 {
-        if start == FIRST_NAME {
+        if start == kinds::BINDERS {
             return raised(most);
         }
         return most;
@@ -88,10 +86,10 @@ fn level_of(kind: u32, most: u32, start: u32) -> u32
 fn fault_of(kind: u32, level: u32, start: u32) -> Place
     ensures { λ r. ⌜ r ≡ placed (faultOf kind level start) ⌝ }
 {
-    if kind < FIRST_LINE {
+    if kind < kinds::LINES {
         return Place::Nowhere;
     }
-    if level <= MAX_LEVELS {
+    if level <= limits::MAX_LEVELS {
         return Place::Nowhere;
     }
     Place::At(start)
@@ -110,9 +108,9 @@ fn pass(work: &[u8], i: usize, p: Progress, levels: &mut [u32], starts: &mut [u3
     let fault = fault_of(kind, first_of(levels, below, top), start);
     let before = p.found;
     let found = before.first(fault);
-    if kind < FIRST_LINE {
+    if kind < kinds::LINES {
         levels[below] = level_of(kind, highest(levels, below, top), start);
-        starts[below] = start_of(kind, c.token / 256 % 65536, start);
+        starts[below] = start_of(kind, c.token / LENGTHS % OFFSETS, start);
         return Progress {
             before: kind,
             top: below + 1,
@@ -131,8 +129,8 @@ pub fn too_deep(work: &[u8], entries: usize) -> Place
     requires { ⌜ (workBytes ≤ length (now work)) × (entries ≤ maxTokens) ⌝ }
     ensures { λ r. ⌜ TooDeep (now (work .entry)) entries r ⌝ }
 {
-    let mut levels = [0u32; 8192];
-    let mut starts = [0u32; 8192];
+    let mut levels = [0u32; limits::MAX_TOKENS];
+    let mut starts = [0u32; limits::MAX_TOKENS];
     let mut p = Progress {
         before: 0,
         top: 0,

@@ -1,8 +1,50 @@
 -- The kinds of the entries that hold a text's tree: numbers of six bits, the code's own. An operator's kind says which operator it is.
 use Prim.Native.Nat.{ℕ}
 use mathlib.Core.Bool.{Bool, true, false}
+use mathlib.Core.List.{List, [], _∷_}
 use Rattle.node.specs.Operators.{Unary, Not, X, G, F, Binary, And, Or, Implies, Iff, U, R, W}
-use Rattle.language.specs.Operators.{Arithmetic, Plus, Minus, Times, Divide, Modulo, Size, Min, Max, Combination, Cup, Cap, Without, Comparison, Equal, Unequal, Less, AtMost, Greater, AtLeast, Big, BigSum, BigProduct, BigCap, BigCup, BigAnd, BigOr, Window, FinallyIn, GloballyIn, Infix, Calculates, Combines, Compares, Membership, Connects, Prefix, Measures, WidthOf, Applies}
+use Rattle.language.specs.Operators.{
+  Arithmetic,
+  Plus,
+  Minus,
+  Times,
+  Divide,
+  Modulo,
+  Size,
+  Min,
+  Max,
+  Combination,
+  Cup,
+  Cap,
+  Without,
+  Comparison,
+  Equal,
+  Unequal,
+  Less,
+  AtMost,
+  Greater,
+  AtLeast,
+  Big,
+  BigSum,
+  BigProduct,
+  BigCap,
+  BigCup,
+  BigAnd,
+  BigOr,
+  Window,
+  FinallyIn,
+  GloballyIn,
+  Infix,
+  Calculates,
+  Combines,
+  Compares,
+  Membership,
+  Connects,
+  Prefix,
+  Measures,
+  WidthOf,
+  Applies,
+}
 
 -- leaves, an index and a parenthesis
 abbrev pub named : ℕ
@@ -141,3 +183,14 @@ line = 62
 -- a subsection of MAIN, before its lines
 abbrev pub heading : ℕ
 heading = 63
+
+-- all kinds in their order
+abbrev pub kinds : List ℕ
+kinds =
+    named ∷ numeral ∷ truth false ∷ truth true ∷ index ∷ paren ∷ before (Measures Size) ∷ before (Measures Min) ∷ before (Measures Max) ∷
+    before WidthOf ∷ unary Not ∷ unary X ∷ unary G ∷ unary F ∷ arithmetic Plus ∷ arithmetic Minus ∷ arithmetic Times ∷ arithmetic Divide ∷
+    arithmetic Modulo ∷ combination Cup ∷ combination Cap ∷ combination Without ∷ comparison Equal ∷ comparison Unequal ∷ comparison Less ∷
+    comparison AtMost ∷ comparison Greater ∷ comparison AtLeast ∷ joining Membership ∷ binary And ∷ binary Or ∷ binary Implies ∷ binary Iff ∷
+    binary U ∷ binary R ∷ binary W ∷ nexts ∷ window FinallyIn ∷ window GloballyIn ∷ big BigSum ∷ big BigProduct ∷ big BigCap ∷ big BigCup ∷
+    big BigAnd ∷ big BigOr ∷ binder false ∷ binder true ∷ between false false ∷ between false true ∷ between true false ∷ between true true ∷
+    listed ∷ element ∷ range ∷ parameter ∷ definition ∷ enumeration ∷ identifier ∷ word ∷ signal ∷ bus ∷ typed ∷ line ∷ heading ∷ []

@@ -6,6 +6,7 @@ use mathlib.Core.Path.{_≡_}
 use lib.ListN.{length, drop}
 use Rattle.node.specs.BitFields.{join, above, below}
 use Rattle.words.specs.Words.{wordAt, putWord}
+use Rattle.language.specs.Limits.{maxTokens}
 use Rattle.language.specs.Tokens.{Token}
 use Rattle.language.specs.Tree.{Expr}
 use Rattle.language.specs.Grammar.{Tokens, front}
@@ -13,11 +14,15 @@ use Rattle.entries.specs.Flat.{Entry, flat}
 
 -- the word of entry 0
 abbrev pub firstEntry : ℕ
-firstEntry = 8_192
+firstEntry = maxTokens
 
 -- the bits of a token's index and of a size: 'text .. 8,192 tokens', the first of which has no entry
 abbrev pub fieldBits : ℕ
 fieldBits = 13
+
+-- what the code's constants stand for
+abbrev pub fields : List ℕ
+fields = 2 ^ fieldBits ∷ 2 ^ fieldBits ∷ firstEntry ∷ []
 
 abbrev pub entryWord : ℕ → ℕ → ℕ → ℕ
 entryWord kind index size = join fieldBits (join fieldBits kind index) size

@@ -12,6 +12,7 @@ use Rattle.words.specs.WordLaws.{word-same}
 use Rattle.language.specs.Tokens.{Token}
 use Rattle.language.specs.Tree.{Expr, Named, Numeral, Truth, Index, Paren, Prefixed, Joined, Nexts, InWindow, Each, Between, Listed, Empty, Element, Range}
 use Rattle.language.specs.Grammar.{Tokens}
+use Rattle.language.specs.Limits.{maxTokens, workBytes}
 use Rattle.entries.specs.Kinds as Kind
 use Rattle.entries.specs.Flat.{Entry, under, flat}
 use Rattle.entries.specs.Stored.{firstEntry, fieldBits, entryWord, kindOf, indexOf, sizeOf, putEntry, Keeps, EntryAt, EntriesFrom, EndsAt, At}
@@ -30,7 +31,8 @@ module _ {w : List ℕ} {ts : Tokens} {i : ℕ} {e : Entry} (h : EntryAt w ts i 
   entry-size = ap sizeOf (h .word) ∙ below-join fieldBits _ (h .size-fits)
 
 -- an entry just written
-pub entry-put : (w : List ℕ) (ts : Tokens) (out k j n : ℕ) (t : Option Token) → 65_536 ≤ length w → out < 8_192 → k < 64 → j < 2 ^ fieldBits → n < 2 ^ fieldBits → Keeps ts j t → EntryAt (putEntry w out k j n) ts out (record { kind = k; token = t; size = n })
+pub entry-put : (w : List ℕ) (ts : Tokens) (out k j n : ℕ) (t : Option Token) → workBytes ≤ length w → out < maxTokens → k < 64 → j < 2 ^ fieldBits → n < 2 ^ fieldBits → Keeps ts j t
+    → EntryAt (putEntry w out k j n) ts out (record { kind = k; token = t; size = n })
 entry-put w ts out k j n t room few hk hj hn keeps =
     record { index = j; word = word-same w (firstEntry + out) (entryWord k j n) (omega arith) (omega arith); keeps = keeps; index-fits = hj; size-fits = hn }
 

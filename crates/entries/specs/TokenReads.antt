@@ -44,7 +44,8 @@ module _ {ts : Tokens} {w : List ℕ} {c : Cursor} (ready : Ready ts w c) where
   next-named ss h = named-number ss (front (drop (c .at) ts)) h ∙ ap (numbered ss) (sym (ready-kind ready))
 
   -- past the token if the test says so
-  passes : (b : Bool) (k : ℕ) → 0 < k → b ≡ eqb (kindAt w c) k → Reads ts w w c noEntries (if b then Done (front (drop (c .at) ts), rest (drop (c .at) ts)) else stop (drop (c .at) ts)) (expected w c k)
+  passes : (b : Bool) (k : ℕ) → 0 < k → b ≡ eqb (kindAt w c) k → Reads ts w w c noEntries (if b then Done (front (drop (c .at) ts), rest (drop (c .at) ts)) else stop (drop (c .at) ts))
+      (expected w c k)
   passes true k l e =
       let same : kindAt w c ≡ k = eqb-true (kindAt w c) k (sym e) in
       let here = took-token ready (before-end w c (omega arith)) in

@@ -1,17 +1,21 @@
 // How a text's tree stands in the work buffer: the cursor by which the parser reads tokens and writes entries.
 // A cursor's methods ask that it stands on a token and that there is room for an entry: a token that was read pays for each entry.
+pub mod fields;
+pub mod kinds;
+
+use fields::FIRST_ENTRY;
+use fields::SIZES;
+use fields::TOKENS;
+use lexer::fields::LENGTHS;
+use lexer::fields::OFFSETS;
+use node::refusals;
 use words::get;
 use words::put;
 ghost use mathlib.Core.Path.{_≡_};
 ghost use Prim.Native.Nat.{_<_};
+ghost use Rattle.language.specs.Limits.{maxTokens};
 ghost use Rattle.entries.specs.Stored.{putEntry};
 ghost use Rattle.entries.specs.Cursors.{Fits, Writes, kindAt, placeAt, nextOf, emittedOf, refusedAt, expected};
-
-// The word of entry 0: before it stand the tokens.
-pub const FIRST_ENTRY: usize = 8192;
-
-// Refusal 4.
-pub const NOT_GRAMMAR: u32 = 4;
 
 // The next token's index, how many entries are written; how many tokens there are, and the text's length.
 pub struct Cursor {
@@ -35,7 +39,7 @@ impl Cursor {
     {
         let at = self.at;
         if at < self.count {
-            return get(work, at) / 256 / 65536;
+            return get(work, at) / LENGTHS / OFFSETS;
         }
         0
     }
@@ -47,13 +51,13 @@ impl Cursor {
     {
         let at = self.at;
         if at < self.count {
-            return get(work, at) / 256 % 65536;
+            return get(work, at) / LENGTHS % OFFSETS;
         }
         self.end as u32
     }
 
     pub fn next(self) -> Cursor
-        requires { ⌜ self .at < 8192 ⌝ }
+        requires { ⌜ self .at < maxTokens ⌝ }
         ensures { λ r. ⌜ r ≡ nextOf self ⌝ }
     {
         Cursor {
@@ -73,7 +77,7 @@ impl Cursor {
         put(
             work,
             FIRST_ENTRY + out,
-            (kind * 8192 + (token as u32)) * 8192 + (size as u32),
+            (kind * TOKENS + (token as u32)) * SIZES + (size as u32),
         );
         Cursor {
             at: self.at,
@@ -88,7 +92,7 @@ impl Cursor {
         requires { ⌜ Fits (now work) self ⌝ }
         ensures { λ r. ⌜ r ≡ refusedAt (now (work .entry)) self ⌝ }
     {
-        Parse::Refused(NOT_GRAMMAR, self.place(work))
+        Parse::Refused(refusals::NOT_GRAMMAR, self.place(work))
     }
 
     // Past the next token, which must have this number; the text's end has none behind it.

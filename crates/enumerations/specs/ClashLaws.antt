@@ -30,7 +30,8 @@ module _ (n o : ℕ) (v ks : List ℕ) (rs : List (List ℕ)) (i count : ℕ) (f
   pub clash-none : count ≤ i → false ≡ clashRows n o v (slice i count ks) (slice i count rs)
   clash-none h = sym (ap (λ l. clashRows n o v l (slice i count rs)) (no-part ks i count h))
 
-  one : i < count → clashRows n o v (slice i count ks) (slice i count rs) ≡ (not (eqb (getD ks i 0) o) && meet (take n (getD rs i [])) v) || clashRows n o v (slice (i + 1) count ks) (slice (i + 1) count rs)
+  one : i < count → clashRows n o v (slice i count ks) (slice i count rs) ≡ (not (eqb (getD ks i 0) o) && meet (take n (getD rs i [])) v) || clashRows n o v (slice (i + 1) count ks)
+      (slice (i + 1) count rs)
   one h =
       ap₂ (clashRows n o v) (slice-cons i count ks 0 h few) (slice-cons i count rs [] h few′)
       ∙ ap (λ j. (not (eqb (getD ks i 0) o) && meet (take n (getD rs i [])) v) || clashRows n o v (slice j count ks) (slice j count rs)) (sym (add-one i))
@@ -38,14 +39,16 @@ module _ (n o : ℕ) (v ks : List ℕ) (rs : List (List ℕ)) (i count : ℕ) (f
   pub clash-own : i < count → getD ks i 0 ≡ o → clashRows n o v (slice i count ks) (slice i count rs) ≡ clashRows n o v (slice (i + 1) count ks) (slice (i + 1) count rs)
   clash-own h e = one h ∙ ap (λ b. (not b && meet (take n (getD rs i [])) v) || clashRows n o v (slice (i + 1) count ks) (slice (i + 1) count rs)) (eq-eqb _ _ e)
 
-  pub clash-not : i < count → (getD ks i 0 ≡ o → ⊥) → meet (take n (getD rs i [])) v ≡ false → clashRows n o v (slice i count ks) (slice i count rs) ≡ clashRows n o v (slice (i + 1) count ks) (slice (i + 1) count rs)
+  pub clash-not : i < count → (getD ks i 0 ≡ o → ⊥) → meet (take n (getD rs i [])) v ≡ false
+      → clashRows n o v (slice i count ks) (slice i count rs) ≡ clashRows n o v (slice (i + 1) count ks) (slice (i + 1) count rs)
   clash-not h e m = one h ∙ ap₂ (λ b c. (not b && c) || clashRows n o v (slice (i + 1) count ks) (slice (i + 1) count rs)) (ne-eqb _ _ e) m
 
   pub clash-here : i < count → (getD ks i 0 ≡ o → ⊥) → meet (take n (getD rs i [])) v ≡ true → clashRows n o v (slice i count ks) (slice i count rs) ≡ true
   clash-here h e m = one h ∙ ap₂ (λ b c. (not b && c) || clashRows n o v (slice (i + 1) count ks) (slice (i + 1) count rs)) (ne-eqb _ _ e) m
 
 -- the rows as the definition has them
-pub clash-rows : (n o : ℕ) (v : List ℕ) (rows : List Row) (ks : List ℕ) (rs : List (List ℕ)) → ks ≡ map (λ (r : Row). r .owner) rows → map (take n) rs ≡ map (λ (r : Row). r .marks) rows → clashRows n o v ks rs ≡ anyClash o v rows
+pub clash-rows : (n o : ℕ) (v : List ℕ) (rows : List Row) (ks : List ℕ) (rs : List (List ℕ)) → ks ≡ map (λ (r : Row). r .owner) rows → map (take n) rs ≡ map (λ (r : Row). r .marks) rows
+    → clashRows n o v ks rs ≡ anyClash o v rows
 clash-rows n o v rows ks rs e d = ap (λ l. clashRows n o v l rs) e ∙ go rows rs d
   where
     go : (rows : List Row) (rs : List (List ℕ)) → map (take n) rs ≡ map (λ (r : Row). r .marks) rows → clashRows n o v (map (λ (r : Row). r .owner) rows) rs ≡ anyClash o v rows

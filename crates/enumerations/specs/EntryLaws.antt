@@ -8,7 +8,38 @@ use lib.Dec.{eqb, ltb}
 use native.Mathlib.Omega.{arith}
 use borrow.Author.Tests.{ltb-true, ne-eqb}
 use Rattle.language.specs.Tokens.{Marks, Token, isOf}
-use Rattle.language.specs.Tree.{Expr, Named, Numeral, Truth, Index, Paren, Prefixed, Joined, Nexts, InWindow, Each, Between, Listed, Empty, Element, Range, Identifier, Definition, Defined, Enumerated, Parameter, Declaration, OneSignal, OfWidth, OfType, Subsection, Inputs, Outputs, Lines, Spec}
+use Rattle.language.specs.Tree.{
+  Expr,
+  Named,
+  Numeral,
+  Truth,
+  Index,
+  Paren,
+  Prefixed,
+  Joined,
+  Nexts,
+  InWindow,
+  Each,
+  Between,
+  Listed,
+  Empty,
+  Element,
+  Range,
+  Identifier,
+  Definition,
+  Defined,
+  Enumerated,
+  Parameter,
+  Declaration,
+  OneSignal,
+  OfWidth,
+  OfType,
+  Subsection,
+  Inputs,
+  Outputs,
+  Lines,
+  Spec,
+}
 use Rattle.language.specs.Grammar.{Tokens}
 use Rattle.language.specs.Places.{first, firstIn}
 use Rattle.language.specs.Words.{badWords, wrongWords}
@@ -73,15 +104,18 @@ module _ (text : List ℕ) where
   quiet-flat (Joined t o a b) = quiet-under (Kind.joining o) (some t) (flat a ++ flat b) (low (Kind.joining o) (joining-plain o .part)) (join (flat a) (flat b) (quiet-flat a) (quiet-flat b))
   quiet-flat (Nexts t n e) = quiet-under Kind.nexts (some t) (flat n ++ flat e) (low Kind.nexts refl) (join (flat n) (flat e) (quiet-flat n) (quiet-flat e))
   quiet-flat (InWindow t o n m e) =
-      quiet-under (Kind.window o) (some t) (flat n ++ (flat m ++ flat e)) (low (Kind.window o) (window-plain o .part)) (join (flat n) _ (quiet-flat n) (join (flat m) (flat e) (quiet-flat m) (quiet-flat e)))
+      quiet-under (Kind.window o) (some t) (flat n ++ (flat m ++ flat e)) (low (Kind.window o) (window-plain o .part))
+      (join (flat n) _ (quiet-flat n) (join (flat m) (flat e) (quiet-flat m) (quiet-flat e)))
   quiet-flat (Each t o further i s e) =
       quiet-under (Kind.big o) (some t) (under (Kind.binder further) (some i) (flat s) ++ flat e) (low (Kind.big o) (big-plain o .part))
-      (join (under (Kind.binder further) (some i) (flat s)) (flat e) (quiet-under (Kind.binder further) (some i) (flat s) (low (Kind.binder further) (binder-plain further .part)) (quiet-flat s)) (quiet-flat e))
+      (join (under (Kind.binder further) (some i) (flat s)) (flat e) (quiet-under (Kind.binder further) (some i) (flat s) (low (Kind.binder further) (binder-plain further .part)) (quiet-flat s))
+      (quiet-flat e))
   quiet-flat (Between t l h a b) = quiet-under (Kind.between l h) (some t) (flat a ++ flat b) (low (Kind.between l h) (between-plain l h .part)) (join (flat a) (flat b) (quiet-flat a) (quiet-flat b))
   quiet-flat (Listed t es) = quiet-under Kind.listed (some t) (flat es) (low Kind.listed refl) (quiet-flat es)
   quiet-flat Empty = tt
   quiet-flat (Element e es) = quiet-under Kind.element none (flat e ++ flat es) (low Kind.element refl) (join (flat e) (flat es) (quiet-flat e) (quiet-flat es))
-  quiet-flat (Range t a b c) = quiet-under Kind.range (some t) (flat a ++ (flat b ++ flat c)) (low Kind.range refl) (join (flat a) _ (quiet-flat a) (join (flat b) (flat c) (quiet-flat b) (quiet-flat c)))
+  quiet-flat (Range t a b c) = quiet-under Kind.range (some t) (flat a ++ (flat b ++ flat c)) (low Kind.range refl)
+      (join (flat a) _ (quiet-flat a) (join (flat b) (flat c) (quiet-flat b) (quiet-flat c)))
 
   quiet-declaration : (d : Declaration) → All Quiet (flatDeclaration d)
   quiet-declaration (OneSignal x) = (quiet Kind.signal (λ z. omega arith) (λ z. omega arith) (λ z. omega arith), tt)
@@ -135,7 +169,8 @@ module _ (text : List ℕ) where
         let more = by-quiet us es (suc i) s (q .1) (h .1) in
         record { at = more .at; state = more .state; seen = more .seen; runs = ap (passing (us ++ es) (suc i)) (q .0 (cell i) s (h .0 .kind)) ∙ more .runs; holds = more .holds }
 
-    words-run : {f r : Option ℕ} (o : ℕ) (ws : List Token) (vs : List Word) (es : List Entry) (i : ℕ) (s : State) → All (λ (v : Word). isOf Marks (v .token) ≡ true) (owned o ws) → Pending f r o s (owned o ws ++ vs) → Seen (Spells text) cell i (each (leaf Kind.word) ws ++ es) →
+    words-run : {f r : Option ℕ} (o : ℕ) (ws : List Token) (vs : List Word) (es : List Entry) (i : ℕ) (s : State) → All (λ (v : Word). isOf Marks (v .token) ≡ true) (owned o ws)
+        → Pending f r o s (owned o ws ++ vs) → Seen (Spells text) cell i (each (leaf Kind.word) ws ++ es) →
         Comes (λ t. Pending f r o t vs) (each (leaf Kind.word) ws ++ es) i s es
     words-run o [] vs es i s m p h = record { at = i; state = s; seen = h; runs = refl; holds = p }
     words-run {f} {r} o (w ∷ ws) vs es i s m p h =
@@ -152,26 +187,31 @@ module _ (text : List ℕ) where
     marks-left [] vs h = tt
     marks-left (u ∷ us) vs h = (h .0, marks-left us vs (h .1))
 
-    identifiers-run : {f r : Option ℕ} (o : ℕ) (is : List Identifier) (es : List Entry) (i : ℕ) (s : State) → AllMarks (wordsFrom (suc o) is) → Pending f r o s (wordsFrom (suc o) is) → Seen (Spells text) cell i (each flatIdentifier is ++ es) →
+    identifiers-run : {f r : Option ℕ} (o : ℕ) (is : List Identifier) (es : List Entry) (i : ℕ) (s : State) → AllMarks (wordsFrom (suc o) is) → Pending f r o s (wordsFrom (suc o) is)
+        → Seen (Spells text) cell i (each flatIdentifier is ++ es) →
         Comes (λ t. t .found ≡ first f r) (each flatIdentifier is ++ es) i s es
     identifiers-run o [] es i s m p h = record { at = i; state = s; seen = h; runs = refl; holds = pending-end p }
     identifiers-run {f} {r} o (x ∷ is) es i s m p h =
         let ws = x .words in
         let vs = wordsFrom (suc (suc o)) is in
         let assoc = append-assoc (each (leaf Kind.word) ws) (each flatIdentifier is) es in
-        let one = words-run (suc o) ws vs (each flatIdentifier is ++ es) (suc i) (named s) (marks-left (owned (suc o) ws) vs m) (pending-name p) (subst (Seen (Spells text) cell (suc i)) assoc (h .1)) in
+        let one = words-run (suc o) ws vs (each flatIdentifier is ++ es) (suc i) (named s) (marks-left (owned (suc o) ws) vs m) (pending-name p) (subst (Seen (Spells text) cell (suc i)) assoc (h .1))
+        in
         let more = identifiers-run (suc o) is es (one .at) (one .state) (all-right (λ (v : Word). isOf Marks (v .token) ≡ true) (owned (suc o) ws) vs m) (one .holds) (one .seen) in
         record {
           at = more .at;
           state = more .state;
           seen = more .seen;
-          runs = ap (passing ((each (leaf Kind.word) ws ++ each flatIdentifier is) ++ es) (suc i)) (step-named (cell i) s (h .0 .kind)) ∙ ap (λ us. passing us (suc i) (named s)) assoc ∙ one .runs ∙ more .runs;
+          runs = ap (passing ((each (leaf Kind.word) ws ++ each flatIdentifier is) ++ es) (suc i)) (step-named (cell i) s (h .0 .kind)) ∙ ap (λ us. passing us (suc i) (named s)) assoc ∙ one .runs ∙
+              more .runs;
           holds = more .holds;
         }
 
-    definition-run : (d : Definition) (es : List Entry) (i : ℕ) (s : State) → GoodDefinition d → Seen (Spells text) cell i (flatDefinition d ++ es) → Comes (λ t. t .found ≡ first (s .found) (badWords d)) (flatDefinition d ++ es) i s es
+    definition-run : (d : Definition) (es : List Entry) (i : ℕ) (s : State) → GoodDefinition d → Seen (Spells text) cell i (flatDefinition d ++ es)
+        → Comes (λ t. t .found ≡ first (s .found) (badWords d)) (flatDefinition d ++ es) i s es
     definition-run (Defined x e) es i s g h =
-        let past = by-quiet (under Kind.definition (some x) (flat e)) es i s (quiet-under Kind.definition (some x) (flat e) (quiet Kind.definition (λ z. omega arith) (λ z. omega arith) (λ z. omega arith)) (quiet-flat e)) h in
+        let past = by-quiet (under Kind.definition (some x) (flat e)) es i s
+        (quiet-under Kind.definition (some x) (flat e) (quiet Kind.definition (λ z. omega arith) (λ z. omega arith) (λ z. omega arith)) (quiet-flat e)) h in
         record { at = past .at; state = past .state; seen = past .seen; runs = past .runs; holds = ap (λ (t : State). t .found) (past .holds) ∙ sym (first-none (s .found)) }
     definition-run (Enumerated x is) es i s g h =
         let past = identifiers-run 0 is es (suc i) (begun s) (g .marks) (pending-begin s (wordsFrom 1 is)) (h .1) in
@@ -183,7 +223,8 @@ module _ (text : List ℕ) where
           holds = past .holds ∙ ap (first (s .found)) (scan-finds 1 is (g .ascend));
         }
 
-    definitions-run : (ds : List Definition) (es : List Entry) (i : ℕ) (s : State) → All GoodDefinition ds → Seen (Spells text) cell i (each flatDefinition ds ++ es) → Comes (λ t. t .found ≡ first (s .found) (firstIn badWords ds)) (each flatDefinition ds ++ es) i s es
+    definitions-run : (ds : List Definition) (es : List Entry) (i : ℕ) (s : State) → All GoodDefinition ds → Seen (Spells text) cell i (each flatDefinition ds ++ es)
+        → Comes (λ t. t .found ≡ first (s .found) (firstIn badWords ds)) (each flatDefinition ds ++ es) i s es
     definitions-run [] es i s g h = record { at = i; state = s; seen = h; runs = refl; holds = sym (first-none (s .found)) }
     definitions-run (d ∷ ds) es i s g h =
         let assoc = append-assoc (flatDefinition d) (each flatDefinition ds) es in

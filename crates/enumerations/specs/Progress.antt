@@ -60,7 +60,16 @@ shutAt p place = record { owner = p .owner; count = p .count; size = p .size; cl
 
 shut-agrees : {s : State} {p : Progress} {os : List ℕ} {rs : List (List ℕ)} (place : ℕ) → Agrees s p os rs → Agrees (shut s place) (shutAt p place) os rs
 shut-agrees {s} place a =
-    record { owner = a .owner; size = a .size; closed = refl; count = a .count; owners = a .owners; rows = a .rows; found = ap (λ o. placed (first o (some place))) (ap placeIn (a .found) ∙ place-placed (s .found)) }
+    record {
+      owner = a .owner;
+      size = a .size;
+      closed = refl;
+      count = a .count;
+      owners = a .owners;
+      rows = a .rows;
+      found = ap (λ o. placed (first o (some place)))
+          (ap placeIn (a .found) ∙ place-placed (s .found));
+    }
 
 module _ (text : List ℕ) {p : Progress} {os : List ℕ} {rs : List (List ℕ)} (z : Sized p os rs) (x : ℕ) where
   -- after a bad word
@@ -99,7 +108,8 @@ module _ (text : List ℕ) {p : Progress} {os : List ℕ} {rs : List (List ℕ)}
             shuts (λ s a. pick (eqb (lengthIn x) n) _ _ (eq-eqb _ _ same) ∙ pick (leb n maxMarks) _ _ (le-leb _ _ short)
             ∙ leave (ltb (length (s .rows)) maxWords) _ _ (le-ltb (length (s .rows)) maxWords (omega (arith, h, a .count))))
 
-        module _ (room : p .count < maxWords) (row : List ℕ) {b : Bool} (hr : take n row ≡ bytesAt text (offsetIn x) n) (full : length row ≡ 8) (hb : b ≡ clashRows n (p .owner) (take n row) (take (p .count) os) (take (p .count) rs)) where
+        module _ (room : p .count < maxWords) (row : List ℕ) {b : Bool} (hr : take n row ≡ bytesAt text (offsetIn x) n) (full : length row ≡ 8)
+            (hb : b ≡ clashRows n (p .owner) (take n row) (take (p .count) os) (take (p .count) rs)) where
           -- rows of the first word's size
           sized-rows : (s : State) → Agrees s p os rs → map (take n) (take (p .count) rs) ≡ marksOf (s .rows)
           sized-rows s a = go (p .count) refl
@@ -111,12 +121,16 @@ module _ (text : List ℕ) {p : Progress} {os : List ℕ} {rs : List (List ℕ)}
                   ap (λ m. map (take m) (take (p .count) rs)) same ∙ a .rows
 
           clash-is : (s : State) → Agrees s p os rs → anyClash (s .owner) (bytesAt text (offsetIn x) n) (s .rows) ≡ b
-          clash-is s a = sym (hb ∙ clash-rows n (p .owner) (take n row) (s .rows) (take (p .count) os) (take (p .count) rs) (a .owners) (sized-rows s a) ∙ ap₂ (λ o v. anyClash o v (s .rows)) (a .owner) hr)
+          clash-is s a = sym (hb ∙ clash-rows n (p .owner) (take n row) (s .rows) (take (p .count) os) (take (p .count) rs) (a .owners) (sized-rows s a) ∙ ap₂ (λ o v. anyClash o v (s .rows))
+              (a .owner) hr)
 
-          enters : (s : State) → Agrees s p os rs → tested text x n s ≡ (elim (anyClash (s .owner) (bytesAt text (offsetIn x) n) (s .rows)) [ true ↦ shut s (offsetIn x) | false ↦ opened s n (record { owner = s .owner; marks = bytesAt text (offsetIn x) n }) ])
+          enters : (s : State) → Agrees s p os rs → tested text x n s ≡
+              (elim (anyClash (s .owner) (bytesAt text (offsetIn x) n) (s .rows))
+              [ true ↦ shut s (offsetIn x) | false ↦ opened s n (record { owner = s .owner; marks = bytesAt text (offsetIn x) n }) ])
           unfolding tested
           enters s a =
-              pick (eqb (lengthIn x) n) _ _ (eq-eqb _ _ same) ∙ pick (leb n maxMarks) _ _ (le-leb _ _ short) ∙ pick (ltb (length (s .rows)) maxWords) _ _ (lt-ltb (length (s .rows)) maxWords (omega (arith, a .count, room)))
+              pick (eqb (lengthIn x) n) _ _ (eq-eqb _ _ same) ∙ pick (leb n maxMarks) _ _ (le-leb _ _ short) ∙ pick (ltb (length (s .rows)) maxWords) _ _
+              (lt-ltb (length (s .rows)) maxWords (omega (arith, a .count, room)))
 
           pub passes-clash : b ≡ true → Passes (word text x) p (shutAt p (offsetIn x)) os rs os rs
           passes-clash h = shuts (λ s a. enters s a ∙ pick (anyClash (s .owner) (bytesAt text (offsetIn x) n) (s .rows)) _ _ (clash-is s a ∙ h))
@@ -124,7 +138,8 @@ module _ (text : List ℕ) {p : Progress} {os : List ℕ} {rs : List (List ℕ)}
           abbrev more : Progress
           more = record { owner = p .owner; count = p .count + 1; size = n; closed = false; found = p .found }
 
-          push-agrees : (s : State) → Agrees s p os rs → Agrees (opened s n (record { owner = s .owner; marks = bytesAt text (offsetIn x) n })) more (set os (p .count) (p .owner)) (set rs (p .count) row)
+          push-agrees : (s : State) → Agrees s p os rs → Agrees (opened s n (record { owner = s .owner; marks = bytesAt text (offsetIn x) n })) more (set os (p .count) (p .owner))
+              (set rs (p .count) row)
           push-agrees s a =
               record {
                 owner = a .owner;
@@ -169,7 +184,8 @@ module _ (text : List ℕ) {p : Progress} {os : List ℕ} {rs : List (List ℕ)}
       record {
         sized = record { few = omega arith; owners = z .owners; rows = z .rows; each = z .each };
         owner = omega arith;
-        steps = λ s a. kinds s (pick (eqb (c .kind) Kind.enumeration) _ _ (eq-eqb _ _ e)) (record { owner = refl; size = refl; closed = refl; count = refl; owners = refl; rows = refl; found = a .found });
+        steps = λ s a. kinds s (pick (eqb (c .kind) Kind.enumeration) _ _ (eq-eqb _ _ e))
+            (record { owner = refl; size = refl; closed = refl; count = refl; owners = refl; rows = refl; found = a .found });
       }
 
   pub passes-named : c .kind ≡ Kind.identifier → Passes (step text d) p (record { owner = p .owner + 1; count = p .count; size = p .size; closed = p .closed; found = p .found }) os rs os rs
@@ -188,7 +204,8 @@ module _ (text : List ℕ) {p : Progress} {os : List ℕ} {rs : List (List ℕ)}
       record {
         sized = h .sized;
         owner = h .owner;
-        steps = λ s a. kinds s (leave (eqb (c .kind) Kind.enumeration) _ _ (ap (λ k. eqb k Kind.enumeration) e) ∙ leave (eqb (c .kind) Kind.identifier) _ _ (ap (λ k. eqb k Kind.identifier) e) ∙ pick (eqb (c .kind) Kind.word) _ _ (eq-eqb _ _ e)) (h .steps s a);
+        steps = λ s a. kinds s (leave (eqb (c .kind) Kind.enumeration) _ _ (ap (λ k. eqb k Kind.enumeration) e) ∙ leave (eqb (c .kind) Kind.identifier) _ _ (ap (λ k. eqb k Kind.identifier) e) ∙ pick
+            (eqb (c .kind) Kind.word) _ _ (eq-eqb _ _ e)) (h .steps s a);
       }
 
   pub passes-by : (c .kind ≡ Kind.enumeration → ⊥) → (c .kind ≡ Kind.identifier → ⊥) → (c .kind ≡ Kind.word → ⊥) → Passes (step text d) p p os rs os rs
@@ -197,5 +214,6 @@ module _ (text : List ℕ) {p : Progress} {os : List ℕ} {rs : List (List ℕ)}
       record {
         sized = z;
         owner = omega arith;
-        steps = λ s a. kinds s (leave (eqb (c .kind) Kind.enumeration) _ _ (ne-eqb _ _ e) ∙ leave (eqb (c .kind) Kind.identifier) _ _ (ne-eqb _ _ f) ∙ leave (eqb (c .kind) Kind.word) _ _ (ne-eqb _ _ g)) a;
+        steps = λ s a. kinds s (leave (eqb (c .kind) Kind.enumeration) _ _ (ne-eqb _ _ e) ∙ leave (eqb (c .kind) Kind.identifier) _ _ (ne-eqb _ _ f) ∙ leave (eqb (c .kind) Kind.word) _ _
+            (ne-eqb _ _ g)) a;
       }

@@ -29,7 +29,8 @@ pub record Ran (text w : List ℕ) (n i : ℕ) (p : Progress) (os : List ℕ) (r
   pub owner : p .owner ≤ i
   pub few : i ≤ n
 
-pub ran-none : (text w : List ℕ) (n : ℕ) (os : List ℕ) (rs : List (List ℕ)) (p : Progress) → length os ≡ 16 → rs ≡ replicate 16 blank → p ≡ record { owner = 0; count = 0; size = 0; closed = false; found = placed none } → Ran text w n 0 p os rs
+pub ran-none : (text w : List ℕ) (n : ℕ) (os : List ℕ) (rs : List (List ℕ)) (p : Progress) → length os ≡ 16 → rs ≡ replicate 16 blank
+    → p ≡ record { owner = 0; count = 0; size = 0; closed = false; found = placed none } → Ran text w n 0 p os rs
 ran-none text w n os rs p l r e =
     record {
       sized = record {
@@ -44,7 +45,8 @@ ran-none text w n os rs p l r e =
       few = omega arith;
     }
 
-pub ran-more : {text w : List ℕ} {n i : ℕ} {p : Progress} {os : List ℕ} {rs : List (List ℕ)} (q : Progress) (os′ : List ℕ) (rs′ : List (List ℕ)) → Ran text w n i p os rs → Passes (step text (cellAt w i)) p q os rs os′ rs′ → i + 1 ≤ n → Ran text w n (i + 1) q os′ rs′
+pub ran-more : {text w : List ℕ} {n i : ℕ} {p : Progress} {os : List ℕ} {rs : List (List ℕ)} (q : Progress) (os′ : List ℕ) (rs′ : List (List ℕ)) → Ran text w n i p os rs
+    → Passes (step text (cellAt w i)) p q os rs os′ rs′ → i + 1 ≤ n → Ran text w n (i + 1) q os′ rs′
 ran-more {text} {w} {n} {i} q os′ rs′ r h few =
     record {
       sized = h .sized;

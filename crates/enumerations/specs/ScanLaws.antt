@@ -119,7 +119,8 @@ pass-against : (us vs : List Word) (v : Word) → anyMeets us v ≡ false → fi
 pass-against [] vs v m = refl
 pass-against (u ∷ us) vs v m = go (meets u v) refl (λ k. pass-against us vs v k)
   where
-    go : (b : Bool) → meets u v ≡ b → (anyMeets us v ≡ false → firstIn (clashesWith (v ∷ vs)) us ≡ firstIn (clashesWith vs) us) → firstIn (clashesWith (v ∷ vs)) (u ∷ us) ≡ firstIn (clashesWith vs) (u ∷ us)
+    go : (b : Bool) → meets u v ≡ b → (anyMeets us v ≡ false → firstIn (clashesWith (v ∷ vs)) us ≡ firstIn (clashesWith vs) us)
+        → firstIn (clashesWith (v ∷ vs)) (u ∷ us) ≡ firstIn (clashesWith vs) (u ∷ us)
     go true z rec = absurd (false≢true (sym m ∙ ap (λ b. b || anyMeets us v) z))
     go false z rec = ap₂ first (ap (λ x. first x (clashesWith vs u)) (leave (meets u v) _ _ z)) (rec (sym (ap (λ b. b || anyMeets us v) z) ∙ m))
 
@@ -168,7 +169,8 @@ module _ (n : ℕ) (us vs : List Word) (v : Word) where
 
     by-length : (eqb (length (v .token .text)) n && leb n maxMarks) ≡ false → three n us (v ∷ vs) ≡ some (v .token .at)
     by-length e =
-        hit-left _ _ (hit-left (wrongLength n (v .token)) (firstIn (wrongLength n) (tokensOf vs)) (ap (λ b. unless b (v .token .at)) e) (floor-lengths (v .token .at) n vs later)) (floor-first many-floor clash-floor)
+        hit-left _ _ (hit-left (wrongLength n (v .token)) (firstIn (wrongLength n) (tokensOf vs)) (ap (λ b. unless b (v .token .at)) e) (floor-lengths (v .token .at) n vs later))
+        (floor-first many-floor clash-floor)
 
     by-count : ltb (length us) maxWords ≡ false → three n us (v ∷ vs) ≡ some (v .token .at)
     by-count e =
@@ -184,7 +186,8 @@ module _ (n : ℕ) (us vs : List Word) (v : Word) where
     bad-here : good n us v ≡ false → three n us (v ∷ vs) ≡ some (v .token .at)
     bad-here g = go (eqb (length (v .token .text)) n && leb n maxMarks) refl (ltb (length us) maxWords) refl (anyMeets us v) refl
       where
-        go : (a : Bool) → (eqb (length (v .token .text)) n && leb n maxMarks) ≡ a → (b : Bool) → ltb (length us) maxWords ≡ b → (c : Bool) → anyMeets us v ≡ c → three n us (v ∷ vs) ≡ some (v .token .at)
+        go : (a : Bool) → (eqb (length (v .token .text)) n && leb n maxMarks) ≡ a → (b : Bool) → ltb (length us) maxWords ≡ b → (c : Bool) → anyMeets us v ≡ c
+            → three n us (v ∷ vs) ≡ some (v .token .at)
         go false ea b eb c ec = by-length ea
         go true ea false eb c ec = by-count eb
         go true ea true eb true ec = by-clash ec
@@ -232,7 +235,8 @@ with-own u (w ∷ ws) =
 with-later : (u : Word) (vs : List Word) → Above (suc (u .owner)) vs → clashesWith vs u ≡ firstIn (clash (u .token)) (tokensOf vs)
 with-later u [] h = refl
 with-later u (v ∷ vs) h =
-    ap₂ first (ap (λ b. elim b [ true ↦ some (v .token .at) | false ↦ none ]) (ap (λ b. not b && meet (u .token .text) (v .token .text)) (ne-eqb (u .owner) (v .owner) (λ e. let a = h .0 in omega arith)))) (with-later u vs (h .1))
+    ap₂ first (ap (λ b. elim b [ true ↦ some (v .token .at) | false ↦ none ])
+    (ap (λ b. not b && meet (u .token .text) (v .token .text)) (ne-eqb (u .owner) (v .owner) (λ e. let a = h .0 in omega arith)))) (with-later u vs (h .1))
 
 with-rest : (o : ℕ) (w : Token) (ws : List Token) (vs : List Word) → Above (suc o) vs → clashesWith (owned o ws ++ vs) (record { owner = o; token = w }) ≡ firstIn (clash w) (tokensOf vs)
 with-rest o w ws vs h =
@@ -240,7 +244,8 @@ with-rest o w ws vs h =
 
 clashes-owned : (o : ℕ) (ws : List Token) (vs : List Word) → Above (suc o) vs → clashesIn (owned o ws ++ vs) ≡ first (firstIn (λ u. firstIn (clash u) (tokensOf vs)) ws) (clashesIn vs)
 clashes-owned o [] vs h = refl
-clashes-owned o (w ∷ ws) vs h = ap₂ first (with-rest o w ws vs h) (clashes-owned o ws vs h) ∙ sym (first-assoc (firstIn (clash w) (tokensOf vs)) (firstIn (λ u. firstIn (clash u) (tokensOf vs)) ws) (clashesIn vs))
+clashes-owned o (w ∷ ws) vs h = ap₂ first (with-rest o w ws vs h) (clashes-owned o ws vs h) ∙ sym
+    (first-assoc (firstIn (clash w) (tokensOf vs)) (firstIn (λ u. firstIn (clash u) (tokensOf vs)) ws) (clashesIn vs))
 
 clashes-from : (o : ℕ) (is : List Identifier) → clashesIn (wordsFrom o is) ≡ clashes is
 clashes-from o [] = refl
@@ -249,7 +254,8 @@ clashes-from o (i ∷ is) =
     ∙ ap₂ (λ l c. first (firstIn (λ u. firstIn (clash u) l) (i .words)) c) (tokens-from (suc o) is) (clashes-from (suc o) is)
 
 -- the first bad word of an enumeration
-pub scan-finds : (o : ℕ) (is : List Identifier) → Ascends (wordsFrom o is) → scanAll (wordsFrom o is) ≡ first (wrongLengths (wordsIn is)) (first (placeOfFirst (drop maxWords (wordsIn is))) (clashes is))
+pub scan-finds : (o : ℕ) (is : List Identifier) → Ascends (wordsFrom o is)
+    → scanAll (wordsFrom o is) ≡ first (wrongLengths (wordsIn is)) (first (placeOfFirst (drop maxWords (wordsIn is))) (clashes is))
 scan-finds o is h = all-three (wordsFrom o is) h ∙ ap₂ (λ l c. first (wrongLengths l) (first (placeOfFirst (drop maxWords l)) c)) (tokens-from o is) (clashes-from o is)
   where
     all-three : (vs : List Word) → Ascends vs → scanAll vs ≡ first (wrongLengths (tokensOf vs)) (first (placeOfFirst (drop maxWords (tokensOf vs))) (clashesIn vs))

@@ -37,7 +37,8 @@ kept-test l m = go (leb m maxMarks) refl (eqb l m) refl
     go : (a : Bool) → leb m maxMarks ≡ a → (b : Bool) → eqb l m ≡ b → (eqb (min longest l) (min longest m) && leb (min longest m) maxMarks) ≡ (eqb l m && leb m maxMarks)
     go false e b d =
         let h = leb-false m maxMarks e in
-        ap (λ x. eqb (min longest l) (min longest m) && x) (lt-leb (min longest m) maxMarks (omega arith)) ∙ and-no (eqb (min longest l) (min longest m)) ∙ sym (ap (λ x. eqb l m && x) e ∙ and-no (eqb l m))
+        ap (λ x. eqb (min longest l) (min longest m) && x) (lt-leb (min longest m) maxMarks (omega arith)) ∙ and-no (eqb (min longest l) (min longest m)) ∙ sym
+        (ap (λ x. eqb l m && x) e ∙ and-no (eqb l m))
     go true e true d =
         let h = leb-true m maxMarks e in
         let k = eqb-true l m d in
@@ -170,7 +171,8 @@ module _ (text : List ℕ) (x : ℕ) (v : Word) (sp : Spelled text x (v .token))
   unfolding word
   shut-test {s = s} h = pick (s .closed) _ _ (h .closed)
 
-  open-word : {f r : Option ℕ} {o : ℕ} {s : State} {vs : List Word} → v .owner ≡ o → (h : Opens f r o s (v ∷ vs)) → (b : Bool) → good (sizeFor (h .marks) (h .words) v) (h .words) v ≡ b → Pending f r o (word text x s) vs
+  open-word : {f r : Option ℕ} {o : ℕ} {s : State} {vs : List Word} → v .owner ≡ o → (h : Opens f r o s (v ∷ vs)) → (b : Bool) → good (sizeFor (h .marks) (h .words) v) (h .words) v ≡ b
+      → Pending f r o (word text x s) vs
   open-word {f} {r} {o} {s} {vs} e h true z =
       let m = sizeFor (h .marks) (h .words) v in
       let n = sizeOf (length (s .rows)) (s .size) (lengthIn x) in

@@ -1,11 +1,14 @@
 // Refusal 10 over the stored tree: 'words unequal, too long or many, or one valuation under two identifiers', at 'the later word'. One pass, with the words of one
 // enumeration in 16 rows of 8 marks.
 // `wrong_words` asks for a work buffer of full length, entries within it, and no more.
-use traversal::Cell;
+use entries::kinds;
+use language::limits;
+use lexer::fields::LENGTHS;
+use lexer::fields::OFFSETS;
 use traversal::Place;
 use traversal::cell_at;
 ghost use mathlib.Core.Path.{_≡_};
-ghost use Prim.Native.Nat.{_+_, _≤_, _<_};
+ghost use Prim.Native.Nat.{_≤_, _<_};
 ghost use lib.ListN.{length, getD, take};
 ghost use Rattle.language.specs.Limits.{maxTokens, workBytes};
 ghost use Rattle.language.specs.Words.{meet};
@@ -14,17 +17,6 @@ ghost use Rattle.traversal.specs.Cells.{cellAt};
 ghost use Rattle.enumerations.specs.Promise.{WrongWords};
 ghost use Rattle.enumerations.specs.Progress.{Sized, Passes, shutAt};
 ghost use Rattle.enumerations.specs.ClashLaws.{clashRows, Clashable};
-
-const MAX_WORDS: usize = 16;
-
-const MAX_MARKS: u32 = 8;
-
-// Kinds of entries.
-const ENUMERATION: u32 = 56;
-
-const IDENTIFIER: u32 = 57;
-
-const WORD: u32 = 58;
 
 // The mark that matches both.
 const STAR: u8 = 42;
@@ -141,17 +133,17 @@ fn word(text: &[u8], token: u32, p: Progress, owners: &mut [u32], rows: &mut [[u
     if p.closed {
         return p;
     }
-    let place = token / 256 % 65536;
-    let n = token % 256;
+    let place = token / LENGTHS % OFFSETS;
+    let n = token % LENGTHS;
     let count = p.count;
     let size = size_of(count, p.size, n);
     if n != size {
         return shut(p, place);
     }
-    if MAX_MARKS < size {
+    if limits::MAX_MARKS < size {
         return shut(p, place);
     }
-    if MAX_WORDS <= count {
+    if limits::MAX_WORDS <= count {
         return shut(p, place);
     }
     let marked = size as usize;
@@ -186,7 +178,7 @@ fn pass(
     let c = cell_at(work, i);
     let kind = c.kind;
     let found = p.found;
-    if kind == ENUMERATION {
+    if kind == kinds::ENUMERATION {
         return Progress {
             owner: 0,
             count: 0,
@@ -195,7 +187,7 @@ fn pass(
             found: found,
         };
     }
-    if kind == IDENTIFIER {
+    if kind == kinds::IDENTIFIER {
         return Progress {
             owner: p.owner + 1,
             count: p.count,
@@ -204,7 +196,7 @@ fn pass(
             found: found,
         };
     }
-    if kind == WORD {
+    if kind == kinds::WORD {
         return word(text, c.token, p, owners, rows);
     }
     p

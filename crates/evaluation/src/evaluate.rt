@@ -1,5 +1,9 @@
 // The value of a stored expression, clause by clause as the language's `value` has it: left operand first. A definition's number or set is kept after it is first
 // worked out. Arrays are held only by the functions that need a set while they work out something else.
+use entries::kinds;
+use language::limits;
+use node::refusals;
+use values::sorts;
 ghost use mathlib.Core.Path.{_≡_};
 ghost use mathlib.Core.Bool.{false};
 ghost use Prim.Native.Nat.{_≤_, _<_};
@@ -19,9 +23,6 @@ use operands::answers::set;
 use operands::entry::kind_at;
 use operands::entry::place_at;
 use operands::entry::size_at;
-use operands::notes::A_NUMBER;
-use operands::notes::A_SET;
-use operands::notes::ROOM;
 use operands::notes::copy;
 use operands::notes::keep;
 use sets::Worked;
@@ -33,51 +34,6 @@ use sets::numbers::calculate;
 use sets::numbers::numeral;
 use sets::ranges::between;
 use sets::ranges::range;
-
-// The kinds of entries, and the first ones of groups (crate entries, specs/Kinds).
-const NAMED: u32 = 0;
-
-const NUMERAL: u32 = 1;
-
-const PAREN: u32 = 5;
-
-const MEASURES: u32 = 6;
-
-const WIDTH: u32 = 9;
-
-const ARITHMETIC: u32 = 14;
-
-const COMBINATIONS: u32 = 19;
-
-const COMPARISONS: u32 = 22;
-
-const BIG_NUMBERS: u32 = 39;
-
-const BIG_SETS: u32 = 41;
-
-const BIG_FORMULAS: u32 = 43;
-
-const BINDERS: u32 = 45;
-
-const LISTED: u32 = 51;
-
-const ELEMENT: u32 = 52;
-
-// The sorts of names (crate values, specs/Sorts).
-const A_BODY: u8 = 1;
-
-const A_BUS: u8 = 2;
-
-const A_SIGNAL: u8 = 3;
-
-const AN_IDENTIFIER: u8 = 5;
-
-// '256 declared names': the references from here on are those of big operators' names.
-const MAX_NAMES: usize = 256;
-
-const NOT_VISIBLE: u32 = 6;
-
-const OUT_OF_RANGE: u32 = 11;
 
 // The value of the expression at entry k, under `depth` big operators' names, whose elements stand in the slots from `base` on. Its direct call of itself keeps
 // LLVM from taking the arrays of other functions into this frame; the tests stand in such an order that the functions of deep texts are taken into it whole.
@@ -98,11 +54,12 @@ pub fn value_at(
 ) -> Worth
     requires { ⌜ Ready (source (now text) (now work) (now refs)) (state (now sorts) (now numbers) (now kept) (now slots)) base depth false k ⌝ }
     requires { ⌜ maxElements < length (now out) ⌝ }
-    ensures { λ r. ⌜ ValueAt (source (now (text .entry)) (now (work .entry)) (now (refs .entry))) (state (now (sorts .entry)) (now (numbers .entry)) (now (kept .entry)) (now (slots .entry))) (state (now (sorts .exit)) (now (numbers .exit)) (now (kept .exit)) (now (slots .exit))) base depth k (now (out .exit)) r ⌝ }
+    ensures { λ r. ⌜ ValueAt (source (now (text .entry)) (now (work .entry)) (now (refs .entry))) (state (now (sorts .entry)) (now (numbers .entry)) (now (kept .entry)) (now (slots .entry)))
+        (state (now (sorts .exit)) (now (numbers .exit)) (now (kept .exit)) (now (slots .exit))) base depth k (now (out .exit)) r ⌝ }
 {
     let kind = kind_at(work, k);
-    if kind < COMBINATIONS {
-        if kind >= MEASURES {
+    if kind < kinds::COMBINATIONS {
+        if kind >= kinds::MEASURES {
             return operated(
                 text,
                 work,
@@ -117,7 +74,7 @@ pub fn value_at(
                 out,
             );
         }
-        if kind == PAREN {
+        if kind == kinds::PAREN {
             return value_at(
                 text,
                 work,
@@ -132,7 +89,7 @@ pub fn value_at(
                 out,
             );
         }
-        if kind == NAMED {
+        if kind == kinds::NAMED {
             return named(
                 text,
                 work,
@@ -147,12 +104,12 @@ pub fn value_at(
                 out,
             );
         }
-        if kind == NUMERAL {
+        if kind == kinds::NUMERAL {
             return number(numeral(text, place_at(work, k)));
         }
         return Worth::Formula;
     }
-    if kind < COMPARISONS {
+    if kind < kinds::COMPARISONS {
         return chained(
             text,
             work,
@@ -167,10 +124,10 @@ pub fn value_at(
             out,
         );
     }
-    if kind < BIG_NUMBERS {
+    if kind < kinds::BIGS {
         return Worth::Formula;
     }
-    if kind < BINDERS {
+    if kind < kinds::BINDERS {
         return big(
             text,
             work,
@@ -217,10 +174,11 @@ fn operated(
     requires { ⌜ Ready (source (now text) (now work) (now refs)) (state (now sorts) (now numbers) (now kept) (now slots)) base depth false k ⌝ }
     requires { ⌜ maxElements < length (now out) ⌝ }
     requires { ⌜ (6 ≤ kindAt (now work) k) × (kindAt (now work) k < 19) ⌝ }
-    ensures { λ r. ⌜ ValueAt (source (now (text .entry)) (now (work .entry)) (now (refs .entry))) (state (now (sorts .entry)) (now (numbers .entry)) (now (kept .entry)) (now (slots .entry))) (state (now (sorts .exit)) (now (numbers .exit)) (now (kept .exit)) (now (slots .exit))) base depth k (now (out .exit)) r ⌝ }
+    ensures { λ r. ⌜ ValueAt (source (now (text .entry)) (now (work .entry)) (now (refs .entry))) (state (now (sorts .entry)) (now (numbers .entry)) (now (kept .entry)) (now (slots .entry)))
+        (state (now (sorts .exit)) (now (numbers .exit)) (now (kept .exit)) (now (slots .exit))) base depth k (now (out .exit)) r ⌝ }
 {
     let kind = kind_at(work, k);
-    if kind >= ARITHMETIC {
+    if kind >= kinds::ARITHMETIC {
         return arithmetic(
             text,
             work,
@@ -235,7 +193,7 @@ fn operated(
             out,
         );
     }
-    if kind < WIDTH {
+    if kind < kinds::WIDTH {
         return measured(
             text,
             work,
@@ -250,7 +208,7 @@ fn operated(
             out,
         );
     }
-    if kind == WIDTH {
+    if kind == kinds::WIDTH {
         return width(
             text,
             work,
@@ -285,10 +243,11 @@ fn big(
     requires { ⌜ Ready (source (now text) (now work) (now refs)) (state (now sorts) (now numbers) (now kept) (now slots)) base depth false k ⌝ }
     requires { ⌜ maxElements < length (now out) ⌝ }
     requires { ⌜ (39 ≤ kindAt (now work) k) × (kindAt (now work) k < 45) ⌝ }
-    ensures { λ r. ⌜ ValueAt (source (now (text .entry)) (now (work .entry)) (now (refs .entry))) (state (now (sorts .entry)) (now (numbers .entry)) (now (kept .entry)) (now (slots .entry))) (state (now (sorts .exit)) (now (numbers .exit)) (now (kept .exit)) (now (slots .exit))) base depth k (now (out .exit)) r ⌝ }
+    ensures { λ r. ⌜ ValueAt (source (now (text .entry)) (now (work .entry)) (now (refs .entry))) (state (now (sorts .entry)) (now (numbers .entry)) (now (kept .entry)) (now (slots .entry)))
+        (state (now (sorts .exit)) (now (numbers .exit)) (now (kept .exit)) (now (slots .exit))) base depth k (now (out .exit)) r ⌝ }
 {
     let kind = kind_at(work, k);
-    if kind < BIG_SETS {
+    if kind < kinds::BIG_SETS {
         return summed(
             text,
             work,
@@ -303,7 +262,7 @@ fn big(
             out,
         );
     }
-    if kind < BIG_FORMULAS {
+    if kind < kinds::BIG_FORMULAS {
         return gathered(
             text,
             work,
@@ -350,10 +309,11 @@ fn braces(
     requires { ⌜ Ready (source (now text) (now work) (now refs)) (state (now sorts) (now numbers) (now kept) (now slots)) base depth false k ⌝ }
     requires { ⌜ maxElements < length (now out) ⌝ }
     requires { ⌜ 45 ≤ kindAt (now work) k ⌝ }
-    ensures { λ r. ⌜ ValueAt (source (now (text .entry)) (now (work .entry)) (now (refs .entry))) (state (now (sorts .entry)) (now (numbers .entry)) (now (kept .entry)) (now (slots .entry))) (state (now (sorts .exit)) (now (numbers .exit)) (now (kept .exit)) (now (slots .exit))) base depth k (now (out .exit)) r ⌝ }
+    ensures { λ r. ⌜ ValueAt (source (now (text .entry)) (now (work .entry)) (now (refs .entry))) (state (now (sorts .entry)) (now (numbers .entry)) (now (kept .entry)) (now (slots .entry)))
+        (state (now (sorts .exit)) (now (numbers .exit)) (now (kept .exit)) (now (slots .exit))) base depth k (now (out .exit)) r ⌝ }
 {
     let kind = kind_at(work, k);
-    if kind == LISTED {
+    if kind == kinds::LISTED {
         return listed(
             text,
             work,
@@ -368,7 +328,7 @@ fn braces(
             out,
         );
     }
-    if kind < LISTED {
+    if kind < kinds::LISTED {
         return bounds(
             text,
             work,
@@ -414,7 +374,8 @@ pub fn number_at(
 ) -> Worked
     requires { ⌜ Ready (source (now text) (now work) (now refs)) (state (now sorts) (now numbers) (now kept) (now slots)) base depth false k ⌝ }
     requires { ⌜ maxElements < length (now out) ⌝ }
-    ensures { λ r. ⌜ NumberAt (source (now (text .entry)) (now (work .entry)) (now (refs .entry))) (state (now (sorts .entry)) (now (numbers .entry)) (now (kept .entry)) (now (slots .entry))) (state (now (sorts .exit)) (now (numbers .exit)) (now (kept .exit)) (now (slots .exit))) base depth k r ⌝ }
+    ensures { λ r. ⌜ NumberAt (source (now (text .entry)) (now (work .entry)) (now (refs .entry))) (state (now (sorts .entry)) (now (numbers .entry)) (now (kept .entry)) (now (slots .entry)))
+        (state (now (sorts .exit)) (now (numbers .exit)) (now (kept .exit)) (now (slots .exit))) base depth k r ⌝ }
 {
     as_number(value_at(
         text,
@@ -447,7 +408,8 @@ pub fn set_at(
 ) -> Worked
     requires { ⌜ Ready (source (now text) (now work) (now refs)) (state (now sorts) (now numbers) (now kept) (now slots)) base depth false k ⌝ }
     requires { ⌜ maxElements < length (now out) ⌝ }
-    ensures { λ r. ⌜ SetAt (source (now (text .entry)) (now (work .entry)) (now (refs .entry))) (state (now (sorts .entry)) (now (numbers .entry)) (now (kept .entry)) (now (slots .entry))) (state (now (sorts .exit)) (now (numbers .exit)) (now (kept .exit)) (now (slots .exit))) base depth k (now (out .exit)) r ⌝ }
+    ensures { λ r. ⌜ SetAt (source (now (text .entry)) (now (work .entry)) (now (refs .entry))) (state (now (sorts .entry)) (now (numbers .entry)) (now (kept .entry)) (now (slots .entry)))
+        (state (now (sorts .exit)) (now (numbers .exit)) (now (kept .exit)) (now (slots .exit))) base depth k (now (out .exit)) r ⌝ }
 {
     as_set(value_at(
         text,
@@ -481,19 +443,20 @@ fn named(
     requires { ⌜ Ready (source (now text) (now work) (now refs)) (state (now sorts) (now numbers) (now kept) (now slots)) base depth false k ⌝ }
     requires { ⌜ maxElements < length (now out) ⌝ }
     requires { ⌜ kindAt (now work) k ≡ 0 ⌝ }
-    ensures { λ r. ⌜ ValueAt (source (now (text .entry)) (now (work .entry)) (now (refs .entry))) (state (now (sorts .entry)) (now (numbers .entry)) (now (kept .entry)) (now (slots .entry))) (state (now (sorts .exit)) (now (numbers .exit)) (now (kept .exit)) (now (slots .exit))) base depth k (now (out .exit)) r ⌝ }
+    ensures { λ r. ⌜ ValueAt (source (now (text .entry)) (now (work .entry)) (now (refs .entry))) (state (now (sorts .entry)) (now (numbers .entry)) (now (kept .entry)) (now (slots .entry)))
+        (state (now (sorts .exit)) (now (numbers .exit)) (now (kept .exit)) (now (slots .exit))) base depth k (now (out .exit)) r ⌝ }
 {
     let r = refs[k] as usize;
-    if r >= MAX_NAMES {
-        let i = base + (r - MAX_NAMES);
+    if r >= limits::MAX_NAMES {
+        let i = base + (r - limits::MAX_NAMES);
         return Worth::Number(slots[i]);
     }
     let n = numbers[r];
     let sort = sorts[r];
-    if sort == A_NUMBER {
+    if sort == sorts::NUMBER {
         return Worth::Number(n);
     }
-    if sort == A_BODY {
+    if sort == sorts::BODY {
         let w = value_at(
             text,
             work,
@@ -510,23 +473,23 @@ fn named(
         keep(sorts, numbers, kept, r, w, out);
         return w;
     }
-    if sort == A_SET {
-        copy(kept, r * ROOM, n as usize, out, 0);
+    if sort == sorts::SET {
+        copy(kept, r * limits::SET_ROOM, n as usize, out, 0);
         return Worth::Set(n);
     }
-    if sort == A_BUS {
+    if sort == sorts::BUS {
         if n == 0 {
             return Worth::Unsized(place_at(work, k));
         }
         return Worth::Bus(place_at(work, k), r, n);
     }
-    if sort == A_SIGNAL {
+    if sort == sorts::SIGNAL {
         return Worth::Formula;
     }
-    if sort == AN_IDENTIFIER {
+    if sort == sorts::IDENTIFIER {
         return Worth::Identifier(r, n as usize);
     }
-    Worth::Refused(NOT_VISIBLE, 0)
+    Worth::Refused(refusals::NOT_VISIBLE, 0)
 }
 
 // SIZE, MIN, MAX.
@@ -546,7 +509,8 @@ fn measured(
     requires { ⌜ Ready (source (now text) (now work) (now refs)) (state (now sorts) (now numbers) (now kept) (now slots)) base depth false k ⌝ }
     requires { ⌜ maxElements < length (now out) ⌝ }
     requires { ⌜ (6 ≤ kindAt (now work) k) × (kindAt (now work) k < 9) ⌝ }
-    ensures { λ r. ⌜ ValueAt (source (now (text .entry)) (now (work .entry)) (now (refs .entry))) (state (now (sorts .entry)) (now (numbers .entry)) (now (kept .entry)) (now (slots .entry))) (state (now (sorts .exit)) (now (numbers .exit)) (now (kept .exit)) (now (slots .exit))) base depth k (now (out .exit)) r ⌝ }
+    ensures { λ r. ⌜ ValueAt (source (now (text .entry)) (now (work .entry)) (now (refs .entry))) (state (now (sorts .entry)) (now (numbers .entry)) (now (kept .entry)) (now (slots .entry)))
+        (state (now (sorts .exit)) (now (numbers .exit)) (now (kept .exit)) (now (slots .exit))) base depth k (now (out .exit)) r ⌝ }
 {
     let x = set_at(
         text,
@@ -566,7 +530,7 @@ fn measured(
     };
     number(measure(
         place_at(work, k),
-        kind_at(work, k) - MEASURES,
+        kind_at(work, k) - kinds::MEASURES,
         out,
         n as usize,
     ))
@@ -589,7 +553,8 @@ fn width(
     requires { ⌜ Ready (source (now text) (now work) (now refs)) (state (now sorts) (now numbers) (now kept) (now slots)) base depth false k ⌝ }
     requires { ⌜ maxElements < length (now out) ⌝ }
     requires { ⌜ kindAt (now work) k ≡ 9 ⌝ }
-    ensures { λ r. ⌜ ValueAt (source (now (text .entry)) (now (work .entry)) (now (refs .entry))) (state (now (sorts .entry)) (now (numbers .entry)) (now (kept .entry)) (now (slots .entry))) (state (now (sorts .exit)) (now (numbers .exit)) (now (kept .exit)) (now (slots .exit))) base depth k (now (out .exit)) r ⌝ }
+    ensures { λ r. ⌜ ValueAt (source (now (text .entry)) (now (work .entry)) (now (refs .entry))) (state (now (sorts .entry)) (now (numbers .entry)) (now (kept .entry)) (now (slots .entry)))
+        (state (now (sorts .exit)) (now (numbers .exit)) (now (kept .exit)) (now (slots .exit))) base depth k (now (out .exit)) r ⌝ }
 {
     number(as_width(value_at(
         text,
@@ -622,7 +587,8 @@ fn arithmetic(
     requires { ⌜ Ready (source (now text) (now work) (now refs)) (state (now sorts) (now numbers) (now kept) (now slots)) base depth false k ⌝ }
     requires { ⌜ maxElements < length (now out) ⌝ }
     requires { ⌜ (14 ≤ kindAt (now work) k) × (kindAt (now work) k < 19) ⌝ }
-    ensures { λ r. ⌜ ValueAt (source (now (text .entry)) (now (work .entry)) (now (refs .entry))) (state (now (sorts .entry)) (now (numbers .entry)) (now (kept .entry)) (now (slots .entry))) (state (now (sorts .exit)) (now (numbers .exit)) (now (kept .exit)) (now (slots .exit))) base depth k (now (out .exit)) r ⌝ }
+    ensures { λ r. ⌜ ValueAt (source (now (text .entry)) (now (work .entry)) (now (refs .entry))) (state (now (sorts .entry)) (now (numbers .entry)) (now (kept .entry)) (now (slots .entry)))
+        (state (now (sorts .exit)) (now (numbers .exit)) (now (kept .exit)) (now (slots .exit))) base depth k (now (out .exit)) r ⌝ }
 {
     let x = number_at(
         text,
@@ -656,7 +622,12 @@ fn arithmetic(
     let Worked::Value(b) = y else {
         return number(y);
     };
-    number(calculate(place_at(work, k), kind_at(work, k) - ARITHMETIC, a, b))
+    number(calculate(
+        place_at(work, k),
+        kind_at(work, k) - kinds::ARITHMETIC,
+        a,
+        b,
+    ))
 }
 
 // An operator between two sets. A left operand of a single entry is worked out again after the right one, so that no array is held in a chain like
@@ -677,7 +648,8 @@ fn chained(
     requires { ⌜ Ready (source (now text) (now work) (now refs)) (state (now sorts) (now numbers) (now kept) (now slots)) base depth false k ⌝ }
     requires { ⌜ maxElements < length (now out) ⌝ }
     requires { ⌜ (19 ≤ kindAt (now work) k) × (kindAt (now work) k < 22) ⌝ }
-    ensures { λ r. ⌜ ValueAt (source (now (text .entry)) (now (work .entry)) (now (refs .entry))) (state (now (sorts .entry)) (now (numbers .entry)) (now (kept .entry)) (now (slots .entry))) (state (now (sorts .exit)) (now (numbers .exit)) (now (kept .exit)) (now (slots .exit))) base depth k (now (out .exit)) r ⌝ }
+    ensures { λ r. ⌜ ValueAt (source (now (text .entry)) (now (work .entry)) (now (refs .entry))) (state (now (sorts .entry)) (now (numbers .entry)) (now (kept .entry)) (now (slots .entry)))
+        (state (now (sorts .exit)) (now (numbers .exit)) (now (kept .exit)) (now (slots .exit))) base depth k (now (out .exit)) r ⌝ }
 {
     let x = set_at(
         text,
@@ -762,9 +734,10 @@ fn combination(
     requires { ⌜ maxElements < length (now out) ⌝ }
     requires { ⌜ (19 ≤ kindAt (now work) k) × (kindAt (now work) k < 22) ⌝ }
     requires { ⌜ Ordered (now out) n ⌝ }
-    ensures { λ r. ⌜ CombinedAt (source (now (text .entry)) (now (work .entry)) (now (refs .entry))) (state (now (sorts .entry)) (now (numbers .entry)) (now (kept .entry)) (now (slots .entry))) (state (now (sorts .exit)) (now (numbers .exit)) (now (kept .exit)) (now (slots .exit))) base depth k (now (out .entry)) n (now (out .exit)) r ⌝ }
+    ensures { λ r. ⌜ CombinedAt (source (now (text .entry)) (now (work .entry)) (now (refs .entry))) (state (now (sorts .entry)) (now (numbers .entry)) (now (kept .entry)) (now (slots .entry)))
+        (state (now (sorts .exit)) (now (numbers .exit)) (now (kept .exit)) (now (slots .exit))) base depth k (now (out .entry)) n (now (out .exit)) r ⌝ }
 {
-    let mut right = [0u32; 257];
+    let mut right = [0u32; limits::SET_ROOM];
     let y = set_at(
         text,
         work,
@@ -783,7 +756,7 @@ fn combination(
     };
     set(combine(
         place_at(work, k),
-        kind_at(work, k) - COMBINATIONS,
+        kind_at(work, k) - kinds::COMBINATIONS,
         out,
         n,
         &right,
@@ -810,9 +783,10 @@ fn joined(
     requires { ⌜ maxElements < length (now out) ⌝ }
     requires { ⌜ (19 ≤ kindAt (now work) k) × (kindAt (now work) k < 22) ⌝ }
     requires { ⌜ Ordered (now out) n ⌝ }
-    ensures { λ r. ⌜ JoinedAt (source (now (text .entry)) (now (work .entry)) (now (refs .entry))) (state (now (sorts .entry)) (now (numbers .entry)) (now (kept .entry)) (now (slots .entry))) (state (now (sorts .exit)) (now (numbers .exit)) (now (kept .exit)) (now (slots .exit))) base depth k (now (out .entry)) n (now (out .exit)) r ⌝ }
+    ensures { λ r. ⌜ JoinedAt (source (now (text .entry)) (now (work .entry)) (now (refs .entry))) (state (now (sorts .entry)) (now (numbers .entry)) (now (kept .entry)) (now (slots .entry)))
+        (state (now (sorts .exit)) (now (numbers .exit)) (now (kept .exit)) (now (slots .exit))) base depth k (now (out .entry)) n (now (out .exit)) r ⌝ }
 {
-    let mut right = [0u32; 257];
+    let mut right = [0u32; limits::SET_ROOM];
     copy(out, 0, n, &mut right, 0);
     let x = set_at(
         text,
@@ -832,7 +806,7 @@ fn joined(
     };
     set(combine(
         place_at(work, k),
-        kind_at(work, k) - COMBINATIONS,
+        kind_at(work, k) - kinds::COMBINATIONS,
         out,
         m as usize,
         &right,
@@ -857,9 +831,10 @@ fn summed(
     requires { ⌜ Ready (source (now text) (now work) (now refs)) (state (now sorts) (now numbers) (now kept) (now slots)) base depth false k ⌝ }
     requires { ⌜ maxElements < length (now out) ⌝ }
     requires { ⌜ (39 ≤ kindAt (now work) k) × (kindAt (now work) k < 41) ⌝ }
-    ensures { λ r. ⌜ ValueAt (source (now (text .entry)) (now (work .entry)) (now (refs .entry))) (state (now (sorts .entry)) (now (numbers .entry)) (now (kept .entry)) (now (slots .entry))) (state (now (sorts .exit)) (now (numbers .exit)) (now (kept .exit)) (now (slots .exit))) base depth k (now (out .exit)) r ⌝ }
+    ensures { λ r. ⌜ ValueAt (source (now (text .entry)) (now (work .entry)) (now (refs .entry))) (state (now (sorts .entry)) (now (numbers .entry)) (now (kept .entry)) (now (slots .entry)))
+        (state (now (sorts .exit)) (now (numbers .exit)) (now (kept .exit)) (now (slots .exit))) base depth k (now (out .exit)) r ⌝ }
 {
-    let mut elements = [0u32; 257];
+    let mut elements = [0u32; limits::SET_ROOM];
     let x = set_at(
         text,
         work,
@@ -913,11 +888,12 @@ fn total(
     requires { ⌜ maxElements < length (now out) ⌝ }
     requires { ⌜ (39 ≤ kindAt (now work) k) × (kindAt (now work) k < 41) ⌝ }
     requires { ⌜ Ordered (now elements) n ⌝ }
-    ensures { λ r. ⌜ TotalAt (source (now (text .entry)) (now (work .entry)) (now (refs .entry))) (state (now (sorts .entry)) (now (numbers .entry)) (now (kept .entry)) (now (slots .entry))) (state (now (sorts .exit)) (now (numbers .exit)) (now (kept .exit)) (now (slots .exit))) base depth k (now (elements .entry)) n r ⌝ }
+    ensures { λ r. ⌜ TotalAt (source (now (text .entry)) (now (work .entry)) (now (refs .entry))) (state (now (sorts .entry)) (now (numbers .entry)) (now (kept .entry)) (now (slots .entry)))
+        (state (now (sorts .exit)) (now (numbers .exit)) (now (kept .exit)) (now (slots .exit))) base depth k (now (elements .entry)) n r ⌝ }
 {
     let kind = kind_at(work, k);
     if n == 0 {
-        return Worked::Value(kind - BIG_NUMBERS);
+        return Worked::Value(kind - kinds::BIGS);
     }
     let place = place_at(work, k);
     let slot = base + depth;
@@ -958,7 +934,7 @@ fn total(
         let Worked::Value(b) = y else {
             return y;
         };
-        let z = calculate(place, (kind - BIG_NUMBERS) * 2, sum, b);
+        let z = calculate(place, (kind - kinds::BIGS) * 2, sum, b);
         let Worked::Value(c) = z else {
             return z;
         };
@@ -985,9 +961,10 @@ fn gathered(
     requires { ⌜ Ready (source (now text) (now work) (now refs)) (state (now sorts) (now numbers) (now kept) (now slots)) base depth false k ⌝ }
     requires { ⌜ maxElements < length (now out) ⌝ }
     requires { ⌜ (41 ≤ kindAt (now work) k) × (kindAt (now work) k < 43) ⌝ }
-    ensures { λ r. ⌜ ValueAt (source (now (text .entry)) (now (work .entry)) (now (refs .entry))) (state (now (sorts .entry)) (now (numbers .entry)) (now (kept .entry)) (now (slots .entry))) (state (now (sorts .exit)) (now (numbers .exit)) (now (kept .exit)) (now (slots .exit))) base depth k (now (out .exit)) r ⌝ }
+    ensures { λ r. ⌜ ValueAt (source (now (text .entry)) (now (work .entry)) (now (refs .entry))) (state (now (sorts .entry)) (now (numbers .entry)) (now (kept .entry)) (now (slots .entry)))
+        (state (now (sorts .exit)) (now (numbers .exit)) (now (kept .exit)) (now (slots .exit))) base depth k (now (out .exit)) r ⌝ }
 {
-    let mut elements = [0u32; 257];
+    let mut elements = [0u32; limits::SET_ROOM];
     let x = set_at(
         text,
         work,
@@ -1041,13 +1018,14 @@ fn merged(
     requires { ⌜ maxElements < length (now out) ⌝ }
     requires { ⌜ (41 ≤ kindAt (now work) k) × (kindAt (now work) k < 43) ⌝ }
     requires { ⌜ Ordered (now elements) n ⌝ }
-    ensures { λ r. ⌜ MergedAt (source (now (text .entry)) (now (work .entry)) (now (refs .entry))) (state (now (sorts .entry)) (now (numbers .entry)) (now (kept .entry)) (now (slots .entry))) (state (now (sorts .exit)) (now (numbers .exit)) (now (kept .exit)) (now (slots .exit))) base depth k (now (elements .entry)) n (now (out .exit)) r ⌝ }
+    ensures { λ r. ⌜ MergedAt (source (now (text .entry)) (now (work .entry)) (now (refs .entry))) (state (now (sorts .entry)) (now (numbers .entry)) (now (kept .entry)) (now (slots .entry)))
+        (state (now (sorts .exit)) (now (numbers .exit)) (now (kept .exit)) (now (slots .exit))) base depth k (now (elements .entry)) n (now (out .exit)) r ⌝ }
 {
     let kind = kind_at(work, k);
     let place = place_at(work, k);
     if n == 0 {
-        if kind == BIG_SETS {
-            return Worked::Refused(OUT_OF_RANGE, place);
+        if kind == kinds::BIG_SETS {
+            return Worked::Refused(refusals::OUT_OF_RANGE, place);
         }
         return Worked::Value(0);
     }
@@ -1069,7 +1047,7 @@ fn merged(
     let Worked::Value(a) = x else {
         return x;
     };
-    let mut next = [0u32; 257];
+    let mut next = [0u32; limits::SET_ROOM];
     let mut size = a;
     let mut i: usize = 1;
     while i < n {
@@ -1092,7 +1070,7 @@ fn merged(
         };
         let z = combine(
             place,
-            BIG_SETS + 1 - kind,
+            kinds::BIG_SETS + 1 - kind,
             out,
             size as usize,
             &next,
@@ -1124,7 +1102,8 @@ fn quantified(
     requires { ⌜ Ready (source (now text) (now work) (now refs)) (state (now sorts) (now numbers) (now kept) (now slots)) base depth false k ⌝ }
     requires { ⌜ maxElements < length (now out) ⌝ }
     requires { ⌜ (43 ≤ kindAt (now work) k) × (kindAt (now work) k < 45) ⌝ }
-    ensures { λ r. ⌜ ValueAt (source (now (text .entry)) (now (work .entry)) (now (refs .entry))) (state (now (sorts .entry)) (now (numbers .entry)) (now (kept .entry)) (now (slots .entry))) (state (now (sorts .exit)) (now (numbers .exit)) (now (kept .exit)) (now (slots .exit))) base depth k (now (out .exit)) r ⌝ }
+    ensures { λ r. ⌜ ValueAt (source (now (text .entry)) (now (work .entry)) (now (refs .entry))) (state (now (sorts .entry)) (now (numbers .entry)) (now (kept .entry)) (now (slots .entry)))
+        (state (now (sorts .exit)) (now (numbers .exit)) (now (kept .exit)) (now (slots .exit))) base depth k (now (out .exit)) r ⌝ }
 {
     let x = set_at(
         text,
@@ -1162,7 +1141,8 @@ fn bounds(
     requires { ⌜ Ready (source (now text) (now work) (now refs)) (state (now sorts) (now numbers) (now kept) (now slots)) base depth false k ⌝ }
     requires { ⌜ maxElements < length (now out) ⌝ }
     requires { ⌜ (45 ≤ kindAt (now work) k) × (kindAt (now work) k < 51) ⌝ }
-    ensures { λ r. ⌜ ValueAt (source (now (text .entry)) (now (work .entry)) (now (refs .entry))) (state (now (sorts .entry)) (now (numbers .entry)) (now (kept .entry)) (now (slots .entry))) (state (now (sorts .exit)) (now (numbers .exit)) (now (kept .exit)) (now (slots .exit))) base depth k (now (out .exit)) r ⌝ }
+    ensures { λ r. ⌜ ValueAt (source (now (text .entry)) (now (work .entry)) (now (refs .entry))) (state (now (sorts .entry)) (now (numbers .entry)) (now (kept .entry)) (now (slots .entry)))
+        (state (now (sorts .exit)) (now (numbers .exit)) (now (kept .exit)) (now (slots .exit))) base depth k (now (out .exit)) r ⌝ }
 {
     let x = number_at(
         text,
@@ -1197,7 +1177,14 @@ fn bounds(
         return set(y);
     };
     let kind = kind_at(work, k);
-    set(between(place_at(work, k), kind >= 49, kind % 2 == 0, a, b, out))
+    set(between(
+        place_at(work, k),
+        kind >= kinds::BETWEEN_NO_LOW,
+        kind % 2 == 0,
+        a,
+        b,
+        out,
+    ))
 }
 
 // A set in braces.
@@ -1217,7 +1204,8 @@ fn listed(
     requires { ⌜ Ready (source (now text) (now work) (now refs)) (state (now sorts) (now numbers) (now kept) (now slots)) base depth false k ⌝ }
     requires { ⌜ maxElements < length (now out) ⌝ }
     requires { ⌜ kindAt (now work) k ≡ 51 ⌝ }
-    ensures { λ r. ⌜ ValueAt (source (now (text .entry)) (now (work .entry)) (now (refs .entry))) (state (now (sorts .entry)) (now (numbers .entry)) (now (kept .entry)) (now (slots .entry))) (state (now (sorts .exit)) (now (numbers .exit)) (now (kept .exit)) (now (slots .exit))) base depth k (now (out .exit)) r ⌝ }
+    ensures { λ r. ⌜ ValueAt (source (now (text .entry)) (now (work .entry)) (now (refs .entry))) (state (now (sorts .entry)) (now (numbers .entry)) (now (kept .entry)) (now (slots .entry)))
+        (state (now (sorts .exit)) (now (numbers .exit)) (now (kept .exit)) (now (slots .exit))) base depth k (now (out .exit)) r ⌝ }
 {
     if size_at(work, k) == 1 {
         return Worth::Set(0);
@@ -1257,9 +1245,10 @@ fn elements(
 ) -> Worked
     requires { ⌜ ElementReady (source (now text) (now work) (now refs)) (state (now sorts) (now numbers) (now kept) (now slots)) base depth k ⌝ }
     requires { ⌜ maxElements < length (now out) ⌝ }
-    ensures { λ r. ⌜ ElementsAt (source (now (text .entry)) (now (work .entry)) (now (refs .entry))) (state (now (sorts .entry)) (now (numbers .entry)) (now (kept .entry)) (now (slots .entry))) (state (now (sorts .exit)) (now (numbers .exit)) (now (kept .exit)) (now (slots .exit))) base depth k (now (out .exit)) r ⌝ }
+    ensures { λ r. ⌜ ElementsAt (source (now (text .entry)) (now (work .entry)) (now (refs .entry))) (state (now (sorts .entry)) (now (numbers .entry)) (now (kept .entry)) (now (slots .entry)))
+        (state (now (sorts .exit)) (now (numbers .exit)) (now (kept .exit)) (now (slots .exit))) base depth k (now (out .exit)) r ⌝ }
 {
-    if kind_at(work, k - 1) != ELEMENT {
+    if kind_at(work, k - 1) != kinds::ELEMENT {
         let x = number_at(
             text,
             work,
@@ -1330,7 +1319,8 @@ fn stepped(
     requires { ⌜ Ready (source (now text) (now work) (now refs)) (state (now sorts) (now numbers) (now kept) (now slots)) base depth false k ⌝ }
     requires { ⌜ maxElements < length (now out) ⌝ }
     requires { ⌜ 52 ≤ kindAt (now work) k ⌝ }
-    ensures { λ r. ⌜ ValueAt (source (now (text .entry)) (now (work .entry)) (now (refs .entry))) (state (now (sorts .entry)) (now (numbers .entry)) (now (kept .entry)) (now (slots .entry))) (state (now (sorts .exit)) (now (numbers .exit)) (now (kept .exit)) (now (slots .exit))) base depth k (now (out .exit)) r ⌝ }
+    ensures { λ r. ⌜ ValueAt (source (now (text .entry)) (now (work .entry)) (now (refs .entry))) (state (now (sorts .entry)) (now (numbers .entry)) (now (kept .entry)) (now (slots .entry)))
+        (state (now (sorts .exit)) (now (numbers .exit)) (now (kept .exit)) (now (slots .exit))) base depth k (now (out .exit)) r ⌝ }
 {
     let last = size_at(work, k - 1);
     let x = number_at(

@@ -116,12 +116,57 @@ fn letters() {
     with_two(b"20: spare bit", &node, 2, &[0x00, 0x30, 0x01, 0x02, 0x91]);
 }
 
+// then 23 for signals that were not recorded, before 18 and where nothing of 20 stands;
+fn missing() {
+    let node = [Node::unary(Node::SIGNAL, 0).word];
+    with_two(b"23: K = 2 of 3", &node, 3, &[0x00, 0x30, 0x01, 0x02, 0x90]);
+    without(
+        b"23: K = 2 of 3, no room",
+        &node,
+        3,
+        &[0x00, 0x30, 0x01, 0x02, 0x90],
+    );
+    with_two(
+        b"20: K = 2 of 3, too long",
+        &node,
+        3,
+        &[0x00, 0x30, 0x01, 0x02, 0x90, 0x00],
+    );
+    with_two(
+        b"20: K = 2 of 3, spare bit",
+        &node,
+        3,
+        &[0x00, 0x30, 0x01, 0x02, 0x91],
+    );
+    with_two(
+        b"20: K = 4 of 3",
+        &node,
+        3,
+        &[0x00, 0x30, 0x01, 0x04, 0x90, 0x00],
+    );
+    with_two(b"23: K = 0 of 1", &node, 1, &[0x00, 0x90, 0x01, 0x00]);
+    let mut wide = [0u8; 36];
+    wide[1] = 0x10;
+    wide[3] = 0xFE;
+    with_two(b"23: K = 254 of 255", &node, 255, &wide);
+}
+
 // then 18, and recordings that fit.
 fn rooms() {
     let node = [Node::unary(Node::SIGNAL, 0).word];
     without(b"18: no room", &node, 2, &[0x00, 0x30, 0x01, 0x02, 0x90]);
-    with_two(b"18: 2 bytes of 3", &node, 1, &[0x01, 0x10, 0x01, 0x00]);
-    with_two(b"K = 0", &node, 1, &[0x00, 0x90, 0x01, 0x00]);
+    with_two(
+        b"18: 2 bytes of 3",
+        &node,
+        1,
+        &[0x01, 0x10, 0x01, 0x01, 0x00, 0x00, 0x00],
+    );
+    with_two(
+        b"K = 0 of 0",
+        &[Node::leaf(Node::TRUE).word],
+        0,
+        &[0x00, 0x90, 0x01, 0x00],
+    );
     with_two(b"K = 1", &node, 1, &[0x00, 0x90, 0x01, 0x01, 0x80, 0x80]);
 }
 
@@ -131,6 +176,7 @@ fn main() {
     nodes();
     headers();
     letters();
+    missing();
     rooms();
     full::run();
 }

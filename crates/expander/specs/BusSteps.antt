@@ -126,7 +126,8 @@ record Name (s : Source) (k : ℕ) (W : World) (env : List ℕ) (c : Context) (e
   place : placeAt (s .work) k ≡ token .at
   early : (n : ℕ) (d : Context) (a : Expr) → getD (s .refs) k 0 < maxNames → meaningAt W (getD (s .refs) k 0) ≡ Defines n d a → n < k
 
-named-by : {s : Source} {st : State} {base depth k : ℕ} {W : World} {env : List ℕ} {c : Context} {e : Expr} → shapeOf (kindAt (s .work) k) ≡ anIndex → Fits s st base depth false k W env c e → Name s k W env c e
+named-by : {s : Source} {st : State} {base depth k : ℕ} {W : World} {env : List ℕ} {c : Context} {e : Expr} → shapeOf (kindAt (s .work) k) ≡ anIndex → Fits s st base depth false k W env c e
+    → Name s k W env c e
 named-by {s} {st} {base} {depth} {k} {W} {env} {c} {e} h f =
     let v : View anIndex e = subst (λ (y : Shape). View y e) (sym (expr-shape e (entries f) (f .known .at)) ∙ h) (view e) in
     let g : Fits s st base depth false k W env c (Index (v .0) (v .1)) = subst (Fits s st base depth false k W env c) (v .2) f in
@@ -139,7 +140,8 @@ named-by {s} {st} {base} {depth} {k} {W} {env} {c} {e} h f =
       early = λ n d a l m. index-body (v .0) (v .1) (g .known) n d a l m;
     }
 
-meaning-is : {s : Source} {k : ℕ} {W : World} {env : List ℕ} {c : Context} {e : Expr} {m : Meaning} (n : Name s k W env c e) → getD (s .refs) k 0 < maxNames → meaningAt W (getD (s .refs) k 0) ≡ m → busOf c e ≡ (meant m (n .token) >>= bus)
+meaning-is : {s : Source} {k : ℕ} {W : World} {env : List ℕ} {c : Context} {e : Expr} {m : Meaning} (n : Name s k W env c e) → getD (s .refs) k 0 < maxNames → meaningAt W (getD (s .refs) k 0) ≡ m
+    → busOf c e ≡ (meant m (n .token) >>= bus)
 meaning-is n l q = n .same ∙ ap (λ v. v >>= bus) (used-value (n .uses) l ∙ ap (λ (m : Meaning). meant m (n .token)) q)
 
 module _ {s : Source} {st : State} {base depth k : ℕ} (h : shapeOf (kindAt (s .work) k) ≡ anIndex) where
@@ -173,7 +175,8 @@ module _ {s : Source} {st : State} {base depth k : ℕ} (h : shapeOf (kindAt (s 
           })
 
     -- a number, a single signal, a set, an identifier
-    pub bus-other : (getD (st .sorts) (getD (s .refs) k 0) 0 ≡ Sort.body → ⊥) → (getD (st .sorts) (getD (s .refs) k 0) 0 ≡ Sort.bus → ⊥) → (getD (st .sorts) (getD (s .refs) k 0) 0 ≡ Sort.nothing → ⊥) → BusAt s st st base depth k (Reached.Refused 9 0)
+    pub bus-other : (getD (st .sorts) (getD (s .refs) k 0) 0 ≡ Sort.body → ⊥) → (getD (st .sorts) (getD (s .refs) k 0) 0 ≡ Sort.bus → ⊥) → (getD (st .sorts) (getD (s .refs) k 0) 0 ≡ Sort.nothing → ⊥)
+        → BusAt s st st base depth k (Reached.Refused 9 0)
     unfolding _>>=_
     bus-other nb nu nn = stays (λ W env c e f.
         let n = named-by h f in
@@ -181,8 +184,10 @@ module _ {s : Source} {st : State} {base depth k : ℕ} (h : shapeOf (kindAt (s 
         let v = getD (st .sorts) (getD (s .refs) k 0) 0 in
         record { says = go n t (eqb v Sort.number) refl (eqb v Sort.set) refl (eqb v Sort.signal) refl })
       where
-        go : {W : World} {env : List ℕ} {c : Context} {e : Expr} (n : Name s k W env c e) → Fact (tokens (s .text)) (s .work) (st .kept) (getD (s .refs) k 0) (meaningAt W (getD (s .refs) k 0)) (getD (st .sorts) (getD (s .refs) k 0) 0) (getD (st .numbers) (getD (s .refs) k 0) 0)
-            → (x : Bool) → eqb (getD (st .sorts) (getD (s .refs) k 0) 0) Sort.number ≡ x → (y : Bool) → eqb (getD (st .sorts) (getD (s .refs) k 0) 0) Sort.set ≡ y → (z : Bool) → eqb (getD (st .sorts) (getD (s .refs) k 0) 0) Sort.signal ≡ z → busOf c e ≡ Refused 9 0
+        go : {W : World} {env : List ℕ} {c : Context} {e : Expr} (n : Name s k W env c e)
+            → Fact (tokens (s .text)) (s .work) (st .kept) (getD (s .refs) k 0) (meaningAt W (getD (s .refs) k 0)) (getD (st .sorts) (getD (s .refs) k 0) 0) (getD (st .numbers) (getD (s .refs) k 0) 0)
+            → (x : Bool) → eqb (getD (st .sorts) (getD (s .refs) k 0) 0) Sort.number ≡ x → (y : Bool) → eqb (getD (st .sorts) (getD (s .refs) k 0) 0) Sort.set ≡ y → (z : Bool)
+            → eqb (getD (st .sorts) (getD (s .refs) k 0) 0) Sort.signal ≡ z → busOf c e ≡ Refused 9 0
         go n t true x y a z b = n .same ∙ ap (λ v. v >>= bus) (used-value (n .uses) l ∙ t .number (eqb-true _ _ x) .stands (n .token))
         go n t false x true a z b = n .same ∙ ap (λ v. v >>= bus) (used-value (n .uses) l ∙ t .set (eqb-true _ _ a) .stands (n .token))
         go n t false x false a true b = meaning-is n l (t .signal (eqb-true _ _ b))
@@ -201,7 +206,8 @@ module _ {s : Source} {st : State} {base depth k : ℕ} (h : shapeOf (kindAt (s 
           let a : Alike st st = record { sorts = refl; numbers = refl; slots = refl } in
           record { room = roomed a (omega arith) (omega arith) (R .room); W = R .W; env = []; c = d .context; e = d .expr; fits = within (getD (s .refs) k 0) (base + depth) (d .defines) (R .fits) }
 
-      pub bus-body : {st′ : State} {out : List ℕ} {w : Worth} {r : Reached} → ValueAt s st st′ (base + depth) 0 (getD (st .numbers) (getD (s .refs) k 0) 0) out w → r ≡ reachedOf w → BusAt s st st′ base depth k r
+      pub bus-body : {st′ : State} {out : List ℕ} {w : Worth} {r : Reached} → ValueAt s st st′ (base + depth) 0 (getD (st .numbers) (getD (s .refs) k 0) 0) out w → r ≡ reachedOf w
+          → BusAt s st st′ base depth k r
       bus-body {st′} {out} {w} a z = subst (BusAt s st st′ base depth k) (sym z) (record {
         held = λ i l. a .held i (omega arith);
         says = λ W env c e f.

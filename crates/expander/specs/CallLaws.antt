@@ -23,7 +23,8 @@ use Rattle.expander.specs.ExpandLaws.{elsewhere, valued, ready}
 use Rattle.expander.specs.Operands.{Two}
 
 -- buffers of the same sizes
-pub spaced : {s : Source} {st st′ : State} {b : Tables} {written′ table′ out out′ : List ℕ} {m base depth k base′ depth′ j : ℕ} → Alike st st′ → length written′ ≡ length (b .written) → length out′ ≡ length out
+pub spaced : {s : Source} {st st′ : State} {b : Tables} {written′ table′ out out′ : List ℕ} {m base depth k base′ depth′ j : ℕ} → Alike st st′ → length written′ ≡ length (b .written)
+    → length out′ ≡ length out
     → base′ + depth′ + j ≤ base + depth + k → j ≤ k → Space s st b out base depth k → Space s st′ (tables (b .firsts) written′ table′ m) out′ base′ depth′ j
 spaced a w o l n h =
     let x = h .written in
@@ -35,7 +36,8 @@ module _ {s : Source} {st : State} {b : Tables} {out : List ℕ} {base depth k :
   pub before-room : 1 ≤ k → (k - 1 < maxTokens) × (workBytes ≤ length (s .work))
   before-room l = let i = P .space .room .inside in (omega arith, P .space .room .work)
 
-  module _ {G : Context → Expr → Expr → Result Formula} (T : (ps : List Port) (W : World) (env : List ℕ) (c : Context) (e : Expr) → Expands s st b base depth k ps W env c e → Two s st b base depth k ps W env c e (G c)) where
+  module _ {G : Context → Expr → Expr → Result Formula} (T : (ps : List Port) (W : World) (env : List ℕ) (c : Context) (e : Expr) → Expands s st b base depth k ps W env c e
+      → Two s st b base depth k ps W env c e (G c)) where
     abbrev parts : Two s st b base depth k (P .ps) (P .W) (P .env) (P .c) (P .e) (G (P .c))
     parts = T (P .ps) (P .W) (P .env) (P .c) (P .e) (P .expands)
 

@@ -65,11 +65,13 @@ module _ {s : Source} {st : State} {b : Tables} {base depth : ℕ} where
 
   -- a refusal
   module _ {st′ : State} {written′ table′ : List ℕ} {j p : ℕ} where
-    prefix-no : {k : ℕ} → Prefix (kindAt (s .work) k) → Writes s st st′ b written′ table′ base depth (k - 1) (Written.Refused j p) → Writes s st st′ b written′ table′ base depth k (Written.Refused j p)
+    prefix-no : {k : ℕ} → Prefix (kindAt (s .work) k) → Writes s st st′ b written′ table′ base depth (k - 1) (Written.Refused j p)
+        → Writes s st st′ b written′ table′ base depth k (Written.Refused j p)
     prefix-no (parenthesis e) a = writes-paren (ap shapeOf e) a
     prefix-no (operator l h) a = let u = unary-shape _ l h in unary-no (u .0) (u .1) a refl
 
-    up : (n : ℕ) {low k : ℕ} → low + n ≡ k → Run (s .work) low k → Writes s st st′ b written′ table′ base depth low (Written.Refused j p) → Writes s st st′ b written′ table′ base depth k (Written.Refused j p)
+    up : (n : ℕ) {low k : ℕ} → low + n ≡ k → Run (s .work) low k → Writes s st st′ b written′ table′ base depth low (Written.Refused j p)
+        → Writes s st st′ b written′ table′ base depth k (Written.Refused j p)
     up zero q r a = subst (λ (i : ℕ). Writes s st st′ b written′ table′ base depth i (Written.Refused j p)) (omega arith) a
     up (suc n) {low} {k} q r a = prefix-no (r .prefixes k (omega arith) (omega arith)) (up n {low = low} {k = k - 1} (omega arith) (shorter r (omega arith)) a)
 
@@ -78,7 +80,8 @@ module _ {s : Source} {st : State} {b : Tables} {base depth : ℕ} where
         let l = r .within in
         subst (Writes s st st′ b written′ table′ base depth k) (sym e) (up (k - low) (omega arith) r (subst (Writes s st st′ b written′ table′ base depth low) e a))
 
-  pub run-done : {st′ : State} {written′ table′ table″ : List ℕ} {low k m r : ℕ} {y : Written} → Capped (s .work) low k table′ table″ m r → Writes s st st′ b written′ table′ base depth low y → y ≡ At m
+  pub run-done : {st′ : State} {written′ table′ table″ : List ℕ} {low k m r : ℕ} {y : Written} → Capped (s .work) low k table′ table″ m r → Writes s st st′ b written′ table′ base depth low y
+      → y ≡ At m
       → Writes s st st′ b written′ table″ base depth k (At r)
   run-done {st′} {written′} {table′} {low = low} c a e = c .writes s st st′ b written′ base depth refl (subst (Writes s st st′ b written′ table′ base depth low) e a)
 
@@ -94,7 +97,10 @@ module _ {w : List ℕ} where
   capped-parenthesis {k} e = record { writes = λ s st st′ b written′ base depth q a. writes-paren (ap (λ (v : List ℕ). shapeOf (kindAt v k)) q ∙ ap shapeOf e) a }
 
   pub capped-operator : {k kind op m r : ℕ} {table table′ : List ℕ} → kind ≡ kindAt w k → UnaryIs kind op → Caps op table table′ m r → Capped w (k - 1) k table table′ m r
-  capped-operator {k} e u t = record { writes = λ s st st′ b written′ base depth q a. unary-done (u .operator) (ap (λ (v : List ℕ). shapeOf (kindAt v k)) q ∙ ap shapeOf (sym e) ∙ u .shape) (u .node) a refl t }
+  capped-operator {k} e u t = record {
+    writes = λ s st st′ b written′ base depth q a. unary-done (u .operator) (ap (λ (v : List ℕ). shapeOf (kindAt v k)) q ∙ ap shapeOf (sym e) ∙ u .shape) (u .node)
+        a refl t;
+  }
 
   -- the next entry's
   pub capped-next : (i : ℕ) {low m n r : ℕ} {table table′ table″ : List ℕ} → Capped w low i table table′ m n → Capped w (i + 1 - 1) (i + 1) table′ table″ n r → Capped w low (i + 1) table table″ m r

@@ -61,7 +61,8 @@ same-against : (op place width : ℕ) → op ≤ 1 → {v : Bool} (ps : List Por
     → against ps (comparison op) (record { place = place; name = name; width = width }) ws ≡ guard v 13 place (Done (elim (eqb op 0) [ true ↦ oneOf ps name ws | false ↦ One Not (oneOf ps name ws) ]))
 same-against op place width l {v} ps name ws e = go op l
   where
-    go : (k : ℕ) → k ≤ 1 → against ps (comparison k) (record { place = place; name = name; width = width }) ws ≡ guard v 13 place (Done (elim (eqb k 0) [ true ↦ oneOf ps name ws | false ↦ One Not (oneOf ps name ws) ]))
+    go : (k : ℕ) → k ≤ 1 → against ps (comparison k) (record { place = place; name = name; width = width }) ws ≡ guard v 13 place
+        (Done (elim (eqb k 0) [ true ↦ oneOf ps name ws | false ↦ One Not (oneOf ps name ws) ]))
     go zero l = ap (λ (t : Bool). guard t 13 place (Done (oneOf ps name ws))) (sym e)
     go (suc zero) l = ap (λ (t : Bool). guard t 13 place (Done (One Not (oneOf ps name ws)))) (sym e)
     go (suc (suc k)) l = absurd (omega arith)
@@ -82,7 +83,8 @@ module _ {text w firsts : List ℕ} {op place b width entry : ℕ} {out : List �
               says = (
                 oneOf ps name ws,
                 (
-                  same-against op place width low ps name ws (widths .same text ws h) ∙ guard-pass 13 place _ q ∙ ap (λ (k : ℕ). Done (elim (eqb k 0) [ true ↦ oneOf ps name ws | false ↦ One Not (oneOf ps name ws) ])) z,
+                  same-against op place width low ps name ws (widths .same text ws h) ∙ guard-pass 13 place _ q ∙ ap
+                      (λ (k : ℕ). Done (elim (eqb k 0) [ true ↦ oneOf ps name ws | false ↦ One Not (oneOf ps name ws) ])) z,
                   one .wrote ps name ws h e,
                 ),
               );
@@ -97,7 +99,8 @@ module _ {text w firsts : List ℕ} {op place b width entry : ℕ} {out : List �
               says = (
                 One Not (oneOf ps name ws),
                 (
-                  same-against op place width low ps name ws (widths .same text ws h) ∙ guard-pass 13 place _ q ∙ ap (λ (k : ℕ). Done (elim (eqb k 0) [ true ↦ oneOf ps name ws | false ↦ One Not (oneOf ps name ws) ])) z,
+                  same-against op place width low ps name ws (widths .same text ws h) ∙ guard-pass 13 place _ q ∙ ap
+                      (λ (k : ℕ). Done (elim (eqb k 0) [ true ↦ oneOf ps name ws | false ↦ One Not (oneOf ps name ws) ])) z,
                   t Not refl at .wrote (one .wrote ps name ws h e),
                 ),
               );
@@ -108,13 +111,15 @@ module _ {text w firsts : List ℕ} {op place b width entry : ℕ} {out : List �
 pub against-readable : {w firsts : List ℕ} {b entry at to : ℕ} → Against w firsts b entry at → to ≡ wordsEnd w entry → Readable w to
 against-readable {w} {entry = entry} h e = record { room = h .room; few = let l = h .near in let z = end-bound w Kind.word (entry + 1) (omega arith) in omega arith }
 
-pub as-end : {text w : List ℕ} (entry : ℕ) {to width first : ℕ} {v : Bool} {out out′ : List ℕ} {at m : ℕ} → to ≡ wordsEnd w entry → WidthsAre w (entry + 1) to width v → OneOf text w (entry + 1) to first out out′ at m
+pub as-end : {text w : List ℕ} (entry : ℕ) {to width first : ℕ} {v : Bool} {out out′ : List ℕ} {at m : ℕ} → to ≡ wordsEnd w entry → WidthsAre w (entry + 1) to width v
+    → OneOf text w (entry + 1) to first out out′ at m
     → WidthsAre w (entry + 1) (wordsEnd w entry) width v × OneOf text w (entry + 1) (wordsEnd w entry) first out out′ at m
 as-end {text} {w} entry {width = width} {first = first} {v = v} {out} {out′} {at} {m} e a b =
     (subst (λ (i : ℕ). WidthsAre w (entry + 1) i width v) e a, subst (λ (i : ℕ). OneOf text w (entry + 1) i first out out′ at m) e b)
 
 -- an identifier's words
-words-of : {text w firsts : List ℕ} {x y : Worth} {at : ℕ} {ps : List Port} {W : World} {v u : Result Value} (z : Valued text w firsts x y at ps W v u) (i entry : ℕ) → i < maxNames → IsIdentifier (tokens text) w (meaningAt W i) entry → Words text w (entry + 1) (wordsEnd w entry) (wordsOf (meaningAt W i))
+words-of : {text w firsts : List ℕ} {x y : Worth} {at : ℕ} {ps : List Port} {W : World} {v u : Result Value} (z : Valued text w firsts x y at ps W v u) (i entry : ℕ) → i < maxNames
+    → IsIdentifier (tokens text) w (meaningAt W i) entry → Words text w (entry + 1) (wordsEnd w entry) (wordsOf (meaningAt W i))
 words-of {text} {w} z i entry l h =
     subst (Words text w (entry + 1) (wordsEnd w entry)) (sym (ap wordsOf (h .identifies)))
     (identifier-words (z .lexed) entry (h .words) (h .stored) (h .ends) (z .world .near i entry l h) (z .world .short i (h .words) (h .identifies)))
@@ -126,10 +131,12 @@ module _ {text w firsts : List ℕ} {op : ℕ} {x y : Worth} {out out′ : List 
       → Comparing text w firsts op x y out out′ at (Written.Refused n p)
   comparing-no h = record { says = λ ps W v u t. record { says = told t ∙ h ps W (t .left) (t .right) } }
     where
-      told : {ps : List Port} {W : World} {v u : Result Value} (t : Valued text w firsts x y at ps W v u) → (v >>= λ a. u >>= compared ps (comparison op) a) ≡ (worth W (t .left) x >>= λ a. worth W (t .right) y >>= compared ps (comparison op) a)
+      told : {ps : List Port} {W : World} {v u : Result Value} (t : Valued text w firsts x y at ps W v u)
+          → (v >>= λ a. u >>= compared ps (comparison op) a) ≡ (worth W (t .left) x >>= λ a. worth W (t .right) y >>= compared ps (comparison op) a)
       told {ps} t = sym (ap₂ (λ (i j : Result Value). i >>= λ a. j >>= compared ps (comparison op) a) (t .tells-left .says) (t .tells-right .says))
 
-  pub comparing-numbers : {a b m : ℕ} {v : Bool} → x ≡ Worth.Number a → y ≡ Worth.Number b → v ≡ test (comparison op) a b → Wrote (Writing.truth v) out out′ at m → Comparing text w firsts op x y out out′ at (At m)
+  pub comparing-numbers : {a b m : ℕ} {v : Bool} → x ≡ Worth.Number a → y ≡ Worth.Number b → v ≡ test (comparison op) a b → Wrote (Writing.truth v) out out′ at m
+      → Comparing text w firsts op x y out out′ at (At m)
   unfolding _>>=_
   comparing-numbers {v = v} p q e t = record {
     says = λ ps W i j z.
@@ -137,7 +144,8 @@ module _ {text w firsts : List ℕ} {op : ℕ} {x y : Worth} {out out′ : List 
           says = (
             Writing.truth v,
             (
-              sym (ap₂ (λ (i j : Result Value). i >>= λ a. j >>= compared ps (comparison op) a) (ap (worth W (z .left)) (sym p) ∙ z .tells-left .says) (ap (worth W (z .right)) (sym q) ∙ z .tells-right .says))
+              sym (ap₂ (λ (i j : Result Value). i >>= λ a. j >>= compared ps (comparison op) a) (ap (worth W (z .left)) (sym p) ∙ z .tells-left .says)
+                  (ap (worth W (z .right)) (sym q) ∙ z .tells-right .says))
                   ∙ ap Done (ap Expansion.truth (sym e) ∙ same-truth v),
               t,
             ),
@@ -169,7 +177,8 @@ module _ {text w firsts : List ℕ} {op : ℕ} {x y : Worth} {out out′ : List 
     }
 
 -- a left value that is compared with nothing
-module _ {text w firsts : List ℕ} {op : ℕ} (n p : ℕ) {x : Worth} {out out′ : List ℕ} {at : ℕ} (h : (ps : List Port) (W : World) (left : List ℕ) (u : Result Value) → (worth W left x >>= λ a. u >>= compared ps (comparison op) a) ≡ (u >>= λ b. Refused n p)) where
+module _ {text w firsts : List ℕ} {op : ℕ} (n p : ℕ) {x : Worth} {out out′ : List ℕ} {at : ℕ}
+    (h : (ps : List Port) (W : World) (left : List ℕ) (u : Result Value) → (worth W left x >>= λ a. u >>= compared ps (comparison op) a) ≡ (u >>= λ b. Refused n p)) where
   pub comparing-nothing : (y : Worth) → Comparing text w firsts op x y out out′ at (otherwise y n p)
   unfolding _>>=_
   comparing-nothing (Worth.Number a) = comparing-no (λ ps W l r. h ps W l (worth W r (Worth.Number a)))
@@ -203,11 +212,13 @@ module _ {text w firsts : List ℕ} {op : ℕ} {out out′ : List ℕ} {at : ℕ
   comparing-refused n p y = comparing-no (λ ps W l r. refl)
 
   -- the right value y, by what it is
-  pub comparing-other : {x y z : Worth} {n p : ℕ} → y ≡ z → ((ps : List Port) (W : World) (left right : List ℕ) → (worth W left x >>= λ a. worth W right z >>= compared ps (comparison op) a) ≡ Refused n p) → Comparing text w firsts op x y out out′ at (Written.Refused n p)
+  pub comparing-other : {x y z : Worth} {n p : ℕ} → y ≡ z → ((ps : List Port) (W : World) (left right : List ℕ)
+      → (worth W left x >>= λ a. worth W right z >>= compared ps (comparison op) a) ≡ Refused n p) → Comparing text w firsts op x y out out′ at (Written.Refused n p)
   comparing-other {x} {n = n} {p = p} q h = subst (λ (v : Worth). Comparing text w firsts op x v out out′ at (Written.Refused n p)) (sym q) (comparing-no h)
 
 -- the same left value
-pub comparing-as : {text w firsts : List ℕ} {op : ℕ} {x z y : Worth} {out out′ : List ℕ} {at : ℕ} {r : Written} → x ≡ z → Comparing text w firsts op z y out out′ at r → Comparing text w firsts op x y out out′ at r
+pub comparing-as : {text w firsts : List ℕ} {op : ℕ} {x z y : Worth} {out out′ : List ℕ} {at : ℕ} {r : Written} → x ≡ z → Comparing text w firsts op z y out out′ at r
+    → Comparing text w firsts op x y out out′ at r
 comparing-as {text} {w} {firsts} {op} {y = y} {out = out} {out′} {at} {r} q h = subst (λ (v : Worth). Comparing text w firsts op v y out out′ at r) (sym q) h
 
 pub comparable-as : {text w firsts : List ℕ} {x z y : Worth} {at : ℕ} → x ≡ z → Comparable text w firsts x y at → Comparable text w firsts z y at
@@ -235,7 +246,8 @@ identifier-ready {text} {w} {firsts} {p} {b} {n} {i} {entry} {at} q c =
     ready c b n i entry u v
 
 -- both operands' values
-module _ {s : Source} {st : State} {b : Tables} {base depth k j : ℕ} (o : Comparison) (h : shapeOf (kindAt (s .work) k) ≡ aComparison o) (q : j ≡ sizeAt (s .work) (k - 1)) {st′ st″ : State} {left right : List ℕ} {x y : Worth}
+module _ {s : Source} {st : State} {b : Tables} {base depth k j : ℕ} (o : Comparison) (h : shapeOf (kindAt (s .work) k) ≡ aComparison o) (q : j ≡ sizeAt (s .work) (k - 1)) {st′ st″ : State}
+    {left right : List ℕ} {x y : Worth}
     (a : ValueAt s st st′ base depth (k - 1 - j) left x) (d : ValueAt s st′ st″ base depth (k - 1) right y) where
   told : {ps : List Port} {W : World} {env : List ℕ} {c : Expansion.Context} {e : Expr} (z : Expands s st b base depth k ps W env c e)
       → Valued (s .text) (s .work) (b .firsts) x y (b .at) ps W (value (c .values) (comparison-of z o h .left)) (value (c .values) (comparison-of z o h .right))
@@ -257,7 +269,8 @@ module _ {s : Source} {st : State} {b : Tables} {base depth k j : ℕ} (o : Comp
   pub comparable : {out : List ℕ} → Prepared s st b out base depth k → Comparable (s .text) (s .work) (b .firsts) x y (b .at)
   comparable P = record { room = P .space .room .work; names = P .space .firsts; ps = P .ps; W = P .W; v = _; u = _; valued = told (P .expands) }
 
-  pub compared-writes : {op : ℕ} {table′ : List ℕ} {r : Written} → o ≡ comparison op → Comparing (s .text) (s .work) (b .firsts) op x y (b .table) table′ (b .at) r → Writes s st st″ b (b .written) table′ base depth k r
+  pub compared-writes : {op : ℕ} {table′ : List ℕ} {r : Written} → o ≡ comparison op → Comparing (s .text) (s .work) (b .firsts) op x y (b .table) table′ (b .at) r
+      → Writes s st st″ b (b .written) table′ base depth k r
   compared-writes {op} {table′} {r} i g = record {
     says = λ ps W env c e z.
         let t = comparison-of z o h in

@@ -47,7 +47,8 @@ elements-small elements n few h i l =
 
 -- the formula of a big operator by its kind
 abbrev Made : ℕ → Big → Type 0
-Made k o = (k < 43 → (F : ℕ → Result Formula) (m : List ℕ) → bigFormula o F m ≡ misfit) × (43 ≤ k → (F : ℕ → Result Formula) (m : List ℕ) → bigFormula o F m ≡ (gather F m >>= λ fs. Done (over (eqb k 43) fs)))
+Made k o = (k < 43 → (F : ℕ → Result Formula) (m : List ℕ) → bigFormula o F m ≡ misfit) ×
+    (43 ≤ k → (F : ℕ → Result Formula) (m : List ℕ) → bigFormula o F m ≡ (gather F m >>= λ fs. Done (over (eqb k 43) fs)))
 
 made : (k : ℕ) (o : Big) → 39 ≤ k → k < 45 → shapeOf k ≡ aBig o → Made k o
 made k o l h e = go o (operator-kind k l h o e)
@@ -60,7 +61,8 @@ made k o l h e = go o (operator-kind k l h o e)
     go BigAnd q = ((λ l F m. absurd (omega arith)), λ l F m. ap (λ (b : Bool). gather F m >>= λ fs. Done (over b fs)) (sym (ap (λ (i : ℕ). eqb i 43) q)))
     go BigOr q = ((λ l F m. absurd (omega arith)), λ l F m. ap (λ (b : Bool). gather F m >>= λ fs. Done (over b fs)) (sym (ap (λ (i : ℕ). eqb i 43) q)))
 
-module _ {s : Source} {st : State} {b : Tables} {base depth k : ℕ} {st′ : State} {out : List ℕ} {u : Worked} (o : Big) (low : 39 ≤ kindAt (s .work) k) (high : kindAt (s .work) k < 45) (h : shapeOf (kindAt (s .work) k) ≡ aBig o)
+module _ {s : Source} {st : State} {b : Tables} {base depth k : ℕ} {st′ : State} {out : List ℕ} {u : Worked} (o : Big) (low : 39 ≤ kindAt (s .work) k) (high : kindAt (s .work) k < 45)
+    (h : shapeOf (kindAt (s .work) k) ≡ aBig o)
     (a : SetAt s st st′ base depth (k - 2 - sizeAt (s .work) (k - 1)) out u) where
   pub each-set : {n p : ℕ} → u ≡ Worked.Refused n p → Writes s st st′ b (b .written) (b .table) base depth k (refusedOf u)
   each-set q = subst (λ (v : Worked). Writes s st st′ b (b .written) (b .table) base depth k (refusedOf v)) (sym q) (record {
@@ -80,7 +82,8 @@ module _ {s : Source} {st : State} {b : Tables} {base depth k : ℕ} {st′ : St
           };
     }
 
-    pub each-done : {st″ : State} {written″ table″ : List ℕ} {z : Written} → 43 ≤ kindAt (s .work) k → Gathered s st′ st″ b written″ table″ base depth k (take n out) z → Writes s st st″ b written″ table″ base depth k z
+    pub each-done : {st″ : State} {written″ table″ : List ℕ} {z : Written} → 43 ≤ kindAt (s .work) k → Gathered s st′ st″ b written″ table″ base depth k (take n out) z
+        → Writes s st st″ b written″ table″ base depth k z
     each-done {st″} {written″} {table″} {z} l d = record {
       says = λ ps W env c e x.
           let y = big-of x o h in

@@ -60,7 +60,8 @@ module _ {A B : Type 0} (F : A → Result B) (l : List A) {fs : List B} (h : gat
 
   gather-stop : {n p : ℕ} (m : List A) → F v ≡ Refused n p → gather F (l ++ v ∷ m) ≡ Refused n p
   unfolding _>>=_
-  gather-stop m e = gather-append F l (v ∷ m) ∙ ap (λ y. y >>= λ fs. gather F (v ∷ m) >>= λ gs. Done (fs ++ gs)) h ∙ ap (λ y. (y >>= λ b. gather F m >>= λ bs. Done (b ∷ bs)) >>= λ gs. Done (fs ++ gs)) e
+  gather-stop m e = gather-append F l (v ∷ m) ∙ ap (λ y. y >>= λ fs. gather F (v ∷ m) >>= λ gs. Done (fs ++ gs)) h ∙ ap
+      (λ y. (y >>= λ b. gather F m >>= λ bs. Done (b ∷ bs)) >>= λ gs. Done (fs ++ gs)) e
 
 -- the fold with one formula more is written behind it
 further-stays : {all : Bool} {f g : Fold} {fs : List Formula} {a : Formula} {table between out out′ : List ℕ} {at m : ℕ} → Folded all f fs table between at → Wrote a between out (f .end) m
@@ -73,7 +74,8 @@ further-stays {all} {f} {g} {fs} {a} {table} {between} {out} {out′} {at} {m} h
 
     begun : (b : Bool) → g .some ≡ b → g .some ≡ true
     begun true e = e
-    begun false e = let b : Begun false all (fs ++ (a ∷ [])) table out′ at (g .end) = subst (λ (c : Bool). Begun c all (fs ++ (a ∷ [])) table out′ at (g .end)) e (k .begun) in absurd (not-none fs (b .0))
+    begun false e = let b : Begun false all (fs ++ (a ∷ [])) table out′ at (g .end) = subst (λ (c : Bool). Begun c all (fs ++ (a ∷ [])) table out′ at (g .end)) e (k .begun) in
+        absurd (not-none fs (b .0))
 
     t : g .some ≡ true
     t = begun (g .some) refl
@@ -130,7 +132,8 @@ module _ {s : Source} {st : State} {b : Tables} {base depth k : ℕ} {all : Bool
   }
 
   module _ {st′ : State} {written′ table′ : List ℕ} {i : ℕ} {f : Fold} (g : Gathering s st st′ b written′ table′ base depth k all elements i f) where
-    pub gathering-expands : {ps : List Port} {W : World} {env : List ℕ} {c : Context} {e : Expr} → Expands s st b base depth k ps W env c e → (a : Token) (d : Expr) → Under s W env c k a d → (v : ℕ) → v ≤ maxNumber → base + depth < length (st′ .slots)
+    pub gathering-expands : {ps : List Port} {W : World} {env : List ℕ} {c : Context} {e : Expr} → Expands s st b base depth k ps W env c e → (a : Token) (d : Expr) → Under s W env c k a d → (v : ℕ)
+        → v ≤ maxNumber → base + depth < length (st′ .slots)
         → Expands s (element (base + depth) st′ v) (tables (b .firsts) written′ table′ (f .end)) base (depth + 1) (k - 1) ps W (v ∷ env) (at c a v) d
     gathering-expands {ps} {W} {env} {c} {e} x a d u v small room =
         let h = g .says ps W env c e x a d u in
@@ -145,7 +148,8 @@ module _ {s : Source} {st : State} {b : Tables} {base depth k : ℕ} {all : Bool
           sized = λ l. let z = fold-further (h .folded) l in fold-length (h .folded) l ∙ x .sized (omega arith);
         }
 
-    module _ {v : ℕ} (here : v ≡ getD elements i 0) (inside : i < length elements) (small : v ≤ maxNumber) (room : base + depth < length (st′ .slots)) {st″ : State} {written″ table″ : List ℕ} {y : Written}
+    module _ {v : ℕ} (here : v ≡ getD elements i 0) (inside : i < length elements) (small : v ≤ maxNumber) (room : base + depth < length (st′ .slots)) {st″ : State} {written″ table″ : List ℕ}
+        {y : Written}
         (a : Writes s (element (base + depth) st′ v) st″ (tables (b .firsts) written′ table′ (f .end)) written″ table″ base (depth + 1) (k - 1) y) where
       pub gathering-more : {m : ℕ} {table‴ : List ℕ} {j : Fold} → y ≡ At m → Furthers all f m table″ table‴ j → Gathering s st st″ b written″ table‴ base depth k all elements (i + 1) j
       gathering-more {m} {table‴} {j} q t = record {
@@ -157,7 +161,8 @@ module _ {s : Source} {st : State} {b : Tables} {base depth k : ℕ} {all : Bool
             record {
               formulas = h .formulas ++ (z .0 ∷ []);
               gathered =
-                  ap (λ (l : List ℕ). gather (λ v. expansion (at c n v) d) l) (ap (λ (k : ℕ). take k elements) (add-one i) ∙ take-suc elements i 0 inside ∙ ap (λ (w : ℕ). take i elements ++ (w ∷ [])) (sym here))
+                  ap (λ (l : List ℕ). gather (λ v. expansion (at c n v) d) l) (ap (λ (k : ℕ). take k elements) (add-one i) ∙ take-suc elements i 0 inside ∙ ap (λ (w : ℕ). take i elements ++ (w ∷ []))
+                  (sym here))
                   ∙ gather-more (λ v. expansion (at c n v) d) (take i elements) (h .gathered) v (z .1 .0);
               folded = k1;
               held = λ i l. p .held i (omega arith) ∙ getD-set-other (st′ .slots) (base + depth) i v 0 (λ e. omega arith) ∙ h .held i l;
@@ -174,16 +179,19 @@ module _ {s : Source} {st : State} {b : Tables} {base depth k : ℕ} {all : Bool
             let z = answered-no (a .says ps W (v ∷ env) (at c t v) d (gathering-expands x t d u v small room)) q in
             let parts : take n elements ≡ take i elements ++ v ∷ drop (suc i) (take n elements) = split few l in
             record {
-              says = ap (λ r. r >>= λ fs. Done (over (eqb (kindAt (s .work) k) 43) fs)) (ap (gather (λ v. expansion (at c t v) d)) parts ∙ gather-stop (λ v. expansion (at c t v) d) (take i elements) (h .gathered) v (drop (suc i) (take n elements)) z);
+              says = ap (λ r. r >>= λ fs. Done (over (eqb (kindAt (s .work) k) 43) fs))
+                  (ap (gather (λ v. expansion (at c t v) d)) parts ∙ gather-stop (λ v. expansion (at c t v) d) (take i elements) (h .gathered) v (drop (suc i) (take n elements)) z);
             };
       })
         where
           split : n ≤ length elements → i < n → take n elements ≡ take i elements ++ v ∷ drop (suc i) (take n elements)
           split few l =
               sym (take-append-drop i (take n elements))
-              ∙ ap₂ _++_ (take-take i n elements (omega arith)) (drop-cons (take n elements) i 0 (let z = length-take-le n elements few in omega arith) ∙ ap (λ (w : ℕ). w ∷ drop (suc i) (take n elements)) (getD-take n elements i 0 l ∙ sym here))
+              ∙ ap₂ _++_ (take-take i n elements (omega arith)) (drop-cons (take n elements) i 0 (let z = length-take-le n elements few in omega arith) ∙ ap
+              (λ (w : ℕ). w ∷ drop (suc i) (take n elements)) (getD-take n elements i 0 l ∙ sym here))
 
-    pub gathering-all : {n r : ℕ} {table″ : List ℕ} → i ≡ n → all ≡ eqb (kindAt (s .work) k) 43 → Finishes all f table′ table″ r → Gathered s st st′ b written′ table″ base depth k (take n elements) (At r)
+    pub gathering-all : {n r : ℕ} {table″ : List ℕ} → i ≡ n → all ≡ eqb (kindAt (s .work) k) 43 → Finishes all f table′ table″ r
+        → Gathered s st st′ b written′ table″ base depth k (take n elements) (At r)
     unfolding _>>=_
     gathering-all {n} {r} {table″} q w t = record {
       says = λ ps W env c e x a d u.

@@ -36,13 +36,14 @@ pub record Gathered (s : Source) (st st′ : State) (b : Tables) (written′ tab
       → Answered (λ i f. Puts s st st′ b (tables (b .firsts) written′ table′ i) (base + depth) W f) r (gather (λ v. expansion (at c a v) d) m >>= λ fs. Done (over (eqb (kindAt (s .work) k) 43) fs))
 
 -- the first i elements' formulas are folded
-pub record Sofar (s : Source) (st st′ : State) (b : Tables) (written′ table′ : List ℕ) (base depth : ℕ) (all : Bool) (W : World) (c : Context) (a : Token) (d : Expr) (m : List ℕ) (f : Fold) : Type 0 where
-  pub formulas : List Formula
-  pub gathered : gather (λ v. expansion (at c a v) d) m ≡ Done formulas
-  pub folded : Folded all f formulas (b .table) table′ (b .at)
-  pub held : Held (base + depth) st st′
-  pub noted : Noted s st′ W
-  pub lasting : Lasting W written′ table′ (f .end)
+pub record Sofar (s : Source) (st st′ : State) (b : Tables) (written′ table′ : List ℕ) (base depth : ℕ) (all : Bool) (W : World) (c : Context) (a : Token) (d : Expr) (m : List ℕ) (f : Fold) : Type 0
+  where
+    pub formulas : List Formula
+    pub gathered : gather (λ v. expansion (at c a v) d) m ≡ Done formulas
+    pub folded : Folded all f formulas (b .table) table′ (b .at)
+    pub held : Held (base + depth) st st′
+    pub noted : Noted s st′ W
+    pub lasting : Lasting W written′ table′ (f .end)
 
 pub record Gathering (s : Source) (st st′ : State) (b : Tables) (written′ table′ : List ℕ) (base depth k : ℕ) (all : Bool) (elements : List ℕ) (i : ℕ) (f : Fold) : Type 0 where
   pub says : (ps : List Port) (W : World) (env : List ℕ) (c : Context) (e : Expr) → Expands s st b base depth k ps W env c e → (a : Token) (d : Expr) → Under s W env c k a d

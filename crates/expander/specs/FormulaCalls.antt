@@ -46,7 +46,8 @@ module _ {s : Source} {st : State} {b : Tables} {out : List ℕ} {base depth k :
   pub entry-room : (k < maxTokens) × (workBytes ≤ length (s .work))
   entry-room = (P .space .room .inside, P .space .room .work)
 
-  module _ {G : Context → Expr → Result Formula} (T : (ps : List Port) (W : World) (env : List ℕ) (c : Context) (e : Expr) → Expands s st b base depth k ps W env c e → One s st b base depth k ps W env c e (G c)) where
+  module _ {G : Context → Expr → Result Formula} (T : (ps : List Port) (W : World) (env : List ℕ) (c : Context) (e : Expr) → Expands s st b base depth k ps W env c e
+      → One s st b base depth k ps W env c e (G c)) where
     pub one-some : 1 ≤ k
     one-some = T (P .ps) (P .W) (P .env) (P .c) (P .e) (P .expands) .inside
 
@@ -56,7 +57,8 @@ module _ {s : Source} {st : State} {b : Tables} {out : List ℕ} {base depth k :
         let i = y .inside in
         prepared (y .expands) (spaced (unchanged st) refl refl (omega arith) (omega arith) (P .space))
 
-  module _ {G : Context → Expr → Expr → Result Formula} (T : (ps : List Port) (W : World) (env : List ℕ) (c : Context) (e : Expr) → Expands s st b base depth k ps W env c e → Two s st b base depth k ps W env c e (G c)) {j : ℕ} (q : j ≡ sizeAt (s .work) (k - 1)) where
+  module _ {G : Context → Expr → Expr → Result Formula} (T : (ps : List Port) (W : World) (env : List ℕ) (c : Context) (e : Expr) → Expands s st b base depth k ps W env c e
+      → Two s st b base depth k ps W env c e (G c)) {j : ℕ} (q : j ≡ sizeAt (s .work) (k - 1)) where
     abbrev parts : Two s st b base depth k (P .ps) (P .W) (P .env) (P .c) (P .e) (G (P .c))
     parts = T (P .ps) (P .W) (P .env) (P .c) (P .e) (P .expands)
 
@@ -67,16 +69,19 @@ module _ {s : Source} {st : State} {b : Tables} {out : List ℕ} {base depth k :
     left-prepared = prepared left (spaced (unchanged st) refl refl (omega arith) (omega arith) (P .space))
 
     -- after a formula
-    pub right-prepared : {st′ : State} {written′ table′ out′ : List ℕ} {y : Written} {m : ℕ} → Writes s st st′ b written′ table′ base depth (k - 1 - j) y → y ≡ At m → Alike st st′ → length written′ ≡ length (b .written) → length out′ ≡ length out
+    pub right-prepared : {st′ : State} {written′ table′ out′ : List ℕ} {y : Written} {m : ℕ} → Writes s st st′ b written′ table′ base depth (k - 1 - j) y → y ≡ At m → Alike st st′
+        → length written′ ≡ length (b .written) → length out′ ≡ length out
         → Prepared s st′ (tables (b .firsts) written′ table′ m) out′ base depth (k - 1)
     right-prepared a z e w o =
         let p = answered-done (a .says (P .ps) (P .W) (P .env) (P .c) (parts .left) left) z in
         prepared (written (parts .expands-right) (p .1 .1)) (spaced e w o (omega arith) (omega arith) (P .space))
 
     -- after a value
-    pub valued-prepared : {st′ : State} {out′ : List ℕ} {Q : World → Result Value → Type 0} → Works s st st′ base depth false (k - 1 - j) Q → Alike st st′ → length out′ ≡ length out → Prepared s st′ b out′ base depth (k - 1)
+    pub valued-prepared : {st′ : State} {out′ : List ℕ} {Q : World → Result Value → Type 0} → Works s st st′ base depth false (k - 1 - j) Q → Alike st st′ → length out′ ≡ length out
+        → Prepared s st′ b out′ base depth (k - 1)
     valued-prepared {st′} a e o =
-        let x : Expands s st′ b base depth (k - 1) (P .ps) (P .W) (P .env) (P .c) (parts .right) = valued (parts .expands-right) (a .held) (a .noted (P .W) (P .env) (P .c) (parts .left) (left .fits)) in
+        let x : Expands s st′ b base depth (k - 1) (P .ps) (P .W) (P .env) (P .c) (parts .right) = valued (parts .expands-right) (a .held) (a .noted (P .W) (P .env) (P .c) (parts .left) (left .fits))
+        in
         prepared x (spaced e refl o (omega arith) (omega arith) (P .space))
 
   -- a definition
@@ -93,7 +98,8 @@ module _ {s : Source} {st : State} {b : Tables} {out : List ℕ} {base depth k :
           let i = body-earlier in
           prepared (body-expands h l d (P .expands)) (spaced (unchanged st) refl refl (omega arith) (omega arith) (P .space))
 
-      pub body-longer : {st′ : State} {written′ table′ : List ℕ} {y : Written} {m : ℕ} → Writes s st st′ b written′ table′ (base + depth) 0 (getD (st .numbers) (getD (s .refs) k 0) 0) y → y ≡ At m → m ≤ maxNodes → b .at < m
+      pub body-longer : {st′ : State} {written′ table′ : List ℕ} {y : Written} {m : ℕ} → Writes s st st′ b written′ table′ (base + depth) 0 (getD (st .numbers) (getD (s .refs) k 0) 0) y → y ≡ At m
+          → m ≤ maxNodes → b .at < m
       body-longer a z n =
           let p = answered-done (a .says (P .ps) (P .W) [] (body-of h l d (P .expands) .0) (body-of h l d (P .expands) .1) (body-expands h l d (P .expands))) z in
           let e = ends (p .1 .1 .wrote) n in
@@ -132,10 +138,13 @@ module _ {s : Source} {st : State} {b : Tables} {out : List ℕ} {base depth k :
         pub second-ready : Alike st st′ → Ready s st′ base depth false (k - 1 - j)
         second-ready e = let z = window-inside in ready second-then (roomed e (omega arith) (omega arith) (P .space .room))
 
-        pub third-prepared : {st″ : State} {out′ : List ℕ} {R : World → Result Value → Type 0} → Works s st′ st″ base depth false (k - 1 - j) R → Alike st st″ → length out′ ≡ length out → Prepared s st″ b out′ base depth (k - 1)
+        pub third-prepared : {st″ : State} {out′ : List ℕ} {R : World → Result Value → Type 0} → Works s st′ st″ base depth false (k - 1 - j) R → Alike st st″ → length out′ ≡ length out
+            → Prepared s st″ b out′ base depth (k - 1)
         third-prepared {st″} d e l =
-            let x : Expands s st′ b base depth (k - 1) (P .ps) (P .W) (P .env) (P .c) (window-of (P .expands) o h .third) = valued (window-of (P .expands) o h .expands-third) (a .held) (a .noted (P .W) (P .env) (P .c) (window-of (P .expands) o h .first) (first .fits)) in
-            let y : Expands s st″ b base depth (k - 1) (P .ps) (P .W) (P .env) (P .c) (window-of (P .expands) o h .third) = valued x (d .held) (d .noted (P .W) (P .env) (P .c) (window-of (P .expands) o h .second) (second-then .fits)) in
+            let x : Expands s st′ b base depth (k - 1) (P .ps) (P .W) (P .env) (P .c) (window-of (P .expands) o h .third) = valued (window-of (P .expands) o h .expands-third) (a .held)
+            (a .noted (P .W) (P .env) (P .c) (window-of (P .expands) o h .first) (first .fits)) in
+            let y : Expands s st″ b base depth (k - 1) (P .ps) (P .W) (P .env) (P .c) (window-of (P .expands) o h .third) = valued x (d .held)
+            (d .noted (P .W) (P .env) (P .c) (window-of (P .expands) o h .second) (second-then .fits)) in
             let z = window-inside in
             prepared y (spaced e refl l (omega arith) (omega arith) (P .space))
 
@@ -176,16 +185,19 @@ pub record Turn (s : Source) (st st′ : State) (b : Tables) (written′ table�
   pub written : length written′ ≡ length (b .written)
   pub out : length scratch′ ≡ length scratch
 
-module _ {s : Source} {st st′ : State} {b : Tables} {written′ table′ out out′ : List ℕ} {base depth k : ℕ} {all : Bool} {elements : List ℕ} {n i : ℕ} {f : Fold} (P : Prepared s st b out base depth k) (E : Elements elements n k)
+module _ {s : Source} {st st′ : State} {b : Tables} {written′ table′ out out′ : List ℕ} {base depth k : ℕ} {all : Bool} {elements : List ℕ} {n i : ℕ} {f : Fold} (P : Prepared s st b out base depth k)
+    (E : Elements elements n k)
     (T : Turn s st st′ b written′ table′ out out′ base depth k all elements n i f) where
   pub turn-room : base + depth < length (st′ .slots)
   turn-room = let a = T .alike .slots in let r = P .space .room .slots in let l = E .inside in omega arith
 
-  pub turn-prepared : (o : Big) → shapeOf (kindAt (s .work) k) ≡ aBig o → i < n → Prepared s (element (base + depth) st′ (getD elements i 0)) (tables (b .firsts) written′ table′ (f .end)) out′ base (depth + 1) (k - 1)
+  pub turn-prepared : (o : Big) → shapeOf (kindAt (s .work) k) ≡ aBig o → i < n
+      → Prepared s (element (base + depth) st′ (getD elements i 0)) (tables (b .firsts) written′ table′ (f .end)) out′ base (depth + 1) (k - 1)
   turn-prepared o h l =
       let y = big-of (P .expands) o h in
       let k1 = E .inside in
       let a = T .alike in
-      let e : Alike st (element (base + depth) st′ (getD elements i 0)) = record { sorts = a .sorts; numbers = a .numbers; slots = length-set (st′ .slots) (base + depth) (getD elements i 0) ∙ a .slots } in
+      let e : Alike st (element (base + depth) st′ (getD elements i 0)) = record
+      { sorts = a .sorts; numbers = a .numbers; slots = length-set (st′ .slots) (base + depth) (getD elements i 0) ∙ a .slots } in
       prepared (gathering-expands (T .gathering) (P .expands) (y .name) (y .operand) (y .known) (getD elements i 0) (E .small i l) turn-room)
       (spaced e (T .written) (T .out) (omega arith) (omega arith) (P .space))

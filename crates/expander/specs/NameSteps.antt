@@ -66,7 +66,8 @@ same-body {a = a} {c = c} {u = u} {e = e} p q h =
     sym (ap₂ expansion x y) ∙ h
 
 -- one definition more is noted
-noted-lasting : {W : World} {written table table′ : List ℕ} {r at m v : ℕ} {f : Formula} → r < length written → Marked at m v → ((j : ℕ) (c : Context) (e : Expr) → meaningAt W r ≡ Defines j c e → expansion c e ≡ Done f)
+noted-lasting : {W : World} {written table table′ : List ℕ} {r at m v : ℕ} {f : Formula} → r < length written → Marked at m v
+    → ((j : ℕ) (c : Context) (e : Expr) → meaningAt W r ≡ Defines j c e → expansion c e ≡ Done f)
     → Wrote f table table′ at m → (at ≤ maxNodes → length table ≡ maxNodes) → Lasting W written table′ m → Lasting W (set written r v) table′ m
 noted-lasting {W} {written} {table} {table′} {r} {at} {m} {v} {f} i g given w sized h = record { lasts = λ q l d. go q l d (eqb q r) refl }
   where
@@ -94,7 +95,8 @@ above v a b c = omega arith
 upper : (v : ℕ) → v ≤ Sort.nothing → 3 ≤ v → (v ≡ Sort.signal → ⊥) → (v ≡ Sort.set → ⊥) → (v ≡ Sort.nothing → ⊥) → v ≡ Sort.identifier
 upper v l h d e f = omega arith
 
-pub last-sort : (v : ℕ) → v ≤ Sort.nothing → (v ≡ Sort.number → ⊥) → (v ≡ Sort.body → ⊥) → (v ≡ Sort.bus → ⊥) → (v ≡ Sort.signal → ⊥) → (v ≡ Sort.set → ⊥) → (v ≡ Sort.nothing → ⊥) → v ≡ Sort.identifier
+pub last-sort : (v : ℕ) → v ≤ Sort.nothing → (v ≡ Sort.number → ⊥) → (v ≡ Sort.body → ⊥) → (v ≡ Sort.bus → ⊥) → (v ≡ Sort.signal → ⊥) → (v ≡ Sort.set → ⊥) → (v ≡ Sort.nothing → ⊥)
+    → v ≡ Sort.identifier
 last-sort v l a b c d e f = upper v l (above v a b c) d e f
 
 abbrev reference : Source → ℕ → ℕ
@@ -109,11 +111,20 @@ record Name (s : Source) (k : ℕ) (ps : List Port) (W : World) (env : List ℕ)
   ports : c .ports ≡ ps
   early : (n : ℕ) (d : Context) (a : Expr) → reference s k < maxNames → meaningAt W (reference s k) ≡ Defines n d a → n < k
 
-named-by : {s : Source} {st : State} {b : Tables} {base depth k : ℕ} {ps : List Port} {W : World} {env : List ℕ} {c : Context} {e : Expr} → shapeOf (kindAt (s .work) k) ≡ aName → Expands s st b base depth k ps W env c e → Name s k ps W env c e
+named-by : {s : Source} {st : State} {b : Tables} {base depth k : ℕ} {ps : List Port} {W : World} {env : List ℕ} {c : Context} {e : Expr} → shapeOf (kindAt (s .work) k) ≡ aName
+    → Expands s st b base depth k ps W env c e → Name s k ps W env c e
 named-by h x =
     let v = viewed x h in
     let y = become x (v .1) in
-    record { token = v .0; limit = y .fits .known .limit; uses = y .fits .known .agrees; same = ap (expansion _) (v .1); ports = x .ports; early = λ n d a l m. named-body (v .0) (y .fits .known) n d a l m }
+    record {
+      token = v .0;
+      limit = y .fits .known .limit;
+      uses = y .fits .known .agrees;
+      same = ap (expansion _) (v .1);
+      ports = x .ports;
+      early = λ n d a l m. named-body (v .0) (y .fits .known) n d
+          a l m;
+    }
 
 module _ {s : Source} {k : ℕ} {ps : List Port} {W : World} {env : List ℕ} {c : Context} {e : Expr} (n : Name s k ps W env c e) where
   -- a declared name
@@ -133,7 +144,8 @@ module _ {s : Source} {st : State} {b : Tables} {base depth k : ℕ} (h : shapeO
       says = λ ps W env c e x. let n = named-by h x in record { says = meaning-is n l (x .fits .facts .noted (reference s k) l .nothing q) };
     }
 
-    pub name-signal : {table′ : List ℕ} {m : ℕ} → getD (st .sorts) (reference s k) 0 ≡ Sort.signal → Signalled (getD (b .firsts) (reference s k) 0) 0 (b .table) table′ (b .at) m → Writes s st st b (b .written) table′ base depth k (At m)
+    pub name-signal : {table′ : List ℕ} {m : ℕ} → getD (st .sorts) (reference s k) 0 ≡ Sort.signal → Signalled (getD (b .firsts) (reference s k) 0) 0 (b .table) table′ (b .at) m
+        → Writes s st st b (b .written) table′ base depth k (At m)
     name-signal {table′} {m} q g = record {
       says = λ ps W env c e x.
           let n = named-by h x in
@@ -151,12 +163,17 @@ module _ {s : Source} {st : State} {b : Tables} {base depth k : ℕ} (h : shapeO
           let n = named-by h x in
           let f = x .fits .facts .noted (reference s k) l in
           let m = meaning-no ps (n .token) (meaningAt W (reference s k)) (x .world .plain (reference s k)) in
-          record { says = go n f m (eqb (getD (st .sorts) (reference s k) 0) Sort.number) refl (eqb (getD (st .sorts) (reference s k) 0) Sort.set) refl (eqb (getD (st .sorts) (reference s k) 0) Sort.bus) refl };
+          record {
+            says = go n f m (eqb (getD (st .sorts) (reference s k) 0) Sort.number) refl (eqb (getD (st .sorts) (reference s k) 0) Sort.set) refl
+                (eqb (getD (st .sorts) (reference s k) 0) Sort.bus) refl;
+          };
     }
       where
-        go : {ps : List Port} {W : World} {env : List ℕ} {c : Context} {e : Expr} (n : Name s k ps W env c e) → Fact (tokens (s .text)) (s .work) (st .kept) (reference s k) (meaningAt W (reference s k)) (getD (st .sorts) (reference s k) 0) (getD (st .numbers) (reference s k) 0)
+        go : {ps : List Port} {W : World} {env : List ℕ} {c : Context} {e : Expr} (n : Name s k ps W env c e)
+            → Fact (tokens (s .text)) (s .work) (st .kept) (reference s k) (meaningAt W (reference s k)) (getD (st .sorts) (reference s k) 0) (getD (st .numbers) (reference s k) 0)
             → NoFormula {A = Formula} (meant (meaningAt W (reference s k)) (n .token)) (formed ps (meaningAt W (reference s k)) (n .token))
-            → (x : Bool) → eqb (getD (st .sorts) (reference s k) 0) Sort.number ≡ x → (y : Bool) → eqb (getD (st .sorts) (reference s k) 0) Sort.set ≡ y → (z : Bool) → eqb (getD (st .sorts) (reference s k) 0) Sort.bus ≡ z → expansion c e ≡ misfit
+            → (x : Bool) → eqb (getD (st .sorts) (reference s k) 0) Sort.number ≡ x → (y : Bool) → eqb (getD (st .sorts) (reference s k) 0) Sort.set ≡ y → (z : Bool)
+            → eqb (getD (st .sorts) (reference s k) 0) Sort.bus ≡ z → expansion c e ≡ misfit
         go n f m true x y a z b = formula-of n l ∙ m .0 _ (f .number (eqb-true _ _ x) .stands (n .token))
         go n f m false x true y z b = formula-of n l ∙ m .1 _ (f .set (eqb-true _ _ y) .stands (n .token))
         go n f m false x false y true b = formula-of n l ∙ bus-meaning _ (n .token) _ _ (f .bus (eqb-true _ _ b))
@@ -169,13 +186,15 @@ module _ {s : Source} {st : State} {b : Tables} {base depth k : ℕ} (h : shapeO
     -- a definition
     module _ (d : getD (st .sorts) (reference s k) 0 ≡ Sort.body) where
       -- what its body is
-      pub body-of : {ps : List Port} {W : World} {env : List ℕ} {c : Context} {e : Expr} (x : Expands s st b base depth k ps W env c e) → (a : Context) × (u : Expr) × (meaningAt W (reference s k) ≡ Defines (getD (st .numbers) (reference s k) 0) a u)
+      pub body-of : {ps : List Port} {W : World} {env : List ℕ} {c : Context} {e : Expr} (x : Expands s st b base depth k ps W env c e)
+          → (a : Context) × (u : Expr) × (meaningAt W (reference s k) ≡ Defines (getD (st .numbers) (reference s k) 0) a u)
       body-of x = let f = x .fits .facts .noted (reference s k) l .body d in (f .context, f .expr, f .defines)
 
       pub body-before : {ps : List Port} {W : World} {env : List ℕ} {c : Context} {e : Expr} → Expands s st b base depth k ps W env c e → getD (st .numbers) (reference s k) 0 < k
       body-before x = let f = body-of x in named-by h x .early _ (f .0) (f .1) l (f .2)
 
-      pub body-expands : {ps : List Port} {W : World} {env : List ℕ} {c : Context} {e : Expr} (x : Expands s st b base depth k ps W env c e) → Expands s st b (base + depth) 0 (getD (st .numbers) (reference s k) 0) ps W [] (body-of x .0) (body-of x .1)
+      pub body-expands : {ps : List Port} {W : World} {env : List ℕ} {c : Context} {e : Expr} (x : Expands s st b base depth k ps W env c e)
+          → Expands s st b (base + depth) 0 (getD (st .numbers) (reference s k) 0) ps W [] (body-of x .0) (body-of x .1)
       body-expands x =
           record {
             fits = within (reference s k) (base + depth) (body-of x .2) (x .fits);
@@ -187,7 +206,8 @@ module _ {s : Source} {st : State} {b : Tables} {base depth k : ℕ} (h : shapeO
             sized = x .sized;
           }
 
-      pub body-again : {table′ : List ℕ} {m : ℕ} → (getD (b .written) (reference s k) 0 ≡ 0 → ⊥) → Again (getD (b .written) (reference s k) 0) (b .table) table′ (b .at) m → Writes s st st b (b .written) table′ base depth k (At m)
+      pub body-again : {table′ : List ℕ} {m : ℕ} → (getD (b .written) (reference s k) 0 ≡ 0 → ⊥) → Again (getD (b .written) (reference s k) 0) (b .table) table′ (b .at) m
+          → Writes s st st b (b .written) table′ base depth k (At m)
       body-again q g = record {
         says = λ ps W env c e x.
             let n = named-by h x in

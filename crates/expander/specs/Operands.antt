@@ -78,7 +78,8 @@ module _ {s : Source} {st : State} {b : Tables} {base depth k : ℕ} {ps : List 
   abbrev w : List ℕ
   w = s .work
 
-  one : (G : Expr → Result Ltl.Formula) (n : ℕ) (t : Token) (a : Expr) → EndsAt w (tokens (s .text)) k (under n (some t) (flat a)) → Known (tokens (s .text)) (s .work) (s .refs) W env c false (k - 1) a → expansion c e ≡ G a
+  one : (G : Expr → Result Ltl.Formula) (n : ℕ) (t : Token) (a : Expr) → EndsAt w (tokens (s .text)) k (under n (some t) (flat a))
+      → Known (tokens (s .text)) (s .work) (s .refs) W env c false (k - 1) a → expansion c e ≡ G a
       → One s st b base depth k ps W env c e G
   one G n t a h g q =
       let l = below n (some t) (flat a) h in
@@ -95,7 +96,8 @@ module _ {s : Source} {st : State} {b : Tables} {base depth k : ℕ} {ps : List 
   unary-of o h =
       let v = viewed x h in
       let y = become x (v .2) in
-      one (λ a. expansion c a >>= λ f. Done (Ltl.One o f)) (Kind.before (Applies o)) (v .0) (v .1) (y .fits .known .at) (known-prefixed (v .0) (Applies o) (v .1) (y .fits .known)) (ap (expansion c) (v .2))
+      one (λ a. expansion c a >>= λ f. Done (Ltl.One o f)) (Kind.before (Applies o)) (v .0) (v .1) (y .fits .known .at) (known-prefixed (v .0) (Applies o) (v .1) (y .fits .known))
+      (ap (expansion c) (v .2))
 
   two : (G : Expr → Expr → Result Ltl.Formula) (n : ℕ) (t : Token) (p q : Expr) → EndsAt w (tokens (s .text)) k (under n (some t) (flat p ++ flat q))
       → Known (tokens (s .text)) (s .work) (s .refs) W env c false (k - 1 - length (flat q)) p × Known (tokens (s .text)) (s .work) (s .refs) W env c false (k - 1) q → expansion c e ≡ G p q
@@ -112,25 +114,31 @@ module _ {s : Source} {st : State} {b : Tables} {base depth k : ℕ} {ps : List 
   binary-of o h =
       let v = viewed x h in
       let y = become x (v .3) in
-      two (λ p q. expansion c p >>= λ f. expansion c q >>= λ g. Done (Ltl.Two o f g)) (Kind.joining (Connects o)) (v .0) (v .1) (v .2) (y .fits .known .at) (known-joined (v .0) (Connects o) (v .1) (v .2) (y .fits .known)) (ap (expansion c) (v .3))
+      two (λ p q. expansion c p >>= λ f. expansion c q >>= λ g. Done (Ltl.Two o f g)) (Kind.joining (Connects o)) (v .0) (v .1) (v .2) (y .fits .known .at)
+      (known-joined (v .0) (Connects o) (v .1) (v .2) (y .fits .known)) (ap (expansion c) (v .3))
 
-  pub comparison-of : (o : Comparison) → shapeOf (kindAt w k) ≡ aComparison o → Two s st b base depth k ps W env c e (λ p q. value (c .values) p >>= λ u. value (c .values) q >>= compared (c .ports) o u)
+  pub comparison-of : (o : Comparison) → shapeOf (kindAt w k) ≡ aComparison o
+      → Two s st b base depth k ps W env c e (λ p q. value (c .values) p >>= λ u. value (c .values) q >>= compared (c .ports) o u)
   comparison-of o h =
       let v = viewed x h in
       let y = become x (v .3) in
-      two (λ p q. value (c .values) p >>= λ u. value (c .values) q >>= compared (c .ports) o u) (Kind.joining (Compares o)) (v .0) (v .1) (v .2) (y .fits .known .at) (known-joined (v .0) (Compares o) (v .1) (v .2) (y .fits .known)) (ap (expansion c) (v .3))
+      two (λ p q. value (c .values) p >>= λ u. value (c .values) q >>= compared (c .ports) o u) (Kind.joining (Compares o)) (v .0) (v .1) (v .2) (y .fits .known .at)
+      (known-joined (v .0) (Compares o) (v .1) (v .2) (y .fits .known)) (ap (expansion c) (v .3))
 
-  pub membership-of : shapeOf (kindAt w k) ≡ aMembership → Two s st b base depth k ps W env c e (λ p q. value (c .values) p >>= number >>= λ n. value (c .values) q >>= set >>= λ m. Done (truth (memberOf m n)))
+  pub membership-of : shapeOf (kindAt w k) ≡ aMembership → Two s st b base depth k ps W env c e
+      (λ p q. value (c .values) p >>= number >>= λ n. value (c .values) q >>= set >>= λ m. Done (truth (memberOf m n)))
   membership-of h =
       let v = viewed x h in
       let y = become x (v .3) in
-      two (λ p q. value (c .values) p >>= number >>= λ n. value (c .values) q >>= set >>= λ m. Done (truth (memberOf m n))) (Kind.joining Membership) (v .0) (v .1) (v .2) (y .fits .known .at) (known-joined (v .0) Membership (v .1) (v .2) (y .fits .known)) (ap (expansion c) (v .3))
+      two (λ p q. value (c .values) p >>= number >>= λ n. value (c .values) q >>= set >>= λ m. Done (truth (memberOf m n))) (Kind.joining Membership) (v .0) (v .1) (v .2) (y .fits .known .at)
+      (known-joined (v .0) Membership (v .1) (v .2) (y .fits .known)) (ap (expansion c) (v .3))
 
   pub nexts-of : shapeOf (kindAt w k) ≡ aNexts → Two s st b base depth k ps W env c e (λ p q. value (c .values) p >>= number >>= λ n. expansion c q >>= λ f. Done (nexts n f))
   nexts-of h =
       let v = viewed x h in
       let y = become x (v .3) in
-      two (λ p q. value (c .values) p >>= number >>= λ n. expansion c q >>= λ f. Done (nexts n f)) Kind.nexts (v .0) (v .1) (v .2) (y .fits .known .at) (known-nexts (v .0) (v .1) (v .2) (y .fits .known)) (ap (expansion c) (v .3))
+      two (λ p q. value (c .values) p >>= number >>= λ n. expansion c q >>= λ f. Done (nexts n f)) Kind.nexts (v .0) (v .1) (v .2) (y .fits .known .at)
+      (known-nexts (v .0) (v .1) (v .2) (y .fits .known)) (ap (expansion c) (v .3))
 
   -- F[n:m], G[n:m]
   pub window-of : (o : Window) → shapeOf (kindAt w k) ≡ aWindow o → Three s st b base depth k ps W env c e (λ p q r.
@@ -159,7 +167,8 @@ module _ {s : Source} {st : State} {b : Tables} {base depth k : ℕ} {ps : List 
         expands-first = elsewhere (aside x (d .0)) (omega arith);
         expands-second = xq;
         expands-third = xr;
-        same = ap (expansion c) (v .4) ∙ ap (λ (i : ℕ). value (c .values) p >>= number >>= λ j. value (c .values) q >>= number >>= λ m. guard (leb j m) 11 i (expansion c r >>= λ f. Done (nexts j (chain (windowOperator o) (m - j) f))))
+        same = ap (expansion c) (v .4) ∙ ap (λ (i : ℕ). value (c .values) p >>= number >>= λ j. value (c .values) q >>= number >>= λ m. guard (leb j m) 11 i
+            (expansion c r >>= λ f. Done (nexts j (chain (windowOperator o) (m - j) f))))
             (sym (place-is (x .fits .lexed) (Kind.window o) t (flat p ++ (flat q ++ flat r)) (y .fits .known .at)));
         inside = omega arith;
       }

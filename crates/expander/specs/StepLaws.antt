@@ -1,80 +1,48 @@
 -- How the functions of the expansion go on from their operands' answers: constants, parentheses, operators of one and two formulas.
-use Prim.Native.Nat.{ℕ, _+_, _-_, _≤_, _<_}
+use Prim.Native.Nat.{ℕ, _+_, _-_}
 use mathlib.Core.Bool.{Bool, true, false}
-use mathlib.Core.List.{List, [], _∷_, _++_, append-assoc}
+use mathlib.Core.List.{List}
 use mathlib.Core.Path.{_≡_, refl, sym, ap, _∙_, subst}
-use native.Mathlib.Omega.{arith}
-use native.Mathlib.Decide.{decLt}
-use lib.ListN.{length-append}
-use Rattle.node.specs.Limits.{maxNodes}
 use Rattle.node.specs.Operators.{Unary, Binary}
 use Rattle.node.specs.Kinds.{unaryKind, binaryKind}
-use Rattle.node.specs.Fields.{pack}
-use Rattle.node.specs.Ltl.{Formula, One, Two}
-use Rattle.node.specs.Postorder.{size, nodesFrom}
-use Rattle.node.specs.PostorderLaws.{length-nodes}
+use Rattle.node.specs.Ltl.{One, Two}
 use Rattle.node.specs.Result.{Done, Refused, _>>=_}
 use Rattle.language.specs.Expansion as Expansion
 use Rattle.writing.specs.Writing as Writing
 use Rattle.writing.specs.Writing.{Wrote, Caps, Joins}
-use Rattle.writing.specs.WritingLaws.{ends, past, after, puts-as}
 use Rattle.operands.specs.Entries.{kindAt, sizeAt}
 use Rattle.operands.specs.Working.{Source, State}
 use Rattle.operands.specs.FitsLaws.{held-then}
 use Rattle.shapes.specs.Shapes.{aMisfit, aParen, aTruth, aUnary, aBinary, shapeOf}
 use Rattle.expander.specs.Expanding.{Tables, tables, Puts, Answered, Writes}
 use Rattle.expander.specs.Answering.{answered-done, answered-no}
-use Rattle.expander.specs.LastingLaws.{Stays, more-stays, lasting-stays}
+use Rattle.expander.specs.LastingLaws.{lasting-stays}
 use Rattle.expander.specs.ExpandLaws.{viewed, written, put}
 use Rattle.expander.specs.Operands.{paren-of, unary-of, binary-of}
 use Rattle.expander.specs.declared.Written.{Written}
 use Rattle.expander.specs.declared.Written.the-variants.{At}
+pub use Rattle.writing.specs.StayLaws.{one-stays, two-stays}
 
 -- constants
 pub same-truth : (v : Bool) → Expansion.truth v ≡ Writing.truth v
 same-truth true = refl
 same-truth false = refl
 
--- the operator is put behind its operands' nodes
-pub one-stays : (o : Unary) {f : Formula} {table out out′ : List ℕ} {at m r : ℕ} → Wrote f table out at m → Wrote (One o f) table out′ at r → Stays out out′ m r
-unfolding nodesFrom
-one-stays o v w = more-stays (pack _ _ 0 ∷ []) (v .puts) (w .puts)
-
-pub two-stays : (o : Binary) {f g : Formula} {table middle out out′ : List ℕ} {at m n r : ℕ} → Wrote f table middle at m → Wrote g middle out m n → Wrote (Two o f g) table out′ at r → Stays out out′ n r
-unfolding nodesFrom size
-two-stays o {f} {g} {table} {middle} {out} {out′} {at} {m} {n} {r} u v w =
-    let last : List ℕ = pack (binaryKind o) (at + size f - 1) (at + size f + size g - 1) ∷ [] in
-    let a = length-nodes (at + size f) g in
-    let b = length-nodes m g in
-    more-stays last (after (u .puts) (v .puts))
-    (puts-as
-    (let j = length-append (nodesFrom at f) (nodesFrom (at + size f) g ++ last) in
-    let k = length-append (nodesFrom (at + size f) g) last in
-    let x = length-append (nodesFrom at f ++ nodesFrom m g) last in
-    let y = length-append (nodesFrom at f) (nodesFrom m g) in
-    omega arith)
-    (λ h.
-    let z : m ≡ at + size f = whole h (decLt maxNodes m) in
-    sym (append-assoc (nodesFrom at f) (nodesFrom (at + size f) g) last) ∙ ap (λ (j : ℕ). (nodesFrom at f ++ nodesFrom j g) ++ last) (sym z))
-    (w .puts))
-  where
-    whole : r ≤ maxNodes → Dec (maxNodes < m) → m ≡ at + size f
-    whole h (yes l) = absurd (let e = ends w h in let p = past u l in omega arith)
-    whole h (no l) = ends u (omega arith)
-
 module _ {s : Source} {st : State} {b : Tables} {base depth k : ℕ} where
   -- no formula
   pub writes-misfit : shapeOf (kindAt (s .work) k) ≡ aMisfit → Writes s st st b (b .written) (b .table) base depth k (Written.Refused 9 0)
   writes-misfit h = record { says = λ ps W env c e x. record { says = viewed x h c } }
 
-  pub writes-truth : {v : Bool} {table′ : List ℕ} {m : ℕ} → shapeOf (kindAt (s .work) k) ≡ aTruth v → Wrote (Writing.truth v) (b .table) table′ (b .at) m → Writes s st st b (b .written) table′ base depth k (At m)
+  pub writes-truth : {v : Bool} {table′ : List ℕ} {m : ℕ} → shapeOf (kindAt (s .work) k) ≡ aTruth v → Wrote (Writing.truth v) (b .table) table′ (b .at) m
+      → Writes s st st b (b .written) table′ base depth k (At m)
   writes-truth {v} h w = record {
     says = λ ps W env c e x.
         let y = viewed x h in
         record { says = (Writing.truth v, (ap (Expansion.expansion c) (y .1) ∙ ap Done (same-truth v), put x (λ i l. refl) (x .fits .facts) w)) };
   }
 
-  pub writes-paren : {st′ : State} {written′ table′ : List ℕ} {r : Written} → shapeOf (kindAt (s .work) k) ≡ aParen → Writes s st st′ b written′ table′ base depth (k - 1) r → Writes s st st′ b written′ table′ base depth k r
+  pub writes-paren : {st′ : State} {written′ table′ : List ℕ} {r : Written} → shapeOf (kindAt (s .work) k) ≡ aParen → Writes s st st′ b written′ table′ base depth (k - 1) r
+      → Writes s st st′ b written′ table′ base depth k r
   writes-paren {st′} {written′} {table′} {r} h a = record {
     says = λ ps W env c e x.
         let o = paren-of x h in
@@ -83,7 +51,8 @@ module _ {s : Source} {st : State} {b : Tables} {base depth k : ℕ} where
 
   module _ {st′ : State} {written′ table′ : List ℕ} {y : Written} where
     -- an operator over one formula
-    pub unary-no : {n p : ℕ} (o : Unary) → shapeOf (kindAt (s .work) k) ≡ aUnary o → Writes s st st′ b written′ table′ base depth (k - 1) y → y ≡ Written.Refused n p → Writes s st st′ b written′ table′ base depth k y
+    pub unary-no : {n p : ℕ} (o : Unary) → shapeOf (kindAt (s .work) k) ≡ aUnary o → Writes s st st′ b written′ table′ base depth (k - 1) y → y ≡ Written.Refused n p
+        → Writes s st st′ b written′ table′ base depth k y
     unfolding _>>=_
     unary-no o h a q = subst (Writes s st st′ b written′ table′ base depth k) (sym q) (record {
       says = λ ps W env c e x.
@@ -91,7 +60,8 @@ module _ {s : Source} {st : State} {b : Tables} {base depth k : ℕ} where
           record { says = u .same ∙ ap (λ v. v >>= λ f. Done (One o f)) (answered-no (a .says ps W env c (u .operand) (u .expands)) q) };
     })
 
-    pub unary-done : {op m r : ℕ} {table″ : List ℕ} (o : Unary) → shapeOf (kindAt (s .work) k) ≡ aUnary o → op ≡ unaryKind o → Writes s st st′ b written′ table′ base depth (k - 1) y → y ≡ At m → Caps op table′ table″ m r
+    pub unary-done : {op m r : ℕ} {table″ : List ℕ} (o : Unary) → shapeOf (kindAt (s .work) k) ≡ aUnary o → op ≡ unaryKind o → Writes s st st′ b written′ table′ base depth (k - 1) y → y ≡ At m
+        → Caps op table′ table″ m r
         → Writes s st st′ b written′ table″ base depth k (At r)
     unfolding _>>=_
     unary-done o h d a q t = record {
@@ -100,7 +70,16 @@ module _ {s : Source} {st : State} {b : Tables} {base depth k : ℕ} where
           let g = answered-done (a .says ps W env c (u .operand) (u .expands)) q in
           let p = g .1 .1 in
           let w = t o d (b .at) .wrote (p .wrote) in
-          record { says = (One o (g .0), (u .same ∙ ap (λ v. v >>= λ f. Done (One o f)) (g .1 .0), record { wrote = w; held = p .held; noted = p .noted; lasting = lasting-stays (one-stays o (p .wrote) w) (p .lasting) })) };
+          record {
+            says = (
+              One o (g .0),
+              (
+                u .same ∙ ap (λ v. v >>= λ f. Done (One o f)) (g .1 .0),
+                record
+                    { wrote = w; held = p .held; noted = p .noted; lasting = lasting-stays (one-stays o (p .wrote) w) (p .lasting) },
+              ),
+            );
+          };
     }
 
     -- over two
@@ -114,7 +93,8 @@ module _ {s : Source} {st : State} {b : Tables} {base depth k : ℕ} where
     })
 
     module _ {st″ : State} {written″ table″ : List ℕ} {m : ℕ} {z : Written} (o : Binary) (h : shapeOf (kindAt (s .work) k) ≡ aBinary o)
-        (a : Writes s st st′ b written′ table′ base depth (k - 1 - sizeAt (s .work) (k - 1)) y) (q : y ≡ At m) (d : Writes s st′ st″ (tables (b .firsts) written′ table′ m) written″ table″ base depth (k - 1) z) where
+        (a : Writes s st st′ b written′ table′ base depth (k - 1 - sizeAt (s .work) (k - 1)) y) (q : y ≡ At m)
+        (d : Writes s st′ st″ (tables (b .firsts) written′ table′ m) written″ table″ base depth (k - 1) z) where
       pub binary-right : {n p : ℕ} → z ≡ Written.Refused n p → Writes s st st″ b written″ table″ base depth k z
       unfolding _>>=_
       binary-right r = subst (Writes s st st″ b written″ table″ base depth k) (sym r) (record {

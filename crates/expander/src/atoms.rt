@@ -1,4 +1,9 @@
 // Formulas without operands that are formulas: a bus's bit, a comparison, a membership.
+use entries::kinds;
+use language::limits;
+use node::MAX_NODES;
+use node::refusals;
+use values::sorts;
 ghost use mathlib.Core.Path.{_≡_};
 ghost use Prim.Native.Nat.{_≤_, _<_};
 ghost use lib.ListN.{length};
@@ -9,9 +14,6 @@ ghost use Rattle.operands.specs.Working.{source, state, Ready};
 ghost use Rattle.expander.specs.Expanding.{tables, Prepared, Writes};
 ghost use Rattle.shapes.specs.Prefixes.{Operand};
 ghost use Rattle.expander.specs.Buses.{reachedOf, unreachedOf, BusAt};
-use crate::MISFIT;
-use crate::NOT_VISIBLE;
-use crate::WRONG_WIDTH;
 use crate::Written;
 use crate::comparisons::comparing;
 use crate::handed;
@@ -26,26 +28,6 @@ use operands::entry::size_at;
 use sets::Worked;
 use sets::listed::contains;
 use writing::constant;
-
-// The kinds of entries, and the first ones of groups (crate entries, specs/Kinds).
-const TRUTHS: u32 = 2;
-
-const TRUE: u32 = 3;
-
-const INDEX: u32 = 4;
-
-const COMPARISONS: u32 = 22;
-
-const MEMBERSHIP: u32 = 28;
-
-// The sorts of names (crate values, specs/Sorts).
-const A_BODY: u8 = 1;
-
-const A_BUS: u8 = 2;
-
-const NOTHING: u8 = 6;
-
-const MAX_NAMES: usize = 256;
 
 // A bus that is sized, with the place of its name, the name's number and its width; or a refusal.
 pub enum Reached {
@@ -65,24 +47,27 @@ pub fn atom_at(
     firsts: &[u32],
     written: &mut [u32],
     out: &mut [u32],
-    table: &mut [u32; 8192],
+    table: &mut [u32; MAX_NODES],
     base: usize,
     depth: usize,
     k: usize,
     at: usize,
 ) -> Written
-    requires { ⌜ Prepared (source (now text) (now work) (now refs)) (state (now sorts) (now numbers) (now kept) (now slots)) (tables (now firsts) (now written) (now table) at) (now out) base depth k ⌝ }
+    requires { ⌜ Prepared (source (now text) (now work) (now refs)) (state (now sorts) (now numbers) (now kept) (now slots)) (tables (now firsts) (now written) (now table) at) (now out) base depth k
+        ⌝ }
     requires { ⌜ (kindAt (now work) k ≡ 0 → ⊥) × ((kindAt (now work) k < 29) × Operand (kindAt (now work) k)) ⌝ }
-    ensures { λ r. ⌜ Writes (source (now (text .entry)) (now (work .entry)) (now (refs .entry))) (state (now (sorts .entry)) (now (numbers .entry)) (now (kept .entry)) (now (slots .entry))) (state (now (sorts .exit)) (now (numbers .exit)) (now (kept .exit)) (now (slots .exit))) (tables (now (firsts .entry)) (now (written .entry)) (now (table .entry)) at) (now (written .exit)) (now (table .exit)) base depth k r ⌝ }
+    ensures { λ r. ⌜ Writes (source (now (text .entry)) (now (work .entry)) (now (refs .entry))) (state (now (sorts .entry)) (now (numbers .entry)) (now (kept .entry)) (now (slots .entry)))
+        (state (now (sorts .exit)) (now (numbers .exit)) (now (kept .exit)) (now (slots .exit))) (tables (now (firsts .entry)) (now (written .entry)) (now (table .entry)) at) (now (written .exit))
+        (now (table .exit)) base depth k r ⌝ }
 {
     let kind = kind_at(work, k);
-    if kind < TRUTHS {
-        return Written::Refused(MISFIT, 0);
+    if kind < kinds::TRUTHS {
+        return Written::Refused(refusals::WRONG_TYPE, 0);
     }
-    if kind < INDEX {
-        return Written::At(constant(kind == TRUE, table, at));
+    if kind < kinds::INDEX {
+        return Written::At(constant(kind == kinds::TRUE, table, at));
     }
-    if kind == INDEX {
+    if kind == kinds::INDEX {
         return indexed(
             text,
             work,
@@ -101,10 +86,10 @@ pub fn atom_at(
             at,
         );
     }
-    if kind < COMPARISONS {
-        return Written::Refused(MISFIT, 0);
+    if kind < kinds::COMPARISONS {
+        return Written::Refused(refusals::WRONG_TYPE, 0);
     }
-    if kind < MEMBERSHIP {
+    if kind < kinds::MEMBERSHIP {
         return compared(
             text,
             work,
@@ -154,15 +139,18 @@ fn compared(
     firsts: &[u32],
     written: &mut [u32],
     out: &mut [u32],
-    table: &mut [u32; 8192],
+    table: &mut [u32; MAX_NODES],
     base: usize,
     depth: usize,
     k: usize,
     at: usize,
 ) -> Written
-    requires { ⌜ Prepared (source (now text) (now work) (now refs)) (state (now sorts) (now numbers) (now kept) (now slots)) (tables (now firsts) (now written) (now table) at) (now out) base depth k ⌝ }
+    requires { ⌜ Prepared (source (now text) (now work) (now refs)) (state (now sorts) (now numbers) (now kept) (now slots)) (tables (now firsts) (now written) (now table) at) (now out) base depth k
+        ⌝ }
     requires { ⌜ (22 ≤ kindAt (now work) k) × (kindAt (now work) k < 28) ⌝ }
-    ensures { λ r. ⌜ Writes (source (now (text .entry)) (now (work .entry)) (now (refs .entry))) (state (now (sorts .entry)) (now (numbers .entry)) (now (kept .entry)) (now (slots .entry))) (state (now (sorts .exit)) (now (numbers .exit)) (now (kept .exit)) (now (slots .exit))) (tables (now (firsts .entry)) (now (written .entry)) (now (table .entry)) at) (now (written .exit)) (now (table .exit)) base depth k r ⌝ }
+    ensures { λ r. ⌜ Writes (source (now (text .entry)) (now (work .entry)) (now (refs .entry))) (state (now (sorts .entry)) (now (numbers .entry)) (now (kept .entry)) (now (slots .entry)))
+        (state (now (sorts .exit)) (now (numbers .exit)) (now (kept .exit)) (now (slots .exit))) (tables (now (firsts .entry)) (now (written .entry)) (now (table .entry)) at) (now (written .exit))
+        (now (table .exit)) base depth k r ⌝ }
 {
     let left = k - 1 - size_at(work, k - 1);
     let x = value_at(
@@ -195,7 +183,7 @@ fn compared(
         text,
         work,
         firsts,
-        kind_at(work, k) - COMPARISONS,
+        kind_at(work, k) - kinds::COMPARISONS,
         x,
         y,
         table,
@@ -215,15 +203,18 @@ fn member(
     firsts: &[u32],
     written: &mut [u32],
     out: &mut [u32],
-    table: &mut [u32; 8192],
+    table: &mut [u32; MAX_NODES],
     base: usize,
     depth: usize,
     k: usize,
     at: usize,
 ) -> Written
-    requires { ⌜ Prepared (source (now text) (now work) (now refs)) (state (now sorts) (now numbers) (now kept) (now slots)) (tables (now firsts) (now written) (now table) at) (now out) base depth k ⌝ }
+    requires { ⌜ Prepared (source (now text) (now work) (now refs)) (state (now sorts) (now numbers) (now kept) (now slots)) (tables (now firsts) (now written) (now table) at) (now out) base depth k
+        ⌝ }
     requires { ⌜ kindAt (now work) k ≡ 28 ⌝ }
-    ensures { λ r. ⌜ Writes (source (now (text .entry)) (now (work .entry)) (now (refs .entry))) (state (now (sorts .entry)) (now (numbers .entry)) (now (kept .entry)) (now (slots .entry))) (state (now (sorts .exit)) (now (numbers .exit)) (now (kept .exit)) (now (slots .exit))) (tables (now (firsts .entry)) (now (written .entry)) (now (table .entry)) at) (now (written .exit)) (now (table .exit)) base depth k r ⌝ }
+    ensures { λ r. ⌜ Writes (source (now (text .entry)) (now (work .entry)) (now (refs .entry))) (state (now (sorts .entry)) (now (numbers .entry)) (now (kept .entry)) (now (slots .entry)))
+        (state (now (sorts .exit)) (now (numbers .exit)) (now (kept .exit)) (now (slots .exit))) (tables (now (firsts .entry)) (now (written .entry)) (now (table .entry)) at) (now (written .exit))
+        (now (table .exit)) base depth k r ⌝ }
 {
     let left = k - 1 - size_at(work, k - 1);
     let x = number_at(
@@ -273,15 +264,18 @@ fn indexed(
     firsts: &[u32],
     written: &mut [u32],
     out: &mut [u32],
-    table: &mut [u32; 8192],
+    table: &mut [u32; MAX_NODES],
     base: usize,
     depth: usize,
     k: usize,
     at: usize,
 ) -> Written
-    requires { ⌜ Prepared (source (now text) (now work) (now refs)) (state (now sorts) (now numbers) (now kept) (now slots)) (tables (now firsts) (now written) (now table) at) (now out) base depth k ⌝ }
+    requires { ⌜ Prepared (source (now text) (now work) (now refs)) (state (now sorts) (now numbers) (now kept) (now slots)) (tables (now firsts) (now written) (now table) at) (now out) base depth k
+        ⌝ }
     requires { ⌜ kindAt (now work) k ≡ 4 ⌝ }
-    ensures { λ r. ⌜ Writes (source (now (text .entry)) (now (work .entry)) (now (refs .entry))) (state (now (sorts .entry)) (now (numbers .entry)) (now (kept .entry)) (now (slots .entry))) (state (now (sorts .exit)) (now (numbers .exit)) (now (kept .exit)) (now (slots .exit))) (tables (now (firsts .entry)) (now (written .entry)) (now (table .entry)) at) (now (written .exit)) (now (table .exit)) base depth k r ⌝ }
+    ensures { λ r. ⌜ Writes (source (now (text .entry)) (now (work .entry)) (now (refs .entry))) (state (now (sorts .entry)) (now (numbers .entry)) (now (kept .entry)) (now (slots .entry)))
+        (state (now (sorts .exit)) (now (numbers .exit)) (now (kept .exit)) (now (slots .exit))) (tables (now (firsts .entry)) (now (written .entry)) (now (table .entry)) at) (now (written .exit))
+        (now (table .exit)) base depth k r ⌝ }
 {
     let x = number_at(
         text,
@@ -316,7 +310,7 @@ fn indexed(
         return unreached(y);
     };
     if width <= i {
-        return Written::Refused(WRONG_WIDTH, place);
+        return Written::Refused(refusals::WRONG_WIDTH, place);
     }
     Written::At(signal_at(firsts, name, i, table, at))
 }
@@ -326,7 +320,7 @@ fn unreached(x: Reached) -> Written
     ensures { λ r. ⌜ r ≡ unreachedOf x ⌝ }
 {
     match x {
-        Reached::Bus(_, _, _) => Written::Refused(MISFIT, 0),
+        Reached::Bus(_, _, _) => Written::Refused(refusals::WRONG_TYPE, 0),
         Reached::Refused(n, p) => Written::Refused(n, p),
     }
 }
@@ -336,12 +330,12 @@ fn as_bus(w: Worth) -> Reached
     ensures { λ r. ⌜ r ≡ reachedOf w ⌝ }
 {
     match w {
-        Worth::Number(_) => Reached::Refused(MISFIT, 0),
-        Worth::Set(_) => Reached::Refused(MISFIT, 0),
-        Worth::Formula => Reached::Refused(MISFIT, 0),
+        Worth::Number(_) => Reached::Refused(refusals::WRONG_TYPE, 0),
+        Worth::Set(_) => Reached::Refused(refusals::WRONG_TYPE, 0),
+        Worth::Formula => Reached::Refused(refusals::WRONG_TYPE, 0),
         Worth::Bus(p, b, n) => Reached::Bus(p, b, n),
-        Worth::Unsized(p) => Reached::Refused(WRONG_WIDTH, p),
-        Worth::Identifier(_, _) => Reached::Refused(MISFIT, 0),
+        Worth::Unsized(p) => Reached::Refused(refusals::WRONG_WIDTH, p),
+        Worth::Identifier(_, _) => Reached::Refused(refusals::WRONG_TYPE, 0),
         Worth::Refused(n, p) => Reached::Refused(n, p),
     }
 }
@@ -363,15 +357,16 @@ fn bus_at(
     requires { ⌜ Ready (source (now text) (now work) (now refs)) (state (now sorts) (now numbers) (now kept) (now slots)) base depth false k ⌝ }
     requires { ⌜ maxElements < length (now out) ⌝ }
     requires { ⌜ kindAt (now work) k ≡ 4 ⌝ }
-    ensures { λ r. ⌜ BusAt (source (now (text .entry)) (now (work .entry)) (now (refs .entry))) (state (now (sorts .entry)) (now (numbers .entry)) (now (kept .entry)) (now (slots .entry))) (state (now (sorts .exit)) (now (numbers .exit)) (now (kept .exit)) (now (slots .exit))) base depth k r ⌝ }
+    ensures { λ r. ⌜ BusAt (source (now (text .entry)) (now (work .entry)) (now (refs .entry))) (state (now (sorts .entry)) (now (numbers .entry)) (now (kept .entry)) (now (slots .entry)))
+        (state (now (sorts .exit)) (now (numbers .exit)) (now (kept .exit)) (now (slots .exit))) base depth k r ⌝ }
 {
     let r = refs[k] as usize;
-    if r >= MAX_NAMES {
-        return Reached::Refused(MISFIT, 0);
+    if r >= limits::MAX_NAMES {
+        return Reached::Refused(refusals::WRONG_TYPE, 0);
     }
     let sort = sorts[r];
     let n = numbers[r];
-    if sort == A_BODY {
+    if sort == sorts::BODY {
         return as_bus(value_at(
             text,
             work,
@@ -386,14 +381,14 @@ fn bus_at(
             out,
         ));
     }
-    if sort == A_BUS {
+    if sort == sorts::BUS {
         if n == 0 {
-            return Reached::Refused(WRONG_WIDTH, place_at(work, k));
+            return Reached::Refused(refusals::WRONG_WIDTH, place_at(work, k));
         }
         return Reached::Bus(place_at(work, k), r, n);
     }
-    if sort == NOTHING {
-        return Reached::Refused(NOT_VISIBLE, 0);
+    if sort == sorts::NOTHING {
+        return Reached::Refused(refusals::NOT_VISIBLE, 0);
     }
-    Reached::Refused(MISFIT, 0)
+    Reached::Refused(refusals::WRONG_TYPE, 0)
 }

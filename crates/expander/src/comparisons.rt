@@ -1,11 +1,9 @@
 // A comparison of two values: of numbers, or of a bus and an identifier in either order.
+use node::MAX_NODES;
+use node::refusals;
 ghost use mathlib.Core.Path.{_≡_};
-ghost use Prim.Native.Nat.{_≤_, _<_};
-ghost use lib.ListN.{length};
 ghost use Rattle.operands.specs.declared.Worth.{Worth};
 ghost use Rattle.expander.specs.Comparing.{Against, Againsts, Comparable, Comparing, WithNumber, otherwise};
-use crate::MISFIT;
-use crate::WRONG_WIDTH;
 use crate::Written;
 use choices::one_of;
 use choices::widths_are;
@@ -31,14 +29,14 @@ fn against(
     b: usize,
     width: u32,
     entry: usize,
-    table: &mut [u32; 8192],
+    table: &mut [u32; MAX_NODES],
     at: usize,
 ) -> Written
     requires { ⌜ Against (now work) (now firsts) b entry at ⌝ }
     ensures { λ r. ⌜ Againsts (now (text .entry)) (now (work .entry)) (now (firsts .entry)) operator place b width entry (now (table .entry)) (now (table .exit)) at r ⌝ }
 {
     if UNEQUAL < operator {
-        return Written::Refused(MISFIT, 0);
+        return Written::Refused(refusals::WRONG_TYPE, 0);
     }
     let end = words_end(work, entry);
     if widths_are(work, entry + 1, end, width) {
@@ -48,20 +46,20 @@ fn against(
         }
         return Written::At(cap(Node::NOT, m, table));
     }
-    Written::Refused(WRONG_WIDTH, place)
+    Written::Refused(refusals::WRONG_WIDTH, place)
 }
 
 // A number and the right value y.
-fn with_number(operator: u32, a: u32, y: Worth, table: &mut [u32; 8192], at: usize) -> Written
+fn with_number(operator: u32, a: u32, y: Worth, table: &mut [u32; MAX_NODES], at: usize) -> Written
     ensures { λ r. ⌜ WithNumber operator a y (now (table .entry)) (now (table .exit)) at r ⌝ }
 {
     match y {
         Worth::Number(b) => Written::At(constant(compare(operator, a, b), table, at)),
-        Worth::Set(_) => Written::Refused(MISFIT, 0),
-        Worth::Formula => Written::Refused(MISFIT, 0),
-        Worth::Bus(_, _, _) => Written::Refused(MISFIT, 0),
-        Worth::Unsized(_) => Written::Refused(MISFIT, 0),
-        Worth::Identifier(_, _) => Written::Refused(MISFIT, 0),
+        Worth::Set(_) => Written::Refused(refusals::WRONG_TYPE, 0),
+        Worth::Formula => Written::Refused(refusals::WRONG_TYPE, 0),
+        Worth::Bus(_, _, _) => Written::Refused(refusals::WRONG_TYPE, 0),
+        Worth::Unsized(_) => Written::Refused(refusals::WRONG_TYPE, 0),
+        Worth::Identifier(_, _) => Written::Refused(refusals::WRONG_TYPE, 0),
         Worth::Refused(n, p) => Written::Refused(n, p),
     }
 }
@@ -76,18 +74,18 @@ fn with_bus(
     b: usize,
     width: u32,
     y: Worth,
-    table: &mut [u32; 8192],
+    table: &mut [u32; MAX_NODES],
     at: usize,
 ) -> Written
     requires { ⌜ Comparable (now text) (now work) (now firsts) (Worth.Bus place b width) y at ⌝ }
     ensures { λ r. ⌜ Comparing (now (text .entry)) (now (work .entry)) (now (firsts .entry)) operator (Worth.Bus place b width) y (now (table .entry)) (now (table .exit)) at r ⌝ }
 {
     match y {
-        Worth::Number(_) => Written::Refused(MISFIT, 0),
-        Worth::Set(_) => Written::Refused(MISFIT, 0),
-        Worth::Formula => Written::Refused(MISFIT, 0),
-        Worth::Bus(_, _, _) => Written::Refused(MISFIT, 0),
-        Worth::Unsized(_) => Written::Refused(MISFIT, 0),
+        Worth::Number(_) => Written::Refused(refusals::WRONG_TYPE, 0),
+        Worth::Set(_) => Written::Refused(refusals::WRONG_TYPE, 0),
+        Worth::Formula => Written::Refused(refusals::WRONG_TYPE, 0),
+        Worth::Bus(_, _, _) => Written::Refused(refusals::WRONG_TYPE, 0),
+        Worth::Unsized(_) => Written::Refused(refusals::WRONG_TYPE, 0),
         Worth::Identifier(_, entry) => against(
             text,
             work,
@@ -113,16 +111,16 @@ fn with_identifier(
     i: usize,
     entry: usize,
     y: Worth,
-    table: &mut [u32; 8192],
+    table: &mut [u32; MAX_NODES],
     at: usize,
 ) -> Written
     requires { ⌜ Comparable (now text) (now work) (now firsts) (Worth.Identifier i entry) y at ⌝ }
     ensures { λ r. ⌜ Comparing (now (text .entry)) (now (work .entry)) (now (firsts .entry)) operator (Worth.Identifier i entry) y (now (table .entry)) (now (table .exit)) at r ⌝ }
 {
     match y {
-        Worth::Number(_) => Written::Refused(MISFIT, 0),
-        Worth::Set(_) => Written::Refused(MISFIT, 0),
-        Worth::Formula => Written::Refused(MISFIT, 0),
+        Worth::Number(_) => Written::Refused(refusals::WRONG_TYPE, 0),
+        Worth::Set(_) => Written::Refused(refusals::WRONG_TYPE, 0),
+        Worth::Formula => Written::Refused(refusals::WRONG_TYPE, 0),
         Worth::Bus(place, b, width) => against(
             text,
             work,
@@ -135,8 +133,8 @@ fn with_identifier(
             table,
             at,
         ),
-        Worth::Unsized(p) => Written::Refused(WRONG_WIDTH, p),
-        Worth::Identifier(_, _) => Written::Refused(MISFIT, 0),
+        Worth::Unsized(p) => Written::Refused(refusals::WRONG_WIDTH, p),
+        Worth::Identifier(_, _) => Written::Refused(refusals::WRONG_TYPE, 0),
         Worth::Refused(n, p) => Written::Refused(n, p),
     }
 }
@@ -164,7 +162,7 @@ pub fn comparing(
     operator: u32,
     x: Worth,
     y: Worth,
-    table: &mut [u32; 8192],
+    table: &mut [u32; MAX_NODES],
     at: usize,
 ) -> Written
     requires { ⌜ Comparable (now text) (now work) (now firsts) x y at ⌝ }
@@ -172,10 +170,10 @@ pub fn comparing(
 {
     match x {
         Worth::Number(a) => with_number(operator, a, y, table, at),
-        Worth::Set(_) => with_nothing(y, MISFIT, 0),
-        Worth::Formula => with_nothing(y, MISFIT, 0),
+        Worth::Set(_) => with_nothing(y, refusals::WRONG_TYPE, 0),
+        Worth::Formula => with_nothing(y, refusals::WRONG_TYPE, 0),
         Worth::Bus(p, b, n) => with_bus(text, work, firsts, operator, p, b, n, y, table, at),
-        Worth::Unsized(p) => with_nothing(y, WRONG_WIDTH, p),
+        Worth::Unsized(p) => with_nothing(y, refusals::WRONG_WIDTH, p),
         Worth::Identifier(i, entry) => with_identifier(
             text,
             work,

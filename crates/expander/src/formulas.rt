@@ -1,4 +1,9 @@
 // The nodes of a stored expression's formula, clause by clause as the language's `expansion` has it: left operand first.
+use entries::kinds;
+use language::limits;
+use node::MAX_NODES;
+use node::refusals;
+use values::sorts;
 ghost use mathlib.Core.Path.{_≡_};
 ghost use Prim.Native.Nat.{_≤_, _<_};
 ghost use lib.ListN.{take};
@@ -9,9 +14,6 @@ ghost use Rattle.expander.specs.Expanding.{tables, Prepared, Writes};
 ghost use Rattle.expander.specs.Naming.{Defined};
 ghost use Rattle.shapes.specs.Prefixes.{Operand};
 ghost use Rattle.expander.specs.Folding.{Elements, Gathered};
-use crate::MISFIT;
-use crate::NOT_VISIBLE;
-use crate::OUT_OF_RANGE;
 use crate::Written;
 use crate::atoms::atom_at;
 use crate::handed;
@@ -35,29 +37,6 @@ use writing::join;
 use writing::nexts;
 use writing::window::window;
 
-// The kinds of entries, and the first ones of groups (crate entries, specs/Kinds).
-const NAMED: u32 = 0;
-
-const CONNECTIVES: u32 = 29;
-
-const NEXTS: u32 = 36;
-
-const BIGS: u32 = 39;
-
-const BIG_AND: u32 = 43;
-
-const BINDERS: u32 = 45;
-
-// The sorts of names (crate values, specs/Sorts).
-const A_BODY: u8 = 1;
-
-const A_SIGNAL: u8 = 3;
-
-const NOTHING: u8 = 6;
-
-// '256 declared names': the references from here on are those of big operators' names.
-const MAX_NAMES: usize = 256;
-
 // The nodes of the expansion of the expression at entry k, from `at` on, under `depth` big operators' names, whose elements stand in the slots from `base` on.
 // What a level takes of the stack, as compiled: the compiler takes all of this module into `formula_at` but `each`, which holds an array. A level of an operator between formulas (2 tokens),
 // of X[n] (4), of F[n:m] (6) or of a definition's use (4) takes 852 bytes; a name of a big operator (4 and more) 1,524 more for `each`; prefix operators and parentheses none. That is
@@ -73,14 +52,17 @@ pub fn formula_at(
     firsts: &[u32],
     written: &mut [u32],
     out: &mut [u32],
-    table: &mut [u32; 8192],
+    table: &mut [u32; MAX_NODES],
     base: usize,
     depth: usize,
     k: usize,
     at: usize,
 ) -> Written
-    requires { ⌜ Prepared (source (now text) (now work) (now refs)) (state (now sorts) (now numbers) (now kept) (now slots)) (tables (now firsts) (now written) (now table) at) (now out) base depth k ⌝ }
-    ensures { λ r. ⌜ Writes (source (now (text .entry)) (now (work .entry)) (now (refs .entry))) (state (now (sorts .entry)) (now (numbers .entry)) (now (kept .entry)) (now (slots .entry))) (state (now (sorts .exit)) (now (numbers .exit)) (now (kept .exit)) (now (slots .exit))) (tables (now (firsts .entry)) (now (written .entry)) (now (table .entry)) at) (now (written .exit)) (now (table .exit)) base depth k r ⌝ }
+    requires { ⌜ Prepared (source (now text) (now work) (now refs)) (state (now sorts) (now numbers) (now kept) (now slots)) (tables (now firsts) (now written) (now table) at) (now out) base depth k
+        ⌝ }
+    ensures { λ r. ⌜ Writes (source (now (text .entry)) (now (work .entry)) (now (refs .entry))) (state (now (sorts .entry)) (now (numbers .entry)) (now (kept .entry)) (now (slots .entry)))
+        (state (now (sorts .exit)) (now (numbers .exit)) (now (kept .exit)) (now (slots .exit))) (tables (now (firsts .entry)) (now (written .entry)) (now (table .entry)) at) (now (written .exit))
+        (now (table .exit)) base depth k r ⌝ }
 {
     let low = below(work, k);
     let x = operand_at(
@@ -118,18 +100,21 @@ fn operand_at(
     firsts: &[u32],
     written: &mut [u32],
     out: &mut [u32],
-    table: &mut [u32; 8192],
+    table: &mut [u32; MAX_NODES],
     base: usize,
     depth: usize,
     k: usize,
     at: usize,
 ) -> Written
-    requires { ⌜ Prepared (source (now text) (now work) (now refs)) (state (now sorts) (now numbers) (now kept) (now slots)) (tables (now firsts) (now written) (now table) at) (now out) base depth k ⌝ }
+    requires { ⌜ Prepared (source (now text) (now work) (now refs)) (state (now sorts) (now numbers) (now kept) (now slots)) (tables (now firsts) (now written) (now table) at) (now out) base depth k
+        ⌝ }
     requires { ⌜ Operand (kindAt (now work) k) ⌝ }
-    ensures { λ r. ⌜ Writes (source (now (text .entry)) (now (work .entry)) (now (refs .entry))) (state (now (sorts .entry)) (now (numbers .entry)) (now (kept .entry)) (now (slots .entry))) (state (now (sorts .exit)) (now (numbers .exit)) (now (kept .exit)) (now (slots .exit))) (tables (now (firsts .entry)) (now (written .entry)) (now (table .entry)) at) (now (written .exit)) (now (table .exit)) base depth k r ⌝ }
+    ensures { λ r. ⌜ Writes (source (now (text .entry)) (now (work .entry)) (now (refs .entry))) (state (now (sorts .entry)) (now (numbers .entry)) (now (kept .entry)) (now (slots .entry)))
+        (state (now (sorts .exit)) (now (numbers .exit)) (now (kept .exit)) (now (slots .exit))) (tables (now (firsts .entry)) (now (written .entry)) (now (table .entry)) at) (now (written .exit))
+        (now (table .exit)) base depth k r ⌝ }
 {
     let kind = kind_at(work, k);
-    if kind == NAMED {
+    if kind == kinds::NAMED {
         return named(
             text,
             work,
@@ -148,7 +133,7 @@ fn operand_at(
             at,
         );
     }
-    if kind < CONNECTIVES {
+    if kind < kinds::CONNECTIVES {
         return atom_at(
             text,
             work,
@@ -167,7 +152,7 @@ fn operand_at(
             at,
         );
     }
-    if kind < NEXTS {
+    if kind < kinds::NEXTS {
         return binary(
             text,
             work,
@@ -186,7 +171,7 @@ fn operand_at(
             at,
         );
     }
-    if kind == NEXTS {
+    if kind == kinds::NEXTS {
         return repeated(
             text,
             work,
@@ -205,7 +190,7 @@ fn operand_at(
             at,
         );
     }
-    if kind < BIGS {
+    if kind < kinds::BIGS {
         return between(
             text,
             work,
@@ -224,7 +209,7 @@ fn operand_at(
             at,
         );
     }
-    if kind < BINDERS {
+    if kind < kinds::BINDERS {
         return each(
             text,
             work,
@@ -243,7 +228,7 @@ fn operand_at(
             at,
         );
     }
-    Written::Refused(MISFIT, 0)
+    Written::Refused(refusals::WRONG_TYPE, 0)
 }
 
 // A name: a single signal or a definition.
@@ -258,22 +243,25 @@ fn named(
     firsts: &[u32],
     written: &mut [u32],
     out: &mut [u32],
-    table: &mut [u32; 8192],
+    table: &mut [u32; MAX_NODES],
     base: usize,
     depth: usize,
     k: usize,
     at: usize,
 ) -> Written
-    requires { ⌜ Prepared (source (now text) (now work) (now refs)) (state (now sorts) (now numbers) (now kept) (now slots)) (tables (now firsts) (now written) (now table) at) (now out) base depth k ⌝ }
+    requires { ⌜ Prepared (source (now text) (now work) (now refs)) (state (now sorts) (now numbers) (now kept) (now slots)) (tables (now firsts) (now written) (now table) at) (now out) base depth k
+        ⌝ }
     requires { ⌜ shapeOf (kindAt (now work) k) ≡ aName ⌝ }
-    ensures { λ r. ⌜ Writes (source (now (text .entry)) (now (work .entry)) (now (refs .entry))) (state (now (sorts .entry)) (now (numbers .entry)) (now (kept .entry)) (now (slots .entry))) (state (now (sorts .exit)) (now (numbers .exit)) (now (kept .exit)) (now (slots .exit))) (tables (now (firsts .entry)) (now (written .entry)) (now (table .entry)) at) (now (written .exit)) (now (table .exit)) base depth k r ⌝ }
+    ensures { λ r. ⌜ Writes (source (now (text .entry)) (now (work .entry)) (now (refs .entry))) (state (now (sorts .entry)) (now (numbers .entry)) (now (kept .entry)) (now (slots .entry)))
+        (state (now (sorts .exit)) (now (numbers .exit)) (now (kept .exit)) (now (slots .exit))) (tables (now (firsts .entry)) (now (written .entry)) (now (table .entry)) at) (now (written .exit))
+        (now (table .exit)) base depth k r ⌝ }
 {
     let r = refs[k] as usize;
-    if r >= MAX_NAMES {
-        return Written::Refused(MISFIT, 0);
+    if r >= limits::MAX_NAMES {
+        return Written::Refused(refusals::WRONG_TYPE, 0);
     }
     let sort = sorts[r];
-    if sort == A_BODY {
+    if sort == sorts::BODY {
         return defined(
             text,
             work,
@@ -292,13 +280,13 @@ fn named(
             at,
         );
     }
-    if sort == A_SIGNAL {
+    if sort == sorts::SIGNAL {
         return Written::At(signal_at(firsts, r, 0, table, at));
     }
-    if sort == NOTHING {
-        return Written::Refused(NOT_VISIBLE, 0);
+    if sort == sorts::NOTHING {
+        return Written::Refused(refusals::NOT_VISIBLE, 0);
     }
-    Written::Refused(MISFIT, 0)
+    Written::Refused(refusals::WRONG_TYPE, 0)
 }
 
 // A definition: its nodes again where they stand already, else its body's, behind the slots in use.
@@ -313,15 +301,18 @@ fn defined(
     firsts: &[u32],
     written: &mut [u32],
     out: &mut [u32],
-    table: &mut [u32; 8192],
+    table: &mut [u32; MAX_NODES],
     base: usize,
     depth: usize,
     k: usize,
     at: usize,
 ) -> Written
-    requires { ⌜ Prepared (source (now text) (now work) (now refs)) (state (now sorts) (now numbers) (now kept) (now slots)) (tables (now firsts) (now written) (now table) at) (now out) base depth k ⌝ }
+    requires { ⌜ Prepared (source (now text) (now work) (now refs)) (state (now sorts) (now numbers) (now kept) (now slots)) (tables (now firsts) (now written) (now table) at) (now out) base depth k
+        ⌝ }
     requires { ⌜ Defined (now work) (now refs) (now sorts) k ⌝ }
-    ensures { λ r. ⌜ Writes (source (now (text .entry)) (now (work .entry)) (now (refs .entry))) (state (now (sorts .entry)) (now (numbers .entry)) (now (kept .entry)) (now (slots .entry))) (state (now (sorts .exit)) (now (numbers .exit)) (now (kept .exit)) (now (slots .exit))) (tables (now (firsts .entry)) (now (written .entry)) (now (table .entry)) at) (now (written .exit)) (now (table .exit)) base depth k r ⌝ }
+    ensures { λ r. ⌜ Writes (source (now (text .entry)) (now (work .entry)) (now (refs .entry))) (state (now (sorts .entry)) (now (numbers .entry)) (now (kept .entry)) (now (slots .entry)))
+        (state (now (sorts .exit)) (now (numbers .exit)) (now (kept .exit)) (now (slots .exit))) (tables (now (firsts .entry)) (now (written .entry)) (now (table .entry)) at) (now (written .exit))
+        (now (table .exit)) base depth k r ⌝ }
 {
     let r = refs[k] as usize;
     let v = written[r];
@@ -364,15 +355,18 @@ fn binary(
     firsts: &[u32],
     written: &mut [u32],
     out: &mut [u32],
-    table: &mut [u32; 8192],
+    table: &mut [u32; MAX_NODES],
     base: usize,
     depth: usize,
     k: usize,
     at: usize,
 ) -> Written
-    requires { ⌜ Prepared (source (now text) (now work) (now refs)) (state (now sorts) (now numbers) (now kept) (now slots)) (tables (now firsts) (now written) (now table) at) (now out) base depth k ⌝ }
+    requires { ⌜ Prepared (source (now text) (now work) (now refs)) (state (now sorts) (now numbers) (now kept) (now slots)) (tables (now firsts) (now written) (now table) at) (now out) base depth k
+        ⌝ }
     requires { ⌜ (29 ≤ kindAt (now work) k) × (kindAt (now work) k < 36) ⌝ }
-    ensures { λ r. ⌜ Writes (source (now (text .entry)) (now (work .entry)) (now (refs .entry))) (state (now (sorts .entry)) (now (numbers .entry)) (now (kept .entry)) (now (slots .entry))) (state (now (sorts .exit)) (now (numbers .exit)) (now (kept .exit)) (now (slots .exit))) (tables (now (firsts .entry)) (now (written .entry)) (now (table .entry)) at) (now (written .exit)) (now (table .exit)) base depth k r ⌝ }
+    ensures { λ r. ⌜ Writes (source (now (text .entry)) (now (work .entry)) (now (refs .entry))) (state (now (sorts .entry)) (now (numbers .entry)) (now (kept .entry)) (now (slots .entry)))
+        (state (now (sorts .exit)) (now (numbers .exit)) (now (kept .exit)) (now (slots .exit))) (tables (now (firsts .entry)) (now (written .entry)) (now (table .entry)) at) (now (written .exit))
+        (now (table .exit)) base depth k r ⌝ }
 {
     let op = binary_kind(kind_at(work, k));
     let left = k - 1 - size_at(work, k - 1);
@@ -431,15 +425,18 @@ fn repeated(
     firsts: &[u32],
     written: &mut [u32],
     out: &mut [u32],
-    table: &mut [u32; 8192],
+    table: &mut [u32; MAX_NODES],
     base: usize,
     depth: usize,
     k: usize,
     at: usize,
 ) -> Written
-    requires { ⌜ Prepared (source (now text) (now work) (now refs)) (state (now sorts) (now numbers) (now kept) (now slots)) (tables (now firsts) (now written) (now table) at) (now out) base depth k ⌝ }
+    requires { ⌜ Prepared (source (now text) (now work) (now refs)) (state (now sorts) (now numbers) (now kept) (now slots)) (tables (now firsts) (now written) (now table) at) (now out) base depth k
+        ⌝ }
     requires { ⌜ kindAt (now work) k ≡ 36 ⌝ }
-    ensures { λ r. ⌜ Writes (source (now (text .entry)) (now (work .entry)) (now (refs .entry))) (state (now (sorts .entry)) (now (numbers .entry)) (now (kept .entry)) (now (slots .entry))) (state (now (sorts .exit)) (now (numbers .exit)) (now (kept .exit)) (now (slots .exit))) (tables (now (firsts .entry)) (now (written .entry)) (now (table .entry)) at) (now (written .exit)) (now (table .exit)) base depth k r ⌝ }
+    ensures { λ r. ⌜ Writes (source (now (text .entry)) (now (work .entry)) (now (refs .entry))) (state (now (sorts .entry)) (now (numbers .entry)) (now (kept .entry)) (now (slots .entry)))
+        (state (now (sorts .exit)) (now (numbers .exit)) (now (kept .exit)) (now (slots .exit))) (tables (now (firsts .entry)) (now (written .entry)) (now (table .entry)) at) (now (written .exit))
+        (now (table .exit)) base depth k r ⌝ }
 {
     let left = k - 1 - size_at(work, k - 1);
     let x = number_at(
@@ -493,15 +490,18 @@ fn between(
     firsts: &[u32],
     written: &mut [u32],
     out: &mut [u32],
-    table: &mut [u32; 8192],
+    table: &mut [u32; MAX_NODES],
     base: usize,
     depth: usize,
     k: usize,
     at: usize,
 ) -> Written
-    requires { ⌜ Prepared (source (now text) (now work) (now refs)) (state (now sorts) (now numbers) (now kept) (now slots)) (tables (now firsts) (now written) (now table) at) (now out) base depth k ⌝ }
+    requires { ⌜ Prepared (source (now text) (now work) (now refs)) (state (now sorts) (now numbers) (now kept) (now slots)) (tables (now firsts) (now written) (now table) at) (now out) base depth k
+        ⌝ }
     requires { ⌜ (37 ≤ kindAt (now work) k) × (kindAt (now work) k < 39) ⌝ }
-    ensures { λ r. ⌜ Writes (source (now (text .entry)) (now (work .entry)) (now (refs .entry))) (state (now (sorts .entry)) (now (numbers .entry)) (now (kept .entry)) (now (slots .entry))) (state (now (sorts .exit)) (now (numbers .exit)) (now (kept .exit)) (now (slots .exit))) (tables (now (firsts .entry)) (now (written .entry)) (now (table .entry)) at) (now (written .exit)) (now (table .exit)) base depth k r ⌝ }
+    ensures { λ r. ⌜ Writes (source (now (text .entry)) (now (work .entry)) (now (refs .entry))) (state (now (sorts .entry)) (now (numbers .entry)) (now (kept .entry)) (now (slots .entry)))
+        (state (now (sorts .exit)) (now (numbers .exit)) (now (kept .exit)) (now (slots .exit))) (tables (now (firsts .entry)) (now (written .entry)) (now (table .entry)) at) (now (written .exit))
+        (now (table .exit)) base depth k r ⌝ }
 {
     let last = size_at(work, k - 1);
     let second = k - 1 - last;
@@ -539,7 +539,7 @@ fn between(
         return handed(y);
     };
     if m < n {
-        return Written::Refused(OUT_OF_RANGE, place_at(work, k));
+        return Written::Refused(refusals::OUT_OF_RANGE, place_at(work, k));
     }
     let z = formula_at(
         text,
@@ -583,18 +583,21 @@ fn each(
     firsts: &[u32],
     written: &mut [u32],
     out: &mut [u32],
-    table: &mut [u32; 8192],
+    table: &mut [u32; MAX_NODES],
     base: usize,
     depth: usize,
     k: usize,
     at: usize,
 ) -> Written
-    requires { ⌜ Prepared (source (now text) (now work) (now refs)) (state (now sorts) (now numbers) (now kept) (now slots)) (tables (now firsts) (now written) (now table) at) (now out) base depth k ⌝ }
+    requires { ⌜ Prepared (source (now text) (now work) (now refs)) (state (now sorts) (now numbers) (now kept) (now slots)) (tables (now firsts) (now written) (now table) at) (now out) base depth k
+        ⌝ }
     requires { ⌜ (39 ≤ kindAt (now work) k) × (kindAt (now work) k < 45) ⌝ }
-    ensures { λ r. ⌜ Writes (source (now (text .entry)) (now (work .entry)) (now (refs .entry))) (state (now (sorts .entry)) (now (numbers .entry)) (now (kept .entry)) (now (slots .entry))) (state (now (sorts .exit)) (now (numbers .exit)) (now (kept .exit)) (now (slots .exit))) (tables (now (firsts .entry)) (now (written .entry)) (now (table .entry)) at) (now (written .exit)) (now (table .exit)) base depth k r ⌝ }
+    ensures { λ r. ⌜ Writes (source (now (text .entry)) (now (work .entry)) (now (refs .entry))) (state (now (sorts .entry)) (now (numbers .entry)) (now (kept .entry)) (now (slots .entry)))
+        (state (now (sorts .exit)) (now (numbers .exit)) (now (kept .exit)) (now (slots .exit))) (tables (now (firsts .entry)) (now (written .entry)) (now (table .entry)) at) (now (written .exit))
+        (now (table .exit)) base depth k r ⌝ }
 {
     let set = k - 2 - size_at(work, k - 1);
-    let mut elements = [0u32; 257];
+    let mut elements = [0u32; limits::SET_ROOM];
     let x = set_at(
         text,
         work,
@@ -611,8 +614,8 @@ fn each(
     let Worked::Value(n) = x else {
         return handed(x);
     };
-    if kind_at(work, k) < BIG_AND {
-        return Written::Refused(MISFIT, 0);
+    if kind_at(work, k) < kinds::BIG_AND {
+        return Written::Refused(refusals::WRONG_TYPE, 0);
     }
     folded(
         text,
@@ -647,7 +650,7 @@ fn folded(
     firsts: &[u32],
     written: &mut [u32],
     out: &mut [u32],
-    table: &mut [u32; 8192],
+    table: &mut [u32; MAX_NODES],
     base: usize,
     depth: usize,
     k: usize,
@@ -655,11 +658,14 @@ fn folded(
     elements: &[u32],
     n: usize,
 ) -> Written
-    requires { ⌜ Prepared (source (now text) (now work) (now refs)) (state (now sorts) (now numbers) (now kept) (now slots)) (tables (now firsts) (now written) (now table) at) (now out) base depth k ⌝ }
+    requires { ⌜ Prepared (source (now text) (now work) (now refs)) (state (now sorts) (now numbers) (now kept) (now slots)) (tables (now firsts) (now written) (now table) at) (now out) base depth k
+        ⌝ }
     requires { ⌜ Elements (now elements) n k × ((43 ≤ kindAt (now work) k) × (kindAt (now work) k < 45)) ⌝ }
-    ensures { λ r. ⌜ Gathered (source (now (text .entry)) (now (work .entry)) (now (refs .entry))) (state (now (sorts .entry)) (now (numbers .entry)) (now (kept .entry)) (now (slots .entry))) (state (now (sorts .exit)) (now (numbers .exit)) (now (kept .exit)) (now (slots .exit))) (tables (now (firsts .entry)) (now (written .entry)) (now (table .entry)) at) (now (written .exit)) (now (table .exit)) base depth k (take n (now (elements .entry))) r ⌝ }
+    ensures { λ r. ⌜ Gathered (source (now (text .entry)) (now (work .entry)) (now (refs .entry))) (state (now (sorts .entry)) (now (numbers .entry)) (now (kept .entry)) (now (slots .entry)))
+        (state (now (sorts .exit)) (now (numbers .exit)) (now (kept .exit)) (now (slots .exit))) (tables (now (firsts .entry)) (now (written .entry)) (now (table .entry)) at) (now (written .exit))
+        (now (table .exit)) base depth k (take n (now (elements .entry))) r ⌝ }
 {
-    let all = kind_at(work, k) == BIG_AND;
+    let all = kind_at(work, k) == kinds::BIG_AND;
     let free = base + depth;
     let mut f = Fold {
         some: false,

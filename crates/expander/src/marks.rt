@@ -2,11 +2,10 @@
 ghost use Prim.Native.Nat.{_≤_, _<_};
 ghost use Rattle.node.specs.Limits.{maxNodes};
 ghost use Rattle.expander.specs.Marks.{Marked, Copyable, Again};
+use node::FIELD_LIMIT;
 use node::MAX_NODES;
 use writing::TOO_MANY;
 use writing::copies::copy;
-
-const FIELD: u32 = 16384;
 
 // Past the last node any number but 0 serves: nothing is copied there.
 const BEYOND: u32 = 1;
@@ -19,18 +18,18 @@ pub fn mark(at: usize, m: usize) -> u32
     if MAX_NODES < m {
         return BEYOND;
     }
-    at as u32 * FIELD + (m - at) as u32
+    at as u32 * FIELD_LIMIT + (m - at) as u32
 }
 
 // The nodes that are noted by v once more, from `at` on.
-pub fn again(v: u32, table: &mut [u32; 8192], at: usize) -> usize
+pub fn again(v: u32, table: &mut [u32; MAX_NODES], at: usize) -> usize
     requires { ⌜ Copyable v at ⌝ }
     ensures { λ r. ⌜ Again v (now (table .entry)) (now (table .exit)) at r ⌝ }
 {
     if MAX_NODES < at {
         return TOO_MANY;
     }
-    let from = (v / FIELD) as usize;
-    let size = (v % FIELD) as usize;
+    let from = (v / FIELD_LIMIT) as usize;
+    let size = (v % FIELD_LIMIT) as usize;
     copy(from, size, at, table)
 }

@@ -1,5 +1,4 @@
 // Signals by the number of their declared name.
-ghost use mathlib.Core.Path.{_≡_};
 ghost use Prim.Native.Nat.{_+_, _≤_, _<_};
 ghost use lib.ListN.{length, getD};
 ghost use Rattle.node.specs.Limits.{fieldLimit, maxNodes};
@@ -9,7 +8,7 @@ use writing::TOO_MANY;
 use writing::signal;
 
 // Signal i of name r. Past the last node nothing is asked of its number.
-pub fn signal_at(firsts: &[u32], r: usize, i: u32, table: &mut [u32; 8192], at: usize) -> usize
+pub fn signal_at(firsts: &[u32], r: usize, i: u32, table: &mut [u32; MAX_NODES], at: usize) -> usize
     requires { ⌜ (r < length (now firsts)) × (at ≤ maxNodes → getD (now firsts) r 0 + i < fieldLimit) ⌝ }
     ensures { λ m. ⌜ Signalled (getD (now (firsts .entry)) r 0) i (now (table .entry)) (now (table .exit)) at m ⌝ }
 {

@@ -94,9 +94,11 @@ folds-step max t ts =
     go b us (next "," us) (binders-fuel (length ts) (suc (length (rest us))) (rest us) (omega arith) (omega arith)))
   where
     go : (b : Binder) (us : Tokens) (c : Bool) → bindersOf (length ts) reads (rest us) ≡ bindersOf (suc (length (rest us))) reads (rest us)
-        → (elim c [ true ↦ bindersOf (length ts) reads (rest us) >>= λ (bs, vs). Done (b ∷ bs, vs) | false ↦ expect "]" us >>= λ (d, vs). Done (b ∷ [], vs) ] >>= λ (bs, vs). reads (levelAt t) vs >>= λ (e, xs). climbs max (over t (bigOf (roleAt t)) (eqb max 0) bs e) xs)
+        → (elim c [ true ↦ bindersOf (length ts) reads (rest us) >>= λ (bs, vs). Done (b ∷ bs, vs) | false ↦ expect "]" us >>= λ (d, vs). Done (b ∷ [], vs) ] >>= λ (bs, vs). reads (levelAt t) vs >>=
+        λ (e, xs). climbs max (over t (bigOf (roleAt t)) (eqb max 0) bs e) xs)
         ≡ elim c [
-          | true ↦ (bindersOf (suc (length (rest us))) reads (rest us) >>= λ (bs, vs). reads (levelAt t) vs >>= λ (e, xs). climbs 0 (over t (bigOf (roleAt t)) true bs e) xs) >>= λ (e, vs). climbs max (Each t (bigOf (roleAt t)) (eqb max 0) (b .name) (b .range) e) vs
+          | true ↦ (bindersOf (suc (length (rest us))) reads (rest us) >>= λ (bs, vs). reads (levelAt t) vs >>= λ (e, xs). climbs 0 (over t (bigOf (roleAt t)) true bs e) xs) >>= λ (e, vs). climbs max
+              (Each t (bigOf (roleAt t)) (eqb max 0) (b .name) (b .range) e) vs
           | false ↦ expect "]" us >>= λ (d, vs). reads (levelAt t) vs >>= λ (e, xs). climbs max (Each t (bigOf (roleAt t)) (eqb max 0) (b .name) (b .range) e) xs
         ]
     go b us true e =
@@ -104,8 +106,10 @@ folds-step max t ts =
         ∙ bind-where (bindersOf (length ts) reads (rest us)) _ _
         (λ (bs, vs) _.
         bind-at (b ∷ bs, vs) _
-        ∙ bind-where (reads (levelAt t) vs) _ _ (λ (x, xs) _. sym (bind-at (over t (bigOf (roleAt t)) true bs x, xs) _) ∙ ap (λ (r : Read Expr). r >>= λ (y, ys). climbs max (Each t (bigOf (roleAt t)) (eqb max 0) (b .name) (b .range) y) ys) (sym (climbs-zero (over t (bigOf (roleAt t)) true bs x) xs)))
+        ∙ bind-where (reads (levelAt t) vs) _ _ (λ (x, xs) _. sym (bind-at (over t (bigOf (roleAt t)) true bs x, xs) _) ∙ ap
+        (λ (r : Read Expr). r >>= λ (y, ys). climbs max (Each t (bigOf (roleAt t)) (eqb max 0) (b .name) (b .range) y) ys) (sym (climbs-zero (over t (bigOf (roleAt t)) true bs x) xs)))
         ∙ sym (bind-again (reads (levelAt t) vs) _ _))
-        ∙ ap (λ (r : Read (List Binder)). r >>= λ (bs, vs). (reads (levelAt t) vs >>= λ (x, xs). climbs 0 (over t (bigOf (roleAt t)) true bs x) xs) >>= λ (y, ys). climbs max (Each t (bigOf (roleAt t)) (eqb max 0) (b .name) (b .range) y) ys) e
+        ∙ ap (λ (r : Read (List Binder)). r >>= λ (bs, vs). (reads (levelAt t) vs >>= λ (x, xs). climbs 0 (over t (bigOf (roleAt t)) true bs x) xs) >>= λ (y, ys). climbs max
+        (Each t (bigOf (roleAt t)) (eqb max 0) (b .name) (b .range) y) ys) e
         ∙ sym (bind-again (bindersOf (suc (length (rest us))) reads (rest us)) _ _)
     go b us false e = bind-again (expect "]" us) _ _ ∙ bind-where (expect "]" us) _ _ (λ (c, vs) _. bind-at (b ∷ [], vs) _)

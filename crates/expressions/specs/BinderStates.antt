@@ -15,6 +15,8 @@ use Rattle.language.specs.Operators.{Big, Role, Plain, Counted, Windowed, Foldi
 use Rattle.language.specs.Tree.{Expr, Empty}
 use Rattle.language.specs.Grammar.{Tokens, Read, front, rest, stop, next, named, expect}
 use Rattle.language.specs.Laws.Basics.Tests.{pick, leave, and-left, and-right}
+use Rattle.language.specs.Limits.{workBytes}
+use Rattle.lexer.specs.Numbers.{fixed}
 use Rattle.entries.specs.declared.Cursor.{Cursor}
 use Rattle.entries.specs.declared.Parse.the-variants.{Parsed, Refused as NotParsed}
 use Rattle.entries.specs.Cursors.{Fits, Ready, kindAt, nextOf, refusedAt, expected}
@@ -45,7 +47,8 @@ member-here {ts} {w} {c} max t r true e =
     let inside = before-end w c (omega arith) in
     ap (λ b. b && named ("IN" ∷ "ELEM" ∷ "<-" ∷ []) (front (rest (drop (c .at) ts)))) (next-class r Name refl)
     ∙ ap (λ us. eqb (kindAt w c) 1 && named ("IN" ∷ "ELEM" ∷ "<-" ∷ []) (front us)) (sym (drop-next (c .at) ts))
-    ∙ ap (λ b. eqb (kindAt w c) 1 && b) (next-named (ready-next r inside) ("IN" ∷ "ELEM" ∷ "<-" ∷ []) refl ∙ no-more (eqb (kindAt w (nextOf c)) 89) (eqb (kindAt w (nextOf c)) 90) (eqb (kindAt w (nextOf c)) 15))
+    ∙ ap (λ b. eqb (kindAt w c) 1 && b) (next-named (ready-next r inside) ("IN" ∷ "ELEM" ∷ "<-" ∷ []) refl ∙ no-more (eqb (kindAt w (nextOf c)) 89) (eqb (kindAt w (nextOf c)) 90)
+    (eqb (kindAt w (nextOf c)) 15))
   where
     no-more : (p q o : Bool) → (p || (q || (o || false))) ≡ (p || (q || o))
     no-more true q o = refl
@@ -73,7 +76,13 @@ module _ {ts : Tokens} {s : Cursor} {x : Read Expr} {w : List ℕ} {m : Machine}
   naming-second k l i b =
       let apart = stacked-apart (h .stacked) in
       let few = stacked-few (h .stacked) in
-      record { room = subst (λ n. 65_536 ≤ n) (sym (length-put w (16_383 - m .depth) (slotWord k l i))) (naming-fits .room); deep = omega arith; class-fits = lit< tt; level-fits = lit< tt; token-fits = omega (arith, naming-fits .few) }
+      record {
+        room = subst (λ n. workBytes ≤ n) (sym (length-put w (16_383 - m .depth) (slotWord k l i))) (naming-fits .room);
+        deep = omega arith;
+        class-fits = lit< tt;
+        level-fits = lit< tt;
+        token-fits = omega (arith, naming-fits .few);
+      }
 
   slot-kept : (n k l i : ℕ) → n ≤ suc (m .depth) → Kept w (putSlot w n k l i) (s .out)
   slot-kept n k l i b =
@@ -89,7 +98,8 @@ module _ {ts : Tokens} {s : Cursor} {x : Read Expr} {w : List ℕ} {m : Machine}
       record {
         kept = slot-kept (m .depth) 18 (m .level) j (omega arith);
         state =
-            pushed (h .frames) Bound (m .level) j (h .operator) c (m .depth) 8 (record { slots = λ l t. refl; trees = λ l t. refl; credit = refl; class = lit< tt }) (h .marked) (h .firm) (h .keeps) (h .token-fits) (h .level-fits) (lit< tt) (lit< tt) (h .stacked)
+            pushed (h .frames) Bound (m .level) j (h .operator) c (m .depth) 8 (record { slots = λ l t. refl; trees = λ l t. refl; credit = refl; class = lit< tt }) (h .marked) (h .firm) (h .keeps)
+            (h .token-fits) (h .level-fits) (lit< tt) (lit< tt) (h .stacked)
             (h .same ∙ ap (plug (h .frames)) (folds-bounds (m .level) (h .operator) us test));
         light = omega arith;
       }
@@ -115,7 +125,8 @@ module _ {ts : Tokens} {s : Cursor} {x : Read Expr} {w : List ℕ} {m : Machine}
     abbrev setFrame : Frame
     setFrame = record { class = Member; level = m .level; token = h .operator; first = Empty; second = Empty; name = front us; low = h .operator; high = h .operator }
 
-    pub named-member : Named ts s x w (putSlot (putSlot w (m .depth) 6 (m .level) j) (m .depth + 1) 20 0 (c .at)) m c (record { c = nextOf (nextOf c); depth = m .depth + 1 + 1; level = 17; complete = false })
+    pub named-member : Named ts s x w (putSlot (putSlot w (m .depth) 6 (m .level) j) (m .depth + 1) 20 0 (c .at)) m c
+        (record { c = nextOf (nextOf c); depth = m .depth + 1 + 1; level = 17; complete = false })
     unfolding plug
     named-member =
         let i = member-inside in
@@ -195,14 +206,16 @@ module _ {ts : Tokens} {s : Cursor} {x : Read Expr} {w : List ℕ} {m : Machine}
       let o = kind-role in
       starts-fold (m .level) (drop (m .c .at) ts) (f .row) (f .here) (tight h row refl some-row fits) (o .0) (o .1) (ne-eqb (m .level) 0 (λ e. let l = h .good in omega arith))
 
-  pub turn-unopened : (kindAt w (nextOf (m .c)) ≡ 24 → ⊥) → Turned ts s x w w m (Ended (refusedAt w (nextOf (m .c))))
+  pub turn-unopened : (kindAt w (nextOf (m .c)) ≡ fixed "[" → ⊥) → Turned ts s x w w m (Ended (refusedAt w (nextOf (m .c))))
   unfolding _>>=_
   turn-unopened f =
       refuses-at h (nextOf (m .c)) (ready-next (h .stacked .ready) fold-inside)
-      (reads-fold ∙ ap (λ (r : Read Token). r >>= λ (c, vs). folds (m .level) (here h) vs) (leave (next "[" (rest (drop (m .c .at) ts))) (Done (front (rest (drop (m .c .at) ts)), rest (rest (drop (m .c .at) ts)))) (stop (rest (drop (m .c .at) ts))) (next-sign h fold-inside "[" refl ∙ ne-eqb (kindAt w (nextOf (m .c))) 24 f))
+      (reads-fold ∙ ap (λ (r : Read Token). r >>= λ (c, vs). folds (m .level) (here h) vs)
+      (leave (next "[" (rest (drop (m .c .at) ts))) (Done (front (rest (drop (m .c .at) ts)), rest (rest (drop (m .c .at) ts)))) (stop (rest (drop (m .c .at) ts)))
+      (next-sign h fold-inside "[" refl ∙ ne-eqb (kindAt w (nextOf (m .c))) 24 f))
       ∙ ap stop (sym (drop-next (m .c .at) ts)))
 
-  module _ (bracket : kindAt w (nextOf (m .c)) ≡ 24) where
+  module _ (bracket : kindAt w (nextOf (m .c)) ≡ fixed "[") where
     second : m .c .at + 1 < m .c .count
     second = before-end w (nextOf (m .c)) (omega arith)
 
@@ -220,7 +233,9 @@ module _ {ts : Tokens} {s : Cursor} {x : Read Expr} {w : List ℕ} {m : Machine}
           same =
               h .same
               ∙ ap (plug (h .frames))
-              (reads-fold ∙ ap (λ (r : Read Token). r >>= λ (c, vs). folds (m .level) (here h) vs) (pick (next "[" (rest (drop (m .c .at) ts))) (Done (front (rest (drop (m .c .at) ts)), rest (rest (drop (m .c .at) ts)))) (stop (rest (drop (m .c .at) ts))) (next-sign h fold-inside "[" refl ∙ eq-eqb (kindAt w (nextOf (m .c))) 24 bracket))
+              (reads-fold ∙ ap (λ (r : Read Token). r >>= λ (c, vs). folds (m .level) (here h) vs)
+              (pick (next "[" (rest (drop (m .c .at) ts))) (Done (front (rest (drop (m .c .at) ts)), rest (rest (drop (m .c .at) ts)))) (stop (rest (drop (m .c .at) ts)))
+              (next-sign h fold-inside "[" refl ∙ eq-eqb (kindAt w (nextOf (m .c))) 24 bracket))
               ∙ bind-at (front (rest (drop (m .c .at) ts)), rest (rest (drop (m .c .at) ts))) _ ∙ ap (folds (m .level) (here h)) (sym (drop-two (m .c .at) ts)));
         }
 

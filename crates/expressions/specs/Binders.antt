@@ -10,6 +10,8 @@ use Rattle.language.specs.Tokens.{Token}
 use Rattle.language.specs.Tree.{Expr}
 use Rattle.language.specs.Grammar.{Tokens, Read}
 use Rattle.language.specs.Laws.Basics.Lists.{All as Every}
+use Rattle.language.specs.Limits.{maxTokens}
+use Rattle.lexer.specs.Numbers.{fixed}
 use Rattle.entries.specs.Stored.{Keeps}
 use Rattle.entries.specs.declared.Cursor.{Cursor}
 use Rattle.entries.specs.Cursors.{kindAt, nextOf}
@@ -22,7 +24,7 @@ use Rattle.expressions.specs.States.{slotsOf, base, Firm, credits, Marke
 
 -- the numbers of `IN`, `ELEM` and `<-`
 abbrev pub amongAt : ℕ → Bool
-amongAt n = eqb n 89 || (eqb n 90 || eqb n 15)
+amongAt n = eqb n (fixed "IN") || (eqb n (fixed "ELEM") || eqb n (fixed "<-"))
 
 abbrev pub memberAt : List ℕ → Cursor → Bool
 memberAt w c = eqb (kindAt w c) 1 && amongAt (kindAt w (nextOf c))
@@ -34,7 +36,7 @@ pub record Folding (ts : Tokens) (s : Cursor) (x : Read Expr) (w : List ℕ) (m 
   pub firm : Every Firm frames
   pub marked : Marked Over operator
   pub keeps : Keeps ts j (some operator)
-  pub token-fits : j < 8_192
+  pub token-fits : j < maxTokens
   pub level-fits : m .level < 32
   pub stacked : Stacked ts s w c (m .depth) (slotsOf frames) (base frames ++ []) (suc (credits frames))
   pub same : x ≡ plug frames (folds (m .level) operator (drop (c .at) ts))
@@ -49,7 +51,7 @@ pub record Naming (w : List ℕ) (m : Machine) (c : Cursor) (j : ℕ) : Type 0 w
 pub record Named (ts : Tokens) (s : Cursor) (x : Read Expr) (w v : List ℕ) (m : Machine) (c : Cursor) (n : Machine) : Type 0 where
   pub kept : Kept w v (s .out)
   pub state : State false ts s x v n
-  pub light : weight n ≤ 3 * (c .count - c .at) + m .depth + 1 + (8_192 - c .out)
+  pub light : weight n ≤ 3 * (c .count - c .at) + m .depth + 1 + (maxTokens - c .out)
 
 abbrev pub Names : List ℕ → List ℕ → Machine → Cursor → ℕ → Machine → Type 0
 Names w v m c j n = (ts : Tokens) (s : Cursor) (x : Read Expr) → Folding ts s x w m c j → Named ts s x w v m c n

@@ -16,6 +16,7 @@ use Rattle.language.specs.Tokens.{Name, Token, isOf}
 use Rattle.language.specs.Tree.{Expr, Between, Empty}
 use Rattle.language.specs.Grammar.{Tokens, Read, front, rest, stop, signOf, expectOf}
 use Rattle.language.specs.Laws.Basics.Tests.{pick, leave}
+use Rattle.language.specs.Limits.{workBytes}
 use Rattle.entries.specs.Flat.{flat}
 use Rattle.entries.specs.Stored.{Keeps}
 use Rattle.entries.specs.declared.Cursor.{Cursor}
@@ -98,7 +99,8 @@ module _ {ts : Tokens} {s : Cursor} {x : Read Expr} {w : List ℕ} {m : Machine}
       name-fits = ready-third .fits
 
       to-high : (F : Frame) (tree : Expr) → resume (turned Bound F) tree (drop (m .c .at) ts)
-          ≡ (signOf (drop (m .c .at + 1 + 1) ts) >>= λ (high, xs). reads 8 xs >>= λ (y, ys). afterBinder (F .level) (F .token) (record { name = front (drop (m .c .at + 1) ts); range = Between (front (drop (m .c .at) ts)) (isStrict (front (drop (m .c .at) ts))) (high .1) tree y }) ys)
+          ≡ (signOf (drop (m .c .at + 1 + 1) ts) >>= λ (high, xs). reads 8 xs >>= λ (y, ys). afterBinder (F .level) (F .token)
+          (record { name = front (drop (m .c .at + 1) ts); range = Between (front (drop (m .c .at) ts)) (isStrict (front (drop (m .c .at) ts))) (high .1) tree y }) ys)
       to-high F tree =
           let r = ready-next ready low-inside in
           sign-here ready _ low ∙ name-here r _ name
@@ -122,9 +124,17 @@ module _ {ts : Tokens} {s : Cursor} {x : Read Expr} {w : List ℕ} {m : Machine}
         bound-second =
             let apart = stacked-apart (h .stacked) in
             let few = stacked-few (h .stacked) in
-            record { room = subst (λ n. 65_536 ≤ n) (sym (length-put w (16_383 - (m .depth - 1)) (slotWord 6 (slotLevel top) (slotIndex top)))) (ready .fits .room); deep = omega arith; class-fits = lit< tt; level-fits = lit< tt; token-fits = omega (arith, low-inside, ready .fits .few) }
+            record {
+              room = subst (λ n. workBytes ≤ n) (sym (length-put w (16_383 - (m .depth - 1)) (slotWord 6 (slotLevel top) (slotIndex top)))) (ready .fits .room);
+              deep = omega arith;
+              class-fits
+                  = lit< tt;
+              level-fits = lit< tt;
+              token-fits = omega (arith, low-inside, ready .fits .few);
+            }
 
-        pub turn-bound : Turned ts s x w (putSlot (putSlot w (m .depth - 1) 6 (slotLevel top) (slotIndex top)) (m .depth - 1 + 1) 19 0 (m .c .at)) m (Next (record { c = nextOf third; depth = m .depth - 1 + 1 + 1; level = 8; complete = false }))
+        pub turn-bound : Turned ts s x w (putSlot (putSlot w (m .depth - 1) 6 (slotLevel top) (slotIndex top)) (m .depth - 1 + 1) 19 0 (m .c .at)) m
+            (Next (record { c = nextOf third; depth = m .depth - 1 + 1 + 1; level = 8; complete = false }))
         unfolding plug
         turn-bound =
             let q = popping h Bound deep e in
@@ -145,7 +155,8 @@ module _ {ts : Tokens} {s : Cursor} {x : Read Expr} {w : List ℕ} {m : Machine}
             let over = stacked-push after (slot 6 (F .level) (F .token) []) (at-top .index) (at-top .tokens .0, tt) (at-top .index-fits) (lit< tt) (at-top .level-fits) in
             let first-at : Keeps ts (m .c .at) (some t) = (refl, omega arith) in
             let name-at : Keeps ts (suc (m .c .at)) (some name-token) = subst (λ k. Keeps ts k (some name-token)) (add-one (m .c .at)) (refl, omega arith) in
-            let high-at : Keeps ts (suc (suc (m .c .at))) (some high-token) = subst (λ k. Keeps ts k (some high-token)) (let z : m .c .at + 1 + 1 ≡ suc (suc (m .c .at)) = omega arith in z) (refl, omega arith) in
+            let high-at : Keeps ts (suc (suc (m .c .at))) (some high-token) = subst (λ k. Keeps ts k (some high-token)) (let z : m .c .at + 1 + 1 ≡ suc (suc (m .c .at)) = omega arith in z)
+            (refl, omega arith) in
             let both = stacked-push over (slot 19 0 t (name-token ∷ high-token ∷ [])) (m .c .at) (first-at, (name-at, (high-at, tt))) (omega arith) (lit< tt) (lit< tt) in
             let v = putSlot w (m .depth - 1) 6 (slotLevel top) (slotIndex top) in
             let u = putSlot v (m .depth - 1 + 1) 19 0 (m .c .at) in
@@ -166,8 +177,11 @@ module _ {ts : Tokens} {s : Cursor} {x : Read Expr} {w : List ℕ} {m : Machine}
                           level-fits = lit< tt;
                           firm = (((p .rooted, tt), p .firm-top .1), p .firm);
                           stacked =
-                              subst (λ es. Stacked ts s u (nextOf third) (m .depth - 1 + 1 + 1) (slot 19 0 t (name-token ∷ high-token ∷ []) ∷ slot 6 (F .level) (F .token) [] ∷ slotsOf (q .1)) es (1 + credits (q .1))) (sym (append-nil (base (q .1) ++ flat (p .tree))))
-                              (subst (λ b. Stacked ts s (putSlot b (m .depth - 1 + 1) 19 0 (m .c .at)) (nextOf third) (m .depth - 1 + 1 + 1) (slot 19 0 t (name-token ∷ high-token ∷ []) ∷ slot 6 (F .level) (F .token) [] ∷ slotsOf (q .1)) (base (q .1) ++ flat (p .tree)) (1 + credits (q .1))) same-buffer (stacked-less both (1 + credits (q .1)) (omega arith)));
+                              subst (λ es. Stacked ts s u (nextOf third) (m .depth - 1 + 1 + 1) (slot 19 0 t (name-token ∷ high-token ∷ []) ∷ slot 6 (F .level) (F .token) [] ∷ slotsOf (q .1)) es
+                              (1 + credits (q .1))) (sym (append-nil (base (q .1) ++ flat (p .tree))))
+                              (subst (λ b. Stacked ts s (putSlot b (m .depth - 1 + 1) 19 0 (m .c .at)) (nextOf third) (m .depth - 1 + 1 + 1)
+                              (slot 19 0 t (name-token ∷ high-token ∷ []) ∷ slot 6 (F .level) (F .token) [] ∷ slotsOf (q .1)) (base (q .1) ++ flat (p .tree)) (1 + credits (q .1))) same-buffer
+                              (stacked-less both (1 + credits (q .1)) (omega arith)));
                           same = p .same ∙ ap (plug (q .1)) (to-high (q .0) (p .tree) ∙ sign-here ready-third _ high);
                         };
                     lighter = (let d : m .depth - 1 + 1 ≡ m .depth = omega arith in omega arith);

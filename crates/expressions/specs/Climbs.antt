@@ -93,11 +93,13 @@ module _ {ts : Tokens} {s : Cursor} {x : Read Expr} {w : List ℕ} {m : Machine}
                     good = r .right-some;
                     level-fits = r .right-fits;
                     firm = (((h .good, tt), (λ z. f (number-row ∙ z), tt)), h .firm);
-                    stacked = subst (λ es. Stacked ts s v (nextOf (m .c)) (m .depth + 1) (slot 1 (m .level) t [] ∷ slotsOf (h .frames)) es (0 + credits (h .frames))) (sym (append-nil (base (h .frames) ++ flat (h .tree)))) (stacked-less pushed (0 + credits (h .frames)) (omega arith));
+                    stacked = subst (λ es. Stacked ts s v (nextOf (m .c)) (m .depth + 1) (slot 1 (m .level) t [] ∷ slotsOf (h .frames)) es (0 + credits (h .frames)))
+                        (sym (append-nil (base (h .frames) ++ flat (h .tree)))) (stacked-less pushed (0 + credits (h .frames)) (omega arith));
                     same =
                         h .same
                         ∙ ap (plug (h .frames))
-                        (climbs-on (m .level) (h .tree) us (r .row) fits (r .here) ∙ ap (λ vs. reads (rightLevel (r .row)) vs >>= λ (b, zs). climbs (m .level) (Joined t (operatorAt t) (h .tree) b) zs) (sym (drop-next (m .c .at) ts)));
+                        (climbs-on (m .level) (h .tree) us (r .row) fits (r .here) ∙ ap
+                        (λ vs. reads (rightLevel (r .row)) vs >>= λ (b, zs). climbs (m .level) (Joined t (operatorAt t) (h .tree) b) zs) (sym (drop-next (m .c .at) ts)));
                   };
               lighter = omega (arith, i);
             };

@@ -51,7 +51,8 @@ module _ {ts : Tokens} {w : List ℕ} {c : Cursor} (ready : Ready ts w c) {B : T
   expect-other f = ap (λ (r : Read Token). r >>= K) (leave (next sign us) (Done (front us, rest us)) (stop us) (next-number ready sign known ∙ ne-eqb (kindAt w c) (fixed sign) f))
 
 -- nothing continues here
-pub refused-here : {ts : Tokens} {s : Cursor} {x : Read Expr} {w : List ℕ} {m : Machine} (Gs : List Frame) (c : Cursor) → Ready ts w c → x ≡ plug Gs (stop (drop (c .at) ts)) → Turned ts s x w w m (Ended (refusedAt w c))
+pub refused-here : {ts : Tokens} {s : Cursor} {x : Read Expr} {w : List ℕ} {m : Machine} (Gs : List Frame) (c : Cursor) → Ready ts w c → x ≡ plug Gs (stop (drop (c .at) ts))
+    → Turned ts s x w w m (Ended (refusedAt w c))
 refused-here {ts} {s} {x} {w} Gs c ready same =
     record {
       kept = kept-same w (s .out);
@@ -63,28 +64,31 @@ module _ {ts : Tokens} {s : Cursor} {x : Read Expr} {w : List ℕ} {m : Machine}
   abbrev top : ℕ
   top = topSlot w (m .depth)
 
-  pub built-round : slotClass top ≡ 7 → kindAt w (m .c) ≡ 23 → Built ts s x w m (nextOf (m .c)) 5 1
+  pub built-round : slotClass top ≡ 7 → kindAt w (m .c) ≡ fixed ")" → Built ts s x w m (nextOf (m .c)) 5 1
   built-round e k =
       let q = popping h Round deep e in
       let F = turned Round (q .0) in
-      built F (q .1) (q .2) (nextOf (m .c)) (suc (0 + credits (q .1))) (stacked-next (q .2 .stacked) (sign-inside h _ k (lit< tt))) (builtBy Round F (q .2 .tree)) 5 5 refl (lit< tt) (some (F .token)) refl (λ j z. z) (omega arith) (omega arith)
+      built F (q .1) (q .2) (nextOf (m .c)) (suc (0 + credits (q .1))) (stacked-next (q .2 .stacked) (sign-inside h _ k (lit< tt))) (builtBy Round F (q .2 .tree)) 5 5 refl (lit< tt) (some (F .token))
+      refl (λ j z. z) (omega arith) (omega arith)
       (q .2 .same ∙ ap (plug (q .1)) (expect-here (h .stacked .ready) ")" refl _ k))
 
-  pub built-bars : slotClass top ≡ 8 → kindAt w (m .c) ≡ 31 → Built ts s x w m (nextOf (m .c)) 6 1
+  pub built-bars : slotClass top ≡ 8 → kindAt w (m .c) ≡ fixed "|" → Built ts s x w m (nextOf (m .c)) 6 1
   built-bars e k =
       let q = popping h Bars deep e in
       let F = turned Bars (q .0) in
-      built F (q .1) (q .2) (nextOf (m .c)) (suc (0 + credits (q .1))) (stacked-next (q .2 .stacked) (sign-inside h _ k (lit< tt))) (builtBy Bars F (q .2 .tree)) 6 6 refl (lit< tt) (some (F .token)) refl (λ j z. z) (omega arith) (omega arith)
+      built F (q .1) (q .2) (nextOf (m .c)) (suc (0 + credits (q .1))) (stacked-next (q .2 .stacked) (sign-inside h _ k (lit< tt))) (builtBy Bars F (q .2 .tree)) 6 6 refl (lit< tt) (some (F .token))
+      refl (λ j z. z) (omega arith) (omega arith)
       (q .2 .same ∙ ap (plug (q .1)) (expect-here (h .stacked .ready) "|" refl _ k))
 
-  pub built-index : slotClass top ≡ 9 → kindAt w (m .c) ≡ 25 → Built ts s x w m (nextOf (m .c)) 4 1
+  pub built-index : slotClass top ≡ 9 → kindAt w (m .c) ≡ fixed "]" → Built ts s x w m (nextOf (m .c)) 4 1
   built-index e k =
       let q = popping h Square deep e in
       let F = turned Square (q .0) in
-      built F (q .1) (q .2) (nextOf (m .c)) (suc (0 + credits (q .1))) (stacked-next (q .2 .stacked) (sign-inside h _ k (lit< tt))) (builtBy Square F (q .2 .tree)) 4 4 refl (lit< tt) (some (F .token)) refl (λ j z. z) (omega arith) (omega arith)
+      built F (q .1) (q .2) (nextOf (m .c)) (suc (0 + credits (q .1))) (stacked-next (q .2 .stacked) (sign-inside h _ k (lit< tt))) (builtBy Square F (q .2 .tree)) 4 4 refl (lit< tt)
+      (some (F .token)) refl (λ j z. z) (omega arith) (omega arith)
       (q .2 .same ∙ ap (plug (q .1)) (expect-here (h .stacked .ready) "]" refl _ k))
 
-  pub built-range : slotClass top ≡ 10 → kindAt w (m .c) ≡ 21 → Built ts s x w m (nextOf (m .c)) 53 3
+  pub built-range : slotClass top ≡ 10 → kindAt w (m .c) ≡ fixed "}" → Built ts s x w m (nextOf (m .c)) 53 3
   built-range e k =
       let q = popping h Last deep e in
       let F = turned Last (q .0) in
@@ -93,14 +97,14 @@ module _ {ts : Tokens} {s : Cursor} {x : Read Expr} {w : List ℕ} {m : Machine}
       (q .2 .same ∙ ap (plug (q .1)) (expect-here (h .stacked .ready) "}" refl _ k))
 
   -- another sign
-  pub unclosed-round : slotClass top ≡ 7 → (kindAt w (m .c) ≡ 23 → ⊥) → Turned ts s x w w m (Ended (refusedAt w (m .c)))
+  pub unclosed-round : slotClass top ≡ 7 → (kindAt w (m .c) ≡ fixed ")" → ⊥) → Turned ts s x w w m (Ended (refusedAt w (m .c)))
   unclosed-round e f = let q = popping h Round deep e in refused-here (q .1) (m .c) (h .stacked .ready) (q .2 .same ∙ ap (plug (q .1)) (expect-other (h .stacked .ready) ")" refl _ f))
 
-  pub unclosed-bars : slotClass top ≡ 8 → (kindAt w (m .c) ≡ 31 → ⊥) → Turned ts s x w w m (Ended (refusedAt w (m .c)))
+  pub unclosed-bars : slotClass top ≡ 8 → (kindAt w (m .c) ≡ fixed "|" → ⊥) → Turned ts s x w w m (Ended (refusedAt w (m .c)))
   unclosed-bars e f = let q = popping h Bars deep e in refused-here (q .1) (m .c) (h .stacked .ready) (q .2 .same ∙ ap (plug (q .1)) (expect-other (h .stacked .ready) "|" refl _ f))
 
-  pub unclosed-index : slotClass top ≡ 9 → (kindAt w (m .c) ≡ 25 → ⊥) → Turned ts s x w w m (Ended (refusedAt w (m .c)))
+  pub unclosed-index : slotClass top ≡ 9 → (kindAt w (m .c) ≡ fixed "]" → ⊥) → Turned ts s x w w m (Ended (refusedAt w (m .c)))
   unclosed-index e f = let q = popping h Square deep e in refused-here (q .1) (m .c) (h .stacked .ready) (q .2 .same ∙ ap (plug (q .1)) (expect-other (h .stacked .ready) "]" refl _ f))
 
-  pub unclosed-range : slotClass top ≡ 10 → (kindAt w (m .c) ≡ 21 → ⊥) → Turned ts s x w w m (Ended (refusedAt w (m .c)))
+  pub unclosed-range : slotClass top ≡ 10 → (kindAt w (m .c) ≡ fixed "}" → ⊥) → Turned ts s x w w m (Ended (refusedAt w (m .c)))
   unclosed-range e f = let q = popping h Last deep e in refused-here (q .1) (m .c) (h .stacked .ready) (q .2 .same ∙ ap (plug (q .1)) (expect-other (h .stacked .ready) "}" refl _ f))

@@ -73,7 +73,8 @@ start-snoc w out zero = refl
 start-snoc w out (suc n) = start-snoc w _ n
 
 -- the last trees of the entries, the complete one and those before it
-pub spans : (w : List ℕ) (ts : Tokens) (o out : ℕ) (P : List Entry) (css : List (List Entry)) (A : List Entry) → Every Rooted css → Rooted A → out ≡ o + length (behind P css ++ A) → EntriesFrom w ts o (behind P css ++ A)
+pub spans : (w : List ℕ) (ts : Tokens) (o out : ℕ) (P : List Entry) (css : List (List Entry)) (A : List Entry) → Every Rooted css → Rooted A → out ≡ o + length (behind P css ++ A)
+    → EntriesFrom w ts o (behind P css ++ A)
     → Trees w out (suc (length css)) × (startOf w out (suc (length css)) ≡ o + length P)
 spans w ts o out P [] A firm rooted at h = (trees-more w ts o out P A rooted at h 0 tt, start-more w ts o out P A rooted at h 0)
 spans w ts o out P (c ∷ css) A firm rooted at h =

@@ -25,7 +25,33 @@ use Rattle.entries.specs.ReadsLaws.{kept-same, kept-put}
 use Rattle.expressions.specs.declared.stack.Machine.{Machine}
 use Rattle.expressions.specs.declared.stack.Turn.the-variants.{Next, Ended}
 use Rattle.operators.specs.Readers.{climbs}
-use Rattle.expressions.specs.Frames.{Class, Right, Sole, Stepped, Within, Cons, Over, Round, Bars, Square, Last, All, Count, Low, High, One, Two, More, Bound, Upper, Member, Frame, turned, resume, plug}
+use Rattle.expressions.specs.Frames.{
+  Class,
+  Right,
+  Sole,
+  Stepped,
+  Within,
+  Cons,
+  Over,
+  Round,
+  Bars,
+  Square,
+  Last,
+  All,
+  Count,
+  Low,
+  High,
+  One,
+  Two,
+  More,
+  Bound,
+  Upper,
+  Member,
+  Frame,
+  turned,
+  resume,
+  plug,
+}
 use Rattle.expressions.specs.Stack.{slotIndex, slotClass, topSlot, Slot, SlotsAt, Stacked, Rooted, startOf, Trees}
 use Rattle.expressions.specs.StackLaws.{slot-class, slot-level, slot-index, stacked-apart, stacked-few, stacked-less, stacked-pop, stacked-emit}
 use Rattle.expressions.specs.Machines.{Tops}
@@ -59,10 +85,54 @@ class-of Upper = refl
 class-of Member = refl
 
 numbered-from-one : (c : Class) → ltb 0 (classNumber c) ≡ true
-numbered-from-one c = elim c [ Right ↦ refl | Sole ↦ refl | Stepped ↦ refl | Within ↦ refl | Cons ↦ refl | Over ↦ refl | Round ↦ refl | Bars ↦ refl | Square ↦ refl | Last ↦ refl | All ↦ refl | Count ↦ refl | Low ↦ refl | High ↦ refl | One ↦ refl | Two ↦ refl | More ↦ refl | Bound ↦ refl | Upper ↦ refl | Member ↦ refl ]
+numbered-from-one c = elim c [
+  | Right ↦ refl
+  | Sole ↦ refl
+  | Stepped ↦ refl
+  | Within ↦ refl
+  | Cons ↦ refl
+  | Over ↦ refl
+  | Round ↦ refl
+  | Bars ↦ refl
+  | Square ↦ refl
+  | Last ↦ refl
+  | All ↦ refl
+  | Count
+      ↦ refl
+  | Low ↦ refl
+  | High ↦ refl
+  | One ↦ refl
+  | Two ↦ refl
+  | More ↦ refl
+  | Bound ↦ refl
+  | Upper ↦ refl
+  | Member ↦ refl
+]
 
 numbered-to-twenty : (c : Class) → ltb (classNumber c) 21 ≡ true
-numbered-to-twenty c = elim c [ Right ↦ refl | Sole ↦ refl | Stepped ↦ refl | Within ↦ refl | Cons ↦ refl | Over ↦ refl | Round ↦ refl | Bars ↦ refl | Square ↦ refl | Last ↦ refl | All ↦ refl | Count ↦ refl | Low ↦ refl | High ↦ refl | One ↦ refl | Two ↦ refl | More ↦ refl | Bound ↦ refl | Upper ↦ refl | Member ↦ refl ]
+numbered-to-twenty c = elim c [
+  | Right ↦ refl
+  | Sole ↦ refl
+  | Stepped ↦ refl
+  | Within ↦ refl
+  | Cons ↦ refl
+  | Over ↦ refl
+  | Round ↦ refl
+  | Bars ↦ refl
+  | Square ↦ refl
+  | Last ↦ refl
+  | All ↦ refl
+  | Count
+      ↦ refl
+  | Low ↦ refl
+  | High ↦ refl
+  | One ↦ refl
+  | Two ↦ refl
+  | More ↦ refl
+  | Bound ↦ refl
+  | Upper ↦ refl
+  | Member ↦ refl
+]
 
 -- the last frame F, and those before it
 pub record Popping (ts : Tokens) (s : Cursor) (x : Read Expr) (w : List ℕ) (m : Machine) (F : Frame) (Gs : List Frame) : Type 0 where
@@ -78,7 +148,11 @@ top-class : (w : List ℕ) (ts : Tokens) (depth n : ℕ) (F : Frame) (slots : Li
 top-class w ts depth n F slots h = go (eqb n 19) (eqb n 20) refl refl h
   where
     go : (a b : Bool) → eqb n 19 ≡ a → eqb n 20 ≡ b
-        → SlotsAt w ts depth (elim a [ true ↦ slot 19 0 (F .low) (F .name ∷ F .high ∷ []) ∷ slot 6 (F .level) (F .token) [] ∷ [] | false ↦ elim b [ true ↦ slot 20 0 (F .name) [] ∷ slot 6 (F .level) (F .token) [] ∷ [] | false ↦ slot n (F .level) (F .token) [] ∷ [] ] ] ++ slots)
+        → SlotsAt w ts depth (elim a [
+          | true ↦ slot 19 0 (F .low) (F .name ∷ F .high ∷ []) ∷ slot 6 (F .level) (F .token) [] ∷ []
+          | false ↦ elim b
+              [ true ↦ slot 20 0 (F .name) [] ∷ slot 6 (F .level) (F .token) [] ∷ [] | false ↦ slot n (F .level) (F .token) [] ∷ [] ]
+        ] ++ slots)
         → (0 < depth) × (slotClass (topSlot w depth) ≡ n)
     go true b p q g = (g .0 .deep, slot-class (g .0) ∙ sym (eqb-true n 19 p))
     go false true p q g = (g .0 .deep, slot-class (g .0) ∙ sym (eqb-true n 20 q))
@@ -90,7 +164,8 @@ module _ {ts : Tokens} {s : Cursor} {x : Read Expr} {w : List ℕ} {m : Machine}
   unfolding plug
   turn-done e = go (h .frames) (h .stacked) (h .same)
     where
-      go : (Fs : List Frame) → Stacked ts s w (m .c) (m .depth) (slotsOf Fs) (base Fs ++ flat (h .tree)) (credits Fs) → x ≡ plug Fs (Done (h .tree, drop (m .c .at) ts)) → Turned ts s x w w m (Ended (Parsed (m .c)))
+      go : (Fs : List Frame) → Stacked ts s w (m .c) (m .depth) (slotsOf Fs) (base Fs ++ flat (h .tree)) (credits Fs) → x ≡ plug Fs (Done (h .tree, drop (m .c .at) ts))
+          → Turned ts s x w w m (Ended (Parsed (m .c)))
       go [] st same =
           record {
             kept = kept-same w (s .out);
@@ -133,7 +208,8 @@ module _ {ts : Tokens} {s : Cursor} {x : Read Expr} {w : List ℕ} {m : Machine}
     where
       go : (Fs : List Frame) → Stacked ts s w (m .c) (m .depth) (slotsOf Fs) (base Fs ++ flat (h .tree)) (credits Fs) → slotClass (topSlot w (m .depth)) < 21
       go [] st = absurd (let d = st .slots-at in omega arith)
-      go (F ∷ Fs) st = subst (λ n. n < 21) (sym (top-class w ts (m .depth) (classNumber (F .class)) F (slotsOf Fs) (st .slots-at) .1)) (ltb-true (classNumber (F .class)) 21 (numbered-to-twenty (F .class)))
+      go (F ∷ Fs) st = subst (λ n. n < 21) (sym (top-class w ts (m .depth) (classNumber (F .class)) F (slotsOf Fs) (st .slots-at) .1))
+          (ltb-true (classNumber (F .class)) 21 (numbered-to-twenty (F .class)))
 
   -- a sign stands at the cursor
   pub sign-inside : (k : ℕ) → kindAt w (m .c) ≡ k → 0 < k → m .c .at < m .c .count
@@ -147,7 +223,8 @@ module _ {ts : Tokens} {s : Cursor} {x : Read Expr} {w : List ℕ} {m : Machine}
   unfolding plug
   popping K deep e = go (h .frames) (h .firm) (h .stacked) (h .same)
     where
-      go : (Fs : List Frame) → Every Firm Fs → Stacked ts s w (m .c) (m .depth) (slotsOf Fs) (base Fs ++ flat (h .tree)) (credits Fs) → x ≡ plug Fs (Done (h .tree, drop (m .c .at) ts)) → (F : Frame) × (Gs : List Frame) × Popping ts s x w m (turned K F) Gs
+      go : (Fs : List Frame) → Every Firm Fs → Stacked ts s w (m .c) (m .depth) (slotsOf Fs) (base Fs ++ flat (h .tree)) (credits Fs) → x ≡ plug Fs (Done (h .tree, drop (m .c .at) ts))
+          → (F : Frame) × (Gs : List Frame) × Popping ts s x w m (turned K F) Gs
       go [] f st same = absurd (let d = st .slots-at in omega arith)
       go (F ∷ Fs) f st same =
           let number : classNumber (F .class) ≡ classNumber K = sym (top-class w ts (m .depth) (classNumber (F .class)) F (slotsOf Fs) (st .slots-at) .1) ∙ e in
@@ -157,7 +234,8 @@ module _ {ts : Tokens} {s : Cursor} {x : Read Expr} {w : List ℕ} {m : Machine}
           (F, Fs, subst (λ k. Popping ts s x w m (turned k F) Fs) is whole)
 
 -- the tree of a frame of one slot is complete at the cursor d
-module _ {ts : Tokens} {s : Cursor} (x : Read Expr) {w : List ℕ} (m : Machine) (cls lev : ℕ) (tok : Token) (css : List (List Entry)) (firm-css : Every Rooted css) (Gs : List Frame) (firm : Every Firm Gs) (tree : Expr) (rooted : Rooted (flat tree))
+module _ {ts : Tokens} {s : Cursor} (x : Read Expr) {w : List ℕ} (m : Machine) (cls lev : ℕ) (tok : Token) (css : List (List Entry)) (firm-css : Every Rooted css) (Gs : List Frame)
+    (firm : Every Firm Gs) (tree : Expr) (rooted : Rooted (flat tree))
     (d : Cursor) (n : ℕ) (at-d : Stacked ts s w d (m .depth) (slot cls lev tok [] ∷ slotsOf Gs) (behind (base Gs) css ++ flat tree) n)
     (e : Expr) (kind : ℕ) (small : kind < 64) (t : Option Token) (made : flat e ≡ under kind t (behind [] css ++ flat tree))
   where
@@ -185,7 +263,8 @@ module _ {ts : Tokens} {s : Cursor} (x : Read Expr) {w : List ℕ} (m : Machine)
             let c = length-append (base Gs) (behind [] css) in
             omega arith
 
-    module _ (keeps : (j : ℕ) → Keeps ts j (some tok) → Keeps ts j t) (less : 0 + credits Gs ≤ n) (onward : m .c .at ≤ d .at) (counted : m .c .count ≡ s .count) (grew : m .c .out ≤ d .out) (same : x ≡ plug Gs (climbs lev e (drop (d .at) ts))) where
+    module _ (keeps : (j : ℕ) → Keeps ts j (some tok) → Keeps ts j t) (less : 0 + credits Gs ≤ n) (onward : m .c .at ≤ d .at) (counted : m .c .count ≡ s .count) (grew : m .c .out ≤ d .out)
+        (same : x ≡ plug Gs (climbs lev e (drop (d .at) ts))) where
       pub turn-built : Turned ts s x w (builtIn w m d kind count) m (Next (builtOf w m d))
       turn-built =
           let top = at-d .slots-at .0 in
@@ -223,9 +302,11 @@ module _ {ts : Tokens} {s : Cursor} (x : Read Expr) {w : List ℕ} (m : Machine)
                         level-fits = subst (λ l. l < 32) (sym level) (top .level-fits);
                         firm = firm;
                         stacked =
-                            subst (λ i. Stacked ts s (putEntry w (d .out) kind i (1 + (d .out - startOf w (d .out) count))) (emittedOf d) (m .depth - 1) (slotsOf Gs) (base Gs ++ flat e) (credits Gs)) (sym (slot-index top))
+                            subst (λ i. Stacked ts s (putEntry w (d .out) kind i (1 + (d .out - startOf w (d .out) count))) (emittedOf d) (m .depth - 1) (slotsOf Gs) (base Gs ++ flat e) (credits Gs))
+                            (sym (slot-index top))
                             (subst (λ es. Stacked ts s (putEntry w (d .out) kind j (1 + (d .out - startOf w (d .out) count))) (emittedOf d) (m .depth - 1) (slotsOf Gs) es (credits Gs))
-                            (ap (λ z. (behind (base Gs) css ++ flat tree) ++ (record { kind = kind; token = t; size = z } ∷ [])) size ∙ entries-same) (stacked-less written (credits Gs) (omega arith)));
+                            (ap (λ z. (behind (base Gs) css ++ flat tree) ++ (record { kind = kind; token = t; size = z } ∷ [])) size ∙ entries-same)
+                            (stacked-less written (credits Gs) (omega arith)));
                         same = same ∙ ap (λ l. plug Gs (climbs l e (drop (d .at) ts))) (sym level);
                       };
                   lighter = omega (arith, at-d .count, counted, at-d .ready .fits .inside, top .deep, grew);

@@ -16,6 +16,8 @@ use Rattle.language.specs.Tree.{Expr, Empty, Element}
 use Rattle.language.specs.Grammar.{Tokens, Read, front, rest, next}
 use Rattle.language.specs.Laws.Basics.Tests.{leave}
 use Rattle.language.specs.Laws.Basics.Lists.{All as Every}
+use Rattle.language.specs.Limits.{workBytes}
+use Rattle.lexer.specs.Numbers.{fixed}
 use Rattle.entries.specs.Flat.{under, flat}
 use Rattle.entries.specs.declared.Cursor.{Cursor}
 use Rattle.entries.specs.Cursors.{Fits, kindAt, nextOf, emittedOf}
@@ -70,7 +72,7 @@ module _ {ts : Tokens} {s : Cursor} {x : Read Expr} {w : List ℕ} {m : Machine}
   pub listing-grows : Grows w (m .c) 52 0 1
   listing-grows = grows (credits (h .frames)) (base (h .frames)) [] (flat (h .tree)) tt (h .rooted) (h .stacked) 52 0 (lit< tt) (lit< tt)
 
-  pub listing-ends : (kindAt w (m .c) ≡ 27 → ⊥) → Went ts s x w (grownIn w (m .c) 52 0 1) m (record { c = emittedOf (m .c); depth = m .depth; level = 0; complete = true })
+  pub listing-ends : (kindAt w (m .c) ≡ fixed "," → ⊥) → Went ts s x w (grownIn w (m .c) 52 0 1) m (record { c = emittedOf (m .c); depth = m .depth; level = 0; complete = true })
   listing-ends f =
       let e = Element (h .tree) Empty in
       let made : flat e ≡ under 52 none (flat (h .tree)) = ap (under 52 none) (append-nil (flat (h .tree))) in
@@ -89,13 +91,14 @@ module _ {ts : Tokens} {s : Cursor} {x : Read Expr} {w : List ℕ} {m : Machine}
                   (grown (credits (h .frames)) (base (h .frames)) [] (flat (h .tree)) tt (h .rooted) (h .stacked) 52 0 (lit< tt) (lit< tt) none tt);
               same =
                   h .same
-                  ∙ ap (plug (h .frames)) (listed-end (h .tree) (drop (m .c .at) ts) (next-number (h .stacked .ready) "," refl ∙ ne-eqb (kindAt w (m .c)) 27 f) ∙ sym (climbs-zero e (drop (m .c .at) ts)));
+                  ∙ ap (plug (h .frames)) (listed-end (h .tree) (drop (m .c .at) ts) (next-number (h .stacked .ready) "," refl ∙ ne-eqb (kindAt w (m .c)) 27 f) ∙ sym
+                  (climbs-zero e (drop (m .c .at) ts)));
             };
         light = omega (arith, stacked-apart (h .stacked), stacked-few (h .stacked));
       }
 
   -- another element follows
-  module _ (comma : kindAt w (m .c) ≡ 27) where
+  module _ (comma : kindAt w (m .c) ≡ fixed ",") where
     pub comma-inside : m .c .at < m .c .count
     comma-inside = before-end w (m .c) (omega arith)
 
@@ -110,9 +113,16 @@ module _ {ts : Tokens} {s : Cursor} {x : Read Expr} {w : List ℕ} {m : Machine}
     listing-second k l i =
         let apart = stacked-apart (h .stacked) in
         let few = stacked-few (h .stacked) in
-        record { room = subst (λ n. 65_536 ≤ n) (sym (length-put w (16_383 - m .depth) (slotWord k l i))) (listing-fits .room); deep = omega arith; class-fits = lit< tt; level-fits = lit< tt; token-fits = omega (arith, comma-inside, listing-fits .few) }
+        record {
+          room = subst (λ n. workBytes ≤ n) (sym (length-put w (16_383 - m .depth) (slotWord k l i))) (listing-fits .room);
+          deep = omega arith;
+          class-fits = lit< tt;
+          level-fits = lit< tt;
+          token-fits = omega (arith, comma-inside, listing-fits .few);
+        }
 
-    pub listing-more : Went ts s x w (putSlot (putSlot w (m .depth) 5 (m .level) (m .c .at)) (m .depth + 1) 17 0 (m .c .at)) m (record { c = nextOf (m .c); depth = m .depth + 1 + 1; level = 17; complete = false })
+    pub listing-more : Went ts s x w (putSlot (putSlot w (m .depth) 5 (m .level) (m .c .at)) (m .depth + 1) 17 0 (m .c .at)) m
+        (record { c = nextOf (m .c); depth = m .depth + 1 + 1; level = 17; complete = false })
     unfolding plug
     listing-more =
         let us = drop (m .c .at) ts in
@@ -128,11 +138,13 @@ module _ {ts : Tokens} {s : Cursor} {x : Read Expr} {w : List ℕ} {m : Machine}
         let both = stacked-push first (slot 17 0 t []) (m .c .at) ((refl, omega arith), tt) (omega arith) (lit< tt) (lit< tt) in
         let v = putSlot w (m .depth) 5 0 (m .c .at) in
         let u = putSlot v (m .depth + 1) 17 0 (m .c .at) in
-        let rest-same : (reads loosest (rest us) >>= λ (y, vs). listed y vs >>= λ (es, zs). Done (Element (h .tree) es, zs)) ≡ ((reads loosest (drop (m .c .at + 1) ts) >>= λ (y, vs). listed y vs) >>= λ (es, zs). climbs 0 (Element (h .tree) es) zs) =
+        let rest-same : (reads loosest (rest us) >>= λ (y, vs). listed y vs >>= λ (es, zs). Done (Element (h .tree) es, zs)) ≡
+        ((reads loosest (drop (m .c .at + 1) ts) >>= λ (y, vs). listed y vs) >>= λ (es, zs). climbs 0 (Element (h .tree) es) zs) =
         ap (λ vs. reads loosest vs >>= λ (y, zs). listed y zs >>= λ (es, ys). Done (Element (h .tree) es, ys)) (sym (drop-next (m .c .at) ts))
         ∙ bind-where (reads loosest (drop (m .c .at + 1) ts)) _ _ (λ (y, vs) _. bind-where (listed y vs) _ _ (λ (es, zs) _. sym (climbs-zero (Element (h .tree) es) zs)))
         ∙ sym (bind-again (reads loosest (drop (m .c .at + 1) ts)) _ _) in
-        subst (λ l. Went ts s x w (putSlot (putSlot w (m .depth) 5 l (m .c .at)) (m .depth + 1) 17 0 (m .c .at)) m (record { c = nextOf (m .c); depth = m .depth + 1 + 1; level = 17; complete = false })) (sym (h .level))
+        subst (λ l. Went ts s x w (putSlot (putSlot w (m .depth) 5 l (m .c .at)) (m .depth + 1) 17 0 (m .c .at)) m
+        (record { c = nextOf (m .c); depth = m .depth + 1 + 1; level = 17; complete = false })) (sym (h .level))
         (record {
           kept =
               kept-then (omega arith) (kept-put w (s .out) (16_383 - m .depth) (slotWord 5 0 (m .c .at)) (omega (arith, stacked-few (h .stacked))) (omega arith))
@@ -145,7 +157,8 @@ module _ {ts : Tokens} {s : Cursor} {x : Read Expr} {w : List ℕ} {m : Machine}
                 good = lit< tt;
                 level-fits = lit< tt;
                 firm = ((tt, (λ z. omega arith, tt)), (((h .rooted, tt), (λ z. omega arith, tt)), h .firm));
-                stacked = subst (λ es. Stacked ts s u (nextOf (m .c)) (m .depth + 1 + 1) (slot 17 0 t [] ∷ slot 5 0 t [] ∷ slotsOf (h .frames)) es (0 + (0 + credits (h .frames)))) (sym (append-nil (base (h .frames) ++ flat (h .tree)))) (stacked-less both (0 + (0 + credits (h .frames))) (omega arith));
+                stacked = subst (λ es. Stacked ts s u (nextOf (m .c)) (m .depth + 1 + 1) (slot 17 0 t [] ∷ slot 5 0 t [] ∷ slotsOf (h .frames)) es (0 + (0 + credits (h .frames))))
+                    (sym (append-nil (base (h .frames) ++ flat (h .tree)))) (stacked-less both (0 + (0 + credits (h .frames))) (omega arith));
                 same = h .same ∙ ap (plug (h .frames)) (listed-more (h .tree) us (next-number (h .stacked .ready) "," refl ∙ eq-eqb (kindAt w (m .c)) 27 comma) ∙ rest-same);
               };
           light = omega arith;
@@ -158,10 +171,19 @@ module _ {ts : Tokens} {s : Cursor} {x : Read Expr} {w : List ℕ} {m : Machine}
   lists-more e =
       let q = popping h More deep e in
       let p = q .2 in
-      record { frames = q .1; tree = p .tree; rooted = p .rooted; firm = p .firm; level = refl; stacked = stacked-less (stacked-pop (p .stacked) _ (slotsOf (q .1)) refl) (suc (credits (q .1))) (omega arith); same = p .same }
+      record {
+        frames = q .1;
+        tree = p .tree;
+        rooted = p .rooted;
+        firm = p .firm;
+        level = refl;
+        stacked = stacked-less (stacked-pop (p .stacked) _ (slotsOf (q .1)) refl) (suc (credits (q .1)))
+            (omega arith);
+        same = p .same;
+      }
 
   -- the second: its frame waits for the elements from the second on
-  pub lists-two : slotClass (topSlot w (m .depth)) ≡ 16 → (kindAt w (m .c) ≡ 19 → ⊥)
+  pub lists-two : slotClass (topSlot w (m .depth)) ≡ 16 → (kindAt w (m .c) ≡ fixed ".." → ⊥)
       → Listing ts s x (putSlot w (m .depth - 1) 11 (slotLevel (topSlot w (m .depth))) (slotIndex (topSlot w (m .depth)))) (record { c = m .c; depth = m .depth - 1 + 1; level = 0; complete = false })
   unfolding plug
   lists-two e f =
@@ -179,7 +201,8 @@ module _ {ts : Tokens} {s : Cursor} {x : Read Expr} {w : List ℕ} {m : Machine}
         rooted = p .rooted;
         firm = ((p .firm-top .0, (λ z. omega arith, tt)), p .firm);
         level = refl;
-        stacked = subst (λ u. Stacked ts s u (m .c) (m .depth - 1 + 1) (slot 11 (F .level) (F .token) [] ∷ slotsOf (q .1)) ((base (q .1) ++ flat (F .first)) ++ flat (p .tree)) (suc (0 + credits (q .1)))) same-buffer (stacked-less pushed (suc (0 + credits (q .1))) (omega arith));
+        stacked = subst (λ u. Stacked ts s u (m .c) (m .depth - 1 + 1) (slot 11 (F .level) (F .token) [] ∷ slotsOf (q .1)) ((base (q .1) ++ flat (F .first)) ++ flat (p .tree))
+            (suc (0 + credits (q .1)))) same-buffer (stacked-less pushed (suc (0 + credits (q .1))) (omega arith));
         same = p .same ∙ ap (plug (q .1)) (leave (next ".." (drop (m .c .at) ts)) _ _ (next-number (h .stacked .ready) ".." refl ∙ ne-eqb (kindAt w (m .c)) 19 f));
       }
 

@@ -34,8 +34,9 @@ pub record Grows (w : List ℕ) (c : Cursor) (kind j n : ℕ) : Type 0 where
 abbrev pub grownIn : List ℕ → Cursor → ℕ → ℕ → ℕ → List ℕ
 grownIn w c kind j n = putEntry w (c .out) kind j (1 + (c .out - startOf w (c .out) n))
 
-module _ {ts : Tokens} {s : Cursor} {w : List ℕ} {c : Cursor} {depth : ℕ} {slots : List Slot} (n : ℕ) (P : List Entry) (css : List (List Entry)) (A : List Entry) (firm : Every Rooted css) (rooted : Rooted A)
-    (h : Stacked ts s w c depth slots (behind P css ++ A) (suc n)) (kind j : ℕ) (small : kind < 64) (fits : j < 8_192) where
+module _ {ts : Tokens} {s : Cursor} {w : List ℕ} {c : Cursor} {depth : ℕ} {slots : List Slot} (n : ℕ) (P : List Entry) (css : List (List Entry)) (A : List Entry) (firm : Every Rooted css)
+    (rooted : Rooted A)
+    (h : Stacked ts s w c depth slots (behind P css ++ A) (suc n)) (kind j : ℕ) (small : kind < 64) (fits : j < maxTokens) where
   abbrev count : ℕ
   count = suc (length css)
 

@@ -21,9 +21,12 @@ elements-listed (suc f) zero y H ts h l = absurd (omega arith)
 elements-listed (suc f) (suc g) y H ts h l =
     go (next "," ts) (λ x us k. let m = rest-fits ts in elements-listed f g x (λ t vs. H (Element y t) vs) us (omega arith) (omega arith))
   where
-    go : (b : Bool) → ((x : Expr) (us : Tokens) → length us < length (rest ts) → (elements f reads us >>= λ (es, vs). H (Element y (Element x es)) vs) ≡ (elementsFrom g x us >>= λ (t, vs). expect "}" vs >>= λ (c, xs). H (Element y t) xs))
-        → (elim b [ true ↦ reads loosest (rest ts) >>= λ (x, us). elements f reads us >>= λ (es, vs). Done (Element x es, vs) | false ↦ expect "}" ts >>= λ (c, us). Done (Empty, us) ] >>= λ (es, us). H (Element y es) us)
-        ≡ (elim b [ true ↦ reads loosest (rest ts) >>= λ (x, us). elementsFrom g x us >>= λ (es, vs). Done (Element y es, vs) | false ↦ Done (Element y Empty, ts) ] >>= λ (t, us). expect "}" us >>= λ (c, vs). H t vs)
+    go : (b : Bool) → ((x : Expr) (us : Tokens) → length us < length (rest ts)
+        → (elements f reads us >>= λ (es, vs). H (Element y (Element x es)) vs) ≡ (elementsFrom g x us >>= λ (t, vs). expect "}" vs >>= λ (c, xs). H (Element y t) xs))
+        → (elim b [ true ↦ reads loosest (rest ts) >>= λ (x, us). elements f reads us >>= λ (es, vs). Done (Element x es, vs) | false ↦ expect "}" ts >>= λ (c, us). Done (Empty, us) ] >>= λ (es, us).
+        H (Element y es) us)
+        ≡ (elim b [ true ↦ reads loosest (rest ts) >>= λ (x, us). elementsFrom g x us >>= λ (es, vs). Done (Element y es, vs) | false ↦ Done (Element y Empty, ts) ] >>= λ (t, us). expect "}" us >>= λ
+        (c, vs). H t vs)
     go true later =
         bind-again (reads loosest (rest ts)) _ _
         ∙ bind-where (reads loosest (rest ts)) _ _

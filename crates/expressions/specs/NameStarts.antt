@@ -9,6 +9,7 @@ use lib.Dec.{lit<}
 use Rattle.words.specs.Words.{wordAt}
 use Rattle.language.specs.Tree.{Expr, Between}
 use Rattle.language.specs.Grammar.{Tokens, Read}
+use Rattle.language.specs.Limits.{maxTokens}
 use Rattle.lexer.specs.Stored.{numberIn}
 use Rattle.entries.specs.Kinds as Kind
 use Rattle.entries.specs.Flat.{under, flat}
@@ -65,7 +66,7 @@ module _ {ts : Tokens} {s : Cursor} {x : Read Expr} {w : List ℕ} {m : Machine}
         firm = p .firm;
         marked = p .firm-top .1;
         keeps = subst (λ i. Keeps ts i (some (F .name))) (sym (slot-index at-top)) (at-top .tokens .0);
-        index-fits = subst (λ i. i < 8_192) (sym (slot-index at-top)) (at-top .index-fits);
+        index-fits = subst (λ i. i < maxTokens) (sym (slot-index at-top)) (at-top .index-fits);
         stacked = stacked-less (stacked-pop (p .stacked) (slot 20 0 (F .name) []) (slot 6 (F .level) (F .token) [] ∷ slotsOf (q .1)) refl) (suc (credits (q .1))) (omega arith);
         same = p .same;
       }
@@ -81,7 +82,7 @@ module _ {ts : Tokens} {s : Cursor} {x : Read Expr} {w : List ℕ} {m : Machine}
     abbrev kind : ℕ
     kind = betweenAt (numberIn (wordAt w index)) (numberIn (wordAt w (index + 2)))
 
-    pub upper-index : index + 2 < 8_192
+    pub upper-index : index + 2 < maxTokens
     upper-index =
         let q = popping h Upper deep e in
         let at-top = q .2 .stacked .slots-at .0 in
@@ -93,7 +94,8 @@ module _ {ts : Tokens} {s : Cursor} {x : Read Expr} {w : List ℕ} {m : Machine}
         let q = popping h Upper deep e in
         let F = turned Upper (q .0) in
         let p = q .2 in
-        grows (credits (q .1)) (base (q .1)) (flat (F .first) ∷ []) (flat (p .tree)) (p .firm-top .0) (p .rooted) (stacked-less (p .stacked) (suc (credits (q .1))) (omega arith)) kind index (between-small (strictAt (numberIn (wordAt w index))) (strictAt (numberIn (wordAt w (index + 2))))) (omega (arith, upper-index))
+        grows (credits (q .1)) (base (q .1)) (flat (F .first) ∷ []) (flat (p .tree)) (p .firm-top .0) (p .rooted) (stacked-less (p .stacked) (suc (credits (q .1))) (omega arith)) kind index
+        (between-small (strictAt (numberIn (wordAt w index))) (strictAt (numberIn (wordAt w (index + 2))))) (omega (arith, upper-index))
 
     pub names-upper : Ranged ts s x (grownIn w (m .c) kind index 2) (poppedOf m 0) (emittedOf (m .c)) (index + 1)
     names-upper =
@@ -105,14 +107,19 @@ module _ {ts : Tokens} {s : Cursor} {x : Read Expr} {w : List ℕ} {m : Machine}
         let here = slot-index at-top in
         let keeps-low : Keeps ts index (some (F .low)) = subst (λ i. Keeps ts i (some (F .low))) (sym here) (at-top .tokens .0) in
         let keeps-name : Keeps ts (index + 1) (some (F .name)) = subst (λ i. Keeps ts i (some (F .name))) (let z : suc (at-top .index) ≡ index + 1 = omega arith in z) (at-top .tokens .1 .0) in
-        let keeps-high : Keeps ts (index + 2) (some (F .high)) = subst (λ i. Keeps ts i (some (F .high))) (let z : suc (suc (at-top .index)) ≡ index + 2 = omega arith in z) (at-top .tokens .1 .1 .0) in
+        let keeps-high : Keeps ts (index + 2) (some (F .high)) = subst (λ i. Keeps ts i (some (F .high))) (let z : suc (suc (at-top .index)) ≡ index + 2 = omega arith in z) (at-top .tokens .1 .1 .0)
+        in
         let ready = h .stacked .ready in
         let kind-is : kind ≡ Kind.between (isStrict (F .low)) (isStrict (F .high)) =
-        ap₂ Kind.between (ap strictAt (stored-number index (F .low) ready keeps-low) ∙ sym (strict-number (F .low))) (ap strictAt (stored-number (index + 2) (F .high) ready keeps-high) ∙ sym (strict-number (F .high))) in
-        let g = grown (credits (q .1)) (base (q .1)) (flat (F .first) ∷ []) (flat (p .tree)) (p .firm-top .0) (p .rooted) st kind index (between-small (strictAt (numberIn (wordAt w index))) (strictAt (numberIn (wordAt w (index + 2))))) (omega (arith, upper-index)) (some (F .low)) keeps-low in
+        ap₂ Kind.between (ap strictAt (stored-number index (F .low) ready keeps-low) ∙ sym (strict-number (F .low)))
+        (ap strictAt (stored-number (index + 2) (F .high) ready keeps-high) ∙ sym (strict-number (F .high))) in
+        let g = grown (credits (q .1)) (base (q .1)) (flat (F .first) ∷ []) (flat (p .tree)) (p .firm-top .0) (p .rooted) st kind index
+        (between-small (strictAt (numberIn (wordAt w index))) (strictAt (numberIn (wordAt w (index + 2))))) (omega (arith, upper-index)) (some (F .low)) keeps-low in
         let r = Between (F .low) (isStrict (F .low)) (isStrict (F .high)) (F .first) (p .tree) in
-        let g′ : Stacked ts s (grownIn w (m .c) kind index 2) (emittedOf (m .c)) (m .depth) (slot 19 0 (F .low) (F .name ∷ F .high ∷ []) ∷ slot 6 (F .level) (F .token) [] ∷ slotsOf (q .1)) (base (q .1) ++ flat r) (credits (q .1)) =
-        subst (λ k. Stacked ts s (grownIn w (m .c) kind index 2) (emittedOf (m .c)) (m .depth) (slot 19 0 (F .low) (F .name ∷ F .high ∷ []) ∷ slot 6 (F .level) (F .token) [] ∷ slotsOf (q .1)) (base (q .1) ++ under k (some (F .low)) (flat (F .first) ++ flat (p .tree))) (credits (q .1))) kind-is g in
+        let g′ : Stacked ts s (grownIn w (m .c) kind index 2) (emittedOf (m .c)) (m .depth) (slot 19 0 (F .low) (F .name ∷ F .high ∷ []) ∷ slot 6 (F .level) (F .token) [] ∷ slotsOf (q .1))
+        (base (q .1) ++ flat r) (credits (q .1)) =
+        subst (λ k. Stacked ts s (grownIn w (m .c) kind index 2) (emittedOf (m .c)) (m .depth) (slot 19 0 (F .low) (F .name ∷ F .high ∷ []) ∷ slot 6 (F .level) (F .token) [] ∷ slotsOf (q .1))
+        (base (q .1) ++ under k (some (F .low)) (flat (F .first) ++ flat (p .tree))) (credits (q .1))) kind-is g in
         record {
           frame = F;
           frames = q .1;
@@ -131,8 +138,10 @@ module _ {ts : Tokens} {s : Cursor} {x : Read Expr} {w : List ℕ} {m : Machine}
         let q = popping h Upper deep e in
         let F = turned Upper (q .0) in
         let p = q .2 in
-        kept-grown (credits (q .1)) (base (q .1)) (flat (F .first) ∷ []) (flat (p .tree)) (p .firm-top .0) (p .rooted) (stacked-less (p .stacked) (suc (credits (q .1))) (omega arith)) kind index (between-small (strictAt (numberIn (wordAt w index))) (strictAt (numberIn (wordAt w (index + 2))))) (omega (arith, upper-index))
+        kept-grown (credits (q .1)) (base (q .1)) (flat (F .first) ∷ []) (flat (p .tree)) (p .firm-top .0) (p .rooted) (stacked-less (p .stacked) (suc (credits (q .1))) (omega arith)) kind index
+        (between-small (strictAt (numberIn (wordAt w index))) (strictAt (numberIn (wordAt w (index + 2))))) (omega (arith, upper-index))
 
     pub turn-upper : {v : List ℕ} (r : Turn) → NameBound ts s x (grownIn w (m .c) kind index 2) v (poppedOf m 0) (emittedOf (m .c)) r → Turned ts s x w v m r
-    turn-upper (Next n) b = let t = b .step in turned-after kept-upper (record { kept = t .kept; after = record { state = t .after .state; lighter = (let d : m .depth - 1 + 1 ≡ m .depth = omega arith in omega (arith, t .after .lighter)) } })
+    turn-upper (Next n) b = let t = b .step in turned-after kept-upper
+        (record { kept = t .kept; after = record { state = t .after .state; lighter = (let d : m .depth - 1 + 1 ≡ m .depth = omega arith in omega (arith, t .after .lighter)) } })
     turn-upper (Ended p) b = turned-after kept-upper (record { kept = b .step .kept; after = b .step .after })

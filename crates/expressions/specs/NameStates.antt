@@ -14,7 +14,9 @@ use Rattle.language.specs.Tree.{Expr, Empty}
 use Rattle.language.specs.Grammar.{Tokens, Read, next, expect, Binder}
 use Rattle.language.specs.Laws.Basics.Tests.{pick, leave}
 use Rattle.language.specs.Laws.Basics.Lists.{All as Every}
+use Rattle.language.specs.Limits.{maxTokens}
 use Rattle.lexer.specs.Stored.{numberIn}
+use Rattle.lexer.specs.Numbers.{fixed}
 use Rattle.entries.specs.Kinds as Kind
 use Rattle.entries.specs.Flat.{under, flat}
 use Rattle.entries.specs.Stored.{Keeps}
@@ -49,7 +51,7 @@ pub record Ranged (ts : Tokens) (s : Cursor) (x : Read Expr) (w : List ℕ) (m :
   pub firm : Every Firm frames
   pub marked : Marked Over (frame .token)
   pub keeps : Keeps ts j (some (binder .name))
-  pub index-fits : j < 8_192
+  pub index-fits : j < maxTokens
   pub stacked : Stacked ts s w c (m .depth) (slot 6 (frame .level) (frame .token) [] ∷ slotsOf frames) (base frames ++ flat (binder .range)) (suc (credits frames))
   pub same : x ≡ plug frames (afterBinder (frame .level) (frame .token) binder (drop (c .at) ts))
 
@@ -105,9 +107,11 @@ module _ {ts : Tokens} {s : Cursor} {x : Read Expr} {w : List ℕ} {m : Machine}
   -- the name is bound
   named-stacked : Stacked ts s namedIn (emittedOf c) (m .depth) (slotsOf (over ∷ h .frames)) (base (over ∷ h .frames) ++ []) (credits (over ∷ h .frames))
   named-stacked =
-      let g = grown (credits (h .frames)) (base (h .frames)) [] (flat (h .binder .range)) tt (h .rooted) (h .stacked) (binderKind (slotLevel top)) j (kind-small (slotLevel top)) (h .index-fits) (some (h .binder .name)) (h .keeps) in
+      let g = grown (credits (h .frames)) (base (h .frames)) [] (flat (h .binder .range)) tt (h .rooted) (h .stacked) (binderKind (slotLevel top)) j (kind-small (slotLevel top)) (h .index-fits)
+      (some (h .binder .name)) (h .keeps) in
       subst (λ es. Stacked ts s namedIn (emittedOf c) (m .depth) (slotsOf (over ∷ h .frames)) es (0 + credits (h .frames))) (sym (append-nil (base (over ∷ h .frames))))
-      (stacked-less (subst (λ l. Stacked ts s namedIn (emittedOf c) (m .depth) (slotsOf (over ∷ h .frames)) (base (h .frames) ++ under (binderKind l) (some (h .binder .name)) (flat (h .binder .range))) (credits (h .frames))) level-top g) (0 + credits (h .frames)) (omega arith))
+      (stacked-less (subst (λ l. Stacked ts s namedIn (emittedOf c) (m .depth) (slotsOf (over ∷ h .frames))
+      (base (h .frames) ++ under (binderKind l) (some (h .binder .name)) (flat (h .binder .range))) (credits (h .frames))) level-top g) (0 + credits (h .frames)) (omega arith))
 
   pub named-fits : Fits namedIn (emittedOf c)
   named-fits = named-stacked .ready .fits
@@ -116,7 +120,7 @@ module _ {ts : Tokens} {s : Cursor} {x : Read Expr} {w : List ℕ} {m : Machine}
   firm-over = ((((binderKind (h .frame .level), some (h .binder .name), flat (h .binder .range), refl), tt), h .marked), h .firm)
 
   -- further names follow
-  module _ (comma : kindAt namedIn (emittedOf c) ≡ 27) where
+  module _ (comma : kindAt namedIn (emittedOf c) ≡ fixed ",") where
     pub comma-inside : c .at < c .count
     comma-inside = before-end namedIn (emittedOf c) (omega arith)
 
@@ -130,7 +134,7 @@ module _ {ts : Tokens} {s : Cursor} {x : Read Expr} {w : List ℕ} {m : Machine}
           firm = firm-over;
           marked = h .marked;
           keeps = subst (λ i. Keeps ts i (some (h .frame .token))) (sym (slot-index at-top)) (at-top .tokens .0);
-          token-fits = subst (λ i. i < 8_192) (sym (slot-index at-top)) (at-top .index-fits);
+          token-fits = subst (λ i. i < maxTokens) (sym (slot-index at-top)) (at-top .index-fits);
           level-fits = lit< tt;
           stacked = stacked-next named-stacked comma-inside;
           same =
@@ -140,27 +144,37 @@ module _ {ts : Tokens} {s : Cursor} {x : Read Expr} {w : List ℕ} {m : Machine}
               ∙ ap (λ vs. folds 0 (h .frame .token) vs >>= λ (e, us). resume over e us) (sym (drop-next (c .at) ts)));
         }
 
-    pub turn-further : {v : List ℕ} {n : Machine} → Named ts s x namedIn v (record { c = emittedOf c; depth = m .depth; level = 0; complete = false }) (nextOf (emittedOf c)) n → NameBound ts s x w v m c (Next n)
+    pub turn-further : {v : List ℕ} {n : Machine} → Named ts s x namedIn v (record { c = emittedOf c; depth = m .depth; level = 0; complete = false }) (nextOf (emittedOf c)) n
+        → NameBound ts s x w v m c (Next n)
     turn-further {v} {n} g =
         record {
           step =
               turned-after kept-named
-              (record { kept = g .kept; after = record { state = subst (λ b. State b ts s x v n) (sym (g .state .mode)) (g .state); lighter = omega (arith, g .light, comma-inside, stacked-apart (h .stacked), stacked-few (h .stacked)) } });
+              (record {
+                kept = g .kept;
+                after = record {
+                  state = subst (λ b. State b ts s x v n) (sym (g .state .mode)) (g .state);
+                  lighter = omega
+                      (arith, g .light, comma-inside, stacked-apart (h .stacked), stacked-few (h .stacked));
+                };
+              });
         }
 
   -- the operand follows
-  module _ (no-comma : kindAt namedIn (emittedOf c) ≡ 27 → ⊥) where
+  module _ (no-comma : kindAt namedIn (emittedOf c) ≡ fixed "," → ⊥) where
     ends-here : x ≡ plug (h .frames) (expect "]" (drop (c .at) ts) >>= λ (d, us). reads (levelAt (h .frame .token)) us >>= λ (e, vs). resume over e vs)
     ends-here = h .same ∙ ap (plug (h .frames)) (leave (next "," (drop (c .at) ts)) _ _ (next-number (named-stacked .ready) "," refl ∙ ne-eqb (kindAt namedIn (emittedOf c)) 27 no-comma))
 
-    pub turn-operand : kindAt namedIn (emittedOf c) ≡ 25 → NameBound ts s x w namedIn m c (Next (record { c = nextOf (emittedOf c); depth = m .depth; level = prefixAt (operatorIn namedIn top) % 32; complete = false }))
+    pub turn-operand : kindAt namedIn (emittedOf c) ≡ fixed "]" → NameBound ts s x w namedIn m c
+        (Next (record { c = nextOf (emittedOf c); depth = m .depth; level = prefixAt (operatorIn namedIn top) % 32; complete = false }))
     unfolding plug
     turn-operand k =
         let i = before-end namedIn (emittedOf c) (omega arith) in
         let at-top = h .stacked .slots-at .0 in
         let row = prefix-some (h .frame .token) (h .marked .0) in
         let level : prefixAt (operatorIn namedIn top) % 32 ≡ levelAt (h .frame .token) =
-        ap (λ n. prefixAt n % 32) (ap (λ q. numberIn (wordAt namedIn q)) (slot-index at-top) ∙ stored-number (at-top .index) (h .frame .token) (named-stacked .ready) (at-top .tokens .0)) ∙ row .level in
+        ap (λ n. prefixAt n % 32) (ap (λ q. numberIn (wordAt namedIn q)) (slot-index at-top) ∙ stored-number (at-top .index) (h .frame .token) (named-stacked .ready) (at-top .tokens .0)) ∙ row .level
+        in
         subst (λ l. NameBound ts s x w namedIn m c (Next (record { c = nextOf (emittedOf c); depth = m .depth; level = l; complete = false }))) (sym level)
         (record {
           step =
@@ -184,6 +198,6 @@ module _ {ts : Tokens} {s : Cursor} {x : Read Expr} {w : List ℕ} {m : Machine}
               };
         })
 
-    pub turn-unnamed : (kindAt namedIn (emittedOf c) ≡ 25 → ⊥) → NameBound ts s x w namedIn m c (Ended (refusedAt namedIn (emittedOf c)))
+    pub turn-unnamed : (kindAt namedIn (emittedOf c) ≡ fixed "]" → ⊥) → NameBound ts s x w namedIn m c (Ended (refusedAt namedIn (emittedOf c)))
     turn-unnamed f =
         record { step = turned-after kept-named (refused-here (h .frames) (emittedOf c) (named-stacked .ready) (ends-here ∙ ap (plug (h .frames)) (expect-other (named-stacked .ready) "]" refl _ f))) }

@@ -34,7 +34,8 @@ abbrev climbBy : ℕ → ℕ → Expr → Token → Option InfixRow → Tokens �
 climbBy f max e t none ts = Done (e, ts)
 climbBy f max e t (some r) ts = reads (rightLevel r) (rest ts) >>= λ (b, us). climb f reads max (Joined t (r .operator) e b) us
 
-climb-by : (f max : ℕ) (e : Expr) (t : Token) (ts : Tokens) (o : Option InfixRow) → _≡_ {A = Read Expr} (elim o [ none ↦ Done (e, ts) | some r ↦ reads (rightLevel r) (rest ts) >>= λ (b, us). climb f reads max (Joined t (r .operator) e b) us ]) (climbBy f max e t o ts)
+climb-by : (f max : ℕ) (e : Expr) (t : Token) (ts : Tokens) (o : Option InfixRow)
+    → _≡_ {A = Read Expr} (elim o [ none ↦ Done (e, ts) | some r ↦ reads (rightLevel r) (rest ts) >>= λ (b, us). climb f reads max (Joined t (r .operator) e b) us ]) (climbBy f max e t o ts)
 climb-by f max e t ts none = refl
 climb-by f max e t ts (some r) = refl
 
@@ -48,7 +49,8 @@ climb-fuel (suc f) (suc g) max e ts h l =
     climb-step f max e ts
     ∙ go (allowed max (infixOf infixes (front ts))) (λ a us k. let m = rest-fits ts in climb-fuel f g max a us (omega arith) (omega arith)) ∙ sym (climb-step g max e ts)
   where
-    go : (o : Option InfixRow) → ((a : Expr) (us : Tokens) → length us < length (rest ts) → climb f reads max a us ≡ climb g reads max a us) → climbBy f max e (front ts) o ts ≡ climbBy g max e (front ts) o ts
+    go : (o : Option InfixRow) → ((a : Expr) (us : Tokens) → length us < length (rest ts) → climb f reads max a us ≡ climb g reads max a us)
+        → climbBy f max e (front ts) o ts ≡ climbBy g max e (front ts) o ts
     go none later = refl
     go (some r) later =
         bind-where (reads (rightLevel r) (rest ts)) _ _ (λ (b, us) z. later (Joined (front ts) (r .operator) e b) us (reads-takes (rightLevel r) (rest ts) b us z))
@@ -79,7 +81,8 @@ unfolding infixRow positive
 climbs-zero e ts = climbs-stop 0 e ts (none-at-zero infixes (front ts) refl)
 
 -- an operator follows
-pub climbs-on : (max : ℕ) (e : Expr) (ts : Tokens) (r : InfixRow) → allowed max (infixRow (front ts)) ≡ some r → infixRow (front ts) ≡ some r → climbs max e ts ≡ (reads (rightLevel r) (rest ts) >>= λ (b, us). climbs max (Joined (front ts) (operatorAt (front ts)) e b) us)
+pub climbs-on : (max : ℕ) (e : Expr) (ts : Tokens) (r : InfixRow) → allowed max (infixRow (front ts)) ≡ some r → infixRow (front ts) ≡ some r
+    → climbs max e ts ≡ (reads (rightLevel r) (rest ts) >>= λ (b, us). climbs max (Joined (front ts) (operatorAt (front ts)) e b) us)
 unfolding climbs operatorAt
 climbs-on max e ts r h i =
     climbs-by max e ts (some r) h

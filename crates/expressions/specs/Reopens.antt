@@ -13,6 +13,7 @@ use Rattle.language.specs.Operators.{loosest}
 use Rattle.language.specs.Grammar.{Tokens, Read, next}
 use Rattle.language.specs.Laws.Basics.Tests.{pick}
 use Rattle.language.specs.Laws.Basics.Lists.{All as Every}
+use Rattle.lexer.specs.Numbers.{fixed}
 use Rattle.entries.specs.Flat.{Entry}
 use Rattle.entries.specs.declared.Cursor.{Cursor}
 use Rattle.entries.specs.Cursors.{kindAt, nextOf, refusedAt}
@@ -61,7 +62,8 @@ module _ {ts : Tokens} {s : Cursor} {x : Read Expr} {w : List ℕ} {m : Machine}
       let pushed = stacked-push popped new (top .index) (top .tokens .0, tt) (top .index-fits) class (top .level-fits) in
       let v = reopenedIn w m (classNumber (F′ .class)) in
       let same-buffer : putSlot w (m .depth - 1) (classNumber (F′ .class)) (F .level) (top .index) ≡ v =
-      ap (λ k. putSlot w (m .depth - 1) (classNumber (F′ .class)) k (top .index)) (sym (slot-level top)) ∙ ap (putSlot w (m .depth - 1) (classNumber (F′ .class)) (slotLevel (topSlot w (m .depth)))) (sym (slot-index top)) in
+      ap (λ k. putSlot w (m .depth - 1) (classNumber (F′ .class)) k (top .index)) (sym (slot-level top)) ∙ ap (putSlot w (m .depth - 1) (classNumber (F′ .class)) (slotLevel (topSlot w (m .depth))))
+      (sym (slot-index top)) in
       record {
         kept = kept-put w (s .out) (16_383 - (m .depth - 1)) (slotWord (classNumber (F′ .class)) (slotLevel (topSlot w (m .depth))) (slotIndex (topSlot w (m .depth)))) (omega arith) (omega arith);
         after =
@@ -76,8 +78,10 @@ module _ {ts : Tokens} {s : Cursor} {x : Read Expr} {w : List ℕ} {m : Machine}
                     firm = (firm′, firm);
                     stacked =
                         subst (λ sl. Stacked ts s v d (m .depth - 1 + 1) (sl ++ slotsOf Gs) (behind (base Gs) (treesBy (F′ .class) F′) ++ []) (creditBy (F′ .class) + credits Gs)) (sym slots)
-                        (subst (λ es. Stacked ts s v d (m .depth - 1 + 1) (new ∷ slotsOf Gs) es (creditBy (F′ .class) + credits Gs)) (sym (append-nil (behind (base Gs) (treesBy (F′ .class) F′)) ∙ entries))
-                        (subst (λ u. Stacked ts s u d (m .depth - 1 + 1) (new ∷ slotsOf Gs) E (creditBy (F′ .class) + credits Gs)) same-buffer (stacked-less pushed (creditBy (F′ .class) + credits Gs) credit)));
+                        (subst (λ es. Stacked ts s v d (m .depth - 1 + 1) (new ∷ slotsOf Gs) es (creditBy (F′ .class) + credits Gs))
+                        (sym (append-nil (behind (base Gs) (treesBy (F′ .class) F′)) ∙ entries))
+                        (subst (λ u. Stacked ts s u d (m .depth - 1 + 1) (new ∷ slotsOf Gs) E (creditBy (F′ .class) + credits Gs)) same-buffer
+                        (stacked-less pushed (creditBy (F′ .class) + credits Gs) credit)));
                     same = same;
                   };
               lighter = omega (arith, at-d .count, counted, at-d .ready .fits .inside, grew);
@@ -89,7 +93,7 @@ module _ {ts : Tokens} {s : Cursor} {x : Read Expr} {w : List ℕ} {m : Machine}
     top = topSlot w (m .depth)
 
     -- the level of the operator's operand
-    pub turn-counted : slotClass top ≡ 12 → kindAt w (m .c) ≡ 25 → Turned ts s x w (reopenedIn w m 3) m (reopenedOf m (nextOf (m .c)) (prefixAt (operatorIn w top) % 32))
+    pub turn-counted : slotClass top ≡ 12 → kindAt w (m .c) ≡ fixed "]" → Turned ts s x w (reopenedIn w m 3) m (reopenedOf m (nextOf (m .c)) (prefixAt (operatorIn w top) % 32))
     turn-counted e k =
         let q = popping h Count deep e in
         let F = turned Count (q .0) in
@@ -97,18 +101,20 @@ module _ {ts : Tokens} {s : Cursor} {x : Read Expr} {w : List ℕ} {m : Machine}
         let row = prefix-some (F .token) (p .firm-top .1 .0) in
         let level : prefixAt (operatorIn w top) % 32 ≡ levelAt (F .token) = ap (λ n. prefixAt n % 32) (number-top h deep Count (q .0) (q .1) p (p .stacked)) ∙ row .level in
         subst (λ l. Turned ts s x w (reopenedIn w m 3) m (reopenedOf m (nextOf (m .c)) l)) (sym level)
-        (reopens F (withFirst Stepped F (p .tree)) (q .1) _ (nextOf (m .c)) (suc (0 + credits (q .1))) (levelAt (F .token)) (stacked-next (p .stacked) (sign-inside h _ k (lit< tt))) (p .firm) ((p .rooted, tt), (λ z. omega arith, tt)) refl refl (omega arith) (lit< tt) (omega arith) (p .stacked .count) (omega arith) (row .level-some) (row .level-fits)
+        (reopens F (withFirst Stepped F (p .tree)) (q .1) _ (nextOf (m .c)) (suc (0 + credits (q .1))) (levelAt (F .token)) (stacked-next (p .stacked) (sign-inside h _ k (lit< tt))) (p .firm)
+        ((p .rooted, tt), (λ z. omega arith, tt)) refl refl (omega arith) (lit< tt) (omega arith) (p .stacked .count) (omega arith) (row .level-some) (row .level-fits)
         (p .same ∙ ap (plug (q .1)) (expect-here (h .stacked .ready) "]" refl _ k)))
 
-    pub turn-low : slotClass top ≡ 13 → kindAt w (m .c) ≡ 29 → Turned ts s x w (reopenedIn w m 14) m (reopenedOf m (nextOf (m .c)) 17)
+    pub turn-low : slotClass top ≡ 13 → kindAt w (m .c) ≡ fixed ":" → Turned ts s x w (reopenedIn w m 14) m (reopenedOf m (nextOf (m .c)) 17)
     turn-low e k =
         let q = popping h Low deep e in
         let F = turned Low (q .0) in
         let p = q .2 in
-        reopens F (withFirst High F (p .tree)) (q .1) _ (nextOf (m .c)) (suc (0 + credits (q .1))) 17 (stacked-next (p .stacked) (sign-inside h _ k (lit< tt))) (p .firm) ((p .rooted, tt), p .firm-top .1) refl refl (omega arith) (lit< tt) (omega arith) (p .stacked .count) (omega arith) (lit< tt) (lit< tt)
+        reopens F (withFirst High F (p .tree)) (q .1) _ (nextOf (m .c)) (suc (0 + credits (q .1))) 17 (stacked-next (p .stacked) (sign-inside h _ k (lit< tt))) (p .firm)
+        ((p .rooted, tt), p .firm-top .1) refl refl (omega arith) (lit< tt) (omega arith) (p .stacked .count) (omega arith) (lit< tt) (lit< tt)
         (p .same ∙ ap (plug (q .1)) (expect-here (h .stacked .ready) ":" refl _ k))
 
-    pub turn-high : slotClass top ≡ 14 → kindAt w (m .c) ≡ 25 → Turned ts s x w (reopenedIn w m 4) m (reopenedOf m (nextOf (m .c)) (prefixAt (operatorIn w top) % 32))
+    pub turn-high : slotClass top ≡ 14 → kindAt w (m .c) ≡ fixed "]" → Turned ts s x w (reopenedIn w m 4) m (reopenedOf m (nextOf (m .c)) (prefixAt (operatorIn w top) % 32))
     turn-high e k =
         let q = popping h High deep e in
         let F = turned High (q .0) in
@@ -116,37 +122,42 @@ module _ {ts : Tokens} {s : Cursor} {x : Read Expr} {w : List ℕ} {m : Machine}
         let row = prefix-some (F .token) (p .firm-top .1 .0) in
         let level : prefixAt (operatorIn w top) % 32 ≡ levelAt (F .token) = ap (λ n. prefixAt n % 32) (number-top h deep High (q .0) (q .1) p (p .stacked)) ∙ row .level in
         subst (λ l. Turned ts s x w (reopenedIn w m 4) m (reopenedOf m (nextOf (m .c)) l)) (sym level)
-        (reopens F (withSecond Within F (p .tree)) (q .1) _ (nextOf (m .c)) (suc (0 + credits (q .1))) (levelAt (F .token)) (stacked-next (p .stacked) (sign-inside h _ k (lit< tt))) (p .firm) ((p .firm-top .0 .0, (p .rooted, tt)), p .firm-top .1) refl refl (omega arith) (lit< tt) (omega arith) (p .stacked .count) (omega arith) (row .level-some) (row .level-fits)
+        (reopens F (withSecond Within F (p .tree)) (q .1) _ (nextOf (m .c)) (suc (0 + credits (q .1))) (levelAt (F .token)) (stacked-next (p .stacked) (sign-inside h _ k (lit< tt))) (p .firm)
+        ((p .firm-top .0 .0, (p .rooted, tt)), p .firm-top .1) refl refl (omega arith) (lit< tt) (omega arith) (p .stacked .count) (omega arith) (row .level-some) (row .level-fits)
         (p .same ∙ ap (plug (q .1)) (expect-here (h .stacked .ready) "]" refl _ k)))
 
-    pub turn-uncounted : slotClass top ≡ 12 → (kindAt w (m .c) ≡ 25 → ⊥) → Turned ts s x w w m (Ended (refusedAt w (m .c)))
+    pub turn-uncounted : slotClass top ≡ 12 → (kindAt w (m .c) ≡ fixed "]" → ⊥) → Turned ts s x w w m (Ended (refusedAt w (m .c)))
     turn-uncounted e f = let q = popping h Count deep e in refused-here (q .1) (m .c) (h .stacked .ready) (q .2 .same ∙ ap (plug (q .1)) (expect-other (h .stacked .ready) "]" refl _ f))
 
-    pub turn-unlow : slotClass top ≡ 13 → (kindAt w (m .c) ≡ 29 → ⊥) → Turned ts s x w w m (Ended (refusedAt w (m .c)))
+    pub turn-unlow : slotClass top ≡ 13 → (kindAt w (m .c) ≡ fixed ":" → ⊥) → Turned ts s x w w m (Ended (refusedAt w (m .c)))
     turn-unlow e f = let q = popping h Low deep e in refused-here (q .1) (m .c) (h .stacked .ready) (q .2 .same ∙ ap (plug (q .1)) (expect-other (h .stacked .ready) ":" refl _ f))
 
-    pub turn-unhigh : slotClass top ≡ 14 → (kindAt w (m .c) ≡ 25 → ⊥) → Turned ts s x w w m (Ended (refusedAt w (m .c)))
+    pub turn-unhigh : slotClass top ≡ 14 → (kindAt w (m .c) ≡ fixed "]" → ⊥) → Turned ts s x w w m (Ended (refusedAt w (m .c)))
     turn-unhigh e f = let q = popping h High deep e in refused-here (q .1) (m .c) (h .stacked .ready) (q .2 .same ∙ ap (plug (q .1)) (expect-other (h .stacked .ready) "]" refl _ f))
 
     -- a set's first element, and a second
-    pub turn-second : slotClass top ≡ 15 → kindAt w (m .c) ≡ 27 → Turned ts s x w (reopenedIn w m 16) m (reopenedOf m (nextOf (m .c)) 17)
+    pub turn-second : slotClass top ≡ 15 → kindAt w (m .c) ≡ fixed "," → Turned ts s x w (reopenedIn w m 16) m (reopenedOf m (nextOf (m .c)) 17)
     turn-second e k =
         let q = popping h One deep e in
         let F = turned One (q .0) in
         let p = q .2 in
-        reopens F (withFirst Two F (p .tree)) (q .1) _ (nextOf (m .c)) (suc (0 + credits (q .1))) 17 (stacked-next (p .stacked) (sign-inside h _ k (lit< tt))) (p .firm) ((p .rooted, tt), (λ z. omega arith, tt)) refl refl (omega arith) (lit< tt) (omega arith) (p .stacked .count) (omega arith) (lit< tt) (lit< tt)
-        (p .same ∙ ap (plug (q .1)) (pick (next "," (drop (m .c .at) ts)) _ _ (next-number (h .stacked .ready) "," refl ∙ eq-eqb (kindAt w (m .c)) 27 k) ∙ ap (λ vs. reads loosest vs >>= λ (y, us). resume (withFirst Two F (p .tree)) y us) (sym (drop-next (m .c .at) ts))))
+        reopens F (withFirst Two F (p .tree)) (q .1) _ (nextOf (m .c)) (suc (0 + credits (q .1))) 17 (stacked-next (p .stacked) (sign-inside h _ k (lit< tt))) (p .firm)
+        ((p .rooted, tt), (λ z. omega arith, tt)) refl refl (omega arith) (lit< tt) (omega arith) (p .stacked .count) (omega arith) (lit< tt) (lit< tt)
+        (p .same ∙ ap (plug (q .1)) (pick (next "," (drop (m .c .at) ts)) _ _ (next-number (h .stacked .ready) "," refl ∙ eq-eqb (kindAt w (m .c)) 27 k) ∙ ap
+        (λ vs. reads loosest vs >>= λ (y, us). resume (withFirst Two F (p .tree)) y us) (sym (drop-next (m .c .at) ts))))
 
-    pub turn-range : slotClass top ≡ 16 → kindAt w (m .c) ≡ 19 → Turned ts s x w (reopenedIn w m 10) m (reopenedOf m (nextOf (m .c)) 17)
+    pub turn-range : slotClass top ≡ 16 → kindAt w (m .c) ≡ fixed ".." → Turned ts s x w (reopenedIn w m 10) m (reopenedOf m (nextOf (m .c)) 17)
     turn-range e k =
         let q = popping h Two deep e in
         let F = turned Two (q .0) in
         let p = q .2 in
-        reopens F (withSecond Last F (p .tree)) (q .1) _ (nextOf (m .c)) (suc (1 + credits (q .1))) 17 (stacked-next (p .stacked) (sign-inside h _ k (lit< tt))) (p .firm) ((p .firm-top .0 .0, (p .rooted, tt)), (λ z. omega arith, tt)) refl refl (omega arith) (lit< tt) (omega arith) (p .stacked .count) (omega arith) (lit< tt) (lit< tt)
-        (p .same ∙ ap (plug (q .1)) (pick (next ".." (drop (m .c .at) ts)) _ _ (next-number (h .stacked .ready) ".." refl ∙ eq-eqb (kindAt w (m .c)) 19 k) ∙ ap (λ vs. reads loosest vs >>= λ (y, us). resume (withSecond Last F (p .tree)) y us) (sym (drop-next (m .c .at) ts))))
+        reopens F (withSecond Last F (p .tree)) (q .1) _ (nextOf (m .c)) (suc (1 + credits (q .1))) 17 (stacked-next (p .stacked) (sign-inside h _ k (lit< tt))) (p .firm)
+        ((p .firm-top .0 .0, (p .rooted, tt)), (λ z. omega arith, tt)) refl refl (omega arith) (lit< tt) (omega arith) (p .stacked .count) (omega arith) (lit< tt) (lit< tt)
+        (p .same ∙ ap (plug (q .1)) (pick (next ".." (drop (m .c .at) ts)) _ _ (next-number (h .stacked .ready) ".." refl ∙ eq-eqb (kindAt w (m .c)) 19 k) ∙ ap
+        (λ vs. reads loosest vs >>= λ (y, us). resume (withSecond Last F (p .tree)) y us) (sym (drop-next (m .c .at) ts))))
 
     -- neither bracket of the two
-    pub turn-unopened : 12 ≤ slotClass top → slotClass top < 15 → (slotClass top ≡ 13 → ⊥) → (kindAt w (m .c) ≡ 25 → ⊥) → Turned ts s x w w m (Ended (refusedAt w (m .c)))
+    pub turn-unopened : 12 ≤ slotClass top → slotClass top < 15 → (slotClass top ≡ 13 → ⊥) → (kindAt w (m .c) ≡ fixed "]" → ⊥) → Turned ts s x w w m (Ended (refusedAt w (m .c)))
     turn-unopened low high other f = go (eqb (slotClass top) 12) refl
       where
         go : (b : Bool) → eqb (slotClass top) 12 ≡ b → Turned ts s x w w m (Ended (refusedAt w (m .c)))

@@ -115,7 +115,8 @@ module _ (max : ℕ) (ts : Tokens) (r : PrefixRow) (row : prefixRow (front ts) �
       ∙ bind-where (bindersOf (length ts) reads us) _ _
       (λ (bs, vs) _. sole max (length ts) (front ts) (levelAt (front ts)) vs (λ e. over (front ts) o false bs e)
       ∙ bind-where (reads (levelAt (front ts)) vs) _ _ (λ (e, xs) _. same-over max (front ts) bs e xs o (bigOf (roleAt (front ts))) false (eqb max 0) (sym (ap bigOf h)) (sym z)))
-      ∙ ap (λ (q : Read (List Binder)). q >>= λ (bs, vs). reads (levelAt (front ts)) vs >>= λ (e, xs). climbs max (over (front ts) (bigOf (roleAt (front ts))) (eqb max 0) bs e) xs) (binders-fuel (length ts) (suc (length us)) us (omega arith) (omega arith)))
+      ∙ ap (λ (q : Read (List Binder)). q >>= λ (bs, vs). reads (levelAt (front ts)) vs >>= λ (e, xs). climbs max (over (front ts) (bigOf (roleAt (front ts))) (eqb max 0) bs e) xs)
+      (binders-fuel (length ts) (suc (length us)) us (omega arith) (omega arith)))
     where
       expect-shorter : (s : String) (us : Tokens) (c : Token) (vs : Tokens) → expect s us ≡ Done (c, vs) → length vs ≤ length us
       expect-shorter s us c vs e = go (next s us) e
@@ -134,7 +135,8 @@ module _ (max : ℕ) (t : Token) (ts : Tokens) where
       folds-step max t ts
       ∙ ap (λ (r : Read Binder). r >>= λ (b, us). afterBinder max t b us)
       (pick isMember (membershipOf reads ts) (boundsOf reads ts) h
-      ∙ ap (λ (r : Read Token). r >>= λ (i, us). reads loosest (rest us) >>= λ (s, vs). Done (record { name = i; range = s }, vs)) (pick (isOf Name (front ts)) (Done (front ts, rest ts)) (stop ts) (and-left (isOf Name (front ts)) _ h))
+      ∙ ap (λ (r : Read Token). r >>= λ (i, us). reads loosest (rest us) >>= λ (s, vs). Done (record { name = i; range = s }, vs))
+      (pick (isOf Name (front ts)) (Done (front ts, rest ts)) (stop ts) (and-left (isOf Name (front ts)) _ h))
       ∙ bind-at (front ts, rest ts) _)
       ∙ bind-again (reads loosest (rest (rest ts))) _ _ ∙ bind-where (reads loosest (rest (rest ts))) _ _ (λ (s, vs) _. bind-at (record { name = front ts; range = s }, vs) _)
 

@@ -10,7 +10,7 @@ use borrow.Author.Tests.{eq-eqb, ne-eqb, le-leb, lt-leb}
 use Rattle.language.specs.Operators.{FinallyIn, GloballyIn, Role, Plain, Counted, Windowed, Folding}
 use Rattle.language.specs.Tree.{Expr}
 use Rattle.language.specs.Grammar.{Tokens, Read, rest, next}
-use Rattle.lexer.specs.Numbers.{number}
+use Rattle.lexer.specs.Numbers.{number, fixed}
 use Rattle.entries.specs.declared.Cursor.{Cursor}
 use Rattle.entries.specs.Kinds as Kind
 use Rattle.entries.specs.Cursors.{kindAt, refusedAt, nextOf}
@@ -84,19 +84,20 @@ module _ {ts : Tokens} {s : Cursor} {x : Read Expr} {w : List ℕ} {m : Machine}
     turn-one one =
         let f = found in
         subst (λ l. Turned ts s x w (putSlot w (m .depth) 2 (m .level) (m .c .at)) m (Next (pushedOf m (nextOf (m .c)) l))) (sym level-is)
-        (enter-next h Sole (levelAt (here h)) (record { slots = λ l t. refl; trees = λ l t. refl; credit = refl; class = lit< tt }) (marked, takes-suits (roleAt (here h)) _ one) not-end (f .level-some) (f .level-fits)
+        (enter-next h Sole (levelAt (here h)) (record { slots = λ l t. refl; trees = λ l t. refl; credit = refl; class = lit< tt }) (marked, takes-suits (roleAt (here h)) _ one) not-end
+        (f .level-some) (f .level-fits)
         (starts-sole (m .level) (drop (m .c .at) ts) (f .row) (f .here) tight one))
 
     pub turn-plain : p / 32 % 8 ≡ 1 → Turned ts s x w (putSlot w (m .depth) 2 (m .level) (m .c .at)) m (Next (pushedOf m (nextOf (m .c)) (p % 32)))
     turn-plain e = turn-one (takes-plain (roleAt (here h)) _ (sym (found .role) ∙ e))
 
     -- no bracket follows
-    pub turn-bare : (p / 32 % 8 ≡ 4 → ⊥) → (kindAt w (nextOf (m .c)) ≡ 24 → ⊥) → Turned ts s x w (putSlot w (m .depth) 2 (m .level) (m .c .at)) m (Next (pushedOf m (nextOf (m .c)) (p % 32)))
+    pub turn-bare : (p / 32 % 8 ≡ 4 → ⊥) → (kindAt w (nextOf (m .c)) ≡ fixed "[" → ⊥) → Turned ts s x w (putSlot w (m .depth) 2 (m .level) (m .c .at)) m (Next (pushedOf m (nextOf (m .c)) (p % 32)))
     turn-bare f g =
         turn-one (ap (takesOne (roleAt (here h))) (next-sign h (inside h not-end) "[" refl ∙ ne-eqb (kindAt w (nextOf (m .c))) 24 g) ∙ takes-bare (roleAt (here h)) (λ e. f (found .role ∙ e)))
 
     -- a bracket follows
-    module _ (bracket : kindAt w (nextOf (m .c)) ≡ 24) where
+    module _ (bracket : kindAt w (nextOf (m .c)) ≡ fixed "[") where
       bracket-here : next "[" (rest (drop (m .c .at) ts)) ≡ true
       bracket-here = next-sign h (inside h not-end) "[" refl ∙ eq-eqb (kindAt w (nextOf (m .c))) 24 bracket
 
@@ -112,7 +113,8 @@ module _ {ts : Tokens} {s : Cursor} {x : Read Expr} {w : List ℕ} {m : Machine}
           counted (Windowed q) z = absurd (omega arith)
           counted (Folding q) z = absurd (omega arith)
 
-      pub turn-low : (p / 32 % 8 ≡ 4 → ⊥) → (p / 32 % 8 ≡ 1 → ⊥) → (p / 32 % 8 ≡ 2 → ⊥) → Turned ts s x w (putSlot w (m .depth) 13 (m .level) (m .c .at)) m (Next (pushedOf m (nextOf (nextOf (m .c))) 17))
+      pub turn-low : (p / 32 % 8 ≡ 4 → ⊥) → (p / 32 % 8 ≡ 1 → ⊥) → (p / 32 % 8 ≡ 2 → ⊥)
+          → Turned ts s x w (putSlot w (m .depth) 13 (m .level) (m .c .at)) m (Next (pushedOf m (nextOf (nextOf (m .c))) 17))
       turn-low a b d = go (roleAt (here h)) refl
         where
           go : (o : Role) → roleAt (here h) ≡ o → Turned ts s x w (putSlot w (m .depth) 13 (m .level) (m .c .at)) m (Next (pushedOf m (nextOf (nextOf (m .c))) 17))
@@ -121,5 +123,6 @@ module _ {ts : Tokens} {s : Cursor} {x : Read Expr} {w : List ℕ} {m : Machine}
           go (Folding q) e = absurd (a (found .role ∙ ap roleNumber e))
           go (Windowed q) e =
               let f = found in
-              enter-second h Low 17 (record { slots = λ l t. refl; trees = λ l t. refl; credit = refl; class = lit< tt }) (marked, ap windowKind e ∙ ap (λ o. Kind.window (windowOf o)) (sym e)) not-end (omega arith) (lit< tt) (lit< tt)
+              enter-second h Low 17 (record { slots = λ l t. refl; trees = λ l t. refl; credit = refl; class = lit< tt }) (marked, ap windowKind e ∙ ap (λ o. Kind.window (windowOf o)) (sym e))
+              not-end (omega arith) (lit< tt) (lit< tt)
               (starts-window (m .level) (drop (m .c .at) ts) (f .row) (f .here) tight q e bracket-here)

@@ -35,5 +35,6 @@ runs-stands {s = s} r g = record { tokens = r .tokens; start = s; answer = expre
 pub runs-on : {ts : Tokens} {u w v : List ℕ} {s : Cursor} {m n : Machine} → Runs ts u s w m → Turned ts s (expression (drop (s .at) ts)) w v m (Next n) → Runs ts u s v n
 runs-on g t = record { state = t .after .state; kept = kept-then (omega arith) (g .kept) (t .kept) }
 
-pub runs-end : {ts : Tokens} {u w v : List ℕ} {s : Cursor} {m : Machine} {p : Parse} → Runs ts u s w m → Turned ts s (expression (drop (s .at) ts)) w v m (Ended p) → Reads ts u v s flat (expression (drop (s .at) ts)) p
+pub runs-end : {ts : Tokens} {u w v : List ℕ} {s : Cursor} {m : Machine} {p : Parse} → Runs ts u s w m → Turned ts s (expression (drop (s .at) ts)) w v m (Ended p)
+    → Reads ts u v s flat (expression (drop (s .at) ts)) p
 runs-end g t = record { kept = kept-then (omega arith) (g .kept) (t .kept); says = t .after }

@@ -13,6 +13,7 @@ use Rattle.language.specs.Tree.{Expr, Listed, Empty, Element}
 use Rattle.language.specs.Grammar.{Tokens, Read, next}
 use Rattle.language.specs.Laws.Basics.Tests.{leave}
 use Rattle.language.specs.Laws.Basics.Lists.{All as Every}
+use Rattle.lexer.specs.Numbers.{fixed}
 use Rattle.entries.specs.Flat.{Entry, under, flat}
 use Rattle.entries.specs.declared.Cursor.{Cursor}
 use Rattle.entries.specs.Cursors.{kindAt, nextOf, emittedOf, refusedAt}
@@ -49,9 +50,14 @@ module _ {ts : Tokens} {s : Cursor} {x : Read Expr} {w : List ℕ} {m : Machine}
       → Lists w m c (suc (length css)) × Turned ts s x w (listedIn w m c (suc (length css))) m (listedOf w m c (suc (length css)))
   set-of cls lev t css firm-css Gs firm y rooted c st l made onward counted grew same =
       let e = grown (credits Gs) (base Gs) css (flat y) firm-css rooted st 52 0 (lit< tt) (lit< tt) none tt in
-      let e′ : Stacked ts s (grownIn w c 52 0 (suc (length css))) (emittedOf c) (m .depth) (slot cls lev t [] ∷ slotsOf Gs) (base Gs ++ flat l) (credits Gs) = subst (λ es. Stacked ts s (grownIn w c 52 0 (suc (length css))) (emittedOf c) (m .depth) (slot cls lev t [] ∷ slotsOf Gs) (base Gs ++ es) (credits Gs)) (sym made) e in
+      let e′ : Stacked ts s (grownIn w c 52 0 (suc (length css))) (emittedOf c) (m .depth) (slot cls lev t [] ∷ slotsOf Gs) (base Gs ++ flat l) (credits Gs) = subst
+      (λ es. Stacked ts s (grownIn w c 52 0 (suc (length css))) (emittedOf c) (m .depth) (slot cls lev t [] ∷ slotsOf Gs) (base Gs ++ es) (credits Gs)) (sym made) e in
       let root : Rooted (flat l) = (52, none, behind [] css ++ flat y, made) in (
-        record { element = grows (credits Gs) (base Gs) css (flat y) firm-css rooted st 52 0 (lit< tt) (lit< tt); set = builds x m cls lev t [] tt Gs firm l root (emittedOf c) (credits Gs) e′ (Listed t l) 51 (lit< tt) (some t) refl },
+        record {
+          element = grows (credits Gs) (base Gs) css (flat y) firm-css rooted st 52 0 (lit< tt) (lit< tt);
+          set = builds x m cls lev t [] tt Gs firm l root (emittedOf c) (credits Gs) e′
+              (Listed t l) 51 (lit< tt) (some t) refl;
+        },
         turned-after (kept-grown (credits Gs) (base Gs) css (flat y) firm-css rooted st 52 0 (lit< tt) (lit< tt))
             (turn-built x m cls lev t [] tt Gs firm l root (emittedOf c) (credits Gs) e′ (Listed t l) 51 (lit< tt) (some t) refl (λ j k. k) (omega arith) onward counted (omega arith) same),
       )
@@ -63,29 +69,33 @@ module _ {ts : Tokens} {s : Cursor} {x : Read Expr} {w : List ℕ} {m : Machine}
     other-sign : (k n : ℕ) → kindAt w (m .c) ≡ k → eqb k n ≡ false → eqb (kindAt w (m .c)) n ≡ false
     other-sign k n e f = ap (λ i. eqb i n) e ∙ f
 
-    pub set-one : slotClass top ≡ 15 → kindAt w (m .c) ≡ 21 → Lists w m (nextOf (m .c)) 1 × Turned ts s x w (listedIn w m (nextOf (m .c)) 1) m (listedOf w m (nextOf (m .c)) 1)
+    pub set-one : slotClass top ≡ 15 → kindAt w (m .c) ≡ fixed "}" → Lists w m (nextOf (m .c)) 1 × Turned ts s x w (listedIn w m (nextOf (m .c)) 1) m (listedOf w m (nextOf (m .c)) 1)
     set-one e k =
         let q = popping h One deep e in
         let F = turned One (q .0) in
         let p = q .2 in
         let l = Element (p .tree) Empty in
-        set-of 15 (F .level) (F .token) [] tt (q .1) (p .firm) (p .tree) (p .rooted) (nextOf (m .c)) (stacked-less (stacked-next (p .stacked) (sign-inside h _ k (lit< tt))) (suc (credits (q .1))) (omega arith)) l (ap (under 52 none) (append-nil (flat (p .tree)))) (omega arith) (p .stacked .count) (omega arith)
+        set-of 15 (F .level) (F .token) [] tt (q .1) (p .firm) (p .tree) (p .rooted) (nextOf (m .c))
+        (stacked-less (stacked-next (p .stacked) (sign-inside h _ k (lit< tt))) (suc (credits (q .1))) (omega arith)) l (ap (under 52 none) (append-nil (flat (p .tree)))) (omega arith)
+        (p .stacked .count) (omega arith)
         (p .same ∙ ap (plug (q .1)) (leave (next "," (drop (m .c .at) ts)) _ _ (next-number (h .stacked .ready) "," refl ∙ other-sign 21 27 k refl) ∙ expect-here (h .stacked .ready) "}" refl _ k))
 
-    pub set-all : slotClass top ≡ 11 → kindAt w (m .c) ≡ 21 → Lists w m (nextOf (m .c)) 2 × Turned ts s x w (listedIn w m (nextOf (m .c)) 2) m (listedOf w m (nextOf (m .c)) 2)
+    pub set-all : slotClass top ≡ 11 → kindAt w (m .c) ≡ fixed "}" → Lists w m (nextOf (m .c)) 2 × Turned ts s x w (listedIn w m (nextOf (m .c)) 2) m (listedOf w m (nextOf (m .c)) 2)
     set-all e k =
         let q = popping h All deep e in
         let F = turned All (q .0) in
         let p = q .2 in
         let l = Element (F .first) (p .tree) in
-        set-of 11 (F .level) (F .token) (flat (F .first) ∷ []) (p .firm-top .0) (q .1) (p .firm) (p .tree) (p .rooted) (nextOf (m .c)) (stacked-less (stacked-next (p .stacked) (sign-inside h _ k (lit< tt))) (suc (credits (q .1))) (omega arith)) l refl (omega arith) (p .stacked .count) (omega arith)
+        set-of 11 (F .level) (F .token) (flat (F .first) ∷ []) (p .firm-top .0) (q .1) (p .firm) (p .tree) (p .rooted) (nextOf (m .c))
+        (stacked-less (stacked-next (p .stacked) (sign-inside h _ k (lit< tt))) (suc (credits (q .1))) (omega arith)) l refl (omega arith) (p .stacked .count) (omega arith)
         (p .same ∙ ap (plug (q .1)) (expect-here (h .stacked .ready) "}" refl _ k))
 
-    pub unclosed-one : slotClass top ≡ 15 → (kindAt w (m .c) ≡ 27 → ⊥) → (kindAt w (m .c) ≡ 21 → ⊥) → Turned ts s x w w m (Ended (refusedAt w (m .c)))
+    pub unclosed-one : slotClass top ≡ 15 → (kindAt w (m .c) ≡ fixed "," → ⊥) → (kindAt w (m .c) ≡ fixed "}" → ⊥) → Turned ts s x w w m (Ended (refusedAt w (m .c)))
     unclosed-one e f g =
         let q = popping h One deep e in
         refused-here (q .1) (m .c) (h .stacked .ready)
-        (q .2 .same ∙ ap (plug (q .1)) (leave (next "," (drop (m .c .at) ts)) _ _ (next-number (h .stacked .ready) "," refl ∙ ne-eqb (kindAt w (m .c)) 27 f) ∙ expect-other (h .stacked .ready) "}" refl _ g))
+        (q .2 .same ∙ ap (plug (q .1)) (leave (next "," (drop (m .c .at) ts)) _ _ (next-number (h .stacked .ready) "," refl ∙ ne-eqb (kindAt w (m .c)) 27 f) ∙ expect-other (h .stacked .ready) "}"
+        refl _ g))
 
-    pub unclosed-all : slotClass top ≡ 11 → (kindAt w (m .c) ≡ 21 → ⊥) → Turned ts s x w w m (Ended (refusedAt w (m .c)))
+    pub unclosed-all : slotClass top ≡ 11 → (kindAt w (m .c) ≡ fixed "}" → ⊥) → Turned ts s x w w m (Ended (refusedAt w (m .c)))
     unclosed-all e f = let q = popping h All deep e in refused-here (q .1) (m .c) (h .stacked .ready) (q .2 .same ∙ ap (plug (q .1)) (expect-other (h .stacked .ready) "}" refl _ f))

@@ -10,7 +10,7 @@ use Rattle.node.specs.ResultLaws.{bind-at}
 use Rattle.language.specs.Tokens.{Token}
 use Rattle.language.specs.Grammar.{Tokens, Read, front, rest, stop, named, signOf}
 use Rattle.language.specs.Laws.Basics.Tests.{pick, leave}
-use Rattle.lexer.specs.Numbers.{number}
+use Rattle.lexer.specs.Numbers.{number, fixed}
 use Rattle.lexer.specs.NumberLaws.{named-number}
 use Rattle.entries.specs.declared.Cursor.{Cursor}
 use Rattle.entries.specs.Cursors.{Ready, kindAt}
@@ -20,10 +20,10 @@ use Rattle.expressions.specs.Frames.{isStrict}
 
 -- `<` and `LE`; these or `<=` and `LEQ`
 abbrev pub strictAt : ℕ → Bool
-strictAt n = eqb n 37 || eqb n 84
+strictAt n = eqb n (fixed "<") || eqb n (fixed "LE")
 
 abbrev pub signAt : ℕ → Bool
-signAt n = strictAt n || (eqb n 13 || eqb n 85)
+signAt n = strictAt n || (eqb n (fixed "<=") || eqb n (fixed "LEQ"))
 
 no-more : (a b : Bool) → (a || (b || false)) ≡ (a || b)
 no-more true b = refl
@@ -47,7 +47,8 @@ module _ {ts : Tokens} {w : List ℕ} {c : Cursor} (ready : Ready ts w c) {B : T
   sign-here e = go (isStrict (front us)) refl
     where
       ends : (b : Bool) → isStrict (front us) ≡ b → signOf us ≡ Done ((front us, b), rest us) → (signOf us >>= K) ≡ K ((front us, isStrict (front us)), drop (c .at + 1) ts)
-      ends b z q = ap (λ (r : Read (Token × Bool)). r >>= K) q ∙ bind-at ((front us, b), rest us) K ∙ ap (λ a. K ((front us, a), rest us)) (sym z) ∙ ap (λ vs. K ((front us, isStrict (front us)), vs)) (sym (drop-next (c .at) ts))
+      ends b z q = ap (λ (r : Read (Token × Bool)). r >>= K) q ∙ bind-at ((front us, b), rest us) K ∙ ap (λ a. K ((front us, a), rest us)) (sym z) ∙ ap (λ vs. K ((front us, isStrict (front us)), vs))
+          (sym (drop-next (c .at) ts))
 
       go : (b : Bool) → isStrict (front us) ≡ b → (signOf us >>= K) ≡ K ((front us, isStrict (front us)), drop (c .at + 1) ts)
       go true z = ends true z (pick (isStrict (front us)) _ _ z)
@@ -59,7 +60,8 @@ module _ {ts : Tokens} {w : List ℕ} {c : Cursor} (ready : Ready ts w c) {B : T
   unfolding _>>=_
   sign-other e =
       ap (λ (r : Read (Token × Bool)). r >>= K)
-      (leave (isStrict (front us)) _ _ (strict-here ∙ or-left-false (strictAt (kindAt w c)) _ e) ∙ leave (named ("<=" ∷ "LEQ" ∷ []) (front us)) _ _ (lax-here ∙ or-right-false (strictAt (kindAt w c)) _ e))
+      (leave (isStrict (front us)) _ _ (strict-here ∙ or-left-false (strictAt (kindAt w c)) _ e) ∙ leave (named ("<=" ∷ "LEQ" ∷ []) (front us)) _ _
+      (lax-here ∙ or-right-false (strictAt (kindAt w c)) _ e))
     where
       or-left-false : (a b : Bool) → (a || b) ≡ false → a ≡ false
       or-left-false true b z = z

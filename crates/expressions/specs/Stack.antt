@@ -9,6 +9,7 @@ use Rattle.node.specs.BitFields.{join, above, below}
 use Rattle.words.specs.Words.{wordAt, putWord}
 use Rattle.language.specs.Tokens.{Token}
 use Rattle.language.specs.Grammar.{Tokens}
+use Rattle.language.specs.Limits.{maxTokens}
 use Rattle.entries.specs.Flat.{Entry, under}
 use Rattle.entries.specs.Stored.{firstEntry, fieldBits, sizeOf, Keeps, EntriesFrom}
 use Rattle.entries.specs.Cursors.{Ready}
@@ -58,7 +59,7 @@ pub record SlotAt (w : List ℕ) (ts : Tokens) (depth : ℕ) (slot : Slot) : Typ
   pub deep : 0 < depth
   pub word : topSlot w depth ≡ slotWord (slot .class) (slot .level) index
   pub tokens : Follow ts index (slot .token ∷ slot .next)
-  pub index-fits : index < 8_192
+  pub index-fits : index < maxTokens
   pub class-fits : slot .class < 32
   pub level-fits : slot .level < 32
 

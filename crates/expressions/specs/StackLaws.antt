@@ -11,6 +11,7 @@ use Rattle.words.specs.Words.{wordAt, putWord}
 use Rattle.words.specs.WordLaws.{word-same, word-other}
 use Rattle.language.specs.Tokens.{Token}
 use Rattle.language.specs.Grammar.{Tokens}
+use Rattle.language.specs.Limits.{maxTokens}
 use Rattle.entries.specs.Flat.{Entry}
 use Rattle.entries.specs.Stored.{firstEntry, fieldBits, entryWord, putEntry, Keeps, EntryAt, EntriesFrom}
 use Rattle.entries.specs.StoredLaws.{entry-put, entries-kept, entries-append, entries-right, under-size}
@@ -37,7 +38,16 @@ slots-kept : (w v : List ℕ) (ts : Tokens) (depth : ℕ) (slots : List Slot) �
 slots-kept w v ts depth [] s h = h
 slots-kept w v ts depth (slot ∷ slots) s h =
     let k = h .0 in (
-      record { index = k .index; deep = k .deep; word = s depth (k .deep) (omega arith) ∙ k .word; tokens = k .tokens; index-fits = k .index-fits; class-fits = k .class-fits; level-fits = k .level-fits },
+      record {
+        index = k .index;
+        deep = k .deep;
+        word = s depth (k .deep) (omega arith) ∙ k .word;
+        tokens = k .tokens;
+        index-fits = k .index-fits;
+        class-fits = k .class-fits;
+        level-fits =
+            k .level-fits;
+      },
       slots-kept w v ts (depth - 1) slots (λ d l r. s d l (omega arith)) (h .1),
     )
 
@@ -46,7 +56,7 @@ module _ {ts : Tokens} {s : Cursor} {w : List ℕ} {c : Cursor} {depth : ℕ} {s
   pub stacked-apart : c .out + depth + n < c .at
   stacked-apart = omega (arith, h .room, h .begun, h .further)
 
-  pub stacked-few : c .at ≤ 8_192
+  pub stacked-few : c .at ≤ maxTokens
   stacked-few = omega (arith, h .ready .fits .few, h .ready .fits .inside)
 
   pub stacked-less : (m : ℕ) → m ≤ n → Stacked ts s w c depth slots es m
@@ -77,7 +87,8 @@ module _ {ts : Tokens} {s : Cursor} {w : List ℕ} {c : Cursor} {depth : ℕ} {s
 
 module _ {ts : Tokens} {s : Cursor} {w : List ℕ} {c : Cursor} {depth : ℕ} {slots : List Slot} {es : List Entry} {n : ℕ} (h : Stacked ts s w c depth slots es (suc n)) where
   -- one slot more
-  pub stacked-push : (slot : Slot) (j : ℕ) → Follow ts j (slot .token ∷ slot .next) → j < 8_192 → slot .class < 32 → slot .level < 32 → Stacked ts s (putSlot w depth (slot .class) (slot .level) j) c (depth + 1) (slot ∷ slots) es n
+  pub stacked-push : (slot : Slot) (j : ℕ) → Follow ts j (slot .token ∷ slot .next) → j < maxTokens → slot .class < 32 → slot .level < 32
+      → Stacked ts s (putSlot w depth (slot .class) (slot .level) j) c (depth + 1) (slot ∷ slots) es n
   stacked-push slot j follow small hk hl =
       let apart = stacked-apart h in
       let few = stacked-few h in
@@ -93,7 +104,16 @@ module _ {ts : Tokens} {s : Cursor} {w : List ℕ} {c : Cursor} {depth : ℕ} {s
         further = h .further;
         room = omega (arith, h .room);
         slots-at = (
-          record { index = j; deep = omega arith; word = ap (wordAt v) (omega arith) ∙ word-same w (16_383 - depth) x (omega arith) (omega arith); tokens = follow; index-fits = small; class-fits = hk; level-fits = hl },
+          record {
+            index = j;
+            deep = omega arith;
+            word = ap (wordAt v) (omega arith) ∙ word-same w (16_383 - depth) x (omega arith) (omega arith);
+            tokens = follow;
+            index-fits = small;
+            class-fits =
+                hk;
+            level-fits = hl;
+          },
           subst (λ d. SlotsAt v ts d slots) (omega arith) (slots-kept w v ts depth slots (λ d l r. word-other w (16_383 - depth) x (16_384 - d) (omega arith)) (h .slots-at)),
         );
         entries = entries-kept w v ts (s .out) es (λ i l r. kept .words (firstEntry + i) (omega (arith, h .out))) (h .entries);
@@ -101,7 +121,8 @@ module _ {ts : Tokens} {s : Cursor} {w : List ℕ} {c : Cursor} {depth : ℕ} {s
       }
 
   -- one entry more
-  pub stacked-emit : (k j m : ℕ) (t : Option Token) → Keeps ts j t → k < 64 → j < 8_192 → m < 8_192 → Stacked ts s (putEntry w (c .out) k j m) (emittedOf c) depth slots (es ++ (record { kind = k; token = t; size = m } ∷ [])) n
+  pub stacked-emit : (k j m : ℕ) (t : Option Token) → Keeps ts j t → k < 64 → j < maxTokens → m < maxTokens
+      → Stacked ts s (putEntry w (c .out) k j m) (emittedOf c) depth slots (es ++ (record { kind = k; token = t; size = m } ∷ [])) n
   stacked-emit k j m t keeps hk hj hm =
       let apart = stacked-apart h in
       let few = stacked-few h in

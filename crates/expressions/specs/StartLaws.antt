@@ -28,14 +28,16 @@ module _ (max : ℕ) (ts : Tokens) where
   unfolding prefixRow
   reads-atom h = reads-step max ts ∙ ap (λ o. operandBy (length ts) reads max (front ts) o (rest ts) >>= λ (e, us). climbs max e us) h
 
-  by-row : (r : PrefixRow) → prefixRow (front ts) ≡ some r → (b : Bool) → leb (r .level) max ≡ b → reads max ts ≡ (elim b [ true ↦ roleOf (length ts) reads (front ts) (r .level) (r .role) (rest ts) | false ↦ Refused 4 (front ts .at) ] >>= λ (e, us). climbs max e us)
+  by-row : (r : PrefixRow) → prefixRow (front ts) ≡ some r → (b : Bool) → leb (r .level) max ≡ b
+      → reads max ts ≡ (elim b [ true ↦ roleOf (length ts) reads (front ts) (r .level) (r .role) (rest ts) | false ↦ Refused 4 (front ts .at) ] >>= λ (e, us). climbs max e us)
   unfolding prefixRow
   by-row r h b l =
       reads-step max ts
       ∙ ap (λ o. operandBy (length ts) reads max (front ts) o (rest ts) >>= λ (e, us). climbs max e us) h
       ∙ ap (λ (c : Bool). elim c [ true ↦ roleOf (length ts) reads (front ts) (r .level) (r .role) (rest ts) | false ↦ Refused 4 (front ts .at) ] >>= λ (e, us). climbs max e us) l
 
-  pub reads-role : (r : PrefixRow) → prefixRow (front ts) ≡ some r → leb (r .level) max ≡ true → reads max ts ≡ (roleOf (length ts) reads (front ts) (r .level) (r .role) (rest ts) >>= λ (e, us). climbs max e us)
+  pub reads-role : (r : PrefixRow) → prefixRow (front ts) ≡ some r → leb (r .level) max ≡ true
+      → reads max ts ≡ (roleOf (length ts) reads (front ts) (r .level) (r .role) (rest ts) >>= λ (e, us). climbs max e us)
   reads-role r h l = by-row r h true l
 
   -- an operator that is too loose here
@@ -67,19 +69,22 @@ atomBy f t ts name digits truth falsehood round bars brace =
 abbrev atomAt : ℕ → ℕ → Token → Tokens → Read Expr
 atomAt f n t ts = atomBy f t ts (eqb n (classNumber Name)) (eqb n (classNumber Digits)) (eqb n (fixed "true")) (eqb n (fixed "false")) (eqb n (fixed "(")) (eqb n (fixed "|")) (eqb n (fixed "{"))
 
-same-tests : {A : Type 0} (g : Bool → Bool → Bool → Bool → Bool → Bool → Bool → A) {a b c d e p q a′ b′ c′ d′ e′ p′ q′ : Bool} → a ≡ a′ → b ≡ b′ → c ≡ c′ → d ≡ d′ → e ≡ e′ → p ≡ p′ → q ≡ q′ → g a b c d e p q ≡ g a′ b′ c′ d′ e′ p′ q′
+same-tests : {A : Type 0} (g : Bool → Bool → Bool → Bool → Bool → Bool → Bool → A) {a b c d e p q a′ b′ c′ d′ e′ p′ q′ : Bool} → a ≡ a′ → b ≡ b′ → c ≡ c′ → d ≡ d′ → e ≡ e′ → p ≡ p′ → q ≡ q′
+    → g a b c d e p q ≡ g a′ b′ c′ d′ e′ p′ q′
 same-tests g h i j k l m n = cc
 
 atom-number : (f : ℕ) (t : Token) (ts : Tokens) → atomOf f reads t ts ≡ atomAt f (number t) t ts
 atom-number f t ts =
-    same-tests (atomBy f t ts) (class-number Name t refl) (class-number Digits t refl) (is-number "true" t refl) (is-number "false" t refl) (is-number "(" t refl) (is-number "|" t refl) (is-number "{" t refl)
+    same-tests (atomBy f t ts) (class-number Name t refl) (class-number Digits t refl) (is-number "true" t refl) (is-number "false" t refl) (is-number "(" t refl) (is-number "|" t refl)
+    (is-number "{" t refl)
 
 -- the numbers of the tokens that begin an operand and are no operators
 abbrev pub starter : ℕ → Bool
 starter n = eqb n 1 || (eqb n 2 || (eqb n (fixed "true") || (eqb n (fixed "false") || (eqb n (fixed "(") || (eqb n (fixed "|") || eqb n (fixed "{"))))))
 
 -- brackets around an expression
-closed-start : (max : ℕ) (s : String) (w : Expr → Expr) (ts : Tokens) → ((closedBy reads s ts >>= λ (e, us). Done (w e, us)) >>= λ (e, us). climbs max e us) ≡ (reads loosest ts >>= λ (x, us). expect s us >>= λ (c, vs). climbs max (w x) vs)
+closed-start : (max : ℕ) (s : String) (w : Expr → Expr) (ts : Tokens)
+    → ((closedBy reads s ts >>= λ (e, us). Done (w e, us)) >>= λ (e, us). climbs max e us) ≡ (reads loosest ts >>= λ (x, us). expect s us >>= λ (c, vs). climbs max (w x) vs)
 closed-start max s w ts =
     bind-again (closedBy reads s ts) _ _
     ∙ bind-again (reads loosest ts) _ _
@@ -93,8 +98,13 @@ module _ (max f : ℕ) (t : Token) (x : Expr) where
   after-two y ts h = go (next ".." ts)
     where
       go : (b : Bool)
-          → (elim b [ true ↦ closedBy reads "}" (rest ts) >>= λ (z, us). Done (Range t x y z, us) | false ↦ elements f reads ts >>= λ (es, us). Done (Listed t (Element x (Element y es)), us) ] >>= λ (e, us). climbs max e us)
-          ≡ elim b [ true ↦ reads loosest (rest ts) >>= λ (z, us). expect "}" us >>= λ (c, vs). climbs max (Range t x y z) vs | false ↦ listed y ts >>= λ (l, us). expect "}" us >>= λ (c, vs). climbs max (Listed t (Element x l)) vs ]
+          → (elim b [ true ↦ closedBy reads "}" (rest ts) >>= λ (z, us). Done (Range t x y z, us) | false ↦ elements f reads ts >>= λ (es, us). Done (Listed t (Element x (Element y es)), us) ] >>= λ
+          (e, us). climbs max e us)
+          ≡ elim b [
+            | true ↦ reads loosest (rest ts) >>= λ (z, us). expect "}" us >>= λ (c, vs). climbs max (Range t x y z) vs
+            | false ↦ listed y ts >>= λ (l, us). expect "}" us >>= λ (c, vs). climbs
+                max (Listed t (Element x l)) vs
+          ]
       go true = closed-start max "}" (λ z. Range t x y z) (rest ts)
       go false =
           bind-again (elements f reads ts) _ _ ∙ bind-where (elements f reads ts) _ _ (λ (es, us) _. bind-at (Listed t (Element x (Element y es)), us) _)
@@ -104,7 +114,8 @@ module _ (max f : ℕ) (t : Token) (x : Expr) where
   after-one ts h = go (next "," ts)
     where
       go : (b : Bool)
-          → (elim b [ true ↦ reads loosest (rest ts) >>= λ (y, us). afterTwo f reads t x y us | false ↦ expect "}" ts >>= λ (c, us). Done (Listed t (Element x Empty), us) ] >>= λ (e, us). climbs max e us)
+          → (elim b [ true ↦ reads loosest (rest ts) >>= λ (y, us). afterTwo f reads t x y us | false ↦ expect "}" ts >>= λ (c, us). Done (Listed t (Element x Empty), us) ] >>= λ (e, us). climbs max
+          e us)
           ≡ elim b [ true ↦ reads loosest (rest ts) >>= λ (y, us). two (withFirst Two (frame One max t) x) y us | false ↦ expect "}" ts >>= λ (c, us). climbs max (Listed t (Element x Empty)) us ]
       go true =
           bind-again (reads loosest (rest ts)) _ _
@@ -161,4 +172,5 @@ module _ (max : ℕ) (ts : Tokens) (none-here : prefixRow (front ts) ≡ none) w
       let no : (k : ℕ) → starter k ≡ true → eqb n k ≡ false = λ k s. ne-eqb n k (h k s) in
       at-number n refl
       ∙ ap (λ (r : Read Expr). r >>= λ (e, us). climbs max e us)
-      (same-tests (atomBy (length ts) (front ts) (rest ts)) (no 1 refl) (no 2 refl) (no (fixed "true") refl) (no (fixed "false") refl) (no (fixed "(") refl) (no (fixed "|") refl) (no (fixed "{") refl))
+      (same-tests (atomBy (length ts) (front ts) (rest ts)) (no 1 refl) (no 2 refl) (no (fixed "true") refl) (no (fixed "false") refl) (no (fixed "(") refl) (no (fixed "|") refl)
+      (no (fixed "{") refl))

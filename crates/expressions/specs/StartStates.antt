@@ -72,15 +72,20 @@ module _ {ts : Tokens} {s : Cursor} {x : Read Expr} {w : List ℕ} {m : Machine}
 
   -- an entry for the next token
   leaf-turn : (e : Expr) (k : ℕ) → flat e ≡ leaf k (here h) → k < 64 → 0 < kindAt w (m .c) → reads (m .level) us ≡ climbs (m .level) e (rest us) → Turned ts s x w (leafWritten w m k) m (leafOf m)
-  leaf-turn e k one small l step = completes-at h e k one small (inside l) (nextOf (m .c)) (omega arith) refl (stacked-next (h .stacked) (inside l)) (step ∙ ap (climbs (m .level) e) (sym (drop-next (m .c .at) ts)))
+  leaf-turn e k one small l step = completes-at h e k one small (inside l) (nextOf (m .c)) (omega arith) refl (stacked-next (h .stacked) (inside l))
+      (step ∙ ap (climbs (m .level) e) (sym (drop-next (m .c .at) ts)))
 
   -- a frame for the next token, past it or past two
-  pub enter-next : (K : Class) (l : ℕ) → Simple K → Marked K (here h) → 0 < kindAt w (m .c) → 0 < l → l < 32 → reads (m .level) us ≡ (reads l (rest us) >>= λ (y, vs). resume (frame K (m .level) (here h)) y vs) → Turned ts s x w (putSlot w (m .depth) (classNumber K) (m .level) (m .c .at)) m (Next (pushedOf m (nextOf (m .c)) l))
+  pub enter-next : (K : Class) (l : ℕ) → Simple K → Marked K (here h) → 0 < kindAt w (m .c) → 0 < l → l < 32
+      → reads (m .level) us ≡ (reads l (rest us) >>= λ (y, vs). resume (frame K (m .level) (here h)) y vs)
+      → Turned ts s x w (putSlot w (m .depth) (classNumber K) (m .level) (m .c .at)) m (Next (pushedOf m (nextOf (m .c)) l))
   enter-next K l simple marked i p q step =
       enters h K (nextOf (m .c)) l simple marked (inside i) (omega arith) (stacked-next (h .stacked) (inside i)) p q
       (step ∙ ap (λ vs. reads l vs >>= λ (y, ws). resume (frame K (m .level) (here h)) y ws) (sym (drop-next (m .c .at) ts)))
 
-  pub enter-second : (K : Class) (l : ℕ) → Simple K → Marked K (here h) → 0 < kindAt w (m .c) → 0 < kindAt w (nextOf (m .c)) → 0 < l → l < 32 → reads (m .level) us ≡ (reads l (rest (rest us)) >>= λ (y, vs). resume (frame K (m .level) (here h)) y vs) → Turned ts s x w (putSlot w (m .depth) (classNumber K) (m .level) (m .c .at)) m (Next (pushedOf m (nextOf (nextOf (m .c))) l))
+  pub enter-second : (K : Class) (l : ℕ) → Simple K → Marked K (here h) → 0 < kindAt w (m .c) → 0 < kindAt w (nextOf (m .c)) → 0 < l → l < 32
+      → reads (m .level) us ≡ (reads l (rest (rest us)) >>= λ (y, vs). resume (frame K (m .level) (here h)) y vs)
+      → Turned ts s x w (putSlot w (m .depth) (classNumber K) (m .level) (m .c .at)) m (Next (pushedOf m (nextOf (nextOf (m .c))) l))
   enter-second K l simple marked i j p q step =
       let n = next-inside (inside i) j in
       enters h K (nextOf (nextOf (m .c))) l simple marked (inside i) (omega arith)
@@ -91,17 +96,19 @@ module _ {ts : Tokens} {s : Cursor} {x : Read Expr} {w : List ℕ} {m : Machine}
     pub turn-numeral : kindAt w (m .c) ≡ 2 → Turned ts s x w (leafWritten w m 1) m (leafOf m)
     turn-numeral e = leaf-turn (Numeral (here h)) 1 refl (lit< tt) (omega arith) (starts-numeral (m .level) us (no-row none-here) (number-here 2 e))
 
-    pub turn-true : kindAt w (m .c) ≡ 66 → Turned ts s x w (leafWritten w m 3) m (leafOf m)
+    pub turn-true : kindAt w (m .c) ≡ fixed "true" → Turned ts s x w (leafWritten w m 3) m (leafOf m)
     turn-true e = leaf-turn (Truth (here h) true) 3 refl (lit< tt) (omega arith) (starts-true (m .level) us (no-row none-here) (number-here 66 e))
 
-    pub turn-false : kindAt w (m .c) ≡ 67 → Turned ts s x w (leafWritten w m 2) m (leafOf m)
+    pub turn-false : kindAt w (m .c) ≡ fixed "false" → Turned ts s x w (leafWritten w m 2) m (leafOf m)
     turn-false e = leaf-turn (Truth (here h) false) 2 refl (lit< tt) (omega arith) (starts-false (m .level) us (no-row none-here) (number-here 67 e))
 
-    pub turn-round : kindAt w (m .c) ≡ 22 → Turned ts s x w (putSlot w (m .depth) 7 (m .level) (m .c .at)) m (Next (pushedOf m (nextOf (m .c)) 17))
-    turn-round e = enter-next Round 17 (record { slots = λ l t. refl; trees = λ l t. refl; credit = refl; class = lit< tt }) (λ e. omega arith, tt) (omega arith) (lit< tt) (lit< tt) (starts-round (m .level) us (no-row none-here) (number-here 22 e))
+    pub turn-round : kindAt w (m .c) ≡ fixed "(" → Turned ts s x w (putSlot w (m .depth) 7 (m .level) (m .c .at)) m (Next (pushedOf m (nextOf (m .c)) 17))
+    turn-round e = enter-next Round 17 (record { slots = λ l t. refl; trees = λ l t. refl; credit = refl; class = lit< tt }) (λ e. omega arith, tt) (omega arith) (lit< tt) (lit< tt)
+        (starts-round (m .level) us (no-row none-here) (number-here 22 e))
 
-    pub turn-bars : kindAt w (m .c) ≡ 31 → Turned ts s x w (putSlot w (m .depth) 8 (m .level) (m .c .at)) m (Next (pushedOf m (nextOf (m .c)) 17))
-    turn-bars e = enter-next Bars 17 (record { slots = λ l t. refl; trees = λ l t. refl; credit = refl; class = lit< tt }) (λ e. omega arith, tt) (omega arith) (lit< tt) (lit< tt) (starts-bars (m .level) us (no-row none-here) (number-here 31 e))
+    pub turn-bars : kindAt w (m .c) ≡ fixed "|" → Turned ts s x w (putSlot w (m .depth) 8 (m .level) (m .c .at)) m (Next (pushedOf m (nextOf (m .c)) 17))
+    turn-bars e = enter-next Bars 17 (record { slots = λ l t. refl; trees = λ l t. refl; credit = refl; class = lit< tt }) (λ e. omega arith, tt) (omega arith) (lit< tt) (lit< tt)
+        (starts-bars (m .level) us (no-row none-here) (number-here 31 e))
 
     -- no operand begins here
     pub turn-not : ((k : ℕ) → starter k ≡ true → kindAt w (m .c) ≡ k → ⊥) → Turned ts s x w w m (Ended (refusedAt w (m .c)))
@@ -113,31 +120,32 @@ module _ {ts : Tokens} {s : Cursor} {x : Read Expr} {w : List ℕ} {m : Machine}
     unfolding prefixAt
     name-row = no-row (ap prefixAt named)
 
-    pub turn-name : (kindAt w (nextOf (m .c)) ≡ 24 → ⊥) → Turned ts s x w (leafWritten w m 0) m (leafOf m)
+    pub turn-name : (kindAt w (nextOf (m .c)) ≡ fixed "[" → ⊥) → Turned ts s x w (leafWritten w m 0) m (leafOf m)
     turn-name f =
         leaf-turn (Named (here h)) 0 refl (lit< tt) (omega arith)
         (starts-name (m .level) us name-row (number-here 1 named) (next-sign (inside (omega arith)) "[" refl ∙ ne-eqb (kindAt w (nextOf (m .c))) 24 f))
 
-    pub turn-index : kindAt w (nextOf (m .c)) ≡ 24 → Turned ts s x w (putSlot w (m .depth) 9 (m .level) (m .c .at)) m (Next (pushedOf m (nextOf (nextOf (m .c))) 17))
+    pub turn-index : kindAt w (nextOf (m .c)) ≡ fixed "[" → Turned ts s x w (putSlot w (m .depth) 9 (m .level) (m .c .at)) m (Next (pushedOf m (nextOf (nextOf (m .c))) 17))
     turn-index e =
         enter-second Square 17 (record { slots = λ l t. refl; trees = λ l t. refl; credit = refl; class = lit< tt }) (λ e. omega arith, tt) (omega arith) (omega arith) (lit< tt) (lit< tt)
         (starts-index (m .level) us name-row (number-here 1 named) (next-sign (inside (omega arith)) "[" refl ∙ eq-eqb (kindAt w (nextOf (m .c))) 24 e))
 
   -- a set
-  module _ (brace : kindAt w (m .c) ≡ 20) where
+  module _ (brace : kindAt w (m .c) ≡ fixed "{") where
     brace-row : prefixRow (here h) ≡ none
     unfolding prefixAt
     brace-row = no-row (ap prefixAt brace)
 
-    pub turn-empty : kindAt w (nextOf (m .c)) ≡ 21 → Turned ts s x w (putEntry w (m .c .out) 51 (m .c .at) 1) m (Next (climbingOf m (emittedOf (nextOf (nextOf (m .c))))))
+    pub turn-empty : kindAt w (nextOf (m .c)) ≡ fixed "}" → Turned ts s x w (putEntry w (m .c .out) 51 (m .c .at) 1) m (Next (climbingOf m (emittedOf (nextOf (nextOf (m .c))))))
     turn-empty e =
         let i = inside (omega arith) in
         let n = next-inside i (omega arith) in
         completes-at h (Listed (here h) Empty) 51 refl (lit< tt) i (nextOf (nextOf (m .c))) (omega arith) refl
         (stacked-less (stacked-next (stacked-next (h .stacked) i) n) (suc (credits (h .frames))) (omega arith))
-        (starts-empty (m .level) us brace-row (number-here 20 brace) (next-sign i "}" refl ∙ eq-eqb (kindAt w (nextOf (m .c))) 21 e) ∙ ap (climbs (m .level) (Listed (here h) Empty)) (sym (drop-two (m .c .at) ts)))
+        (starts-empty (m .level) us brace-row (number-here 20 brace) (next-sign i "}" refl ∙ eq-eqb (kindAt w (nextOf (m .c))) 21 e) ∙ ap (climbs (m .level) (Listed (here h) Empty))
+        (sym (drop-two (m .c .at) ts)))
 
-    pub turn-set : (kindAt w (nextOf (m .c)) ≡ 21 → ⊥) → Turned ts s x w (putSlot w (m .depth) 15 (m .level) (m .c .at)) m (Next (pushedOf m (nextOf (m .c)) 17))
+    pub turn-set : (kindAt w (nextOf (m .c)) ≡ fixed "}" → ⊥) → Turned ts s x w (putSlot w (m .depth) 15 (m .level) (m .c .at)) m (Next (pushedOf m (nextOf (m .c)) 17))
     turn-set f =
         enter-next One 17 (record { slots = λ l t. refl; trees = λ l t. refl; credit = refl; class = lit< tt }) (λ e. omega arith, tt) (omega arith) (lit< tt) (lit< tt)
         (starts-set (m .level) us brace-row (number-here 20 brace) (next-sign (inside (omega arith)) "}" refl ∙ ne-eqb (kindAt w (nextOf (m .c))) 21 f))

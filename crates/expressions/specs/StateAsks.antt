@@ -10,6 +10,7 @@ use Rattle.expressions.specs.Machines.{Pushes}
 use Rattle.expressions.specs.States.{Standing}
 use Rattle.expressions.specs.StateLaws.{facts}
 use Rattle.expressions.specs.Starts.{Leafs}
+use Rattle.language.specs.Limits.{maxTokens}
 
 module _ {complete : Bool} {w : List ℕ} {m : Machine} (g : Standing complete w m) where
   pub asks-kind : Fits w (m .c)
@@ -17,7 +18,7 @@ module _ {complete : Bool} {w : List ℕ} {m : Machine} (g : Standing complete w
 
   -- there is a next token
   module _ (l : 0 < kindAt w (m .c)) where
-    pub asks-next : m .c .at < 8_192
+    pub asks-next : m .c .at < maxTokens
     asks-next = omega (arith, before-end w (m .c) l, asks-kind .few)
 
     pub asks-second : Fits w (nextOf (m .c))
@@ -30,5 +31,5 @@ module _ {complete : Bool} {w : List ℕ} {m : Machine} (g : Standing complete w
     asks-leaf k h = let f = facts (g .state) in record { room = f .fits .room; at-fits = asks-next; out-fits = omega (arith, f .apart, f .few); kind-fits = h }
 
     -- and another one
-    pub asks-third : 0 < kindAt w (nextOf (m .c)) → m .c .at + 1 < 8_192
+    pub asks-third : 0 < kindAt w (nextOf (m .c)) → m .c .at + 1 < maxTokens
     asks-third k = omega (arith, before-end w (nextOf (m .c)) k, asks-kind .few)

@@ -12,6 +12,7 @@ use Rattle.language.specs.Tokens.{Token}
 use Rattle.language.specs.Tree.{Expr, Empty}
 use Rattle.language.specs.Grammar.{Tokens, Read, front, stop}
 use Rattle.language.specs.Laws.Basics.Lists.{All as Every}
+use Rattle.language.specs.Limits.{maxTokens}
 use Rattle.entries.specs.Flat.{leaf, flat}
 use Rattle.entries.specs.Stored.{firstEntry, entryWord, putEntry, Keeps}
 use Rattle.entries.specs.declared.Cursor.{Cursor}
@@ -39,7 +40,7 @@ plug-refused (F ∷ Fs) n p = plug-refused Fs n p
 pub record Facts (w : List ℕ) (m : Machine) : Type 0 where
   pub fits : Fits w (m .c)
   pub apart : m .c .out + m .depth < m .c .at
-  pub few : m .c .at ≤ 8_192
+  pub few : m .c .at ≤ maxTokens
   pub level-fits : m .level < 32
 
 module _ {complete : Bool} {ts : Tokens} {s : Cursor} {x : Read Expr} {w : List ℕ} {m : Machine} (h : State complete ts s x w m) where
@@ -87,7 +88,7 @@ module _ {complete : Bool} {ts : Tokens} {s : Cursor} {x : Read Expr} {w : List 
 
 -- a frame without trees and with the index j of its token is pushed; reading goes on at the cursor d, at a level
 pub pushed : {ts : Tokens} {s : Cursor} {x : Read Expr} {w : List ℕ} (Fs : List Frame) (K : Class) (max j : ℕ) (t : Token) (d : Cursor) (depth l : ℕ)
-    → Simple K → Marked K t → Every Firm Fs → Keeps ts j (some t) → j < 8_192 → max < 32 → 0 < l → l < 32
+    → Simple K → Marked K t → Every Firm Fs → Keeps ts j (some t) → j < maxTokens → max < 32 → 0 < l → l < 32
     → Stacked ts s w d depth (slotsOf Fs) (base Fs ++ []) (suc (credits Fs)) → x ≡ plug Fs (reads l (drop (d .at) ts) >>= λ (y, us). resume (frame K max t) y us)
     → State false ts s x (putSlot w depth (classNumber K) max j) (record { c = d; depth = depth + 1; level = l; complete = false })
 unfolding plug
@@ -124,7 +125,8 @@ module _ {ts : Tokens} {s : Cursor} {x : Read Expr} {w : List ℕ} {m : Machine}
         kept = kept-slot h (classNumber K) (m .level) (m .c .at);
         after =
             record {
-              state = pushed (h .frames) K (m .level) (m .c .at) (here h) d (m .depth) l simple marked (h .firm) (keeps-here h inside) (omega (arith, f .few, f .fits .few)) (h .level-fits) positive small stacked (h .same ∙ ap (plug (h .frames)) step);
+              state = pushed (h .frames) K (m .level) (m .c .at) (here h) d (m .depth) l simple marked (h .firm) (keeps-here h inside) (omega (arith, f .few, f .fits .few)) (h .level-fits) positive
+                  small stacked (h .same ∙ ap (plug (h .frames)) step);
               lighter = omega (arith, stacked .count, h .stacked .count, stacked .ready .fits .inside, stacked .out, h .stacked .out);
             };
       }
@@ -152,7 +154,8 @@ module _ {ts : Tokens} {s : Cursor} {x : Read Expr} {w : List ℕ} {m : Machine}
                     good = (k, some (here h), [], one);
                     level-fits = h .level-fits;
                     firm = h .firm;
-                    stacked = subst (λ es. Stacked ts s v (emittedOf d) (m .depth) (slotsOf (h .frames)) es (credits (h .frames))) (append-assoc (base (h .frames)) [] (leaf k (here h)) ∙ ap (λ es. base (h .frames) ++ es) (sym one)) written;
+                    stacked = subst (λ es. Stacked ts s v (emittedOf d) (m .depth) (slotsOf (h .frames)) es (credits (h .frames)))
+                        (append-assoc (base (h .frames)) [] (leaf k (here h)) ∙ ap (λ es. base (h .frames) ++ es) (sym one)) written;
                     same = h .same ∙ ap (plug (h .frames)) step;
                   };
               lighter = omega (arith, stacked .count, h .stacked .count, stacked .ready .fits .inside, stacked .out, h .stacked .out);

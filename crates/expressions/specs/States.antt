@@ -11,6 +11,7 @@ use Rattle.language.specs.Operators.{Role}
 use Rattle.language.specs.Tree.{Expr}
 use Rattle.language.specs.Grammar.{Tokens, Read}
 use Rattle.language.specs.Laws.Basics.Lists.{All as Every}
+use Rattle.language.specs.Limits.{maxTokens}
 use Rattle.lexer.specs.Numbers.{number}
 use Rattle.entries.specs.Kinds as Kind
 use Rattle.entries.specs.Flat.{Entry, under, flat}
@@ -188,7 +189,7 @@ pub record Standing (complete : Bool) (w : List ℕ) (m : Machine) : Type 0 wher
 
 -- what is left to do: tokens count three times, slots and entries to come once
 abbrev pub weight : Machine → ℕ
-weight m = 3 * (m .c .count - m .c .at) + m .depth + (8_192 - m .c .out)
+weight m = 3 * (m .c .count - m .c .at) + m .depth + (maxTokens - m .c .out)
 
 pub record Went (ts : Tokens) (s : Cursor) (x : Read Expr) (v : List ℕ) (m n : Machine) : Type 0 where
   pub state : State (n .complete) ts s x v n

@@ -46,12 +46,14 @@ module _ {ts : Tokens} {s : Cursor} {x : Read Expr} {w : List ℕ} {m : Machine}
   -- the tree e of the frame F, complete at the cursor d
   pub built : (F : Frame) (Gs : List Frame) (p : Popping ts s x w m F Gs) (d : Cursor) (n : ℕ)
       → Stacked ts s w d (m .depth) (slot (classNumber (F .class)) (F .level) (F .token) [] ∷ slotsOf Gs) (behind (base Gs) (treesBy (F .class) F) ++ flat (p .tree)) n
-      → (e : Expr) (kind code : ℕ) → code ≡ kind → code < 64 → (t : Option Token) → flat e ≡ under kind t (behind [] (treesBy (F .class) F) ++ flat (p .tree)) → ((j : ℕ) → Keeps ts j (some (F .token)) → Keeps ts j t)
+      → (e : Expr) (kind code : ℕ) → code ≡ kind → code < 64 → (t : Option Token) → flat e ≡ under kind t (behind [] (treesBy (F .class) F) ++ flat (p .tree))
+      → ((j : ℕ) → Keeps ts j (some (F .token)) → Keeps ts j t)
       → 0 + credits Gs ≤ n → m .c .at ≤ d .at → x ≡ plug Gs (climbs (F .level) e (drop (d .at) ts)) → Built ts s x w m d code (suc (length (treesBy (F .class) F)))
   built F Gs p d n st e kind code same-kind small t made keeps less onward same =
       let made′ : flat e ≡ under code t (behind [] (treesBy (F .class) F) ++ flat (p .tree)) = made ∙ ap (λ k. under k t (behind [] (treesBy (F .class) F) ++ flat (p .tree))) (sym same-kind) in (
         builds x m (classNumber (F .class)) (F .level) (F .token) (treesBy (F .class) F) (p .firm-top .0) Gs (p .firm) (p .tree) (p .rooted) d n st e code small t made′,
-        turn-built x m (classNumber (F .class)) (F .level) (F .token) (treesBy (F .class) F) (p .firm-top .0) Gs (p .firm) (p .tree) (p .rooted) d n st e code small t made′ keeps less onward (p .stacked .count) (omega (arith, p .stacked .out, st .out)) same,
+        turn-built x m (classNumber (F .class)) (F .level) (F .token) (treesBy (F .class) F) (p .firm-top .0) Gs (p .firm) (p .tree) (p .rooted) d n st e code small t made′ keeps less onward
+            (p .stacked .count) (omega (arith, p .stacked .out, st .out)) same,
       )
 
   module _ (h : Complete ts s x w m) (deep : 0 < m .depth) where
@@ -62,7 +64,8 @@ module _ {ts : Tokens} {s : Cursor} {x : Read Expr} {w : List ℕ} {m : Machine}
     built-stepped e =
         let q = popping h Stepped deep e in
         let F = turned Stepped (q .0) in
-        built F (q .1) (q .2) (m .c) (0 + credits (q .1)) (q .2 .stacked) (builtBy Stepped F (q .2 .tree)) 36 36 refl (lit< tt) (some (F .token)) refl (λ j k. k) (omega arith) (omega arith) (q .2 .same)
+        built F (q .1) (q .2) (m .c) (0 + credits (q .1)) (q .2 .stacked) (builtBy Stepped F (q .2 .tree)) 36 36 refl (lit< tt) (some (F .token)) refl (λ j k. k) (omega arith) (omega arith)
+        (q .2 .same)
 
     pub built-cons : slotClass top ≡ 5 → Built ts s x w m (m .c) 52 2
     built-cons e =
@@ -72,7 +75,8 @@ module _ {ts : Tokens} {s : Cursor} {x : Read Expr} {w : List ℕ} {m : Machine}
 
     -- the operator's kind from its row
     pub number-top : (K : Class) (F : Frame) (Gs : List Frame) → (p : Popping ts s x w m (turned K F) Gs)
-        → Stacked ts s w (m .c) (m .depth) (slot (classNumber K) (F .level) (F .token) [] ∷ slotsOf Gs) (behind (base Gs) (treesBy K (turned K F)) ++ flat (p .tree)) (0 + credits Gs) → operatorIn w top ≡ number (F .token)
+        → Stacked ts s w (m .c) (m .depth) (slot (classNumber K) (F .level) (F .token) [] ∷ slotsOf Gs) (behind (base Gs) (treesBy K (turned K F)) ++ flat (p .tree)) (0 + credits Gs)
+        → operatorIn w top ≡ number (F .token)
     number-top K F Gs p st =
         let at-top = st .slots-at .0 in
         ap (λ j. numberIn (wordAt w j)) (slot-index at-top) ∙ stored-number (at-top .index) (F .token) (st .ready) (at-top .tokens .0)
@@ -84,7 +88,8 @@ module _ {ts : Tokens} {s : Cursor} {x : Read Expr} {w : List ℕ} {m : Machine}
         let number-is = number-top Right (q .0) (q .1) (q .2) (q .2 .stacked) in
         let row = infix-some (F .token) (q .2 .firm-top .1 .0) in
         let is : infixAt (operatorIn w top) / 1024 ≡ infixAt (number (F .token)) / 1024 = ap (λ n. infixAt n / 1024) number-is in
-        built F (q .1) (q .2) (m .c) (0 + credits (q .1)) (q .2 .stacked) (builtBy Right F (q .2 .tree)) _ _ (is ∙ row .kind) (subst (λ k. k < 64) (sym is) (row .kind-fits)) (some (F .token)) refl (λ j k. k) (omega arith) (omega arith) (q .2 .same)
+        built F (q .1) (q .2) (m .c) (0 + credits (q .1)) (q .2 .stacked) (builtBy Right F (q .2 .tree)) _ _ (is ∙ row .kind) (subst (λ k. k < 64) (sym is) (row .kind-fits)) (some (F .token)) refl
+        (λ j k. k) (omega arith) (omega arith) (q .2 .same)
 
     -- a prefix operator's
     prefix-top : (K : Class) (F : Frame) → operatorIn w top ≡ number (F .token) → (prefixAt (number (F .token)) ≡ 0 → ⊥) → PrefixFound (F .token) (prefixAt (operatorIn w top))
@@ -95,14 +100,16 @@ module _ {ts : Tokens} {s : Cursor} {x : Read Expr} {w : List ℕ} {m : Machine}
         let q = popping h Sole deep e in
         let F = turned Sole (q .0) in
         let row = prefix-top Sole F (number-top Sole (q .0) (q .1) (q .2) (q .2 .stacked)) (q .2 .firm-top .1 .0) in
-        built F (q .1) (q .2) (m .c) (0 + credits (q .1)) (q .2 .stacked) (builtBy Sole F (q .2 .tree)) _ _ (row .sole ∙ q .2 .firm-top .1 .1) (omega arith) (some (F .token)) refl (λ j k. k) (omega arith) (omega arith) (q .2 .same)
+        built F (q .1) (q .2) (m .c) (0 + credits (q .1)) (q .2 .stacked) (builtBy Sole F (q .2 .tree)) _ _ (row .sole ∙ q .2 .firm-top .1 .1) (omega arith) (some (F .token)) refl (λ j k. k)
+        (omega arith) (omega arith) (q .2 .same)
 
     pub built-over : slotClass top ≡ 6 → Built ts s x w m (m .c) (prefixAt (operatorIn w top) / 256 % 64) 2
     built-over e =
         let q = popping h Over deep e in
         let F = turned Over (q .0) in
         let row = prefix-top Over F (number-top Over (q .0) (q .1) (q .2) (q .2 .stacked)) (q .2 .firm-top .1 .0) in
-        built F (q .1) (q .2) (m .c) (0 + credits (q .1)) (q .2 .stacked) (builtBy Over F (q .2 .tree)) _ _ (row .sole ∙ q .2 .firm-top .1 .1) (omega arith) (some (F .token)) refl (λ j k. k) (omega arith) (omega arith) (q .2 .same)
+        built F (q .1) (q .2) (m .c) (0 + credits (q .1)) (q .2 .stacked) (builtBy Over F (q .2 .tree)) _ _ (row .sole ∙ q .2 .firm-top .1 .1) (omega arith) (some (F .token)) refl (λ j k. k)
+        (omega arith) (omega arith) (q .2 .same)
 
     pub built-within : slotClass top ≡ 4 → Built ts s x w m (m .c) (prefixAt (operatorIn w top) / 16_384) 3
     built-within e =
@@ -110,4 +117,5 @@ module _ {ts : Tokens} {s : Cursor} {x : Read Expr} {w : List ℕ} {m : Machine}
         let F = turned Within (q .0) in
         let row = prefix-top Within F (number-top Within (q .0) (q .1) (q .2) (q .2 .stacked)) (q .2 .firm-top .1 .0) in
         built F (q .1) (q .2) (m .c) (0 + credits (q .1)) (q .2 .stacked) (builtBy Within F (q .2 .tree)) _ _ (row .window ∙ q .2 .firm-top .1 .1) (row .window-fits) (some (F .token))
-        (ap (λ es. under (Kind.window (windowOf (roleAt (F .token)))) (some (F .token)) es) (sym (append-assoc (flat (F .first)) (flat (F .second)) (flat (q .2 .tree))))) (λ j k. k) (omega arith) (omega arith) (q .2 .same)
+        (ap (λ es. under (Kind.window (windowOf (roleAt (F .token)))) (some (F .token)) es) (sym (append-assoc (flat (F .first)) (flat (F .second)) (flat (q .2 .tree))))) (λ j k. k) (omega arith)
+        (omega arith) (q .2 .same)

@@ -6,8 +6,10 @@ use crate::roles::operand;
 use crate::sets::all;
 use crate::sets::further;
 use crate::sets::set;
+use crate::stack::LEVELS;
 use crate::stack::Machine;
 use crate::stack::RIGHT;
+use crate::stack::TOKENS;
 use crate::stack::Turn;
 use entries::Parse;
 use operators::infixes::infix;
@@ -24,7 +26,7 @@ fn pop(m: Machine, work: &mut [u8]) -> Turn
         let c = m.c;
         return Turn::Ended(Parse::Parsed(c));
     }
-    let class = m.top(work) / 8192 / 32;
+    let class = m.top(work) / TOKENS / LEVELS;
     if class < 7 {
         return whole(m, work);
     }

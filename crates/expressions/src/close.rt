@@ -1,56 +1,40 @@
 // An expression is complete: its frame makes a tree of it.
 use crate::stack::BARS;
 use crate::stack::CONS;
-use crate::stack::LAST;
+use crate::stack::LEVELS;
 use crate::stack::Machine;
 use crate::stack::RIGHT;
 use crate::stack::ROUND;
 use crate::stack::SOLE;
 use crate::stack::SQUARE;
 use crate::stack::STEPPED;
+use crate::stack::TOKENS;
 use crate::stack::Turn;
 use crate::stack::WITHIN;
 use crate::stack::start_of;
 use entries::Cursor;
+use entries::kinds;
+use lexer::fields::LENGTHS;
+use lexer::fields::OFFSETS;
+use lexer::numbers;
 use operators::infixes::infix;
 use operators::prefixes::prefix;
 use words::get;
 ghost use mathlib.Core.Path.{_≡_};
 ghost use Prim.Native.Nat.{_≤_, _<_};
 ghost use lib.ListN.{length};
+ghost use Rattle.language.specs.Limits.{workBytes};
 ghost use Rattle.expressions.specs.declared.stack.Turn.the-variants.{Next};
 ghost use Rattle.expressions.specs.Stack.{topSlot, slotClass};
 ghost use Rattle.expressions.specs.Complete.{Completed, Ends, Builds, builtOf, builtIn};
 ghost use Rattle.expressions.specs.Wholes.{operatorIn};
 
-// The kinds of entries that a frame's class tells.
-const INDEX: u32 = 4;
-
-const PAREN: u32 = 5;
-
-const SIZE: u32 = 6;
-
-const NEXTS: u32 = 36;
-
-const ELEMENT: u32 = 52;
-
-const RANGE: u32 = 53;
-
-// The numbers of closing signs.
-const CLOSE: u32 = 23;
-
-const CLOSE_BRACKET: u32 = 25;
-
-const BAR: u32 = 31;
-
-const CLOSE_BRACE: u32 = 21;
-
 // The number of a slot's token.
 pub fn operator(work: &[u8], slot: u32) -> u32
-    requires { ⌜ 65536 ≤ length (now work) ⌝ }
+    requires { ⌜ workBytes ≤ length (now work) ⌝ }
     ensures { λ r. ⌜ r ≡ operatorIn (now (work .entry)) slot ⌝ }
 {
-    get(work, (slot % 8192) as usize) / 256 / 65536
+    get(work, (slot % TOKENS) as usize) / LENGTHS / OFFSETS
 }
 
 // The last frame's tree of so many operands is complete at the cursor.
@@ -61,8 +45,8 @@ pub fn build(m: Machine, work: &mut [u8], c: Cursor, kind: u32, operands: usize)
     let f = m.top(work);
     let out = c.out;
     let start = start_of(work, out, operands);
-    let d = c.emit(work, kind, (f % 8192) as usize, 1 + (out - start));
-    Turn::Next(m.popped(f / 8192 % 32).climbing(d))
+    let d = c.emit(work, kind, (f % TOKENS) as usize, 1 + (out - start));
+    Turn::Next(m.popped(f / TOKENS % LEVELS).climbing(d))
 }
 
 // A frame whose tree needs no sign behind it.
@@ -72,12 +56,12 @@ pub fn whole(m: Machine, work: &mut [u8]) -> Turn
 {
     let c = m.c;
     let f = m.top(work);
-    let class = f / 8192 / 32;
+    let class = f / TOKENS / LEVELS;
     if class == STEPPED {
-        return build(m, work, c, NEXTS, 2);
+        return build(m, work, c, kinds::NEXTS, 2);
     }
     if class == CONS {
-        return build(m, work, c, ELEMENT, 2);
+        return build(m, work, c, kinds::ELEMENT, 2);
     }
     let k = operator(work, f);
     if class == RIGHT {
@@ -99,28 +83,28 @@ pub fn close(m: Machine, work: &mut [u8]) -> Turn
 {
     let c = m.c;
     let f = m.top(work);
-    let class = f / 8192 / 32;
+    let class = f / TOKENS / LEVELS;
     let k = c.kind(work);
     if class == ROUND {
-        if k == CLOSE {
-            return build(m, work, c.next(), PAREN, 1);
+        if k == numbers::CLOSE_PAREN {
+            return build(m, work, c.next(), kinds::PAREN, 1);
         }
         return Turn::Ended(c.refuse(work));
     }
     if class == BARS {
-        if k == BAR {
-            return build(m, work, c.next(), SIZE, 1);
+        if k == numbers::BAR {
+            return build(m, work, c.next(), kinds::SIZE, 1);
         }
         return Turn::Ended(c.refuse(work));
     }
     if class == SQUARE {
-        if k == CLOSE_BRACKET {
-            return build(m, work, c.next(), INDEX, 1);
+        if k == numbers::CLOSE_BRACKET {
+            return build(m, work, c.next(), kinds::INDEX, 1);
         }
         return Turn::Ended(c.refuse(work));
     }
-    if k == CLOSE_BRACE {
-        return build(m, work, c.next(), RANGE, 3);
+    if k == numbers::CLOSE_BRACE {
+        return build(m, work, c.next(), kinds::RANGE, 3);
     }
     Turn::Ended(c.refuse(work))
 }

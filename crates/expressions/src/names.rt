@@ -4,18 +4,24 @@ use crate::roles::binder;
 use crate::sets::grow;
 use crate::stack::BOUND;
 use crate::stack::BOUNDS;
+use crate::stack::LEVELS;
 use crate::stack::Machine;
 use crate::stack::OVER;
+use crate::stack::TOKENS;
 use crate::stack::Turn;
 use crate::stack::UPPER;
-use crate::start::NAME;
 use entries::Cursor;
+use entries::kinds;
+use lexer::fields::LENGTHS;
+use lexer::fields::OFFSETS;
+use lexer::numbers;
 use operators::prefixes::prefix;
 use words::get;
 ghost use mathlib.Core.Path.{_≡_};
 ghost use Prim.Native.Nat.{_≤_, _<_};
 ghost use lib.ListN.{length};
 ghost use Rattle.words.specs.Words.{wordAt};
+ghost use Rattle.language.specs.Limits.{workBytes, maxTokens};
 ghost use Rattle.lexer.specs.Stored.{numberIn};
 ghost use Rattle.expressions.specs.Stack.{topSlot, slotClass};
 ghost use Rattle.expressions.specs.Complete.{Completed, Ends};
@@ -23,27 +29,14 @@ ghost use Rattle.expressions.specs.Signs.{strictAt, signAt};
 ghost use Rattle.expressions.specs.NameStates.{Ranging, Binds, binderKind};
 ghost use Rattle.expressions.specs.NameStarts.{betweenAt};
 
-// The numbers of signs.
-const LESS: u32 = 37;
-
-const LE: u32 = 84;
-
-const AT_MOST: u32 = 13;
-
-const LEQ: u32 = 85;
-
-const CLOSE_BRACKET: u32 = 25;
-
-const COMMA: u32 = 27;
-
 // Does the sign leave its bound out?
 fn strict(number: u32) -> bool
     ensures { λ r. ⌜ r ≡ strictAt number ⌝ }
 {
-    if number == LESS {
+    if number == numbers::LESS {
         return true;
     }
-    number == LE
+    number == numbers::LE
 }
 
 // Is it a sign of bounds?
@@ -53,10 +46,10 @@ fn sign(number: u32) -> bool
     if strict(number) {
         return true;
     }
-    if number == AT_MOST {
+    if number == numbers::AT_MOST {
         return true;
     }
-    number == LEQ
+    number == numbers::LEQ
 }
 
 // The kind of the entry of bounds, by the numbers of their signs.
@@ -65,14 +58,14 @@ fn between(low: u32, high: u32) -> u32
 {
     if strict(low) {
         if strict(high) {
-            return 50;
+            return kinds::BETWEEN_NO_ENDS;
         }
-        return 49;
+        return kinds::BETWEEN_NO_LOW;
     }
     if strict(high) {
-        return 48;
+        return kinds::BETWEEN_NO_HIGH;
     }
-    47
+    kinds::BETWEEN_ENDS
 }
 
 // The kind of the entry of a name, which is the first where the operator's level is not 0.
@@ -80,17 +73,17 @@ fn binder_kind(level: u32) -> u32
     ensures { λ r. ⌜ r ≡ binderKind level ⌝ }
 {
     if level == 0 {
-        return 46;
+        return kinds::FURTHER_BINDER;
     }
-    45
+    kinds::BINDER
 }
 
 // The number of a token.
 fn number(work: &[u8], at: usize) -> u32
-    requires { ⌜ (65536 ≤ length (now work)) × (at < 8192) ⌝ }
+    requires { ⌜ (workBytes ≤ length (now work)) × (at < maxTokens) ⌝ }
     ensures { λ r. ⌜ r ≡ numberIn (wordAt (now (work .entry)) at) ⌝ }
 {
-    get(work, at) / 256 / 65536
+    get(work, at) / LENGTHS / OFFSETS
 }
 
 // The name is bound: further names follow, or the operand.
@@ -99,18 +92,18 @@ fn named(m: Machine, work: &mut [u8], c: Cursor, name: usize) -> Turn
     ensures { λ r. ⌜ Binds (now (work .entry)) (now (work .exit)) m c name r ⌝ }
 {
     let f = m.top(work);
-    let d = grow(c, work, binder_kind(f / 8192 % 32), name, 1);
+    let d = grow(c, work, binder_kind(f / TOKENS % LEVELS), name, 1);
     let k = d.kind(work);
-    if k == COMMA {
+    if k == numbers::COMMA {
         let n = Machine {
             c: d,
             depth: m.depth,
             level: 0,
             complete: false,
         };
-        return Turn::Next(binder(n, work, d.next(), (f % 8192) as usize));
+        return Turn::Next(binder(n, work, d.next(), (f % TOKENS) as usize));
     }
-    if k == CLOSE_BRACKET {
+    if k == numbers::CLOSE_BRACKET {
         let level = prefix(operator(work, f)) % 32;
         let e = d.next();
         return Turn::Next(Machine {
@@ -134,7 +127,7 @@ fn low(m: Machine, work: &mut [u8]) -> Turn
         return Turn::Ended(c.refuse(work));
     }
     let d = c.next();
-    if d.kind(work) != NAME {
+    if d.kind(work) != numbers::NAME {
         return Turn::Ended(d.refuse(work));
     }
     let e = d.next();
@@ -143,8 +136,8 @@ fn low(m: Machine, work: &mut [u8]) -> Turn
     }
     let f = m.top(work);
     let g = e.next();
-    let n = m.popped(f / 8192 % 32)
-        .push(work, OVER, (f % 8192) as usize, g, 0);
+    let n = m.popped(f / TOKENS % LEVELS)
+        .push(work, OVER, (f % TOKENS) as usize, g, 0);
     Turn::Next(n.push(work, UPPER, at, g, BOUNDS))
 }
 
@@ -155,11 +148,11 @@ pub fn names(m: Machine, work: &mut [u8]) -> Turn
 {
     let c = m.c;
     let f = m.top(work);
-    let class = f / 8192 / 32;
+    let class = f / TOKENS / LEVELS;
     if class == BOUND {
         return low(m, work);
     }
-    let at = (f % 8192) as usize;
+    let at = (f % TOKENS) as usize;
     if class == UPPER {
         let kind = between(number(work, at), number(work, at + 2));
         let d = grow(c, work, kind, at, 2);

@@ -9,14 +9,13 @@ use crate::stack::Machine;
 use crate::stack::OVER;
 use crate::stack::SOLE;
 use crate::stack::Turn;
-use crate::start::NAME;
-use crate::start::OPEN_BRACKET;
 use crate::start::atom;
 use entries::Cursor;
 use entries::Parse;
+use lexer::numbers;
 use operators::prefixes::prefix;
 ghost use mathlib.Core.Path.{_≡_};
-ghost use mathlib.Core.Bool.{true, false};
+ghost use mathlib.Core.Bool.{false};
 ghost use Prim.Native.Nat.{_/_, _%_, _≤_};
 ghost use Rattle.entries.specs.Cursors.{Fits, kindAt};
 ghost use Rattle.operators.specs.Tables.{prefixAt};
@@ -30,23 +29,16 @@ const COUNTED: u32 = 2;
 
 const FOLDING: u32 = 4;
 
-// The numbers of the signs of membership.
-const IN: u32 = 89;
-
-const ELEM: u32 = 90;
-
-const ARROW: u32 = 15;
-
 fn among(number: u32) -> bool
     ensures { λ r. ⌜ r ≡ amongAt number ⌝ }
 {
-    if number == IN {
+    if number == numbers::IN {
         return true;
     }
-    if number == ELEM {
+    if number == numbers::ELEM {
         return true;
     }
-    number == ARROW
+    number == numbers::ARROW
 }
 
 // Does a name with its set follow?
@@ -54,7 +46,7 @@ fn member(c: Cursor, work: &[u8]) -> bool
     requires { ⌜ Fits (now work) c ⌝ }
     ensures { λ r. ⌜ r ≡ memberAt (now (work .entry)) c ⌝ }
 {
-    if c.kind(work) == NAME {
+    if c.kind(work) == numbers::NAME {
         return among(c.next().kind(work));
     }
     false
@@ -80,7 +72,7 @@ fn fold(m: Machine, work: &mut [u8]) -> Turn
 {
     let c = m.c;
     let at = c.at;
-    let r = c.next().expect(work, OPEN_BRACKET);
+    let r = c.next().expect(work, numbers::OPEN_BRACKET);
     let Parse::Parsed(d) = r else {
         return Turn::Ended(r);
     };
@@ -110,7 +102,7 @@ pub fn operand(m: Machine, work: &mut [u8]) -> Turn
     if role == PLAIN {
         return Turn::Next(m.push(work, SOLE, at, d, level));
     }
-    if d.kind(work) != OPEN_BRACKET {
+    if d.kind(work) != numbers::OPEN_BRACKET {
         return Turn::Next(m.push(work, SOLE, at, d, level));
     }
     if role == COUNTED {

@@ -6,17 +6,21 @@ use crate::stack::CONS;
 use crate::stack::COUNT;
 use crate::stack::HIGH;
 use crate::stack::LAST;
+use crate::stack::LEVELS;
 use crate::stack::LOOSEST;
 use crate::stack::LOW;
 use crate::stack::MORE;
 use crate::stack::Machine;
 use crate::stack::ONE;
 use crate::stack::STEPPED;
+use crate::stack::TOKENS;
 use crate::stack::TWO;
 use crate::stack::Turn;
 use crate::stack::WITHIN;
 use crate::stack::start_of;
 use entries::Cursor;
+use entries::kinds;
+use lexer::numbers;
 use operators::prefixes::prefix;
 ghost use mathlib.Core.Path.{_≡_};
 ghost use Prim.Native.Nat.{_≤_, _<_};
@@ -28,21 +32,6 @@ ghost use Rattle.expressions.specs.Reopens.{reopenedOf, reopenedIn};
 ghost use Rattle.expressions.specs.Grown.{Grows, grownIn};
 ghost use Rattle.expressions.specs.Sets.{Lists, listedOf, listedIn};
 ghost use Rattle.expressions.specs.Elements.{Listings, Goes};
-
-const ELEMENT: u32 = 52;
-
-const LISTED: u32 = 51;
-
-// The numbers of signs.
-const DOTS: u32 = 19;
-
-const CLOSE_BRACE: u32 = 21;
-
-const CLOSE_BRACKET: u32 = 25;
-
-const COMMA: u32 = 27;
-
-const COLON: u32 = 29;
 
 // An entry over the last trees.
 pub fn grow(c: Cursor, work: &mut [u8], kind: u32, token: usize, operands: usize) -> Cursor
@@ -60,8 +49,8 @@ fn reopen(m: Machine, work: &mut [u8], c: Cursor, class: u32, level: u32) -> Tur
     ensures { λ r. ⌜ (r ≡ reopenedOf m c level) × (now (work .exit) ≡ reopenedIn (now (work .entry)) m class) ⌝ }
 {
     let f = m.top(work);
-    let n = m.popped(f / 8192 % 32);
-    Turn::Next(n.push(work, class, (f % 8192) as usize, c, level))
+    let n = m.popped(f / TOKENS % LEVELS);
+    Turn::Next(n.push(work, class, (f % TOKENS) as usize, c, level))
 }
 
 // The n of `X[n]`, the n and the m of `F[n:m]`.
@@ -71,15 +60,15 @@ pub fn further(m: Machine, work: &mut [u8]) -> Turn
 {
     let c = m.c;
     let f = m.top(work);
-    let class = f / 8192 / 32;
+    let class = f / TOKENS / LEVELS;
     let k = c.kind(work);
     if class == LOW {
-        if k == COLON {
+        if k == numbers::COLON {
             return reopen(m, work, c.next(), HIGH, LOOSEST);
         }
         return Turn::Ended(c.refuse(work));
     }
-    if k != CLOSE_BRACKET {
+    if k != numbers::CLOSE_BRACKET {
         return Turn::Ended(c.refuse(work));
     }
     let level = prefix(operator(work, f)) % 32;
@@ -94,8 +83,8 @@ fn listed(m: Machine, work: &mut [u8], c: Cursor, parts: usize) -> Turn
     requires { ⌜ Lists (now work) m c parts ⌝ }
     ensures { λ r. ⌜ (r ≡ listedOf (now (work .entry)) m c parts) × (now (work .exit) ≡ listedIn (now (work .entry)) m c parts) ⌝ }
 {
-    let d = grow(c, work, ELEMENT, 0, parts);
-    build(m, work, d, LISTED, 1)
+    let d = grow(c, work, kinds::ELEMENT, 0, parts);
+    build(m, work, d, kinds::LISTED, 1)
 }
 
 // An element from the second on, its frame popped.
@@ -105,11 +94,11 @@ fn element(m: Machine, work: &mut [u8]) -> Machine
 {
     let c = m.c;
     let at = c.at;
-    if c.kind(work) == COMMA {
+    if c.kind(work) == numbers::COMMA {
         let n = m.push(work, CONS, at, c, 0);
         return n.push(work, MORE, at, c.next(), LOOSEST);
     }
-    let d = grow(c, work, ELEMENT, 0, 1);
+    let d = grow(c, work, kinds::ELEMENT, 0, 1);
     Machine {
         c: d,
         depth: m.depth,
@@ -125,13 +114,13 @@ pub fn set(m: Machine, work: &mut [u8]) -> Turn
 {
     let c = m.c;
     let f = m.top(work);
-    let class = f / 8192 / 32;
+    let class = f / TOKENS / LEVELS;
     let k = c.kind(work);
     if class == ONE {
-        if k == COMMA {
+        if k == numbers::COMMA {
             return reopen(m, work, c.next(), TWO, LOOSEST);
         }
-        if k == CLOSE_BRACE {
+        if k == numbers::CLOSE_BRACE {
             return listed(m, work, c.next(), 1);
         }
         return Turn::Ended(c.refuse(work));
@@ -139,11 +128,11 @@ pub fn set(m: Machine, work: &mut [u8]) -> Turn
     if class == MORE {
         return Turn::Next(element(m.popped(0), work));
     }
-    if k == DOTS {
+    if k == numbers::DOTS {
         return reopen(m, work, c.next(), LAST, LOOSEST);
     }
-    let n = m.popped(f / 8192 % 32)
-        .push(work, ALL, (f % 8192) as usize, c, 0);
+    let n = m.popped(f / TOKENS % LEVELS)
+        .push(work, ALL, (f % TOKENS) as usize, c, 0);
     Turn::Next(element(n, work))
 }
 
@@ -153,7 +142,7 @@ pub fn all(m: Machine, work: &mut [u8]) -> Turn
     ensures { λ r. ⌜ Ends (now (work .entry)) (now (work .exit)) m r ⌝ }
 {
     let c = m.c;
-    if c.kind(work) == CLOSE_BRACE {
+    if c.kind(work) == numbers::CLOSE_BRACE {
         return listed(m, work, c.next(), 2);
     }
     Turn::Ended(c.refuse(work))

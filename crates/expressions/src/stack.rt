@@ -1,13 +1,19 @@
 // The stack of the expression parser: slots from the work buffer's last word downwards.
 use entries::Cursor;
-use entries::FIRST_ENTRY;
 use entries::Parse;
+use entries::fields::FIRST_ENTRY;
+use entries::fields::SIZES;
 use words::get;
 use words::put;
 ghost use mathlib.Core.Path.{_≡_};
-ghost use Prim.Native.Nat.{_+_, _-_, _<_};
+ghost use Prim.Native.Nat.{_<_};
 ghost use Rattle.expressions.specs.Stack.{putSlot, topSlot, startOf};
 ghost use Rattle.expressions.specs.Machines.{Pushes, Tops, Sizes, pushedOf, poppedOf, climbingOf};
+
+// The fields of a frame's slot, class, level and token: how many levels and tokens there are.
+pub const LEVELS: u32 = 32;
+
+pub const TOKENS: u32 = 8192;
 
 // The classes of frames.
 pub const RIGHT: u32 = 1;
@@ -79,7 +85,7 @@ impl Machine {
         put(
             work,
             16383 - depth,
-            (class * 32 + self.level) * 8192 + (token as u32),
+            (class * LEVELS + self.level) * TOKENS + (token as u32),
         );
         Machine {
             c,
@@ -133,7 +139,7 @@ pub fn start_of(work: &[u8], out: usize, n: usize) -> usize
     let mut start = out;
     let mut left = n;
     while 0 < left {
-        start -= (get(work, FIRST_ENTRY + (start - 1)) % 8192) as usize;
+        start -= (get(work, FIRST_ENTRY + (start - 1)) % SIZES) as usize;
         left -= 1;
     }
     start

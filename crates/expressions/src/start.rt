@@ -1,57 +1,20 @@
 // How an operand begins.
 use crate::stack::BARS;
-use crate::stack::BOUND;
-use crate::stack::BOUNDS;
-use crate::stack::COUNT;
 use crate::stack::LOOSEST;
-use crate::stack::LOW;
-use crate::stack::MEMBER;
 use crate::stack::Machine;
 use crate::stack::ONE;
-use crate::stack::OVER;
 use crate::stack::ROUND;
-use crate::stack::SOLE;
 use crate::stack::SQUARE;
 use crate::stack::Turn;
-use entries::Cursor;
-use entries::Parse;
-use operators::prefixes::prefix;
+use entries::kinds;
+use lexer::numbers;
 ghost use mathlib.Core.Path.{_≡_};
 ghost use mathlib.Core.Bool.{false};
 ghost use Rattle.entries.specs.Cursors.{kindAt};
 ghost use Rattle.operators.specs.Tables.{prefixAt};
 ghost use Rattle.expressions.specs.States.{Standing, Steps};
 ghost use Rattle.expressions.specs.Starts.{Leafs, leafOf, leafWritten};
-
-// The numbers of tokens.
-pub const NAME: u32 = 1;
-
-pub const NUMERAL: u32 = 2;
-
-pub const OPEN_BRACE: u32 = 20;
-
-pub const CLOSE_BRACE: u32 = 21;
-
-pub const OPEN: u32 = 22;
-
-pub const OPEN_BRACKET: u32 = 24;
-
-pub const BAR: u32 = 31;
-
-pub const TRUE: u32 = 66;
-
-pub const FALSE: u32 = 67;
-
-// The kinds of entries without operands.
-const NAMED_LEAF: u32 = 0;
-
-const NUMERAL_LEAF: u32 = 1;
-
-const FALSE_LEAF: u32 = 2;
-
-const TRUE_LEAF: u32 = 3;
-
-const EMPTY_SET: u32 = 51;
+ghost use Rattle.lexer.specs.Numbers.{fixed};
 
 // The next token alone is an operand.
 fn leaf(m: Machine, work: &mut [u8], kind: u32) -> Turn
@@ -72,22 +35,22 @@ fn name(m: Machine, work: &mut [u8]) -> Turn
     let c = m.c;
     let at = c.at;
     let d = c.next();
-    if d.kind(work) == OPEN_BRACKET {
+    if d.kind(work) == numbers::OPEN_BRACKET {
         return Turn::Next(m.push(work, SQUARE, at, d.next(), LOOSEST));
     }
-    leaf(m, work, NAMED_LEAF)
+    leaf(m, work, kinds::NAMED)
 }
 
 // A set, after its `{`.
 fn brace(m: Machine, work: &mut [u8]) -> Turn
-    requires { ⌜ Standing false (now work) m × (kindAt (now work) (m .c) ≡ 20) ⌝ }
+    requires { ⌜ Standing false (now work) m × (kindAt (now work) (m .c) ≡ fixed "{") ⌝ }
     ensures { λ r. ⌜ Steps false (now (work .entry)) (now (work .exit)) m r ⌝ }
 {
     let c = m.c;
     let at = c.at;
     let d = c.next();
-    if d.kind(work) == CLOSE_BRACE {
-        let e = d.next().emit(work, EMPTY_SET, at, 1);
+    if d.kind(work) == numbers::CLOSE_BRACE {
+        let e = d.next().emit(work, kinds::LISTED, at, 1);
         return Turn::Next(m.climbing(e));
     }
     Turn::Next(m.push(work, ONE, at, d, LOOSEST))
@@ -101,25 +64,25 @@ pub fn atom(m: Machine, work: &mut [u8]) -> Turn
     let c = m.c;
     let at = c.at;
     let k = c.kind(work);
-    if k == NAME {
+    if k == numbers::NAME {
         return name(m, work);
     }
-    if k == NUMERAL {
-        return leaf(m, work, NUMERAL_LEAF);
+    if k == numbers::NUMERAL {
+        return leaf(m, work, kinds::NUMERAL);
     }
-    if k == TRUE {
-        return leaf(m, work, TRUE_LEAF);
+    if k == numbers::TRUE {
+        return leaf(m, work, kinds::TRUE);
     }
-    if k == FALSE {
-        return leaf(m, work, FALSE_LEAF);
+    if k == numbers::FALSE {
+        return leaf(m, work, kinds::FALSE);
     }
-    if k == OPEN {
+    if k == numbers::OPEN_PAREN {
         return Turn::Next(m.push(work, ROUND, at, c.next(), LOOSEST));
     }
-    if k == BAR {
+    if k == numbers::BAR {
         return Turn::Next(m.push(work, BARS, at, c.next(), LOOSEST));
     }
-    if k == OPEN_BRACE {
+    if k == numbers::OPEN_BRACE {
         return brace(m, work);
     }
     Turn::Ended(c.refuse(work))

@@ -5,7 +5,20 @@ use mathlib.Core.Logic.{_↔_, Iff·rfl, Iff·trans, Iff·symm, Iff·and, Iff·n
 use native.Mathlib.Omega.{arith}
 use Rattle.node.specs.Logic.{Either, Stable}
 use Rattle.node.specs.LogicLaws.{or-same, to-same, not-not, not-or, not-and, implies-or, not-implies}
-use Rattle.node.specs.TemporalLaws.{always-same, eventually-same, until-same, release-same, weak-same, eventually-until, always-not-eventually, not-always, not-eventually, not-until, not-release, not-weak}
+use Rattle.node.specs.TemporalLaws.{
+  always-same,
+  eventually-same,
+  until-same,
+  release-same,
+  weak-same,
+  eventually-until,
+  always-not-eventually,
+  not-always,
+  not-eventually,
+  not-until,
+  not-release,
+  not-weak,
+}
 use Rattle.node.specs.Ltl.{Not, X, G, F, And, Or, Implies, Iff, U, R, W, Formula, True, False, Signal, One, Two, Word, Holds}
 use Rattle.node.specs.LtlLaws.{stable}
 use Rattle.forms.specs.Forms.{plain, negated, core, bothOf, impliesOf, globallyOf, form}

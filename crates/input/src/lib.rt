@@ -1,20 +1,16 @@
 // Files read to their end, for the programs: as many bytes as there is room for, and how many there are.
-ghost use Prim.Native.Nat.{_≤_, min};
+use basics::least;
 ghost use mathlib.Core.Path.{_≡_};
+ghost use Prim.Native.Nat.{_≤_, min, max};
 ghost use lib.ListN.{length};
 ghost use Rattle.io.specs.Counts.{Counts};
+ghost use Rattle.input.specs.Counted.{lastPlace, Counted};
 
 // Told in place of a number of bytes where a read fails.
 pub const UNREADABLE: usize = 18446744073709551615;
 
 // The last place that 32 bits can tell.
 const LAST_PLACE: usize = 4294967295;
-
-fn least(a: usize, b: usize) -> usize
-    ensures { λ r. ⌜ r ≡ min a b ⌝ }
-{
-    if a < b { a } else { b }
-}
 
 // As many of some bytes as the buffer has. It takes the buffer and not its length, so that a caller may lend that part of it without a proof.
 pub fn within(n: usize, buf: &[u8]) -> usize
@@ -35,7 +31,9 @@ fn more(fd: i32, buf: &mut [u8], from: usize) -> usize
 }
 
 // Reads until the buffer is full or the input ends, and tells how many bytes it has put there.
-pub fn fill(fd: i32, buf: &mut [u8]) -> usize {
+pub fn fill(fd: i32, buf: &mut [u8]) -> usize
+    ensures { λ r. ⌜ Counted 0 (length (now (buf .entry))) r ⌝ }
+{
     let mut done = 0;
     while done < buf.len() {
         let got = more(fd, buf, done);
@@ -51,7 +49,9 @@ pub fn fill(fd: i32, buf: &mut [u8]) -> usize {
 }
 
 // How many bytes there are, some of which have been read; counted up to the last place.
-pub fn size(fd: i32, first: usize, spare: &mut [u8]) -> usize {
+pub fn size(fd: i32, first: usize, spare: &mut [u8]) -> usize
+    ensures { λ r. ⌜ Counted first (max first lastPlace) r ⌝ }
+{
     let mut total = first;
     while total < LAST_PLACE {
         let got = fill(fd, spare);
@@ -66,6 +66,9 @@ pub fn size(fd: i32, first: usize, spare: &mut [u8]) -> usize {
     total
 }
 
-pub fn told(size: usize) -> u32 {
+// A number of bytes, as far as 32 bits can tell it.
+pub fn told(size: usize) -> u32
+    ensures { λ r. ⌜ r ≡ min size lastPlace ⌝ }
+{
     least(size, LAST_PLACE) as u32
 }

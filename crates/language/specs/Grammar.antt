@@ -10,7 +10,26 @@ use Rattle.node.specs.Operators.{X, F, G}
 use Rattle.node.specs.Result.{Result, Done, Refused, _>>=_}
 use Rattle.language.specs.Bytes.{if_then_else_, isOneOf}
 use Rattle.language.specs.Tokens.{Class, Fixed, Name, Numeral as Digits, End, Token, isOf, is}
-use Rattle.language.specs.Operators.{Size, FinallyIn, GloballyIn, Measures, Applies, Role, Plain, Counted, Windowed, Folding, Big, LeftToRight, RightToLeft, InfixRow, infixes, PrefixRow, prefixes, loosest}
+use Rattle.language.specs.Operators.{
+  Size,
+  FinallyIn,
+  GloballyIn,
+  Measures,
+  Applies,
+  Role,
+  Plain,
+  Counted,
+  Windowed,
+  Folding,
+  Big,
+  LeftToRight,
+  RightToLeft,
+  InfixRow,
+  infixes,
+  PrefixRow,
+  prefixes,
+  loosest,
+}
 use Rattle.language.specs.Tree.{Expr, Named, Numeral, Truth, Index, Paren, Prefixed, Joined, Nexts, InWindow, Each, Between, Listed, Empty, Element, Range}
 
 abbrev pub Tokens : Type 0

@@ -5,4 +5,5 @@ pub mod Values
 pub mod Kinds
 pub mod Places
 pub mod Meaning
+pub mod EqualModels
 pub mod Buffers

@@ -16,8 +16,10 @@ pub mod Declared
 pub mod Numbering
 pub mod Lines
 pub mod Expansion
+pub mod Shifting
 pub mod Meaning
 pub mod Numbered
+pub mod Listed
 pub mod Reading
 pub mod Cases
 pub mod Laws

@@ -1,5 +1,8 @@
 -- The limits of document 01, 'Limits' and 'Values', in one place.
-use Prim.Native.Nat.{ℕ}
+use Prim.Native.Nat.{ℕ, _^_}
+use mathlib.Core.List.{List, [], _∷_}
+-- '255 signals': a recording has no more either
+pub use Rattle.node.specs.Limits.{maxSignals}
 
 -- 'text 32,768 bytes'
 abbrev pub maxBytes : ℕ
@@ -29,10 +32,6 @@ maxElements = 256
 abbrev pub maxWidth : ℕ
 maxWidth = 255
 
--- '255 signals'
-abbrev pub maxSignals : ℕ
-maxSignals = 255
-
 -- 'an enumeration at most 16 words of 8 marks'
 abbrev pub maxWords : ℕ
 maxWords = 16
@@ -57,3 +56,8 @@ indexBits = 8
 
 abbrev pub widthBits : ℕ
 widthBits = 8
+
+-- what the code's constants stand for, in their order
+abbrev pub limits : List ℕ
+limits =
+    maxBytes ∷ maxTokens ∷ maxName ∷ maxNames ∷ maxLevels ∷ maxElements ∷ maxWidth ∷ maxWords ∷ maxMarks ∷ maxNumber ∷ workBytes ∷ 2 ^ offsetBits ∷ 2 ^ indexBits ∷ 2 ^ widthBits ∷ []

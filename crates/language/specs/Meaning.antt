@@ -1,8 +1,8 @@
 -- The source's own meaning (document 01: 'The source's own meaning is fed an accepted text, an infinite word .. and a position t, and no nodes'). Numbers and
 -- sets are worked out; of formulas nothing is expanded.
-use Prim.Native.Nat.{ℕ, _+_, _≤_, _<_}
+use Prim.Native.Nat.{ℕ, suc, _+_, _≤_, _<_}
 use mathlib.Core.Path.{_≡_}
-use mathlib.Core.Bool.{Bool, true, false, So}
+use mathlib.Core.Bool.{Bool, true, false, _||_, So}
 use mathlib.Core.List.{List, [], _∷_}
 use lib.ListN.{length, getD}
 use Rattle.node.specs.Logic.{Either, Some}
@@ -11,8 +11,74 @@ use Rattle.node.specs.Operators.{UnaryMeans, BinaryMeans}
 use Rattle.node.specs.Result.{Result, Done, Refused, _>>=_}
 use Rattle.language.specs.Bytes.{same}
 use Rattle.language.specs.Tokens.{Token}
-use Rattle.language.specs.Operators.{Comparison, Equal, Unequal, Less, AtMost, Greater, AtLeast, Big, BigSum, BigProduct, BigCap, BigCup, BigAnd, BigOr, Window, FinallyIn, GloballyIn, Calculates, Combines, Compares, Membership, Connects, Measures, WidthOf, Applies}
-use Rattle.language.specs.Tree.{Expr, Named, Numeral, Truth, Index, Paren, Prefixed, Joined, Nexts, InWindow, Each, Between, Listed, Empty, Element, Range, Identifier, Definition, Defined, Enumerated, Declaration, OneSignal, OfWidth, OfType, Part, Initially, Preset, Require, Assert, Assume, Guarantee, Subsection, Inputs, Outputs, Lines, Spec}
+use Rattle.language.specs.Operators.{
+  Comparison,
+  Equal,
+  Unequal,
+  Less,
+  AtMost,
+  Greater,
+  AtLeast,
+  Big,
+  BigSum,
+  BigProduct,
+  BigCap,
+  BigCup,
+  BigAnd,
+  BigOr,
+  Window,
+  FinallyIn,
+  GloballyIn,
+  Calculates,
+  Combines,
+  Compares,
+  Membership,
+  Connects,
+  Measures,
+  WidthOf,
+  Applies,
+}
+use Rattle.language.specs.Tree.{
+  Expr,
+  Named,
+  Numeral,
+  Truth,
+  Index,
+  Paren,
+  Prefixed,
+  Joined,
+  Nexts,
+  InWindow,
+  Each,
+  Between,
+  Listed,
+  Empty,
+  Element,
+  Range,
+  Identifier,
+  Definition,
+  Defined,
+  Enumerated,
+  Declaration,
+  OneSignal,
+  OfWidth,
+  OfType,
+  Part,
+  Initially,
+  Preset,
+  Require,
+  Assert,
+  Assume,
+  Guarantee,
+  Subsection,
+  Inputs,
+  Outputs,
+  Lines,
+  Model,
+  Mealy,
+  Moore,
+  Spec,
+}
 use Rattle.language.specs.Sets.{memberOf}
 use Rattle.language.specs.Values.{Value, Number, Set, Logic, Bus, Unsized, Choice, number, set, bus, choice, Scope, naming, value}
 use Rattle.language.specs.Declared.{declared, declarations}
@@ -204,9 +270,35 @@ SpecMeans x w t =
     let c = meaningAll (present (namesOf x)) (x .definitions) in
     WholeMeans (x .strict) (λ s. SectionMeans c (x .definitions) (x .main) s w) t
 
+-- is the name declared here?
+abbrev pub isDeclared : List Declaration → List ℕ → Bool
+isDeclared [] x = false
+isDeclared (OneSignal y ∷ ds) x = same (y .text) x || isDeclared ds x
+isDeclared (OfWidth y e ∷ ds) x = same (y .text) x || isDeclared ds x
+isDeclared (OfType u y ∷ ds) x = same (y .text) x || isDeclared ds x
+
+-- .. in OUTPUTS?
+abbrev pub isOutputName : List Subsection → List ℕ → Bool
+isOutputName [] x = false
+isOutputName (Inputs ds ∷ ss) x = isOutputName ss x
+isOutputName (Outputs ds ∷ ss) x = isDeclared ds x || isOutputName ss x
+isOutputName (Lines q es ∷ ss) x = isOutputName ss x
+
+abbrev pub nameOf : Atom → List ℕ
+nameOf (SignalOf x) = x
+nameOf (BitOf x i) = x
+
+-- 'For a converted file, the source's meaning reads the shifted signals one position later': the outputs from Mealy to Moore, the inputs from Moore to
+-- Mealy
+abbrev pub readAs : Model → Model → List Subsection → Word → Word
+readAs Mealy Mealy ss w = w
+readAs Mealy Moore ss w = λ t a. elim (isOutputName ss (nameOf a)) [ true ↦ w (suc t) a | false ↦ w t a ]
+readAs Moore Mealy ss w = λ t a. elim (isOutputName ss (nameOf a)) [ true ↦ w t a | false ↦ w (suc t) a ]
+readAs Moore Moore ss w = w
+
 -- a text's meaning, from its bytes; a text that is refused means nothing
 abbrev pub OfSpec : Result Spec → Word → Property
-OfSpec (Done x) w t = SpecMeans x w t
+OfSpec (Done x) w t = SpecMeans x (readAs (x .semantics) (x .target) (x .main) w) t
 OfSpec (Refused n p) w t = ⊥
 
 abbrev pub TextMeans : List ℕ → Word → Property

@@ -7,7 +7,31 @@ use lib.ListN.{drop}
 use Rattle.language.specs.Limits.{maxNames}
 use Rattle.language.specs.Bytes.{same}
 use Rattle.language.specs.Tokens.{Token}
-use Rattle.language.specs.Tree.{Expr, Named, Numeral, Truth, Index, Paren, Prefixed, Joined, Nexts, InWindow, Each, Between, Listed, Empty, Element, Range, Identifier, Defined, Enumerated, OneSignal, OfWidth, OfType, Spec}
+use Rattle.language.specs.Tree.{
+  Expr,
+  Named,
+  Numeral,
+  Truth,
+  Index,
+  Paren,
+  Prefixed,
+  Joined,
+  Nexts,
+  InWindow,
+  Each,
+  Between,
+  Listed,
+  Empty,
+  Element,
+  Range,
+  Identifier,
+  Defined,
+  Enumerated,
+  OneSignal,
+  OfWidth,
+  OfType,
+  Spec,
+}
 use Rattle.language.specs.Places.{first, firstIn, unless, Entry, ParameterLine, DefinitionLine, DeclarationLine, FormulaLine, allLines}
 
 abbrev pub Names : Type 0

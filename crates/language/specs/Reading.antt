@@ -1,7 +1,7 @@
 -- The reader's whole answer on a text and its buffers' lengths, in the paper's order of refusals (document 01, 'Reader order').
 use Prim.Native.Nat.{ℕ}
 use mathlib.Core.List.{List, _++_}
-use mathlib.Core.Bool.{Bool, true, false, _&&_}
+use mathlib.Core.Bool.{_&&_}
 use lib.Dec.{leb}
 use lib.ListN.{length, drop, replicate}
 use Rattle.node.specs.Limits.{maxNodes}
@@ -10,32 +10,27 @@ use Rattle.node.specs.Postorder.{size, nodesFrom}
 use Rattle.node.specs.Result.{Result, Done, Refused, _>>=_, guard, Counts}
 use Rattle.language.specs.Limits.{workBytes}
 use Rattle.language.specs.Bytes.{if_then_else_}
-use Rattle.language.specs.Tree.{Model, Mealy, Moore, Spec}
+use Rattle.language.specs.Tree.{Spec}
 use Rattle.language.specs.Places.{refuseAt}
 use Rattle.language.specs.Parsing.{parsed}
 use Rattle.language.specs.Declared.{declarations}
 use Rattle.language.specs.Numbering.{inOrder, signalList, tooManySignals}
 use Rattle.language.specs.Lines.{lines}
 use Rattle.language.specs.Expansion.{expand}
-
-abbrev pub sameModel : Model → Model → Bool
-sameModel Mealy Mealy = true
-sameModel Mealy Moore = false
-sameModel Moore Mealy = false
-sameModel Moore Moore = true
+use Rattle.language.specs.Shifting.{adapted}
 
 -- what an accepted text gives: its formula and its signal list
 pub record Converted : Type 0 where
   pub formula : Formula
   pub signals : List ℕ
 
--- refusals 11 to 13 as evaluation meets them; then 14, 15, 16
+-- refusals 11 to 13 as evaluation meets them; then 15, and 16 by the converted formula's nodes
 unfoldable pub converted : Spec → Result Converted
 converted x =
     declarations x >>= λ d. expand x d (lines x d) >>= λ f.
-    guard (sameModel (x .semantics) (x .target)) 14 (x .targetWord .at)
-    (refuseAt 15 (tooManySignals 0 (inOrder d))
-    (guard (leb (size f) maxNodes) 16 0 (Done (record { formula = f; signals = signalList (inOrder d) }))))
+    let list = signalList (inOrder d) in
+    let g = adapted (x .semantics) (x .target) list f in
+    refuseAt 15 (tooManySignals 0 (inOrder d)) (guard (leb (size g) maxNodes) 16 0 (Done (record { formula = g; signals = list })))
 
 -- what the text alone decides
 unfoldable pub meant : List ℕ → Result Converted

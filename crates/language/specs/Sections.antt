@@ -10,7 +10,33 @@ use Rattle.node.specs.Result.{Result, Done, _>>=_}
 use Rattle.language.specs.Bytes.{if_then_else_}
 use Rattle.language.specs.Tokens.{Name, Quoted, Marks, End, Token, isOf}
 use Rattle.language.specs.Operators.{loosest}
-use Rattle.language.specs.Tree.{Expr, Identifier, Definition, Defined, Enumerated, Parameter, Declaration, OneSignal, OfWidth, OfType, Part, Initially, Preset, Require, Assert, Assume, Guarantee, Subsection, Inputs, Outputs, Lines, Model, Mealy, Moore, Spec}
+use Rattle.language.specs.Tree.{
+  Expr,
+  Identifier,
+  Definition,
+  Defined,
+  Enumerated,
+  Parameter,
+  Declaration,
+  OneSignal,
+  OfWidth,
+  OfType,
+  Part,
+  Initially,
+  Preset,
+  Require,
+  Assert,
+  Assume,
+  Guarantee,
+  Subsection,
+  Inputs,
+  Outputs,
+  Lines,
+  Model,
+  Mealy,
+  Moore,
+  Spec,
+}
 use Rattle.language.specs.Grammar.{Tokens, Read, front, rest, stop, next, expect, expectOf, named, expr}
 
 -- an expression of any level: more fuel than tokens is enough

@@ -7,8 +7,56 @@ use mathlib.Core.Option.{Option, none, some}
 use lib.Dec.{eqb}
 use Rattle.language.specs.Bytes.{if_then_else_, same}
 use Rattle.language.specs.Tokens.{Token}
-use Rattle.language.specs.Operators.{Equal, Unequal, Less, AtMost, Greater, AtLeast, Big, BigSum, BigProduct, BigCap, BigCup, BigAnd, BigOr, Infix, Calculates, Combines, Compares, Membership, Connects, Prefix, Measures, WidthOf, Applies}
-use Rattle.language.specs.Tree.{Expr, Named, Numeral, Truth, Index, Paren, Prefixed, Joined, Nexts, InWindow, Each, Between, Listed, Empty, Element, Range, Identifier, Defined, Enumerated, OneSignal, OfWidth, OfType, Spec}
+use Rattle.language.specs.Operators.{
+  Equal,
+  Unequal,
+  Less,
+  AtMost,
+  Greater,
+  AtLeast,
+  Big,
+  BigSum,
+  BigProduct,
+  BigCap,
+  BigCup,
+  BigAnd,
+  BigOr,
+  Infix,
+  Calculates,
+  Combines,
+  Compares,
+  Membership,
+  Connects,
+  Prefix,
+  Measures,
+  WidthOf,
+  Applies,
+}
+use Rattle.language.specs.Tree.{
+  Expr,
+  Named,
+  Numeral,
+  Truth,
+  Index,
+  Paren,
+  Prefixed,
+  Joined,
+  Nexts,
+  InWindow,
+  Each,
+  Between,
+  Listed,
+  Empty,
+  Element,
+  Range,
+  Identifier,
+  Defined,
+  Enumerated,
+  OneSignal,
+  OfWidth,
+  OfType,
+  Spec,
+}
 use Rattle.language.specs.Places.{start, first, unless, Entry, ParameterLine, DefinitionLine, DeclarationLine, FormulaLine, allLines}
 
 -- a number, a set, a formula, a bus, an enumeration's identifier, an enumeration, no visible name

@@ -1,11 +1,11 @@
 -- Document 001's components without functions, with what the print lost restored: how many nodes and signals each has.
 use Prim.Native.Nat.{ℕ}
 use Prim.Native.String.{String}
-use mathlib.Core.List.{List, [], _∷_, _++_}
+use mathlib.Core.List.{List, [], _∷_, _++_, map}
 use mathlib.Core.Path.{_≡_, refl}
-use Rattle.node.specs.Ltl.{True, Signal, One, Two, Not, X, And, Or, Implies, Iff}
+use Rattle.node.specs.Ltl.{True, Signal, One, Two, Not, X, And, Or, Implies, Iff, Formula}
 use Rattle.node.specs.Postorder.{size}
-use Rattle.node.specs.Result.{Done, Refused, _>>=_, guard}
+use Rattle.node.specs.Result.{Done, Refused, _>>=_, guard, Result}
 use Rattle.language.specs.Bytes.{ascii}
 use Rattle.language.specs.Places.{refuseAt}
 use Rattle.language.specs.Parsing.{parsed}
@@ -47,14 +47,6 @@ decode =
     "}" ∷
     [])
 
-decodeIs : outcome decode ≡ Done (59, 5)
-unfolding meant parsed converted _>>=_ guard refuseAt size
-decodeIs = refl
-
-decodeFormula : formula decode ≡ Done (standard True True (Two Or (Two Or (Two And (One Not (Signal 0)) (One Not (Signal 1))) (Two And (Signal 0) (One Not (Signal 1)))) (Two And (One Not (Signal 0)) (Signal 1))) (allOf (Two Implies (Two And (One Not (Signal 0)) (One Not (Signal 1))) (Signal 2) ∷ Two Implies (Two And (Signal 0) (One Not (Signal 1))) (Signal 3) ∷ Two Implies (Two And (One Not (Signal 0)) (Signal 1)) (Signal 4) ∷ Two And (One Not (Two And (Signal 2) (Two Or (Signal 3) (Signal 4)))) (One Not (Two And (Signal 3) (Signal 4))) ∷ [])) True True)
-unfolding meant parsed converted _>>=_ guard refuseAt size
-decodeFormula = refl
-
 -- Shift
 abbrev shift : List ℕ
 shift =
@@ -77,13 +69,26 @@ shift =
     "}" ∷
     [])
 
-shiftIs : outcome shift ≡ Done (26, 3)
-unfolding meant parsed converted _>>=_ guard refuseAt size
-shiftIs = refl
+-- texts, and the whole formula of each
+abbrev formulas : List (List ℕ × Result Formula)
+formulas =
+    -- decode formula
+    (
+      decode,
+      Done (standard True True (Two Or (Two Or (Two And (One Not (Signal 0)) (One Not (Signal 1))) (Two And (Signal 0) (One Not (Signal 1)))) (Two And (One Not (Signal 0)) (Signal 1)))
+          (allOf (Two Implies (Two And (One Not (Signal 0)) (One Not (Signal 1))) (Signal 2) ∷ Two Implies (Two And (Signal 0) (One Not (Signal 1))) (Signal 3) ∷ Two Implies
+          (Two And (One Not (Signal 0)) (Signal 1)) (Signal 4) ∷ Two And (One Not (Two And (Signal 2) (Two Or (Signal 3) (Signal 4)))) (One Not (Two And (Signal 3) (Signal 4))) ∷ [])) True True),
+    ) ∷
+    -- shift formula
+    (
+      shift,
+      Done (standard True True True (Two And (Two Implies (Signal 0) (Two Iff (One X (Signal 2)) (Signal 1))) (Two Implies (One Not (Signal 0)) (Two Iff (One X (Signal 2)) (Signal 2)))) True True),
+    ) ∷
+    []
 
-shiftFormula : formula shift ≡ Done (standard True True True (Two And (Two Implies (Signal 0) (Two Iff (One X (Signal 2)) (Signal 1))) (Two Implies (One Not (Signal 0)) (Two Iff (One X (Signal 2)) (Signal 2)))) True True)
+formulas-met : map (λ c. formula (c .0)) formulas ≡ map (λ c. c .1) formulas
 unfolding meant parsed converted _>>=_ guard refuseAt size
-shiftFormula = refl
+formulas-met = refl
 
 -- TSingle; its line of ASSUME has no `;`
 abbrev tsingle : List ℕ
@@ -127,10 +132,6 @@ tsingle =
     "}" ∷
     [])
 
-tsingleIs : outcome tsingle ≡ Done (67, 5)
-unfolding meant parsed converted _>>=_ guard refuseAt size
-tsingleIs = refl
-
 -- TBurst4; the end of its long line is lost in print, and restored after TSingle's
 abbrev tburst4 : List ℕ
 tburst4 =
@@ -172,10 +173,6 @@ tburst4 =
     "  }" ∷
     "}" ∷
     [])
-
-tburst4Is : outcome tburst4 ≡ Done (94, 5)
-unfolding meant parsed converted _>>=_ guard refuseAt size
-tburst4Is = refl
 
 -- TIncr as printed: its second line of ASSERT says READY, which is not declared
 abbrev tincr : String → List ℕ
@@ -219,11 +216,23 @@ tincr ready =
     "}" ∷
     [])
 
-tincrIs : outcome (tincr "READY") ≡ Refused 6 734
-unfolding meant parsed converted _>>=_ guard refuseAt size
-tincrIs = refl
+-- texts, and what each comes to: its nodes and signals, or its refusal
+abbrev outcomes : List (List ℕ × Result (ℕ × ℕ))
+outcomes =
+    -- decode is
+    (decode, Done (59, 5)) ∷
+    -- shift is
+    (shift, Done (26, 3)) ∷
+    -- tsingle is
+    (tsingle, Done (67, 5)) ∷
+    -- tburst 4is
+    (tburst4, Done (94, 5)) ∷
+    -- tincr is
+    (tincr "READY", Refused 6 734) ∷
+    -- TIncr with READY1 for READY
+    (tincr "READY1", Done (69, 6)) ∷
+    []
 
--- TIncr with READY1 for READY
-tincrMendedIs : outcome (tincr "READY1") ≡ Done (69, 6)
+outcomes-met : map (λ c. outcome (c .0)) outcomes ≡ map (λ c. c .1) outcomes
 unfolding meant parsed converted _>>=_ guard refuseAt size
-tincrMendedIs = refl
+outcomes-met = refl

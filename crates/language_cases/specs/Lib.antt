@@ -12,3 +12,5 @@ pub mod ReadingsWords
 pub mod ReadingsValues
 pub mod ReadingsOrder
 pub mod ReadingsResults
+pub mod Conversions
+pub mod UnlikeFaults

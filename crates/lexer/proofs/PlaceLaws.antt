@@ -17,7 +17,21 @@ use Rattle.lexer.specs.Tables.{ByteClass, NextWith, classed}
 use Rattle.lexer.specs.Scanning.{opened, Findable, Scannable, ScansAs, Scans, closedAs}
 use Rattle.lexer.specs.declared.piece.Scanned.{Scanned}
 use Rattle.lexer.proofs.ScanLaws.{scans-class, word-long, word-fixed, word-name, sign-fixed, sign-wrong, run-classed}
-use Rattle.lexer.proofs.ClassLaws.{scans-closed, piece-letter, piece-blank, piece-quote, piece-low, piece-high, piece-line, piece-comment, piece-slash, piece-marks, piece-unmarked, piece-star, piece-numeral}
+use Rattle.lexer.proofs.ClassLaws.{
+  scans-closed,
+  piece-letter,
+  piece-blank,
+  piece-quote,
+  piece-low,
+  piece-high,
+  piece-line,
+  piece-comment,
+  piece-slash,
+  piece-marks,
+  piece-unmarked,
+  piece-star,
+  piece-numeral,
+}
 
 module _ (text : List ℕ) (at : ℕ) (bs rs : List ℕ) (c : Scannable text at bs rs) (small : (i : ℕ) → getD text i 0 < 256) where
   abbrev byte : ℕ

@@ -92,7 +92,8 @@ module _ (e : Bool) (text : List ℕ) (at : ℕ) (inside : at < length text) (r 
   word-met : wordOf (r .kind) at (r .size) ≡ tokenWord met
   unfolding tokenWord
   word-met =
-      let f : pieceAt e (drop at text) .size ≤ length (drop at text) = subst (λ n. n ≤ length (drop at text)) (q .size) (rw (length-drop at text) (omega (arith, piece-fits e text at inside (r .size) (q .size)))) in
+      let f : pieceAt e (drop at text) .size ≤ length (drop at text) = subst (λ n. n ≤ length (drop at text)) (q .size)
+      (rw (length-drop at text) (omega (arith, piece-fits e text at inside (r .size) (q .size)))) in
       ap₂ (λ k n. wordOf k at n) kind-met (q .size ∙ sym (length-take-le (pieceAt e (drop at text) .size) (drop at text) f))
 
   enumerating-met : enumeratingAfter e met ≡ enumeratingBy e (r .kind)

@@ -11,7 +11,30 @@ use native.Mathlib.Nat.{add-zero}
 use native.Mathlib.Omega.{arith}
 use Rattle.language.specs.Limits.{maxName}
 use Rattle.language.specs.Bytes.{ascii, isBlank, isDigit, isNameStart, isNameByte, isMark, starts, isOneOf}
-use Rattle.language.specs.Tokens.{Class, Fixed, Numeral, Quoted, Marks, Wrong, Blank, code, Token, isOf, signs, words, Piece, run, quotedSize, commentSize, signAt, wordAt, closed, pieceAt, enumeratingAfter, lex}
+use Rattle.language.specs.Tokens.{
+  Class,
+  Fixed,
+  Numeral,
+  Quoted,
+  Marks,
+  Wrong,
+  Blank,
+  code,
+  Token,
+  isOf,
+  signs,
+  words,
+  Piece,
+  run,
+  quotedSize,
+  commentSize,
+  signAt,
+  wordAt,
+  closed,
+  pieceAt,
+  enumeratingAfter,
+  lex,
+}
 use Rattle.language.specs.Laws.Basics.Tests.{split, pick, leave}
 use Rattle.language.specs.Laws.Grammar.PieceLaws.{isClass, pieceAt-sound}
 use Rattle.lexer.proofs.Choices.{refute, affirm}

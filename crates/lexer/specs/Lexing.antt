@@ -1,13 +1,12 @@
 -- Refusals 1 to 3: from a text's bytes to its tokens. Reading a text is this, then its grammar.
 use Prim.Native.Nat.{ℕ}
 use mathlib.Core.List.{List}
-use mathlib.Core.Bool.{Bool, true, false}
 use mathlib.Core.Option.{Option, none, some}
 use mathlib.Core.Path.{_≡_, refl, ap, _∙_}
 use lib.Dec.{leb}
 use lib.ListN.{length}
 use Rattle.node.specs.Result.{Result, Done, _>>=_, guard}
-use Rattle.node.specs.ResultLaws.{bind-at}
+use Rattle.node.specs.ResultLaws.{bind-at, guard-bind}
 use Rattle.language.specs.Limits.{maxBytes}
 use Rattle.language.specs.Tokens.{Token, tokens}
 use Rattle.language.specs.Tree.{Spec}
@@ -21,12 +20,6 @@ lexing text =
     guard (leb (length text) maxBytes) 1 maxBytes
     (refuseAt 2 (noToken (tokens text)) (refuseAt 3 (tooManyTokens (tokens text)) (Done (tokens text))))
 
--- what comes after a test comes after its guard
-guard-then : {A B : Type 0} (b : Bool) (number place : ℕ) (r : Result A) (k : A → Result B) → guard b number place r >>= k ≡ guard b number place (r >>= k)
-unfolding guard _>>=_
-guard-then true number place r k = refl
-guard-then false number place r k = refl
-
 refuseAt-then : {A B : Type 0} (number : ℕ) (o : Option ℕ) (r : Result A) (k : A → Result B) → refuseAt number o r >>= k ≡ refuseAt number o (r >>= k)
 unfolding refuseAt _>>=_
 refuseAt-then number none r k = refl
@@ -38,7 +31,7 @@ unfolding lexing parsed
 parsed-lexed text =
     let ts = tokens text in
     let k : List Token → Result Spec = λ us. specOf us >>= wellFormed in
-    guard-then (leb (length text) maxBytes) 1 maxBytes _ k
+    guard-bind (leb (length text) maxBytes) 1 maxBytes _ k
     ∙ ap (guard (leb (length text) maxBytes) 1 maxBytes)
     (refuseAt-then 2 (noToken ts) _ k
     ∙ ap (refuseAt 2 (noToken ts)) (refuseAt-then 3 (tooManyTokens ts) _ k ∙ ap (refuseAt 3 (tooManyTokens ts)) (bind-at ts k)))

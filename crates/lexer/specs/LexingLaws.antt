@@ -60,7 +60,7 @@ lexical text ts e =
     }
 
 -- token i
-front-all : (Q : Token → Type 0) (i : ℕ) (ts : List Token) → i < length ts → All Q ts → Q (front (drop i ts))
+pub front-all : (Q : Token → Type 0) (i : ℕ) (ts : List Token) → i < length ts → All Q ts → Q (front (drop i ts))
 front-all Q i [] l h = absurd (omega arith)
 front-all Q zero (t ∷ ts) l h = h .0
 front-all Q (suc i) (t ∷ ts) l h = front-all Q i ts (omega arith) (h .1)

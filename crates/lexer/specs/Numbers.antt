@@ -4,6 +4,7 @@ use Prim.Native.String.{String}
 use mathlib.Core.List.{List, [], _∷_, _++_}
 use mathlib.Core.Bool.{Bool, true, false, _||_}
 use lib.Dec.{eqb}
+use lib.ListN.{length}
 use Rattle.language.specs.Bytes.{ascii, if_then_else_, same}
 use Rattle.language.specs.Tokens.{Class, Fixed, Name, Numeral, Quoted, Marks, End, Wrong, Blank, Token, isOf, signs, words}
 
@@ -46,3 +47,12 @@ fixed s = firstFixed + position spellings (ascii s)
 abbrev pub numbered : List String → ℕ → Bool
 numbered [] n = false
 numbered (s ∷ ss) n = eqb n (fixed s) || numbered ss n
+
+-- what the code's constants stand for, in their order
+abbrev pub numbers : List ℕ
+numbers =
+    classNumber Name ∷ classNumber Numeral ∷ classNumber Quoted ∷ classNumber Marks ∷ firstFixed ∷ fixed "<=" ∷ fixed "<-" ∷ fixed ".." ∷
+    fixed "{" ∷ fixed "}" ∷ fixed "(" ∷ fixed ")" ∷ fixed "[" ∷ fixed "]" ∷ fixed ";" ∷ fixed "," ∷ fixed "=" ∷ fixed ":" ∷ fixed "|" ∷
+    fixed "<" ∷ fixed "INFO" ∷ fixed "TITLE" ∷ fixed "DESCRIPTION" ∷ fixed "SEMANTICS" ∷ fixed "TARGET" ∷ fixed "TAGS" ∷ fixed "Mealy" ∷
+    fixed "Moore" ∷ fixed "Strict" ∷ fixed "GLOBAL" ∷ fixed "PARAMETERS" ∷ fixed "DEFINITIONS" ∷ fixed "enum" ∷ fixed "MAIN" ∷ fixed "INPUTS" ∷
+    fixed "true" ∷ fixed "false" ∷ fixed "LE" ∷ fixed "LEQ" ∷ fixed "IN" ∷ fixed "ELEM" ∷ (firstFixed + length spellings) ∷ noNumber ∷ []

@@ -1,6 +1,6 @@
 -- A token as a word, and the tokens of a text as the words of a buffer.
-use Prim.Native.Nat.{ℕ, suc, _<_, min}
-use mathlib.Core.List.{List}
+use Prim.Native.Nat.{ℕ, suc, _<_, _^_, min}
+use mathlib.Core.List.{List, [], _∷_}
 use mathlib.Core.Path.{_≡_}
 use lib.ListN.{length, drop}
 use Rattle.node.specs.BitFields.{join, above, below}
@@ -19,6 +19,10 @@ lengthBits = 8
 -- lengths are kept up to this one: names are shorter, and where a longer numeral, string or word of marks ends is found again in the text
 abbrev pub longest : ℕ
 longest = 255
+
+-- what the code's constants stand for
+abbrev pub fields : List ℕ
+fields = 2 ^ offsetBits ∷ 2 ^ lengthBits ∷ longest ∷ []
 
 -- number, offset and length
 abbrev pub wordOf : ℕ → ℕ → ℕ → ℕ

@@ -1,23 +1,21 @@
 // The lexer: a text's bytes to one word for each token in a lent buffer (refusals 1 to 3).
 // `lex` asks for a buffer with room for the token words; `read` refuses a shorter one (17). The pieces ask for a place within the text.
-mod numbers;
+pub mod fields;
+pub mod numbers;
 mod piece;
 mod search;
 mod sizes;
 mod tables;
 
+use fields::LENGTHS;
+use fields::LONGEST;
+use fields::OFFSETS;
+use language::limits;
+use node::refusals;
 use numbers::CLOSE_BRACE;
 use numbers::ENUM;
-use numbers::LENGTHS;
-use numbers::LONGEST;
-use numbers::MAX_BYTES;
-use numbers::MAX_TOKENS;
 use numbers::NO_NUMBER;
-use numbers::NO_TOKEN;
-use numbers::OFFSETS;
 use numbers::SEMICOLON;
-use numbers::TOO_LONG;
-use numbers::TOO_MANY;
 ghost use mathlib.Core.Path.{_≡_};
 ghost use Prim.Native.Nat.{_≤_, min};
 ghost use lib.ListN.{length};
@@ -51,7 +49,7 @@ fn enumerating_after(enumerating: bool, kind: u32) -> bool
 fn later_place(n: usize, over: usize, at: usize) -> usize
     ensures { λ r. ⌜ r ≡ laterPlace n over at ⌝ }
 {
-    if n == MAX_TOKENS {
+    if n == limits::MAX_TOKENS {
         return at;
     }
     over
@@ -72,7 +70,7 @@ fn store(work: &mut [u8], n: usize, kind: u32, at: usize, size: usize)
     requires { ⌜ Storable (now work) kind at ⌝ }
     ensures { λ _. ⌜ now (work .exit) ≡ storing (now (work .entry)) n (wordOf kind at size) ⌝ }
 {
-    if n < MAX_TOKENS {
+    if n < limits::MAX_TOKENS {
         let word = (kind * OFFSETS + at as u32) * LENGTHS + capped(size);
         words::put(work, n, word);
     }
@@ -83,8 +81,8 @@ pub fn lex(text: &[u8], work: &mut [u8]) -> Lexed
     requires { ⌜ tokenBytes ≤ length (now work) ⌝ }
     ensures { λ r. ⌜ Lexes (now (text .entry)) (now (work .entry)) (now (work .exit)) r ⌝ }
 {
-    if MAX_BYTES < text.len() {
-        return Lexed::Refused(TOO_LONG, MAX_BYTES as u32);
+    if limits::MAX_BYTES < text.len() {
+        return Lexed::Refused(refusals::TOO_LONG, limits::MAX_BYTES as u32);
     }
     let bytes = tables::byte_table();
     let rows = tables::row_table();
@@ -97,7 +95,7 @@ pub fn lex(text: &[u8], work: &mut [u8]) -> Lexed
         let kind = piece.kind;
         let size = piece.size;
         if size == 0 {
-            return Lexed::Refused(NO_TOKEN, at as u32);
+            return Lexed::Refused(refusals::NO_TOKEN, at as u32);
         }
         if kind == NO_NUMBER {
             at += size;
@@ -109,8 +107,8 @@ pub fn lex(text: &[u8], work: &mut [u8]) -> Lexed
         n += 1;
         at += size;
     }
-    if MAX_TOKENS < n {
-        return Lexed::Refused(TOO_MANY, over as u32);
+    if limits::MAX_TOKENS < n {
+        return Lexed::Refused(refusals::TOO_MANY_TOKENS, over as u32);
     }
     Lexed::Tokens(n as u32)
 }

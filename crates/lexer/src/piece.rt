@@ -2,16 +2,16 @@
 // a text that is not too long, with tables that are right, and shows it; what the byte's class is, the caller has looked up.
 use crate::numbers::FIRST_FIXED;
 use crate::numbers::MARKS;
-use crate::numbers::MAX_NAME;
 use crate::numbers::NAME;
 use crate::numbers::NO_NUMBER;
 use crate::numbers::NUMERAL;
 use crate::numbers::QUOTED;
 use crate::search;
 use crate::sizes;
-use crate::sizes::wide;
 use crate::tables::COUNT;
 use crate::tables::ROW;
+use basics::u8_usize::wide;
+use language::limits;
 ghost use mathlib.Core.Path.{_≡_};
 ghost use mathlib.Core.Bool.{Bool, true, false};
 ghost use Prim.Native.Nat.{_*_, _≤_};
@@ -61,7 +61,7 @@ pub fn word(text: &[u8], at: usize, bytes: &[u8; 512], rows: &[u8; 1584]) -> Sca
     ensures { λ r. ⌜ ScansAs (wordAt (drop at (now (text .entry)))) (drop at (now (text .entry))) r ⌝ }
 {
     let n = sizes::run(text, at, bytes, BIT, PRIME);
-    if MAX_NAME < n {
+    if limits::MAX_NAME < n {
         return Scanned {
             kind: NO_NUMBER,
             size: 0,

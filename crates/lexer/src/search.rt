@@ -1,7 +1,7 @@
 // The search among the signs and words of the format. The callers stand at a byte of the text, with tables that are right, and show it.
-use crate::sizes::wide;
 use crate::tables::COUNT;
 use crate::tables::ROW;
+use basics::u8_usize::wide;
 ghost use mathlib.Core.Path.{_≡_};
 ghost use mathlib.Core.Bool.{_||_};
 ghost use lib.Dec.{eqb};

@@ -8,12 +8,6 @@ ghost use Rattle.language.specs.Tokens.{run as run', lineSize, quotedSize, comm
 ghost use Rattle.lexer.specs.Tables.{classed};
 ghost use Rattle.lexer.specs.Scanning.{opened, Nests};
 
-pub fn wide(x: u8) -> usize
-    ensures { λ r. ⌜ r ≡ x ⌝ }
-{
-    x as usize
-}
-
 pub fn class(bytes: &[u8; 512], b: u8) -> u8
     ensures { λ r. ⌜ r ≡ getD (now (bytes .entry)) (2 * b) 0 ⌝ }
 {

@@ -1,5 +1,7 @@
 // Runs the lexer on texts at its limits and one beyond, on each row of refusals 1 to 3 and their order, and on the ways through its definition.
 use lexer::Lexed;
+use lexer::fields::LENGTHS;
+use lexer::fields::OFFSETS;
 use libc::STDOUT_FILENO;
 
 fn number(word: &[u8], n: u32) {
@@ -15,8 +17,8 @@ fn line(text: &[u8]) {
 // A token's number, offset and length, as its word holds them.
 fn token(word: u32) {
     number(b"; ", word / 16777216);
-    number(b" ", word / 256 % 65536);
-    number(b" ", word % 256);
+    number(b" ", word / LENGTHS % OFFSETS);
+    number(b" ", word % LENGTHS);
 }
 
 // The count of tokens and the first three words, or the refusal.

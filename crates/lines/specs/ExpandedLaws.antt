@@ -25,8 +25,10 @@ expansion-of x d ls e =
     let b = bind-done (gather (expandSection (defineAll (atSignals d) (x .definitions))) ls) (λ ss. Done (inTurn ss)) e in
     (whole (x .strict) (section (b .0)), bind-to _ _ (λ ss. Done (whole (x .strict) (section ss))) (b .1))
 
-module _ {s : Source} {st : State} {b : Tables} {table′ words words′ enumerations order : List ℕ} {entries ins ports : ℕ} {r : Gathering} (g : Gathers s st b table′ words words′ enumerations order entries ins ports r) where
-  answer-is : {a : Gathering} → r ≡ a → {x : Spec} {d : Declarations} → Given s st b words enumerations order entries ins ports x d → Answered (λ n m all. GatheredFrom (b .at) all words′ n table′ m) a (linesInTurn x d (lines x d))
+module _ {s : Source} {st : State} {b : Tables} {table′ words words′ enumerations order : List ℕ} {entries ins ports : ℕ} {r : Gathering}
+    (g : Gathers s st b table′ words words′ enumerations order entries ins ports r) where
+  answer-is : {a : Gathering} → r ≡ a → {x : Spec} {d : Declarations} → Given s st b words enumerations order entries ins ports x d
+      → Answered (λ n m all. GatheredFrom (b .at) all words′ n table′ m) a (linesInTurn x d (lines x d))
   answer-is e {x} {d} h = subst (λ a. Answered (λ n m all. GatheredFrom (b .at) all words′ n table′ m) a (linesInTurn x d (lines x d))) e (g .says h)
 
   -- a refusal is that of the expansion
@@ -43,7 +45,8 @@ module _ {s : Source} {st : State} {b : Tables} {table′ words words′ enumera
       pub some-gathered : SomeGiven s st b words enumerations order entries ins ports → SomeGathered words′ n table′ m
       some-gathered t = let f = answer-is e (t .given) .says in record { some = f .all; gathered = subst (λ k. GatheredFrom k (f .all) words′ n table′ m) start (f .told) }
 
-      pub expansion-assembled : {x : Spec} {d : Declarations} → Given s st b words enumerations order entries ins ports x d → {out out′ : List ℕ} {k : ℕ} → Assembles (x .strict) words′ n table′ m out out′ k
+      pub expansion-assembled : {x : Spec} {d : Declarations} → Given s st b words enumerations order entries ins ports x d → {out out′ : List ℕ} {k : ℕ}
+          → Assembles (x .strict) words′ n table′ m out out′ k
           → Expands (expand x d (lines x d)) out out′ k
       expansion-assembled {x} {d} h a =
           let f = answer-is e h .says in

@@ -70,12 +70,13 @@ pub record Lengths (st₀ st : State) (notes₀ notes scratch₀ scratch list₀
   pub words : length list ≡ length list₀
 
 -- the line of the part p with the expression e, whose own entry is entry k
-pub record AtLine (s : Source) (st : State) (b : Tables) (words : List ℕ) (count entries part k start : ℕ) (x : Spec) (d : Declarations) (ls : List (Part × Formula)) (p : Part) (e : Expr) : Type 0 where
-  pub tree : Tree s entries x d
-  pub reached : Reached s st b words count start x d ls
-  pub known : Worked x (s .text) (s .work) (s .refs) (x .definitions) k e
-  pub inside : k < entries
-  pub heads : part ≡ 2 + partCode p
+pub record AtLine (s : Source) (st : State) (b : Tables) (words : List ℕ) (count entries part k start : ℕ) (x : Spec) (d : Declarations) (ls : List (Part × Formula)) (p : Part) (e : Expr) : Type 0
+  where
+    pub tree : Tree s entries x d
+    pub reached : Reached s st b words count start x d ls
+    pub known : Worked x (s .text) (s .work) (s .refs) (x .definitions) k e
+    pub inside : k < entries
+    pub heads : part ≡ 2 + partCode p
 
 pub record SomeLine (s : Source) (st : State) (b : Tables) (words : List ℕ) (count entries part k : ℕ) : Type 0 where
   pub start : ℕ

@@ -43,7 +43,8 @@ module _ (x : Spec) (text w refs : List ℕ) where
       subst (EachLine LineKnown start) (sym (append-assoc (map Passed (flat e)) (Line p e ∷ []) is))
       (passed-by LineKnown start (flat e) (Line p e ∷ is) (h, subst (λ n. EachLine LineKnown n is) (omega arith) rest))
 
-  subsection-by : (start : ℕ) (s : Subsection) (is : List Item) → Subsectionwise x text w refs start s → EachLine LineKnown (start + length (flatSubsection s)) is → EachLine LineKnown start (subsectionItems s ++ is)
+  subsection-by : (start : ℕ) (s : Subsection) (is : List Item) → Subsectionwise x text w refs start s → EachLine LineKnown (start + length (flatSubsection s)) is
+      → EachLine LineKnown start (subsectionItems s ++ is)
   subsection-by start (Inputs ds) is h rest = passed-by LineKnown (suc start) (each flatDeclaration ds) is (subst (λ n. EachLine LineKnown n is) (omega arith) rest)
   subsection-by start (Outputs ds) is h rest = passed-by LineKnown (suc start) (each flatDeclaration ds) is (subst (λ n. EachLine LineKnown n is) (omega arith) rest)
   subsection-by start (Lines p es) is h rest =
@@ -56,5 +57,6 @@ module _ (x : Spec) (text w refs : List ℕ) where
       let m = length-append ps ds in
       let end : EachLine LineKnown (mainStart x + length (each flatSubsection (x .main))) [] = tt in
       let main : EachLine LineKnown (mainStart x) (itemsEach subsectionItems (x .main)) =
-      subst (EachLine LineKnown (mainStart x)) (append-nil (itemsEach subsectionItems (x .main))) (each-by LineKnown subsectionItems flatSubsection (Subsectionwise x text w refs) subsection-by (mainStart x) (x .main) [] (t .main) end) in
+      subst (EachLine LineKnown (mainStart x)) (append-nil (itemsEach subsectionItems (x .main)))
+      (each-by LineKnown subsectionItems flatSubsection (Subsectionwise x text w refs) subsection-by (mainStart x) (x .main) [] (t .main) end) in
       passed-by LineKnown 0 (ps ++ ds) (itemsEach subsectionItems (x .main)) (subst (λ n. EachLine LineKnown n (itemsEach subsectionItems (x .main))) (omega arith) main)

@@ -32,7 +32,16 @@ module _ {s : Source} {st : State} {b : Tables} {words : List ℕ} {count entrie
       let t = a .tree in
       let r = a .reached in
       record {
-        fits = record { count = t .count; lexed = t .stored .lexed; known = a .known .known (inOrder d) (d .table); bodies = bodies x (s .text) (s .work) (s .refs) (inOrder d) (d .table) (t .known); facts = r .noted; deep = refl; slots = tt; small = tt };
+        fits = record {
+          count = t .count;
+          lexed = t .stored .lexed;
+          known = a .known .known (inOrder d) (d .table);
+          bodies = bodies x (s .text) (s .work) (s .refs) (inOrder d) (d .table) (t .known);
+          facts = r .noted;
+          deep = refl;
+          slots = tt;
+          small = tt;
+        };
         ports = defined-ports (x .definitions) (atSignals d);
         plain = plain-all (atSignals d) (plain-context (inOrder d) (d .table)) (x .definitions);
         world = t .worldly;
@@ -48,7 +57,12 @@ module _ {s : Source} {st : State} {b : Tables} {words : List ℕ} {count entrie
       let i = a .inside in
       let n = z .slots in
       record {
-        space = record { room = record { work = z .work; refs = z .refs; sorts = z .sorts; numbers = z .numbers; inside = omega arith; slots = omega arith }; firsts = z .firsts; written = z .written; scratch = z .scratch };
+        space = record {
+          room = record { work = z .work; refs = z .refs; sorts = z .sorts; numbers = z .numbers; inside = omega arith; slots = omega arith };
+          firsts = z .firsts;
+          written = z .written;
+          scratch = z .scratch;
+        };
         ps = inOrder (l .d);
         W = world (l .x) (l .d);
         env = [];
@@ -65,7 +79,8 @@ module _ {s : Source} {st : State} {b : Tables} {words : List ℕ} {count entrie
     line-answered : {start : ℕ} {x : Spec} {d : Declarations} {ls : List (Part × Formula)} {p : Part} {e : Expr} {a : Written} → r ≡ a → AtLine s st b words count entries part k start x d ls p e
         → Expanded (λ m f. Puts s st st′ b (tables (b .firsts) written′ table′ m) 0 (world x d) f) a (expansion (lineContext x d) e)
     line-answered {x = x} {d = d} {e = e} q a =
-        subst (λ u. Expanded (λ m f. Puts s st st′ b (tables (b .firsts) written′ table′ m) 0 (world x d) f) u (expansion (lineContext x d) e)) q (h .says (inOrder d) (world x d) [] (lineContext x d) e (line-expands a))
+        subst (λ u. Expanded (λ m f. Puts s st st′ b (tables (b .firsts) written′ table′ m) 0 (world x d) f) u (expansion (lineContext x d) e)) q
+        (h .says (inOrder d) (world x d) [] (lineContext x d) e (line-expands a))
 
     pub room-for-line : {next section : ℕ} → r ≡ At next → 2 + section ≡ part → SomeLine s st b words count entries part k → maxNodes ≤ length words → LineRoom section (b .at) next words count
     room-for-line q n l z =

@@ -8,7 +8,39 @@ use native.Mathlib.Omega.{arith}
 use lib.Dec.{ltb}
 use borrow.Author.Tests.{ltb-true}
 use Rattle.language.specs.Tokens.{Token}
-use Rattle.language.specs.Tree.{Expr, Named, Numeral, Truth, Index, Paren, Prefixed, Joined, Nexts, InWindow, Each, Between, Listed, Empty, Element, Range, Identifier, Definition, Defined, Enumerated, Parameter, Declaration, OneSignal, OfWidth, OfType, Part, Subsection, Inputs, Outputs, Lines, Spec}
+use Rattle.language.specs.Tree.{
+  Expr,
+  Named,
+  Numeral,
+  Truth,
+  Index,
+  Paren,
+  Prefixed,
+  Joined,
+  Nexts,
+  InWindow,
+  Each,
+  Between,
+  Listed,
+  Empty,
+  Element,
+  Range,
+  Identifier,
+  Definition,
+  Defined,
+  Enumerated,
+  Parameter,
+  Declaration,
+  OneSignal,
+  OfWidth,
+  OfType,
+  Part,
+  Subsection,
+  Inputs,
+  Outputs,
+  Lines,
+  Spec,
+}
 use Rattle.language.specs.Laws.Basics.Lists.{All, all-append}
 use Rattle.entries.specs.Kinds as Kind
 use Rattle.entries.specs.Flat.{Entry, under, leaf, flat, each, flatParameter, flatIdentifier, flatDefinition, flatDeclaration}

@@ -46,7 +46,8 @@ between k a b f g = go (decLt k Kind.word)
 
 -- a port by the entry of its enumeration, or by a number past all entries
 pub bus-at : {text w enumerations order firsts : List ℕ} {count none m j : ℕ} {ps : List Port} {q : Port} → Lexed text w count → maxTokens ≤ none → (getD enumerations j 0 ≡ none → q .words ≡ [])
-    → ((getD enumerations j 0 ≡ none → ⊥) → (getD enumerations j 0 < maxTokens) × EnumerationAt (tokens text) w (getD enumerations j 0) (q .words)) → Regular (q .words) → getD order j 0 < length firsts
+    → ((getD enumerations j 0 ≡ none → ⊥) → (getD enumerations j 0 < maxTokens) × EnumerationAt (tokens text) w (getD enumerations j 0) (q .words)) → Regular (q .words)
+    → getD order j 0 < length firsts
     → (m ≤ maxNodes → getD firsts (getD order j 0) 0 ≡ firstOf ps (q .name .text)) → (m ≤ maxNodes → getD firsts (getD order j 0) 0 ≤ maxSignals) → BusAt text w enumerations order firsts ps m j q
 bus-at {text} {w} {enumerations} {order} {firsts} {none = none} {m} {j} {ps} {q} lexed past wordless there regular named first small = record {
   typed = λ l.
@@ -69,7 +70,8 @@ module _ (text w enumerations order firsts : List ℕ) (ps : List Port) (m : ℕ
       let t = buses-split (suc j) qs rs (h .1) in
       ((h .0, t .0), subst (λ i. BusesFrom text w enumerations order firsts ps m i rs) (omega arith) (t .1))
 
-pub ports-buses : {text w enumerations order firsts : List ℕ} {ps qs rs : List Port} {m ins ports : ℕ} → BusesFrom text w enumerations order firsts ps m 0 (qs ++ rs) → length qs ≡ ins → length (qs ++ rs) ≡ ports
+pub ports-buses : {text w enumerations order firsts : List ℕ} {ps qs rs : List Port} {m ins ports : ℕ} → BusesFrom text w enumerations order firsts ps m 0 (qs ++ rs) → length qs ≡ ins
+    → length (qs ++ rs) ≡ ports
     → ports ≤ length enumerations → ports ≤ length order → Buses text w enumerations order firsts ps m 0 ins qs × Buses text w enumerations order firsts ps m ins ports rs
 ports-buses {text} {w} {enumerations} {order} {firsts} {ps} {qs} {rs} {m} h i n e o =
     let t = buses-split text w enumerations order firsts ps m 0 qs rs h in

@@ -1,16 +1,14 @@
 -- The numbers of names' first signals, by the names' numbers, as the expansion asks for them.
 use Prim.Native.Nat.{ℕ, _+_, _≤_}
-use mathlib.Core.Bool.{true, false}
 use mathlib.Core.List.{List, [], _∷_, map}
 use mathlib.Core.Option.{none}
-use mathlib.Core.Path.{_≡_, refl, sym, ap, _∙_, subst}
+use mathlib.Core.Path.{_≡_, sym, ap, _∙_, subst}
 use native.Mathlib.Omega.{arith}
 use lib.Dec.{eqb}
 use lib.ListN.{length, getD, length-map}
 use borrow.Author.Tests.{eqb-true}
 use Rattle.node.specs.Result.{Result, Done, Refused}
 use Rattle.language.specs.Limits.{maxSignals}
-use Rattle.language.specs.Bytes.{same}
 use Rattle.language.specs.Tokens.{Token}
 use Rattle.language.specs.Tree.{Spec}
 use Rattle.language.specs.Names.{Names, declaredAgain}
@@ -33,21 +31,17 @@ use Rattle.values.specs.Worked.{definitionsStart}
 use Rattle.expander.specs.Expanding.{Signals}
 use Rattle.lines.specs.Gathering.{world}
 use Rattle.lines.specs.WorldLaws.{behind-keeps}
+use Rattle.names.specs.WalkBinders.{number-text}
 
 -- what holds of every name and its number, the names being distinct
-numbered-named : {A : Type 0} (P : ℕ → A → Type 0) (other : A) (f : Token → A) → ((r : ℕ) → P r other) → (ns : Names) → Distinct ns → All (λ n. P (numberIn ns n) (f n)) ns → (r : ℕ) → P r (numbered other (map f ns) r)
+numbered-named : {A : Type 0} (P : ℕ → A → Type 0) (other : A) (f : Token → A) → ((r : ℕ) → P r other) → (ns : Names) → Distinct ns → All (λ n. P (numberIn ns n) (f n)) ns → (r : ℕ)
+    → P r (numbered other (map f ns) r)
 unfolding numbered
 numbered-named P other f o [] d h r = o r
 numbered-named P other f o (n ∷ ns) d h r =
     split (P r) (eqb r (length (map f ns)))
     (λ e. subst (λ k. P k (f n)) (number-same n ns n (same-refl (n .text)) ∙ sym (length-map ns f) ∙ sym (eqb-true r (length (map f ns)) e)) (h .0))
     (λ _. numbered-named P other f o ns (d .1) (all-both (λ m a p. subst (λ k. P k (f m)) (number-other n ns m a) p) ns (d .0) (h .1)) r)
-
-number-spelt : (ns : Names) (t u : Token) → t .text ≡ u .text → numberIn ns t ≡ numberIn ns u
-unfolding numberIn
-number-spelt [] t u e = refl
-number-spelt (n ∷ ns) t u e =
-    ap (λ (s : List ℕ). elim (same (n .text) s) [ true ↦ length ns | false ↦ numberIn ns t ]) e ∙ ap (λ (k : ℕ). elim (same (n .text) (u .text)) [ true ↦ length ns | false ↦ k ]) (number-spelt ns t u e)
 
 module _ (ps : List Port) (firsts : List ℕ) where
   -- the name x, whose number is r, has n signals from its first on
@@ -74,7 +68,7 @@ module _ (ps : List Port) (firsts : List ℕ) where
     first-own n k m h wide =
         let p = h .port in
         let o = h .holds in
-        let e : getD firsts (numberIn ns n) 0 ≡ firstOf ps (n .text) = ap (λ (j : ℕ). getD firsts j 0) (number-spelt ns n (p .name) (sym (h .named))) ∙ o .is ∙ ap (firstOf ps) (h .named) in
+        let e : getD firsts (numberIn ns n) 0 ≡ firstOf ps (n .text) = ap (λ (j : ℕ). getD firsts j 0) (number-text ns n (p .name) (sym (h .named))) ∙ o .is ∙ ap (firstOf ps) (h .named) in
         record { is = e; inside = omega (arith, ap (firstOf ps) (h .named), o .listed .inside, wide p (h .wide)) }
 
     told-found : (n : Token) (r : Result Declared) → Within (λ y. EntryPorted Own (n .text, y)) r → Told (numberIn ns n) (n .text) (inTable r)

@@ -141,7 +141,8 @@ module _ {s : Source} {st : State} {b : Tables} {words : List ℕ} {count entrie
 pub lengths-same : (st : State) (written out words : List ℕ) → Lengths st st written written out out words words
 lengths-same st written out words = record { sorts = refl; numbers = refl; kept = refl; slots = refl; written = refl; out = refl; words = refl }
 
-pub sizes-stay : {s : Source} {st₀ st : State} {b : Tables} {written table out₀ out words₀ words : List ℕ} {at : ℕ} → Sizes s st₀ b out₀ words₀ → Lengths st₀ st (b .written) written out₀ out words₀ words
+pub sizes-stay : {s : Source} {st₀ st : State} {b : Tables} {written table out₀ out words₀ words : List ℕ} {at : ℕ} → Sizes s st₀ b out₀ words₀
+    → Lengths st₀ st (b .written) written out₀ out words₀ words
     → Sizes s st (then b written table at) out words
 sizes-stay z l = record {
   work = z .work;
@@ -186,7 +187,8 @@ module _ {s : Source} {st₀ : State} {b : Tables} {words₀ : List ℕ} {entrie
             → Answered (λ n m all. Reached s st (then b written table m) words n (b .at) x d all) (Lines count at) (worked (lineContext x d) (items x))
         end {x} {d} h g = go (g .rest) (g .ahead)
           where
-            go : (rest : List Item) → Ahead s entries part i x d (g .ls) rest → Answered (λ n m all. Reached s st (then b written table m) words n (b .at) x d all) (Lines count at) (worked (lineContext x d) (items x))
+            go : (rest : List Item) → Ahead s entries part i x d (g .ls) rest
+                → Answered (λ n m all. Reached s st (then b written table m) words n (b .at) x d all) (Lines count at) (worked (lineContext x d) (items x))
             go [] a = record { says = record { all = g .ls; are = a .split ∙ all-behind (g .ls); told = g .reached } }
             go (y ∷ is) a = absurd (omega (arith, a .total))
 

@@ -39,7 +39,8 @@ module _ (x : Spec) (d : Declarations) where
       sections-in-turn c x ((Require, implied (d .inputs)) ∷ (Assert, implied (d .outputs)) ∷ [])
       ∙ bind-to _ _ (λ fs. gather (expandSection c) ((Require, implied (d .inputs)) ∷ (Assert, implied (d .outputs)) ∷ []) >>= λ u. Done (fs ++ inTurn u)) e
       ∙ implied-behind c ls (d .inputs) (d .outputs)
-      ∙ ap (λ (ps : List Port). Done ((ls ++ map (λ f. (Require, f)) (impliedFormulas ps (d .inputs))) ++ map (λ f. (Assert, f)) (impliedFormulas ps (d .outputs)))) (defined-ports (x .definitions) (atSignals d))
+      ∙ ap (λ (ps : List Port). Done ((ls ++ map (λ f. (Require, f)) (impliedFormulas ps (d .inputs))) ++ map (λ f. (Assert, f)) (impliedFormulas ps (d .outputs))))
+      (defined-ports (x .definitions) (atSignals d))
 
   pub lines-refused : {n p : ℕ} → worked (lineContext x d) (items x) ≡ Refused n p → linesInTurn x d (lines x d) ≡ Refused n p
   lines-refused e =
@@ -75,18 +76,22 @@ fits-before g h = omega (arith, g .starts h)
 abbrev ends : ℕ → ℕ → Ends
 ends at count = record { at = at; count = count }
 
-pub given-tree : {s : Source} {st : State} {b : Tables} {words enumerations order : List ℕ} {entries ins ports : ℕ} → SomeGiven s st b words enumerations order entries ins ports → SomeTree s st b words entries
+pub given-tree : {s : Source} {st : State} {b : Tables} {words enumerations order : List ℕ} {entries ins ports : ℕ} → SomeGiven s st b words enumerations order entries ins ports
+    → SomeTree s st b words entries
 given-tree g = record { x = g .x; d = g .d; begins = g .given .begins }
 
-pub answer-is : {s : Source} {st st′ : State} {b : Tables} {written′ table′ words words′ : List ℕ} {entries : ℕ} {r a : Gathering} → WritesLines s st st′ b written′ table′ words words′ entries r → r ≡ a
+pub answer-is : {s : Source} {st st′ : State} {b : Tables} {written′ table′ words words′ : List ℕ} {entries : ℕ} {r a : Gathering} → WritesLines s st st′ b written′ table′ words words′ entries r
+    → r ≡ a
     → WritesLines s st st′ b written′ table′ words words′ entries a
 answer-is {s} {st} {st′} {b} {written′} {table′} {words} {words′} {entries} w e = subst (WritesLines s st st′ b written′ table′ words words′ entries) e w
 
 module _ {s : Source} {st st′ : State} {b : Tables} {written′ table′ words words′ enumerations order : List ℕ} {entries ins ports : ℕ} where
   -- a written line is refused
-  pub gathers-refused : {r : Gathering} {n p : ℕ} → WritesLines s st st′ b written′ table′ words words′ entries r → r ≡ Gathering.Refused n p → Gathers s st b table′ words words′ enumerations order entries ins ports r
+  pub gathers-refused : {r : Gathering} {n p : ℕ} → WritesLines s st st′ b written′ table′ words words′ entries r → r ≡ Gathering.Refused n p
+      → Gathers s st b table′ words words′ enumerations order entries ins ports r
   gathers-refused w e =
-      subst (Gathers s st b table′ words words′ enumerations order entries ins ports) (sym e) (record { says = λ {x} {d} g. record { says = lines-refused x d (answer-is w e .says (g .begins) .says) } })
+      subst (Gathers s st b table′ words words′ enumerations order entries ins ports) (sym e)
+      (record { says = λ {x} {d} g. record { says = lines-refused x d (answer-is w e .says (g .begins) .says) } })
 
   -- the written lines are there: those of the inputs follow, and those of the outputs
   module _ {count at part end : ℕ} (w : WritesLines s st st′ b written′ table′ words words′ entries (Lines count at)) (required : part ≡ partCode Require) (last : end ≡ ins) where

@@ -62,9 +62,11 @@ module _ (c : Context) where
   unfolding _>>=_
   turned-main [] rest = refl
   turned-main (Inputs ds ∷ ss) rest =
-      turned-main ss rest ∙ ap (λ (w : Result (List (Part × Formula))). w >>= λ fs. gather (expandSection c) rest >>= λ u. Done (fs ++ inTurn u)) (sym (worked-passed (each flatDeclaration ds) (itemsEach subsectionItems ss)))
+      turned-main ss rest ∙ ap (λ (w : Result (List (Part × Formula))). w >>= λ fs. gather (expandSection c) rest >>= λ u. Done (fs ++ inTurn u))
+      (sym (worked-passed (each flatDeclaration ds) (itemsEach subsectionItems ss)))
   turned-main (Outputs ds ∷ ss) rest =
-      turned-main ss rest ∙ ap (λ (w : Result (List (Part × Formula))). w >>= λ fs. gather (expandSection c) rest >>= λ u. Done (fs ++ inTurn u)) (sym (worked-passed (each flatDeclaration ds) (itemsEach subsectionItems ss)))
+      turned-main ss rest ∙ ap (λ (w : Result (List (Part × Formula))). w >>= λ fs. gather (expandSection c) rest >>= λ u. Done (fs ++ inTurn u))
+      (sym (worked-passed (each flatDeclaration ds) (itemsEach subsectionItems ss)))
   turned-main (Lines p es ∷ ss) rest =
       let r = gather (expandLine c) (map Written es) in
       section-then p r (gather (expandSection c) (writtenLines ss rest))

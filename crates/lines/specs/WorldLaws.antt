@@ -12,7 +12,26 @@ use Rattle.language.specs.Bytes.{same}
 use Rattle.language.specs.Tokens.{Token, tokens}
 use Rattle.language.specs.Tree.{Expr, Identifier, Parameter, Declaration, OneSignal, OfWidth, OfType, Definition, Defined, Enumerated, Spec}
 use Rattle.language.specs.Words.{wordsIn}
-use Rattle.language.specs.Declared.{Declared, Constant, Single, BusOf, Identifies, WaitingBus, Table, find, identified, identifiers, asDeclared, turns, waiting, constants, inputs, outputs, Declarations, declarations}
+use Rattle.language.specs.Declared.{
+  Declared,
+  Constant,
+  Single,
+  BusOf,
+  Identifies,
+  WaitingBus,
+  Table,
+  find,
+  identified,
+  identifiers,
+  asDeclared,
+  turns,
+  waiting,
+  constants,
+  inputs,
+  outputs,
+  Declarations,
+  declarations,
+}
 use Rattle.language.specs.Numbering.{inOrder}
 use Rattle.language.specs.Expansion.{Context, contextOf, define}
 use Rattle.language.specs.Laws.Basics.Lists.{All, all-more, all-append, all-left, all-right}
@@ -101,7 +120,8 @@ module _ (x : Spec) (d : Declarations) (regular : All RegularDefinition (x .defi
   sound-world r =
       let t = d .table in
       let ps = inOrder d in
-      world-all Sound tt x ps t (λ n. behind-keeps Sound Plain (λ c y e p. plain-define c p y e) (λ k c e p. p) n (x .definitions) (contextOf ps t) (plain-context ps t) (definitionsStart x) _ (sound-found (find t (n .text)) (find-within ShortWords t (value-of declared (short-table x regular)) (n .text)))) r
+      world-all Sound tt x ps t (λ n. behind-keeps Sound Plain (λ c y e p. plain-define c p y e) (λ k c e p. p) n (x .definitions) (contextOf ps t) (plain-context ps t) (definitionsStart x) _
+      (sound-found (find t (n .text)) (find-within ShortWords t (value-of declared (short-table x regular)) (n .text)))) r
 
   pub worldly : (ts : List Token) (w : List ℕ) → Worldly ts w (inOrder d) (world x d)
   worldly ts w = record {

@@ -5,18 +5,15 @@ use assembly::REQUIRE;
 use assembly::add_line;
 use assembly::implied::Ends;
 use assembly::implied::implied;
+use entries::kinds;
 use expander::Written;
 use expander::formulas::formula_at;
+use node::MAX_NODES;
 use traversal::cell_at;
 ghost use Rattle.operands.specs.Working.{source, state};
 ghost use Rattle.expander.specs.Expanding.{tables};
 ghost use Rattle.lines.specs.Gathering.{Sizes, SomeLine, WritesLine, SomeTree, WritesLines};
 ghost use Rattle.lines.specs.Whole.{SomeGiven, Gathers};
-
-// Kinds of entries: a line's own, and a heading's, which has its number in place of a size.
-const LINE: u32 = 62;
-
-const HEADING: u32 = 63;
 
 // The number of the first part's heading.
 const FIRST_PART: u32 = 2;
@@ -39,7 +36,7 @@ fn line(
     firsts: &[u32],
     written: &mut [u32],
     out: &mut [u32],
-    table: &mut [u32; 8192],
+    table: &mut [u32; MAX_NODES],
     lines: &mut [u32],
     entries: usize,
     part: u32,
@@ -48,8 +45,11 @@ fn line(
     at: usize,
 ) -> Gathering
     requires { ⌜ Sizes (source (now text) (now work) (now refs)) (state (now sorts) (now numbers) (now kept) (now slots)) (tables (now firsts) (now written) (now table) at) (now out) (now lines) ⌝ }
-    requires { ⌜ SomeLine (source (now text) (now work) (now refs)) (state (now sorts) (now numbers) (now kept) (now slots)) (tables (now firsts) (now written) (now table) at) (now lines) count entries part k ⌝ }
-    ensures { λ r. ⌜ WritesLine (source (now (text .entry)) (now (work .entry)) (now (refs .entry))) (state (now (sorts .entry)) (now (numbers .entry)) (now (kept .entry)) (now (slots .entry))) (state (now (sorts .exit)) (now (numbers .exit)) (now (kept .exit)) (now (slots .exit))) (tables (now (firsts .entry)) (now (written .entry)) (now (table .entry)) at) (now (written .exit)) (now (table .exit)) (now (lines .entry)) (now (lines .exit)) count entries part k r ⌝ }
+    requires { ⌜ SomeLine (source (now text) (now work) (now refs)) (state (now sorts) (now numbers) (now kept) (now slots)) (tables (now firsts) (now written) (now table) at) (now lines) count
+        entries part k ⌝ }
+    ensures { λ r. ⌜ WritesLine (source (now (text .entry)) (now (work .entry)) (now (refs .entry))) (state (now (sorts .entry)) (now (numbers .entry)) (now (kept .entry)) (now (slots .entry)))
+        (state (now (sorts .exit)) (now (numbers .exit)) (now (kept .exit)) (now (slots .exit))) (tables (now (firsts .entry)) (now (written .entry)) (now (table .entry)) at) (now (written .exit))
+        (now (table .exit)) (now (lines .entry)) (now (lines .exit)) count entries part k r ⌝ }
 {
     let w = formula_at(
         text,
@@ -89,14 +89,17 @@ fn written_lines(
     firsts: &[u32],
     written: &mut [u32],
     out: &mut [u32],
-    table: &mut [u32; 8192],
+    table: &mut [u32; MAX_NODES],
     lines: &mut [u32],
     entries: usize,
     start: usize,
 ) -> Gathering
     requires { ⌜ Sizes (source (now text) (now work) (now refs)) (state (now sorts) (now numbers) (now kept) (now slots)) (tables (now firsts) (now written) (now table) start) (now out) (now lines) ⌝ }
-    requires { ⌜ SomeTree (source (now text) (now work) (now refs)) (state (now sorts) (now numbers) (now kept) (now slots)) (tables (now firsts) (now written) (now table) start) (now lines) entries ⌝ }
-    ensures { λ r. ⌜ WritesLines (source (now (text .entry)) (now (work .entry)) (now (refs .entry))) (state (now (sorts .entry)) (now (numbers .entry)) (now (kept .entry)) (now (slots .entry))) (state (now (sorts .exit)) (now (numbers .exit)) (now (kept .exit)) (now (slots .exit))) (tables (now (firsts .entry)) (now (written .entry)) (now (table .entry)) start) (now (written .exit)) (now (table .exit)) (now (lines .entry)) (now (lines .exit)) entries r ⌝ }
+    requires { ⌜ SomeTree (source (now text) (now work) (now refs)) (state (now sorts) (now numbers) (now kept) (now slots)) (tables (now firsts) (now written) (now table) start) (now lines) entries
+        ⌝ }
+    ensures { λ r. ⌜ WritesLines (source (now (text .entry)) (now (work .entry)) (now (refs .entry))) (state (now (sorts .entry)) (now (numbers .entry)) (now (kept .entry)) (now (slots .entry)))
+        (state (now (sorts .exit)) (now (numbers .exit)) (now (kept .exit)) (now (slots .exit))) (tables (now (firsts .entry)) (now (written .entry)) (now (table .entry)) start) (now (written .exit))
+        (now (table .exit)) (now (lines .entry)) (now (lines .exit)) entries r ⌝ }
 {
     let mut part: u32 = 0;
     let mut count: usize = 0;
@@ -104,12 +107,12 @@ fn written_lines(
     let mut i: usize = 0;
     while i < entries {
         let c = cell_at(work, i);
-        if c.kind == HEADING {
+        if c.kind == kinds::HEADING {
             part = c.size;
             i += 1;
             continue;
         }
-        if c.kind == LINE {
+        if c.kind == kinds::LINE {
             let r = line(
                 text,
                 work,
@@ -157,7 +160,7 @@ pub fn gather(
     firsts: &[u32],
     written: &mut [u32],
     out: &mut [u32],
-    table: &mut [u32; 8192],
+    table: &mut [u32; MAX_NODES],
     lines: &mut [u32],
     entries: usize,
     ins: usize,
@@ -165,8 +168,11 @@ pub fn gather(
     start: usize,
 ) -> Gathering
     requires { ⌜ Sizes (source (now text) (now work) (now refs)) (state (now sorts) (now numbers) (now kept) (now slots)) (tables (now firsts) (now written) (now table) start) (now out) (now lines) ⌝ }
-    requires { ⌜ SomeGiven (source (now text) (now work) (now refs)) (state (now sorts) (now numbers) (now kept) (now slots)) (tables (now firsts) (now written) (now table) start) (now lines) (now enumerations) (now order) entries ins ports ⌝ }
-    ensures { λ r. ⌜ Gathers (source (now (text .entry)) (now (work .entry)) (now (refs .entry))) (state (now (sorts .entry)) (now (numbers .entry)) (now (kept .entry)) (now (slots .entry))) (tables (now (firsts .entry)) (now (written .entry)) (now (table .entry)) start) (now (table .exit)) (now (lines .entry)) (now (lines .exit)) (now (enumerations .entry)) (now (order .entry)) entries ins ports r ⌝ }
+    requires { ⌜ SomeGiven (source (now text) (now work) (now refs)) (state (now sorts) (now numbers) (now kept) (now slots)) (tables (now firsts) (now written) (now table) start) (now lines)
+        (now enumerations) (now order) entries ins ports ⌝ }
+    ensures { λ r. ⌜ Gathers (source (now (text .entry)) (now (work .entry)) (now (refs .entry))) (state (now (sorts .entry)) (now (numbers .entry)) (now (kept .entry)) (now (slots .entry)))
+        (tables (now (firsts .entry)) (now (written .entry)) (now (table .entry)) start) (now (table .exit)) (now (lines .entry)) (now (lines .exit)) (now (enumerations .entry)) (now (order .entry))
+        entries ins ports r ⌝ }
 {
     let r = written_lines(
         text,

@@ -1,6 +1,6 @@
 // The listing of document 01, 'One file in full', on standard output: `accepted`, node and signal counts, then per node its number, kind, first and second field; or
 // `refused`, number, place.
-ghost use Prim.Native.Nat.{_≤_};
+use basics::least;
 use libc::STDOUT_FILENO;
 use node::Answer;
 use node::Node;
@@ -43,12 +43,6 @@ fn say_node(i: usize, word: u32) {
     say(b" ");
     say_number(node.kind());
     say_two(node.first(), node.second());
-}
-
-fn least(a: usize, b: usize) -> usize
-    ensures { λ r. ⌜ r ≤ b ⌝ }
-{
-    if a < b { a } else { b }
 }
 
 // The lines of the first n nodes.

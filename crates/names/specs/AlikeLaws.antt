@@ -1,15 +1,38 @@
 -- Lists of visible names that show and meet the same names: the order of a list does not matter to a walk.
 use Prim.Native.Nat.{ℕ, max}
 use mathlib.Core.List.{List, [], _∷_, _++_}
-use mathlib.Core.Bool.{Bool, true, false, _||_}
+use mathlib.Core.Bool.{true, false, _||_}
 use mathlib.Core.Option.{Option, none, some}
 use mathlib.Core.Path.{_≡_, refl, sym, ap, ap₂, _∙_}
 use Rattle.language.specs.Bytes.{same}
 use Rattle.language.specs.Tokens.{Token}
-use Rattle.language.specs.Tree.{Expr, Named, Numeral, Truth, Index, Paren, Prefixed, Joined, Nexts, InWindow, Each, Between, Listed, Empty, Element, Range, Defined, Enumerated, OneSignal, OfWidth, OfType}
+use Rattle.language.specs.Tree.{
+  Expr,
+  Named,
+  Numeral,
+  Truth,
+  Index,
+  Paren,
+  Prefixed,
+  Joined,
+  Nexts,
+  InWindow,
+  Each,
+  Between,
+  Listed,
+  Empty,
+  Element,
+  Range,
+  Defined,
+  Enumerated,
+  OneSignal,
+  OfWidth,
+  OfType,
+}
 use Rattle.language.specs.Places.{first, unless, Entry, ParameterLine, DefinitionLine, DeclarationLine, FormulaLine}
 use Rattle.language.specs.Names.{Names, visible, hidden, again, walk, declares, walkLine, walkLines, nowhere}
 use Rattle.names.specs.ScanLaws.{first-swap, first-group}
+use Rattle.language.specs.Laws.Values.SetMembers.{or-swap}
 
 -- the place where two names of one spelling meet
 abbrev pub met : Token → Token → Option ℕ
@@ -31,11 +54,6 @@ alike-cons n a =
       sees = λ t. ap (λ b. same (n .text) (t .text) || b) (a .sees t);
       meets = λ t. ap (first (met n t)) (a .meets t);
     }
-
-or-swap : (a b c : Bool) → (a || (b || c)) ≡ (b || (a || c))
-or-swap true true c = refl
-or-swap true false c = refl
-or-swap false b c = refl
 
 first-over : (a b c : Option ℕ) → first a (first b c) ≡ first b (first a c)
 first-over a b c = sym (first-group a b c) ∙ ap (λ p. first p c) (first-swap a b) ∙ first-group b a c

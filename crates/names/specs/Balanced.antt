@@ -8,7 +8,38 @@ use native.Mathlib.Omega.{arith}
 use lib.ListN.{length}
 use Rattle.language.specs.Tokens.{Token}
 use Rattle.language.specs.Operators.{Big}
-use Rattle.language.specs.Tree.{Expr, Named, Numeral, Truth, Index, Paren, Prefixed, Joined, Nexts, InWindow, Each, Between, Listed, Empty, Element, Range, Identifier, Definition, Defined, Enumerated, Declaration, OneSignal, OfWidth, OfType, partCode, Subsection, Inputs, Outputs, Lines, Spec}
+use Rattle.language.specs.Tree.{
+  Expr,
+  Named,
+  Numeral,
+  Truth,
+  Index,
+  Paren,
+  Prefixed,
+  Joined,
+  Nexts,
+  InWindow,
+  Each,
+  Between,
+  Listed,
+  Empty,
+  Element,
+  Range,
+  Identifier,
+  Definition,
+  Defined,
+  Enumerated,
+  Declaration,
+  OneSignal,
+  OfWidth,
+  OfType,
+  partCode,
+  Subsection,
+  Inputs,
+  Outputs,
+  Lines,
+  Spec,
+}
 use Rattle.entries.specs.Kinds as Kind
 use Rattle.entries.specs.Flat.{Entry, under, leaf, flat, each, flatParameter, flatIdentifier, flatDefinition, flatDeclaration, flatLine, flatSubsection, outline}
 use Rattle.names.specs.Roles.{binds, ends, declares, Quiet, quiet-truth, quiet-before, quiet-joining, quiet-window, quiet-between, ending-big}
@@ -28,7 +59,11 @@ Balanced d (n ∷ es) =
 -- what an entry's kind makes of it
 module _ (d : ℕ) (n : Entry) (es : List Entry) where
   abbrev Rest : Bool → Bool → Bool → Type 0
-  Rest b e c = elim b as (λ x. Type 0) [ true ↦ Balanced (suc d) es | false ↦ elim e as (λ x. Type 0) [ true ↦ (0 < d) × Balanced (d - 1) es | false ↦ elim c as (λ x. Type 0) [ true ↦ (d ≡ 0) × Balanced d es | false ↦ Balanced d es ] ] ]
+  Rest b e c = elim b as (λ x. Type 0) [
+    | true ↦ Balanced (suc d) es
+    | false ↦ elim e as (λ x. Type 0)
+        [ true ↦ (0 < d) × Balanced (d - 1) es | false ↦ elim c as (λ x. Type 0) [ true ↦ (d ≡ 0) × Balanced d es | false ↦ Balanced d es ] ]
+  ]
 
   whole : {b e c : Bool} → binds (n .kind) ≡ b → ends (n .kind) ≡ e → declares Kind.parameter (n .kind) ≡ c → Balanced d (n ∷ es) ≡ Rest b e c
   unfolding Balanced

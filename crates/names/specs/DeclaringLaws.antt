@@ -50,12 +50,14 @@ module _ (b : Bool) where
   Lists es ls = found es ≡ over (namesOf b) ls
 
 -- what the entry of each line declares
-parameter-names : (b : Bool) (x : Token) (e : Expr) (size : ℕ) (es : List Entry) → found b (record { kind = Kind.parameter; token = some x; size = size } ∷ es) ≡ namesOf b (ParameterLine x e) ++ found b es
+parameter-names : (b : Bool) (x : Token) (e : Expr) (size : ℕ) (es : List Entry)
+    → found b (record { kind = Kind.parameter; token = some x; size = size } ∷ es) ≡ namesOf b (ParameterLine x e) ++ found b es
 unfolding declaredIn
 parameter-names false x e size es = refl
 parameter-names true x e size es = refl
 
-definition-names : (b : Bool) (x : Token) (e : Expr) (size : ℕ) (es : List Entry) → found b (record { kind = Kind.definition; token = some x; size = size } ∷ es) ≡ namesOf b (DefinitionLine (Defined x e)) ++ found b es
+definition-names : (b : Bool) (x : Token) (e : Expr) (size : ℕ) (es : List Entry)
+    → found b (record { kind = Kind.definition; token = some x; size = size } ∷ es) ≡ namesOf b (DefinitionLine (Defined x e)) ++ found b es
 unfolding declaredIn
 definition-names false x e size es = refl
 definition-names true x e size es = refl

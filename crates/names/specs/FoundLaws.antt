@@ -86,7 +86,8 @@ distinct-rest n es h = go (declares Kind.parameter (n .kind)) refl
     go false e = subst Distinct (declared-there Kind.parameter n es e) h
 
 -- entries that declare one spelling are one entry
-one-entry : (es : List Entry) (j k : ℕ) → j < length es → k < length es → declares Kind.parameter (entryOf es j .kind) ≡ true → declares Kind.parameter (entryOf es k .kind) ≡ true → Distinct (declaredIn Kind.parameter es) → same (tokenOf (entryOf es j) .text) (tokenOf (entryOf es k) .text) ≡ true → j ≡ k
+one-entry : (es : List Entry) (j k : ℕ) → j < length es → k < length es → declares Kind.parameter (entryOf es j .kind) ≡ true → declares Kind.parameter (entryOf es k .kind) ≡ true
+    → Distinct (declaredIn Kind.parameter es) → same (tokenOf (entryOf es j) .text) (tokenOf (entryOf es k) .text) ≡ true → j ≡ k
 one-entry [] j k l m y z d e = absurd (omega arith)
 one-entry (n ∷ es) zero zero l m y z d e = refl
 one-entry (n ∷ es) zero (suc k) l m y z d e =

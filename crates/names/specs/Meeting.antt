@@ -88,7 +88,8 @@ module _ {w ids : List ℕ} {entries : ℕ} (h : Walkable w ids entries) (low : 
         record { shown = subst (λ ns. Table h table (least ns)) same (m .shown); placed = subst (All Placed) same (m .placed); doubles = m .doubles ∙ ap doubled same }
 
     -- an entry that declares one
-    pub met-more : {table : List ℕ} {place j at id seen v p : ℕ} → Met h low (k + 1) table place → declares low kind ≡ true → j ≡ indexOf (wordAt w (firstEntry + k)) → at ≡ offsetIn (wordAt w j) → id ≡ getD ids j 0 → seen ≡ getD table id 0 → v ≡ min seen at → p ≡ min place (max seen at) → Met h low k (set table id v) p
+    pub met-more : {table : List ℕ} {place j at id seen v p : ℕ} → Met h low (k + 1) table place → declares low kind ≡ true → j ≡ indexOf (wordAt w (firstEntry + k)) → at ≡ offsetIn (wordAt w j)
+        → id ≡ getD ids j 0 → seen ≡ getD table id 0 → v ≡ min seen at → p ≡ min place (max seen at) → Met h low k (set table id v) p
     met-more {table} {place} {j} {at} {id} {seen} {v} {p} m e ej ea ei es ev ep =
         let n = name-here e ej in
         let q = place-there h k l n in
@@ -101,7 +102,8 @@ module _ {w ids : List ℕ} {entries : ℕ} (h : Walkable w ids entries) (low : 
         let at-own : tokenAt (tokens (h .text)) j .at ≡ t .at = ap (λ u. u .at) (sym (n .token)) in
         let pushed = shows-push (h .interned) j (n .inside) (n .name) old v (m .shown) (omega arith) in
         record {
-          shown = subst (λ i. Table h (set table i v) (least (declaredFrom h low k))) (sym ei) (subst (λ ns. Table h (set table (getD ids j 0) v) (least ns)) (ap (λ u. u ∷ old) (sym (n .token)) ∙ same) pushed);
+          shown = subst (λ i. Table h (set table i v) (least (declaredFrom h low k))) (sym ei)
+              (subst (λ ns. Table h (set table (getD ids j 0) v) (least ns)) (ap (λ u. u ∷ old) (sym (n .token)) ∙ same) pushed);
           placed = subst (All Placed) same (q .1, m .placed);
           doubles =
               ap placeOf (ep ∙ omega arith) ∙ sym (place-min (max (least old t) (t .at)) place)

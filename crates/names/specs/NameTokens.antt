@@ -4,69 +4,72 @@ use mathlib.Core.List.{List, [], _∷_, _++_}
 use mathlib.Core.Bool.{true, false, _||_, false≢true}
 use mathlib.Core.Option.{Option, none, some}
 use mathlib.Core.Path.{_≡_, refl, sym, _∙_}
-use Rattle.language.specs.Tokens.{Token, Name, isOf}
-use Rattle.language.specs.Tree.{Expr, Named, Numeral, Truth, Index, Paren, Prefixed, Joined, Nexts, InWindow, Each, Between, Listed, Empty, Element, Range, Identifier, Definition, Defined, Enumerated, Parameter, Declaration, OneSignal, OfWidth, OfType, Subsection, Inputs, Outputs, Lines, Spec}
+use Rattle.language.specs.Tokens.{Token}
+use Rattle.language.specs.Tree.{
+  Expr,
+  Named,
+  Numeral,
+  Truth,
+  Index,
+  Paren,
+  Prefixed,
+  Joined,
+  Nexts,
+  InWindow,
+  Each,
+  Between,
+  Listed,
+  Empty,
+  Element,
+  Range,
+  Identifier,
+  Definition,
+  Defined,
+  Enumerated,
+  Declaration,
+  OneSignal,
+  OfWidth,
+  OfType,
+  Subsection,
+  Inputs,
+  Outputs,
+  Lines,
+  Spec,
+}
 use Rattle.language.specs.Laws.Basics.Lists.{All, all-append}
+use Rattle.language.specs.Laws.Grammar.TreeReads.{IsName, ReadParameter, ReadIdentifier, ReadDefinition, ReadDeclaration, ReadSubsection, ReadSpec}
 use Rattle.entries.specs.Kinds as Kind
 use Rattle.entries.specs.Flat.{Entry, under, leaf, flat, each, flatParameter, flatIdentifier, flatDefinition, flatDeclaration, flatLine, flatSubsection, outline}
 use Rattle.names.specs.Roles.{uses, binds, declares, Quiet, quiet-truth, quiet-before, quiet-joining, quiet-window, quiet-between, ending-big}
 use Rattle.names.specs.ScanLaws.{neither}
 use Rattle.names.specs.Walkable.{NamesName}
 
-abbrev pub ByName : Token → Type 0
-ByName t = isOf Name t ≡ true
-
 abbrev pub NameExpr : Expr → Type 0
-NameExpr (Named t) = ByName t
+NameExpr (Named t) = IsName t
 NameExpr (Numeral t) = Unit {0}
 NameExpr (Truth t b) = Unit {0}
-NameExpr (Index t e) = ByName t × NameExpr e
+NameExpr (Index t e) = IsName t × NameExpr e
 NameExpr (Paren t e) = NameExpr e
 NameExpr (Prefixed t o e) = NameExpr e
 NameExpr (Joined t o a b) = NameExpr a × NameExpr b
 NameExpr (Nexts t n e) = NameExpr n × NameExpr e
 NameExpr (InWindow t o n m e) = NameExpr n × NameExpr m × NameExpr e
-NameExpr (Each t o further i s e) = ByName i × NameExpr s × NameExpr e
+NameExpr (Each t o further i s e) = IsName i × NameExpr s × NameExpr e
 NameExpr (Between t l h a b) = NameExpr a × NameExpr b
 NameExpr (Listed t es) = NameExpr es
 NameExpr Empty = Unit {0}
 NameExpr (Element e es) = NameExpr e × NameExpr es
 NameExpr (Range t x y z) = NameExpr x × NameExpr y × NameExpr z
 
-abbrev pub NameParameter : Parameter → Type 0
-NameParameter p = ByName (p .name) × NameExpr (p .value)
-
-abbrev pub NameIdentifier : Identifier → Type 0
-NameIdentifier i = ByName (i .name)
-
-abbrev pub NameDefinition : Definition → Type 0
-NameDefinition (Defined x e) = ByName x × NameExpr e
-NameDefinition (Enumerated x is) = ByName x × All NameIdentifier is
-
-abbrev pub NameDeclaration : Declaration → Type 0
-NameDeclaration (OneSignal x) = ByName x
-NameDeclaration (OfWidth x e) = ByName x × NameExpr e
-NameDeclaration (OfType u x) = ByName u × ByName x
-
-abbrev pub NameSubsection : Subsection → Type 0
-NameSubsection (Inputs ds) = All NameDeclaration ds
-NameSubsection (Outputs ds) = All NameDeclaration ds
-NameSubsection (Lines p es) = All NameExpr es
-
-pub record NameSpec (x : Spec) : Type 0 where
-  pub parameters : All NameParameter (x .parameters)
-  pub definitions : All NameDefinition (x .definitions)
-  pub main : All NameSubsection (x .main)
-
 -- an entry with a name; one without
-own : (k : ℕ) (t : Token) (size : ℕ) → ByName t → NamesName (record { kind = k; token = some t; size = size })
+own : (k : ℕ) (t : Token) (size : ℕ) → IsName t → NamesName (record { kind = k; token = some t; size = size })
 own k t size y _ = record { token = t; kept = refl; name = y }
 
 nameless : (n : Entry) → uses (n .kind) ≡ false → binds (n .kind) ≡ false → declares Kind.parameter (n .kind) ≡ false → NamesName n
 nameless n a b c y =
     absurd (false≢true (sym (neither (uses (n .kind) || binds (n .kind)) (declares Kind.parameter (n .kind)) (neither (uses (n .kind)) (binds (n .kind)) a b) c) ∙ y))
 
-with-name : (k : ℕ) (t : Token) (ops : List Entry) → ByName t → All NamesName ops → All NamesName (under k (some t) ops)
+with-name : (k : ℕ) (t : Token) (ops : List Entry) → IsName t → All NamesName ops → All NamesName (under k (some t) ops)
 with-name k t ops y h = all-append NamesName ops _ h (own k t _ y, tt)
 
 without : (k : ℕ) (t : Option Token) (ops : List Entry) → uses k ≡ false → binds k ≡ false → declares Kind.parameter k ≡ false → All NamesName ops → All NamesName (under k t ops)
@@ -112,14 +115,15 @@ names-words : (ws : List Token) → All NamesName (each (leaf Kind.word) ws)
 names-words [] = tt
 names-words (w ∷ ws) = two (leaf Kind.word w) (each (leaf Kind.word) ws) (names-word w) (names-words ws)
 
-names-identifier : (i : Identifier) → NameIdentifier i → All NamesName (flatIdentifier i)
+names-identifier : (i : Identifier) → ReadIdentifier i → All NamesName (flatIdentifier i)
 names-identifier i y = two (leaf Kind.identifier (i .name)) (each (leaf Kind.word) (i .words)) (with-name Kind.identifier (i .name) [] y tt) (names-words (i .words))
 
-names-definition : (d : Definition) → NameDefinition d → All NamesName (flatDefinition d)
+names-definition : (d : Definition) → ReadDefinition NameExpr d → All NamesName (flatDefinition d)
 names-definition (Defined x e) y = with-name Kind.definition x (flat e) (y .0) (names-flat e (y .1))
-names-definition (Enumerated x is) y = two (leaf Kind.enumeration x) (each flatIdentifier is) (with-name Kind.enumeration x [] (y .0) tt) (names-each NameIdentifier flatIdentifier names-identifier is (y .1))
+names-definition (Enumerated x is) y = two (leaf Kind.enumeration x) (each flatIdentifier is) (with-name Kind.enumeration x [] (y .0) tt)
+    (names-each ReadIdentifier flatIdentifier names-identifier is (y .1))
 
-names-declaration : (d : Declaration) → NameDeclaration d → All NamesName (flatDeclaration d)
+names-declaration : (d : Declaration) → ReadDeclaration NameExpr d → All NamesName (flatDeclaration d)
 names-declaration (OneSignal x) y = with-name Kind.signal x [] y tt
 names-declaration (OfWidth x e) y = with-name Kind.bus x (flat e) (y .0) (names-flat e (y .1))
 names-declaration (OfType u x) y = with-name Kind.typed x (leaf Kind.named u) (y .1) (with-name Kind.named u [] (y .0) tt)
@@ -130,12 +134,14 @@ names-line e y = without Kind.line none (flat e) refl refl refl (names-flat e y)
 names-heading : (n : ℕ) (es : List Entry) → All NamesName es → All NamesName (record { kind = Kind.heading; token = none; size = n } ∷ es)
 names-heading n es h = (nameless _ refl refl refl, h)
 
-names-subsection : (s : Subsection) → NameSubsection s → All NamesName (flatSubsection s)
-names-subsection (Inputs ds) y = names-heading _ (each flatDeclaration ds) (names-each NameDeclaration flatDeclaration names-declaration ds y)
-names-subsection (Outputs ds) y = names-heading _ (each flatDeclaration ds) (names-each NameDeclaration flatDeclaration names-declaration ds y)
+names-subsection : (s : Subsection) → ReadSubsection NameExpr s → All NamesName (flatSubsection s)
+names-subsection (Inputs ds) y = names-heading _ (each flatDeclaration ds) (names-each (ReadDeclaration NameExpr) flatDeclaration names-declaration ds y)
+names-subsection (Outputs ds) y = names-heading _ (each flatDeclaration ds) (names-each (ReadDeclaration NameExpr) flatDeclaration names-declaration ds y)
 names-subsection (Lines p es) y = names-heading _ (each flatLine es) (names-each NameExpr flatLine names-line es y)
 
-pub names-outline : (x : Spec) → NameSpec x → All NamesName (outline x)
+pub names-outline : (x : Spec) → ReadSpec NameExpr x → All NamesName (outline x)
 names-outline x y =
-    two (each flatParameter (x .parameters)) _ (names-each NameParameter flatParameter (λ p h. with-name Kind.parameter (p .name) (flat (p .value)) (h .0) (names-flat (p .value) (h .1))) (x .parameters) (y .parameters))
-    (two (each flatDefinition (x .definitions)) (each flatSubsection (x .main)) (names-each NameDefinition flatDefinition names-definition (x .definitions) (y .definitions)) (names-each NameSubsection flatSubsection names-subsection (x .main) (y .main)))
+    two (each flatParameter (x .parameters)) _ (names-each (ReadParameter NameExpr) flatParameter (λ p h. with-name Kind.parameter (p .name) (flat (p .value)) (h .0) (names-flat (p .value) (h .1)))
+    (x .parameters) (y .parameters))
+    (two (each flatDefinition (x .definitions)) (each flatSubsection (x .main)) (names-each (ReadDefinition NameExpr) flatDefinition names-definition (x .definitions) (y .definitions))
+    (names-each (ReadSubsection NameExpr) flatSubsection names-subsection (x .main) (y .main)))

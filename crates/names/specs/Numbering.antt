@@ -87,7 +87,8 @@ module _ {w ids : List ℕ} {entries : ℕ} (h : Walkable w ids entries) where
 
     pub numbered-other : {table declared : List ℕ} {count place : ℕ} → Numbered h k table declared count place → declares Kind.parameter kind ≡ false → Numbered h (k + 1) table declared count place
     numbered-other {count = count} n e =
-        let same : declaredFrom h Kind.parameter k ≡ declaredFrom h Kind.parameter (k + 1) = ap (declaredIn Kind.parameter) rest ∙ declared-there Kind.parameter own (drop (k + 1) (h .es)) (ap (declares Kind.parameter) (sym kinds) ∙ e) in
+        let same : declaredFrom h Kind.parameter k ≡ declaredFrom h Kind.parameter (k + 1) = ap (declaredIn Kind.parameter) rest ∙ declared-there Kind.parameter own (drop (k + 1) (h .es))
+        (ap (declares Kind.parameter) (sym kinds) ∙ e) in
         record {
           passed = n .passed;
           all = ap (λ ns. pushed ns (n .passed)) (sym same) ∙ n .all;
@@ -112,7 +113,8 @@ module _ {w ids : List ℕ} {entries : ℕ} (h : Walkable w ids entries) where
       more = ap (declaredIn Kind.parameter) rest ∙ declared-here Kind.parameter own (drop (k + 1) (h .es)) declaring
 
       -- the table with the name's number
-      shown-more : {table : List ℕ} {j id : ℕ} (ns : Names) (c : ℕ) → Table h table (numberIn ns) → c ≡ length ns → j ≡ indexOf (wordAt w (firstEntry + k)) → id ≡ getD ids j 0 → Table h (set table id c) (numberIn (tokenOf own ∷ ns))
+      shown-more : {table : List ℕ} {j id : ℕ} (ns : Names) (c : ℕ) → Table h table (numberIn ns) → c ≡ length ns → j ≡ indexOf (wordAt w (firstEntry + k)) → id ≡ getD ids j 0
+          → Table h (set table id c) (numberIn (tokenOf own ∷ ns))
       shown-more {table} {j} {id} ns c s ec ej ei =
           let n = name-here ej in
           subst (λ i. Table h (set table i c) (numberIn (tokenOf own ∷ ns))) (sym ei)
@@ -120,7 +122,8 @@ module _ {w ids : List ℕ} {entries : ℕ} (h : Walkable w ids entries) where
           (shows-set (h .interned) j (n .inside) (n .name) c s (λ t q. number-same (tokenAt (tokens (h .text)) j) ns t q ∙ sym ec) (λ t q. number-other (tokenAt (tokens (h .text)) j) ns t q)))
 
       module _ {table declared : List ℕ} {count place j id : ℕ} (n : Numbered h k table declared count place) (ej : j ≡ indexOf (wordAt w (firstEntry + k))) (ei : id ≡ getD ids j 0) where
-        numbered-more : {declared′ : List ℕ} {place′ : ℕ} → Where (h .es) declared′ (tokenOf own ∷ n .passed) → (maxNames < count + 1 → placeOfFirst (drop maxNames (declaredFrom h Kind.parameter 0)) ≡ some place′) → Numbered h (k + 1) (set table id count) declared′ (count + 1) place′
+        numbered-more : {declared′ : List ℕ} {place′ : ℕ} → Where (h .es) declared′ (tokenOf own ∷ n .passed)
+            → (maxNames < count + 1 → placeOfFirst (drop maxNames (declaredFrom h Kind.parameter 0)) ≡ some place′) → Numbered h (k + 1) (set table id count) declared′ (count + 1) place′
         numbered-more f b =
             record {
               passed = tokenOf own ∷ n .passed;
@@ -133,7 +136,8 @@ module _ {w ids : List ℕ} {entries : ℕ} (h : Walkable w ids entries) where
               behind = b;
             }
           where
-            before′ : count + 1 ≤ maxNames → drop maxNames (declaredFrom h Kind.parameter 0) ≡ drop (maxNames - count) (declaredFrom h Kind.parameter k) → drop maxNames (declaredFrom h Kind.parameter 0) ≡ drop (maxNames - (count + 1)) (declaredFrom h Kind.parameter (k + 1))
+            before′ : count + 1 ≤ maxNames → drop maxNames (declaredFrom h Kind.parameter 0) ≡ drop (maxNames - count) (declaredFrom h Kind.parameter k)
+                → drop maxNames (declaredFrom h Kind.parameter 0) ≡ drop (maxNames - (count + 1)) (declaredFrom h Kind.parameter (k + 1))
             before′ m p =
                 let one : maxNames - count ≡ suc (maxNames - (count + 1)) = omega arith in
                 p ∙ ap (λ d. drop d (declaredFrom h Kind.parameter k)) one ∙ ap (drop (suc (maxNames - (count + 1)))) more
@@ -143,8 +147,11 @@ module _ {w ids : List ℕ} {entries : ℕ} (h : Walkable w ids entries) where
         numbered-name less room =
             let c = n .counted in
             let here : getD (set declared count k) (length (n .passed)) 0 ≡ k = ap (λ d. getD (set declared count k) d 0) (sym c) ∙ getD-set-same declared count k 0 (omega arith) in
-            numbered-more
-            (λ m. subst (λ d. DeclaresAt (h .es) d (tokenOf own)) (sym here) (record { inside = inside; declaring = declaring; name = refl }), where-set (h .es) declared count k (n .passed) (omega arith) (n .found))
+            numbered-more (
+              λ m. subst (λ d. DeclaresAt (h .es) d (tokenOf own)) (sym here) (record { inside = inside; declaring = declaring; name = refl }),
+              where-set (h .es) declared count k (n .passed)
+                  (omega arith) (n .found),
+            )
             (λ m. absurd (omega arith))
 
         pub numbered-first : {at : ℕ} → count ≡ maxNames → at ≡ offsetIn (wordAt w j) → Numbered h (k + 1) (set table id count) declared (count + 1) at

@@ -80,20 +80,24 @@ module _ (es : List Entry) (refs : List ℕ) (declared : Names) (all : (i : ℕ)
     own-index = let l = length-under k t ops in omega arith
 
   -- operands one behind the other
-  both : (a b : Expr) → Goes a → Goes b → (start : ℕ) (bs : Names) (post : List Entry) → Run es start bs (flat a ++ flat b) post → Gone start bs a (flat b ++ post) × Gone (start + length (flat a)) bs b post × Run es (start + length (flat a ++ flat b)) bs [] post
+  both : (a b : Expr) → Goes a → Goes b → (start : ℕ) (bs : Names) (post : List Entry) → Run es start bs (flat a ++ flat b) post
+      → Gone start bs a (flat b ++ post) × Gone (start + length (flat a)) bs b post × Run es (start + length (flat a ++ flat b)) bs [] post
   both a b f g start bs post r =
       let ga = f start bs (flat b ++ post) (run-split es start bs (flat a) (flat b) post r) in
       let gb = g (start + length (flat a)) bs post (again (ga .after)) in
       let i : start + length (flat a) + length (flat b) ≡ start + length (flat a ++ flat b) = (let l = length-append (flat a) (flat b) in omega arith) in
       (ga, gb, subst (λ m. Run es m bs [] post) i (gb .after))
 
-  one-goes : (e : Expr) (k : ℕ) (t : Option Token) → Goes e → binds k ≡ false → ends k ≡ false → (start : ℕ) (bs : Names) (post : List Entry) → Run es start bs (under k t (flat e)) post → Run es (start + length (under k t (flat e))) bs [] post × Refers refs declared bs (start + length (under k t (flat e)) - 1 - 1) e
+  one-goes : (e : Expr) (k : ℕ) (t : Option Token) → Goes e → binds k ≡ false → ends k ≡ false → (start : ℕ) (bs : Names) (post : List Entry) → Run es start bs (under k t (flat e)) post
+      → Run es (start + length (under k t (flat e))) bs [] post × Refers refs declared bs (start + length (under k t (flat e)) - 1 - 1) e
   one-goes e k t f x y start bs post r =
       let n = own k t (flat e) start bs post in
       let g = f start bs (n ∷ post) (operands k t (flat e) start bs post r) in
       (behind k t (flat e) start bs post bs (open-kept bs n x y) (g .after), subst (λ m. Refers refs declared bs m e) (ap (λ m. m - 1) (own-index k t (flat e) start bs post)) (g .refers))
 
-  two-go : (a b : Expr) (k : ℕ) (t : Option Token) → Goes a → Goes b → binds k ≡ false → ends k ≡ false → (start : ℕ) (bs : Names) (post : List Entry) → Run es start bs (under k t (flat a ++ flat b)) post → Run es (start + length (under k t (flat a ++ flat b))) bs [] post × Refers refs declared bs (start + length (under k t (flat a ++ flat b)) - 1 - 1 - length (flat b)) a × Refers refs declared bs (start + length (under k t (flat a ++ flat b)) - 1 - 1) b
+  two-go : (a b : Expr) (k : ℕ) (t : Option Token) → Goes a → Goes b → binds k ≡ false → ends k ≡ false → (start : ℕ) (bs : Names) (post : List Entry)
+      → Run es start bs (under k t (flat a ++ flat b)) post → Run es (start + length (under k t (flat a ++ flat b))) bs [] post × Refers refs declared bs
+      (start + length (under k t (flat a ++ flat b)) - 1 - 1 - length (flat b)) a × Refers refs declared bs (start + length (under k t (flat a ++ flat b)) - 1 - 1) b
   two-go a b k t f g x y start bs post r =
       let ops = flat a ++ flat b in
       let n = own k t ops start bs post in
@@ -104,7 +108,11 @@ module _ (es : List Entry) (refs : List ℕ) (declared : Names) (all : (i : ℕ)
       let ib : start + length (flat a) + length (flat b) - 1 ≡ start + length (under k t ops) - 1 - 1 = omega arith in
       (behind k t ops start bs post bs (open-kept bs n x y) (p .2), subst (λ i. Refers refs declared bs i a) ia (p .0 .refers), subst (λ i. Refers refs declared bs i b) ib (p .1 .refers))
 
-  three-go : (a b c : Expr) (k : ℕ) (t : Option Token) → Goes a → Goes b → Goes c → binds k ≡ false → ends k ≡ false → (start : ℕ) (bs : Names) (post : List Entry) → Run es start bs (under k t (flat a ++ (flat b ++ flat c))) post → Run es (start + length (under k t (flat a ++ (flat b ++ flat c)))) bs [] post × Refers refs declared bs (start + length (under k t (flat a ++ (flat b ++ flat c))) - 1 - 1 - length (flat c) - length (flat b)) a × Refers refs declared bs (start + length (under k t (flat a ++ (flat b ++ flat c))) - 1 - 1 - length (flat c)) b × Refers refs declared bs (start + length (under k t (flat a ++ (flat b ++ flat c))) - 1 - 1) c
+  three-go : (a b c : Expr) (k : ℕ) (t : Option Token) → Goes a → Goes b → Goes c → binds k ≡ false → ends k ≡ false → (start : ℕ) (bs : Names) (post : List Entry)
+      → Run es start bs (under k t (flat a ++ (flat b ++ flat c))) post
+      → Run es (start + length (under k t (flat a ++ (flat b ++ flat c)))) bs [] post × Refers refs declared bs
+      (start + length (under k t (flat a ++ (flat b ++ flat c))) - 1 - 1 - length (flat c) - length (flat b)) a × Refers refs declared bs
+      (start + length (under k t (flat a ++ (flat b ++ flat c))) - 1 - 1 - length (flat c)) b × Refers refs declared bs (start + length (under k t (flat a ++ (flat b ++ flat c))) - 1 - 1) c
   three-go a b c k t f g q x y start bs post r =
       let ops = flat a ++ (flat b ++ flat c) in
       let n = own k t ops start bs post in
@@ -115,9 +123,16 @@ module _ (es : List Entry) (refs : List ℕ) (declared : Names) (all : (i : ℕ)
       let o = length-append (flat b) (flat c) in
       let all-of : start + length (flat a) + length (flat b ++ flat c) ≡ start + length ops = omega arith in
       let ic : start + length (flat a) + length (flat b) + length (flat c) - 1 ≡ start + length (under k t ops) - 1 - 1 = omega arith in
-      let ib : start + length (flat a) + length (flat b) - 1 ≡ start + length (under k t ops) - 1 - 1 - length (flat c) = before-it (start + length (flat a) + length (flat b)) (length (flat c)) ∙ ap (λ d. d - length (flat c)) ic in
-      let ia : start + length (flat a) - 1 ≡ start + length (under k t ops) - 1 - 1 - length (flat c) - length (flat b) = before-it (start + length (flat a)) (length (flat b)) ∙ ap (λ d. d - length (flat b)) ib in
-      (behind k t ops start bs post bs (open-kept bs n x y) (subst (λ i. Run es i bs [] (n ∷ post)) all-of (p .2)), subst (λ i. Refers refs declared bs i a) ia (ga .refers), subst (λ i. Refers refs declared bs i b) ib (p .0 .refers), subst (λ i. Refers refs declared bs i c) ic (p .1 .refers))
+      let ib : start + length (flat a) + length (flat b) - 1 ≡ start + length (under k t ops) - 1 - 1 - length (flat c) = before-it (start + length (flat a) + length (flat b)) (length (flat c)) ∙ ap
+      (λ d. d - length (flat c)) ic in
+      let ia : start + length (flat a) - 1 ≡ start + length (under k t ops) - 1 - 1 - length (flat c) - length (flat b) = before-it (start + length (flat a)) (length (flat b)) ∙ ap
+      (λ d. d - length (flat b)) ib in (
+        behind k t ops start bs post bs (open-kept bs n x y) (subst (λ i. Run es i bs [] (n ∷ post)) all-of (p .2)),
+        subst (λ i. Refers refs declared bs i a) ia (ga .refers),
+        subst
+            (λ i. Refers refs declared bs i b) ib (p .0 .refers),
+        subst (λ i. Refers refs declared bs i c) ic (p .1 .refers),
+      )
 
   -- a big operator: its operand is under its name
   each-goes : (t : Token) (o : Big) (further : Bool) (i : Token) (s e : Expr) → Goes s → Goes e → Goes (Each t o further i s e)
@@ -141,17 +156,20 @@ module _ (es : List Entry) (refs : List ℕ) (declared : Names) (all : (i : ℕ)
       let ib : start + length (flat s) ≡ start + length (under (Kind.big o) (some t) ops) - 1 - 1 - length (flat e) = omega arith in
       let ie : start + length set + length (flat e) - 1 ≡ start + length (under (Kind.big o) (some t) ops) - 1 - 1 = omega arith in
       record {
-        after = behind (Kind.big o) (some t) ops start (i ∷ bs) post bs (open-less i bs en (ending-big o .no-binder) (ending-big o .is-end)) (subst (λ d. Run es d (i ∷ bs) [] (en ∷ post)) all-of (ge .after));
+        after = behind (Kind.big o) (some t) ops start (i ∷ bs) post bs (open-less i bs en (ending-big o .no-binder) (ending-big o .is-end))
+            (subst (λ d. Run es d (i ∷ bs) [] (en ∷ post)) all-of (ge .after));
         refers = (subst (λ d. Refers refs declared bs d s) is (gs .refers), ap (λ d. getD refs d 0) (sym ib) ∙ value, subst (λ d. Refers refs declared (i ∷ bs) d e) ie (ge .refers));
       }
 
   -- a name and an index
-  own-value : (k : ℕ) (t : Token) (ops : List Entry) → binds k ≡ false → ends k ≡ false → names k ≡ true → (start : ℕ) (bs : Names) (post : List Entry) → Run es (start + length ops) bs [] (record { kind = k; token = some t; size = suc (length ops) } ∷ post) → getD refs (start + length (under k (some t) ops) - 1) 0 ≡ reference declared bs t
+  own-value : (k : ℕ) (t : Token) (ops : List Entry) → binds k ≡ false → ends k ≡ false → names k ≡ true → (start : ℕ) (bs : Names) (post : List Entry)
+      → Run es (start + length ops) bs [] (record { kind = k; token = some t; size = suc (length ops) } ∷ post) → getD refs (start + length (under k (some t) ops) - 1) 0 ≡ reference declared bs t
   own-value k t ops x y z start bs post r =
       let n = own k (some t) ops start bs post in
       ap (λ d. getD refs d 0) (sym (own-index k (some t) ops start bs post)) ∙ value-at (start + length ops) bs n post r z ∙ ap (λ u. reference declared u t) (open-kept bs n x y)
 
-  leaf-goes : (k : ℕ) (t : Token) → binds k ≡ false → ends k ≡ false → (start : ℕ) (bs : Names) (post : List Entry) → Run es start bs (under k (some t) []) post → Run es (start + 0) bs [] (record { kind = k; token = some t; size = 1 } ∷ post) × Run es (start + length (under k (some t) [])) bs [] post
+  leaf-goes : (k : ℕ) (t : Token) → binds k ≡ false → ends k ≡ false → (start : ℕ) (bs : Names) (post : List Entry) → Run es start bs (under k (some t) []) post
+      → Run es (start + 0) bs [] (record { kind = k; token = some t; size = 1 } ∷ post) × Run es (start + length (under k (some t) [])) bs [] post
   leaf-goes k t x y start bs post r =
       let n = own k (some t) [] start bs post in
       let here : start ≡ start + 0 = omega arith in
@@ -177,10 +195,12 @@ module _ (es : List Entry) (refs : List ℕ) (declared : Names) (all : (i : ℕ)
   expr-goes (Nexts t n e) start bs post r =
       let p = two-go n e Kind.nexts (some t) (expr-goes n) (expr-goes e) refl refl start bs post r in record { after = p .0; refers = (p .1, p .2) }
   expr-goes (InWindow t o n m e) start bs post r =
-      let p = three-go n m e (Kind.window o) (some t) (expr-goes n) (expr-goes m) (expr-goes e) (quiet-window o .no-binder) (quiet-window o .no-end) start bs post r in record { after = p .0; refers = (p .1, p .2, p .3) }
+      let p = three-go n m e (Kind.window o) (some t) (expr-goes n) (expr-goes m) (expr-goes e) (quiet-window o .no-binder) (quiet-window o .no-end) start bs post r in
+      record { after = p .0; refers = (p .1, p .2, p .3) }
   expr-goes (Each t o further i s e) start bs post r = each-goes t o further i s e (expr-goes s) (expr-goes e) start bs post r
   expr-goes (Between t l h a b) start bs post r =
-      let p = two-go a b (Kind.between l h) (some t) (expr-goes a) (expr-goes b) (quiet-between l h .no-binder) (quiet-between l h .no-end) start bs post r in record { after = p .0; refers = (p .1, p .2) }
+      let p = two-go a b (Kind.between l h) (some t) (expr-goes a) (expr-goes b) (quiet-between l h .no-binder) (quiet-between l h .no-end) start bs post r in
+      record { after = p .0; refers = (p .1, p .2) }
   expr-goes (Listed t e) start bs post r = let p = one-goes e Kind.listed (some t) (expr-goes e) refl refl start bs post r in record { after = p .0; refers = p .1 }
   expr-goes Empty start bs post r = record { after = (let z : start ≡ start + 0 = omega arith in subst (λ d. Run es d bs [] post) z r); refers = tt }
   expr-goes (Element e d) start bs post r =
@@ -189,7 +209,8 @@ module _ (es : List Entry) (refs : List ℕ) (declared : Names) (all : (i : ℕ)
       let p = three-go x y z Kind.range (some t) (expr-goes x) (expr-goes y) (expr-goes z) refl refl start bs post r in record { after = p .0; refers = (p .1, p .2, p .3) }
 
   -- an entry of a line, behind its expression if it has one
-  pub entry-goes : (n : Entry) → binds (n .kind) ≡ false → ends (n .kind) ≡ false → (start : ℕ) (bs : Names) (post : List Entry) → Run es start bs [] (n ∷ post) → Run es (suc start) bs [] post × (names (n .kind) ≡ true → getD refs start 0 ≡ reference declared bs (tokenOf n))
+  pub entry-goes : (n : Entry) → binds (n .kind) ≡ false → ends (n .kind) ≡ false → (start : ℕ) (bs : Names) (post : List Entry) → Run es start bs [] (n ∷ post)
+      → Run es (suc start) bs [] post × (names (n .kind) ≡ true → getD refs start 0 ≡ reference declared bs (tokenOf n))
   entry-goes n x y start bs post r =
       let d = run-one es start bs n post (record { here = r .here; opened = r .opened }) in
       (record { here = d .2 .here; opened = d .2 .opened ∙ open-kept bs n x y }, λ z. value-at start bs n post r z ∙ ap (λ u. reference declared u (tokenOf n)) (open-kept bs n x y))

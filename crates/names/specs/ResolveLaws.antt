@@ -42,7 +42,20 @@ use Rattle.names.specs.declared.Naming.the-variants.{Named, Refused}
 -- the tree's entries, its names numbered
 abbrev pub walkable : {text w ids : List ℕ} {count entries : ℕ} {x : Spec} → Stored text w count entries x → Interned (tokens text) count ids → maxTokens ≤ length ids → Walkable w ids entries
 walkable {text} {count = count} {x = x} s i r =
-    record { text = text; count = count; es = outline x; lexed = s .lexed; total = s .total; few = s .few; stored = s .stored; named = names-read (tokens text) (s .read); balanced = balanced-outline x; interned = i; room = r }
+    record {
+      text = text;
+      count = count;
+      es = outline x;
+      lexed = s .lexed;
+      total = s .total;
+      few = s .few;
+      stored = s .stored;
+      named = names-read (tokens text) (s .read);
+      balanced = balanced-outline
+          x;
+      interned = i;
+      room = r;
+    }
 
 -- a table over the spellings of a text that holds no place
 pub record Blank (text table : List ℕ) : Type 0 where
@@ -84,7 +97,8 @@ module _ {w ids : List ℕ} {entries : ℕ} (h : Walkable w ids entries) where
   first-visible = refl
 
   -- the walk begins
-  pub walk-begins : {seen table found stack refs : List ℕ} {place count rest : ℕ} → Met h Kind.signal 0 seen place → Numbered h entries table found count rest → 3 * entries ≤ length stack → maxTokens ≤ length refs → Walking h (lastFirst all) 0 seen table stack refs 0 noPlace noPlace
+  pub walk-begins : {seen table found stack refs : List ℕ} {place count rest : ℕ} → Met h Kind.signal 0 seen place → Numbered h entries table found count rest → 3 * entries ≤ length stack
+      → maxTokens ≤ length refs → Walking h (lastFirst all) 0 seen table stack refs 0 noPlace noPlace
   unfolding openBefore visibleBefore reference
   walk-begins {table = table} m n a b =
       record {
@@ -197,12 +211,18 @@ module _ {text w ids : List ℕ} {count entries : ℕ} {x : Spec} (st : Stored t
               (record { says = ap₂ (λ o u. refuseAt 6 o (refuseAt 7 u (refuseAt 8 (tooMany x) (Done x)))) (not-visible ∙ place-none p lp) (meets ∙ place-some b lb) })
           go (inr lp) (inr lb) (inl lc) =
               at (Refused 8 place) (answer-many p b c place lp lb lc)
-              (record { says = ap₂ (λ o u. refuseAt 6 o (refuseAt 7 u (refuseAt 8 (tooMany x) (Done x)))) (not-visible ∙ place-none p lp) (meets ∙ place-none b lb) ∙ ap (λ o. refuseAt 8 o (Done x)) (too-many-some lc) })
+              (record {
+                says = ap₂ (λ o u. refuseAt 6 o (refuseAt 7 u (refuseAt 8 (tooMany x) (Done x)))) (not-visible ∙ place-none p lp) (meets ∙ place-none b lb) ∙ ap (λ o. refuseAt 8 o (Done x))
+                    (too-many-some lc);
+              })
           go (inr lp) (inr lb) (inr lc) =
               at (Named c) (answer-named p b c place lp lb lc)
               (record {
-                says =
-                    (ap₂ (λ o u. refuseAt 6 o (refuseAt 7 u (refuseAt 8 (tooMany x) (Done x)))) (not-visible ∙ place-none p lp) (meets ∙ place-none b lb) ∙ ap (λ o. refuseAt 8 o (Done x)) (too-many-none lc), resolved lp (omega arith) lc);
+                says = (
+                  ap₂ (λ o u. refuseAt 6 o (refuseAt 7 u (refuseAt 8 (tooMany x) (Done x)))) (not-visible ∙ place-none p lp) (meets ∙ place-none b lb) ∙ ap (λ o. refuseAt 8 o (Done x))
+                      (too-many-none lc),
+                  resolved lp (omega arith) lc,
+                );
               })
 
 -- an array of zeros is as long as it is

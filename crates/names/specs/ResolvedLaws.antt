@@ -32,7 +32,8 @@ module _ {x : Spec} {refs found : List ℕ} {n : ℕ} (r : Resolved x refs found
   pub resolved-expr : (e : Expr) (start : ℕ) (bs : Names) (post : List Entry) → Run (outline x) start bs (flat e) post → Gone (outline x) refs (declaredNames x) (r .refers) start bs e post
   resolved-expr = expr-goes (outline x) refs (declaredNames x) (r .refers)
 
-  pub resolved-entry : (m : Entry) → binds (m .kind) ≡ false → ends (m .kind) ≡ false → (start : ℕ) (bs : Names) (post : List Entry) → Run (outline x) start bs [] (m ∷ post) → Run (outline x) (suc start) bs [] post × (names (m .kind) ≡ true → getD refs start 0 ≡ reference (declaredNames x) bs (tokenOf m))
+  pub resolved-entry : (m : Entry) → binds (m .kind) ≡ false → ends (m .kind) ≡ false → (start : ℕ) (bs : Names) (post : List Entry) → Run (outline x) start bs [] (m ∷ post)
+      → Run (outline x) (suc start) bs [] post × (names (m .kind) ≡ true → getD refs start 0 ≡ reference (declaredNames x) bs (tokenOf m))
   resolved-entry = entry-goes (outline x) refs (declaredNames x) (r .refers)
 
 -- the entry that declares the name of a spelling
@@ -63,7 +64,8 @@ pub number-apart : (ns : Names) (a b : Token) → visible ns a ≡ true → visi
 number-apart [] a b v w e = absurd (false≢true v)
 number-apart (n ∷ ns) a b v w e = go (same (n .text) (a .text)) (same (n .text) (b .text)) refl refl v w (number-apart ns a b)
   where
-    go : (p q : Bool) → same (n .text) (a .text) ≡ p → same (n .text) (b .text) ≡ q → (p || visible ns a) ≡ true → (q || visible ns b) ≡ true → (visible ns a ≡ true → visible ns b ≡ true → numberIn ns a ≡ numberIn ns b → a .text ≡ b .text) → a .text ≡ b .text
+    go : (p q : Bool) → same (n .text) (a .text) ≡ p → same (n .text) (b .text) ≡ q → (p || visible ns a) ≡ true → (q || visible ns b) ≡ true
+        → (visible ns a ≡ true → visible ns b ≡ true → numberIn ns a ≡ numberIn ns b → a .text ≡ b .text) → a .text ≡ b .text
     go true true x y f g ih = sym (same-equal (n .text) (a .text) x) ∙ same-equal (n .text) (b .text) y
     go true false x y f g ih = absurd (let s = number-same n ns a x in let o = number-other n ns b y in let l = number-below ns b g in omega arith)
     go false true x y f g ih = absurd (let o = number-other n ns a x in let s = number-same n ns b y in let l = number-below ns a f in omega arith)

@@ -4,7 +4,45 @@ use mathlib.Core.Bool.{Bool, true, false, not, _&&_, _||_}
 use mathlib.Core.Path.{_≡_, refl}
 use lib.Dec.{eqb, leb}
 use Rattle.node.specs.Operators.{Not, X, G, F, And, Or, Implies, Iff, U, R, W}
-use Rattle.language.specs.Operators.{Plus, Minus, Times, Divide, Modulo, Size, Min, Max, Cup, Cap, Without, Equal, Unequal, Less, AtMost, Greater, AtLeast, Big, BigSum, BigProduct, BigCap, BigCup, BigAnd, BigOr, Window, FinallyIn, GloballyIn, Infix, Calculates, Combines, Compares, Membership, Connects, Prefix, Measures, WidthOf, Applies}
+use Rattle.language.specs.Operators.{
+  Plus,
+  Minus,
+  Times,
+  Divide,
+  Modulo,
+  Size,
+  Min,
+  Max,
+  Cup,
+  Cap,
+  Without,
+  Equal,
+  Unequal,
+  Less,
+  AtMost,
+  Greater,
+  AtLeast,
+  Big,
+  BigSum,
+  BigProduct,
+  BigCap,
+  BigCup,
+  BigAnd,
+  BigOr,
+  Window,
+  FinallyIn,
+  GloballyIn,
+  Infix,
+  Calculates,
+  Combines,
+  Compares,
+  Membership,
+  Connects,
+  Prefix,
+  Measures,
+  WidthOf,
+  Applies,
+}
 use Rattle.entries.specs.Kinds as Kind
 
 -- a name, or a bus that is indexed; the enumeration of a bus is a name too

@@ -68,7 +68,8 @@ module _ (used bound : Names → Token → Option ℕ) where
       ∙ pick (ends (n .kind)) _ _ (q .is-end)))
 
   -- the name of a big operator
-  scan-bind : (ns : Names) (further : Bool) (i : Token) (size : ℕ) (es : List Entry) → places ns (record { kind = Kind.binder further; token = some i; size = size } ∷ es) ≡ first (bound ns i) (places (i ∷ ns) es)
+  scan-bind : (ns : Names) (further : Bool) (i : Token) (size : ℕ) (es : List Entry)
+      → places ns (record { kind = Kind.binder further; token = some i; size = size } ∷ es) ≡ first (bound ns i) (places (i ∷ ns) es)
   unfolding scan here after
   scan-bind ns false i size es = refl
   scan-bind ns true i size es = refl
@@ -83,13 +84,15 @@ module _ (used bound : Names → Token → Option ℕ) where
       ap (places ns) (append-assoc (flat a) (flat b) es) ∙ f (flat b ++ es) ∙ ap (first (walk used bound ns a)) (g es)
       ∙ sym (first-group (walk used bound ns a) (walk used bound ns b) (places ns es))
 
-  three : (ns : Names) (a b c : Expr) → Follows ns a → Follows ns b → Follows ns c → (es : List Entry) → places ns ((flat a ++ (flat b ++ flat c)) ++ es) ≡ first (first (walk used bound ns a) (first (walk used bound ns b) (walk used bound ns c))) (places ns es)
+  three : (ns : Names) (a b c : Expr) → Follows ns a → Follows ns b → Follows ns c → (es : List Entry)
+      → places ns ((flat a ++ (flat b ++ flat c)) ++ es) ≡ first (first (walk used bound ns a) (first (walk used bound ns b) (walk used bound ns c))) (places ns es)
   three ns a b c f g h es =
       ap (places ns) (append-assoc (flat a) (flat b ++ flat c) es) ∙ f ((flat b ++ flat c) ++ es) ∙ ap (first (walk used bound ns a)) (then ns b c g h es)
       ∙ sym (first-group (walk used bound ns a) (first (walk used bound ns b) (walk used bound ns c)) (places ns es))
 
   -- a quiet entry behind its operands
-  wrapped : (ns : Names) (e : Expr) (k : ℕ) (t : Option Token) (ops : List Entry) → Quiet k → ((es : List Entry) → places ns (ops ++ es) ≡ first (walk used bound ns e) (places ns es)) → (es : List Entry) → places ns (under k t ops ++ es) ≡ first (walk used bound ns e) (places ns es)
+  wrapped : (ns : Names) (e : Expr) (k : ℕ) (t : Option Token) (ops : List Entry) → Quiet k → ((es : List Entry) → places ns (ops ++ es) ≡ first (walk used bound ns e) (places ns es))
+      → (es : List Entry) → places ns (under k t ops ++ es) ≡ first (walk used bound ns e) (places ns es)
   wrapped ns e k t ops q f es =
       let own : Entry = record { kind = k; token = t; size = suc (length ops) } in
       ap (places ns) (append-assoc ops (own ∷ []) es) ∙ f (own ∷ es) ∙ ap (first (walk used bound ns e)) (scan-quiet ns own es q)
@@ -117,10 +120,12 @@ module _ (used bound : Names → Token → Option ℕ) where
   walk-flat ns (Prefixed t o e) es = wrapped ns (Prefixed t o e) (Kind.before o) (some t) (flat e) (quiet-before o) (walk-flat ns e) es
   walk-flat ns (Joined t o a b) es = wrapped ns (Joined t o a b) (Kind.joining o) (some t) (flat a ++ flat b) (quiet-joining o) (then ns a b (walk-flat ns a) (walk-flat ns b)) es
   walk-flat ns (Nexts t n e) es = wrapped ns (Nexts t n e) Kind.nexts (some t) (flat n ++ flat e) (silent refl refl refl refl) (then ns n e (walk-flat ns n) (walk-flat ns e)) es
-  walk-flat ns (InWindow t o n m e) es = wrapped ns (InWindow t o n m e) (Kind.window o) (some t) (flat n ++ (flat m ++ flat e)) (quiet-window o) (three ns n m e (walk-flat ns n) (walk-flat ns m) (walk-flat ns e)) es
+  walk-flat ns (InWindow t o n m e) es = wrapped ns (InWindow t o n m e) (Kind.window o) (some t) (flat n ++ (flat m ++ flat e)) (quiet-window o)
+      (three ns n m e (walk-flat ns n) (walk-flat ns m) (walk-flat ns e)) es
   walk-flat ns (Each t o further i s e) es = each ns t o further i s e (walk-flat ns s) (walk-flat (i ∷ ns) e) es
   walk-flat ns (Between t l h a b) es = wrapped ns (Between t l h a b) (Kind.between l h) (some t) (flat a ++ flat b) (quiet-between l h) (then ns a b (walk-flat ns a) (walk-flat ns b)) es
   walk-flat ns (Listed t e) es = wrapped ns (Listed t e) Kind.listed (some t) (flat e) (silent refl refl refl refl) (walk-flat ns e) es
   walk-flat ns Empty es = refl
   walk-flat ns (Element e d) es = wrapped ns (Element e d) Kind.element none (flat e ++ flat d) (silent refl refl refl refl) (then ns e d (walk-flat ns e) (walk-flat ns d)) es
-  walk-flat ns (Range t x y z) es = wrapped ns (Range t x y z) Kind.range (some t) (flat x ++ (flat y ++ flat z)) (silent refl refl refl refl) (three ns x y z (walk-flat ns x) (walk-flat ns y) (walk-flat ns z)) es
+  walk-flat ns (Range t x y z) es = wrapped ns (Range t x y z) Kind.range (some t) (flat x ++ (flat y ++ flat z)) (silent refl refl refl refl)
+      (three ns x y z (walk-flat ns x) (walk-flat ns y) (walk-flat ns z)) es

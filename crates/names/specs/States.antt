@@ -28,5 +28,6 @@ pub record Begins (w ids : List ℕ) (entries : ℕ) (seen table stack refs : Li
   pub walking : Walking walkable declared 0 seen table stack refs 0 noPlace noPlace
 
 -- the same entry by another number
-pub walking-at : {w ids seen table stack refs : List ℕ} {entries k d depth p q : ℕ} {h : Walkable w ids entries} {declared : Names} → Walking h declared k seen table stack refs depth p q → k ≡ d → Walking h declared d seen table stack refs depth p q
+pub walking-at : {w ids seen table stack refs : List ℕ} {entries k d depth p q : ℕ} {h : Walkable w ids entries} {declared : Names} → Walking h declared k seen table stack refs depth p q → k ≡ d
+    → Walking h declared d seen table stack refs depth p q
 walking-at s e = rw (sym e) s

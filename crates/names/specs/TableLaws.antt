@@ -110,7 +110,8 @@ hidden-here v at l = sym (leave (ltb v noPlace) noPlace at (le-ltb v noPlace l))
 
 -- A table after a store at a name's number: what the names of its spelling have, and the others keep.
 module _ {ts : List Token} {count : ℕ} {ids : List ℕ} (known : Interned ts count ids) (i : ℕ) (l : i < count) (name : IsName ts i) where
-  pub shows-set : {table : List ℕ} {m m′ : Token → ℕ} (v : ℕ) → Shows ts count ids table m → ((t : Token) → same (tokenAt ts i .text) (t .text) ≡ true → m′ t ≡ v) → ((t : Token) → same (tokenAt ts i .text) (t .text) ≡ false → m′ t ≡ m t) → Shows ts count ids (set table (getD ids i 0) v) m′
+  pub shows-set : {table : List ℕ} {m m′ : Token → ℕ} (v : ℕ) → Shows ts count ids table m → ((t : Token) → same (tokenAt ts i .text) (t .text) ≡ true → m′ t ≡ v)
+      → ((t : Token) → same (tokenAt ts i .text) (t .text) ≡ false → m′ t ≡ m t) → Shows ts count ids (set table (getD ids i 0) v) m′
   shows-set {table} {m} {m′} v s f g =
       record { room = (let a = s .room in let b = length-set table (getD ids i 0) v in omega arith); holds = λ j k y. holds j k y (eqb (getD ids i 0) (getD ids j 0)) refl }
     where
@@ -128,7 +129,8 @@ module _ {ts : List Token} {count : ℕ} {ids : List ℕ} (known : Interned ts c
   own = tokenAt ts i
 
   -- one name more, and one name less
-  pub shows-push : {table : List ℕ} (ns : Names) (v : ℕ) → Shows ts count ids table (least ns) → v ≡ min (getD table (getD ids i 0) 0) (own .at) → Shows ts count ids (set table (getD ids i 0) v) (least (own ∷ ns))
+  pub shows-push : {table : List ℕ} (ns : Names) (v : ℕ) → Shows ts count ids table (least ns) → v ≡ min (getD table (getD ids i 0) 0) (own .at)
+      → Shows ts count ids (set table (getD ids i 0) v) (least (own ∷ ns))
   shows-push ns v s e =
       shows-set v s
       (λ t q. let a = least-same own ns t q in let b = least-text ns own t (same-equal (own .text) (t .text) q) in let d = s .holds i l name in omega arith)

@@ -64,8 +64,18 @@ module _ {w ids : List ℕ} {entries : ℕ} (h : Walkable w ids entries) (declar
   open-kept stack stack′ ns [] f o = tt
   open-kept stack stack′ [] (b ∷ bs) f o = o
   open-kept stack stack′ (n ∷ ns) (b ∷ bs) f o =
-      let g = o .1 in
-      (o .0, record { index = g .index; name = g .name; own = f (3 * length bs) (omega arith) ∙ g .own; place = f (3 * length bs + 1) (omega arith) ∙ g .place; refers = f (3 * length bs + 2) (omega arith) ∙ g .refers }, open-kept stack stack′ ns bs (λ i l. f i (omega arith)) (o .2))
+      let g = o .1 in (
+        o .0,
+        record {
+          index = g .index;
+          name = g .name;
+          own = f (3 * length bs) (omega arith) ∙ g .own;
+          place = f (3 * length bs + 1) (omega arith) ∙ g .place;
+          refers = f (3 * length bs + 2)
+              (omega arith) ∙ g .refers;
+        },
+        open-kept stack stack′ ns bs (λ i l. f i (omega arith)) (o .2),
+      )
 
   -- the innermost
   pub record Innermost (stack : List ℕ) (ns bs : Names) : Type 0 where
@@ -82,7 +92,8 @@ module _ {w ids : List ℕ} {entries : ℕ} (h : Walkable w ids entries) (declar
   innermost stack [] (b ∷ bs) o l = absurd o
   innermost stack (n ∷ ns) (b ∷ bs) o l = record { name = b; visible = ns; around = bs; visible-is = ap (λ u. u ∷ ns) (o .0); open-is = refl; held = o .1; outside = o .2 }
 
-  module _ (k : ℕ) (l : k < entries) {kind : ℕ} (said : kind ≡ kindOf (wordAt w (firstEntry + k))) {seen table stack refs : List ℕ} {depth p q : ℕ} (s : Walking h declared k seen table stack refs depth p q) where
+  module _ (k : ℕ) (l : k < entries) {kind : ℕ} (said : kind ≡ kindOf (wordAt w (firstEntry + k))) {seen table stack refs : List ℕ} {depth p q : ℕ}
+      (s : Walking h declared k seen table stack refs depth p q) where
     abbrev own : Entry
     own = entryOf (h .es) k
 
@@ -93,7 +104,8 @@ module _ {w ids : List ℕ} {entries : ℕ} (h : Walkable w ids entries) (declar
     bs = openBefore (h .es) k
 
     -- a big operator's name, which may meet one that is visible
-    module _ {j at id v x : ℕ} (y : binds kind ≡ true) (ej : j ≡ indexOf (wordAt w (firstEntry + k))) (ea : at ≡ offsetIn (wordAt w j)) (ei : id ≡ getD ids j 0) (ev : v ≡ getD seen id 0) (ex : x ≡ getD table id 0) where
+    module _ {j at id v x : ℕ} (y : binds kind ≡ true) (ej : j ≡ indexOf (wordAt w (firstEntry + k))) (ea : at ≡ offsetIn (wordAt w j)) (ei : id ≡ getD ids j 0) (ev : v ≡ getD seen id 0)
+        (ex : x ≡ getD table id 0) where
       role-of : Role (own .kind) false true false false
       role-of = binds-only (own .kind) (ap binds (sym (own-kind h k l said)) ∙ y)
 
@@ -140,7 +152,8 @@ module _ {w ids : List ℕ} {entries : ℕ} (h : Walkable w ids entries) (declar
             refers = ap (λ m. getD opening (3 * m + 2) 0) (sym d) ∙ opening-refers ∙ own-held h k l said (s .points) name ei ex;
           }
 
-      pub walk-bind : {v′ r q′ : ℕ} → v′ ≡ min v at → r ≡ maxNames + depth → q′ ≡ min q (max v at) → Walking h declared (k + 1) (set seen id v′) (set table id r) opening (set refs k r) (depth + 1) p q′
+      pub walk-bind : {v′ r q′ : ℕ} → v′ ≡ min v at → r ≡ maxNames + depth → q′ ≡ min q (max v at)
+          → Walking h declared (k + 1) (set seen id v′) (set table id r) opening (set refs k r) (depth + 1) p q′
       walk-bind {v′} {r} {q′} evs er eq =
           let c = place-there h k l name in
           let t = tokenOf own in
@@ -153,14 +166,18 @@ module _ {w ids : List ℕ} {entries : ℕ} (h : Walkable w ids entries) (declar
           let seen-more = shows-push (h .interned) j (name .inside) (name .name) ns v′ (s .shown) (omega arith) in
           let own-token = tokenAt (tokens (h .text)) j in
           let table-more : Table h (set table (getD ids j 0) r) (reference declared (own-token ∷ bs)) =
-          shows-set (h .interned) j (name .inside) (name .name) r (s .points) (λ u e. let z = reference-same declared own-token bs u e in omega arith) (λ u e. reference-other declared own-token bs u e) in
+          shows-set (h .interned) j (name .inside) (name .name) r (s .points) (λ u e. let z = reference-same declared own-token bs u e in omega arith)
+          (λ u e. reference-other declared own-token bs u e) in
           let small-depth : depth + 1 ≤ k + 1 = (let m = s .small in omega arith) in
           walk-on h declared k l s
           (record {
             placed = subst (All Placed) vis (c .1, s .placed);
-            shown = subst (λ i. Table h (set seen i v′) (least (after ns own))) (sym ei) (subst (λ u. Table h (set seen (getD ids j 0) v′) (least u)) (ap (λ u. u ∷ ns) (sym (name .token)) ∙ vis) seen-more);
-            points = subst (λ i. Table h (set table i r) (reference declared (openAfter bs own))) (sym ei) (subst (λ u. Table h (set table (getD ids j 0) r) (reference declared u)) (ap (λ u. u ∷ bs) (sym (name .token)) ∙ o) table-more);
-            opened = subst (λ u. Open h declared opening u (openAfter bs own)) vis (subst (Open h declared opening (t ∷ ns)) o (refl, held, open-kept stack opening ns bs (λ i m. opening-below i (omega arith)) (s .opened)));
+            shown = subst (λ i. Table h (set seen i v′) (least (after ns own))) (sym ei)
+                (subst (λ u. Table h (set seen (getD ids j 0) v′) (least u)) (ap (λ u. u ∷ ns) (sym (name .token)) ∙ vis) seen-more);
+            points = subst (λ i. Table h (set table i r) (reference declared (openAfter bs own))) (sym ei)
+                (subst (λ u. Table h (set table (getD ids j 0) r) (reference declared u)) (ap (λ u. u ∷ bs) (sym (name .token)) ∙ o) table-more);
+            opened = subst (λ u. Open h declared opening u (openAfter bs own)) vis
+                (subst (Open h declared opening (t ∷ ns)) o (refl, held, open-kept stack opening ns bs (λ i m. opening-below i (omega arith)) (s .opened)));
             deep = (let z : length (t ∷ bs) ≡ length (openAfter bs own) = ap length o in omega arith);
             small = small-depth;
             balanced = subst (λ m. Balanced m (drop (k + 1) (h .es))) (sym (add-one depth)) (after-binder depth own (drop (k + 1) (h .es)) (role-of .bind-is) (balanced-own h k l said declared s));
@@ -168,7 +185,8 @@ module _ {w ids : List ℕ} {entries : ℕ} (h : Walkable w ids entries) (declar
             meets =
                 ap placeOf (eq ∙ ap₂ (λ a b. min q (max a b)) hv (ea ∙ c .0)) ∙ sym (place-min q (max (least ns t) (t .at)))
                 ∙ ap (first (placeOf q)) (sym (again-least ns t (s .placed) (c .1)) ∙ sym (here-role own role-of nowhere again ns));
-            refers = λ _. getD-set-same refs k r 0 (let a = s .refs-room in let m = h .few in omega arith) ∙ er ∙ ap (λ m. maxNames + m) d ∙ sym (reference-same declared t bs t (same-refl (t .text))) ∙ ap (λ m. reference declared m t) o;
+            refers = λ _. getD-set-same refs k r 0 (let a = s .refs-room in let m = h .few in omega arith) ∙ er ∙ ap (λ m. maxNames + m) d ∙ sym (reference-same declared t bs t (same-refl (t .text)))
+                ∙ ap (λ m. reference declared m t) o;
             others = λ i m. getD-set-other refs k i r 0 (λ e. omega arith);
             stack-room = (let a = s .stack-room in let z = opening-length in omega arith);
             refs-room = (let m = s .refs-room in let z = length-set refs k r in omega arith);
@@ -201,7 +219,8 @@ module _ {w ids : List ℕ} {entries : ℕ} (h : Walkable w ids entries) (declar
       pub end-inside : {id : ℕ} → id ≡ getD stack (3 * (depth - 1)) 0 → id < top ids
       end-inside ei = let e = held-own ei in let f = below-top ids (last .held .index) in omega arith
 
-      pub walk-end : {id v x : ℕ} → id ≡ getD stack (3 * (depth - 1)) 0 → v ≡ getD stack (3 * (depth - 1) + 1) 0 → x ≡ getD stack (3 * (depth - 1) + 2) 0 → Walking h declared (k + 1) (set seen id v) (set table id x) stack refs (depth - 1) p q
+      pub walk-end : {id v x : ℕ} → id ≡ getD stack (3 * (depth - 1)) 0 → v ≡ getD stack (3 * (depth - 1) + 1) 0 → x ≡ getD stack (3 * (depth - 1) + 2) 0
+          → Walking h declared (k + 1) (set seen id v) (set table id x) stack refs (depth - 1) p q
       walk-end {id} {v} {x} ei ev ex =
           let n = last .held .name in
           let j = last .held .index in
@@ -232,7 +251,8 @@ module _ {w ids : List ℕ} {entries : ℕ} (h : Walkable w ids entries) (declar
             balanced = before .1;
             hides = sym (first-none (placeOf p)) ∙ ap (first (placeOf p)) (sym (here-role own end-role hidden nowhere ns));
             meets = sym (first-none (placeOf q)) ∙ ap (first (placeOf q)) (sym (here-role own end-role nowhere again ns));
-            refers = λ z. absurd (false≢true (sym (neither (uses (own .kind) || binds (own .kind)) (declares Kind.parameter (own .kind)) (neither (uses (own .kind)) (binds (own .kind)) (end-role .use-is) (end-role .bind-is)) (end-role .declare-is)) ∙ z));
+            refers = λ z. absurd (false≢true (sym (neither (uses (own .kind) || binds (own .kind)) (declares Kind.parameter (own .kind))
+                (neither (uses (own .kind)) (binds (own .kind)) (end-role .use-is) (end-role .bind-is)) (end-role .declare-is)) ∙ z));
             others = λ i m. refl;
             stack-room = s .stack-room;
             refs-room = s .refs-room;

@@ -49,7 +49,10 @@ module _ {w ids : List ℕ} {entries : ℕ} (h : Walkable w ids entries) (k : �
     balanced-own = subst (Balanced depth) (rest h declared k l) (s .balanced)
 
     -- an entry that changes neither the visible nor the open names
-    unchanged : {p′ : ℕ} {refs′ : List ℕ} {u : Bool} → Role (own .kind) u false false false → placeOf p′ ≡ first (placeOf p) (elim u [ true ↦ hidden (visibleAt h declared k) (tokenOf own) | false ↦ none ]) → (names (own .kind) ≡ true → getD refs′ k 0 ≡ reference declared (openBefore (h .es) k) (tokenOf own)) → ((i : ℕ) → i < k → getD refs′ i 0 ≡ getD refs i 0) → length refs′ ≡ length refs → Walking h declared (k + 1) seen table stack refs′ depth p′ q
+    unchanged : {p′ : ℕ} {refs′ : List ℕ} {u : Bool} → Role (own .kind) u false false false
+        → placeOf p′ ≡ first (placeOf p) (elim u [ true ↦ hidden (visibleAt h declared k) (tokenOf own) | false ↦ none ])
+        → (names (own .kind) ≡ true → getD refs′ k 0 ≡ reference declared (openBefore (h .es) k) (tokenOf own)) → ((i : ℕ) → i < k → getD refs′ i 0 ≡ getD refs i 0) → length refs′ ≡ length refs
+        → Walking h declared (k + 1) seen table stack refs′ depth p′ q
     unchanged {p′} {refs′} {u} r ep f g z =
         let v : visibleAt h declared k ≡ _ = sym (after-role own r (visibleAt h declared k)) in
         let o : openBefore (h .es) k ≡ _ = sym (open-role own r (openBefore (h .es) k)) in
@@ -78,11 +81,13 @@ module _ {w ids : List ℕ} {entries : ℕ} (h : Walkable w ids entries) (k : �
     walk-quiet a b c d =
         let r : Role (own .kind) false false false false = subst (λ i. Role i false false false false) own-kind (record { use-is = a; bind-is = b; end-is = c; declare-is = d }) in
         unchanged r (sym (first-none (placeOf p)))
-        (λ y. absurd (false≢true (sym (neither (uses (own .kind) || binds (own .kind)) (declares Kind.parameter (own .kind)) (neither (uses (own .kind)) (binds (own .kind)) (r .use-is) (r .bind-is)) (r .declare-is)) ∙ y)))
+        (λ y. absurd (false≢true (sym (neither (uses (own .kind) || binds (own .kind)) (declares Kind.parameter (own .kind)) (neither (uses (own .kind)) (binds (own .kind)) (r .use-is) (r .bind-is))
+        (r .declare-is)) ∙ y)))
         (λ i m. refl) refl
 
     -- a name that is used: hidden if no name of its spelling is visible
-    pub walk-use : {j at id v x p′ : ℕ} → uses kind ≡ true → j ≡ indexOf (wordAt w (firstEntry + k)) → at ≡ offsetIn (wordAt w j) → id ≡ getD ids j 0 → v ≡ getD seen id 0 → x ≡ getD table id 0 → p′ ≡ min p (hiddenPlace v at) → Walking h declared (k + 1) seen table stack (set refs k x) depth p′ q
+    pub walk-use : {j at id v x p′ : ℕ} → uses kind ≡ true → j ≡ indexOf (wordAt w (firstEntry + k)) → at ≡ offsetIn (wordAt w j) → id ≡ getD ids j 0 → v ≡ getD seen id 0 → x ≡ getD table id 0
+        → p′ ≡ min p (hiddenPlace v at) → Walking h declared (k + 1) seen table stack (set refs k x) depth p′ q
     walk-use {j} {at} {id} {v} {x} {p′} y ej ea ei ev ex ep =
         let n = own-name (uses-names kind y) ej in
         let c = place-there h k l n in
@@ -97,7 +102,8 @@ module _ {w ids : List ℕ} {entries : ℕ} (h : Walkable w ids entries) (k : �
         (λ i m. getD-set-other refs k i x 0 (λ e. omega arith)) (length-set refs k x)
 
     -- a name that is declared, outside every big operator
-    pub walk-declare : {j at id v x v′ : ℕ} → declares Kind.parameter kind ≡ true → j ≡ indexOf (wordAt w (firstEntry + k)) → at ≡ offsetIn (wordAt w j) → id ≡ getD ids j 0 → v ≡ getD seen id 0 → x ≡ getD table id 0 → v′ ≡ min v at → Walking h declared (k + 1) (set seen id v′) table stack (set refs k x) depth p q
+    pub walk-declare : {j at id v x v′ : ℕ} → declares Kind.parameter kind ≡ true → j ≡ indexOf (wordAt w (firstEntry + k)) → at ≡ offsetIn (wordAt w j) → id ≡ getD ids j 0 → v ≡ getD seen id 0
+        → x ≡ getD table id 0 → v′ ≡ min v at → Walking h declared (k + 1) (set seen id v′) table stack (set refs k x) depth p q
     walk-declare {j} {at} {id} {v} {x} {v′} y ej ea ei ev ex ep =
         let n = own-name (declares-names kind y) ej in
         let c = place-there h k l n in

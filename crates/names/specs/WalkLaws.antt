@@ -53,7 +53,9 @@ module _ {w ids : List ℕ} {entries : ℕ} (h : Walkable w ids entries) (declar
   rest = rest-at (h .es) k (let t = h .total in omega arith) ∙ ap (λ d. own ∷ drop d (h .es)) (sym (add-one k))
 
   -- what is found with this entry
-  found : (used bound : Names → Token → Option ℕ) (p q : ℕ) → scan used bound (visibleAt h declared 0) (h .es) ≡ first (placeOf p) (scan used bound (visibleAt h declared k) (drop k (h .es))) → placeOf q ≡ first (placeOf p) (here used bound (visibleAt h declared k) own) → scan used bound (visibleAt h declared 0) (h .es) ≡ first (placeOf q) (scan used bound (visibleAt h declared (k + 1)) (drop (k + 1) (h .es)))
+  found : (used bound : Names → Token → Option ℕ) (p q : ℕ) → scan used bound (visibleAt h declared 0) (h .es) ≡ first (placeOf p) (scan used bound (visibleAt h declared k) (drop k (h .es)))
+      → placeOf q ≡ first (placeOf p) (here used bound (visibleAt h declared k) own)
+      → scan used bound (visibleAt h declared 0) (h .es) ≡ first (placeOf q) (scan used bound (visibleAt h declared (k + 1)) (drop (k + 1) (h .es)))
   found used bound p q e f =
       e
       ∙ ap (first (placeOf p)) (ap (scan used bound (visibleAt h declared k)) rest ∙ scan-one used bound (visibleAt h declared k) own (drop (k + 1) (h .es)))
@@ -61,22 +63,24 @@ module _ {w ids : List ℕ} {entries : ℕ} (h : Walkable w ids entries) (declar
       ∙ ap₂ first (sym f) (ap (λ ns. scan used bound ns (drop (k + 1) (h .es))) (sym next-visible))
 
   -- the state behind it
-  pub record Next (seen table stack refs : List ℕ) (depth p q : ℕ) {seen₀ table₀ stack₀ refs₀ : List ℕ} {depth₀ p₀ q₀ : ℕ} (s : Walking h declared k seen₀ table₀ stack₀ refs₀ depth₀ p₀ q₀) : Type 0 where
-    pub placed : All Placed visible-next
-    pub shown : Table h seen (least visible-next)
-    pub points : Table h table (reference declared open-next)
-    pub opened : Open h declared stack visible-next open-next
-    pub deep : depth ≡ length open-next
-    pub small : depth ≤ k + 1
-    pub balanced : Balanced depth (drop (k + 1) (h .es))
-    pub hides : placeOf p ≡ first (placeOf p₀) (here hidden nowhere (visibleAt h declared k) own)
-    pub meets : placeOf q ≡ first (placeOf q₀) (here nowhere again (visibleAt h declared k) own)
-    pub refers : names (own .kind) ≡ true → getD refs k 0 ≡ reference declared open-next (tokenOf own)
-    pub others : (i : ℕ) → i < k → getD refs i 0 ≡ getD refs₀ i 0
-    pub stack-room : 3 * entries ≤ length stack
-    pub refs-room : maxTokens ≤ length refs
+  pub record Next (seen table stack refs : List ℕ) (depth p q : ℕ) {seen₀ table₀ stack₀ refs₀ : List ℕ} {depth₀ p₀ q₀ : ℕ} (s : Walking h declared k seen₀ table₀ stack₀ refs₀ depth₀ p₀ q₀) : Type 0
+    where
+      pub placed : All Placed visible-next
+      pub shown : Table h seen (least visible-next)
+      pub points : Table h table (reference declared open-next)
+      pub opened : Open h declared stack visible-next open-next
+      pub deep : depth ≡ length open-next
+      pub small : depth ≤ k + 1
+      pub balanced : Balanced depth (drop (k + 1) (h .es))
+      pub hides : placeOf p ≡ first (placeOf p₀) (here hidden nowhere (visibleAt h declared k) own)
+      pub meets : placeOf q ≡ first (placeOf q₀) (here nowhere again (visibleAt h declared k) own)
+      pub refers : names (own .kind) ≡ true → getD refs k 0 ≡ reference declared open-next (tokenOf own)
+      pub others : (i : ℕ) → i < k → getD refs i 0 ≡ getD refs₀ i 0
+      pub stack-room : 3 * entries ≤ length stack
+      pub refs-room : maxTokens ≤ length refs
 
-  pub walk-on : {seen table stack refs seen₀ table₀ stack₀ refs₀ : List ℕ} {depth p q depth₀ p₀ q₀ : ℕ} (s : Walking h declared k seen₀ table₀ stack₀ refs₀ depth₀ p₀ q₀) → Next seen table stack refs depth p q s → Walking h declared (k + 1) seen table stack refs depth p q
+  pub walk-on : {seen table stack refs seen₀ table₀ stack₀ refs₀ : List ℕ} {depth p q depth₀ p₀ q₀ : ℕ} (s : Walking h declared k seen₀ table₀ stack₀ refs₀ depth₀ p₀ q₀)
+      → Next seen table stack refs depth p q s → Walking h declared (k + 1) seen table stack refs depth p q
   walk-on {seen} {table} {stack} {refs} {depth = depth} {p = p} {q = q} {p₀ = p₀} {q₀ = q₀} s n =
       record {
         placed = subst (All Placed) (sym next-visible) (n .placed);

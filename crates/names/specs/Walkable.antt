@@ -77,7 +77,7 @@ all-at P [] k l h = absurd (omega arith)
 all-at P (n ∷ es) zero l h = h .0
 all-at P (n ∷ es) (suc k) l h = all-at P es k (omega arith) (h .1)
 
-stored-at : (w : List ℕ) (ts : List Token) (i : ℕ) (es : List Entry) (k : ℕ) → k < length es → EntriesFrom w ts i es → EntryAt w ts (i + k) (entryOf es k)
+pub stored-at : (w : List ℕ) (ts : List Token) (i : ℕ) (es : List Entry) (k : ℕ) → k < length es → EntriesFrom w ts i es → EntryAt w ts (i + k) (entryOf es k)
 stored-at w ts i [] k l h = absurd (omega arith)
 stored-at w ts i (n ∷ es) zero l h = subst (λ d. EntryAt w ts d n) (omega arith) (h .0)
 stored-at w ts i (n ∷ es) (suc k) l h = subst (λ d. EntryAt w ts d (entryOf es k)) (omega arith) (stored-at w ts (suc i) es k (omega arith) (h .1))

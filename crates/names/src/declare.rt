@@ -3,7 +3,7 @@ use crate::entry::declares;
 use crate::entry::kind_at;
 use crate::entry::place_at;
 use crate::entry::token_at;
-use spellings::trie::wide;
+use basics::u16_usize::wide;
 ghost use mathlib.Core.Path.{_≡_};
 ghost use Prim.Native.Nat.{_+_, _≤_, _<_, min, max};
 ghost use lib.ListN.{length};

@@ -8,11 +8,12 @@ mod walk;
 use crate::declare::NOWHERE;
 use crate::declare::declare;
 use crate::declare::smaller;
-use crate::numbering::MAX_NAMES;
-use crate::numbering::PARAMETER;
 use crate::numbering::Tally;
 use crate::numbering::number_declared;
 use crate::walk::walk_all;
+use entries::kinds;
+use language::limits;
+use node::refusals;
 use spellings::intern::intern;
 ghost use mathlib.Core.Path.{_≡_};
 ghost use Prim.Native.Nat.{_*_, _≤_};
@@ -23,12 +24,6 @@ ghost use Rattle.names.specs.Answering.{answerOf};
 ghost use Rattle.spellings.specs.Interned.{Begun};
 ghost use Rattle.names.specs.ResolveLaws.{Blank};
 ghost use Rattle.names.specs.Resolved.{Stored, TreeStored, Answers};
-
-// The first kind of entry that declares a signal or a bus (crate entries, specs/Kinds).
-const SIGNAL: u32 = 59;
-
-// '8,192 tokens'.
-const TOKENS: usize = 8192;
 
 // The empty spelling, and one node for each byte of the longest text (specs/Trie, maxNodes).
 const NODES: usize = 32769;
@@ -43,12 +38,6 @@ const SHORT_ENTRIES: usize = 1024;
 // What a table holds where no name is: NOWHERE.
 const NO_PLACE: u16 = 65535;
 
-const NOT_VISIBLE: u32 = 6;
-
-const DECLARED_AGAIN: u32 = 7;
-
-const TOO_MANY_NAMES: u32 = 8;
-
 // How many names are declared; or a refusal's number and place.
 pub enum Naming {
     Named(usize),
@@ -59,13 +48,13 @@ fn answer(hidden: u32, again: u32, tally: Tally) -> Naming
     ensures { λ r. ⌜ r ≡ answerOf hidden again (tally .count) (tally .place) ⌝ }
 {
     if hidden < NOWHERE {
-        return Naming::Refused(NOT_VISIBLE, hidden);
+        return Naming::Refused(refusals::NOT_VISIBLE, hidden);
     }
     if again < NOWHERE {
-        return Naming::Refused(DECLARED_AGAIN, again);
+        return Naming::Refused(refusals::DECLARED_AGAIN, again);
     }
-    if tally.count > MAX_NAMES {
-        return Naming::Refused(TOO_MANY_NAMES, tally.place);
+    if tally.count > limits::MAX_NAMES {
+        return Naming::Refused(refusals::TOO_MANY_NAMES, tally.place);
     }
     Naming::Named(tally.count)
 }
@@ -87,12 +76,13 @@ fn resolve_in(
     refs: &mut [u16],
     declared: &mut [u16],
 ) -> Naming
-    requires { ⌜ TreeStored (now text) (now work) count entries × Begun (now text) (now links) (now byte) (now ids) × Blank (now text) (now met) × Blank (now text) (now seen) × Blank (now text) (now table) × (3 * entries ≤ length (now stack)) × (maxTokens ≤ length (now refs)) × (maxNames ≤ length (now declared)) ⌝ }
+    requires { ⌜ TreeStored (now text) (now work) count entries × Begun (now text) (now links) (now byte) (now ids) × Blank (now text) (now met) × Blank (now text) (now seen) × Blank (now text)
+        (now table) × (3 * entries ≤ length (now stack)) × (maxTokens ≤ length (now refs)) × (maxNames ≤ length (now declared)) ⌝ }
     ensures { λ r. ⌜ ((x : Spec) → Stored (now (text .entry)) (now (work .entry)) count entries x → Answers x (now (refs .exit)) (now (declared .exit)) r) ⌝ }
 {
     intern(text, work, count, links, byte, ids);
-    let again = declare(work, ids, entries, PARAMETER, met);
-    declare(work, ids, entries, SIGNAL, seen);
+    let again = declare(work, ids, entries, kinds::PARAMETER, met);
+    declare(work, ids, entries, kinds::SIGNAL, seen);
     let tally = number_declared(work, ids, entries, table, declared);
     let walk = walk_all(work, ids, entries, seen, table, stack, refs);
     answer(walk.hidden, smaller(again, walk.again), tally)
@@ -112,7 +102,7 @@ fn resolve_short(
 {
     let mut links = [0u16; 3 * SHORT_NODES];
     let mut byte = [0u8; SHORT_NODES];
-    let mut ids = [0u16; TOKENS];
+    let mut ids = [0u16; limits::MAX_TOKENS];
     let mut met = [NO_PLACE; SHORT_NODES];
     let mut seen = [NO_PLACE; SHORT_NODES];
     let mut table = [NO_PLACE; SHORT_NODES];
@@ -148,11 +138,11 @@ fn resolve_long(
 {
     let mut links = [0u16; 3 * NODES];
     let mut byte = [0u8; NODES];
-    let mut ids = [0u16; TOKENS];
+    let mut ids = [0u16; limits::MAX_TOKENS];
     let mut met = [NO_PLACE; NODES];
     let mut seen = [NO_PLACE; NODES];
     let mut table = [NO_PLACE; NODES];
-    let mut stack = [0u16; 3 * TOKENS];
+    let mut stack = [0u16; 3 * limits::MAX_TOKENS];
     resolve_in(
         text,
         work,

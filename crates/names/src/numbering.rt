@@ -3,7 +3,9 @@ use crate::entry::declares;
 use crate::entry::kind_at;
 use crate::entry::place_at;
 use crate::entry::token_at;
-use spellings::trie::wide;
+use basics::u16_usize::wide;
+use entries::kinds;
+use language::limits;
 ghost use Prim.Native.Nat.{_+_, _≤_, _<_};
 ghost use lib.ListN.{length};
 ghost use Rattle.language.specs.Limits.{maxNames};
@@ -11,12 +13,6 @@ ghost use Rattle.spellings.specs.Interned.{top};
 ghost use Rattle.names.specs.Tables.{noPlace};
 ghost use Rattle.names.specs.Walkable.{Walkable, Table};
 ghost use Rattle.names.specs.Numbering.{Numbered};
-
-// '256 declared names'.
-pub const MAX_NAMES: usize = 256;
-
-// The first kind of entry that declares a name (crate entries, specs/Kinds).
-pub const PARAMETER: u32 = 54;
 
 // How many names are declared, and where the 257th stands, if there is one.
 pub struct Tally {
@@ -36,10 +32,11 @@ fn number_one(
     declared: &mut [u16],
 ) -> Tally
     requires { ⌜ Walkable (now work) (now ids) entries × (k < entries) × (before .count ≤ k) × (top (now ids) ≤ length (now table)) × (maxNames ≤ length (now declared)) ⌝ }
-    ensures { λ r. ⌜ ((h : Walkable (now (work .entry)) (now (ids .entry)) entries) → Numbered h k (now (table .entry)) (now (declared .entry)) (before .count) (before .place) → Numbered h (k + 1) (now (table .exit)) (now (declared .exit)) (r .count) (r .place)) × (r .count ≤ k + 1) ⌝ }
+    ensures { λ r. ⌜ ((h : Walkable (now (work .entry)) (now (ids .entry)) entries) → Numbered h k (now (table .entry)) (now (declared .entry)) (before .count) (before .place)
+        → Numbered h (k + 1) (now (table .exit)) (now (declared .exit)) (r .count) (r .place)) × (r .count ≤ k + 1) ⌝ }
 {
     let kind = kind_at(work, k);
-    if !declares(PARAMETER, kind) {
+    if !declares(kinds::PARAMETER, kind) {
         return before;
     }
     let j = token_at(work, k);
@@ -47,14 +44,14 @@ fn number_one(
     let count = before.count;
     let place = before.place;
     table[id] = count as u16;
-    if count < MAX_NAMES {
+    if count < limits::MAX_NAMES {
         declared[count] = k as u16;
         return Tally {
             count: count + 1,
             place,
         };
     }
-    if count == MAX_NAMES {
+    if count == limits::MAX_NAMES {
         return Tally {
             count: count + 1,
             place: place_at(work, j),
@@ -75,7 +72,8 @@ pub fn number_declared(
     declared: &mut [u16],
 ) -> Tally
     requires { ⌜ Walkable (now work) (now ids) entries × (top (now ids) ≤ length (now table)) × (maxNames ≤ length (now declared)) ⌝ }
-    ensures { λ r. ⌜ ((h : Walkable (now (work .entry)) (now (ids .entry)) entries) → Table h (now (table .entry)) (λ t. noPlace) → Numbered h entries (now (table .exit)) (now (declared .exit)) (r .count) (r .place)) ⌝ }
+    ensures { λ r. ⌜ ((h : Walkable (now (work .entry)) (now (ids .entry)) entries) → Table h (now (table .entry)) (λ t. noPlace)
+        → Numbered h entries (now (table .exit)) (now (declared .exit)) (r .count) (r .place)) ⌝ }
 {
     let mut tally = Tally { count: 0, place: 0 };
     let mut k = 0;

@@ -11,12 +11,12 @@ use crate::entry::kind_at;
 use crate::entry::place_at;
 use crate::entry::token_at;
 use crate::entry::uses;
-use crate::numbering::MAX_NAMES;
-use crate::numbering::PARAMETER;
-use spellings::trie::wide;
+use basics::u16_usize::wide;
+use entries::kinds;
+use language::limits;
 ghost use mathlib.Core.Path.{_≡_};
 ghost use mathlib.Core.Bool.{true};
-ghost use Prim.Native.Nat.{_+_, _<_};
+ghost use Prim.Native.Nat.{_+_};
 ghost use Rattle.words.specs.Words.{wordAt};
 ghost use Rattle.language.specs.Names.{Names};
 ghost use Rattle.entries.specs.Kinds as Kind;
@@ -54,7 +54,8 @@ fn use_name(
     refs: &mut [u16],
 ) -> Walk
     requires { ⌜ Stands (now work) (now ids) entries k (now seen) (now table) (now stack) (now refs) walk × (Roles.uses (kindOf (wordAt (now work) (firstEntry + k))) ≡ true) ⌝ }
-    ensures { λ r. ⌜ GoesOn (now (work .entry)) (now (ids .entry)) entries k (now (seen .entry)) (now (table .entry)) (now (stack .entry)) (now (refs .entry)) walk (now (seen .exit)) (now (table .exit)) (now (stack .exit)) (now (refs .exit)) r ⌝ }
+    ensures { λ r. ⌜ GoesOn (now (work .entry)) (now (ids .entry)) entries k (now (seen .entry)) (now (table .entry)) (now (stack .entry)) (now (refs .entry)) walk (now (seen .exit))
+        (now (table .exit)) (now (stack .exit)) (now (refs .exit)) r ⌝ }
 {
     let j = token_at(work, k);
     let at = place_at(work, j);
@@ -80,7 +81,8 @@ fn declare_name(
     refs: &mut [u16],
 ) -> Walk
     requires { ⌜ Stands (now work) (now ids) entries k (now seen) (now table) (now stack) (now refs) walk × (Roles.declares Kind.parameter (kindOf (wordAt (now work) (firstEntry + k))) ≡ true) ⌝ }
-    ensures { λ r. ⌜ GoesOn (now (work .entry)) (now (ids .entry)) entries k (now (seen .entry)) (now (table .entry)) (now (stack .entry)) (now (refs .entry)) walk (now (seen .exit)) (now (table .exit)) (now (stack .exit)) (now (refs .exit)) r ⌝ }
+    ensures { λ r. ⌜ GoesOn (now (work .entry)) (now (ids .entry)) entries k (now (seen .entry)) (now (table .entry)) (now (stack .entry)) (now (refs .entry)) walk (now (seen .exit))
+        (now (table .exit)) (now (stack .exit)) (now (refs .exit)) r ⌝ }
 {
     let j = token_at(work, k);
     let at = place_at(work, j);
@@ -102,7 +104,8 @@ fn bind_name(
     refs: &mut [u16],
 ) -> Walk
     requires { ⌜ Stands (now work) (now ids) entries k (now seen) (now table) (now stack) (now refs) walk × (Roles.binds (kindOf (wordAt (now work) (firstEntry + k))) ≡ true) ⌝ }
-    ensures { λ r. ⌜ GoesOn (now (work .entry)) (now (ids .entry)) entries k (now (seen .entry)) (now (table .entry)) (now (stack .entry)) (now (refs .entry)) walk (now (seen .exit)) (now (table .exit)) (now (stack .exit)) (now (refs .exit)) r ⌝ }
+    ensures { λ r. ⌜ GoesOn (now (work .entry)) (now (ids .entry)) entries k (now (seen .entry)) (now (table .entry)) (now (stack .entry)) (now (refs .entry)) walk (now (seen .exit))
+        (now (table .exit)) (now (stack .exit)) (now (refs .exit)) r ⌝ }
 {
     let j = token_at(work, k);
     let at = place_at(work, j);
@@ -110,7 +113,7 @@ fn bind_name(
     let depth = walk.depth;
     let place = word(seen[id]);
     let top = 3 * depth;
-    let slot = (MAX_NAMES + depth) as u16;
+    let slot = (limits::MAX_NAMES + depth) as u16;
     stack[top] = id as u16;
     stack[top + 1] = seen[id];
     stack[top + 2] = table[id];
@@ -136,7 +139,8 @@ fn end_name(
     refs: &mut [u16],
 ) -> Walk
     requires { ⌜ Stands (now work) (now ids) entries k (now seen) (now table) (now stack) (now refs) walk × (Roles.ends (kindOf (wordAt (now work) (firstEntry + k))) ≡ true) ⌝ }
-    ensures { λ r. ⌜ GoesOn (now (work .entry)) (now (ids .entry)) entries k (now (seen .entry)) (now (table .entry)) (now (stack .entry)) (now (refs .entry)) walk (now (seen .exit)) (now (table .exit)) (now (stack .exit)) (now (refs .exit)) r ⌝ }
+    ensures { λ r. ⌜ GoesOn (now (work .entry)) (now (ids .entry)) entries k (now (seen .entry)) (now (table .entry)) (now (stack .entry)) (now (refs .entry)) walk (now (seen .exit))
+        (now (table .exit)) (now (stack .exit)) (now (refs .exit)) r ⌝ }
 {
     let depth = walk.depth - 1;
     let top = 3 * depth;
@@ -163,7 +167,8 @@ fn visit(
     refs: &mut [u16],
 ) -> Walk
     requires { ⌜ Stands (now work) (now ids) entries k (now seen) (now table) (now stack) (now refs) walk ⌝ }
-    ensures { λ r. ⌜ GoesOn (now (work .entry)) (now (ids .entry)) entries k (now (seen .entry)) (now (table .entry)) (now (stack .entry)) (now (refs .entry)) walk (now (seen .exit)) (now (table .exit)) (now (stack .exit)) (now (refs .exit)) r ⌝ }
+    ensures { λ r. ⌜ GoesOn (now (work .entry)) (now (ids .entry)) entries k (now (seen .entry)) (now (table .entry)) (now (stack .entry)) (now (refs .entry)) walk (now (seen .exit))
+        (now (table .exit)) (now (stack .exit)) (now (refs .exit)) r ⌝ }
 {
     let kind = kind_at(work, k);
     if uses(kind) {
@@ -175,7 +180,7 @@ fn visit(
     if ends(kind) {
         return end_name(work, ids, entries, k, walk, seen, table, stack, refs);
     }
-    if declares(PARAMETER, kind) {
+    if declares(kinds::PARAMETER, kind) {
         return declare_name(work, ids, entries, k, walk, seen, table, stack, refs);
     }
     walk
@@ -192,7 +197,9 @@ pub fn walk_all(
     refs: &mut [u16],
 ) -> Walk
     requires { ⌜ Begins (now work) (now ids) entries (now seen) (now table) (now stack) (now refs) ⌝ }
-    ensures { λ r. ⌜ ((h : Walkable (now (work .entry)) (now (ids .entry)) entries) (declared : Names) → Walking h declared 0 (now (seen .entry)) (now (table .entry)) (now (stack .entry)) (now (refs .entry)) 0 noPlace noPlace → Walking h declared entries (now (seen .exit)) (now (table .exit)) (now (stack .exit)) (now (refs .exit)) (r .depth) (r .hidden) (r .again)) ⌝ }
+    ensures { λ r. ⌜ ((h : Walkable (now (work .entry)) (now (ids .entry)) entries) (declared : Names)
+        → Walking h declared 0 (now (seen .entry)) (now (table .entry)) (now (stack .entry)) (now (refs .entry)) 0 noPlace noPlace
+        → Walking h declared entries (now (seen .exit)) (now (table .exit)) (now (stack .exit)) (now (refs .exit)) (r .depth) (r .hidden) (r .again)) ⌝ }
 {
     let mut walk = Walk {
         depth: 0,

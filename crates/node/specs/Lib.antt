@@ -1,4 +1,5 @@
 pub mod Limits
+pub mod Refusals
 pub mod Logic
 pub mod Temporal
 pub mod Operators

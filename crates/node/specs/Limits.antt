@@ -1,5 +1,6 @@
--- The limits of the node format (document 01, 'Expansion').
+-- The limits of the node format and of its signals (document 01, 'Expansion' and 'Limits').
 use Prim.Native.Nat.{ℕ, _^_}
+use mathlib.Core.List.{List, [], _∷_}
 
 -- 'a table has 1 to 8,192 nodes'
 abbrev pub maxNodes : ℕ
@@ -12,3 +13,10 @@ fieldBits = 14
 -- what a field can hold
 abbrev pub fieldLimit : ℕ
 fieldLimit = 2 ^ fieldBits
+
+-- '255 signals', of a text and of a recording
+abbrev pub maxSignals : ℕ
+maxSignals = 255
+
+abbrev pub limits : List ℕ
+limits = maxNodes ∷ fieldLimit ∷ maxSignals ∷ []

@@ -59,3 +59,9 @@ pub bind-value : {A : Type 0} (r : Result A) → (r >>= λ a. Done a) ≡ r
 unfolding _>>=_
 bind-value (Done a) = refl
 bind-value (Refused n p) = refl
+
+-- a test before what comes behind
+pub guard-bind : {A B : Type 0} (b : Bool) (number place : ℕ) (r : Result A) (k : A → Result B) → guard b number place r >>= k ≡ guard b number place (r >>= k)
+unfolding guard _>>=_
+guard-bind true number place r k = refl
+guard-bind false number place r k = refl

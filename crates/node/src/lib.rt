@@ -1,9 +1,11 @@
 // The node format of document 01: a word of 4 bits kind, 14 bits first operand, 14 bits second operand.
+pub mod refusals;
+
 ghost use mathlib.Core.Path.{_≡_};
 ghost use Prim.Native.Nat.{_<_, _≤_};
 ghost use mathlib.Core.Bool.{false};
 ghost use lib.ListN.{length};
-ghost use Rattle.node.specs.Limits.{fieldLimit, maxNodes};
+ghost use Rattle.node.specs.Limits.{fieldLimit, maxNodes, limits as limits'};
 ghost use Rattle.node.specs.Fields.{pack, kindOf, firstOf, secondOf};
 ghost use Rattle.node.specs.Kinds.{kinds as kinds'};
 ghost use Rattle.node.specs.Table.{nodeFits, scanned, checked};
@@ -24,8 +26,15 @@ pub const MAX_NODES: usize = 8192;
 // One more than a 14-bit field of a node can hold.
 pub const FIELD_LIMIT: u32 = 16384;
 
-// The number of a refused table (document 01, 19).
-pub const BAD_TABLE: u32 = 19;
+// A text and a recording have at most 255 signals.
+pub const MAX_SIGNALS: usize = 255;
+
+// What these constants stand for.
+pub fn limits() -> [usize; 3]
+    ensures { λ r. ⌜ r ≡ limits' ⌝ }
+{
+    [MAX_NODES, FIELD_LIMIT as usize, MAX_SIGNALS]
+}
 
 pub struct Node {
     pub word: u32,
@@ -188,14 +197,14 @@ pub fn check_table(nodes: &[u32], limit: u32) -> Answer
     ensures { λ r. ⌜ says r ≡ checked limit (now (nodes .entry)) ⌝ }
 {
     if nodes.len() == 0 {
-        return Answer::Refused(BAD_TABLE, 0);
+        return Answer::Refused(refusals::BAD_TABLE, 0);
     }
     if MAX_NODES < nodes.len() {
-        return Answer::Refused(BAD_TABLE, MAX_NODES as u32);
+        return Answer::Refused(refusals::BAD_TABLE, MAX_NODES as u32);
     }
     if all_fit(nodes, limit) {
         return Answer::Accepted(nodes.len() as u32, limit);
     }
     let place = first_misfit(nodes, limit);
-    Answer::Refused(BAD_TABLE, place as u32)
+    Answer::Refused(refusals::BAD_TABLE, place as u32)
 }

@@ -9,7 +9,32 @@ use lib.Dec.{eqb, leb}
 use lib.ListN.{length, length-append}
 use borrow.Author.Tests.{eq-eqb, ne-eqb, eqb-true, eqb-false, lt-leb}
 use Rattle.language.specs.Tokens.{Token}
-use Rattle.language.specs.Tree.{Expr, Named, Identifier, Parameter, Definition, Defined, Enumerated, Declaration, OneSignal, OfWidth, OfType, Part, Initially, Preset, Require, Assert, Assume, Guarantee, partCode, Subsection, Inputs, Outputs, Lines, Spec}
+use Rattle.language.specs.Tree.{
+  Expr,
+  Named,
+  Identifier,
+  Parameter,
+  Definition,
+  Defined,
+  Enumerated,
+  Declaration,
+  OneSignal,
+  OfWidth,
+  OfType,
+  Part,
+  Initially,
+  Preset,
+  Require,
+  Assert,
+  Assume,
+  Guarantee,
+  partCode,
+  Subsection,
+  Inputs,
+  Outputs,
+  Lines,
+  Spec,
+}
 use Rattle.language.specs.Declared.{inputs, outputs}
 use Rattle.language.specs.Laws.Basics.Lists.{All, all-append, all-more}
 use Rattle.language.specs.Laws.Basics.Tests.{pick, leave}
@@ -71,7 +96,8 @@ chosen-head c heading n i es = refl
 -- lines of one sort, each with its own entry as its last
 module _ {A : Type 0} (c : Choice) (flatten : A → List Entry) (P : A → ℕ → Type 0) (heading : ℕ) (rest : List Entry)
     (one : (a : A) (fs : List Entry) (i : ℕ) → chosen c heading i (flatten a ++ fs) ≡ (i + length (flatten a) - 1) ∷ chosen c heading (i + length (flatten a)) fs) where
-  pub lines-chosen : (l : List A) (i : ℕ) (more : List A) → EachFrom flatten (λ start a. P a (start + length (flatten a) - 1)) i l → Pairs P more (chosen c heading (i + length (each flatten l)) rest) → Pairs P (l ++ more) (chosen c heading i (each flatten l ++ rest))
+  pub lines-chosen : (l : List A) (i : ℕ) (more : List A) → EachFrom flatten (λ start a. P a (start + length (flatten a) - 1)) i l → Pairs P more (chosen c heading (i + length (each flatten l)) rest)
+      → Pairs P (l ++ more) (chosen c heading i (each flatten l ++ rest))
   lines-chosen [] i more h g = subst (λ k. Pairs P more (chosen c heading k rest)) (omega arith) g
   lines-chosen (a ∷ l) i more h g =
       let s = length-append (flatten a) (each flatten l) in
@@ -114,12 +140,19 @@ words-below (v ∷ ws) = ((omega arith, omega arith), words-below ws)
 
 identifiers-below : (is : List Identifier) → All (λ n. (Kind.parameter < n .kind) × (n .kind < Kind.signal)) (each flatIdentifier is)
 identifiers-below [] = tt
-identifiers-below (i ∷ is) = ((omega arith, omega arith), all-append (λ n. (Kind.parameter < n .kind) × (n .kind < Kind.signal)) (each (leaf Kind.word) (i .words)) (each flatIdentifier is) (words-below (i .words)) (identifiers-below is))
+identifiers-below (i ∷ is) = (
+  (omega arith, omega arith),
+  all-append (λ n. (Kind.parameter < n .kind) × (n .kind < Kind.signal)) (each (leaf Kind.word) (i .words)) (each flatIdentifier is)
+      (words-below (i .words)) (identifiers-below is),
+)
 
 definition-skipped : (d : Definition) → All (Passed parameterChoice noHeading) (flatDefinition d)
 definition-skipped (Defined n e) = line-passed parameterChoice noHeading Kind.definition (some n) e (omega arith) (λ m q. high-passed parameterChoice noHeading (m .kind) (omega arith) (omega arith))
-definition-skipped (Enumerated n is) =
-    (high-passed parameterChoice noHeading Kind.enumeration (omega arith) (omega arith), all-more (λ m h. high-passed parameterChoice noHeading (m .kind) (h .0) (omega (arith, h .1))) (each flatIdentifier is) (identifiers-below is))
+definition-skipped (Enumerated n is) = (
+  high-passed parameterChoice noHeading Kind.enumeration (omega arith) (omega arith),
+  all-more (λ m h. high-passed parameterChoice noHeading (m .kind) (h .0) (omega (arith, h .1)))
+      (each flatIdentifier is) (identifiers-below is),
+)
 
 -- the entries of a declaration, of a line of formulas
 declaration-away : (c : Choice) (heading : ℕ) → (heading ≡ c .wanted → ⊥) → (m : Declaration) → All (Passed c heading) (flatDeclaration m)
@@ -142,11 +175,14 @@ section-away c before heading i flatten h l rest =
 main-none : (ss : List Subsection) (heading i : ℕ) → chosen parameterChoice heading i (each flatSubsection ss) ≡ []
 main-none [] heading i = refl
 main-none (Inputs ds ∷ ss) heading i =
-    section-away parameterChoice heading 0 i flatDeclaration (declaration-away parameterChoice 0 (λ e. omega arith)) ds (each flatSubsection ss) ∙ main-none ss 0 (i + length (flatSubsection (Inputs ds)))
+    section-away parameterChoice heading 0 i flatDeclaration (declaration-away parameterChoice 0 (λ e. omega arith)) ds (each flatSubsection ss) ∙ main-none ss 0
+    (i + length (flatSubsection (Inputs ds)))
 main-none (Outputs ds ∷ ss) heading i =
-    section-away parameterChoice heading 1 i flatDeclaration (declaration-away parameterChoice 1 (λ e. omega arith)) ds (each flatSubsection ss) ∙ main-none ss 1 (i + length (flatSubsection (Outputs ds)))
+    section-away parameterChoice heading 1 i flatDeclaration (declaration-away parameterChoice 1 (λ e. omega arith)) ds (each flatSubsection ss) ∙ main-none ss 1
+    (i + length (flatSubsection (Outputs ds)))
 main-none (Lines p es ∷ ss) heading i =
-    section-away parameterChoice heading (2 + partCode p) i flatLine (formula-away parameterChoice (2 + partCode p) (part-differs p)) es (each flatSubsection ss) ∙ main-none ss (2 + partCode p) (i + length (flatSubsection (Lines p es)))
+    section-away parameterChoice heading (2 + partCode p) i flatLine (formula-away parameterChoice (2 + partCode p) (part-differs p)) es (each flatSubsection ss) ∙ main-none ss (2 + partCode p)
+    (i + length (flatSubsection (Lines p es)))
   where
     part-differs : (q : Part) → 2 + partCode q ≡ noHeading → ⊥
     part-differs Initially e = omega arith
@@ -156,7 +192,8 @@ main-none (Lines p es ∷ ss) heading i =
     part-differs Assume e = omega arith
     part-differs Guarantee e = omega arith
 
-pub parameters-chosen : (P : Parameter → ℕ → Type 0) (x : Spec) → EachFrom flatParameter (λ start p. P p (start + length (flatParameter p) - 1)) 0 (x .parameters) → Pairs P (x .parameters) (chosen parameterChoice noHeading 0 (outline x))
+pub parameters-chosen : (P : Parameter → ℕ → Type 0) (x : Spec) → EachFrom flatParameter (λ start p. P p (start + length (flatParameter p) - 1)) 0 (x .parameters)
+    → Pairs P (x .parameters) (chosen parameterChoice noHeading 0 (outline x))
 parameters-chosen P x h =
     let ds = each flatDefinition (x .definitions) in
     let ms = each flatSubsection (x .main) in
@@ -164,7 +201,8 @@ parameters-chosen P x h =
     let none-left : chosen parameterChoice noHeading (0 + k) (ds ++ ms) ≡ [] =
     chosen-skip parameterChoice noHeading ds ms (0 + k) (skip-each parameterChoice noHeading flatDefinition definition-skipped (x .definitions)) ∙ main-none (x .main) noHeading (0 + k + length ds) in
     subst (λ l. Pairs P l (chosen parameterChoice noHeading 0 (outline x))) (append-nil (x .parameters))
-    (lines-chosen parameterChoice flatParameter P noHeading (ds ++ ms) (λ p fs i. own-chosen parameterChoice noHeading Kind.parameter (some (p .name)) (p .value) (omega arith) (omega arith) refl fs i) (x .parameters) 0 [] h
+    (lines-chosen parameterChoice flatParameter P noHeading (ds ++ ms)
+    (λ p fs i. own-chosen parameterChoice noHeading Kind.parameter (some (p .name)) (p .value) (omega arith) (omega arith) refl fs i) (x .parameters) 0 [] h
     (subst (Pairs P []) (sym none-left) tt))
 
 -- the declarations under a heading
@@ -196,17 +234,20 @@ module _ (P : Declaration → ℕ → Type 0) (wanted : ℕ) (main-heading : wan
   abbrev c : Choice
   c = portChoice wanted
 
-  declaration-chosen : (heading : ℕ) → heading ≡ wanted → (m : Declaration) (fs : List Entry) (i : ℕ) → chosen c heading i (flatDeclaration m ++ fs) ≡ (i + length (flatDeclaration m) - 1) ∷ chosen c heading (i + length (flatDeclaration m)) fs
+  declaration-chosen : (heading : ℕ) → heading ≡ wanted → (m : Declaration) (fs : List Entry) (i : ℕ)
+      → chosen c heading i (flatDeclaration m ++ fs) ≡ (i + length (flatDeclaration m) - 1) ∷ chosen c heading (i + length (flatDeclaration m)) fs
   declaration-chosen heading q (OneSignal n) fs i =
       let p : i ≡ i + 1 - 1 = omega arith in
       let s : suc i ≡ i + 1 = omega arith in
-      chosen-take c heading (record { kind = Kind.signal; token = some n; size = 1 }) fs i (omega arith) (ap (λ b. b && (leb Kind.signal Kind.signal && leb Kind.signal Kind.typed)) (eq-eqb heading wanted q)) ∙ ap₂ (λ m k. m ∷ chosen c heading k fs) p s
+      chosen-take c heading (record { kind = Kind.signal; token = some n; size = 1 }) fs i (omega arith)
+      (ap (λ b. b && (leb Kind.signal Kind.signal && leb Kind.signal Kind.typed)) (eq-eqb heading wanted q)) ∙ ap₂ (λ m k. m ∷ chosen c heading k fs) p s
   declaration-chosen heading q (OfWidth n e) fs i =
       own-chosen c heading Kind.bus (some n) e (omega arith) (omega arith) (ap (λ b. b && (leb Kind.signal Kind.bus && leb Kind.bus Kind.typed)) (eq-eqb heading wanted q)) fs i
   declaration-chosen heading q (OfType u n) fs i =
       own-chosen c heading Kind.typed (some n) (Named u) (omega arith) (omega arith) (ap (λ b. b && (leb Kind.signal Kind.typed && leb Kind.typed Kind.typed)) (eq-eqb heading wanted q)) fs i
 
-  section-chosen : (before heading : ℕ) (ds more : List Declaration) (i : ℕ) (rest : List Entry) → EachFrom flatDeclaration (λ i m. P m (i + length (flatDeclaration m) - 1)) (suc i) ds → Pairs P more (chosen c heading (i + length (head heading ++ each flatDeclaration ds)) rest) →
+  section-chosen : (before heading : ℕ) (ds more : List Declaration) (i : ℕ) (rest : List Entry) → EachFrom flatDeclaration (λ i m. P m (i + length (flatDeclaration m) - 1)) (suc i) ds
+      → Pairs P more (chosen c heading (i + length (head heading ++ each flatDeclaration ds)) rest) →
       Pairs P (elim (eqb heading wanted) [ true ↦ ds ++ more | false ↦ more ]) (chosen c before i ((head heading ++ each flatDeclaration ds) ++ rest))
   section-chosen before heading ds more i rest h g = go (eqb heading wanted) refl
     where
@@ -220,7 +261,8 @@ module _ (P : Declaration → ℕ → Type 0) (wanted : ℕ) (main-heading : wan
   main-chosen : (ss : List Subsection) (heading i : ℕ) → EachFrom flatSubsection (InSubsection P) i ss → Pairs P (under-heading wanted ss) (chosen c heading i (each flatSubsection ss))
   main-chosen [] heading i h = tt
   main-chosen (Inputs ds ∷ ss) heading i h = section-chosen heading 0 ds (under-heading wanted ss) i (each flatSubsection ss) (h .0) (main-chosen ss 0 (i + length (flatSubsection (Inputs ds))) (h .1))
-  main-chosen (Outputs ds ∷ ss) heading i h = section-chosen heading 1 ds (under-heading wanted ss) i (each flatSubsection ss) (h .0) (main-chosen ss 1 (i + length (flatSubsection (Outputs ds))) (h .1))
+  main-chosen (Outputs ds ∷ ss) heading i h = section-chosen heading 1 ds (under-heading wanted ss) i (each flatSubsection ss) (h .0)
+      (main-chosen ss 1 (i + length (flatSubsection (Outputs ds))) (h .1))
   main-chosen (Lines p es ∷ ss) heading i h =
       subst (Pairs P (under-heading wanted ss)) (sym (section-away c heading (2 + partCode p) i flatLine (formula-away c (2 + partCode p) (λ e. omega arith)) es (each flatSubsection ss)))
       (main-chosen ss (2 + partCode p) (i + length (flatSubsection (Lines p es))) (h .1))
@@ -230,7 +272,11 @@ module _ (P : Declaration → ℕ → Type 0) (wanted : ℕ) (main-heading : wan
 
   definition-below : (d : Definition) → All (Passed c noHeading) (flatDefinition d)
   definition-below (Defined n e) = line-passed c noHeading Kind.definition (some n) e (omega arith) (λ m q. low-passed c noHeading (m .kind) (omega arith) (omega arith))
-  definition-below (Enumerated n is) = (low-passed c noHeading Kind.enumeration (omega arith) (omega arith), all-more (λ m h. low-passed c noHeading (m .kind) (h .1) (omega (arith, h .1))) (each flatIdentifier is) (identifiers-below is))
+  definition-below (Enumerated n is) = (
+    low-passed c noHeading Kind.enumeration (omega arith) (omega arith),
+    all-more (λ m h. low-passed c noHeading (m .kind) (h .1) (omega (arith, h .1)))
+        (each flatIdentifier is) (identifiers-below is),
+  )
 
   outline-chosen : (x : Spec) → EachFrom flatSubsection (InSubsection P) (mainStart x) (x .main) → Pairs P (under-heading wanted (x .main)) (chosen c noHeading 0 (outline x))
   outline-chosen x h =
@@ -238,11 +284,14 @@ module _ (P : Declaration → ℕ → Type 0) (wanted : ℕ) (main-heading : wan
       let ds = each flatDefinition (x .definitions) in
       let ms = each flatSubsection (x .main) in
       subst (Pairs P (under-heading wanted (x .main)))
-      (sym (chosen-skip c noHeading qs (ds ++ ms) 0 (skip-each c noHeading flatParameter parameter-below (x .parameters)) ∙ chosen-skip c noHeading ds ms (0 + length qs) (skip-each c noHeading flatDefinition definition-below (x .definitions)) ∙ ap (λ k. chosen c noHeading k ms) (omega arith)))
+      (sym (chosen-skip c noHeading qs (ds ++ ms) 0 (skip-each c noHeading flatParameter parameter-below (x .parameters)) ∙ chosen-skip c noHeading ds ms (0 + length qs)
+      (skip-each c noHeading flatDefinition definition-below (x .definitions)) ∙ ap (λ k. chosen c noHeading k ms) (omega arith)))
       (main-chosen (x .main) noHeading (mainStart x) h)
 
-pub inputs-chosen : (P : Declaration → ℕ → Type 0) (x : Spec) → EachFrom flatSubsection (InSubsection P) (mainStart x) (x .main) → Pairs P (inputs (x .main)) (chosen (portChoice 0) noHeading 0 (outline x))
+pub inputs-chosen : (P : Declaration → ℕ → Type 0) (x : Spec) → EachFrom flatSubsection (InSubsection P) (mainStart x) (x .main)
+    → Pairs P (inputs (x .main)) (chosen (portChoice 0) noHeading 0 (outline x))
 inputs-chosen P x h = subst (λ l. Pairs P l (chosen (portChoice 0) noHeading 0 (outline x))) (inputs-under (x .main)) (outline-chosen P 0 (omega arith) x h)
 
-pub outputs-chosen : (P : Declaration → ℕ → Type 0) (x : Spec) → EachFrom flatSubsection (InSubsection P) (mainStart x) (x .main) → Pairs P (outputs (x .main)) (chosen (portChoice 1) noHeading 0 (outline x))
+pub outputs-chosen : (P : Declaration → ℕ → Type 0) (x : Spec) → EachFrom flatSubsection (InSubsection P) (mainStart x) (x .main)
+    → Pairs P (outputs (x .main)) (chosen (portChoice 1) noHeading 0 (outline x))
 outputs-chosen P x h = subst (λ l. Pairs P l (chosen (portChoice 1) noHeading 0 (outline x))) (outputs-under (x .main)) (outline-chosen P 1 (omega arith) x h)

@@ -15,7 +15,21 @@ use Rattle.language.specs.Names.{identifierNames, declares as declaresLine, ove
 use Rattle.language.specs.Declared.{Declared, Single, WaitingBus, Table, find, identified, identifiers, wordsOfType, waiting, inputs, outputs}
 use Rattle.language.specs.Laws.Basics.Lists.{All, all-any, all-more, all-left, all-right, all-both, all-swap}
 use Rattle.language.specs.Laws.Basics.Tests.{pick, leave, same-refl}
-use Rattle.language.specs.Laws.Values.DistinctNames.{Apart, Distinct, Across, apart-sym, across, distinct-left, distinct-right, declaredName, declaredNames, signals-among, distinct-names, distinct-definitions, distinct-signals}
+use Rattle.language.specs.Listed.{declaredName}
+use Rattle.language.specs.Laws.Values.DistinctNames.{
+  Apart,
+  Distinct,
+  Across,
+  apart-sym,
+  across,
+  distinct-left,
+  distinct-right,
+  declaredNames,
+  signals-among,
+  distinct-names,
+  distinct-definitions,
+  distinct-signals,
+}
 use Rattle.entries.specs.Kinds as Kind
 use Rattle.entries.specs.Flat.{Entry, under, leaf, flat, each, flatParameter, flatIdentifier, flatDefinition, flatDeclaration, flatLine, flatSubsection, outline}
 use Rattle.names.specs.Roles.{declares}
@@ -55,7 +69,8 @@ NoWords ds t = wordsOfType ds t ≡ []
 not-found : (ds : List Definition) (t : Token) → All (Apart t) (ownNames ds) → NoFind ds t
 not-found [] t h = refl
 not-found (Defined n e ∷ ds) t h = not-found ds t (h .1)
-not-found (Enumerated n is ∷ ds) t h = identified-out is (identifiers ds) t (all-left (Apart t) (identifierNames is) (ownNames ds) (h .1)) ∙ not-found ds t (all-right (Apart t) (identifierNames is) (ownNames ds) (h .1))
+not-found (Enumerated n is ∷ ds) t h = identified-out is (identifiers ds) t (all-left (Apart t) (identifierNames is) (ownNames ds) (h .1)) ∙ not-found ds t
+    (all-right (Apart t) (identifierNames is) (ownNames ds) (h .1))
 
 no-words : (ds : List Definition) (t : Token) → All (Apart t) (ownNames ds) → NoWords ds t
 no-words [] t h = refl
@@ -77,7 +92,8 @@ waiting-own (m ∷ ds) d h = (own m, later m ds (h .0) (waiting-own ds d (h .1))
     skip (OfWidth n e) k a = leave (same (n .text) (declaredName k .text)) _ _ a
     skip (OfType u n) k a = leave (same (n .text) (declaredName k .text)) _ _ a
 
-    later : (m : Declaration) (ks : List Declaration) → All (Apart (declaredName m)) (declaredNames ks) → All (λ k. find (waiting ds d) (declaredName k .text) ≡ Done (waits k)) ks → All (λ k. find (waiting (m ∷ ds) d) (declaredName k .text) ≡ Done (waits k)) ks
+    later : (m : Declaration) (ks : List Declaration) → All (Apart (declaredName m)) (declaredNames ks) → All (λ k. find (waiting ds d) (declaredName k .text) ≡ Done (waits k)) ks
+        → All (λ k. find (waiting (m ∷ ds) d) (declaredName k .text) ≡ Done (waits k)) ks
     later m [] a h = tt
     later m (k ∷ ks) a h = (skip m k (a .0) ∙ h .0, later m ks (a .1) (h .1))
 
@@ -120,14 +136,18 @@ module _ (x : Spec) (once : declaredAgain x ≡ none) where
   line-told k t e start h = every-append Told start (start + length (flat e)) (flat e) _ refl (inner-told (flat e) (inner-flat e) start) (h, tt)
 
   -- a name that no definition has
-  outside : (kind : ℕ) (t : Token) → All (Apart t) F → (kind ≡ Kind.enumeration → ⊥) → (kind ≡ Kind.identifier → ⊥) → (kind ≡ Kind.parameter → find (firstTable x) (t .text) ≡ Refused 6 0) → (kind ≡ Kind.signal → find (firstTable x) (t .text) ≡ Done Single) → (kind ≡ Kind.bus → find (firstTable x) (t .text) ≡ Done WaitingBus) → (kind ≡ Kind.typed → find (firstTable x) (t .text) ≡ Done WaitingBus) → First x kind t
+  outside : (kind : ℕ) (t : Token) → All (Apart t) F → (kind ≡ Kind.enumeration → ⊥) → (kind ≡ Kind.identifier → ⊥) → (kind ≡ Kind.parameter → find (firstTable x) (t .text) ≡ Refused 6 0)
+      → (kind ≡ Kind.signal → find (firstTable x) (t .text) ≡ Done Single) → (kind ≡ Kind.bus → find (firstTable x) (t .text) ≡ Done WaitingBus)
+      → (kind ≡ Kind.typed → find (firstTable x) (t .text) ≡ Done WaitingBus) → First x kind t
   outside kind t a e i p s b u = record { parameter = p; enumeration = λ q. absurd (e q); identifier = λ q. absurd (i q); signal = s; bus = b; typed = u; wordless = λ _. no-words defs t a }
 
   parameter-told : (p : Parameter) → All (Apart (p .name)) F × All (Apart (p .name)) M → (start : ℕ) → Every Told start (flatParameter p)
   parameter-told p h start =
-      line-told Kind.parameter (some (p .name)) (p .value) start (λ y. outside Kind.parameter (p .name) (h .0) (λ e. omega arith) (λ e. omega arith) (λ _. main-out (p .name) (h .1) ∙ not-found defs (p .name) (h .0)) (λ e. absurd (omega arith)) (λ e. absurd (omega arith)) (λ e. absurd (omega arith)))
+      line-told Kind.parameter (some (p .name)) (p .value) start (λ y. outside Kind.parameter (p .name) (h .0) (λ e. omega arith) (λ e. omega arith)
+      (λ _. main-out (p .name) (h .1) ∙ not-found defs (p .name) (h .0)) (λ e. absurd (omega arith)) (λ e. absurd (omega arith)) (λ e. absurd (omega arith)))
 
-  parameters-apart : (ps : List Parameter) → Distinct (over declaresLine (parameterLines ps (definitionLines defs (mainLines (x .main))))) → All (λ p. All (Apart (p .name)) F × All (Apart (p .name)) M) ps
+  parameters-apart : (ps : List Parameter) → Distinct (over declaresLine (parameterLines ps (definitionLines defs (mainLines (x .main)))))
+      → All (λ p. All (Apart (p .name)) F × All (Apart (p .name)) M) ps
   parameters-apart [] h = tt
   parameters-apart (p ∷ ps) h =
       let a = subst (All (Apart (p .name))) (over-definitions defs (mainLines (x .main))) (behind-parameters (Apart (p .name)) ps (definitionLines defs (mainLines (x .main))) (h .0)) in
@@ -137,9 +157,11 @@ module _ (x : Spec) (once : declaredAgain x ≡ none) where
   declaration-told (OneSignal n) h start =
       ((λ y. outside Kind.signal n (h .1) (λ e. omega arith) (λ e. omega arith) (λ e. absurd (omega arith)) (λ _. h .0) (λ e. absurd (omega arith)) (λ e. absurd (omega arith))), tt)
   declaration-told (OfWidth n e) h start =
-      line-told Kind.bus (some n) e start (λ y. outside Kind.bus n (h .1) (λ e. omega arith) (λ e. omega arith) (λ e. absurd (omega arith)) (λ e. absurd (omega arith)) (λ _. h .0) (λ e. absurd (omega arith)))
+      line-told Kind.bus (some n) e start (λ y. outside Kind.bus n (h .1) (λ e. omega arith) (λ e. omega arith) (λ e. absurd (omega arith)) (λ e. absurd (omega arith)) (λ _. h .0)
+      (λ e. absurd (omega arith)))
   declaration-told (OfType u n) h start =
-      line-told Kind.typed (some n) (Named u) start (λ y. outside Kind.typed n (h .1) (λ e. omega arith) (λ e. omega arith) (λ e. absurd (omega arith)) (λ e. absurd (omega arith)) (λ e. absurd (omega arith)) (λ _. h .0))
+      line-told Kind.typed (some n) (Named u) start (λ y. outside Kind.typed n (h .1) (λ e. omega arith) (λ e. omega arith) (λ e. absurd (omega arith)) (λ e. absurd (omega arith))
+      (λ e. absurd (omega arith)) (λ _. h .0))
 
   line-inner : (e : Expr) (start : ℕ) → Every Told start (flatLine e)
   line-inner e start = line-told Kind.line none e start (λ y. absurd (false≢true y))
@@ -152,12 +174,21 @@ module _ (x : Spec) (once : declaredAgain x ≡ none) where
 
   main-told : (ss : List Subsection) → All Q (inputs ss) → All Q (outputs ss) → (start : ℕ) → Every Told start (each flatSubsection ss)
   main-told [] i o start = tt
-  main-told (Inputs ds ∷ ss) i o start =
-      ((λ y. absurd (false≢true y)), every-append Told (suc start) _ (each flatDeclaration ds) (each flatSubsection ss) refl (every-each Told flatDeclaration Q declaration-told ds (all-left Q ds (inputs ss) i) (suc start)) (main-told ss (all-right Q ds (inputs ss) i) o _))
-  main-told (Outputs ds ∷ ss) i o start =
-      ((λ y. absurd (false≢true y)), every-append Told (suc start) _ (each flatDeclaration ds) (each flatSubsection ss) refl (every-each Told flatDeclaration Q declaration-told ds (all-left Q ds (outputs ss) o) (suc start)) (main-told ss i (all-right Q ds (outputs ss) o) _))
-  main-told (Lines p es ∷ ss) i o start =
-      ((λ y. absurd (false≢true y)), every-append Told (suc start) _ (each flatLine es) (each flatSubsection ss) refl (every-each Told flatLine Unasked (λ e _. line-inner e) es (all-any es) (suc start)) (main-told ss i o _))
+  main-told (Inputs ds ∷ ss) i o start = (
+    (λ y. absurd (false≢true y)),
+    every-append Told (suc start) _ (each flatDeclaration ds) (each flatSubsection ss) refl
+        (every-each Told flatDeclaration Q declaration-told ds (all-left Q ds (inputs ss) i) (suc start)) (main-told ss (all-right Q ds (inputs ss) i) o _),
+  )
+  main-told (Outputs ds ∷ ss) i o start = (
+    (λ y. absurd (false≢true y)),
+    every-append Told (suc start) _ (each flatDeclaration ds) (each flatSubsection ss) refl
+        (every-each Told flatDeclaration Q declaration-told ds (all-left Q ds (outputs ss) o) (suc start)) (main-told ss i (all-right Q ds (outputs ss) o) _),
+  )
+  main-told (Lines p es ∷ ss) i o start = (
+    (λ y. absurd (false≢true y)),
+    every-append Told (suc start) _ (each flatLine es) (each flatSubsection ss) refl
+        (every-each Told flatLine Unasked (λ e _. line-inner e) es (all-any es) (suc start)) (main-told ss i o _),
+  )
 
   -- the names of the definitions ds, which stand last
   abbrev Typed : List Definition → Token → Type 0
@@ -172,33 +203,69 @@ module _ (x : Spec) (once : declaredAgain x ≡ none) where
   identifiers-told : (is : List Identifier) → All (λ i. NoWords defs (i .name) × All (Apart (i .name)) M) is → (start : ℕ) → Every Told start (each flatIdentifier is)
   identifiers-told is h start =
       every-each Told flatIdentifier (λ i. NoWords defs (i .name) × All (Apart (i .name)) M)
-      (λ i a at. ((λ y. record { parameter = λ e. absurd (omega arith); enumeration = λ e. absurd (omega arith); identifier = λ _. main-out (i .name) (a .1); signal = λ e. absurd (omega arith); bus = λ e. absurd (omega arith); typed = λ e. absurd (omega arith); wordless = λ _. a .0 }), words-told (i .words) (suc at))) is h start
+      (λ i a at. (
+        (λ y. record {
+          parameter = λ e. absurd (omega arith);
+          enumeration = λ e. absurd (omega arith);
+          identifier = λ _. main-out (i .name) (a .1);
+          signal = λ e. absurd (omega arith);
+          bus =
+              λ e. absurd (omega arith);
+          typed = λ e. absurd (omega arith);
+          wordless = λ _. a .0;
+        }),
+        words-told (i .words) (suc at),
+      )) is h start
 
   by-identifier : (P : Token → Type 0) (is : List Identifier) → All P (identifierNames is) → All (λ i. P (i .name)) is
   by-identifier P [] h = tt
   by-identifier P (i ∷ is) h = (h .0, by-identifier P is (h .1))
 
   -- an identifier is apart from the definitions behind its enumeration, and from the enumeration
-  identifiers-wordless : (n : Token) (is : List Identifier) (ds : List Definition) (ns : List Token) → All (Apart n) ns → Across ns (ownNames ds) → All (Typed (Enumerated n is ∷ ds)) ns → All (NoWords defs) ns
+  identifiers-wordless : (n : Token) (is : List Identifier) (ds : List Definition) (ns : List Token) → All (Apart n) ns → Across ns (ownNames ds) → All (Typed (Enumerated n is ∷ ds)) ns
+      → All (NoWords defs) ns
   identifiers-wordless n is ds [] a b c = tt
   identifiers-wordless n is ds (t ∷ ns) a b c = (c .0 ∙ leave (same (n .text) (t .text)) _ _ (a .0) ∙ no-words ds t (b .0), identifiers-wordless n is ds ns (a .1) (b .1) (c .1))
 
-  definitions-told : (ds : List Definition) → Distinct (ownNames ds) → Across (ownNames ds) M → All (Typed ds) (ownNames ds) → All (Found (identifiers ds)) (ownNames ds) → (start : ℕ) → Every Told start (each flatDefinition ds)
+  definitions-told : (ds : List Definition) → Distinct (ownNames ds) → Across (ownNames ds) M → All (Typed ds) (ownNames ds) → All (Found (identifiers ds)) (ownNames ds) → (start : ℕ)
+      → Every Told start (each flatDefinition ds)
   definitions-told [] d a t f start = tt
   definitions-told (Defined n e ∷ ds) d a t f start =
       every-append Told start (start + length (flatDefinition (Defined n e))) (flatDefinition (Defined n e)) (each flatDefinition ds) refl
-      (line-told Kind.definition (some n) e start (λ y. record { parameter = λ e. absurd (omega arith); enumeration = λ e. absurd (omega arith); identifier = λ e. absurd (omega arith); signal = λ e. absurd (omega arith); bus = λ e. absurd (omega arith); typed = λ e. absurd (omega arith); wordless = λ _. t .0 ∙ no-words ds n (d .0) }))
+      (line-told Kind.definition (some n) e start (λ y. record {
+        parameter = λ e. absurd (omega arith);
+        enumeration = λ e. absurd (omega arith);
+        identifier = λ e. absurd (omega arith);
+        signal = λ e.
+            absurd (omega arith);
+        bus = λ e. absurd (omega arith);
+        typed = λ e. absurd (omega arith);
+        wordless = λ _. t .0 ∙ no-words ds n (d .0);
+      }))
       (definitions-told ds (d .1) (a .1) (t .1) (f .1) _)
   definitions-told (Enumerated n is ∷ ds) d a t f start =
       let I = identifierNames is in
       let N = ownNames ds in
       let apart = across I N (d .1) in
-      let none-found : find (identifiers defs) (n .text) ≡ Refused 6 0 = f .0 ∙ identified-out is (identifiers ds) n (all-left (Apart n) I N (d .0)) ∙ not-found ds n (all-right (Apart n) I N (d .0)) in
-      let own : Told start (record { kind = Kind.enumeration; token = some n; size = 1 }) = (λ y. record { parameter = λ e. absurd (omega arith); enumeration = λ _. main-out n (a .0) ∙ none-found; identifier = λ e. absurd (omega arith); signal = λ e. absurd (omega arith); bus = λ e. absurd (omega arith); typed = λ e. absurd (omega arith); wordless = λ k. absurd (k refl) }) in
+      let none-found : find (identifiers defs) (n .text) ≡ Refused 6 0 = f .0 ∙ identified-out is (identifiers ds) n (all-left (Apart n) I N (d .0)) ∙ not-found ds n (all-right (Apart n) I N (d .0))
+      in
+      let own : Told start (record { kind = Kind.enumeration; token = some n; size = 1 }) =
+      (λ y. record {
+        parameter = λ e. absurd (omega arith);
+        enumeration = λ _. main-out n (a .0) ∙ none-found;
+        identifier = λ e. absurd (omega arith);
+        signal = λ e. absurd (omega arith);
+        bus = λ
+            e. absurd (omega arith);
+        typed = λ e. absurd (omega arith);
+        wordless = λ k. absurd (k refl);
+      }) in
       let w = identifiers-wordless n is ds I (all-left (Apart n) I N (d .0)) apart (all-left (Typed (Enumerated n is ∷ ds)) I N (t .1)) in
-      let ids : All (λ i. NoWords defs (i .name) × All (Apart (i .name)) M) is = all-both (λ i p q. (p, q)) is (by-identifier (NoWords defs) is w) (by-identifier (λ m. All (Apart m) M) is (all-left (λ m. All (Apart m) M) I N (a .1))) in
+      let ids : All (λ i. NoWords defs (i .name) × All (Apart (i .name)) M) is = all-both (λ i p q. (p, q)) is (by-identifier (NoWords defs) is w)
+      (by-identifier (λ m. All (Apart m) M) is (all-left (λ m. All (Apart m) M) I N (a .1))) in
       let typed : All (Typed ds) N = all-both (λ m p q. q ∙ leave (same (n .text) (m .text)) _ _ p) N (all-right (Apart n) I N (d .0)) (all-right (Typed (Enumerated n is ∷ ds)) I N (t .1)) in
-      let found : All (Found (identifiers ds)) N = all-both (λ m p q. q ∙ identified-out is (identifiers ds) m p) N (turned I N apart) (all-right (Found (identifiers (Enumerated n is ∷ ds))) I N (f .1)) in
+      let found : All (Found (identifiers ds)) N = all-both (λ m p q. q ∙ identified-out is (identifiers ds) m p) N (turned I N apart)
+      (all-right (Found (identifiers (Enumerated n is ∷ ds))) I N (f .1)) in
       every-append Told start (start + length (flatDefinition (Enumerated n is))) (flatDefinition (Enumerated n is)) (each flatDefinition ds) refl (own, identifiers-told is ids (suc start))
       (definitions-told ds (distinct-right I N (d .1)) (all-right (λ m. All (Apart m) M) I N (a .1)) typed found _)
     where
@@ -215,10 +282,14 @@ module _ (x : Spec) (once : declaredAgain x ≡ none) where
       let free = main-apart x (distinct-definitions x once) in
       let among = signals-among (λ n. All (Apart n) F) (x .main) free in
       let ins = waiting-own (inputs (x .main)) (waiting (outputs (x .main)) (identifiers defs)) (distinct-left I O s) in
-      let outs : All (λ m. find (firstTable x) (declaredName m .text) ≡ Done (waits m)) (outputs (x .main)) = all-both (λ m p q. waiting-out (inputs (x .main)) (waiting (outputs (x .main)) (identifiers defs)) (declaredName m) p ∙ q) (outputs (x .main)) (by-declaration (λ n. All (Apart n) I) (outputs (x .main)) (turned I O (across I O s))) (waiting-own (outputs (x .main)) (identifiers defs) (distinct-right I O s)) in
-      every-append Told 0 _ P _ refl (every-each Told flatParameter (λ p. All (Apart (p .name)) F × All (Apart (p .name)) M) parameter-told (x .parameters) (parameters-apart (x .parameters) (distinct-names x once)) 0)
+      let outs : All (λ m. find (firstTable x) (declaredName m .text) ≡ Done (waits m)) (outputs (x .main)) = all-both
+      (λ m p q. waiting-out (inputs (x .main)) (waiting (outputs (x .main)) (identifiers defs)) (declaredName m) p ∙ q) (outputs (x .main))
+      (by-declaration (λ n. All (Apart n) I) (outputs (x .main)) (turned I O (across I O s))) (waiting-own (outputs (x .main)) (identifiers defs) (distinct-right I O s)) in
+      every-append Told 0 _ P _ refl (every-each Told flatParameter (λ p. All (Apart (p .name)) F × All (Apart (p .name)) M) parameter-told (x .parameters)
+      (parameters-apart (x .parameters) (distinct-names x once)) 0)
       (every-append Told _ _ D _ refl (definitions-told defs (distinct-left F M both-names) (across F M both-names) (all-more (λ n _. refl) F (all-any F)) (all-more (λ n _. refl) F (all-any F)) _)
-      (main-told (x .main) (all-both (λ m p q. (p, q)) (inputs (x .main)) ins (by-declaration (λ n. All (Apart n) F) (inputs (x .main)) (among .0))) (all-both (λ m p q. (p, q)) (outputs (x .main)) outs (by-declaration (λ n. All (Apart n) F) (outputs (x .main)) (among .1))) _))
+      (main-told (x .main) (all-both (λ m p q. (p, q)) (inputs (x .main)) ins (by-declaration (λ n. All (Apart n) F) (inputs (x .main)) (among .0)))
+      (all-both (λ m p q. (p, q)) (outputs (x .main)) outs (by-declaration (λ n. All (Apart n) F) (outputs (x .main)) (among .1))) _))
     where
       turned : (l m : List Token) → Across l m → All (λ n. All (Apart n) l) m
       turned l m f = all-more (λ n h. all-more (λ k a. apart-sym k n a) l h) m (all-swap Apart l m f)

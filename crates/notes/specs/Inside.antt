@@ -6,7 +6,45 @@ use mathlib.Core.Option.{Option, some}
 use native.Mathlib.Omega.{arith}
 use Rattle.node.specs.Operators.{Not, X, G, F, And, Or, Implies, Iff, U, R, W}
 use Rattle.language.specs.Tokens.{Token}
-use Rattle.language.specs.Operators.{Plus, Minus, Times, Divide, Modulo, Size, Min, Max, Cup, Cap, Without, Equal, Unequal, Less, AtMost, Greater, AtLeast, Big, BigSum, BigProduct, BigCap, BigCup, BigAnd, BigOr, Window, FinallyIn, GloballyIn, Infix, Calculates, Combines, Compares, Membership, Connects, Prefix, Measures, WidthOf, Applies}
+use Rattle.language.specs.Operators.{
+  Plus,
+  Minus,
+  Times,
+  Divide,
+  Modulo,
+  Size,
+  Min,
+  Max,
+  Cup,
+  Cap,
+  Without,
+  Equal,
+  Unequal,
+  Less,
+  AtMost,
+  Greater,
+  AtLeast,
+  Big,
+  BigSum,
+  BigProduct,
+  BigCap,
+  BigCup,
+  BigAnd,
+  BigOr,
+  Window,
+  FinallyIn,
+  GloballyIn,
+  Infix,
+  Calculates,
+  Combines,
+  Compares,
+  Membership,
+  Connects,
+  Prefix,
+  Measures,
+  WidthOf,
+  Applies,
+}
 use Rattle.language.specs.Tree.{Expr, Named, Numeral, Truth, Index, Paren, Prefixed, Joined, Nexts, InWindow, Each, Between, Listed, Empty, Element, Range}
 use Rattle.language.specs.Laws.Basics.Lists.{All, all-append}
 use Rattle.entries.specs.Kinds as Kind
@@ -93,7 +131,8 @@ flat-inside (Paren t e) = over Kind.paren _ (flat e) (omega arith) (flat-inside 
 flat-inside (Prefixed t o e) = over (Kind.before o) _ (flat e) (before-low o) (flat-inside e)
 flat-inside (Joined t o a b) = over (Kind.joining o) _ (flat a ++ flat b) (joining-low o) (two (flat a) (flat b) (flat-inside a) (flat-inside b))
 flat-inside (Nexts t n e) = over Kind.nexts _ (flat n ++ flat e) (omega arith) (two (flat n) (flat e) (flat-inside n) (flat-inside e))
-flat-inside (InWindow t o n m e) = over (Kind.window o) _ (flat n ++ (flat m ++ flat e)) (window-low o) (two (flat n) (flat m ++ flat e) (flat-inside n) (two (flat m) (flat e) (flat-inside m) (flat-inside e)))
+flat-inside (InWindow t o n m e) = over (Kind.window o) _ (flat n ++ (flat m ++ flat e)) (window-low o)
+    (two (flat n) (flat m ++ flat e) (flat-inside n) (two (flat m) (flat e) (flat-inside m) (flat-inside e)))
 flat-inside (Each t o further i s e) =
     let b = under (Kind.binder further) (some i) (flat s) in
     over (Kind.big o) _ (b ++ flat e) (big-low o) (two b (flat e) (over (Kind.binder further) _ (flat s) (binder-low further) (flat-inside s)) (flat-inside e))

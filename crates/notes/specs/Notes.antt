@@ -45,7 +45,8 @@ note-fact ts w kept r sort n (Stands (Constant v)) h =
     subst (λ s. Fact ts w kept r (Stands (Constant v)) s n) (sym (h .0)) (number-noted (record { stands = λ t. ap (λ i. Done (Number i)) (sym (h .1 .0)); small = omega arith }))
 note-fact ts w kept r sort n (Stands Single) h = subst (λ s. Fact ts w kept r (Stands Single) s n) (sym (h .0)) (signal-noted refl)
 note-fact ts w kept r sort n (Stands (BusOf v)) h =
-    subst (λ s. Fact ts w kept r (Stands (BusOf v)) s n) (sym (h .0)) (bus-noted (record { waiting = λ e. absurd (omega arith); sized = λ l. ap (λ i. Stands (BusOf i)) (sym (h .1 .0)); small = omega arith }))
+    subst (λ s. Fact ts w kept r (Stands (BusOf v)) s n) (sym (h .0))
+    (bus-noted (record { waiting = λ e. absurd (omega arith); sized = λ l. ap (λ i. Stands (BusOf i)) (sym (h .1 .0)); small = omega arith }))
 note-fact ts w kept r sort n (Stands (Identifies ws)) h =
     subst (λ s. Fact ts w kept r (Stands (Identifies ws)) s n) (sym (h .0)) (identifier-noted (record { words = ws; identifies = refl; stored = h .1 .stored; fits = h .1 .fits; ends = h .1 .ends }))
 note-fact ts w kept r sort n (Stands WaitingBus) h =

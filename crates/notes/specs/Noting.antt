@@ -1,7 +1,7 @@
 -- The notes of all names before any of them has had its turn.
 use Prim.Native.Nat.{ℕ, zero, suc, _+_, _-_, _≤_, _<_}
 use mathlib.Core.Bool.{Bool, true, false, not, _&&_, false≢true}
-use mathlib.Core.List.{List, [], _∷_}
+use mathlib.Core.List.{List, []}
 use mathlib.Core.Path.{_≡_, refl, sym, ap, _∙_, subst}
 use native.Mathlib.Omega.{arith}
 use lib.Dec.{eqb, leb, ltb}
@@ -11,18 +11,18 @@ use borrow.Author.Tests.{leb-true, ltb-true, ltb-false}
 use Rattle.node.specs.Result.{Result}
 use Rattle.words.specs.Words.{wordAt}
 use Rattle.language.specs.Limits.{maxNames, maxTokens}
-use Rattle.language.specs.Tokens.{Token, tokens}
+use Rattle.language.specs.Tokens.{tokens}
 use Rattle.language.specs.Grammar.{Tokens}
 use Rattle.language.specs.Tree.{Spec}
 use Rattle.language.specs.Declared.{find}
 use Rattle.language.specs.Laws.Basics.Tests.{and-left, and-right}
 use Rattle.entries.specs.Kinds as Kind
-use Rattle.entries.specs.Flat.{Entry, outline}
-use Rattle.entries.specs.Stored.{firstEntry, kindOf, EntryAt, EntriesFrom}
+use Rattle.entries.specs.Flat.{outline}
+use Rattle.entries.specs.Stored.{firstEntry, kindOf, EntryAt}
 use Rattle.entries.specs.StoredLaws.{entry-kind}
 use Rattle.names.specs.Roles.{declares}
 use Rattle.names.specs.Scan.{tokenOf}
-use Rattle.names.specs.Walkable.{entryOf}
+use Rattle.names.specs.Walkable.{entryOf, stored-at}
 use Rattle.names.specs.Resolved.{Stored, Resolved}
 use Rattle.values.specs.World.{Meaning, NoValue, meaningAt}
 use Rattle.values.specs.Worlds.{inTable}
@@ -44,7 +44,8 @@ pub record Sorted (kind k sort n : ℕ) : Type 0 where
   pub enumeration : kind ≡ Kind.enumeration → sort ≡ Sort.nothing
 
 -- the kinds of entries that declare names
-declared-kinds : (P : ℕ → Type 0) → P Kind.parameter → P Kind.definition → P Kind.enumeration → P Kind.identifier → P Kind.signal → P Kind.bus → P Kind.typed → (k : ℕ) → declares Kind.parameter k ≡ true → P k
+declared-kinds : (P : ℕ → Type 0) → P Kind.parameter → P Kind.definition → P Kind.enumeration → P Kind.identifier → P Kind.signal → P Kind.bus → P Kind.typed → (k : ℕ)
+    → declares Kind.parameter k ≡ true → P k
 declared-kinds P a b c d e f g k y =
     let low = leb-true Kind.parameter k (and-left (leb Kind.parameter k) _ (and-left (leb Kind.parameter k && not (eqb k Kind.word)) (leb k Kind.typed) y)) in
     let high = leb-true k Kind.typed (and-right (leb Kind.parameter k && not (eqb k Kind.word)) (leb k Kind.typed) y) in
@@ -62,11 +63,6 @@ declared-kinds P a b c d e f g k y =
     go (suc (suc (suc (suc (suc (suc (suc zero))))))) l y = g
     go (suc (suc (suc (suc (suc (suc (suc (suc i)))))))) l y = absurd (omega arith)
 
-stored-at : (w : List ℕ) (ts : List Token) (i : ℕ) (es : List Entry) (k : ℕ) → k < length es → EntriesFrom w ts i es → EntryAt w ts (i + k) (entryOf es k)
-stored-at w ts i [] k l h = absurd (omega arith)
-stored-at w ts i (n ∷ es) zero l h = subst (λ d. EntryAt w ts d n) (omega arith) (h .0)
-stored-at w ts i (n ∷ es) (suc k) l h = subst (λ d. EntryAt w ts d (entryOf es k)) (omega arith) (stored-at w ts (suc i) es k (omega arith) (h .1))
-
 -- a name that the table has, or not
 table-note : (ts : Tokens) (w : List ℕ) (sort n : ℕ) (m : Meaning) → sort ≡ Sort.nothing → m ≡ NoValue → Note ts w sort n m
 table-note ts w sort n m e q = subst (Note ts w sort n) (sym q) e
@@ -75,7 +71,8 @@ module _ {x : Spec} {text w refs found : List ℕ} {count entries names : ℕ} (
   pub found-inside : (i : ℕ) → i < names → getD found i 0 < maxTokens
   found-inside i l = let a = declared-by r [] (firstTable x) i l .inside in let b = s .total in let c = s .few in omega arith
 
-  noted-by : (i : ℕ) → i < names → (sort n : ℕ) → Sorted (kindOf (wordAt w (firstEntry + getD found i 0))) (getD found i 0) sort n → Note (tokens text) w sort n (meaningAt (worldIn x [] (firstTable x)) i)
+  noted-by : (i : ℕ) → i < names → (sort n : ℕ) → Sorted (kindOf (wordAt w (firstEntry + getD found i 0))) (getD found i 0) sort n
+      → Note (tokens text) w sort n (meaningAt (worldIn x [] (firstTable x)) i)
   noted-by i l sort n h =
       let k = getD found i 0 in
       let b = declared-by r [] (firstTable x) i l in
@@ -91,13 +88,15 @@ module _ {x : Spec} {text w refs found : List ℕ} {count entries names : ℕ} (
       (λ q. table-note (tokens text) w sort n m (g .parameter q) (stands (λ e. omega arith) _ (f .parameter q)))
       (λ q. let y = b .means .body q in subst N (sym (y .defines)) (g .definition q))
       (λ q. table-note (tokens text) w sort n m (g .enumeration q) (stands (λ e. omega arith) _ (f .enumeration q)))
-      (λ q. let y = identifier-at s r k (b .inside) q in subst N (sym (stands (λ e. omega arith) _ (f .identifier q ∙ y .listed))) (g .identifier q .0, (let z = g .identifier q .1 in subst (λ j. WordsAt (tokens text) w j (y .words)) (sym z) (record { stored = y .stored; fits = y .fits; ends = y .ends }))))
+      (λ q. let y = identifier-at s r k (b .inside) q in subst N (sym (stands (λ e. omega arith) _ (f .identifier q ∙ y .listed)))
+      (g .identifier q .0, (let z = g .identifier q .1 in subst (λ j. WordsAt (tokens text) w j (y .words)) (sym z) (record { stored = y .stored; fits = y .fits; ends = y .ends }))))
       (λ q. subst N (sym (stands (λ e. omega arith) _ (f .signal q))) (g .signal q))
       (λ q. subst N (sym (stands (λ e. omega arith) _ (f .bus q))) (g .bus q))
       (λ q. subst N (sym (stands (λ e. omega arith) _ (f .typed q))) (g .typed q))
       (own .kind) (b .declaring) refl
 
-  pub noted-as : (i : ℕ) → i < names → (k kind sort n : ℕ) → k ≡ getD found i 0 → kind ≡ kindOf (wordAt w (firstEntry + k)) → Sorted kind k sort n → Note (tokens text) w sort n (meaningAt (worldIn x [] (firstTable x)) i)
+  pub noted-as : (i : ℕ) → i < names → (k kind sort n : ℕ) → k ≡ getD found i 0 → kind ≡ kindOf (wordAt w (firstEntry + k)) → Sorted kind k sort n
+      → Note (tokens text) w sort n (meaningAt (worldIn x [] (firstTable x)) i)
   noted-as i l k kind sort n e q h =
       noted-by i l sort n (subst (λ j. Sorted (kindOf (wordAt w (firstEntry + j))) j sort n) e (subst (λ j. Sorted j k sort n) q h))
 
@@ -123,7 +122,8 @@ pub record NoteIs (x : Spec) (text w : List ℕ) (i sort n : ℕ) : Type 0 where
 abbrev pub NotedTo : Spec → List ℕ → List ℕ → List ℕ → List ℕ → ℕ → Type 0
 NotedTo x text w sorts numbers i = (r : ℕ) → r < i → Note (tokens text) w (getD sorts r 0) (getD numbers r 0) (meaningAt (worldIn x [] (firstTable x)) r)
 
-pub noted-more : (x : Spec) (text w sorts numbers : List ℕ) (i sort n : ℕ) → i < length sorts → i < length numbers → NotedTo x text w sorts numbers i → NoteIs x text w i sort n → NotedTo x text w (set sorts i sort) (set numbers i n) (i + 1)
+pub noted-more : (x : Spec) (text w sorts numbers : List ℕ) (i sort n : ℕ) → i < length sorts → i < length numbers → NotedTo x text w sorts numbers i → NoteIs x text w i sort n
+    → NotedTo x text w (set sorts i sort) (set numbers i n) (i + 1)
 noted-more x text w sorts numbers i sort n a b h k r l = go (ltb r i) refl
   where
     go : (c : Bool) → ltb r i ≡ c → Note (tokens text) w (getD (set sorts i sort) r 0) (getD (set numbers i n) r 0) (meaningAt (worldIn x [] (firstTable x)) r)

@@ -5,7 +5,7 @@ use mathlib.Core.List.{List, [], _∷_, map}
 use mathlib.Core.Path.{_≡_, refl, sym, ap, _∙_, subst}
 use native.Mathlib.Omega.{arith}
 use lib.Dec.{eqb}
-use lib.ListN.{length}
+use lib.ListN.{length, length-map}
 use borrow.Author.Tests.{eqb-true, eqb-false, ne-eqb}
 use Rattle.language.specs.Bytes.{same}
 use Rattle.language.specs.Tokens.{Token}
@@ -18,15 +18,11 @@ use Rattle.names.specs.Numbering.{number-same, number-other}
 use Rattle.names.specs.AlikeLaws.{pushed}
 use Rattle.values.specs.World.{numbered}
 use Rattle.values.specs.AgreesLaws.{numbered-last}
-use Rattle.values.specs.WorldsLaws.{number-below}
+use Rattle.names.specs.ResolvedLaws.{number-below}
 
 numbered-else : {A : Type 0} (other a : A) (l : List A) (r : ℕ) → (r ≡ length l → ⊥) → numbered other (a ∷ l) r ≡ numbered other l r
 unfolding numbered
 numbered-else other a l r h = leave (eqb r (length l)) _ _ (ne-eqb r (length l) h)
-
-length-map : {A B : Type 0} (f : A → B) (l : List A) → length (map f l) ≡ length l
-length-map f [] = refl
-length-map f (a ∷ l) = let h = length-map f l in omega arith
 
 module _ {A : Type 0} (other : A) (P : A → Type 0) (f g : Token → A) (r : ℕ) where
   -- whatever name it is
@@ -37,42 +33,47 @@ module _ {A : Type 0} (other : A) (P : A → Type 0) (f g : Token → A) (r : �
       go : (b : Bool) → eqb r (length ns) ≡ b → (P (numbered other (map f ns) r) → P (numbered other (map g ns) r)) → P (numbered other (map g (n ∷ ns)) r)
       go true e ih =
           let q = eqb-true r (length ns) e in
-          subst P (sym (numbered-last other (g n) (map g ns) r (q ∙ sym (length-map g ns)))) (h .0 (subst P (numbered-last other (f n) (map f ns) r (q ∙ sym (length-map f ns))) p))
+          subst P (sym (numbered-last other (g n) (map g ns) r (q ∙ sym (length-map ns g)))) (h .0 (subst P (numbered-last other (f n) (map f ns) r (q ∙ sym (length-map ns f))) p))
       go false e ih =
           let q = eqb-false r (length ns) e in
-          subst P (sym (numbered-else other (g n) (map g ns) r (λ d. q (d ∙ length-map g ns)))) (ih (subst P (numbered-else other (f n) (map f ns) r (λ d. q (d ∙ length-map f ns))) p))
+          subst P (sym (numbered-else other (g n) (map g ns) r (λ d. q (d ∙ length-map ns g)))) (ih (subst P (numbered-else other (f n) (map f ns) r (λ d. q (d ∙ length-map ns f))) p))
 
   -- a name of another number than t's
-  pub numbered-other : (ns : Names) (t : Token) → Distinct ns → visible ns t ≡ true → (r ≡ numberIn ns t → ⊥) → ((n : Token) → Apart n t → P (f n) → P (g n)) → P (numbered other (map f ns) r) → P (numbered other (map g ns) r)
+  pub numbered-other : (ns : Names) (t : Token) → Distinct ns → visible ns t ≡ true → (r ≡ numberIn ns t → ⊥) → ((n : Token) → Apart n t → P (f n) → P (g n)) → P (numbered other (map f ns) r)
+      → P (numbered other (map g ns) r)
   numbered-other [] t d y h k p = p
   numbered-other (n ∷ ns) t d y h k p = go (same (n .text) (t .text)) refl (eqb r (length ns)) refl y (numbered-other ns t (d .1))
     where
-      go : (b : Bool) → same (n .text) (t .text) ≡ b → (c : Bool) → eqb r (length ns) ≡ c → (b || visible ns t) ≡ true → (visible ns t ≡ true → (r ≡ numberIn ns t → ⊥) → ((m : Token) → Apart m t → P (f m) → P (g m)) → P (numbered other (map f ns) r) → P (numbered other (map g ns) r)) → P (numbered other (map g (n ∷ ns)) r)
+      go : (b : Bool) → same (n .text) (t .text) ≡ b → (c : Bool) → eqb r (length ns) ≡ c → (b || visible ns t) ≡ true
+          → (visible ns t ≡ true → (r ≡ numberIn ns t → ⊥) → ((m : Token) → Apart m t → P (f m) → P (g m)) → P (numbered other (map f ns) r) → P (numbered other (map g ns) r))
+          → P (numbered other (map g (n ∷ ns)) r)
       go true e c u z ih =
           let a = number-same n ns t e in
           let q : r ≡ length ns → ⊥ = λ s. h (s ∙ sym a) in
-          subst P (sym (numbered-else other (g n) (map g ns) r (λ s. q (s ∙ length-map g ns))))
+          subst P (sym (numbered-else other (g n) (map g ns) r (λ s. q (s ∙ length-map ns g))))
           (numbered-moved ns (all-more (λ m v. k m (apart-sym t m (subst (λ l. same l (m .text) ≡ false) (same-equal (n .text) (t .text) e) v))) ns (d .0))
-          (subst P (numbered-else other (f n) (map f ns) r (λ s. q (s ∙ length-map f ns))) p))
+          (subst P (numbered-else other (f n) (map f ns) r (λ s. q (s ∙ length-map ns f))) p))
       go false e true u z ih =
           let q = eqb-true r (length ns) u in
-          subst P (sym (numbered-last other (g n) (map g ns) r (q ∙ sym (length-map g ns)))) (k n e (subst P (numbered-last other (f n) (map f ns) r (q ∙ sym (length-map f ns))) p))
+          subst P (sym (numbered-last other (g n) (map g ns) r (q ∙ sym (length-map ns g)))) (k n e (subst P (numbered-last other (f n) (map f ns) r (q ∙ sym (length-map ns f))) p))
       go false e false u z ih =
           let q = eqb-false r (length ns) u in
-          subst P (sym (numbered-else other (g n) (map g ns) r (λ s. q (s ∙ length-map g ns))))
-          (ih z (λ s. h (s ∙ sym (number-other n ns t e))) k (subst P (numbered-else other (f n) (map f ns) r (λ s. q (s ∙ length-map f ns))) p))
+          subst P (sym (numbered-else other (g n) (map g ns) r (λ s. q (s ∙ length-map ns g))))
+          (ih z (λ s. h (s ∙ sym (number-other n ns t e))) k (subst P (numbered-else other (f n) (map f ns) r (λ s. q (s ∙ length-map ns f))) p))
 
 -- the name of a spelling
-pub numbered-own : {A : Type 0} (P : A → Type 0) (other : A) (f : Token → A) (ns : Names) (t : Token) → ((n : Token) → n .text ≡ t .text → P (f n)) → visible ns t ≡ true → P (numbered other (map f ns) (numberIn ns t))
+pub numbered-own : {A : Type 0} (P : A → Type 0) (other : A) (f : Token → A) (ns : Names) (t : Token) → ((n : Token) → n .text ≡ t .text → P (f n)) → visible ns t ≡ true
+    → P (numbered other (map f ns) (numberIn ns t))
 numbered-own P other f [] t h y = absurd (false≢true y)
 numbered-own P other f (n ∷ ns) t h y = go (same (n .text) (t .text)) refl y (numbered-own P other f ns t h)
   where
-    go : (b : Bool) → same (n .text) (t .text) ≡ b → (b || visible ns t) ≡ true → (visible ns t ≡ true → P (numbered other (map f ns) (numberIn ns t))) → P (numbered other (map f (n ∷ ns)) (numberIn (n ∷ ns) t))
-    go true e z ih = subst P (sym (numbered-last other (f n) (map f ns) _ (number-same n ns t e ∙ sym (length-map f ns)))) (h n (same-equal (n .text) (t .text) e))
+    go : (b : Bool) → same (n .text) (t .text) ≡ b → (b || visible ns t) ≡ true → (visible ns t ≡ true → P (numbered other (map f ns) (numberIn ns t)))
+        → P (numbered other (map f (n ∷ ns)) (numberIn (n ∷ ns) t))
+    go true e z ih = subst P (sym (numbered-last other (f n) (map f ns) _ (number-same n ns t e ∙ sym (length-map ns f)))) (h n (same-equal (n .text) (t .text) e))
     go false e z ih =
         let s = number-other n ns t e in
         let l = number-below ns t z in
-        subst P (sym (numbered-else other (f n) (map f ns) _ (λ d. let m = length-map f ns in omega arith) ∙ ap (numbered other (map f ns)) s)) (ih z)
+        subst P (sym (numbered-else other (f n) (map f ns) _ (λ d. let m = length-map ns f in omega arith) ∙ ap (numbered other (map f ns)) s)) (ih z)
 
 -- distinct names, the last first
 pub distinct-pushed : (ns ms : Names) → Distinct ns → Distinct ms → Across ns ms → Distinct (pushed ns ms)

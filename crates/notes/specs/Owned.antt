@@ -9,7 +9,7 @@ use lib.ListN.{length, getD, length-append}
 use Rattle.language.specs.Tokens.{Token, tokens}
 use Rattle.language.specs.Tree.{Expr, Named, Identifier, Parameter, Definition, Defined, Enumerated, Declaration, OneSignal, OfWidth, OfType, Subsection, Inputs, Outputs, Lines, Spec}
 use Rattle.language.specs.Laws.Basics.Lists.{All, all-append}
-use Rattle.language.specs.Laws.Values.DistinctNames.{declaredName}
+use Rattle.language.specs.Listed.{declaredName}
 use Rattle.entries.specs.Kinds as Kind
 use Rattle.entries.specs.Flat.{Entry, under, leaf, flat, each, flatParameter, flatIdentifier, flatDefinition, flatDeclaration, flatLine, flatSubsection, outline}
 use Rattle.entries.specs.Stored.{EntryAt}
@@ -50,7 +50,8 @@ pub record DeclarationAt (x : Spec) (text w refs : List ℕ) (m : Declaration) (
   pub own : OwnAt x text w refs k (kindOf m) (declaredName m) (length (flatDeclaration m))
   pub width : WidthAt x text w refs m k
 
-each-both : {A : Type 0} (flatten : A → List Entry) {P Q R : ℕ → A → Type 0} → ((start : ℕ) (a : A) → P start a → Q start a → R start a) → (l : List A) (start : ℕ) → EachFrom flatten P start l → EachFrom flatten Q start l → EachFrom flatten R start l
+each-both : {A : Type 0} (flatten : A → List Entry) {P Q R : ℕ → A → Type 0} → ((start : ℕ) (a : A) → P start a → Q start a → R start a) → (l : List A) (start : ℕ) → EachFrom flatten P start l
+    → EachFrom flatten Q start l → EachFrom flatten R start l
 each-both flatten f [] start h g = tt
 each-both flatten f (a ∷ l) start h g = (f start a (h .0) (g .0), each-both flatten f l (start + length (flatten a)) (h .1) (g .1))
 
@@ -76,7 +77,8 @@ module _ {x : Spec} {text w refs found : List ℕ} {count entries n : ℕ} (s : 
   left-at : {start at : ℕ} {es : List Entry} → start ≡ at → Left x text w start es → Left x text w at es
   left-at {es = es} e h = subst (λ m. Left x text w m es) e h
 
-  own-here : (kind size : ℕ) (t : Token) → binds kind ≡ false → ends kind ≡ false → names kind ≡ true → (start : ℕ) (es : List Entry) → Rest start (record { kind = kind; token = some t; size = size } ∷ es) → Own start kind t size × Rest (suc start) es
+  own-here : (kind size : ℕ) (t : Token) → binds kind ≡ false → ends kind ≡ false → names kind ≡ true → (start : ℕ) (es : List Entry)
+      → Rest start (record { kind = kind; token = some t; size = size } ∷ es) → Own start kind t size × Rest (suc start) es
   own-here kind size t a b y start es h =
       let m : Entry = record { kind = kind; token = some t; size = size } in
       let g = resolved-entry r m a b start [] es (h .run) in
@@ -101,7 +103,8 @@ module _ {x : Spec} {text w refs found : List ℕ} {count entries n : ℕ} (s : 
   pass-plain (m ∷ ms) a start es h = left-at (omega arith) (pass-plain ms (a .1) (suc start) es (pass-entry s r m (a .0 .0) (a .0 .1) start (ms ++ es) h))
 
   -- things of one sort, one behind the other
-  pass-each : {A : Type 0} (flatten : A → List Entry) (P : ℕ → A → Type 0) → ((a : A) (start : ℕ) (es : List Entry) → Rest start (flatten a ++ es) → P start a × Rest (start + length (flatten a)) es) → (l : List A) (start : ℕ) (es : List Entry) → Rest start (each flatten l ++ es) → EachFrom flatten P start l × Rest (start + length (each flatten l)) es
+  pass-each : {A : Type 0} (flatten : A → List Entry) (P : ℕ → A → Type 0) → ((a : A) (start : ℕ) (es : List Entry) → Rest start (flatten a ++ es) → P start a × Rest (start + length (flatten a)) es)
+      → (l : List A) (start : ℕ) (es : List Entry) → Rest start (each flatten l ++ es) → EachFrom flatten P start l × Rest (start + length (each flatten l)) es
   pass-each flatten P f [] start es h = (tt, left-at (omega arith) h)
   pass-each flatten P f (a ∷ l) start es h =
       let one = f a start (each flatten l ++ es) (left-same (append-assoc (flatten a) (each flatten l) es) h) in
@@ -142,7 +145,8 @@ module _ {x : Spec} {text w refs found : List ℕ} {count entries n : ℕ} (s : 
       let g = pass-each flatLine Any (λ e at rest k. (tt, pass-line s r Kind.line none e refl refl at rest k .1)) fs (suc start) es (pass-entry s r _ refl refl start (each flatLine fs ++ es) h) in
       (tt, left-at (omega arith) (g .1))
 
-  parameter-at : (start : ℕ) (p : Parameter) → Own (start + length (flatParameter p) - 1) Kind.parameter (p .name) (length (flatParameter p)) → Parameterwise x text w refs start p → ParameterAt x text w refs p (start + length (flatParameter p) - 1)
+  parameter-at : (start : ℕ) (p : Parameter) → Own (start + length (flatParameter p) - 1) Kind.parameter (p .name) (length (flatParameter p)) → Parameterwise x text w refs start p
+      → ParameterAt x text w refs p (start + length (flatParameter p) - 1)
   parameter-at start p o h =
       let l = length-append (flat (p .value)) (record { kind = Kind.parameter; token = some (p .name); size = suc (length (flat (p .value))) } ∷ []) in
       record { own = o; worked = subst (λ k. Worked x text w refs [] k (p .value)) (omega arith) h }
@@ -159,10 +163,12 @@ module _ {x : Spec} {text w refs found : List ℕ} {count entries n : ℕ} (s : 
   subsection-at start (Outputs ds) o h = each-both flatDeclaration declaration-at ds (suc start) o h
   subsection-at start (Lines p es) o h = tt
 
-  passed : EachFrom flatParameter (λ start p. Own (start + length (flatParameter p) - 1) Kind.parameter (p .name) (length (flatParameter p))) 0 (x .parameters) × EachFrom flatSubsection OwnSubsection (mainStart x) (x .main)
+  passed : EachFrom flatParameter (λ start p. Own (start + length (flatParameter p) - 1) Kind.parameter (p .name) (length (flatParameter p))) 0 (x .parameters) × EachFrom flatSubsection OwnSubsection
+      (mainStart x) (x .main)
   passed =
       let ms = each flatSubsection (x .main) in
-      let p = pass-each flatParameter (λ start p. Own (start + length (flatParameter p) - 1) Kind.parameter (p .name) (length (flatParameter p))) (λ p start es h. own-line Kind.parameter (p .name) (p .value) refl refl refl start es h) (x .parameters) 0 _ (left-all s r) in
+      let p = pass-each flatParameter (λ start p. Own (start + length (flatParameter p) - 1) Kind.parameter (p .name) (length (flatParameter p)))
+      (λ p start es h. own-line Kind.parameter (p .name) (p .value) refl refl refl start es h) (x .parameters) 0 _ (left-all s r) in
       let d = pass-each flatDefinition Any definition-passed (x .definitions) (definitionsStart x) ms (left-at (omega arith) (p .1)) in
       let m = pass-each flatSubsection OwnSubsection subsection-passed (x .main) (mainStart x) [] (left-same (sym (append-nil ms)) (d .1)) in
       (p .0, m .0)

@@ -1,9 +1,12 @@
 // The own entries of parameters, of inputs, of outputs, in the text's order.
-use entries::FIRST_ENTRY;
+use entries::fields::FIRST_ENTRY;
+use entries::fields::SIZES;
+use entries::fields::TOKENS;
+use entries::kinds;
 use words::get;
 ghost use mathlib.Core.List.{List};
 ghost use mathlib.Core.Path.{_≡_};
-ghost use Prim.Native.Nat.{ℕ, _≤_, _<_, _+_};
+ghost use Prim.Native.Nat.{_≤_, _<_, _+_};
 ghost use lib.ListN.{length, set};
 ghost use Rattle.words.specs.Words.{wordAt};
 ghost use Rattle.language.specs.Limits.{workBytes, maxTokens};
@@ -14,8 +17,6 @@ ghost use Rattle.notes.specs.Chosen.{choice, takes as takes'};
 ghost use Rattle.notes.specs.Choosing.{Chooses};
 
 // The kind of a subsection's heading (crate entries, specs/Kinds), and what stands for a heading before MAIN.
-const HEADING: u32 = 63;
-
 pub const NO_HEADING: u32 = 8;
 
 // The word of entry i. It is called with entries that are there.
@@ -51,16 +52,17 @@ pub fn choose(
     from: usize,
 ) -> usize
     requires { ⌜ (workBytes ≤ length (now work)) × ((entries ≤ maxTokens) × (from ≤ maxTokens)) ⌝ }
-    ensures { λ r. ⌜ ((ts : Tokens) (es : List Entry) → EntriesFrom (now (work .entry)) ts 0 es → length es ≡ entries → Chooses (choice wanted low high) es (now (order .entry)) from (now (order .exit)) r) ⌝ }
+    ensures { λ r. ⌜ ((ts : Tokens) (es : List Entry) → EntriesFrom (now (work .entry)) ts 0 es → length es ≡ entries
+        → Chooses (choice wanted low high) es (now (order .entry)) from (now (order .exit)) r) ⌝ }
 {
     let mut heading = NO_HEADING;
     let mut at = from;
     let mut i: usize = 0;
     while i < entries {
         let word = entry_word(work, i);
-        let kind = word / 8192 / 8192;
-        if kind == HEADING {
-            heading = word % 8192;
+        let kind = word / SIZES / TOKENS;
+        if kind == kinds::HEADING {
+            heading = word % SIZES;
             i += 1;
             continue;
         }

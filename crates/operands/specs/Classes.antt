@@ -6,7 +6,39 @@ use mathlib.Core.Path.{_≡_, refl}
 use lib.ListN.{getD}
 use Rattle.node.specs.Result.{Done}
 use Rattle.language.specs.Tokens.{Token}
-use Rattle.language.specs.Operators.{Arithmetic, Plus, Minus, Times, Divide, Modulo, Measure, Size, Min, Max, Combination, Cup, Cap, Without, Big, BigSum, BigProduct, BigCap, BigCup, BigAnd, BigOr, Infix, Calculates, Combines, Compares, Membership, Connects, Prefix, Measures, WidthOf, Applies}
+use Rattle.language.specs.Operators.{
+  Arithmetic,
+  Plus,
+  Minus,
+  Times,
+  Divide,
+  Modulo,
+  Measure,
+  Size,
+  Min,
+  Max,
+  Combination,
+  Cup,
+  Cap,
+  Without,
+  Big,
+  BigSum,
+  BigProduct,
+  BigCap,
+  BigCup,
+  BigAnd,
+  BigOr,
+  Infix,
+  Calculates,
+  Combines,
+  Compares,
+  Membership,
+  Connects,
+  Prefix,
+  Measures,
+  WidthOf,
+  Applies,
+}
 use Rattle.language.specs.Tree.{Expr, Named, Numeral, Truth, Index, Paren, Prefixed, Joined, Nexts, InWindow, Each, Between, Listed, Empty, Element, Range}
 use Rattle.language.specs.Values.{Logic, Scope, value}
 

@@ -97,12 +97,14 @@ module _ {s : Source} {st : State} {base depth k : ℕ} {W : World} {env : List 
   expression-kind : {e : Expr} → Fits s st base depth false k W env c e → kindAt (s .work) k ≡ 52 → ⊥
   expression-kind {e} f h = no-element e (f .known .proper) (viewed f (ap classOf h))
 
-last-by : {s : Source} {st : State} {base depth k : ℕ} {W : World} {env : List ℕ} {c : Context} {a b : Expr} → Tail b → Fits s st base depth true k W env c (Element a b) → (kindAt (s .work) (k - 1) ≡ 52 → ⊥) → Last s st base depth k W env c a b
+last-by : {s : Source} {st : State} {base depth k : ℕ} {W : World} {env : List ℕ} {c : Context} {a b : Expr} → Tail b → Fits s st base depth true k W env c (Element a b)
+    → (kindAt (s .work) (k - 1) ≡ 52 → ⊥) → Last s st base depth k W env c a b
 unfolding _>>=_
 last-by nothing f h = record { fits = same-entry (omega arith) (first f); same = refl }
 last-by (another x y) f h = absurd (h (element-kind (rest f)))
 
-followed-by : {s : Source} {st : State} {base depth k : ℕ} {W : World} {env : List ℕ} {c : Context} {a b : Expr} → Tail b → Fits s st base depth true k W env c (Element a b) → kindAt (s .work) (k - 1) ≡ 52 → Followed s st base depth k W env c a b
+followed-by : {s : Source} {st : State} {base depth k : ℕ} {W : World} {env : List ℕ} {c : Context} {a b : Expr} → Tail b → Fits s st base depth true k W env c (Element a b)
+    → kindAt (s .work) (k - 1) ≡ 52 → Followed s st base depth k W env c a b
 followed-by {k = k} nothing f h = absurd (expression-kind (same-entry {j = k - 1} (omega arith) (first f)) h)
 followed-by {k = k} (another x y) f h =
     let i = element-inside f in
@@ -169,11 +171,21 @@ module _ {s : Source} {st : State} {base depth k : ℕ} where
     followed-first R = record { room = roomed alike (omega arith) (omega arith) (R .room); W = R .W; env = R .env; c = R .c; e = R .first; fits = first-fits (R .fits) }
 
     module _ {st' : State} {r : Worked} (v : NumberAt s st st' base depth (k - 1 - j) r) where
-      rest-fits : {W : World} {env : List ℕ} {c : Context} {a b : Expr} (f : Fits s st base depth true k W env c (Element a b)) → Fits s st' base depth true (k - 1) W env c (Element (followed-of f more .next) (followed-of f more .others))
+      rest-fits : {W : World} {env : List ℕ} {c : Context} {a b : Expr} (f : Fits s st base depth true k W env c (Element a b))
+          → Fits s st' base depth true (k - 1) W env c (Element (followed-of f more .next) (followed-of f more .others))
       rest-fits {W} {env} {c} {a} f = later (v .held) (v .noted W env c a (first-fits f)) (followed-of f more .fits-rest)
 
       pub followed-rest : ElementReady s st base depth k → Alike st st' → ElementReady s st' base depth (k - 1)
-      followed-rest R l = record { room = roomed l (omega arith) (omega arith) (R .room); W = R .W; env = R .env; c = R .c; first = followed-of (R .fits) more .next; others = followed-of (R .fits) more .others; fits = rest-fits (R .fits) }
+      followed-rest R l = record {
+        room = roomed l (omega arith) (omega arith) (R .room);
+        W = R .W;
+        env = R .env;
+        c = R .c;
+        first = followed-of (R .fits) more .next;
+        others = followed-of (R .fits)
+            more .others;
+        fits = rest-fits (R .fits);
+      }
 
       pub followed-no : {out : List ℕ} {n p : ℕ} → r ≡ Worked.Refused n p → ElementsAt s st st' base depth k out r
       followed-no {out} e =
@@ -184,7 +196,8 @@ module _ {s : Source} {st : State} {base depth k : ℕ} where
           }
 
       module _ {n : ℕ} (e : r ≡ Worked.Value n) {st'' : State} {out : List ℕ} {u : Worked} (w : ElementsAt s st' st'' base depth (k - 1) out u) where
-        both-work : {after : List ℕ} (z : Worked) → ((x y : Result Value) → TellsNumber r x → TellsElements out u y → TellsElements after z (x >>= number >>= λ n. y >>= set >>= λ l. Done (Set (insert n l)))) → ElementsAt s st st'' base depth k after z
+        both-work : {after : List ℕ} (z : Worked) → ((x y : Result Value) → TellsNumber r x → TellsElements out u y
+            → TellsElements after z (x >>= number >>= λ n. y >>= set >>= λ l. Done (Set (insert n l)))) → ElementsAt s st st'' base depth k after z
         both-work {after} z h =
             record {
               held = held-then (base + depth) st st' st'' (v .held) (w .held);
@@ -202,12 +215,21 @@ module _ {s : Source} {st : State} {base depth k : ℕ} where
         others-done {m} g {after} {l} i =
             both-work (Worked.Value l) (λ x y t o.
             let h = elements-listed g o in
-            record { tells = (insert n (h .0), number-done _ t e ∙ ap (λ z. z >>= set >>= λ l. Done (Set (insert n l))) (h .1), i .grows (h .0) (h .2), insert-ascending 0 maxNumber n (h .0) (omega arith) (number-small t e) (h .3)) })
+            record {
+              tells = (
+                insert n (h .0),
+                number-done _ t e ∙ ap (λ z. z >>= set >>= λ l. Done (Set (insert n l))) (h .1),
+                i .grows (h .0) (h .2),
+                insert-ascending 0 maxNumber n (h .0)
+                    (omega arith) (number-small t e) (h .3),
+              );
+            })
 
 pub grown-first : {before out : List ℕ} {x m : ℕ} → Grows before 0 x out m → m ≤ suc maxElements
 grown-first {before} g = listed-small (g .grows [] (empty-listing before))
 
-pub grown : {s : Source} {st st' : State} {base depth k : ℕ} {out after : List ℕ} {r : Worked} {m x l : ℕ} → ElementReady s st base depth k → ElementsAt s st st' base depth k out r → r ≡ Worked.Value m → Grows out m x after l → l ≤ suc maxElements
+pub grown : {s : Source} {st st' : State} {base depth k : ℕ} {out after : List ℕ} {r : Worked} {m x l : ℕ} → ElementReady s st base depth k → ElementsAt s st st' base depth k out r
+    → r ≡ Worked.Value m → Grows out m x after l → l ≤ suc maxElements
 grown R v e g = let h = elements-listed e (v .says (R .W) (R .env) (R .c) (R .first) (R .others) (R .fits)) in listed-small (g .grows (h .0) (h .2))
 
 -- braces
@@ -218,7 +240,8 @@ pub record Braced (s : Source) (st : State) (base depth k : ℕ) (W : World) (en
   pub same : value (c .values) e ≡ (value (c .values) (Element first others) >>= set >>= λ l. limited (placeAt (s .work) k) l >>= λ m. Done (Set m))
   pub inside : 1 ≤ k
 
-none-in : {s : Source} {st : State} {base depth k : ℕ} {W : World} {env : List ℕ} {c : Context} (t : Token) {b : Expr} → Tail b → Fits s st base depth false k W env c (Listed t b) → sizeAt (s .work) k ≡ 1 → value (c .values) (Listed t b) ≡ Done (Set [])
+none-in : {s : Source} {st : State} {base depth k : ℕ} {W : World} {env : List ℕ} {c : Context} (t : Token) {b : Expr} → Tail b → Fits s st base depth false k W env c (Listed t b)
+    → sizeAt (s .work) k ≡ 1 → value (c .values) (Listed t b) ≡ Done (Set [])
 unfolding _>>=_
 none-in t nothing f h = ap (λ x. x >>= λ m. Done (Set m)) (guard-pass 12 (t .at) (Done []) (le-leb 0 maxElements (omega arith)))
 none-in t (another x y) f h =
@@ -227,7 +250,8 @@ none-in t (another x y) f h =
     let m = element-entry x y in
     absurd (omega arith)
 
-some-in : {s : Source} {st : State} {base depth k : ℕ} {W : World} {env : List ℕ} {c : Context} (t : Token) {b : Expr} → Tail b → Fits s st base depth false k W env c (Listed t b) → (sizeAt (s .work) k ≡ 1 → ⊥) → Braced s st base depth k W env c (Listed t b)
+some-in : {s : Source} {st : State} {base depth k : ℕ} {W : World} {env : List ℕ} {c : Context} (t : Token) {b : Expr} → Tail b → Fits s st base depth false k W env c (Listed t b)
+    → (sizeAt (s .work) k ≡ 1 → ⊥) → Braced s st base depth k W env c (Listed t b)
 some-in t nothing f h = let z = own-size f in absurd (h (z ∙ own-more Kind.listed (some t) (flat Empty) ∙ omega arith))
 some-in {s} {c = c} t (another x y) f h =
     let l = below Kind.listed (some t) (flat (Element x y)) (f .known .at) in
@@ -236,22 +260,24 @@ some-in {s} {c = c} t (another x y) f h =
       first = x;
       others = y;
       fits = along f (known-listed t (Element x y) (f .known));
-      same = bind-again (value (c .values) (Element x y) >>= set) (limited (t .at)) _ ∙ ap (λ p. value (c .values) (Element x y) >>= set >>= λ l. limited p l >>= λ m. Done (Set m)) (sym (place-is (f .lexed) Kind.listed t (flat (Element x y)) (f .known .at)));
+      same = bind-again (value (c .values) (Element x y) >>= set) (limited (t .at)) _ ∙ ap (λ p. value (c .values) (Element x y) >>= set >>= λ l. limited p l >>= λ m. Done (Set m))
+          (sym (place-is (f .lexed) Kind.listed t (flat (Element x y)) (f .known .at)));
       inside = omega arith;
     }
 
-module _ {s : Source} {st : State} {base depth k : ℕ} {W : World} {env : List ℕ} {c : Context} {e : Expr} (f : Fits s st base depth false k W env c e) (h : classOf (kindAt (s .work) k) ≡ aListing) where
-  pub none-braced : sizeAt (s .work) k ≡ 1 → value (c .values) e ≡ Done (Set [])
-  none-braced z =
-      let v = viewed f h in
-      let g = same-expr (v .2) f in
-      ap (value (c .values)) (v .2) ∙ none-in (v .0) (tail (v .1) (g .known .proper .1)) g z
+module _ {s : Source} {st : State} {base depth k : ℕ} {W : World} {env : List ℕ} {c : Context} {e : Expr} (f : Fits s st base depth false k W env c e) (h : classOf (kindAt (s .work) k) ≡ aListing)
+  where
+    pub none-braced : sizeAt (s .work) k ≡ 1 → value (c .values) e ≡ Done (Set [])
+    none-braced z =
+        let v = viewed f h in
+        let g = same-expr (v .2) f in
+        ap (value (c .values)) (v .2) ∙ none-in (v .0) (tail (v .1) (g .known .proper .1)) g z
 
-  pub some-braced : (sizeAt (s .work) k ≡ 1 → ⊥) → Braced s st base depth k W env c e
-  some-braced z =
-      let v = viewed f h in
-      let g = same-expr (v .2) f in
-      subst (Braced s st base depth k W env c) (sym (v .2)) (some-in (v .0) (tail (v .1) (g .known .proper .1)) g z)
+    pub some-braced : (sizeAt (s .work) k ≡ 1 → ⊥) → Braced s st base depth k W env c e
+    some-braced z =
+        let v = viewed f h in
+        let g = same-expr (v .2) f in
+        subst (Braced s st base depth k W env c) (sym (v .2)) (some-in (v .0) (tail (v .1) (g .known .proper .1)) g z)
 
 module _ {s : Source} {st : State} {base depth k : ℕ} (h : classOf (kindAt (s .work) k) ≡ aListing) where
   pub empty-works : {out : List ℕ} → sizeAt (s .work) k ≡ 1 → ValueAt s st st base depth k out (Worth.Set 0)
@@ -262,7 +288,15 @@ module _ {s : Source} {st : State} {base depth k : ℕ} (h : classOf (kindAt (s 
     braced-some R = some-braced (R .fits) h z .inside
 
     pub braced-ready : Ready s st base depth false k → ElementReady s st base depth (k - 1)
-    braced-ready R = let b = some-braced (R .fits) h z in record { room = roomed alike (omega arith) (omega arith) (R .room); W = R .W; env = R .env; c = R .c; first = b .first; others = b .others; fits = b .fits }
+    braced-ready R = let b = some-braced (R .fits) h z in record {
+      room = roomed alike (omega arith) (omega arith) (R .room);
+      W = R .W;
+      env = R .env;
+      c = R .c;
+      first = b .first;
+      others = b .others;
+      fits = b .fits;
+    }
 
     module _ {st' : State} {out : List ℕ} {r : Worked} (v : ElementsAt s st st' base depth (k - 1) out r) where
       pub braced-no : {after : List ℕ} {n p : ℕ} → r ≡ Worked.Refused n p → ValueAt s st st' base depth k after (setted r)
@@ -270,7 +304,8 @@ module _ {s : Source} {st : State} {base depth k : ℕ} (h : classOf (kindAt (s 
       braced-no e =
           record {
             held = v .held;
-            says = λ W env c d f. let b = some-braced f h z in refuses-set e (b .same ∙ ap (λ x. x >>= set >>= λ l. limited (placeAt (s .work) k) l >>= λ m. Done (Set m)) (elements-refused e (v .says W env c _ _ (b .fits))));
+            says = λ W env c d f. let b = some-braced f h z in refuses-set e
+                (b .same ∙ ap (λ x. x >>= set >>= λ l. limited (placeAt (s .work) k) l >>= λ m. Done (Set m)) (elements-refused e (v .says W env c _ _ (b .fits))));
             noted = λ W env c d f. v .noted W env c _ _ (some-braced f h z .fits);
           }
 

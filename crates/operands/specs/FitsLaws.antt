@@ -8,9 +8,8 @@ use lib.ListN.{length, set}
 use Rattle.language.specs.Limits.{maxNumber}
 use Rattle.language.specs.Tokens.{Token, tokens}
 use Rattle.language.specs.Tree.{Expr}
-use Rattle.language.specs.Expansion.{Context}
+use Rattle.language.specs.Expansion.{Context, at}
 use Rattle.entries.specs.Flat.{flat}
-use Rattle.language.specs.Expansion.{at}
 use Rattle.values.specs.World.{World, Defines, meaningAt}
 use Rattle.values.specs.Known.{Known}
 use Rattle.values.specs.Slots.{Slots}
@@ -21,20 +20,34 @@ use Rattle.operands.specs.ClassLaws.{has-entry, expr-class, size-is}
 use Rattle.operands.specs.Working.{Source, State, Noted, Fits, Room, Held}
 
 -- another expression in the same context
-pub along : {s : Source} {st : State} {base depth k j : ℕ} {a b : Bool} {W : World} {env : List ℕ} {c : Context} {e d : Expr} → Fits s st base depth a k W env c e → Known (tokens (s .text)) (s .work) (s .refs) W env c b j d → Fits s st base depth b j W env c d
+pub along : {s : Source} {st : State} {base depth k j : ℕ} {a b : Bool} {W : World} {env : List ℕ} {c : Context} {e d : Expr} → Fits s st base depth a k W env c e
+    → Known (tokens (s .text)) (s .work) (s .refs) W env c b j d → Fits s st base depth b j W env c d
 along f h = record { count = f .count; lexed = f .lexed; known = h; bodies = f .bodies; facts = f .facts; deep = f .deep; slots = f .slots; small = f .small }
 
-pub same-expr : {s : Source} {st : State} {base depth k : ℕ} {b : Bool} {W : World} {env : List ℕ} {c : Context} {e d : Expr} → e ≡ d → Fits s st base depth b k W env c e → Fits s st base depth b k W env c d
+pub same-expr : {s : Source} {st : State} {base depth k : ℕ} {b : Bool} {W : World} {env : List ℕ} {c : Context} {e d : Expr} → e ≡ d → Fits s st base depth b k W env c e
+    → Fits s st base depth b k W env c d
 same-expr {s} {st} {base} {depth} {k} {b} {W} {env} {c} q f = subst (Fits s st base depth b k W env c) q f
 
-pub same-entry : {s : Source} {st : State} {base depth k j : ℕ} {b : Bool} {W : World} {env : List ℕ} {c : Context} {e : Expr} → k ≡ j → Fits s st base depth b k W env c e → Fits s st base depth b j W env c e
+pub same-entry : {s : Source} {st : State} {base depth k j : ℕ} {b : Bool} {W : World} {env : List ℕ} {c : Context} {e : Expr} → k ≡ j → Fits s st base depth b k W env c e
+    → Fits s st base depth b j W env c e
 same-entry {s} {st} {base} {depth} {b = b} {W} {env} {c} {e} q f = subst (λ i. Fits s st base depth b i W env c e) q f
 
 -- what was noted since
-pub later : {s : Source} {st st' : State} {base depth k : ℕ} {b : Bool} {W : World} {env : List ℕ} {c : Context} {e : Expr} → Held (base + depth) st st' → Noted s st' W → Fits s st base depth b k W env c e → Fits s st' base depth b k W env c e
+pub later : {s : Source} {st st' : State} {base depth k : ℕ} {b : Bool} {W : World} {env : List ℕ} {c : Context} {e : Expr} → Held (base + depth) st st' → Noted s st' W
+    → Fits s st base depth b k W env c e → Fits s st' base depth b k W env c e
 later {st = st} {st' = st'} {base} {env = env} h n f =
     let d = f .deep in
-    record { count = f .count; lexed = f .lexed; known = f .known; bodies = f .bodies; facts = n; deep = f .deep; slots = slots-kept (st .slots) (st' .slots) base env (λ i l. h i (omega arith)) (f .slots); small = f .small }
+    record {
+      count = f .count;
+      lexed = f .lexed;
+      known = f .known;
+      bodies = f .bodies;
+      facts = n;
+      deep = f .deep;
+      slots = slots-kept (st .slots) (st' .slots) base env (λ i l. h i (omega arith))
+          (f .slots);
+      small = f .small;
+    }
 
 pub held-none : (n : ℕ) (st : State) → Held n st st
 held-none n st i l = refl
@@ -78,7 +91,8 @@ module _ {s : Source} {st : State} {base depth k : ℕ} {W : World} {env : List 
       }
 
 -- a definition's body
-pub within : {s : Source} {st : State} {base depth k : ℕ} {b : Bool} {W : World} {env : List ℕ} {c : Context} {e : Expr} (r : ℕ) {n : ℕ} {d : Context} {a : Expr} (free : ℕ) → meaningAt W r ≡ Defines n d a → Fits s st base depth b k W env c e → Fits s st free 0 false n W [] d a
+pub within : {s : Source} {st : State} {base depth k : ℕ} {b : Bool} {W : World} {env : List ℕ} {c : Context} {e : Expr} (r : ℕ) {n : ℕ} {d : Context} {a : Expr} (free : ℕ)
+    → meaningAt W r ≡ Defines n d a → Fits s st base depth b k W env c e → Fits s st free 0 false n W [] d a
 within {s} {W = W} r free q f =
     record {
       count = f .count;

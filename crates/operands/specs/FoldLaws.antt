@@ -60,7 +60,8 @@ module _ {A : Type 0} (step : A → A → Result A) (G : ℕ → Result A) (a : 
 
   pub onward-more : {i : ℕ} {x y z : A} → i < n → G (getD a i 0) ≡ Done y → step x y ≡ Done z → onward step G x (part i n a) ≡ onward step G z (part (i + 1) n a)
   unfolding _>>=_
-  onward-more {i} {x} {y} {z} h e g = ap (onward step G x) (part-cons i n a h l) ∙ ap (λ r. r >>= λ u. step x u >>= λ v. onward step G v (part (i + 1) n a)) e ∙ ap (λ r. r >>= λ v. onward step G v (part (i + 1) n a)) g
+  onward-more {i} {x} {y} {z} h e g = ap (onward step G x) (part-cons i n a h l) ∙ ap (λ r. r >>= λ u. step x u >>= λ v. onward step G v (part (i + 1) n a)) e ∙ ap
+      (λ r. r >>= λ v. onward step G v (part (i + 1) n a)) g
 
   pub onward-no : {i : ℕ} (x : A) {m p : ℕ} → i < n → G (getD a i 0) ≡ Result.Refused m p → onward step G x (part i n a) ≡ Result.Refused m p
   unfolding _>>=_
@@ -68,7 +69,8 @@ module _ {A : Type 0} (step : A → A → Result A) (G : ℕ → Result A) (a : 
 
   pub onward-over : {i : ℕ} {x y : A} {m p : ℕ} → i < n → G (getD a i 0) ≡ Done y → step x y ≡ Result.Refused m p → onward step G x (part i n a) ≡ Result.Refused m p
   unfolding _>>=_
-  onward-over {i} {x} {y} h e g = ap (onward step G x) (part-cons i n a h l) ∙ ap (λ r. r >>= λ u. step x u >>= λ v. onward step G v (part (i + 1) n a)) e ∙ ap (λ r. r >>= λ v. onward step G v (part (i + 1) n a)) g
+  onward-over {i} {x} {y} h e g = ap (onward step G x) (part-cons i n a h l) ∙ ap (λ r. r >>= λ u. step x u >>= λ v. onward step G v (part (i + 1) n a)) e ∙ ap
+      (λ r. r >>= λ v. onward step G v (part (i + 1) n a)) g
 
   pub onward-end : {i : ℕ} {x : A} → n ≤ i → onward step G x (part i n a) ≡ Done x
   onward-end {i} {x} h = ap (onward step G x) (part-end i n a h l)
@@ -108,7 +110,8 @@ keeping-then {st = st} a b =
     }
 
 module _ {s : Source} {st0 st : State} {base depth k : ℕ} {o : Big} (g : Keeping s st0 st base depth k) (v : ℕ) (small : v ≤ maxNumber) (slot : base + depth < length (st .slots)) where
-  operand-fits : {W : World} {env : List ℕ} {c : Context} {e : Expr} → Fits s st0 base depth false k W env c e → (b : Under s k W env c e o) → Fits s (bumped st (base + depth) v) base (depth + 1) false (k - 1) W (v ∷ env) (at c (b .name) v) (b .operand)
+  operand-fits : {W : World} {env : List ℕ} {c : Context} {e : Expr} → Fits s st0 base depth false k W env c e → (b : Under s k W env c e o)
+      → Fits s (bumped st (base + depth) v) base (depth + 1) false (k - 1) W (v ∷ env) (at c (b .name) v) (b .operand)
   operand-fits {W} {env} {c} {e} f b = bound (b .name) v (later {st' = st} (g .held) (g .noted W env c e f) f) small slot (b .known v)
 
   pub operand-ready : (R : Ready s st0 base depth false k) → 1 ≤ k → Under s k (R .W) (R .env) (R .c) (R .e) o → Ready s (bumped st (base + depth) v) base (depth + 1) false (k - 1)
@@ -124,7 +127,8 @@ module _ {s : Source} {st0 st : State} {base depth k : ℕ} {o : Big} (g : Keepi
         fits = operand-fits (R .fits) b;
       }
 
-  module _ {st' : State} {P : World → Result Value → Type 0} (w : Works s (bumped st (base + depth) v) st' base (depth + 1) false (k - 1) P) (t : (W : World) (env : List ℕ) (c : Context) (e : Expr) → Fits s st0 base depth false k W env c e → Under s k W env c e o) where
+  module _ {st' : State} {P : World → Result Value → Type 0} (w : Works s (bumped st (base + depth) v) st' base (depth + 1) false (k - 1) P)
+      (t : (W : World) (env : List ℕ) (c : Context) (e : Expr) → Fits s st0 base depth false k W env c e → Under s k W env c e o) where
     pub operand-keeps : Alike (bumped st (base + depth) v) st' → Keeping s st0 st' base depth k
     operand-keeps a =
         let b = g .alike in
@@ -135,7 +139,8 @@ module _ {s : Source} {st0 st : State} {base depth k : ℕ} {o : Big} (g : Keepi
           noted = λ W env c e f. w .noted W _ _ _ (operand-fits f (t W env c e f));
         }
 
-    pub operand-told : {W : World} {env : List ℕ} {c : Context} {e : Expr} → Fits s st0 base depth false k W env c e → (b : Under s k W env c e o) → P W (value (naming (b .name) (Done (Number v)) (c .values)) (b .operand))
+    pub operand-told : {W : World} {env : List ℕ} {c : Context} {e : Expr} → Fits s st0 base depth false k W env c e → (b : Under s k W env c e o)
+        → P W (value (naming (b .name) (Done (Number v)) (c .values)) (b .operand))
     operand-told {W} f b = w .says W _ _ _ (operand-fits f b)
 
 -- a fold on its way: L, what the fold is, goes on from the element j with x so far
@@ -161,7 +166,8 @@ module _ {s : Source} {base depth k : ℕ} {o : Big} {A : Type 0} {step : A → 
   pub fold-here : {x : A} {j : ℕ} (st : State) → j ≤ n → Fold s base depth k o step proj a n st (onFrom s base depth k o step proj a n x j) st x j
   fold-here st l = record { keeps = keeping-none st; bounded = l; goes = λ W env c e f b. refl }
 
-  pub fold-join : {st0 st1 st : State} {x y : A} {i j : ℕ} {L : Whole s base depth k o step proj a n} → Fold s base depth k o step proj a n st0 L st1 x i → Fold s base depth k o step proj a n st1 (onFrom s base depth k o step proj a n x i) st y j → Fold s base depth k o step proj a n st0 L st y j
+  pub fold-join : {st0 st1 st : State} {x y : A} {i j : ℕ} {L : Whole s base depth k o step proj a n} → Fold s base depth k o step proj a n st0 L st1 x i
+      → Fold s base depth k o step proj a n st1 (onFrom s base depth k o step proj a n x i) st y j → Fold s base depth k o step proj a n st0 L st y j
   fold-join {st1 = st1} u v =
       record {
         keeps = keeping-then (u .keeps) (v .keeps);

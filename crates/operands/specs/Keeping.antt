@@ -14,7 +14,8 @@ use Rattle.operands.specs.declared.Worth.{Worth}
 
 -- r is a name that stands for the value v, which the answer x tells
 pub record Keeps (r : ℕ) (x : Worth) (out sorts numbers kept sorts' numbers' kept' : List ℕ) : Type 0 where
-  pub noted : (ts : Tokens) (w : List ℕ) (W : World) (v : Result Value) → ((t : Token) → meant (meaningAt W r) t ≡ v) → Tells ts w W out x v → Facts ts w W sorts numbers kept → Facts ts w W sorts' numbers' kept'
+  pub noted : (ts : Tokens) (w : List ℕ) (W : World) (v : Result Value) → ((t : Token) → meant (meaningAt W r) t ≡ v) → Tells ts w W out x v → Facts ts w W sorts numbers kept
+      → Facts ts w W sorts' numbers' kept'
 
 -- n entries of an array, from a on, stand in another from b on; all others there are as before
 pub record Moved (from : List ℕ) (a n : ℕ) (to : List ℕ) (b : ℕ) (to' : List ℕ) : Type 0 where

@@ -20,7 +20,11 @@ pub moved-none : {from to : List ℕ} {a b : ℕ} → Moved from a 0 to b to
 moved-none = record { here = λ i l. absurd (omega arith); elsewhere = λ i l. refl }
 
 pub moved-more : {from to to' : List ℕ} {a b i : ℕ} → Moved from a i to b to' → b + i < length to' → Moved from a (i + 1) to b (set to' (b + i) (getD from (a + i) 0))
-moved-more {from} {to} {to'} {a} {b} {i} h l = record { here = λ j m. go j m (decLt j i); elsewhere = λ j m. getD-set-other to' (b + i) j _ 0 (λ e. omega (arith, m (omega arith))) ∙ h .elsewhere j (λ n. omega (arith, m n)) }
+moved-more {from} {to} {to'} {a} {b} {i} h l = record {
+  here = λ j m. go j m (decLt j i);
+  elsewhere = λ j m. getD-set-other to' (b + i) j _ 0 (λ e. omega (arith, m (omega arith))) ∙ h .elsewhere j
+      (λ n. omega (arith, m n));
+}
   where
     go : (j : ℕ) → j < i + 1 → Dec (j < i) → getD (set to' (b + i) (getD from (a + i) 0)) (b + j) 0 ≡ getD from (a + j) 0
     go j m (yes n) = getD-set-other to' (b + i) (b + j) _ 0 (λ e. omega arith) ∙ h .here j n
@@ -36,9 +40,12 @@ abbrev Roomy : ℕ → List ℕ → List ℕ → Type 0
 Roomy r sorts numbers = (r < maxNames) × (maxNames ≤ length sorts) × (maxNames ≤ length numbers)
 
 pub keeps-number : {out sorts numbers kept : List ℕ} {n : ℕ} (r : ℕ) → Roomy r sorts numbers → Keeps r (Worth.Number n) out sorts numbers kept (set sorts r Sort.number) (set numbers r n) kept
-keeps-number {n = n} r l = record { noted = λ ts w W v m t f. facts-noted r Sort.number n (omega arith) (omega arith) (number-noted (record { stands = λ k. m k ∙ sym (t .says); small = t .sound })) f }
+keeps-number {n = n} r l = record {
+  noted = λ ts w W v m t f. facts-noted r Sort.number n (omega arith) (omega arith) (number-noted (record { stands = λ k. m k ∙ sym (t .says); small = t .sound })) f;
+}
 
-pub keeps-set : {out sorts numbers kept kept' : List ℕ} {n : ℕ} (r : ℕ) → Roomy r sorts numbers → maxElements < length out → r * room + room ≤ length kept → length kept' ≡ length kept → Moved out 0 n kept (r * room) kept' → Keeps r (Worth.Set n) out sorts numbers kept (set sorts r Sort.set) (set numbers r n) kept'
+pub keeps-set : {out sorts numbers kept kept' : List ℕ} {n : ℕ} (r : ℕ) → Roomy r sorts numbers → maxElements < length out → r * room + room ≤ length kept → length kept' ≡ length kept
+    → Moved out 0 n kept (r * room) kept' → Keeps r (Worth.Set n) out sorts numbers kept (set sorts r Sort.set) (set numbers r n) kept'
 keeps-set {out} {kept = kept} {kept' = kept'} {n} r l o fits long h =
     record {
       noted = λ ts w W v m t f.
@@ -54,4 +61,5 @@ keeps-nothing r = record { noted = λ ts w W v m t f. f }
 
 -- a kept set at the front of `out`
 pub moved-kept : {kept out out' : List ℕ} {n : ℕ} (r : ℕ) → n ≤ length out' → r * room + n ≤ length kept → Moved kept (r * room) n out 0 out' → take n out' ≡ keptAt kept r n
-moved-kept {kept} {out} {out'} {n} r l m h = sym (kept-is kept (take n out') r n (length-take-le n out' l) m (λ i k. sym (h .here i k) ∙ ap (λ j. getD out' j 0) (first i) ∙ sym (getD-take n out' i 0 k)))
+moved-kept {kept} {out} {out'} {n} r l m h = sym (kept-is kept (take n out') r n (length-take-le n out' l) m
+    (λ i k. sym (h .here i k) ∙ ap (λ j. getD out' j 0) (first i) ∙ sym (getD-take n out' i 0 k)))

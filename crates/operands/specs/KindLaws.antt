@@ -95,4 +95,5 @@ binary-class = from (λ k. classOf k ≡ aFormula) 22 17 go
     go (suc (suc (suc (suc (suc (suc zero)))))) l = refl
     go (suc (suc (suc (suc (suc (suc (suc zero))))))) l = refl
     go (suc (suc (suc (suc (suc (suc (suc (suc zero)))))))) l = refl
-    go (suc (suc (suc (suc (suc (suc (suc (suc (suc j))))))))) l = let e : 31 + j ≡ 22 + suc (suc (suc (suc (suc (suc (suc (suc (suc j)))))))) = omega arith in subst (λ n. classOf n ≡ aFormula) e (more j (omega arith))
+    go (suc (suc (suc (suc (suc (suc (suc (suc (suc j))))))))) l = let e : 31 + j ≡ 22 + suc (suc (suc (suc (suc (suc (suc (suc (suc j)))))))) = omega arith in
+        subst (λ n. classOf n ≡ aFormula) e (more j (omega arith))

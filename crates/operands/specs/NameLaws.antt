@@ -14,14 +14,13 @@ use Rattle.language.specs.Tree.{Expr, Named}
 use Rattle.language.specs.Grammar.{front}
 use Rattle.language.specs.Values.{Value, inRange, decimal, value}
 use Rattle.language.specs.Expansion.{Context}
-use Rattle.language.specs.Laws.Values.ValueLaws.{inRange-sane}
+use Rattle.language.specs.Laws.Values.ValueLaws.{inRange-sane, Ordered}
 use Rattle.entries.specs.Kinds as Kind
 use Rattle.entries.specs.StoredLaws.{ends-own}
 use Rattle.sets.specs.Answers.{says}
 use Rattle.sets.specs.Digits.{digitsAt}
 use Rattle.sets.specs.declared.Worked.{Worked}
 use Rattle.language.specs.Laws.Basics.Lists.{All}
-use Rattle.language.specs.Laws.Values.ValueLaws.{Ordered}
 use Rattle.values.specs.World.{Meaning, World, meant, meaningAt}
 use Rattle.values.specs.Agrees.{Uses}
 use Rattle.values.specs.Known.{Known}
@@ -45,7 +44,8 @@ use Rattle.operands.specs.TellingLaws.{gives-number}
 use Rattle.operands.specs.StepLaws.{none-works}
 
 -- a numeral is the digits at its place
-pub numeral-works : {s : Source} {base depth k p : ℕ} {out : List ℕ} (st : State) → classOf (kindAt (s .work) k) ≡ aNumeral → (r : Worked) → p ≡ placeAt (s .work) k → says r ≡ inRange p (decimal 0 (digitsAt (s .text) p)) → ValueAt s st st base depth k out (numbered r)
+pub numeral-works : {s : Source} {base depth k p : ℕ} {out : List ℕ} (st : State) → classOf (kindAt (s .work) k) ≡ aNumeral → (r : Worked) → p ≡ placeAt (s .work) k
+    → says r ≡ inRange p (decimal 0 (digitsAt (s .text) p)) → ValueAt s st st base depth k out (numbered r)
 numeral-works {s} {k = k} {p} st h r q g =
     none-works st (λ W env c e f.
     let v = viewed f h in
@@ -54,7 +54,8 @@ numeral-works {s} {k = k} {p} st h r q g =
     let place : p ≡ t .at = q ∙ place-is (f .lexed) Kind.numeral t [] (i .known .at) in
     let o = ends-own Kind.numeral (some t) [] (i .known .at) in
     let same : front (drop (o .index) (tokens (s .text))) ≡ t = o .keeps .0 in
-    let spelt : digitsAt (s .text) (t .at) ≡ t .text = subst (λ u. digitsAt (s .text) (u .at) ≡ u .text) same (numeral-spelt (s .text) (o .index) (let z = o .keeps .1 in omega arith) (subst (λ u. isOf Digits u ≡ true) (sym same) (i .known .proper .1))) in
+    let spelt : digitsAt (s .text) (t .at) ≡ t .text = subst (λ u. digitsAt (s .text) (u .at) ≡ u .text) same
+    (numeral-spelt (s .text) (o .index) (let z = o .keeps .1 in omega arith) (subst (λ u. isOf Digits u ≡ true) (sym same) (i .known .proper .1))) in
     let g' : says r ≡ inRange (t .at) (decimal 0 (t .text)) = g ∙ ap (λ n. inRange n (decimal 0 (digitsAt (s .text) n))) place ∙ ap (λ l. inRange (t .at) (decimal 0 l)) spelt in
     gives-number r g' (inRange-sane (t .at) (decimal 0 (t .text))) (ap (value (c .values)) (v .1)))
 
@@ -96,7 +97,8 @@ module _ {s : Source} {st : State} {base depth k : ℕ} (h : classOf (kindAt (s 
         record { says = sym (used f .same ∙ used-element u (st .slots) base (f .slots) l); sound = slot-small (st .slots) base env (f .slots) (f .small) (r - maxNames) (omega arith) })
 
     module _ (l : r < maxNames) where
-      fact : {W : World} {env : List ℕ} {c : Context} {e : Expr} → Fits s st base depth false k W env c e → Fact (tokens (s .text)) (s .work) (st .kept) r (meaningAt W r) (getD (st .sorts) r 0) (getD (st .numbers) r 0)
+      fact : {W : World} {env : List ℕ} {c : Context} {e : Expr} → Fits s st base depth false k W env c e
+          → Fact (tokens (s .text)) (s .work) (st .kept) r (meaningAt W r) (getD (st .sorts) r 0) (getD (st .numbers) r 0)
       fact f = f .facts .noted r l
 
       stands : {W : World} {env : List ℕ} {c : Context} {e : Expr} (f : Fits s st base depth false k W env c e) → value (c .values) e ≡ meant (meaningAt W r) (used f .token)
@@ -121,7 +123,8 @@ module _ {s : Source} {st : State} {base depth k : ℕ} (h : classOf (kindAt (s 
       pub unsized-works : {out : List ℕ} {p : ℕ} → getD (st .sorts) r 0 ≡ Sort.bus → getD (st .numbers) r 0 ≡ 0 → p ≡ placeAt (s .work) k → ValueAt s st st base depth k out (Worth.Unsized p)
       unsized-works z n p = none-works st (λ W env c e f. record { says = sym (is f (fact f .bus z .waiting n) ∙ ap (λ x. Done (Value.Unsized x)) (sym (p ∙ used f .place))); sound = tt })
 
-      pub bus-works : {out : List ℕ} {p : ℕ} → getD (st .sorts) r 0 ≡ Sort.bus → 0 < getD (st .numbers) r 0 → p ≡ placeAt (s .work) k → ValueAt s st st base depth k out (Worth.Bus p r (getD (st .numbers) r 0))
+      pub bus-works : {out : List ℕ} {p : ℕ} → getD (st .sorts) r 0 ≡ Sort.bus → 0 < getD (st .numbers) r 0 → p ≡ placeAt (s .work) k
+          → ValueAt s st st base depth k out (Worth.Bus p r (getD (st .numbers) r 0))
       bus-works {p = p} z n q =
           none-works st (λ W env c e f.
           let b = fact f .bus z in
@@ -137,7 +140,8 @@ module _ {s : Source} {st : State} {base depth k : ℕ} (h : classOf (kindAt (s 
       pub kept-fits : Ready s st base depth false k → getD (st .sorts) r 0 ≡ Sort.set → (getD (st .numbers) r 0 ≤ maxElements) × (r * room + room ≤ length (st .kept))
       kept-fits R z = let i = fact (R .fits) .set z in (i .few, i .fits)
 
-      pub kept-set-works : {out out' : List ℕ} → getD (st .sorts) r 0 ≡ Sort.set → maxElements < length out' → Moved (st .kept) (r * room) (getD (st .numbers) r 0) out 0 out' → ValueAt s st st base depth k out' (Worth.Set (getD (st .numbers) r 0))
+      pub kept-set-works : {out out' : List ℕ} → getD (st .sorts) r 0 ≡ Sort.set → maxElements < length out' → Moved (st .kept) (r * room) (getD (st .numbers) r 0) out 0 out'
+          → ValueAt s st st base depth k out' (Worth.Set (getD (st .numbers) r 0))
       kept-set-works {out' = out'} z b m =
           none-works st (λ W env c e f.
           let i = fact f .set z in
@@ -148,22 +152,34 @@ module _ {s : Source} {st : State} {base depth k : ℕ} (h : classOf (kindAt (s 
 
       -- a definition
       module _ (z : getD (st .sorts) r 0 ≡ Sort.body) where
-        body-fits : {W : World} {env : List ℕ} {c : Context} {e : Expr} (f : Fits s st base depth false k W env c e) → Fits s st (base + depth) 0 false (getD (st .numbers) r 0) W [] (fact f .body z .context) (fact f .body z .expr)
+        body-fits : {W : World} {env : List ℕ} {c : Context} {e : Expr} (f : Fits s st base depth false k W env c e)
+            → Fits s st (base + depth) 0 false (getD (st .numbers) r 0) W [] (fact f .body z .context) (fact f .body z .expr)
         body-fits f = within r (base + depth) (fact f .body z .defines) f
 
         pub body-before : Ready s st base depth false k → getD (st .numbers) r 0 < k
         body-before R = let b = fact (R .fits) .body z in named-before (R .fits) b
           where
-            named-before : {W : World} {env : List ℕ} {c : Context} {e : Expr} (f : Fits s st base depth false k W env c e) (b : IsBody (meaningAt W r) (getD (st .numbers) r 0)) → getD (st .numbers) r 0 < k
+            named-before : {W : World} {env : List ℕ} {c : Context} {e : Expr} (f : Fits s st base depth false k W env c e) (b : IsBody (meaningAt W r) (getD (st .numbers) r 0))
+                → getD (st .numbers) r 0 < k
             named-before {W} f b = named-body (used f .token) (used f .known) _ _ _ (omega arith) (ap (meaningAt W) (sym q) ∙ b .defines)
 
         pub body-ready : Ready s st base depth false k → Ready s st (base + depth) 0 false (getD (st .numbers) r 0)
-        body-ready R = let b = body-before R in record { room = roomed alike (omega arith) (omega arith) (R .room); W = R .W; env = []; c = fact (R .fits) .body z .context; e = fact (R .fits) .body z .expr; fits = body-fits (R .fits) }
+        body-ready R = let b = body-before R in record {
+          room = roomed alike (omega arith) (omega arith) (R .room);
+          W = R .W;
+          env = [];
+          c = fact (R .fits) .body z .context;
+          e = fact (R .fits) .body
+              z .expr;
+          fits = body-fits (R .fits);
+        }
 
-        pub body-works : {st' : State} {out : List ℕ} {x : Worth} {sorts numbers kept : List ℕ} → ValueAt s st st' (base + depth) 0 (getD (st .numbers) r 0) out x → Keeps r x out (st' .sorts) (st' .numbers) (st' .kept) sorts numbers kept → ValueAt s st (record { sorts = sorts; numbers = numbers; kept = kept; slots = st' .slots }) base depth k out x
+        pub body-works : {st' : State} {out : List ℕ} {x : Worth} {sorts numbers kept : List ℕ} → ValueAt s st st' (base + depth) 0 (getD (st .numbers) r 0) out x
+            → Keeps r x out (st' .sorts) (st' .numbers) (st' .kept) sorts numbers kept → ValueAt s st (record { sorts = sorts; numbers = numbers; kept = kept; slots = st' .slots }) base depth k out x
         body-works {x = x} v g =
             record {
               held = λ i m. v .held i (omega arith);
               says = λ W env c e f. let b = fact f .body z in subst (Tells (tokens (s .text)) (s .work) W _ x) (sym (is f (b .defines))) (v .says W [] (b .context) (b .expr) (body-fits f));
-              noted = λ W env c e f. let b = fact f .body z in g .noted _ _ W _ (λ t. ap (λ m. meant m t) (b .defines)) (v .says W [] (b .context) (b .expr) (body-fits f)) (v .noted W [] (b .context) (b .expr) (body-fits f));
+              noted = λ W env c e f. let b = fact f .body z in g .noted _ _ W _ (λ t. ap (λ m. meant m t) (b .defines)) (v .says W [] (b .context) (b .expr) (body-fits f))
+                  (v .noted W [] (b .context) (b .expr) (body-fits f));
             }

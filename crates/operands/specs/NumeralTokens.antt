@@ -4,18 +4,40 @@ use Prim.Native.String.{String}
 use mathlib.Core.Bool.{Bool, true, false, _&&_, false≢true}
 use mathlib.Core.List.{List, [], _∷_}
 use mathlib.Core.Path.{_≡_, refl, sym, ap, _∙_}
-use native.Mathlib.Omega.{arith}
 use lib.Dec.{leb, eqb}
 use lib.ListN.{length, take, drop}
 use Rattle.language.specs.Limits.{maxName}
 use Rattle.language.specs.Bytes.{ascii, isBlank, isDigit, isNameStart, isNameByte, isMark, starts, isOneOf}
-use Rattle.language.specs.Tokens.{Class, Numeral, Quoted, Wrong, Blank, code, Token, isOf, Piece, run, quotedSize, commentSize, signs, signAt, words, wordAt, closed, pieceAt, enumeratingAfter, lex, tokens}
+use Rattle.language.specs.Tokens.{
+  Class,
+  Numeral,
+  Quoted,
+  Wrong,
+  Blank,
+  code,
+  Token,
+  isOf,
+  Piece,
+  run,
+  quotedSize,
+  commentSize,
+  signs,
+  signAt,
+  words,
+  wordAt,
+  closed,
+  pieceAt,
+  enumeratingAfter,
+  lex,
+  tokens,
+}
 use Rattle.language.specs.Grammar.{front}
 use Rattle.language.specs.Laws.Basics.Lists.{All}
 use Rattle.language.specs.Laws.Basics.Tests.{split}
 use Rattle.language.specs.Laws.Grammar.PieceLaws.{isClass}
 use Rattle.language.specs.Laws.Grammar.TokenLaws.{drop-next}
 use Rattle.sets.specs.Digits.{digitsAt}
+use Rattle.lexer.specs.LexingLaws.{front-all}
 
 abbrev Whole : List ℕ → Piece → Type 0
 Whole s p = isClass Numeral p ≡ true → p .size ≡ run isDigit s
@@ -65,10 +87,6 @@ lex-spelt text e at zero (b ∷ s) h =
     let later : (m : Bool) → P (lex m (suc at) (p .size - 1) s) = λ m. lex-spelt text m (suc at) (p .size - 1) s (drop-next text at b s h) in
     split P (isOf Wrong t) (λ w. (first, tt)) (λ _. split P (isOf Blank t) (λ _. later e) (λ z. (first, later (enumeratingAfter e t))))
 
-front-all : (Q : Token → Type 0) (i : ℕ) (ts : List Token) → i < length ts → All Q ts → Q (front (drop i ts))
-front-all Q i [] l h = absurd (omega arith)
-front-all Q zero (t ∷ ts) l h = h .0
-front-all Q (suc i) (t ∷ ts) l h = front-all Q i ts (omega arith) (h .1)
-
-pub numeral-spelt : (text : List ℕ) (i : ℕ) → i < length (tokens text) → isOf Numeral (front (drop i (tokens text))) ≡ true → digitsAt text (front (drop i (tokens text)) .at) ≡ front (drop i (tokens text)) .text
+pub numeral-spelt : (text : List ℕ) (i : ℕ) → i < length (tokens text) → isOf Numeral (front (drop i (tokens text))) ≡ true
+    → digitsAt text (front (drop i (tokens text)) .at) ≡ front (drop i (tokens text)) .text
 numeral-spelt text i l = front-all (Spelt text) i (tokens text) l (lex-spelt text false 0 0 text refl)

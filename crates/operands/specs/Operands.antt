@@ -101,7 +101,8 @@ module _ {s : Source} {st : State} {base depth k : ℕ} {W : World} {env : List 
   sc = c .values
 
   -- one operand a, under the kind n
-  one : (F : ℕ → Result Value → Result Value) (n : ℕ) (t : Token) (a : Expr) → EndsAt w (tokens (s .text)) k (under n (some t) (flat a)) → Fits s st base depth false (k - 1) W env c a → value sc e ≡ F (t .at) (value sc a) → One s st base depth k W env c e F
+  one : (F : ℕ → Result Value → Result Value) (n : ℕ) (t : Token) (a : Expr) → EndsAt w (tokens (s .text)) k (under n (some t) (flat a)) → Fits s st base depth false (k - 1) W env c a
+      → value sc e ≡ F (t .at) (value sc a) → One s st base depth k W env c e F
   one F n t a h g q =
       let l = below n (some t) (flat a) h in
       let m = has-entry a (g .known .proper) in
@@ -117,7 +118,8 @@ module _ {s : Source} {st : State} {base depth k : ℕ} {W : World} {env : List 
   measure-of {m} h =
       let v = viewed f h in
       let g = same-expr (v .2) f in
-      one (measured m) (Kind.before (Measures m)) (v .0) (v .1) (g .known .at) (along g (known-prefixed (v .0) (Measures m) (v .1) (g .known))) (ap (value sc) (v .2) ∙ bind-again (value sc (v .1) >>= set) (measure (v .0 .at) m) _)
+      one (measured m) (Kind.before (Measures m)) (v .0) (v .1) (g .known .at) (along g (known-prefixed (v .0) (Measures m) (v .1) (g .known)))
+      (ap (value sc) (v .2) ∙ bind-again (value sc (v .1) >>= set) (measure (v .0 .at) m) _)
 
   pub width-of : classOf (kindAt w k) ≡ aWidth → One s st base depth k W env c e width
   width-of h =
@@ -126,7 +128,9 @@ module _ {s : Source} {st : State} {base depth k : ℕ} {W : World} {env : List 
       one width (Kind.before WidthOf) (v .0) (v .1) (g .known .at) (along g (known-prefixed (v .0) WidthOf (v .1) (g .known))) (ap (value sc) (v .2))
 
   -- two operands a and b
-  two : (F : ℕ → Result Value → Result Value → Result Value) (n : ℕ) (t : Token) (a b : Expr) → EndsAt w (tokens (s .text)) k (under n (some t) (flat a ++ flat b)) → Fits s st base depth false (k - 1 - length (flat b)) W env c a → Fits s st base depth false (k - 1) W env c b → value sc e ≡ F (t .at) (value sc a) (value sc b) → Two s st base depth k W env c e F
+  two : (F : ℕ → Result Value → Result Value → Result Value) (n : ℕ) (t : Token) (a b : Expr) → EndsAt w (tokens (s .text)) k (under n (some t) (flat a ++ flat b))
+      → Fits s st base depth false (k - 1 - length (flat b)) W env c a → Fits s st base depth false (k - 1) W env c b → value sc e ≡ F (t .at) (value sc a) (value sc b)
+      → Two s st base depth k W env c e F
   two F n t a b h g i q =
       let l = below n (some t) (flat a ++ flat b) h in
       let m = has-entry a (g .known .proper) in

@@ -71,55 +71,62 @@ unfolding _>>=_
 merged-told (Worked.Value n) t e = record { says = sym (e ∙ t .says); sound = (t .few, t .ordered) }
 merged-told (Worked.Refused n p) t e = record { says = sym (e ∙ t .says); sound = tt }
 
-module _ {s : Source} {st : State} {base depth k : ℕ} {o : Big} (t : (W : World) (env : List ℕ) (c : Context) (e : Expr) → Fits s st base depth false k W env c e → Over s st base depth k W env c e o) where
-  pub over-some : Ready s st base depth false k → 2 ≤ k
-  over-some R = let i = t (R .W) (R .env) (R .c) (R .e) (R .fits) .inside in omega arith
+module _ {s : Source} {st : State} {base depth k : ℕ} {o : Big} (t : (W : World) (env : List ℕ) (c : Context) (e : Expr) → Fits s st base depth false k W env c e → Over s st base depth k W env c e o)
+  where
+    pub over-some : Ready s st base depth false k → 2 ≤ k
+    over-some R = let i = t (R .W) (R .env) (R .c) (R .e) (R .fits) .inside in omega arith
 
-  -- j is the size of the operand
-  module _ (j : ℕ) (q : j ≡ sizeAt (s .work) (k - 1)) where
-    pub over-inside : Ready s st base depth false k → 2 + j ≤ k
-    over-inside R = let i = t (R .W) (R .env) (R .c) (R .e) (R .fits) .inside in omega arith
+    -- j is the size of the operand
+    module _ (j : ℕ) (q : j ≡ sizeAt (s .work) (k - 1)) where
+      pub over-inside : Ready s st base depth false k → 2 + j ≤ k
+      over-inside R = let i = t (R .W) (R .env) (R .c) (R .e) (R .fits) .inside in omega arith
 
-    set-fits : {W : World} {env : List ℕ} {c : Context} {e : Expr} (f : Fits s st base depth false k W env c e) → Fits s st base depth false (k - 2 - j) W env c (t W env c e f .set-of)
-    set-fits {W} {env} {c} {e} f = subst (λ i. Fits s st base depth false (k - 2 - i) W env c (t W env c e f .set-of)) (sym q) (t W env c e f .fits-set)
+      set-fits : {W : World} {env : List ℕ} {c : Context} {e : Expr} (f : Fits s st base depth false k W env c e) → Fits s st base depth false (k - 2 - j) W env c (t W env c e f .set-of)
+      set-fits {W} {env} {c} {e} f = subst (λ i. Fits s st base depth false (k - 2 - i) W env c (t W env c e f .set-of)) (sym q) (t W env c e f .fits-set)
 
-    pub over-set : Ready s st base depth false k → Ready s st base depth false (k - 2 - j)
-    over-set R = record { room = roomed alike (omega arith) (omega arith) (R .room); W = R .W; env = R .env; c = R .c; e = _; fits = set-fits (R .fits) }
+      pub over-set : Ready s st base depth false k → Ready s st base depth false (k - 2 - j)
+      over-set R = record { room = roomed alike (omega arith) (omega arith) (R .room); W = R .W; env = R .env; c = R .c; e = _; fits = set-fits (R .fits) }
 
-    -- the set alone
-    pub set-alone : {st' : State} {P Q : World → Result Value → Type 0} → Works s st st' base depth false (k - 2 - j) P → ((W : World) (x : Result Value) (c : Context) (e : Expr) → P W x → Q W (x >>= set >>= overSet c e)) → Works s st st' base depth false k Q
-    set-alone {Q = Q} v h =
-        record {
-          held = v .held;
-          says = λ W env c e f. subst (Q W) (sym (t W env c e f .same)) (h W _ c e (v .says W env c _ (set-fits f)));
-          noted = λ W env c e f. v .noted W env c _ (set-fits f);
-        }
+      -- the set alone
+      pub set-alone : {st' : State} {P Q : World → Result Value → Type 0} → Works s st st' base depth false (k - 2 - j) P
+          → ((W : World) (x : Result Value) (c : Context) (e : Expr) → P W x → Q W (x >>= set >>= overSet c e)) → Works s st st' base depth false k Q
+      set-alone {Q = Q} v h =
+          record {
+            held = v .held;
+            says = λ W env c e f. subst (Q W) (sym (t W env c e f .same)) (h W _ c e (v .says W env c _ (set-fits f)));
+            noted = λ W env c e f. v .noted W env c _ (set-fits f);
+          }
 
-    again : {st' : State} {P : World → Result Value → Type 0} → Works s st st' base depth false (k - 2 - j) P → {W : World} {env : List ℕ} {c : Context} {e : Expr} (f : Fits s st base depth false k W env c e) → Fits s st' base depth false k W env c e
-    again v {W} {env} {c} f = later (v .held) (v .noted W env c _ (set-fits f)) f
+      again : {st' : State} {P : World → Result Value → Type 0} → Works s st st' base depth false (k - 2 - j) P
+          → {W : World} {env : List ℕ} {c : Context} {e : Expr} (f : Fits s st base depth false k W env c e) → Fits s st' base depth false k W env c e
+      again v {W} {env} {c} f = later (v .held) (v .noted W env c _ (set-fits f)) f
 
-    pub over-again : {st' : State} {P : World → Result Value → Type 0} → Ready s st base depth false k → Alike st st' → Works s st st' base depth false (k - 2 - j) P → Ready s st' base depth false k
-    over-again R a v = record { room = roomed a (omega arith) (omega arith) (R .room); W = R .W; env = R .env; c = R .c; e = R .e; fits = again v (R .fits) }
+      pub over-again : {st' : State} {P : World → Result Value → Type 0} → Ready s st base depth false k → Alike st st' → Works s st st' base depth false (k - 2 - j) P → Ready s st' base depth false k
+      over-again R a v = record { room = roomed a (omega arith) (omega arith) (R .room); W = R .W; env = R .env; c = R .c; e = R .e; fits = again v (R .fits) }
 
-    -- the fold behind it
-    pub total-works : {st' st'' : State} {elements out : List ℕ} {x r : Worked} {n : ℕ} → SetAt s st st' base depth (k - 2 - j) elements x → x ≡ Worked.Value n → TotalAt s st' st'' base depth k elements n r → ValueAt s st st'' base depth k out (numbered r)
-    total-works {st'} {st''} {r = r} v e u =
-        record {
-          held = held-then (base + depth) st st' st'' (v .held) (u .held);
-          says = λ W env c d f. total-told r (u .says W env c d (again v f)) (t W env c d f .same ∙ set-done _ (v .says W env c _ (set-fits f)) e);
-          noted = λ W env c d f. u .noted W env c d (again v f);
-        }
+      -- the fold behind it
+      pub total-works : {st' st'' : State} {elements out : List ℕ} {x r : Worked} {n : ℕ} → SetAt s st st' base depth (k - 2 - j) elements x → x ≡ Worked.Value n
+          → TotalAt s st' st'' base depth k elements n r → ValueAt s st st'' base depth k out (numbered r)
+      total-works {st'} {st''} {r = r} v e u =
+          record {
+            held = held-then (base + depth) st st' st'' (v .held) (u .held);
+            says = λ W env c d f. total-told r (u .says W env c d (again v f)) (t W env c d f .same ∙ set-done _ (v .says W env c _ (set-fits f)) e);
+            noted = λ W env c d f. u .noted W env c d (again v f);
+          }
 
-    pub merged-works : {st' st'' : State} {elements out : List ℕ} {x r : Worked} {n : ℕ} → SetAt s st st' base depth (k - 2 - j) elements x → x ≡ Worked.Value n → MergedAt s st' st'' base depth k elements n out r → ValueAt s st st'' base depth k out (setted r)
-    merged-works {st'} {st''} {r = r} v e u =
-        record {
-          held = held-then (base + depth) st st' st'' (v .held) (u .held);
-          says = λ W env c d f. merged-told r (u .says W env c d (again v f)) (t W env c d f .same ∙ set-done _ (v .says W env c _ (set-fits f)) e);
-          noted = λ W env c d f. u .noted W env c d (again v f);
-        }
+      pub merged-works : {st' st'' : State} {elements out : List ℕ} {x r : Worked} {n : ℕ} → SetAt s st st' base depth (k - 2 - j) elements x → x ≡ Worked.Value n
+          → MergedAt s st' st'' base depth k elements n out r → ValueAt s st st'' base depth k out (setted r)
+      merged-works {st'} {st''} {r = r} v e u =
+          record {
+            held = held-then (base + depth) st st' st'' (v .held) (u .held);
+            says = λ W env c d f. merged-told r (u .says W env c d (again v f)) (t W env c d f .same ∙ set-done _ (v .says W env c _ (set-fits f)) e);
+            noted = λ W env c d f. u .noted W env c d (again v f);
+          }
 
 -- `&&` and `||`: a formula, whatever the elements
-pub quantified-works : {s : Source} {st st' : State} {base depth k : ℕ} (i : ℕ) (t : (W : World) (env : List ℕ) (c : Context) (e : Expr) → Fits s st base depth false k W env c e → Over s st base depth k W env c e (quantifierOf i)) (j : ℕ) (q : j ≡ sizeAt (s .work) (k - 1)) {out : List ℕ} {x : Worked} {n : ℕ} → SetAt s st st' base depth (k - 2 - j) out x → x ≡ Worked.Value n → ValueAt s st st' base depth k out Formula
+pub quantified-works : {s : Source} {st st' : State} {base depth k : ℕ} (i : ℕ)
+    (t : (W : World) (env : List ℕ) (c : Context) (e : Expr) → Fits s st base depth false k W env c e → Over s st base depth k W env c e (quantifierOf i)) (j : ℕ) (q : j ≡ sizeAt (s .work) (k - 1))
+    {out : List ℕ} {x : Worked} {n : ℕ} → SetAt s st st' base depth (k - 2 - j) out x → x ≡ Worked.Value n → ValueAt s st st' base depth k out Formula
 quantified-works i t j q v e =
     record {
       held = v .held;

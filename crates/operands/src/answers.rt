@@ -1,23 +1,20 @@
 // From one answer to another.
+use node::refusals;
 ghost use mathlib.Core.Path.{_≡_};
 ghost use Rattle.operands.specs.Taking.{asNumber, asSet, asWidth, numbered, setted};
-use crate::MISFIT;
 use crate::Worth;
 use sets::Worked;
-
-// 'SIZEOF of a bus not yet sized'.
-const UNSIZED: u32 = 13;
 
 pub fn as_number(w: Worth) -> Worked
     ensures { λ r. ⌜ r ≡ asNumber w ⌝ }
 {
     match w {
         Worth::Number(n) => Worked::Value(n),
-        Worth::Set(_) => Worked::Refused(MISFIT, 0),
-        Worth::Formula => Worked::Refused(MISFIT, 0),
-        Worth::Bus(_, _, _) => Worked::Refused(MISFIT, 0),
-        Worth::Unsized(_) => Worked::Refused(MISFIT, 0),
-        Worth::Identifier(_, _) => Worked::Refused(MISFIT, 0),
+        Worth::Set(_) => Worked::Refused(refusals::WRONG_TYPE, 0),
+        Worth::Formula => Worked::Refused(refusals::WRONG_TYPE, 0),
+        Worth::Bus(_, _, _) => Worked::Refused(refusals::WRONG_TYPE, 0),
+        Worth::Unsized(_) => Worked::Refused(refusals::WRONG_TYPE, 0),
+        Worth::Identifier(_, _) => Worked::Refused(refusals::WRONG_TYPE, 0),
         Worth::Refused(n, p) => Worked::Refused(n, p),
     }
 }
@@ -26,12 +23,12 @@ pub fn as_set(w: Worth) -> Worked
     ensures { λ r. ⌜ r ≡ asSet w ⌝ }
 {
     match w {
-        Worth::Number(_) => Worked::Refused(MISFIT, 0),
+        Worth::Number(_) => Worked::Refused(refusals::WRONG_TYPE, 0),
         Worth::Set(n) => Worked::Value(n),
-        Worth::Formula => Worked::Refused(MISFIT, 0),
-        Worth::Bus(_, _, _) => Worked::Refused(MISFIT, 0),
-        Worth::Unsized(_) => Worked::Refused(MISFIT, 0),
-        Worth::Identifier(_, _) => Worked::Refused(MISFIT, 0),
+        Worth::Formula => Worked::Refused(refusals::WRONG_TYPE, 0),
+        Worth::Bus(_, _, _) => Worked::Refused(refusals::WRONG_TYPE, 0),
+        Worth::Unsized(_) => Worked::Refused(refusals::WRONG_TYPE, 0),
+        Worth::Identifier(_, _) => Worked::Refused(refusals::WRONG_TYPE, 0),
         Worth::Refused(n, p) => Worked::Refused(n, p),
     }
 }
@@ -41,12 +38,12 @@ pub fn as_width(w: Worth) -> Worked
     ensures { λ r. ⌜ r ≡ asWidth w ⌝ }
 {
     match w {
-        Worth::Number(_) => Worked::Refused(MISFIT, 0),
-        Worth::Set(_) => Worked::Refused(MISFIT, 0),
-        Worth::Formula => Worked::Refused(MISFIT, 0),
+        Worth::Number(_) => Worked::Refused(refusals::WRONG_TYPE, 0),
+        Worth::Set(_) => Worked::Refused(refusals::WRONG_TYPE, 0),
+        Worth::Formula => Worked::Refused(refusals::WRONG_TYPE, 0),
         Worth::Bus(_, _, n) => Worked::Value(n),
-        Worth::Unsized(p) => Worked::Refused(UNSIZED, p),
-        Worth::Identifier(_, _) => Worked::Refused(MISFIT, 0),
+        Worth::Unsized(p) => Worked::Refused(refusals::WRONG_WIDTH, p),
+        Worth::Identifier(_, _) => Worked::Refused(refusals::WRONG_TYPE, 0),
         Worth::Refused(n, p) => Worked::Refused(n, p),
     }
 }

@@ -1,5 +1,9 @@
 // What a stored entry says. The functions are called with entries that are there.
-use entries::FIRST_ENTRY;
+use entries::fields::FIRST_ENTRY;
+use entries::fields::SIZES;
+use entries::fields::TOKENS;
+use lexer::fields::LENGTHS;
+use lexer::fields::OFFSETS;
 use words::get;
 ghost use mathlib.Core.Path.{_≡_};
 ghost use Prim.Native.Nat.{_≤_, _<_};
@@ -11,7 +15,7 @@ pub fn kind_at(work: &[u8], k: usize) -> u32
     requires { ⌜ (k < maxTokens) × (workBytes ≤ length (now work)) ⌝ }
     ensures { λ r. ⌜ r ≡ kindAt (now (work .entry)) k ⌝ }
 {
-    get(work, FIRST_ENTRY + k) / 8192 / 8192
+    get(work, FIRST_ENTRY + k) / SIZES / TOKENS
 }
 
 // How many entries the expression takes.
@@ -19,7 +23,7 @@ pub fn size_at(work: &[u8], k: usize) -> usize
     requires { ⌜ (k < maxTokens) × (workBytes ≤ length (now work)) ⌝ }
     ensures { λ r. ⌜ r ≡ sizeAt (now (work .entry)) k ⌝ }
 {
-    (get(work, FIRST_ENTRY + k) % 8192) as usize
+    (get(work, FIRST_ENTRY + k) % SIZES) as usize
 }
 
 // The place of its token.
@@ -27,6 +31,6 @@ pub fn place_at(work: &[u8], k: usize) -> u32
     requires { ⌜ (k < maxTokens) × (workBytes ≤ length (now work)) ⌝ }
     ensures { λ r. ⌜ r ≡ placeAt (now (work .entry)) k ⌝ }
 {
-    let token = (get(work, FIRST_ENTRY + k) / 8192 % 8192) as usize;
-    get(work, token) / 256 % 65536
+    let token = (get(work, FIRST_ENTRY + k) / SIZES % TOKENS) as usize;
+    get(work, token) / LENGTHS % OFFSETS
 }

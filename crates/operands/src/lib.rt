@@ -4,9 +4,6 @@ pub mod answers;
 pub mod entry;
 pub mod notes;
 
-// A value that fits nowhere: no text that has passed refusal 9 comes to this.
-const MISFIT: u32 = 9;
-
 // What an expression is: a number; a set of so many elements, which stand in the lent array; a formula; a bus, with the place of its name, the name's number and
 // the width; a bus not yet sized, with the place of its name; an identifier, with the name's number and its entry; or a refusal with number and place.
 pub enum Worth {

@@ -1,18 +1,12 @@
 // What is noted of declared names: the sets that are kept, and a definition's value that is to be kept.
+use language::limits;
+use values::sorts;
 ghost use Prim.Native.Nat.{_+_, _≤_, _<_};
 ghost use lib.ListN.{length};
 ghost use Rattle.language.specs.Limits.{maxNames, maxElements};
 ghost use Rattle.operands.specs.Keeping.{Moved, Keeps};
 ghost use Rattle.operands.specs.declared.Worth.{Worth};
 use crate::Worth;
-
-// The words that a kept set takes.
-pub const ROOM: usize = 257;
-
-// The sorts of names (crate values, specs/Sorts).
-pub const A_NUMBER: u8 = 0;
-
-pub const A_SET: u8 = 4;
 
 // n entries of one array, from a on, to another, from b on.
 pub fn copy(from: &[u32], a: usize, n: usize, to: &mut [u32], b: usize)
@@ -39,7 +33,7 @@ pub fn keep(
     ensures { λ _. ⌜ Keeps r w (now (out .entry)) (now (sorts .entry)) (now (numbers .entry)) (now (kept .entry)) (now (sorts .exit)) (now (numbers .exit)) (now (kept .exit)) ⌝ }
 {
     if let Worth::Number(n) = w {
-        sorts[r] = A_NUMBER;
+        sorts[r] = sorts::NUMBER;
         numbers[r] = n;
         return;
     }
@@ -52,14 +46,14 @@ fn keep_set(sorts: &mut [u8], numbers: &mut [u32], kept: &mut [u32], r: usize, n
     requires { ⌜ (r < maxNames) × (maxNames ≤ length (now sorts)) × (maxNames ≤ length (now numbers)) × (maxElements < length (now out)) ⌝ }
     ensures { λ _. ⌜ Keeps r (Worth.Set n) (now (out .entry)) (now (sorts .entry)) (now (numbers .entry)) (now (kept .entry)) (now (sorts .exit)) (now (numbers .exit)) (now (kept .exit)) ⌝ }
 {
-    let start = r * ROOM;
-    if n as usize >= ROOM {
+    let start = r * limits::SET_ROOM;
+    if n as usize >= limits::SET_ROOM {
         return;
     }
-    if kept.len() < start + ROOM {
+    if kept.len() < start + limits::SET_ROOM {
         return;
     }
     copy(out, 0, n as usize, kept, start);
-    sorts[r] = A_SET;
+    sorts[r] = sorts::SET;
     numbers[r] = n;
 }

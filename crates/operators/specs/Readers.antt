@@ -7,7 +7,28 @@ use lib.ListN.{length}
 use Rattle.node.specs.Operators.{And, X, F, G}
 use Rattle.node.specs.Result.{Done, _>>=_}
 use Rattle.language.specs.Tokens.{Token}
-use Rattle.language.specs.Operators.{Window, FinallyIn, GloballyIn, Big, BigSum, Infix, Connects, Prefix, WidthOf, Applies, Role, Plain, Counted, Windowed, Folding, InfixRow, infixes, PrefixRow, prefixes, loosest}
+use Rattle.language.specs.Operators.{
+  Window,
+  FinallyIn,
+  GloballyIn,
+  Big,
+  BigSum,
+  Infix,
+  Connects,
+  Prefix,
+  WidthOf,
+  Applies,
+  Role,
+  Plain,
+  Counted,
+  Windowed,
+  Folding,
+  InfixRow,
+  infixes,
+  PrefixRow,
+  prefixes,
+  loosest,
+}
 use Rattle.language.specs.Tree.{Expr, Empty, Element}
 use Rattle.language.specs.Grammar.{Tokens, Read, Reader, rest, stop, next, infixOf, prefixOf, climb, bindersOf, over}
 use Rattle.language.specs.Laws.Grammar.GrammarLaws.{upTo}

@@ -61,7 +61,8 @@ module _ {R : Type 0} (names : R → List String) where
       ∙ none-past rs n (and-right (known (names r) && small (names r)) (good rs) h) l
 
   -- a search by the token's names is one by its number
-  module _ (find : List R → Token → Option R) (t : Token) (nothing : find [] t ≡ none) (step : (r : R) (rs : List R) → find (r ∷ rs) t ≡ elim (named (names r) t) [ true ↦ some r | false ↦ find rs t ]) where
+  module _ (find : List R → Token → Option R) (t : Token) (nothing : find [] t ≡ none)
+      (step : (r : R) (rs : List R) → find (r ∷ rs) t ≡ elim (named (names r) t) [ true ↦ some r | false ↦ find rs t ]) where
     find-number : (rs : List R) → good rs ≡ true → find rs t ≡ rowBy names rs (number t)
     unfolding good
     find-number [] h = nothing

@@ -1,4 +1,6 @@
 // Table 1 of document 001 by the numbers of tokens, operators between operands: a new one is a new row here.
+use entries::kinds;
+use lexer::numbers;
 ghost use mathlib.Core.Path.{_≡_};
 ghost use Rattle.operators.specs.Tables.{infixAt};
 
@@ -7,53 +9,51 @@ const KIND: u32 = 1024;
 
 const RIGHT: u32 = 32;
 
-const TIMES: u32 = 16 * KIND + 1 * RIGHT + 2;
+const TIMES: u32 = kinds::TIMES * KIND + 1 * RIGHT + 2;
 
-const DIVIDE: u32 = 17 * KIND + 3 * RIGHT + 3;
+const DIVIDE: u32 = kinds::DIVIDE * KIND + 3 * RIGHT + 3;
 
-const MODULO: u32 = 18 * KIND + 3 * RIGHT + 3;
+const MODULO: u32 = kinds::MODULO * KIND + 3 * RIGHT + 3;
 
-const PLUS: u32 = 14 * KIND + 3 * RIGHT + 4;
+const PLUS: u32 = kinds::PLUS * KIND + 3 * RIGHT + 4;
 
-const MINUS: u32 = 15 * KIND + 3 * RIGHT + 4;
+const MINUS: u32 = kinds::MINUS * KIND + 3 * RIGHT + 4;
 
-const WITHOUT: u32 = 21 * KIND + 6 * RIGHT + 6;
+const WITHOUT: u32 = kinds::WITHOUT * KIND + 6 * RIGHT + 6;
 
-const CAP: u32 = 20 * KIND + 6 * RIGHT + 7;
+const CAP: u32 = kinds::CAP * KIND + 6 * RIGHT + 7;
 
-const CUP: u32 = 19 * KIND + 7 * RIGHT + 8;
+const CUP: u32 = kinds::CUP * KIND + 7 * RIGHT + 8;
 
-const EQUAL: u32 = 22 * KIND + 8 * RIGHT + 9;
+const EQUAL: u32 = kinds::EQUAL * KIND + 8 * RIGHT + 9;
 
-const UNEQUAL: u32 = 23 * KIND + 8 * RIGHT + 9;
+const UNEQUAL: u32 = kinds::UNEQUAL * KIND + 8 * RIGHT + 9;
 
-const LESS: u32 = 24 * KIND + 8 * RIGHT + 9;
+const LESS: u32 = kinds::LESS * KIND + 8 * RIGHT + 9;
 
-const AT_MOST: u32 = 25 * KIND + 8 * RIGHT + 9;
+const AT_MOST: u32 = kinds::AT_MOST * KIND + 8 * RIGHT + 9;
 
-const GREATER: u32 = 26 * KIND + 8 * RIGHT + 9;
+const GREATER: u32 = kinds::GREATER * KIND + 8 * RIGHT + 9;
 
-const AT_LEAST: u32 = 27 * KIND + 8 * RIGHT + 9;
+const AT_LEAST: u32 = kinds::AT_LEAST * KIND + 8 * RIGHT + 9;
 
-const AMONG: u32 = 28 * KIND + 9 * RIGHT + 10;
+const AMONG: u32 = kinds::MEMBERSHIP * KIND + 9 * RIGHT + 10;
 
-const AND: u32 = 29 * KIND + 11 * RIGHT + 12;
+const AND: u32 = kinds::AND * KIND + 11 * RIGHT + 12;
 
-const OR: u32 = 30 * KIND + 12 * RIGHT + 13;
+const OR: u32 = kinds::OR * KIND + 12 * RIGHT + 13;
 
-const IMPLIES: u32 = 31 * KIND + 14 * RIGHT + 14;
+const IMPLIES: u32 = kinds::IMPLIES * KIND + 14 * RIGHT + 14;
 
-const IFF: u32 = 32 * KIND + 14 * RIGHT + 14;
+const IFF: u32 = kinds::IFF * KIND + 14 * RIGHT + 14;
 
-const WEAK: u32 = 35 * KIND + 15 * RIGHT + 15;
+const WEAK: u32 = kinds::WEAK_UNTIL * KIND + 15 * RIGHT + 15;
 
-const UNTIL: u32 = 33 * KIND + 16 * RIGHT + 16;
+const UNTIL: u32 = kinds::UNTIL * KIND + 16 * RIGHT + 16;
 
-const RELEASE: u32 = 34 * KIND + 16 * RIGHT + 17;
+const RELEASE: u32 = kinds::RELEASE * KIND + 16 * RIGHT + 17;
 
-// How many numbers of tokens there are: five classes, then signs and words.
-const COUNT: u32 = 104;
-
+// By the number of a token.
 const INFIX: [u32; 104] = [
     0,
     0,
@@ -165,7 +165,7 @@ const INFIX: [u32; 104] = [
 pub fn infix(number: u32) -> u32
     ensures { λ r. ⌜ r ≡ infixAt number ⌝ }
 {
-    if number < COUNT {
+    if number < numbers::COUNT {
         let n = number as usize;
         return INFIX[n];
     }

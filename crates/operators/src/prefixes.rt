@@ -1,4 +1,6 @@
 // Table 1 of document 001 by the numbers of tokens, operators before their operand: a new one is a new row here.
+use entries::kinds;
+use lexer::numbers;
 ghost use mathlib.Core.Path.{_≡_};
 ghost use Rattle.operators.specs.Tables.{prefixAt};
 
@@ -17,37 +19,35 @@ const WINDOWED: u32 = 3 * ROLE;
 
 const FOLDING: u32 = 4 * ROLE;
 
-const SUM: u32 = 39 * SOLE + FOLDING + 1;
+const SUM: u32 = kinds::BIG_SUM * SOLE + FOLDING + 1;
 
-const PRODUCT: u32 = 40 * SOLE + FOLDING + 1;
+const PRODUCT: u32 = kinds::BIG_PRODUCT * SOLE + FOLDING + 1;
 
-const SIZE: u32 = 6 * SOLE + PLAIN + 1;
+const SIZE: u32 = kinds::SIZE * SOLE + PLAIN + 1;
 
-const MIN: u32 = 7 * SOLE + PLAIN + 1;
+const MIN: u32 = kinds::MIN * SOLE + PLAIN + 1;
 
-const MAX: u32 = 8 * SOLE + PLAIN + 1;
+const MAX: u32 = kinds::MAX * SOLE + PLAIN + 1;
 
-const SIZEOF: u32 = 9 * SOLE + PLAIN + 1;
+const SIZEOF: u32 = kinds::WIDTH * SOLE + PLAIN + 1;
 
-const BIG_CAP: u32 = 41 * SOLE + FOLDING + 5;
+const BIG_CAP: u32 = kinds::BIG_CAP * SOLE + FOLDING + 5;
 
-const BIG_CUP: u32 = 42 * SOLE + FOLDING + 5;
+const BIG_CUP: u32 = kinds::BIG_CUP * SOLE + FOLDING + 5;
 
-const NOT: u32 = 10 * SOLE + PLAIN + 11;
+const NOT: u32 = kinds::NOT * SOLE + PLAIN + 11;
 
-const NEXT: u32 = 36 * WINDOW + 11 * SOLE + COUNTED + 11;
+const NEXT: u32 = kinds::NEXTS * WINDOW + kinds::NEXT * SOLE + COUNTED + 11;
 
-const FINALLY: u32 = 37 * WINDOW + 13 * SOLE + WINDOWED + 11;
+const FINALLY: u32 = kinds::FINALLY_IN * WINDOW + kinds::FINALLY * SOLE + WINDOWED + 11;
 
-const GLOBALLY: u32 = 38 * WINDOW + 12 * SOLE + WINDOWED + 11;
+const GLOBALLY: u32 = kinds::GLOBALLY_IN * WINDOW + kinds::GLOBALLY * SOLE + WINDOWED + 11;
 
-const BIG_AND: u32 = 43 * SOLE + FOLDING + 11;
+const BIG_AND: u32 = kinds::BIG_AND * SOLE + FOLDING + 11;
 
-const BIG_OR: u32 = 44 * SOLE + FOLDING + 11;
+const BIG_OR: u32 = kinds::BIG_OR * SOLE + FOLDING + 11;
 
-// How many numbers of tokens there are: five classes, then signs and words.
-const COUNT: u32 = 104;
-
+// By the number of a token.
 const PREFIX: [u32; 104] = [
     0,
     0,
@@ -159,7 +159,7 @@ const PREFIX: [u32; 104] = [
 pub fn prefix(number: u32) -> u32
     ensures { λ r. ⌜ r ≡ prefixAt number ⌝ }
 {
-    if number < COUNT {
+    if number < numbers::COUNT {
         let n = number as usize;
         return PREFIX[n];
     }

@@ -11,6 +11,8 @@ use Rattle.language.specs.Tree.{Spec}
 use Rattle.language.specs.Sections.{specOf}
 use Rattle.lexer.specs.Lexing.{lexing}
 use Rattle.lexer.specs.Answer.{Tokenized}
+use Rattle.lexer.specs.declared.Lexed.{Lexed}
+use Rattle.lexer.specs.declared.Lexed.the-variants.{Refused as NotLexed}
 use Rattle.entries.specs.Flat.{outline}
 use Rattle.entries.specs.Stored.{EntriesFrom}
 use Rattle.parser.specs.declared.Facts.{Facts}
@@ -24,6 +26,11 @@ use Rattle.outline.specs.declared.Text.the-variants.{Accepted, Refused}
 abbrev pub counted : ℕ → Outline → Text
 counted n (Drawn m f) = Accepted n m f
 counted n (NotDrawn number place) = Refused number place
+
+-- a refusal of the lexer, 'handed up unchanged': 0 where there is none, which no caller asks
+abbrev pub unread : Lexed → Text
+unread (NotLexed number place) = Refused number place
+unread (Lexed.Tokens count) = Refused 0 0
 
 -- the buffer v holds n tokens and the m entries of the tree that they are read as
 pub record Outlined (text v : List ℕ) (n m : ℕ) (f : Facts) : Type 0 where

@@ -25,10 +25,11 @@ use Rattle.parser.specs.declared.Outline.{Outline}
 use Rattle.parser.specs.Outlines.{Lexed, Outlined, Answer}
 use Rattle.outline.specs.declared.Text.{Text}
 use Rattle.outline.specs.declared.Text.the-variants.{Refused as NotAccepted}
-use Rattle.outline.specs.Outlining.{counted, Says, Outlining}
+use Rattle.outline.specs.Outlining.{counted, unread, Says, Outlining}
 
 -- the last token is the text's end
-last-token : (n : ℕ) (ts : Tokens) → Ends n ts → ((i : ℕ) → i < length ts → isOf Wrong (front (drop i ts)) ≡ false) → (k : ℕ) → suc k ≡ length ts → (isOf End (front (drop k ts)) ≡ true) × (front (drop k ts) .at ≡ n)
+last-token : (n : ℕ) (ts : Tokens) → Ends n ts → ((i : ℕ) → i < length ts → isOf Wrong (front (drop i ts)) ≡ false) → (k : ℕ) → suc k ≡ length ts
+    → (isOf End (front (drop k ts)) ≡ true) × (front (drop k ts) .at ≡ n)
 last-token n [] e right k l = absurd e
 last-token n (t ∷ []) e right zero l = e (right 0 (omega arith))
 last-token n (t ∷ []) e right (suc k) l = absurd (omega arith)
@@ -85,7 +86,8 @@ module _ {text v : List ℕ} {n : ℕ} (h : Tokenized text v n) where
       (record { tree = x; lexed = still k; read = e; total = refl; few = d .few; stored = d .entries; facts = refl })
   says {z} (Refused number place) o e k d = subst (λ o. Says text z (counted n o)) (sym d) (then-done ∙ e)
 
-  pub outlined : {w z : List ℕ} {o : Outline} {r : Text} → length v ≡ length w → past tokenBytes v ≡ past tokenBytes w → ((ts : Tokens) → Tells ts v n (length text) → Outlined ts v z o) → r ≡ counted n o → Outlining text w z r
+  pub outlined : {w z : List ℕ} {o : Outline} {r : Text} → length v ≡ length w → past tokenBytes v ≡ past tokenBytes w → ((ts : Tokens) → Tells ts v n (length text) → Outlined ts v z o)
+      → r ≡ counted n o → Outlining text w z r
   outlined {w} {z} {o} size kept f e =
       let told = f (tokens text) tells in
       record {
@@ -99,9 +101,13 @@ module _ {text w v : List ℕ} {r : Lexing} (l : Lexes text w v r) where
   pub tokenized : {n : ℕ} → r ≡ Stored n → Tokenized text v n
   tokenized e = subst (Answers text v) e (l .answer)
 
-  pub refused : {n p : ℕ} → r ≡ NotStored n p → lexing text ≡ Refused n p
+  refused : {n p : ℕ} → r ≡ NotStored n p → lexing text ≡ Refused n p
   refused e = subst (Answers text v) e (l .answer)
 
-pub not-lexed : {text w v : List ℕ} {n p : ℕ} → lexing text ≡ Refused n p → length v ≡ length w → past tokenBytes v ≡ past tokenBytes w → Outlining text w v (NotAccepted n p)
+not-lexed : {text w v : List ℕ} {n p : ℕ} → lexing text ≡ Refused n p → length v ≡ length w → past tokenBytes v ≡ past tokenBytes w → Outlining text w v (NotAccepted n p)
 unfolding _>>=_
 not-lexed {text} {w} {v} {n} {p} e size kept = record { says = ap (λ r. r >>= specOf) e; size = size; beyond = past-later tokenBytes workBytes v w (omega arith) kept }
+
+-- a refusal of the lexer, handed up
+pub handed-up : {text w v : List ℕ} {l : Lexing} → Lexes text w v l → {r : Text} {n p : ℕ} → l ≡ NotStored n p → r ≡ unread l → Outlining text w v r
+handed-up {text} {w} {v} h e u = subst (Outlining text w v) (sym (u ∙ ap unread e)) (not-lexed (refused h e) (h .size) (h .kept))

@@ -9,7 +9,7 @@ ghost use mathlib.Core.Path.{_≡_};
 ghost use Prim.Native.Nat.{_≤_};
 ghost use lib.ListN.{length};
 ghost use Rattle.language.specs.Limits.{workBytes};
-ghost use Rattle.outline.specs.Outlining.{counted as counted', Outlining};
+ghost use Rattle.outline.specs.Outlining.{counted as counted', unread as unread', Outlining};
 
 // An accepted text's numbers of tokens and of entries and what its INFO says, or a refusal's number and place.
 pub enum Text {
@@ -27,14 +27,24 @@ fn counted(tokens: usize, outline: Outline) -> Text
     }
 }
 
+// A refusal of the lexer.
+fn unread(lexed: Lexed) -> Text
+    ensures { λ r. ⌜ r ≡ unread' lexed ⌝ }
+{
+    match lexed {
+        Lexed::Refused(number, place) => Text::Refused(number, place),
+        Lexed::Tokens(_) => Text::Refused(0, 0),
+    }
+}
+
 // An inner stage: the reader has tested the length of the work buffer (refusal 17).
 pub fn outlined(text: &[u8], work: &mut [u8]) -> Text
     requires { ⌜ workBytes ≤ length (now work) ⌝ }
     ensures { λ r. ⌜ Outlining (now (text .entry)) (now (work .entry)) (now (work .exit)) r ⌝ }
 {
     let lexed = lex(text, work);
-    match lexed {
-        Lexed::Tokens(count) => counted(count as usize, parse(work, count as usize, text.len())),
-        Lexed::Refused(number, place) => Text::Refused(number, place),
-    }
+    let Lexed::Tokens(count) = lexed else {
+        return unread(lexed);
+    };
+    counted(count as usize, parse(work, count as usize, text.len()))
 }

@@ -1,14 +1,9 @@
 // Subsections of lines, and GLOBAL.
 use super::Line;
 use super::lines::line;
-use super::numbers::CLOSE;
-use super::numbers::DEFINITIONS;
-use super::numbers::GLOBAL;
-use super::numbers::OPEN;
-use super::numbers::PARAMETERS;
-use super::numbers::SEMICOLON;
 use entries::Cursor;
 use entries::Parse;
+use lexer::numbers;
 ghost use Prim.Native.Nat.{_<_};
 ghost use lib.ListN.{length};
 ghost use Rattle.language.specs.Grammar.{rest};
@@ -27,15 +22,15 @@ fn lines(c: Cursor, work: &mut [u8], which: Line) -> Parse
     let mut d = c;
     loop {
         let e = d.next();
-        if e.kind(work) == CLOSE {
+        if e.kind(work) == numbers::CLOSE_BRACE {
             return Parse::Parsed(e.next());
         }
         let r = line(d, work, which);
         let Parse::Parsed(f) = r else {
             return r;
         };
-        if f.kind(work) != SEMICOLON {
-            return f.expect(work, CLOSE);
+        if f.kind(work) != numbers::SEMICOLON {
+            return f.expect(work, numbers::CLOSE_BRACE);
         }
         d = f;
     }
@@ -46,7 +41,7 @@ pub fn block(c: Cursor, work: &mut [u8], which: Line) -> Parse
     requires { ⌜ Readied (now work) c ⌝ }
     ensures { λ r. ⌜ Parses (blockOf (lineOf which)) (each (flatOf which)) (now (work .entry)) (now (work .exit)) c r ⌝ }
 {
-    if c.kind(work) != OPEN {
+    if c.kind(work) != numbers::OPEN_BRACE {
         return c.refuse(work);
     }
     lines(c, work, which)
@@ -68,20 +63,20 @@ pub fn global(c: Cursor, work: &mut [u8]) -> Parse
     requires { ⌜ Readied (now work) c ⌝ }
     ensures { λ r. ⌜ Parses globalsOf flatGlobals (now (work .entry)) (now (work .exit)) c r ⌝ }
 {
-    if c.kind(work) != GLOBAL {
+    if c.kind(work) != numbers::GLOBAL {
         return Parse::Parsed(c);
     }
-    let r = c.next().expect(work, OPEN);
+    let r = c.next().expect(work, numbers::OPEN_BRACE);
     let Parse::Parsed(d) = r else {
         return r;
     };
-    let p = optional(d, work, PARAMETERS, Line::Parameters);
+    let p = optional(d, work, numbers::PARAMETERS, Line::Parameters);
     let Parse::Parsed(e) = p else {
         return p;
     };
-    let q = optional(e, work, DEFINITIONS, Line::Definitions);
+    let q = optional(e, work, numbers::DEFINITIONS, Line::Definitions);
     let Parse::Parsed(f) = q else {
         return q;
     };
-    f.expect(work, CLOSE)
+    f.expect(work, numbers::CLOSE_BRACE)
 }

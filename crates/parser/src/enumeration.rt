@@ -1,15 +1,9 @@
 // Enumerations: identifiers with their words.
 use super::leaves::leaf;
-use super::numbers::COLON;
-use super::numbers::COMMA;
-use super::numbers::ENUMERATION_ENTRY;
-use super::numbers::EQUALS;
-use super::numbers::IDENTIFIER_ENTRY;
-use super::numbers::MARKS;
-use super::numbers::NAME;
-use super::numbers::WORD_ENTRY;
 use entries::Cursor;
 use entries::Parse;
+use entries::kinds;
+use lexer::numbers;
 ghost use lib.ListN.{length};
 ghost use Rattle.language.specs.Sections.{wordsOf, identifiersOf, enumerationOf};
 ghost use Rattle.entries.specs.Flat.{each, flatIdentifier, flatDefinition};
@@ -24,11 +18,11 @@ fn words(c: Cursor, work: &mut [u8]) -> Parse
 {
     let mut d = c;
     loop {
-        let r = leaf(d, work, MARKS, WORD_ENTRY);
+        let r = leaf(d, work, numbers::MARKS, kinds::WORD);
         let Parse::Parsed(e) = r else {
             return r;
         };
-        if e.kind(work) != COMMA {
+        if e.kind(work) != numbers::COMMA {
             return Parse::Parsed(e);
         }
         d = e.next();
@@ -40,11 +34,11 @@ fn identifier(c: Cursor, work: &mut [u8]) -> Parse
     requires { ⌜ Readied (now work) c ⌝ }
     ensures { λ r. ⌜ Parses identifierOf flatIdentifier (now (work .entry)) (now (work .exit)) c r ⌝ }
 {
-    let r = leaf(c, work, NAME, IDENTIFIER_ENTRY);
+    let r = leaf(c, work, numbers::NAME, kinds::IDENTIFIER);
     let Parse::Parsed(d) = r else {
         return r;
     };
-    let q = d.expect(work, COLON);
+    let q = d.expect(work, numbers::COLON);
     let Parse::Parsed(e) = q else {
         return q;
     };
@@ -62,7 +56,7 @@ fn identifiers(c: Cursor, work: &mut [u8]) -> Parse
         let Parse::Parsed(e) = r else {
             return r;
         };
-        if e.kind(work) != NAME {
+        if e.kind(work) != numbers::NAME {
             return Parse::Parsed(e);
         }
         d = e;
@@ -74,11 +68,11 @@ pub fn enumeration(c: Cursor, work: &mut [u8]) -> Parse
     requires { ⌜ Readied (now work) c ⌝ }
     ensures { λ r. ⌜ Parses enumerationOf flatDefinition (now (work .entry)) (now (work .exit)) c r ⌝ }
 {
-    let r = leaf(c, work, NAME, ENUMERATION_ENTRY);
+    let r = leaf(c, work, numbers::NAME, kinds::ENUMERATION);
     let Parse::Parsed(d) = r else {
         return r;
     };
-    let q = d.expect(work, EQUALS);
+    let q = d.expect(work, numbers::EQUALS);
     let Parse::Parsed(e) = q else {
         return q;
     };

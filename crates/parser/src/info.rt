@@ -1,20 +1,7 @@
 // INFO, after its word. Its functions write no entry.
-use super::numbers::CLOSE;
-use super::numbers::COLON;
-use super::numbers::COMMA;
-use super::numbers::DESCRIPTION;
-use super::numbers::MEALY;
-use super::numbers::MOORE;
-use super::numbers::NAME;
-use super::numbers::OPEN;
-use super::numbers::QUOTED;
-use super::numbers::SEMANTICS;
-use super::numbers::STRICT;
-use super::numbers::TAGS;
-use super::numbers::TARGET;
-use super::numbers::TITLE;
 use entries::Cursor;
 use entries::Parse;
+use lexer::numbers;
 ghost use Prim.Native.Nat.{_<_};
 ghost use lib.ListN.{length};
 ghost use Rattle.language.specs.Sections.{modelOf, strictOf, tagOf, tagsOf, infoEnd};
@@ -41,26 +28,26 @@ fn described(c: Cursor, work: &[u8], word: u32) -> Parse
     requires { ⌜ Readied (now work) c × Spelt word ⌝ }
     ensures { λ r. ⌜ ReadsDescribed word (now (work .entry)) c r ⌝ }
 {
-    let r = pair(c, work, word, COLON);
+    let r = pair(c, work, word, numbers::COLON);
     let Parse::Parsed(d) = r else {
         return r;
     };
-    d.expect(work, QUOTED)
+    d.expect(work, numbers::QUOTED)
 }
 
 fn titles(c: Cursor, work: &[u8]) -> Parse
     requires { ⌜ Readied (now work) c ⌝ }
     ensures { λ r. ⌜ Parses titlesOf noEntries (now (work .entry)) (now (work .entry)) c r ⌝ }
 {
-    let r = c.expect(work, OPEN);
+    let r = c.expect(work, numbers::OPEN_BRACE);
     let Parse::Parsed(d) = r else {
         return r;
     };
-    let q = described(d, work, TITLE);
+    let q = described(d, work, numbers::TITLE);
     let Parse::Parsed(e) = q else {
         return q;
     };
-    described(e, work, DESCRIPTION)
+    described(e, work, numbers::DESCRIPTION)
 }
 
 // Up to the word of the semantics.
@@ -72,17 +59,17 @@ pub fn to_semantics(c: Cursor, work: &[u8]) -> Parse
     let Parse::Parsed(d) = r else {
         return r;
     };
-    pair(d, work, SEMANTICS, COLON)
+    pair(d, work, numbers::SEMANTICS, numbers::COLON)
 }
 
 pub fn model(c: Cursor, work: &[u8]) -> Parse
     requires { ⌜ Readied (now work) c ⌝ }
     ensures { λ r. ⌜ Parses modelOf noEntries (now (work .entry)) (now (work .entry)) c r ⌝ }
 {
-    if c.kind(work) == MEALY {
+    if c.kind(work) == numbers::MEALY {
         return Parse::Parsed(c.next());
     }
-    c.expect(work, MOORE)
+    c.expect(work, numbers::MOORE)
 }
 
 // `, Strict`, or nothing.
@@ -90,10 +77,10 @@ fn strict(c: Cursor, work: &[u8]) -> Parse
     requires { ⌜ Readied (now work) c ⌝ }
     ensures { λ r. ⌜ Parses strictOf noEntries (now (work .entry)) (now (work .entry)) c r ⌝ }
 {
-    if c.kind(work) != COMMA {
+    if c.kind(work) != numbers::COMMA {
         return Parse::Parsed(c);
     }
-    c.next().expect(work, STRICT)
+    c.next().expect(work, numbers::STRICT)
 }
 
 // From the semantics' word on up to the target's.
@@ -105,17 +92,17 @@ pub fn to_target(c: Cursor, work: &[u8]) -> Parse
     let Parse::Parsed(d) = r else {
         return r;
     };
-    pair(d, work, TARGET, COLON)
+    pair(d, work, numbers::TARGET, numbers::COLON)
 }
 
 fn tag(c: Cursor, work: &[u8]) -> Parse
     requires { ⌜ Readied (now work) c ⌝ }
     ensures { λ r. ⌜ Parses tagOf noEntries (now (work .entry)) (now (work .entry)) c r ⌝ }
 {
-    if c.kind(work) == NAME {
+    if c.kind(work) == numbers::NAME {
         return Parse::Parsed(c.next());
     }
-    c.expect(work, QUOTED)
+    c.expect(work, numbers::QUOTED)
 }
 
 // Tags with commas between them.
@@ -129,7 +116,7 @@ fn tags(c: Cursor, work: &[u8]) -> Parse
         let Parse::Parsed(e) = r else {
             return r;
         };
-        if e.kind(work) != COMMA {
+        if e.kind(work) != numbers::COMMA {
             return Parse::Parsed(e);
         }
         d = e.next();
@@ -141,10 +128,10 @@ fn info_end(c: Cursor, work: &[u8]) -> Parse
     requires { ⌜ Readied (now work) c ⌝ }
     ensures { λ r. ⌜ Parses infoEnd noEntries (now (work .entry)) (now (work .entry)) c r ⌝ }
 {
-    if c.kind(work) != TAGS {
-        return c.expect(work, CLOSE);
+    if c.kind(work) != numbers::TAGS {
+        return c.expect(work, numbers::CLOSE_BRACE);
     }
-    let r = c.next().expect(work, COLON);
+    let r = c.next().expect(work, numbers::COLON);
     let Parse::Parsed(d) = r else {
         return r;
     };
@@ -152,7 +139,7 @@ fn info_end(c: Cursor, work: &[u8]) -> Parse
     let Parse::Parsed(e) = q else {
         return q;
     };
-    e.expect(work, CLOSE)
+    e.expect(work, numbers::CLOSE_BRACE)
 }
 
 // The target's word and what follows it.

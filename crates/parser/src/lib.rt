@@ -5,7 +5,6 @@ mod enumeration;
 mod info;
 mod leaves;
 mod lines;
-mod numbers;
 mod subsections;
 
 use blocks::global;
@@ -15,11 +14,7 @@ use info::closing;
 use info::model;
 use info::to_semantics;
 use info::to_target;
-use numbers::COMMA;
-use numbers::INFO;
-use numbers::MAIN;
-use numbers::MEALY;
-use numbers::OPEN;
+use lexer::numbers;
 use subsections::subsections;
 ghost use mathlib.Core.Path.{_≡_};
 ghost use Rattle.entries.specs.Cursors.{Readied};
@@ -92,7 +87,7 @@ fn information(c: Cursor, work: &[u8]) -> Informed
     let Parse::Parsed(e) = p else {
         return uninformed(p);
     };
-    let strict = e.kind(work) == COMMA;
+    let strict = e.kind(work) == numbers::COMMA;
     let q = to_target(e, work);
     let Parse::Parsed(f) = q else {
         return uninformed(q);
@@ -105,9 +100,9 @@ fn information(c: Cursor, work: &[u8]) -> Informed
     };
     Informed {
         facts: Facts {
-            semantics: semantics - MEALY,
+            semantics: semantics - numbers::MEALY,
             strict: strict,
-            target: target - MEALY,
+            target: target - numbers::MEALY,
             place: place,
         },
         next: s,
@@ -123,11 +118,11 @@ fn sections(c: Cursor, work: &mut [u8]) -> Parse
     let Parse::Parsed(d) = r else {
         return r;
     };
-    let p = d.expect(work, MAIN);
+    let p = d.expect(work, numbers::MAIN);
     let Parse::Parsed(e) = p else {
         return p;
     };
-    let q = e.expect(work, OPEN);
+    let q = e.expect(work, numbers::OPEN_BRACE);
     let Parse::Parsed(f) = q else {
         return q;
     };
@@ -145,7 +140,7 @@ pub fn parse(work: &mut [u8], count: usize, end: usize) -> Outline
         count: count,
         end: end,
     };
-    let r = start.expect(work, INFO);
+    let r = start.expect(work, numbers::INFO);
     let Parse::Parsed(c) = r else {
         return refused(r);
     };

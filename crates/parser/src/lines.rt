@@ -2,21 +2,11 @@
 use super::Line;
 use super::enumeration::enumeration;
 use super::leaves::close;
-use super::numbers::BUS_ENTRY;
-use super::numbers::CLOSE_INDEX;
-use super::numbers::DEFINITION_ENTRY;
-use super::numbers::ENUM;
-use super::numbers::EQUALS;
-use super::numbers::LINE_ENTRY;
-use super::numbers::NAME;
-use super::numbers::NAMED_ENTRY;
-use super::numbers::OPEN_INDEX;
-use super::numbers::PARAMETER_ENTRY;
-use super::numbers::SIGNAL_ENTRY;
-use super::numbers::TYPED_ENTRY;
 use entries::Cursor;
 use entries::Parse;
+use entries::kinds;
 use expressions::expression;
+use lexer::numbers;
 ghost use Prim.Native.Nat.{_<_, _+_};
 ghost use Rattle.language.specs.Grammar.{front, rest};
 ghost use Rattle.language.specs.Sections.{expression as expressionOf, parameterOf, definitionOf, declarationOf};
@@ -32,11 +22,11 @@ fn valued(c: Cursor, work: &mut [u8], kind: u32) -> Parse
     ensures { λ r. ⌜ Parses parameterOf (flatValued kind) (now (work .entry)) (now (work .exit)) c r ⌝ }
 {
     let token = c.at;
-    let r = c.expect(work, NAME);
+    let r = c.expect(work, numbers::NAME);
     let Parse::Parsed(d) = r else {
         return r;
     };
-    let p = d.expect(work, EQUALS);
+    let p = d.expect(work, numbers::EQUALS);
     let Parse::Parsed(e) = p else {
         return p;
     };
@@ -51,10 +41,10 @@ fn definition(c: Cursor, work: &mut [u8]) -> Parse
     requires { ⌜ Readied (now work) c ⌝ }
     ensures { λ r. ⌜ Parses definitionOf flatDefinition (now (work .entry)) (now (work .exit)) c r ⌝ }
 {
-    if c.kind(work) == ENUM {
+    if c.kind(work) == numbers::ENUM {
         return enumeration(c.next(), work);
     }
-    valued(c, work, DEFINITION_ENTRY)
+    valued(c, work, kinds::DEFINITION)
 }
 
 // A bus and its width, from the bus's name on; `[` is known to stand behind the name.
@@ -67,11 +57,11 @@ fn bus(c: Cursor, work: &mut [u8]) -> Parse
     let Parse::Parsed(d) = r else {
         return r;
     };
-    let q = d.expect(work, CLOSE_INDEX);
+    let q = d.expect(work, numbers::CLOSE_BRACKET);
     let Parse::Parsed(e) = q else {
         return q;
     };
-    close(c, e, work, BUS_ENTRY, token)
+    close(c, e, work, kinds::BUS, token)
 }
 
 // A signal, a bus with its width, or a bus with its enumeration.
@@ -80,20 +70,20 @@ fn declaration(c: Cursor, work: &mut [u8]) -> Parse
     ensures { λ r. ⌜ Parses declarationOf flatDeclaration (now (work .entry)) (now (work .exit)) c r ⌝ }
 {
     let token = c.at;
-    let r = c.expect(work, NAME);
+    let r = c.expect(work, numbers::NAME);
     let Parse::Parsed(d) = r else {
         return r;
     };
     let kind = d.kind(work);
-    if kind == OPEN_INDEX {
+    if kind == numbers::OPEN_BRACKET {
         return bus(c, work);
     }
-    if kind == NAME {
+    if kind == numbers::NAME {
         let name = d.at;
-        let e = d.next().emit(work, NAMED_ENTRY, token, 1);
-        return Parse::Parsed(e.emit(work, TYPED_ENTRY, name, 2));
+        let e = d.next().emit(work, kinds::NAMED, token, 1);
+        return Parse::Parsed(e.emit(work, kinds::TYPED, name, 2));
     }
-    Parse::Parsed(d.emit(work, SIGNAL_ENTRY, token, 1))
+    Parse::Parsed(d.emit(work, kinds::SIGNAL, token, 1))
 }
 
 // A formula, from the `{` or `;` before it on: that token makes room for the line's own entry.
@@ -105,7 +95,7 @@ fn formula(c: Cursor, work: &mut [u8]) -> Parse
     let Parse::Parsed(d) = r else {
         return r;
     };
-    close(c, d, work, LINE_ENTRY, 0)
+    close(c, d, work, kinds::LINE, 0)
 }
 
 // A line, from the `{` or `;` before it on.
@@ -114,7 +104,7 @@ pub fn line(c: Cursor, work: &mut [u8], which: Line) -> Parse
     ensures { λ r. ⌜ Parses (λ ts. lineOf which (rest ts)) (flatOf which) (now (work .entry)) (now (work .exit)) c r ⌝ }
 {
     match which {
-        Line::Parameters => valued(c.next(), work, PARAMETER_ENTRY),
+        Line::Parameters => valued(c.next(), work, kinds::PARAMETER),
         Line::Definitions => definition(c.next(), work),
         Line::Declarations => declaration(c.next(), work),
         Line::Formulas => formula(c, work),

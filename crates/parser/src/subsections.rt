@@ -1,10 +1,10 @@
 // MAIN's subsections, in any order, each at most once.
 use super::Line;
 use super::blocks::block;
-use super::numbers::CLOSE;
-use super::numbers::HEADING_ENTRY;
 use entries::Cursor;
 use entries::Parse;
+use entries::kinds;
+use lexer::numbers;
 ghost use mathlib.Core.List.{[]};
 ghost use mathlib.Core.Path.{_≡_};
 ghost use Prim.Native.Nat.{_<_};
@@ -13,9 +13,6 @@ ghost use Rattle.entries.specs.Flat.{each, flatSubsection};
 ghost use Rattle.entries.specs.Cursors.{Readied};
 ghost use Rattle.entries.specs.Reads.{Parses};
 ghost use Rattle.parser.specs.Headings.{headingNumber, ReadsSubsection, ReadsEnd};
-
-// The number of the first word of a subsection, INPUTS.
-const FIRST_HEADING: u32 = 55;
 
 // For each word of a subsection, by its number, the subsection: 'the v1.0 names are read as their v1.1 ones'.
 const HEADINGS: [usize; 11] = [0, 1, 2, 3, 4, 5, 6, 7, 5, 6, 7];
@@ -30,10 +27,10 @@ const NO_HEADING: usize = 8;
 fn heading(kind: u32) -> usize
     ensures { λ r. ⌜ r ≡ headingNumber kind ⌝ }
 {
-    if kind < FIRST_HEADING {
+    if kind < numbers::INPUTS {
         return NO_HEADING;
     }
-    let i = (kind - FIRST_HEADING) as usize;
+    let i = (kind - numbers::INPUTS) as usize;
     if i < 11 { HEADINGS[i] } else { NO_HEADING }
 }
 
@@ -42,7 +39,7 @@ fn subsection(c: Cursor, work: &mut [u8], n: usize) -> Parse
     requires { ⌜ Readied (now work) c × (c .at < c .count) × (n < 8) ⌝ }
     ensures { λ r. ⌜ ReadsSubsection n (now (work .entry)) (now (work .exit)) c r ⌝ }
 {
-    let d = c.next().emit(work, HEADING_ENTRY, 0, n);
+    let d = c.next().emit(work, kinds::HEADING, 0, n);
     if n < FIRST_FORMULAS {
         return block(d, work, Line::Declarations);
     }
@@ -60,7 +57,7 @@ fn ending(c: Cursor, work: &[u8], inputs: u8, outputs: u8) -> Parse
     if outputs == 0 {
         return c.refuse(work);
     }
-    c.expect(work, CLOSE)
+    c.expect(work, numbers::CLOSE_BRACE)
 }
 
 pub fn subsections(c: Cursor, work: &mut [u8]) -> Parse

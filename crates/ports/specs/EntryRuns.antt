@@ -1,16 +1,15 @@
 -- The entries of one name's signals as the code makes them: the fields joined, the index counting up.
 use Prim.Native.Nat.{ℕ, zero, suc, _+_, _-_, _≤_, _<_}
-use mathlib.Core.List.{List, [], _∷_, _++_}
+use mathlib.Core.List.{List, [], _∷_}
 use mathlib.Core.Path.{_≡_, refl, sym, ap, ap₂, _∙_}
 use native.Mathlib.Numerals.{add-one}
-use native.Mathlib.Nat.{add-zero}
 use native.Mathlib.Omega.{arith}
 use lib.ListN.{length, set, length-set}
 use lib.Seq.{sets}
 use Rattle.language.specs.Limits.{offsetBits, indexBits, widthBits}
 use Rattle.language.specs.Declared.{Port}
 use Rattle.language.specs.Numbering.{fields, entries}
-use Rattle.language.specs.Laws.Values.EntryLaws.{flag}
+use Rattle.language.specs.Listed.{flag}
 
 -- n entries from index i on
 unfoldable pub run : (top offset width n i : ℕ) → List ℕ
@@ -27,10 +26,6 @@ unfolding run
 run-length top offset width zero i = refl
 run-length top offset width (suc n) i = ap suc (run-length top offset width n (suc i))
 
-pub sets-append : (l : List ℕ) (i : ℕ) (us vs : List ℕ) → sets l i (us ++ vs) ≡ sets (sets l i us) (i + length us) vs
-sets-append l i [] vs = rw add-zero
-sets-append l i (u ∷ us) vs = sets-append (set l i u) (suc i) us vs ∙ ap (λ (k : ℕ). sets (sets (set l i u) (suc i) us) k vs) (omega arith)
-
 -- what stands after i entries: the rest is still to be stored
 pub record Stores (top offset width count at i : ℕ) (old new : List ℕ) : Type 0 where
   pub size : length new ≡ length old
@@ -41,7 +36,8 @@ module _ (top offset width count at : ℕ) where
   pub stores-none : (old : List ℕ) → Stores top offset width count at 0 old old
   stores-none old = record { size = refl; few = omega arith; rest = ap₂ (λ k n. sets old k (run top offset width n 0)) (omega arith) (omega arith) }
 
-  pub stores-more : (i v : ℕ) (old new : List ℕ) → i < count → v ≡ fields offsetBits indexBits widthBits top offset i width → Stores top offset width count at i old new → Stores top offset width count at (i + 1) old (set new (at + i) v)
+  pub stores-more : (i v : ℕ) (old new : List ℕ) → i < count → v ≡ fields offsetBits indexBits widthBits top offset i width → Stores top offset width count at i old new
+      → Stores top offset width count at (i + 1) old (set new (at + i) v)
   unfolding run
   stores-more i v old new l e s =
       let n : count - i ≡ suc (count - (i + 1)) = omega arith in

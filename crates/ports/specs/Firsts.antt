@@ -34,7 +34,8 @@ numbered-other R n [] firsts r h = refl
 numbered-other R n (p ∷ ps) firsts r h = numbered-other R (n + signalsOf p) ps (set firsts (R (p .name)) n) r (h .1) ∙ getD-set-other firsts (R (p .name)) r n 0 (h .0)
 
 -- the number of the first signal of each name
-pub firsts-told : (R : Token → ℕ) (n : ℕ) (ps : List Port) (firsts : List ℕ) → All (λ p. R (p .name) < length firsts) ps → Separate R ps → Distinct (portNames ps) → All (λ p. getD (numberedFrom R n ps firsts) (R (p .name)) 0 ≡ n + firstOf ps (p .name .text)) ps
+pub firsts-told : (R : Token → ℕ) (n : ℕ) (ps : List Port) (firsts : List ℕ) → All (λ p. R (p .name) < length firsts) ps → Separate R ps → Distinct (portNames ps)
+    → All (λ p. getD (numberedFrom R n ps firsts) (R (p .name)) 0 ≡ n + firstOf ps (p .name .text)) ps
 firsts-told R n [] firsts l s d = tt
 firsts-told R n (p ∷ ps) firsts l s d = (
   numbered-other R (n + signalsOf p) ps after (R (p .name)) (s .0)
@@ -46,7 +47,8 @@ firsts-told R n (p ∷ ps) firsts l s d = (
     after : List ℕ
     after = set firsts (R (p .name)) n
 
-    later : (qs : List Port) → All (Apart (p .name)) (portNames qs) → All (λ q. getD (numberedFrom R (n + signalsOf p) ps after) (R (q .name)) 0 ≡ n + signalsOf p + firstOf ps (q .name .text)) qs → All (λ q. getD (numberedFrom R n (p ∷ ps) firsts) (R (q .name)) 0 ≡ n + firstOf (p ∷ ps) (q .name .text)) qs
+    later : (qs : List Port) → All (Apart (p .name)) (portNames qs) → All (λ q. getD (numberedFrom R (n + signalsOf p) ps after) (R (q .name)) 0 ≡ n + signalsOf p + firstOf ps (q .name .text)) qs
+        → All (λ q. getD (numberedFrom R n (p ∷ ps) firsts) (R (q .name)) 0 ≡ n + firstOf (p ∷ ps) (q .name .text)) qs
     later [] a h = tt
     later (q ∷ qs) a h = (
       h .0 ∙ (let z : firstOf (p ∷ ps) (q .name .text) ≡ signalsOf p + firstOf ps (q .name .text) = leave (same (p .name .text) (q .name .text)) _ _ (a .0) in omega arith),

@@ -14,13 +14,14 @@ use Rattle.language.specs.Tokens.{Token}
 use Rattle.language.specs.Declared.{Port}
 use Rattle.language.specs.Numbering.{signalsOf, entries, signalList, tooManySignals}
 use Rattle.language.specs.Laws.Basics.Tests.{pick, leave}
-use Rattle.language.specs.Laws.Values.EntryLaws.{flag}
+use Rattle.language.specs.Listed.{flag}
 use Rattle.language.specs.Laws.Values.SignalLaws.{list-length, length-entries}
 use Rattle.ports.specs.Ports.{PortsFrom, Ported}
 use Rattle.ports.specs.Firsts.{numberedFrom}
-use Rattle.ports.specs.EntryRuns.{run, entries-run, sets-append}
+use Rattle.ports.specs.EntryRuns.{run, entries-run}
 use Rattle.ports.specs.Listing.{Lists}
 use Rattle.ports.specs.declared.Signals.the-variants.{Listed, TooMany}
+use Rattle.basics.specs.Lists.{sets-append}
 
 module _ (R : Token → ℕ) (numbers offsets widths : List ℕ) (ins count : ℕ) (ps : List Port) (firsts₀ list₀ : List ℕ) where
   -- the ports from position j on are still to be listed, from signal number n on
@@ -37,7 +38,8 @@ module _ (R : Token → ℕ) (numbers offsets widths : List ℕ) (ins count : �
   going-starts h = record { left = ps; ports = h .ports; total = (let t = h .total in omega arith); many = refl; size = omega arith; stored = refl; numbered = refl }
 
   -- one port: its number r, its offset and width, its signals m
-  module _ (j n m r offset width top : ℕ) (firsts list : List ℕ) (hr : r ≡ getD numbers j 0) (ho : offset ≡ getD offsets j 0) (hw : width ≡ getD widths j 0) (hm : m ≡ max 1 width) (inside : j < count) where
+  module _ (j n m r offset width top : ℕ) (firsts list : List ℕ) (hr : r ≡ getD numbers j 0) (ho : offset ≡ getD offsets j 0) (hw : width ≡ getD widths j 0) (hm : m ≡ max 1 width)
+      (inside : j < count) where
     too-many : (left : List Port) → PortsFrom R numbers offsets widths ins j left → j + length left ≡ count → maxSignals < n + m → tooManySignals n left ≡ some offset
     too-many [] p t l = absurd (omega arith)
     too-many (q ∷ qs) p t l =
@@ -51,7 +53,9 @@ module _ (R : Token → ℕ) (numbers offsets widths : List ℕ) (ins count : �
     pub going-more : top ≡ flag (leb ins j) → n + m ≤ maxSignals → Going j n firsts list → Going (j + 1) (n + m) (set firsts r n) (sets list n (run top offset width m 0))
     going-more ht few g = next (g .left) (g .ports) (g .total) (g .many) (g .size) (g .stored) (g .numbered)
       where
-        next : (left : List Port) → PortsFrom R numbers offsets widths ins j left → j + length left ≡ count → tooManySignals 0 ps ≡ tooManySignals n left → length (signalList ps) ≡ n + length (signalList left) → sets list₀ 0 (signalList ps) ≡ sets list n (signalList left) → numberedFrom R 0 ps firsts₀ ≡ numberedFrom R n left firsts → Going (j + 1) (n + m) (set firsts r n) (sets list n (run top offset width m 0))
+        next : (left : List Port) → PortsFrom R numbers offsets widths ins j left → j + length left ≡ count → tooManySignals 0 ps ≡ tooManySignals n left
+            → length (signalList ps) ≡ n + length (signalList left) → sets list₀ 0 (signalList ps) ≡ sets list n (signalList left) → numberedFrom R 0 ps firsts₀ ≡ numberedFrom R n left firsts
+            → Going (j + 1) (n + m) (set firsts r n) (sets list n (run top offset width m 0))
         next [] p t a b c d = absurd (omega arith)
         next (q ∷ qs) p t a b c d =
             let same : signalsOf q ≡ m = ap (max 1) (sym (p .0 .width) ∙ sym hw) ∙ sym hm in
@@ -72,6 +76,7 @@ module _ (R : Token → ℕ) (numbers offsets widths : List ℕ) (ins count : �
   pub going-all : (j n : ℕ) (firsts list : List ℕ) → count ≤ j → Going j n firsts list → Lists R ps (Listed n) firsts₀ list₀ firsts list
   going-all j n firsts list l g = end (g .left) (g .total) (g .many) (g .size) (g .stored) (g .numbered)
     where
-      end : (left : List Port) → j + length left ≡ count → tooManySignals 0 ps ≡ tooManySignals n left → length (signalList ps) ≡ n + length (signalList left) → sets list₀ 0 (signalList ps) ≡ sets list n (signalList left) → numberedFrom R 0 ps firsts₀ ≡ numberedFrom R n left firsts → Lists R ps (Listed n) firsts₀ list₀ firsts list
+      end : (left : List Port) → j + length left ≡ count → tooManySignals 0 ps ≡ tooManySignals n left → length (signalList ps) ≡ n + length (signalList left)
+          → sets list₀ 0 (signalList ps) ≡ sets list n (signalList left) → numberedFrom R 0 ps firsts₀ ≡ numberedFrom R n left firsts → Lists R ps (Listed n) firsts₀ list₀ firsts list
       end [] t a b c d = record { says = (a, (omega arith, (sym c, sym d))) }
       end (q ∷ qs) t a b c d = absurd (omega arith)

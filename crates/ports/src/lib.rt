@@ -1,5 +1,10 @@
 // Signals by number: the signal list of a text's ports, the number of each name's first signal, and refusal 15.
 // `list_signals` asks for tables of full length and for ports whose names and widths are noted, as `declarations` leaves them.
+use basics::u16_usize::wide;
+use language::limits::INDICES;
+use language::limits::OFFSETS;
+use language::limits::WIDTHS;
+use node::MAX_SIGNALS;
 ghost use mathlib.Core.List.{List};
 ghost use mathlib.Core.Path.{_≡_};
 ghost use Prim.Native.Nat.{ℕ, _+_, _<_, _≤_, _^_, max};
@@ -8,20 +13,10 @@ ghost use lib.Seq.{sets};
 ghost use Rattle.language.specs.Limits.{maxSignals, maxWidth, offsetBits};
 ghost use Rattle.language.specs.Tokens.{Token};
 ghost use Rattle.language.specs.Declared.{Port};
-ghost use Rattle.language.specs.Laws.Values.EntryLaws.{flag as flag'};
+ghost use Rattle.language.specs.Listed.{flag as flag'};
 ghost use Rattle.ports.specs.Ports.{Ported, Room};
 ghost use Rattle.ports.specs.EntryRuns.{run};
 ghost use Rattle.ports.specs.Listing.{Lists};
-
-// '255 signals'.
-const MAX_SIGNALS: usize = 255;
-
-// 'A signal list entry is 32 bits: 1 output flag, 15 offset of the name, 8 index in the bus, 8 width'.
-const OFFSETS: u32 = 32768;
-
-const INDICES: u32 = 256;
-
-const WIDTHS: u32 = 256;
 
 // How many signals there are; or the place of the declared name with which they pass 255.
 pub enum Signals {
@@ -53,12 +48,6 @@ fn write_entries(top: u32, offset: u32, width: u32, count: usize, at: usize, lis
     }
 }
 
-fn wide(x: u16) -> usize
-    ensures { λ r. ⌜ r ≡ x ⌝ }
-{
-    x as usize
-}
-
 // The signal list of the ports in the slices, the first `ins` of which are inputs, from the list's start on; and the numbers of their first signals by the names'
 // numbers. It is called with ports that evaluation has sized.
 pub fn list_signals(
@@ -71,7 +60,8 @@ pub fn list_signals(
     list: &mut [u32],
 ) -> Signals
     requires { ⌜ Room (now numbers) (now offsets) (now widths) count (now firsts) (now list) ⌝ }
-    ensures { λ r. ⌜ ((R : Token → ℕ) (ps : List Port) → Ported R (now (numbers .entry)) (now (offsets .entry)) (now (widths .entry)) ins count ps → Lists R ps r (now (firsts .entry)) (now (list .entry)) (now (firsts .exit)) (now (list .exit))) ⌝ }
+    ensures { λ r. ⌜ ((R : Token → ℕ) (ps : List Port) → Ported R (now (numbers .entry)) (now (offsets .entry)) (now (widths .entry)) ins count ps
+        → Lists R ps r (now (firsts .entry)) (now (list .entry)) (now (firsts .exit)) (now (list .exit))) ⌝ }
 {
     let mut at: usize = 0;
     let mut j: usize = 0;

@@ -12,7 +12,8 @@ use Rattle.rewriter.specs.Rewriting.{fitting, rewriting, rewritten}
 -- document 01, 'One file in full': 17 nodes as expanded, 18 in negation form, 39 in core form
 file : List ℕ
 file =
-    pack 0 0 0 ∷ pack 0 0 0 ∷ pack 0 0 0 ∷ pack 9 2 0 ∷ pack 0 0 0 ∷ pack 4 3 4 ∷ pack 0 0 0 ∷ pack 9 6 0 ∷ pack 2 0 0 ∷ pack 2 1 0 ∷ pack 10 9 0 ∷ pack 6 8 10 ∷ pack 9 11 0 ∷ pack 4 7 12 ∷ pack 6 5 13 ∷ pack 4 1 14 ∷ pack 6 0 15 ∷ []
+    pack 0 0 0 ∷ pack 0 0 0 ∷ pack 0 0 0 ∷ pack 9 2 0 ∷ pack 0 0 0 ∷ pack 4 3 4 ∷ pack 0 0 0 ∷ pack 9 6 0 ∷ pack 2 0 0 ∷ pack 2 1 0 ∷ pack 10 9 0 ∷ pack 6 8 10 ∷ pack 9 11 0 ∷ pack 4 7 12 ∷ pack 6 5
+    13 ∷ pack 4 1 14 ∷ pack 6 0 15 ∷ []
 
 file-negation : rewriting 1 file 18 ≡ Done (record { nodes = 18; signals = 0 })
 unfolding file rewriting fitting _>>=_ guard checked scanned treeAt formulas size plain negated

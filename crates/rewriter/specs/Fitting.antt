@@ -2,11 +2,10 @@
 use Prim.Native.Nat.{ℕ, _+_, _-_, _<_, _≤_}
 use mathlib.Core.Path.{_≡_, refl, ap, ap₂, _∙_, sym}
 use mathlib.Core.List.{List, _++_}
-use lib.ListN.{length, getD, set, take, drop}
-use lib.Seq.{sets, sets-eq, take-at, paste, paste-suc}
+use lib.ListN.{length, take, drop}
+use lib.Seq.{sets, sets-eq, take-at, paste}
 use native.Mathlib.Nat.{zero-add}
 use native.Mathlib.Decide.{decLt}
-use native.Mathlib.Numerals.{add-one}
 use native.Mathlib.Omega.{arith}
 use Rattle.node.specs.Limits.{maxNodes, fieldLimit}
 use Rattle.node.specs.TableLaws.{Formed}
@@ -29,12 +28,6 @@ pub record Fitted (f : Formula) (out out′ : List ℕ) (r : Answer) : Type 0 wh
 pub record HandsOver (table : List ℕ) (n : ℕ) (out out′ : List ℕ) (r : Answer) : Type 0 where
   pub short : length out < n → (r ≡ Refused 18 0) × (out′ ≡ out)
   pub copied : n ≤ length out → (r ≡ Accepted n 0) × (out′ ≡ paste out 0 table n)
-
--- a word more of a copy
-pub copied-more : (d s : List ℕ) (j : ℕ) → j < length d → j < length s → set (paste d 0 s j) j (getD s j 0) ≡ paste d 0 s (j + 1)
-copied-more d s j hd hs =
-    let z : 0 + j ≡ j = zero-add j in
-    ap (λ (k : ℕ). set (paste d 0 s j) k (getD s j 0)) (sym z) ∙ paste-suc d 0 s j 0 (omega arith) hs ∙ ap (paste d 0 s) (sym (add-one j))
 
 counted : (f : Formula) {t t′ : List ℕ} {n : ℕ} → Stored (nodesFrom 0 f) t t′ 0 n → n ≡ size f
 counted f s = s .next ∙ zero-add _ ∙ length-nodes 0 f

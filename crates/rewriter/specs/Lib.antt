@@ -3,4 +3,5 @@ pub mod RewritingLaws
 pub mod OwnNodes
 pub mod Fitting
 pub mod Promise
+pub mod PromiseLaws
 pub mod Examples

@@ -1,8 +1,8 @@
 // The rewriter (document 01, 'Forms'): writes the root's tree of a table of nodes, in a form, as a postorder tree.
-ghost use mathlib.Core.Path.{_≡_};
+use basics::copy_words;
+use node::refusals;
 ghost use Prim.Native.Nat.{_≤_};
 ghost use lib.ListN.{length};
-ghost use lib.Seq.{paste};
 ghost use Rattle.node.specs.Limits.{maxNodes, fieldLimit};
 ghost use Rattle.node.specs.Table.{root, treeAt};
 ghost use Rattle.node.specs.TableLaws.{Formed};
@@ -22,13 +22,6 @@ pub const AS_EXPANDED: u32 = 0;
 pub const NEGATION_FORM: u32 = 1;
 
 pub const CORE_FORM: u32 = 2;
-
-// The numbers of the refusals: more than 8,192 nodes by the definition, result buffer short, form not 0, 1, 2.
-pub const TOO_MANY_NODES: u32 = 16;
-
-pub const RESULT_SHORT: u32 = 18;
-
-pub const BAD_FORM: u32 = 21;
 
 // The rewriter is told no signals: a table may have any signal number that a field holds.
 const SIGNAL_LIMIT: u32 = node::FIELD_LIMIT;
@@ -50,25 +43,13 @@ fn write_form(nodes: &[u32], form: u32, i: usize, out: &mut [u32], at: usize) ->
     }
 }
 
-// The first n words, to the front of `out`. It is no entry point: it asks that both have as many, and its callers show it.
-pub fn copy_words(from: &[u32], n: usize, out: &mut [u32])
-    requires { ⌜ (n ≤ length (now from)) × (n ≤ length (now out)) ⌝ }
-    ensures { λ _. ⌜ now (out .exit) ≡ paste (now (out .entry)) 0 (now (from .entry)) n ⌝ }
-{
-    let mut i = 0;
-    while i < n {
-        out[i] = from[i];
-        i += 1;
-    }
-}
-
 // Hands over the first n words of a table that was written, where they fit. It asks for what the writing functions yield: a count of nodes within the table.
 fn hand_over(table: &[u32], n: usize, out: &mut [u32]) -> Answer
     requires { ⌜ (n ≤ length (now table)) × (n ≤ maxNodes) ⌝ }
     ensures { λ r. ⌜ HandsOver (now (table .entry)) n (now (out .entry)) (now (out .exit)) r ⌝ }
 {
     if out.len() < n {
-        return Answer::Refused(RESULT_SHORT, 0);
+        return Answer::Refused(refusals::SHORT_RESULT, 0);
     }
     copy_words(table, n, out);
     let count = n as u32;
@@ -85,7 +66,7 @@ fn fit(nodes: &[u32], form: u32, out: &mut [u32]) -> Answer
     let mut table: [u32; MAX_NODES] = [0; MAX_NODES];
     let n = write_form(nodes, form, root, &mut table, 0);
     if MAX_NODES < n {
-        return Answer::Refused(TOO_MANY_NODES, 0);
+        return Answer::Refused(refusals::TOO_MANY_NODES, 0);
     }
     hand_over(&table, n, out)
 }
@@ -109,7 +90,7 @@ pub fn rewrite(nodes: &[u32], form: u32, out: &mut [u32]) -> Answer
     ensures { λ r. ⌜ Rewrites form (now (nodes .entry)) (now (out .entry)) (now (out .exit)) r ⌝ }
 {
     if CORE_FORM < form {
-        return Answer::Refused(BAD_FORM, 0);
+        return Answer::Refused(refusals::BAD_FORM, 0);
     }
     let table = node::check_table(nodes, SIGNAL_LIMIT);
     let Answer::Accepted(_, _) = table else {

@@ -1,5 +1,6 @@
 // Runs the rewriter on each refusal of document 01's table, on its one file in full, and on the deepest tables.
-ghost use Prim.Native.Nat.{_<_, _≤_};
+use basics::least;
+ghost use Prim.Native.Nat.{_<_};
 use libc::STDOUT_FILENO;
 use node::Node;
 use rewriter::AS_EXPANDED;
@@ -18,12 +19,6 @@ fn say(text: &[u8]) {
 fn say_number(n: u64) {
     say(b" ");
     io::print_decimal(STDOUT_FILENO, n);
-}
-
-fn least(a: usize, b: usize) -> usize
-    ensures { λ r. ⌜ r ≤ b ⌝ }
-{
-    if a < b { a } else { b }
 }
 
 // A table in a form.

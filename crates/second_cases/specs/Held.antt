@@ -7,8 +7,8 @@ use lib.ListN.{length}
 use Rattle.node.specs.Postorder.{nodesFrom}
 use Rattle.node.specs.Result.{Result, Done, Refused, Counts}
 use Rattle.rewriter.specs.Rewriting.{target, rewriting}
-use Rattle.evaluator.specs.Recording.{lassoOf}
-use Rattle.evaluator.specs.Row.{tableBytes}
+use Rattle.recordings.specs.Recording.{lassoOf}
+use Rattle.rows.specs.Row.{tableBytes}
 use Rattle.evaluator.specs.Evaluation.{evaluation}
 use Rattle.language.specs.Bytes.{same}
 use Rattle.language.specs.Reading.{Converted, meant}

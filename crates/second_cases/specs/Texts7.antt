@@ -12,10 +12,10 @@ use Rattle.second_cases.specs.Held.{Accepted, Rejected, Text, textsHeld}
 
 cases-0 : List Text
 cases-0 =
-    record { bytes = (ascii "INFO{TITLE:\"\"DESCRIPTION:\"t\"SEMANTICS:Mealy TARGET:Mealy TAGS:\"t\",\"t\",safety,\"t\",_}MAIN{REQUIRE{}ASSUMPTIONS{false||(4==0);}OUTPUTS{z;}INPUTS{}}"); expected = Accepted (0 ∷ 0 ∷ 0 ∷ 2415951872 ∷ 268435456 ∷ 268435456 ∷ 1342242821 ∷ 1073790982 ∷ 0 ∷ 2416050176 ∷ 0 ∷ 1073889290 ∷ 1610727435 ∷ 1073758220 ∷ 1610612749 ∷ []) (2156134400 ∷ []) } ∷
-    record { bytes = (ascii "INFO{TITLE:\"\"DESCRIPTION:\"\"SEMANTICS:Moore TARGET:Moore TAGS:\"t\",safety}MAIN{INPUTS{d;}OUTPUTS{}GUARANTEE{}}"); expected = Accepted (0 ∷ 0 ∷ 0 ∷ 2415951872 ∷ 0 ∷ 1073790980 ∷ 0 ∷ 2416017408 ∷ 0 ∷ 1073856520 ∷ 1610694665 ∷ 1073758218 ∷ 1610612747 ∷ []) (5505024 ∷ []) } ∷
-    record { bytes = (ascii "INFO{TITLE:\"\"DESCRIPTION:\"\"SEMANTICS:Moore TARGET:Moore}GLOBAL{DEFINITIONS{_={2,4..4};}}MAIN{INPUTS{c}OUTPUTS{}ASSUMPTIONS{}}"); expected = Accepted (0 ∷ 0 ∷ 0 ∷ 2415951872 ∷ 0 ∷ 1073790980 ∷ 0 ∷ 2416017408 ∷ 0 ∷ 1073856520 ∷ 1610694665 ∷ 1073758218 ∷ 1610612747 ∷ []) (6553600 ∷ []) } ∷
-    record { bytes = (ascii "INFO{TITLE:\"\"DESCRIPTION:\"\"SEMANTICS:Mealy TARGET:Mealy}GLOBAL{PARAMETERS{}DEFINITIONS{enum Xa=n:110;}}MAIN{OUTPUTS{t;@}INPUTS{Xa g}GUARANTEE{G[0+1:4]t;}}"); expected = Accepted (0 ∷ 0 ∷ 536870912 ∷ 536887296 ∷ 1073774595 ∷ 536903680 ∷ 805388288 ∷ 1073807366 ∷ 2416033792 ∷ 0 ∷ 1073872905 ∷ 0 ∷ 2416099328 ∷ 536920064 ∷ 536920064 ∷ 536920064 ∷ 536920064 ∷ 2147745792 ∷ 1073987601 ∷ 2147778560 ∷ 1073971219 ∷ 2147811328 ∷ 1073954837 ∷ 2147844096 ∷ 1073938455 ∷ 1610776600 ∷ 1073758233 ∷ 1610612762 ∷ []) (8519683 ∷ 8519939 ∷ 8520195 ∷ 2155085824 ∷ 2155216896 ∷ []) } ∷
+    record { bytes = (ascii "INFO{TITLE:\"\"DESCRIPTION:\"\"SEMANTICS:Moore TARGET:Mealy}GLOBAL{DEFINITIONS{enum d=y:*,0}}MAIN{INPUTS{d A;h[1];c[3];}OUTPUTS{}INITIALLY{SIZE{}==1;A[0];}}"); expected = Accepted (268435456 ∷ 536870912 ∷ 2147500032 ∷ 1073741826 ∷ 0 ∷ 0 ∷ 2416001024 ∷ 0 ∷ 1073840135 ∷ 0 ∷ 2416066560 ∷ 0 ∷ 1073905675 ∷ 1610743820 ∷ 1073807373 ∷ 1610661902 ∷ []) (6750209 ∷ 6881281 ∷ 7208963 ∷ 7209219 ∷ 7209475 ∷ []) } ∷
+    record { bytes = (ascii "INFO{TITLE:\"\"DESCRIPTION:\"\"SEMANTICS:Mealy TARGET:Moore}GLOBAL{DEFINITIONS{enum f=j:*1,01;}}MAIN{INPUTS{Xa[256]}OUTPUTS{}REQUIRE{}GUARANTEE{1/1IN{1};01>4W Xa[0];}}"); expected = Rejected 13 104 } ∷
+    record { bytes = (ascii "INFO{TITLE:\"t\"DESCRIPTION:\"\"SEMANTICS:Mealy TARGET:Mealy}GLOBAL{}MAIN{OUTPUTS{Xa;}REQUIRE{}INPUTS{}}"); expected = Accepted (0 ∷ 0 ∷ 0 ∷ 2415951872 ∷ 0 ∷ 1073790980 ∷ 0 ∷ 2416017408 ∷ 0 ∷ 1073856520 ∷ 1610694665 ∷ 1073758218 ∷ 1610612747 ∷ []) (2152595456 ∷ []) } ∷
+    record { bytes = (ascii "INFO{TITLE:\"\"DESCRIPTION:\"\"SEMANTICS:Moore TARGET:Mealy TAGS:a}MAIN{INPUTS{d;l;}OUTPUTS{f[1];}ASSUME{d<->d U false;(MAX{2})ELEM{0,1}||f[01];}}"); expected = Rejected 13 134 } ∷
     []
 
 held-0 : textsHeld cases-0 ≡ true
@@ -24,10 +24,10 @@ held-0 = refl
 
 cases-1 : List Text
 cases-1 =
-    record { bytes = (ascii "INFO{TITLE:\"\"DESCRIPTION:\"\"SEMANTICS:Moore,Strict TARGET:Mealy TAGS:safety,safety,a,\"t\",safety,_}MAIN{INPUTS{_[1]}OUTPUTS{u[3]}INITIALLY{_[00]W false}}"); expected = Rejected 14 57 } ∷
-    record { bytes = (ascii "INFO{TITLE:\"\"DESCRIPTION:\"\"SEMANTICS:Moore,Strict TARGET:Moore}GLOBAL{}MAIN{OUTPUTS{}INPUTS{b;b;x';}ASSUME{b;}}"); expected = Rejected 7 94 } ∷
-    record { bytes = (ascii "INFO{TITLE:\"t\"DESCRIPTION:\"t\"SEMANTICS:Moore,Strict TARGET:Moore}MAIN{INPUTS{@[4];}OUTPUTS{}INVARIANTS{true R @[0]R @[0]}}"); expected = Accepted (0 ∷ 0 ∷ 0 ∷ 536870912 ∷ 3221258243 ∷ 536870912 ∷ 3221291013 ∷ 0 ∷ 805421056 ∷ 3489759240 ∷ 1073758217 ∷ 0 ∷ 2416099328 ∷ 0 ∷ 1073938445 ∷ 0 ∷ 1610842127 ∷ 1073905680 ∷ 1610612753 ∷ []) (5046276 ∷ 5046532 ∷ 5046788 ∷ 5047044 ∷ []) } ∷
-    record { bytes = (ascii "INFO{TITLE:\"\"DESCRIPTION:\"\"SEMANTICS:Moore,Strict TARGET:Moore TAGS:_}GLOBAL{}MAIN{INITIALLY{2<=4*3MUL 00;0/=2||Xa;}OUTPUTS{Xa;}INPUTS{}}"); expected = Accepted (268435456 ∷ 0 ∷ 536870912 ∷ 1342193666 ∷ 1073741827 ∷ 0 ∷ 0 ∷ 0 ∷ 805421056 ∷ 3489759240 ∷ 1073823753 ∷ 0 ∷ 2416099328 ∷ 0 ∷ 1073938445 ∷ 0 ∷ 1610842127 ∷ 1073905680 ∷ 1610678289 ∷ []) (2155610112 ∷ []) } ∷
+    record { bytes = (ascii "INFO{TITLE:\"\"DESCRIPTION:\"\"SEMANTICS:Moore TARGET:Moore}GLOBAL{DEFINITIONS{enum p=n:0*,1*;r={1};}}MAIN{REQUIRE{}INPUTS{j}OUTPUTS{p f;u;}}"); expected = Accepted (0 ∷ 0 ∷ 0 ∷ 2415951872 ∷ 0 ∷ 1073790980 ∷ 0 ∷ 2416017408 ∷ 0 ∷ 1073856520 ∷ 1610694665 ∷ 1073758218 ∷ 1610612747 ∷ []) (7798784 ∷ 2156068866 ∷ 2156069122 ∷ 2156199936 ∷ []) } ∷
+    record { bytes = (ascii "INFO{TITLE:\"t\"DESCRIPTION:\"\"SEMANTICS:Moore,Strict TARGET:Mealy}GLOBAL{PARAMETERS{}DEFINITIONS{enum a=g:11,0*f:10;}}MAIN{PRESET{v R v;}GUARANTEES{}INPUTS{}OUTPUTS{v;}}"); expected = Accepted (0 ∷ 536870912 ∷ 536870912 ∷ 3221241858 ∷ 0 ∷ 0 ∷ 805388288 ∷ 3489726470 ∷ 1073790983 ∷ 0 ∷ 2416066560 ∷ 0 ∷ 1073905675 ∷ 0 ∷ 1610809357 ∷ 1073872910 ∷ 1610612751 ∷ []) (2158166016 ∷ []) } ∷
+    record { bytes = (ascii "INFO{TITLE:\"\"DESCRIPTION:\"\"SEMANTICS:Mealy TARGET:Moore}GLOBAL{DEFINITIONS{o=9-1000000;enum f=e:111i:000,0*0;}}MAIN{ASSERT{!!!!!X!!X NOT!NOT NOT!X!X NOT NOT X!!X!NOT X!NOT NOT X!!!!!X!!NOT NOT X!!!!!!NOT!!X!!!!X!!!!NOT!!X NOT!!!X!NOT X X!NOT!X!!!!!!!NOT NOT!!!X NOT!NOT X!X!!!!X NOT X!NOT X!NOT NOT!!!X X!!X!!!!!!!NOT NOT!!!NOT!!!X NOT!X!!NOT!!!!NOT!NOT!X X NOT!X NOT!!!!NOT NOT NOT!!!!!NOT!!X NOT!NOT X X X!!X X NOT NOT X!!!!X!NOT!NOT X X NOT X!!!!!X!X NOT!!!!!!!!!!!NOT!!NOT NOT NOT X!NOT NOT!!!!X NOT X X!X!!!!!X X!X!!!NOT!!NOT!X EXISTS[MAX{o}MOD(1/0)<A<o,_ IN{1}]w;}INPUTS{w;m}OUTPUTS{f k;}}"); expected = Rejected 5 123 } ∷
+    record { bytes = (ascii "INFO{TITLE:\"\"DESCRIPTION:\"\"SEMANTICS:Mealy TARGET:Mealy}MAIN{INPUTS{}OUTPUTS{b;}ASSUMPTIONS{}}"); expected = Accepted (0 ∷ 0 ∷ 0 ∷ 2415951872 ∷ 0 ∷ 1073790980 ∷ 0 ∷ 2416017408 ∷ 0 ∷ 1073856520 ∷ 1610694665 ∷ 1073758218 ∷ 1610612747 ∷ []) (2152529920 ∷ []) } ∷
     []
 
 held-1 : textsHeld cases-1 ≡ true
@@ -36,10 +36,10 @@ held-1 = refl
 
 cases-2 : List Text
 cases-2 =
-    record { bytes = (ascii "INFO{TITLE:\"\"DESCRIPTION:\"\"SEMANTICS:Moore,Strict TARGET:Moore}MAIN{INPUTS{u;_;h[3]}OUTPUTS{}ASSERT{1ELEM{0,1}AND h[2]R a1;h[2]&&false;}}"); expected = Rejected 6 120 } ∷
-    record { bytes = (ascii "INFO{TITLE:\"\"DESCRIPTION:\"\"SEMANTICS:Moore TARGET:Moore}MAIN{INPUTS{}OUTPUTS{j;n}REQUIRE{&&[{1}<=u<=1%({1}*2)]j;}}"); expected = Rejected 9 92 } ∷
-    record { bytes = (ascii "INFO{TITLE:\"t\"DESCRIPTION:\"\"SEMANTICS:Mealy TARGET:Mealy}MAIN{OUTPUTS{r;Xa;}INPUTS{In;}REQUIRE{Xa;X r&&||[1<A<1,1LEQ x'<A]false&&In;}}"); expected = Accepted (0 ∷ 0 ∷ 536903680 ∷ 536887296 ∷ 2147532800 ∷ 268435456 ∷ 1073807365 ∷ 536870912 ∷ 1073840135 ∷ 1073774600 ∷ 2416066560 ∷ 0 ∷ 1073905675 ∷ 0 ∷ 2416132096 ∷ 0 ∷ 1073971215 ∷ 1610809360 ∷ 1073758225 ∷ 1610612754 ∷ []) (5439488 ∷ 2152071168 ∷ 2152202240 ∷ []) } ∷
-    record { bytes = (ascii "INFO{TITLE:\"\"DESCRIPTION:\"\"SEMANTICS:Mealy TARGET:Mealy}MAIN{INPUTS{a;b[2]}OUTPUTS{}ASSERT{(a)}}"); expected = Accepted (0 ∷ 0 ∷ 0 ∷ 2415951872 ∷ 0 ∷ 1073790980 ∷ 536870912 ∷ 2416017408 ∷ 0 ∷ 1073856520 ∷ 1610694665 ∷ 1073758218 ∷ 1610612747 ∷ []) (4456448 ∷ 4587522 ∷ 4587778 ∷ []) } ∷
+    record { bytes = (ascii "INFO{TITLE:\"\"DESCRIPTION:\"\"SEMANTICS:Moore TARGET:Moore}GLOBAL{DEFINITIONS{enum y=x:0*;e=X[2PLUS 00]true;}}MAIN{OUTPUTS{r;}GUARANTEES{}INPUTS{h;}}"); expected = Accepted (0 ∷ 0 ∷ 0 ∷ 2415951872 ∷ 0 ∷ 1073790980 ∷ 0 ∷ 2416017408 ∷ 0 ∷ 1073856520 ∷ 1610694665 ∷ 1073758218 ∷ 1610612747 ∷ []) (9306112 ∷ 2155347968 ∷ []) } ∷
+    record { bytes = (ascii "INFO{TITLE:\"\"DESCRIPTION:\"\"SEMANTICS:Mealy,Strict TARGET:Mealy}GLOBAL{DEFINITIONS{enum Xa=a:1,1;enum y=b:0}}MAIN{PRESET{0IN{0,2..41}CAP{0,1};}INPUTS{}OUTPUTS{e;y r;}}"); expected = Accepted (0 ∷ 0 ∷ 536887296 ∷ 805339136 ∷ 0 ∷ 805371904 ∷ 3489710085 ∷ 1073758214 ∷ 0 ∷ 2416050176 ∷ 0 ∷ 1073889290 ∷ 0 ∷ 1610792972 ∷ 1073856525 ∷ 1610612750 ∷ []) (2157838336 ∷ 2158100481 ∷ []) } ∷
+    record { bytes = (ascii "INFO{TITLE:\"\"DESCRIPTION:\"\"SEMANTICS:Moore TARGET:Moore}GLOBAL{PARAMETERS{y=01+00;}DEFINITIONS{a={y,y,y}CUP{0,1..2}}}MAIN{OUTPUTS{m[SIZEOF m];j;}GUARANTEE{}INPUTS{}}"); expected = Rejected 13 139 } ∷
+    record { bytes = (ascii "INFO{TITLE:\"\"DESCRIPTION:\"\"SEMANTICS:Mealy TARGET:Mealy}MAIN{INPUTS{a}OUTPUTS{}ASSERT{+[0<=i<=256]i==1}}"); expected = Rejected 12 89 } ∷
     []
 
 held-2 : textsHeld cases-2 ≡ true
@@ -48,10 +48,10 @@ held-2 = refl
 
 cases-3 : List Text
 cases-3 =
-    record { bytes = (ascii "INFO{TITLE:\"\"DESCRIPTION:\"\"SEMANTICS:Moore TARGET:Moore}GLOBAL{DEFINITIONS{enum u=c:00*x':*10}}MAIN{INPUTS{}ASSERT{r[1]}OUTPUTS{u r}}"); expected = Accepted (0 ∷ 0 ∷ 0 ∷ 2415951872 ∷ 0 ∷ 1073790980 ∷ 536887296 ∷ 536870912 ∷ 805421056 ∷ 536887296 ∷ 805453824 ∷ 1073872906 ∷ 536887296 ∷ 536903680 ∷ 805519360 ∷ 1073938446 ∷ 1342357519 ∷ 1073840144 ∷ 2416197632 ∷ 0 ∷ 1074036755 ∷ 1610694676 ∷ 1073758229 ∷ 1610612758 ∷ []) (2156003331 ∷ 2156003587 ∷ 2156003843 ∷ []) } ∷
-    record { bytes = (ascii "INFO{TITLE:\"\"DESCRIPTION:\"\"SEMANTICS:Mealy TARGET:Mealy}GLOBAL{}MAIN{ASSUME{}OUTPUTS{}INPUTS{b;}}"); expected = Accepted (0 ∷ 0 ∷ 0 ∷ 2415951872 ∷ 0 ∷ 1073790980 ∷ 0 ∷ 2416017408 ∷ 0 ∷ 1073856520 ∷ 1610694665 ∷ 1073758218 ∷ 1610612747 ∷ []) (6094848 ∷ []) } ∷
-    record { bytes = (32 ∷ 13 ∷ 73 ∷ 78 ∷ 70 ∷ 79 ∷ 123 ∷ 32 ∷ 32 ∷ 32 ∷ 84 ∷ 73 ∷ 84 ∷ 76 ∷ 69 ∷ 10 ∷ 58 ∷ 34 ∷ 34 ∷ 68 ∷ 69 ∷ 83 ∷ 67 ∷ 82 ∷ 73 ∷ 80 ∷ 84 ∷ 73 ∷ 79 ∷ 78 ∷ 9 ∷ 58 ∷ 34 ∷ 34 ∷ 83 ∷ 69 ∷ 77 ∷ 65 ∷ 78 ∷ 84 ∷ 73 ∷ 67 ∷ 83 ∷ 58 ∷ 77 ∷ 101 ∷ 97 ∷ 108 ∷ 121 ∷ 32 ∷ 84 ∷ 65 ∷ 82 ∷ 71 ∷ 69 ∷ 84 ∷ 58 ∷ 77 ∷ 101 ∷ 97 ∷ 108 ∷ 121 ∷ 32 ∷ 125 ∷ 71 ∷ 76 ∷ 79 ∷ 66 ∷ 65 ∷ 76 ∷ 13 ∷ 123 ∷ 13 ∷ 47 ∷ 42 ∷ 47 ∷ 42 ∷ 42 ∷ 47 ∷ 42 ∷ 47 ∷ 68 ∷ 69 ∷ 70 ∷ 73 ∷ 78 ∷ 73 ∷ 84 ∷ 73 ∷ 79 ∷ 78 ∷ 83 ∷ 10 ∷ 10 ∷ 32 ∷ 123 ∷ 32 ∷ 122 ∷ 61 ∷ 48 ∷ 48 ∷ 42 ∷ 32 ∷ 32 ∷ 48 ∷ 48 ∷ 43 ∷ 10 ∷ 50 ∷ 59 ∷ 125 ∷ 125 ∷ 9 ∷ 77 ∷ 65 ∷ 73 ∷ 78 ∷ 123 ∷ 73 ∷ 78 ∷ 80 ∷ 85 ∷ 84 ∷ 83 ∷ 123 ∷ 125 ∷ 79 ∷ 85 ∷ 84 ∷ 80 ∷ 85 ∷ 84 ∷ 83 ∷ 123 ∷ 112 ∷ 91 ∷ 122 ∷ 10 ∷ 32 ∷ 32 ∷ 93 ∷ 59 ∷ 104 ∷ 91 ∷ 49 ∷ 50 ∷ 55 ∷ 93 ∷ 59 ∷ 125 ∷ 32 ∷ 32 ∷ 10 ∷ 71 ∷ 85 ∷ 65 ∷ 82 ∷ 65 ∷ 78 ∷ 84 ∷ 69 ∷ 69 ∷ 10 ∷ 123 ∷ 125 ∷ 125 ∷ []); expected = Accepted (0 ∷ 0 ∷ 0 ∷ 2415951872 ∷ 0 ∷ 1073790980 ∷ 0 ∷ 2416017408 ∷ 0 ∷ 1073856520 ∷ 1610694665 ∷ 1073758218 ∷ 1610612747 ∷ []) (2156265474 ∷ 2156265730 ∷ 2156789887 ∷ 2156790143 ∷ 2156790399 ∷ 2156790655 ∷ 2156790911 ∷ 2156791167 ∷ 2156791423 ∷ 2156791679 ∷ 2156791935 ∷ 2156792191 ∷ 2156792447 ∷ 2156792703 ∷ 2156792959 ∷ 2156793215 ∷ 2156793471 ∷ 2156793727 ∷ 2156793983 ∷ 2156794239 ∷ 2156794495 ∷ 2156794751 ∷ 2156795007 ∷ 2156795263 ∷ 2156795519 ∷ 2156795775 ∷ 2156796031 ∷ 2156796287 ∷ 2156796543 ∷ 2156796799 ∷ 2156797055 ∷ 2156797311 ∷ 2156797567 ∷ 2156797823 ∷ 2156798079 ∷ 2156798335 ∷ 2156798591 ∷ 2156798847 ∷ 2156799103 ∷ 2156799359 ∷ 2156799615 ∷ 2156799871 ∷ 2156800127 ∷ 2156800383 ∷ 2156800639 ∷ 2156800895 ∷ 2156801151 ∷ 2156801407 ∷ 2156801663 ∷ 2156801919 ∷ 2156802175 ∷ 2156802431 ∷ 2156802687 ∷ 2156802943 ∷ 2156803199 ∷ 2156803455 ∷ 2156803711 ∷ 2156803967 ∷ 2156804223 ∷ 2156804479 ∷ 2156804735 ∷ 2156804991 ∷ 2156805247 ∷ 2156805503 ∷ 2156805759 ∷ 2156806015 ∷ 2156806271 ∷ 2156806527 ∷ 2156806783 ∷ 2156807039 ∷ 2156807295 ∷ 2156807551 ∷ 2156807807 ∷ 2156808063 ∷ 2156808319 ∷ 2156808575 ∷ 2156808831 ∷ 2156809087 ∷ 2156809343 ∷ 2156809599 ∷ 2156809855 ∷ 2156810111 ∷ 2156810367 ∷ 2156810623 ∷ 2156810879 ∷ 2156811135 ∷ 2156811391 ∷ 2156811647 ∷ 2156811903 ∷ 2156812159 ∷ 2156812415 ∷ 2156812671 ∷ 2156812927 ∷ 2156813183 ∷ 2156813439 ∷ 2156813695 ∷ 2156813951 ∷ 2156814207 ∷ 2156814463 ∷ 2156814719 ∷ 2156814975 ∷ 2156815231 ∷ 2156815487 ∷ 2156815743 ∷ 2156815999 ∷ 2156816255 ∷ 2156816511 ∷ 2156816767 ∷ 2156817023 ∷ 2156817279 ∷ 2156817535 ∷ 2156817791 ∷ 2156818047 ∷ 2156818303 ∷ 2156818559 ∷ 2156818815 ∷ 2156819071 ∷ 2156819327 ∷ 2156819583 ∷ 2156819839 ∷ 2156820095 ∷ 2156820351 ∷ 2156820607 ∷ 2156820863 ∷ 2156821119 ∷ 2156821375 ∷ 2156821631 ∷ 2156821887 ∷ 2156822143 ∷ []) } ∷
-    record { bytes = (ascii "INFO{TITLE:\"\"DESCRIPTION:\"\"SEMANTICS:Moore TARGET:Moore}MAIN{ASSERT{}OUTPUTS{m}INPUTS{}REQUIRE{F[00:4](OR[1<=f<1]m);true;}}"); expected = Accepted (0 ∷ 0 ∷ 268435456 ∷ 268435456 ∷ 268435456 ∷ 268435456 ∷ 268435456 ∷ 2147581952 ∷ 1342259207 ∷ 2147614720 ∷ 1342242825 ∷ 2147647488 ∷ 1342226443 ∷ 2147680256 ∷ 1342210061 ∷ 0 ∷ 1073971215 ∷ 2416181248 ∷ 0 ∷ 1074020370 ∷ 0 ∷ 2416246784 ∷ 0 ∷ 1074085910 ∷ 1610924055 ∷ 1073758232 ∷ 1610612761 ∷ []) (2152529920 ∷ []) } ∷
+    record { bytes = (ascii "INFO{TITLE:\"\"DESCRIPTION:\"\"SEMANTICS:Mealy TARGET:Mealy}GLOBAL{DEFINITIONS{enum y=n:0f:10;Xa=&&[0<=B_0<1]j R q}}MAIN{INPUTS{}OUTPUTS{q;j;m[2]}INITIALLY{}}"); expected = Rejected 10 87 } ∷
+    record { bytes = (ascii "INFO{TITLE:\"\"DESCRIPTION:\"\"SEMANTICS:Mealy TARGET:Mealy}MAIN{INPUTS{}OUTPUTS{a;}ASSUME{(2)%0!=3;G[(2):5]a}}"); expected = Rejected 11 90 } ∷
+    record { bytes = (ascii "INFO{TITLE:\"\"DESCRIPTION:\"\"SEMANTICS:Mealy TARGET:Mealy}GLOBAL{DEFINITIONS{enum T=A:0,0,0,0,0,0,0,0,0,0,0,0,0,0,0,0,0}}MAIN{INPUTS{}OUTPUTS{}}"); expected = Rejected 10 116 } ∷
+    record { bytes = (73 ∷ 78 ∷ 70 ∷ 79 ∷ 123 ∷ 84 ∷ 73 ∷ 84 ∷ 76 ∷ 69 ∷ 32 ∷ 47 ∷ 42 ∷ 47 ∷ 42 ∷ 42 ∷ 47 ∷ 42 ∷ 47 ∷ 58 ∷ 34 ∷ 34 ∷ 9 ∷ 68 ∷ 69 ∷ 83 ∷ 67 ∷ 82 ∷ 73 ∷ 80 ∷ 84 ∷ 73 ∷ 79 ∷ 78 ∷ 58 ∷ 32 ∷ 32 ∷ 47 ∷ 47 ∷ 125 ∷ 13 ∷ 59 ∷ 10 ∷ 34 ∷ 34 ∷ 83 ∷ 69 ∷ 77 ∷ 65 ∷ 78 ∷ 84 ∷ 73 ∷ 67 ∷ 83 ∷ 32 ∷ 47 ∷ 47 ∷ 32 ∷ 99 ∷ 10 ∷ 58 ∷ 77 ∷ 101 ∷ 97 ∷ 108 ∷ 121 ∷ 9 ∷ 13 ∷ 44 ∷ 9 ∷ 47 ∷ 42 ∷ 32 ∷ 34 ∷ 32 ∷ 42 ∷ 47 ∷ 83 ∷ 116 ∷ 114 ∷ 105 ∷ 99 ∷ 116 ∷ 32 ∷ 84 ∷ 65 ∷ 82 ∷ 71 ∷ 69 ∷ 84 ∷ 58 ∷ 77 ∷ 111 ∷ 111 ∷ 114 ∷ 101 ∷ 125 ∷ 32 ∷ 47 ∷ 42 ∷ 32 ∷ 59 ∷ 32 ∷ 125 ∷ 32 ∷ 42 ∷ 47 ∷ 77 ∷ 65 ∷ 73 ∷ 78 ∷ 123 ∷ 9 ∷ 9 ∷ 73 ∷ 78 ∷ 80 ∷ 85 ∷ 84 ∷ 83 ∷ 123 ∷ 32 ∷ 47 ∷ 47 ∷ 125 ∷ 13 ∷ 59 ∷ 10 ∷ 125 ∷ 79 ∷ 85 ∷ 84 ∷ 80 ∷ 85 ∷ 84 ∷ 83 ∷ 123 ∷ 10 ∷ 102 ∷ 59 ∷ 10 ∷ 47 ∷ 42 ∷ 0 ∷ 11 ∷ 42 ∷ 47 ∷ 125 ∷ 65 ∷ 83 ∷ 83 ∷ 69 ∷ 82 ∷ 84 ∷ 32 ∷ 47 ∷ 42 ∷ 47 ∷ 42 ∷ 42 ∷ 47 ∷ 42 ∷ 47 ∷ 123 ∷ 125 ∷ 32 ∷ 32 ∷ 125 ∷ []); expected = Accepted (0 ∷ 0 ∷ 0 ∷ 0 ∷ 805355520 ∷ 3489693700 ∷ 1073758213 ∷ 0 ∷ 2416033792 ∷ 0 ∷ 1073872905 ∷ 0 ∷ 1610776587 ∷ 1073840140 ∷ 1610612749 ∷ []) (2156527616 ∷ []) } ∷
     []
 
 held-3 : textsHeld cases-3 ≡ true
@@ -60,10 +60,10 @@ held-3 = refl
 
 cases-4 : List Text
 cases-4 =
-    record { bytes = (ascii "INFO{TITLE:\"\"DESCRIPTION:\"\"SEMANTICS:Mealy TARGET:Mealy}MAIN{INPUTS{a}OUTPUTS{}ASSERT{1 IN{0,1..255}}}"); expected = Accepted (0 ∷ 0 ∷ 0 ∷ 2415951872 ∷ 0 ∷ 1073790980 ∷ 0 ∷ 2416017408 ∷ 0 ∷ 1073856520 ∷ 1610694665 ∷ 1073758218 ∷ 1610612747 ∷ []) (4456448 ∷ []) } ∷
-    record { bytes = (ascii "INFO{TITLE:\"\"DESCRIPTION:\"\"SEMANTICS:Mealy TARGET:Mealy}MAIN{INPUTS{}ASSUME{(G 4+00<-{0,1..2}&&n[00]);}OUTPUTS{n[3];v[1];n[153];B_0[194];}}"); expected = Rejected 7 121 } ∷
-    record { bytes = (ascii "INFO{TITLE:\"\"DESCRIPTION:\"\"SEMANTICS:Mealy,Strict TARGET:Moore TAGS:_,safety,a}MAIN{ASSERT{}INPUTS{p;_;}OUTPUTS{}}"); expected = Rejected 14 57 } ∷
-    record { bytes = (ascii "INFO{TITLE:\"\"DESCRIPTION:\"t\"SEMANTICS:Moore,Strict TARGET:Moore}GLOBAL{DEFINITIONS{enum g=n:0*j:11,*1;In={0,1};}}MAIN{OUTPUTS{}ASSERT{false;}GUARANTEE{}INPUTS{f;}}"); expected = Rejected 10 99 } ∷
+    record { bytes = (ascii "INFO{TITLE:\"\"DESCRIPTION:\"\"SEMANTICS:Mealy,Strict TARGET:Mealy TAGS:\"t\",_}GLOBAL{}MAIN{INPUTS{n;}OUTPUTS{s;}ASSERT{}}"); expected = Accepted (0 ∷ 0 ∷ 0 ∷ 0 ∷ 805355520 ∷ 3489693700 ∷ 1073758213 ∷ 0 ∷ 2416033792 ∷ 0 ∷ 1073872905 ∷ 0 ∷ 1610776587 ∷ 1073840140 ∷ 1610612749 ∷ []) (6160384 ∷ 2154364928 ∷ []) } ∷
+    record { bytes = (ascii "INFO{TITLE:\"\"DESCRIPTION:\"\"SEMANTICS:Mealy TARGET:Mealy}MAIN{INPUTS{a}OUTPUTS{}ASSERT{7-7==1}}"); expected = Accepted (0 ∷ 0 ∷ 0 ∷ 2415951872 ∷ 0 ∷ 1073790980 ∷ 268435456 ∷ 2416017408 ∷ 0 ∷ 1073856520 ∷ 1610694665 ∷ 1073758218 ∷ 1610612747 ∷ []) (4456448 ∷ []) } ∷
+    record { bytes = (73 ∷ 78 ∷ 70 ∷ 79 ∷ 123 ∷ 84 ∷ 73 ∷ 84 ∷ 76 ∷ 69 ∷ 58 ∷ 13 ∷ 34 ∷ 34 ∷ 9 ∷ 68 ∷ 69 ∷ 83 ∷ 67 ∷ 82 ∷ 73 ∷ 80 ∷ 84 ∷ 73 ∷ 79 ∷ 78 ∷ 58 ∷ 32 ∷ 47 ∷ 42 ∷ 0 ∷ 11 ∷ 42 ∷ 47 ∷ 34 ∷ 34 ∷ 83 ∷ 69 ∷ 77 ∷ 65 ∷ 78 ∷ 84 ∷ 73 ∷ 67 ∷ 83 ∷ 10 ∷ 58 ∷ 77 ∷ 101 ∷ 97 ∷ 108 ∷ 121 ∷ 32 ∷ 84 ∷ 65 ∷ 82 ∷ 71 ∷ 69 ∷ 84 ∷ 58 ∷ 9 ∷ 32 ∷ 10 ∷ 77 ∷ 101 ∷ 97 ∷ 108 ∷ 121 ∷ 125 ∷ 71 ∷ 76 ∷ 79 ∷ 66 ∷ 65 ∷ 76 ∷ 32 ∷ 123 ∷ 125 ∷ 32 ∷ 47 ∷ 42 ∷ 32 ∷ 59 ∷ 32 ∷ 125 ∷ 32 ∷ 42 ∷ 47 ∷ 77 ∷ 65 ∷ 73 ∷ 78 ∷ 123 ∷ 79 ∷ 85 ∷ 84 ∷ 80 ∷ 85 ∷ 84 ∷ 83 ∷ 32 ∷ 9 ∷ 32 ∷ 123 ∷ 13 ∷ 112 ∷ 9 ∷ 91 ∷ 52 ∷ 93 ∷ 59 ∷ 32 ∷ 104 ∷ 32 ∷ 32 ∷ 32 ∷ 32 ∷ 32 ∷ 32 ∷ 125 ∷ 73 ∷ 78 ∷ 73 ∷ 84 ∷ 73 ∷ 65 ∷ 76 ∷ 76 ∷ 89 ∷ 123 ∷ 125 ∷ 13 ∷ 73 ∷ 78 ∷ 80 ∷ 85 ∷ 84 ∷ 83 ∷ 123 ∷ 119 ∷ 9 ∷ 59 ∷ 13 ∷ 125 ∷ 125 ∷ []); expected = Accepted (0 ∷ 0 ∷ 0 ∷ 2415951872 ∷ 0 ∷ 1073790980 ∷ 0 ∷ 2416017408 ∷ 0 ∷ 1073856520 ∷ 1610694665 ∷ 1073758218 ∷ 1610612747 ∷ []) (9109504 ∷ 2154364932 ∷ 2154365188 ∷ 2154365444 ∷ 2154365700 ∷ 2154823680 ∷ []) } ∷
+    record { bytes = (ascii "INFO{TITLE:\"\"DESCRIPTION:\"\"SEMANTICS:Moore TARGET:Moore}MAIN{INPUTS{}OUTPUTS{o;B_0[204];q[120]}GUARANTEE{X o;X[|(+)[4<=f<2]{0,1}(+){0,1..2}|]o}}"); expected = Rejected 15 88 } ∷
     []
 
 held-4 : textsHeld cases-4 ≡ true
@@ -72,10 +72,10 @@ held-4 = refl
 
 cases-5 : List Text
 cases-5 =
-    record { bytes = (ascii "INFO{TITLE:\"\"DESCRIPTION:\"\"SEMANTICS:Moore TARGET:Moore}GLOBAL{PARAMETERS{i=1;}DEFINITIONS{enum d=t:0c:10r:001*01*01;}}MAIN{INPUTS{y[i];}PRESET{i==2}OUTPUTS{w}}"); expected = Rejected 10 103 } ∷
-    record { bytes = (ascii "INFO{TITLE:\"\"DESCRIPTION:\"\"SEMANTICS:Mealy TARGET:Mealy}MAIN{INPUTS{b[2]}OUTPUTS{}ASSERT{b[2]}}"); expected = Rejected 13 89 } ∷
-    record { bytes = (ascii "INFO{TITLE:\"\"DESCRIPTION:\"\"SEMANTICS:Mealy TARGET:Mealy}MAIN{INPUTS{a;b[2]}OUTPUTS{}ASSERT{F[0:1]1}}"); expected = Rejected 9 97 } ∷
-    record { bytes = (ascii "INFO{TITLE:\"\"DESCRIPTION:\"t\"SEMANTICS:Mealy,Strict TARGET:Mealy}MAIN{INPUTS{q}OUTPUTS{}PRESET{!NOT NOT NOT!!X!!!X!X!NOT!!X!NOT!X!!!!NOT!X!!!!!!NOT!!!X NOT X!!X X X!!!X!X NOT!NOT!!!!!X NOT!!X X!!NOT X X!!NOT!NOT!NOT!NOT!NOT X X!!X NOT!!!X!!X!!!!!X!!!NOT NOT!NOT!X X NOT NOT!NOT NOT!X NOT!!!!!X NOT X!X!!!X NOT!!!NOT!!!NOT!!!!!!!!!NOT X NOT!!X!X!X NOT!NOT!!!!!!X X!!X!X!!NOT!X!!!!NOT!X!X!!!!!!X!NOT X!X X X!!!NOT!!X X!!!!X!X!!X!!!X X NOT!NOT!!X NOT X!X!!NOT!!!!!!X!!!!NOT!!||[01<B_0<=2*1]q}}"); expected = Rejected 5 94 } ∷
+    record { bytes = (73 ∷ 78 ∷ 70 ∷ 79 ∷ 123 ∷ 84 ∷ 73 ∷ 84 ∷ 76 ∷ 69 ∷ 58 ∷ 34 ∷ 47 ∷ 42 ∷ 32 ∷ 101 ∷ 110 ∷ 117 ∷ 109 ∷ 32 ∷ 10 ∷ 34 ∷ 68 ∷ 69 ∷ 83 ∷ 67 ∷ 82 ∷ 73 ∷ 80 ∷ 84 ∷ 73 ∷ 79 ∷ 78 ∷ 58 ∷ 34 ∷ 34 ∷ 83 ∷ 69 ∷ 77 ∷ 65 ∷ 78 ∷ 84 ∷ 73 ∷ 67 ∷ 83 ∷ 58 ∷ 77 ∷ 111 ∷ 111 ∷ 114 ∷ 101 ∷ 32 ∷ 84 ∷ 65 ∷ 82 ∷ 71 ∷ 69 ∷ 84 ∷ 58 ∷ 77 ∷ 111 ∷ 111 ∷ 114 ∷ 101 ∷ 125 ∷ 77 ∷ 65 ∷ 73 ∷ 78 ∷ 123 ∷ 79 ∷ 85 ∷ 84 ∷ 80 ∷ 85 ∷ 84 ∷ 83 ∷ 123 ∷ 125 ∷ 73 ∷ 78 ∷ 86 ∷ 65 ∷ 82 ∷ 73 ∷ 65 ∷ 78 ∷ 84 ∷ 83 ∷ 123 ∷ 125 ∷ 65 ∷ 83 ∷ 83 ∷ 85 ∷ 77 ∷ 80 ∷ 84 ∷ 73 ∷ 79 ∷ 78 ∷ 83 ∷ 123 ∷ 125 ∷ 73 ∷ 78 ∷ 80 ∷ 85 ∷ 84 ∷ 83 ∷ 123 ∷ 99 ∷ 91 ∷ 51 ∷ 93 ∷ 59 ∷ 66 ∷ 95 ∷ 48 ∷ 59 ∷ 118 ∷ 59 ∷ 99 ∷ 125 ∷ 125 ∷ []); expected = Rejected 7 122 } ∷
+    record { bytes = (ascii "INFO{TITLE:\"\"DESCRIPTION:\"\"SEMANTICS:Mealy TARGET:Mealy}GLOBAL{PARAMETERS{b=1+1}DEFINITIONS{enum n=q:010,011;}}MAIN{INPUTS{n l;}OUTPUTS{}ASSUME{}}"); expected = Accepted (0 ∷ 0 ∷ 536870912 ∷ 805339136 ∷ 536887296 ∷ 1073790980 ∷ 536903680 ∷ 805404672 ∷ 1073823751 ∷ 536870912 ∷ 805453824 ∷ 536887296 ∷ 1073905675 ∷ 536903680 ∷ 1073938445 ∷ 1342308366 ∷ 2416164864 ∷ 0 ∷ 1074003985 ∷ 0 ∷ 2416230400 ∷ 0 ∷ 1074069525 ∷ 1610907670 ∷ 1073758231 ∷ 1610612760 ∷ []) (8192003 ∷ 8192259 ∷ 8192515 ∷ []) } ∷
+    record { bytes = (ascii "INFO{TITLE:\"\"DESCRIPTION:\"\"SEMANTICS:Moore TARGET:Moore}GLOBAL{DEFINITIONS{enum A=x':*0;enum u=v:00;}}MAIN{ASSUME{}GUARANTEES{}OUTPUTS{In;u m;u B_0;}INPUTS{}}"); expected = Accepted (0 ∷ 0 ∷ 0 ∷ 2415951872 ∷ 0 ∷ 1073790980 ∷ 536887296 ∷ 805404672 ∷ 536903680 ∷ 805437440 ∷ 1073856521 ∷ 536920064 ∷ 805486592 ∷ 536936448 ∷ 805519360 ∷ 1073938446 ∷ 1073905679 ∷ 2416181248 ∷ 0 ∷ 1074020370 ∷ 1610694675 ∷ 1073758228 ∷ 1610612757 ∷ []) (2156331008 ∷ 2156658690 ∷ 2156658946 ∷ 2156920834 ∷ 2156921090 ∷ []) } ∷
+    record { bytes = (ascii "INFO{TITLE:\"\"DESCRIPTION:\"\"SEMANTICS:Mealy,Strict TARGET:Mealy}MAIN{INPUTS{w[false];p;}PRESET{}OUTPUTS{x';}}"); expected = Rejected 9 77 } ∷
     []
 
 held-5 : textsHeld cases-5 ≡ true
@@ -84,10 +84,10 @@ held-5 = refl
 
 cases-6 : List Text
 cases-6 =
-    record { bytes = (ascii "INFO{TITLE:\"\"DESCRIPTION:\"t\"SEMANTICS:Mealy,Strict TARGET:Mealy}MAIN{INPUTS{}OUTPUTS{x;}REQUIRE{false&&In;00>1}}"); expected = Rejected 6 103 } ∷
-    record { bytes = (ascii "INFO{TITLE:\"\"DESCRIPTION:\"\"SEMANTICS:Mealy TARGET:Mealy}MAIN{REQUIRE{||[4<r<1]e[2]&&z[2];e[2]&&z[1];}INITIALLY{e[00]U e[4]R z[1]}OUTPUTS{}INPUTS{e[3];k[4];z[3]}}"); expected = Rejected 13 118 } ∷
-    record { bytes = (ascii "INFO{TITLE:\"t\"DESCRIPTION:\"\"SEMANTICS:Moore TARGET:Moore}MAIN{INPUTS{a1;n[2];}OUTPUTS{}REQUIRE{F[9-1/2:5]a1}}"); expected = Rejected 11 95 } ∷
-    record { bytes = (ascii "INFO{TITLE:\"\"DESCRIPTION:\"\"SEMANTICS:Mealy TARGET:Mealy}MAIN{INPUTS{b[256]}OUTPUTS{}}"); expected = Rejected 13 68 } ∷
+    record { bytes = (ascii "INFO{TITLE:\"\"DESCRIPTION:\"\"SEMANTICS:Mealy TARGET:Mealy}GLOBAL{}MAIN{ASSERT{}INPUTS{f}OUTPUTS{x;}}"); expected = Accepted (0 ∷ 0 ∷ 0 ∷ 2415951872 ∷ 0 ∷ 1073790980 ∷ 0 ∷ 2416017408 ∷ 0 ∷ 1073856520 ∷ 1610694665 ∷ 1073758218 ∷ 1610612747 ∷ []) (5505024 ∷ 2153644032 ∷ []) } ∷
+    record { bytes = (ascii "INFO{TITLE:\"\"DESCRIPTION:\"\"SEMANTICS:Moore TARGET:Moore}GLOBAL{PARAMETERS{}DEFINITIONS{j={1}(\\){0,1};enum a1=r:00,1*}}MAIN{INPUTS{y;}OUTPUTS{}REQUIRE{}}"); expected = Accepted (0 ∷ 0 ∷ 0 ∷ 2415951872 ∷ 0 ∷ 1073790980 ∷ 0 ∷ 2416017408 ∷ 0 ∷ 1073856520 ∷ 1610694665 ∷ 1073758218 ∷ 1610612747 ∷ []) (8519680 ∷ []) } ∷
+    record { bytes = (ascii "INFO{TITLE:\"\"DESCRIPTION:\"\"SEMANTICS:Moore TARGET:Moore}MAIN{INPUTS{o}OUTPUTS{j;o;}ASSERT{*[|{3,4}|<=w<00]1+0!=0;F j;}}"); expected = Rejected 7 80 } ∷
+    record { bytes = (ascii "INFO{TITLE:\"\"DESCRIPTION:\"\"SEMANTICS:Mealy TARGET:Mealy}GLOBAL{PARAMETERS{k=0}DEFINITIONS{enum p=x:*1,10u:00;}}MAIN{REQUIRE{}INPUTS{}PRESET{}OUTPUTS{f;B_0;a;}}"); expected = Accepted (0 ∷ 0 ∷ 0 ∷ 2415951872 ∷ 0 ∷ 1073790980 ∷ 0 ∷ 2416017408 ∷ 0 ∷ 1073856520 ∷ 1610694665 ∷ 1073758218 ∷ 1610612747 ∷ []) (2157248512 ∷ 2157379584 ∷ 2157641728 ∷ []) } ∷
     []
 
 held-6 : textsHeld cases-6 ≡ true
@@ -96,10 +96,10 @@ held-6 = refl
 
 cases-7 : List Text
 cases-7 =
-    record { bytes = (73 ∷ 78 ∷ 70 ∷ 79 ∷ 10 ∷ 123 ∷ 10 ∷ 32 ∷ 84 ∷ 73 ∷ 84 ∷ 76 ∷ 69 ∷ 58 ∷ 34 ∷ 116 ∷ 34 ∷ 68 ∷ 69 ∷ 83 ∷ 67 ∷ 82 ∷ 73 ∷ 80 ∷ 84 ∷ 73 ∷ 79 ∷ 78 ∷ 58 ∷ 34 ∷ 34 ∷ 83 ∷ 69 ∷ 77 ∷ 65 ∷ 78 ∷ 84 ∷ 73 ∷ 67 ∷ 83 ∷ 58 ∷ 77 ∷ 111 ∷ 111 ∷ 114 ∷ 101 ∷ 32 ∷ 84 ∷ 65 ∷ 82 ∷ 71 ∷ 69 ∷ 84 ∷ 58 ∷ 32 ∷ 77 ∷ 111 ∷ 111 ∷ 114 ∷ 101 ∷ 125 ∷ 77 ∷ 65 ∷ 73 ∷ 78 ∷ 123 ∷ 10 ∷ 73 ∷ 78 ∷ 80 ∷ 85 ∷ 84 ∷ 83 ∷ 123 ∷ 107 ∷ 59 ∷ 125 ∷ 79 ∷ 85 ∷ 84 ∷ 80 ∷ 85 ∷ 84 ∷ 83 ∷ 10 ∷ 123 ∷ 106 ∷ 9 ∷ 59 ∷ 102 ∷ 59 ∷ 125 ∷ 82 ∷ 69 ∷ 81 ∷ 85 ∷ 73 ∷ 82 ∷ 69 ∷ 123 ∷ 38 ∷ 38 ∷ 91 ∷ 9 ∷ 10 ∷ 32 ∷ 32 ∷ 40 ∷ 9 ∷ 13 ∷ 51 ∷ 42 ∷ 50 ∷ 41 ∷ 42 ∷ 9 ∷ 49 ∷ 13 ∷ 9 ∷ 76 ∷ 69 ∷ 13 ∷ 66 ∷ 95 ∷ 48 ∷ 32 ∷ 76 ∷ 69 ∷ 81 ∷ 32 ∷ 47 ∷ 47 ∷ 32 ∷ 99 ∷ 10 ∷ 57 ∷ 57 ∷ 57 ∷ 93 ∷ 106 ∷ 124 ∷ 124 ∷ 9 ∷ 102 ∷ 9 ∷ 9 ∷ 59 ∷ 70 ∷ 32 ∷ 32 ∷ 91 ∷ 50 ∷ 32 ∷ 58 ∷ 9 ∷ 51 ∷ 32 ∷ 47 ∷ 47 ∷ 32 ∷ 99 ∷ 10 ∷ 93 ∷ 107 ∷ 125 ∷ 125 ∷ []); expected = Rejected 12 119 } ∷
-    record { bytes = (ascii "INFO{TITLE:\"\"DESCRIPTION:\"\"SEMANTICS:Moore TARGET:Mealy}MAIN{INPUTS{r;}OUTPUTS{a[4];}INVARIANTS{2IN{}W a[0];}GUARANTEE{&&[2<=v<=01]&&[m IN{1}]r}}"); expected = Rejected 14 50 } ∷
-    record { bytes = (ascii "INFO{TITLE:\"\"DESCRIPTION:\"\"SEMANTICS:Moore TARGET:Moore}GLOBAL{DEFINITIONS{enum a1=j:*,1;A=01}}MAIN{INPUTS{j;x;}OUTPUTS{a1 u;}REQUIRE{}}"); expected = Rejected 7 107 } ∷
-    record { bytes = (ascii "INFO{TITLE:\"\"DESCRIPTION:\"\"SEMANTICS:Mealy TARGET:Mealy}GLOBAL{DEFINITIONS{enum i=A:0;A={MAX{0,1..2}};}}MAIN{INPUTS{}OUTPUTS{In;}INITIALLY{}}"); expected = Rejected 7 86 } ∷
+    record { bytes = (ascii "INFO{TITLE:\"\"DESCRIPTION:\"\"SEMANTICS:Moore TARGET:Moore}MAIN{OUTPUTS{n;}ASSUME{9-01PLUS 2GEQ 2;X[01]EXISTS[0LEQ w<MIN{}]n R false;}INPUTS{}}"); expected = Rejected 11 114 } ∷
+    record { bytes = (ascii "INFO{TITLE:\"\"DESCRIPTION:\"t\"SEMANTICS:Moore TARGET:Mealy}GLOBAL{}MAIN{INPUTS{q}OUTPUTS{k;}GUARANTEE{F[(4)-4:4]true;}}"); expected = Accepted (0 ∷ 0 ∷ 0 ∷ 2415951872 ∷ 0 ∷ 1073790980 ∷ 0 ∷ 2416017408 ∷ 0 ∷ 0 ∷ 0 ∷ 0 ∷ 0 ∷ 2147680256 ∷ 1342357517 ∷ 2147713024 ∷ 1342341135 ∷ 2147745792 ∷ 1342324753 ∷ 2147778560 ∷ 1342308371 ∷ 1073856532 ∷ 1610694677 ∷ 1073758230 ∷ 1610612759 ∷ []) (5046272 ∷ 2153185280 ∷ []) } ∷
+    record { bytes = (ascii "INFO{TITLE:\"\"DESCRIPTION:\"\"SEMANTICS:Mealy TARGET:Mealy}MAIN{INPUTS{b[256]}OUTPUTS{}}"); expected = Rejected 13 68 } ∷
+    record { bytes = (ascii "INFO{TITLE:\"t\"DESCRIPTION:\"\"SEMANTICS:Mealy,Strict TARGET:Moore}GLOBAL{DEFINITIONS{A=1;}}MAIN{INPUTS{@;}OUTPUTS{q[150];}ASSERT{(F @)->@}}"); expected = Accepted (0 ∷ 0 ∷ 536870912 ∷ 2684387328 ∷ 536870912 ∷ 1610661892 ∷ 0 ∷ 805404672 ∷ 3489742855 ∷ 1073758216 ∷ 0 ∷ 2416082944 ∷ 0 ∷ 1073922060 ∷ 0 ∷ 1610825742 ∷ 1073889295 ∷ 1610612752 ∷ []) (6619136 ∷ 2154823830 ∷ 2154824086 ∷ 2154824342 ∷ 2154824598 ∷ 2154824854 ∷ 2154825110 ∷ 2154825366 ∷ 2154825622 ∷ 2154825878 ∷ 2154826134 ∷ 2154826390 ∷ 2154826646 ∷ 2154826902 ∷ 2154827158 ∷ 2154827414 ∷ 2154827670 ∷ 2154827926 ∷ 2154828182 ∷ 2154828438 ∷ 2154828694 ∷ 2154828950 ∷ 2154829206 ∷ 2154829462 ∷ 2154829718 ∷ 2154829974 ∷ 2154830230 ∷ 2154830486 ∷ 2154830742 ∷ 2154830998 ∷ 2154831254 ∷ 2154831510 ∷ 2154831766 ∷ 2154832022 ∷ 2154832278 ∷ 2154832534 ∷ 2154832790 ∷ 2154833046 ∷ 2154833302 ∷ 2154833558 ∷ 2154833814 ∷ 2154834070 ∷ 2154834326 ∷ 2154834582 ∷ 2154834838 ∷ 2154835094 ∷ 2154835350 ∷ 2154835606 ∷ 2154835862 ∷ 2154836118 ∷ 2154836374 ∷ 2154836630 ∷ 2154836886 ∷ 2154837142 ∷ 2154837398 ∷ 2154837654 ∷ 2154837910 ∷ 2154838166 ∷ 2154838422 ∷ 2154838678 ∷ 2154838934 ∷ 2154839190 ∷ 2154839446 ∷ 2154839702 ∷ 2154839958 ∷ 2154840214 ∷ 2154840470 ∷ 2154840726 ∷ 2154840982 ∷ 2154841238 ∷ 2154841494 ∷ 2154841750 ∷ 2154842006 ∷ 2154842262 ∷ 2154842518 ∷ 2154842774 ∷ 2154843030 ∷ 2154843286 ∷ 2154843542 ∷ 2154843798 ∷ 2154844054 ∷ 2154844310 ∷ 2154844566 ∷ 2154844822 ∷ 2154845078 ∷ 2154845334 ∷ 2154845590 ∷ 2154845846 ∷ 2154846102 ∷ 2154846358 ∷ 2154846614 ∷ 2154846870 ∷ 2154847126 ∷ 2154847382 ∷ 2154847638 ∷ 2154847894 ∷ 2154848150 ∷ 2154848406 ∷ 2154848662 ∷ 2154848918 ∷ 2154849174 ∷ 2154849430 ∷ 2154849686 ∷ 2154849942 ∷ 2154850198 ∷ 2154850454 ∷ 2154850710 ∷ 2154850966 ∷ 2154851222 ∷ 2154851478 ∷ 2154851734 ∷ 2154851990 ∷ 2154852246 ∷ 2154852502 ∷ 2154852758 ∷ 2154853014 ∷ 2154853270 ∷ 2154853526 ∷ 2154853782 ∷ 2154854038 ∷ 2154854294 ∷ 2154854550 ∷ 2154854806 ∷ 2154855062 ∷ 2154855318 ∷ 2154855574 ∷ 2154855830 ∷ 2154856086 ∷ 2154856342 ∷ 2154856598 ∷ 2154856854 ∷ 2154857110 ∷ 2154857366 ∷ 2154857622 ∷ 2154857878 ∷ 2154858134 ∷ 2154858390 ∷ 2154858646 ∷ 2154858902 ∷ 2154859158 ∷ 2154859414 ∷ 2154859670 ∷ 2154859926 ∷ 2154860182 ∷ 2154860438 ∷ 2154860694 ∷ 2154860950 ∷ 2154861206 ∷ 2154861462 ∷ 2154861718 ∷ 2154861974 ∷ []) } ∷
     []
 
 held-7 : textsHeld cases-7 ≡ true
@@ -108,10 +108,10 @@ held-7 = refl
 
 cases-8 : List Text
 cases-8 =
-    record { bytes = (ascii "INFO{TITLE:\"\"DESCRIPTION:\"\"SEMANTICS:Moore TARGET:Mealy}GLOBAL{DEFINITIONS{enum c=d:*11,100u:010,000;enum t=e:1,0}}MAIN{INPUTS{r;g[2]}OUTPUTS{c i;}REQUIRE{}}"); expected = Rejected 14 50 } ∷
-    record { bytes = (ascii "INFO{TITLE:\"\"DESCRIPTION:\"\"SEMANTICS:Mealy TARGET:Moore}MAIN{INPUTS{}OUTPUTS{Xa[1];}INITIALLY{X Xa[9-1+2];((false))}}"); expected = Rejected 13 96 } ∷
-    record { bytes = (ascii "INFO{TITLE:\"\"DESCRIPTION:\"\"SEMANTICS:Mealy TARGET:Mealy}MAIN{INPUTS{a}OUTPUTS{}ASSERT{1 IN{0,1..256}}}"); expected = Rejected 12 90 } ∷
-    record { bytes = (ascii "INFO{TITLE:\"\"DESCRIPTION:\"\"SEMANTICS:Mealy TARGET:Mealy}MAIN{INPUTS{b[256]}OUTPUTS{}}"); expected = Rejected 13 68 } ∷
+    record { bytes = (ascii "INFO{TITLE:\"\"DESCRIPTION:\"\"SEMANTICS:Mealy TARGET:Mealy}GLOBAL{DEFINITIONS{enum w=t:00v:1,1j:0,0;}}MAIN{ASSUMPTIONS{}OUTPUTS{Xa}INPUTS{x;}}"); expected = Rejected 10 88 } ∷
+    record { bytes = (ascii "INFO{TITLE:\"\"DESCRIPTION:\"\"SEMANTICS:Moore TARGET:Mealy TAGS:a}MAIN{REQUIRE{EXISTS[0DIV 1<e<4]false;}OUTPUTS{}INPUTS{x;j;r;}}"); expected = Accepted (0 ∷ 0 ∷ 268435456 ∷ 268435456 ∷ 1342210051 ∷ 268435456 ∷ 1342242821 ∷ 2416017408 ∷ 0 ∷ 1073856520 ∷ 0 ∷ 2416082944 ∷ 0 ∷ 1073922060 ∷ 1610760205 ∷ 1073758222 ∷ 1610612751 ∷ []) (7667712 ∷ 7798784 ∷ 7929856 ∷ []) } ∷
+    record { bytes = (ascii "INFO{TITLE:\"\"DESCRIPTION:\"t\"SEMANTICS:Mealy TARGET:Moore}GLOBAL{DEFINITIONS{enum x=s:100,*11i:000,110z:101;p=|{0,1..2}|}}MAIN{INPUTS{r;}OUTPUTS{m[1];x c;}REQUIRE{!!!!!!!NOT NOT!!!!NOT X!!NOT!!!!!X!!NOT X!!!X!!!!NOT X!!!!!X!NOT X!X NOT!!!!NOT X X!!!NOT NOT!!!X!X X!!X X!X!NOT!NOT!!X!!!NOT NOT!!NOT X!!!!X!X X!!!NOT X!!X NOT!NOT X!!X!!!NOT!!!NOT!!!NOT NOT!NOT NOT!!NOT X NOT NOT X NOT X X X X X!!!!!!!!!NOT NOT X X!NOT!NOT!X X!X!X!!!NOT!!!!X!!!!NOT!NOT NOT!X X!!!!X!!X!!!NOT NOT X!!!!!NOT!NOT NOT!NOT!!!!!NOT NOT X!NOT NOT!!!!!!X!!X X!NOT!!!X!!!NOT!X NOT!!!!NOT(G!X(c)!=s OR r);}ASSUMPTIONS{}}"); expected = Rejected 5 162 } ∷
+    record { bytes = (73 ∷ 78 ∷ 70 ∷ 79 ∷ 123 ∷ 84 ∷ 73 ∷ 84 ∷ 76 ∷ 69 ∷ 58 ∷ 9 ∷ 13 ∷ 32 ∷ 34 ∷ 34 ∷ 68 ∷ 69 ∷ 83 ∷ 67 ∷ 82 ∷ 73 ∷ 80 ∷ 84 ∷ 73 ∷ 79 ∷ 78 ∷ 32 ∷ 32 ∷ 9 ∷ 32 ∷ 32 ∷ 58 ∷ 34 ∷ 34 ∷ 83 ∷ 69 ∷ 77 ∷ 65 ∷ 78 ∷ 84 ∷ 73 ∷ 67 ∷ 83 ∷ 58 ∷ 77 ∷ 111 ∷ 111 ∷ 114 ∷ 101 ∷ 13 ∷ 44 ∷ 83 ∷ 116 ∷ 114 ∷ 105 ∷ 99 ∷ 116 ∷ 32 ∷ 32 ∷ 84 ∷ 65 ∷ 82 ∷ 71 ∷ 69 ∷ 84 ∷ 58 ∷ 9 ∷ 32 ∷ 77 ∷ 111 ∷ 111 ∷ 114 ∷ 101 ∷ 125 ∷ 77 ∷ 65 ∷ 73 ∷ 78 ∷ 123 ∷ 32 ∷ 10 ∷ 73 ∷ 78 ∷ 80 ∷ 85 ∷ 84 ∷ 83 ∷ 123 ∷ 13 ∷ 103 ∷ 59 ∷ 13 ∷ 32 ∷ 32 ∷ 32 ∷ 32 ∷ 125 ∷ 13 ∷ 13 ∷ 79 ∷ 85 ∷ 84 ∷ 80 ∷ 85 ∷ 84 ∷ 83 ∷ 123 ∷ 32 ∷ 47 ∷ 47 ∷ 32 ∷ 99 ∷ 10 ∷ 111 ∷ 59 ∷ 125 ∷ 32 ∷ 47 ∷ 42 ∷ 47 ∷ 42 ∷ 42 ∷ 47 ∷ 42 ∷ 47 ∷ 65 ∷ 83 ∷ 83 ∷ 85 ∷ 77 ∷ 69 ∷ 32 ∷ 32 ∷ 123 ∷ 103 ∷ 32 ∷ 32 ∷ 60 ∷ 45 ∷ 62 ∷ 9 ∷ 49 ∷ 32 ∷ 47 ∷ 47 ∷ 32 ∷ 99 ∷ 10 ∷ 59 ∷ 13 ∷ 49 ∷ 125 ∷ 125 ∷ []); expected = Rejected 9 142 } ∷
     []
 
 held-8 : textsHeld cases-8 ≡ true
@@ -120,10 +120,10 @@ held-8 = refl
 
 cases-9 : List Text
 cases-9 =
-    record { bytes = (ascii "INFO{TITLE:\"\"DESCRIPTION:\"t\"SEMANTICS:Moore TARGET:Moore}GLOBAL{PARAMETERS{}}MAIN{GUARANTEES{}OUTPUTS{}INPUTS{m;}ASSERT{F[MIN{4}:1]m}PRESET{}ASSUME{}}"); expected = Rejected 11 120 } ∷
-    record { bytes = (ascii "INFO{TITLE:\"t\"DESCRIPTION:\"\"SEMANTICS:Mealy TARGET:Moore}GLOBAL{DEFINITIONS{s=g;}}MAIN{REQUIRE{0+4ELEM(false);!(false)}INPUTS{g;}OUTPUTS{}}"); expected = Rejected 9 102 } ∷
-    record { bytes = (ascii "INFO{TITLE:\"\"DESCRIPTION:\"t\"SEMANTICS:Moore TARGET:Mealy}GLOBAL{DEFINITIONS{enum n=a1:0,0_:1;r={2,3..9-01};}}MAIN{ASSUMPTIONS{F(j!=a1)}INPUTS{y;}OUTPUTS{n j;l;}}"); expected = Rejected 14 51 } ∷
-    record { bytes = (ascii "INFO{TITLE:\"\"DESCRIPTION:\"\"SEMANTICS:Moore TARGET:Moore}GLOBAL{PARAMETERS{d=1-2}DEFINITIONS{In={0,1}}}MAIN{INPUTS{}OUTPUTS{e}INITIALLY{}GUARANTEE{e U e;(e)}}"); expected = Rejected 11 77 } ∷
+    record { bytes = (ascii "INFO{TITLE:\"\"DESCRIPTION:\"t\"SEMANTICS:Moore TARGET:Moore}GLOBAL{DEFINITIONS{enum o=v:11,10;m=X p<->false;}}MAIN{GUARANTEE{1==0;}INPUTS{p;z}OUTPUTS{o n}}"); expected = Accepted (0 ∷ 0 ∷ 0 ∷ 2415951872 ∷ 0 ∷ 1073790980 ∷ 536903680 ∷ 536920064 ∷ 1073840135 ∷ 536903680 ∷ 536920064 ∷ 805470208 ∷ 1073889291 ∷ 1342308364 ∷ 2416132096 ∷ 268435456 ∷ 1073971215 ∷ 1610694672 ∷ 1073758225 ∷ 1610612754 ∷ []) (8847360 ∷ 8978432 ∷ 2157248514 ∷ 2157248770 ∷ []) } ∷
+    record { bytes = (73 ∷ 78 ∷ 70 ∷ 79 ∷ 123 ∷ 9 ∷ 10 ∷ 32 ∷ 32 ∷ 84 ∷ 73 ∷ 84 ∷ 76 ∷ 69 ∷ 58 ∷ 32 ∷ 34 ∷ 34 ∷ 13 ∷ 68 ∷ 69 ∷ 83 ∷ 67 ∷ 82 ∷ 73 ∷ 80 ∷ 84 ∷ 73 ∷ 79 ∷ 78 ∷ 9 ∷ 58 ∷ 34 ∷ 34 ∷ 10 ∷ 83 ∷ 69 ∷ 77 ∷ 65 ∷ 78 ∷ 84 ∷ 73 ∷ 67 ∷ 83 ∷ 58 ∷ 77 ∷ 111 ∷ 111 ∷ 114 ∷ 101 ∷ 32 ∷ 47 ∷ 42 ∷ 0 ∷ 11 ∷ 42 ∷ 47 ∷ 84 ∷ 65 ∷ 82 ∷ 71 ∷ 69 ∷ 84 ∷ 32 ∷ 47 ∷ 42 ∷ 32 ∷ 59 ∷ 32 ∷ 125 ∷ 32 ∷ 42 ∷ 47 ∷ 58 ∷ 77 ∷ 111 ∷ 111 ∷ 114 ∷ 101 ∷ 32 ∷ 32 ∷ 125 ∷ 77 ∷ 65 ∷ 73 ∷ 78 ∷ 123 ∷ 79 ∷ 85 ∷ 84 ∷ 80 ∷ 85 ∷ 84 ∷ 83 ∷ 123 ∷ 125 ∷ 65 ∷ 83 ∷ 83 ∷ 85 ∷ 77 ∷ 69 ∷ 123 ∷ 125 ∷ 32 ∷ 32 ∷ 13 ∷ 73 ∷ 78 ∷ 80 ∷ 85 ∷ 84 ∷ 83 ∷ 123 ∷ 113 ∷ 59 ∷ 125 ∷ 125 ∷ []); expected = Accepted (0 ∷ 0 ∷ 0 ∷ 2415951872 ∷ 0 ∷ 1073790980 ∷ 0 ∷ 2416017408 ∷ 0 ∷ 1073856520 ∷ 1610694665 ∷ 1073758218 ∷ 1610612747 ∷ []) (7471104 ∷ []) } ∷
+    record { bytes = (ascii "INFO{TITLE:\"\"DESCRIPTION:\"\"SEMANTICS:Mealy TARGET:Moore TAGS:_}MAIN{INPUTS{f[2]}OUTPUTS{}REQUIRE{f[0]U f[01];f[0]U f[0];}}"); expected = Accepted (0 ∷ 0 ∷ 536870912 ∷ 536887296 ∷ 2952822787 ∷ 536870912 ∷ 536870912 ∷ 2952871942 ∷ 1073807367 ∷ 2416050176 ∷ 0 ∷ 1073889290 ∷ 0 ∷ 2416115712 ∷ 0 ∷ 1073954830 ∷ 1610792975 ∷ 1073758224 ∷ 1610612753 ∷ []) (4915202 ∷ 4915458 ∷ []) } ∷
+    record { bytes = (ascii "INFO{TITLE:\"\"DESCRIPTION:\"\"SEMANTICS:Moore,Strict TARGET:Moore}MAIN{INPUTS{s;v[2]}OUTPUTS{i[2];}INITIALLY{}}"); expected = Accepted (0 ∷ 0 ∷ 0 ∷ 0 ∷ 805355520 ∷ 3489693700 ∷ 1073758213 ∷ 0 ∷ 2416033792 ∷ 0 ∷ 1073872905 ∷ 0 ∷ 1610776587 ∷ 1073840140 ∷ 1610612749 ∷ []) (4915200 ∷ 5046274 ∷ 5046530 ∷ 2153381890 ∷ 2153382146 ∷ []) } ∷
     []
 
 held-9 : textsHeld cases-9 ≡ true
@@ -132,10 +132,10 @@ held-9 = refl
 
 cases-10 : List Text
 cases-10 =
-    record { bytes = (ascii "INFO{TITLE:\"\"DESCRIPTION:\"t\"SEMANTICS:Mealy,Strict TARGET:Mealy}GLOBAL{PARAMETERS{s=A;}DEFINITIONS{enum m=Xa:0,0}}MAIN{INPUTS{m r;r;}OUTPUTS{}REQUIRE{}}"); expected = Rejected 6 84 } ∷
-    record { bytes = (ascii "INFO{TITLE:\"\"DESCRIPTION:\"\"SEMANTICS:Mealy,Strict TARGET:Mealy}MAIN{REQUIRE{true&&d U true;F[0:2045]MIN{}>=4;}OUTPUTS{In;d;In;}INPUTS{}}"); expected = Rejected 7 123 } ∷
-    record { bytes = (ascii "INFO{TITLE:\"\"DESCRIPTION:\"\"SEMANTICS:Mealy TARGET:Mealy}MAIN{INPUTS{b[7]}OUTPUTS{}ASSERT{b[7]}}"); expected = Rejected 13 89 } ∷
-    record { bytes = (ascii "INFO{TITLE:\"\"DESCRIPTION:\"\"SEMANTICS:Mealy TARGET:Mealy}GLOBAL{DEFINITIONS{l=EXISTS[0LEQ x<s]f}}MAIN{INPUTS{w;m;}OUTPUTS{f;}GUARANTEES{x+x LE 00;}}"); expected = Rejected 6 91 } ∷
+    record { bytes = (ascii "INFO{TITLE:\"\"DESCRIPTION:\"\"SEMANTICS:Moore,Strict TARGET:Moore}GLOBAL{DEFINITIONS{enum z=Xa:1x:0;}}MAIN{INPUTS{z a1;}OUTPUTS{}ASSERT{01+i IN m}}"); expected = Rejected 6 136 } ∷
+    record { bytes = (ascii "INFO{TITLE:\"t\"DESCRIPTION:\"t\"SEMANTICS:Moore TARGET:Moore}GLOBAL{PARAMETERS{}}MAIN{OUTPUTS{o;}GUARANTEE{01>2;1IN(*)[w<-{}]{0,1..2};}INPUTS{}REQUIRE{(o);&&[r IN{00}]o||o}}"); expected = Rejected 11 112 } ∷
+    record { bytes = (ascii "INFO{TITLE:\"\"DESCRIPTION:\"\"SEMANTICS:Mealy,Strict TARGET:Mealy}GLOBAL{DEFINITIONS{A=00*{1};}}MAIN{OUTPUTS{a;t[1];t;}INPUTS{}REQUIRE{a;}}"); expected = Rejected 7 113 } ∷
+    record { bytes = (ascii "INFO{TITLE:\"\"DESCRIPTION:\"\"SEMANTICS:Mealy,Strict TARGET:Moore}MAIN{INPUTS{_;}OUTPUTS{g[true];}REQUIRE{((true U _))U g[0];}}"); expected = Rejected 9 88 } ∷
     []
 
 held-10 : textsHeld cases-10 ≡ true
@@ -144,10 +144,10 @@ held-10 = refl
 
 cases-11 : List Text
 cases-11 =
-    record { bytes = (ascii "INFO{TITLE:\"\"DESCRIPTION:\"\"SEMANTICS:Mealy TARGET:Mealy}MAIN{INPUTS{a;b[2]}OUTPUTS{}ASSERT{i||{}}}"); expected = Rejected 6 91 } ∷
-    record { bytes = (ascii "INFO{TITLE:\"\"DESCRIPTION:\"\"SEMANTICS:Moore TARGET:Moore}GLOBAL{PARAMETERS{}DEFINITIONS{B_0=A;}}MAIN{INPUTS{}OUTPUTS{y}REQUIRE{r||AND[k IN{B_0,01,B_0}(+){}]false;}}"); expected = Rejected 6 91 } ∷
-    record { bytes = (ascii "INFO{TITLE:\"\"DESCRIPTION:\"\"SEMANTICS:Mealy TARGET:Mealy}MAIN{INPUTS{a}OUTPUTS{}ASSERT{+[0<i<258]i==1}}"); expected = Rejected 12 89 } ∷
-    record { bytes = (ascii "INFO{TITLE:\"t\"DESCRIPTION:\"\"SEMANTICS:Mealy TARGET:Mealy}GLOBAL{}MAIN{INPUTS{}OUTPUTS{v;}PRESET{||[y ELEM(*)[9-2+4<h<2]{}]v}GUARANTEES{(G[+[p IN({0,1})]p:0]true)||true}}"); expected = Rejected 11 105 } ∷
+    record { bytes = (ascii "INFO{TITLE:\"\"DESCRIPTION:\"\"SEMANTICS:Mealy TARGET:Mealy}MAIN{INPUTS{b[2]}OUTPUTS{}ASSERT{b[2]}}"); expected = Rejected 13 89 } ∷
+    record { bytes = (ascii "INFO{TITLE:\"\"DESCRIPTION:\"\"SEMANTICS:Mealy TARGET:Moore}GLOBAL{PARAMETERS{v=|{3,3..5}|;}DEFINITIONS{n=&&[k IN{v PLUS 0,2,1,v}]v;}}MAIN{INPUTS{v;}OUTPUTS{v;i;}ASSERT{}}"); expected = Rejected 7 142 } ∷
+    record { bytes = (ascii "INFO{TITLE:\"\"DESCRIPTION:\"\"SEMANTICS:Mealy TARGET:Mealy}MAIN{INPUTS{b[256]}OUTPUTS{}}"); expected = Rejected 13 68 } ∷
+    record { bytes = (ascii "INFO{TITLE:\"\"DESCRIPTION:\"\"SEMANTICS:Moore TARGET:Mealy}MAIN{REQUIRE{9-2>01;&&[3*2+1<a1 LEQ 1,a1<=x'<=a1]e;}OUTPUTS{e}INPUTS{e}INVARIANTS{&&[_<-{},_ ELEM{}]false;}}"); expected = Rejected 7 125 } ∷
     []
 
 held-11 : textsHeld cases-11 ≡ true

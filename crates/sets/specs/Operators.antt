@@ -2,7 +2,29 @@
 use Prim.Native.Nat.{ℕ}
 use mathlib.Core.List.{[], _∷_}
 use lib.ListN.{getD}
-use Rattle.language.specs.Operators.{Arithmetic, Plus, Minus, Times, Divide, Modulo, Measure, Size, Min, Max, Combination, Cup, Cap, Without, Comparison, Equal, Unequal, Less, AtMost, Greater, AtLeast}
+use Rattle.language.specs.Operators.{
+  Arithmetic,
+  Plus,
+  Minus,
+  Times,
+  Divide,
+  Modulo,
+  Measure,
+  Size,
+  Min,
+  Max,
+  Combination,
+  Cup,
+  Cap,
+  Without,
+  Comparison,
+  Equal,
+  Unequal,
+  Less,
+  AtMost,
+  Greater,
+  AtLeast,
+}
 
 abbrev pub arithmetic : ℕ → Arithmetic
 arithmetic k = getD (Plus ∷ Minus ∷ Times ∷ Divide ∷ []) k Modulo

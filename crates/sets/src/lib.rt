@@ -6,17 +6,6 @@ pub mod listed;
 pub mod numbers;
 pub mod ranges;
 
-// The numbers of the refusals: value out of range, divisor 0, MIN or MAX of nothing; range step not upward, set too large.
-pub const OUT_OF_RANGE: u32 = 11;
-
-pub const TOO_LARGE: u32 = 12;
-
-// 'Values are decimal, 0 to 1,000,000 at each step'.
-pub const MAX_NUMBER: u32 = 1000000;
-
-// 'sets 256 elements'.
-pub const MAX_ELEMENTS: usize = 256;
-
 // A number, or how many elements a set has; or a refusal with number and place.
 pub enum Worked {
     Value(u32),

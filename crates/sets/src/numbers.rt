@@ -1,20 +1,14 @@
 // Numbers: numerals, + - * / % and comparisons (document 01, 'Values').
+use basics::u8_u32::wide;
+use language::limits;
+use node::refusals;
 ghost use mathlib.Core.Path.{_≡_};
-ghost use Prim.Native.Nat.{_<_};
 ghost use Rattle.language.specs.Values.{inRange, decimal, calculate as calculate'};
 ghost use Rattle.language.specs.Expansion.{test};
 ghost use Rattle.sets.specs.Answers.{says};
 ghost use Rattle.sets.specs.Operators.{arithmetic, comparison};
 ghost use Rattle.sets.specs.Digits.{digitsAt};
-use crate::MAX_NUMBER;
-use crate::OUT_OF_RANGE;
 use crate::Worked;
-
-fn wide(x: u8) -> u32
-    ensures { λ r. ⌜ (r ≡ x) × (r < 256) ⌝ }
-{
-    x as u32
-}
 
 // The numeral that starts at an offset of the text. No product wraps: it is left where the value is above the limit.
 pub fn numeral(text: &[u8], at: u32) -> Worked
@@ -31,8 +25,8 @@ pub fn numeral(text: &[u8], at: u32) -> Worked
             return Worked::Value(v);
         }
         v = v * 10 + (c - 48);
-        if MAX_NUMBER < v {
-            return Worked::Refused(OUT_OF_RANGE, at);
+        if limits::MAX_NUMBER < v {
+            return Worked::Refused(refusals::OUT_OF_RANGE, at);
         }
         i += 1;
     }
@@ -42,10 +36,10 @@ pub fn numeral(text: &[u8], at: u32) -> Worked
 fn in_range(place: u32, v: u64) -> Worked
     ensures { λ r. ⌜ says r ≡ inRange place v ⌝ }
 {
-    if v <= MAX_NUMBER as u64 {
+    if v <= limits::MAX_NUMBER as u64 {
         return Worked::Value(v as u32);
     }
-    Worked::Refused(OUT_OF_RANGE, place)
+    Worked::Refused(refusals::OUT_OF_RANGE, place)
 }
 
 // Operators by number: 0 is +, 1 -, 2 *, 3 /, any other %.
@@ -56,20 +50,20 @@ pub fn calculate(place: u32, operator: u32, a: u32, b: u32) -> Worked
         0 => in_range(place, (a as u64) + (b as u64)),
         1 => {
             if a < b {
-                return Worked::Refused(OUT_OF_RANGE, place);
+                return Worked::Refused(refusals::OUT_OF_RANGE, place);
             }
             Worked::Value(a - b)
         }
         2 => in_range(place, (a as u64) * (b as u64)),
         3 => {
             if b == 0 {
-                return Worked::Refused(OUT_OF_RANGE, place);
+                return Worked::Refused(refusals::OUT_OF_RANGE, place);
             }
             Worked::Value(a / b)
         }
         _ => {
             if b == 0 {
-                return Worked::Refused(OUT_OF_RANGE, place);
+                return Worked::Refused(refusals::OUT_OF_RANGE, place);
             }
             Worked::Value(a % b)
         }

@@ -1,4 +1,6 @@
 // Sets of numbers at equal steps: {x, y .. z}, and the numbers between two bounds.
+use language::limits;
+use node::refusals;
 ghost use mathlib.Core.Path.{_≡_};
 ghost use Prim.Native.Nat.{ℕ, suc, _+_, _*_, _≤_, _<_, _^_};
 ghost use lib.ListN.{length, take};
@@ -7,8 +9,6 @@ ghost use Rattle.language.specs.Bytes.{if_then_else_};
 ghost use Rattle.language.specs.Sets.{steps};
 ghost use Rattle.language.specs.Values.{range as range', between as between'};
 ghost use Rattle.sets.specs.Answers.{SetIs};
-use crate::MAX_ELEMENTS;
-use crate::TOO_LARGE;
 use crate::Worked;
 
 // n numbers from `start` on. The callers have counted them: there is room, and each is a number of 32 bits.
@@ -32,15 +32,15 @@ pub fn range(place: u32, x: u32, y: u32, z: u32, set: &mut [u32]) -> Worked
     ensures { λ r. ⌜ SetIs r (now (set .exit)) (range' place x y z) ⌝ }
 {
     if y <= x {
-        return Worked::Refused(TOO_LARGE, place);
+        return Worked::Refused(refusals::TOO_LARGE, place);
     }
     if z < x {
         return Worked::Value(0);
     }
     let step = y - x;
     let more = (z - x) / step;
-    if MAX_ELEMENTS as u32 <= more {
-        return Worked::Refused(TOO_LARGE, place);
+    if limits::MAX_ELEMENTS as u32 <= more {
+        return Worked::Refused(refusals::TOO_LARGE, place);
     }
     let n = more + 1;
     fill(x as u64, step, n as usize, set);
@@ -67,8 +67,8 @@ pub fn between(place: u32, above: bool, under: bool, low: u32, high: u32, set: &
         return Worked::Value(0);
     }
     let n = end - from;
-    if (MAX_ELEMENTS as u64) < n {
-        return Worked::Refused(TOO_LARGE, place);
+    if (limits::MAX_ELEMENTS as u64) < n {
+        return Worked::Refused(refusals::TOO_LARGE, place);
     }
     fill(from, 1, n as usize, set);
     Worked::Value(n as u32)

@@ -12,7 +12,45 @@ use borrow.Author.Tests.{eqb-true, eqb-false}
 use Rattle.node.specs.Operators.{Unary, Not, X, G, F, Binary, And, Or, Implies, Iff, U, R, W}
 use Rattle.node.specs.Kinds.{unaryKind, binaryKind}
 use Rattle.language.specs.Tokens.{Token}
-use Rattle.language.specs.Operators.{Plus, Minus, Times, Divide, Modulo, Size, Min, Max, Cup, Cap, Without, Equal, Unequal, Less, AtMost, Greater, AtLeast, Big, BigSum, BigProduct, BigCap, BigCup, BigAnd, BigOr, Window, FinallyIn, GloballyIn, Infix, Calculates, Combines, Compares, Membership, Connects, Prefix, Measures, WidthOf, Applies}
+use Rattle.language.specs.Operators.{
+  Plus,
+  Minus,
+  Times,
+  Divide,
+  Modulo,
+  Size,
+  Min,
+  Max,
+  Cup,
+  Cap,
+  Without,
+  Equal,
+  Unequal,
+  Less,
+  AtMost,
+  Greater,
+  AtLeast,
+  Big,
+  BigSum,
+  BigProduct,
+  BigCap,
+  BigCup,
+  BigAnd,
+  BigOr,
+  Window,
+  FinallyIn,
+  GloballyIn,
+  Infix,
+  Calculates,
+  Combines,
+  Compares,
+  Membership,
+  Connects,
+  Prefix,
+  Measures,
+  WidthOf,
+  Applies,
+}
 use Rattle.language.specs.Expansion.{windowOperator}
 use Rattle.language.specs.Tree.{Expr, Named, Numeral, Truth, Index, Paren, Prefixed, Joined, Nexts, InWindow, Each, Between, Listed, Empty, Element, Range}
 use Rattle.language.specs.Grammar.{Tokens}
@@ -122,7 +160,8 @@ misfit-measures k h l = from Misfit 6 k refl (from Misfit 7 k refl (from Misfit 
 
 pub misfit-values : (k : ℕ) → 14 ≤ k → k < 22 → shapeOf k ≡ aMisfit
 misfit-values k h l =
-    from Misfit 14 k refl (from Misfit 15 k refl (from Misfit 16 k refl (from Misfit 17 k refl (from Misfit 18 k refl (from Misfit 19 k refl (from Misfit 20 k refl (from Misfit 21 k refl (λ g. absurd (omega arith))))))))) h
+    from Misfit 14 k refl (from Misfit 15 k refl (from Misfit 16 k refl
+    (from Misfit 17 k refl (from Misfit 18 k refl (from Misfit 19 k refl (from Misfit 20 k refl (from Misfit 21 k refl (λ g. absurd (omega arith))))))))) h
 
 -- a value's kind before the comparisons: no parenthesis, no prefix operator of formulas
 pub misfit-operands : (k : ℕ) → Operand k → 5 ≤ k → k < 22 → shapeOf k ≡ aMisfit
@@ -158,7 +197,8 @@ pub record BigIs (kind : ℕ) : Type 0 where
 pub big-kind : (k : ℕ) → 39 ≤ k → k < 45 → BigIs k
 big-kind k h l =
     let P : ℕ → Type 0 = BigIs in
-    from P 39 k (record { operator = BigSum; shape = refl }) (from P 40 k (record { operator = BigProduct; shape = refl }) (from P 41 k (record { operator = BigCap; shape = refl }) (from P 42 k (record { operator = BigCup; shape = refl })
+    from P 39 k (record { operator = BigSum; shape = refl }) (from P 40 k (record { operator = BigProduct; shape = refl })
+    (from P 41 k (record { operator = BigCap; shape = refl }) (from P 42 k (record { operator = BigCup; shape = refl })
     (from P 43 k (record { operator = BigAnd; shape = refl }) (from P 44 k (record { operator = BigOr; shape = refl }) (λ g. absurd (omega arith))))))) h
 
 -- a prefix operator's shape
@@ -189,7 +229,9 @@ big-is e = cc
 pub operator-kind : (k : ℕ) → 39 ≤ k → k < 45 → (o : Big) → shapeOf k ≡ aBig o → k ≡ Kind.big o
 operator-kind k h l o e =
     let P : ℕ → Type 0 = λ i. shapeOf i ≡ aBig o → i ≡ Kind.big o in
-    from P 39 k (λ q. ap Kind.big (big-is q)) (from P 40 k (λ q. ap Kind.big (big-is q)) (from P 41 k (λ q. ap Kind.big (big-is q)) (from P 42 k (λ q. ap Kind.big (big-is q)) (from P 43 k (λ q. ap Kind.big (big-is q)) (from P 44 k (λ q. ap Kind.big (big-is q)) (λ g. absurd (omega arith))))))) h e
+    from P 39 k (λ q. ap Kind.big (big-is q)) (from P 40 k (λ q. ap Kind.big (big-is q))
+    (from P 41 k (λ q. ap Kind.big (big-is q)) (from P 42 k (λ q. ap Kind.big (big-is q))
+    (from P 43 k (λ q. ap Kind.big (big-is q)) (from P 44 k (λ q. ap Kind.big (big-is q)) (λ g. absurd (omega arith))))))) h e
 
 -- F[n:m] and G[n:m] by their kind
 abbrev pub windowOf : ℕ → Window

@@ -116,7 +116,8 @@ module _ {ts : List Token} {j : ℕ} {links byte ids : List ℕ} {n : ℕ} (x : 
         spells = last-or-before (λ i. IsName ts i → x .trie .str (getD ids i 0) ≡ tokenAt ts i .text) (x .spells) (λ y. absurd (false≢true (sym other ∙ y)));
       }
 
-  pub indexed-name : {links′ byte′ : List ℕ} {m r : ℕ} → tokenAt ts j .at + length (tokenAt ts j .text) ≤ tokenAt ts (suc j) .at → j < maxTokens → Spells (x .trie) links′ byte′ (tokenAt ts j .text) m r → Indexed ts (suc j) links′ byte′ m (set ids j r)
+  pub indexed-name : {links′ byte′ : List ℕ} {m r : ℕ} → tokenAt ts j .at + length (tokenAt ts j .text) ≤ tokenAt ts (suc j) .at → j < maxTokens
+      → Spells (x .trie) links′ byte′ (tokenAt ts j .text) m r → Indexed ts (suc j) links′ byte′ m (set ids j r)
   indexed-name {r = r} up l s =
       let here : getD (set ids j r) j 0 ≡ r = getD-set-same ids j r 0 (let q = x .room in omega arith) in
       let there : (i : ℕ) → i ≢ j → getD (set ids j r) i 0 ≡ getD ids i 0 = λ i d. getD-set-other ids j i r 0 d in
@@ -139,7 +140,8 @@ module _ {ts : List Token} {j : ℕ} {links byte ids : List ℕ} {n : ℕ} (x : 
   pub interned : Interned ts j ids
   interned = record { told = λ i k li lk yi yk. alike i k li lk yi yk (eqb (getD ids i 0) (getD ids k 0)) refl }
     where
-      alike : (i k : ℕ) → i < j → k < j → IsName ts i → IsName ts k → (b : Bool) → eqb (getD ids i 0) (getD ids k 0) ≡ b → eqb (getD ids i 0) (getD ids k 0) ≡ same (tokenAt ts i .text) (tokenAt ts k .text)
+      alike : (i k : ℕ) → i < j → k < j → IsName ts i → IsName ts k → (b : Bool) → eqb (getD ids i 0) (getD ids k 0) ≡ b
+          → eqb (getD ids i 0) (getD ids k 0) ≡ same (tokenAt ts i .text) (tokenAt ts k .text)
       alike i k li lk yi yk true e =
           let texts : tokenAt ts i .text ≡ tokenAt ts k .text = sym (x .spells i li yi) ∙ ap (x .trie .str) (eqb-true (getD ids i 0) (getD ids k 0) e) ∙ x .spells k lk yk in
           e ∙ sym (ap (λ s. same (tokenAt ts i .text) s) (sym texts) ∙ same-refl (tokenAt ts i .text))
@@ -167,7 +169,8 @@ module _ {text w : List ℕ} {count j word : ℕ} (h : Lexed text w count) (l : 
   few-enough : j < maxTokens
   few-enough = let t = h .total in let f = h .lexical .few in omega arith
 
-  pub numbered-name : word / 256 / 65_536 ≡ 1 → {links′ byte′ : List ℕ} {m r : ℕ} → Spells (x .trie) links′ byte′ (part (word / 256 % 65_536) (word % 256) text) m r → Indexed (tokens text) (j + 1) links′ byte′ m (set ids j r)
+  pub numbered-name : word / 256 / 65_536 ≡ 1 → {links′ byte′ : List ℕ} {m r : ℕ} → Spells (x .trie) links′ byte′ (part (word / 256 % 65_536) (word % 256) text) m r
+      → Indexed (tokens text) (j + 1) links′ byte′ m (set ids j r)
   numbered-name y {links′} {byte′} {m} {r} s =
       rw add-one
       (indexed-name x (next-place h j l) few-enough
@@ -180,7 +183,8 @@ module _ {text w : List ℕ} {count j word : ℕ} (h : Lexed text w count) (l : 
       omega (arith, s .inside, b .1)
 
 -- there are at most as many numbers as bytes, and one
-pub interned-all : {text w : List ℕ} {count : ℕ} → Lexed text w count → {links byte ids : List ℕ} {n : ℕ} → Indexed (tokens text) count links byte n ids → Interned (tokens text) count ids × (top ids ≤ length text + 1)
+pub interned-all : {text w : List ℕ} {count : ℕ} → Lexed text w count → {links byte ids : List ℕ} {n : ℕ} → Indexed (tokens text) count links byte n ids
+    → Interned (tokens text) count ids × (top ids ≤ length text + 1)
 interned-all {text} {count = count} h {ids = ids} x =
     (interned x, top-least ids (length text + 1) (λ i. let e = h .total in let s = token-stands (h .lexical) count (omega arith) .inside in let f = x .few in let l = x .inside i in omega arith))
 

@@ -41,11 +41,13 @@ module _ {links byte : List ℕ} {n : ℕ} (t : Trie links byte n) where
         few = omega (arith, g .0);
       }
 
-  pub spells-more : {links′ byte′ links″ byte″ s u : List ℕ} {m r b q w : ℕ} (h : Spells t links′ byte′ s m r) → Steps (h .trie) r b links″ byte″ q → u ≡ more s b → w ≡ nodesWith m q → Spells t links″ byte″ u w q
+  pub spells-more : {links′ byte′ links″ byte″ s u : List ℕ} {m r b q w : ℕ} (h : Spells t links′ byte′ s m r) → Steps (h .trie) r b links″ byte″ q → u ≡ more s b → w ≡ nodesWith m q
+      → Spells t links″ byte″ u w q
   spells-more {links″ = links″} {byte″ = byte″} {u = u} {q = q} h g e f = subst (λ w. Spells t links″ byte″ u w q) (sym f) (stepped h g e)
 
 -- all the bytes
-pub spells-all : {links byte links′ byte′ : List ℕ} {n m r : ℕ} {t : Trie links byte n} (at i k : ℕ) (text : List ℕ) → Spells t links′ byte′ (part at i text) m r → i ≡ k → Spells t links′ byte′ (part at k text) m r
+pub spells-all : {links byte links′ byte′ : List ℕ} {n m r : ℕ} {t : Trie links byte n} (at i k : ℕ) (text : List ℕ) → Spells t links′ byte′ (part at i text) m r → i ≡ k
+    → Spells t links′ byte′ (part at k text) m r
 spells-all at i k text h e = rw (sym e) h
 
 pub part-length : (at n : ℕ) (text : List ℕ) → at + n ≤ length text → length (part at n text) ≡ n

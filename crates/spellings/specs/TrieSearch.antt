@@ -88,7 +88,8 @@ module _ {links byte : List ℕ} {n : ℕ} (t : Trie links byte n) (p b : ℕ) (
           passed = s .passed .1;
           few = few-passed t small (s .passed .1);
           found =
-              λ d. t .child (getD links l 0) (positive (getD links l 0) d) (t .inside l) .1 ∙ ap₂ more (ap (t .str) (t .owned l d ∙ s .owned)) (ap (λ m. getD byte m 0) (sym e) ∙ ends (λ z. d (sym e ∙ z)));
+              λ d. t .child (getD links l 0) (positive (getD links l 0) d) (t .inside l) .1 ∙ ap₂ more (ap (t .str) (t .owned l d ∙ s .owned))
+              (ap (λ m. getD byte m 0) (sym e) ∙ ends (λ z. d (sym e ∙ z)));
           missing = λ z k i g. none z k i g (equal-or-not k 0);
         }
       where

@@ -1,13 +1,13 @@
 // A number for each name token, by which names are compared from here on (specs/Interned): the node of its spelling.
 use crate::trie::spell;
+use lexer::fields::LENGTHS;
+use lexer::fields::OFFSETS;
+use lexer::numbers;
 use words::get;
 ghost use Prim.Native.Nat.{_+_, _≤_, _<_};
 ghost use lib.ListN.{length};
 ghost use Rattle.language.specs.Tokens.{tokens};
 ghost use Rattle.spellings.specs.Interned.{Lexed, Interned, Indexed, Begun, top};
-
-// The number of a name token (crate lexer, specs/Numbers).
-const NAME: u32 = 1;
 
 // One token's number; the nodes after it. It is called with what `intern` has made of the tokens before.
 fn number(
@@ -24,11 +24,11 @@ fn number(
     ensures { λ r. ⌜ Indexed (tokens (now (text .entry))) (j + 1) (now (links .exit)) (now (byte .exit)) r (now (ids .exit)) ⌝ }
 {
     let word = get(work, j);
-    if word / 256 / 65536 != NAME {
+    if word / LENGTHS / OFFSETS != numbers::NAME {
         return nodes;
     }
-    let at = (word / 256 % 65536) as usize;
-    let len = (word % 256) as usize;
+    let at = (word / LENGTHS % OFFSETS) as usize;
+    let len = (word % LENGTHS) as usize;
     let spelt = spell(text, at, len, links, byte, nodes);
     ids[j] = spelt.node as u16;
     spelt.nodes

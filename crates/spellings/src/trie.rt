@@ -1,5 +1,6 @@
 // A tree of spellings in two arrays (specs/Trie): a name's node stands for its bytes, so that two names are equal where their nodes are. The children of a node stand in
 // a search tree by the bits of their bytes. Two bytes that agree in all eight are equal: no choice of names has a step pass more than eight other children.
+use basics::u16_usize::wide;
 ghost use mathlib.Core.Path.{_≡_};
 ghost use Prim.Native.Nat.{_+_, _≤_, _<_};
 ghost use lib.ListN.{length};
@@ -11,12 +12,6 @@ const CHILD: usize = 2;
 
 fn wide_byte(x: u8) -> usize
     ensures { λ r. ⌜ r ≡ x ⌝ }
-{
-    x as usize
-}
-
-pub fn wide(x: u16) -> usize
-    ensures { λ r. ⌜ (r ≡ x) × (r < 65536) ⌝ }
 {
     x as usize
 }

@@ -8,10 +8,10 @@ use lib.ListN.{length}
 use Rattle.node.specs.Postorder.{size, nodesFrom}
 use Rattle.node.specs.Result.{Result, Done, Refused, _>>=_, guard}
 use Rattle.node.specs.Table.{treeAt, formulas, scanned, checked}
-use Rattle.evaluator.specs.Bits.{bitAt, number}
-use Rattle.evaluator.specs.Recording.{blank, filled, readable}
-use Rattle.evaluator.specs.Lasso.{next}
-use Rattle.evaluator.specs.Row.{sweepFrom, around, row}
+use Rattle.bits.specs.Bits.{bitAt, number}
+use Rattle.recordings.specs.Recording.{blank, filled, readable}
+use Rattle.recordings.specs.Lasso.{next}
+use Rattle.rows.specs.Row.{sweepFrom, around, row}
 use Rattle.evaluator.specs.Evaluation.{evaluation, verdictOf}
 use Rattle.evaluator.specs.Starred.{file}
 use Rattle.language.specs.Bytes.{ascii}

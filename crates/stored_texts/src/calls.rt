@@ -1,12 +1,13 @@
 // The reader and the converter, called with buffers of given lengths.
-use crate::sums::least;
+use basics::least;
+use language::limits;
 use node::Answer;
 use node::MAX_NODES;
-
-// The longest signal list, and the work buffer that the reader borrows.
-pub const MAX_SIGNALS: usize = 255;
-
-pub const WORK_BYTES: usize = 65536;
+use node::MAX_SIGNALS;
+ghost use mathlib.Core.Path.{_≡_};
+ghost use Rattle.node.specs.Limits.{maxNodes, maxSignals};
+ghost use Rattle.language.specs.Limits.{workBytes};
+ghost use Rattle.stored_texts.specs.Calling.{Calls, CallsWith};
 
 pub enum Call {
     Read,
@@ -22,9 +23,11 @@ pub struct Room {
 
 impl Room {
     // All the room that the limits allow.
-    pub fn ample() -> Room {
+    pub fn ample() -> Room
+        ensures { λ r. ⌜ (r .work ≡ workBytes) × ((r .nodes ≡ maxNodes) × (r .signals ≡ maxSignals)) ⌝ }
+    {
         Room {
-            work: WORK_BYTES,
+            work: limits::WORK_BYTES,
             nodes: MAX_NODES,
             signals: MAX_SIGNALS,
         }
@@ -38,7 +41,9 @@ fn call_lending(
     work: &mut [u8],
     nodes: &mut [u32],
     signals: &mut [u32],
-) -> Answer {
+) -> Answer
+    ensures { λ r. ⌜ Calls how (now (text .entry)) (now (work .entry)) (now (nodes .entry)) (now (signals .entry)) (now (work .exit)) (now (nodes .exit)) (now (signals .exit)) r ⌝ }
+{
     match how {
         Call::Read => reader::read(text, work, nodes, signals),
         Call::Convert(form) => converter::convert(text, form, work, nodes, signals),
@@ -53,7 +58,9 @@ pub fn call_with(
     work: &mut [u8],
     nodes: &mut [u32],
     signals: &mut [u32],
-) -> Answer {
+) -> Answer
+    ensures { λ r. ⌜ CallsWith room how (now (text .entry)) (now (work .entry)) (now (nodes .entry)) (now (signals .entry)) (now (work .exit)) (now (nodes .exit)) (now (signals .exit)) r ⌝ }
+{
     let w = least(room.work, work.len());
     let n = least(room.nodes, nodes.len());
     let s = least(room.signals, signals.len());

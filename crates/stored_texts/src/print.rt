@@ -1,6 +1,6 @@
 // What is printed: answers, with the checksums of what an accepted text gives, and signal lists.
 use crate::sums::checksum_of;
-use crate::sums::least;
+use basics::least;
 use libc::STDOUT_FILENO;
 use node::Answer;
 

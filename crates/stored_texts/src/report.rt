@@ -1,13 +1,13 @@
 // The answers on a text: in one line, or with every room one short and the nodes and signals of a small text.
 use crate::calls::Call;
-use crate::calls::MAX_SIGNALS;
 use crate::calls::Room;
-use crate::calls::WORK_BYTES;
 use crate::calls::call_with;
 use crate::print;
 use crate::print::say;
+use language::limits::WORK_BYTES;
 use node::Answer;
 use node::MAX_NODES;
+use node::MAX_SIGNALS;
 use rewriter::AS_EXPANDED;
 use rewriter::CORE_FORM;
 use rewriter::NEGATION_FORM;

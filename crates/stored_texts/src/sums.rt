@@ -1,6 +1,6 @@
 // The checksum of words.
+use basics::least;
 ghost use mathlib.Core.Path.{_≡_};
-ghost use Prim.Native.Nat.{min};
 ghost use lib.ListN.{take};
 ghost use Rattle.stored_texts.specs.Checksum.{mixed, checksum as checksum'};
 
@@ -25,12 +25,6 @@ fn checksum(words: &[u32]) -> u32
         i += 1;
     }
     sum
-}
-
-pub fn least(a: usize, b: usize) -> usize
-    ensures { λ r. ⌜ r ≡ min a b ⌝ }
-{
-    if a < b { a } else { b }
 }
 
 // The checksum of the first n words.

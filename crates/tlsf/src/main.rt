@@ -2,6 +2,7 @@
 use libc::STDIN_FILENO;
 use node::Answer;
 use node::MAX_NODES;
+use node::MAX_SIGNALS;
 use rewriter::AS_EXPANDED;
 use rewriter::CORE_FORM;
 
@@ -36,7 +37,7 @@ fn form_asked() -> u32 {
 fn convert(text: &[u8], form: u32) {
     let mut work = io::large_buffer();
     let mut nodes: [u32; MAX_NODES] = [0; MAX_NODES];
-    let mut signals = [0u32; 255];
+    let mut signals = [0u32; MAX_SIGNALS];
     let answer = converter::convert(text, form, &mut work, &mut nodes, &mut signals);
     listing::answer(answer);
     let Answer::Accepted(n, _) = answer else {

@@ -1,3 +1,3 @@
 pub mod Packed
-pub mod PackedLaws
 pub mod Promise
+pub mod PackedLaws

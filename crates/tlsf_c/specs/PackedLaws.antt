@@ -1,23 +1,38 @@
 -- Every refusal has a number that fits the packed word.
 use Prim.Native.Nat.{ℕ, suc, _^_, _<_}
 use mathlib.Core.Bool.{Bool, true, false}
-use mathlib.Core.Path.{refl}
+use mathlib.Core.Path.{_≡_, refl, sym, subst}
 use mathlib.Core.List.{List, [], _∷_}
+use lib.Dec.{leb}
+use lib.ListN.{length}
 use native.Mathlib.Omega.{arith}
 use Rattle.node.specs.Limits.{maxNodes, fieldLimit}
 use Rattle.node.specs.Ltl.{Formula}
 use Rattle.node.specs.Result.{Result, Done, Refused, _>>=_, guard}
+use Rattle.node.specs.ResultLaws.{guard-done}
 use Rattle.node.specs.Table.{nodeFits, scanned, checked}
 use Rattle.rewriter.specs.Rewriting.{target, fitting, rewriting}
-use Rattle.evaluator.specs.Recording.{filled, readable, lassoOf}
-use Rattle.evaluator.specs.Evaluation.{evaluation}
-use Rattle.evaluator.specs.declared.Lasso.{Lasso}
-use Rattle.language.specs.Reading.{Converted, reading}
+use Rattle.recordings.specs.Recording.{filled, readable, lassoOf}
+use Rattle.evaluator.specs.Evaluation.{evaluation, verdictOf}
+use Rattle.recordings.specs.declared.Lasso.{Lasso}
+use Rattle.language.specs.Limits.{workBytes}
+use Rattle.language.specs.Reading.{Converted, meant, reading}
 use Rattle.language.specs.Laws.Basics.Results.{refusal-of}
+use Rattle.claim.specs.Claim.{nodesOf}
 use Rattle.claim.specs.Yields.{told}
 use Rattle.claim.specs.Converting.{converting}
 use Rattle.claim.specs.RefusalNumbers.{UpTo, reading-numbers, converting-numbers}
+use Rattle.lookahead.specs.Reaching.{Distance, Letters, Unbounded, reaching, valued}
+use Rattle.basic.specs.Writing.{writing, bytesTold}
+use Rattle.writer.specs.Numbers.{writing-number}
+use Rattle.faults.specs.Diagnosing.{lined, finding, diagnosing}
+use Rattle.faults.specs.TextLaws.{lines-of}
+use Rattle.faults.specs.Delivered.{accepting, accepting-numbers}
+use Rattle.diagnosis.specs.Promise.{tells, valued as lineOf}
+use Rattle.diagnosis.specs.Stages.{diagnosing-accepting}
+use Rattle.diagnosis.specs.declared.Diagnosis.{Diagnosis}
 use Rattle.tlsf_c.specs.Packed.{Fits}
+use Rattle.tlsf_c.specs.Promise.{counted, paired}
 
 guard-fits : {A : Type 0} (b : Bool) (number place : ℕ) (r : Result A) → number < 2 ^ 31 → Fits r → Fits (guard b number place r)
 unfolding guard
@@ -60,7 +75,7 @@ pub evaluation-fits : (nodes : List ℕ) (signals : ℕ) (bs : List ℕ) (room :
 unfolding evaluation
 evaluation-fits nodes signals bs room =
     guard-fits _ 15 0 _ (omega arith)
-    (bind-fits (checked signals nodes) _ (checked-fits signals nodes) (λ c. readable-fits signals bs _ (guard-fits _ 18 0 (Done c) (omega arith) tt)))
+    (bind-fits (checked signals nodes) _ (checked-fits signals nodes) (λ c. readable-fits signals bs _ (guard-fits _ 23 0 _ (omega arith) (guard-fits _ 18 0 (Done c) (omega arith) tt))))
 
 told-fits : (m : ℕ) → m < 2 ^ 31 → (r : Result Converted) → UpTo m r → Fits (told r)
 unfolding _>>=_
@@ -73,3 +88,48 @@ reading-fits text work nodes signals = told-fits 18 (omega arith) (reading text 
 pub converting-fits : (text : List ℕ) (number work nodes signals : ℕ) → Fits (told (converting text number work nodes signals))
 converting-fits text number work nodes signals =
     told-fits 21 (omega arith) (converting text number work nodes signals) (converting-numbers text number work nodes signals)
+
+valued-fits : (r : Result Distance) → Fits r → Fits (valued r)
+valued-fits (Done (Letters n)) h = tt
+valued-fits (Done Unbounded) h = tt
+valued-fits (Refused number place) h = h
+
+pub reaching-fits : (nodes : List ℕ) → Fits (valued (reaching nodes))
+unfolding reaching
+reaching-fits nodes = valued-fits (reaching nodes) (bind-fits (checked fieldLimit nodes) _ (checked-fits fieldLimit nodes) (λ c. tt))
+
+pub writing-fits : (text : List ℕ) (work room : ℕ) → Fits (counted (bytesTold (writing text work room)))
+unfolding _>>=_
+writing-fits text work room = go (writing text work room) refl
+  where
+    go : (r : Result (List ℕ)) → writing text work room ≡ r → Fits (counted (bytesTold r))
+    go (Done s) e = tt
+    go (Refused number place) e = let low = writing-number text work room e in omega arith
+
+verdict-fits : (nodes : List ℕ) (signals : ℕ) (bs : List ℕ) (room : ℕ) → Fits (verdictOf nodes signals bs room)
+unfolding verdictOf
+verdict-fits nodes signals bs room = bind-fits (evaluation nodes signals bs room) _ (evaluation-fits nodes signals bs room) (λ c. tt)
+
+-- of an accepted text the lines are never refused
+finding-fits : (text : List ℕ) (c : Converted) → meant text ≡ Done c → (bs : List ℕ) (b : Bool) → Fits (finding text bs b)
+finding-fits text c e bs true = tt
+finding-fits text c e bs false = bind-fits (lined text) _ (subst Fits (sym (lines-of text c e .lining)) tt) (λ m. tt)
+
+diagnosing-fits : (text bs : List ℕ) (work room : ℕ) → Fits (diagnosing text bs work room)
+unfolding _>>=_
+diagnosing-fits text bs work room = subst Fits (sym (diagnosing-accepting text bs work room)) (go (accepting text work) refl)
+  where
+    go : (r : Result Converted) → accepting text work ≡ r → Fits (r >>= λ c. verdictOf (nodesOf c) (length (c .signals)) bs room >>= finding text bs)
+    go (Done c) e = bind-fits (verdictOf (nodesOf c) (length (c .signals)) bs room) (finding text bs) (verdict-fits (nodesOf c) (length (c .signals)) bs room)
+        (finding-fits text c (guard-done (leb workBytes work) 17 0 (meant text) e .1) bs)
+    go (Refused number place) e = let low = refusal-of e (accepting-numbers text work) in omega arith
+
+told-line : (d : Diagnosis) → Fits (tells d) → Fits (paired (lineOf d))
+told-line Diagnosis.Holds h = tt
+told-line (Diagnosis.Preset line) h = tt
+told-line (Diagnosis.Assert line) h = tt
+told-line (Diagnosis.Guarantee line) h = tt
+told-line (Diagnosis.Refused number place) h = h
+
+pub line-fits : (text bs : List ℕ) (work room : ℕ) (d : Diagnosis) → tells d ≡ diagnosing text bs work room → Fits (paired (lineOf d))
+line-fits text bs work room d e = told-line d (subst Fits (sym e) (diagnosing-fits text bs work room))

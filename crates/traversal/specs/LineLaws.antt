@@ -5,7 +5,20 @@ use mathlib.Core.Option.{Option, none, some}
 use mathlib.Core.Path.{_≡_, refl, sym, ap, _∙_, subst}
 use Rattle.language.specs.Tokens.{Token}
 use Rattle.language.specs.Tree.{Identifier, partCode, Subsection, Inputs, Outputs, Lines, Spec}
-use Rattle.language.specs.Places.{first, Entry as Line, ParameterLine, DefinitionLine, DeclarationLine, FormulaLine, parameterLines, definitionLines, declarationLines, formulaLines, mainLines, allLines}
+use Rattle.language.specs.Places.{
+  first,
+  Entry as Line,
+  ParameterLine,
+  DefinitionLine,
+  DeclarationLine,
+  FormulaLine,
+  parameterLines,
+  definitionLines,
+  declarationLines,
+  formulaLines,
+  mainLines,
+  allLines,
+}
 use Rattle.language.specs.Laws.Basics.Lists.{All, all-append}
 use Rattle.entries.specs.Kinds as Kind
 use Rattle.entries.specs.Flat.{Entry, flat, under, each, leaf, flatIdentifier, flatDefinition, flatDeclaration, flatLine, head, flatSubsection, outline}
@@ -114,11 +127,15 @@ module _ {K B State : Type 0} (along : B → Entry → B) (T : B → ℕ → Ent
 
     main-holds : (ss : List Subsection) → Holds (each flatSubsection ss) (mainLines ss)
     main-holds [] = none-hold
-    main-holds (Inputs ds ∷ ss) = head-holds 0 _ (declarationLines ds (mainLines ss)) (listed-hold DeclarationLine declarationLines (λ ls. refl) (λ a xs ls. refl) ds (each flatSubsection ss) (mainLines ss) (main-holds ss))
-    main-holds (Outputs ds ∷ ss) = head-holds 1 _ (declarationLines ds (mainLines ss)) (listed-hold DeclarationLine declarationLines (λ ls. refl) (λ a xs ls. refl) ds (each flatSubsection ss) (mainLines ss) (main-holds ss))
-    main-holds (Lines p es ∷ ss) = head-holds (2 + partCode p) _ (formulaLines es (mainLines ss)) (listed-hold FormulaLine formulaLines (λ ls. refl) (λ a xs ls. refl) es (each flatSubsection ss) (mainLines ss) (main-holds ss))
+    main-holds (Inputs ds ∷ ss) = head-holds 0 _ (declarationLines ds (mainLines ss))
+        (listed-hold DeclarationLine declarationLines (λ ls. refl) (λ a xs ls. refl) ds (each flatSubsection ss) (mainLines ss) (main-holds ss))
+    main-holds (Outputs ds ∷ ss) = head-holds 1 _ (declarationLines ds (mainLines ss))
+        (listed-hold DeclarationLine declarationLines (λ ls. refl) (λ a xs ls. refl) ds (each flatSubsection ss) (mainLines ss) (main-holds ss))
+    main-holds (Lines p es ∷ ss) = head-holds (2 + partCode p) _ (formulaLines es (mainLines ss))
+        (listed-hold FormulaLine formulaLines (λ ls. refl) (λ a xs ls. refl) es (each flatSubsection ss) (mainLines ss) (main-holds ss))
 
     pub text-holds : (x : Spec) → Holds (outline x) (allLines x)
     text-holds x =
-        listed-hold (λ p. ParameterLine (p .name) (p .value)) parameterLines (λ ls. refl) (λ a xs ls. refl) (x .parameters) (each flatDefinition (x .definitions) ++ each flatSubsection (x .main)) (definitionLines (x .definitions) (mainLines (x .main)))
+        listed-hold (λ p. ParameterLine (p .name) (p .value)) parameterLines (λ ls. refl) (λ a xs ls. refl) (x .parameters) (each flatDefinition (x .definitions) ++ each flatSubsection (x .main))
+        (definitionLines (x .definitions) (mainLines (x .main)))
         (listed-hold DefinitionLine definitionLines (λ ls. refl) (λ a xs ls. refl) (x .definitions) (each flatSubsection (x .main)) (mainLines (x .main)) (main-holds (x .main)))

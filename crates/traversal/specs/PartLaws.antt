@@ -17,7 +17,22 @@ use Rattle.entries.specs.Flat.{flat, under, each}
 use Rattle.traversal.specs.declared.Cell.{Cell}
 use Rattle.traversal.specs.Arity.{operands, firstLine}
 use Rattle.traversal.specs.Parts.{Part, Whole, Binder, flatPart, unlessEmpty, operandsOf, kindOf, tokenOf}
-use Rattle.traversal.specs.ArityLaws.{Plain, plain, truth-plain, before-plain, joining-plain, window-plain, big-plain, binder-plain, between-plain, plain-operands, empty-operands, filled-operands, last-operands, more-operands}
+use Rattle.traversal.specs.ArityLaws.{
+  Plain,
+  plain,
+  truth-plain,
+  before-plain,
+  joining-plain,
+  window-plain,
+  big-plain,
+  binder-plain,
+  between-plain,
+  plain-operands,
+  empty-operands,
+  filled-operands,
+  last-operands,
+  more-operands,
+}
 
 -- what is to be shown of an operand that may be an empty list
 pub unless-cases : {B : Type 0} (f : Expr → B) (P : Expr → List B → Type 0) → P Empty [] → ((e : Expr) → P e (f e ∷ [])) → (e : Expr) → P e (unlessEmpty e (f e))

@@ -26,7 +26,8 @@ run step cell [] i s = s
 run step cell (e ∷ es) i s = run step cell es (suc i) (step (cell i) s)
 
 -- from the entries es on, at i and in state s, the pass comes to the entries rs in state r, with b carried there
-pub record Comes {B State : Type 0} (along : B → Entry → B) (T : B → ℕ → Entry → Type 0) (step : Cell → State → State) (cell : ℕ → Cell) (es : List Entry) (i : ℕ) (s : State) (b : B) (rs : List Entry) (r : State) : Type 0 where
+pub record Comes {B State : Type 0} (along : B → Entry → B) (T : B → ℕ → Entry → Type 0) (step : Cell → State → State) (cell : ℕ → Cell) (es : List Entry) (i : ℕ) (s : State) (b : B)
+    (rs : List Entry) (r : State) : Type 0 where
   pub place : ℕ
   pub seen : SeenAlong along T cell b place rs
   pub runs : run step cell es i s ≡ run step cell rs place r
@@ -124,10 +125,13 @@ module _ {N B A State : Type 0} {T : B → ℕ → Entry → Type 0} (cell : ℕ
           ≡ P .state (kindOf q) (s ++ (P .value q ∷ [])) (first f (P .bad q))
       at-own c z =
           let qs = operandsOf (P .bind) q in
-          W .steps c (kindAfter before qs) s (map (P .value) qs) (first f (firstIn (P .bad) qs)) (ap (λ k. ltb k firstLine) (z .kind) ∙ R .inner) (R .count before c (z .kind) (z .size) ∙ sym (length-map qs (P .value)))
-          ∙ settled (c .kind) (kindOf q) s (P .node c (map (P .value) qs)) (P .value q) f (firstIn (P .bad) qs) (P .fault c (map (P .value) qs)) (P .bad q) (z .kind) (W .values b q c g z (R .inner)) (W .faults b q c g z (R .inner))
+          W .steps c (kindAfter before qs) s (map (P .value) qs) (first f (firstIn (P .bad) qs)) (ap (λ k. ltb k firstLine) (z .kind) ∙ R .inner)
+          (R .count before c (z .kind) (z .size) ∙ sym (length-map qs (P .value)))
+          ∙ settled (c .kind) (kindOf q) s (P .node c (map (P .value) qs)) (P .value q) f (firstIn (P .bad) qs) (P .fault c (map (P .value) qs)) (P .bad q) (z .kind) (W .values b q c g z (R .inner))
+          (W .faults b q c g z (R .inner))
 
-  operand : (b : B) (y : N) (e : Expr) → Proper false e → P .Good b (Whole y e) → (Along (P .leaves) (P .Good) b (unlessEmpty e (Whole y e)) → AllDone b (unlessEmpty e (Whole y e))) → Done b (Whole y e)
+  operand : (b : B) (y : N) (e : Expr) → Proper false e → P .Good b (Whole y e) → (Along (P .leaves) (P .Good) b (unlessEmpty e (Whole y e)) → AllDone b (unlessEmpty e (Whole y e)))
+      → Done b (Whole y e)
   operand b y e p g d = outside-along (P .leaves) Done b e (Whole y e) p (d (unless-along (P .leaves) (P .Good) b e (Whole y e) g))
 
   -- an expression, with all that stands in it
@@ -135,24 +139,57 @@ module _ {N B A State : Type 0} {T : B → ℕ → Entry → Type 0} (cell : ℕ
   part-done b within y (Named t) p g = (own-done b _ (regular (P .bind) within y (Named t) p .0) (g .0) tt, tt)
   part-done b within y (Numeral t) p g = (own-done b _ (regular (P .bind) within y (Numeral t) p .0) (g .0) tt, tt)
   part-done b within y (Truth t v) p g = (own-done b _ (regular (P .bind) within y (Truth t v) p .0) (g .0) tt, tt)
-  part-done b within y (Index t e) p g = let h = W .inherits b (Whole y (Index t e)) (g .0) in (own-done b _ (regular (P .bind) within y (Index t e) p .0) (g .0) (operand _ y e (p .1) (h .0) (part-done _ false y e (p .1)), tt), tt)
-  part-done b within y (Paren t e) p g = let h = W .inherits b (Whole y (Paren t e)) (g .0) in (own-done b _ (regular (P .bind) within y (Paren t e) p .0) (g .0) (operand _ y e (p .1) (h .0) (part-done _ false y e (p .1)), tt), tt)
-  part-done b within y (Prefixed t o e) p g = let h = W .inherits b (Whole y (Prefixed t o e)) (g .0) in (own-done b _ (regular (P .bind) within y (Prefixed t o e) p .0) (g .0) (operand _ y e (p .1) (h .0) (part-done _ false y e (p .1)), tt), tt)
-  part-done b within y (Joined t o a e) p g = let h = W .inherits b (Whole y (Joined t o a e)) (g .0) in (own-done b _ (regular (P .bind) within y (Joined t o a e) p .0) (g .0) (operand _ y a (p .1) (h .0) (part-done _ false y a (p .1)), (operand _ y e (p .2) (h .1 .0) (part-done _ false y e (p .2)), tt)), tt)
-  part-done b within y (Nexts t n e) p g = let h = W .inherits b (Whole y (Nexts t n e)) (g .0) in (own-done b _ (regular (P .bind) within y (Nexts t n e) p .0) (g .0) (operand _ y n (p .1) (h .0) (part-done _ false y n (p .1)), (operand _ y e (p .2) (h .1 .0) (part-done _ false y e (p .2)), tt)), tt)
-  part-done b within y (InWindow t o n m e) p g = let h = W .inherits b (Whole y (InWindow t o n m e)) (g .0) in (own-done b _ (regular (P .bind) within y (InWindow t o n m e) p .0) (g .0) (operand _ y n (p .1) (h .0) (part-done _ false y n (p .1)), (operand _ y m (p .2) (h .1 .0) (part-done _ false y m (p .2)), (operand _ y e (p .3) (h .1 .1 .0) (part-done _ false y e (p .3)), tt))), tt)
+  part-done b within y (Index t e) p g = let h = W .inherits b (Whole y (Index t e)) (g .0) in
+      (own-done b _ (regular (P .bind) within y (Index t e) p .0) (g .0) (operand _ y e (p .1) (h .0) (part-done _ false y e (p .1)), tt), tt)
+  part-done b within y (Paren t e) p g = let h = W .inherits b (Whole y (Paren t e)) (g .0) in
+      (own-done b _ (regular (P .bind) within y (Paren t e) p .0) (g .0) (operand _ y e (p .1) (h .0) (part-done _ false y e (p .1)), tt), tt)
+  part-done b within y (Prefixed t o e) p g = let h = W .inherits b (Whole y (Prefixed t o e)) (g .0) in
+      (own-done b _ (regular (P .bind) within y (Prefixed t o e) p .0) (g .0) (operand _ y e (p .1) (h .0) (part-done _ false y e (p .1)), tt), tt)
+  part-done b within y (Joined t o a e) p g = let h = W .inherits b (Whole y (Joined t o a e)) (g .0) in (
+    own-done b _ (regular (P .bind) within y (Joined t o a e) p .0) (g .0)
+        (operand _ y a (p .1) (h .0) (part-done _ false y a (p .1)), (operand _ y e (p .2) (h .1 .0) (part-done _ false y e (p .2)), tt)),
+    tt,
+  )
+  part-done b within y (Nexts t n e) p g = let h = W .inherits b (Whole y (Nexts t n e)) (g .0) in (
+    own-done b _ (regular (P .bind) within y (Nexts t n e) p .0) (g .0)
+        (operand _ y n (p .1) (h .0) (part-done _ false y n (p .1)), (operand _ y e (p .2) (h .1 .0) (part-done _ false y e (p .2)), tt)),
+    tt,
+  )
+  part-done b within y (InWindow t o n m e) p g = let h = W .inherits b (Whole y (InWindow t o n m e)) (g .0) in (
+    own-done b _ (regular (P .bind) within y (InWindow t o n m e) p .0) (g .0) (
+      operand _ y n (p .1) (h .0) (part-done _ false y n (p .1)),
+      (
+        operand _ y m (p .2) (h .1 .0) (part-done _ false y m (p .2)),
+        (operand _ y e (p .3) (h .1 .1 .0) (part-done _ false y e (p .3)), tt),
+      ),
+    ),
+    tt,
+  )
   part-done b within y (Each t o further i s e) p g =
       let h = W .inherits b (Whole y (Each t o further i s e)) (g .0) in
       let k = W .inherits b (Binder y further i s) (h .0) in
       let set = own-done b (Binder y further i s) (regular-binder (P .bind) y further i s) (h .0) (operand _ y s (p .1) (k .0) (part-done _ false y s (p .1)), tt) in
       (own-done b _ (regular (P .bind) within y (Each t o further i s e) p .0) (g .0) (set, (operand _ (P .bind i y) e (p .2) (h .1 .0) (part-done _ false (P .bind i y) e (p .2)), tt)), tt)
-  part-done b within y (Between t l u a e) p g = let h = W .inherits b (Whole y (Between t l u a e)) (g .0) in (own-done b _ (regular (P .bind) within y (Between t l u a e) p .0) (g .0) (operand _ y a (p .1) (h .0) (part-done _ false y a (p .1)), (operand _ y e (p .2) (h .1 .0) (part-done _ false y e (p .2)), tt)), tt)
+  part-done b within y (Between t l u a e) p g = let h = W .inherits b (Whole y (Between t l u a e)) (g .0) in (
+    own-done b _ (regular (P .bind) within y (Between t l u a e) p .0) (g .0)
+        (operand _ y a (p .1) (h .0) (part-done _ false y a (p .1)), (operand _ y e (p .2) (h .1 .0) (part-done _ false y e (p .2)), tt)),
+    tt,
+  )
   part-done b within y (Listed t es) p g = (own-done b _ (regular (P .bind) within y (Listed t es) p .0) (g .0) (part-done _ true y es (p .1) (W .inherits b (Whole y (Listed t es)) (g .0))), tt)
   part-done b within y Empty p g = tt
   part-done b within y (Element e es) p g =
       let h = W .inherits b (Whole y (Element e es)) (g .0) in
       (own-done b _ (regular (P .bind) within y (Element e es) p .0) (g .0) (operand _ y e (p .1) (h .0) (part-done _ false y e (p .1)), part-done _ true y es (p .2) (h .1)), tt)
-  part-done b within y (Range t a e d) p g = let h = W .inherits b (Whole y (Range t a e d)) (g .0) in (own-done b _ (regular (P .bind) within y (Range t a e d) p .0) (g .0) (operand _ y a (p .1) (h .0) (part-done _ false y a (p .1)), (operand _ y e (p .2) (h .1 .0) (part-done _ false y e (p .2)), (operand _ y d (p .3) (h .1 .1 .0) (part-done _ false y d (p .3)), tt))), tt)
+  part-done b within y (Range t a e d) p g = let h = W .inherits b (Whole y (Range t a e d)) (g .0) in (
+    own-done b _ (regular (P .bind) within y (Range t a e d) p .0) (g .0) (
+      operand _ y a (p .1) (h .0) (part-done _ false y a (p .1)),
+      (
+        operand _ y e (p .2) (h .1 .0) (part-done _ false y e (p .2)),
+        (operand _ y d (p .3) (h .1 .1 .0) (part-done _ false y d (p .3)), tt),
+      ),
+    ),
+    tt,
+  )
 
   pub expression-done : (b : B) (y : N) (e : Expr) → Proper false e → P .Good b (Whole y e) → (es : List Entry) (i before : ℕ) (s : List A) (f : Option ℕ) → Sight b i (flat e ++ es) →
       Passes (flat e ++ es) i (P .state before s f) (P .leaves b (Whole y e)) es (P .state (kindOf (Whole y e)) (s ++ (P .value (Whole y e) ∷ [])) (first f (P .bad (Whole y e))))

@@ -10,7 +10,45 @@ use borrow.Author.Tests.{eq-eqb, ne-eqb}
 use Rattle.node.specs.Operators.{Not, X, G, F, And, Or, Implies, Iff, U, R, W}
 use Rattle.language.specs.Bytes.{if_then_else_}
 use Rattle.language.specs.Tokens.{Token}
-use Rattle.language.specs.Operators.{Plus, Minus, Times, Divide, Modulo, Size, Min, Max, Cup, Cap, Without, Equal, Unequal, Less, AtMost, Greater, AtLeast, Big, BigSum, BigProduct, BigCap, BigCup, BigAnd, BigOr, Window, FinallyIn, GloballyIn, Infix, Calculates, Combines, Compares, Membership, Connects, Prefix, Measures, WidthOf, Applies}
+use Rattle.language.specs.Operators.{
+  Plus,
+  Minus,
+  Times,
+  Divide,
+  Modulo,
+  Size,
+  Min,
+  Max,
+  Cup,
+  Cap,
+  Without,
+  Equal,
+  Unequal,
+  Less,
+  AtMost,
+  Greater,
+  AtLeast,
+  Big,
+  BigSum,
+  BigProduct,
+  BigCap,
+  BigCup,
+  BigAnd,
+  BigOr,
+  Window,
+  FinallyIn,
+  GloballyIn,
+  Infix,
+  Calculates,
+  Combines,
+  Compares,
+  Membership,
+  Connects,
+  Prefix,
+  Measures,
+  WidthOf,
+  Applies,
+}
 use Rattle.language.specs.Tree.{Named, Numeral, Truth, Index, Paren, Prefixed, Joined, Nexts, InWindow, Each, Between, Listed, Empty, Element, Range}
 use Rattle.language.specs.Places.{start}
 use Rattle.language.specs.Laws.Basics.Tests.{pick, leave}

@@ -1,5 +1,9 @@
 // One pass over the entries of a text's tree, operands before their operators, with a stack of what is known of the operands.
 // The functions ask for an index within the lent buffers and a kind of six bits: every pass goes over the entries, whose words hold no others.
+use basics::u8_usize::wide;
+use entries::fields::SIZES;
+use entries::fields::TOKENS;
+use entries::kinds;
 use words::get;
 ghost use mathlib.Core.Path.{_≡_};
 ghost use Prim.Native.Nat.{_-_, _≤_, _<_};
@@ -11,13 +15,6 @@ ghost use Rattle.traversal.specs.Cells.{cellAt};
 ghost use Rattle.traversal.specs.Arity.{operands};
 ghost use Rattle.traversal.specs.Starts.{firstOf, startOf};
 ghost use Rattle.traversal.specs.Places.{placed, placeIn};
-
-// The kinds of a set in braces and of an element of one, and the first of the kinds that lines have.
-pub const LISTED: u32 = 51;
-
-pub const ELEMENT: u32 = 52;
-
-pub const FIRST_LINE: u32 = 54;
 
 // How many operands a kind has.
 const ARITIES: [u8; 64] = *b"\
@@ -66,20 +63,14 @@ pub fn cell_at(work: &[u8], i: usize) -> Cell
     requires { ⌜ (workBytes ≤ length (now work)) × (i < maxTokens) ⌝ }
     ensures { λ r. ⌜ (r ≡ cellAt (now (work .entry)) i) × (r .kind < 64) ⌝ }
 {
-    let x = get(work, entries::FIRST_ENTRY + i);
-    let token = (x / 8192 % 8192) as usize;
+    let x = get(work, entries::fields::FIRST_ENTRY + i);
+    let token = (x / SIZES % TOKENS) as usize;
     let word = get(work, token);
     Cell {
-        kind: x / 8192 / 8192,
+        kind: x / SIZES / TOKENS,
         token: word,
-        size: x % 8192,
+        size: x % SIZES,
     }
-}
-
-fn wide(x: u8) -> usize
-    ensures { λ r. ⌜ r ≡ x ⌝ }
-{
-    x as usize
 }
 
 // The number of an entry's operands; `before` is the kind of the entry before it.
@@ -88,13 +79,13 @@ pub fn operand_count(before: u32, c: Cell) -> usize
     ensures { λ r. ⌜ r ≡ operands before c ⌝ }
 {
     let kind = c.kind;
-    if kind == ELEMENT {
-        if before == ELEMENT {
+    if kind == kinds::ELEMENT {
+        if before == kinds::ELEMENT {
             return 2;
         }
         return 1;
     }
-    if kind == LISTED {
+    if kind == kinds::LISTED {
         if c.size == 1 {
             return 0;
         }

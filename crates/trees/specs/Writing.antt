@@ -1,46 +1,21 @@
--- What the functions of the rewriter promise that write nodes: a formula's nodes, in postorder, into a slice of at most 8,192 entries, as far as it reaches. Laws in
--- WritingLaws.
-use Prim.Native.Nat.{ℕ, _+_, _<_, _≤_}
+-- What the functions of the rewriter that write nodes promise and ask: crate storing's words, and a node of a table. Laws in WritingLaws.
+use Prim.Native.Nat.{ℕ, _<_}
 use mathlib.Core.Path.{_≡_}
 use mathlib.Core.List.{List, [], _∷_}
 use lib.ListN.{length, getD}
-use lib.Seq.{sets}
-use Rattle.node.specs.Limits.{maxNodes, fieldLimit}
-use Rattle.node.specs.Ltl.{Unary, Not, X, G, F, Binary, And, Or, Implies, Iff, U, R, W, Formula, True, False}
+use Rattle.node.specs.Limits.{fieldLimit}
+use Rattle.node.specs.Ltl.{Unary, Not, X, G, F, Binary, And, Or, Implies, Iff, U, R, W}
 use Rattle.node.specs.Kinds.{unaryKind, binaryKind}
 use Rattle.node.specs.TableLaws.{Formed}
-use Rattle.node.specs.Postorder.{nodesFrom}
+pub use Rattle.storing.specs.Storing.{Stored, Puts, Wrote, Room, constantOf}
 
--- the words `vs` stored from index `at` on, and the next index is n
-pub record Stored (vs out out′ : List ℕ) (at n : ℕ) : Type 0 where
-  pub next : n ≡ at + length vs
-  pub room : n ≤ length out
-  pub entries : out′ ≡ sets out at vs
-
--- stored, with the next index as the answer; or an answer above 8,192, and the slice is too short
-pub record Puts (r : ℕ) (vs out out′ : List ℕ) (at : ℕ) : Type 0 where
-  pub stored : r ≤ maxNodes → Stored vs out out′ at r
-  pub short : maxNodes < r → length out < at + length vs
-
--- the formula's nodes, numbered from `at`
-abbrev pub Wrote : ℕ → Formula → List ℕ → List ℕ → ℕ → Type 0
-Wrote r f out out′ at = Puts r (nodesFrom at f) out out′ at
-
--- what they ask of the slice and the first index
-pub record Room (out : List ℕ) (at : ℕ) : Type 0 where
-  pub start : at ≤ length out
-  pub few : length out ≤ maxNodes
-
--- and of the table and the node's number
+-- what the functions ask of the table, the node's number, the slice and the first index
 pub record Ready (nodes : List ℕ) (i : ℕ) (out : List ℕ) (at : ℕ) : Type 0 where
   pub formed : Formed fieldLimit nodes
   pub inside : i < length nodes
   pub room : Room out at
 
--- the formulas and operators that a kind stands for
-abbrev pub constantOf : ℕ → Formula
-constantOf k = getD (True ∷ False ∷ []) k True
-
+-- the operators that a kind stands for
 abbrev pub unaryOf : ℕ → Unary
 unaryOf k = getD (Not ∷ Not ∷ Not ∷ Not ∷ Not ∷ Not ∷ Not ∷ Not ∷ X ∷ G ∷ F ∷ []) k Not
 

@@ -3,13 +3,13 @@ ghost use Prim.Native.Nat.{max};
 ghost use Rattle.node.specs.Ltl.{One, Two};
 ghost use Rattle.node.specs.Table.{treeAt};
 ghost use Rattle.trees.specs.Writing.{Wrote, Ready, IsUnary, IsBinary, unaryOf, binaryOf};
-use crate::write::cap;
-use crate::write::constant;
 use crate::write::fields_at;
-use crate::write::join;
-use crate::write::signal;
 use node::MAX_NODES;
 use node::Node;
+use storing::cap;
+use storing::constant;
+use storing::join;
+use storing::signal;
 
 // An operand below an operator of one operand.
 fn copy_one(nodes: &[u32], i: usize, op: u32, out: &mut [u32], at: usize) -> usize

@@ -6,16 +6,16 @@ ghost use Rattle.node.specs.Table.{treeAt};
 ghost use Rattle.forms.specs.Forms.{core as core', bothOf, impliesOf, finallyOf, globallyOf};
 ghost use Rattle.trees.specs.KeptLaws.{baseKind};
 ghost use Rattle.trees.specs.Writing.{Wrote, Ready, IsUnary, IsBinary, unaryOf, binaryOf};
-use crate::write::NO_ROOM;
-use crate::write::cap;
-use crate::write::constant;
 use crate::write::fields_at;
-use crate::write::join;
 use crate::write::join_not;
 use crate::write::not_true;
-use crate::write::signal;
 use node::MAX_NODES;
 use node::Node;
+use storing::NO_ROOM;
+use storing::cap;
+use storing::constant;
+use storing::join;
+use storing::signal;
 
 // An operand below an operator of one operand.
 fn core_one(nodes: &[u32], i: usize, op: u32, out: &mut [u32], at: usize) -> usize
@@ -62,7 +62,8 @@ fn base(kind: u32) -> u32
 fn dual(nodes: &[u32], a: usize, b: usize, op: u32, out: &mut [u32], at: usize) -> usize
     requires { ⌜ Ready (now nodes) (max a b) (now out) at ⌝ }
     requires { ⌜ IsBinary op ⌝ }
-    ensures { λ r. ⌜ Wrote r (One Not (Two (binaryOf op) (One Not (core' (treeAt (now (nodes .entry)) a))) (One Not (core' (treeAt (now (nodes .entry)) b))))) (now (out .entry)) (now (out .exit)) at ⌝ }
+    ensures { λ r. ⌜ Wrote r (One Not (Two (binaryOf op) (One Not (core' (treeAt (now (nodes .entry)) a))) (One Not (core' (treeAt (now (nodes .entry)) b))))) (now (out .entry)) (now (out .exit)) at
+        ⌝ }
 {
     let m = core_one(nodes, a, Node::NOT, out, at);
     if MAX_NODES < m {
@@ -106,7 +107,8 @@ fn not_implies(nodes: &[u32], a: usize, b: usize, out: &mut [u32], at: usize) ->
 // a <-> b: !(!(a -> b) || !(b -> a))
 fn equal(nodes: &[u32], a: usize, b: usize, out: &mut [u32], at: usize) -> usize
     requires { ⌜ Ready (now nodes) (max a b) (now out) at ⌝ }
-    ensures { λ r. ⌜ Wrote r (bothOf (impliesOf (core' (treeAt (now (nodes .entry)) a)) (core' (treeAt (now (nodes .entry)) b))) (impliesOf (core' (treeAt (now (nodes .entry)) b)) (core' (treeAt (now (nodes .entry)) a)))) (now (out .entry)) (now (out .exit)) at ⌝ }
+    ensures { λ r. ⌜ Wrote r (bothOf (impliesOf (core' (treeAt (now (nodes .entry)) a)) (core' (treeAt (now (nodes .entry)) b)))
+        (impliesOf (core' (treeAt (now (nodes .entry)) b)) (core' (treeAt (now (nodes .entry)) a)))) (now (out .entry)) (now (out .exit)) at ⌝ }
 {
     let m = not_implies(nodes, a, b, out, at);
     if MAX_NODES < m {
@@ -154,7 +156,8 @@ fn globally(nodes: &[u32], i: usize, out: &mut [u32], at: usize) -> usize
 // a W b: (a U b) || G a
 fn weak(nodes: &[u32], a: usize, b: usize, out: &mut [u32], at: usize) -> usize
     requires { ⌜ Ready (now nodes) (max a b) (now out) at ⌝ }
-    ensures { λ r. ⌜ Wrote r (Two Or (Two U (core' (treeAt (now (nodes .entry)) a)) (core' (treeAt (now (nodes .entry)) b))) (globallyOf (core' (treeAt (now (nodes .entry)) a)))) (now (out .entry)) (now (out .exit)) at ⌝ }
+    ensures { λ r. ⌜ Wrote r (Two Or (Two U (core' (treeAt (now (nodes .entry)) a)) (core' (treeAt (now (nodes .entry)) b))) (globallyOf (core' (treeAt (now (nodes .entry)) a)))) (now (out .entry))
+        (now (out .exit)) at ⌝ }
 {
     let m = core_both(nodes, a, b, Node::UNTIL, out, at);
     if MAX_NODES < m {

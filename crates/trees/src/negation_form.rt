@@ -6,14 +6,14 @@ ghost use Rattle.node.specs.Table.{treeAt};
 ghost use Rattle.forms.specs.Forms.{plain as plain', negated as negated'};
 ghost use Rattle.trees.specs.KeptLaws.{dualKind};
 ghost use Rattle.trees.specs.Writing.{Wrote, Ready, IsUnary, IsBinary, unaryOf, binaryOf};
-use crate::write::cap;
-use crate::write::constant;
 use crate::write::fields_at;
-use crate::write::join;
 use crate::write::not_signal;
-use crate::write::signal;
 use node::MAX_NODES;
 use node::Node;
+use storing::cap;
+use storing::constant;
+use storing::join;
+use storing::signal;
 
 // The kind of the dual operator.
 fn dual(kind: u32) -> u32
@@ -123,7 +123,8 @@ fn negated_plain(nodes: &[u32], a: usize, b: usize, op: u32, out: &mut [u32], at
 // a <-> b: (a && b) || (!a && !b)
 fn equal(nodes: &[u32], a: usize, b: usize, out: &mut [u32], at: usize) -> usize
     requires { ⌜ Ready (now nodes) (max a b) (now out) at ⌝ }
-    ensures { λ r. ⌜ Wrote r (Two Or (Two And (plain' (treeAt (now (nodes .entry)) a)) (plain' (treeAt (now (nodes .entry)) b))) (Two And (negated' (treeAt (now (nodes .entry)) a)) (negated' (treeAt (now (nodes .entry)) b)))) (now (out .entry)) (now (out .exit)) at ⌝ }
+    ensures { λ r. ⌜ Wrote r (Two Or (Two And (plain' (treeAt (now (nodes .entry)) a)) (plain' (treeAt (now (nodes .entry)) b)))
+        (Two And (negated' (treeAt (now (nodes .entry)) a)) (negated' (treeAt (now (nodes .entry)) b)))) (now (out .entry)) (now (out .exit)) at ⌝ }
 {
     let m = both_plain(nodes, a, b, Node::AND, out, at);
     if MAX_NODES < m {
@@ -139,7 +140,8 @@ fn equal(nodes: &[u32], a: usize, b: usize, out: &mut [u32], at: usize) -> usize
 // !(a <-> b): (a && !b) || (!a && b)
 fn differ(nodes: &[u32], a: usize, b: usize, out: &mut [u32], at: usize) -> usize
     requires { ⌜ Ready (now nodes) (max a b) (now out) at ⌝ }
-    ensures { λ r. ⌜ Wrote r (Two Or (Two And (plain' (treeAt (now (nodes .entry)) a)) (negated' (treeAt (now (nodes .entry)) b))) (Two And (negated' (treeAt (now (nodes .entry)) a)) (plain' (treeAt (now (nodes .entry)) b)))) (now (out .entry)) (now (out .exit)) at ⌝ }
+    ensures { λ r. ⌜ Wrote r (Two Or (Two And (plain' (treeAt (now (nodes .entry)) a)) (negated' (treeAt (now (nodes .entry)) b)))
+        (Two And (negated' (treeAt (now (nodes .entry)) a)) (plain' (treeAt (now (nodes .entry)) b)))) (now (out .entry)) (now (out .exit)) at ⌝ }
 {
     let m = plain_negated(nodes, a, b, Node::AND, out, at);
     if MAX_NODES < m {
@@ -155,7 +157,8 @@ fn differ(nodes: &[u32], a: usize, b: usize, out: &mut [u32], at: usize) -> usiz
 // !(a W b): !b U (!a && !b)
 fn not_weak(nodes: &[u32], a: usize, b: usize, out: &mut [u32], at: usize) -> usize
     requires { ⌜ Ready (now nodes) (max a b) (now out) at ⌝ }
-    ensures { λ r. ⌜ Wrote r (Two U (negated' (treeAt (now (nodes .entry)) b)) (Two And (negated' (treeAt (now (nodes .entry)) a)) (negated' (treeAt (now (nodes .entry)) b)))) (now (out .entry)) (now (out .exit)) at ⌝ }
+    ensures { λ r. ⌜ Wrote r (Two U (negated' (treeAt (now (nodes .entry)) b)) (Two And (negated' (treeAt (now (nodes .entry)) a)) (negated' (treeAt (now (nodes .entry)) b)))) (now (out .entry))
+        (now (out .exit)) at ⌝ }
 {
     let m = negated(nodes, b, out, at);
     if MAX_NODES < m {

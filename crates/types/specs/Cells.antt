@@ -38,17 +38,27 @@ placed : (r x : ℕ) (t : Option Token) → Told Offset x t → Told AtPlace (pl
 placed r x none h = tt
 placed r x (some t) h = below-join 16 r (mod-lt (x / 2 ^ 8) (lit< tt)) ∙ h
 
-pub named-seen : (declared : Names) (refs w : List ℕ) (ts : Tokens) → TokensTell Offset w ts → (bs : Names) (i : ℕ) (es : List Entry) → EntriesFrom w ts i es → Referring declared refs bs i es → SeenAlong openAfter (Resolved declared) (namedCell refs w) bs i es
+pub named-seen : (declared : Names) (refs w : List ℕ) (ts : Tokens) → TokensTell Offset w ts → (bs : Names) (i : ℕ) (es : List Entry) → EntriesFrom w ts i es → Referring declared refs bs i es
+    → SeenAlong openAfter (Resolved declared) (namedCell refs w) bs i es
 unfolding namedCell
 named-seen declared refs w ts told bs i [] h g = tt
 named-seen declared refs w ts told bs i (e ∷ es) h g =
     let s = entry-seen Offset w ts told i e (h .0) in
     let x = cellAt w i .token in (
-      record { kind = s .kind; size = s .size; token = record { place = placed (getD refs i 0) x (e .token) (s .token); refers = λ y. above-join 16 (getD refs i 0) (mod-lt (x / 2 ^ 8) (lit< tt)) ∙ g .0 y } },
+      record {
+        kind = s .kind;
+        size = s .size;
+        token = record {
+          place = placed (getD refs i 0) x (e .token) (s .token);
+          refers = λ y. above-join 16 (getD refs i 0) (mod-lt (x / 2 ^ 8) (lit< tt)) ∙
+              g .0 y;
+        };
+      },
       named-seen declared refs w ts told (openAfter bs e) (suc i) es (h .1) (g .1),
     )
 
 -- as the code makes it
-pub named-of : (refs w : List ℕ) (i r : ℕ) (c : Cell) → c ≡ cellAt w i → r ≡ getD refs i 0 → record { kind = c .kind; token = r * 65_536 + c .token / 256 % 65_536; size = c .size } ≡ namedCell refs w i
+pub named-of : (refs w : List ℕ) (i r : ℕ) (c : Cell) → c ≡ cellAt w i → r ≡ getD refs i 0
+    → record { kind = c .kind; token = r * 65_536 + c .token / 256 % 65_536; size = c .size } ≡ namedCell refs w i
 unfolding namedCell
 named-of refs w i r c e d = ap₂ (λ (b : Cell) (n : ℕ). record { kind = b .kind; token = n * 65_536 + b .token / 256 % 65_536; size = b .size }) e d

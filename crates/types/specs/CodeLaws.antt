@@ -12,6 +12,7 @@ use native.Mathlib.Omega.{arith}
 use borrow.Author.Tests.{eq-eqb, ne-eqb, lt-ltb, le-ltb}
 use Rattle.language.specs.Places.{first, unless}
 use Rattle.language.specs.Laws.Basics.Tests.{pick, leave}
+use Rattle.language.specs.Limits.{maxNames}
 use Rattle.entries.specs.Kinds as Kind
 use Rattle.traversal.specs.declared.Place.{Place}
 use Rattle.traversal.specs.declared.Place.the-variants.{At, Nowhere}
@@ -33,13 +34,13 @@ here true p e = ap (λ b. placed (unless b p)) (sym e)
 here false p e = refl
 
 -- names
-pub declared-kind : (table : List ℕ) (r : ℕ) → r < 256 → getD table r 0 ≡ kindAt table r
+pub declared-kind : (table : List ℕ) (r : ℕ) → r < maxNames → getD table r 0 ≡ kindAt table r
 unfolding kindAt
-declared-kind table r h = sym (pick (ltb r 256) _ _ (lt-ltb _ _ h))
+declared-kind table r h = sym (pick (ltb r maxNames) _ _ (lt-ltb _ _ h))
 
-pub bound-kind : (table : List ℕ) (r : ℕ) → 256 ≤ r → 0 ≡ kindAt table r
+pub bound-kind : (table : List ℕ) (r : ℕ) → maxNames ≤ r → 0 ≡ kindAt table r
 unfolding kindAt
-bound-kind table r h = sym (leave (ltb r 256) _ _ (le-ltb _ _ h))
+bound-kind table r h = sym (leave (ltb r maxNames) _ _ (le-ltb _ _ h))
 
 -- what an entry gives
 module _ (k name operand : ℕ) where
@@ -145,10 +146,12 @@ module _ (other last : ℕ) (ks ss : List ℕ) (i to : ℕ) (few : to ≤ length
       ∙ ap (λ x. first (unless (fits x (getD ks i 0)) (getD ss i 0)) (misfits other last (slice (suc i) to ks) (slice (suc i) to ss))) e
       ∙ ap (λ j. first (unless (fits d (getD ks i 0)) (getD ss i 0)) (misfits other last (slice j to ks) (slice j to ss))) (sym (add-one i))
 
-  pub misfits-last : i + 1 ≡ to → misfits other last (slice i to ks) (slice i to ss) ≡ first (unless (fits last (getD ks i 0)) (getD ss i 0)) (misfits other last (slice (i + 1) to ks) (slice (i + 1) to ss))
+  pub misfits-last : i + 1 ≡ to → misfits other last (slice i to ks) (slice i to ss) ≡ first (unless (fits last (getD ks i 0)) (getD ss i 0))
+      (misfits other last (slice (i + 1) to ks) (slice (i + 1) to ss))
   misfits-last e = rest (omega arith) last (ap (demand other last) (no-part ks (suc i) to (omega arith)))
 
-  pub misfits-other : i < to → (i + 1 ≡ to → ⊥) → misfits other last (slice i to ks) (slice i to ss) ≡ first (unless (fits other (getD ks i 0)) (getD ss i 0)) (misfits other last (slice (i + 1) to ks) (slice (i + 1) to ss))
+  pub misfits-other : i < to → (i + 1 ≡ to → ⊥) → misfits other last (slice i to ks) (slice i to ss) ≡ first (unless (fits other (getD ks i 0)) (getD ss i 0))
+      (misfits other last (slice (i + 1) to ks) (slice (i + 1) to ss))
   misfits-other h n = rest h other (ap (demand other last) (slice-cons (suc i) to ks 0 (omega arith) few))
 
   -- with what was found before
@@ -157,7 +160,8 @@ module _ (other last : ℕ) (ks ss : List ℕ) (i to : ℕ) (few : to ≤ length
     found-all h = sym (placed-place found) ∙ ap placed (sym (first-none (placeIn found)) ∙ ap (first (placeIn found)) (sym (misfits-none h)) ∙ inv)
 
     module _ (m r : Place) (hr : r ≡ placed (first (placeIn found) (placeIn m))) where
-      pub found-other : i < to → (i + 1 ≡ to → ⊥) → m ≡ placed (unless (fits other (getD ks i 0)) (getD ss i 0)) → first (placeIn r) (misfits other last (slice (i + 1) to ks) (slice (i + 1) to ss)) ≡ whole
+      pub found-other : i < to → (i + 1 ≡ to → ⊥) → m ≡ placed (unless (fits other (getD ks i 0)) (getD ss i 0))
+          → first (placeIn r) (misfits other last (slice (i + 1) to ks) (slice (i + 1) to ss)) ≡ whole
       found-other h n hm =
           ap (λ u. first u (misfits other last (slice (i + 1) to ks) (slice (i + 1) to ss))) (ap placeIn hr ∙ place-placed _ ∙ ap (first (placeIn found)) (ap placeIn hm ∙ place-placed _))
           ∙ first-assoc (placeIn found) _ _ ∙ ap (first (placeIn found)) (sym (misfits-other h n)) ∙ inv
@@ -173,13 +177,16 @@ module _ (k : ℕ) (ks ss : List ℕ) (from to : ℕ) where
   second : (ls : List ℕ) → drop 1 (slice from to ls) ≡ slice (from + 1) to ls
   second ls = drop-drop 1 from (take to ls)
 
-  pub wrong-sides : {a b s t : ℕ} (r : Place) → getD otherTakes k 0 ≡ 10 → a ≡ firstOf (slice from to ks) → b ≡ firstOf (slice (from + 1) to ks) → s ≡ firstOf (slice from to ss) → t ≡ firstOf (slice (from + 1) to ss)
+  pub wrong-sides : {a b s t : ℕ} (r : Place) → getD otherTakes k 0 ≡ 10 → a ≡ firstOf (slice from to ks) → b ≡ firstOf (slice (from + 1) to ks) → s ≡ firstOf (slice from to ss)
+      → t ≡ firstOf (slice (from + 1) to ss)
       → r ≡ placed (sidesOf a b s t) → r ≡ placed (wrongAt k (slice from to ks) (slice from to ss))
   wrong-sides {a} {b} {s} {t} r e ha hb hs ht hr =
-      hr ∙ ap₂ (λ x y. placed (sidesOf x y s t)) ha (hb ∙ ap firstOf (sym (second ks))) ∙ ap₂ (λ x y. placed (sidesOf (firstOf (slice from to ks)) (firstOf (drop 1 (slice from to ks))) x y)) hs (ht ∙ ap firstOf (sym (second ss)))
+      hr ∙ ap₂ (λ x y. placed (sidesOf x y s t)) ha (hb ∙ ap firstOf (sym (second ks))) ∙ ap₂ (λ x y. placed (sidesOf (firstOf (slice from to ks)) (firstOf (drop 1 (slice from to ks))) x y)) hs
+      (ht ∙ ap firstOf (sym (second ss)))
       ∙ ap placed (sides-wrong k (slice from to ks) (slice from to ss) e)
 
   pub wrong-misfits : {o l : ℕ} (r : Place) → (getD otherTakes k 0 ≡ 10 → ⊥) → to ≤ length ks → o ≡ getD otherTakes k 0 → l ≡ takesLast k (to - from)
       → r ≡ placed (misfits o l (slice from to ks) (slice from to ss)) → r ≡ placed (wrongAt k (slice from to ks) (slice from to ss))
   wrong-misfits r e few ho hl hr =
-      hr ∙ ap₂ (λ x y. placed (misfits x y (slice from to ks) (slice from to ss))) ho (hl ∙ ap (takesLast k) (sym (length-slice from to ks few))) ∙ ap placed (misfits-wrong k (slice from to ks) (slice from to ss) e)
+      hr ∙ ap₂ (λ x y. placed (misfits x y (slice from to ks) (slice from to ss))) ho (hl ∙ ap (takesLast k) (sym (length-slice from to ks few))) ∙ ap placed
+      (misfits-wrong k (slice from to ks) (slice from to ss) e)

@@ -10,6 +10,7 @@ use native.Mathlib.Omega.{arith}
 use borrow.Author.Tests.{eq-eqb, ne-eqb}
 use Rattle.language.specs.Bytes.{if_then_else_}
 use Rattle.language.specs.Laws.Basics.Tests.{split, pick, leave}
+use Rattle.language.specs.Limits.{maxNames}
 use Rattle.traversal.specs.declared.Cell.{Cell}
 use Rattle.types.specs.Cells.{namedCell}
 use Rattle.traversal.specs.Passed.{passed, passed-none, passed-more}
@@ -28,7 +29,7 @@ declare c table = if eqb (getD declaring (c .kind) 0) 8 then table else set tabl
 
 -- the table after the first n entries of the buffer
 abbrev pub declaredTable : List ℕ → List ℕ → ℕ → List ℕ
-declaredTable refs w n = passed declare (namedCell refs w) (replicate 256 0) n
+declaredTable refs w n = passed declare (namedCell refs w) (replicate maxNames 0) n
 
 -- a reference past the table's end stores nothing
 module _ (c : Cell) (table : List ℕ) where
@@ -40,7 +41,7 @@ module _ (c : Cell) (table : List ℕ) where
   unfolding declare
   declares-set v e h = ap (set table (referenceOf (c .token))) h ∙ sym (leave (eqb (getD declaring (c .kind) 0) 8) _ _ (ne-eqb _ _ e))
 
-  pub declares-out : (getD declaring (c .kind) 0 ≡ 8 → ⊥) → length table ≡ 256 → 256 ≤ referenceOf (c .token) → table ≡ declare c table
+  pub declares-out : (getD declaring (c .kind) 0 ≡ 8 → ⊥) → length table ≡ maxNames → maxNames ≤ referenceOf (c .token) → table ≡ declare c table
   declares-out e l h = sym (set-out table (referenceOf (c .token)) (getD declaring (c .kind) 0) (omega arith)) ∙ declares-set (getD declaring (c .kind) 0) e refl
 
   pub declare-length : length (declare c table) ≡ length table
@@ -50,9 +51,9 @@ module _ (c : Cell) (table : List ℕ) where
 -- the table t after i entries, from t₀ on
 pub record Declared (refs w t₀ t : List ℕ) (i : ℕ) : Type 0 where
   pub passes : t ≡ passed declare (namedCell refs w) t₀ i
-  pub size : length t ≡ 256
+  pub size : length t ≡ maxNames
 
-pub declared-none : (refs w t : List ℕ) → length t ≡ 256 → Declared refs w t t 0
+pub declared-none : (refs w t : List ℕ) → length t ≡ maxNames → Declared refs w t t 0
 declared-none refs w t h = record { passes = sym (passed-none declare (namedCell refs w) t); size = h }
 
 pub declared-more : {refs w t₀ t : List ℕ} {i : ℕ} (u : List ℕ) (c : Cell) → Declared refs w t₀ t i → c ≡ namedCell refs w i → u ≡ declare c t → Declared refs w t₀ u (i + 1)
@@ -65,6 +66,7 @@ declared-more {refs} {w} {t₀} {t} {i} u c d hc hu =
 pub declared-all : {refs w t₀ t : List ℕ} {i : ℕ} (n : ℕ) → Declared refs w t₀ t i → i ≤ n → n ≤ i → t ≡ passed declare (namedCell refs w) t₀ n
 declared-all {refs} {w} {t₀} {t} {i} n d h k = let e : i ≡ n = omega arith in d .passes ∙ ap (passed declare (namedCell refs w) t₀) e
 
-pub declared-size : (refs w : List ℕ) (n : ℕ) → length (declaredTable refs w n) ≡ 256
-declared-size refs w zero = ap length (passed-none declare (namedCell refs w) (replicate 256 0)) ∙ length-replicate {A = ℕ} 256 0
-declared-size refs w (suc i) = ap (λ k. length (declaredTable refs w k)) (sym (add-one i)) ∙ ap length (passed-more declare (namedCell refs w) (replicate 256 0) i) ∙ declare-length (namedCell refs w i) (declaredTable refs w i) ∙ declared-size refs w i
+pub declared-size : (refs w : List ℕ) (n : ℕ) → length (declaredTable refs w n) ≡ maxNames
+declared-size refs w zero = ap length (passed-none declare (namedCell refs w) (replicate maxNames 0)) ∙ length-replicate {A = ℕ} maxNames 0
+declared-size refs w (suc i) = ap (λ k. length (declaredTable refs w k)) (sym (add-one i)) ∙ ap length (passed-more declare (namedCell refs w) (replicate maxNames 0) i) ∙ declare-length
+    (namedCell refs w i) (declaredTable refs w i) ∙ declared-size refs w i

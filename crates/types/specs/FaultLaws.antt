@@ -62,17 +62,22 @@ module _ (declared : Names) (table : List ℕ) where
   abbrev finds : ℕ → ℕ → List (Part Typings) → Option ℕ
   finds k x qs = first (firstIn bad qs) (first (indexed k (nameKind x) (placeOf x)) (wrongAt k (map kindPart qs) (map startPart qs)))
 
-  part-fault : (bs : Names) (q : Part Typings) (x : ℕ) → Good declared table bs q → Resolved declared (openPast bs q) x (ownEntry withNumber q) → ltb (kindOf q) firstLine ≡ true → finds (kindOf q) x (operandsOf withNumber q) ≡ bad q
+  part-fault : (bs : Names) (q : Part Typings) (x : ℕ) → Good declared table bs q → Resolved declared (openPast bs q) x (ownEntry withNumber q) → ltb (kindOf q) firstLine ≡ true
+      → finds (kindOf q) x (operandsOf withNumber q) ≡ bad q
   part-fault bs (Whole ys (Named t)) x g h i = quiet x (free _ refl refl refl) (λ z. omega arith) (none-wrong (free _ refl refl refl) (λ z. omega arith))
   part-fault bs (Whole ys (Numeral t)) x g h i = quiet x (free _ refl refl refl) (λ z. omega arith) (none-wrong (free _ refl refl refl) (λ z. omega arith))
   part-fault bs (Whole ys (Truth t b)) x g h i = quiet x (truth-takes b) (λ z. omega arith) (none-wrong (truth-takes b) (λ z. omega arith))
   part-fault bs (Whole ys (Index t e)) x g h i =
       let b : Option ℕ = unless (isKind ABus (kindIn ys t)) (t .at) in
-      ap (first (first (mistyped ys e) none)) (ap₂ first (on-bus (nameKind x) (placeOf x) ∙ ap₂ (λ j p. unless (eqb 3 j) p) (name-known declared table ys h refl (g .0)) (h .place)) (one-wrong ANumber (code ys e) (start e) index (λ z. omega arith)))
+      ap (first (first (mistyped ys e) none)) (ap₂ first (on-bus (nameKind x) (placeOf x) ∙ ap₂ (λ j p. unless (eqb 3 j) p) (name-known declared table ys h refl (g .0)) (h .place))
+      (one-wrong ANumber (code ys e) (start e) index (λ z. omega arith)))
       ∙ one-place (mistyped ys e) (first b (wrong ANumber ys e)) ∙ first-assoc b (wrong ANumber ys e) (mistyped ys e)
-  part-fault bs (Whole ys (Paren t e)) x g h i = ap (first (first (mistyped ys e) none)) (quiet x (free _ refl refl refl) (λ z. omega arith) (any-wrong (code ys e) (start e) (free _ refl refl refl) (λ z. omega arith))) ∙ first-none (first (mistyped ys e) none) ∙ first-none (mistyped ys e)
+  part-fault bs (Whole ys (Paren t e)) x g h i = ap (first (first (mistyped ys e) none))
+      (quiet x (free _ refl refl refl) (λ z. omega arith) (any-wrong (code ys e) (start e) (free _ refl refl refl) (λ z. omega arith))) ∙ first-none (first (mistyped ys e) none) ∙ first-none
+      (mistyped ys e)
   part-fault bs (Whole ys (Prefixed t o e)) x g h i =
-      ap (first (first (mistyped ys e) none)) (quiet x (before-takes o) (λ z. omega arith) (one-wrong (prefixTakes o) (code ys e) (start e) (before-takes o) (λ z. omega arith))) ∙ one-place (mistyped ys e) (wrong (prefixTakes o) ys e)
+      ap (first (first (mistyped ys e) none)) (quiet x (before-takes o) (λ z. omega arith) (one-wrong (prefixTakes o) (code ys e) (start e) (before-takes o) (λ z. omega arith))) ∙ one-place
+      (mistyped ys e) (wrong (prefixTakes o) ys e)
   part-fault bs (Whole ys (Joined t o a b)) x g h i =
       ap (first (first (mistyped ys a) (first (mistyped ys b) none))) (ap₂ first (unindexed (EntryKind.joining o) (nameKind x) (placeOf x) (joining-unindexed o)) (joining-wrong ys o a b))
       ∙ both-places (mistyped ys a) (mistyped ys b) (wrongOperands ys o a b)
@@ -80,38 +85,47 @@ module _ (declared : Names) (table : List ℕ) where
       ap (first (first (mistyped ys n) (first (mistyped ys e) none))) (quiet x nexts (λ z. omega arith) (two-wrong ANumber AFormula (code ys n) (code ys e) (start n) (start e) nexts))
       ∙ two-places (mistyped ys n) (mistyped ys e) (wrong ANumber ys n) (wrong AFormula ys e)
   part-fault bs (Whole ys (InWindow t o n m e)) x g h i =
-      ap (first (first (mistyped ys n) (first (mistyped ys m) (first (mistyped ys e) none)))) (quiet x (window-takes o) (λ z. omega arith) (three-wrong ANumber AFormula (code ys n) (code ys m) (code ys e) (start n) (start m) (start e) (window-takes o)))
+      ap (first (first (mistyped ys n) (first (mistyped ys m) (first (mistyped ys e) none))))
+      (quiet x (window-takes o) (λ z. omega arith) (three-wrong ANumber AFormula (code ys n) (code ys m) (code ys e) (start n) (start m) (start e) (window-takes o)))
       ∙ three-places (mistyped ys n) (mistyped ys m) (mistyped ys e) (wrong ANumber ys n) (wrong ANumber ys m) (wrong AFormula ys e)
   part-fault bs (Whole ys (Each t o further j s e)) x g h i =
       let zs = withNumber j ys in
       let set : Option ℕ = bad (Binder ys further j s) in
-      ap (first (first set (first (mistyped zs e) none))) (quiet x (big-takes o) (λ z. omega arith) (second-wrong (bigGives o) (kindCode ASet) (code zs e) (EntryKind.binder further) (start e) (big-takes o)))
-      ∙ ap (λ m. first (first set m) (wrong (bigGives o) zs e)) (first-none (mistyped zs e)) ∙ first-assoc set (mistyped zs e) (wrong (bigGives o) zs e) ∙ ap (first set) (first-comm (mistyped zs e) (wrong (bigGives o) zs e))
+      ap (first (first set (first (mistyped zs e) none))) (quiet x (big-takes o) (λ z. omega arith)
+      (second-wrong (bigGives o) (kindCode ASet) (code zs e) (EntryKind.binder further) (start e) (big-takes o)))
+      ∙ ap (λ m. first (first set m) (wrong (bigGives o) zs e)) (first-none (mistyped zs e)) ∙ first-assoc set (mistyped zs e) (wrong (bigGives o) zs e) ∙ ap (first set)
+      (first-comm (mistyped zs e) (wrong (bigGives o) zs e))
   part-fault bs (Whole ys (Between t l u a b)) x g h i =
-      ap (first (first (mistyped ys a) (first (mistyped ys b) none))) (quiet x (between-takes l u) (λ z. omega arith) (two-wrong ANumber ANumber (code ys a) (code ys b) (start a) (start b) (between-takes l u)))
+      ap (first (first (mistyped ys a) (first (mistyped ys b) none)))
+      (quiet x (between-takes l u) (λ z. omega arith) (two-wrong ANumber ANumber (code ys a) (code ys b) (start a) (start b) (between-takes l u)))
       ∙ both-places (mistyped ys a) (mistyped ys b) (wrongBoth ANumber ys a b)
   part-fault bs (Whole ys (Listed t es)) x g h i =
       unless-cases (Whole ys) (λ e qs. finds EntryKind.listed x qs ≡ mistyped ys e) (quiet x (free _ refl refl refl) (λ z. omega arith) (none-wrong (free _ refl refl refl) (λ z. omega arith)))
-      (λ e. ap (first (first (mistyped ys e) none)) (quiet x (free _ refl refl refl) (λ z. omega arith) (any-wrong (code ys e) (start e) (free _ refl refl refl) (λ z. omega arith))) ∙ first-none (first (mistyped ys e) none) ∙ first-none (mistyped ys e))
+      (λ e. ap (first (first (mistyped ys e) none)) (quiet x (free _ refl refl refl) (λ z. omega arith) (any-wrong (code ys e) (start e) (free _ refl refl refl) (λ z. omega arith))) ∙ first-none
+      (first (mistyped ys e) none) ∙ first-none (mistyped ys e))
       es
   part-fault bs (Whole ys Empty) x g h i = absurd (false≢true i)
   part-fault bs (Whole ys (Element e es)) x g h i =
       unless-cases (Whole ys) (λ d qs. finds EntryKind.element x (Whole ys e ∷ qs) ≡ first (first (wrong ANumber ys e) (mistyped ys e)) (mistyped ys d))
-      (ap (first (first (mistyped ys e) none)) (loud x (last-wrong (code ys e) (start e))) ∙ one-place (mistyped ys e) (wrong ANumber ys e) ∙ sym (first-none (first (wrong ANumber ys e) (mistyped ys e))))
+      (ap (first (first (mistyped ys e) none)) (loud x (last-wrong (code ys e) (start e))) ∙ one-place (mistyped ys e) (wrong ANumber ys e) ∙ sym
+      (first-none (first (wrong ANumber ys e) (mistyped ys e))))
       (λ d. ap (first (first (mistyped ys e) (first (mistyped ys d) none))) (loud x (more-wrong (code ys e) (code ys d) (start e) (start d)))
       ∙ both-places (mistyped ys e) (mistyped ys d) (wrong ANumber ys e) ∙ sym (first-assoc (wrong ANumber ys e) (mistyped ys e) (mistyped ys d)))
       es
   part-fault bs (Whole ys (Range t a b c)) x g h i =
-      ap (first (first (mistyped ys a) (first (mistyped ys b) (first (mistyped ys c) none)))) (quiet x range (λ z. omega arith) (three-wrong ANumber ANumber (code ys a) (code ys b) (code ys c) (start a) (start b) (start c) range))
+      ap (first (first (mistyped ys a) (first (mistyped ys b) (first (mistyped ys c) none))))
+      (quiet x range (λ z. omega arith) (three-wrong ANumber ANumber (code ys a) (code ys b) (code ys c) (start a) (start b) (start c) range))
       ∙ three-places (mistyped ys a) (mistyped ys b) (mistyped ys c) (wrong ANumber ys a) (wrong ANumber ys b) (wrong ANumber ys c)
   part-fault bs (Binder ys further j s) x g h i =
-      ap (first (first (mistyped ys s) none)) (quiet x (binder-takes further) (λ z. omega arith) (one-wrong ASet (code ys s) (start s) (binder-takes further) (λ z. omega arith))) ∙ one-place (mistyped ys s) (wrong ASet ys s)
+      ap (first (first (mistyped ys s) none)) (quiet x (binder-takes further) (λ z. omega arith) (one-wrong ASet (code ys s) (start s) (binder-takes further) (λ z. omega arith))) ∙ one-place
+      (mistyped ys s) (wrong ASet ys s)
 
   pub faults : (bs : Names) (q : Part Typings) (c : Cell) → Good declared table bs q → Sees (Resolved declared (openPast bs q)) c (ownEntry withNumber q) → ltb (kindOf q) firstLine ≡ true →
       first (firstIn bad (operandsOf withNumber q)) (fault table c (map value (operandsOf withNumber q))) ≡ bad q
   faults bs q c g z i =
       let qs = operandsOf withNumber q in
       ap (first (firstIn bad qs))
-      (ap₂ (λ ks ss. first (indexed (c .kind) (nameKind (c .token)) (placeOf (c .token))) (wrongAt (c .kind) ks ss)) (map-map (λ (x : Operand). x .kind) value qs) (map-map (λ (x : Operand). x .start) value qs)
+      (ap₂ (λ ks ss. first (indexed (c .kind) (nameKind (c .token)) (placeOf (c .token))) (wrongAt (c .kind) ks ss)) (map-map (λ (x : Operand). x .kind) value qs)
+      (map-map (λ (x : Operand). x .start) value qs)
       ∙ ap (λ k. first (indexed k (nameKind (c .token)) (placeOf (c .token))) (wrongAt k (map kindPart qs) (map startPart qs))) (z .kind))
       ∙ part-fault bs q (c .token) g (z .token) i

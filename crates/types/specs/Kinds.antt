@@ -8,6 +8,7 @@ use lib.ListN.{getD, drop}
 use Rattle.node.specs.BitFields.{above, below}
 use Rattle.language.specs.Bytes.{if_then_else_}
 use Rattle.language.specs.Places.{first, unless}
+use Rattle.language.specs.Limits.{maxNames}
 use Rattle.entries.specs.Kinds as Kind
 use Rattle.traversal.specs.Starts.{firstOf}
 
@@ -78,4 +79,4 @@ referenceOf x = above 16 x
 
 -- the type of a name by its reference: of a declared name from the table, of a big operator's a number
 unfoldable pub kindAt : List ℕ → ℕ → ℕ
-kindAt table r = if ltb r 256 then getD table r 0 else 0
+kindAt table r = if ltb r maxNames then getD table r 0 else 0

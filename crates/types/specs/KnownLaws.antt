@@ -11,7 +11,30 @@ use borrow.Author.Tests.{le-ltb}
 use Rattle.language.specs.Bytes.{same}
 use Rattle.language.specs.Limits.{maxNames}
 use Rattle.language.specs.Tokens.{Token}
-use Rattle.language.specs.Tree.{Expr, Named, Numeral, Truth, Index, Paren, Prefixed, Joined, Nexts, InWindow, Each, Between, Listed, Empty, Element, Range, Identifier, Defined, Enumerated, OneSignal, OfWidth, OfType}
+use Rattle.language.specs.Tree.{
+  Expr,
+  Named,
+  Numeral,
+  Truth,
+  Index,
+  Paren,
+  Prefixed,
+  Joined,
+  Nexts,
+  InWindow,
+  Each,
+  Between,
+  Listed,
+  Empty,
+  Element,
+  Range,
+  Identifier,
+  Defined,
+  Enumerated,
+  OneSignal,
+  OfWidth,
+  OfType,
+}
 use Rattle.language.specs.Places.{first, Entry as Line, ParameterLine, DefinitionLine, DeclarationLine, FormulaLine}
 use Rattle.language.specs.Names.{Names, visible, hidden, nowhere, walk, identifierNames, declares, declaresSignal, over}
 use Rattle.language.specs.Types.{Kind, AFormula, ABus, AValue, kindCode, Typings, withNumber, typedValues, typedSignals}
@@ -52,7 +75,8 @@ signals-apart (DefinitionLine (Defined x e) ∷ ls) h =
 signals-apart (DefinitionLine (Enumerated x is) ∷ ls) h = signals-apart ls (distinct-right (x ∷ identifierNames is) (over declares ls) h)
 signals-apart (DeclarationLine d ∷ ls) h =
     let own = declares (DeclarationLine d) in
-    all-append (λ n. All (Apart n) (over defines ls)) own (over declaresSignal ls) (all-more (λ n a. of-defined (Apart n) ls a) own (across own (over declares ls) h)) (signals-apart ls (distinct-right own (over declares ls) h))
+    all-append (λ n. All (Apart n) (over defines ls)) own (over declaresSignal ls) (all-more (λ n a. of-defined (Apart n) ls a) own (across own (over declares ls) h))
+    (signals-apart ls (distinct-right own (over declares ls) h))
 signals-apart (FormulaLine e ∷ ls) h = signals-apart ls h
 
 pub visible-apart : (ns ms : Names) → Across ns ms → (t : Token) → visible ns t ≡ true → All (Apart t) ms
@@ -70,7 +94,7 @@ module _ (declared : Names) (table : List ℕ) where
   -- a big operator's name is a number
   kind-bound : (r d : ℕ) → r ≡ maxNames + d → kindAt table r ≡ 0
   unfolding kindAt
-  kind-bound r d e = leave (ltb r 256) _ _ (le-ltb r 256 (omega arith))
+  kind-bound r d e = leave (ltb r maxNames) _ _ (le-ltb r maxNames (omega arith))
 
   fits-bound : (bs ns : Names) (ys : Typings) (i : Token) → Fits bs ns ys → Fits (i ∷ bs) (i ∷ ns) (withNumber i ys)
   fits-bound bs ns ys i f t y = go (same (i .text) (t .text)) refl y
@@ -89,8 +113,12 @@ module _ (declared : Names) (table : List ℕ) where
   known bs ns ys f (Joined t o a b) y = (known bs ns ys f a (first-left _ (walk hidden nowhere ns b) y), known bs ns ys f b (first-right (walk hidden nowhere ns a) _ y))
   known bs ns ys f (Nexts t n e) y = (known bs ns ys f n (first-left _ (walk hidden nowhere ns e) y), known bs ns ys f e (first-right (walk hidden nowhere ns n) _ y))
   known bs ns ys f (InWindow t o n m e) y =
-      let z = first-right (walk hidden nowhere ns n) (first (walk hidden nowhere ns m) (walk hidden nowhere ns e)) y in
-      (known bs ns ys f n (first-left _ (first (walk hidden nowhere ns m) (walk hidden nowhere ns e)) y), known bs ns ys f m (first-left _ (walk hidden nowhere ns e) z), known bs ns ys f e (first-right (walk hidden nowhere ns m) _ z))
+      let z = first-right (walk hidden nowhere ns n) (first (walk hidden nowhere ns m) (walk hidden nowhere ns e)) y in (
+        known bs ns ys f n (first-left _ (first (walk hidden nowhere ns m) (walk hidden nowhere ns e)) y),
+        known bs ns ys f m (first-left _ (walk hidden nowhere ns e) z),
+        known bs ns ys f e
+            (first-right (walk hidden nowhere ns m) _ z),
+      )
   known bs ns ys f (Each t o further i s e) y =
       (known bs ns ys f s (first-left _ (walk hidden nowhere (i ∷ ns) e) y), known (i ∷ bs) (i ∷ ns) (withNumber i ys) (fits-bound bs ns ys i f) e (first-right (walk hidden nowhere ns s) _ y))
   known bs ns ys f (Between t l h a b) y = (known bs ns ys f a (first-left _ (walk hidden nowhere ns b) y), known bs ns ys f b (first-right (walk hidden nowhere ns a) _ y))
@@ -98,8 +126,12 @@ module _ (declared : Names) (table : List ℕ) where
   known bs ns ys f Empty y = tt
   known bs ns ys f (Element e es) y = (known bs ns ys f e (first-left _ (walk hidden nowhere ns es) y), known bs ns ys f es (first-right (walk hidden nowhere ns e) _ y))
   known bs ns ys f (Range t a b c) y =
-      let z = first-right (walk hidden nowhere ns a) (first (walk hidden nowhere ns b) (walk hidden nowhere ns c)) y in
-      (known bs ns ys f a (first-left _ (first (walk hidden nowhere ns b) (walk hidden nowhere ns c)) y), known bs ns ys f b (first-left _ (walk hidden nowhere ns c) z), known bs ns ys f c (first-right (walk hidden nowhere ns b) _ z))
+      let z = first-right (walk hidden nowhere ns a) (first (walk hidden nowhere ns b) (walk hidden nowhere ns c)) y in (
+        known bs ns ys f a (first-left _ (first (walk hidden nowhere ns b) (walk hidden nowhere ns c)) y),
+        known bs ns ys f b (first-left _ (walk hidden nowhere ns c) z),
+        known bs ns ys f c
+            (first-right (walk hidden nowhere ns b) _ z),
+      )
 
   -- one more declared name
   pub fits-one : (ns : Names) (ys : Typings) (x : Token) (k : Kind) → Has declared table (record { name = x; kind = k }) → Fits [] ns ys → Fits [] (x ∷ ns) (record { name = x; kind = k } ∷ ys)

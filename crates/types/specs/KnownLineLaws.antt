@@ -31,7 +31,7 @@ module _ (declared : Names) (few : length declared ≤ maxNames) where
     pub among : Among ns declared
     pub apart : Across ns (over defines ls)
     pub signals : All (In ns) (over declaresSignal ls)
-    pub size : length (k .table) ≡ 256
+    pub size : length (k .table) ≡ maxNames
     pub fits : Fits declared (k .table) [] ns (k .names)
     pub fixed : All (Has declared (k .table)) (allFixed ls)
 
@@ -45,7 +45,8 @@ module _ (declared : Names) (few : length declared ≤ maxNames) where
   line-known k (FormulaLine e) ls ns b = known declared (k .table) [] ns (k .names) (b .fits) e (first-left _ (walkLines hidden nowhere ns ls) (b .shown))
 
   -- behind a line
-  onward : {k : Context} (j : Context) (l : Line) (ls : List Line) (ns : Names) → Before k (l ∷ ls) ns → length (j .table) ≡ 256 → Fits declared (j .table) [] (declares l ++ ns) (j .names) → All (Has declared (j .table)) (allFixed ls) → Before j ls (declares l ++ ns)
+  onward : {k : Context} (j : Context) (l : Line) (ls : List Line) (ns : Names) → Before k (l ∷ ls) ns → length (j .table) ≡ maxNames → Fits declared (j .table) [] (declares l ++ ns) (j .names)
+      → All (Has declared (j .table)) (allFixed ls) → Before j ls (declares l ++ ns)
   onward j l ls ns b size fits fixed =
       let D = over defines ls in
       record {
@@ -53,7 +54,8 @@ module _ (declared : Names) (few : length declared ≤ maxNames) where
         distinct = distinct-right (declares l) (over declares ls) (b .distinct);
         own = all-right (In declared) (declares l) (over declares ls) (b .own);
         among = among-more (declares l) ns declared (all-left (In declared) (declares l) (over declares ls) (b .own)) (b .among);
-        apart = all-append (λ n. All (Apart n) D) (declares l) ns (all-more (λ n a. of-defined (Apart n) ls a) (declares l) (across (declares l) (over declares ls) (b .distinct))) (all-more (λ n a. all-right (Apart n) (defines l) D a) ns (b .apart));
+        apart = all-append (λ n. All (Apart n) D) (declares l) ns (all-more (λ n a. of-defined (Apart n) ls a) (declares l) (across (declares l) (over declares ls) (b .distinct)))
+            (all-more (λ n a. all-right (Apart n) (defines l) D a) ns (b .apart));
         signals = all-more (λ n i. visible-right (declares l) ns n i) (over declaresSignal ls) (all-right (In ns) (declaresSignal l) (over declaresSignal ls) (b .signals));
         size = size;
         fits = fits;
@@ -66,17 +68,23 @@ module _ (declared : Names) (few : length declared ≤ maxNames) where
       let kind = kindOf (k .names) e in
       let r = reference declared [] x in
       let table = set (k .table) r (kindCode kind) in
-      let seen : Fits declared table [] ns (k .names) = λ t v. kind-other (k .table) r (kindCode kind) (reference declared [] t) (apart-references declared t x (b .among t v) (b .own .0) (visible-apart ns (over defines (DefinitionLine (Defined x e) ∷ ls)) (b .apart) t v .0)) ∙ b .fits t v in
+      let seen : Fits declared table [] ns (k .names) = λ t v. kind-other (k .table) r (kindCode kind) (reference declared [] t)
+      (apart-references declared t x (b .among t v) (b .own .0) (visible-apart ns (over defines (DefinitionLine (Defined x e) ∷ ls)) (b .apart) t v .0)) ∙ b .fits t v in
       onward _ (DefinitionLine (Defined x e)) ls ns b (length-set (k .table) r (kindCode kind) ∙ b .size)
       (fits-one declared table ns (k .names) x kind (has-set declared few (k .table) x kind (b .own .0) (b .size)) seen)
-      (all-both (λ y o h. has-kept declared (k .table) x (kindCode kind) y (b .own .0) o h) (allFixed ls) (fixed-names (Beside declared x) ls (others declared x (over declares ls) (b .distinct .0) (b .own .1))) (b .fixed))
+      (all-both (λ y o h. has-kept declared (k .table) x (kindCode kind) y (b .own .0) o h) (allFixed ls)
+      (fixed-names (Beside declared x) ls (others declared x (over declares ls) (b .distinct .0) (b .own .1))) (b .fixed))
   before-next k (DefinitionLine (Enumerated x is)) ls ns b =
       onward _ (DefinitionLine (Enumerated x is)) ls ns b (b .size)
-      (fits-one declared (k .table) (identifierNames is ++ ns) (typedValues is (k .names)) x AType (b .fixed .0) (fits-values declared (k .table) is ns (k .names) (allFixed ls) (b .fixed .1) (b .fits)))
+      (fits-one declared (k .table) (identifierNames is ++ ns) (typedValues is (k .names)) x AType (b .fixed .0)
+      (fits-values declared (k .table) is ns (k .names) (allFixed ls) (b .fixed .1) (b .fits)))
       (behind-values declared (k .table) is (allFixed ls) (b .fixed .1))
-  before-next k (DeclarationLine (OneSignal x)) ls ns b = onward k (DeclarationLine (OneSignal x)) ls ns b (b .size) (fits-again declared (k .table) ns (k .names) x (b .signals .0) (b .fits)) (b .fixed .1)
-  before-next k (DeclarationLine (OfWidth x e)) ls ns b = onward k (DeclarationLine (OfWidth x e)) ls ns b (b .size) (fits-again declared (k .table) ns (k .names) x (b .signals .0) (b .fits)) (b .fixed .1)
-  before-next k (DeclarationLine (OfType u x)) ls ns b = onward k (DeclarationLine (OfType u x)) ls ns b (b .size) (fits-again declared (k .table) ns (k .names) x (b .signals .0) (b .fits)) (b .fixed .1)
+  before-next k (DeclarationLine (OneSignal x)) ls ns b = onward k (DeclarationLine (OneSignal x)) ls ns b (b .size) (fits-again declared (k .table) ns (k .names) x (b .signals .0) (b .fits))
+      (b .fixed .1)
+  before-next k (DeclarationLine (OfWidth x e)) ls ns b = onward k (DeclarationLine (OfWidth x e)) ls ns b (b .size) (fits-again declared (k .table) ns (k .names) x (b .signals .0) (b .fits))
+      (b .fixed .1)
+  before-next k (DeclarationLine (OfType u x)) ls ns b = onward k (DeclarationLine (OfType u x)) ls ns b (b .size) (fits-again declared (k .table) ns (k .names) x (b .signals .0) (b .fits))
+      (b .fixed .1)
   before-next k (FormulaLine e) ls ns b = onward k (FormulaLine e) ls ns b (b .size) (b .fits) (b .fixed)
 
   lines-known : (k : Context) (ls : List Line) (ns : Names) → Before k ls ns → Each (next declared) (KnownLine declared) k ls
@@ -84,15 +92,16 @@ module _ (declared : Names) (few : length declared ≤ maxNames) where
   lines-known k (l ∷ ls) ns b = (line-known k l ls ns b, lines-known (next declared k l) ls (declares l ++ ns) (before-next k l ls ns b))
 
 -- all names of a text
-pub kinds-known : {x : Spec} {refs found : List ℕ} {n : ℕ} → Resolved x refs found n → (table : List ℕ) → table ≡ put (declaredNames x) (replicate 256 0) (allFixed (allLines x)) → KindsKnown (declaredNames x) table x
+pub kinds-known : {x : Spec} {refs found : List ℕ} {n : ℕ} → Resolved x refs found n → (table : List ℕ) → table ≡ put (declaredNames x) (replicate maxNames 0) (allFixed (allLines x))
+    → KindsKnown (declaredNames x) table x
 kinds-known {x} r table e =
     let declared = declaredNames x in
     let ls = allLines x in
     let signals = over declaresSignal ls in
     let few : length declared ≤ maxNames = (let a = r .count in let b = r .few in omega arith) in
     let d = distinct-names x (r .distinct) in
-    let empty : length {A = ℕ} (replicate 256 0) ≡ 256 = length-replicate {A = ℕ} 256 0 in
-    let has : All (Has declared table) (allFixed ls) = rw e (fixed-put declared few ls (replicate 256 0) empty d (in-declared x)) in
+    let empty : length {A = ℕ} (replicate maxNames 0) ≡ maxNames = length-replicate {A = ℕ} maxNames 0 in
+    let has : All (Has declared table) (allFixed ls) = rw e (fixed-put declared few ls (replicate maxNames 0) empty d (in-declared x)) in
     record {
       lines = lines-known declared few (record { table = table; names = typedSignals ls }) ls signals (record {
         shown = r .visible;
@@ -101,7 +110,7 @@ kinds-known {x} r table e =
         among = among-all signals declared (of-signals (In declared) ls (in-declared x));
         apart = signals-apart ls d;
         signals = in-own signals;
-        size = ap length e ∙ put-length declared (allFixed ls) (replicate 256 0) ∙ empty;
+        size = ap length e ∙ put-length declared (allFixed ls) (replicate maxNames 0) ∙ empty;
         fits = fits-signals declared table ls has;
         fixed = has;
       });

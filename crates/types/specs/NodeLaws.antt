@@ -117,7 +117,8 @@ module _ (declared : Names) (table : List ℕ) where
   abbrev nameKind : ℕ → ℕ
   nameKind x = kindAt table (referenceOf x)
 
-  pub name-known : {bs : Names} {x : ℕ} {e : Entry} (ys : Typings) → Resolved declared bs x e → names (e .kind) ≡ true → KnownName declared bs table ys (nameOf e) → nameKind x ≡ kindCode (kindIn ys (nameOf e))
+  pub name-known : {bs : Names} {x : ℕ} {e : Entry} (ys : Typings) → Resolved declared bs x e → names (e .kind) ≡ true → KnownName declared bs table ys (nameOf e)
+      → nameKind x ≡ kindCode (kindIn ys (nameOf e))
   name-known ys r n g = ap (kindAt table) (r .refers n) ∙ g
 
   abbrev kindParts : List (Part Typings) → List ℕ
@@ -126,7 +127,8 @@ module _ (declared : Names) (table : List ℕ) where
   abbrev startParts : List (Part Typings) → List ℕ
   startParts qs = map startPart qs
 
-  part-kind : (bs : Names) (q : Part Typings) (x : ℕ) → Good bs q → Resolved declared (openPast bs q) x (ownEntry withNumber q) → ltb (kindOf q) firstLine ≡ true → givesOf (kindOf q) (nameKind x) (firstOf (kindParts (operandsOf withNumber q))) ≡ kindPart q
+  part-kind : (bs : Names) (q : Part Typings) (x : ℕ) → Good bs q → Resolved declared (openPast bs q) x (ownEntry withNumber q) → ltb (kindOf q) firstLine ≡ true
+      → givesOf (kindOf q) (nameKind x) (firstOf (kindParts (operandsOf withNumber q))) ≡ kindPart q
   part-kind bs (Whole ys (Named t)) x g h i = by-name _ _ ∙ name-known ys h refl g
   part-kind bs (Whole ys (Numeral t)) x g h i = given EntryKind.numeral _ _ 0 refl (omega arith)
   part-kind bs (Whole ys (Truth t b)) x g h i = given (EntryKind.truth b) _ _ 2 (truth-gives b) (omega arith)
@@ -144,10 +146,13 @@ module _ (declared : Names) (table : List ℕ) where
   part-kind bs (Whole ys (Range t a b c)) x g h i = given EntryKind.range _ _ 1 refl (omega arith)
   part-kind bs (Binder ys further j s) x g h i = given (EntryKind.binder further) _ _ 1 (binder-gives further) (omega arith)
 
-  pub values : (bs : Names) (q : Part Typings) (c : Cell) → Good bs q → Sees (Resolved declared (openPast bs q)) c (ownEntry withNumber q) → ltb (kindOf q) firstLine ≡ true → node table c (map value (operandsOf withNumber q)) ≡ value q
+  pub values : (bs : Names) (q : Part Typings) (c : Cell) → Good bs q → Sees (Resolved declared (openPast bs q)) c (ownEntry withNumber q) → ltb (kindOf q) firstLine ≡ true
+      → node table c (map value (operandsOf withNumber q)) ≡ value q
   unfolding node
   values bs q c g z i =
       let qs = operandsOf withNumber q in
       ap₂ (λ (k s : ℕ). record { kind = k; start = s })
-      (ap (λ ks. givesOf (c .kind) (nameKind (c .token)) (firstOf ks)) (map-map (λ (x : Operand). x .kind) value qs) ∙ ap (λ k. givesOf k (nameKind (c .token)) (firstOf (kindParts qs))) (z .kind) ∙ part-kind bs q (c .token) g (z .token) i)
-      (ap (λ ss. startOf (c .kind) (placeOf (c .token)) (firstOf ss)) (map-map (λ (x : Operand). x .start) value qs) ∙ ap (λ k. startOf k (placeOf (c .token)) (firstOf (startParts qs))) (z .kind) ∙ starts withNumber q (placeOf (c .token)) (z .token .place) i)
+      (ap (λ ks. givesOf (c .kind) (nameKind (c .token)) (firstOf ks)) (map-map (λ (x : Operand). x .kind) value qs) ∙ ap (λ k. givesOf k (nameKind (c .token)) (firstOf (kindParts qs))) (z .kind) ∙
+      part-kind bs q (c .token) g (z .token) i)
+      (ap (λ ss. startOf (c .kind) (placeOf (c .token)) (firstOf ss)) (map-map (λ (x : Operand). x .start) value qs) ∙ ap (λ k. startOf k (placeOf (c .token)) (firstOf (startParts qs))) (z .kind) ∙
+      starts withNumber q (placeOf (c .token)) (z .token .place) i)

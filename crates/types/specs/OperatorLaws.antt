@@ -9,10 +9,67 @@ use lib.ListN.{getD}
 use native.Mathlib.Omega.{arith}
 use borrow.Author.Tests.{eq-eqb}
 use Rattle.node.specs.Operators.{Not, X, G, F, And, Or, Implies, Iff, U, R, W}
-use Rattle.language.specs.Operators.{Plus, Minus, Times, Divide, Modulo, Size, Min, Max, Cup, Cap, Without, Equal, Unequal, Less, AtMost, Greater, AtLeast, Big, BigSum, BigProduct, BigCap, BigCup, BigAnd, BigOr, Window, FinallyIn, GloballyIn, Infix, Calculates, Combines, Compares, Membership, Connects, Prefix, Measures, WidthOf, Applies}
+use Rattle.language.specs.Operators.{
+  Plus,
+  Minus,
+  Times,
+  Divide,
+  Modulo,
+  Size,
+  Min,
+  Max,
+  Cup,
+  Cap,
+  Without,
+  Equal,
+  Unequal,
+  Less,
+  AtMost,
+  Greater,
+  AtLeast,
+  Big,
+  BigSum,
+  BigProduct,
+  BigCap,
+  BigCup,
+  BigAnd,
+  BigOr,
+  Window,
+  FinallyIn,
+  GloballyIn,
+  Infix,
+  Calculates,
+  Combines,
+  Compares,
+  Membership,
+  Connects,
+  Prefix,
+  Measures,
+  WidthOf,
+  Applies,
+}
 use Rattle.language.specs.Tree.{Expr}
 use Rattle.language.specs.Places.{start, unless}
-use Rattle.language.specs.Types.{Kind, ANumber, ASet, AFormula, ABus, AValue, AType, Unknown, kindCode, Typings, prefixTakes, prefixGives, infixGives, bigGives, kindOf, comparable, fitting, wrongOperands}
+use Rattle.language.specs.Types.{
+  Kind,
+  ANumber,
+  ASet,
+  AFormula,
+  ABus,
+  AValue,
+  AType,
+  Unknown,
+  kindCode,
+  Typings,
+  prefixTakes,
+  prefixGives,
+  infixGives,
+  bigGives,
+  kindOf,
+  comparable,
+  fitting,
+  wrongOperands,
+}
 use Rattle.language.specs.Laws.Basics.Tests.{pick}
 use Rattle.entries.specs.Kinds as EntryKind
 use Rattle.types.specs.Kinds.{giving, otherTakes, fits, sidesOf}

@@ -7,7 +7,7 @@ use lib.ListN.{length, take, drop, set, length-append, length-set}
 use lib.Seq.{slice, length-take-le, set-out}
 use native.Mathlib.Omega.{arith}
 use borrow.Author.Tests.{lt-ltb, le-ltb, eq-eqb, ne-eqb}
-use Rattle.language.specs.Limits.{workBytes, maxTokens}
+use Rattle.language.specs.Limits.{workBytes, maxTokens, maxNames}
 use Rattle.language.specs.Places.{first}
 use Rattle.language.specs.Laws.Basics.Tests.{split, pick, leave}
 use Rattle.entries.specs.Kinds as Kind
@@ -35,7 +35,7 @@ pub record Sized (w : List ℕ) (i : ℕ) (p : Progress) (ks ss ts : List ℕ) :
   pub few : p .top ≤ i
   pub kinds : length ks ≡ maxTokens
   pub starts : length ss ≡ maxTokens
-  pub table : length ts ≡ 256
+  pub table : length ts ≡ maxNames
 
 -- entry i, with the cell d, is passed, whatever the state before
 pub record Passes (w : List ℕ) (i : ℕ) (d : Cell) (p q : Progress) (ks ss ts ks′ ss′ ts′ : List ℕ) : Type 0 where
@@ -48,7 +48,7 @@ module _ (table : List ℕ) (k token v : ℕ) where
   unfolding tableOf
   table-set e = sym (pick (eqb k Kind.definition) _ _ (eq-eqb _ _ e))
 
-  pub table-out : length table ≡ 256 → 256 ≤ referenceOf token → k ≡ Kind.definition → table ≡ tableOf table k token v
+  pub table-out : length table ≡ maxNames → maxNames ≤ referenceOf token → k ≡ Kind.definition → table ≡ tableOf table k token v
   table-out l h e = sym (set-out table (referenceOf token) v (omega arith)) ∙ table-set e
 
   pub table-same : (k ≡ Kind.definition → ⊥) → table ≡ tableOf table k token v
@@ -80,51 +80,57 @@ module _ (s : State) (p : Progress) (ks ss table : List ℕ) (c : Cell) (below :
   part-starts : slice below (p .top) ss ≡ startsOf xs
   part-starts = stack-part (λ (x : Operand). x .start) (s .stack) ss (p .top) below (a .starts)
 
-  module _ (f u v r : Place) (t′ : List ℕ) (hu : u ≡ placed (indexed (c .kind) (kindAt table (referenceOf (c .token))) (placeOf (c .token)))) (hv : v ≡ placed (wrongAt (c .kind) (slice below (p .top) ks) (slice below (p .top) ss)))
-      (hr : r ≡ placed (first (placeIn u) (placeIn v))) (hf : f ≡ placed (first (placeIn (p .found)) (placeIn r))) (ht : t′ ≡ tableOf table (c .kind) (c .token) (firstOf (slice below (p .top) ks))) where
-    fault-here : placeIn r ≡ fault (s .table) c xs
-    fault-here =
-        ap placeIn hr ∙ place-placed _
-        ∙ ap₂ first (ap placeIn hu ∙ place-placed _ ∙ ap (λ t. indexed (c .kind) (kindAt t (referenceOf (c .token))) (placeOf (c .token))) (a .table))
-        (ap placeIn hv ∙ place-placed _ ∙ ap₂ (wrongAt (c .kind)) part-kinds part-starts)
+  module _ (f u v r : Place) (t′ : List ℕ) (hu : u ≡ placed (indexed (c .kind) (kindAt table (referenceOf (c .token))) (placeOf (c .token))))
+      (hv : v ≡ placed (wrongAt (c .kind) (slice below (p .top) ks) (slice below (p .top) ss)))
+      (hr : r ≡ placed (first (placeIn u) (placeIn v))) (hf : f ≡ placed (first (placeIn (p .found)) (placeIn r))) (ht : t′ ≡ tableOf table (c .kind) (c .token) (firstOf (slice below (p .top) ks)))
+    where
+      fault-here : placeIn r ≡ fault (s .table) c xs
+      fault-here =
+          ap placeIn hr ∙ place-placed _
+          ∙ ap₂ first (ap placeIn hu ∙ place-placed _ ∙ ap (λ t. indexed (c .kind) (kindAt t (referenceOf (c .token))) (placeOf (c .token))) (a .table))
+          (ap placeIn hv ∙ place-placed _ ∙ ap₂ (wrongAt (c .kind)) part-kinds part-starts)
 
-    found-here : f ≡ placed (step c s .found)
-    found-here = hf ∙ ap₂ (λ x y. placed (first x y)) (ap placeIn (a .found) ∙ place-placed (s .found)) fault-here ∙ sym (ap (λ (z : State). placed (z .found)) moved)
+      found-here : f ≡ placed (step c s .found)
+      found-here = hf ∙ ap₂ (λ x y. placed (first x y)) (ap placeIn (a .found) ∙ place-placed (s .found)) fault-here ∙ sym (ap (λ (z : State). placed (z .found)) moved)
 
-    table-here : t′ ≡ step c s .table
-    table-here = ht ∙ ap₂ (λ t x. tableOf t (c .kind) (c .token) (firstOf x)) (a .table) part-kinds ∙ sym (ap (λ (z : State). z .table) moved)
+      table-here : t′ ≡ step c s .table
+      table-here = ht ∙ ap₂ (λ t x. tableOf t (c .kind) (c .token) (firstOf x)) (a .table) part-kinds ∙ sym (ap (λ (z : State). z .table) moved)
 
-    pub line-agrees : firstLine ≤ c .kind → Agrees (step c s) (record { before = c .kind; top = below; found = f }) ks ss t′
-    line-agrees out =
-        let stack : step c s .stack ≡ take below (s .stack) = ap (λ (z : State). z .stack) moved ∙ leave (ltb (c .kind) firstLine) _ _ (le-ltb _ _ out) in
-        record {
-          before = sym (ap (λ (z : State). z .before) moved);
-          count = omega (arith, kept, ap length stack);
-          kinds = stack-below (λ (x : Operand). x .kind) (s .stack) ks (p .top) below (a .kinds) low ∙ sym (ap kindsOf stack);
-          starts = stack-below (λ (x : Operand). x .start) (s .stack) ss (p .top) below (a .starts) low ∙ sym (ap startsOf stack);
-          found = found-here;
-          table = table-here;
-        }
+      pub line-agrees : firstLine ≤ c .kind → Agrees (step c s) (record { before = c .kind; top = below; found = f }) ks ss t′
+      line-agrees out =
+          let stack : step c s .stack ≡ take below (s .stack) = ap (λ (z : State). z .stack) moved ∙ leave (ltb (c .kind) firstLine) _ _ (le-ltb _ _ out) in
+          record {
+            before = sym (ap (λ (z : State). z .before) moved);
+            count = omega (arith, kept, ap length stack);
+            kinds = stack-below (λ (x : Operand). x .kind) (s .stack) ks (p .top) below (a .kinds) low ∙ sym (ap kindsOf stack);
+            starts = stack-below (λ (x : Operand). x .start) (s .stack) ss (p .top) below (a .starts) low ∙ sym (ap startsOf stack);
+            found = found-here;
+            table = table-here;
+          }
 
-    pub part-agrees : (k t : ℕ) → c .kind < firstLine → below < length ks → below < length ss
-        → k ≡ givesOf (c .kind) (kindAt table (referenceOf (c .token))) (firstOf (slice below (p .top) ks)) → t ≡ startOf (c .kind) (placeOf (c .token)) (firstOf (slice below (p .top) ss))
-        → Agrees (step c s) (record { before = c .kind; top = below + 1; found = f }) (set ks below k) (set ss below t) t′
-    unfolding node
-    part-agrees k t inner room room′ hk hs =
-        let stack : step c s .stack ≡ take below (s .stack) ++ (node (s .table) c xs ∷ []) = ap (λ (z : State). z .stack) moved ∙ pick (ltb (c .kind) firstLine) _ _ (lt-ltb _ _ inner) in
-        record {
-          before = sym (ap (λ (z : State). z .before) moved);
-          count = omega (arith, kept, ap length stack, length-append (take below (s .stack)) (node (s .table) c xs ∷ []));
-          kinds = stack-push (λ (x : Operand). x .kind) (s .stack) ks (p .top) below (a .kinds) low (node (s .table) c xs) k room (hk ∙ ap₂ (λ t l. givesOf (c .kind) (kindAt t (referenceOf (c .token))) (firstOf l)) (a .table) part-kinds) ∙ sym (ap kindsOf stack);
-          starts = stack-push (λ (x : Operand). x .start) (s .stack) ss (p .top) below (a .starts) low (node (s .table) c xs) t room′ (hs ∙ ap (λ l. startOf (c .kind) (placeOf (c .token)) (firstOf l)) part-starts) ∙ sym (ap startsOf stack);
-          found = found-here;
-          table = table-here;
-        }
+      pub part-agrees : (k t : ℕ) → c .kind < firstLine → below < length ks → below < length ss
+          → k ≡ givesOf (c .kind) (kindAt table (referenceOf (c .token))) (firstOf (slice below (p .top) ks)) → t ≡ startOf (c .kind) (placeOf (c .token)) (firstOf (slice below (p .top) ss))
+          → Agrees (step c s) (record { before = c .kind; top = below + 1; found = f }) (set ks below k) (set ss below t) t′
+      unfolding node
+      part-agrees k t inner room room′ hk hs =
+          let stack : step c s .stack ≡ take below (s .stack) ++ (node (s .table) c xs ∷ []) = ap (λ (z : State). z .stack) moved ∙ pick (ltb (c .kind) firstLine) _ _ (lt-ltb _ _ inner) in
+          record {
+            before = sym (ap (λ (z : State). z .before) moved);
+            count = omega (arith, kept, ap length stack, length-append (take below (s .stack)) (node (s .table) c xs ∷ []));
+            kinds = stack-push (λ (x : Operand). x .kind) (s .stack) ks (p .top) below (a .kinds) low (node (s .table) c xs) k room
+                (hk ∙ ap₂ (λ t l. givesOf (c .kind) (kindAt t (referenceOf (c .token))) (firstOf l)) (a .table) part-kinds) ∙ sym (ap kindsOf stack);
+            starts = stack-push (λ (x : Operand). x .start) (s .stack) ss (p .top) below (a .starts) low (node (s .table) c xs) t room′
+                (hs ∙ ap (λ l. startOf (c .kind) (placeOf (c .token)) (firstOf l)) part-starts) ∙ sym (ap startsOf stack);
+            found = found-here;
+            table = table-here;
+          }
 
 -- what the pass's parts answer at entry i, and what it has passed then
-module _ {w : List ℕ} {i : ℕ} {p : Progress} {ks ss ts ts′ : List ℕ} (z : Sized w i p ks ss ts) (small : i < maxTokens) {c d : Cell} (hc : c ≡ d) {n below name place operand start : ℕ} {f u v r : Place}
+module _ {w : List ℕ} {i : ℕ} {p : Progress} {ks ss ts ts′ : List ℕ} (z : Sized w i p ks ss ts) (small : i < maxTokens) {c d : Cell} (hc : c ≡ d) {n below name place operand start : ℕ}
+    {f u v r : Place}
     (hn : n ≡ operands (p .before) c) (hb : below ≡ p .top - n) (hm : name ≡ kindAt ts (referenceOf (c .token))) (hp : place ≡ placeOf (c .token))
-    (ho : operand ≡ firstOf (slice below (p .top) ks)) (hs : start ≡ firstOf (slice below (p .top) ss)) (hu : u ≡ placed (indexed (c .kind) name place)) (hv : v ≡ placed (wrongAt (c .kind) (slice below (p .top) ks) (slice below (p .top) ss)))
+    (ho : operand ≡ firstOf (slice below (p .top) ks)) (hs : start ≡ firstOf (slice below (p .top) ss)) (hu : u ≡ placed (indexed (c .kind) name place))
+    (hv : v ≡ placed (wrongAt (c .kind) (slice below (p .top) ks) (slice below (p .top) ss)))
     (hr : r ≡ placed (first (placeIn u) (placeIn v))) (hf : f ≡ placed (first (placeIn (p .found)) (placeIn r))) (ht : ts′ ≡ tableOf ts (c .kind) (c .token) operand) where
   near : below ≤ i
   near = omega (arith, hb, z .few)
@@ -135,7 +141,7 @@ module _ {w : List ℕ} {i : ℕ} {p : Progress} {ks ss ts ts′ : List ℕ} (z 
   index-here : u ≡ placed (indexed (c .kind) (kindAt ts (referenceOf (c .token))) (placeOf (c .token)))
   index-here = hu ∙ ap₂ (λ x y. placed (indexed (c .kind) x y)) hm hp
 
-  table-size : length ts′ ≡ 256
+  table-size : length ts′ ≡ maxNames
   table-size = ap length ht ∙ table-length ts (c .kind) (c .token) operand ∙ z .table
 
   pub passes-line : firstLine ≤ c .kind → Passes w i d p (record { before = c .kind; top = below; found = f }) ks ss ts ks ss ts′
@@ -152,6 +158,7 @@ module _ {w : List ℕ} {i : ℕ} {p : Progress} {ks ss ts ts′ : List ℕ} (z 
       record {
         sized = record { room = z .room; few = omega (arith, near); kinds = length-set ks below k ∙ z .kinds; starts = length-set ss below t ∙ z .starts; table = table-size };
         steps = λ s a. subst (λ b. Agrees (step b s) (record { before = c .kind; top = below + 1; found = f }) (set ks below k) (set ss below t) ts′) hc
-            (part-agrees s p ks ss ts c below a behind f u v r ts′ index-here hv hr hf (ht ∙ ap (tableOf ts (c .kind) (c .token)) ho) k t inner (omega (arith, near, z .kinds)) (omega (arith, near, z .starts))
+            (part-agrees s p ks ss ts c below a behind f u v r ts′ index-here hv hr hf (ht ∙ ap (tableOf ts (c .kind) (c .token)) ho) k t inner (omega (arith, near, z .kinds))
+            (omega (arith, near, z .starts))
             (hk ∙ ap₂ (givesOf (c .kind)) hm ho) (hst ∙ ap₂ (startOf (c .kind)) hp hs));
       }

@@ -31,11 +31,11 @@ Has declared table y = kindAt table (reference declared [] (y .name)) ≡ kindCo
 
 pub kind-other : (table : List ℕ) (r v q : ℕ) → (q ≡ r → ⊥) → kindAt (set table r v) q ≡ kindAt table q
 unfolding kindAt
-kind-other table r v q n = ap (λ d. if ltb q 256 then d else 0) (getD-set-other table r q v 0 n)
+kind-other table r v q n = ap (λ d. if ltb q maxNames then d else 0) (getD-set-other table r q v 0 n)
 
-kind-same : (table : List ℕ) (r v : ℕ) → r < 256 → length table ≡ 256 → kindAt (set table r v) r ≡ v
+kind-same : (table : List ℕ) (r v : ℕ) → r < maxNames → length table ≡ maxNames → kindAt (set table r v) r ≡ v
 unfolding kindAt
-kind-same table r v l n = pick (ltb r 256) _ _ (lt-ltb r 256 l) ∙ getD-set-same table r v 0 (omega arith)
+kind-same table r v l n = pick (ltb r maxNames) _ _ (lt-ltb r maxNames l) ∙ getD-set-same table r v 0 (omega arith)
 
 pub put-length : (declared : Names) (ys : Typings) (table : List ℕ) → length (put declared table ys) ≡ length table
 put-length declared [] table = refl
@@ -61,7 +61,8 @@ module _ (declared : Names) where
   has-put : (ys : Typings) (table : List ℕ) (y : Typing) → In declared (y .name) → All (λ (z : Typing). Beside (y .name) (z .name)) ys → Has declared table y → Has declared (put declared table ys) y
   has-put [] table y i a h = h
   has-put (z ∷ ys) table y i a h =
-      has-put ys (set table (reference declared [] (z .name)) (kindCode (z .kind))) y i (a .1) (has-kept table (z .name) (kindCode (z .kind)) y (a .0 .0) (i, apart-sym (z .name) (y .name) (a .0 .1)) h)
+      has-put ys (set table (reference declared [] (z .name)) (kindCode (z .kind))) y i (a .1)
+      (has-kept table (z .name) (kindCode (z .kind)) y (a .0 .0) (i, apart-sym (z .name) (y .name) (a .0 .1)) h)
 
   -- each name is another than those behind it
   abbrev Spread : Typings → Type 0
@@ -69,7 +70,8 @@ module _ (declared : Names) where
   Spread (y ∷ ys) = In declared (y .name) × All (λ (z : Typing). Beside (y .name) (z .name)) ys × Spread ys
 
 -- what holds of the names that lines declare holds of those with a fixed type
-values-names : (P : Token → Type 0) (is : List Identifier) (ns : Names) (ys : Typings) → (All P ns → All (λ (y : Typing). P (y .name)) ys) → All P (identifierNames is ++ ns) → All (λ (y : Typing). P (y .name)) (typedValues is ys)
+values-names : (P : Token → Type 0) (is : List Identifier) (ns : Names) (ys : Typings) → (All P ns → All (λ (y : Typing). P (y .name)) ys) → All P (identifierNames is ++ ns)
+    → All (λ (y : Typing). P (y .name)) (typedValues is ys)
 values-names P [] ns ys g h = g h
 values-names P (i ∷ is) ns ys g h = (h .0, values-names P is ns ys g (h .1))
 
@@ -84,12 +86,18 @@ fixed-names P (DeclarationLine (OfType u x) ∷ ls) h = (h .0, fixed-names P ls 
 fixed-names P (FormulaLine e ∷ ls) h = fixed-names P ls h
 
 module _ (declared : Names) where
-  spread-values : (is : List Identifier) (ls : List Line) → Distinct (identifierNames is ++ over declares ls) → All (In declared) (identifierNames is ++ over declares ls) → Spread declared (allFixed ls) → Spread declared (typedValues is (allFixed ls))
+  spread-values : (is : List Identifier) (ls : List Line) → Distinct (identifierNames is ++ over declares ls) → All (In declared) (identifierNames is ++ over declares ls)
+      → Spread declared (allFixed ls) → Spread declared (typedValues is (allFixed ls))
   spread-values [] ls d i s = s
-  spread-values (v ∷ is) ls d i s =
-      (i .0, values-names (Beside declared (v .name)) is (over declares ls) (allFixed ls) (fixed-names (Beside declared (v .name)) ls) (others declared (v .name) (identifierNames is ++ over declares ls) (d .0) (i .1)), spread-values is ls (d .1) (i .1) s)
+  spread-values (v ∷ is) ls d i s = (
+    i .0,
+    values-names (Beside declared (v .name)) is (over declares ls) (allFixed ls) (fixed-names (Beside declared (v .name)) ls)
+        (others declared (v .name) (identifierNames is ++ over declares ls) (d .0) (i .1)),
+    spread-values is ls (d .1) (i .1) s,
+  )
 
-  spread-one : (x : Token) (k : Kind) (ls : List Line) → Distinct (x ∷ over declares ls) → All (In declared) (x ∷ over declares ls) → Spread declared (allFixed ls) → Spread declared (record { name = x; kind = k } ∷ allFixed ls)
+  spread-one : (x : Token) (k : Kind) (ls : List Line) → Distinct (x ∷ over declares ls) → All (In declared) (x ∷ over declares ls) → Spread declared (allFixed ls)
+      → Spread declared (record { name = x; kind = k } ∷ allFixed ls)
   spread-one x k ls d i s = (i .0, fixed-names (Beside declared x) ls (others declared x (over declares ls) (d .0) (i .1)), s)
 
   spread : (ls : List Line) → Distinct (over declares ls) → All (In declared) (over declares ls) → Spread declared (allFixed ls)
@@ -98,8 +106,12 @@ module _ (declared : Names) where
   spread (DefinitionLine (Defined x e) ∷ ls) d i = spread ls (d .1) (i .1)
   spread (DefinitionLine (Enumerated x is) ∷ ls) d i =
       let ns = identifierNames is in
-      let s = spread ls (distinct-right ns (over declares ls) (d .1)) (all-right (In declared) ns (over declares ls) (i .1)) in
-      (i .0, values-names (Beside declared x) is (over declares ls) (allFixed ls) (fixed-names (Beside declared x) ls) (others declared x (ns ++ over declares ls) (d .0) (i .1)), spread-values is ls (d .1) (i .1) s)
+      let s = spread ls (distinct-right ns (over declares ls) (d .1)) (all-right (In declared) ns (over declares ls) (i .1)) in (
+        i .0,
+        values-names (Beside declared x) is (over declares ls) (allFixed ls) (fixed-names (Beside declared x) ls) (others declared x (ns ++ over declares ls) (d .0) (i .1)),
+        spread-values is ls
+            (d .1) (i .1) s,
+      )
   spread (DeclarationLine (OneSignal x) ∷ ls) d i = spread-one x AFormula ls d i (spread ls (d .1) (i .1))
   spread (DeclarationLine (OfWidth x e) ∷ ls) d i = spread-one x ABus ls d i (spread ls (d .1) (i .1))
   spread (DeclarationLine (OfType u x) ∷ ls) d i = spread-one x ABus ls d i (spread ls (d .1) (i .1))
@@ -107,18 +119,19 @@ module _ (declared : Names) where
 
 module _ (declared : Names) (few : length declared ≤ maxNames) where
   -- a declared name has room in the table
-  pub has-set : (table : List ℕ) (x : Token) (k : Kind) → In declared x → length table ≡ 256 → Has declared (set table (reference declared [] x) (kindCode k)) (record { name = x; kind = k })
+  pub has-set : (table : List ℕ) (x : Token) (k : Kind) → In declared x → length table ≡ maxNames → Has declared (set table (reference declared [] x) (kindCode k)) (record { name = x; kind = k })
   has-set table x k i l =
       let b = number-below declared x i in
       let e = reference-outside declared x in
       kind-same table (reference declared [] x) (kindCode k) (omega arith) l
 
-  put-has : (ys : Typings) (table : List ℕ) → length table ≡ 256 → Spread declared ys → All (Has declared (put declared table ys)) ys
+  put-has : (ys : Typings) (table : List ℕ) → length table ≡ maxNames → Spread declared ys → All (Has declared (put declared table ys)) ys
   put-has [] table l h = tt
   put-has (y ∷ ys) table l h =
       let next = set table (reference declared [] (y .name)) (kindCode (y .kind)) in
       (has-put declared ys next y (h .0) (h .1) (has-set table (y .name) (y .kind) (h .0) l), put-has ys next (length-set table (reference declared [] (y .name)) (kindCode (y .kind)) ∙ l) (h .2))
 
   -- all types that lines fix, once they are put down
-  pub fixed-put : (ls : List Line) (table : List ℕ) → length table ≡ 256 → Distinct (over declares ls) → All (In declared) (over declares ls) → All (Has declared (put declared table (allFixed ls))) (allFixed ls)
+  pub fixed-put : (ls : List Line) (table : List ℕ) → length table ≡ maxNames → Distinct (over declares ls) → All (In declared) (over declares ls)
+      → All (Has declared (put declared table (allFixed ls))) (allFixed ls)
   fixed-put ls table l d i = put-has (allFixed ls) table l (spread declared ls d i)

@@ -30,7 +30,8 @@ pub record Ran (refs w : List ℕ) (n i : ℕ) (p : Progress) (ks ss ts : List �
   pub agrees : Agrees (after refs w n i) p ks ss ts
   pub few : i ≤ n
 
-pub ran-none : (refs w : List ℕ) (n : ℕ) (ks ss ts : List ℕ) (p : Progress) → workBytes ≤ length w → length ks ≡ maxTokens → length ss ≡ maxTokens → ts ≡ declaredTable refs w n → p ≡ record { before = 0; top = 0; found = placed none } → Ran refs w n 0 p ks ss ts
+pub ran-none : (refs w : List ℕ) (n : ℕ) (ks ss ts : List ℕ) (p : Progress) → workBytes ≤ length w → length ks ≡ maxTokens → length ss ≡ maxTokens → ts ≡ declaredTable refs w n
+    → p ≡ record { before = 0; top = 0; found = placed none } → Ran refs w n 0 p ks ss ts
 ran-none refs w n ks ss ts p room l r d e =
     record {
       sized = record { room = room; few = omega (arith, ap (λ (q : Progress). q .top) e); kinds = l; starts = r; table = ap length d ∙ declared-size refs w n };
@@ -39,9 +40,15 @@ ran-none refs w n ks ss ts p room l r d e =
       few = omega arith;
     }
 
-pub ran-more : {refs w : List ℕ} {n i : ℕ} {p : Progress} {ks ss ts : List ℕ} (q : Progress) (ks′ ss′ ts′ : List ℕ) → Ran refs w n i p ks ss ts → Passes w i (namedCell refs w i) p q ks ss ts ks′ ss′ ts′ → i + 1 ≤ n → Ran refs w n (i + 1) q ks′ ss′ ts′
+pub ran-more : {refs w : List ℕ} {n i : ℕ} {p : Progress} {ks ss ts : List ℕ} (q : Progress) (ks′ ss′ ts′ : List ℕ) → Ran refs w n i p ks ss ts
+    → Passes w i (namedCell refs w i) p q ks ss ts ks′ ss′ ts′ → i + 1 ≤ n → Ran refs w n (i + 1) q ks′ ss′ ts′
 ran-more {refs} {w} {n} {i} q ks′ ss′ ts′ r h few =
-    record { sized = h .sized; agrees = subst (λ (s : State). Agrees s q ks′ ss′ ts′) (sym (passed-more step (namedCell refs w) (state (declaredTable refs w n) 0 [] none) i)) (h .steps (after refs w n i) (r .agrees)); few = few }
+    record {
+      sized = h .sized;
+      agrees = subst (λ (s : State). Agrees s q ks′ ss′ ts′) (sym (passed-more step (namedCell refs w) (state (declaredTable refs w n) 0 [] none) i))
+          (h .steps (after refs w n i) (r .agrees));
+      few = few;
+    }
 
 -- The answer, whatever tree the buffer holds, if its names are resolved.
 unfoldable pub WrongType : List ℕ → List ℕ → ℕ → Place → Type 0

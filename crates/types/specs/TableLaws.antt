@@ -16,6 +16,7 @@ use Rattle.language.specs.Names.{Names}
 use Rattle.language.specs.Types.{ANumber, AFormula, ABus, AValue, AType, kindCode, Typings, typedValues}
 use Rattle.language.specs.Laws.Basics.Lists.{All}
 use Rattle.language.specs.Laws.Grammar.Braces.{Proper}
+use Rattle.language.specs.Limits.{maxNames}
 use Rattle.entries.specs.Kinds as EntryKind
 use Rattle.entries.specs.Flat.{Entry, flat, under, leaf, each, flatIdentifier, outline}
 use Rattle.names.specs.Walkable.{names}
@@ -73,7 +74,19 @@ nowhere-wrong (q ∷ qs) = nowhere-wrong qs
 
 module _ (declared : Names) (table : List ℕ) where
   abbrev pass : Pass (Unit {0}) Names (Unit {0}) (List ℕ) (Resolved declared)
-  pass = record { bind = kept; along = openAfter; leaves = openPast; step = declare; state = λ _ _ _. table; value = λ _. tt; bad = λ _. none; node = λ _ _. tt; fault = λ _ _. none; Good = λ _ _. Unit {0} }
+  pass = record {
+    bind = kept;
+    along = openAfter;
+    leaves = openPast;
+    step = declare;
+    state = λ _ _ _. table;
+    value = λ _. tt;
+    bad = λ _. none;
+    node = λ _ _. tt;
+    fault = λ _ _. none;
+    Good = λ _ _.
+        Unit {0};
+  }
 
   works : Works pass
   works =
@@ -93,7 +106,8 @@ module _ (declared : Names) (cell : ℕ → Cell) where
   To es i table rs table′ = Comes openAfter (Resolved declared) declare cell es i table [] rs table′
 
   -- what an entry with this kind puts down
-  sets : {c : Cell} {k n : ℕ} {t : Token} (v : ℕ) (table : List ℕ) → getD declaring k 0 ≡ v → (v ≡ 8 → ⊥) → names k ≡ true → Sees (Resolved declared []) c (record { kind = k; token = some t; size = n }) → declare c table ≡ set table (reference declared [] t) v
+  sets : {c : Cell} {k n : ℕ} {t : Token} (v : ℕ) (table : List ℕ) → getD declaring k 0 ≡ v → (v ≡ 8 → ⊥) → names k ≡ true
+      → Sees (Resolved declared []) c (record { kind = k; token = some t; size = n }) → declare c table ≡ set table (reference declared [] t) v
   sets {c} v table q u n z =
       let e : getD declaring (c .kind) 0 ≡ v = ap (λ j. getD declaring j 0) (z .kind) ∙ q in
       sym (declares-set c table v (λ w. u (sym e ∙ w)) (sym e)) ∙ ap (λ r. set table r v) (z .token .refers n)
@@ -123,7 +137,8 @@ module _ (declared : Names) (cell : ℕ → Cell) where
       let a = over-one _ (refl, refl) table table (λ c z. skips table refl z) (each (leaf EntryKind.word) ws ++ es) i h in
       further a (over-words ws table es (a .place) (a .seen))
 
-  over-identifiers : (is : List Identifier) (table : List ℕ) (es : List Entry) (i : ℕ) → Sight i (each flatIdentifier is ++ es) → To (each flatIdentifier is ++ es) i table es (put declared table (typedValues is []))
+  over-identifiers : (is : List Identifier) (table : List ℕ) (es : List Entry) (i : ℕ) → Sight i (each flatIdentifier is ++ es)
+      → To (each flatIdentifier is ++ es) i table es (put declared table (typedValues is []))
   over-identifiers [] table es i h = record { place = i; seen = h; runs = refl }
   over-identifiers (d ∷ is) table es i h =
       let W = each (leaf EntryKind.word) (d .words) in
@@ -155,7 +170,8 @@ module _ (declared : Names) (cell : ℕ → Cell) where
   line-to table (DefinitionLine (Defined x e)) p = over-line EntryKind.definition (some x) e (refl, refl) p table table (λ c z. skips table refl z)
   line-to table (DefinitionLine (Enumerated x is)) p =
       λ es i h.
-      let a = over-one _ (refl, refl) table (set table (reference declared [] x) (kindCode AType)) (λ c z. sets (kindCode AType) table refl (λ q. omega arith) refl z) (each flatIdentifier is ++ es) i h in
+      let a = over-one _ (refl, refl) table (set table (reference declared [] x) (kindCode AType)) (λ c z. sets (kindCode AType) table refl (λ q. omega arith) refl z) (each flatIdentifier is ++ es) i
+      h in
       further a (over-identifiers is _ es (a .place) (a .seen))
   line-to table (DeclarationLine (OneSignal x)) p = over-one _ (refl, refl) table _ (λ c z. sets (kindCode AFormula) table refl (λ q. omega arith) refl z)
   line-to table (DeclarationLine (OfWidth x e)) p = over-line EntryKind.bus (some x) e (refl, refl) (p .1) table _ (λ c z. sets (kindCode ABus) table refl (λ q. omega arith) refl z)
@@ -202,6 +218,8 @@ module _ (declared : Names) where
   put-lines (l ∷ ls) table = put-lines ls (put declared table (fixed l [])) ∙ put-line l table (allFixed ls)
 
   -- the table that the code makes first
-  pub table-first : (refs w : List ℕ) (ts : Tokens) (n : ℕ) (x : Spec) → SeenAlong openAfter (Resolved declared) (namedCell refs w) [] 0 (outline x) → TreeStored w ts n x → declaredTable refs w n ≡ put declared (replicate 256 0) (allFixed (allLines x))
+  pub table-first : (refs w : List ℕ) (ts : Tokens) (n : ℕ) (x : Spec) → SeenAlong openAfter (Resolved declared) (namedCell refs w) [] 0 (outline x) → TreeStored w ts n x
+      → declaredTable refs w n ≡ put declared (replicate maxNames 0) (allFixed (allLines x))
   table-first refs w ts n x seen t =
-      passed-all declare (namedCell refs w) (replicate 256 0) (outline x) n (t .count) ∙ lines-to declared (namedCell refs w) x (replicate 256 0) (proper-lines x (t .proper)) seen ∙ put-lines (allLines x) (replicate 256 0)
+      passed-all declare (namedCell refs w) (replicate maxNames 0) (outline x) n (t .count) ∙ lines-to declared (namedCell refs w) x (replicate maxNames 0) (proper-lines x (t .proper)) seen ∙
+      put-lines (allLines x) (replicate maxNames 0)

@@ -14,7 +14,28 @@ use Rattle.language.specs.Tree.{Expr, Named, Identifier, Defined, Enumerated, O
 use Rattle.language.specs.Grammar.{Tokens}
 use Rattle.language.specs.Places.{start, first, unless, Entry as Line, ParameterLine, DefinitionLine, DeclarationLine, FormulaLine, allLines}
 use Rattle.language.specs.Names.{Names}
-use Rattle.language.specs.Types.{Kind, ANumber, ASet, AFormula, ABus, AValue, AType, Unknown, kindCode, Typings, withNumber, kindOf as typeOf, wrong, mistyped, demanded, definable, mistypedLine, typedSignals, mistypedLines, wrongType}
+use Rattle.language.specs.Types.{
+  Kind,
+  ANumber,
+  ASet,
+  AFormula,
+  ABus,
+  AValue,
+  AType,
+  Unknown,
+  kindCode,
+  Typings,
+  withNumber,
+  kindOf as typeOf,
+  wrong,
+  mistyped,
+  demanded,
+  definable,
+  mistypedLine,
+  typedSignals,
+  mistypedLines,
+  wrongType,
+}
 use Rattle.language.specs.Laws.Basics.Lists.{All}
 use Rattle.language.specs.Laws.Basics.Tests.{pick, leave}
 use Rattle.language.specs.Laws.Grammar.Braces.{Proper}
@@ -42,7 +63,8 @@ use Rattle.types.specs.NodeLaws.{value, bad, Good, inherits, values}
 use Rattle.types.specs.FaultLaws.{faults}
 
 -- with the operands xs on the stack
-steps : (table : List ℕ) (c : Cell) (before : ℕ) (s xs : List Operand) (f : Option ℕ) → operands before c ≡ length xs → step c (state table before (s ++ xs) f) ≡ stepped c (state table before (s ++ xs) f) (length s)
+steps : (table : List ℕ) (c : Cell) (before : ℕ) (s xs : List Operand) (f : Option ℕ) → operands before c ≡ length xs
+    → step c (state table before (s ++ xs) f) ≡ stepped c (state table before (s ++ xs) f) (length s)
 unfolding step
 steps table c before s xs f n =
     let m : length (s ++ xs) - operands before c ≡ length s = omega (arith, length-append s xs) in
@@ -72,7 +94,19 @@ line-steps table c before xs f i n =
 
 module _ (declared : Names) (table : List ℕ) where
   abbrev pass : Pass Typings Names Operand State (Resolved declared)
-  pass = record { bind = withNumber; along = openAfter; leaves = openPast; step = step; state = state table; value = value; bad = bad; node = node table; fault = fault table; Good = Good declared table }
+  pass = record {
+    bind = withNumber;
+    along = openAfter;
+    leaves = openPast;
+    step = step;
+    state = state table;
+    value = value;
+    bad = bad;
+    node = node table;
+    fault = fault table;
+    Good = Good declared
+        table;
+  }
 
   works : Works pass
   works = record { steps = part-steps table; inherits = inherits declared table; carries = carries withNumber; values = values declared table; faults = faults declared table }
@@ -119,7 +153,8 @@ module _ (declared : Names) (cell : ℕ → Cell) where
       ∙ ap (λ m. first m (wrongAt k (kindsOf xs) (startsOf xs))) (unindexed k (kindAt table (referenceOf (c .token))) (placeOf (c .token)) (λ z. omega (arith, o)))
 
   -- a line with an expression
-  held : (k : ℕ) (t : Option Token) (x y : Context) (e : Expr) (w : Option ℕ) → Shut k → ltb k firstLine ≡ false → eqb k EntryKind.element ≡ false → eqb k EntryKind.listed ≡ false → getD arities k 0 ≡ 1 → getD otherTakes k 0 ≡ 8
+  held : (k : ℕ) (t : Option Token) (x y : Context) (e : Expr) (w : Option ℕ) → Shut k → ltb k firstLine ≡ false → eqb k EntryKind.element ≡ false → eqb k EntryKind.listed ≡ false
+      → getD arities k 0 ≡ 1 → getD otherTakes k 0 ≡ 8
       → wrongAt k (kindCode (typeOf (x .names) e) ∷ []) (start e ∷ []) ≡ w
       → ((c : Cell) → Sees (Resolved declared []) c (record { kind = k; token = t; size = suc (length (flat e)) }) → tableAfter (x .table) c (value (Whole (x .names) e) ∷ []) ≡ y .table)
       → Proper false e → Known declared [] (x .table) (x .names) e
@@ -144,7 +179,8 @@ module _ (declared : Names) (cell : ℕ → Cell) where
           step c (state (x .table) (kindOf (Whole (x .names) e)) (value (Whole (x .names) e) ∷ []) (first f (mistyped (x .names) e))) ≡ idle y (c .kind) (first f (first w (mistyped (x .names) e)))
       at-line c z =
           let v = value (Whole (x .names) e) ∷ [] in
-          line-steps (x .table) c (kindOf (Whole (x .names) e)) v (first f (mistyped (x .names) e)) (ap (λ j. ltb j firstLine) (z .kind) ∙ out) (fixed-operands k (kindOf (Whole (x .names) e)) c (z .kind) other unlisted arity)
+          line-steps (x .table) c (kindOf (Whole (x .names) e)) v (first f (mistyped (x .names) e)) (ap (λ j. ltb j firstLine) (z .kind) ∙ out)
+          (fixed-operands k (kindOf (Whole (x .names) e)) c (z .kind) other unlisted arity)
           ∙ ap₂ (λ u g. state u (c .kind) [] (first (first f (mistyped (x .names) e)) g)) (ht c z) (quiet (x .table) c k v (z .kind) free ∙ hw)
           ∙ ap (state (y .table) (c .kind) []) (first-assoc f (mistyped (x .names) e) w ∙ ap (first f) (first-comm (mistyped (x .names) e) w))
 
@@ -152,16 +188,19 @@ module _ (declared : Names) (cell : ℕ → Cell) where
   abbrev Lonely : ℕ → Type 0
   Lonely j = Alone openAfter (Resolved declared) [] cell step idle (next declared) badLine GoodLine j
 
-  alone : (j : ℕ) → Shut j → ltb j firstLine ≡ false → eqb j EntryKind.element ≡ false → eqb j EntryKind.listed ≡ false → getD arities j 0 ≡ 0 → Takes j 8 8 → eqb j EntryKind.definition ≡ false → Lonely j
+  alone : (j : ℕ) → Shut j → ltb j firstLine ≡ false → eqb j EntryKind.element ≡ false → eqb j EntryKind.listed ≡ false → getD arities j 0 ≡ 0 → Takes j 8 8 → eqb j EntryKind.definition ≡ false
+      → Lonely j
   alone j shut out other unlisted arity free plain = record { steps = steps′; stays = shut-stays shut }
     where
       steps′ : (c : Cell) (k : Context) (before : ℕ) (f : Option ℕ) → c .kind ≡ j → step c (idle k before f) ≡ idle k (c .kind) f
       steps′ c k before f e =
           line-steps (k .table) c before [] f (ap (λ n. ltb n firstLine) e ∙ out) (fixed-operands j before c e other unlisted arity)
-          ∙ ap₂ (λ t g. state t (c .kind) [] (first f g)) (same-table (k .table) c [] (λ z. eqb-false j _ plain (sym e ∙ z))) (quiet (k .table) c j [] e (free .others) ∙ none-wrong free (λ z. omega arith))
+          ∙ ap₂ (λ t g. state t (c .kind) [] (first f g)) (same-table (k .table) c [] (λ z. eqb-false j _ plain (sym e ∙ z)))
+          (quiet (k .table) c j [] e (free .others) ∙ none-wrong free (λ z. omega arith))
           ∙ ap (state (k .table) (c .kind) []) (first-none f)
 
-  same-after : (k : ℕ) (t : Option Token) (n : ℕ) (table : List ℕ) (xs : List Operand) → eqb k EntryKind.definition ≡ false → (c : Cell) → Sees (Resolved declared []) c (record { kind = k; token = t; size = n }) → tableAfter table c xs ≡ table
+  same-after : (k : ℕ) (t : Option Token) (n : ℕ) (table : List ℕ) (xs : List Operand) → eqb k EntryKind.definition ≡ false → (c : Cell)
+      → Sees (Resolved declared []) c (record { kind = k; token = t; size = n }) → tableAfter table c xs ≡ table
   same-after k t n table xs h c z = same-table table c xs (λ e. eqb-false k _ h (sym (z .kind) ∙ e))
 
   -- a definition's type is put down
@@ -172,7 +211,8 @@ module _ (declared : Names) (cell : ℕ → Cell) where
 
   by : (k : Context) (us es : List Entry) → All (λ e. Lonely (e .kind)) us →
       (i before : ℕ) (f : Option ℕ) → Sight i (us ++ es) → Comes (us ++ es) i (idle k before f) es k (first f none)
-  by k us es a i before f h = subst (Comes (us ++ es) i (idle k before f) es k) (sym (first-none f)) (alone-done openAfter (Resolved declared) [] cell step idle (next declared) badLine GoodLine us es a k i before f h)
+  by k us es a i before f h = subst (Comes (us ++ es) i (idle k before f) es k) (sym (first-none f))
+      (alone-done openAfter (Resolved declared) [] cell step idle (next declared) badLine GoodLine us es a k i before f h)
 
   free : (k : ℕ) → getD otherTakes k 0 ≡ 8 → getD lastTakes k 0 ≡ 8 → eqb k EntryKind.element ≡ false → Takes k 8 8
   free k o l e = record { others = o; final = l; plain = e }
@@ -183,11 +223,13 @@ module _ (declared : Names) (cell : ℕ → Cell) where
       (alone EntryKind.word (refl, refl) refl refl refl refl (free _ refl refl refl) refl) is
 
   -- a line whose expression must have the type K
-  demands : (k : ℕ) (t : Option Token) (x y : Context) (e : Expr) (K : Kind) → Shut k → ltb k firstLine ≡ false → eqb k EntryKind.element ≡ false → eqb k EntryKind.listed ≡ false → getD arities k 0 ≡ 1 → Takes k 8 (kindCode K)
+  demands : (k : ℕ) (t : Option Token) (x y : Context) (e : Expr) (K : Kind) → Shut k → ltb k firstLine ≡ false → eqb k EntryKind.element ≡ false → eqb k EntryKind.listed ≡ false
+      → getD arities k 0 ≡ 1 → Takes k 8 (kindCode K)
       → eqb k EntryKind.definition ≡ false → x .table ≡ y .table → Proper false e → Known declared [] (x .table) (x .names) e
       → (es : List Entry) (i before : ℕ) (f : Option ℕ) → Sight i (under k t (flat e) ++ es) → Comes (under k t (flat e) ++ es) i (idle x before f) es y (first f (demanded K (x .names) e))
   demands k t x y e K shut out other unlisted arity takes plain same p g =
-      held k t x y e (wrong K (x .names) e) shut out other unlisted arity (takes .others) (one-wrong K _ _ takes (λ z. omega arith)) (λ c z. same-after k t _ (x .table) (value (Whole (x .names) e) ∷ []) plain c z ∙ same) p g
+      held k t x y e (wrong K (x .names) e) shut out other unlisted arity (takes .others) (one-wrong K _ _ takes (λ z. omega arith))
+      (λ c z. same-after k t _ (x .table) (value (Whole (x .names) e) ∷ []) plain c z ∙ same) p g
 
   line-done : (k : Context) (l : Line) → GoodLine k l → (es : List Entry) (i before : ℕ) (f : Option ℕ) → Sight i (entriesOf l ++ es) →
       Comes (entriesOf l ++ es) i (idle k before f) es (next declared k l) (first f (mistypedLine (k .names) l))
@@ -197,17 +239,20 @@ module _ (declared : Names) (cell : ℕ → Cell) where
       (λ c z. defined-after x _ _ (start e) (k .table) c z) (g .0) (g .1)
   line-done k (DefinitionLine (Enumerated x is)) g =
       λ es i before f h.
-      let past = by k (leaf EntryKind.enumeration x ++ each flatIdentifier is) es (alone EntryKind.enumeration (refl, refl) refl refl refl refl (free _ refl refl refl) refl, names-alone is) i before f h in
+      let past = by k (leaf EntryKind.enumeration x ++ each flatIdentifier is) es (alone EntryKind.enumeration (refl, refl) refl refl refl refl (free _ refl refl refl) refl, names-alone is) i before
+      f h in
       record { before = past .before; comes = past .comes }
   line-done k (DeclarationLine (OneSignal x)) g = λ es. by k (leaf EntryKind.signal x) es (alone EntryKind.signal (refl, refl) refl refl refl refl (free _ refl refl refl) refl, tt)
-  line-done k (DeclarationLine (OfWidth x e)) g = demands EntryKind.bus (some x) k _ e ANumber (refl, refl) refl refl refl refl (record { others = refl; final = refl; plain = refl }) refl refl (g .0 .1) (g .1)
+  line-done k (DeclarationLine (OfWidth x e)) g = demands EntryKind.bus (some x) k _ e ANumber (refl, refl) refl refl refl refl (record { others = refl; final = refl; plain = refl }) refl refl
+      (g .0 .1) (g .1)
   line-done k (DeclarationLine (OfType u x)) g =
       λ es i before f h. subst (Comes (entriesOf (DeclarationLine (OfType u x)) ++ es) i (idle k before f) es k) (ap (first f) (first-none (wrong AType (k .names) (Named u))))
       (demands EntryKind.typed (some x) k k (Named u) AType (refl, refl) refl refl refl refl (record { others = refl; final = refl; plain = refl }) refl refl (refl, g .0 .0) (g .1) es i before f h)
   line-done k (FormulaLine e) g = demands EntryKind.line none k _ e AFormula (refl, refl) refl refl refl refl (record { others = refl; final = refl; plain = refl }) refl refl (g .0) (g .1)
 
 -- the lines' places
-good-lines : (declared : Names) (k : Context) (ls : List Line) → All ProperLine ls → Each (next declared) (KnownLine declared) k ls → Each (next declared) (λ k l. ProperLine l × KnownLine declared k l) k ls
+good-lines : (declared : Names) (k : Context) (ls : List Line) → All ProperLine ls → Each (next declared) (KnownLine declared) k ls
+    → Each (next declared) (λ k l. ProperLine l × KnownLine declared k l) k ls
 good-lines declared k [] p g = tt
 good-lines declared k (l ∷ ls) p g = ((p .0, g .0), good-lines declared (next declared k l) ls (p .1) (g .1))
 
@@ -216,9 +261,12 @@ first-wrong declared k [] = refl
 first-wrong declared k (l ∷ ls) = ap (first (mistypedLine (k .names) l)) (first-wrong declared (next declared k l) ls)
 
 -- refusal 9
-pub finds-wrong : (declared : Names) (cell : ℕ → Cell) (w : List ℕ) (ts : Tokens) (n : ℕ) (x : Spec) (table : List ℕ) → SeenAlong openAfter (Resolved declared) cell [] 0 (outline x) → TreeStored w ts n x → KindsKnown declared table x →
+pub finds-wrong : (declared : Names) (cell : ℕ → Cell) (w : List ℕ) (ts : Tokens) (n : ℕ) (x : Spec) (table : List ℕ) → SeenAlong openAfter (Resolved declared) cell [] 0 (outline x)
+    → TreeStored w ts n x → KindsKnown declared table x →
     passed step cell (state table 0 [] none) n .found ≡ wrongType x
 finds-wrong declared cell w ts n x table seen t known =
     let k : Context = record { table = table; names = typedSignals (allLines x) } in
-    let ends = text-holds openAfter (Resolved declared) [] cell step (λ k before f. state (k .table) before [] f) (next declared) (λ k l. mistypedLine (k .names) l) (λ k l. ProperLine l × KnownLine declared k l) (line-done declared cell) (alone declared cell EntryKind.heading (refl, refl) refl refl refl refl (free declared cell _ refl refl refl) refl) x k 0 0 none (good-lines declared k (allLines x) (proper-lines x (t .proper)) (known .lines)) seen in
+    let ends = text-holds openAfter (Resolved declared) [] cell step (λ k before f. state (k .table) before [] f) (next declared) (λ k l. mistypedLine (k .names) l)
+    (λ k l. ProperLine l × KnownLine declared k l) (line-done declared cell) (alone declared cell EntryKind.heading (refl, refl) refl refl refl refl (free declared cell _ refl refl refl) refl) x
+    k 0 0 none (good-lines declared k (allLines x) (proper-lines x (t .proper)) (known .lines)) seen in
     ap (λ (s : State). s .found) (passed-all step cell (state table 0 [] none) (outline x) n (t .count) ∙ ends .runs) ∙ first-wrong declared k (allLines x)

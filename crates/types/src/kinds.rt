@@ -1,5 +1,6 @@
 // What an entry gives and what it takes, by its kind. The functions are the pass's own: it has bounded what they ask for.
-use traversal::ELEMENT;
+use basics::u8_u32::wide;
+use entries::kinds::ELEMENT;
 use traversal::Place;
 use traversal::first_of;
 ghost use mathlib.Core.Path.{_≡_};
@@ -52,12 +53,6 @@ const OTHER_TAKES: [u8; 64] = *b"\
 const EQUATION: u8 = 10;
 
 const INDEX: u8 = 11;
-
-pub fn wide(x: u8) -> u32
-    ensures { λ r. ⌜ r ≡ x ⌝ }
-{
-    x as u32
-}
 
 pub fn gives_of(kind: u32, name: u32, operand: u32) -> u32
     requires { ⌜ kind < 64 ⌝ }

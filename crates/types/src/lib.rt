@@ -10,7 +10,9 @@ use crate::table::declare_all;
 use crate::table::define;
 use crate::table::kind_at;
 use crate::table::named_cell;
-use traversal::FIRST_LINE;
+use entries::kinds::LINES;
+use language::limits;
+use lexer::fields::OFFSETS;
 use traversal::Place;
 use traversal::first_of;
 use traversal::less;
@@ -28,7 +30,7 @@ ghost use Rattle.types.specs.Progress.{Sized, Passes};
 fn place_of(word: u32) -> u32
     ensures { λ r. ⌜ r ≡ placeOf word ⌝ }
 {
-    word % 65536
+    word % OFFSETS
 }
 
 // The kind of the entry before, how many operands are on the stack, and the first place found.
@@ -49,7 +51,8 @@ fn pass(
     table: &mut [u32],
 ) -> Progress
     requires { ⌜ Sized (now work) i p (now kinds) (now starts) (now table) × (i < maxTokens) × (maxTokens ≤ length (now refs)) ⌝ }
-    ensures { λ r. ⌜ Passes (now (work .entry)) i (namedCell (now (refs .entry)) (now (work .entry)) i) p r (now (kinds .entry)) (now (starts .entry)) (now (table .entry)) (now (kinds .exit)) (now (starts .exit)) (now (table .exit)) ⌝ }
+    ensures { λ r. ⌜ Passes (now (work .entry)) i (namedCell (now (refs .entry)) (now (work .entry)) i) p r (now (kinds .entry)) (now (starts .entry)) (now (table .entry)) (now (kinds .exit))
+        (now (starts .exit)) (now (table .exit)) ⌝ }
 {
     let c = named_cell(work, refs, i);
     let kind = c.kind;
@@ -65,7 +68,7 @@ fn pass(
     let before = p.found;
     let found = before.first(wrong);
     define(table, kind, token, operand);
-    if kind < FIRST_LINE {
+    if kind < LINES {
         kinds[below] = gives_of(kind, name, operand);
         starts[below] = start_of(kind, place, start);
         return Progress {
@@ -86,9 +89,9 @@ pub fn wrong_type(work: &[u8], refs: &[u16], entries: usize) -> Place
     requires { ⌜ (workBytes ≤ length (now work)) × (entries ≤ maxTokens) × (maxTokens ≤ length (now refs)) ⌝ }
     ensures { λ r. ⌜ WrongType (now (refs .entry)) (now (work .entry)) entries r ⌝ }
 {
-    let mut kinds = [0u32; 8192];
-    let mut starts = [0u32; 8192];
-    let mut table = [0u32; 256];
+    let mut kinds = [0u32; limits::MAX_TOKENS];
+    let mut starts = [0u32; limits::MAX_TOKENS];
+    let mut table = [0u32; limits::MAX_NAMES];
     declare_all(work, refs, entries, &mut table);
     let mut p = Progress {
         before: 0,

@@ -1,12 +1,16 @@
 // The types of declared names by their references. The functions are the pass's own: it has bounded what they ask for.
 use crate::kinds::NUMBER;
-use crate::kinds::wide;
+use basics::u8_u32::wide;
+use entries::kinds::DEFINITION;
+use language::limits;
+use lexer::fields::LENGTHS;
+use lexer::fields::OFFSETS;
 use traversal::Cell;
 use traversal::cell_at;
 ghost use mathlib.Core.Path.{_≡_};
 ghost use Prim.Native.Nat.{_≤_, _<_};
 ghost use lib.ListN.{length};
-ghost use Rattle.language.specs.Limits.{maxTokens, workBytes};
+ghost use Rattle.language.specs.Limits.{maxTokens, maxNames, workBytes};
 ghost use Rattle.traversal.specs.Passed.{passed};
 ghost use Rattle.types.specs.Cells.{namedCell};
 ghost use Rattle.types.specs.Kinds.{referenceOf, kindAt};
@@ -21,12 +25,6 @@ const DECLARING: [u8; 64] = *b"\
     \x08\x08\x08\x08\x08\x08\x00\x08\x05\x04\x08\x02\x03\x03\x08\x08";
 
 const UNDECLARED: u8 = 8;
-
-// The kind of a definition's line.
-const DEFINITION: u32 = 55;
-
-// References from here on are those of big operators' names.
-const DECLARED: usize = 256;
 
 fn wide_reference(x: u16) -> u32
     ensures { λ r. ⌜ (r ≡ x) × (r < 65536) ⌝ }
@@ -43,17 +41,17 @@ pub fn named_cell(work: &[u8], refs: &[u16], i: usize) -> Cell
     let reference = wide_reference(refs[i]);
     Cell {
         kind: c.kind,
-        token: reference * 65536 + c.token / 256 % 65536,
+        token: reference * OFFSETS + c.token / LENGTHS % OFFSETS,
         size: c.size,
     }
 }
 
 pub fn kind_at(table: &[u32], word: u32) -> u32
-    requires { ⌜ length (now table) ≡ 256 ⌝ }
+    requires { ⌜ length (now table) ≡ maxNames ⌝ }
     ensures { λ r. ⌜ r ≡ kindAt (now (table .entry)) (referenceOf word) ⌝ }
 {
-    let reference = (word / 65536) as usize;
-    if reference < DECLARED {
+    let reference = (word / OFFSETS) as usize;
+    if reference < limits::MAX_NAMES {
         table[reference]
     } else {
         NUMBER
@@ -62,12 +60,12 @@ pub fn kind_at(table: &[u32], word: u32) -> u32
 
 // Puts down the type of a name; of a definition's line that of its expression.
 pub fn define(table: &mut [u32], kind: u32, word: u32, operand: u32)
-    requires { ⌜ length (now table) ≡ 256 ⌝ }
+    requires { ⌜ length (now table) ≡ maxNames ⌝ }
     ensures { λ _. ⌜ now (table .exit) ≡ tableOf (now (table .entry)) kind word operand ⌝ }
 {
     if kind == DEFINITION {
-        let reference = (word / 65536) as usize;
-        if reference < DECLARED {
+        let reference = (word / OFFSETS) as usize;
+        if reference < limits::MAX_NAMES {
             table[reference] = operand;
         }
     }
@@ -75,22 +73,22 @@ pub fn define(table: &mut [u32], kind: u32, word: u32, operand: u32)
 
 // Puts down the type of the name that an entry declares.
 fn declare(c: Cell, table: &mut [u32])
-    requires { ⌜ (c .kind < 64) × (length (now table) ≡ 256) ⌝ }
+    requires { ⌜ (c .kind < 64) × (length (now table) ≡ maxNames) ⌝ }
     ensures { λ _. ⌜ now (table .exit) ≡ declare' c (now (table .entry)) ⌝ }
 {
     let kind = DECLARING[c.kind as usize];
     if kind == UNDECLARED {
         return;
     }
-    let reference = (c.token / 65536) as usize;
-    if reference < DECLARED {
+    let reference = (c.token / OFFSETS) as usize;
+    if reference < limits::MAX_NAMES {
         table[reference] = wide(kind);
     }
 }
 
 // Puts down the types of all names that the entries declare, but definitions'.
 pub fn declare_all(work: &[u8], refs: &[u16], entries: usize, table: &mut [u32])
-    requires { ⌜ (workBytes ≤ length (now work)) × (entries ≤ maxTokens) × (length (now table) ≡ 256) × (maxTokens ≤ length (now refs)) ⌝ }
+    requires { ⌜ (workBytes ≤ length (now work)) × (entries ≤ maxTokens) × (length (now table) ≡ maxNames) × (maxTokens ≤ length (now refs)) ⌝ }
     ensures { λ _. ⌜ now (table .exit) ≡ passed declare' (namedCell (now (refs .entry)) (now (work .entry))) (now (table .entry)) entries ⌝ }
 {
     let mut i = 0;

@@ -99,11 +99,13 @@ module _ (W : World) (limit : ℕ) (declared : Names) where
           })
 
   -- a name that is used
-  fits-name : (refs : List ℕ) (bs : Names) (env : List ℕ) (ns : Names) (c : Context) → Fits W limit declared bs env ns c → (k : ℕ) (t : Token) → getD refs k 0 ≡ reference declared bs t → hidden ns t ≡ none → Uses W limit env (getD refs k 0) t c
+  fits-name : (refs : List ℕ) (bs : Names) (env : List ℕ) (ns : Names) (c : Context) → Fits W limit declared bs env ns c → (k : ℕ) (t : Token) → getD refs k 0 ≡ reference declared bs t
+      → hidden ns t ≡ none → Uses W limit env (getD refs k 0) t c
   fits-name refs bs env ns c h k t r y = subst (λ m. Uses W limit env m t c) (sym r) (h .uses t (unless-none (visible ns t) (t .at) y))
 
   module _ (refs : List ℕ) where
-    pub agrees : (bs : Names) (env : List ℕ) (ns : Names) (c : Context) → Fits W limit declared bs env ns c → (k : ℕ) (e : Expr) → Refers refs declared bs k e → walk hidden nowhere ns e ≡ none → Agrees W refs limit env c k e
+    pub agrees : (bs : Names) (env : List ℕ) (ns : Names) (c : Context) → Fits W limit declared bs env ns c → (k : ℕ) (e : Expr) → Refers refs declared bs k e → walk hidden nowhere ns e ≡ none
+        → Agrees W refs limit env c k e
     agrees bs env ns c h k (Named t) r y = fits-name refs bs env ns c h k t r y
     agrees bs env ns c h k (Numeral t) r y = tt
     agrees bs env ns c h k (Truth t b) r y = tt

@@ -39,7 +39,8 @@ all-mapped P f [] h = tt
 all-mapped P f (a ∷ l) h = (h a, all-mapped P f l h)
 
 -- what holds of the meaning of every declared name
-pub world-all : (P : Meaning → Type 0) → P NoValue → (x : Spec) (ps : List Port) (d : Table) → ((n : Token) → P (meaning ps d (definitionsStart x) (x .definitions) n)) → (r : ℕ) → P (meaningAt (worldIn x ps d) r)
+pub world-all : (P : Meaning → Type 0) → P NoValue → (x : Spec) (ps : List Port) (d : Table) → ((n : Token) → P (meaning ps d (definitionsStart x) (x .definitions) n)) → (r : ℕ)
+    → P (meaningAt (worldIn x ps d) r)
 world-all P none x ps d h r =
     numbered-all (λ m. P (m .1)) ([], NoValue) (worldIn x ps d) r none (all-mapped (λ m. P (m .1)) (λ n. (n .text, meaning ps d (definitionsStart x) (x .definitions) n)) (declaredNames x) h)
 
@@ -48,14 +49,16 @@ module _ (P : ℕ → Context → Expr → Type 0) where
   table-of (Done v) = tt
   table-of (Refused n p) = tt
 
-  pub world-of : (x : Spec) (ps : List Port) (d : Table) → ((n : Token) (m : Meaning) → OfDefinition P m → OfDefinition P (behind (contextOf ps d) (definitionsStart x) (x .definitions) n m)) → (r k : ℕ) (c : Context) (e : Expr) → meaningAt (worldIn x ps d) r ≡ Defines k c e → P k c e
+  pub world-of : (x : Spec) (ps : List Port) (d : Table) → ((n : Token) (m : Meaning) → OfDefinition P m → OfDefinition P (behind (contextOf ps d) (definitionsStart x) (x .definitions) n m))
+      → (r k : ℕ) (c : Context) (e : Expr) → meaningAt (worldIn x ps d) r ≡ Defines k c e → P k c e
   world-of x ps d h r k c e q = subst (OfDefinition P) q (world-all (OfDefinition P) tt x ps d (λ n. h n _ (table-of (find d (n .text)))) r)
 
 module _ (x : Spec) (text w refs : List ℕ) (ps : List Port) (d : Table) where
   abbrev KnownThere : ℕ → Context → Expr → Type 0
   KnownThere k c e = Known (tokens text) w refs (worldIn x ps d) [] c false k e
 
-  behind-known : (n : Token) (before ds : List Definition) (start : ℕ) (m : Meaning) → Definitionwise x text w refs before start ds → OfDefinition KnownThere m → OfDefinition KnownThere (behind (defineAll (contextOf ps d) before) start ds n m)
+  behind-known : (n : Token) (before ds : List Definition) (start : ℕ) (m : Meaning) → Definitionwise x text w refs before start ds → OfDefinition KnownThere m
+      → OfDefinition KnownThere (behind (defineAll (contextOf ps d) before) start ds n m)
   behind-known n before [] start m g h = h
   behind-known n before (Defined y e ∷ ds) start m g h =
       let c = defineAll (contextOf ps d) before in

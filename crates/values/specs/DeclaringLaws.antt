@@ -6,7 +6,7 @@ use mathlib.Core.Option.{Option, none, some}
 use mathlib.Core.Path.{_≡_, refl, sym, ap, _∙_, subst}
 use native.Mathlib.Omega.{arith}
 use lib.Dec.{eqb}
-use lib.ListN.{length, getD, length-append}
+use lib.ListN.{length, getD, length-append, length-map}
 use borrow.Author.Tests.{eqb-true, eqb-false, ne-eqb}
 use Rattle.language.specs.Bytes.{same}
 use Rattle.language.specs.Limits.{maxNames}
@@ -18,7 +18,8 @@ use Rattle.language.specs.Declared.{Table, find, Port}
 use Rattle.language.specs.Expansion.{Context, contextOf, define, defineAll}
 use Rattle.language.specs.Laws.Basics.Lists.{All, Any, all-any, all-more}
 use Rattle.language.specs.Laws.Basics.Tests.{pick, leave, same-refl}
-use Rattle.language.specs.Laws.Values.DistinctNames.{Apart, Distinct, distinct-left, declaredName, distinct-names, distinct-definitions}
+use Rattle.language.specs.Listed.{declaredName}
+use Rattle.language.specs.Laws.Values.DistinctNames.{Apart, Distinct, distinct-left, distinct-names, distinct-definitions}
 use Rattle.entries.specs.Kinds as Kind
 use Rattle.entries.specs.Flat.{Entry, under, leaf, flat, each, flatParameter, flatIdentifier, flatDefinition, flatDeclaration, flatLine, flatSubsection, outline}
 use Rattle.names.specs.Roles.{declares}
@@ -30,7 +31,7 @@ use Rattle.names.specs.Resolved.{declaredNames, Resolved}
 use Rattle.values.specs.World.{Meaning, Defines, NoValue, numbered, meaningAt}
 use Rattle.values.specs.AgreesLaws.{numbered-last, numbered-before}
 use Rattle.values.specs.Worlds.{inTable, behind, meaning}
-use Rattle.values.specs.WorldsLaws.{length-map, Elsewhere, behind-elsewhere}
+use Rattle.values.specs.WorldsLaws.{Elsewhere, behind-elsewhere}
 use Rattle.values.specs.ElsewhereLaws.{ownNames, apart-elsewhere, behind-parameters, of-definitions, over-definitions, main-apart, defined-later, enumerated-elsewhere}
 use Rattle.values.specs.Worked.{definitionsStart, worldIn}
 use Rattle.values.specs.WorkedLaws.{starts-next}
@@ -42,7 +43,8 @@ words-inner [] = tt
 words-inner (v ∷ ws) = (refl, words-inner ws)
 
 -- a name behind the definition of it, and later ones that define others
-behind-here : (x : Token) (e : Expr) (later : List Definition) → All (Elsewhere x) later → (before : List Definition) (c : Context) (start at : ℕ) (m : Meaning) → start + length (each flatDefinition before) ≡ at → behind c start (before ++ Defined x e ∷ later) x m ≡ Defines (at + length (flat e) - 1) (defineAll c before) e
+behind-here : (x : Token) (e : Expr) (later : List Definition) → All (Elsewhere x) later → (before : List Definition) (c : Context) (start at : ℕ) (m : Meaning)
+    → start + length (each flatDefinition before) ≡ at → behind c start (before ++ Defined x e ∷ later) x m ≡ Defines (at + length (flat e) - 1) (defineAll c before) e
 behind-here x e later h [] c start at m q =
     behind-elsewhere later (define c x e) (start + length (flatDefinition (Defined x e))) x _ h
     ∙ pick (same (x .text) (x .text)) _ _ (same-refl (x .text))
@@ -86,7 +88,8 @@ module _ (x : Spec) (ps : List Port) (d : Table) where
   identifiers-free [] h = tt
   identifiers-free (i ∷ is) h = (h .0, identifiers-free is (h .1))
 
-  definitions-told : (before ds : List Definition) → x .definitions ≡ before ++ ds → Distinct (ownNames (x .definitions)) → (start : ℕ) → definitionsStart x + length (each flatDefinition before) ≡ start → Every Told start (each flatDefinition ds)
+  definitions-told : (before ds : List Definition) → x .definitions ≡ before ++ ds → Distinct (ownNames (x .definitions)) → (start : ℕ)
+      → definitionsStart x + length (each flatDefinition before) ≡ start → Every Told start (each flatDefinition ds)
   definitions-told before [] q h start a = tt
   definitions-told before (Defined n e ∷ ds) q h start a =
       let g = definitions-told (before ++ Defined n e ∷ []) ds (q ∙ sym (append-assoc before (Defined n e ∷ []) ds)) h _ (starts-next x before (Defined n e) start a) in
@@ -95,7 +98,8 @@ module _ (x : Spec) (ps : List Port) (d : Table) where
         body = λ _. record {
           context = defineAll (contextOf ps d) before;
           expr = e;
-          defines = ap (λ l. behind (contextOf ps d) (definitionsStart x) l n (inTable (find d (n .text)))) q ∙ behind-here n e ds (defined-later before ds n e (subst (λ l. Distinct (ownNames l)) q h)) before (contextOf ps d) (definitionsStart x) start _ a;
+          defines = ap (λ l. behind (contextOf ps d) (definitionsStart x) l n (inTable (find d (n .text)))) q ∙ behind-here n e ds
+              (defined-later before ds n e (subst (λ l. Distinct (ownNames l)) q h)) before (contextOf ps d) (definitionsStart x) start _ a;
         };
         other = λ k. absurd (k refl);
       })) g
@@ -127,13 +131,22 @@ module _ (x : Spec) (ps : List Port) (d : Table) where
   main-told : (ss : List Subsection) → All Free (over declaresLine (mainLines ss)) → (start : ℕ) → Every Told start (each flatSubsection ss)
   main-told [] h start = tt
   main-told (Inputs ds ∷ ss) h start =
-      let r = declarations-free ds (mainLines ss) h in
-      ((λ y. absurd (false≢true y)), every-append Told (suc start) _ (each flatDeclaration ds) (each flatSubsection ss) refl (every-each Told flatDeclaration (λ m. Free (declaredName m)) declaration-told ds (r .0) (suc start)) (main-told ss (r .1) _))
+      let r = declarations-free ds (mainLines ss) h in (
+        (λ y. absurd (false≢true y)),
+        every-append Told (suc start) _ (each flatDeclaration ds) (each flatSubsection ss) refl
+            (every-each Told flatDeclaration (λ m. Free (declaredName m)) declaration-told ds (r .0) (suc start)) (main-told ss (r .1) _),
+      )
   main-told (Outputs ds ∷ ss) h start =
-      let r = declarations-free ds (mainLines ss) h in
-      ((λ y. absurd (false≢true y)), every-append Told (suc start) _ (each flatDeclaration ds) (each flatSubsection ss) refl (every-each Told flatDeclaration (λ m. Free (declaredName m)) declaration-told ds (r .0) (suc start)) (main-told ss (r .1) _))
-  main-told (Lines p es ∷ ss) h start =
-      ((λ y. absurd (false≢true y)), every-append Told (suc start) _ (each flatLine es) (each flatSubsection ss) refl (every-each Told flatLine Any (λ e _. line-inner e) es (all-any es) (suc start)) (main-told ss (formulas-free es (mainLines ss) h) _))
+      let r = declarations-free ds (mainLines ss) h in (
+        (λ y. absurd (false≢true y)),
+        every-append Told (suc start) _ (each flatDeclaration ds) (each flatSubsection ss) refl
+            (every-each Told flatDeclaration (λ m. Free (declaredName m)) declaration-told ds (r .0) (suc start)) (main-told ss (r .1) _),
+      )
+  main-told (Lines p es ∷ ss) h start = (
+    (λ y. absurd (false≢true y)),
+    every-append Told (suc start) _ (each flatLine es) (each flatSubsection ss) refl (every-each Told flatLine Any (λ e _. line-inner e) es (all-any es) (suc start))
+        (main-told ss (formulas-free es (mainLines ss) h) _),
+  )
 
   parameters-free : (qs : List Parameter) (ls : List Line) → Distinct (over declaresLine (parameterLines qs (definitionLines (x .definitions) ls))) → All (λ p. Free (p .name)) qs
   parameters-free [] ls h = tt
@@ -158,7 +171,8 @@ record NameAt {A : Type 0} (other : A) (f : Token → A) (ns : Names) (es : List
   at : DeclaresAt es k (tokenOf (entryOf es k))
   is : numbered other (map f ns) r ≡ f (tokenOf (entryOf es k))
 
-where-named : {A : Type 0} (other : A) (f : Token → A) (es : List Entry) (found : List ℕ) (ns : Names) → Where es found ns → (r : ℕ) → r < length ns → r < maxNames → NameAt other f ns es r (getD found r 0)
+where-named : {A : Type 0} (other : A) (f : Token → A) (es : List Entry) (found : List ℕ) (ns : Names) → Where es found ns → (r : ℕ) → r < length ns → r < maxNames
+    → NameAt other f ns es r (getD found r 0)
 where-named other f es found [] h r l m = absurd (omega arith)
 where-named other f es found (n ∷ ns) h r l m = go (eqb r (length ns)) refl (where-named other f es found ns (h .1) r)
   where
@@ -166,10 +180,10 @@ where-named other f es found (n ∷ ns) h r l m = go (eqb r (length ns)) refl (w
     go true e ih =
         let q = eqb-true r (length ns) e in
         let a : DeclaresAt es (getD found r 0) n = subst (λ i. DeclaresAt es (getD found i 0) n) (sym q) (h .0 (omega arith)) in
-        record { at = subst (DeclaresAt es (getD found r 0)) (sym (a .name)) a; is = numbered-last other (f n) (map f ns) r (q ∙ sym (length-map f ns)) ∙ ap f (sym (a .name)) }
+        record { at = subst (DeclaresAt es (getD found r 0)) (sym (a .name)) a; is = numbered-last other (f n) (map f ns) r (q ∙ sym (length-map ns f)) ∙ ap f (sym (a .name)) }
     go false e ih =
         let q = eqb-false r (length ns) e in
-        let s = length-map f ns in
+        let s = length-map ns f in
         let i : r < length ns = omega arith in
         let g = ih i m in
         record { at = g .at; is = numbered-before other (f n) (map f ns) r (omega arith) ∙ g .is }
@@ -200,5 +214,5 @@ pub undeclared : {x : Spec} {refs found : List ℕ} {n : ℕ} → Resolved x ref
 undeclared {x} h ps d r l =
     let c = h .count in
     let f : Token → List ℕ × Meaning = λ m. (m .text, meaning ps d (definitionsStart x) (x .definitions) m) in
-    let s = length-map f (declaredNames x) in
+    let s = length-map (declaredNames x) f in
     ap (λ m. m .1) (numbered-beyond ([], NoValue) (worldIn x ps d) r (omega arith))

@@ -84,7 +84,8 @@ module _ (before later : List Definition) where
   pub defined-later : (x : Token) (e : Expr) → Distinct (ownNames (before ++ Defined x e ∷ later)) → All (Elsewhere x) later
   defined-later x e h = apart-elsewhere later x (distinct-right (ownNames before) (x ∷ ownNames later) (own-names (Defined x e) h) .0)
 
-  pub enumerated-elsewhere : (x : Token) (is : List Identifier) → Distinct (ownNames (before ++ Enumerated x is ∷ later)) → All (λ n. All (Elsewhere n) (before ++ Enumerated x is ∷ later)) (declares (DefinitionLine (Enumerated x is)))
+  pub enumerated-elsewhere : (x : Token) (is : List Identifier) → Distinct (ownNames (before ++ Enumerated x is ∷ later))
+      → All (λ n. All (Elsewhere n) (before ++ Enumerated x is ∷ later)) (declares (DefinitionLine (Enumerated x is)))
   enumerated-elsewhere x is h =
       let A = ownNames before in
       let O = declares (DefinitionLine (Enumerated x is)) in

@@ -19,9 +19,11 @@ module _ (P : ℕ → Entry → Type 0) where
   every-append start at (n ∷ es) fs e h g = (h .0, every-append (suc start) at es fs (omega arith) (h .1) g)
 
   -- the entries of a list's things
-  pub every-each : {A : Type 0} (flatten : A → List Entry) (Q : A → Type 0) → ((a : A) → Q a → (start : ℕ) → Every P start (flatten a)) → (l : List A) → All Q l → (start : ℕ) → Every P start (each flatten l)
+  pub every-each : {A : Type 0} (flatten : A → List Entry) (Q : A → Type 0) → ((a : A) → Q a → (start : ℕ) → Every P start (flatten a)) → (l : List A) → All Q l → (start : ℕ)
+      → Every P start (each flatten l)
   every-each flatten Q f [] h start = tt
-  every-each flatten Q f (a ∷ l) h start = every-append start (start + length (flatten a)) (flatten a) (each flatten l) refl (f a (h .0) start) (every-each flatten Q f l (h .1) (start + length (flatten a)))
+  every-each flatten Q f (a ∷ l) h start = every-append start (start + length (flatten a)) (flatten a) (each flatten l) refl (f a (h .0) start)
+      (every-each flatten Q f l (h .1) (start + length (flatten a)))
 
   pub every-all : (es : List Entry) → All (λ n. (k : ℕ) → P k n) es → (start : ℕ) → Every P start es
   every-all [] h start = tt

@@ -22,31 +22,96 @@ use Rattle.values.specs.Facts.{room, keptAt, IsNumber, IsBody, IsBus, Is
 module _ {ts : Tokens} {w kept : List ℕ} {r : ℕ} {m : Meaning} {n : ℕ} where
   pub number-noted : IsNumber m n → Fact ts w kept r m Sort.number n
   number-noted h =
-      record { sorted = omega arith; number = λ _. h; body = λ e. absurd (omega arith); bus = λ e. absurd (omega arith); signal = λ e. absurd (omega arith); set = λ e. absurd (omega arith); identifier = λ e. absurd (omega arith); nothing = λ e. absurd (omega arith) }
+      record {
+        sorted = omega arith;
+        number = λ _. h;
+        body = λ e. absurd (omega arith);
+        bus = λ e. absurd (omega arith);
+        signal = λ e. absurd (omega arith);
+        set = λ e. absurd (omega arith);
+        identifier = λ e. absurd (omega arith);
+        nothing = λ e. absurd (omega arith);
+      }
 
   pub body-noted : IsBody m n → Fact ts w kept r m Sort.body n
   body-noted h =
-      record { sorted = omega arith; number = λ e. absurd (omega arith); body = λ _. h; bus = λ e. absurd (omega arith); signal = λ e. absurd (omega arith); set = λ e. absurd (omega arith); identifier = λ e. absurd (omega arith); nothing = λ e. absurd (omega arith) }
+      record {
+        sorted = omega arith;
+        number = λ e. absurd (omega arith);
+        body = λ _. h;
+        bus = λ e. absurd (omega arith);
+        signal = λ e. absurd (omega arith);
+        set = λ e. absurd (omega arith);
+        identifier = λ e. absurd (omega arith);
+        nothing = λ e. absurd (omega arith);
+      }
 
   pub bus-noted : IsBus m n → Fact ts w kept r m Sort.bus n
   bus-noted h =
-      record { sorted = omega arith; number = λ e. absurd (omega arith); body = λ e. absurd (omega arith); bus = λ _. h; signal = λ e. absurd (omega arith); set = λ e. absurd (omega arith); identifier = λ e. absurd (omega arith); nothing = λ e. absurd (omega arith) }
+      record {
+        sorted = omega arith;
+        number = λ e. absurd (omega arith);
+        body = λ e. absurd (omega arith);
+        bus = λ _. h;
+        signal = λ e. absurd (omega arith);
+        set = λ e. absurd (omega arith);
+        identifier = λ e. absurd (omega arith);
+        nothing = λ e. absurd (omega arith);
+      }
 
   pub signal-noted : m ≡ Stands Single → Fact ts w kept r m Sort.signal n
   signal-noted h =
-      record { sorted = omega arith; number = λ e. absurd (omega arith); body = λ e. absurd (omega arith); bus = λ e. absurd (omega arith); signal = λ _. h; set = λ e. absurd (omega arith); identifier = λ e. absurd (omega arith); nothing = λ e. absurd (omega arith) }
+      record {
+        sorted = omega arith;
+        number = λ e. absurd (omega arith);
+        body = λ e. absurd (omega arith);
+        bus = λ e. absurd (omega arith);
+        signal = λ _. h;
+        set = λ e. absurd (omega arith);
+        identifier = λ e. absurd (omega arith);
+        nothing = λ e. absurd (omega arith);
+      }
 
   pub set-noted : IsSet kept r m n → Fact ts w kept r m Sort.set n
   set-noted h =
-      record { sorted = omega arith; number = λ e. absurd (omega arith); body = λ e. absurd (omega arith); bus = λ e. absurd (omega arith); signal = λ e. absurd (omega arith); set = λ _. h; identifier = λ e. absurd (omega arith); nothing = λ e. absurd (omega arith) }
+      record {
+        sorted = omega arith;
+        number = λ e. absurd (omega arith);
+        body = λ e. absurd (omega arith);
+        bus = λ e. absurd (omega arith);
+        signal = λ e. absurd (omega arith);
+        set = λ _. h;
+        identifier = λ e. absurd (omega arith);
+        nothing = λ e. absurd (omega arith);
+      }
 
   pub identifier-noted : IsIdentifier ts w m n → Fact ts w kept r m Sort.identifier n
   identifier-noted h =
-      record { sorted = omega arith; number = λ e. absurd (omega arith); body = λ e. absurd (omega arith); bus = λ e. absurd (omega arith); signal = λ e. absurd (omega arith); set = λ e. absurd (omega arith); identifier = λ _. h; nothing = λ e. absurd (omega arith) }
+      record {
+        sorted = omega arith;
+        number = λ e. absurd (omega arith);
+        body = λ e. absurd (omega arith);
+        bus = λ e. absurd (omega arith);
+        signal = λ e. absurd (omega arith);
+        set = λ e. absurd
+            (omega arith);
+        identifier = λ _. h;
+        nothing = λ e. absurd (omega arith);
+      }
 
   pub nothing-noted : m ≡ NoValue → Fact ts w kept r m Sort.nothing n
   nothing-noted h =
-      record { sorted = omega arith; number = λ e. absurd (omega arith); body = λ e. absurd (omega arith); bus = λ e. absurd (omega arith); signal = λ e. absurd (omega arith); set = λ e. absurd (omega arith); identifier = λ e. absurd (omega arith); nothing = λ _. h }
+      record {
+        sorted = omega arith;
+        number = λ e. absurd (omega arith);
+        body = λ e. absurd (omega arith);
+        bus = λ e. absurd (omega arith);
+        signal = λ e. absurd (omega arith);
+        set = λ e. absurd
+            (omega arith);
+        identifier = λ e. absurd (omega arith);
+        nothing = λ _. h;
+      }
 
 -- kept sets
 pub kept-length : (kept : List ℕ) (r n : ℕ) → r * room + n ≤ length kept → length (keptAt kept r n) ≡ n
@@ -63,7 +128,8 @@ kept-is kept s r n e l h =
     ext-getD 0 (keptAt kept r n) s (k ∙ sym e) (λ i b. let c : i < n = omega arith in kept-element kept r n i c ∙ h i c)
 
 -- the set of another name than q, where only that of q is written
-pub kept-elsewhere : (kept kept′ : List ℕ) (q : ℕ) → length kept′ ≡ length kept → ((i : ℕ) → i < q * room → getD kept′ i 0 ≡ getD kept i 0) → ((i : ℕ) → q * room + room ≤ i → getD kept′ i 0 ≡ getD kept i 0) →
+pub kept-elsewhere : (kept kept′ : List ℕ) (q : ℕ) → length kept′ ≡ length kept → ((i : ℕ) → i < q * room → getD kept′ i 0 ≡ getD kept i 0)
+    → ((i : ℕ) → q * room + room ≤ i → getD kept′ i 0 ≡ getD kept i 0) →
     (r : ℕ) → (r ≡ q → ⊥) → r * room + room ≤ length kept → (n : ℕ) → n ≤ maxElements → keptAt kept′ r n ≡ keptAt kept r n
 kept-elsewhere kept kept′ q e low high r d f n b =
     let k = kept-length kept r n (omega arith) in
@@ -74,7 +140,8 @@ kept-elsewhere kept kept′ q e low high r d f n b =
     go i l false t = let a = ltb-false r q t in high (r * room + i) (omega arith)
 
 -- a note, where its set is kept as it was
-fact-kept : {ts : Tokens} {w kept : List ℕ} (kept′ : List ℕ) (r : ℕ) (m : Meaning) (sort n : ℕ) → length kept ≤ length kept′ → (r * room + room ≤ length kept → (n : ℕ) → n ≤ maxElements → keptAt kept′ r n ≡ keptAt kept r n) → Fact ts w kept r m sort n → Fact ts w kept′ r m sort n
+fact-kept : {ts : Tokens} {w kept : List ℕ} (kept′ : List ℕ) (r : ℕ) (m : Meaning) (sort n : ℕ) → length kept ≤ length kept′
+    → (r * room + room ≤ length kept → (n : ℕ) → n ≤ maxElements → keptAt kept′ r n ≡ keptAt kept r n) → Fact ts w kept r m sort n → Fact ts w kept′ r m sort n
 fact-kept kept′ r m sort n l h f =
     record {
       sorted = f .sorted;
@@ -82,14 +149,16 @@ fact-kept kept′ r m sort n l h f =
       body = f .body;
       bus = f .bus;
       signal = f .signal;
-      set = λ e. let s = f .set e in let a = s .few in let b = s .fits in let q = h b n a in record { stands = λ t. s .stands t ∙ ap (λ l. Done (Set l)) (sym q); few = a; ordered = subst Ordered (sym q) (s .ordered); fits = omega arith };
+      set = λ e. let s = f .set e in let a = s .few in let b = s .fits in let q = h b n a in
+          record { stands = λ t. s .stands t ∙ ap (λ l. Done (Set l)) (sym q); few = a; ordered = subst Ordered (sym q) (s .ordered); fits = omega arith };
       identifier = f .identifier;
       nothing = f .nothing;
     }
 
 -- the note of the name q changed, and its kept set
 module _ {ts : Tokens} {w : List ℕ} {W : World} {sorts numbers kept : List ℕ} where
-  pub facts-changed : (kept′ : List ℕ) (q sort n : ℕ) → q < length sorts → q < length numbers → length kept ≤ length kept′ → ((r : ℕ) → (r ≡ q → ⊥) → r * room + room ≤ length kept → (n : ℕ) → n ≤ maxElements → keptAt kept′ r n ≡ keptAt kept r n) →
+  pub facts-changed : (kept′ : List ℕ) (q sort n : ℕ) → q < length sorts → q < length numbers → length kept ≤ length kept′
+      → ((r : ℕ) → (r ≡ q → ⊥) → r * room + room ≤ length kept → (n : ℕ) → n ≤ maxElements → keptAt kept′ r n ≡ keptAt kept r n) →
       Fact ts w kept′ q (meaningAt W q) sort n → Facts ts w W sorts numbers kept → Facts ts w W (set sorts q sort) (set numbers q n) kept′
   facts-changed kept′ q sort n a b l h f g = record { noted = λ r s. go r s (eqb r q) refl }
     where
@@ -105,5 +174,6 @@ module _ {ts : Tokens} {w : List ℕ} {W : World} {sorts numbers kept : List ℕ
           (fact-kept kept′ r (meaningAt W r) (getD sorts r 0) (getD numbers r 0) l (h r d) (g .noted r s)))
 
   -- no set is written
-  pub facts-noted : (q sort n : ℕ) → q < length sorts → q < length numbers → Fact ts w kept q (meaningAt W q) sort n → Facts ts w W sorts numbers kept → Facts ts w W (set sorts q sort) (set numbers q n) kept
+  pub facts-noted : (q sort n : ℕ) → q < length sorts → q < length numbers → Fact ts w kept q (meaningAt W q) sort n → Facts ts w W sorts numbers kept
+      → Facts ts w W (set sorts q sort) (set numbers q n) kept
   facts-noted q sort n a b f g = facts-changed kept q sort n a b (omega arith) (λ r d l i m. refl) f g

@@ -92,7 +92,8 @@ module _ (x : Spec) (text w : List ℕ) where
   outside-kind [] l i h = absurd l
   outside-kind (n ∷ es) l i h = ((λ e. l .0 (sym (entry-kind (h .0)) ∙ e)), (λ e. l .1 (sym (entry-kind (h .0)) ∙ e)))
 
-  identifier-stored : (i : Identifier) (T : Table) → Found ((i .name .text, Identifies (i .words)) ∷ T) (i .name) → (start : ℕ) (more : List Entry) → start + length (flatIdentifier i ++ more) ≤ maxTokens → NoWord more → From start (flatIdentifier i ++ more) → IdentifierAt x text w start (i .name)
+  identifier-stored : (i : Identifier) (T : Table) → Found ((i .name .text, Identifies (i .words)) ∷ T) (i .name) → (start : ℕ) (more : List Entry)
+      → start + length (flatIdentifier i ++ more) ≤ maxTokens → NoWord more → From start (flatIdentifier i ++ more) → IdentifierAt x text w start (i .name)
   identifier-stored i T f start more b l h =
       let ws = each (leaf Kind.word) (i .words) in
       record {
@@ -103,7 +104,9 @@ module _ (x : Spec) (text w : List ℕ) where
         ends = no-word-kind more l (suc start + length (i .words)) (subst (λ m. From (suc start + m) more) (words-length (i .words)) (entries-right w (tokens text) (suc start) ws more (h .1)));
       }
 
-  identifiers-told : (is : List Identifier) (T : Table) (names : Names) (start : ℕ) (more : List Entry) → start + length (each flatIdentifier is ++ more) ≤ maxTokens → Leads more → From start (each flatIdentifier is ++ more) → Distinct (identifierNames is ++ names) → All (Found (identified is ++ T)) (identifierNames is ++ names) → Every Told start (each flatIdentifier is) × All (Found T) names
+  identifiers-told : (is : List Identifier) (T : Table) (names : Names) (start : ℕ) (more : List Entry) → start + length (each flatIdentifier is ++ more) ≤ maxTokens → Leads more
+      → From start (each flatIdentifier is ++ more) → Distinct (identifierNames is ++ names) → All (Found (identified is ++ T)) (identifierNames is ++ names)
+      → Every Told start (each flatIdentifier is) × All (Found T) names
   identifiers-told [] T names start more b l h d f = (tt, f)
   identifiers-told (i ∷ is) T names start more b l h d f =
       let next = each flatIdentifier is in
@@ -113,15 +116,21 @@ module _ (x : Spec) (text w : List ℕ) where
       let y = length-append (flatIdentifier i) (next ++ more) in
       let own = identifier-stored i (identified is ++ T) (f .0) start (next ++ more) (omega arith) (leads-identifiers is more l) g in
       let later = all-both (λ n a b. b ∙ leave (same (i .name .text) (n .text)) _ _ a) (identifierNames is ++ names) (d .0) (f .1) in
-      let r = identifiers-told is T names (start + length (flatIdentifier i)) more (omega arith) l (entries-right w (tokens text) start (flatIdentifier i) (next ++ more) g) (d .1) later in
-      (every-append Told start (start + length (flatIdentifier i)) (flatIdentifier i) next refl (((λ _. own), (λ e. absurd (omega arith))), other-told ws (inner-other ws (words-inner (i .words))) (suc start)) (r .0), r .1)
+      let r = identifiers-told is T names (start + length (flatIdentifier i)) more (omega arith) l (entries-right w (tokens text) start (flatIdentifier i) (next ++ more) g) (d .1) later in (
+        every-append Told start (start + length (flatIdentifier i)) (flatIdentifier i) next refl
+            (((λ _. own), (λ e. absurd (omega arith))), other-told ws (inner-other ws (words-inner (i .words))) (suc start)) (r .0),
+        r .1,
+      )
 
-  definitions-told : (ds : List Definition) (start : ℕ) (more : List Entry) → start + length (each flatDefinition ds ++ more) ≤ maxTokens → Leads more → All ProperDefinition ds → From start (each flatDefinition ds ++ more) → Distinct (ownNames ds) → All (Found (identifiers ds)) (ownNames ds) → All (Typed ds) (ownNames ds) → Every Told start (each flatDefinition ds)
+  definitions-told : (ds : List Definition) (start : ℕ) (more : List Entry) → start + length (each flatDefinition ds ++ more) ≤ maxTokens → Leads more → All ProperDefinition ds
+      → From start (each flatDefinition ds ++ more) → Distinct (ownNames ds) → All (Found (identifiers ds)) (ownNames ds) → All (Typed ds) (ownNames ds) → Every Told start (each flatDefinition ds)
   definitions-told [] start more b l p h d f t = tt
   definitions-told (Defined n e ∷ ds) start more b l p h d f t =
       let own = flatDefinition (Defined n e) in
       let g = entries-right w (tokens text) start own (each flatDefinition ds ++ more) (subst (From start) (append-assoc own (each flatDefinition ds) more) h) in
-      every-append Told start (start + length own) own (each flatDefinition ds) refl (other-told own (line-other Kind.definition (some n) e ((λ q. omega arith), (λ q. omega arith))) start) (definitions-told ds (start + length own) more (let z = ap length (append-assoc own (each flatDefinition ds) more) in let y = length-append own (each flatDefinition ds ++ more) in omega arith) l (p .1) g (d .1) (f .1) (t .1))
+      every-append Told start (start + length own) own (each flatDefinition ds) refl (other-told own (line-other Kind.definition (some n) e ((λ q. omega arith), (λ q. omega arith))) start)
+      (definitions-told ds (start + length own) more (let z = ap length (append-assoc own (each flatDefinition ds) more) in let y = length-append own (each flatDefinition ds ++ more) in
+      omega arith) l (p .1) g (d .1) (f .1) (t .1))
   definitions-told (Enumerated n is ∷ ds) start more b l p h d f t =
       let own = each flatIdentifier is in
       let next = each flatDefinition ds in
@@ -143,7 +152,8 @@ module _ (x : Spec) (text w : List ℕ) where
       let later = all-both (λ m a b. b ∙ leave (same (n .text) (m .text)) _ _ a) (identifierNames is ++ ownNames ds) (d .0) (t .1) in (
         ((λ e. absurd (omega arith)), (λ _. words)),
         every-append Told (suc start) (suc start + length own) own next refl (r .0)
-            (definitions-told ds (suc start + length own) more (omega arith) l (p .1) after (distinct-right (identifierNames is) (ownNames ds) (d .1)) (r .1) (all-right (Typed ds) (identifierNames is) (ownNames ds) later)),
+            (definitions-told ds (suc start + length own) more (omega arith) l (p .1) after (distinct-right (identifierNames is) (ownNames ds) (d .1)) (r .1)
+            (all-right (Typed ds) (identifierNames is) (ownNames ds) later)),
       )
 
   all-told : {count entries : ℕ} → Stored text w count entries x → declaredAgain x ≡ none → Every Told 0 (outline x)
@@ -156,8 +166,10 @@ module _ (x : Spec) (text w : List ℕ) where
       let g = entries-right w (tokens text) 0 P (D ++ M) (s .stored) in
       let names = ownNames (x .definitions) in
       let d = distinct-left names _ (subst Distinct (over-definitions (x .definitions) (mainLines (x .main))) (distinct-definitions x h)) in
-      every-append Told 0 _ P (D ++ M) refl (other-told P (each-other flatParameter (λ a. line-other Kind.parameter (some (a .name)) (a .value) ((λ e. omega arith), (λ e. omega arith))) (x .parameters)) 0)
-      (every-append Told _ _ D M refl (definitions-told (x .definitions) (0 + length P) M (let u = s .total in let v = s .few in let y = length-append P (D ++ M) in omega arith) (leads-main (x .main) m) (p .definitions) g d (all-more (λ n _. refl) names (all-any names)) (all-more (λ n _. refl) names (all-any names)))
+      every-append Told 0 _ P (D ++ M) refl (other-told P (each-other flatParameter (λ a. line-other Kind.parameter (some (a .name)) (a .value) ((λ e. omega arith), (λ e. omega arith)))
+      (x .parameters)) 0)
+      (every-append Told _ _ D M refl (definitions-told (x .definitions) (0 + length P) M (let u = s .total in let v = s .few in let y = length-append P (D ++ M) in omega arith)
+      (leads-main (x .main) m) (p .definitions) g d (all-more (λ n _. refl) names (all-any names)) (all-more (λ n _. refl) names (all-any names)))
       (other-told M (each-other flatSubsection subsection-other (x .main)) _))
 
 module _ {x : Spec} {text w refs found : List ℕ} {count entries n : ℕ} (s : Stored text w count entries x) (r : Resolved x refs found n) (k : ℕ) (l : k < length (outline x)) where

@@ -43,10 +43,13 @@ own-more n t es = length-append es (record { kind = n; token = t; size = suc (le
 
 module _ {ts : Tokens} {w refs : List ℕ} {W : World} {env : List ℕ} {c : Context} {k : ℕ} where
   -- the operands of an entry, by how many there are
-  one : (p : Bool) (limit n : ℕ) (t : Option Token) (a : Expr) → EndsAt w ts k (under n t (flat a)) → limit + length (under n t (flat a)) ≤ suc k → Agrees W refs limit env c (k - 1) a → Proper p a → Known ts w refs W env c p (k - 1) a
+  one : (p : Bool) (limit n : ℕ) (t : Option Token) (a : Expr) → EndsAt w ts k (under n t (flat a)) → limit + length (under n t (flat a)) ≤ suc k → Agrees W refs limit env c (k - 1) a → Proper p a
+      → Known ts w refs W env c p (k - 1) a
   one p limit n t a h b g f = let l = own-more n t (flat a) in record { at = below n t (flat a) h; limit = limit; within = omega arith; agrees = g; proper = f }
 
-  two : (p q : Bool) (limit n : ℕ) (t : Option Token) (x y : Expr) → EndsAt w ts k (under n t (flat x ++ flat y)) → limit + length (under n t (flat x ++ flat y)) ≤ suc k → Agrees W refs limit env c (k - 1 - length (flat y)) x × Agrees W refs limit env c (k - 1) y → Proper p x × Proper q y → Known ts w refs W env c p (k - 1 - length (flat y)) x × Known ts w refs W env c q (k - 1) y
+  two : (p q : Bool) (limit n : ℕ) (t : Option Token) (x y : Expr) → EndsAt w ts k (under n t (flat x ++ flat y)) → limit + length (under n t (flat x ++ flat y)) ≤ suc k
+      → Agrees W refs limit env c (k - 1 - length (flat y)) x × Agrees W refs limit env c (k - 1) y → Proper p x × Proper q y
+      → Known ts w refs W env c p (k - 1 - length (flat y)) x × Known ts w refs W env c q (k - 1) y
   two p q limit n t x y h b g f =
       let l = own-more n t (flat x ++ flat y) in
       let m = length-append (flat x) (flat y) in
@@ -55,7 +58,10 @@ module _ {ts : Tokens} {w refs : List ℕ} {W : World} {env : List ℕ} {c : Con
         record { at = ends-last (flat x) (flat y) o; limit = limit; within = omega arith; agrees = g .1; proper = f .1 },
       )
 
-  all-three : (limit n : ℕ) (t : Option Token) (x y z : Expr) → EndsAt w ts k (under n t (flat x ++ (flat y ++ flat z))) → limit + length (under n t (flat x ++ (flat y ++ flat z))) ≤ suc k → Agrees W refs limit env c (k - 1 - length (flat z) - length (flat y)) x × Agrees W refs limit env c (k - 1 - length (flat z)) y × Agrees W refs limit env c (k - 1) z → Proper false x × Proper false y × Proper false z → Known ts w refs W env c false (k - 1 - length (flat z) - length (flat y)) x × Known ts w refs W env c false (k - 1 - length (flat z)) y × Known ts w refs W env c false (k - 1) z
+  all-three : (limit n : ℕ) (t : Option Token) (x y z : Expr) → EndsAt w ts k (under n t (flat x ++ (flat y ++ flat z))) → limit + length (under n t (flat x ++ (flat y ++ flat z))) ≤ suc k
+      → Agrees W refs limit env c (k - 1 - length (flat z) - length (flat y)) x × Agrees W refs limit env c (k - 1 - length (flat z)) y × Agrees W refs limit env c (k - 1) z
+      → Proper false x × Proper false y × Proper false z → Known ts w refs W env c false (k - 1 - length (flat z) - length (flat y)) x × Known ts w refs W env c false (k - 1 - length (flat z)) y ×
+      Known ts w refs W env c false (k - 1) z
   all-three limit n t x y z h b g f =
       let l = own-more n t (flat x ++ (flat y ++ flat z)) in
       let m = three (flat x) (flat y) (flat z) in
@@ -81,26 +87,32 @@ module _ {ts : Tokens} {w refs : List ℕ} {W : World} {env : List ℕ} {c : Con
     pub known-listed : (t : Token) (e : Expr) → Known ts w refs W env c braces k (Listed t e) → Known ts w refs W env c true (k - 1) e
     known-listed t e h = one true (h .limit) Kind.listed (some t) e (h .at) (h .within) (h .agrees) (h .proper .1)
 
-    pub known-joined : (t : Token) (o : Infix) (x y : Expr) → Known ts w refs W env c braces k (Joined t o x y) → Known ts w refs W env c false (k - 1 - length (flat y)) x × Known ts w refs W env c false (k - 1) y
+    pub known-joined : (t : Token) (o : Infix) (x y : Expr) → Known ts w refs W env c braces k (Joined t o x y)
+        → Known ts w refs W env c false (k - 1 - length (flat y)) x × Known ts w refs W env c false (k - 1) y
     known-joined t o x y h = two false false (h .limit) (Kind.joining o) (some t) x y (h .at) (h .within) (h .agrees) (h .proper .1, h .proper .2)
 
     pub known-nexts : (t : Token) (x y : Expr) → Known ts w refs W env c braces k (Nexts t x y) → Known ts w refs W env c false (k - 1 - length (flat y)) x × Known ts w refs W env c false (k - 1) y
     known-nexts t x y h = two false false (h .limit) Kind.nexts (some t) x y (h .at) (h .within) (h .agrees) (h .proper .1, h .proper .2)
 
-    pub known-between : (t : Token) (l m : Bool) (x y : Expr) → Known ts w refs W env c braces k (Between t l m x y) → Known ts w refs W env c false (k - 1 - length (flat y)) x × Known ts w refs W env c false (k - 1) y
+    pub known-between : (t : Token) (l m : Bool) (x y : Expr) → Known ts w refs W env c braces k (Between t l m x y)
+        → Known ts w refs W env c false (k - 1 - length (flat y)) x × Known ts w refs W env c false (k - 1) y
     known-between t l m x y h = two false false (h .limit) (Kind.between l m) (some t) x y (h .at) (h .within) (h .agrees) (h .proper .1, h .proper .2)
 
     pub known-element : (x y : Expr) → Known ts w refs W env c braces k (Element x y) → Known ts w refs W env c false (k - 1 - length (flat y)) x × Known ts w refs W env c true (k - 1) y
     known-element x y h = two false true (h .limit) Kind.element none x y (h .at) (h .within) (h .agrees) (h .proper .1, h .proper .2)
 
-    pub known-window : (t : Token) (o : Window) (x y z : Expr) → Known ts w refs W env c braces k (InWindow t o x y z) → Known ts w refs W env c false (k - 1 - length (flat z) - length (flat y)) x × Known ts w refs W env c false (k - 1 - length (flat z)) y × Known ts w refs W env c false (k - 1) z
+    pub known-window : (t : Token) (o : Window) (x y z : Expr) → Known ts w refs W env c braces k (InWindow t o x y z)
+        → Known ts w refs W env c false (k - 1 - length (flat z) - length (flat y)) x × Known ts w refs W env c false (k - 1 - length (flat z)) y × Known ts w refs W env c false (k - 1) z
     known-window t o x y z h = all-three (h .limit) (Kind.window o) (some t) x y z (h .at) (h .within) (h .agrees) (h .proper .1, h .proper .2, h .proper .3)
 
-    pub known-range : (t : Token) (x y z : Expr) → Known ts w refs W env c braces k (Range t x y z) → Known ts w refs W env c false (k - 1 - length (flat z) - length (flat y)) x × Known ts w refs W env c false (k - 1 - length (flat z)) y × Known ts w refs W env c false (k - 1) z
+    pub known-range : (t : Token) (x y z : Expr) → Known ts w refs W env c braces k (Range t x y z)
+        → Known ts w refs W env c false (k - 1 - length (flat z) - length (flat y)) x × Known ts w refs W env c false (k - 1 - length (flat z)) y × Known ts w refs W env c false (k - 1) z
     known-range t x y z h = all-three (h .limit) Kind.range (some t) x y z (h .at) (h .within) (h .agrees) (h .proper .1, h .proper .2, h .proper .3)
 
     -- the set outside the operator's name, which has the next slot; the operand under it
-    pub known-each : (t : Token) (o : Big) (further : Bool) (i : Token) (s e : Expr) → Known ts w refs W env c braces k (Each t o further i s e) → Known ts w refs W env c false (k - 1 - length (flat e) - 1) s × (getD refs (k - 1 - length (flat e)) 0 ≡ maxNames + length env) × ((v : ℕ) → Known ts w refs W (v ∷ env) (at c i v) false (k - 1) e)
+    pub known-each : (t : Token) (o : Big) (further : Bool) (i : Token) (s e : Expr) → Known ts w refs W env c braces k (Each t o further i s e)
+        → Known ts w refs W env c false (k - 1 - length (flat e) - 1) s × (getD refs (k - 1 - length (flat e)) 0 ≡ maxNames + length env) ×
+        ((v : ℕ) → Known ts w refs W (v ∷ env) (at c i v) false (k - 1) e)
     known-each t o further i s e h =
         let b = under (Kind.binder further) (some i) (flat s) in
         let l = own-more (Kind.big o) (some t) (b ++ flat e) in

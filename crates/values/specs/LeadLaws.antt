@@ -7,7 +7,32 @@ use mathlib.Core.Path.{_≡_, sym, subst}
 use native.Mathlib.Omega.{arith}
 use lib.ListN.{length}
 use Rattle.language.specs.Tokens.{Token, End}
-use Rattle.language.specs.Tree.{Expr, Named, Numeral, Truth, Index, Paren, Prefixed, Joined, Nexts, InWindow, Each, Between, Listed, Empty, Element, Range, Identifier, Definition, Defined, Enumerated, Subsection, Inputs, Outputs, Lines}
+use Rattle.language.specs.Tree.{
+  Expr,
+  Named,
+  Numeral,
+  Truth,
+  Index,
+  Paren,
+  Prefixed,
+  Joined,
+  Nexts,
+  InWindow,
+  Each,
+  Between,
+  Listed,
+  Empty,
+  Element,
+  Range,
+  Identifier,
+  Definition,
+  Defined,
+  Enumerated,
+  Subsection,
+  Inputs,
+  Outputs,
+  Lines,
+}
 use Rattle.language.specs.Grammar.{Tokens, front, rest, expect, expectOf}
 use Rattle.language.specs.Sections.{HeadingRow, headings, headingOf, subsectionOf, infoOf, globalOf, subsectionsOf, specOf}
 use Rattle.language.specs.Laws.Basics.Lists.{All}
@@ -84,7 +109,8 @@ leads-identifiers (i ∷ is) more h = λ q. omega arith
 
 pub leads-definitions : (ds : List Definition) (more : List Entry) → All ProperDefinition ds → Leads more → Leads (each flatDefinition ds ++ more)
 leads-definitions [] more p h = h
-leads-definitions (Defined n e ∷ ds) more p h = leads-first (flatDefinition (Defined n e)) (each flatDefinition ds) (λ m. leads-under Kind.definition (some n) (flat e) m (λ l. lead false e (p .0) l never)) more
+leads-definitions (Defined n e ∷ ds) more p h = leads-first (flatDefinition (Defined n e)) (each flatDefinition ds)
+    (λ m. leads-under Kind.definition (some n) (flat e) m (λ l. lead false e (p .0) l never)) more
 leads-definitions (Enumerated n is ∷ ds) more p h = ((λ q. omega arith), (λ q. omega arith))
 
 pub leads-main : (ss : List Subsection) → Some ss → Leads (each flatSubsection ss)

@@ -49,7 +49,8 @@ module _ {x : Spec} {text w refs found : List ℕ} {count entries n : ℕ} (s : 
       )
 
   -- a line: its expression, then its own entry
-  pub pass-line : (k : ℕ) (t : Option Token) (e : Expr) → binds k ≡ false → ends k ≡ false → (start : ℕ) (es : List Entry) → Left x text w start (under k t (flat e) ++ es) → Here x text w refs (start + length (flat e) - 1) e × Left x text w (start + length (under k t (flat e))) es
+  pub pass-line : (k : ℕ) (t : Option Token) (e : Expr) → binds k ≡ false → ends k ≡ false → (start : ℕ) (es : List Entry) → Left x text w start (under k t (flat e) ++ es)
+      → Here x text w refs (start + length (flat e) - 1) e × Left x text w (start + length (under k t (flat e))) es
   pass-line k t e a b start es h =
       let own : Entry = record { kind = k; token = t; size = suc (length (flat e)) } in
       let p = pass-expr e start (own ∷ es) (left-same (append-assoc (flat e) (own ∷ []) es) h) in

@@ -1,5 +1,6 @@
 -- The sorts of declared names as they are noted: numbers, the code's own.
 use Prim.Native.Nat.{ℕ}
+use mathlib.Core.List.{List, [], _∷_}
 
 -- a name that stands for a number: a parameter, or a definition whose value is kept
 abbrev pub number : ℕ
@@ -27,3 +28,7 @@ identifier = 5
 -- an enumeration's own name, or a parameter before its turn
 abbrev pub nothing : ℕ
 nothing = 6
+
+-- all of them in their order
+abbrev pub sorts : List ℕ
+sorts = number ∷ body ∷ bus ∷ signal ∷ set ∷ identifier ∷ nothing ∷ []

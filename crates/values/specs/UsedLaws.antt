@@ -48,5 +48,6 @@ module _ {ts : Tokens} {w refs : List ℕ} {W : World} {env : List ℕ} {c : Con
   pub named-body : (t : Token) → Known ts w refs W env c braces k (Named t) → (n : ℕ) (d : Context) (e : Expr) → getD refs k 0 < maxNames → meaningAt W (getD refs k 0) ≡ Defines n d e → n < k
   named-body t h n d e l m = let b = used-before (h .agrees) n d e l m in let s = h .within in omega arith
 
-  pub index-body : (t : Token) (i : Expr) → Known ts w refs W env c braces k (Index t i) → (n : ℕ) (d : Context) (e : Expr) → getD refs k 0 < maxNames → meaningAt W (getD refs k 0) ≡ Defines n d e → n < k
+  pub index-body : (t : Token) (i : Expr) → Known ts w refs W env c braces k (Index t i) → (n : ℕ) (d : Context) (e : Expr) → getD refs k 0 < maxNames → meaningAt W (getD refs k 0) ≡ Defines n d e
+      → n < k
   index-body t i h n d e l m = let b = used-before (h .agrees .0) n d e l m in let s = h .within in let z = own-more Kind.index (some t) (flat i) in omega arith

@@ -5,7 +5,7 @@ use mathlib.Core.List.{List, [], _∷_, _++_, map}
 use mathlib.Core.Option.{some}
 use mathlib.Core.Path.{_≡_, refl, sym, ap, _∙_, subst}
 use native.Mathlib.Omega.{arith}
-use lib.ListN.{length, length-append}
+use lib.ListN.{length, length-append, length-map}
 use Rattle.node.specs.Result.{Result, Done, Refused, _>>=_}
 use Rattle.language.specs.Bytes.{same}
 use Rattle.language.specs.Limits.{maxNames}
@@ -26,6 +26,7 @@ use Rattle.names.specs.VisibleLaws.{Among}
 use Rattle.values.specs.World.{Meaning, Stands, Defines, NoValue, meant, formed, numbered, World, meaningAt, Before}
 use Rattle.values.specs.AgreesLaws.{numbered-last, numbered-before, denote-declared, formula-declared, Fits}
 use Rattle.values.specs.Worlds.{inTable, behind, meaning, worldOf}
+use Rattle.names.specs.ResolvedLaws.{number-below}
 
 -- the name t stands in the context c for what m means
 record Stood (c : Context) (t : Token) (m : Meaning) : Type 0 where
@@ -43,16 +44,19 @@ find-formed ps [] x t = refl
 find-formed ps (e ∷ d) x t = split (λ r. (r >>= signalOf ps t) ≡ formed ps (inTable r) t) (same (e .0) x) (λ _. refl) (λ _. find-formed ps d x t)
 
 -- behind a definition
-defined-meant : (b : Bool) (c : Context) (k : ℕ) (e : Expr) (t : Token) (m : Meaning) → c .values t ≡ meant m t → elim b [ true ↦ value (c .values) e | false ↦ c .values t ] ≡ meant (elim b [ true ↦ Defines k c e | false ↦ m ]) t
+defined-meant : (b : Bool) (c : Context) (k : ℕ) (e : Expr) (t : Token) (m : Meaning) → c .values t ≡ meant m t
+    → elim b [ true ↦ value (c .values) e | false ↦ c .values t ] ≡ meant (elim b [ true ↦ Defines k c e | false ↦ m ]) t
 defined-meant true c k e t m h = refl
 defined-meant false c k e t m h = h
 
-defined-formed : (b : Bool) (c : Context) (k : ℕ) (e : Expr) (t : Token) (m : Meaning) → c .formulas t ≡ formed (c .ports) m t → elim b [ true ↦ expansion c e | false ↦ c .formulas t ] ≡ formed (c .ports) (elim b [ true ↦ Defines k c e | false ↦ m ]) t
+defined-formed : (b : Bool) (c : Context) (k : ℕ) (e : Expr) (t : Token) (m : Meaning) → c .formulas t ≡ formed (c .ports) m t
+    → elim b [ true ↦ expansion c e | false ↦ c .formulas t ] ≡ formed (c .ports) (elim b [ true ↦ Defines k c e | false ↦ m ]) t
 defined-formed true c k e t m h = refl
 defined-formed false c k e t m h = h
 
 -- a use t of the name n
-define-stood : (c : Context) (x : Token) (e : Expr) (k : ℕ) (n t : Token) (m : Meaning) → n .text ≡ t .text → Stood c t m → Stood (define c x e) t (elim (same (x .text) (n .text)) [ true ↦ Defines k c e | false ↦ m ])
+define-stood : (c : Context) (x : Token) (e : Expr) (k : ℕ) (n t : Token) (m : Meaning) → n .text ≡ t .text → Stood c t m
+    → Stood (define c x e) t (elim (same (x .text) (n .text)) [ true ↦ Defines k c e | false ↦ m ])
 define-stood c x e k n t m q h =
     subst (λ u. Stood (define c x e) t (elim (same (x .text) u) [ true ↦ Defines k c e | false ↦ m ])) (sym q)
     (record { value = defined-meant (same (x .text) (t .text)) c k e t m (h .value); formula = defined-formed (same (x .text) (t .text)) c k e t m (h .formula) })
@@ -62,7 +66,8 @@ behind-stood [] c start n t m q h = h
 behind-stood (Defined x e ∷ ds) c start n t m q h = behind-stood ds (define c x e) (start + length (flatDefinition (Defined x e))) n t _ q (define-stood c x e _ n t m q h)
 behind-stood (Enumerated x is ∷ ds) c start n t m q h = behind-stood ds c (start + length (flatDefinition (Enumerated x is))) n t m q h
 
-meaning-stood : (ps : List Port) (d : Table) (start : ℕ) (defs : List Definition) (n t : Token) → same (n .text) (t .text) ≡ true → Stood (defineAll (contextOf ps d) defs) t (meaning ps d start defs n)
+meaning-stood : (ps : List Port) (d : Table) (start : ℕ) (defs : List Definition) (n t : Token) → same (n .text) (t .text) ≡ true
+    → Stood (defineAll (contextOf ps d) defs) t (meaning ps d start defs n)
 meaning-stood ps d start defs n t s =
     let q = same-equal (n .text) (t .text) s in
     behind-stood defs (contextOf ps d) start n t (inTable (find d (n .text))) q
@@ -93,29 +98,18 @@ behind-before (Enumerated x is ∷ ds) c start n m h =
     before-more (start + length f + length (each flatDefinition ds)) _ (behind c start (Enumerated x is ∷ ds) n m) (omega arith)
     (behind-before ds c (start + length f) n m (before-more start (start + length f) m (omega arith) h))
 
--- numbers
-pub number-below : (ns : Names) (t : Token) → visible ns t ≡ true → numberIn ns t < length ns
-number-below [] t y = absurd (false≢true y)
-number-below (n ∷ ns) t y = go (same (n .text) (t .text)) refl y (number-below ns t)
-  where
-    go : (b : Bool) → same (n .text) (t .text) ≡ b → (b || visible ns t) ≡ true → (visible ns t ≡ true → numberIn ns t < length ns) → numberIn (n ∷ ns) t < length (n ∷ ns)
-    go true e y ih = let z = number-same n ns t e in omega arith
-    go false e y ih = let z = number-other n ns t e in let l = ih y in omega arith
-
-pub length-map : {A B : Type 0} (f : A → B) (l : List A) → length (map f l) ≡ length l
-length-map f [] = refl
-length-map f (a ∷ l) = let h = length-map f l in omega arith
-
 -- what holds of all names of a spelling holds of the one that has its number
-number-held : {A : Type 0} (P : A → Type 0) (other : A) (f : Token → A) (ns : Names) (t : Token) → ((n : Token) → same (n .text) (t .text) ≡ true → P (f n)) → visible ns t ≡ true → P (numbered other (map f ns) (numberIn ns t))
+number-held : {A : Type 0} (P : A → Type 0) (other : A) (f : Token → A) (ns : Names) (t : Token) → ((n : Token) → same (n .text) (t .text) ≡ true → P (f n)) → visible ns t ≡ true
+    → P (numbered other (map f ns) (numberIn ns t))
 number-held P other f [] t h y = absurd (false≢true y)
 number-held P other f (n ∷ ns) t h y = go (same (n .text) (t .text)) refl y (number-held P other f ns t h)
   where
-    go : (b : Bool) → same (n .text) (t .text) ≡ b → (b || visible ns t) ≡ true → (visible ns t ≡ true → P (numbered other (map f ns) (numberIn ns t))) → P (numbered other (map f (n ∷ ns)) (numberIn (n ∷ ns) t))
-    go true e y ih = subst P (sym (numbered-last other (f n) (map f ns) _ (number-same n ns t e ∙ sym (length-map f ns)))) (h n e)
+    go : (b : Bool) → same (n .text) (t .text) ≡ b → (b || visible ns t) ≡ true → (visible ns t ≡ true → P (numbered other (map f ns) (numberIn ns t)))
+        → P (numbered other (map f (n ∷ ns)) (numberIn (n ∷ ns) t))
+    go true e y ih = subst P (sym (numbered-last other (f n) (map f ns) _ (number-same n ns t e ∙ sym (length-map ns f)))) (h n e)
     go false e y ih =
         let z = number-other n ns t e in
-        let m = length-map f ns in
+        let m = length-map ns f in
         let l = number-below ns t y in
         subst P (sym (numbered-before other (f n) (map f ns) _ (omega arith) ∙ ap (numbered other (map f ns)) z)) (ih y)
 
@@ -161,7 +155,8 @@ module _ (ps : List Port) (d : Table) (start : ℕ) (before later : List Definit
   below : (t : Token) → visible ns t ≡ true → reference names [] t < maxNames
   below t y = let l = number-below names t (among t y) in let z = reference-outside names t in omega arith
 
-  name-at : (P : List ℕ × Meaning → Type 0) (t : Token) → visible ns t ≡ true → ((n : Token) → same (n .text) (t .text) ≡ true → P (n .text, meaning ps d start (before ++ later) n)) → P (numbered ([], NoValue) W (reference names [] t))
+  name-at : (P : List ℕ × Meaning → Type 0) (t : Token) → visible ns t ≡ true → ((n : Token) → same (n .text) (t .text) ≡ true → P (n .text, meaning ps d start (before ++ later) n))
+      → P (numbered ([], NoValue) W (reference names [] t))
   name-at P t y h =
       subst (λ r. P (numbered ([], NoValue) W r)) (sym (reference-outside names t))
       (number-held P ([], NoValue) (λ n. (n .text, meaning ps d start (before ++ later) n)) names t h (among t y))

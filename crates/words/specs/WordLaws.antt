@@ -36,7 +36,12 @@ read-write-same w at (suc n) v h l =
     let inside : at + n < length (writeAt w at n (v / 256)) = rw (length-write w at n (v / 256)) (omega arith) in
     let small : v / 256 < 256 ^ n = div-lt-iff-lt-mul (lit< tt) .1 (rw pow-suc at l) in
     let low : at + n ≤ length w = omega arith in
-    rw (read-set-out (writeAt w at n (v / 256)) (at + n) (v % 256) at n (λ j l. omega arith), getD-set-same (writeAt w at n (v / 256)) (at + n) (v % 256) 0 inside, read-write-same w at n (v / 256) low small) (div-add-mod' v 256)
+    rw (
+      read-set-out (writeAt w at n (v / 256)) (at + n) (v % 256) at n (λ j l. omega arith),
+      getD-set-same (writeAt w at n (v / 256)) (at + n) (v % 256) 0 inside,
+      read-write-same w at n (v / 256)
+          low small,
+    ) (div-add-mod' v 256)
 
 -- the bytes behind stay
 past-write : (m : ℕ) (w : List ℕ) (at n v : ℕ) → at + n ≤ m → past m (writeAt w at n v) ≡ past m w

@@ -1,16 +1,11 @@
 // Big-endian 32-bit words in a lent byte buffer: word i is the bytes 4 i to 4 i + 3.
 // `get` and `put` ask for a word that lies in the buffer.
+use basics::least;
+use basics::u8_u32::wide;
 ghost use mathlib.Core.Path.{_≡_};
-ghost use Prim.Native.Nat.{_+_, _*_, _≤_, _<_, min};
+ghost use Prim.Native.Nat.{_+_, _*_, _≤_};
 ghost use lib.ListN.{length};
 ghost use Rattle.words.specs.Words.{wordAt, putWord, cleared};
-
-// A byte as a word, below 256.
-fn wide(x: u8) -> u32
-    ensures { λ r. ⌜ (r ≡ x) × (r < 256) ⌝ }
-{
-    x as u32
-}
 
 // Word i. Like `put` it is no entry point: the callers have bounded the index by the buffer they were lent, and show it.
 pub fn get(work: &[u8], i: usize) -> u32
@@ -34,12 +29,6 @@ pub fn put(work: &mut [u8], i: usize, v: u32)
     work[at + 1] = (v / 256 / 256 % 256) as u8;
     work[at + 2] = (v / 256 % 256) as u8;
     work[at + 3] = (v % 256) as u8;
-}
-
-fn least(a: usize, b: usize) -> usize
-    ensures { λ r. ⌜ r ≡ min a b ⌝ }
-{
-    if a < b { a } else { b }
 }
 
 // Sets the first n bytes to 0, or all of them if there are fewer.

@@ -44,7 +44,8 @@ high k = leb (k * 2 ^ 28 + 2 ^ 28 + 16383 * weight (shapeOf k)) (2 ^ 32)
 
 pub weight-low : (k x : ℕ) → k < 16 → x < fieldLimit → x * weight (shapeOf k) ≤ k * 2 ^ 28
 unfolding low
-weight-low k x h g = le-trans (mul-le-mul-right (weight (shapeOf k)) (omega arith)) (leb→le (16383 * weight (shapeOf k)) (k * 2 ^ 28) (each low 16 (tt, (tt, (tt, (tt, (tt, (tt, (tt, (tt, (tt, (tt, (tt, (tt, (tt, (tt, (tt, (tt, tt)))))))))))))))) k h))
+weight-low k x h g = le-trans (mul-le-mul-right (weight (shapeOf k)) (omega arith))
+    (leb→le (16383 * weight (shapeOf k)) (k * 2 ^ 28) (each low 16 (tt, (tt, (tt, (tt, (tt, (tt, (tt, (tt, (tt, (tt, (tt, (tt, (tt, (tt, (tt, (tt, tt)))))))))))))))) k h))
 
 pub weight-high : (k x : ℕ) → k < 16 → x < fieldLimit → k * 2 ^ 28 + 2 ^ 28 + x * weight (shapeOf k) ≤ 2 ^ 32
 unfolding high

@@ -6,3 +6,4 @@ pub mod WritingLaws
 pub mod StepLaws
 pub mod PartLaws
 pub mod WindowLaws
+pub mod StayLaws

@@ -3,7 +3,7 @@ use Prim.Native.Nat.{ℕ, zero, suc, _+_, _<_, _≤_}
 use mathlib.Core.Path.{_≡_, refl, ap, ap₂, _∙_, sym, subst}
 use mathlib.Core.List.{List, [], _∷_, _++_, map, map-append}
 use lib.ListN.{length, getD, set, length-append, length-map, length-set, List·getD-append}
-use lib.Seq.{sets, length-sets, getD-set-same, getD-set-other, getD-at, ext-getD}
+use lib.Seq.{sets, length-sets, getD-set-same, getD-at, ext-getD}
 use native.Mathlib.Decide.{decLt}
 use native.Mathlib.Omega.{arith}
 use Rattle.node.specs.Limits.{maxNodes}
@@ -12,8 +12,8 @@ use Rattle.node.specs.Postorder.{size, nodesFrom}
 use Rattle.node.specs.PostorderLaws.{length-nodes}
 use Rattle.writing.specs.Moving.{moved, moved-nodes}
 use Rattle.writing.specs.Writing.{Stored, Puts, Wrote}
-use Rattle.writing.specs.WritingLaws.{sets-append}
 use Rattle.writing.specs.Parts.{part, moves, Stands}
+use Rattle.basics.specs.Lists.{sets-append, getD-sets-below}
 
 -- words that fit are stored
 pub fitting : {vs out out′ : List ℕ} {at r : ℕ} → Puts vs out out′ at r → at + length vs ≤ maxNodes → Stored vs out out′ at r
@@ -22,11 +22,6 @@ fitting {vs} {out} {out′} {at} {r} p h = go (decLt maxNodes r)
     go : Dec (maxNodes < r) → Stored vs out out′ at r
     go (yes l) = absurd (omega (arith, p .many l))
     go (no l) = p .stored (omega arith)
-
--- what stands below the stored words
-pub getD-sets-below : (l : List ℕ) (i : ℕ) (vs : List ℕ) (k : ℕ) → k < i → getD (sets l i vs) k 0 ≡ getD l k 0
-getD-sets-below l i [] k h = refl
-getD-sets-below l i (v ∷ vs) k h = getD-sets-below (set l i v) (suc i) vs k (omega arith) ∙ getD-set-other l i k v 0 (λ e. omega arith)
 
 pub length-part : (from n : ℕ) (l : List ℕ) → length (part from n l) ≡ n
 unfolding part

@@ -1,44 +1,51 @@
--- What the writing functions ensure, from the word that was put: constants, signals, operators, and X many times over.
+-- What the writing functions ensure, from what crate storing has put: constants, signals, operators, and X many times over.
 use Prim.Native.Nat.{ℕ, zero, suc, _+_, _-_, _<_, _≤_}
 use mathlib.Core.Bool.{Bool, true, false}
-use mathlib.Core.Path.{_≡_, refl, ap, _∙_, subst}
+use mathlib.Core.Path.{_≡_, refl, subst}
 use mathlib.Core.List.{List, [], _∷_}
+use lib.ListN.{length}
 use native.Mathlib.Omega.{arith}
 use Rattle.node.specs.Limits.{maxNodes, fieldLimit}
 use Rattle.node.specs.Ltl.{X, Formula, True, False, Signal}
 use Rattle.node.specs.Fields.{pack}
-use Rattle.node.specs.Postorder.{size, nodesFrom, SignalsBelow}
+use Rattle.node.specs.Postorder.{size, SignalsBelow}
+use Rattle.node.specs.PostorderLaws.{size-pos}
+use Rattle.storing.specs.Storing as Storing
 use Rattle.writing.specs.Writing.{Puts, Wrote, Caps, Joins, Nexts, truth, nexts}
-use Rattle.writing.specs.WritingLaws.{past, wrote-one, wrote-two, wrote-none, past-one, past-two}
+use Rattle.writing.specs.WritingLaws.{put-whole, past, wrote-one, wrote-two, wrote-none, past-one, past-two}
 
-module _ {out out′ : List ℕ} {at r w : ℕ} (p : Puts (w ∷ []) out out′ at r) where
-  -- a formula of one node
-  leaf : (f : Formula) → w ∷ [] ≡ nodesFrom at f → SignalsBelow fieldLimit f → Wrote f out out′ at r
-  leaf f e s = record { puts = subst (λ (ws : List ℕ). Puts ws out out′ at r) e p; signals = λ h. s }
+-- a formula that crate storing has written into a table of 8,192
+module _ {out out′ : List ℕ} {at r : ℕ} (l : length out ≡ maxNodes) where
+  whole : (f : Formula) → SignalsBelow fieldLimit f → Storing.Wrote r f out out′ at → Wrote f out out′ at r
+  whole f s p = record { puts = put-whole l p; signals = λ h. s }
 
-  pub wrote-true : {b : Bool} → b ≡ true → w ≡ pack 0 0 0 → Wrote (truth b) out out′ at r
-  unfolding nodesFrom SignalsBelow
-  wrote-true e h = rw e (leaf True (ap (λ (x : ℕ). x ∷ []) h) tt)
+  pub wrote-true : {b : Bool} → b ≡ true → Storing.Wrote r True out out′ at → Wrote (truth b) out out′ at r
+  unfolding SignalsBelow
+  wrote-true e p = rw e (whole True tt p)
 
-  pub wrote-false : {b : Bool} → b ≡ false → w ≡ pack 1 0 0 → Wrote (truth b) out out′ at r
-  unfolding nodesFrom SignalsBelow
-  wrote-false e h = rw e (leaf False (ap (λ (x : ℕ). x ∷ []) h) tt)
+  pub wrote-false : {b : Bool} → b ≡ false → Storing.Wrote r False out out′ at → Wrote (truth b) out out′ at r
+  unfolding SignalsBelow
+  wrote-false e p = rw e (whole False tt p)
 
-  pub wrote-signal : {k : ℕ} → w ≡ pack 2 k 0 → k < fieldLimit → Wrote (Signal k) out out′ at r
-  unfolding nodesFrom SignalsBelow
-  wrote-signal {k} h s = leaf (Signal k) (ap (λ (x : ℕ). x ∷ []) h) s
+  pub wrote-signal : {k : ℕ} → k < fieldLimit → Storing.Wrote r (Signal k) out out′ at → Wrote (Signal k) out out′ at r
+  unfolding SignalsBelow
+  wrote-signal {k} s p = whole (Signal k) s p
 
-pub caps : {op w m r : ℕ} {out out′ : List ℕ} → w ≡ pack op (m - 1) 0 → Puts (w ∷ []) out out′ m r → Caps op out out′ m r
-caps {op} {w} {m} {r} {out} {out′} e p o k at = record {
-  wrote = λ v. wrote-one o v (subst (λ (x : ℕ). Puts (x ∷ []) out out′ m r) (e ∙ ap (λ (j : ℕ). pack j (m - 1) 0) k) p);
+-- behind the last node there is room for none
+pub wrote-past : (f : Formula) {out out′ : List ℕ} {at r : ℕ} → maxNodes < at → maxNodes < r → Wrote f out out′ at r
+wrote-past f h l = let some = size-pos f in wrote-none (omega arith) l
+
+pub caps : {op m r : ℕ} {out out′ : List ℕ} → length out ≡ maxNodes → Storing.Puts r (pack op (m - 1) 0 ∷ []) out out′ m → Caps op out out′ m r
+caps {op} {m} {r} {out} {out′} l p o k at = record {
+  wrote = λ v. wrote-one o v (subst (λ (j : ℕ). Puts (pack j (m - 1) 0 ∷ []) out out′ m r) k (put-whole l p));
 }
 
 pub caps-none : {op m r : ℕ} {out out′ : List ℕ} → (0 < m → maxNodes ≤ m) → maxNodes < r → Caps op out out′ m r
 caps-none g h o k at = record { wrote = λ v. wrote-none (past-one o v g) h }
 
-pub joins : {op w m n r : ℕ} {out out′ : List ℕ} → w ≡ pack op (m - 1) (n - 1) → Puts (w ∷ []) out out′ n r → Joins op out out′ m n r
-joins {op} {w} {m} {n} {r} {out} {out′} e p = record {
-  wrote = λ o k v u. wrote-two o v u (subst (λ (x : ℕ). Puts (x ∷ []) out out′ n r) (e ∙ ap (λ (j : ℕ). pack j (m - 1) (n - 1)) k) p);
+pub joins : {op m n r : ℕ} {out out′ : List ℕ} → length out ≡ maxNodes → Storing.Puts r (pack op (m - 1) (n - 1) ∷ []) out out′ n → Joins op out out′ m n r
+joins {op} {m} {n} {r} {out} {out′} l p = record {
+  wrote = λ o k v u. wrote-two o v u (subst (λ (j : ℕ). Puts (pack j (m - 1) (n - 1) ∷ []) out out′ n r) k (put-whole l p));
 }
 
 pub joins-none : {op m n r : ℕ} {out out′ : List ℕ} → (0 < m → m ≤ n → maxNodes ≤ n) → maxNodes < r → Joins op out out′ m n r

@@ -55,12 +55,14 @@ wrote-sets a out at s =
     let e = length-nodes at a in
     record { puts = record { stored = λ h. record { next = omega arith; words = refl }; many = λ h. omega arith }; signals = λ h. s }
 
-wrote-layer : (a : Formula) (from n : ℕ) (before : List ℕ) → SignalsBelow fieldLimit a → Wrote a (layers a from n before) (layers a from (suc n) before) (place from (size a) n) (place from (size a) (suc n))
+wrote-layer : (a : Formula) (from n : ℕ) (before : List ℕ) → SignalsBelow fieldLimit a
+    → Wrote a (layers a from n before) (layers a from (suc n) before) (place from (size a) n) (place from (size a) (suc n))
 unfolding layers place
 wrote-layer a from n before s = wrote-sets a (layers a from n before) (place from (size a) n) s
 
 -- the first copy stands below the others
-layers-stand : (a : Formula) (from n : ℕ) (before : List ℕ) → length before ≡ maxNodes → SignalsBelow fieldLimit a → place from (size a) (suc n) ≤ maxNodes → Stands a (layers a from (suc n) before) from
+layers-stand : (a : Formula) (from n : ℕ) (before : List ℕ) → length before ≡ maxNodes → SignalsBelow fieldLimit a → place from (size a) (suc n) ≤ maxNodes
+    → Stands a (layers a from (suc n) before) from
 unfolding place layers
 layers-stand a from zero before l s h = stands (wrote-layer a from zero before s) l h
 layers-stand a from (suc n) before l s h =
@@ -112,7 +114,8 @@ linked-more op n i j from width {out} {between} {middle} {out′} {first} {r} {x
 }
 
 -- the whole
-pub windowed : (op n from m width : ℕ) {out between out′ : List ℕ} {r : ℕ} → m ≡ from + width → m ≤ maxNodes → Layered n from width out between → Linked op n 0 from width between out′ r → Windowed op n out out′ from m r
+pub windowed : (op n from m width : ℕ) {out between out′ : List ℕ} {r : ℕ} → m ≡ from + width → m ≤ maxNodes → Layered n from width out between → Linked op n 0 from width between out′ r
+    → Windowed op n out out′ from m r
 unfolding layers place
 windowed op n from m width {out} {between} {out′} {r} e h y v = record {
   wrote = λ o k {a} {before} l w.

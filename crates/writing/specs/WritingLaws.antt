@@ -1,10 +1,9 @@
 -- Runs of stored words compose: the operands' nodes, then the operator's. Where the operands do not fit, the whole does not.
-use Prim.Native.Nat.{ℕ, suc, _+_, _-_, _<_, _≤_}
+use Prim.Native.Nat.{ℕ, _+_, _-_, _<_, _≤_}
 use mathlib.Core.Path.{_≡_, ap, ap₂, _∙_, sym, subst}
 use mathlib.Core.List.{List, [], _∷_, _++_, append-assoc}
-use lib.ListN.{length, set, length-append}
+use lib.ListN.{length, length-append}
 use lib.Seq.{sets}
-use native.Mathlib.Nat.{add-zero}
 use native.Mathlib.Decide.{decLt}
 use native.Mathlib.Omega.{arith}
 use Rattle.node.specs.Limits.{maxNodes}
@@ -14,10 +13,8 @@ use Rattle.node.specs.Kinds.{unaryKind, binaryKind}
 use Rattle.node.specs.Postorder.{size, nodesFrom, SignalsBelow}
 use Rattle.node.specs.PostorderLaws.{size-pos, length-nodes}
 use Rattle.writing.specs.Writing.{Stored, Puts, Wrote}
-
-pub sets-append : (l : List ℕ) (i : ℕ) (us vs : List ℕ) → sets l i (us ++ vs) ≡ sets (sets l i us) (i + length us) vs
-sets-append l i [] vs = rw add-zero
-sets-append l i (u ∷ us) vs = sets-append (set l i u) (suc i) us vs ∙ ap (λ (k : ℕ). sets (sets (set l i u) (suc i) us) k vs) (omega arith)
+use Rattle.basics.specs.Lists.{sets-append}
+use Rattle.storing.specs.Storing as Storing
 
 -- one run of words after another
 pub after : {us vs out between out′ : List ℕ} {at m r : ℕ} → Puts us out between at m → Puts vs between out′ m r → Puts (us ++ vs) out out′ at r
@@ -45,6 +42,10 @@ puts-as {us} {vs} {out} {out′} {at} {r} l e p = record {
   many = λ h. omega (arith, p .many h);
 }
 
+-- what crate storing has put into a table of 8,192
+pub put-whole : {vs out out′ : List ℕ} {at r : ℕ} → length out ≡ maxNodes → Storing.Puts r vs out out′ at → Puts vs out out′ at r
+put-whole e p = record { stored = λ h. let s = p .stored h in record { next = s .next; words = s .entries }; many = λ h. omega (arith, p .short h) }
+
 -- where a formula's nodes end
 pub ends : {f : Formula} {out out′ : List ℕ} {at m : ℕ} → Wrote f out out′ at m → m ≤ maxNodes → m ≡ at + size f
 ends {f} {out} {out′} {at} {m} w h = w .puts .stored h .next ∙ ap (λ (n : ℕ). at + n) (length-nodes at f)
@@ -53,7 +54,8 @@ pub past : {f : Formula} {out out′ : List ℕ} {at m : ℕ} → Wrote f out ou
 past {f} {out} {out′} {at} {m} w h = let l = length-nodes at f in omega (arith, w .puts .many h)
 
 -- an operator over the operand before it
-pub wrote-one : (o : Unary) {a : Formula} {out between out′ : List ℕ} {at m r : ℕ} → Wrote a out between at m → Puts (pack (unaryKind o) (m - 1) 0 ∷ []) between out′ m r → Wrote (One o a) out out′ at r
+pub wrote-one : (o : Unary) {a : Formula} {out between out′ : List ℕ} {at m r : ℕ} → Wrote a out between at m → Puts (pack (unaryKind o) (m - 1) 0 ∷ []) between out′ m r
+    → Wrote (One o a) out out′ at r
 unfolding nodesFrom SignalsBelow
 wrote-one o {a} {out} {between} {out′} {at} {m} {r} w p = record {
   puts = puts-as

@@ -57,7 +57,7 @@ fn moved(word: u32, from: u32, to: u32) -> u32
 }
 
 // The nodes [from, from + size) again at `at`, moved. They lie in the table and before `at`, so that none is written over before it is read.
-pub fn copy(from: usize, size: usize, at: usize, out: &mut [u32; 8192]) -> usize
+pub fn copy(from: usize, size: usize, at: usize, out: &mut [u32; MAX_NODES]) -> usize
     requires { ⌜ (from + size ≤ maxNodes) × (from + size ≤ at) ⌝ }
     ensures { λ r. ⌜ Puts (moves from at size (now (out .entry))) (now (out .entry)) (now (out .exit)) at r ⌝ }
 {
@@ -75,11 +75,11 @@ pub fn copy(from: usize, size: usize, at: usize, out: &mut [u32; 8192]) -> usize
 
 // The nodes [from, from + size) of a table at `at` in another, moved. They lie in the table.
 pub fn copy_from(
-    table: &[u32; 8192],
+    table: &[u32; MAX_NODES],
     from: usize,
     size: usize,
     at: usize,
-    out: &mut [u32; 8192],
+    out: &mut [u32; MAX_NODES],
 ) -> usize
     requires { ⌜ from + size ≤ maxNodes ⌝ }
     ensures { λ r. ⌜ Puts (moves from at size (now (table .entry))) (now (out .entry)) (now (out .exit)) at r ⌝ }
@@ -97,7 +97,7 @@ pub fn copy_from(
 }
 
 // The nodes [from, from + size) of a table moved into a lent slice, from `at` on. They lie in the table, and there is room for them: the caller has counted the whole.
-pub fn copy_out(table: &[u32; 8192], from: usize, size: usize, result: &mut [u32], at: usize)
+pub fn copy_out(table: &[u32; MAX_NODES], from: usize, size: usize, result: &mut [u32], at: usize)
     requires { ⌜ (from + size ≤ maxNodes) × ((at + size ≤ maxNodes) × (at + size ≤ length (now result))) ⌝ }
     ensures { λ r. ⌜ now (result .exit) ≡ sets (now (result .entry)) at (moves from at size (now (table .entry))) ⌝ }
 {

@@ -1,4 +1,4 @@
-// Writing a formula's nodes into a table of 8,192: every node through `put`, which answers the next index, 8,193 where there is no room.
+// Writing a formula's nodes into a table of 8,192: every node through crate storing, which answers the next index, 8,193 where there is no room.
 // The functions ask for operator codes and signal numbers that a node's fields hold; nobody has to ask for room, since what does not fit is the index 8,193.
 use node::MAX_NODES;
 use node::Node;
@@ -12,39 +12,44 @@ pub mod copies;
 pub mod window;
 
 // The index that stands for all past the last node.
-pub const TOO_MANY: usize = MAX_NODES + 1;
+pub const TOO_MANY: usize = storing::NO_ROOM;
 
 // Stores a word at an index.
-pub fn put(out: &mut [u32; 8192], at: usize, word: u32) -> usize
+pub fn put(out: &mut [u32; MAX_NODES], at: usize, word: u32) -> usize
     ensures { λ r. ⌜ Puts (word ∷ []) (now (out .entry)) (now (out .exit)) at r ⌝ }
 {
-    if at < MAX_NODES {
-        out[at] = word;
-        return at + 1;
+    if MAX_NODES < at {
+        return TOO_MANY;
     }
-    TOO_MANY
+    storing::put(out, at, word)
 }
 
 // A constant.
-pub fn constant(holds: bool, out: &mut [u32; 8192], at: usize) -> usize
+pub fn constant(holds: bool, out: &mut [u32; MAX_NODES], at: usize) -> usize
     ensures { λ r. ⌜ Wrote (truth holds) (now (out .entry)) (now (out .exit)) at r ⌝ }
 {
-    if holds {
-        return put(out, at, Node::leaf(Node::TRUE).word);
+    if MAX_NODES < at {
+        return TOO_MANY;
     }
-    put(out, at, Node::leaf(Node::FALSE).word)
+    if holds {
+        return storing::constant(Node::TRUE, out, at);
+    }
+    storing::constant(Node::FALSE, out, at)
 }
 
 // A signal: every signal node is written here. Its number has to fit the field, which holds no larger one.
-pub fn signal(k: u32, out: &mut [u32; 8192], at: usize) -> usize
+pub fn signal(k: u32, out: &mut [u32; MAX_NODES], at: usize) -> usize
     requires { ⌜ k < fieldLimit ⌝ }
     ensures { λ r. ⌜ Wrote (Signal k) (now (out .entry)) (now (out .exit)) at r ⌝ }
 {
-    put(out, at, Node::unary(Node::SIGNAL, k).word)
+    if MAX_NODES < at {
+        return TOO_MANY;
+    }
+    storing::signal(k as usize, out, at)
 }
 
 // An operator of one operand, over the node before m. Its number is one of sixteen: the kind's field holds no more.
-pub fn cap(op: u32, m: usize, out: &mut [u32; 8192]) -> usize
+pub fn cap(op: u32, m: usize, out: &mut [u32; MAX_NODES]) -> usize
     requires { ⌜ op < 16 ⌝ }
     ensures { λ r. ⌜ Caps op (now (out .entry)) (now (out .exit)) m r ⌝ }
 {
@@ -54,11 +59,11 @@ pub fn cap(op: u32, m: usize, out: &mut [u32; 8192]) -> usize
     if MAX_NODES <= m {
         return TOO_MANY;
     }
-    put(out, m, Node::unary(op, (m - 1) as u32).word)
+    storing::cap(op, m, out)
 }
 
 // An operator of two operands, over the nodes before m and before n. Its number is one of sixteen, as above.
-pub fn join(op: u32, m: usize, n: usize, out: &mut [u32; 8192]) -> usize
+pub fn join(op: u32, m: usize, n: usize, out: &mut [u32; MAX_NODES]) -> usize
     requires { ⌜ op < 16 ⌝ }
     ensures { λ r. ⌜ Joins op (now (out .entry)) (now (out .exit)) m n r ⌝ }
 {
@@ -71,15 +76,11 @@ pub fn join(op: u32, m: usize, n: usize, out: &mut [u32; 8192]) -> usize
     if MAX_NODES <= n {
         return TOO_MANY;
     }
-    put(
-        out,
-        n,
-        Node::binary(op, (m - 1) as u32, (n - 1) as u32).word,
-    )
+    storing::join(op, m, n, out)
 }
 
 // n times X over the node before m.
-pub fn nexts(n: usize, m: usize, out: &mut [u32; 8192]) -> usize
+pub fn nexts(n: usize, m: usize, out: &mut [u32; MAX_NODES]) -> usize
     ensures { λ r. ⌜ Nexts n (now (out .entry)) (now (out .exit)) m r ⌝ }
 {
     let mut r = m;

@@ -11,7 +11,7 @@ ghost use Rattle.node.specs.Limits.{maxNodes};
 ghost use Rattle.writing.specs.Windows.{place, Layered, Linked, Windowed};
 
 // n further copies of the nodes [from, from + size), one after another. `window` has made sure that they fit.
-fn layer(n: usize, from: usize, size: usize, out: &mut [u32; 8192])
+fn layer(n: usize, from: usize, size: usize, out: &mut [u32; MAX_NODES])
     requires { ⌜ place from size (suc n) ≤ maxNodes ⌝ }
     ensures { λ r. ⌜ Layered n from size (now (out .entry)) (now (out .exit)) ⌝ }
 {
@@ -24,7 +24,7 @@ fn layer(n: usize, from: usize, size: usize, out: &mut [u32; 8192])
 }
 
 // X and the operator over the last of n + 1 copies and those before it; the copies end at m. They lie in the table, and the operator is one of sixteen.
-fn link(op: u32, n: usize, from: usize, size: usize, m: usize, out: &mut [u32; 8192]) -> usize
+fn link(op: u32, n: usize, from: usize, size: usize, m: usize, out: &mut [u32; MAX_NODES]) -> usize
     requires { ⌜ (op < 16) × ((m ≡ place from size (suc n)) × (m ≤ maxNodes)) ⌝ }
     ensures { λ r. ⌜ Linked op n 0 from size (now (out .entry)) (now (out .exit)) r ⌝ }
 {
@@ -41,7 +41,7 @@ fn link(op: u32, n: usize, from: usize, size: usize, m: usize, out: &mut [u32; 8
 }
 
 // The nodes [from, m) are an operand: with n further copies of it they become a chain of the operator. Its number is one of sixteen: the kind's field holds no more.
-pub fn window(op: u32, n: usize, from: usize, m: usize, out: &mut [u32; 8192]) -> usize
+pub fn window(op: u32, n: usize, from: usize, m: usize, out: &mut [u32; MAX_NODES]) -> usize
     requires { ⌜ op < 16 ⌝ }
     ensures { λ r. ⌜ Windowed op n (now (out .entry)) (now (out .exit)) from m r ⌝ }
 {

@@ -29,7 +29,13 @@ const SHAPES: [fn(&mut Prng) -> String; 18] = [
 
 pub fn shape(rng: &mut Prng) -> String {
     let shape = *rng.pick(&SHAPES);
-    shape(rng)
+    let text = shape(rng);
+    // Unlike models put an X above every input, or above every output.
+    match rng.below(4) {
+        0 => text.replacen("SEMANTICS:Mealy", "SEMANTICS:Moore", 1),
+        1 => text.replacen("TARGET:Mealy", "TARGET:Moore", 1),
+        _ => text,
+    }
 }
 
 fn text(definitions: &str, inputs: &str, lines: &str) -> String {

@@ -23,6 +23,17 @@ fn the_two_starred_recordings() {
 }
 
 #[test]
+fn a_text_that_targets_the_other_model_is_converted() {
+    let text = String::from_utf8_lossy(TEXT);
+    for (word, changed, node) in [("SEMANTICS: Mealy", "SEMANTICS: Moore", 9), ("TARGET: Mealy", "TARGET: Moore", 10)] {
+        let (mut nodes, mut signals) = ([0; MOST_NODES], [0; MOST_SIGNALS]);
+        let answer = tlsf::read(text.replace(word, changed).as_bytes(), &mut [0; WORK_BYTES], &mut nodes, &mut signals);
+        assert_eq!(answer, Answer::Accepted { nodes: 18, signals: 2 });
+        assert_eq!(nodes[node], 8 << 28 | (node as u32 - 1) << 14);
+    }
+}
+
+#[test]
 fn a_form_is_written_either_way() {
     let mut work = [0; WORK_BYTES];
     let (mut nodes, mut signals) = ([0; MOST_NODES], [0; MOST_SIGNALS]);

@@ -13,8 +13,8 @@ use std::path::Path;
 const SEED: u64 = 20_261_115;
 
 /// How many texts of each answer are stored: 0 stands for accepted, another number for its refusal.
-const STORED: [(u32, usize); 14] = [
-    (0, 160),
+const STORED: [(u32, usize); 13] = [
+    (0, 176),
     (2, 20),
     (4, 40),
     (5, 10),
@@ -26,7 +26,6 @@ const STORED: [(u32, usize); 14] = [
     (11, 24),
     (12, 24),
     (13, 24),
-    (14, 16),
     (15, 10),
 ];
 const TABLES: usize = 72;
@@ -239,11 +238,11 @@ const ROWS: Kind = Kind {
     test: "recordingsHeld",
     uses: "use Rattle.node.specs.Result.{_>>=_, guard}
 use Rattle.node.specs.Table.{formulas, treeAt, scanned, checked}
-use Rattle.evaluator.specs.Limits.{told}
-use Rattle.evaluator.specs.Bits.{bitAt, number}
-use Rattle.evaluator.specs.Recording.{blank, filled, readable}
-use Rattle.evaluator.specs.Lasso.{next}
-use Rattle.evaluator.specs.Row.{sweepFrom, around, row, tabulate, joined}
+use Rattle.recordings.specs.Limits.{told}
+use Rattle.bits.specs.Bits.{bitAt, number}
+use Rattle.recordings.specs.Recording.{blank, filled, readable}
+use Rattle.recordings.specs.Lasso.{next}
+use Rattle.rows.specs.Row.{sweepFrom, around, row, tabulate, joined}
 use Rattle.evaluator.specs.Evaluation.{evaluation}
 ",
     unfolding: "evaluation _>>=_ guard checked scanned readable filled blank told treeAt formulas number bitAt next sweepFrom around row tabulate joined",

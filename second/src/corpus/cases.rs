@@ -1,5 +1,5 @@
-//! Texts of document 01: its refusals 11 to 16, its limits, its starred texts; and definitions that
-//! use the one before twice.
+//! Texts of document 01: its refusals 11 to 16, its limits, its starred texts; texts that state one
+//! model and target the other; and definitions that use the one before twice.
 
 use super::Stored;
 use crate::answer::Answer;
@@ -69,7 +69,6 @@ pub fn refusals() -> Vec<Stored> {
     let mut texts = all_lines("11", &LINES_11);
     texts.extend(all_lines("12", &LINES_12));
     let widths = "enum T = A: 01\n B: 10;";
-    let moore = |text: &str| text.replace("SEMANTICS: Mealy", "SEMANTICS: Moore");
     let more = [
         ("13: width 0", signals("w[0];", "")),
         ("13: width 256", signals("w[256];", "")),
@@ -81,18 +80,15 @@ pub fn refusals() -> Vec<Stored> {
             signals("u[SIZEOF w]; w[2];", ""),
         ),
         ("13: SIZEOF of the bus itself", signals("w[SIZEOF w];", "")),
-        ("14: Moore, target Mealy", moore(&line("a"))),
         ("15: 256 signals", signals("x[200]; y[56];", "")),
         ("15: inputs before outputs", signals("x[200];", "y[56]; z;")),
         ("16: X[8192] a", line("X[8192] a")),
         ("16: a full square", line("&&[0<=i<256] &&[0<=j<256] a")),
-        ("11 before 14", moore(&line("2 - 3 == 0"))),
         ("11 before 13", line("2 - 3 == 0; v[3]")),
         ("13 before 11", line("v[3]; 2 - 3 == 0")),
         ("13 before 11, the width first", {
             line("2 - 3 == 0").replace("v[3]", "v[0]")
         }),
-        ("14 before 15", moore(&signals("x[200]; y[56];", ""))),
         ("15 before 16", {
             line("X[8192] a").replace("v[3]", "v[255]")
         }),
@@ -189,6 +185,53 @@ pub fn starred() -> Vec<Stored> {
     texts.push(Stored::new("no lines, standard", signals("", "")));
     texts.push(Stored::new("no lines, strict", strict(&signals("", ""))));
     texts
+}
+
+/// 02, F-2: each text under both pairs of unlike models, and under equal ones.
+pub fn converted() -> Vec<Stored> {
+    let words = "enum T = A: 1*0\n B: 01*;\n d = a && v[2];";
+    let typed = format!(
+        "{INFO}\nGLOBAL {{ DEFINITIONS {{ enum T = A: 10\n B: 01; }} }}\n\
+         MAIN {{ INPUTS {{ T t; }} OUTPUTS {{ T o; }} ASSERT {{ o == B; }} }}"
+    );
+    let strict = |text: &str| text.replace("SEMANTICS: Mealy", "SEMANTICS: Mealy, Strict");
+    let texts = [
+        ("document 01's file", {
+            format!(
+                "{INFO} MAIN {{ INPUTS {{ r; }} OUTPUTS {{ g; }} GUARANTEE {{ G (r -> F g); }} }}"
+            )
+        }),
+        ("negated", line("!a && !c; !v[0] || !X !b")),
+        ("definition", defined(words, "d && d; F[1:3] d")),
+        ("value", defined(words, "v == A; v != B; !(B == (v))")),
+        ("value of an input", {
+            defined(words, "i == A; i != B").replace("a; b;", "a; i[3];")
+        }),
+        ("implied lines", typed.clone()),
+        ("implied lines, strict", strict(&typed)),
+        ("strict", strict(&line("a U c; G (b -> X v[1])"))),
+        ("constants alone", line("true; 1 == 2")),
+        ("11", line("c; 2 - 3 == 0")),
+        ("15", signals("x[200];", "y[56];")),
+        ("an input, 8,192 nodes", line("X[8179] a")),
+        ("an output, 8,192 nodes", line("X[8179] c")),
+        ("an input, 8,191 nodes", line("X[8178] a")),
+        ("an output, 8,191 nodes", line("X[8178] c")),
+    ];
+    let models = [("Mealy", "Moore"), ("Moore", "Mealy"), ("Moore", "Moore")];
+    let mut stored = Vec::new();
+    for (semantics, target) in models {
+        for (name, text) in &texts {
+            let text = text
+                .replace("TARGET: Mealy", &format!("TARGET: {target}"))
+                .replace("SEMANTICS: Mealy", &format!("SEMANTICS: {semantics}"));
+            stored.push(Stored::new(
+                format!("{semantics} to {target}: {name}"),
+                text,
+            ));
+        }
+    }
+    stored
 }
 
 /// How many definitions each use the one before twice.

@@ -121,6 +121,7 @@ fn reader_data() -> Vec<File> {
     data.extend(files("limits", &cases::limits()));
     data.extend(files("components", &components::components()));
     data.extend(files("starred", &cases::starred()));
+    data.extend(files("converted", &cases::converted()));
     data.extend(files("doubling", &cases::doubling()));
     data.extend(files("deep", &deep::texts()));
     data

@@ -12,7 +12,7 @@ pub struct Limit {
 }
 
 /// All limits of document 01 that a text can meet.
-pub const LIMITS: [Limit; 21] = [
+pub const LIMITS: [Limit; 22] = [
     limit("text bytes", 1, text_bytes),
     limit("name bytes", 2, name_bytes),
     limit("tokens", 3, token_count),
@@ -34,6 +34,7 @@ pub const LIMITS: [Limit; 21] = [
     limit("bus index", 13, bus_index),
     limit("signals", 15, signals),
     limit("nodes", 16, nodes),
+    limit("nodes of a converted text", 16, converted_nodes),
 ];
 
 const fn limit(name: &'static str, refusal: u32, text: fn(&mut Prng, bool) -> String) -> Limit {
@@ -185,4 +186,14 @@ fn nodes(rng: &mut Prng, beyond: bool) -> String {
         2 => line(&format!("F[{}:{}]a", 1 + more, 2727 + more)),
         _ => line(&format!("G[{}:{}]!a", 2 + more, 2046 + more)),
     }
+}
+
+/// 02, F-2: the X above an input of a Moore text for a Mealy solver, or above an output the other way round, counts too.
+fn converted_nodes(rng: &mut Prng, beyond: bool) -> String {
+    let text = line(&format!("X[{}]a", at(limits::NODES - 14, beyond)));
+    if rng.one_in(2) {
+        return text.replace("SEMANTICS:Mealy", "SEMANTICS:Moore");
+    }
+    text.replace("TARGET:Mealy", "TARGET:Moore")
+        .replace("INPUTS{a}OUTPUTS{}", "INPUTS{}OUTPUTS{a}")
 }

@@ -1,8 +1,10 @@
 //! Texts, tables and recordings from a seed: sound ones, and ones broken by mutation, by intent
 //! and at every limit.
 
+pub mod clashes;
 pub mod constructs;
 pub mod damage;
+pub mod failing;
 pub mod layout;
 pub mod limits;
 pub mod prng;
@@ -91,8 +93,11 @@ fn word_damaged_text(rng: &mut Prng) -> Vec<u8> {
 
 /// A line of expression tokens in any order.
 fn soup_text(rng: &mut Prng) -> Vec<u8> {
-    let frame = "INFO { TITLE : \"\" DESCRIPTION : \"\" SEMANTICS : Mealy TARGET : Mealy } \
-                 MAIN { INPUTS { a ; b [ 2 ] } OUTPUTS { } ASSERT {";
+    let semantics = *rng.pick(&["Mealy", "Mealy", "Moore"]);
+    let frame = format!(
+        "INFO {{ TITLE : \"\" DESCRIPTION : \"\" SEMANTICS : {semantics} TARGET : Mealy }} \
+         MAIN {{ INPUTS {{ a ; b [ 2 ] }} OUTPUTS {{ }} ASSERT {{"
+    );
     let mut tokens: Vec<String> = frame.split_whitespace().map(str::to_string).collect();
     for _ in 0..rng.between(1, 7) {
         let token = damage::expression_token(rng);

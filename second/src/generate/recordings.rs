@@ -21,11 +21,10 @@ fn lasso_of(rng: &mut Prng, positions: usize, signals: usize) -> Lasso {
     }
 }
 
-/// A recording that is sound for the signal count, or damaged.
+/// A recording that is sound for the signal count, or lacks some of the signals (about one in twelve), or is damaged.
 pub fn recording(rng: &mut Prng, signal_count: usize) -> Vec<u8> {
-    let recorded = match rng.below(6) {
-        0 => rng.between(0, signal_count),
-        1 => 0,
+    let recorded = match rng.below(12) {
+        0 if signal_count > 0 => rng.below(signal_count),
         _ => signal_count,
     };
     let mut bytes = match rng.below(60) {

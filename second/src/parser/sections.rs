@@ -28,7 +28,6 @@ impl Parser<'_> {
         let semantics = self.model()?;
         let strict = self.strict()?;
         self.line_start("TARGET")?;
-        let target_word = self.at;
         let target = self.model()?;
         self.tags()?;
         self.expect("}")?;
@@ -36,7 +35,6 @@ impl Parser<'_> {
             semantics,
             strict,
             target,
-            target_word,
         })
     }
 

@@ -27,7 +27,11 @@ assumed-requires c κs =
 
 promised-requires : tie.Need-promised-requires
 promised-requires c κs =
-    record { some = (c .before .before .before .before .before .before .before .before .before) .pre .some; lined = (c .before .before .before .before .before .before .before .before .before) .pre .gathered .lined (omega arith) }
+    record {
+      some = (c .before .before .before .before .before .before .before .before .before) .pre .some;
+      lined =
+          (c .before .before .before .before .before .before .before .before .before) .pre .gathered .lined (omega arith);
+    }
 
 join-requires : tie.Need-join-requires
 join-requires c κs = search needs
@@ -42,9 +46,11 @@ returns-2 : tie.Need-returns-2
 returns-2 c =
     λ ss g.
     let l = g .lined (omega arith) in
-    let v = (c .before .before .before .before .join) .ensures .wrote Implies refl ((c .before .before .before .before .before .before .before .before .assumed) .ensures ss l) ((c .before .before .before .before .before .before .promised) .ensures ss l) in
+    let v = (c .before .before .before .before .join) .ensures .wrote Implies refl ((c .before .before .before .before .before .before .before .before .assumed) .ensures ss l)
+    ((c .before .before .before .before .before .before .promised) .ensures ss l) in
     let w = (c .before .before .join2) .ensures .wrote And refl ((c .before .before .before .before .before .before .before .before .before .before .preset) .ensures ss l) v in
-    assembled ((c .before .before .before .before .before .before .before .before .before .before .before .before .before .before .before .before) .args .strict) (section ss) ((c .join3) .ensures .wrote Implies refl ((c .before .before .before .before .before .before .before .before .before .before .before .before .section) .ensures Initially refl ss l) w)
+    assembled ((c .before .before .before .before .before .before .before .before .before .before .before .before .before .before .before .before) .args .strict) (section ss)
+    ((c .join3) .ensures .wrote Implies refl ((c .before .before .before .before .before .before .before .before .before .before .before .before .section) .ensures Initially refl ss l) w)
 
 pub assemble-spec : {M : Type 1} → statement M
 assemble-spec = tie.close (tie.spec returns section-requires preset-requires assumed-requires promised-requires join-requires join-requires-2 join-requires-3 returns-2)

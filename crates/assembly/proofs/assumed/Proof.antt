@@ -20,7 +20,8 @@ join-requires c κs = search needs
 
 returns : tie.Need-returns
 returns c =
-    λ ss l. (c .join) .ensures .wrote And refl ((c .before .before .before .before .cap) .ensures G refl _ .wrote ((c .before .before .before .before .before .before .section) .ensures Require refl ss l)) ((c .before .before .section2) .ensures Assume refl ss l)
+    λ ss l. (c .join) .ensures .wrote And refl ((c .before .before .before .before .cap) .ensures G refl _ .wrote
+    ((c .before .before .before .before .before .before .section) .ensures Require refl ss l)) ((c .before .before .section2) .ensures Assume refl ss l)
 
 pub assumed-spec : {M : Type 1} → statement M
 assumed-spec = tie.close (tie.spec section-requires cap-requires section-requires-2 join-requires returns)

@@ -32,8 +32,11 @@ join-requires-2 c κs = search needs
 returns-2 : tie.Need-returns-2
 returns-2 c =
     λ ss l.
-    let w = (c .before .before .join) .ensures .wrote W refl ((c .before .before .before .before .before .before .before .before .section2) .ensures Assert refl ss l) ((c .before .before .before .before .cap) .ensures Not refl _ .wrote ((c .before .before .before .before .before .before .section3) .ensures Require refl ss l)) in
-    rw (not-false ((c .before .before .before .before .before .before .before .before .before .before .before .before .before .before) .args .strict) ((c .before .before .before .before .before .before .before .before .before .before .if1) .left)) ((c .join2) .ensures .wrote And refl ((c .before .before .before .before .before .before .before .before .before .before .before .section) .ensures Preset refl ss l) w)
+    let w = (c .before .before .join) .ensures .wrote W refl ((c .before .before .before .before .before .before .before .before .section2) .ensures Assert refl ss l)
+    ((c .before .before .before .before .cap) .ensures Not refl _ .wrote ((c .before .before .before .before .before .before .section3) .ensures Require refl ss l)) in
+    rw (not-false ((c .before .before .before .before .before .before .before .before .before .before .before .before .before .before) .args .strict)
+    ((c .before .before .before .before .before .before .before .before .before .before .if1) .left))
+    ((c .join2) .ensures .wrote And refl ((c .before .before .before .before .before .before .before .before .before .before .before .section) .ensures Preset refl ss l) w)
 
 pub preset-spec : {M : Type 1} → statement M
 preset-spec = tie.close (tie.spec section-requires returns section-requires-2 section-requires-3 cap-requires join-requires join-requires-2 returns-2)

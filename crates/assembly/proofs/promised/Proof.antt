@@ -26,7 +26,9 @@ join-requires c κs = search needs
 
 returns-2 : tie.Need-returns-2
 returns-2 c =
-    λ ss l. rw ((c .before .before .before .before .before .before .before .before .if1) .left) ((c .join) .ensures .wrote And refl ((c .before .before .before .before .cap) .ensures G refl _ .wrote ((c .before .before .before .before .before .before .section2) .ensures Assert refl ss l)) ((c .before .before .section3) .ensures Guarantee refl ss l))
+    λ ss l. rw ((c .before .before .before .before .before .before .before .before .if1) .left)
+    ((c .join) .ensures .wrote And refl ((c .before .before .before .before .cap) .ensures G refl _ .wrote
+    ((c .before .before .before .before .before .before .section2) .ensures Assert refl ss l)) ((c .before .before .section3) .ensures Guarantee refl ss l))
 
 pub promised-spec : {M : Type 1} → statement M
 promised-spec = tie.close (tie.spec section-requires returns section-requires-2 cap-requires section-requires-3 join-requires returns-2)

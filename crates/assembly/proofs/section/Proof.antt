@@ -34,14 +34,19 @@ cast-size c = omega arith
 
 copy-from-requires : tie.Need-copy-from-requires Inv-loop μ-loop
 copy-from-requires c κs =
-    ahead-fits (ahead ((c .before .before .before .before .before .before) .pre .lined) ((c .before .before .before .before .loop) .inv .1 _ ((c .before .before .before .before .before .before) .pre .lined)) (omega arith))
+    ahead-fits (ahead ((c .before .before .before .before .before .before) .pre .lined)
+    ((c .before .before .before .before .loop) .inv .1 _ ((c .before .before .before .before .before .before) .pre .lined)) (omega arith))
 
 further-requires : tie.Need-further-requires Inv-loop μ-loop
 further-requires c κs = search needs
 
 add-start : tie.Need-add-start Inv-loop μ-loop
 add-start c =
-    omega (arith, ahead-fits (ahead ((c .before .before .before .before .before) .pre .lined) ((c .before .before .before .loop) .inv .1 _ ((c .before .before .before .before .before) .pre .lined)) (omega arith)))
+    omega (
+      arith,
+      ahead-fits (ahead ((c .before .before .before .before .before) .pre .lined) ((c .before .before .before .loop) .inv .1 _ ((c .before .before .before .before .before) .pre .lined))
+          (omega arith)),
+    )
 
 add-i : tie.Need-add-i Inv-loop μ-loop
 add-i c = omega arith
@@ -69,4 +74,5 @@ returns c =
     λ p e ss l. section-is p ss e (passed-all l ((c .before .before .before .loop) .inv .1 (inTurn ss) l) (omega arith)) ((c .finish) .ensures)
 
 pub section-spec : {M : Type 1} → statement M
-section-spec = tie.close (tie.spec Inv-loop μ-loop loop-holds mul-line shared-slice-read-line cast-size copy-from-requires further-requires add-start add-i loop-less loop-again finish-requires returns)
+section-spec = tie.close (tie.spec Inv-loop μ-loop loop-holds mul-line shared-slice-read-line cast-size copy-from-requires further-requires add-start add-i loop-less loop-again finish-requires
+    returns)

@@ -56,7 +56,8 @@ returns-3 c =
     let named = typed .before .before .before .before .before .before .before .before in
     let deep = named .before .before .before .before .before in
     λ x s.
-    wrong-typed s _ _ (deep .too-deep .ensures) (named .before .before .before .enum-told .given .1) (named .resolve .ensures x s) (typed .before .before .enum-told2 .given .1) (typed .wrong-type .ensures) (c .before .wrong .given .1)
+    wrong-typed s _ _ (deep .too-deep .ensures) (named .before .before .before .enum-told .given .1) (named .resolve .ensures x s) (typed .before .before .enum-told2 .given .1)
+    (typed .wrong-type .ensures) (c .before .wrong .given .1)
 
 enum-told-4 : tie.Need-enum-told-4
 enum-told-4 c = search needs
@@ -80,7 +81,8 @@ returns-4 c =
     let named = typed .before .before .before .before .before .before .before .before in
     let deep = named .before .before .before .before .before in
     λ x s.
-    wrong-worded s _ _ (deep .too-deep .ensures) (named .before .before .before .enum-told .given .1) (named .resolve .ensures x s) (typed .before .before .enum-told2 .given .1) (typed .wrong-type .ensures)
+    wrong-worded s _ _ (deep .too-deep .ensures) (named .before .before .before .enum-told .given .1) (named .resolve .ensures x s) (typed .before .before .enum-told2 .given .1)
+    (typed .wrong-type .ensures)
     (worded .before .enum-told4 .given .1) (worded .wrong-words .ensures) (c .before .word .given .1)
 
 enum-told-5 : tie.Need-enum-told-5
@@ -99,7 +101,8 @@ returns-5 c =
     let named = typed .before .before .before .before .before .before .before .before in
     let deep = named .before .before .before .before .before in
     λ x s.
-    all-formed s _ _ (deep .too-deep .ensures) (named .before .before .before .enum-told .given .1) (named .resolve .ensures x s) (typed .before .before .enum-told2 .given .1) (typed .wrong-type .ensures)
+    all-formed s _ _ (deep .too-deep .ensures) (named .before .before .before .enum-told .given .1) (named .resolve .ensures x s) (typed .before .before .enum-told2 .given .1)
+    (typed .wrong-type .ensures)
     (worded .before .enum-told4 .given .1) (worded .wrong-words .ensures) (c .enum-told5 .given .1)
 
 pub well-formed-spec : {M : Type 1} → statement M

@@ -22,11 +22,18 @@ cell-at-requires c κs = ((c .before .before .before) .pre, (c .loop-test) .take
 
 returns : tie.Need-returns Inv-loop μ-loop
 returns c =
-    end-low ((c .before .before .before .before .before) .args .work .now) ((c .before .before .before .before .before) .args .low) ((c .before .before .before .loop) .j) ((c .before .before .loop-test) .taken) ((c .before .cell-at) .ensures .0) ((c .if1) .taken) ∙ (c .before .before .before .loop) .inv
+    let at-loop-test = c .before .before in
+    let at-loop = at-loop-test .before in
+    let start = at-loop .before .before in
+    end-low (start .args .work .now) (start .args .low) ((at-loop .loop) .j) ((at-loop-test .loop-test) .taken) ((c .before .cell-at) .ensures .0) ((c .if1) .taken) ∙ (at-loop .loop) .inv
 
 returns-2 : tie.Need-returns-2 Inv-loop μ-loop
 returns-2 c =
-    end-high ((c .before .before .before .before .before .before) .args .work .now) ((c .before .before .before .before .before .before) .args .low) ((c .before .before .before .before .loop) .j) ((c .before .before .before .loop-test) .taken) ((c .before .before .cell-at) .ensures .0) ((c .if2) .taken) ∙ (c .before .before .before .before .loop) .inv
+    let at-cell-at = c .before .before in
+    let at-loop-test = at-cell-at .before in
+    let at-loop = at-loop-test .before in
+    let start = at-loop .before .before in
+    end-high (start .args .work .now) (start .args .low) ((at-loop .loop) .j) ((at-loop-test .loop-test) .taken) ((at-cell-at .cell-at) .ensures .0) ((c .if2) .taken) ∙ (at-loop .loop) .inv
 
 add-j : tie.Need-add-j Inv-loop μ-loop
 add-j c = omega arith
@@ -36,11 +43,17 @@ loop-less c = omega arith
 
 loop-again : tie.Need-loop-again Inv-loop μ-loop
 loop-again c =
-    end-more ((c .before .before .before .before .before .before) .args .work .now) ((c .before .before .before .before .before .before) .args .low) ((c .before .before .before .before .loop) .j) ((c .before .before .before .loop-test) .taken) ((c .before .before .cell-at) .ensures .0) ((c .before .if1) .left) ((c .if2) .left) ∙ (c .before .before .before .before .loop) .inv
+    let at-cell-at = c .before .before in
+    let at-loop-test = at-cell-at .before in
+    let at-loop = at-loop-test .before in
+    let start = at-loop .before .before in
+    end-more (start .args .work .now) (start .args .low) ((at-loop .loop) .j) ((at-loop-test .loop-test) .taken) ((at-cell-at .cell-at) .ensures .0) ((c .before .if1) .left) ((c .if2) .left) ∙
+    (at-loop .loop) .inv
 
 returns-3 : tie.Need-returns-3 Inv-loop μ-loop
 returns-3 c =
-    end-past ((c .before .before .before) .args .work .now) ((c .before .before .before) .args .low) ((c .before .loop) .j) ((c .loop-test) .left) ∙ (c .before .loop) .inv
+    let start = c .before .before .before in
+    end-past (start .args .work .now) (start .args .low) ((c .before .loop) .j) ((c .loop-test) .left) ∙ (c .before .loop) .inv
 
 pub end-from-spec : {M : Type 1} → statement M
 end-from-spec =

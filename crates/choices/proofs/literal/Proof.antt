@@ -3,7 +3,6 @@ use borrow.Author.Needs.{needs}
 use mathlib.Core.Path.{refl}
 use Rattle.node.specs.Ltl.{Not}
 use Rattle.choices.specs.LiteralLaws.{wrote-present, wrote-absent}
-use borrow.Author.Needs.{needs}
 use Rattle.choices.proofs.literal.Statement.{statement}
 use Rattle.choices.proofs.literal.Tie as tie
 

@@ -39,7 +39,9 @@ loop-less c = omega arith
 
 loop-again : tie.Need-loop-again Inv-loop μ-loop
 loop-again c =
-    (omega arith, matched-star ((c .before .before .before .before .loop) .inv .1) ((c .before .before .byte-at) .ensures) (sym ((c .before .starred) .ensures) ∙ (c .if1) .taken))
+    let at-byte-at = c .before .before in
+    let at-loop = at-byte-at .before .before in
+    (omega arith, matched-star ((at-loop .loop) .inv .1) ((at-byte-at .byte-at) .ensures) (sym ((c .before .starred) .ensures) ∙ (c .if1) .taken))
 
 add-literal : tie.Need-add-literal Inv-loop μ-loop
 add-literal c = omega arith
@@ -58,7 +60,15 @@ loop-less-2 c = omega arith
 
 loop-again-2 : tie.Need-loop-again-2 Inv-loop μ-loop
 loop-again-2 c =
-    (omega arith, matched-literal ((c .before .before .before .before .before .before .before .before .loop) .inv .1) ((c .before .before .before .before .before .before .byte-at) .ensures) (sym ((c .before .before .before .before .before .starred) .ensures) ∙ (c .before .before .before .before .if1) .left) ((c .before .before .literal) .ensures) ((c .further) .ensures))
+    let at-literal = c .before .before in
+    let at-if1 = at-literal .before .before in
+    let at-starred = at-if1 .before in
+    let at-byte-at = at-starred .before in
+    let at-loop = at-byte-at .before .before in (
+      omega arith,
+      matched-literal ((at-loop .loop) .inv .1) ((at-byte-at .byte-at) .ensures) (sym ((at-starred .starred) .ensures) ∙ (at-if1 .if1) .left) ((at-literal .literal) .ensures)
+          ((c .further) .ensures),
+    )
 
 finish-requires : tie.Need-finish-requires Inv-loop μ-loop
 finish-requires c κs = search needs

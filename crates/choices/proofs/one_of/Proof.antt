@@ -20,7 +20,8 @@ loop-holds c = matching-none _ _ _ _ _ _ _
 
 cell-at-requires : tie.Need-cell-at-requires Inv-loop μ-loop
 cell-at-requires c κs =
-    ((c .before .before .before .before .before) .pre .0 .room, omega (arith, (c .before .before .before .before .before) .pre .0 .few, (c .loop-test) .taken))
+    let start = c .before .before .before .before .before in
+    (start .pre .0 .room, omega (arith, start .pre .0 .few, (c .loop-test) .taken))
 
 add-i : tie.Need-add-i Inv-loop μ-loop
 add-i c = omega arith
@@ -30,10 +31,16 @@ loop-less c = omega arith
 
 loop-again : tie.Need-loop-again Inv-loop μ-loop
 loop-again c =
-    matching-skip ((c .before .before .before .before .loop) .inv) ((c .before .before .before .loop-test) .taken) ((c .before .before .cell-at) .ensures .0) ((c .if2) .taken)
+    let at-cell-at = c .before .before in
+    let at-loop-test = at-cell-at .before in
+    let at-loop = at-loop-test .before in
+    matching-skip ((at-loop .loop) .inv) ((at-loop-test .loop-test) .taken) ((at-cell-at .cell-at) .ensures .0) ((c .if2) .taken)
 
 matches-requires : tie.Need-matches-requires Inv-loop μ-loop
-matches-requires c κs = (c .before .before .before .before .before .before .before .before .before) .pre .1 ((c .before .before .before .before .before .before .if1) .left)
+matches-requires c κs =
+    let at-if1 = c .before .before .before .before .before .before in
+    let start = at-if1 .before .before .before in
+    start .pre .1 ((at-if1 .if1) .left)
 
 further-requires : tie.Need-further-requires Inv-loop μ-loop
 further-requires c κs = search needs
@@ -46,14 +53,22 @@ loop-less-2 c = omega arith
 
 loop-again-2 : tie.Need-loop-again-2 Inv-loop μ-loop
 loop-again-2 c =
-    matching-word ((c .before .before .before .before .before .before .before .before .loop) .inv) ((c .before .before .before .before .before .before .before .loop-test) .taken) ((c .before .before .before .before .before .before .cell-at) .ensures .0) ((c .before .before .before .before .if2) .left) ((c .before .before .matches) .ensures) ((c .further) .ensures)
+    let at-matches = c .before .before in
+    let at-if2 = at-matches .before .before in
+    let at-cell-at = at-if2 .before .before in
+    let at-loop-test = at-cell-at .before in
+    let at-loop = at-loop-test .before in
+    matching-word ((at-loop .loop) .inv) ((at-loop-test .loop-test) .taken) ((at-cell-at .cell-at) .ensures .0) ((at-if2 .if2) .left) ((at-matches .matches) .ensures) ((c .further) .ensures)
 
 finish-requires : tie.Need-finish-requires Inv-loop μ-loop
 finish-requires c κs = search needs
 
 returns-2 : tie.Need-returns-2 Inv-loop μ-loop
 returns-2 c =
-    matching-all ((c .before .before .before .loop) .inv) ((c .before .before .loop-test) .left) ((c .before .before .before .before .if1) .left) ((c .finish) .ensures)
+    let at-loop-test = c .before .before in
+    let at-loop = at-loop-test .before in
+    let at-if1 = at-loop .before in
+    matching-all ((at-loop .loop) .inv) ((at-loop-test .loop-test) .left) ((at-if1 .if1) .left) ((c .finish) .ensures)
 
 pub one-of-spec : {M : Type 1} → statement M
 one-of-spec =

@@ -16,7 +16,9 @@ loop-holds : tie.Need-loop-holds Inv-loop μ-loop
 loop-holds c = refl
 
 cell-at-requires : tie.Need-cell-at-requires Inv-loop μ-loop
-cell-at-requires c κs = ((c .before .before .before) .pre .room, omega (arith, (c .before .before .before) .pre .few, (c .loop-test) .taken))
+cell-at-requires c κs =
+    let start = c .before .before .before in
+    (start .pre .room, omega (arith, start .pre .few, (c .loop-test) .taken))
 
 add-i : tie.Need-add-i Inv-loop μ-loop
 add-i c = omega arith
@@ -26,11 +28,22 @@ loop-less c = omega arith
 
 loop-again : tie.Need-loop-again Inv-loop μ-loop
 loop-again c =
-    sym (widths-skip ((c .before .before .before .before .before .before) .args .work .now) ((c .before .before .before .before .loop) .i) ((c .before .before .before .before .before .before) .args .to) ((c .before .before .before .before .before .before) .args .n) ((c .before .before .before .loop-test) .taken) ((c .before .before .cell-at) .ensures .0) ((c .if1) .taken)) ∙ (c .before .before .before .before .loop) .inv
+    let at-cell-at = c .before .before in
+    let at-loop-test = at-cell-at .before in
+    let at-loop = at-loop-test .before in
+    let start = at-loop .before .before in
+    sym (widths-skip (start .args .work .now) ((at-loop .loop) .i) (start .args .to) (start .args .n) ((at-loop-test .loop-test) .taken) ((at-cell-at .cell-at) .ensures .0) ((c .if1) .taken)) ∙
+    (at-loop .loop) .inv
 
 returns : tie.Need-returns Inv-loop μ-loop
 returns c =
-    widths-are (sym (widths-other ((c .before .before .before .before .before .before .before .before) .args .work .now) ((c .before .before .before .before .before .before .loop) .i) ((c .before .before .before .before .before .before .before .before) .args .to) ((c .before .before .before .before .before .before .before .before) .args .n) ((c .before .before .before .before .before .loop-test) .taken) ((c .before .before .before .before .cell-at) .ensures .0) ((c .before .before .if1) .left) ((c .if2) .taken)) ∙ (c .before .before .before .before .before .before .loop) .inv)
+    let at-if1 = c .before .before in
+    let at-cell-at = at-if1 .before .before in
+    let at-loop-test = at-cell-at .before in
+    let at-loop = at-loop-test .before in
+    let start = at-loop .before .before in
+    widths-are (sym (widths-other (start .args .work .now) ((at-loop .loop) .i) (start .args .to) (start .args .n) ((at-loop-test .loop-test) .taken) ((at-cell-at .cell-at) .ensures .0)
+    ((at-if1 .if1) .left) ((c .if2) .taken)) ∙ (at-loop .loop) .inv)
 
 add-i-2 : tie.Need-add-i-2 Inv-loop μ-loop
 add-i-2 c = omega arith
@@ -40,11 +53,18 @@ loop-less-2 c = omega arith
 
 loop-again-2 : tie.Need-loop-again-2 Inv-loop μ-loop
 loop-again-2 c =
-    sym (widths-same ((c .before .before .before .before .before .before .before .before) .args .work .now) ((c .before .before .before .before .before .before .loop) .i) ((c .before .before .before .before .before .before .before .before) .args .to) ((c .before .before .before .before .before .before .before .before) .args .n) ((c .before .before .before .before .before .loop-test) .taken) ((c .before .before .before .before .cell-at) .ensures .0) ((c .before .before .if1) .left) ((c .if2) .left)) ∙ (c .before .before .before .before .before .before .loop) .inv
+    let at-if1 = c .before .before in
+    let at-cell-at = at-if1 .before .before in
+    let at-loop-test = at-cell-at .before in
+    let at-loop = at-loop-test .before in
+    let start = at-loop .before .before in
+    sym (widths-same (start .args .work .now) ((at-loop .loop) .i) (start .args .to) (start .args .n) ((at-loop-test .loop-test) .taken) ((at-cell-at .cell-at) .ensures .0) ((at-if1 .if1) .left)
+    ((c .if2) .left)) ∙ (at-loop .loop) .inv
 
 returns-2 : tie.Need-returns-2 Inv-loop μ-loop
 returns-2 c =
-    widths-are (widths-none ((c .before .before .before) .args .work .now) ((c .before .loop) .i) ((c .before .before .before) .args .to) ((c .before .before .before) .args .n) ((c .loop-test) .left) ∙ (c .before .loop) .inv)
+    let start = c .before .before .before in
+    widths-are (widths-none (start .args .work .now) ((c .before .loop) .i) (start .args .to) (start .args .n) ((c .loop-test) .left) ∙ (c .before .loop) .inv)
 
 pub widths-are-spec : {M : Type 1} → statement M
 widths-are-spec =

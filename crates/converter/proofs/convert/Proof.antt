@@ -36,7 +36,8 @@ same-length c = search needs
 returns : tie.Need-returns
 returns c =
     let a = c .before .before .before .before .before .before .before .before .before .before .before .before .before .before .args in
-    read-refused (a .form) (a .nodes .now) (a .signals .now) (c .before .before .before .before .before .before .read .ensures) (length-replicate {A = ℕ} _ 0) (length-replicate {A = ℕ} _ 0) (c .enum-told .given .1)
+    read-refused (a .form) (a .nodes .now) (a .signals .now) (c .before .before .before .before .before .before .read .ensures) (length-replicate {A = ℕ} _ 0) (length-replicate {A = ℕ} _ 0)
+    (c .enum-told .given .1)
 
 cast-n : tie.Need-cast-n
 cast-n c = search needs

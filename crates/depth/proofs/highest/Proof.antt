@@ -35,11 +35,16 @@ loop-less c = omega arith
 
 loop-again : tie.Need-loop-again Inv-loop μ-loop
 loop-again c =
-    ap (λ m. max m (highest (slice ((c .before .before .before .loop) .i + 1) ((c .before .before .before .before .before) .args .to) ((c .before .before .before .before .before) .args .levels .now)))) ((c .larger) .ensures) ∙ highest-part ((c .before .before .before .before .before) .args .levels .now) ((c .before .before .before .loop) .i) ((c .before .before .before .before .before) .args .to) ((c .before .before .before .loop) .most) ((c .before .before .before .before .before) .pre) ((c .before .before .loop-test) .taken) ∙ (c .before .before .before .loop) .inv
+    let at-loop-test = c .before .before in
+    let at-loop = at-loop-test .before in
+    let start = at-loop .before .before in
+    ap (λ m. max m (highest (slice ((at-loop .loop) .i + 1) (start .args .to) (start .args .levels .now)))) ((c .larger) .ensures) ∙ highest-part (start .args .levels .now) ((at-loop .loop) .i)
+    (start .args .to) ((at-loop .loop) .most) (start .pre) ((at-loop-test .loop-test) .taken) ∙ (at-loop .loop) .inv
 
 returns : tie.Need-returns Inv-loop μ-loop
 returns c =
-    highest-none ((c .before .before .before) .args .levels .now) ((c .before .loop) .i) ((c .before .before .before) .args .to) ((c .before .loop) .most) ((c .loop-test) .left) ∙ (c .before .loop) .inv
+    let start = c .before .before .before in
+    highest-none (start .args .levels .now) ((c .before .loop) .i) (start .args .to) ((c .before .loop) .most) ((c .loop-test) .left) ∙ (c .before .loop) .inv
 
 pub highest-spec : {M : Type 1} → statement M
 highest-spec =

@@ -15,22 +15,28 @@ raised-requires c κs = search needs
 
 returns : tie.Need-returns
 returns c =
-    (c .raised) .ensures ∙ ap capped (add-one ((c .before .before) .args .most)) ∙ sym (own-level ((c .before .before) .args .kind) ((c .before .before) .args .most) ((c .before .before) .args .start) ((c .before .if1) .taken))
+    let start-2 = c .before .before in
+    (c .raised) .ensures ∙ ap capped (add-one (start-2 .args .most)) ∙ sym (own-level (start-2 .args .kind) (start-2 .args .most) (start-2 .args .start) ((c .before .if1) .taken))
 
 raised-requires-2 : tie.Need-raised-requires-2
 raised-requires-2 c κs = search needs
 
 returns-2 : tie.Need-returns-2
 returns-2 c =
-    (c .raised2) .ensures ∙ ap capped (add-one ((c .before .before .before .before) .args .most)) ∙ sym (first-level ((c .before .before .before .before) .args .kind) ((c .before .before .before .before) .args .most) ((c .before .before .before .before) .args .start) ((c .before .before .if2) .taken) ((c .before .if3) .taken))
+    let at-if2 = c .before .before in
+    let start-2 = at-if2 .before .before in
+    (c .raised2) .ensures ∙ ap capped (add-one (start-2 .args .most)) ∙ sym
+    (first-level (start-2 .args .kind) (start-2 .args .most) (start-2 .args .start) ((at-if2 .if2) .taken) ((c .before .if3) .taken))
 
 returns-3 : tie.Need-returns-3
 returns-3 c =
-    sym (further-level ((c .before .before .before) .args .kind) ((c .before .before .before) .args .most) ((c .before .before .before) .args .start) ((c .before .if2) .taken) ((c .if3) .left))
+    let start-2 = c .before .before .before in
+    sym (further-level (start-2 .args .kind) (start-2 .args .most) (start-2 .args .start) ((c .before .if2) .taken) ((c .if3) .left))
 
 returns-4 : tie.Need-returns-4
 returns-4 c =
-    sym (no-level ((c .before .before) .args .kind) ((c .before .before) .args .most) ((c .before .before) .args .start) ((c .before .if1) .left) ((c .if2) .left))
+    let start-2 = c .before .before in
+    sym (no-level (start-2 .args .kind) (start-2 .args .most) (start-2 .args .start) ((c .before .if1) .left) ((c .if2) .left))
 
 pub level-of-spec : {M : Type 1} → statement M
 level-of-spec =

@@ -57,7 +57,20 @@ same-length-2 c = search needs
 
 returns : tie.Need-returns
 returns c =
-    passes-part ((c .before .before .before .before .before .before .before .before .before .before .before .before .before .before .before .before .before .before) .pre .0) ((c .before .before .before .before .before .before .before .before .before .before .before .before .before .before .before .before .before .before) .pre .1) ((c .before .before .before .before .before .before .before .before .before .before .before .before .before .before .cell-at) .ensures .0) ((c .before .before .before .before .before .before .before .before .before .before .before .before .before .operand-count) .ensures) ((c .before .before .before .before .before .before .before .before .before .before .before .before .less) .ensures) ((c .before .before .before .before .before .before .before .before .before .before .first-of) .ensures) ((c .before .before .before .before .before .before .before .before .first-of2) .ensures) ((c .before .before .before .before .before .before .before .fault-of) .ensures) ((c .before .before .before .before .before .before .first) .ensures) ((c .before .before .before .before .before .if1) .taken) ((c .before .before .before .highest) .ensures) ((c .before .before .level-of) .ensures) ((c .start-of) .ensures)
+    let at-level-of = c .before .before in
+    let at-highest = at-level-of .before in
+    let at-if1 = at-highest .before .before in
+    let at-first = at-if1 .before in
+    let at-fault-of = at-first .before in
+    let at-first-of2 = at-fault-of .before in
+    let at-first-of = at-first-of2 .before .before in
+    let at-less = at-first-of .before .before in
+    let at-operand-count = at-less .before in
+    let at-cell-at = at-operand-count .before in
+    let start = at-cell-at .before .before .before .before in
+    passes-part (start .pre .0) (start .pre .1) ((at-cell-at .cell-at) .ensures .0) ((at-operand-count .operand-count) .ensures) ((at-less .less) .ensures) ((at-first-of .first-of) .ensures)
+    ((at-first-of2 .first-of2) .ensures) ((at-fault-of .fault-of) .ensures) ((at-first .first) .ensures) ((at-if1 .if1) .taken) ((at-highest .highest) .ensures) ((at-level-of .level-of) .ensures)
+    ((c .start-of) .ensures)
 
 same-length-3 : tie.Need-same-length-3
 same-length-3 c = search needs
@@ -67,7 +80,15 @@ same-length-4 c = search needs
 
 returns-2 : tie.Need-returns-2
 returns-2 c =
-    passes-line ((c .before .before .before .before .before .before .before .before .before .before .before .before .before) .pre .0) ((c .before .before .before .before .before .before .before .before .before .before .before .before .before) .pre .1) ((c .before .before .before .before .before .before .before .before .before .cell-at) .ensures .0) ((c .before .before .before .before .before .before .before .before .operand-count) .ensures) ((c .before .before .before .before .before .before .before .less) .ensures) ((c .before .before .before .before .before .first-of) .ensures) ((c .before .before .before .first-of2) .ensures) ((c .before .before .fault-of) .ensures) ((c .before .first) .ensures) ((c .if1) .left)
+    let at-fault-of = c .before .before in
+    let at-first-of2 = at-fault-of .before in
+    let at-first-of = at-first-of2 .before .before in
+    let at-less = at-first-of .before .before in
+    let at-operand-count = at-less .before in
+    let at-cell-at = at-operand-count .before in
+    let start = at-cell-at .before .before .before .before in
+    passes-line (start .pre .0) (start .pre .1) ((at-cell-at .cell-at) .ensures .0) ((at-operand-count .operand-count) .ensures) ((at-less .less) .ensures) ((at-first-of .first-of) .ensures)
+    ((at-first-of2 .first-of2) .ensures) ((at-fault-of .fault-of) .ensures) ((c .before .first) .ensures) ((c .if1) .left)
 
 pub pass-spec : {M : Type 1} → statement M
 pass-spec =

@@ -27,7 +27,10 @@ slice-aggregate-pass-2 c = search needs
 
 pass-requires : tie.Need-pass-requires Inv-loop μ-loop
 pass-requires c κs =
-    ((c .before .before .before .loop) .inv .0, omega (arith, (c .before .before .loop-test) .taken, (c .before .before .before .before .before) .pre .1))
+    let at-loop-test = c .before .before in
+    let at-loop = at-loop-test .before in
+    let start = at-loop .before .before in
+    ((at-loop .loop) .inv .0, omega (arith, (at-loop-test .loop-test) .taken, start .pre .1))
 
 add-i : tie.Need-add-i Inv-loop μ-loop
 add-i c = search needs
@@ -40,7 +43,9 @@ loop-again c = ((c .before .before .pass) .ensures, omega arith)
 
 returns : tie.Need-returns Inv-loop μ-loop
 returns c =
-    passed-all ((c .before .before .before) .args .work .now) ((c .before .before .before) .args .entries) ((c .before .loop) .i) ((c .before .loop) .p) ((c .before .loop) .levels) ((c .before .loop) .starts) ((c .before .loop) .inv .0) ((c .before .loop) .inv .1) ((c .loop-test) .left)
+    let start = c .before .before .before in
+    passed-all (start .args .work .now) (start .args .entries) ((c .before .loop) .i) ((c .before .loop) .p) ((c .before .loop) .levels) ((c .before .loop) .starts) ((c .before .loop) .inv .0)
+    ((c .before .loop) .inv .1) ((c .loop-test) .left)
 
 pub too-deep-spec : {M : Type 1} → statement M
 too-deep-spec =

@@ -32,21 +32,39 @@ loop-less c = omega arith
 
 loop-again : tie.Need-loop-again Inv-loop μ-loop
 loop-again c =
-    sym (clash-own ((c .before .before .before .before .before) .args .n) ((c .before .before .before .before .before) .args .owner) (take ((c .before .before .before .before .before) .args .n) ((c .before .before .before .before .before) .args .row)) ((c .before .before .before .before .before) .args .owners .now) ((c .before .before .before .before .before) .args .rows .now) ((c .before .before .before .loop) .i) ((c .before .before .before .before .before) .args .count) ((c .before .before .before .before .before) .pre .few) ((c .before .before .before .before .before) .pre .few′) ((c .before .before .loop-test) .taken) ((c .if1) .taken)) ∙ (c .before .before .before .loop) .inv
+    let at-loop-test = c .before .before in
+    let at-loop = at-loop-test .before in
+    let start = at-loop .before .before in
+    sym (clash-own (start .args .n) (start .args .owner) (take (start .args .n) (start .args .row)) (start .args .owners .now) (start .args .rows .now) ((at-loop .loop) .i) (start .args .count)
+    (start .pre .few) (start .pre .few′) ((at-loop-test .loop-test) .taken) ((c .if1) .taken)) ∙ (at-loop .loop) .inv
 
 mul-earlier : tie.Need-mul-earlier Inv-loop μ-loop
-mul-earlier c = omega (arith, (c .before .before .loop-test) .taken, (c .before .before .before .before .before) .pre .small)
+mul-earlier c =
+    let at-loop-test = c .before .before in
+    let start = at-loop-test .before .before .before in
+    omega (arith, (at-loop-test .loop-test) .taken, start .pre .small)
 
 shared-slice-copy-out-earlier : tie.Need-shared-slice-copy-out-earlier Inv-loop μ-loop
-shared-slice-copy-out-earlier c = omega (arith, (c .before .before .loop-test) .taken, (c .before .before .before .before .before) .pre .few′)
+shared-slice-copy-out-earlier c =
+    let at-loop-test = c .before .before in
+    let start = at-loop-test .before .before .before in
+    omega (arith, (at-loop-test .loop-test) .taken, start .pre .few′)
 
 meets-requires : tie.Need-meets-requires Inv-loop μ-loop
 meets-requires c κs =
-    ((c .before .before .before .before .before .before) .pre .short, (c .before .before .before .before .before .before) .pre .each ((c .before .before .before .before .loop) .i) (omega (arith, (c .before .before .before .loop-test) .taken, (c .before .before .before .before .before .before) .pre .few′)), (c .before .before .before .before .before .before) .pre .full)
+    let at-loop-test = c .before .before .before in
+    let at-loop = at-loop-test .before in
+    let start = at-loop .before .before in
+    (start .pre .short, start .pre .each ((at-loop .loop) .i) (omega (arith, (at-loop-test .loop-test) .taken, start .pre .few′)), start .pre .full)
 
 returns : tie.Need-returns Inv-loop μ-loop
 returns c =
-    sym (clash-here ((c .before .before .before .before .before .before .before .before) .args .n) ((c .before .before .before .before .before .before .before .before) .args .owner) (take ((c .before .before .before .before .before .before .before .before) .args .n) ((c .before .before .before .before .before .before .before .before) .args .row)) ((c .before .before .before .before .before .before .before .before) .args .owners .now) ((c .before .before .before .before .before .before .before .before) .args .rows .now) ((c .before .before .before .before .before .before .loop) .i) ((c .before .before .before .before .before .before .before .before) .args .count) ((c .before .before .before .before .before .before .before .before) .pre .few) ((c .before .before .before .before .before .before .before .before) .pre .few′) ((c .before .before .before .before .before .loop-test) .taken) ((c .before .before .before .if1) .left) (sym ((c .before .meets) .ensures) ∙ (c .if2) .taken)) ∙ (c .before .before .before .before .before .before .loop) .inv
+    let at-if1 = c .before .before .before in
+    let at-loop-test = at-if1 .before .before in
+    let at-loop = at-loop-test .before in
+    let start = at-loop .before .before in
+    sym (clash-here (start .args .n) (start .args .owner) (take (start .args .n) (start .args .row)) (start .args .owners .now) (start .args .rows .now) ((at-loop .loop) .i) (start .args .count)
+    (start .pre .few) (start .pre .few′) ((at-loop-test .loop-test) .taken) ((at-if1 .if1) .left) (sym ((c .before .meets) .ensures) ∙ (c .if2) .taken)) ∙ (at-loop .loop) .inv
 
 add-i-2 : tie.Need-add-i-2 Inv-loop μ-loop
 add-i-2 c = search needs
@@ -56,11 +74,18 @@ loop-less-2 c = omega arith
 
 loop-again-2 : tie.Need-loop-again-2 Inv-loop μ-loop
 loop-again-2 c =
-    sym (clash-not ((c .before .before .before .before .before .before .before .before) .args .n) ((c .before .before .before .before .before .before .before .before) .args .owner) (take ((c .before .before .before .before .before .before .before .before) .args .n) ((c .before .before .before .before .before .before .before .before) .args .row)) ((c .before .before .before .before .before .before .before .before) .args .owners .now) ((c .before .before .before .before .before .before .before .before) .args .rows .now) ((c .before .before .before .before .before .before .loop) .i) ((c .before .before .before .before .before .before .before .before) .args .count) ((c .before .before .before .before .before .before .before .before) .pre .few) ((c .before .before .before .before .before .before .before .before) .pre .few′) ((c .before .before .before .before .before .loop-test) .taken) ((c .before .before .before .if1) .left) (sym ((c .before .meets) .ensures) ∙ (c .if2) .left)) ∙ (c .before .before .before .before .before .before .loop) .inv
+    let at-if1 = c .before .before .before in
+    let at-loop-test = at-if1 .before .before in
+    let at-loop = at-loop-test .before in
+    let start = at-loop .before .before in
+    sym (clash-not (start .args .n) (start .args .owner) (take (start .args .n) (start .args .row)) (start .args .owners .now) (start .args .rows .now) ((at-loop .loop) .i) (start .args .count)
+    (start .pre .few) (start .pre .few′) ((at-loop-test .loop-test) .taken) ((at-if1 .if1) .left) (sym ((c .before .meets) .ensures) ∙ (c .if2) .left)) ∙ (at-loop .loop) .inv
 
 returns-2 : tie.Need-returns-2 Inv-loop μ-loop
 returns-2 c =
-    clash-none ((c .before .before .before) .args .n) ((c .before .before .before) .args .owner) (take ((c .before .before .before) .args .n) ((c .before .before .before) .args .row)) ((c .before .before .before) .args .owners .now) ((c .before .before .before) .args .rows .now) ((c .before .loop) .i) ((c .before .before .before) .args .count) ((c .before .before .before) .pre .few) ((c .before .before .before) .pre .few′) ((c .loop-test) .left) ∙ (c .before .loop) .inv
+    let start = c .before .before .before in
+    clash-none (start .args .n) (start .args .owner) (take (start .args .n) (start .args .row)) (start .args .owners .now) (start .args .rows .now) ((c .before .loop) .i) (start .args .count)
+    (start .pre .few) (start .pre .few′) ((c .loop-test) .left) ∙ (c .before .loop) .inv
 
 pub clashes-spec : {M : Type 1} → statement M
 clashes-spec =

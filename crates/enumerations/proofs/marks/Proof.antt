@@ -1,12 +1,11 @@
 -- The marks so far are the text's bytes so far.
-use Rattle.enumerations.specs.RowLaws.{bytes-all}
+use Rattle.enumerations.specs.RowLaws.{bytes-all, bytes-more}
 use Prim.Native.Nat.{_≤_, _-_}
 use mathlib.Core.Path.{_≡_, refl, _∙_}
 use native.Mathlib.Omega.{arith}
 use borrow.Author.Needs.{needs}
 use lib.ListN.{length, take, length-set}
 use Rattle.enumerations.specs.Pass.{bytesAt}
-use Rattle.enumerations.specs.RowLaws.{bytes-more}
 use Rattle.enumerations.proofs.marks.Statement.{statement}
 use Rattle.enumerations.proofs.marks.Tie as tie
 
@@ -21,7 +20,9 @@ unfolding bytesAt
 loop-holds c = (refl, refl, omega arith)
 
 add-byte-at : tie.Need-add-byte-at Inv-loop μ-loop
-add-byte-at c = omega (arith, (c .loop-test) .taken, (c .before .before .before) .pre .0, (c .before .before .before) .pre .1)
+add-byte-at c =
+    let start = c .before .before .before in
+    omega (arith, (c .loop-test) .taken, start .pre .0, start .pre .1)
 
 byte-at-requires : tie.Need-byte-at-requires Inv-loop μ-loop
 byte-at-requires c κs = search needs
@@ -37,11 +38,22 @@ loop-less c = omega arith
 
 loop-again : tie.Need-loop-again Inv-loop μ-loop
 loop-again c =
-    (bytes-more ((c .before .before .before .before) .args .text .now) ((c .before .before .before .before) .args .at) ((c .before .before .loop) .i) ((c .byte-at) .result) ((c .before .before .loop) .row) ((c .before .before .loop) .inv .0) (omega (arith, (c .before .loop-test) .taken, (c .before .before .before .before) .pre .0, (c .before .before .loop) .inv .1)) ((c .byte-at) .ensures), length-set ((c .before .before .loop) .row) ((c .before .before .loop) .i) ((c .byte-at) .result) ∙ (c .before .before .loop) .inv .1, omega (arith, (c .before .loop-test) .taken))
+    let at-loop = c .before .before in
+    let start = at-loop .before .before in (
+      bytes-more (start .args .text .now) (start .args .at) ((at-loop .loop) .i) ((c .byte-at) .result) ((at-loop .loop) .row) ((at-loop .loop) .inv .0)
+          (omega (arith, (c .before .loop-test) .taken, start .pre .0, (at-loop .loop) .inv .1)) ((c .byte-at) .ensures),
+      length-set ((at-loop .loop) .row) ((at-loop .loop) .i) ((c .byte-at) .result) ∙
+          (at-loop .loop) .inv .1,
+      omega (arith, (c .before .loop-test) .taken),
+    )
 
 returns : tie.Need-returns Inv-loop μ-loop
 returns c =
-    (bytes-all ((c .before .before .before) .args .text .now) ((c .before .before .before) .args .at) ((c .before .loop) .i) ((c .before .before .before) .args .n) ((c .before .loop) .row) ((c .before .loop) .inv .0) ((c .before .loop) .inv .2) ((c .loop-test) .left), (c .before .loop) .inv .1)
+    let start = c .before .before .before in (
+      bytes-all (start .args .text .now) (start .args .at) ((c .before .loop) .i) (start .args .n) ((c .before .loop) .row) ((c .before .loop) .inv .0) ((c .before .loop) .inv .2)
+          ((c .loop-test) .left),
+      (c .before .loop) .inv .1,
+    )
 
 pub marks-spec : {M : Type 1} → statement M
 marks-spec =

@@ -33,7 +33,10 @@ loop-less c = omega arith
 
 loop-again : tie.Need-loop-again Inv-loop μ-loop
 loop-again c =
-    sym (meet-same ((c .before .before .before) .args .t1) ((c .before .before .before) .args .t2) ((c .before .before .loop) .i) ((c .before .before .before) .args .n) (omega (arith, (c .before .before .before) .pre .0, (c .before .before .before) .pre .1)) (omega (arith, (c .before .before .before) .pre .0, (c .before .before .before) .pre .2)) ((c .before .loop-test) .taken) ((c .if1) .taken)) ∙ (c .before .before .loop) .inv
+    let at-loop = c .before .before in
+    let start = at-loop .before in
+    sym (meet-same (start .args .t1) (start .args .t2) ((at-loop .loop) .i) (start .args .n) (omega (arith, start .pre .0, start .pre .1)) (omega (arith, start .pre .0, start .pre .2))
+    ((c .before .loop-test) .taken) ((c .if1) .taken)) ∙ (at-loop .loop) .inv
 
 add-i-2 : tie.Need-add-i-2 Inv-loop μ-loop
 add-i-2 c = search needs
@@ -43,7 +46,11 @@ loop-less-2 c = omega arith
 
 loop-again-2 : tie.Need-loop-again-2 Inv-loop μ-loop
 loop-again-2 c =
-    sym (meet-star ((c .before .before .before .before) .args .t1) ((c .before .before .before .before) .args .t2) ((c .before .before .before .loop) .i) ((c .before .before .before .before) .args .n) (omega (arith, (c .before .before .before .before) .pre .0, (c .before .before .before .before) .pre .1)) (omega (arith, (c .before .before .before .before) .pre .0, (c .before .before .before .before) .pre .2)) ((c .before .before .loop-test) .taken) ((c .before .if1) .left) ((c .if2) .taken)) ∙ (c .before .before .before .loop) .inv
+    let at-loop-test = c .before .before in
+    let at-loop = at-loop-test .before in
+    let start = at-loop .before in
+    sym (meet-star (start .args .t1) (start .args .t2) ((at-loop .loop) .i) (start .args .n) (omega (arith, start .pre .0, start .pre .1)) (omega (arith, start .pre .0, start .pre .2))
+    ((at-loop-test .loop-test) .taken) ((c .before .if1) .left) ((c .if2) .taken)) ∙ (at-loop .loop) .inv
 
 add-i-3 : tie.Need-add-i-3 Inv-loop μ-loop
 add-i-3 c = search needs
@@ -53,15 +60,27 @@ loop-less-3 c = omega arith
 
 loop-again-3 : tie.Need-loop-again-3 Inv-loop μ-loop
 loop-again-3 c =
-    sym (meet-other ((c .before .before .before .before .before) .args .t1) ((c .before .before .before .before .before) .args .t2) ((c .before .before .before .before .loop) .i) ((c .before .before .before .before .before) .args .n) (omega (arith, (c .before .before .before .before .before) .pre .0, (c .before .before .before .before .before) .pre .1)) (omega (arith, (c .before .before .before .before .before) .pre .0, (c .before .before .before .before .before) .pre .2)) ((c .before .before .before .loop-test) .taken) ((c .before .before .if1) .left) ((c .before .if2) .left) ((c .if3) .taken)) ∙ (c .before .before .before .before .loop) .inv
+    let at-if1 = c .before .before in
+    let at-loop-test = at-if1 .before in
+    let at-loop = at-loop-test .before in
+    let start = at-loop .before in
+    sym (meet-other (start .args .t1) (start .args .t2) ((at-loop .loop) .i) (start .args .n) (omega (arith, start .pre .0, start .pre .1)) (omega (arith, start .pre .0, start .pre .2))
+    ((at-loop-test .loop-test) .taken) ((at-if1 .if1) .left) ((c .before .if2) .left) ((c .if3) .taken)) ∙ (at-loop .loop) .inv
 
 returns : tie.Need-returns Inv-loop μ-loop
 returns c =
-    sym (meet-not ((c .before .before .before .before .before) .args .t1) ((c .before .before .before .before .before) .args .t2) ((c .before .before .before .before .loop) .i) ((c .before .before .before .before .before) .args .n) (omega (arith, (c .before .before .before .before .before) .pre .0, (c .before .before .before .before .before) .pre .1)) (omega (arith, (c .before .before .before .before .before) .pre .0, (c .before .before .before .before .before) .pre .2)) ((c .before .before .before .loop-test) .taken) ((c .before .before .if1) .left) ((c .before .if2) .left) ((c .if3) .left)) ∙ (c .before .before .before .before .loop) .inv
+    let at-if1 = c .before .before in
+    let at-loop-test = at-if1 .before in
+    let at-loop = at-loop-test .before in
+    let start = at-loop .before in
+    sym (meet-not (start .args .t1) (start .args .t2) ((at-loop .loop) .i) (start .args .n) (omega (arith, start .pre .0, start .pre .1)) (omega (arith, start .pre .0, start .pre .2))
+    ((at-loop-test .loop-test) .taken) ((at-if1 .if1) .left) ((c .before .if2) .left) ((c .if3) .left)) ∙ (at-loop .loop) .inv
 
 returns-2 : tie.Need-returns-2 Inv-loop μ-loop
 returns-2 c =
-    meet-none ((c .before .before) .args .t1) ((c .before .before) .args .t2) ((c .before .loop) .i) ((c .before .before) .args .n) (omega (arith, (c .before .before) .pre .0, (c .before .before) .pre .1)) (omega (arith, (c .before .before) .pre .0, (c .before .before) .pre .2)) ((c .loop-test) .left) ∙ (c .before .loop) .inv
+    let start = c .before .before in
+    meet-none (start .args .t1) (start .args .t2) ((c .before .loop) .i) (start .args .n) (omega (arith, start .pre .0, start .pre .1)) (omega (arith, start .pre .0, start .pre .2))
+    ((c .loop-test) .left) ∙ (c .before .loop) .inv
 
 pub meets-spec : {M : Type 1} → statement M
 meets-spec =

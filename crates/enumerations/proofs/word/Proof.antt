@@ -6,7 +6,8 @@ use Rattle.enumerations.proofs.word.Tie as tie
 
 returns : tie.Need-returns
 returns c =
-    passes-closed ((c .before .before .before) .args .text .now) ((c .before .before .before) .pre) ((c .before .before .before) .args .token) ((c .if1) .taken)
+    let start = c .before .before .before in
+    passes-closed (start .args .text .now) (start .pre) (start .args .token) ((c .if1) .taken)
 
 size-of-requires : tie.Need-size-of-requires
 size-of-requires c κs = search needs
@@ -16,21 +17,35 @@ shut-requires c κs = search needs
 
 returns-2 : tie.Need-returns-2
 returns-2 c =
-    as-told ((c .shut) .ensures) (passes-unequal ((c .before .before .before .before .before .before) .args .text .now) ((c .before .before .before .before .before .before) .pre) ((c .before .before .before .before .before .before) .args .token) ((c .before .before .before .if1) .left) ((c .before .before .size-of) .ensures) ((c .before .if2) .taken))
+    let at-size-of = c .before .before in
+    let at-if1 = at-size-of .before in
+    let start = at-if1 .before .before .before in
+    as-told ((c .shut) .ensures) (passes-unequal (start .args .text .now) (start .pre) (start .args .token) ((at-if1 .if1) .left) ((at-size-of .size-of) .ensures) ((c .before .if2) .taken))
 
 shut-requires-2 : tie.Need-shut-requires-2
 shut-requires-2 c κs = search needs
 
 returns-3 : tie.Need-returns-3
 returns-3 c =
-    as-told ((c .shut2) .ensures) (passes-long ((c .before .before .before .before .before .before .before) .args .text .now) ((c .before .before .before .before .before .before .before) .pre) ((c .before .before .before .before .before .before .before) .args .token) ((c .before .before .before .before .if1) .left) ((c .before .before .before .size-of) .ensures) ((c .before .before .if2) .left) ((c .before .if3) .taken))
+    let at-if2 = c .before .before in
+    let at-size-of = at-if2 .before in
+    let at-if1 = at-size-of .before in
+    let start = at-if1 .before .before .before in
+    as-told ((c .shut2) .ensures) (passes-long (start .args .text .now) (start .pre) (start .args .token) ((at-if1 .if1) .left) ((at-size-of .size-of) .ensures) ((at-if2 .if2) .left)
+    ((c .before .if3) .taken))
 
 shut-requires-3 : tie.Need-shut-requires-3
 shut-requires-3 c κs = search needs
 
 returns-4 : tie.Need-returns-4
 returns-4 c =
-    as-told ((c .shut3) .ensures) (passes-many ((c .before .before .before .before .before .before .before .before) .args .text .now) ((c .before .before .before .before .before .before .before .before) .pre) ((c .before .before .before .before .before .before .before .before) .args .token) ((c .before .before .before .before .before .if1) .left) ((c .before .before .before .before .size-of) .ensures) ((c .before .before .before .if2) .left) ((c .before .before .if3) .left) ((c .before .if4) .taken))
+    let at-if3 = c .before .before in
+    let at-if2 = at-if3 .before in
+    let at-size-of = at-if2 .before in
+    let at-if1 = at-size-of .before in
+    let start = at-if1 .before .before .before in
+    as-told ((c .shut3) .ensures) (passes-many (start .args .text .now) (start .pre) (start .args .token) ((at-if1 .if1) .left) ((at-size-of .size-of) .ensures) ((at-if2 .if2) .left)
+    ((at-if3 .if3) .left) ((c .before .if4) .taken))
 
 cast-marked : tie.Need-cast-marked
 cast-marked c = search needs
@@ -55,7 +70,17 @@ same-length-2 c = search needs
 
 returns-5 : tie.Need-returns-5
 returns-5 c =
-    as-told ((c .shut4) .ensures) (passes-clash ((c .before .before .before .before .before .before .before .before .before .before .before .before .before) .args .text .now) ((c .before .before .before .before .before .before .before .before .before .before .before .before .before) .pre) ((c .before .before .before .before .before .before .before .before .before .before .before .before .before) .args .token) ((c .before .before .before .before .before .before .before .before .before .before .if1) .left) ((c .before .before .before .before .before .before .before .before .before .size-of) .ensures) ((c .before .before .before .before .before .before .before .before .if2) .left) ((c .before .before .before .before .before .before .before .if3) .left) ((c .before .before .before .before .before .before .if4) .left) ((c .before .before .before .before .before .marks) .result) ((c .before .before .before .before .before .marks) .ensures .0) ((c .before .before .before .before .before .marks) .ensures .1) ((c .before .before .clashes) .ensures) ((c .before .if5) .taken))
+    let at-clashes = c .before .before in
+    let at-marks = at-clashes .before .before .before in
+    let at-if4 = at-marks .before in
+    let at-if3 = at-if4 .before in
+    let at-if2 = at-if3 .before in
+    let at-size-of = at-if2 .before in
+    let at-if1 = at-size-of .before in
+    let start = at-if1 .before .before .before in
+    as-told ((c .shut4) .ensures) (passes-clash (start .args .text .now) (start .pre) (start .args .token) ((at-if1 .if1) .left) ((at-size-of .size-of) .ensures) ((at-if2 .if2) .left)
+    ((at-if3 .if3) .left) ((at-if4 .if4) .left) ((at-marks .marks) .result) ((at-marks .marks) .ensures .0) ((at-marks .marks) .ensures .1) ((at-clashes .clashes) .ensures)
+    ((c .before .if5) .taken))
 
 mul-row : tie.Need-mul-row
 mul-row c = search needs
@@ -80,7 +105,15 @@ same-length-4 c = search needs
 
 returns-6 : tie.Need-returns-6
 returns-6 c =
-    passes-open ((c .before .before .before .before .before .before .before .before .before .before .before .before) .args .text .now) ((c .before .before .before .before .before .before .before .before .before .before .before .before) .pre) ((c .before .before .before .before .before .before .before .before .before .before .before .before) .args .token) ((c .before .before .before .before .before .before .before .before .before .if1) .left) ((c .before .before .before .before .before .before .before .before .size-of) .ensures) ((c .before .before .before .before .before .before .before .if2) .left) ((c .before .before .before .before .before .before .if3) .left) ((c .before .before .before .before .before .if4) .left) ((c .before .before .before .before .marks) .result) ((c .before .before .before .before .marks) .ensures .0) ((c .before .before .before .before .marks) .ensures .1) ((c .before .clashes) .ensures) ((c .if5) .left)
+    let at-marks = c .before .before .before .before in
+    let at-if4 = at-marks .before in
+    let at-if3 = at-if4 .before in
+    let at-if2 = at-if3 .before in
+    let at-size-of = at-if2 .before in
+    let at-if1 = at-size-of .before in
+    let start = at-if1 .before .before .before in
+    passes-open (start .args .text .now) (start .pre) (start .args .token) ((at-if1 .if1) .left) ((at-size-of .size-of) .ensures) ((at-if2 .if2) .left) ((at-if3 .if3) .left) ((at-if4 .if4) .left)
+    ((at-marks .marks) .result) ((at-marks .marks) .ensures .0) ((at-marks .marks) .ensures .1) ((c .before .clashes) .ensures) ((c .if5) .left)
 
 pub word-spec : {M : Type 1} → statement M
 word-spec =

@@ -27,7 +27,10 @@ slice-aggregate-pass-2 c = search needs
 
 pass-requires : tie.Need-pass-requires Inv-loop μ-loop
 pass-requires c κs =
-    ((c .before .before .before .loop) .inv .sized, (c .before .before .before .before .before .before) .pre .0, omega (arith, (c .before .before .loop-test) .taken, (c .before .before .before .before .before .before) .pre .1), (c .before .before .before .loop) .inv .owner)
+    let at-loop-test = c .before .before in
+    let at-loop = at-loop-test .before in
+    let start = at-loop .before .before .before in
+    ((at-loop .loop) .inv .sized, start .pre .0, omega (arith, (at-loop-test .loop-test) .taken, start .pre .1), (at-loop .loop) .inv .owner)
 
 add-i : tie.Need-add-i Inv-loop μ-loop
 add-i c = search needs
@@ -37,11 +40,15 @@ loop-less c = omega arith
 
 loop-again : tie.Need-loop-again Inv-loop μ-loop
 loop-again c =
-    ran-more _ _ _ ((c .before .before .before .before .before .before .loop) .inv) ((c .before .before .pass) .ensures) (omega (arith, (c .before .before .before .before .before .loop-test) .taken))
+    let at-pass = c .before .before in
+    let at-loop-test = at-pass .before .before .before in
+    let at-loop = at-loop-test .before in
+    ran-more _ _ _ ((at-loop .loop) .inv) ((at-pass .pass) .ensures) (omega (arith, (at-loop-test .loop-test) .taken))
 
 returns : tie.Need-returns Inv-loop μ-loop
 returns c =
-    promised ((c .before .before .before .before) .args .text .now) ((c .before .before .before .before) .args .work .now) ((c .before .before .before .before) .args .entries) (ran-all ((c .before .loop) .inv) ((c .loop-test) .left))
+    let start = c .before .before .before .before in
+    promised (start .args .text .now) (start .args .work .now) (start .args .entries) (ran-all ((c .before .loop) .inv) ((c .loop-test) .left))
 
 pub wrong-words-spec : {M : Type 1} → statement M
 wrong-words-spec =

@@ -26,26 +26,35 @@ enum-known-t c = search needs
 
 loop-less : tie.Need-loop-less Inv-loop μ-loop
 loop-less c =
-    let start = c .before .before .before .before .before .before .before .before .before in
-    let g = (c .before .before .before .before .before .before .before .loop) .inv (start .pre .tokens) (start .pre .ready) in (rw ((c .before .t) .given .1) at ((c .before .before .before .before .before .advance) .ensures (start .pre .tokens) (start .args .c) _ (g .state))) .after .lighter
+    let at-advance = c .before .before .before .before .before in
+    let at-loop = at-advance .before .before in
+    let start = at-loop .before .before in
+    let g = (at-loop .loop) .inv (start .pre .tokens) (start .pre .ready) in
+    (rw ((c .before .t) .given .1) at ((at-advance .advance) .ensures (start .pre .tokens) (start .args .c) _ (g .state))) .after .lighter
 
 loop-again : tie.Need-loop-again Inv-loop μ-loop
 loop-again c =
-    let start = c .before .before .before .before .before .before .before .before .before in
-    λ ts r. let g = (c .before .before .before .before .before .before .before .loop) .inv ts r in runs-on g (rw ((c .before .t) .given .1) at ((c .before .before .before .before .before .advance) .ensures ts (start .args .c) _ (g .state)))
+    let at-advance = c .before .before .before .before .before in
+    let at-loop = at-advance .before .before in
+    let start = at-loop .before .before in
+    λ ts r. let g = (at-loop .loop) .inv ts r in runs-on g (rw ((c .before .t) .given .1) at ((at-advance .advance) .ensures ts (start .args .c) _ (g .state)))
 
 enum-known-t-2 : tie.Need-enum-known-t-2 Inv-loop μ-loop
 enum-known-t-2 c = search needs
 
 same-length : tie.Need-same-length Inv-loop μ-loop
 same-length c =
-    let start = c .before .before .before .before .before .before .before .before .before in
-    let g = (c .before .before .before .before .before .before .before .loop) .inv (start .pre .tokens) (start .pre .ready) in ((c .before .before .before .before .before .advance) .ensures (start .pre .tokens) (start .args .c) _ (g .state)) .kept .len ∙ g .kept .len
+    let at-advance = c .before .before .before .before .before in
+    let at-loop = at-advance .before .before in
+    let start = at-loop .before .before in
+    let g = (at-loop .loop) .inv (start .pre .tokens) (start .pre .ready) in ((at-advance .advance) .ensures (start .pre .tokens) (start .args .c) _ (g .state)) .kept .len ∙ g .kept .len
 
 returns : tie.Need-returns Inv-loop μ-loop
 returns c =
-    let start = c .before .before .before .before .before .before .before .before .before in
-    λ ts r. let g = (c .before .before .before .before .before .before .before .loop) .inv ts r in runs-end g (rw ((c .before .t2) .given .1) at ((c .before .before .before .before .before .advance) .ensures ts (start .args .c) _ (g .state)))
+    let at-advance = c .before .before .before .before .before in
+    let at-loop = at-advance .before .before in
+    let start = at-loop .before .before in
+    λ ts r. let g = (at-loop .loop) .inv ts r in runs-end g (rw ((c .before .t2) .given .1) at ((at-advance .advance) .ensures ts (start .args .c) _ (g .state)))
 
 pub expression-spec : {M : Type 1} → statement M
 expression-spec =

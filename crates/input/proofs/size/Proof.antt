@@ -1,16 +1,19 @@
--- `size` is safe and ends: each turn counts some bytes, up to the last place.
-use Prim.Native.Nat.{_-_}
-use mathlib.Core.Path.{_≡_}
+-- `size` meets its contract, and ends: each turn counts some bytes, up to the last place.
+use Prim.Native.Nat.{_-_, _≤_, max}
+use mathlib.Core.Logic.{inl, inr}
+use mathlib.Core.Path.{_≡_, refl}
 use lib.ListN.{length}
+use native.Mathlib.Omega.{arith}
 use borrow.Author.Needs.{needs}
+use Rattle.input.specs.Counted.{lastPlace}
 use Rattle.input.proofs.size.Statement.{statement}
 use Rattle.input.proofs.size.Tie as tie
 
 abbrev Inv-loop : tie.InvT-loop
-Inv-loop fd first spare₀ total₀ spare total = length spare ≡ length spare₀
+Inv-loop fd first spare₀ total₀ spare total = (length spare ≡ length spare₀) × (first ≤ total) × (total ≤ max first lastPlace)
 
 abbrev μ-loop : tie.MeasureT-loop
-μ-loop fd first spare₀ total₀ spare total = 4294967295 - total
+μ-loop fd first spare₀ total₀ spare total = lastPlace - total
 
 loop-holds : tie.Need-loop-holds Inv-loop μ-loop
 loop-holds c = search needs
@@ -22,13 +25,13 @@ same-length : tie.Need-same-length Inv-loop μ-loop
 same-length c = search needs
 
 returns : tie.Need-returns Inv-loop μ-loop
-returns c = search needs
+returns c = inr refl
 
 same-length-2 : tie.Need-same-length-2 Inv-loop μ-loop
 same-length-2 c = search needs
 
 returns-2 : tie.Need-returns-2 Inv-loop μ-loop
-returns-2 c = search needs
+returns-2 c = inl (omega arith, omega arith)
 
 sub-least : tie.Need-sub-least Inv-loop μ-loop
 sub-least c = search needs
@@ -49,7 +52,7 @@ same-length-3 : tie.Need-same-length-3 Inv-loop μ-loop
 same-length-3 c = search needs
 
 returns-3 : tie.Need-returns-3 Inv-loop μ-loop
-returns-3 c = search needs
+returns-3 c = inl (omega arith, omega arith)
 
 pub size-spec : {M : Type 1} → statement M
 size-spec =

@@ -13,6 +13,7 @@ pub mod SectionReads
 pub mod MainReads
 pub mod SpecReads
 pub mod Braces
+pub mod TreeReads
 pub mod BracesReads
 pub mod Parses
 pub mod RefusedToken

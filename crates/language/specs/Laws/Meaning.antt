@@ -14,7 +14,10 @@ pub mod ListedSignals
 pub mod SignalOrder
 pub mod TextPorts
 pub mod SpecAgreement
+pub mod ShiftLaws
+pub mod ShiftedWords
 pub mod Acceptance
+pub mod LineAgreement
 pub mod Stability
 pub mod Plain
 pub mod Adequacy

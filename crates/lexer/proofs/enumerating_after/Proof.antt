@@ -14,15 +14,17 @@ returns-2 c =
 
 returns-3 : tie.Need-returns-3
 returns-3 c =
-    let start = c .before .before .before in
-    let if1 = c .before .before .if1 in
+    let at-if1 = c .before .before in
+    let start = at-if1 .before in
+    let if1 = at-if1 .if1 in
     let if2 = c .before .if2 in
     rw (ne-eqb (start .args .kind) 52 (if1 .left), ne-eqb (start .args .kind) 26 (if2 .left), eq-eqb (start .args .kind) 21 (c .if3 .taken))
 
 returns-4 : tie.Need-returns-4
 returns-4 c =
-    let start = c .before .before .before in
-    let if1 = c .before .before .if1 in
+    let at-if1 = c .before .before in
+    let start = at-if1 .before in
+    let if1 = at-if1 .if1 in
     let if2 = c .before .if2 in
     rw (ne-eqb (start .args .kind) 52 (if1 .left), ne-eqb (start .args .kind) 26 (if2 .left), ne-eqb (start .args .kind) 21 (c .if3 .left))
 

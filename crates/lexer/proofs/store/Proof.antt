@@ -30,10 +30,13 @@ same-length c = search needs
 
 returns : tie.Need-returns
 returns c =
-    let start = c .before .before .before .before .before .before .before in
-    let if1 = c .before .before .before .before .before .if1 in
-    let capped = c .before .before .before .before .capped in
-    let put = c .before .before .put in
+    let at-put = c .before .before in
+    let at-capped = at-put .before .before in
+    let at-if1 = at-capped .before in
+    let start = at-if1 .before .before in
+    let if1 = at-if1 .if1 in
+    let capped = at-capped .capped in
+    let put = at-put .put in
     rw (lt-ltb (start .args .n) 8192 (if1 .taken), ← capped .ensures) (put .ensures)
 
 returns-2 : tie.Need-returns-2

@@ -6,8 +6,11 @@ use Rattle.lines.proofs.gather.Statement.{statement}
 use Rattle.lines.proofs.gather.Tie as tie
 
 written-lines-requires : tie.Need-written-lines-requires
-written-lines-requires c κs =
-    ((c .before .before .before .before .before .before .before .before .before .before .before .before .before .before .before .before .before .before .before .before .before) .pre .0, given-tree ((c .before .before .before .before .before .before .before .before .before .before .before .before .before .before .before .before .before .before .before .before .before) .pre .1))
+written-lines-requires c κs = (
+  (c .before .before .before .before .before .before .before .before .before .before .before .before .before .before .before .before .before .before .before .before .before) .pre .0,
+  given-tree
+      ((c .before .before .before .before .before .before .before .before .before .before .before .before .before .before .before .before .before .before .before .before .before) .pre .1),
+)
 
 enum-known-r : tie.Need-enum-known-r
 enum-known-r c = search needs
@@ -38,23 +41,51 @@ same-length-7 c = search needs
 
 returns : tie.Need-returns
 returns c =
-    gathers-refused ((c .before .before .before .before .before .before .before .before .before .before .before .before .before .before .before .before .written-lines) .ensures) ((c .enum-told) .given .1)
+    gathers-refused ((c .before .before .before .before .before .before .before .before .before .before .before .before .before .before .before .before .written-lines) .ensures)
+    ((c .enum-told) .given .1)
 
 implied-requires : tie.Need-implied-requires
 implied-requires c κs =
-    inputs-ready (answer-is ((c .before .before .before .before .before .before .before .before .before .before .before .before .before .before .before .before .before .before .before .written-lines) .ensures) ((c .before .before .before .r) .given .1)) (omega arith) (omega arith) ((c .before .before .before .before .before .before .before .before .before .before .before .before .before .before .before .before .before .before .before .before .before .before .before .before .before .before .before .before .before .before .before .before .before .before .before .before .before .before .before .before .before) .pre .1) (omega (arith, (c .before .before .before .before .before .before .lines) .given, (c .before .before .before .before .before .before .before .before .before .before .before .before .before .before .before .before .before .before .before .before .before .before .before .before .before .before .before .before .before .before .before .before .before .before .before .before .before .before .before .before .before) .pre .0 .lines)) ((c .before .before .before .before .before .before .before .before .before .before .before .before .before .before .before .before .before .before .before .before .before .before .before .before .before .before .before .before .before .before .before .before .before .before .before .before .before .before .before .before .before) .pre .0 .work)
+    inputs-ready (answer-is ((c .before .before .before .before .before .before .before .before .before .before .before .before .before .before .before .before .before
+    .before .before .written-lines) .ensures) ((c .before .before .before .r) .given .1)) (omega arith) (omega arith)
+    ((c .before .before .before .before .before .before .before .before .before .before .before .before .before .before .before .before .before .before .before .before .before .before .before
+    .before .before .before .before .before .before .before .before .before .before .before .before .before .before .before .before .before .before) .pre .1)
+    (omega (
+      arith,
+      (c .before .before .before .before .before .before .lines) .given,
+      (c .before .before .before .before .before .before .before .before .before .before .before .before .before .before .before .before .before .before .before .before .before .before .before
+          .before .before .before .before .before .before .before .before .before .before .before .before .before .before .before .before .before .before) .pre .0 .lines,
+    ))
+    ((c .before .before .before .before .before .before .before .before .before .before .before .before .before .before .before .before .before .before .before .before .before .before .before
+    .before .before .before .before .before .before .before .before .before .before .before .before .before .before .before .before .before .before) .pre .0 .work)
 
 implied-requires-2 : tie.Need-implied-requires-2
 implied-requires-2 c κs =
-    outputs-ready (answer-is ((c .before .before .before .before .before .before .before .before .before .before .before .before .before .before .before .before .before .before .before .before .before .before .before .before .written-lines) .ensures) ((c .before .before .before .before .before .before .before .before .r) .given .1)) (omega arith) (omega arith) ((c .before .before .before .before .implied) .ensures) (omega arith) (omega arith) (omega arith) ((c .before .before .before .before .before .before .before .before .before .before .before .before .before .before .before .before .before .before .before .before .before .before .before .before .before .before .before .before .before .before .before .before .before .before .before .before .before .before .before .before .before .before .before .before .before .before) .pre .1) (omega (arith, (c .before .before .before .before .before .before .before .before .before .before .before .lines) .given, (c .before .before .before .lines2) .given, (c .before .before .before .before .before .before .before .before .before .before .before .before .before .before .before .before .before .before .before .before .before .before .before .before .before .before .before .before .before .before .before .before .before .before .before .before .before .before .before .before .before .before .before .before .before .before) .pre .0 .lines)) ((c .before .before .before .before .before .before .before .before .before .before .before .before .before .before .before .before .before .before .before .before .before .before .before .before .before .before .before .before .before .before .before .before .before .before .before .before .before .before .before .before .before .before .before .before .before .before) .pre .0 .work)
+    outputs-ready (answer-is ((c .before .before .before .before .before .before .before .before .before .before .before .before .before .before .before .before .before .before .before .before
+    .before .before .before .before .written-lines) .ensures) ((c .before .before .before .before .before .before .before .before .r) .given .1)) (omega arith) (omega arith)
+    ((c .before .before .before .before .implied) .ensures) (omega arith) (omega arith) (omega arith)
+    ((c .before .before .before .before .before .before .before .before .before .before .before .before .before .before .before .before .before .before .before .before .before .before .before
+    .before .before .before .before .before .before .before .before .before .before .before .before .before .before .before .before .before .before .before .before .before
+    .before .before) .pre .1) (omega (
+      arith,
+      (c .before .before .before .before .before .before .before .before .before .before .before .lines) .given,
+      (c .before .before .before .lines2) .given,
+      (c .before .before .before .before .before .before .before .before .before .before .before .before .before .before .before .before .before .before .before .before .before .before .before
+          .before .before .before .before .before .before .before .before .before .before .before .before .before .before .before .before .before .before .before .before .before
+          .before .before) .pre .0 .lines,
+    )) ((c .before .before .before .before .before .before .before .before .before .before .before .before .before .before .before .before .before .before .before
+    .before .before .before .before .before .before .before .before .before .before .before .before .before .before .before .before .before .before .before .before .before .before .before .before
+    .before .before .before) .pre .0 .work)
 
 same-length-8 : tie.Need-same-length-8
 same-length-8 c =
-    (c .before .before .before .before .before .before .before .before .before .before .before .before .before .before .before .before .before .before .before .before .before .before .before .before .before .before .sorts) .given
+    (c .before .before .before .before .before .before .before .before .before .before .before .before .before .before .before .before .before .before .before .before .before .before .before .before
+    .before .before .sorts) .given
 
 same-length-9 : tie.Need-same-length-9
 same-length-9 c =
-    (c .before .before .before .before .before .before .before .before .before .before .before .before .before .before .before .before .before .before .before .before .before .before .before .before .numbers) .given
+    (c .before .before .before .before .before .before .before .before .before .before .before .before .before .before .before .before .before .before .before .before .before .before
+    .before .before .numbers) .given
 
 same-length-10 : tie.Need-same-length-10
 same-length-10 c =
@@ -74,7 +105,9 @@ same-length-14 c = search needs
 
 returns-2 : tie.Need-returns-2
 returns-2 c =
-    gathers-all (answer-is ((c .before .before .before .before .before .before .before .before .before .before .before .before .before .before .before .before .before .before .before .before .before .before .before .before .before .before .before .written-lines) .ensures) ((c .before .before .before .before .before .before .before .before .before .before .before .r) .given .1)) (omega arith) (omega arith) ((c .before .before .before .before .before .before .before .implied) .ensures) (omega arith) (omega arith) (omega arith) ((c .before .before .implied2) .ensures)
+    gathers-all (answer-is ((c .before .before .before .before .before .before .before .before .before .before .before .before .before .before .before .before .before .before .before .before .before
+    .before .before .before .before .before .before .written-lines) .ensures) ((c .before .before .before .before .before .before .before .before .before .before .before .r) .given .1))
+    (omega arith) (omega arith) ((c .before .before .before .before .before .before .before .implied) .ensures) (omega arith) (omega arith) (omega arith) ((c .before .before .implied2) .ensures)
 
 pub gather-spec : {M : Type 1} → statement M
 gather-spec =

@@ -7,18 +7,32 @@ use Rattle.lines.proofs.line.Tie as tie
 
 formula-at-requires : tie.Need-formula-at-requires
 formula-at-requires c κs =
-    line-prepared ((c .before .before .before .before .before .before .before .before .before .before .before .before .before .before .before .before .before .before) .pre .0) ((c .before .before .before .before .before .before .before .before .before .before .before .before .before .before .before .before .before .before) .pre .1)
+    line-prepared ((c .before .before .before .before .before .before .before .before .before .before .before .before .before .before .before .before .before .before) .pre .0)
+    ((c .before .before .before .before .before .before .before .before .before .before .before .before .before .before .before .before .before .before) .pre .1)
 
 enum-known-w : tie.Need-enum-known-w
 enum-known-w c = search needs
 
 sub-add-line : tie.Need-sub-add-line
 sub-add-line c =
-    omega (arith, line-part ((c .before .before .before .before .before .before .before .before .before .before .before .before .before .before .before .before .before .before .before .before .before .before .before .before .before .before .before .before .before .before .before .before .before .before) .pre .1))
+    omega (
+      arith,
+      line-part ((c .before .before .before .before .before .before .before .before .before .before .before .before .before .before .before .before .before .before .before .before .before
+          .before .before .before .before .before .before .before .before .before .before .before .before .before) .pre .1),
+    )
 
 add-line-requires : tie.Need-add-line-requires
 add-line-requires c κs =
-    room-for-line ((c .before .before .before .before .before .before .before .before .before .before .before .before .before .before .before .before .formula-at) .ensures) ((c .before .before .w) .given .1) (omega (arith, line-part ((c .before .before .before .before .before .before .before .before .before .before .before .before .before .before .before .before .before .before .before .before .before .before .before .before .before .before .before .before .before .before .before .before .before .before .before) .pre .1))) ((c .before .before .before .before .before .before .before .before .before .before .before .before .before .before .before .before .before .before .before .before .before .before .before .before .before .before .before .before .before .before .before .before .before .before .before) .pre .1) ((c .before .before .before .before .before .before .before .before .before .before .before .before .before .before .before .before .before .before .before .before .before .before .before .before .before .before .before .before .before .before .before .before .before .before .before) .pre .0 .lines)
+    room-for-line ((c .before .before .before .before .before .before .before .before .before .before .before .before .before .before .before .before .formula-at) .ensures)
+    ((c .before .before .w) .given .1) (omega (
+      arith,
+      line-part ((c .before .before .before .before .before .before .before .before .before .before .before .before .before .before .before .before
+          .before .before .before .before .before .before .before .before .before .before .before .before .before .before .before .before .before .before .before) .pre .1),
+    ))
+    ((c .before .before .before .before .before .before .before .before .before .before .before .before .before .before .before .before .before .before .before .before .before .before .before
+    .before .before .before .before .before .before .before .before .before .before .before .before) .pre .1)
+    ((c .before .before .before .before .before .before .before .before .before .before .before .before .before .before .before .before .before .before .before .before .before .before .before
+    .before .before .before .before .before .before .before .before .before .before .before .before) .pre .0 .lines)
 
 enum-known-w-2 : tie.Need-enum-known-w-2
 enum-known-w-2 c = search needs
@@ -46,7 +60,12 @@ same-length-7 c = search needs
 
 returns : tie.Need-returns
 returns c =
-    line-written ((c .before .before .before .before .before .before .before .before .before .before .before .before .before .before .before .before .before .before .before .formula-at) .ensures) ((c .before .before .before .before .before .w) .given .1) (omega (arith, line-part ((c .before .before .before .before .before .before .before .before .before .before .before .before .before .before .before .before .before .before .before .before .before .before .before .before .before .before .before .before .before .before .before .before .before .before .before .before .before .before) .pre .1))) ((c .before .before .add-line) .ensures)
+    line-written ((c .before .before .before .before .before .before .before .before .before .before .before .before .before .before .before .before .before .before .before .formula-at) .ensures)
+    ((c .before .before .before .before .before .w) .given .1) (omega (
+      arith,
+      line-part ((c .before .before .before .before .before .before .before .before .before .before .before .before .before .before .before .before .before .before .before .before .before
+          .before .before .before .before .before .before .before .before .before .before .before .before .before .before .before .before .before) .pre .1),
+    )) ((c .before .before .add-line) .ensures)
 
 same-length-8 : tie.Need-same-length-8
 same-length-8 c = search needs

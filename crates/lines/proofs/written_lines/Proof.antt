@@ -24,8 +24,11 @@ loop-holds c =
     (lengths-same _ _ _ _, walking-starts)
 
 cell-at-requires : tie.Need-cell-at-requires Inv-loop μ-loop
-cell-at-requires c κs =
-    ((c .before .before .before .before .before .before .before .before .before .before .before .before .before) .pre .0 .work, omega (arith, (c .loop-test) .taken, (c .before .before .before .before .before .before .before .before .before .before .before .before .before) .pre .1 .begins .tree .stored .few))
+cell-at-requires c κs = (
+  (c .before .before .before .before .before .before .before .before .before .before .before .before .before) .pre .0 .work,
+  omega
+      (arith, (c .loop-test) .taken, (c .before .before .before .before .before .before .before .before .before .before .before .before .before) .pre .1 .begins .tree .stored .few),
+)
 
 add-i : tie.Need-add-i Inv-loop μ-loop
 add-i c =
@@ -36,16 +39,36 @@ loop-less c =
     omega (arith, (c .before .before .before .loop-test) .taken)
 
 loop-again : tie.Need-loop-again Inv-loop μ-loop
-loop-again c =
-    ((c .before .before .before .before .loop) .inv .0, walking-heading ((c .before .before .before .before .loop) .inv .1) ((c .before .before .cell-at) .ensures .0) ((c .before .before .before .loop-test) .taken) ((c .if1) .taken) (omega arith))
+loop-again c = (
+  (c .before .before .before .before .loop) .inv .0,
+  walking-heading ((c .before .before .before .before .loop) .inv .1) ((c .before .before .cell-at) .ensures .0)
+      ((c .before .before .before .loop-test) .taken) ((c .if1) .taken) (omega arith),
+)
 
 sub-line : tie.Need-sub-line Inv-loop μ-loop
 sub-line c =
-    omega (arith, some-begun ((c .before .before .before .before .before .before .before .before .before .before .before .before .before .before .loop) .inv .1) ((c .before .before .before .before .before .before .before .before .before .before .before .before .cell-at) .ensures .0) ((c .before .before .before .before .before .before .before .before .before .before .before .before .before .loop-test) .taken) ((c .before .before .before .before .before .before .before .before .if2) .taken) ((c .before .before .before .before .before .before .before .before .before .before .before .before .before .before .before .before .before .before .before .before .before .before .before .before .before .before) .pre .1))
+    omega (
+      arith,
+      some-begun ((c .before .before .before .before .before .before .before .before .before .before .before .before .before .before .loop) .inv .1)
+          ((c .before .before .before .before .before .before .before .before .before .before .before .before .cell-at) .ensures .0)
+          ((c .before .before .before .before .before .before .before .before .before .before .before .before .before .loop-test) .taken)
+          ((c .before .before .before .before .before .before .before .before .if2) .taken)
+          ((c .before .before .before .before .before .before .before .before .before .before .before .before .before .before .before .before .before .before .before .before .before .before .before
+          .before .before .before) .pre .1),
+    )
 
 line-requires : tie.Need-line-requires Inv-loop μ-loop
-line-requires c κs =
-    (sizes-stay ((c .before .before .before .before .before .before .before .before .before .before .before .before .before .before .before .before .before .before .before .before .before .before .before .before .before .before) .pre .0) ((c .before .before .before .before .before .before .before .before .before .before .before .before .before .before .loop) .inv .0), some-line ((c .before .before .before .before .before .before .before .before .before .before .before .before .before .before .loop) .inv .1) ((c .before .before .before .before .before .before .before .before .before .before .before .before .cell-at) .ensures .0) ((c .before .before .before .before .before .before .before .before .before .before .before .before .before .loop-test) .taken) ((c .before .before .before .before .before .before .before .before .if2) .taken) ((c .before .before .before .before .before .before .before .before .before .before .before .before .before .before .before .before .before .before .before .before .before .before .before .before .before .before) .pre .1))
+line-requires c κs = (
+  sizes-stay ((c .before .before .before .before .before .before .before .before .before .before .before .before .before .before .before .before .before .before .before .before .before .before
+      .before .before .before .before) .pre .0) ((c .before .before .before .before .before .before .before .before .before .before .before .before .before .before .loop) .inv .0),
+  some-line
+      ((c .before .before .before .before .before .before .before .before .before .before .before .before .before .before .loop) .inv .1)
+      ((c .before .before .before .before .before .before .before .before .before .before .before .before .cell-at) .ensures .0)
+      ((c .before .before .before .before .before .before .before .before .before .before .before .before .before .loop-test) .taken)
+      ((c .before .before .before .before .before .before .before .before .if2) .taken)
+      ((c .before .before .before .before .before .before .before .before .before .before .before .before .before .before .before .before .before .before .before .before .before .before .before
+      .before .before .before) .pre .1),
+)
 
 enum-known-r : tie.Need-enum-known-r Inv-loop μ-loop
 enum-known-r c =
@@ -57,47 +80,114 @@ enum-told c =
 
 same-length : tie.Need-same-length Inv-loop μ-loop
 same-length c =
-    (c .before .before .before .before .before .before .before .before .before .before .before .before .before .before .before .sorts) .given ∙ (c .before .before .before .before .before .before .before .before .before .before .before .before .before .before .before .before .before .before .before .before .before .before .before .before .before .before .before .before .before .before .before .loop) .inv .0 .sorts
+    (c .before .before .before .before .before .before .before .before .before .before .before .before .before .before .before .sorts) .given ∙
+    (c .before .before .before .before .before .before .before .before .before .before .before .before .before .before .before .before .before .before .before .before .before .before .before
+    .before .before .before .before .before .before .before .before .loop) .inv .0 .sorts
 
 same-length-2 : tie.Need-same-length-2 Inv-loop μ-loop
 same-length-2 c =
-    (c .before .before .before .before .before .before .before .before .before .before .before .before .before .numbers) .given ∙ (c .before .before .before .before .before .before .before .before .before .before .before .before .before .before .before .before .before .before .before .before .before .before .before .before .before .before .before .before .before .before .before .loop) .inv .0 .numbers
+    (c .before .before .before .before .before .before .before .before .before .before .before .before .before .numbers) .given ∙
+    (c .before .before .before .before .before .before .before .before .before .before .before .before .before .before .before .before .before .before .before .before .before .before .before
+    .before .before .before .before .before .before .before .before .loop) .inv .0 .numbers
 
 same-length-3 : tie.Need-same-length-3 Inv-loop μ-loop
 same-length-3 c =
-    (c .before .before .before .before .before .before .before .before .before .before .before .kept) .given ∙ (c .before .before .before .before .before .before .before .before .before .before .before .before .before .before .before .before .before .before .before .before .before .before .before .before .before .before .before .before .before .before .before .loop) .inv .0 .kept
+    (c .before .before .before .before .before .before .before .before .before .before .before .kept) .given ∙
+    (c .before .before .before .before .before .before .before .before .before .before .before .before .before .before .before .before .before .before .before .before .before .before .before
+    .before .before .before .before .before .before .before .before .loop) .inv .0 .kept
 
 same-length-4 : tie.Need-same-length-4 Inv-loop μ-loop
 same-length-4 c =
-    (c .before .before .before .before .before .before .before .before .before .slots) .given ∙ (c .before .before .before .before .before .before .before .before .before .before .before .before .before .before .before .before .before .before .before .before .before .before .before .before .before .before .before .before .before .before .before .loop) .inv .0 .slots
+    (c .before .before .before .before .before .before .before .before .before .slots) .given ∙
+    (c .before .before .before .before .before .before .before .before .before .before .before .before .before .before .before .before .before .before .before .before .before .before .before
+    .before .before .before .before .before .before .before .before .loop) .inv .0 .slots
 
 same-length-5 : tie.Need-same-length-5 Inv-loop μ-loop
 same-length-5 c =
-    (c .before .before .before .before .before .before .before .written) .given ∙ (c .before .before .before .before .before .before .before .before .before .before .before .before .before .before .before .before .before .before .before .before .before .before .before .before .before .before .before .before .before .before .before .loop) .inv .0 .written
+    (c .before .before .before .before .before .before .before .written) .given ∙
+    (c .before .before .before .before .before .before .before .before .before .before .before .before .before .before .before .before .before .before .before .before .before .before .before
+    .before .before .before .before .before .before .before .before .loop) .inv .0 .written
 
 same-length-6 : tie.Need-same-length-6 Inv-loop μ-loop
 same-length-6 c =
-    (c .before .before .before .before .before .out) .given ∙ (c .before .before .before .before .before .before .before .before .before .before .before .before .before .before .before .before .before .before .before .before .before .before .before .before .before .before .before .before .before .before .before .loop) .inv .0 .out
+    (c .before .before .before .before .before .out) .given ∙ (c .before .before .before .before .before .before .before .before .before .before .before .before .before .before .before .before
+    .before .before .before .before .before .before .before .before .before .before .before .before .before .before .before .loop) .inv .0 .out
 
 same-length-7 : tie.Need-same-length-7 Inv-loop μ-loop
 same-length-7 c =
-    (c .before .before .before .lines) .given ∙ (c .before .before .before .before .before .before .before .before .before .before .before .before .before .before .before .before .before .before .before .before .before .before .before .before .before .before .before .before .before .before .before .loop) .inv .0 .words
+    (c .before .before .before .lines) .given ∙ (c .before .before .before .before .before .before .before .before .before .before .before .before .before .before .before .before .before .before
+    .before .before .before .before .before .before .before .before .before .before .before .before .before .loop) .inv .0 .words
 
 returns : tie.Need-returns Inv-loop μ-loop
 returns c =
-    walking-refused ((c .before .before .before .before .before .before .before .before .before .before .before .before .before .before .before .before .before .before .before .before .before .before .before .before .before .before .before .before .before .before .before .loop) .inv .1) ((c .before .before .before .before .before .before .before .before .before .before .before .before .before .before .before .before .before .before .before .before .before .before .before .before .before .before .before .before .before .cell-at) .ensures .0) ((c .before .before .before .before .before .before .before .before .before .before .before .before .before .before .before .before .before .before .before .before .before .before .before .before .before .before .before .before .before .before .loop-test) .taken) ((c .before .before .before .before .before .before .before .before .before .before .before .before .before .before .before .before .before .before .before .before .before .before .before .before .before .if2) .taken) ((c .before .before .before .before .before .before .before .before .before .before .before .before .before .before .before .before .line) .ensures) ((c .enum-told) .given .1)
+    walking-refused ((c .before .before .before .before .before .before .before .before .before .before .before .before .before .before .before .before .before .before .before .before .before .before
+    .before .before .before .before .before .before .before .before .before .loop) .inv .1)
+    ((c .before .before .before .before .before .before .before .before .before .before .before .before .before .before .before .before .before .before .before .before .before .before .before
+    .before .before .before .before .before .before .cell-at) .ensures .0)
+    ((c .before .before .before .before .before .before .before .before .before .before .before .before .before .before .before .before .before .before .before .before .before .before .before
+    .before .before .before .before .before .before .before .loop-test) .taken)
+    ((c .before .before .before .before .before .before .before .before .before .before .before .before .before .before .before .before .before .before .before .before .before .before .before
+    .before .before .if2) .taken) ((c .before .before .before .before .before .before .before .before .before .before .before .before .before .before .before .before .line) .ensures)
+    ((c .enum-told) .given .1)
 
 add-i-2 : tie.Need-add-i-2 Inv-loop μ-loop
 add-i-2 c =
-    omega (arith, (c .before .before .before .before .before .before .before .before .before .before .before .before .before .before .before .before .before .before .before .before .before .before .before .before .before .before .before .before .before .before .before .loop-test) .taken, (c .before .before .before .before .before .before .before .before .before .before .before .before .before .before .before .before .before .before .before .before .before .before .before .before .before .before .before .before .before .before .before .before .before .before .before .before .before .before .before .before .before .before .before .before) .pre .1 .begins .tree .stored .few)
+    omega (
+      arith,
+      (c .before .before .before .before .before .before .before .before .before .before .before .before .before .before .before .before .before .before .before .before .before .before
+          .before .before .before .before .before .before .before .before .before .loop-test) .taken,
+      (c .before .before .before .before .before .before .before .before .before .before .before .before .before .before .before .before .before .before .before .before .before .before .before
+          .before .before .before .before .before .before .before .before .before .before .before .before .before .before .before .before .before .before .before
+          .before .before) .pre .1 .begins .tree .stored .few,
+    )
 
 loop-less-2 : tie.Need-loop-less-2 Inv-loop μ-loop
 loop-less-2 c =
-    omega (arith, (c .before .before .before .before .before .before .before .before .before .before .before .before .before .before .before .before .before .before .before .before .before .before .before .before .before .before .before .before .before .before .before .loop-test) .taken)
+    omega (
+      arith,
+      (c .before .before .before .before .before .before .before .before .before .before .before .before .before .before .before .before .before .before .before .before .before .before
+          .before .before .before .before .before .before .before .before .before .loop-test) .taken,
+    )
 
 loop-again-2 : tie.Need-loop-again-2 Inv-loop μ-loop
-loop-again-2 c =
-    (record { sorts = (c .before .before .before .before .before .before .before .before .before .before .before .before .before .before .before .before .sorts) .given ∙ (c .before .before .before .before .before .before .before .before .before .before .before .before .before .before .before .before .before .before .before .before .before .before .before .before .before .before .before .before .before .before .before .before .loop) .inv .0 .sorts; numbers = (c .before .before .before .before .before .before .before .before .before .before .before .before .before .before .numbers) .given ∙ (c .before .before .before .before .before .before .before .before .before .before .before .before .before .before .before .before .before .before .before .before .before .before .before .before .before .before .before .before .before .before .before .before .loop) .inv .0 .numbers; kept = (c .before .before .before .before .before .before .before .before .before .before .before .before .kept) .given ∙ (c .before .before .before .before .before .before .before .before .before .before .before .before .before .before .before .before .before .before .before .before .before .before .before .before .before .before .before .before .before .before .before .before .loop) .inv .0 .kept; slots = (c .before .before .before .before .before .before .before .before .before .before .slots) .given ∙ (c .before .before .before .before .before .before .before .before .before .before .before .before .before .before .before .before .before .before .before .before .before .before .before .before .before .before .before .before .before .before .before .before .loop) .inv .0 .slots; written = (c .before .before .before .before .before .before .before .before .written) .given ∙ (c .before .before .before .before .before .before .before .before .before .before .before .before .before .before .before .before .before .before .before .before .before .before .before .before .before .before .before .before .before .before .before .before .loop) .inv .0 .written; out = (c .before .before .before .before .before .before .out) .given ∙ (c .before .before .before .before .before .before .before .before .before .before .before .before .before .before .before .before .before .before .before .before .before .before .before .before .before .before .before .before .before .before .before .before .loop) .inv .0 .out; words = (c .before .before .before .before .lines) .given ∙ (c .before .before .before .before .before .before .before .before .before .before .before .before .before .before .before .before .before .before .before .before .before .before .before .before .before .before .before .before .before .before .before .before .loop) .inv .0 .words }, walking-line ((c .before .before .before .before .before .before .before .before .before .before .before .before .before .before .before .before .before .before .before .before .before .before .before .before .before .before .before .before .before .before .before .before .loop) .inv .1) ((c .before .before .before .before .before .before .before .before .before .before .before .before .before .before .before .before .before .before .before .before .before .before .before .before .before .before .before .before .before .before .cell-at) .ensures .0) ((c .before .before .before .before .before .before .before .before .before .before .before .before .before .before .before .before .before .before .before .before .before .before .before .before .before .before .before .before .before .before .before .loop-test) .taken) ((c .before .before .before .before .before .before .before .before .before .before .before .before .before .before .before .before .before .before .before .before .before .before .before .before .before .before .if2) .taken) ((c .before .before .before .before .before .before .before .before .before .before .before .before .before .before .before .before .before .line) .ensures) ((c .before .r) .given .1))
+loop-again-2 c = (
+  record {
+    sorts = (c .before .before .before .before .before .before .before .before .before .before .before .before .before .before .before .before .sorts) .given ∙
+        (c .before .before .before .before .before .before .before .before .before .before .before .before .before .before .before .before .before .before .before .before .before .before .before
+        .before .before .before .before .before .before .before .before .before .loop) .inv .0 .sorts;
+    numbers =
+        (c .before .before .before .before .before .before .before .before .before .before .before .before .before .before .numbers) .given ∙
+        (c .before .before .before .before .before .before .before .before .before .before .before .before .before .before .before .before .before .before .before .before .before .before .before
+        .before .before .before .before .before .before .before .before .before .loop) .inv .0 .numbers;
+    kept =
+        (c .before .before .before .before .before .before .before .before .before .before .before .before .kept) .given ∙
+        (c .before .before .before .before .before .before .before .before .before .before .before .before .before .before .before .before .before .before .before .before .before .before .before
+        .before .before .before .before .before .before .before .before .before .loop) .inv .0 .kept;
+    slots =
+        (c .before .before .before .before .before .before .before .before .before .before .slots) .given ∙
+        (c .before .before .before .before .before .before .before .before .before .before .before .before .before .before .before .before .before .before .before .before .before .before .before
+        .before .before .before .before .before .before .before .before .before .loop) .inv .0 .slots;
+    written = (c .before .before .before .before .before .before .before .before .written) .given ∙
+        (c .before .before .before .before .before .before .before .before .before .before .before .before .before .before .before .before .before .before .before .before .before .before .before
+        .before .before .before .before .before .before .before .before .before .loop) .inv .0 .written;
+    out = (c .before .before .before .before .before .before .out) .given ∙
+        (c .before .before .before .before .before .before .before .before .before .before .before .before .before .before .before .before .before .before .before .before .before .before .before
+        .before .before .before .before .before .before .before .before .before .loop) .inv .0 .out;
+    words = (c .before .before .before .before .lines) .given ∙
+        (c .before .before .before .before .before .before .before .before .before .before .before .before .before .before .before .before .before .before .before .before .before .before .before
+        .before .before .before .before .before .before .before .before .before .loop) .inv .0 .words;
+  },
+  walking-line
+      ((c .before .before .before .before .before .before .before .before .before .before .before .before .before .before .before .before .before .before .before .before .before .before .before
+      .before .before .before .before .before .before .before .before .before .loop) .inv .1)
+      ((c .before .before .before .before .before .before .before .before .before .before .before .before .before .before .before .before .before .before .before .before .before .before .before
+      .before .before .before .before .before .before .before .cell-at) .ensures .0)
+      ((c .before .before .before .before .before .before .before .before .before .before .before .before .before .before .before .before .before .before .before .before .before .before .before
+      .before .before .before .before .before .before .before .before .loop-test) .taken)
+      ((c .before .before .before .before .before .before .before .before .before .before .before .before .before .before .before .before .before .before .before .before .before .before .before
+      .before .before .before .if2) .taken) ((c .before .before .before .before .before .before .before .before .before .before .before .before .before .before .before
+      .before .before .line) .ensures) ((c .before .r) .given .1),
+)
 
 add-i-3 : tie.Need-add-i-3 Inv-loop μ-loop
 add-i-3 c =
@@ -108,8 +198,11 @@ loop-less-3 c =
     omega (arith, (c .before .before .before .before .before .loop-test) .taken)
 
 loop-again-3 : tie.Need-loop-again-3 Inv-loop μ-loop
-loop-again-3 c =
-    ((c .before .before .before .before .before .before .loop) .inv .0, walking-passed ((c .before .before .before .before .before .before .loop) .inv .1) ((c .before .before .before .before .cell-at) .ensures .0) ((c .before .before .before .before .before .loop-test) .taken) ((c .before .before .if1) .left) ((c .if2) .left))
+loop-again-3 c = (
+  (c .before .before .before .before .before .before .loop) .inv .0,
+  walking-passed ((c .before .before .before .before .before .before .loop) .inv .1)
+      ((c .before .before .before .before .cell-at) .ensures .0) ((c .before .before .before .before .before .loop-test) .taken) ((c .before .before .if1) .left) ((c .if2) .left),
+)
 
 same-length-8 : tie.Need-same-length-8 Inv-loop μ-loop
 same-length-8 c =

@@ -10,29 +10,53 @@ intern-requires c κs = search needs
 
 declare-requires : tie.Need-declare-requires
 declare-requires c κs =
-    let start = c .before .before .before .before .before .before .before .before .before .before .before .before .before .before .before .before .before .before .before .before .before .before .before in
-    let intern = c .before .before .before .before .before .before .before .before .intern in
-    ((walkable (start .pre .0 .stored) (intern .ensures .0) (let e = intern .kept .1 .1 .1 .1 .1 .0 in let r = start .pre .1 .indexed .room in omega arith)), omega arith, blank-room _ (intern .ensures .1) (start .pre .2))
+    let at-intern = c .before .before .before .before .before .before .before .before in
+    let start = at-intern .before .before .before .before .before .before .before .before .before .before .before .before .before .before .before in
+    let intern = at-intern .intern in (
+      (walkable (start .pre .0 .stored) (intern .ensures .0) (let e = intern .kept .1 .1 .1 .1 .1 .0 in let r = start .pre .1 .indexed .room in omega arith)),
+      omega arith,
+      blank-room _
+          (intern .ensures .1) (start .pre .2),
+    )
 
 declare-requires-2 : tie.Need-declare-requires-2
 declare-requires-2 c κs =
-    let start = c .before .before .before .before .before .before .before .before .before .before .before .before .before .before .before .before .before .before .before .before .before .before .before .before .before .before .before .before in
-    let intern = c .before .before .before .before .before .before .before .before .before .before .before .before .before .intern in
-    ((walkable (start .pre .0 .stored) (intern .ensures .0) (let e = intern .kept .1 .1 .1 .1 .1 .0 in let r = start .pre .1 .indexed .room in omega arith)), omega arith, blank-room _ (intern .ensures .1) (start .pre .3))
+    let at-intern = c .before .before .before .before .before .before .before .before .before .before .before .before .before in
+    let start = at-intern .before .before .before .before .before .before .before .before .before .before .before .before .before .before .before in
+    let intern = at-intern .intern in (
+      (walkable (start .pre .0 .stored) (intern .ensures .0) (let e = intern .kept .1 .1 .1 .1 .1 .0 in let r = start .pre .1 .indexed .room in omega arith)),
+      omega arith,
+      blank-room _
+          (intern .ensures .1) (start .pre .3),
+    )
 
 number-declared-requires : tie.Need-number-declared-requires
 number-declared-requires c κs =
-    let start = c .before .before .before .before .before .before .before .before .before .before .before .before .before .before .before .before .before .before .before .before .before .before .before .before .before .before .before .before .before .before .before .before .before .before in
-    let intern = c .before .before .before .before .before .before .before .before .before .before .before .before .before .before .before .before .before .before .before .intern in
-    ((walkable (start .pre .0 .stored) (intern .ensures .0) (let e = intern .kept .1 .1 .1 .1 .1 .0 in let r = start .pre .1 .indexed .room in omega arith)), blank-room _ (intern .ensures .1) (start .pre .4), start .pre .7)
+    let at-intern = c .before .before .before .before .before .before .before .before .before .before .before .before .before .before .before .before .before .before .before in
+    let start = at-intern .before .before .before .before .before .before .before .before .before .before .before .before .before .before .before in
+    let intern = at-intern .intern in (
+      (walkable (start .pre .0 .stored) (intern .ensures .0) (let e = intern .kept .1 .1 .1 .1 .1 .0 in let r = start .pre .1 .indexed .room in omega arith)),
+      blank-room _ (intern .ensures .1)
+          (start .pre .4),
+      start .pre .7,
+    )
 
 walk-all-requires : tie.Need-walk-all-requires
 walk-all-requires c κs =
-    let start = c .before .before .before .before .before .before .before .before .before .before .before .before .before .before .before .before .before .before .before .before .before .before .before .before .before .before .before .before .before .before .before .before .before .before .before .before .before .before .before .before .before .before .before .before in
-    let intern = c .before .before .before .before .before .before .before .before .before .before .before .before .before .before .before .before .before .before .before .before .before .before .before .before .before .before .before .before .before .intern in
-    let declare2 = c .before .before .before .before .before .before .before .before .before .before .before .before .before .before .before .declare2 in
-    let number-declared = c .before .before .before .before .before .before .before .before .before .number-declared in
-    let h = (walkable (start .pre .0 .stored) (intern .ensures .0) (let e = intern .kept .1 .1 .1 .1 .1 .0 in let r = start .pre .1 .indexed .room in omega arith)) in record { walkable = h; declared = _; walking = (walk-begins h (declare2 .ensures h (blank-table h (intern .ensures .1) (start .pre .3))) (number-declared .ensures h (blank-table h (intern .ensures .1) (start .pre .4))) (start .pre .5) (start .pre .6)) }
+    let at-number-declared = c .before .before .before .before .before .before .before .before .before in
+    let at-declare2 = at-number-declared .before .before .before .before .before .before in
+    let at-intern = at-declare2 .before .before .before .before .before .before .before .before .before .before .before .before .before .before in
+    let start = at-intern .before .before .before .before .before .before .before .before .before .before .before .before .before .before .before in
+    let intern = at-intern .intern in
+    let declare2 = at-declare2 .declare2 in
+    let number-declared = at-number-declared .number-declared in
+    let h = (walkable (start .pre .0 .stored) (intern .ensures .0) (let e = intern .kept .1 .1 .1 .1 .1 .0 in let r = start .pre .1 .indexed .room in omega arith)) in
+    record {
+      walkable = h;
+      declared = _;
+      walking = (walk-begins h (declare2 .ensures h (blank-table h (intern .ensures .1) (start .pre .3)))
+          (number-declared .ensures h (blank-table h (intern .ensures .1) (start .pre .4))) (start .pre .5) (start .pre .6));
+    }
 
 smaller-requires : tie.Need-smaller-requires
 smaller-requires c κs = search needs
@@ -42,22 +66,30 @@ answer-requires c κs = search needs
 
 same-length : tie.Need-same-length
 same-length c =
-    let intern = c .before .before .before .before .before .before .before .before .before .before .before .before .before .before .before .before .before .before .before .before .before .before .before .before .before .before .before .before .before .before .before .before .before .before .before .before .before .before .before .before .intern in
+    let at-intern = c .before .before .before .before .before .before .before .before .before .before .before .before .before .before .before .before .before .before .before .before .before .before
+    .before .before .before .before .before .before .before .before .before .before .before .before .before .before .before .before .before .before in
+    let intern = at-intern .intern in
     intern .kept .1 .1 .1 .0
 
 same-length-2 : tie.Need-same-length-2
 same-length-2 c =
-    let intern = c .before .before .before .before .before .before .before .before .before .before .before .before .before .before .before .before .before .before .before .before .before .before .before .before .before .before .before .before .before .before .before .before .before .before .before .before .before .before .before .before .intern in
+    let at-intern = c .before .before .before .before .before .before .before .before .before .before .before .before .before .before .before .before .before .before .before .before .before .before
+    .before .before .before .before .before .before .before .before .before .before .before .before .before .before .before .before .before .before in
+    let intern = at-intern .intern in
     intern .kept .1 .1 .1 .1 .0
 
 same-length-3 : tie.Need-same-length-3
 same-length-3 c =
-    let intern = c .before .before .before .before .before .before .before .before .before .before .before .before .before .before .before .before .before .before .before .before .before .before .before .before .before .before .before .before .before .before .before .before .before .before .before .before .before .before .before .before .intern in
+    let at-intern = c .before .before .before .before .before .before .before .before .before .before .before .before .before .before .before .before .before .before .before .before .before .before
+    .before .before .before .before .before .before .before .before .before .before .before .before .before .before .before .before .before .before in
+    let intern = at-intern .intern in
     intern .kept .1 .1 .1 .1 .1 .0
 
 same-length-4 : tie.Need-same-length-4
 same-length-4 c =
-    let declare = c .before .before .before .before .before .before .before .before .before .before .before .before .before .before .before .before .before .before .before .before .before .before .before .before .before .before .before .before .before .before .before .declare in
+    let at-declare = c .before .before .before .before .before .before .before .before .before .before .before .before .before .before .before .before .before .before .before .before .before .before
+    .before .before .before .before .before .before .before .before .before in
+    let declare = at-declare .declare in
     declare .kept .1 .1 .1 .1 .0
 
 same-length-5 : tie.Need-same-length-5
@@ -77,14 +109,23 @@ same-length-9 c = search needs
 
 returns : tie.Need-returns
 returns c =
-    let intern = c .before .before .before .before .before .before .before .before .before .before .before .before .before .before .before .before .before .before .before .before .before .before .before .before .before .before .before .before .before .before .before .before .before .before .before .before .before .before .before .before .intern in
-    let start = c .before .before .before .before .before .before .before .before .before .before .before .before .before .before .before .before .before .before .before .before .before .before .before .before .before .before .before .before .before .before .before .before .before .before .before .before .before .before .before .before .before .before .before .before .before .before .before .before .before .before .before .before .before .before .before in
-    let declare = c .before .before .before .before .before .before .before .before .before .before .before .before .before .before .before .before .before .before .before .before .before .before .before .before .before .before .before .before .before .before .before .declare in
-    let number-declared = c .before .before .before .before .before .before .before .before .before .before .before .before .before .before .before .before .before .before .before .before .number-declared in
-    let walk-all = c .before .before .before .before .before .before .before .before .before .before .walk-all in
-    let declare2 = c .before .before .before .before .before .before .before .before .before .before .before .before .before .before .before .before .before .before .before .before .before .before .before .before .before .before .declare2 in
+    let at-walk-all = c .before .before .before .before .before .before .before .before .before .before in
+    let at-number-declared = at-walk-all .before .before .before .before .before .before .before .before .before .before in
+    let at-declare2 = at-number-declared .before .before .before .before .before .before in
+    let at-declare = at-declare2 .before .before .before .before .before in
+    let at-intern = at-declare .before .before .before .before .before .before .before .before .before in
+    let start = at-intern .before .before .before .before .before .before .before .before .before .before .before .before .before .before .before in
+    let intern = at-intern .intern in
+    let declare = at-declare .declare in
+    let number-declared = at-number-declared .number-declared in
+    let walk-all = at-walk-all .walk-all in
+    let declare2 = at-declare2 .declare2 in
     let smaller = c .before .smaller in
-    λ x st. let h = walkable st (intern .ensures .0) (let e = intern .kept .1 .1 .1 .1 .1 .0 in let r = start .pre .1 .indexed .room in omega arith) in answers st (intern .ensures .0) (let e = intern .kept .1 .1 .1 .1 .1 .0 in let r = start .pre .1 .indexed .room in omega arith) (declare .ensures h (blank-table h (intern .ensures .1) (start .pre .2))) (number-declared .ensures h (blank-table h (intern .ensures .1) (start .pre .4))) (walk-all .ensures h _ (walk-begins h (declare2 .ensures h (blank-table h (intern .ensures .1) (start .pre .3))) (number-declared .ensures h (blank-table h (intern .ensures .1) (start .pre .4))) (start .pre .5) (start .pre .6))) (smaller .ensures) ((c .answer) .ensures)
+    λ x st. let h = walkable st (intern .ensures .0) (let e = intern .kept .1 .1 .1 .1 .1 .0 in let r = start .pre .1 .indexed .room in omega arith) in
+    answers st (intern .ensures .0) (let e = intern .kept .1 .1 .1 .1 .1 .0 in let r = start .pre .1 .indexed .room in omega arith)
+    (declare .ensures h (blank-table h (intern .ensures .1) (start .pre .2))) (number-declared .ensures h (blank-table h (intern .ensures .1) (start .pre .4)))
+    (walk-all .ensures h _ (walk-begins h (declare2 .ensures h (blank-table h (intern .ensures .1) (start .pre .3)))
+    (number-declared .ensures h (blank-table h (intern .ensures .1) (start .pre .4))) (start .pre .5) (start .pre .6))) (smaller .ensures) ((c .answer) .ensures)
 
 pub resolve-in-spec : {M : Type 1} → statement M
 resolve-in-spec =

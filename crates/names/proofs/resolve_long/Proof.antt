@@ -31,8 +31,17 @@ resolve-in-requires : tie.Need-resolve-in-requires
 resolve-in-requires c κs =
     let start = c .before .before .before .before .before .before .before .before .before .before .before .before .before in
     let room = start .pre .0 .stored .lexed .lexical .short in
-    let few = start .pre .0 .stored .few in
-    (start .pre .0, begun-zeros 98_307 32_769 8_192 (omega arith) (omega arith) (omega arith), blank-replicate 32_769 (omega arith), blank-replicate 32_769 (omega arith), blank-replicate 32_769 (omega arith), zeros-long 24_576 (omega arith), start .pre .1, start .pre .2)
+    let few = start .pre .0 .stored .few in (
+      start .pre .0,
+      begun-zeros 98_307 32_769 8_192 (omega arith) (omega arith) (omega arith),
+      blank-replicate 32_769 (omega arith),
+      blank-replicate 32_769 (omega arith),
+      blank-replicate 32_769
+          (omega arith),
+      zeros-long 24_576 (omega arith),
+      start .pre .1,
+      start .pre .2,
+    )
 
 same-length : tie.Need-same-length
 same-length c = search needs

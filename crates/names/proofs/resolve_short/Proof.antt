@@ -31,8 +31,17 @@ resolve-in-requires : tie.Need-resolve-in-requires
 resolve-in-requires c κs =
     let start = c .before .before .before .before .before .before .before .before .before .before .before .before .before in
     let room = start .pre .1 in
-    let few = start .pre .2 in
-    (start .pre .0, begun-zeros 12_291 4_097 8_192 (omega arith) (omega arith) (omega arith), blank-replicate 4_097 (omega arith), blank-replicate 4_097 (omega arith), blank-replicate 4_097 (omega arith), zeros-long 3_072 (omega arith), start .pre .3, start .pre .4)
+    let few = start .pre .2 in (
+      start .pre .0,
+      begun-zeros 12_291 4_097 8_192 (omega arith) (omega arith) (omega arith),
+      blank-replicate 4_097 (omega arith),
+      blank-replicate 4_097 (omega arith),
+      blank-replicate 4_097
+          (omega arith),
+      zeros-long 3_072 (omega arith),
+      start .pre .3,
+      start .pre .4,
+    )
 
 same-length : tie.Need-same-length
 same-length c = search needs

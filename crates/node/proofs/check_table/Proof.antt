@@ -22,8 +22,11 @@ cast-t9 c = search needs
 
 returns-3 : tie.Need-returns-3
 returns-3 c =
-    let a = c .before .before .before .before .before .args in
-    sym (checked-scan (a .limit) (a .nodes .now) (c .before .before .before .if1 .left) (c .before .before .if2 .left)
+    let at-if2 = c .before .before in
+    let at-if1 = at-if2 .before in
+    let start = at-if1 .before .before in
+    let a = start .args in
+    sym (checked-scan (a .limit) (a .nodes .now) (at-if1 .if1 .left) (at-if2 .if2 .left)
     ∙ all-scanned (a .limit) 0 (a .nodes .now) (counted (a .limit) (a .nodes .now)) (sym (c .before .all-fit .ensures) ∙ c .if3 .taken))
 
 first-misfit-requires : tie.Need-first-misfit-requires
@@ -34,8 +37,11 @@ cast-t10 c = search needs
 
 returns-4 : tie.Need-returns-4
 returns-4 c =
-    let a = c .before .before .before .before .before .before .args in
-    sym (checked-scan (a .limit) (a .nodes .now) (c .before .before .before .before .if1 .left) (c .before .before .before .if2 .left) ∙ c .first-misfit .ensures .1)
+    let at-if2 = c .before .before .before in
+    let at-if1 = at-if2 .before in
+    let start = at-if1 .before .before in
+    let a = start .args in
+    sym (checked-scan (a .limit) (a .nodes .now) (at-if1 .if1 .left) (at-if2 .if2 .left) ∙ c .first-misfit .ensures .1)
 
 pub check-table-spec : {M : Type 1} → statement M
 check-table-spec =

@@ -30,10 +30,12 @@ either-requires-4 c κs = search needs
 
 returns : tie.Need-returns
 returns c =
-    let s = c .before .before .before .before in
+    let at-either2 = c .before .before in
+    let at-either = at-either2 .before in
+    let s = at-either .before in
     let f = s .before in
     let k = f .before .kind .result in
-    let e = c .before .either3 .ensures ∙ ap (pick (ltb k 2) 1) (c .before .before .either2 .ensures ∙ ap (pick (ltb k 3) _) (c .before .before .before .either .ensures)) in
+    let e = c .before .either3 .ensures ∙ ap (pick (ltb k 2) 1) (at-either2 .either2 .ensures ∙ ap (pick (ltb k 3) _) (at-either .either .ensures)) in
     ap₂ (λ x y. ltb (f .first .result) x && ltb (s .second .result) y) e (c .either4 .ensures)
     ∙ word-fits _ _ _ k _ _ (f .before .kind .ensures) (f .first .ensures) (s .second .ensures)
 

@@ -1,7 +1,7 @@
 -- `outlined` meets its contract: the lexer's refusal, or the parser's answer on the tokens that the lexer has stored.
 use native.Mathlib.Omega.{arith}
 use borrow.Author.Needs.{needs}
-use Rattle.outline.specs.Tokenizing.{lexed, outlined, tokenized, refused, not-lexed}
+use Rattle.outline.specs.Tokenizing.{lexed, outlined, tokenized, handed-up}
 use Rattle.outline.proofs.outlined.Statement.{statement}
 use Rattle.outline.proofs.outlined.Tie as tie
 
@@ -10,6 +10,18 @@ lex-requires c κs = search needs
 
 enum-known-lexed : tie.Need-enum-known-lexed
 enum-known-lexed c = search needs
+
+enum-told : tie.Need-enum-told
+enum-told c = search needs
+
+unread-requires : tie.Need-unread-requires
+unread-requires c κs = search needs
+
+same-length : tie.Need-same-length
+same-length c = search needs
+
+returns : tie.Need-returns
+returns c = handed-up (c .before .before .before .before .before .lex .ensures) (c .before .enum-told .given .1) (c .unread .ensures)
 
 cast-counted : tie.Need-cast-counted
 cast-counted c = search needs
@@ -25,26 +37,15 @@ parse-requires c κs =
 counted-requires : tie.Need-counted-requires
 counted-requires c κs = search needs
 
-enum-known-lexed-2 : tie.Need-enum-known-lexed-2
-enum-known-lexed-2 c = search needs
-
-same-length : tie.Need-same-length
-same-length c = search needs
-
-returns : tie.Need-returns
-returns c =
-    let l = (c .before .before .before .before .before .before .before .before .before .before .lex) .ensures in
-    outlined (tokenized l ((c .before .before .before .before .before .before .lexed) .given .1)) (l .size) (l .kept) ((c .before .before .before .parse) .ensures) ((c .counted) .ensures)
-
 same-length-2 : tie.Need-same-length-2
 same-length-2 c = search needs
 
 returns-2 : tie.Need-returns-2
 returns-2 c =
-    let l = (c .before .before .before .before .before .lex) .ensures in
-    not-lexed (refused l ((c .before .lexed2) .given .1)) (l .size) (l .kept)
+    let l = (c .before .before .before .before .before .before .before .before .before .before .lex) .ensures in
+    outlined (tokenized l ((c .before .before .before .before .before .before .lexed) .given .1)) (l .size) (l .kept) ((c .before .before .before .parse) .ensures) ((c .counted) .ensures)
 
 pub outlined-spec : {M : Type 1} → statement M
 outlined-spec =
     tie.close
-    (tie.spec lex-requires enum-known-lexed cast-counted cast-parse parse-requires counted-requires enum-known-lexed-2 same-length returns same-length-2 returns-2)
+    (tie.spec lex-requires enum-known-lexed enum-told unread-requires same-length returns cast-counted cast-parse parse-requires counted-requires same-length-2 returns-2)

@@ -13,6 +13,7 @@ use Rattle.node.specs.Result.{Done, _>>=_}
 use Rattle.node.specs.ResultLaws.{bind-refused, bind-to}
 use Rattle.language.specs.Sections.{expression, declarationOf}
 use Rattle.language.specs.Laws.Basics.Tests.{pick, leave}
+use Rattle.lexer.specs.Numbers.{fixed}
 use Rattle.entries.specs.Kinds as Kind
 use Rattle.entries.specs.Flat.{leaf, flat, flatDeclaration}
 use Rattle.entries.specs.Stored.{putEntry}
@@ -26,7 +27,26 @@ use Rattle.entries.specs.TokenReads.{took-none}
 use Rattle.parser.specs.Parts.{widthOf}
 use Rattle.parser.proofs.Laws.Rows.{Accepted, accepted, refusal, took-then, took-emit, writes, kept-emit, under-writes, reads-done, reads-refused}
 use Rattle.parser.proofs.Laws.LineReads.{closed}
-use Rattle.parser.proofs.Laws.Passing.{Next, Passed, stopped, inside, passed-ready, past-ready, rest-past, took-past, took-passed, expectOf-passed, expectOf-not, expect-passed, expect-not, keeps-here, here, elsewhere, class-here, class-elsewhere}
+use Rattle.parser.proofs.Laws.Passing.{
+  Next,
+  Passed,
+  stopped,
+  inside,
+  passed-ready,
+  past-ready,
+  rest-past,
+  took-past,
+  took-passed,
+  expectOf-passed,
+  expectOf-not,
+  expect-passed,
+  expect-not,
+  keeps-here,
+  here,
+  elsewhere,
+  class-here,
+  class-elsewhere,
+}
 
 -- a bus and its width, from its name on
 module _ {ts : Tokens} {w : List ℕ} {c d e : Cursor} (ready : Ready ts w c) (within : c .at + 1 < c .count) (h : Next c d) (g : Next d e) where
@@ -56,7 +76,7 @@ module _ {ts : Tokens} {w : List ℕ} {c d e : Cursor} (ready : Ready ts w c) (w
       width : Accepted ts v e f flat (expression (drop (e .at) ts))
       width = accepted m r
 
-      pub bus-unclosed : {y : Parse} {n p : ℕ} → y ≡ expected v f 25 → y ≡ NotParsed n p → Reads ts w v c flatDeclaration bus-answer y
+      pub bus-unclosed : {y : Parse} {n p : ℕ} → y ≡ expected v f (fixed "]") → y ≡ NotParsed n p → Reads ts w v c flatDeclaration bus-answer y
       bus-unclosed x k =
           reads-refused k (bind-to _ _ _ (ap expression to-tokens ∙ width .read) ∙ bind-refused _ _ _ _ (expect-not (width .took .ready) "]" refl (stopped v f 25 x k))) bus-kept
 
@@ -98,16 +118,18 @@ module _ {ts : Tokens} {w : List ℕ} {c : Cursor} (ready : Ready ts w c) where
     name-within = inside ready (h .kind) (omega arith)
 
     -- `[`
-    pub bus-within : kindAt w d ≡ 24 → c .at + 1 < c .count
+    pub bus-within : kindAt w d ≡ fixed "[" → c .at + 1 < c .count
     bus-within k = omega (arith, inside name-ready k (omega arith), h .next .at, h .next .count)
 
-    pub declaration-bus : {v : List ℕ} {q : Parse} → kindAt w d ≡ 24 → Reads ts w v c flatDeclaration (widthOf (front (drop (c .at) ts)) (rest (rest (drop (c .at) ts)))) q → Reads ts w v c flatDeclaration answer q
+    pub declaration-bus : {v : List ℕ} {q : Parse} → kindAt w d ≡ fixed "[" → Reads ts w v c flatDeclaration (widthOf (front (drop (c .at) ts)) (rest (rest (drop (c .at) ts)))) q
+        → Reads ts w v c flatDeclaration answer q
     declaration-bus {v} {q} k r =
         subst (λ x. Reads ts w v c flatDeclaration x q)
         (sym (named-done _ ∙ pick (next "[" (drop (d .at) ts)) _ _ (here name-ready "[" refl k) ∙ ap (λ us. widthOf (front (drop (c .at) ts)) (rest us)) (sym (rest-past ts (h .next))))) r
 
-    module _ (open-not : kindAt w d ≡ 24 → ⊥) where
-      after-name : answer ≡ elim (isOf Name (front (drop (d .at) ts))) [ true ↦ Done (OfType (front (drop (c .at) ts)) (front (drop (d .at) ts)), rest (drop (d .at) ts)) | false ↦ Done (OneSignal (front (drop (c .at) ts)), drop (d .at) ts) ]
+    module _ (open-not : kindAt w d ≡ fixed "[" → ⊥) where
+      after-name : answer ≡ elim (isOf Name (front (drop (d .at) ts)))
+          [ true ↦ Done (OfType (front (drop (c .at) ts)) (front (drop (d .at) ts)), rest (drop (d .at) ts)) | false ↦ Done (OneSignal (front (drop (c .at) ts)), drop (d .at) ts) ]
       after-name = named-done _ ∙ leave (next "[" (drop (d .at) ts)) _ _ (elsewhere name-ready "[" refl open-not)
 
       -- a name: an enumeration's, then the bus's
@@ -130,15 +152,18 @@ module _ {ts : Tokens} {w : List ℕ} {c : Cursor} (ready : Ready ts w c) where
         second-writes x y =
             rw (x, y) (writes (first-took .ready) (omega arith) (omega (arith, typed-within, name-ready .fits .few)) (omega arith))
 
-        pub declaration-typed : {v z : List ℕ} {f b : Cursor} → f ≡ emittedOf e → v ≡ putEntry w (e .out) Kind.named (c .at) 1 → b ≡ emittedOf f → z ≡ putEntry v (f .out) Kind.typed (d .at) 2 → Reads ts w z c flatDeclaration answer (Parsed b)
+        pub declaration-typed : {v z : List ℕ} {f b : Cursor} → f ≡ emittedOf e → v ≡ putEntry w (e .out) Kind.named (c .at) 1 → b ≡ emittedOf f → z ≡ putEntry v (f .out) Kind.typed (d .at) 2
+            → Reads ts w z c flatDeclaration answer (Parsed b)
         declaration-typed x y x′ y′ =
             let second =
             took-emit Kind.typed (d .at) 2 (some (front (drop (d .at) ts))) (ready .less) first-took (omega (arith, h .next .at, h .next .out, g .at, g .out)) (omega arith)
             (omega (arith, typed-within, name-ready .fits .few)) (omega arith) (keeps-here name-ready typed-within) in
             rw (x′, y′, x, y)
             (reads-done (OfType (front (drop (c .at) ts)) (front (drop (d .at) ts)))
-            (after-name ∙ pick (isOf Name (front (drop (d .at) ts))) _ _ (class-here name-ready Name refl k) ∙ ap (λ us. Done (OfType (front (drop (c .at) ts)) (front (drop (d .at) ts)), us)) (rest-past ts g))
-            (kept-then (omega arith) (kept-emit (to-typed .ready) (c .out) (omega (arith, g .out, h .next .out)) Kind.named (c .at) 1) (kept-emit (first-took .ready) (c .out) (omega (arith, g .out, h .next .out)) Kind.typed (d .at) 2)) second)
+            (after-name ∙ pick (isOf Name (front (drop (d .at) ts))) _ _ (class-here name-ready Name refl k) ∙ ap (λ us. Done (OfType (front (drop (c .at) ts)) (front (drop (d .at) ts)), us))
+            (rest-past ts g))
+            (kept-then (omega arith) (kept-emit (to-typed .ready) (c .out) (omega (arith, g .out, h .next .out)) Kind.named (c .at) 1)
+            (kept-emit (first-took .ready) (c .out) (omega (arith, g .out, h .next .out)) Kind.typed (d .at) 2)) second)
 
       -- anything else: a signal
       module _ (name-not : kindAt w d ≡ 1 → ⊥) where

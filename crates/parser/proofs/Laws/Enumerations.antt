@@ -32,12 +32,12 @@ module _ {ts : Tokens} {x : Read _} {w v z : List ℕ} {s d : Cursor} (h : Listi
   words-stop m = going-refused (h .going) (r .kept) m (words-refused (h .fuel) (drop (d .at) ts) (refusal m r))
 
   module _ {e : Cursor} (m : q ≡ Parsed e) where
-    pub words-end : (kindAt z e ≡ 27 → ⊥) → Reads ts w z s (each flatWord) x (Parsed e)
+    pub words-end : (kindAt z e ≡ fixed "," → ⊥) → Reads ts w z s (each flatWord) x (Parsed e)
     words-end other =
         let a = accepted m r in
         going-last (h .going) (r .kept) (a .value) (words-last (h .fuel) (drop (d .at) ts) (a .value) (drop (e .at) ts) (a .read) (elsewhere (a .took .ready) "," refl other)) (a .took)
 
-    pub words-again : {f : Cursor} → kindAt z e ≡ 27 → f ≡ nextOf e → Listing flatWord 0 wordsOf x ts w z s f
+    pub words-again : {f : Cursor} → kindAt z e ≡ fixed "," → f ≡ nextOf e → Listing flatWord 0 wordsOf x ts w z s f
     words-again comma past =
         let a = accepted m r in
         let t = took-next (a .took) (before-end z e (omega arith)) in
@@ -48,7 +48,8 @@ module _ {ts : Tokens} {x : Read _} {w v z : List ℕ} {s d : Cursor} (h : Listi
         t (omega (arith, a .took .onward .further)) (left-some (t .ready)))
 
 -- an identifier, and as long as a name follows
-module _ {ts : Tokens} {x : Read _} {w v z : List ℕ} {s d : Cursor} (h : Listing flatIdentifier 0 identifiersOf x ts w v s d) {q : Parse} (r : Reads ts v z d flatIdentifier (identifierOf (drop (d .at) ts)) q) where
+module _ {ts : Tokens} {x : Read _} {w v z : List ℕ} {s d : Cursor} (h : Listing flatIdentifier 0 identifiersOf x ts w v s d) {q : Parse}
+    (r : Reads ts v z d flatIdentifier (identifierOf (drop (d .at) ts)) q) where
   pub identifiers-stop : {n p : ℕ} → q ≡ NotParsed n p → Reads ts w z s (each flatIdentifier) x q
   identifiers-stop m = going-refused (h .going) (r .kept) m (identifiers-parts (h .fuel) (drop (d .at) ts) ∙ bind-refused _ _ _ _ (refusal m r))
 
@@ -67,7 +68,8 @@ module _ {ts : Tokens} {x : Read _} {w v z : List ℕ} {s d : Cursor} (h : Listi
         (a .took) l (left-some (a .took .ready))
 
 -- a name with an entry of its own, a sign, and what follows: an identifier and its words, an enumeration and its identifiers
-module _ {B C : Type 0} {ts : Tokens} {w v : List ℕ} {c : Cursor} (kind : ℕ) (s : String) (known : isOneOf spellings (ascii s) ≡ true) (D : Tokens → Read B) (make : Token → B → C) (g : B → List Entry) (f : C → List Entry)
+module _ {B C : Type 0} {ts : Tokens} {w v : List ℕ} {c : Cursor} (kind : ℕ) (s : String) (known : isOneOf spellings (ascii s) ≡ true) (D : Tokens → Read B) (make : Token → B → C)
+    (g : B → List Entry) (f : C → List Entry)
     (flats : (t : Token) (b : B) → f (make t b) ≡ leaf kind t ++ g b) {q : Parse} (r : Reads ts w v c (leaf kind) (expectOf Name (drop (c .at) ts)) q) where
   abbrev whole : Read C
   whole = expectOf Name (drop (c .at) ts) >>= λ (t, us). expect s us >>= λ (o, us). D us >>= λ (b, us). Done (make t b, us)

@@ -13,6 +13,7 @@ use Rattle.language.specs.Bytes.{if_then_else_}
 use Rattle.language.specs.Tree.{Model, Mealy, Moore}
 use Rattle.language.specs.Grammar.{Tokens, Read, front, rest, stop, next, expect}
 use Rattle.language.specs.Sections.{modelOf, strictOf, infoEnd}
+use Rattle.lexer.specs.Numbers.{fixed}
 use Rattle.entries.specs.declared.Cursor.{Cursor}
 use Rattle.entries.specs.declared.Parse.{Parse}
 use Rattle.entries.specs.declared.Parse.the-variants.{Parsed, Refused as NotParsed}
@@ -32,11 +33,11 @@ done-value {A} {B} {a} {b} {u} {v} e = let p : _≡_ {A = A × B} (a, u) (b, v) 
 
 module _ {ts : Tokens} {w : List ℕ} {c : Cursor} (ready : Ready ts w c) where
   -- the model's word
-  pub model-kind : {m : Model} {us : Tokens} → modelOf (drop (c .at) ts) ≡ Done (m, us) → kindAt w c ≡ 46 + modelCode m
+  pub model-kind : {m : Model} {us : Tokens} → modelOf (drop (c .at) ts) ≡ Done (m, us) → kindAt w c ≡ fixed "Mealy" + modelCode m
   model-kind {m} {us} e = go (next "Mealy" (drop (c .at) ts)) refl (next "Moore" (drop (c .at) ts)) refl e
     where
       go : (a : Bool) → next "Mealy" (drop (c .at) ts) ≡ a → (b : Bool) → next "Moore" (drop (c .at) ts) ≡ b →
-          (if a then Done (Mealy, rest (drop (c .at) ts)) else (if b then Done (Moore, rest (drop (c .at) ts)) else stop (drop (c .at) ts))) ≡ Done (m, us) → kindAt w c ≡ 46 + modelCode m
+          (if a then Done (Mealy, rest (drop (c .at) ts)) else (if b then Done (Moore, rest (drop (c .at) ts)) else stop (drop (c .at) ts))) ≡ Done (m, us) → kindAt w c ≡ fixed "Mealy" + modelCode m
       go true x b y z = eqb-true (kindAt w c) 46 (sym (next-number ready "Mealy" refl) ∙ x) ∙ ap (λ n. 46 + modelCode n) (done-value z)
       go false x true y z = eqb-true (kindAt w c) 47 (sym (next-number ready "Moore" refl) ∙ y) ∙ ap (λ n. 46 + modelCode n) (done-value z)
       go false x false y z = absurd (not-done z)
@@ -55,7 +56,7 @@ module _ {ts : Tokens} {w : List ℕ} {c : Cursor} (ready : Ready ts w c) where
       let b = bind-done (pairOf "TARGET" ":" (a .0 .1)) _ (a .2) in
       strict-kind (a .1) ∙ done-value (b .2)
 
-  pub closing-kind : {m : Model} {us : Tokens} → closingOf (drop (c .at) ts) ≡ Done (m, us) → kindAt w c ≡ 46 + modelCode m
+  pub closing-kind : {m : Model} {us : Tokens} → closingOf (drop (c .at) ts) ≡ Done (m, us) → kindAt w c ≡ fixed "Mealy" + modelCode m
   closing-kind e =
       let a = bind-done (modelOf (drop (c .at) ts)) _ e in
       let b = bind-done (infoEnd (a .0 .1)) _ (a .2) in
@@ -65,7 +66,8 @@ module _ {ts : Tokens} {w : List ℕ} {c : Cursor} (ready : Ready ts w c) where
 pub uninformed : {ts : Tokens} {w : List ℕ} {c : Cursor} {x : Read Info} {q : Parse} {n p : ℕ} {r : Informed} → r .next ≡ q → q ≡ NotParsed n p → Skims ts w c x q → Informs ts w c x r
 uninformed {ts} {w} {c} {x} e m h = record { reads = subst (Skims ts w c x) (sym e) h; facts = λ i us y. absurd (not-done (sym (refusal m h) ∙ y)) }
 
-module _ {ts : Tokens} {w : List ℕ} {c d e f : Cursor} {q₁ q₂ q₃ q₄ : Parse} (r₁ : Skims ts w c (toSemantics (drop (c .at) ts)) q₁) (m₁ : q₁ ≡ Parsed d) (r₂ : Skims ts w d (modelOf (drop (d .at) ts)) q₂) (m₂ : q₂ ≡ Parsed e)
+module _ {ts : Tokens} {w : List ℕ} {c d e f : Cursor} {q₁ q₂ q₃ q₄ : Parse} (r₁ : Skims ts w c (toSemantics (drop (c .at) ts)) q₁) (m₁ : q₁ ≡ Parsed d)
+    (r₂ : Skims ts w d (modelOf (drop (d .at) ts)) q₂) (m₂ : q₂ ≡ Parsed e)
     (r₃ : Skims ts w e (toTarget (drop (e .at) ts)) q₃) (m₃ : q₃ ≡ Parsed f) (r₄ : Skims ts w f (closingOf (drop (f .at) ts)) q₄) where
   abbrev answer : Read Info
   answer = informationOf (drop (c .at) ts)

@@ -9,6 +9,7 @@ use Rattle.node.specs.ResultLaws.{bind-refused, bind-to}
 use Rattle.language.specs.Grammar.{Tokens, Read, next, expect}
 use Rattle.language.specs.Sections.{parameterOf, definitionOf, optional}
 use Rattle.language.specs.Laws.Basics.Tests.{pick, leave}
+use Rattle.lexer.specs.Numbers.{fixed}
 use Rattle.entries.specs.Flat.{each, flatParameter, flatDefinition}
 use Rattle.entries.specs.declared.Cursor.{Cursor}
 use Rattle.entries.specs.declared.Parse.{Parse}
@@ -25,10 +26,10 @@ module _ {ts : Tokens} {w : List ℕ} {c : Cursor} (ready : Ready ts w c) where
   abbrev answer : Read Globals
   answer = globalsOf (drop (c .at) ts)
 
-  pub global-missing : (kindAt w c ≡ 49 → ⊥) → Reads ts w w c flatGlobals answer (Parsed c)
+  pub global-missing : (kindAt w c ≡ fixed "GLOBAL" → ⊥) → Reads ts w w c flatGlobals answer (Parsed c)
   global-missing k = reads-done ([], []) (leave (next "GLOBAL" (drop (c .at) ts)) _ _ (elsewhere ready "GLOBAL" refl k)) (kept-same w (c .out)) (took-none ready)
 
-  module _ (k : kindAt w c ≡ 49) {b : Cursor} (n : Next c b) where
+  module _ (k : kindAt w c ≡ fixed "GLOBAL") {b : Cursor} (n : Next c b) where
     pub global-ready : Ready ts w b
     global-ready = past-ready ready n (inside ready k (omega arith))
 
@@ -40,7 +41,7 @@ module _ {ts : Tokens} {w : List ℕ} {c : Cursor} (ready : Ready ts w c) where
     unfolding after
     opened = pick (next "GLOBAL" (drop (c .at) ts)) _ _ (here ready "GLOBAL" refl k) ∙ ap after (rest-past ts n)
 
-    pub global-open : {y : Parse} {i p : ℕ} → y ≡ expected w b 20 → y ≡ NotParsed i p → Reads ts w w c flatGlobals answer y
+    pub global-open : {y : Parse} {i p : ℕ} → y ≡ expected w b (fixed "{") → y ≡ NotParsed i p → Reads ts w w c flatGlobals answer y
     unfolding after
     global-open x m = reads-refused m (opened ∙ bind-refused _ _ _ _ (expect-not global-ready "{" refl (stopped w b 20 x m))) (kept-same w (c .out))
 
@@ -70,7 +71,7 @@ module _ {ts : Tokens} {w : List ℕ} {c : Cursor} (ready : Ready ts w c) where
         global-definitions m′ =
             reads-refused m′ (opened ∙ bind-to _ _ _ (expect-passed global-ready "{" refl h) ∙ bind-to _ _ _ (parameters .read) ∙ bind-refused _ _ _ _ (refusal m′ r′)) definitions-kept
 
-        pub global-tail : {f : Cursor} {y : Parse} → q′ ≡ Parsed f → y ≡ expected z f 21 → Reads ts w z c flatGlobals answer y
+        pub global-tail : {f : Cursor} {y : Parse} → q′ ≡ Parsed f → y ≡ expected z f (fixed "}") → Reads ts w z c flatGlobals answer y
         unfolding after
         global-tail {f} m′ x =
             let a = accepted m′ r′ in

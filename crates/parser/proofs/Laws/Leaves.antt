@@ -35,7 +35,8 @@ module _ {ts : Tokens} {w : List ℕ} {c : Cursor} (ready : Ready ts w c) {k : C
         subst (λ x. Reads ts w v c (leaf kind) (expectOf k (drop (c .at) ts)) (Parsed x)) (sym f)
         (subst (λ x. Reads ts w x c (leaf kind) (expectOf k (drop (c .at) ts)) (Parsed (emittedOf d))) (sym u)
         (subst (λ (x : Cursor). Reads ts w (putEntry w (x .out) kind (c .at) 1) c (leaf kind) (expectOf k (drop (c .at) ts)) (Parsed (emittedOf x))) (sym (h .next .cursor))
-        (reads-done (front (drop (c .at) ts)) read (kept-put w (c .out) (firstEntry + c .out) (entryWord kind (c .at) 1) (omega arith) (omega (arith, ready .less, ready .fits .few, ready .fits .inside))) t)))
+        (reads-done (front (drop (c .at) ts)) read (kept-put w (c .out) (firstEntry + c .out) (entryWord kind (c .at) 1) (omega arith)
+        (omega (arith, ready .less, ready .fits .few, ready .fits .inside))) t)))
 
 -- what writing the entry asks for
 pub leaf-writes : {ts : Tokens} {w : List ℕ} {c d : Cursor} {kind number : ℕ} → Ready ts w c → kind < 64 → 0 < number → Passed w c d number → Writes w d kind (c .at) 1

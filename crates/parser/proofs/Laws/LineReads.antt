@@ -12,6 +12,7 @@ use Rattle.node.specs.Result.{Done}
 use Rattle.node.specs.ResultLaws.{bind-refused, bind-to}
 use Rattle.language.specs.Sections.{expression, parameterOf, enumerationOf, definitionOf}
 use Rattle.language.specs.Laws.Basics.Tests.{pick, leave}
+use Rattle.lexer.specs.Numbers.{fixed}
 use Rattle.entries.specs.Kinds as Kind
 use Rattle.entries.specs.Flat.{Entry, under, flat, flatLine, flatDefinition}
 use Rattle.entries.specs.Stored.{putEntry, Keeps}
@@ -24,10 +25,28 @@ use Rattle.entries.specs.ReadsLaws.{kept-same, kept-then}
 use Rattle.entries.specs.TokenReads.{took-none}
 use Rattle.parser.specs.Parts.{flatValued}
 use Rattle.parser.proofs.Laws.Rows.{Accepted, accepted, refusal, took-then, took-as, kept-emit, took-under, under-writes, reads-done, reads-refused, reads-tail}
-use Rattle.parser.proofs.Laws.Passing.{Next, Passed, stopped, inside, passed-ready, rest-past, took-past, took-passed, expectOf-passed, expectOf-not, expect-passed, expect-not, keeps-here, here, elsewhere, reads-behind}
+use Rattle.parser.proofs.Laws.Passing.{
+  Next,
+  Passed,
+  stopped,
+  inside,
+  passed-ready,
+  rest-past,
+  took-past,
+  took-passed,
+  expectOf-passed,
+  expectOf-not,
+  expect-passed,
+  expect-not,
+  keeps-here,
+  here,
+  elsewhere,
+  reads-behind,
+}
 
 -- an entry that closes what was read
-pub closed : {A : Type 0} {ts : Tokens} {w v z : List ℕ} {s d : Cursor} {es : List Entry} {f : A → List Entry} {x : Read A} {q : Parse} (k j : ℕ) (t : _) (a : A) → Ready ts w s → x ≡ Done (a, drop (d .at) ts) → f a ≡ under k t es →
+pub closed : {A : Type 0} {ts : Tokens} {w v z : List ℕ} {s d : Cursor} {es : List Entry} {f : A → List Entry} {x : Read A} {q : Parse} (k j : ℕ) (t : _) (a : A) → Ready ts w s
+    → x ≡ Done (a, drop (d .at) ts) → f a ≡ under k t es →
     Kept w v (s .out) → Took ts v s d es → d .out + 1 + s .at ≤ s .out + d .at → k < 64 → j < 8192 → Keeps ts j t →
     q ≡ Parsed (emittedOf d) → z ≡ putEntry v (d .out) k j (d .out - s .out + 1) → Reads ts w z s f x q
 closed {ts = ts} {w} {v} {z} {s} {d} {es} {f} {x} {q} k j t a ready e flats kept h room small near keeps m n =
@@ -43,9 +62,10 @@ module _ {ts : Tokens} {w : List ℕ} {c : Cursor} (ready : Ready ts w c) {f : P
   valued-name x m = reads-refused m (bind-refused _ _ _ _ (expectOf-not ready Name refl (stopped w c 1 x m))) (kept-same w (c .out))
 
   module _ {d : Cursor} (h : Passed w c d 1) where
-    pub valued-sign : {q : Parse} {n p : ℕ} → q ≡ expected w d 28 → q ≡ NotParsed n p → Reads ts w w c f (parameterOf (drop (c .at) ts)) q
+    pub valued-sign : {q : Parse} {n p : ℕ} → q ≡ expected w d (fixed "=") → q ≡ NotParsed n p → Reads ts w w c f (parameterOf (drop (c .at) ts)) q
     valued-sign x m =
-        reads-refused m (bind-to _ _ _ (expectOf-passed ready Name refl h) ∙ bind-refused _ _ _ _ (expect-not (passed-ready ready h (omega arith)) "=" refl (stopped w d 28 x m))) (kept-same w (c .out))
+        reads-refused m (bind-to _ _ _ (expectOf-passed ready Name refl h) ∙ bind-refused _ _ _ _ (expect-not (passed-ready ready h (omega arith)) "=" refl (stopped w d 28 x m)))
+        (kept-same w (c .out))
 
 module _ {ts : Tokens} {w v : List ℕ} {c d e : Cursor} (ready : Ready ts w c) (h : Passed w c d 1) (g : Passed w d e 28) {q : Parse} (r : Reads ts w v e flat (expression (drop (e .at) ts)) q) where
   to-value : Took ts w c e []
@@ -74,7 +94,8 @@ module _ {ts : Tokens} {w v : List ℕ} {c d e : Cursor} (ready : Ready ts w c) 
     pub valued-writes : (c .out ≤ f .out) × Writes v f kind (c .at) (f .out - c .out + 1)
     valued-writes = under-writes kind (c .at) (ready .less) took room small near
 
-    pub valued-read : {z : List ℕ} {y : Parse} → y ≡ Parsed (emittedOf f) → z ≡ putEntry v (f .out) kind (c .at) (f .out - c .out + 1) → Reads ts w z c (flatValued kind) (parameterOf (drop (c .at) ts)) y
+    pub valued-read : {z : List ℕ} {y : Parse} → y ≡ Parsed (emittedOf f) → z ≡ putEntry v (f .out) kind (c .at) (f .out - c .out + 1)
+        → Reads ts w z c (flatValued kind) (parameterOf (drop (c .at) ts)) y
     valued-read =
         closed kind (c .at) (some (front (drop (c .at) ts))) (record { name = front (drop (c .at) ts); value = value .value }) ready
         (bind-to _ _ _ (expectOf-passed ready Name refl h) ∙ bind-to _ _ _ (expect-passed (passed-ready ready h (omega arith)) "=" refl g) ∙ bind-to _ _ _ (value .read))
@@ -107,10 +128,12 @@ module _ {ts : Tokens} {w v : List ℕ} {c d : Cursor} (ready : Ready ts w c) (w
 
 -- a definition: an enumeration, or a name and its value
 module _ {ts : Tokens} {w v : List ℕ} {c : Cursor} (ready : Ready ts w c) {q : Parse} where
-  pub definition-enum : {d : Cursor} → kindAt w c ≡ 52 → Next c d → Reads ts w v d flatDefinition (enumerationOf (drop (d .at) ts)) q → Reads ts w v c flatDefinition (definitionOf (drop (c .at) ts)) q
+  pub definition-enum : {d : Cursor} → kindAt w c ≡ fixed "enum" → Next c d → Reads ts w v d flatDefinition (enumerationOf (drop (d .at) ts)) q
+      → Reads ts w v c flatDefinition (definitionOf (drop (c .at) ts)) q
   definition-enum k h r =
       reads-behind ready h (inside ready k (omega arith)) (pick (next "enum" (drop (c .at) ts)) _ _ (here ready "enum" refl k) ∙ ap enumerationOf (rest-past ts h)) r
 
-  pub definition-valued : (kindAt w c ≡ 52 → ⊥) → Reads ts w v c (flatValued Kind.definition) (parameterOf (drop (c .at) ts)) q → Reads ts w v c flatDefinition (definitionOf (drop (c .at) ts)) q
+  pub definition-valued : (kindAt w c ≡ fixed "enum" → ⊥) → Reads ts w v c (flatValued Kind.definition) (parameterOf (drop (c .at) ts)) q
+      → Reads ts w v c flatDefinition (definitionOf (drop (c .at) ts)) q
   definition-valued k r =
       reads-tail (λ (p : Parameter). Defined (p .name) (p .value)) (leave (next "enum" (drop (c .at) ts)) _ _ (elsewhere ready "enum" refl k)) (λ p. refl) (kept-same w (c .out)) (took-none ready) r

@@ -61,10 +61,12 @@ module _ {A : Type 0} {g : A → List Entry} {ts : Tokens} where
       -- what is left is read as a whole
       pub going-rest : {z′ : List ℕ} {e : Cursor} {y : Read (List A)} {q : Parse} → now ≡ y → Took ts z d e [] → Reads ts z z′ e (each g) y q → Reads ts w z′ s (each g) x q
       unfolding onto
-      going-rest f t r = reads-tail (λ ys. h .so-far ++ ys) (h .answer ∙ ap (onto (h .so-far)) f) (λ ys. each-append g (h .so-far) ys) kept (took-as (append-nil (each g (h .so-far))) (took-then (h .took) k t)) r
+      going-rest f t r = reads-tail (λ ys. h .so-far ++ ys) (h .answer ∙ ap (onto (h .so-far)) f) (λ ys. each-append g (h .so-far) ys) kept
+          (took-as (append-nil (each g (h .so-far))) (took-then (h .took) k t)) r
 
       -- a last token, and no element behind it
-      pub going-tail : {z′ : List ℕ} {B : Type 0} {e : Cursor} {y : Read B} {q : Parse} (ys : List A) → now ≡ (y >>= λ (b, us). Done (ys, us)) → Took ts z d e (each g ys) → Reads ts z z′ e noEntries y q → Reads ts w z′ s (each g) x q
+      pub going-tail : {z′ : List ℕ} {B : Type 0} {e : Cursor} {y : Read B} {q : Parse} (ys : List A) → now ≡ (y >>= λ (b, us). Done (ys, us)) → Took ts z d e (each g ys)
+          → Reads ts z z′ e noEntries y q → Reads ts w z′ s (each g) x q
       going-tail {e = e} {y} ys f t r =
           going-rest f (took-none (ready-kept k (h .took .ready))) (reads-tail (λ b. ys) refl (λ b. sym (append-nil (each g ys))) (kept-same z (d .out)) t r)
 
@@ -110,5 +112,6 @@ abbrev pub Lists : {A : Type 0} → (A → List Entry) → ℕ → (ℕ → Toke
 Lists g m step D w v s d = (ts : Tokens) → Ready ts w s → Listing g m step (D (drop (s .at) ts)) ts w v s d
 
 -- a call in the loop may read on
-pub listing-readied : {A : Type 0} {g : A → List Entry} {m : ℕ} {step : ℕ → Tokens → Read (List A)} {x : Read (List A)} {w v : List ℕ} {s d : Cursor} (r : Readied w s) → Listing g m step x (r .tokens) w v s d → Readied v d
+pub listing-readied : {A : Type 0} {g : A → List Entry} {m : ℕ} {step : ℕ → Tokens → Read (List A)} {x : Read (List A)} {w v : List ℕ} {s d : Cursor} (r : Readied w s)
+    → Listing g m step x (r .tokens) w v s d → Readied v d
 listing-readied r h = record { tokens = r .tokens; ready = h .going .took .ready }

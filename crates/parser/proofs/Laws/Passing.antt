@@ -157,5 +157,6 @@ pub took-passed : {ts : Tokens} {w : List ℕ} {s c d : Cursor} {es : List Entry
 took-passed t h l = took-past t (h .next) (inside (t .ready) (h .kind) l)
 
 -- what is read behind a token
-pub reads-behind : {A : Type 0} {ts : Tokens} {w v : List ℕ} {c d : Cursor} {f : A → List Entry} {x y : Read A} {q : Parse} → Ready ts w c → Next c d → c .at < c .count → x ≡ y → Reads ts w v d f y q → Reads ts w v c f x q
+pub reads-behind : {A : Type 0} {ts : Tokens} {w v : List ℕ} {c d : Cursor} {f : A → List Entry} {x y : Read A} {q : Parse} → Ready ts w c → Next c d → c .at < c .count → x ≡ y → Reads ts w v d f y q
+    → Reads ts w v c f x q
 reads-behind {w = w} {c = c} {y = y} ready h l e r = reads-tail (λ b. b) (e ∙ then-id y) (λ b. refl) (kept-same w (c .out)) (took-past (took-none ready) h l) r

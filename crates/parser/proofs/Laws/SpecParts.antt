@@ -85,10 +85,13 @@ global-row {B} i K ts = go (next "GLOBAL" ts)
 
     same : found >>= K ≡ pairs >>= K′
     same =
-        bind-again (expect "{" (rest ts)) _ K ∙ bind-same (expect "{" (rest ts)) _ _ (λ (c, ts). bind-again (optional "PARAMETERS" parameterOf ts) _ K ∙ bind-same (optional "PARAMETERS" parameterOf ts) _ _ (λ (ps, ts).
-        bind-again (optional "DEFINITIONS" definitionOf ts) _ K ∙ bind-same (optional "DEFINITIONS" definitionOf ts) _ _ (λ (ds, ts). bind-again (expect "}" ts) _ K ∙ bind-same (expect "}" ts) _ _ (λ (c, ts).
+        bind-again (expect "{" (rest ts)) _ K ∙ bind-same (expect "{" (rest ts)) _ _
+        (λ (c, ts). bind-again (optional "PARAMETERS" parameterOf ts) _ K ∙ bind-same (optional "PARAMETERS" parameterOf ts) _ _ (λ (ps, ts).
+        bind-again (optional "DEFINITIONS" definitionOf ts) _ K ∙ bind-same (optional "DEFINITIONS" definitionOf ts) _ _
+        (λ (ds, ts). bind-again (expect "}" ts) _ K ∙ bind-same (expect "}" ts) _ _ (λ (c, ts).
         bind-at (withGlobals i (ps, ds), ts) K ∙ sym (bind-at ((ps, ds), ts) K′))
-        ∙ sym (bind-again (expect "}" ts) _ K′)) ∙ sym (bind-again (optional "DEFINITIONS" definitionOf ts) _ K′)) ∙ sym (bind-again (optional "PARAMETERS" parameterOf ts) _ K′)) ∙ sym (bind-again (expect "{" (rest ts)) _ K′)
+        ∙ sym (bind-again (expect "}" ts) _ K′)) ∙ sym (bind-again (optional "DEFINITIONS" definitionOf ts) _ K′)) ∙ sym (bind-again (optional "PARAMETERS" parameterOf ts) _ K′)) ∙ sym
+        (bind-again (expect "{" (rest ts)) _ K′)
 
     go : (b : Bool) → (elim b [ true ↦ found | false ↦ Done (fromInfo i, ts) ]) >>= K ≡ (elim b [ true ↦ pairs | false ↦ Done (([], []), ts) ]) >>= K′
     go true = same

@@ -161,7 +161,8 @@ module _ {x : Read (List Subsection)} {marks : List ℕ} {ts : Tokens} {w v : Li
               }
 
 -- the end of MAIN
-pub subsections-end : {x : Read (List Subsection)} {marks : List ℕ} {ts : Tokens} {w v : List ℕ} {s d : Cursor} {q : Parse} (h : Standing x marks ts w v s d) → headingOf headings (h .before) (front (drop (d .at) ts)) ≡ none →
+pub subsections-end : {x : Read (List Subsection)} {marks : List ℕ} {ts : Tokens} {w v : List ℕ} {s d : Cursor} {q : Parse} (h : Standing x marks ts w v s d)
+    → headingOf headings (h .before) (front (drop (d .at) ts)) ≡ none →
     Reads ts v v d (each flatSubsection) (endOf (marked (getD marks 0 0) && marked (getD marks 1 0)) (drop (d .at) ts)) q → Reads ts w v s (each flatSubsection) x q
 subsections-end {marks = marks} {ts} {v = v} {d = d} h e r =
     going-rest (h .going) (kept-same v (d .out))

@@ -9,6 +9,7 @@ use lib.ListN.{drop}
 use Rattle.language.specs.Tree.{Inputs, Outputs, Lines}
 use Rattle.language.specs.Grammar.{Tokens, rest}
 use Rattle.language.specs.Sections.{expression, declarationOf, blockOf, Heading, InputsHere, OutputsHere, LinesHere, subsectionOf}
+use Rattle.lexer.specs.Numbers.{fixed}
 use Rattle.entries.specs.Kinds as Kind
 use Rattle.entries.specs.Flat.{each, head, flatDeclaration, flatLine, flatSubsection}
 use Rattle.entries.specs.Stored.{putEntry}
@@ -80,10 +81,10 @@ module _ {ts : Tokens} {w : List ℕ} {c : Cursor} (ready : Ready ts w c) {compl
       subst (Reads ts w w c (each flatSubsection) (endOf complete (drop (c .at) ts))) (sym m)
       (subst (λ b. Reads ts w w c (each flatSubsection) (endOf b (drop (c .at) ts)) (refusedAt w c)) (sym e) (read-stop ready))
 
-  pub ending-closed : complete ≡ true → r ≡ expected w c 21 → Reads ts w w c (each flatSubsection) (endOf complete (drop (c .at) ts)) r
+  pub ending-closed : complete ≡ true → r ≡ expected w c (fixed "}") → Reads ts w w c (each flatSubsection) (endOf complete (drop (c .at) ts)) r
   ending-closed e m =
       subst (Reads ts w w c (each flatSubsection) (endOf complete (drop (c .at) ts))) (sym m)
-      (subst (λ b. Reads ts w w c (each flatSubsection) (endOf b (drop (c .at) ts)) (expected w c 21)) (sym e)
+      (subst (λ b. Reads ts w w c (each flatSubsection) (endOf b (drop (c .at) ts)) (expected w c (fixed "}"))) (sym e)
       (reads-tail (λ t. []) refl (λ t. refl) (kept-same w (c .out)) (took-none ready) (expect-reads ready "}" refl)))
 
 pub left-false : {a : Bool} (b : Bool) → a ≡ false → (a && b) ≡ false

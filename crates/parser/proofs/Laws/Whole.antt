@@ -14,7 +14,7 @@ use Rattle.language.specs.Tree.{Subsection}
 use Rattle.language.specs.Grammar.{Tokens, Read, front, rest, next, expect, expectOf}
 use Rattle.language.specs.Sections.{subsectionsOf, specOf}
 use Rattle.language.specs.Laws.Basics.Tests.{pick, leave}
-use Rattle.lexer.specs.Numbers.{number}
+use Rattle.lexer.specs.Numbers.{number, fixed}
 use Rattle.lexer.specs.NumberLaws.{is-number, class-number}
 use Rattle.lexer.specs.Stored.{numberIn, offsetIn}
 use Rattle.lexer.specs.StoredLaws.{number-word, offset-word}
@@ -52,16 +52,17 @@ module _ {ts : Tokens} {w v : List ℕ} {c : Cursor} {q : Parse} (r : Reads ts w
     pub main-ready : Ready ts v d
     main-ready = globals .took .ready
 
-    pub sections-main : {y : Parse} {n p : ℕ} → y ≡ expected v d 54 → y ≡ NotParsed n p → Reads ts w v c flatSections answer y
+    pub sections-main : {y : Parse} {n p : ℕ} → y ≡ expected v d (fixed "MAIN") → y ≡ NotParsed n p → Reads ts w v c flatSections answer y
     sections-main x o = reads-refused o (bind-to _ _ _ (globals .read) ∙ bind-refused _ _ _ _ (expect-not main-ready "MAIN" refl (stopped v d 54 x o))) (r .kept)
 
     module _ {e : Cursor} (h : Passed v d e 54) where
       pub open-ready : Ready ts v e
       open-ready = passed-ready main-ready h (omega arith)
 
-      pub sections-open : {y : Parse} {n p : ℕ} → y ≡ expected v e 20 → y ≡ NotParsed n p → Reads ts w v c flatSections answer y
+      pub sections-open : {y : Parse} {n p : ℕ} → y ≡ expected v e (fixed "{") → y ≡ NotParsed n p → Reads ts w v c flatSections answer y
       sections-open x o =
-          reads-refused o (bind-to _ _ _ (globals .read) ∙ bind-to _ _ _ (expect-passed main-ready "MAIN" refl h) ∙ bind-refused _ _ _ _ (expect-not open-ready "{" refl (stopped v e 20 x o))) (r .kept)
+          reads-refused o (bind-to _ _ _ (globals .read) ∙ bind-to _ _ _ (expect-passed main-ready "MAIN" refl h) ∙ bind-refused _ _ _ _ (expect-not open-ready "{" refl (stopped v e 20 x o)))
+          (r .kept)
 
       module _ {f : Cursor} (g : Passed v e f 20) where
         pub subsections-ready : Ready ts v f

@@ -27,7 +27,8 @@ uninformed-requires c κs =
 
 returns : tie.Need-returns
 returns c =
-    λ ts ready. uninformed ((c .uninformed) .ensures) ((c .before .enum-told) .given .1) (skim-refused ((c .before .before .before .to-semantics) .ensures ts ready) _ ((c .before .enum-told) .given .1))
+    λ ts ready. uninformed ((c .uninformed) .ensures) ((c .before .enum-told) .given .1)
+    (skim-refused ((c .before .before .before .to-semantics) .ensures ts ready) _ ((c .before .enum-told) .given .1))
 
 kind-requires : tie.Need-kind-requires
 kind-requires c κs =
@@ -35,7 +36,8 @@ kind-requires c κs =
 
 model-requires : tie.Need-model-requires
 model-requires c κs =
-    let z = (c .before .before .before .before .before .before) .pre in record { tokens = z .tokens; ready = (accepted ((c .before .before .r) .given .1) ((c .before .before .before .before .to-semantics) .ensures (z .tokens) (z .ready)) .took .ready) }
+    let z = (c .before .before .before .before .before .before) .pre in
+    record { tokens = z .tokens; ready = (accepted ((c .before .before .r) .given .1) ((c .before .before .before .before .to-semantics) .ensures (z .tokens) (z .ready)) .took .ready) }
 
 enum-known-p : tie.Need-enum-known-p
 enum-known-p c =
@@ -51,15 +53,29 @@ uninformed-requires-2 c κs =
 
 returns-2 : tie.Need-returns-2
 returns-2 c =
-    λ ts ready. uninformed ((c .uninformed2) .ensures) ((c .before .enum-told2) .given .1) (skim-then ((c .before .before .before .before .before .before .before .before .to-semantics) .ensures ts ready) _ ((c .before .before .before .before .before .before .r) .given .1) (λ a. skim-refused ((c .before .before .before .model) .ensures ts (accepted ((c .before .before .before .before .before .before .r) .given .1) ((c .before .before .before .before .before .before .before .before .to-semantics) .ensures ts ready) .took .ready)) _ ((c .before .enum-told2) .given .1)))
+    λ ts ready. uninformed ((c .uninformed2) .ensures) ((c .before .enum-told2) .given .1)
+    (skim-then ((c .before .before .before .before .before .before .before .before .to-semantics) .ensures ts ready) _ ((c .before .before .before .before .before .before .r) .given .1)
+    (λ a. skim-refused ((c .before .before .before .model) .ensures ts
+    (accepted ((c .before .before .before .before .before .before .r) .given .1)
+    ((c .before .before .before .before .before .before .before .before .to-semantics) .ensures ts ready) .took .ready)) _ ((c .before .enum-told2) .given .1)))
 
 kind-requires-2 : tie.Need-kind-requires-2
 kind-requires-2 c κs =
-    let z = (c .before .before .before .before .before .before .before .before .before .before) .pre in (accepted ((c .before .p) .given .1) ((c .before .before .before .model) .ensures (z .tokens) (accepted ((c .before .before .before .before .before .before .r) .given .1) ((c .before .before .before .before .before .before .before .before .to-semantics) .ensures (z .tokens) (z .ready)) .took .ready)) .took .ready) .fits
+    let z = (c .before .before .before .before .before .before .before .before .before .before) .pre in
+    (accepted ((c .before .p) .given .1) ((c .before .before .before .model) .ensures (z .tokens)
+    (accepted ((c .before .before .before .before .before .before .r) .given .1)
+    ((c .before .before .before .before .before .before .before .before .to-semantics) .ensures (z .tokens) (z .ready)) .took .ready)) .took .ready) .fits
 
 to-target-requires : tie.Need-to-target-requires
 to-target-requires c κs =
-    let z = (c .before .before .before .before .before .before .before .before .before .before .before) .pre in record { tokens = z .tokens; ready = (accepted ((c .before .before .p) .given .1) ((c .before .before .before .before .model) .ensures (z .tokens) (accepted ((c .before .before .before .before .before .before .before .r) .given .1) ((c .before .before .before .before .before .before .before .before .before .to-semantics) .ensures (z .tokens) (z .ready)) .took .ready)) .took .ready) }
+    let z = (c .before .before .before .before .before .before .before .before .before .before .before) .pre in
+    record {
+      tokens = z .tokens;
+      ready = (accepted ((c .before .before .p) .given .1)
+          ((c .before .before .before .before .model) .ensures (z .tokens)
+          (accepted ((c .before .before .before .before .before .before .before .r) .given .1)
+          ((c .before .before .before .before .before .before .before .before .before .to-semantics) .ensures (z .tokens) (z .ready)) .took .ready)) .took .ready);
+    }
 
 enum-known-q : tie.Need-enum-known-q
 enum-known-q c =
@@ -75,19 +91,53 @@ uninformed-requires-3 c κs =
 
 returns-3 : tie.Need-returns-3
 returns-3 c =
-    λ ts ready. uninformed ((c .uninformed3) .ensures) ((c .before .enum-told3) .given .1) (skim-then ((c .before .before .before .before .before .before .before .before .before .before .before .before .before .to-semantics) .ensures ts ready) _ ((c .before .before .before .before .before .before .before .before .before .before .before .r) .given .1) (λ a. skim-then ((c .before .before .before .before .before .before .before .before .model) .ensures ts (accepted ((c .before .before .before .before .before .before .before .before .before .before .before .r) .given .1) ((c .before .before .before .before .before .before .before .before .before .before .before .before .before .to-semantics) .ensures ts ready) .took .ready)) _ ((c .before .before .before .before .before .before .p) .given .1) (λ m. skim-refused ((c .before .before .before .to-target) .ensures ts (accepted ((c .before .before .before .before .before .before .p) .given .1) ((c .before .before .before .before .before .before .before .before .model) .ensures ts (accepted ((c .before .before .before .before .before .before .before .before .before .before .before .r) .given .1) ((c .before .before .before .before .before .before .before .before .before .before .before .before .before .to-semantics) .ensures ts ready) .took .ready)) .took .ready)) _ ((c .before .enum-told3) .given .1))))
+    λ ts ready. uninformed ((c .uninformed3) .ensures) ((c .before .enum-told3) .given .1)
+    (skim-then ((c .before .before .before .before .before .before .before .before .before .before .before .before .before .to-semantics) .ensures ts ready) _
+    ((c .before .before .before .before .before .before .before .before .before .before .before .r) .given .1)
+    (λ a. skim-then ((c .before .before .before .before .before .before .before .before .model) .ensures ts
+    (accepted ((c .before .before .before .before .before .before .before .before .before .before .before .r) .given .1)
+    ((c .before .before .before .before .before .before .before .before .before .before .before .before .before .to-semantics) .ensures ts ready) .took .ready)) _
+    ((c .before .before .before .before .before .before .p) .given .1)
+    (λ m. skim-refused ((c .before .before .before .to-target) .ensures ts
+    (accepted ((c .before .before .before .before .before .before .p) .given .1)
+    ((c .before .before .before .before .before .before .before .before .model) .ensures ts
+    (accepted ((c .before .before .before .before .before .before .before .before .before .before .before .r) .given .1)
+    ((c .before .before .before .before .before .before .before .before .before .before .before .before .before .to-semantics) .ensures ts ready) .took .ready)) .took .ready)) _
+    ((c .before .enum-told3) .given .1))))
 
 kind-requires-3 : tie.Need-kind-requires-3
 kind-requires-3 c κs =
-    let z = (c .before .before .before .before .before .before .before .before .before .before .before .before .before .before .before) .pre in (accepted ((c .before .q) .given .1) ((c .before .before .before .to-target) .ensures (z .tokens) (accepted ((c .before .before .before .before .before .before .p) .given .1) ((c .before .before .before .before .before .before .before .before .model) .ensures (z .tokens) (accepted ((c .before .before .before .before .before .before .before .before .before .before .before .r) .given .1) ((c .before .before .before .before .before .before .before .before .before .before .before .before .before .to-semantics) .ensures (z .tokens) (z .ready)) .took .ready)) .took .ready)) .took .ready) .fits
+    let z = (c .before .before .before .before .before .before .before .before .before .before .before .before .before .before .before) .pre in
+    (accepted ((c .before .q) .given .1) ((c .before .before .before .to-target) .ensures (z .tokens)
+    (accepted ((c .before .before .before .before .before .before .p) .given .1)
+    ((c .before .before .before .before .before .before .before .before .model) .ensures (z .tokens)
+    (accepted ((c .before .before .before .before .before .before .before .before .before .before .before .r) .given .1)
+    ((c .before .before .before .before .before .before .before .before .before .before .before .before .before .to-semantics) .ensures (z .tokens)
+    (z .ready)) .took .ready)) .took .ready)) .took .ready) .fits
 
 place-requires : tie.Need-place-requires
 place-requires c κs =
-    let z = (c .before .before .before .before .before .before .before .before .before .before .before .before .before .before .before .before) .pre in (accepted ((c .before .before .q) .given .1) ((c .before .before .before .before .to-target) .ensures (z .tokens) (accepted ((c .before .before .before .before .before .before .before .p) .given .1) ((c .before .before .before .before .before .before .before .before .before .model) .ensures (z .tokens) (accepted ((c .before .before .before .before .before .before .before .before .before .before .before .before .r) .given .1) ((c .before .before .before .before .before .before .before .before .before .before .before .before .before .before .to-semantics) .ensures (z .tokens) (z .ready)) .took .ready)) .took .ready)) .took .ready) .fits
+    let z = (c .before .before .before .before .before .before .before .before .before .before .before .before .before .before .before .before) .pre in
+    (accepted ((c .before .before .q) .given .1) ((c .before .before .before .before .to-target) .ensures (z .tokens)
+    (accepted ((c .before .before .before .before .before .before .before .p) .given .1)
+    ((c .before .before .before .before .before .before .before .before .before .model) .ensures (z .tokens)
+    (accepted ((c .before .before .before .before .before .before .before .before .before .before .before .before .r) .given .1)
+    ((c .before .before .before .before .before .before .before .before .before .before .before .before .before .before .to-semantics) .ensures (z .tokens)
+    (z .ready)) .took .ready)) .took .ready)) .took .ready) .fits
 
 closing-requires : tie.Need-closing-requires
 closing-requires c κs =
-    let z = (c .before .before .before .before .before .before .before .before .before .before .before .before .before .before .before .before .before) .pre in record { tokens = z .tokens; ready = (accepted ((c .before .before .before .q) .given .1) ((c .before .before .before .before .before .to-target) .ensures (z .tokens) (accepted ((c .before .before .before .before .before .before .before .before .p) .given .1) ((c .before .before .before .before .before .before .before .before .before .before .model) .ensures (z .tokens) (accepted ((c .before .before .before .before .before .before .before .before .before .before .before .before .before .r) .given .1) ((c .before .before .before .before .before .before .before .before .before .before .before .before .before .before .before .to-semantics) .ensures (z .tokens) (z .ready)) .took .ready)) .took .ready)) .took .ready) }
+    let z = (c .before .before .before .before .before .before .before .before .before .before .before .before .before .before .before .before .before) .pre in
+    record {
+      tokens = z .tokens;
+      ready = (accepted ((c .before .before .before .q) .given .1)
+          ((c .before .before .before .before .before .to-target) .ensures (z .tokens)
+          (accepted ((c .before .before .before .before .before .before .before .before .p) .given .1)
+          ((c .before .before .before .before .before .before .before .before .before .before .model) .ensures (z .tokens)
+          (accepted ((c .before .before .before .before .before .before .before .before .before .before .before .before .before .r) .given .1)
+          ((c .before .before .before .before .before .before .before .before .before .before .before .before .before .before .before .to-semantics) .ensures (z .tokens)
+          (z .ready)) .took .ready)) .took .ready)) .took .ready);
+    }
 
 enum-told-4 : tie.Need-enum-told-4
 enum-told-4 c =
@@ -103,19 +153,90 @@ uninformed-requires-4 c κs =
 
 returns-4 : tie.Need-returns-4
 returns-4 c =
-    λ ts ready. uninformed ((c .uninformed4) .ensures) ((c .before .enum-told5) .given .1) (all-read ((c .before .before .before .before .before .before .before .before .before .before .before .before .before .before .before .before .before .before .before .to-semantics) .ensures ts ready) ((c .before .before .before .before .before .before .before .before .before .before .before .before .before .before .before .before .before .r) .given .1) ((c .before .before .before .before .before .before .before .before .before .before .before .before .before .before .model) .ensures ts (accepted ((c .before .before .before .before .before .before .before .before .before .before .before .before .before .before .before .before .before .r) .given .1) ((c .before .before .before .before .before .before .before .before .before .before .before .before .before .before .before .before .before .before .before .to-semantics) .ensures ts ready) .took .ready)) ((c .before .before .before .before .before .before .before .before .before .before .before .before .p) .given .1) ((c .before .before .before .before .before .before .before .before .before .to-target) .ensures ts (accepted ((c .before .before .before .before .before .before .before .before .before .before .before .before .p) .given .1) ((c .before .before .before .before .before .before .before .before .before .before .before .before .before .before .model) .ensures ts (accepted ((c .before .before .before .before .before .before .before .before .before .before .before .before .before .before .before .before .before .r) .given .1) ((c .before .before .before .before .before .before .before .before .before .before .before .before .before .before .before .before .before .before .before .to-semantics) .ensures ts ready) .took .ready)) .took .ready)) ((c .before .before .before .before .before .before .before .q) .given .1) ((c .before .before .before .closing) .ensures ts (accepted ((c .before .before .before .before .before .before .before .q) .given .1) ((c .before .before .before .before .before .before .before .before .before .to-target) .ensures ts (accepted ((c .before .before .before .before .before .before .before .before .before .before .before .before .p) .given .1) ((c .before .before .before .before .before .before .before .before .before .before .before .before .before .before .model) .ensures ts (accepted ((c .before .before .before .before .before .before .before .before .before .before .before .before .before .before .before .before .before .r) .given .1) ((c .before .before .before .before .before .before .before .before .before .before .before .before .before .before .before .before .before .before .before .to-semantics) .ensures ts ready) .took .ready)) .took .ready)) .took .ready)))
+    λ ts ready. uninformed ((c .uninformed4) .ensures) ((c .before .enum-told5) .given .1)
+    (all-read ((c .before .before .before .before .before .before .before .before .before .before .before .before .before .before .before .before .before .before .before .to-semantics) .ensures
+    ts ready) ((c .before .before .before .before .before .before .before .before .before .before .before .before .before .before .before .before .before .r) .given .1)
+    ((c .before .before .before .before .before .before .before .before .before .before .before .before .before .before .model) .ensures ts
+    (accepted ((c .before .before .before .before .before .before .before .before .before .before .before .before .before .before .before .before .before .r) .given .1)
+    ((c .before .before .before .before .before .before .before .before .before .before .before .before .before .before .before .before .before .before .before .to-semantics) .ensures ts
+    ready) .took .ready)) ((c .before .before .before .before .before .before .before .before .before .before .before .before .p) .given .1)
+    ((c .before .before .before .before .before .before .before .before .before .to-target) .ensures ts
+    (accepted ((c .before .before .before .before .before .before .before .before .before .before .before .before .p) .given .1)
+    ((c .before .before .before .before .before .before .before .before .before .before .before .before .before .before .model) .ensures ts
+    (accepted ((c .before .before .before .before .before .before .before .before .before .before .before .before .before .before .before .before .before .r) .given .1)
+    ((c .before .before .before .before .before .before .before .before .before .before .before .before .before .before .before .before .before .before .before .to-semantics) .ensures ts
+    ready) .took .ready)) .took .ready)) ((c .before .before .before .before .before .before .before .q) .given .1)
+    ((c .before .before .before .closing) .ensures ts (accepted ((c .before .before .before .before .before .before .before .q) .given .1)
+    ((c .before .before .before .before .before .before .before .before .before .to-target) .ensures ts
+    (accepted ((c .before .before .before .before .before .before .before .before .before .before .before .before .p) .given .1)
+    ((c .before .before .before .before .before .before .before .before .before .before .before .before .before .before .model) .ensures ts
+    (accepted ((c .before .before .before .before .before .before .before .before .before .before .before .before .before .before .before .before .before .r) .given .1)
+    ((c .before .before .before .before .before .before .before .before .before .before .before .before .before .before .before .before .before .before .before .to-semantics) .ensures ts
+    ready) .took .ready)) .took .ready)) .took .ready)))
 
 sub-t14 : tie.Need-sub-t14
 sub-t14 c =
-    let z = (c .before .before .before .before .before .before .before .before .before .before .before .before .before .before .before .before .before .before .before .before) .pre in omega (arith, (c .before .before .before .before .before .before .before .before .before .before .before .before .before .before .kind) .ensures, model-kind (accepted ((c .before .before .before .before .before .before .before .before .before .before .before .before .before .before .before .before .r) .given .1) ((c .before .before .before .before .before .before .before .before .before .before .before .before .before .before .before .before .before .before .to-semantics) .ensures (z .tokens) (z .ready)) .took .ready) (accepted ((c .before .before .before .before .before .before .before .before .before .before .before .p) .given .1) ((c .before .before .before .before .before .before .before .before .before .before .before .before .before .model) .ensures (z .tokens) (accepted ((c .before .before .before .before .before .before .before .before .before .before .before .before .before .before .before .before .r) .given .1) ((c .before .before .before .before .before .before .before .before .before .before .before .before .before .before .before .before .before .before .to-semantics) .ensures (z .tokens) (z .ready)) .took .ready)) .read))
+    let z = (c .before .before .before .before .before .before .before .before .before .before .before .before .before .before .before .before .before .before .before .before) .pre in
+    omega (
+      arith,
+      (c .before .before .before .before .before .before .before .before .before .before .before .before .before .before .kind) .ensures,
+      model-kind
+          (accepted ((c .before .before .before .before .before .before .before .before .before .before .before .before .before .before .before .before .r) .given .1)
+          ((c .before .before .before .before .before .before .before .before .before .before .before .before .before .before .before .before .before .before .to-semantics) .ensures (z .tokens)
+          (z .ready)) .took .ready) (accepted ((c .before .before .before .before .before .before .before .before .before .before .before .p) .given .1)
+          ((c .before .before .before .before .before .before .before .before .before .before .before .before .before .model) .ensures (z .tokens)
+          (accepted ((c .before .before .before .before .before .before .before .before .before .before .before .before .before .before .before .before .r) .given .1)
+          ((c .before .before .before .before .before .before .before .before .before .before .before .before .before .before .before .before .before .before .to-semantics) .ensures (z .tokens)
+          (z .ready)) .took .ready)) .read),
+    )
 
 sub-t15 : tie.Need-sub-t15
 sub-t15 c =
-    let z = (c .before .before .before .before .before .before .before .before .before .before .before .before .before .before .before .before .before .before .before .before) .pre in omega (arith, (c .before .before .before .before .kind3) .ensures, closing-kind (accepted ((c .before .before .before .before .before .before .q) .given .1) ((c .before .before .before .before .before .before .before .before .to-target) .ensures (z .tokens) (accepted ((c .before .before .before .before .before .before .before .before .before .before .before .p) .given .1) ((c .before .before .before .before .before .before .before .before .before .before .before .before .before .model) .ensures (z .tokens) (accepted ((c .before .before .before .before .before .before .before .before .before .before .before .before .before .before .before .before .r) .given .1) ((c .before .before .before .before .before .before .before .before .before .before .before .before .before .before .before .before .before .before .to-semantics) .ensures (z .tokens) (z .ready)) .took .ready)) .took .ready)) .took .ready) (accepted ((c .enum-told4) .given .1) ((c .before .before .closing) .ensures (z .tokens) (accepted ((c .before .before .before .before .before .before .q) .given .1) ((c .before .before .before .before .before .before .before .before .to-target) .ensures (z .tokens) (accepted ((c .before .before .before .before .before .before .before .before .before .before .before .p) .given .1) ((c .before .before .before .before .before .before .before .before .before .before .before .before .before .model) .ensures (z .tokens) (accepted ((c .before .before .before .before .before .before .before .before .before .before .before .before .before .before .before .before .r) .given .1) ((c .before .before .before .before .before .before .before .before .before .before .before .before .before .before .before .before .before .before .to-semantics) .ensures (z .tokens) (z .ready)) .took .ready)) .took .ready)) .took .ready)) .read))
+    let z = (c .before .before .before .before .before .before .before .before .before .before .before .before .before .before .before .before .before .before .before .before) .pre in
+    omega (
+      arith,
+      (c .before .before .before .before .kind3) .ensures,
+      closing-kind
+          (accepted ((c .before .before .before .before .before .before .q) .given .1)
+          ((c .before .before .before .before .before .before .before .before .to-target) .ensures (z .tokens)
+          (accepted ((c .before .before .before .before .before .before .before .before .before .before .before .p) .given .1)
+          ((c .before .before .before .before .before .before .before .before .before .before .before .before .before .model) .ensures (z .tokens)
+          (accepted ((c .before .before .before .before .before .before .before .before .before .before .before .before .before .before .before .before .r) .given .1)
+          ((c .before .before .before .before .before .before .before .before .before .before .before .before .before .before .before .before .before .before .to-semantics) .ensures (z .tokens)
+          (z .ready)) .took .ready)) .took .ready)) .took .ready) (accepted ((c .enum-told4) .given .1)
+          ((c .before .before .closing) .ensures (z .tokens) (accepted ((c .before .before .before .before .before .before .q) .given .1)
+          ((c .before .before .before .before .before .before .before .before .to-target) .ensures (z .tokens)
+          (accepted ((c .before .before .before .before .before .before .before .before .before .before .before .p) .given .1)
+          ((c .before .before .before .before .before .before .before .before .before .before .before .before .before .model) .ensures (z .tokens)
+          (accepted ((c .before .before .before .before .before .before .before .before .before .before .before .before .before .before .before .before .r) .given .1)
+          ((c .before .before .before .before .before .before .before .before .before .before .before .before .before .before .before .before .before .before .to-semantics) .ensures (z .tokens)
+          (z .ready)) .took .ready)) .took .ready)) .took .ready)) .read),
+    )
 
 returns-5 : tie.Need-returns-5
 returns-5 c =
-    λ ts ready. informed ((c .before .before .before .before .before .before .before .before .before .before .before .before .before .before .before .before .before .before .to-semantics) .ensures ts ready) ((c .before .before .before .before .before .before .before .before .before .before .before .before .before .before .before .before .r) .given .1) ((c .before .before .before .before .before .before .before .before .before .before .before .before .before .model) .ensures ts (accepted ((c .before .before .before .before .before .before .before .before .before .before .before .before .before .before .before .before .r) .given .1) ((c .before .before .before .before .before .before .before .before .before .before .before .before .before .before .before .before .before .before .to-semantics) .ensures ts ready) .took .ready)) ((c .before .before .before .before .before .before .before .before .before .before .before .p) .given .1) ((c .before .before .before .before .before .before .before .before .to-target) .ensures ts (accepted ((c .before .before .before .before .before .before .before .before .before .before .before .p) .given .1) ((c .before .before .before .before .before .before .before .before .before .before .before .before .before .model) .ensures ts (accepted ((c .before .before .before .before .before .before .before .before .before .before .before .before .before .before .before .before .r) .given .1) ((c .before .before .before .before .before .before .before .before .before .before .before .before .before .before .before .before .before .before .to-semantics) .ensures ts ready) .took .ready)) .took .ready)) ((c .before .before .before .before .before .before .q) .given .1) ((c .before .before .closing) .ensures ts (accepted ((c .before .before .before .before .before .before .q) .given .1) ((c .before .before .before .before .before .before .before .before .to-target) .ensures ts (accepted ((c .before .before .before .before .before .before .before .before .before .before .before .p) .given .1) ((c .before .before .before .before .before .before .before .before .before .before .before .before .before .model) .ensures ts (accepted ((c .before .before .before .before .before .before .before .before .before .before .before .before .before .before .before .before .r) .given .1) ((c .before .before .before .before .before .before .before .before .before .before .before .before .before .before .before .before .before .before .to-semantics) .ensures ts ready) .took .ready)) .took .ready)) .took .ready)) ((c .enum-told4) .given .1) ((c .before .before .before .before .before .before .before .before .before .before .before .before .before .before .kind) .ensures) (ap (λ n. eqb n 27) ((c .before .before .before .before .before .before .before .before .before .kind2) .ensures)) ((c .before .before .before .before .kind3) .ensures) ((c .before .before .before .place) .ensures) refl refl
+    λ ts ready. informed ((c .before .before .before .before .before .before .before .before .before .before .before .before .before .before .before .before .before .before .to-semantics) .ensures ts
+    ready) ((c .before .before .before .before .before .before .before .before .before .before .before .before .before .before .before .before .r) .given .1)
+    ((c .before .before .before .before .before .before .before .before .before .before .before .before .before .model) .ensures ts
+    (accepted ((c .before .before .before .before .before .before .before .before .before .before .before .before .before .before .before .before .r) .given .1)
+    ((c .before .before .before .before .before .before .before .before .before .before .before .before .before .before .before .before .before .before .to-semantics) .ensures ts
+    ready) .took .ready)) ((c .before .before .before .before .before .before .before .before .before .before .before .p) .given .1)
+    ((c .before .before .before .before .before .before .before .before .to-target) .ensures ts
+    (accepted ((c .before .before .before .before .before .before .before .before .before .before .before .p) .given .1)
+    ((c .before .before .before .before .before .before .before .before .before .before .before .before .before .model) .ensures ts
+    (accepted ((c .before .before .before .before .before .before .before .before .before .before .before .before .before .before .before .before .r) .given .1)
+    ((c .before .before .before .before .before .before .before .before .before .before .before .before .before .before .before .before .before .before .to-semantics) .ensures ts
+    ready) .took .ready)) .took .ready)) ((c .before .before .before .before .before .before .q) .given .1)
+    ((c .before .before .closing) .ensures ts (accepted ((c .before .before .before .before .before .before .q) .given .1)
+    ((c .before .before .before .before .before .before .before .before .to-target) .ensures ts
+    (accepted ((c .before .before .before .before .before .before .before .before .before .before .before .p) .given .1)
+    ((c .before .before .before .before .before .before .before .before .before .before .before .before .before .model) .ensures ts
+    (accepted ((c .before .before .before .before .before .before .before .before .before .before .before .before .before .before .before .before .r) .given .1)
+    ((c .before .before .before .before .before .before .before .before .before .before .before .before .before .before .before .before .before .before .to-semantics) .ensures ts
+    ready) .took .ready)) .took .ready)) .took .ready)) ((c .enum-told4) .given .1)
+    ((c .before .before .before .before .before .before .before .before .before .before .before .before .before .before .kind) .ensures)
+    (ap (λ n. eqb n 27) ((c .before .before .before .before .before .before .before .before .before .kind2) .ensures)) ((c .before .before .before .before .kind3) .ensures)
+    ((c .before .before .before .place) .ensures) refl refl
 
 pub information-spec : {M : Type 1} → statement M
 information-spec =

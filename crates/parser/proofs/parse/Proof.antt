@@ -29,11 +29,17 @@ same-length c =
 
 returns : tie.Need-returns
 returns c =
-    λ ts tells. outlined-refused (first-refused ((c .before .before .before .before .before .before) .pre .fits) tells (stopped _ _ _ ((c .before .before .before .expect) .ensures) ((c .before .enum-told) .given .1))) (kept-same _ 0) ((c .refused) .ensures) ((c .before .enum-told) .given .1)
+    λ ts tells. outlined-refused (first-refused ((c .before .before .before .before .before .before) .pre .fits) tells
+    (stopped _ _ _ ((c .before .before .before .expect) .ensures) ((c .before .enum-told) .given .1))) (kept-same _ 0) ((c .refused) .ensures) ((c .before .enum-told) .given .1)
 
 information-requires : tie.Need-information-requires
 information-requires c κs =
-    let z = (c .before .before .before .before .before .before .before) .pre in record { tokens = z .tokens; ready = first-ready ((c .before .before .before .before .before .before .before) .pre .fits) (z .tells) (passed _ _ _ ((c .before .before .before .before .expect) .ensures) ((c .before .before .r) .given .1)) }
+    let z = (c .before .before .before .before .before .before .before) .pre in
+    record {
+      tokens = z .tokens;
+      ready = first-ready ((c .before .before .before .before .before .before .before) .pre .fits) (z .tells)
+          (passed _ _ _ ((c .before .before .before .before .expect) .ensures) ((c .before .before .r) .given .1));
+    }
 
 enum-known-p : tie.Need-enum-known-p
 enum-known-p c =
@@ -53,11 +59,26 @@ same-length-2 c =
 
 returns-2 : tie.Need-returns-2
 returns-2 c =
-    λ ts tells. outlined-refused (info-refused ((c .before .before .before .before .before .before .before .before .before .before .before .before) .pre .fits) tells (passed _ _ _ ((c .before .before .before .before .before .before .before .before .before .expect) .ensures) ((c .before .before .before .before .before .before .before .r) .given .1)) ((c .before .before .before .before .information) .ensures ts (first-ready ((c .before .before .before .before .before .before .before .before .before .before .before .before) .pre .fits) tells (passed _ _ _ ((c .before .before .before .before .before .before .before .before .before .expect) .ensures) ((c .before .before .before .before .before .before .before .r) .given .1)))) ((c .before .enum-told2) .given .1)) (kept-same _ 0) ((c .refused2) .ensures) ((c .before .enum-told2) .given .1)
+    λ ts tells. outlined-refused (info-refused ((c .before .before .before .before .before .before .before .before .before .before .before .before) .pre .fits) tells
+    (passed _ _ _ ((c .before .before .before .before .before .before .before .before .before .expect) .ensures) ((c .before .before .before .before .before .before .before .r) .given .1))
+    ((c .before .before .before .before .information) .ensures ts
+    (first-ready ((c .before .before .before .before .before .before .before .before .before .before .before .before) .pre .fits) tells
+    (passed _ _ _ ((c .before .before .before .before .before .before .before .before .before .expect) .ensures) ((c .before .before .before .before .before .before .before .r) .given .1))))
+    ((c .before .enum-told2) .given .1)) (kept-same _ 0) ((c .refused2) .ensures) ((c .before .enum-told2) .given .1)
 
 sections-requires : tie.Need-sections-requires
 sections-requires c κs =
-    let z = (c .before .before .before .before .before .before .before .before .before .before .before .before .before) .pre in record { tokens = z .tokens; ready = info-ready ((c .before .before .before .before .before .before .before .before .before .before .before .before .before) .pre .fits) (z .tells) (passed _ _ _ ((c .before .before .before .before .before .before .before .before .before .before .expect) .ensures) ((c .before .before .before .before .before .before .before .before .r) .given .1)) ((c .before .before .before .before .before .information) .ensures (z .tokens) (first-ready ((c .before .before .before .before .before .before .before .before .before .before .before .before .before) .pre .fits) (z .tells) (passed _ _ _ ((c .before .before .before .before .before .before .before .before .before .before .expect) .ensures) ((c .before .before .before .before .before .before .before .before .r) .given .1)))) ((c .before .before .p) .given .1) }
+    let z = (c .before .before .before .before .before .before .before .before .before .before .before .before .before) .pre in
+    record {
+      tokens = z .tokens;
+      ready = info-ready ((c .before .before .before .before .before .before .before .before .before .before .before .before .before) .pre .fits) (z .tells)
+          (passed _ _ _ ((c .before .before .before .before .before .before .before .before .before .before .expect) .ensures)
+          ((c .before .before .before .before .before .before .before .before .r) .given .1))
+          ((c .before .before .before .before .before .information) .ensures (z .tokens)
+          (first-ready ((c .before .before .before .before .before .before .before .before .before .before .before .before .before) .pre .fits) (z .tells)
+          (passed _ _ _ ((c .before .before .before .before .before .before .before .before .before .before .expect) .ensures)
+          ((c .before .before .before .before .before .before .before .before .r) .given .1)))) ((c .before .before .p) .given .1);
+    }
 
 enum-known-q : tie.Need-enum-known-q
 enum-known-q c =
@@ -77,15 +98,84 @@ same-length-3 c =
 
 returns-3 : tie.Need-returns-3
 returns-3 c =
-    λ ts tells. outlined-refused (body-refused ((c .before .before .before .before .before .before .before .before .before .before .before .before .before .before .before .before .before .before .before) .pre .fits) tells (passed _ _ _ ((c .before .before .before .before .before .before .before .before .before .before .before .before .before .before .before .before .expect) .ensures) ((c .before .before .before .before .before .before .before .before .before .before .before .before .before .before .r) .given .1)) ((c .before .before .before .before .before .before .before .before .before .before .before .information) .ensures ts (first-ready ((c .before .before .before .before .before .before .before .before .before .before .before .before .before .before .before .before .before .before .before) .pre .fits) tells (passed _ _ _ ((c .before .before .before .before .before .before .before .before .before .before .before .before .before .before .before .before .expect) .ensures) ((c .before .before .before .before .before .before .before .before .before .before .before .before .before .before .r) .given .1)))) ((c .before .before .before .before .before .before .before .before .p) .given .1) ((c .before .before .before .before .before .sections) .ensures ts (info-ready ((c .before .before .before .before .before .before .before .before .before .before .before .before .before .before .before .before .before .before .before) .pre .fits) tells (passed _ _ _ ((c .before .before .before .before .before .before .before .before .before .before .before .before .before .before .before .before .expect) .ensures) ((c .before .before .before .before .before .before .before .before .before .before .before .before .before .before .r) .given .1)) ((c .before .before .before .before .before .before .before .before .before .before .before .information) .ensures ts (first-ready ((c .before .before .before .before .before .before .before .before .before .before .before .before .before .before .before .before .before .before .before) .pre .fits) tells (passed _ _ _ ((c .before .before .before .before .before .before .before .before .before .before .before .before .before .before .before .before .expect) .ensures) ((c .before .before .before .before .before .before .before .before .before .before .before .before .before .before .r) .given .1)))) ((c .before .before .before .before .before .before .before .before .p) .given .1))) ((c .before .enum-told3) .given .1)) (all-kept ((c .before .before .before .before .before .before .before .before .before .before .before .before .before .before .before .before .before .before .before) .pre .fits) tells (passed _ _ _ ((c .before .before .before .before .before .before .before .before .before .before .before .before .before .before .before .before .expect) .ensures) ((c .before .before .before .before .before .before .before .before .before .before .before .before .before .before .r) .given .1)) ((c .before .before .before .before .before .before .before .before .before .before .before .information) .ensures ts (first-ready ((c .before .before .before .before .before .before .before .before .before .before .before .before .before .before .before .before .before .before .before) .pre .fits) tells (passed _ _ _ ((c .before .before .before .before .before .before .before .before .before .before .before .before .before .before .before .before .expect) .ensures) ((c .before .before .before .before .before .before .before .before .before .before .before .before .before .before .r) .given .1)))) ((c .before .before .before .before .before .before .before .before .p) .given .1) ((c .before .before .before .before .before .sections) .ensures ts (info-ready ((c .before .before .before .before .before .before .before .before .before .before .before .before .before .before .before .before .before .before .before) .pre .fits) tells (passed _ _ _ ((c .before .before .before .before .before .before .before .before .before .before .before .before .before .before .before .before .expect) .ensures) ((c .before .before .before .before .before .before .before .before .before .before .before .before .before .before .r) .given .1)) ((c .before .before .before .before .before .before .before .before .before .before .before .information) .ensures ts (first-ready ((c .before .before .before .before .before .before .before .before .before .before .before .before .before .before .before .before .before .before .before) .pre .fits) tells (passed _ _ _ ((c .before .before .before .before .before .before .before .before .before .before .before .before .before .before .before .before .expect) .ensures) ((c .before .before .before .before .before .before .before .before .before .before .before .before .before .before .r) .given .1)))) ((c .before .before .before .before .before .before .before .before .p) .given .1)))) ((c .refused3) .ensures) ((c .before .enum-told3) .given .1)
+    λ ts tells. outlined-refused (body-refused ((c .before .before .before .before .before .before .before .before .before .before .before .before .before .before .before .before .before
+    .before .before) .pre .fits) tells (passed _ _ _ ((c .before .before .before .before .before .before .before .before .before .before .before .before .before .before
+    .before .before .expect) .ensures) ((c .before .before .before .before .before .before .before .before .before .before .before .before .before .before .r) .given .1))
+    ((c .before .before .before .before .before .before .before .before .before .before .before .information) .ensures ts
+    (first-ready ((c .before .before .before .before .before .before .before .before .before .before .before .before .before .before .before .before .before .before .before) .pre .fits) tells
+    (passed _ _ _ ((c .before .before .before .before .before .before .before .before .before .before .before .before .before .before .before .before .expect) .ensures)
+    ((c .before .before .before .before .before .before .before .before .before .before .before .before .before .before .r) .given .1))))
+    ((c .before .before .before .before .before .before .before .before .p) .given .1)
+    ((c .before .before .before .before .before .sections) .ensures ts
+    (info-ready ((c .before .before .before .before .before .before .before .before .before .before .before .before .before .before .before .before .before .before .before) .pre .fits) tells
+    (passed _ _ _ ((c .before .before .before .before .before .before .before .before .before .before .before .before .before .before .before .before .expect) .ensures)
+    ((c .before .before .before .before .before .before .before .before .before .before .before .before .before .before .r) .given .1))
+    ((c .before .before .before .before .before .before .before .before .before .before .before .information) .ensures ts
+    (first-ready ((c .before .before .before .before .before .before .before .before .before .before .before .before .before .before .before .before .before .before .before) .pre .fits) tells
+    (passed _ _ _ ((c .before .before .before .before .before .before .before .before .before .before .before .before .before .before .before .before .expect) .ensures)
+    ((c .before .before .before .before .before .before .before .before .before .before .before .before .before .before .r) .given .1))))
+    ((c .before .before .before .before .before .before .before .before .p) .given .1))) ((c .before .enum-told3) .given .1))
+    (all-kept ((c .before .before .before .before .before .before .before .before .before .before .before .before .before .before .before .before .before .before .before) .pre .fits) tells
+    (passed _ _ _ ((c .before .before .before .before .before .before .before .before .before .before .before .before .before .before .before .before .expect) .ensures)
+    ((c .before .before .before .before .before .before .before .before .before .before .before .before .before .before .r) .given .1))
+    ((c .before .before .before .before .before .before .before .before .before .before .before .information) .ensures ts
+    (first-ready ((c .before .before .before .before .before .before .before .before .before .before .before .before .before .before .before .before .before .before .before) .pre .fits) tells
+    (passed _ _ _ ((c .before .before .before .before .before .before .before .before .before .before .before .before .before .before .before .before .expect) .ensures)
+    ((c .before .before .before .before .before .before .before .before .before .before .before .before .before .before .r) .given .1))))
+    ((c .before .before .before .before .before .before .before .before .p) .given .1)
+    ((c .before .before .before .before .before .sections) .ensures ts
+    (info-ready ((c .before .before .before .before .before .before .before .before .before .before .before .before .before .before .before .before .before .before .before) .pre .fits) tells
+    (passed _ _ _ ((c .before .before .before .before .before .before .before .before .before .before .before .before .before .before .before .before .expect) .ensures)
+    ((c .before .before .before .before .before .before .before .before .before .before .before .before .before .before .r) .given .1))
+    ((c .before .before .before .before .before .before .before .before .before .before .before .information) .ensures ts
+    (first-ready ((c .before .before .before .before .before .before .before .before .before .before .before .before .before .before .before .before .before .before .before) .pre .fits) tells
+    (passed _ _ _ ((c .before .before .before .before .before .before .before .before .before .before .before .before .before .before .before .before .expect) .ensures)
+    ((c .before .before .before .before .before .before .before .before .before .before .before .before .before .before .r) .given .1))))
+    ((c .before .before .before .before .before .before .before .before .p) .given .1)))) ((c .refused3) .ensures) ((c .before .enum-told3) .given .1)
 
 kind-requires : tie.Need-kind-requires
 kind-requires c κs =
-    let z = (c .before .before .before .before .before .before .before .before .before .before .before .before .before .before .before .before .before .before .before .before) .pre in end-ready ((c .before .before .before .before .before .before .before .before .before .before .before .before .before .before .before .before .before .before .before .before) .pre .fits) (z .tells) (passed _ _ _ ((c .before .before .before .before .before .before .before .before .before .before .before .before .before .before .before .before .before .expect) .ensures) ((c .before .before .before .before .before .before .before .before .before .before .before .before .before .before .before .r) .given .1)) ((c .before .before .before .before .before .before .before .before .before .before .before .before .information) .ensures (z .tokens) (first-ready ((c .before .before .before .before .before .before .before .before .before .before .before .before .before .before .before .before .before .before .before .before) .pre .fits) (z .tells) (passed _ _ _ ((c .before .before .before .before .before .before .before .before .before .before .before .before .before .before .before .before .before .expect) .ensures) ((c .before .before .before .before .before .before .before .before .before .before .before .before .before .before .before .r) .given .1)))) ((c .before .before .before .before .before .before .before .before .before .p) .given .1) ((c .before .before .before .before .before .before .sections) .ensures (z .tokens) (info-ready ((c .before .before .before .before .before .before .before .before .before .before .before .before .before .before .before .before .before .before .before .before) .pre .fits) (z .tells) (passed _ _ _ ((c .before .before .before .before .before .before .before .before .before .before .before .before .before .before .before .before .before .expect) .ensures) ((c .before .before .before .before .before .before .before .before .before .before .before .before .before .before .before .r) .given .1)) ((c .before .before .before .before .before .before .before .before .before .before .before .before .information) .ensures (z .tokens) (first-ready ((c .before .before .before .before .before .before .before .before .before .before .before .before .before .before .before .before .before .before .before .before) .pre .fits) (z .tells) (passed _ _ _ ((c .before .before .before .before .before .before .before .before .before .before .before .before .before .before .before .before .before .expect) .ensures) ((c .before .before .before .before .before .before .before .before .before .before .before .before .before .before .before .r) .given .1)))) ((c .before .before .before .before .before .before .before .before .before .p) .given .1))) ((c .before .before .q) .given .1) .fits
+    let z = (c .before .before .before .before .before .before .before .before .before .before .before .before .before .before .before .before .before .before .before .before) .pre in
+    end-ready ((c .before .before .before .before .before .before .before .before .before .before .before .before .before .before .before .before .before .before .before .before) .pre .fits)
+    (z .tells) (passed _ _ _ ((c .before .before .before .before .before .before .before .before .before .before .before .before .before .before .before .before .before .expect) .ensures)
+    ((c .before .before .before .before .before .before .before .before .before .before .before .before .before .before .before .r) .given .1))
+    ((c .before .before .before .before .before .before .before .before .before .before .before .before .information) .ensures (z .tokens)
+    (first-ready ((c .before .before .before .before .before .before .before .before .before .before .before .before .before .before .before .before .before .before .before .before) .pre .fits)
+    (z .tells) (passed _ _ _ ((c .before .before .before .before .before .before .before .before .before .before .before .before .before .before .before .before .before .expect) .ensures)
+    ((c .before .before .before .before .before .before .before .before .before .before .before .before .before .before .before .r) .given .1))))
+    ((c .before .before .before .before .before .before .before .before .before .p) .given .1)
+    ((c .before .before .before .before .before .before .sections) .ensures (z .tokens)
+    (info-ready ((c .before .before .before .before .before .before .before .before .before .before .before .before .before .before .before .before .before .before .before .before) .pre .fits)
+    (z .tells) (passed _ _ _ ((c .before .before .before .before .before .before .before .before .before .before .before .before .before .before .before .before .before .expect) .ensures)
+    ((c .before .before .before .before .before .before .before .before .before .before .before .before .before .before .before .r) .given .1))
+    ((c .before .before .before .before .before .before .before .before .before .before .before .before .information) .ensures (z .tokens)
+    (first-ready ((c .before .before .before .before .before .before .before .before .before .before .before .before .before .before .before .before .before .before .before .before) .pre .fits)
+    (z .tells) (passed _ _ _ ((c .before .before .before .before .before .before .before .before .before .before .before .before .before .before .before .before .before .expect) .ensures)
+    ((c .before .before .before .before .before .before .before .before .before .before .before .before .before .before .before .r) .given .1))))
+    ((c .before .before .before .before .before .before .before .before .before .p) .given .1))) ((c .before .before .q) .given .1) .fits
 
 refuse-requires : tie.Need-refuse-requires
 refuse-requires c κs =
-    let z = (c .before .before .before .before .before .before .before .before .before .before .before .before .before .before .before .before .before .before .before .before .before .before .before) .pre in end-ready ((c .before .before .before .before .before .before .before .before .before .before .before .before .before .before .before .before .before .before .before .before .before .before .before) .pre .fits) (z .tells) (passed _ _ _ ((c .before .before .before .before .before .before .before .before .before .before .before .before .before .before .before .before .before .before .before .before .expect) .ensures) ((c .before .before .before .before .before .before .before .before .before .before .before .before .before .before .before .before .before .before .r) .given .1)) ((c .before .before .before .before .before .before .before .before .before .before .before .before .before .before .before .information) .ensures (z .tokens) (first-ready ((c .before .before .before .before .before .before .before .before .before .before .before .before .before .before .before .before .before .before .before .before .before .before .before) .pre .fits) (z .tells) (passed _ _ _ ((c .before .before .before .before .before .before .before .before .before .before .before .before .before .before .before .before .before .before .before .before .expect) .ensures) ((c .before .before .before .before .before .before .before .before .before .before .before .before .before .before .before .before .before .before .r) .given .1)))) ((c .before .before .before .before .before .before .before .before .before .before .before .before .p) .given .1) ((c .before .before .before .before .before .before .before .before .before .sections) .ensures (z .tokens) (info-ready ((c .before .before .before .before .before .before .before .before .before .before .before .before .before .before .before .before .before .before .before .before .before .before .before) .pre .fits) (z .tells) (passed _ _ _ ((c .before .before .before .before .before .before .before .before .before .before .before .before .before .before .before .before .before .before .before .before .expect) .ensures) ((c .before .before .before .before .before .before .before .before .before .before .before .before .before .before .before .before .before .before .r) .given .1)) ((c .before .before .before .before .before .before .before .before .before .before .before .before .before .before .before .information) .ensures (z .tokens) (first-ready ((c .before .before .before .before .before .before .before .before .before .before .before .before .before .before .before .before .before .before .before .before .before .before .before) .pre .fits) (z .tells) (passed _ _ _ ((c .before .before .before .before .before .before .before .before .before .before .before .before .before .before .before .before .before .before .before .before .expect) .ensures) ((c .before .before .before .before .before .before .before .before .before .before .before .before .before .before .before .before .before .before .r) .given .1)))) ((c .before .before .before .before .before .before .before .before .before .before .before .before .p) .given .1))) ((c .before .before .before .before .before .q) .given .1) .fits
+    let z = (c .before .before .before .before .before .before .before .before .before .before .before .before .before .before .before .before .before .before .before .before .before
+    .before .before) .pre in end-ready ((c .before .before .before .before .before .before .before .before .before .before .before .before .before .before .before .before .before .before .before
+    .before .before .before .before) .pre .fits) (z .tells) (passed _ _ _
+    ((c .before .before .before .before .before .before .before .before .before .before .before .before .before .before .before .before .before .before .before .before .expect) .ensures)
+    ((c .before .before .before .before .before .before .before .before .before .before .before .before .before .before .before .before .before .before .r) .given .1))
+    ((c .before .before .before .before .before .before .before .before .before .before .before .before .before .before .before .information) .ensures (z .tokens)
+    (first-ready ((c .before .before .before .before .before .before .before .before .before .before .before .before .before .before .before .before .before .before .before .before .before
+    .before .before) .pre .fits) (z .tells) (passed _ _ _ ((c .before .before .before .before .before .before .before .before .before .before .before .before .before .before .before .before
+    .before .before .before .before .expect) .ensures) ((c .before .before .before .before .before .before .before .before .before .before .before .before .before .before .before .before
+    .before .before .r) .given .1)))) ((c .before .before .before .before .before .before .before .before .before .before .before .before .p) .given .1)
+    ((c .before .before .before .before .before .before .before .before .before .sections) .ensures (z .tokens)
+    (info-ready ((c .before .before .before .before .before .before .before .before .before .before .before .before .before .before .before .before .before .before .before .before .before
+    .before .before) .pre .fits) (z .tells) (passed _ _ _ ((c .before .before .before .before .before .before .before .before .before .before .before .before .before .before .before .before
+    .before .before .before .before .expect) .ensures) ((c .before .before .before .before .before .before .before .before .before .before .before .before .before .before .before .before
+    .before .before .r) .given .1)) ((c .before .before .before .before .before .before .before .before .before .before .before .before .before .before .before .information) .ensures (z .tokens)
+    (first-ready ((c .before .before .before .before .before .before .before .before .before .before .before .before .before .before .before .before .before .before .before .before .before
+    .before .before) .pre .fits) (z .tells) (passed _ _ _ ((c .before .before .before .before .before .before .before .before .before .before .before .before .before .before .before .before
+    .before .before .before .before .expect) .ensures) ((c .before .before .before .before .before .before .before .before .before .before .before .before .before .before .before .before
+    .before .before .r) .given .1)))) ((c .before .before .before .before .before .before .before .before .before .before .before .before .p) .given .1)))
+    ((c .before .before .before .before .before .q) .given .1) .fits
 
 refused-requires-4 : tie.Need-refused-requires-4
 refused-requires-4 c κs =
@@ -97,7 +187,50 @@ same-length-4 c =
 
 returns-4 : tie.Need-returns-4
 returns-4 c =
-    λ ts tells. outlined-refused (not-end ((c .before .before .before .before .before .before .before .before .before .before .before .before .before .before .before .before .before .before .before .before .before .before .before .before .before) .pre .fits) tells (passed _ _ _ ((c .before .before .before .before .before .before .before .before .before .before .before .before .before .before .before .before .before .before .before .before .before .before .expect) .ensures) ((c .before .before .before .before .before .before .before .before .before .before .before .before .before .before .before .before .before .before .before .before .r) .given .1)) ((c .before .before .before .before .before .before .before .before .before .before .before .before .before .before .before .before .before .information) .ensures ts (first-ready ((c .before .before .before .before .before .before .before .before .before .before .before .before .before .before .before .before .before .before .before .before .before .before .before .before .before) .pre .fits) tells (passed _ _ _ ((c .before .before .before .before .before .before .before .before .before .before .before .before .before .before .before .before .before .before .before .before .before .before .expect) .ensures) ((c .before .before .before .before .before .before .before .before .before .before .before .before .before .before .before .before .before .before .before .before .r) .given .1)))) ((c .before .before .before .before .before .before .before .before .before .before .before .before .before .before .p) .given .1) ((c .before .before .before .before .before .before .before .before .before .before .before .sections) .ensures ts (info-ready ((c .before .before .before .before .before .before .before .before .before .before .before .before .before .before .before .before .before .before .before .before .before .before .before .before .before) .pre .fits) tells (passed _ _ _ ((c .before .before .before .before .before .before .before .before .before .before .before .before .before .before .before .before .before .before .before .before .before .before .expect) .ensures) ((c .before .before .before .before .before .before .before .before .before .before .before .before .before .before .before .before .before .before .before .before .r) .given .1)) ((c .before .before .before .before .before .before .before .before .before .before .before .before .before .before .before .before .before .information) .ensures ts (first-ready ((c .before .before .before .before .before .before .before .before .before .before .before .before .before .before .before .before .before .before .before .before .before .before .before .before .before) .pre .fits) tells (passed _ _ _ ((c .before .before .before .before .before .before .before .before .before .before .before .before .before .before .before .before .before .before .before .before .before .before .expect) .ensures) ((c .before .before .before .before .before .before .before .before .before .before .before .before .before .before .before .before .before .before .before .before .r) .given .1)))) ((c .before .before .before .before .before .before .before .before .before .before .before .before .before .before .p) .given .1))) ((c .before .before .before .before .before .before .before .q) .given .1) (λ e. (c .before .before .before .if1) .taken ((c .before .before .before .before .kind) .ensures ∙ e))) (all-kept ((c .before .before .before .before .before .before .before .before .before .before .before .before .before .before .before .before .before .before .before .before .before .before .before .before .before) .pre .fits) tells (passed _ _ _ ((c .before .before .before .before .before .before .before .before .before .before .before .before .before .before .before .before .before .before .before .before .before .before .expect) .ensures) ((c .before .before .before .before .before .before .before .before .before .before .before .before .before .before .before .before .before .before .before .before .r) .given .1)) ((c .before .before .before .before .before .before .before .before .before .before .before .before .before .before .before .before .before .information) .ensures ts (first-ready ((c .before .before .before .before .before .before .before .before .before .before .before .before .before .before .before .before .before .before .before .before .before .before .before .before .before) .pre .fits) tells (passed _ _ _ ((c .before .before .before .before .before .before .before .before .before .before .before .before .before .before .before .before .before .before .before .before .before .before .expect) .ensures) ((c .before .before .before .before .before .before .before .before .before .before .before .before .before .before .before .before .before .before .before .before .r) .given .1)))) ((c .before .before .before .before .before .before .before .before .before .before .before .before .before .before .p) .given .1) ((c .before .before .before .before .before .before .before .before .before .before .before .sections) .ensures ts (info-ready ((c .before .before .before .before .before .before .before .before .before .before .before .before .before .before .before .before .before .before .before .before .before .before .before .before .before) .pre .fits) tells (passed _ _ _ ((c .before .before .before .before .before .before .before .before .before .before .before .before .before .before .before .before .before .before .before .before .before .before .expect) .ensures) ((c .before .before .before .before .before .before .before .before .before .before .before .before .before .before .before .before .before .before .before .before .r) .given .1)) ((c .before .before .before .before .before .before .before .before .before .before .before .before .before .before .before .before .before .information) .ensures ts (first-ready ((c .before .before .before .before .before .before .before .before .before .before .before .before .before .before .before .before .before .before .before .before .before .before .before .before .before) .pre .fits) tells (passed _ _ _ ((c .before .before .before .before .before .before .before .before .before .before .before .before .before .before .before .before .before .before .before .before .before .before .expect) .ensures) ((c .before .before .before .before .before .before .before .before .before .before .before .before .before .before .before .before .before .before .before .before .r) .given .1)))) ((c .before .before .before .before .before .before .before .before .before .before .before .before .before .before .p) .given .1)))) ((c .refused4) .ensures) ((c .before .refuse) .ensures)
+    λ ts tells. outlined-refused (not-end ((c .before .before .before .before .before .before .before .before .before .before .before .before .before .before .before .before .before .before .before
+    .before .before .before .before .before .before) .pre .fits) tells
+    (passed _ _ _ ((c .before .before .before .before .before .before .before .before .before .before .before .before .before .before .before .before .before .before .before .before
+    .before .before .expect) .ensures) ((c .before .before .before .before .before .before .before .before .before .before .before .before .before .before .before .before .before .before
+    .before .before .r) .given .1)) ((c .before .before .before .before .before .before .before .before .before .before .before .before .before .before .before
+    .before .before .information) .ensures ts (first-ready ((c .before .before .before .before .before .before .before .before .before .before .before .before .before .before .before .before
+    .before .before .before .before .before .before .before .before .before) .pre .fits) tells
+    (passed _ _ _ ((c .before .before .before .before .before .before .before .before .before .before .before .before .before .before .before .before .before .before .before .before
+    .before .before .expect) .ensures) ((c .before .before .before .before .before .before .before .before .before .before .before .before .before .before .before .before .before .before
+    .before .before .r) .given .1)))) ((c .before .before .before .before .before .before .before .before .before .before .before .before .before .before .p) .given .1)
+    ((c .before .before .before .before .before .before .before .before .before .before .before .sections) .ensures ts
+    (info-ready ((c .before .before .before .before .before .before .before .before .before .before .before .before .before .before .before .before .before .before .before .before .before .before
+    .before .before .before) .pre .fits) tells (passed _ _ _ ((c .before .before .before .before .before .before .before .before .before .before .before .before .before .before .before .before
+    .before .before .before .before .before .before .expect) .ensures)
+    ((c .before .before .before .before .before .before .before .before .before .before .before .before .before .before .before .before .before .before .before .before .r) .given .1))
+    ((c .before .before .before .before .before .before .before .before .before .before .before .before .before .before .before .before .before .information) .ensures ts
+    (first-ready ((c .before .before .before .before .before .before .before .before .before .before .before .before .before .before .before .before .before .before .before .before .before
+    .before .before .before .before) .pre .fits) tells (passed _ _ _
+    ((c .before .before .before .before .before .before .before .before .before .before .before .before .before .before .before .before .before .before .before .before
+    .before .before .expect) .ensures) ((c .before .before .before .before .before .before .before .before .before .before .before .before .before .before .before .before .before .before
+    .before .before .r) .given .1)))) ((c .before .before .before .before .before .before .before .before .before .before .before .before .before .before .p) .given .1)))
+    ((c .before .before .before .before .before .before .before .q) .given .1) (λ e. (c .before .before .before .if1) .taken ((c .before .before .before .before .kind) .ensures ∙ e)))
+    (all-kept ((c .before .before .before .before .before .before .before .before .before .before .before .before .before .before .before .before .before .before .before .before .before .before
+    .before .before .before) .pre .fits) tells (passed _ _ _ ((c .before .before .before .before .before .before .before .before .before .before .before .before .before .before .before .before
+    .before .before .before .before .before .before .expect) .ensures)
+    ((c .before .before .before .before .before .before .before .before .before .before .before .before .before .before .before .before .before .before .before .before .r) .given .1))
+    ((c .before .before .before .before .before .before .before .before .before .before .before .before .before .before .before .before .before .information) .ensures ts
+    (first-ready ((c .before .before .before .before .before .before .before .before .before .before .before .before .before .before .before .before .before .before .before .before .before
+    .before .before .before .before) .pre .fits) tells (passed _ _ _
+    ((c .before .before .before .before .before .before .before .before .before .before .before .before .before .before .before .before .before .before .before .before
+    .before .before .expect) .ensures) ((c .before .before .before .before .before .before .before .before .before .before .before .before .before .before .before .before .before .before
+    .before .before .r) .given .1)))) ((c .before .before .before .before .before .before .before .before .before .before .before .before .before .before .p) .given .1)
+    ((c .before .before .before .before .before .before .before .before .before .before .before .sections) .ensures ts
+    (info-ready ((c .before .before .before .before .before .before .before .before .before .before .before .before .before .before .before .before .before .before .before .before .before .before
+    .before .before .before) .pre .fits) tells (passed _ _ _ ((c .before .before .before .before .before .before .before .before .before .before .before .before .before .before .before .before
+    .before .before .before .before .before .before .expect) .ensures)
+    ((c .before .before .before .before .before .before .before .before .before .before .before .before .before .before .before .before .before .before .before .before .r) .given .1))
+    ((c .before .before .before .before .before .before .before .before .before .before .before .before .before .before .before .before .before .information) .ensures ts
+    (first-ready ((c .before .before .before .before .before .before .before .before .before .before .before .before .before .before .before .before .before .before .before .before .before
+    .before .before .before .before) .pre .fits) tells (passed _ _ _
+    ((c .before .before .before .before .before .before .before .before .before .before .before .before .before .before .before .before .before .before .before .before
+    .before .before .expect) .ensures) ((c .before .before .before .before .before .before .before .before .before .before .before .before .before .before .before .before .before .before
+    .before .before .r) .given .1)))) ((c .before .before .before .before .before .before .before .before .before .before .before .before .before .before .p) .given .1))))
+    ((c .refused4) .ensures) ((c .before .refuse) .ensures)
 
 same-length-5 : tie.Need-same-length-5
 same-length-5 c =
@@ -105,7 +238,24 @@ same-length-5 c =
 
 returns-5 : tie.Need-returns-5
 returns-5 c =
-    λ ts tells. outlined ((c .before .before .before .before .before .before .before .before .before .before .before .before .before .before .before .before .before .before .before .before .before .before) .pre .fits) tells (passed _ _ _ ((c .before .before .before .before .before .before .before .before .before .before .before .before .before .before .before .before .before .before .before .expect) .ensures) ((c .before .before .before .before .before .before .before .before .before .before .before .before .before .before .before .before .before .r) .given .1)) ((c .before .before .before .before .before .before .before .before .before .before .before .before .before .before .information) .ensures ts (first-ready ((c .before .before .before .before .before .before .before .before .before .before .before .before .before .before .before .before .before .before .before .before .before .before) .pre .fits) tells (passed _ _ _ ((c .before .before .before .before .before .before .before .before .before .before .before .before .before .before .before .before .before .before .before .expect) .ensures) ((c .before .before .before .before .before .before .before .before .before .before .before .before .before .before .before .before .before .r) .given .1)))) ((c .before .before .before .before .before .before .before .before .before .before .before .p) .given .1) ((c .before .before .before .before .before .before .before .before .sections) .ensures ts (info-ready ((c .before .before .before .before .before .before .before .before .before .before .before .before .before .before .before .before .before .before .before .before .before .before) .pre .fits) tells (passed _ _ _ ((c .before .before .before .before .before .before .before .before .before .before .before .before .before .before .before .before .before .before .before .expect) .ensures) ((c .before .before .before .before .before .before .before .before .before .before .before .before .before .before .before .before .before .r) .given .1)) ((c .before .before .before .before .before .before .before .before .before .before .before .before .before .before .information) .ensures ts (first-ready ((c .before .before .before .before .before .before .before .before .before .before .before .before .before .before .before .before .before .before .before .before .before .before) .pre .fits) tells (passed _ _ _ ((c .before .before .before .before .before .before .before .before .before .before .before .before .before .before .before .before .before .before .before .expect) .ensures) ((c .before .before .before .before .before .before .before .before .before .before .before .before .before .before .before .before .before .r) .given .1)))) ((c .before .before .before .before .before .before .before .before .before .before .before .p) .given .1))) ((c .before .before .before .before .q) .given .1) (sym ((c .before .kind) .ensures) ∙ (c .if1) .left) refl
+    λ ts tells. outlined ((c .before .before .before .before .before .before .before .before .before .before .before .before .before .before .before .before .before .before .before .before
+    .before .before) .pre .fits) tells (passed _ _ _ ((c .before .before .before .before .before .before .before .before .before .before .before .before .before .before .before .before .before
+    .before .before .expect) .ensures) ((c .before .before .before .before .before .before .before .before .before .before .before .before .before .before .before .before .before .r) .given .1))
+    ((c .before .before .before .before .before .before .before .before .before .before .before .before .before .before .information) .ensures ts
+    (first-ready ((c .before .before .before .before .before .before .before .before .before .before .before .before .before .before .before .before .before .before .before .before
+    .before .before) .pre .fits) tells (passed _ _ _ ((c .before .before .before .before .before .before .before .before .before .before .before .before .before .before .before .before .before
+    .before .before .expect) .ensures) ((c .before .before .before .before .before .before .before .before .before .before .before .before .before .before .before
+    .before .before .r) .given .1)))) ((c .before .before .before .before .before .before .before .before .before .before .before .p) .given .1)
+    ((c .before .before .before .before .before .before .before .before .sections) .ensures ts
+    (info-ready ((c .before .before .before .before .before .before .before .before .before .before .before .before .before .before .before .before .before .before .before .before
+    .before .before) .pre .fits) tells (passed _ _ _ ((c .before .before .before .before .before .before .before .before .before .before .before .before .before .before .before .before .before
+    .before .before .expect) .ensures) ((c .before .before .before .before .before .before .before .before .before .before .before .before .before .before .before .before .before .r) .given .1))
+    ((c .before .before .before .before .before .before .before .before .before .before .before .before .before .before .information) .ensures ts
+    (first-ready ((c .before .before .before .before .before .before .before .before .before .before .before .before .before .before .before .before .before .before .before .before
+    .before .before) .pre .fits) tells (passed _ _ _ ((c .before .before .before .before .before .before .before .before .before .before .before .before .before .before .before .before .before
+    .before .before .expect) .ensures) ((c .before .before .before .before .before .before .before .before .before .before .before .before .before .before .before
+    .before .before .r) .given .1)))) ((c .before .before .before .before .before .before .before .before .before .before .before .p) .given .1)))
+    ((c .before .before .before .before .q) .given .1) (sym ((c .before .kind) .ensures) ∙ (c .if1) .left) refl
 
 pub parse-spec : {M : Type 1} → statement M
 parse-spec =

@@ -28,7 +28,8 @@ returns c =
 
 expect-requires : tie.Need-expect-requires
 expect-requires c κs =
-    let z = (c .before .before .before .before .before .before .before .before .before) .pre in (main-ready ((c .before .before .before .before .before .before .global) .ensures (z .tokens) (z .ready)) ((c .before .before .r) .given .1) .fits, omega arith)
+    let z = (c .before .before .before .before .before .before .before .before .before) .pre in
+    (main-ready ((c .before .before .before .before .before .before .global) .ensures (z .tokens) (z .ready)) ((c .before .before .r) .given .1) .fits, omega arith)
 
 enum-known-p : tie.Need-enum-known-p
 enum-known-p c =
@@ -44,11 +45,16 @@ same-length-2 c =
 
 returns-2 : tie.Need-returns-2
 returns-2 c =
-    λ ts ready. sections-main ((c .before .before .before .before .before .before .before .before .before .global) .ensures ts ready) ((c .before .before .before .before .before .r) .given .1) ((c .before .before .expect) .ensures) ((c .enum-told2) .given .1)
+    λ ts ready. sections-main ((c .before .before .before .before .before .before .before .before .before .global) .ensures ts ready) ((c .before .before .before .before .before .r) .given .1)
+    ((c .before .before .expect) .ensures) ((c .enum-told2) .given .1)
 
 expect-requires-2 : tie.Need-expect-requires-2
 expect-requires-2 c κs =
-    let z = (c .before .before .before .before .before .before .before .before .before .before .before .before .before .before) .pre in (open-ready ((c .before .before .before .before .before .before .before .before .before .before .before .global) .ensures (z .tokens) (z .ready)) ((c .before .before .before .before .before .before .before .r) .given .1) (passed _ _ _ ((c .before .before .before .before .expect) .ensures) ((c .before .before .p) .given .1)) .fits, omega arith)
+    let z = (c .before .before .before .before .before .before .before .before .before .before .before .before .before .before) .pre in (
+      open-ready ((c .before .before .before .before .before .before .before .before .before .before .before .global) .ensures (z .tokens) (z .ready))
+          ((c .before .before .before .before .before .before .before .r) .given .1) (passed _ _ _ ((c .before .before .before .before .expect) .ensures) ((c .before .before .p) .given .1)) .fits,
+      omega arith,
+    )
 
 enum-known-q : tie.Need-enum-known-q
 enum-known-q c =
@@ -64,11 +70,21 @@ same-length-3 c =
 
 returns-3 : tie.Need-returns-3
 returns-3 c =
-    λ ts ready. sections-open ((c .before .before .before .before .before .before .before .before .before .before .before .before .before .before .global) .ensures ts ready) ((c .before .before .before .before .before .before .before .before .before .before .r) .given .1) (passed _ _ _ ((c .before .before .before .before .before .before .before .expect) .ensures) ((c .before .before .before .before .before .p) .given .1)) ((c .before .before .expect2) .ensures) ((c .enum-told3) .given .1)
+    λ ts ready. sections-open ((c .before .before .before .before .before .before .before .before .before .before .before .before .before .before .global) .ensures ts ready)
+    ((c .before .before .before .before .before .before .before .before .before .before .r) .given .1)
+    (passed _ _ _ ((c .before .before .before .before .before .before .before .expect) .ensures) ((c .before .before .before .before .before .p) .given .1))
+    ((c .before .before .expect2) .ensures) ((c .enum-told3) .given .1)
 
 subsections-requires : tie.Need-subsections-requires
 subsections-requires c κs =
-    let z = (c .before .before .before .before .before .before .before .before .before .before .before .before .before .before .before .before .before .before .before) .pre in record { tokens = z .tokens; ready = subsections-ready ((c .before .before .before .before .before .before .before .before .before .before .before .before .before .before .before .before .global) .ensures (z .tokens) (z .ready)) ((c .before .before .before .before .before .before .before .before .before .before .before .before .r) .given .1) (passed _ _ _ ((c .before .before .before .before .before .before .before .before .before .expect) .ensures) ((c .before .before .before .before .before .before .before .p) .given .1)) (passed _ _ _ ((c .before .before .before .before .expect2) .ensures) ((c .before .before .q) .given .1)) }
+    let z = (c .before .before .before .before .before .before .before .before .before .before .before .before .before .before .before .before .before .before .before) .pre in
+    record {
+      tokens = z .tokens;
+      ready = subsections-ready ((c .before .before .before .before .before .before .before .before .before .before .before .before .before .before
+          .before .before .global) .ensures (z .tokens) (z .ready)) ((c .before .before .before .before .before .before .before .before .before .before .before .before .r) .given .1)
+          (passed _ _ _ ((c .before .before .before .before .before .before .before .before .before .expect) .ensures) ((c .before .before .before .before .before .before .before .p) .given .1))
+          (passed _ _ _ ((c .before .before .before .before .expect2) .ensures) ((c .before .before .q) .given .1));
+    }
 
 same-length-4 : tie.Need-same-length-4
 same-length-4 c =
@@ -76,7 +92,17 @@ same-length-4 c =
 
 returns-4 : tie.Need-returns-4
 returns-4 c =
-    λ ts ready. sections-read ((c .before .before .before .before .before .before .before .before .before .before .before .before .before .before .before .before .before .before .before .global) .ensures ts ready) ((c .before .before .before .before .before .before .before .before .before .before .before .before .before .before .before .r) .given .1) (passed _ _ _ ((c .before .before .before .before .before .before .before .before .before .before .before .before .expect) .ensures) ((c .before .before .before .before .before .before .before .before .before .before .p) .given .1)) (passed _ _ _ ((c .before .before .before .before .before .before .before .expect2) .ensures) ((c .before .before .before .before .before .q) .given .1)) ((c .before .before .subsections) .ensures ts (subsections-ready ((c .before .before .before .before .before .before .before .before .before .before .before .before .before .before .before .before .before .before .before .global) .ensures ts ready) ((c .before .before .before .before .before .before .before .before .before .before .before .before .before .before .before .r) .given .1) (passed _ _ _ ((c .before .before .before .before .before .before .before .before .before .before .before .before .expect) .ensures) ((c .before .before .before .before .before .before .before .before .before .before .p) .given .1)) (passed _ _ _ ((c .before .before .before .before .before .before .before .expect2) .ensures) ((c .before .before .before .before .before .q) .given .1))))
+    λ ts ready. sections-read ((c .before .before .before .before .before .before .before .before .before .before .before .before .before .before .before .before .before
+    .before .before .global) .ensures ts ready) ((c .before .before .before .before .before .before .before .before .before .before .before .before .before .before .before .r) .given .1)
+    (passed _ _ _ ((c .before .before .before .before .before .before .before .before .before .before .before .before .expect) .ensures)
+    ((c .before .before .before .before .before .before .before .before .before .before .p) .given .1))
+    (passed _ _ _ ((c .before .before .before .before .before .before .before .expect2) .ensures) ((c .before .before .before .before .before .q) .given .1))
+    ((c .before .before .subsections) .ensures ts (subsections-ready
+    ((c .before .before .before .before .before .before .before .before .before .before .before .before .before .before .before .before .before .before .before .global) .ensures ts ready)
+    ((c .before .before .before .before .before .before .before .before .before .before .before .before .before .before .before .r) .given .1)
+    (passed _ _ _ ((c .before .before .before .before .before .before .before .before .before .before .before .before .expect) .ensures)
+    ((c .before .before .before .before .before .before .before .before .before .before .p) .given .1))
+    (passed _ _ _ ((c .before .before .before .before .before .before .before .expect2) .ensures) ((c .before .before .before .before .before .q) .given .1))))
 
 pub sections-spec : {M : Type 1} → statement M
 sections-spec =

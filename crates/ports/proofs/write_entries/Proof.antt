@@ -52,13 +52,17 @@ loop-less : tie.Need-loop-less Inv-loop μ-loop
 loop-less c = omega arith
 
 loop-again : tie.Need-loop-again Inv-loop μ-loop
-loop-again c = stores-more ((c .before .before) .args .top) ((c .before .before) .args .offset) ((c .before .before) .args .width) ((c .before .before) .args .count) ((c .before .before) .args .at) ((c .before .loop) .i) _ _ _ ((c .loop-test) .taken) refl ((c .before .loop) .inv)
+loop-again c =
+    let start = c .before .before in
+    stores-more (start .args .top) (start .args .offset) (start .args .width) (start .args .count) (start .args .at) ((c .before .loop) .i) _ _ _ ((c .loop-test) .taken) refl ((c .before .loop) .inv)
 
 same-length : tie.Need-same-length Inv-loop μ-loop
 same-length c = (c .before .loop) .inv .size
 
 returns : tie.Need-returns Inv-loop μ-loop
-returns c = stores-all ((c .before .before) .args .top) ((c .before .before) .args .offset) ((c .before .before) .args .width) ((c .before .before) .args .count) ((c .before .before) .args .at) ((c .before .loop) .i) _ _ ((c .loop-test) .left) ((c .before .loop) .inv)
+returns c =
+    let start = c .before .before in
+    stores-all (start .args .top) (start .args .offset) (start .args .width) (start .args .count) (start .args .at) ((c .before .loop) .i) _ _ ((c .loop-test) .left) ((c .before .loop) .inv)
 
 pub write-entries-spec : {M : Type 1} → statement M
 write-entries-spec =

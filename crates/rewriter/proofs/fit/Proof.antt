@@ -2,7 +2,7 @@
 use Prim.Native.Nat.{ℕ}
 use native.Mathlib.Omega.{arith}
 use lib.ListN.{length-replicate}
-use Rattle.trees.specs.WritingLaws.{stored-length}
+use Rattle.storing.specs.StoringLaws.{stored-length}
 use Rattle.rewriter.specs.Fitting.{root-ready, fitted-many, fitted-over}
 use borrow.Author.Needs.{needs}
 use Rattle.rewriter.proofs.fit.Statement.{statement}
@@ -18,19 +18,30 @@ write-form-requires : tie.Need-write-form-requires
 write-form-requires c κs = root-ready ((c .before .before .before) .pre) (omega (arith, length-replicate {A = ℕ} 8192 0))
 
 returns : tie.Need-returns
-returns c = fitted-many _ ((c .before .before .before .before .before .before) .args .out .now) (length-replicate {A = ℕ} 8192 0) (c .if1 .taken) ((c .before .before) .write-form .ensures)
+returns c =
+    let at-write-form = c .before .before in
+    let start = at-write-form .before .before .before .before in
+    fitted-many _ (start .args .out .now) (length-replicate {A = ℕ} 8192 0) (c .if1 .taken) (at-write-form .write-form .ensures)
 
 slice-aggregate-hand-over : tie.Need-slice-aggregate-hand-over
 slice-aggregate-hand-over c = search needs
 
 hand-over-requires : tie.Need-hand-over-requires
-hand-over-requires c κs = let s = ((c .before .before .before .before) .write-form .ensures .stored ((c .before .before) .if1 .left)) in let e = stored-length s in let l = s .room in (omega arith, (c .before .before) .if1 .left)
+hand-over-requires c κs =
+    let at-if1 = c .before .before in
+    let at-write-form = at-if1 .before .before in
+    let s = (at-write-form .write-form .ensures .stored (at-if1 .if1 .left)) in let e = stored-length s in let l = s .room in (omega arith, at-if1 .if1 .left)
 
 same-length : tie.Need-same-length
 same-length c = search needs
 
 returns-2 : tie.Need-returns-2
-returns-2 c = fitted-over _ ((c .before .before .before .before .before .before .before .before .before .before .before) .args .out .now) _ (omega (arith, length-replicate {A = ℕ} 8192 0)) ((c .before .before .before .before .before .before .before) .write-form .ensures .stored ((c .before .before .before .before .before) .if1 .left)) ((c .before .before) .hand-over .ensures)
+returns-2 c =
+    let at-hand-over = c .before .before in
+    let at-if1 = at-hand-over .before .before .before in
+    let at-write-form = at-if1 .before .before in
+    let start = at-write-form .before .before .before .before in
+    fitted-over _ (start .args .out .now) _ (omega (arith, length-replicate {A = ℕ} 8192 0)) (at-write-form .write-form .ensures .stored (at-if1 .if1 .left)) (at-hand-over .hand-over .ensures)
 
 pub fit-spec : {M : Type 1} → statement M
 fit-spec =

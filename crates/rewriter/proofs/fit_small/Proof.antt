@@ -2,7 +2,7 @@
 use Prim.Native.Nat.{ℕ}
 use native.Mathlib.Omega.{arith}
 use lib.ListN.{length-replicate}
-use Rattle.trees.specs.WritingLaws.{stored-length}
+use Rattle.storing.specs.StoringLaws.{stored-length}
 use Rattle.rewriter.specs.Fitting.{root-ready, fitted-over}
 use borrow.Author.Needs.{needs}
 use Rattle.rewriter.proofs.fit_small.Statement.{statement}
@@ -30,13 +30,23 @@ slice-aggregate-hand-over : tie.Need-slice-aggregate-hand-over
 slice-aggregate-hand-over c = search needs
 
 hand-over-requires : tie.Need-hand-over-requires
-hand-over-requires c κs = let s = ((c .before .before .before .before) .write-form .ensures .stored (let h = (c .before .before) .if1 .left in omega arith)) in let e = stored-length s in let l = s .room in (omega arith, (let h = (c .before .before) .if1 .left in omega arith))
+hand-over-requires c κs =
+    let at-if1 = c .before .before in
+    let at-write-form = at-if1 .before .before in
+    let s = (at-write-form .write-form .ensures .stored (let h = at-if1 .if1 .left in omega arith)) in let e = stored-length s in let l = s .room in
+    (omega arith, (let h = at-if1 .if1 .left in omega arith))
 
 same-length-2 : tie.Need-same-length-2
 same-length-2 c = search needs
 
 returns-2 : tie.Need-returns-2
-returns-2 c = fitted-over _ ((c .before .before .before .before .before .before .before .before .before .before .before) .args .out .now) _ (omega (arith, length-replicate {A = ℕ} 1024 0)) ((c .before .before .before .before .before .before .before) .write-form .ensures .stored (let h = (c .before .before .before .before .before) .if1 .left in omega arith)) ((c .before .before) .hand-over .ensures)
+returns-2 c =
+    let at-hand-over = c .before .before in
+    let at-if1 = at-hand-over .before .before .before in
+    let at-write-form = at-if1 .before .before in
+    let start = at-write-form .before .before .before .before in
+    fitted-over _ (start .args .out .now) _ (omega (arith, length-replicate {A = ℕ} 1024 0)) (at-write-form .write-form .ensures .stored (let h = at-if1 .if1 .left in omega arith))
+    (at-hand-over .hand-over .ensures)
 
 pub fit-small-spec : {M : Type 1} → statement M
 fit-small-spec =

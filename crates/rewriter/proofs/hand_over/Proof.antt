@@ -18,7 +18,10 @@ same-length : tie.Need-same-length
 same-length c = search needs
 
 returns-2 : tie.Need-returns-2
-returns-2 c = let h = (c .before .before .before .before) .if1 .left in record { short = λ l. absurd (omega arith); copied = λ l. (refl, (c .before .before) .copy-words .ensures) }
+returns-2 c =
+    let at-copy-words = c .before .before in
+    let at-if1 = at-copy-words .before .before in
+    let h = at-if1 .if1 .left in record { short = λ l. absurd (omega arith); copied = λ l. (refl, at-copy-words .copy-words .ensures) }
 
 pub hand-over-spec : {M : Type 1} → statement M
 hand-over-spec =

@@ -18,19 +18,29 @@ same-length : tie.Need-same-length
 same-length c = search needs
 
 returns : tie.Need-returns
-returns c = rw ((c .before .before .before .before) .match .keys1) ((c .before .before) .copy .ensures)
+returns c =
+    let at-copy = c .before .before in
+    let at-match = at-copy .before .before in
+    rw (at-match .match .keys1) (at-copy .copy .ensures)
 
 same-length-2 : tie.Need-same-length-2
 same-length-2 c = search needs
 
 returns-2 : tie.Need-returns-2
-returns-2 c = rw ((c .before .before .before .before) .match .keys2) ((c .before .before) .plain .ensures)
+returns-2 c =
+    let at-plain = c .before .before in
+    let at-match = at-plain .before .before in
+    rw (at-match .match .keys2) (at-plain .plain .ensures)
 
 same-length-3 : tie.Need-same-length-3
 same-length-3 c = search needs
 
 returns-3 : tie.Need-returns-3
-returns-3 c = let f = (c .before .before .before .before .before .before .before) .args .form in rw (form-core f _ (rest-above 2 f ((c .before .before .before .before) .match .rest))) ((c .before .before) .core .ensures)
+returns-3 c =
+    let at-core = c .before .before in
+    let at-match = at-core .before .before in
+    let start = at-match .before .before .before in
+    let f = start .args .form in rw (form-core f _ (rest-above 2 f (at-match .match .rest))) (at-core .core .ensures)
 
 pub write-form-spec : {M : Type 1} → statement M
 write-form-spec =

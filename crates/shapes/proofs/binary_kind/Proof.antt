@@ -26,7 +26,17 @@ returns-6 c = record { operator = R; shape = ap shapeOf ((c .match) .keys6); nod
 
 returns-7 : tie.Need-returns-7
 returns-7 c =
-    let e : (c .before) .args .kind ≡ 35 = omega (arith, (c .match) .rest .1, (c .match) .rest .0 .1, (c .match) .rest .0 .0 .1, (c .match) .rest .0 .0 .0 .1, (c .match) .rest .0 .0 .0 .0 .1, (c .match) .rest .0 .0 .0 .0 .0 .1, (c .before) .pre .0, (c .before) .pre .1) in record { operator = W; shape = ap shapeOf e; node = refl }
+    let e : (c .before) .args .kind ≡ 35 = omega (
+      arith,
+      (c .match) .rest .1,
+      (c .match) .rest .0 .1,
+      (c .match) .rest .0 .0 .1,
+      (c .match) .rest .0 .0 .0 .1,
+      (c .match) .rest .0 .0 .0 .0 .1,
+      (c .match) .rest .0 .0 .0 .0 .0 .1,
+      (c .before) .pre .0,
+      (c .before) .pre .1,
+    ) in record { operator = W; shape = ap shapeOf e; node = refl }
 
 pub binary-kind-spec : {M : Type 1} → statement M
 binary-kind-spec = tie.close (tie.spec returns returns-2 returns-3 returns-4 returns-5 returns-6 returns-7)

@@ -17,7 +17,8 @@ returns-3 c = record { operator = G; shape = ap shapeOf ((c .match) .keys3); nod
 
 returns-4 : tie.Need-returns-4
 returns-4 c =
-    let e : (c .before) .args .kind ≡ 13 = omega (arith, (c .match) .rest .1, (c .match) .rest .0 .1, (c .match) .rest .0 .0 .1, (c .before) .pre .0, (c .before) .pre .1) in record { operator = F; shape = ap shapeOf e; node = refl }
+    let e : (c .before) .args .kind ≡ 13 = omega (arith, (c .match) .rest .1, (c .match) .rest .0 .1, (c .match) .rest .0 .0 .1, (c .before) .pre .0, (c .before) .pre .1) in
+    record { operator = F; shape = ap shapeOf e; node = refl }
 
 pub unary-kind-spec : {M : Type 1} → statement M
 unary-kind-spec = tie.close (tie.spec returns returns-2 returns-3 returns-4)

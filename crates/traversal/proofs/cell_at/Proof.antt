@@ -19,7 +19,8 @@ get-requires-2 c κs = search needs
 
 returns : tie.Need-returns
 returns c =
-    (cell-of ((c .before .before .before) .args .work .now) ((c .before .before .before) .args .i) ((c .before .get) .result) ((c .get2) .result) ((c .before .get) .ensures) ((c .get2) .ensures), omega arith)
+    let start = c .before .before .before in
+    (cell-of (start .args .work .now) (start .args .i) ((c .before .get) .result) ((c .get2) .result) ((c .before .get) .ensures) ((c .get2) .ensures), omega arith)
 
 pub cell-at-spec : {M : Type 1} → statement M
 cell-at-spec = tie.close (tie.spec add-get get-requires cast-token get-requires-2 returns)

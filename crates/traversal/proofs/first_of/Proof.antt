@@ -14,7 +14,8 @@ shared-slice-read-result c = search needs
 
 returns : tie.Need-returns
 returns c =
-    first-part ((c .before .before) .args .numbers .now) ((c .before .before) .args .from) ((c .before .before) .args .to) ((c .before .before) .pre) ((c .before .if1) .taken)
+    let start = c .before .before in
+    first-part (start .args .numbers .now) (start .args .from) (start .args .to) (start .pre) ((c .before .if1) .taken)
 
 returns-2 : tie.Need-returns-2
 returns-2 c = sym (ap firstOf (no-part ((c .before) .args .numbers .now) ((c .before) .args .from) ((c .before) .args .to) ((c .if1) .left)))

@@ -13,11 +13,15 @@ returns-2 c = sym (last-operands ((c .before .before) .args .before) ((c .before
 
 returns-3 : tie.Need-returns-3
 returns-3 c =
-    sym (empty-operands ((c .before .before .before .before) .args .before) ((c .before .before .before .before) .args .c) ((c .before .before .if3) .taken) ((c .if4) .taken))
+    let at-if3 = c .before .before in
+    let start = at-if3 .before .before in
+    sym (empty-operands (start .args .before) (start .args .c) ((at-if3 .if3) .taken) ((c .if4) .taken))
 
 returns-4 : tie.Need-returns-4
 returns-4 c =
-    sym (filled-operands ((c .before .before .before .before) .args .before) ((c .before .before .before .before) .args .c) ((c .before .before .if3) .taken) ((c .if4) .left))
+    let at-if3 = c .before .before in
+    let start = at-if3 .before .before in
+    sym (filled-operands (start .args .before) (start .args .c) ((at-if3 .if3) .taken) ((c .if4) .left))
 
 cast-wide : tie.Need-cast-wide
 cast-wide c = search needs
@@ -30,7 +34,9 @@ wide-requires c κs = search needs
 
 returns-5 : tie.Need-returns-5
 returns-5 c =
-    (c .wide) .ensures ∙ sym (other-operands ((c .before .before .before) .args .before) ((c .before .before .before) .args .c) ((c .before .before .if1) .left) ((c .before .if3) .left))
+    let at-if1 = c .before .before in
+    let start = at-if1 .before in
+    (c .wide) .ensures .0 ∙ sym (other-operands (start .args .before) (start .args .c) ((at-if1 .if1) .left) ((c .before .if3) .left))
 
 pub operand-count-spec : {M : Type 1} → statement M
 operand-count-spec =

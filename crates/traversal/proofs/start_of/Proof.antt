@@ -13,11 +13,13 @@ returns c = sym (by-operand ((c .before) .args .kind) ((c .before) .args .place)
 
 returns-2 : tie.Need-returns-2
 returns-2 c =
-    sym (by-kind ((c .before .before) .args .kind) ((c .before .before) .args .place) ((c .before .before) .args .start) ((c .before .if1) .left) ((c .if2) .taken))
+    let start-2 = c .before .before in
+    sym (by-kind (start-2 .args .kind) (start-2 .args .place) (start-2 .args .start) ((c .before .if1) .left) ((c .if2) .taken))
 
 returns-3 : tie.Need-returns-3
 returns-3 c =
-    sym (by-token ((c .before .before) .args .kind) ((c .before .before) .args .place) ((c .before .before) .args .start) ((c .before .if1) .left) ((c .if2) .left))
+    let start-2 = c .before .before in
+    sym (by-token (start-2 .args .kind) (start-2 .args .place) (start-2 .args .start) ((c .before .if1) .left) ((c .if2) .left))
 
 pub start-of-spec : {M : Type 1} → statement M
 start-of-spec = tie.close (tie.spec array-read-first returns returns-2 returns-3)

@@ -40,33 +40,44 @@ first-requires-2 c κs = search needs
 
 define-requires : tie.Need-define-requires
 define-requires c κs =
-    (c .before .before .before .before .before .before .before .before .before .before .before .before .before .before .before .before .before .before .before .before .before .before) .pre .0 .table
+    let start = c .before .before .before .before .before .before .before .before .before .before .before .before .before .before .before .before .before .before .before .before .before .before in
+    start .pre .0 .table
 
 gives-of-requires : tie.Need-gives-of-requires
 gives-of-requires c κs = search needs
 
 mul-kinds : tie.Need-mul-kinds
 mul-kinds c =
-    omega (arith, (c .before .before .before .before .before .before .before .before .before .before .before .before .before .before .before .before .before .before .before .less) .ensures, (c .before .before .before .before .before .before .before .before .before .before .before .before .before .before .before .before .before .before .before .before .before .before .before .before .before .before .before) .pre .0 .few, (c .before .before .before .before .before .before .before .before .before .before .before .before .before .before .before .before .before .before .before .before .before .before .before .before .before .before .before) .pre .1)
+    let at-less = c .before .before .before .before .before .before .before .before .before .before .before .before .before .before .before .before .before .before .before in
+    let start = at-less .before .before .before .before .before .before .before .before in
+    omega (arith, (at-less .less) .ensures, start .pre .0 .few, start .pre .1)
 
 slice-write-kinds : tie.Need-slice-write-kinds
 slice-write-kinds c =
-    omega (arith, (c .before .before .before .before .before .before .before .before .before .before .before .before .before .before .before .before .before .before .before .less) .ensures, (c .before .before .before .before .before .before .before .before .before .before .before .before .before .before .before .before .before .before .before .before .before .before .before .before .before .before .before) .pre .0 .few, (c .before .before .before .before .before .before .before .before .before .before .before .before .before .before .before .before .before .before .before .before .before .before .before .before .before .before .before) .pre .1, (c .before .before .before .before .before .before .before .before .before .before .before .before .before .before .before .before .before .before .before .before .before .before .before .before .before .before .before) .pre .0 .kinds)
+    let at-less = c .before .before .before .before .before .before .before .before .before .before .before .before .before .before .before .before .before .before .before in
+    let start = at-less .before .before .before .before .before .before .before .before in
+    omega (arith, (at-less .less) .ensures, start .pre .0 .few, start .pre .1, start .pre .0 .kinds)
 
 start-of-requires : tie.Need-start-of-requires
 start-of-requires c κs = search needs
 
 mul-starts : tie.Need-mul-starts
 mul-starts c =
-    omega (arith, (c .before .before .before .before .before .before .before .before .before .before .before .before .before .before .before .before .before .before .before .before .less) .ensures, (c .before .before .before .before .before .before .before .before .before .before .before .before .before .before .before .before .before .before .before .before .before .before .before .before .before .before .before .before) .pre .0 .few, (c .before .before .before .before .before .before .before .before .before .before .before .before .before .before .before .before .before .before .before .before .before .before .before .before .before .before .before .before) .pre .1)
+    let at-less = c .before .before .before .before .before .before .before .before .before .before .before .before .before .before .before .before .before .before .before .before in
+    let start = at-less .before .before .before .before .before .before .before .before in
+    omega (arith, (at-less .less) .ensures, start .pre .0 .few, start .pre .1)
 
 slice-write-starts : tie.Need-slice-write-starts
 slice-write-starts c =
-    omega (arith, (c .before .before .before .before .before .before .before .before .before .before .before .before .before .before .before .before .before .before .before .before .less) .ensures, (c .before .before .before .before .before .before .before .before .before .before .before .before .before .before .before .before .before .before .before .before .before .before .before .before .before .before .before .before) .pre .0 .few, (c .before .before .before .before .before .before .before .before .before .before .before .before .before .before .before .before .before .before .before .before .before .before .before .before .before .before .before .before) .pre .1, (c .before .before .before .before .before .before .before .before .before .before .before .before .before .before .before .before .before .before .before .before .before .before .before .before .before .before .before .before) .pre .0 .starts)
+    let at-less = c .before .before .before .before .before .before .before .before .before .before .before .before .before .before .before .before .before .before .before .before in
+    let start = at-less .before .before .before .before .before .before .before .before in
+    omega (arith, (at-less .less) .ensures, start .pre .0 .few, start .pre .1, start .pre .0 .starts)
 
 add-t38 : tie.Need-add-t38
 add-t38 c =
-    omega (arith, (c .before .before .before .before .before .before .before .before .before .before .before .before .before .before .before .before .before .before .before .before .less) .ensures, (c .before .before .before .before .before .before .before .before .before .before .before .before .before .before .before .before .before .before .before .before .before .before .before .before .before .before .before .before) .pre .0 .few, (c .before .before .before .before .before .before .before .before .before .before .before .before .before .before .before .before .before .before .before .before .before .before .before .before .before .before .before .before) .pre .1)
+    let at-less = c .before .before .before .before .before .before .before .before .before .before .before .before .before .before .before .before .before .before .before .before in
+    let start = at-less .before .before .before .before .before .before .before .before in
+    omega (arith, (at-less .less) .ensures, start .pre .0 .few, start .pre .1)
 
 same-length : tie.Need-same-length
 same-length c = search needs
@@ -79,7 +90,23 @@ same-length-3 c = search needs
 
 returns : tie.Need-returns
 returns c =
-    passes-part ((c .before .before .before .before .before .before .before .before .before .before .before .before .before .before .before .before .before .before .before .before .before .before .before .before .before .before .before .before) .pre .0) ((c .before .before .before .before .before .before .before .before .before .before .before .before .before .before .before .before .before .before .before .before .before .before .before .before .before .before .before .before) .pre .1) ((c .before .before .before .before .before .before .before .before .before .before .before .before .before .before .before .before .before .before .before .before .before .before .named-cell) .ensures .0) ((c .before .before .before .before .before .before .before .before .before .before .before .before .before .before .before .before .before .before .before .before .before .operand-count) .ensures) ((c .before .before .before .before .before .before .before .before .before .before .before .before .before .before .before .before .before .before .before .before .less) .ensures) ((c .before .before .before .before .before .before .before .before .before .before .before .before .before .before .before .before .before .before .kind-at) .ensures) ((c .before .before .before .before .before .before .before .before .before .before .before .before .before .before .before .before .before .place-of) .ensures) ((c .before .before .before .before .before .before .before .before .before .before .before .before .before .before .before .first-of) .ensures) ((c .before .before .before .before .before .before .before .before .before .before .before .before .before .first-of2) .ensures) ((c .before .before .before .before .before .before .before .before .before .before .before .before .indexed) .ensures) ((c .before .before .before .before .before .before .before .before .before .wrong-at) .ensures) ((c .before .before .before .before .before .before .before .before .first) .ensures) ((c .before .before .before .before .before .before .before .first2) .ensures) ((c .before .before .before .before .before .define) .ensures) ((c .before .before .if1) .taken) ((c .before .gives-of) .ensures) ((c .start-of) .ensures)
+    let at-if1 = c .before .before in
+    let at-define = at-if1 .before .before .before in
+    let at-first2 = at-define .before .before in
+    let at-first = at-first2 .before in
+    let at-wrong-at = at-first .before in
+    let at-indexed = at-wrong-at .before .before .before in
+    let at-first-of2 = at-indexed .before in
+    let at-first-of = at-first-of2 .before .before in
+    let at-place-of = at-first-of .before .before in
+    let at-kind-at = at-place-of .before in
+    let at-less = at-kind-at .before .before in
+    let at-operand-count = at-less .before in
+    let at-named-cell = at-operand-count .before in
+    let start = at-named-cell .before .before .before .before .before .before in
+    passes-part (start .pre .0) (start .pre .1) ((at-named-cell .named-cell) .ensures .0) ((at-operand-count .operand-count) .ensures) ((at-less .less) .ensures) ((at-kind-at .kind-at) .ensures)
+    ((at-place-of .place-of) .ensures) ((at-first-of .first-of) .ensures) ((at-first-of2 .first-of2) .ensures) ((at-indexed .indexed) .ensures) ((at-wrong-at .wrong-at) .ensures)
+    ((at-first .first) .ensures) ((at-first2 .first2) .ensures) ((at-define .define) .ensures) ((at-if1 .if1) .taken) ((c .before .gives-of) .ensures) ((c .start-of) .ensures)
 
 same-length-4 : tie.Need-same-length-4
 same-length-4 c = search needs
@@ -92,7 +119,22 @@ same-length-6 c = search needs
 
 returns-2 : tie.Need-returns-2
 returns-2 c =
-    passes-line ((c .before .before .before .before .before .before .before .before .before .before .before .before .before .before .before .before .before .before .before .before .before .before .before .before .before .before) .pre .0) ((c .before .before .before .before .before .before .before .before .before .before .before .before .before .before .before .before .before .before .before .before .before .before .before .before .before .before) .pre .1) ((c .before .before .before .before .before .before .before .before .before .before .before .before .before .before .before .before .before .before .before .before .named-cell) .ensures .0) ((c .before .before .before .before .before .before .before .before .before .before .before .before .before .before .before .before .before .before .before .operand-count) .ensures) ((c .before .before .before .before .before .before .before .before .before .before .before .before .before .before .before .before .before .before .less) .ensures) ((c .before .before .before .before .before .before .before .before .before .before .before .before .before .before .before .before .kind-at) .ensures) ((c .before .before .before .before .before .before .before .before .before .before .before .before .before .before .before .place-of) .ensures) ((c .before .before .before .before .before .before .before .before .before .before .before .before .before .first-of) .ensures) ((c .before .before .before .before .before .before .before .before .before .before .before .first-of2) .ensures) ((c .before .before .before .before .before .before .before .before .before .before .indexed) .ensures) ((c .before .before .before .before .before .before .before .wrong-at) .ensures) ((c .before .before .before .before .before .before .first) .ensures) ((c .before .before .before .before .before .first2) .ensures) ((c .before .before .before .define) .ensures) ((c .if1) .left)
+    let at-define = c .before .before .before in
+    let at-first2 = at-define .before .before in
+    let at-first = at-first2 .before in
+    let at-wrong-at = at-first .before in
+    let at-indexed = at-wrong-at .before .before .before in
+    let at-first-of2 = at-indexed .before in
+    let at-first-of = at-first-of2 .before .before in
+    let at-place-of = at-first-of .before .before in
+    let at-kind-at = at-place-of .before in
+    let at-less = at-kind-at .before .before in
+    let at-operand-count = at-less .before in
+    let at-named-cell = at-operand-count .before in
+    let start = at-named-cell .before .before .before .before .before .before in
+    passes-line (start .pre .0) (start .pre .1) ((at-named-cell .named-cell) .ensures .0) ((at-operand-count .operand-count) .ensures) ((at-less .less) .ensures) ((at-kind-at .kind-at) .ensures)
+    ((at-place-of .place-of) .ensures) ((at-first-of .first-of) .ensures) ((at-first-of2 .first-of2) .ensures) ((at-indexed .indexed) .ensures) ((at-wrong-at .wrong-at) .ensures)
+    ((at-first .first) .ensures) ((at-first2 .first2) .ensures) ((at-define .define) .ensures) ((c .if1) .left)
 
 pub pass-spec : {M : Type 1} → statement M
 pass-spec =

@@ -18,12 +18,15 @@ slice-aggregate-declare-all : tie.Need-slice-aggregate-declare-all Inv-loop μ-l
 slice-aggregate-declare-all c = search needs
 
 declare-all-requires : tie.Need-declare-all-requires Inv-loop μ-loop
-declare-all-requires c κs = ((c .before .before .before) .pre .0, (c .before .before .before) .pre .1, refl, (c .before .before .before) .pre .2)
+declare-all-requires c κs =
+    let start = c .before .before .before in
+    (start .pre .0, start .pre .1, refl, start .pre .2)
 
 loop-holds : tie.Need-loop-holds Inv-loop μ-loop
 unfolding placed
 loop-holds c =
-    ran-none ((c .before .before .before .before .before) .args .refs .now) ((c .before .before .before .before .before) .args .work .now) ((c .before .before .before .before .before) .args .entries) _ _ _ _ ((c .before .before .before .before .before) .pre .0) refl refl ((c .before .declare-all) .ensures) refl
+    let start = c .before .before .before .before .before in
+    ran-none (start .args .refs .now) (start .args .work .now) (start .args .entries) _ _ _ _ (start .pre .0) refl refl ((c .before .declare-all) .ensures) refl
 
 slice-aggregate-pass : tie.Need-slice-aggregate-pass Inv-loop μ-loop
 slice-aggregate-pass c = search needs
@@ -36,7 +39,10 @@ slice-aggregate-pass-3 c = search needs
 
 pass-requires : tie.Need-pass-requires Inv-loop μ-loop
 pass-requires c κs =
-    ((c .before .before .before .before .loop) .inv .sized, omega (arith, (c .before .before .before .loop-test) .taken, (c .before .before .before .before .before .before .before .before .before .before) .pre .1), (c .before .before .before .before .before .before .before .before .before .before) .pre .2)
+    let at-loop-test = c .before .before .before in
+    let at-loop = at-loop-test .before in
+    let start = at-loop .before .before .before .before .before .before in
+    ((at-loop .loop) .inv .sized, omega (arith, (at-loop-test .loop-test) .taken, start .pre .1), start .pre .2)
 
 add-i : tie.Need-add-i Inv-loop μ-loop
 add-i c = search needs
@@ -46,7 +52,10 @@ loop-less c = omega arith
 
 loop-again : tie.Need-loop-again Inv-loop μ-loop
 loop-again c =
-    ran-more _ _ _ _ ((c .before .before .before .before .before .before .before .before .loop) .inv) ((c .before .before .before .pass) .ensures) (omega (arith, (c .before .before .before .before .before .before .before .loop-test) .taken))
+    let at-pass = c .before .before .before in
+    let at-loop-test = at-pass .before .before .before .before in
+    let at-loop = at-loop-test .before in
+    ran-more _ _ _ _ ((at-loop .loop) .inv) ((at-pass .pass) .ensures) (omega (arith, (at-loop-test .loop-test) .taken))
 
 returns : tie.Need-returns Inv-loop μ-loop
 returns c = ran-all ((c .before .loop) .inv) ((c .loop-test) .left)

@@ -1,7 +1,7 @@
 -- `cap` meets its contract: no operand ends at index 0, and one that ends at the last index or past it leaves no room.
+use Rattle.writing.specs.StepLaws.{caps, caps-none}
 use native.Mathlib.Omega.{arith}
 use borrow.Author.Needs.{needs}
-use Rattle.writing.specs.StepLaws.{caps, caps-none}
 use Rattle.writing.proofs.cap.Statement.{statement}
 use Rattle.writing.proofs.cap.Tie as tie
 
@@ -11,22 +11,11 @@ returns c = caps-none (λ h. absurd (omega arith)) (omega arith)
 returns-2 : tie.Need-returns-2
 returns-2 c = caps-none (λ h. omega arith) (omega arith)
 
-sub-unary : tie.Need-sub-unary
-sub-unary c = search needs
-
-cast-unary : tie.Need-cast-unary
-cast-unary c = search needs
-
-unary-requires : tie.Need-unary-requires
-unary-requires c κs = search needs
-
-put-requires : tie.Need-put-requires
-put-requires c κs = search needs
+cap-requires : tie.Need-cap-requires
+cap-requires c κs = search needs
 
 returns-3 : tie.Need-returns-3
-returns-3 c = caps (c .before .unary .ensures) (c .put .ensures)
+returns-3 c = caps (search needs) (c .cap .ensures)
 
 pub cap-spec : {M : Type 1} → statement M
-cap-spec =
-    tie.close
-    (tie.spec returns returns-2 sub-unary cast-unary unary-requires put-requires returns-3)
+cap-spec = tie.close (tie.spec returns returns-2 cap-requires returns-3)

@@ -1,7 +1,7 @@
 -- `join` meets its contract: no first operand ends at index 0 or after the second, and a second that ends at the last index or past it leaves no room.
+use Rattle.writing.specs.StepLaws.{joins, joins-none}
 use native.Mathlib.Omega.{arith}
 use borrow.Author.Needs.{needs}
-use Rattle.writing.specs.StepLaws.{joins, joins-none}
 use Rattle.writing.proofs.join.Statement.{statement}
 use Rattle.writing.proofs.join.Tie as tie
 
@@ -14,38 +14,11 @@ returns-2 c = joins-none (λ h l. absurd (omega arith)) (omega arith)
 returns-3 : tie.Need-returns-3
 returns-3 c = joins-none (λ h l. omega arith) (omega arith)
 
-sub-binary : tie.Need-sub-binary
-sub-binary c = search needs
-
-cast-binary : tie.Need-cast-binary
-cast-binary c = search needs
-
-sub-binary-2 : tie.Need-sub-binary-2
-sub-binary-2 c = search needs
-
-cast-binary-2 : tie.Need-cast-binary-2
-cast-binary-2 c = search needs
-
-binary-requires : tie.Need-binary-requires
-binary-requires c κs = search needs
-
-put-requires : tie.Need-put-requires
-put-requires c κs = search needs
+join-requires : tie.Need-join-requires
+join-requires c κs = search needs
 
 returns-4 : tie.Need-returns-4
-returns-4 c = joins (c .before .binary .ensures) (c .put .ensures)
+returns-4 c = joins (search needs) (c .join .ensures)
 
 pub join-spec : {M : Type 1} → statement M
-join-spec =
-    tie.close
-    (tie.spec
-    returns
-    returns-2
-    returns-3
-    sub-binary
-    cast-binary
-    sub-binary-2
-    cast-binary-2
-    binary-requires
-    put-requires
-    returns-4)
+join-spec = tie.close (tie.spec returns returns-2 returns-3 join-requires returns-4)

@@ -18,7 +18,10 @@ loop-holds : tie.Need-loop-holds Inv-loop μ-loop
 loop-holds c = (omega arith, nexts-start)
 
 returns : tie.Need-returns Inv-loop μ-loop
-returns c = nexts-none (c .before .before .loop .i) (c .before .before .before .args .n) (c .before .before .loop .inv .1) (omega arith) (omega arith) (omega arith)
+returns c =
+    let at-loop = c .before .before in
+    let start = at-loop .before in
+    nexts-none (at-loop .loop .i) (start .args .n) (at-loop .loop .inv .1) (omega arith) (omega arith) (omega arith)
 
 cap-requires : tie.Need-cap-requires Inv-loop μ-loop
 cap-requires c κs = omega arith
@@ -30,7 +33,9 @@ loop-less : tie.Need-loop-less Inv-loop μ-loop
 loop-less c = omega arith
 
 loop-again : tie.Need-loop-again Inv-loop μ-loop
-loop-again c = (omega arith, rw add-one (nexts-more (c .before .before .before .before .loop .i) (c .before .before .before .before .loop .inv .1) (c .cap .ensures)))
+loop-again c =
+    let at-loop = c .before .before .before .before in
+    (omega arith, rw add-one (nexts-more (at-loop .loop .i) (at-loop .loop .inv .1) (c .cap .ensures)))
 
 returns-2 : tie.Need-returns-2 Inv-loop μ-loop
 returns-2 c = let e : c .before .loop .i ≡ c .before .before .args .n = omega arith in rw (sym e) (c .before .loop .inv .1)

@@ -27,15 +27,13 @@ pub enum Slip {
     Set,
     /// 13
     Bus,
-    /// 14
-    Target,
     /// 15
     Wide,
     /// 16
     Long,
 }
 
-pub const SLIPS: [Slip; 11] = [
+pub const SLIPS: [Slip; 10] = [
     Slip::Depth,
     Slip::Scope,
     Slip::Again,
@@ -44,7 +42,6 @@ pub const SLIPS: [Slip; 11] = [
     Slip::Value,
     Slip::Set,
     Slip::Bus,
-    Slip::Target,
     Slip::Wide,
     Slip::Long,
 ];

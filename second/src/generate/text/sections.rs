@@ -28,7 +28,8 @@ impl Writer<'_> {
 
     fn info(&mut self, strict: bool) {
         let model = *self.rng.pick(&["Mealy", "Moore"]);
-        let target = match (self.intends(Slip::Target), model) {
+        // A third of the texts state one model and target the other.
+        let target = match (self.rng.one_in(3), model) {
             (true, "Mealy") => "Moore",
             (true, _) => "Mealy",
             (false, _) => model,

@@ -48,15 +48,43 @@ wide-requires-2 c κs = search needs
 
 mul-imply : tie.Need-mul-imply Inv-loop μ-loop
 mul-imply c =
-    omega (arith, (c .wide2) .ensures, (next-port _ _ _ _ _ _ _ _ _ _ ((c .before .before .before .before .before .before .before .before .before .before .before .before .before) .pre .ports) ((c .before .before .before .before .before .before .before .before .before .before .before .before .before) .pre .some) ((c .before .before .before .before .before .before .loop) .inv .1 ((c .before .before .before .before .before .before .before .before .before .before .before .before .before) .pre .ports) ((c .before .before .before .before .before .before .before .before .before .before .before .before .before) .pre .some) ((c .before .before .before .before .before .before .before .before .before .before .before .before .before) .pre .buses)) (omega arith)) .bus .named)
+    omega (
+      arith,
+      (c .wide2) .ensures .0,
+      (next-port _ _ _ _ _ _ _ _ _ _ ((c .before .before .before .before .before .before .before .before .before .before .before .before .before) .pre .ports)
+          ((c .before .before .before .before .before .before .before .before .before .before .before .before .before) .pre .some)
+          ((c .before .before .before .before .before .before .loop) .inv .1 ((c .before .before .before .before .before .before .before .before .before .before .before .before .before) .pre .ports)
+          ((c .before .before .before .before .before .before .before .before .before .before .before .before .before) .pre .some)
+          ((c .before .before .before .before .before .before .before .before .before .before .before .before .before) .pre .buses)) (omega arith)) .bus .named,
+    )
 
 shared-slice-read-imply : tie.Need-shared-slice-read-imply Inv-loop μ-loop
 shared-slice-read-imply c =
-    omega (arith, (c .before .wide2) .ensures, (next-port _ _ _ _ _ _ _ _ _ _ ((c .before .before .before .before .before .before .before .before .before .before .before .before .before .before) .pre .ports) ((c .before .before .before .before .before .before .before .before .before .before .before .before .before .before) .pre .some) ((c .before .before .before .before .before .before .before .loop) .inv .1 ((c .before .before .before .before .before .before .before .before .before .before .before .before .before .before) .pre .ports) ((c .before .before .before .before .before .before .before .before .before .before .before .before .before .before) .pre .some) ((c .before .before .before .before .before .before .before .before .before .before .before .before .before .before) .pre .buses)) (omega arith)) .bus .named)
+    omega (
+      arith,
+      (c .before .wide2) .ensures .0,
+      (next-port _ _ _ _ _ _ _ _ _ _
+          ((c .before .before .before .before .before .before .before .before .before .before .before .before .before .before) .pre .ports)
+          ((c .before .before .before .before .before .before .before .before .before .before .before .before .before .before) .pre .some)
+          ((c .before .before .before .before .before .before .before .loop) .inv .1
+          ((c .before .before .before .before .before .before .before .before .before .before .before .before .before .before) .pre .ports)
+          ((c .before .before .before .before .before .before .before .before .before .before .before .before .before .before) .pre .some)
+          ((c .before .before .before .before .before .before .before .before .before .before .before .before .before .before) .pre .buses)) (omega arith)) .bus .named,
+    )
 
 imply-requires : tie.Need-imply-requires Inv-loop μ-loop
 imply-requires c κs =
-    going-ready _ _ _ _ _ _ _ _ _ _ ((c .before .before .before .before .before .before .before .before .before .before .before .before .before .before .before .before) .pre .ports) ((c .before .before .before .before .before .before .before .before .before .before .before .before .before .before .before .before) .pre .some) ((c .before .before .before .before .before .before .before .before .before .before .before .before .before .before .before .before) .pre .room) (next-port _ _ _ _ _ _ _ _ _ _ ((c .before .before .before .before .before .before .before .before .before .before .before .before .before .before .before .before) .pre .ports) ((c .before .before .before .before .before .before .before .before .before .before .before .before .before .before .before .before) .pre .some) ((c .before .before .before .before .before .before .before .before .before .loop) .inv .1 ((c .before .before .before .before .before .before .before .before .before .before .before .before .before .before .before .before) .pre .ports) ((c .before .before .before .before .before .before .before .before .before .before .before .before .before .before .before .before) .pre .some) ((c .before .before .before .before .before .before .before .before .before .before .before .before .before .before .before .before) .pre .buses)) (omega arith)) ((c .before .before .before .before .before .before .wide) .ensures) ((c .before .before .before .wide2) .ensures) (omega arith) ((c .before .before .before .before .before .before .before .before .before .loop) .inv .0)
+    going-ready _ _ _ _ _ _ _ _ _ _ ((c .before .before .before .before .before .before .before .before .before .before .before .before .before .before .before .before) .pre .ports)
+    ((c .before .before .before .before .before .before .before .before .before .before .before .before .before .before .before .before) .pre .some)
+    ((c .before .before .before .before .before .before .before .before .before .before .before .before .before .before .before .before) .pre .room)
+    (next-port _ _ _ _ _ _ _ _ _ _ ((c .before .before .before .before .before .before .before .before .before .before .before .before .before .before .before .before) .pre .ports)
+    ((c .before .before .before .before .before .before .before .before .before .before .before .before .before .before .before .before) .pre .some)
+    ((c .before .before .before .before .before .before .before .before .before .loop) .inv .1
+    ((c .before .before .before .before .before .before .before .before .before .before .before .before .before .before .before .before) .pre .ports)
+    ((c .before .before .before .before .before .before .before .before .before .before .before .before .before .before .before .before) .pre .some)
+    ((c .before .before .before .before .before .before .before .before .before .before .before .before .before .before .before .before) .pre .buses)) (omega arith))
+    ((c .before .before .before .before .before .before .wide) .ensures .0) ((c .before .before .before .wide2) .ensures .0) (omega arith)
+    ((c .before .before .before .before .before .before .before .before .before .loop) .inv .0)
 
 add-j : tie.Need-add-j Inv-loop μ-loop
 add-j c = omega arith
@@ -66,13 +94,15 @@ loop-less c = omega arith
 
 loop-again : tie.Need-loop-again Inv-loop μ-loop
 loop-again c = (
-  ⊎-elim (λ w. omega (arith, ap length (w .10), w .7 .given, (c .before .before .before .before .loop) .inv .0)) (λ w. ap length (w .2) ∙ (c .before .before .before .before .loop) .inv .0) (c .if1 .came),
+  ⊎-elim (λ w. omega (arith, ap length (w .10), w .7 .given, (c .before .before .before .before .loop) .inv .0)) (λ w. ap length (w .2) ∙ (c .before .before .before .before .loop) .inv .0)
+      (c .if1 .came),
   λ ps qs b.
       let n = next-port _ _ _ _ _ _ _ _ _ _ ps qs ((c .before .before .before .before .loop) .inv .1 ps qs b) (omega arith) in
       rw add-one
       (⊎-elim
-      (λ w. rw (w .9, w .10, w .11) (going-typed _ _ _ _ _ _ _ _ _ _ ps qs ((c .before .before .before .before .before .before .before .before .before .before .before) .pre .room) n ((c .before .wide) .ensures) (w .2 .ensures) (omega arith) (w .6 .ensures)))
-      (λ w. rw (w .1, w .2, w .3) (going-untyped _ _ _ _ _ _ _ _ _ _ ps qs n ((c .before .wide) .ensures) (omega arith)))
+      (λ w. rw (w .9, w .10, w .11) (going-typed _ _ _ _ _ _ _ _ _ _ ps qs ((c .before .before .before .before .before .before .before .before .before .before .before) .pre .room) n
+      ((c .before .wide) .ensures .0) (w .2 .ensures .0) (omega arith) (w .6 .ensures)))
+      (λ w. rw (w .1, w .2, w .3) (going-untyped _ _ _ _ _ _ _ _ _ _ ps qs n ((c .before .wide) .ensures .0) (omega arith)))
       (c .if1 .came)),
 )
 
@@ -83,4 +113,5 @@ returns : tie.Need-returns Inv-loop μ-loop
 returns c = λ ps qs b. going-all _ _ _ _ _ _ _ _ _ _ ps qs ((c .before .loop) .inv .1 ps qs b) (omega arith)
 
 pub implied-spec : {M : Type 1} → statement M
-implied-spec = tie.close (tie.spec Inv-loop μ-loop loop-holds mul-wide shared-slice-read-wide wide-requires mul-wide-2 shared-slice-read-wide-2 wide-requires-2 mul-imply shared-slice-read-imply imply-requires add-j loop-less loop-again same-length returns)
+implied-spec = tie.close (tie.spec Inv-loop μ-loop loop-holds mul-wide shared-slice-read-wide wide-requires mul-wide-2 shared-slice-read-wide-2 wide-requires-2 mul-imply shared-slice-read-imply
+    imply-requires add-j loop-less loop-again same-length returns)

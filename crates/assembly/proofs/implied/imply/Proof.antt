@@ -20,8 +20,10 @@ returns c =
     λ ps q b. bus-none ((c .before .before .identifiers-end) .ensures) ps q b ((c .before .leaves-unnamed) .ensures) (not-true _ ((c .if1) .taken))
 
 one-of-requires : tie.Need-one-of-requires
-one-of-requires c κs =
-    (bus-readable ((c .before .before .before .identifiers-end) .ensures) ((c .before .before .before .before .before .before .before) .pre), (c .before .before .before .before .before .before .before) .pre .bus .small)
+one-of-requires c κs = (
+  bus-readable ((c .before .before .before .identifiers-end) .ensures) ((c .before .before .before .before .before .before .before) .pre),
+  (c .before .before .before .before .before .before .before) .pre .bus .small,
+)
 
 add-line-requires : tie.Need-add-line-requires
 add-line-requires c κs =
@@ -32,7 +34,9 @@ same-length c = search needs
 
 returns-2 : tie.Need-returns-2
 returns-2 c =
-    λ ps q b. bus-one ((c .before .before .before .before .before .before .before .before .identifiers-end) .ensures) ps q b ((c .before .before .before .before .before .before .before .leaves-unnamed) .ensures) (not-false _ ((c .before .before .before .before .before .before .if1) .left)) ((c .before .before .before .before .one-of) .ensures) ((c .before .before .add-line) .ensures)
+    λ ps q b. bus-one ((c .before .before .before .before .before .before .before .before .identifiers-end) .ensures) ps q b
+    ((c .before .before .before .before .before .before .before .leaves-unnamed) .ensures) (not-false _ ((c .before .before .before .before .before .before .if1) .left))
+    ((c .before .before .before .before .one-of) .ensures) ((c .before .before .add-line) .ensures)
 
 pub imply-spec : {M : Type 1} → statement M
 imply-spec = tie.close (tie.spec add-from identifiers-end-requires leaves-unnamed-requires returns one-of-requires add-line-requires same-length returns-2)

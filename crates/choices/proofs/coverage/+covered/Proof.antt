@@ -2,9 +2,8 @@
 use borrow.Author.Needs.{needs}
 use native.Mathlib.Omega.{arith}
 use mathlib.Core.Path.{refl}
-use Prim.Native.Nat.{_-_}
+use Prim.Native.Nat.{_-_, ℕ, _<_}
 use Rattle.choices.specs.CoverageLaws.{rows-blank, rows-none, covered-none, covered-not, covered-both}
-use Prim.Native.Nat.{ℕ, _<_}
 use borrow.Fn.Kinds.{In}
 use borrow.Fn.PlainCycle.{Measures, is, falls, and}
 use Rattle.choices.proofs.coverage.covered.Reads as covered
@@ -42,14 +41,20 @@ covered-add-covered : (t : ℕ) → covered-lts.Need-add-covered (covered-calls 
 covered-add-covered t c = omega arith
 
 covered-covered-requires : (t : ℕ) → covered-lts.Need-covered-requires (covered-calls t) (covered-at t) covered.Post
-covered-covered-requires t c κs = (omega arith, ((c .before .before .after) .ensures .filled, (omega arith, (c .before .before .before .before .before) .pre .1 .1 .1)))
+covered-covered-requires t c κs =
+    let at-after = c .before .before in
+    let start = at-after .before .before .before in
+    (omega arith, ((at-after .after) .ensures .filled, (omega arith, start .pre .1 .1 .1)))
 
 covered-slice-aggregate-after-2 : (t : ℕ) → covered-lts.Need-slice-aggregate-after-2 (covered-calls t) (covered-at t) covered.Post
 covered-slice-aggregate-after-2 t c = search needs
 
 covered-after-requires-2 : (t : ℕ) → covered-lts.Need-after-requires-2 (covered-calls t) (covered-at t) covered.Post
 covered-after-requires-2 t c κs =
-    ((c .before .before .before .before .before .before .before .before) .pre .1 .0, (rows-none _ _ ((c .before .before .before .before .before .after) .ensures .filled), ((c .before .before .before .before .before .before .before .if1) .left, (c .before .before .before .before .before .before .before .before) .pre .1 .1 .1)))
+    let at-after = c .before .before .before .before .before in
+    let at-if1 = at-after .before .before in
+    let start = at-if1 .before in
+    (start .pre .1 .0, (rows-none _ _ ((at-after .after) .ensures .filled), ((at-if1 .if1) .left, start .pre .1 .1 .1)))
 
 covered-slice-aggregate-covered-2 : (t : ℕ) → covered-lts.Need-slice-aggregate-covered-2 (covered-calls t) (covered-at t) covered.Post
 covered-slice-aggregate-covered-2 t c = search needs
@@ -59,15 +64,24 @@ covered-add-covered-2 t c = omega arith
 
 covered-covered-requires-2 : (t : ℕ) → covered-lts.Need-covered-requires-2 (covered-calls t) (covered-at t) covered.Post
 covered-covered-requires-2 t c κs =
-    (omega arith, ((c .before .before .after2) .ensures .filled, (omega arith, (c .before .before .before .before .before .before .before .before .before .before .before) .pre .1 .1 .1)))
+    let at-after2 = c .before .before in
+    let start = at-after2 .before .before .before .before .before .before .before .before .before in
+    (omega arith, ((at-after2 .after2) .ensures .filled, (omega arith, start .pre .1 .1 .1)))
 
 covered-returns-2 : (t : ℕ) → covered-lts.Need-returns-2 (covered-calls t) (covered-at t) covered.Post
 covered-returns-2 t c =
-    covered-both _ _ _ ((c .before .before .before .before .before .before .before .before .before .before .before .if1) .left) ((c .before .before .before .before .before .before .covered) .ensures) ((c .before .before .before .before .before .before .before .before .before .after) .ensures .same) ((c .before .before .before .before .before .if2) .taken) ((c .covered2) .ensures) ((c .before .before .before .after2) .ensures .same)
+    let at-after2 = c .before .before .before in
+    let at-if2 = at-after2 .before .before in
+    let at-covered = at-if2 .before in
+    let at-after = at-covered .before .before .before in
+    let at-if1 = at-after .before .before in
+    covered-both _ _ _ ((at-if1 .if1) .left) ((at-covered .covered) .ensures) ((at-after .after) .ensures .same) ((at-if2 .if2) .taken) ((c .covered2) .ensures) ((at-after2 .after2) .ensures .same)
 
 covered-returns-3 : (t : ℕ) → covered-lts.Need-returns-3 (covered-calls t) (covered-at t) covered.Post
 covered-returns-3 t c =
-    covered-not _ _ _ ((c .before .before .before .before .before .before .if1) .left) ((c .before .covered) .ensures) ((c .before .before .before .before .after) .ensures .same) ((c .if2) .left)
+    let at-after = c .before .before .before .before in
+    let at-if1 = at-after .before .before in
+    covered-not _ _ _ ((at-if1 .if1) .left) ((c .before .covered) .ensures) ((at-after .after) .ensures .same) ((c .if2) .left)
 
 pub +covered-spec : {M : Type 1} → statement M
 +covered-spec = close μ-covered λ t. covered-lts.spec (covered-calls t) (covered-at t)

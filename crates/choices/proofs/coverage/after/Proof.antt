@@ -24,7 +24,9 @@ shared-slice-copy-out-row c = omega (arith, (c .before .before) .pre .0 .few, (c
 
 array-read-mark : tie.Need-array-read-mark Inv-loop μ-loop
 array-read-mark c =
-    omega (arith, row-full ((c .before .before .before) .pre .0) ((c .before .before .before) .pre .1 .1 .0) ((c .before .before .before) .pre .1 .1 .1) ((c .before .before .loop) .inv) ((c .before .loop-test) .taken), (c .before .before .before) .pre .1 .1 .0, (c .before .before .before) .pre .1 .1 .1)
+    let at-loop = c .before .before in
+    let start = at-loop .before in
+    omega (arith, row-full (start .pre .0) (start .pre .1 .1 .0) (start .pre .1 .1 .1) ((at-loop .loop) .inv) ((c .before .loop-test) .taken), start .pre .1 .1 .0, start .pre .1 .1 .1)
 
 admits-requires : tie.Need-admits-requires Inv-loop μ-loop
 admits-requires c κs = search needs
@@ -46,7 +48,10 @@ loop-less c = omega arith
 
 loop-again : tie.Need-loop-again Inv-loop μ-loop
 loop-again c =
-    keeping-row ((c .before .before .before .before .before) .pre .0) ((c .before .before .before .before .before) .pre .1 .1 .0) ((c .before .before .before .before .before) .pre .1 .1 .1) ((c .before .before .before .before .loop) .inv) ((c .before .before .before .loop-test) .taken) (sym ((c .before .admits) .ensures) ∙ (c .if1) .taken)
+    let at-loop-test = c .before .before .before in
+    let at-loop = at-loop-test .before in
+    let start = at-loop .before in
+    keeping-row (start .pre .0) (start .pre .1 .1 .0) (start .pre .1 .1 .1) ((at-loop .loop) .inv) ((at-loop-test .loop-test) .taken) (sym ((c .before .admits) .ensures) ∙ (c .if1) .taken)
 
 add-j-2 : tie.Need-add-j-2 Inv-loop μ-loop
 add-j-2 c = omega arith
@@ -56,7 +61,10 @@ loop-less-2 c = omega arith
 
 loop-again-2 : tie.Need-loop-again-2 Inv-loop μ-loop
 loop-again-2 c =
-    keeping-not ((c .before .before .before .before .before) .pre .0) ((c .before .before .before .before .before) .pre .1 .1 .0) ((c .before .before .before .before .before) .pre .1 .1 .1) ((c .before .before .before .before .loop) .inv) ((c .before .before .before .loop-test) .taken) (sym ((c .before .admits) .ensures) ∙ (c .if1) .left)
+    let at-loop-test = c .before .before .before in
+    let at-loop = at-loop-test .before in
+    let start = at-loop .before in
+    keeping-not (start .pre .0) (start .pre .1 .1 .0) (start .pre .1 .1 .1) ((at-loop .loop) .inv) ((at-loop-test .loop-test) .taken) (sym ((c .before .admits) .ensures) ∙ (c .if1) .left)
 
 same-length : tie.Need-same-length Inv-loop μ-loop
 same-length c = search needs

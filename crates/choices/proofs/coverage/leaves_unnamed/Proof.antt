@@ -19,7 +19,8 @@ loop-holds c = tabling-none _ _ _ _ _ (rows-blank _ refl)
 
 cell-at-requires : tie.Need-cell-at-requires Inv-loop μ-loop
 cell-at-requires c κs =
-    ((c .before .before .before .before) .pre .readable .room, omega (arith, (c .before .before .before .before) .pre .readable .few, (c .loop-test) .taken))
+    let start = c .before .before .before .before in
+    (start .pre .readable .room, omega (arith, start .pre .readable .few, (c .loop-test) .taken))
 
 add-i : tie.Need-add-i Inv-loop μ-loop
 add-i c = omega arith
@@ -29,7 +30,11 @@ loop-less c = omega arith
 
 loop-again : tie.Need-loop-again Inv-loop μ-loop
 loop-again c =
-    tabling-skip ((c .before .before .before .before .before .before .before) .pre .regular) ((c .before .before .before .before .loop) .inv) ((c .before .before .before .loop-test) .taken) ((c .before .before .cell-at) .ensures .0) ((c .if1) .taken)
+    let at-cell-at = c .before .before in
+    let at-loop-test = at-cell-at .before in
+    let at-loop = at-loop-test .before in
+    let start = at-loop .before .before .before in
+    tabling-skip (start .pre .regular) ((at-loop .loop) .inv) ((at-loop-test .loop-test) .taken) ((at-cell-at .cell-at) .ensures .0) ((c .if1) .taken)
 
 cast-width : tie.Need-cast-width Inv-loop μ-loop
 cast-width c = omega arith
@@ -39,19 +44,40 @@ cast-place c = omega arith
 
 marks-requires : tie.Need-marks-requires Inv-loop μ-loop
 marks-requires c κs =
-    (tabling-narrow ((c .before .before .before .before .before .before .before) .pre .regular) ((c .before .before .before .before .loop) .inv) ((c .before .before .before .loop-test) .taken) ((c .before .before .cell-at) .ensures .0) ((c .if1) .left), omega arith)
+    let at-cell-at = c .before .before in
+    let at-loop-test = at-cell-at .before in
+    let at-loop = at-loop-test .before in
+    let start = at-loop .before .before .before in
+    (tabling-narrow (start .pre .regular) ((at-loop .loop) .inv) ((at-loop-test .loop-test) .taken) ((at-cell-at .cell-at) .ensures .0) ((c .if1) .left), omega arith)
 
 mul-rows : tie.Need-mul-rows Inv-loop μ-loop
 mul-rows c =
-    omega (arith, tabling-room ((c .before .before .before .before .before .before .before .before) .pre .regular) ((c .before .before .before .before .before .loop) .inv) ((c .before .before .before .before .loop-test) .taken) ((c .before .before .before .cell-at) .ensures .0) ((c .before .if1) .left))
+    let at-cell-at = c .before .before .before in
+    let at-loop-test = at-cell-at .before in
+    let at-loop = at-loop-test .before in
+    let start = at-loop .before .before .before in
+    omega (arith, tabling-room (start .pre .regular) ((at-loop .loop) .inv) ((at-loop-test .loop-test) .taken) ((at-cell-at .cell-at) .ensures .0) ((c .before .if1) .left))
 
 array-set-from-rows : tie.Need-array-set-from-rows Inv-loop μ-loop
 array-set-from-rows c =
-    omega (arith, (c .before .before .before .before .before .loop) .inv .filled .all, tabling-room ((c .before .before .before .before .before .before .before .before) .pre .regular) ((c .before .before .before .before .before .loop) .inv) ((c .before .before .before .before .loop-test) .taken) ((c .before .before .before .cell-at) .ensures .0) ((c .before .if1) .left))
+    let at-cell-at = c .before .before .before in
+    let at-loop-test = at-cell-at .before in
+    let at-loop = at-loop-test .before in
+    let start = at-loop .before .before .before in
+    omega (
+      arith,
+      (at-loop .loop) .inv .filled .all,
+      tabling-room (start .pre .regular) ((at-loop .loop) .inv) ((at-loop-test .loop-test) .taken) ((at-cell-at .cell-at) .ensures .0)
+          ((c .before .if1) .left),
+    )
 
 add-count : tie.Need-add-count Inv-loop μ-loop
 add-count c =
-    omega (arith, tabling-room ((c .before .before .before .before .before .before .before .before) .pre .regular) ((c .before .before .before .before .before .loop) .inv) ((c .before .before .before .before .loop-test) .taken) ((c .before .before .before .cell-at) .ensures .0) ((c .before .if1) .left))
+    let at-cell-at = c .before .before .before in
+    let at-loop-test = at-cell-at .before in
+    let at-loop = at-loop-test .before in
+    let start = at-loop .before .before .before in
+    omega (arith, tabling-room (start .pre .regular) ((at-loop .loop) .inv) ((at-loop-test .loop-test) .taken) ((at-cell-at .cell-at) .ensures .0) ((c .before .if1) .left))
 
 add-i-2 : tie.Need-add-i-2 Inv-loop μ-loop
 add-i-2 c = omega arith
@@ -61,7 +87,12 @@ loop-less-2 c = omega arith
 
 loop-again-2 : tie.Need-loop-again-2 Inv-loop μ-loop
 loop-again-2 c =
-    tabling-word ((c .before .before .before .before .before .before .before .before) .pre .regular) ((c .before .before .before .before .before .loop) .inv) ((c .before .before .before .before .loop-test) .taken) ((c .before .before .before .cell-at) .ensures .0) ((c .before .if1) .left) ((c .marks) .result) ((c .marks) .ensures .0) ((c .marks) .ensures .1)
+    let at-cell-at = c .before .before .before in
+    let at-loop-test = at-cell-at .before in
+    let at-loop = at-loop-test .before in
+    let start = at-loop .before .before .before in
+    tabling-word (start .pre .regular) ((at-loop .loop) .inv) ((at-loop-test .loop-test) .taken) ((at-cell-at .cell-at) .ensures .0) ((c .before .if1) .left) ((c .marks) .result)
+    ((c .marks) .ensures .0) ((c .marks) .ensures .1)
 
 returns : tie.Need-returns Inv-loop μ-loop
 returns c = unnamed-is (tabling-empty ((c .before .before .loop) .inv) ((c .before .loop-test) .left) ((c .if2) .taken))
@@ -71,11 +102,16 @@ slice-aggregate-covered c = search needs
 
 covered-requires : tie.Need-covered-requires Inv-loop μ-loop
 covered-requires c κs =
-    ((c .before .before .before .loop) .inv .filled, (omega arith, tabling-wide ((c .before .before .before .before .before .before) .pre .regular) ((c .before .before .before .loop) .inv) ((c .before .if2) .left)))
+    let at-loop = c .before .before .before in
+    let start = at-loop .before .before .before in
+    ((at-loop .loop) .inv .filled, (omega arith, tabling-wide (start .pre .regular) ((at-loop .loop) .inv) ((c .before .if2) .left)))
 
 returns-2 : tie.Need-returns-2 Inv-loop μ-loop
 returns-2 c =
-    unnamed-is (tabling-all ((c .before .before .before .before .loop) .inv) ((c .before .before .before .loop-test) .left) ((c .before .before .if2) .left) ((c .covered) .ensures))
+    let at-if2 = c .before .before in
+    let at-loop-test = at-if2 .before in
+    let at-loop = at-loop-test .before in
+    unnamed-is (tabling-all ((at-loop .loop) .inv) ((at-loop-test .loop-test) .left) ((at-if2 .if2) .left) ((c .covered) .ensures))
 
 pub leaves-unnamed-spec : {M : Type 1} → statement M
 leaves-unnamed-spec =

@@ -1,7 +1,6 @@
 -- The fold so far, or the constant over nothing.
 use borrow.Author.Needs.{needs}
 use Rattle.choices.specs.FoldLaws.{finishes-some, finishes-none}
-use borrow.Author.Needs.{needs}
 use Rattle.choices.proofs.folds.finish.Statement.{statement}
 use Rattle.choices.proofs.folds.finish.Tie as tie
 

@@ -3,7 +3,6 @@ use borrow.Author.Needs.{needs}
 use mathlib.Core.Path.{sym, ap}
 use Rattle.node.specs.Kinds.{binaryKind}
 use Rattle.choices.specs.FoldLaws.{operator, furthers-first, furthers-more}
-use borrow.Author.Needs.{needs}
 use Rattle.choices.proofs.folds.further.Statement.{statement}
 use Rattle.choices.proofs.folds.further.Tie as tie
 

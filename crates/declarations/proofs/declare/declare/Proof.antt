@@ -3,7 +3,6 @@ use Prim.Native.Nat.{ℕ}
 use native.Mathlib.Omega.{arith}
 use lib.ListN.{length-replicate}
 use borrow.Author.Needs.{needs}
-use borrow.Author.Needs.{needs}
 use Rattle.declarations.proofs.declare.declare.Statement.{statement}
 use Rattle.declarations.proofs.declare.declare.Tie as tie
 
@@ -17,7 +16,15 @@ slice-aggregate-declare-in-3 : tie.Need-slice-aggregate-declare-in-3
 slice-aggregate-declare-in-3 c = search needs
 
 declare-in-requires : tie.Need-declare-in-requires
-declare-in-requires c κs = ((c .before .before .before .before .before .before .before .before .before .before .before .before .before .before .before .before .before .before .before .before .before .before .before) .pre .0, ((c .before .before .before .before .before .before .before .before .before .before .before .before .before .before .before .before .before .before .before .before .before .before .before) .pre .1, (omega (arith, length-replicate {A = ℕ} 256 0), (omega (arith, length-replicate {A = ℕ} 256 0), omega (arith, length-replicate {A = ℕ} 256 0)))))
+declare-in-requires c κs = (
+  (c .before .before .before .before .before .before .before .before .before .before .before .before .before .before .before .before .before .before .before .before .before
+      .before .before) .pre .0,
+  (
+    (c .before .before .before .before .before .before .before .before .before .before .before .before .before .before .before .before .before .before .before .before
+        .before .before .before) .pre .1,
+    (omega (arith, length-replicate {A = ℕ} 256 0), (omega (arith, length-replicate {A = ℕ} 256 0), omega (arith, length-replicate {A = ℕ} 256 0))),
+  ),
+)
 
 same-length : tie.Need-same-length
 same-length c = search needs

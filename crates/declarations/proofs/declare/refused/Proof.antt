@@ -3,7 +3,6 @@ use Prim.Native.Nat.{ℕ}
 use mathlib.Core.Path.{_≡_}
 use native.Mathlib.Omega.{arith}
 use borrow.Author.Needs.{needs}
-use borrow.Author.Needs.{needs}
 use Rattle.declarations.proofs.declare.refused.Statement.{statement}
 use Rattle.declarations.proofs.declare.refused.Tie as tie
 

@@ -11,7 +11,10 @@ use Rattle.declarations.proofs.describe.describe.Statement.{statement}
 use Rattle.declarations.proofs.describe.describe.Tie as tie
 
 abbrev Inv-loop : tie.InvT-loop
-Inv-loop work refs found places count order₀ enumerations₀ offsets₀ j₀ order enumerations offsets j = (j ≤ count) × ((length order ≡ length order₀) × ((length enumerations ≡ length enumerations₀) × ((length offsets ≡ length offsets₀) × (Filled (λ i. getD refs (getD places i 0) 0) order j × (Filled (λ i. enumerationFor work refs found (getD places i 0)) enumerations j × Filled (λ i. offsetAt work (getD places i 0)) offsets j)))))
+Inv-loop work refs found places count order₀ enumerations₀ offsets₀ j₀ order enumerations offsets j = (j ≤ count) ×
+    ((length order ≡ length order₀) × ((length enumerations ≡ length enumerations₀) ×
+    ((length offsets ≡ length offsets₀) × (Filled (λ i. getD refs (getD places i 0) 0) order j ×
+    (Filled (λ i. enumerationFor work refs found (getD places i 0)) enumerations j × Filled (λ i. offsetAt work (getD places i 0)) offsets j)))))
 
 abbrev μ-loop : tie.MeasureT-loop
 μ-loop work refs found places count order₀ enumerations₀ offsets₀ j₀ order enumerations offsets j = count - j
@@ -29,43 +32,143 @@ wide-requires : tie.Need-wide-requires Inv-loop μ-loop
 wide-requires c κs = search needs
 
 mul-order : tie.Need-mul-order Inv-loop μ-loop
-mul-order c = let i : (c .wide) .result < maxTokens = subst (λ n. n < maxTokens) (sym ((c .wide) .ensures)) ((c .before .before .before .before .before .before .before .before .before .before .before) .pre .inside ((c .before .before .before .loop) .j) ((c .before .before .loop-test) .taken)) in omega arith
+mul-order c = let i : (c .wide) .result < maxTokens = subst (λ n. n < maxTokens) (sym ((c .wide) .ensures .0))
+    ((c .before .before .before .before .before .before .before .before .before .before .before) .pre .inside ((c .before .before .before .loop) .j) ((c .before .before .loop-test) .taken)) in
+    omega arith
 
 shared-slice-read-order : tie.Need-shared-slice-read-order Inv-loop μ-loop
-shared-slice-read-order c = let i : (c .before .wide) .result < maxTokens = subst (λ n. n < maxTokens) (sym ((c .before .wide) .ensures)) ((c .before .before .before .before .before .before .before .before .before .before .before .before) .pre .inside ((c .before .before .before .before .loop) .j) ((c .before .before .before .loop-test) .taken)) in omega (arith, (c .before .before .before .before .before .before .before .before .before .before .before .before) .pre .refs-room)
+shared-slice-read-order c = let i : (c .before .wide) .result < maxTokens = subst (λ n. n < maxTokens) (sym ((c .before .wide) .ensures .0))
+    ((c .before .before .before .before .before .before .before .before .before .before .before .before) .pre .inside ((c .before .before .before .before .loop) .j)
+    ((c .before .before .before .loop-test) .taken)) in omega (arith, (c .before .before .before .before .before .before .before .before .before .before .before .before) .pre .refs-room)
 
 mul-order-2 : tie.Need-mul-order-2 Inv-loop μ-loop
 mul-order-2 c = omega (arith, (c .before .before .before .loop-test) .taken, (c .before .before .before .before .before .before .before .before .before .before .before .before) .pre .few)
 
 slice-write-order : tie.Need-slice-write-order Inv-loop μ-loop
-slice-write-order c = omega (arith, (c .before .before .before .loop-test) .taken, (c .before .before .before .before .loop) .inv .1 .0, (c .before .before .before .before .before .before .before .before .before .before .before .before) .pre .order-room)
+slice-write-order c = omega (
+  arith,
+  (c .before .before .before .loop-test) .taken,
+  (c .before .before .before .before .loop) .inv .1 .0,
+  (c .before .before .before .before .before .before .before .before .before .before .before .before) .pre .order-room,
+)
 
 enumeration-for-requires : tie.Need-enumeration-for-requires Inv-loop μ-loop
-enumeration-for-requires c κs = ((c .before .before .before .before .before .before .before .before .before .before .before .before) .pre .work, (subst (λ n. n < maxTokens) (sym ((c .before .wide) .ensures)) ((c .before .before .before .before .before .before .before .before .before .before .before .before) .pre .inside ((c .before .before .before .before .loop) .j) ((c .before .before .before .loop-test) .taken)), ((c .before .before .before .before .before .before .before .before .before .before .before .before) .pre .refs-room, (c .before .before .before .before .before .before .before .before .before .before .before .before) .pre .found-room)))
+enumeration-for-requires c κs = (
+  (c .before .before .before .before .before .before .before .before .before .before .before .before) .pre .work,
+  (
+    subst (λ n. n < maxTokens) (sym ((c .before .wide) .ensures .0))
+        ((c .before .before .before .before .before .before .before .before .before .before .before .before) .pre .inside ((c .before .before .before .before .loop) .j)
+        ((c .before .before .before .loop-test) .taken)),
+    (
+      (c .before .before .before .before .before .before .before .before .before .before .before .before) .pre .refs-room,
+      (c .before .before .before .before .before .before .before .before .before .before .before .before) .pre .found-room,
+    ),
+  ),
+)
 
 mul-enumerations : tie.Need-mul-enumerations Inv-loop μ-loop
-mul-enumerations c = omega (arith, (c .before .before .before .before .loop-test) .taken, (c .before .before .before .before .before .before .before .before .before .before .before .before .before) .pre .few)
+mul-enumerations c = omega (
+  arith,
+  (c .before .before .before .before .loop-test) .taken,
+  (c .before .before .before .before .before .before .before .before .before .before .before .before .before) .pre .few,
+)
 
 slice-write-enumerations : tie.Need-slice-write-enumerations Inv-loop μ-loop
-slice-write-enumerations c = omega (arith, (c .before .before .before .before .loop-test) .taken, (c .before .before .before .before .before .loop) .inv .1 .1 .0, (c .before .before .before .before .before .before .before .before .before .before .before .before .before) .pre .enumerations-room)
+slice-write-enumerations c = omega (
+  arith,
+  (c .before .before .before .before .loop-test) .taken,
+  (c .before .before .before .before .before .loop) .inv .1 .1 .0,
+  (c .before .before .before .before .before .before .before .before .before .before .before .before .before) .pre .enumerations-room,
+)
 
 token-word-requires : tie.Need-token-word-requires Inv-loop μ-loop
-token-word-requires c κs = ((c .before .before .before .before .before .before .before .before .before .before .before .before .before) .pre .work, subst (λ n. n < maxTokens) (sym ((c .before .before .wide) .ensures)) ((c .before .before .before .before .before .before .before .before .before .before .before .before .before) .pre .inside ((c .before .before .before .before .before .loop) .j) ((c .before .before .before .before .loop-test) .taken)))
+token-word-requires c κs = (
+  (c .before .before .before .before .before .before .before .before .before .before .before .before .before) .pre .work,
+  subst (λ n. n < maxTokens)
+      (sym ((c .before .before .wide) .ensures .0)) ((c .before .before .before .before .before .before .before .before .before .before .before .before .before) .pre .inside
+      ((c .before .before .before .before .before .loop) .j) ((c .before .before .before .before .loop-test) .taken)),
+)
 
 mul-offsets : tie.Need-mul-offsets Inv-loop μ-loop
-mul-offsets c = omega (arith, (c .before .before .before .before .before .loop-test) .taken, (c .before .before .before .before .before .before .before .before .before .before .before .before .before .before) .pre .few)
+mul-offsets c = omega (
+  arith,
+  (c .before .before .before .before .before .loop-test) .taken,
+  (c .before .before .before .before .before .before .before .before .before .before .before .before .before .before) .pre .few,
+)
 
 slice-write-offsets : tie.Need-slice-write-offsets Inv-loop μ-loop
-slice-write-offsets c = omega (arith, (c .before .before .before .before .before .loop-test) .taken, (c .before .before .before .before .before .before .loop) .inv .1 .1 .1 .0, (c .before .before .before .before .before .before .before .before .before .before .before .before .before .before) .pre .offsets-room)
+slice-write-offsets c = omega (
+  arith,
+  (c .before .before .before .before .before .loop-test) .taken,
+  (c .before .before .before .before .before .before .loop) .inv .1 .1 .1 .0,
+  (c .before .before .before .before .before .before .before .before .before .before .before .before .before .before) .pre .offsets-room,
+)
 
 add-j : tie.Need-add-j Inv-loop μ-loop
-add-j c = omega (arith, (c .before .before .before .before .before .loop-test) .taken, (c .before .before .before .before .before .before .before .before .before .before .before .before .before .before) .pre .few)
+add-j c = omega (
+  arith,
+  (c .before .before .before .before .before .loop-test) .taken,
+  (c .before .before .before .before .before .before .before .before .before .before .before .before .before .before) .pre .few,
+)
 
 loop-less : tie.Need-loop-less Inv-loop μ-loop
 loop-less c = omega (arith, (c .before .before .before .before .before .loop-test) .taken)
 
 loop-again : tie.Need-loop-again Inv-loop μ-loop
-loop-again c = (omega (arith, (c .before .before .before .before .before .loop-test) .taken), (simp length-set ((c .before .before .before .before .before .before .loop) .inv .1 .0), (simp length-set ((c .before .before .before .before .before .before .loop) .inv .1 .1 .0), (simp length-set ((c .before .before .before .before .before .before .loop) .inv .1 .1 .1 .0), (filled-more (λ i. getD ((c .before .before .before .before .before .before .before .before .before .before .before .before .before .before) .args .refs .now) (getD ((c .before .before .before .before .before .before .before .before .before .before .before .before .before .before) .args .places .now) i 0) 0) ((c .before .before .before .before .before .before .loop) .order) ((c .before .before .before .before .before .before .loop) .j) _ (omega (arith, (c .before .before .before .before .before .loop-test) .taken, (c .before .before .before .before .before .before .loop) .inv .1 .0, (c .before .before .before .before .before .before .before .before .before .before .before .before .before .before) .pre .order-room)) (ap (λ k. getD ((c .before .before .before .before .before .before .before .before .before .before .before .before .before .before) .args .refs .now) k 0) ((c .before .before .before .wide) .ensures)) ((c .before .before .before .before .before .before .loop) .inv .1 .1 .1 .1 .0), (filled-more (λ i. enumerationFor ((c .before .before .before .before .before .before .before .before .before .before .before .before .before .before) .args .work .now) ((c .before .before .before .before .before .before .before .before .before .before .before .before .before .before) .args .refs .now) ((c .before .before .before .before .before .before .before .before .before .before .before .before .before .before) .args .found .now) (getD ((c .before .before .before .before .before .before .before .before .before .before .before .before .before .before) .args .places .now) i 0)) ((c .before .before .before .before .before .before .loop) .enumerations) ((c .before .before .before .before .before .before .loop) .j) _ (omega (arith, (c .before .before .before .before .before .loop-test) .taken, (c .before .before .before .before .before .before .loop) .inv .1 .1 .0, (c .before .before .before .before .before .before .before .before .before .before .before .before .before .before) .pre .enumerations-room)) ((c .before .enumeration-for) .ensures ∙ ap (enumerationFor ((c .before .before .before .before .before .before .before .before .before .before .before .before .before .before) .args .work .now) ((c .before .before .before .before .before .before .before .before .before .before .before .before .before .before) .args .refs .now) ((c .before .before .before .before .before .before .before .before .before .before .before .before .before .before) .args .found .now)) ((c .before .before .before .wide) .ensures)) ((c .before .before .before .before .before .before .loop) .inv .1 .1 .1 .1 .1 .0), filled-more (λ i. offsetAt ((c .before .before .before .before .before .before .before .before .before .before .before .before .before .before) .args .work .now) (getD ((c .before .before .before .before .before .before .before .before .before .before .before .before .before .before) .args .places .now) i 0)) ((c .before .before .before .before .before .before .loop) .offsets) ((c .before .before .before .before .before .before .loop) .j) _ (omega (arith, (c .before .before .before .before .before .loop-test) .taken, (c .before .before .before .before .before .before .loop) .inv .1 .1 .1 .0, (c .before .before .before .before .before .before .before .before .before .before .before .before .before .before) .pre .offsets-room)) (ap offsetIn ((c .token-word) .ensures) ∙ ap (offsetAt ((c .before .before .before .before .before .before .before .before .before .before .before .before .before .before) .args .work .now)) ((c .before .before .before .wide) .ensures)) ((c .before .before .before .before .before .before .loop) .inv .1 .1 .1 .1 .1 .1)))))))
+loop-again c = (
+  omega (arith, (c .before .before .before .before .before .loop-test) .taken),
+  (
+    simp length-set ((c .before .before .before .before .before .before .loop) .inv .1 .0),
+    (
+      simp length-set ((c .before .before .before .before .before .before .loop) .inv .1 .1 .0),
+      (
+        simp length-set ((c .before .before .before .before .before .before .loop) .inv .1 .1 .1 .0),
+        (
+          filled-more (λ i. getD ((c .before .before .before .before .before .before .before .before .before .before .before .before .before .before) .args .refs .now)
+              (getD ((c .before .before .before .before .before .before .before .before .before .before .before .before .before .before) .args .places .now) i 0) 0)
+              ((c .before .before .before .before .before .before .loop) .order) ((c .before .before .before .before .before .before .loop) .j) _
+              (omega (
+                arith,
+                (c .before .before .before .before .before .loop-test) .taken,
+                (c .before .before .before .before .before .before .loop) .inv .1 .0,
+                (c .before .before .before .before .before .before .before .before .before .before .before .before .before .before) .pre .order-room,
+              ))
+              (ap (λ k. getD ((c .before .before .before .before .before .before .before .before .before .before .before .before .before .before) .args .refs .now) k 0)
+              ((c .before .before .before .wide) .ensures .0)) ((c .before .before .before .before .before .before .loop) .inv .1 .1 .1 .1 .0),
+          (
+            filled-more (λ i. enumerationFor ((c .before .before .before .before .before .before .before .before .before .before .before .before .before .before) .args .work .now)
+                ((c .before .before .before .before .before .before .before .before .before .before .before .before .before .before) .args .refs .now)
+                ((c .before .before .before .before .before .before .before .before .before .before .before .before .before .before) .args .found .now)
+                (getD ((c .before .before .before .before .before .before .before .before .before .before .before .before .before .before) .args .places .now) i 0))
+                ((c .before .before .before .before .before .before .loop) .enumerations) ((c .before .before .before .before .before .before .loop) .j) _
+                (omega (
+                  arith,
+                  (c .before .before .before .before .before .loop-test) .taken,
+                  (c .before .before .before .before .before .before .loop) .inv .1 .1 .0,
+                  (c .before .before .before .before .before .before .before .before .before .before .before .before .before .before) .pre .enumerations-room,
+                ))
+                ((c .before .enumeration-for) .ensures ∙ ap (enumerationFor ((c .before .before .before .before .before .before .before .before .before .before .before .before .before .before) .args .work .now)
+                ((c .before .before .before .before .before .before .before .before .before .before .before .before .before .before) .args .refs .now)
+                ((c .before .before .before .before .before .before .before .before .before .before .before .before .before .before) .args .found .now)) ((c .before .before .before .wide) .ensures .0))
+                ((c .before .before .before .before .before .before .loop) .inv .1 .1 .1 .1 .1 .0),
+            filled-more
+                (λ i. offsetAt ((c .before .before .before .before .before .before .before .before .before .before .before .before .before .before) .args .work .now)
+                (getD ((c .before .before .before .before .before .before .before .before .before .before .before .before .before .before) .args .places .now) i 0))
+                ((c .before .before .before .before .before .before .loop) .offsets) ((c .before .before .before .before .before .before .loop) .j) _
+                (omega (
+                  arith,
+                  (c .before .before .before .before .before .loop-test) .taken,
+                  (c .before .before .before .before .before .before .loop) .inv .1 .1 .1 .0,
+                  (c .before .before .before .before .before .before .before .before .before .before .before .before .before .before) .pre .offsets-room,
+                ))
+                (ap offsetIn ((c .token-word) .ensures) ∙ ap (offsetAt ((c .before .before .before .before .before .before .before .before .before .before .before .before .before .before) .args .work .now))
+                ((c .before .before .before .wide) .ensures .0)) ((c .before .before .before .before .before .before .loop) .inv .1 .1 .1 .1 .1 .1),
+          ),
+        ),
+      ),
+    ),
+  ),
+)
 
 same-length : tie.Need-same-length Inv-loop μ-loop
 same-length c = (c .before .loop) .inv .1 .0
@@ -77,7 +180,12 @@ same-length-3 : tie.Need-same-length-3 Inv-loop μ-loop
 same-length-3 c = (c .before .loop) .inv .1 .1 .1 .0
 
 returns : tie.Need-returns Inv-loop μ-loop
-returns c = record { numbers = λ i l. (c .before .loop) .inv .1 .1 .1 .1 .0 i (omega (arith, (c .loop-test) .left)); enumerated = λ i l. (c .before .loop) .inv .1 .1 .1 .1 .1 .0 i (omega (arith, (c .loop-test) .left)); placed = λ i l. (c .before .loop) .inv .1 .1 .1 .1 .1 .1 i (omega (arith, (c .loop-test) .left)) }
+returns c = record {
+  numbers = λ i l. (c .before .loop) .inv .1 .1 .1 .1 .0 i (omega (arith, (c .loop-test) .left));
+  enumerated = λ i l. (c .before .loop) .inv .1 .1 .1 .1 .1 .0 i
+      (omega (arith, (c .loop-test) .left));
+  placed = λ i l. (c .before .loop) .inv .1 .1 .1 .1 .1 .1 i (omega (arith, (c .loop-test) .left));
+}
 
 pub describe-spec : {M : Type 1} → statement M
 describe-spec =

@@ -3,7 +3,6 @@ use mathlib.Core.Path.{ap, _∙_}
 use borrow.Author.Needs.{needs}
 use Rattle.words.specs.Words.{wordAt}
 use Rattle.entries.specs.Stored.{indexOf}
-use borrow.Author.Needs.{needs}
 use Rattle.declarations.proofs.enumeration.token_word.Statement.{statement}
 use Rattle.declarations.proofs.enumeration.token_word.Tie as tie
 

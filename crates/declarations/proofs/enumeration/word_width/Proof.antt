@@ -33,10 +33,13 @@ token-word-requires : tie.Need-token-word-requires Inv-loop μ-loop
 token-word-requires c κs = search needs
 
 returns : tie.Need-returns Inv-loop μ-loop
-returns c = λ text count words l h. ap lengthIn ((c .token-word) .ensures) ∙ scanning-word l words ((c .before .before .before .before .loop) .i) ((c .before .before .before .before .loop) .inv .1 text count words l h) (ap kindOf (sym ((c .before .before .entry-word) .ensures)) ∙ (c .before .if1) .taken)
+returns c = λ text count words l h. ap lengthIn ((c .token-word) .ensures) ∙ scanning-word l words ((c .before .before .before .before .loop) .i)
+    ((c .before .before .before .before .loop) .inv .1 text count words l h) (ap kindOf (sym ((c .before .before .entry-word) .ensures)) ∙ (c .before .if1) .taken)
 
 returns-2 : tie.Need-returns-2 Inv-loop μ-loop
-returns-2 c = λ text count words l h. sym (ap (min longest) (scanning-other l words ((c .before .before .before .before .loop) .i) ((c .before .before .before .before .loop) .inv .1 text count words l h) (λ q. (c .before .if1) .left (ap kindOf ((c .before .before .entry-word) .ensures) ∙ q)) (λ q. (c .if2) .taken (ap kindOf ((c .before .before .entry-word) .ensures) ∙ q))))
+returns-2 c = λ text count words l h. sym (ap (min longest) (scanning-other l words ((c .before .before .before .before .loop) .i)
+    ((c .before .before .before .before .loop) .inv .1 text count words l h) (λ q. (c .before .if1) .left (ap kindOf ((c .before .before .entry-word) .ensures) ∙ q))
+    (λ q. (c .if2) .taken (ap kindOf ((c .before .before .entry-word) .ensures) ∙ q))))
 
 add-i-2 : tie.Need-add-i-2 Inv-loop μ-loop
 add-i-2 c = search needs
@@ -45,7 +48,11 @@ loop-less : tie.Need-loop-less Inv-loop μ-loop
 loop-less c = omega (arith, (c .before .before .before .loop-test) .taken)
 
 loop-again : tie.Need-loop-again Inv-loop μ-loop
-loop-again c = (omega (arith, (c .before .before .before .loop-test) .taken), λ text count words l h. scanning-more l words ((c .before .before .before .before .loop) .i) ((c .before .before .before .before .loop) .inv .1 text count words l h) (ap kindOf (sym ((c .before .before .entry-word) .ensures)) ∙ (c .if2) .left))
+loop-again c = (
+  omega (arith, (c .before .before .before .loop-test) .taken),
+  λ text count words l h. scanning-more l words ((c .before .before .before .before .loop) .i)
+      ((c .before .before .before .before .loop) .inv .1 text count words l h) (ap kindOf (sym ((c .before .before .entry-word) .ensures)) ∙ (c .if2) .left),
+)
 
 returns-3 : tie.Need-returns-3 Inv-loop μ-loop
 returns-3 c = λ text count words l h. sym (ap (min longest) (scanning-past l words ((c .before .loop) .i) ((c .before .loop) .inv .1 text count words l h) ((c .loop-test) .left)))

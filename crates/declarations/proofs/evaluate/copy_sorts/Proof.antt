@@ -31,7 +31,14 @@ loop-less : tie.Need-loop-less Inv-loop μ-loop
 loop-less c = omega (arith, (c .before .loop-test) .taken)
 
 loop-again : tie.Need-loop-again Inv-loop μ-loop
-loop-again c = (omega (arith, (c .before .loop-test) .taken), (simp length-set ((c .before .before .loop) .inv .1 .0), copied-more ((c .before .before .before) .args .from .now) ((c .before .before .loop) .to) ((c .before .before .loop) .i) (omega (arith, (c .before .loop-test) .taken, (c .before .before .loop) .inv .1 .0, (c .before .before .before) .pre .1)) ((c .before .before .loop) .inv .1 .1)))
+loop-again c = (
+  omega (arith, (c .before .loop-test) .taken),
+  (
+    simp length-set ((c .before .before .loop) .inv .1 .0),
+    copied-more ((c .before .before .before) .args .from .now) ((c .before .before .loop) .to) ((c .before .before .loop) .i)
+        (omega (arith, (c .before .loop-test) .taken, (c .before .before .loop) .inv .1 .0, (c .before .before .before) .pre .1)) ((c .before .before .loop) .inv .1 .1),
+  ),
+)
 
 same-length : tie.Need-same-length Inv-loop μ-loop
 same-length c = (c .before .loop) .inv .1 .0

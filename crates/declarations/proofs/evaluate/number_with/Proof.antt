@@ -3,7 +3,6 @@ use mathlib.Core.List.{[]}
 use native.Mathlib.Omega.{arith}
 use borrow.Author.Needs.{needs}
 use Rattle.declarations.specs.Expressions.{expression-fits, workable-ready}
-use borrow.Author.Needs.{needs}
 use Rattle.declarations.proofs.evaluate.number_with.Statement.{statement}
 use Rattle.declarations.proofs.evaluate.number_with.Tie as tie
 
@@ -14,7 +13,24 @@ copy-numbers-requires : tie.Need-copy-numbers-requires
 copy-numbers-requires c κs = search needs
 
 number-at-requires : tie.Need-number-at-requires
-number-at-requires c κs = (workable-ready _ _ _ _ ((c .before .before .before .before .before .before .before .before .before .before .before .copy-sorts) .ensures) ((c .before .before .before .before .before .before .before .copy-numbers) .ensures) ((c .before .before .before .before .before .before .before .before .before .before .before .before .before .before .before .before .before .before .before .before .before .before .before) .pre .0) (omega (arith, (c .before .before .before .before .before .before .before .before .before .before .sorted) .given, (c .before .before .before .before .before .before .before .before .before .before .before .before .before .before .before .before .before .before .before .before .before .before .before) .pre .1 .0)) (omega (arith, (c .before .before .before .before .before .before .counted) .given, (c .before .before .before .before .before .before .before .before .before .before .before .before .before .before .before .before .before .before .before .before .before .before .before) .pre .1 .1 .0)), (c .before .before .before .before .before .before .before .before .before .before .before .before .before .before .before .before .before .before .before .before .before .before .before) .pre .1 .1 .1)
+number-at-requires c κs = (
+  workable-ready _ _ _ _ ((c .before .before .before .before .before .before .before .before .before .before .before .copy-sorts) .ensures)
+      ((c .before .before .before .before .before .before .before .copy-numbers) .ensures)
+      ((c .before .before .before .before .before .before .before .before .before .before .before .before .before .before .before .before .before .before .before .before .before
+      .before .before) .pre .0) (omega (
+        arith,
+        (c .before .before .before .before .before .before .before .before .before .before .sorted) .given,
+        (c .before .before .before .before .before .before .before .before .before .before .before .before .before .before .before .before .before .before .before .before .before
+            .before .before) .pre .1 .0,
+      )) (omega (
+        arith,
+        (c .before .before .before .before .before .before .counted) .given,
+        (c .before .before .before .before .before .before .before .before .before .before .before .before .before .before .before .before .before .before .before .before .before
+            .before .before) .pre .1 .1 .0,
+      )),
+  (c .before .before .before .before .before .before .before .before .before .before .before .before .before .before .before .before .before .before .before
+      .before .before .before .before) .pre .1 .1 .1,
+)
 
 same-length : tie.Need-same-length
 same-length c = search needs
@@ -32,7 +48,10 @@ same-length-5 : tie.Need-same-length-5
 same-length-5 c = search needs
 
 returns : tie.Need-returns
-returns c = λ W d e h. (c .before .before .before .before .before .before .before .before .before .before .number-at) .ensures .says W [] d e (expression-fits _ _ _ _ ((c .before .before .before .before .before .before .before .before .before .before .before .before .before .before .before .before .before .before .before .before .before .before .copy-sorts) .ensures) ((c .before .before .before .before .before .before .before .before .before .before .before .before .before .before .before .before .before .before .copy-numbers) .ensures) W d e h)
+returns c = λ W d e h. (c .before .before .before .before .before .before .before .before .before .before .number-at) .ensures .says W [] d e
+    (expression-fits _ _ _ _ ((c .before .before .before .before .before .before .before .before .before .before .before .before .before .before .before .before .before .before .before .before
+    .before .before .copy-sorts) .ensures) ((c .before .before .before .before .before .before .before .before .before .before .before .before .before .before .before .before
+    .before .before .copy-numbers) .ensures) W d e h)
 
 pub number-with-spec : {M : Type 1} → statement M
 number-with-spec =

@@ -3,7 +3,6 @@ use native.Mathlib.Omega.{arith}
 use borrow.Author.Needs.{needs}
 use Rattle.notes.specs.FirstTable.{firstTable}
 use Rattle.declarations.specs.Stages.{parameters-fit, parameters-given}
-use borrow.Author.Needs.{needs}
 use Rattle.declarations.proofs.stages.globals.Statement.{statement}
 use Rattle.declarations.proofs.stages.globals.Tie as tie
 
@@ -14,7 +13,25 @@ choose-requires : tie.Need-choose-requires
 choose-requires c κs = search needs
 
 parameters-requires : tie.Need-parameters-requires
-parameters-requires c κs = parameters-given ((c .before .before .before .before .before .before .before .before .before .before .before .before .before .before .before .before .before .before .before .before .before .before .before .before .before) .args .places .now) _ ((c .before .before .before .before .before .before .before .choose) .result) _ _ _ ((c .before .before .before .before .before .before .before .before .before .before .before .before .before .before .before .before .before .before .before .before .before .before .before .before .before) .pre .1 .0) ((c .before .before .before .before .before .before .places) .given) ((c .before .before .before .before .before .before .before .choose) .ensures) ((c .before .before .before .before .before .before .before .before .before .before .before .before .before .note-names) .ensures) (omega (arith, (c .before .before .before .before .before .before .before .before .before .before .before .before .sorts) .given, (c .before .before .before .before .before .before .before .before .before .before .before .before .before .before .before .before .before .before .before .before .before .before .before .before .before) .pre .1 .1 .0)) (omega (arith, (c .before .before .before .before .before .before .before .before .before .before .numbers) .given, (c .before .before .before .before .before .before .before .before .before .before .before .before .before .before .before .before .before .before .before .before .before .before .before .before .before) .pre .1 .1 .1 .0)) ((c .before .before .before .before .before .before .before .before .before .before .before .before .before .before .before .before .before .before .before .before .before .before .before .before .before) .pre .1 .1 .1 .1) ((c .before .before .before .before .before .before .before .before .before .before .before .before .before .before .before .before .before .before .before .before .before .before .before .before .before) .pre .0)
+parameters-requires c κs = parameters-given ((c .before .before .before .before .before .before .before .before .before .before .before .before .before .before .before .before .before .before .before
+    .before .before .before .before .before .before) .args .places .now) _ ((c .before .before .before .before .before .before .before .choose) .result) _ _ _
+    ((c .before .before .before .before .before .before .before .before .before .before .before .before .before .before .before .before .before .before .before .before .before .before .before
+    .before .before) .pre .1 .0) ((c .before .before .before .before .before .before .places) .given) ((c .before .before .before .before .before .before .before .choose) .ensures)
+    ((c .before .before .before .before .before .before .before .before .before .before .before .before .before .note-names) .ensures)
+    (omega (
+      arith,
+      (c .before .before .before .before .before .before .before .before .before .before .before .before .sorts) .given,
+      (c .before .before .before .before .before .before .before .before .before .before .before .before .before .before .before .before .before .before .before .before .before .before .before
+          .before .before) .pre .1 .1 .0,
+    )) (omega (
+      arith,
+      (c .before .before .before .before .before .before .before .before .before .before .numbers) .given,
+      (c .before .before .before .before .before .before .before .before .before .before .before .before .before .before .before .before .before .before .before .before .before .before .before
+          .before .before) .pre .1 .1 .1 .0,
+    )) ((c .before .before .before .before .before .before .before .before .before .before .before .before .before .before .before .before .before .before .before
+    .before .before .before .before .before .before) .pre .1 .1 .1 .1)
+    ((c .before .before .before .before .before .before .before .before .before .before .before .before .before .before .before .before .before .before .before .before .before .before .before
+    .before .before) .pre .0)
 
 same-length : tie.Need-same-length
 same-length c = search needs
@@ -32,7 +49,15 @@ same-length-5 : tie.Need-same-length-5
 same-length-5 c = search needs
 
 returns : tie.Need-returns
-returns c = λ x t. (c .before .before .before .before .before .before .before .before .parameters) .ensures x (firstTable x) (parameters-fit ((c .before .before .before .before .before .before .before .before .before .before .before .before .before .before .before .before .before .before .before .before .before .before .before .before .before .before .before .before .before .before .before .before .before .before) .args .places .now) _ ((c .before .before .before .before .before .before .before .before .before .before .before .before .before .before .before .before .choose) .result) _ _ ((c .before .before .before .before .before .before .before .before .before .before .before .before .before .before .before .before .before .before .before .before .before .before .before .before .before .before .before .before .before .before .before .before .before .before) .pre .1 .0) ((c .before .before .before .before .before .before .before .before .before .before .before .before .before .before .before .before .choose) .ensures) ((c .before .before .before .before .before .before .before .before .before .before .before .before .before .before .before .before .before .before .before .before .before .before .note-names) .ensures) x t)
+returns c = λ x t. (c .before .before .before .before .before .before .before .before .parameters) .ensures x (firstTable x)
+    (parameters-fit ((c .before .before .before .before .before .before .before .before .before .before .before .before .before .before .before .before .before .before .before .before .before .before
+    .before .before .before .before .before .before .before .before .before .before .before .before) .args .places .now) _
+    ((c .before .before .before .before .before .before .before .before .before .before .before .before .before .before .before .before .choose) .result) _ _
+    ((c .before .before .before .before .before .before .before .before .before .before .before .before .before .before .before .before .before .before .before .before .before .before .before .before
+    .before .before .before .before .before .before .before .before .before .before) .pre .1 .0)
+    ((c .before .before .before .before .before .before .before .before .before .before .before .before .before .before .before .before .choose) .ensures)
+    ((c .before .before .before .before .before .before .before .before .before .before .before .before .before .before .before .before .before .before .before .before
+    .before .before .note-names) .ensures) x t)
 
 pub globals-spec : {M : Type 1} → statement M
 globals-spec =

@@ -14,13 +14,45 @@ use Rattle.declarations.proofs.turns.turns.Statement.{statement}
 use Rattle.declarations.proofs.turns.turns.Tie as tie
 
 abbrev Inv-loop : tie.InvT-loop
-Inv-loop text work refs places enumerations from to sorts₀ numbers₀ kept₀ slots₀ widths₀ j₀ sorts numbers kept slots widths j = (length sorts ≡ length sorts₀) × ((length numbers ≡ length numbers₀) × ((length kept ≡ length kept₀) × ((length slots ≡ length slots₀) × ((length widths ≡ length widths₀) × ((from ≤ j) × (Before from widths₀ widths × ((found : List ℕ) (entries names : ℕ) (x : Spec) (output : Bool) (ds : List Declaration) (d : Table) → Declared text work refs found entries names places enumerations from to sorts₀ numbers₀ x ds d → Turning text work refs found entries names places enumerations from to x output ds d j sorts numbers widths)))))))
+Inv-loop text work refs places enumerations from to sorts₀ numbers₀ kept₀ slots₀ widths₀ j₀ sorts numbers kept slots widths j = (length sorts ≡ length sorts₀) ×
+    ((length numbers ≡ length numbers₀) × ((length kept ≡ length kept₀) ×
+    ((length slots ≡ length slots₀) × ((length widths ≡ length widths₀) ×
+    ((from ≤ j) × (Before from widths₀ widths × ((found : List ℕ) (entries names : ℕ) (x : Spec) (output : Bool) (ds : List Declaration) (d : Table)
+    → Declared text work refs found entries names places enumerations from to sorts₀ numbers₀ x ds d
+    → Turning text work refs found entries names places enumerations from to x output ds d j sorts numbers widths)))))))
 
 abbrev μ-loop : tie.MeasureT-loop
 μ-loop text work refs places enumerations from to sorts₀ numbers₀ kept₀ slots₀ widths₀ j₀ sorts numbers kept slots widths j = to - j
 
 loop-holds : tie.Need-loop-holds Inv-loop μ-loop
-loop-holds c = (refl, (refl, (refl, (refl, (refl, (omega arith, ((λ i l. refl), λ f n m x o ds d h. turning-starts ((c .before .before .before .before .before .before .before .before .before .before) .args .text .now) ((c .before .before .before .before .before .before .before .before .before .before) .args .work .now) ((c .before .before .before .before .before .before .before .before .before .before) .args .refs .now) f n m ((c .before .before .before .before .before .before .before .before .before .before) .args .places .now) ((c .before .before .before .before .before .before .before .before .before .before) .args .enumerations .now) ((c .before .before .before .before .before .before .before .before .before .before) .args .from) ((c .before .before .before .before .before .before .before .before .before .before) .args .to) x o ds d _ _ _ h)))))))
+loop-holds c = (
+  refl,
+  (
+    refl,
+    (
+      refl,
+      (
+        refl,
+        (
+          refl,
+          (
+            omega arith,
+            (
+              (λ i l. refl),
+              λ f n m x o ds d h. turning-starts ((c .before .before .before .before .before .before .before .before .before .before) .args .text .now)
+                  ((c .before .before .before .before .before .before .before .before .before .before) .args .work .now)
+                  ((c .before .before .before .before .before .before .before .before .before .before) .args .refs .now) f n m
+                  ((c .before .before .before .before .before .before .before .before .before .before) .args .places .now)
+                  ((c .before .before .before .before .before .before .before .before .before .before) .args .enumerations .now)
+                  ((c .before .before .before .before .before .before .before .before .before .before) .args .from) ((c .before .before .before .before .before .before .before .before .before .before) .args .to) x
+                  o ds d _ _ _ h,
+            ),
+          ),
+        ),
+      ),
+    ),
+  ),
+)
 
 mul-wide : tie.Need-mul-wide Inv-loop μ-loop
 mul-wide c = omega (arith, (c .loop-test) .taken, (c .before .before .before .before .before .before .before .before .before .before .before .before) .pre .places-room)
@@ -32,25 +64,130 @@ wide-requires : tie.Need-wide-requires Inv-loop μ-loop
 wide-requires c κs = search needs
 
 mul-wide-2 : tie.Need-mul-wide-2 Inv-loop μ-loop
-mul-wide-2 c = omega (arith, (c .before .before .loop-test) .taken, (c .before .before .before .before .before .before .before .before .before .before .before .before .before .before) .pre .places-room)
+mul-wide-2 c = omega (
+  arith,
+  (c .before .before .loop-test) .taken,
+  (c .before .before .before .before .before .before .before .before .before .before .before .before .before .before) .pre .places-room,
+)
 
 shared-slice-read-wide-2 : tie.Need-shared-slice-read-wide-2 Inv-loop μ-loop
-shared-slice-read-wide-2 c = omega (arith, (c .before .before .before .loop-test) .taken, (c .before .before .before .before .before .before .before .before .before .before .before .before .before .before .before) .pre .enumerations-room)
+shared-slice-read-wide-2 c = omega (
+  arith,
+  (c .before .before .before .loop-test) .taken,
+  (c .before .before .before .before .before .before .before .before .before .before .before .before .before .before .before) .pre .enumerations-room,
+)
 
 wide-requires-2 : tie.Need-wide-requires-2 Inv-loop μ-loop
 wide-requires-2 c κs = search needs
 
 mul-wide-3 : tie.Need-mul-wide-3 Inv-loop μ-loop
-mul-wide-3 c = let i : (c .before .before .wide) .result < maxTokens = subst (λ n. n < maxTokens) (sym ((c .before .before .wide) .ensures)) (next-inside ((c .before .before .before .before .before .before .before .before .before .before .before .before .before .before .before .before) .args .text .now) ((c .before .before .before .before .before .before .before .before .before .before .before .before .before .before .before .before) .args .work .now) ((c .before .before .before .before .before .before .before .before .before .before .before .before .before .before .before .before) .args .refs .now) ((c .before .before .before .before .before .before .before .before .before .before .before .before .before .before .before .before) .pre .found) ((c .before .before .before .before .before .before .before .before .before .before .before .before .before .before .before .before) .pre .entries) ((c .before .before .before .before .before .before .before .before .before .before .before .before .before .before .before .before) .pre .names) ((c .before .before .before .before .before .before .before .before .before .before .before .before .before .before .before .before) .args .places .now) ((c .before .before .before .before .before .before .before .before .before .before .before .before .before .before .before .before) .args .enumerations .now) ((c .before .before .before .before .before .before .before .before .before .before .before .before .before .before .before .before) .args .from) ((c .before .before .before .before .before .before .before .before .before .before .before .before .before .before .before .before) .args .to) ((c .before .before .before .before .before .before .before .before .before .before .before .before .before .before .before .before) .pre .x) true ((c .before .before .before .before .before .before .before .before .before .before .before .before .before .before .before .before) .pre .ds) ((c .before .before .before .before .before .before .before .before .before .before .before .before .before .before .before .before) .pre .d) ((c .before .before .before .before .before .loop) .j) ((c .before .before .before .before .before .loop) .sorts) ((c .before .before .before .before .before .loop) .numbers) ((c .before .before .before .before .before .loop) .widths) ((c .before .before .before .before .loop-test) .taken) ((c .before .before .before .before .before .loop) .inv .1 .1 .1 .1 .1 .1 .1 ((c .before .before .before .before .before .before .before .before .before .before .before .before .before .before .before .before) .pre .found) ((c .before .before .before .before .before .before .before .before .before .before .before .before .before .before .before .before) .pre .entries) ((c .before .before .before .before .before .before .before .before .before .before .before .before .before .before .before .before) .pre .names) ((c .before .before .before .before .before .before .before .before .before .before .before .before .before .before .before .before) .pre .x) true ((c .before .before .before .before .before .before .before .before .before .before .before .before .before .before .before .before) .pre .ds) ((c .before .before .before .before .before .before .before .before .before .before .before .before .before .before .before .before) .pre .d) ((c .before .before .before .before .before .before .before .before .before .before .before .before .before .before .before .before) .pre .declared))) in omega arith
+mul-wide-3 c = let i : (c .before .before .wide) .result < maxTokens = subst (λ n. n < maxTokens) (sym ((c .before .before .wide) .ensures .0))
+    (next-inside ((c .before .before .before .before .before .before .before .before .before .before .before .before .before .before .before .before) .args .text .now)
+    ((c .before .before .before .before .before .before .before .before .before .before .before .before .before .before .before .before) .args .work .now)
+    ((c .before .before .before .before .before .before .before .before .before .before .before .before .before .before .before .before) .args .refs .now)
+    ((c .before .before .before .before .before .before .before .before .before .before .before .before .before .before .before .before) .pre .found)
+    ((c .before .before .before .before .before .before .before .before .before .before .before .before .before .before .before .before) .pre .entries)
+    ((c .before .before .before .before .before .before .before .before .before .before .before .before .before .before .before .before) .pre .names)
+    ((c .before .before .before .before .before .before .before .before .before .before .before .before .before .before .before .before) .args .places .now)
+    ((c .before .before .before .before .before .before .before .before .before .before .before .before .before .before .before .before) .args .enumerations .now)
+    ((c .before .before .before .before .before .before .before .before .before .before .before .before .before .before .before .before) .args .from)
+    ((c .before .before .before .before .before .before .before .before .before .before .before .before .before .before .before .before) .args .to)
+    ((c .before .before .before .before .before .before .before .before .before .before .before .before .before .before .before .before) .pre .x) true
+    ((c .before .before .before .before .before .before .before .before .before .before .before .before .before .before .before .before) .pre .ds)
+    ((c .before .before .before .before .before .before .before .before .before .before .before .before .before .before .before .before) .pre .d)
+    ((c .before .before .before .before .before .loop) .j) ((c .before .before .before .before .before .loop) .sorts) ((c .before .before .before .before .before .loop) .numbers)
+    ((c .before .before .before .before .before .loop) .widths) ((c .before .before .before .before .loop-test) .taken)
+    ((c .before .before .before .before .before .loop) .inv .1 .1 .1 .1 .1 .1 .1
+    ((c .before .before .before .before .before .before .before .before .before .before .before .before .before .before .before .before) .pre .found)
+    ((c .before .before .before .before .before .before .before .before .before .before .before .before .before .before .before .before) .pre .entries)
+    ((c .before .before .before .before .before .before .before .before .before .before .before .before .before .before .before .before) .pre .names)
+    ((c .before .before .before .before .before .before .before .before .before .before .before .before .before .before .before .before) .pre .x) true
+    ((c .before .before .before .before .before .before .before .before .before .before .before .before .before .before .before .before) .pre .ds)
+    ((c .before .before .before .before .before .before .before .before .before .before .before .before .before .before .before .before) .pre .d)
+    ((c .before .before .before .before .before .before .before .before .before .before .before .before .before .before .before .before) .pre .declared))) in omega arith
 
 shared-slice-read-wide-3 : tie.Need-shared-slice-read-wide-3 Inv-loop μ-loop
-shared-slice-read-wide-3 c = let i : (c .before .before .before .wide) .result < maxTokens = subst (λ n. n < maxTokens) (sym ((c .before .before .before .wide) .ensures)) (next-inside ((c .before .before .before .before .before .before .before .before .before .before .before .before .before .before .before .before .before) .args .text .now) ((c .before .before .before .before .before .before .before .before .before .before .before .before .before .before .before .before .before) .args .work .now) ((c .before .before .before .before .before .before .before .before .before .before .before .before .before .before .before .before .before) .args .refs .now) ((c .before .before .before .before .before .before .before .before .before .before .before .before .before .before .before .before .before) .pre .found) ((c .before .before .before .before .before .before .before .before .before .before .before .before .before .before .before .before .before) .pre .entries) ((c .before .before .before .before .before .before .before .before .before .before .before .before .before .before .before .before .before) .pre .names) ((c .before .before .before .before .before .before .before .before .before .before .before .before .before .before .before .before .before) .args .places .now) ((c .before .before .before .before .before .before .before .before .before .before .before .before .before .before .before .before .before) .args .enumerations .now) ((c .before .before .before .before .before .before .before .before .before .before .before .before .before .before .before .before .before) .args .from) ((c .before .before .before .before .before .before .before .before .before .before .before .before .before .before .before .before .before) .args .to) ((c .before .before .before .before .before .before .before .before .before .before .before .before .before .before .before .before .before) .pre .x) true ((c .before .before .before .before .before .before .before .before .before .before .before .before .before .before .before .before .before) .pre .ds) ((c .before .before .before .before .before .before .before .before .before .before .before .before .before .before .before .before .before) .pre .d) ((c .before .before .before .before .before .before .loop) .j) ((c .before .before .before .before .before .before .loop) .sorts) ((c .before .before .before .before .before .before .loop) .numbers) ((c .before .before .before .before .before .before .loop) .widths) ((c .before .before .before .before .before .loop-test) .taken) ((c .before .before .before .before .before .before .loop) .inv .1 .1 .1 .1 .1 .1 .1 ((c .before .before .before .before .before .before .before .before .before .before .before .before .before .before .before .before .before) .pre .found) ((c .before .before .before .before .before .before .before .before .before .before .before .before .before .before .before .before .before) .pre .entries) ((c .before .before .before .before .before .before .before .before .before .before .before .before .before .before .before .before .before) .pre .names) ((c .before .before .before .before .before .before .before .before .before .before .before .before .before .before .before .before .before) .pre .x) true ((c .before .before .before .before .before .before .before .before .before .before .before .before .before .before .before .before .before) .pre .ds) ((c .before .before .before .before .before .before .before .before .before .before .before .before .before .before .before .before .before) .pre .d) ((c .before .before .before .before .before .before .before .before .before .before .before .before .before .before .before .before .before) .pre .declared))) in omega (arith, (c .before .before .before .before .before .before .before .before .before .before .before .before .before .before .before .before .before) .pre .room .refs-room)
+shared-slice-read-wide-3 c = let i : (c .before .before .before .wide) .result < maxTokens = subst (λ n. n < maxTokens) (sym ((c .before .before .before .wide) .ensures .0))
+    (next-inside ((c .before .before .before .before .before .before .before .before .before .before .before .before .before .before .before .before .before) .args .text .now)
+    ((c .before .before .before .before .before .before .before .before .before .before .before .before .before .before .before .before .before) .args .work .now)
+    ((c .before .before .before .before .before .before .before .before .before .before .before .before .before .before .before .before .before) .args .refs .now)
+    ((c .before .before .before .before .before .before .before .before .before .before .before .before .before .before .before .before .before) .pre .found)
+    ((c .before .before .before .before .before .before .before .before .before .before .before .before .before .before .before .before .before) .pre .entries)
+    ((c .before .before .before .before .before .before .before .before .before .before .before .before .before .before .before .before .before) .pre .names)
+    ((c .before .before .before .before .before .before .before .before .before .before .before .before .before .before .before .before .before) .args .places .now)
+    ((c .before .before .before .before .before .before .before .before .before .before .before .before .before .before .before .before .before) .args .enumerations .now)
+    ((c .before .before .before .before .before .before .before .before .before .before .before .before .before .before .before .before .before) .args .from)
+    ((c .before .before .before .before .before .before .before .before .before .before .before .before .before .before .before .before .before) .args .to)
+    ((c .before .before .before .before .before .before .before .before .before .before .before .before .before .before .before .before .before) .pre .x) true
+    ((c .before .before .before .before .before .before .before .before .before .before .before .before .before .before .before .before .before) .pre .ds)
+    ((c .before .before .before .before .before .before .before .before .before .before .before .before .before .before .before .before .before) .pre .d)
+    ((c .before .before .before .before .before .before .loop) .j) ((c .before .before .before .before .before .before .loop) .sorts)
+    ((c .before .before .before .before .before .before .loop) .numbers) ((c .before .before .before .before .before .before .loop) .widths)
+    ((c .before .before .before .before .before .loop-test) .taken)
+    ((c .before .before .before .before .before .before .loop) .inv .1 .1 .1 .1 .1 .1 .1
+    ((c .before .before .before .before .before .before .before .before .before .before .before .before .before .before .before .before .before) .pre .found)
+    ((c .before .before .before .before .before .before .before .before .before .before .before .before .before .before .before .before .before) .pre .entries)
+    ((c .before .before .before .before .before .before .before .before .before .before .before .before .before .before .before .before .before) .pre .names)
+    ((c .before .before .before .before .before .before .before .before .before .before .before .before .before .before .before .before .before) .pre .x) true
+    ((c .before .before .before .before .before .before .before .before .before .before .before .before .before .before .before .before .before) .pre .ds)
+    ((c .before .before .before .before .before .before .before .before .before .before .before .before .before .before .before .before .before) .pre .d)
+    ((c .before .before .before .before .before .before .before .before .before .before .before .before .before .before .before .before .before) .pre .declared))) in
+    omega (arith, (c .before .before .before .before .before .before .before .before .before .before .before .before .before .before .before .before .before) .pre .room .refs-room)
 
 wide-requires-3 : tie.Need-wide-requires-3 Inv-loop μ-loop
 wide-requires-3 c κs = search needs
 
 width-of-requires : tie.Need-width-of-requires Inv-loop μ-loop
-width-of-requires c κs = rw ((c .before .before .before .before .before .before .before .before .wide) .ensures, (c .before .before .before .before .before .before .wide2) .ensures) (next-sizable ((c .before .before .before .before .before .before .before .before .before .before .before .before .before .before .before .before .before .before .before .before .before .before) .args .text .now) ((c .before .before .before .before .before .before .before .before .before .before .before .before .before .before .before .before .before .before .before .before .before .before) .args .work .now) ((c .before .before .before .before .before .before .before .before .before .before .before .before .before .before .before .before .before .before .before .before .before .before) .args .refs .now) ((c .before .before .before .before .before .before .before .before .before .before .before .before .before .before .before .before .before .before .before .before .before .before) .pre .found) ((c .before .before .before .before .before .before .before .before .before .before .before .before .before .before .before .before .before .before .before .before .before .before) .pre .entries) ((c .before .before .before .before .before .before .before .before .before .before .before .before .before .before .before .before .before .before .before .before .before .before) .pre .names) ((c .before .before .before .before .before .before .before .before .before .before .before .before .before .before .before .before .before .before .before .before .before .before) .args .places .now) ((c .before .before .before .before .before .before .before .before .before .before .before .before .before .before .before .before .before .before .before .before .before .before) .args .enumerations .now) ((c .before .before .before .before .before .before .before .before .before .before .before .before .before .before .before .before .before .before .before .before .before .before) .args .from) ((c .before .before .before .before .before .before .before .before .before .before .before .before .before .before .before .before .before .before .before .before .before .before) .args .to) ((c .before .before .before .before .before .before .before .before .before .before .before .before .before .before .before .before .before .before .before .before .before .before) .pre .x) true ((c .before .before .before .before .before .before .before .before .before .before .before .before .before .before .before .before .before .before .before .before .before .before) .pre .ds) ((c .before .before .before .before .before .before .before .before .before .before .before .before .before .before .before .before .before .before .before .before .before .before) .pre .d) ((c .before .before .before .before .before .before .before .before .before .before .before .loop) .j) ((c .before .before .before .before .before .before .before .before .before .before .before .loop) .sorts) ((c .before .before .before .before .before .before .before .before .before .before .before .loop) .numbers) ((c .before .before .before .before .before .before .before .before .before .before .before .loop) .widths) ((c .before .before .before .before .before .before .before .before .before .before .loop-test) .taken) ((c .before .before .before .before .before .before .before .before .before .before .before .loop) .inv .1 .1 .1 .1 .1 .1 .1 ((c .before .before .before .before .before .before .before .before .before .before .before .before .before .before .before .before .before .before .before .before .before .before) .pre .found) ((c .before .before .before .before .before .before .before .before .before .before .before .before .before .before .before .before .before .before .before .before .before .before) .pre .entries) ((c .before .before .before .before .before .before .before .before .before .before .before .before .before .before .before .before .before .before .before .before .before .before) .pre .names) ((c .before .before .before .before .before .before .before .before .before .before .before .before .before .before .before .before .before .before .before .before .before .before) .pre .x) true ((c .before .before .before .before .before .before .before .before .before .before .before .before .before .before .before .before .before .before .before .before .before .before) .pre .ds) ((c .before .before .before .before .before .before .before .before .before .before .before .before .before .before .before .before .before .before .before .before .before .before) .pre .d) ((c .before .before .before .before .before .before .before .before .before .before .before .before .before .before .before .before .before .before .before .before .before .before) .pre .declared)) _ (record { refs-room = (c .before .before .before .before .before .before .before .before .before .before .before .before .before .before .before .before .before .before .before .before .before .before) .pre .room .refs-room; sorts-room = omega (arith, (c .before .before .before .before .before .before .before .before .before .before .before .loop) .inv .0, (c .before .before .before .before .before .before .before .before .before .before .before .before .before .before .before .before .before .before .before .before .before .before) .pre .room .sorts-room); numbers-room = omega (arith, (c .before .before .before .before .before .before .before .before .before .before .before .loop) .inv .1 .0, (c .before .before .before .before .before .before .before .before .before .before .before .before .before .before .before .before .before .before .before .before .before .before) .pre .room .numbers-room); slots-room = omega (arith, (c .before .before .before .before .before .before .before .before .before .before .before .loop) .inv .1 .1 .1 .0, (c .before .before .before .before .before .before .before .before .before .before .before .before .before .before .before .before .before .before .before .before .before .before) .pre .room .slots-room) }))
+width-of-requires c κs = rw ((c .before .before .before .before .before .before .before .before .wide) .ensures .0, (c .before .before .before .before .before .before .wide2) .ensures .0)
+    (next-sizable ((c .before .before .before .before .before .before .before .before .before .before .before .before .before .before .before .before .before .before .before .before
+    .before .before) .args .text .now) ((c .before .before .before .before .before .before .before .before .before .before .before .before .before .before .before .before .before .before .before
+    .before .before .before) .args .work .now) ((c .before .before .before .before .before .before .before .before .before .before .before .before .before .before .before .before .before .before
+    .before .before .before .before) .args .refs .now) ((c .before .before .before .before .before .before .before .before .before .before .before .before .before .before .before .before .before
+    .before .before .before .before .before) .pre .found) ((c .before .before .before .before .before .before .before .before .before .before .before .before .before .before .before .before .before
+    .before .before .before .before .before) .pre .entries) ((c .before .before .before .before .before .before .before .before .before .before .before .before .before .before .before .before .before
+    .before .before .before .before .before) .pre .names) ((c .before .before .before .before .before .before .before .before .before .before .before .before .before .before .before .before .before
+    .before .before .before .before .before) .args .places .now) ((c .before .before .before .before .before .before .before .before .before .before .before .before .before .before .before .before
+    .before .before .before .before .before .before) .args .enumerations .now)
+    ((c .before .before .before .before .before .before .before .before .before .before .before .before .before .before .before .before .before .before .before .before .before .before) .args .from)
+    ((c .before .before .before .before .before .before .before .before .before .before .before .before .before .before .before .before .before .before .before .before .before .before) .args .to)
+    ((c .before .before .before .before .before .before .before .before .before .before .before .before .before .before .before .before .before .before .before .before .before .before) .pre .x) true
+    ((c .before .before .before .before .before .before .before .before .before .before .before .before .before .before .before .before .before .before .before .before .before .before) .pre .ds)
+    ((c .before .before .before .before .before .before .before .before .before .before .before .before .before .before .before .before .before .before .before .before .before .before) .pre .d)
+    ((c .before .before .before .before .before .before .before .before .before .before .before .loop) .j)
+    ((c .before .before .before .before .before .before .before .before .before .before .before .loop) .sorts)
+    ((c .before .before .before .before .before .before .before .before .before .before .before .loop) .numbers)
+    ((c .before .before .before .before .before .before .before .before .before .before .before .loop) .widths)
+    ((c .before .before .before .before .before .before .before .before .before .before .loop-test) .taken)
+    ((c .before .before .before .before .before .before .before .before .before .before .before .loop) .inv .1 .1 .1 .1 .1 .1 .1
+    ((c .before .before .before .before .before .before .before .before .before .before .before .before .before .before .before .before .before .before .before .before .before .before) .pre .found)
+    ((c .before .before .before .before .before .before .before .before .before .before .before .before .before .before .before .before .before .before .before .before .before .before) .pre .entries)
+    ((c .before .before .before .before .before .before .before .before .before .before .before .before .before .before .before .before .before .before .before .before .before .before) .pre .names)
+    ((c .before .before .before .before .before .before .before .before .before .before .before .before .before .before .before .before .before .before .before .before .before .before) .pre .x) true
+    ((c .before .before .before .before .before .before .before .before .before .before .before .before .before .before .before .before .before .before .before .before .before .before) .pre .ds)
+    ((c .before .before .before .before .before .before .before .before .before .before .before .before .before .before .before .before .before .before .before .before .before .before) .pre .d)
+    ((c .before .before .before .before .before .before .before .before .before .before .before .before .before .before .before .before .before .before .before .before
+    .before .before) .pre .declared)) _ (record {
+      refs-room = (c .before .before .before .before .before .before .before .before .before .before .before .before .before .before .before .before
+          .before .before .before .before .before .before) .pre .room .refs-room;
+      sorts-room = omega (
+        arith,
+        (c .before .before .before .before .before .before .before .before .before .before .before .loop) .inv .0,
+        (c .before .before .before .before .before .before .before .before .before .before .before .before .before .before .before .before .before .before .before .before
+            .before .before) .pre .room .sorts-room,
+      );
+      numbers-room = omega (
+        arith,
+        (c .before .before .before .before .before .before .before .before .before .before .before .loop) .inv .1 .0,
+        (c .before .before .before .before .before .before .before .before .before .before .before .before .before .before .before .before .before .before .before .before
+            .before .before) .pre .room .numbers-room,
+      );
+      slots-room = omega (
+        arith,
+        (c .before .before .before .before .before .before .before .before .before .before .before .loop) .inv .1 .1 .1 .0,
+        (c .before .before .before .before .before .before .before .before .before .before .before .before .before .before .before .before .before .before .before .before
+            .before .before) .pre .room .slots-room,
+      );
+    }))
 
 enum-known-worked : tie.Need-enum-known-worked Inv-loop μ-loop
 enum-known-worked c = search needs
@@ -65,43 +202,340 @@ same-length-2 : tie.Need-same-length-2 Inv-loop μ-loop
 same-length-2 c = (c .before .before .before .before .before .before .before .before .before .before .before .before .before .before .before .before .before .before .loop) .inv .1 .0
 
 same-length-3 : tie.Need-same-length-3 Inv-loop μ-loop
-same-length-3 c = (c .before .before .before .before .before .kept) .given ∙ (c .before .before .before .before .before .before .before .before .before .before .before .before .before .before .before .before .before .before .loop) .inv .1 .1 .0
+same-length-3 c = (c .before .before .before .before .before .kept) .given ∙
+    (c .before .before .before .before .before .before .before .before .before .before .before .before .before .before .before .before .before .before .loop) .inv .1 .1 .0
 
 same-length-4 : tie.Need-same-length-4 Inv-loop μ-loop
-same-length-4 c = (c .before .before .before .slots) .given ∙ (c .before .before .before .before .before .before .before .before .before .before .before .before .before .before .before .before .before .before .loop) .inv .1 .1 .1 .0
+same-length-4 c = (c .before .before .before .slots) .given ∙
+    (c .before .before .before .before .before .before .before .before .before .before .before .before .before .before .before .before .before .before .loop) .inv .1 .1 .1 .0
 
 same-length-5 : tie.Need-same-length-5 Inv-loop μ-loop
 same-length-5 c = (c .before .before .before .before .before .before .before .before .before .before .before .before .before .before .before .before .before .before .loop) .inv .1 .1 .1 .1 .0
 
 returns : tie.Need-returns Inv-loop μ-loop
-returns c = ((λ f n m x o ds d h. turning-stopped ((c .before .before .before .before .before .before .before .before .before .before .before .before .before .before .before .before .before .before .before .before .before .before .before .before .before .before .before .before .before) .args .text .now) ((c .before .before .before .before .before .before .before .before .before .before .before .before .before .before .before .before .before .before .before .before .before .before .before .before .before .before .before .before .before) .args .work .now) ((c .before .before .before .before .before .before .before .before .before .before .before .before .before .before .before .before .before .before .before .before .before .before .before .before .before .before .before .before .before) .args .refs .now) f n m ((c .before .before .before .before .before .before .before .before .before .before .before .before .before .before .before .before .before .before .before .before .before .before .before .before .before .before .before .before .before) .args .places .now) ((c .before .before .before .before .before .before .before .before .before .before .before .before .before .before .before .before .before .before .before .before .before .before .before .before .before .before .before .before .before) .args .enumerations .now) ((c .before .before .before .before .before .before .before .before .before .before .before .before .before .before .before .before .before .before .before .before .before .before .before .before .before .before .before .before .before) .args .from) ((c .before .before .before .before .before .before .before .before .before .before .before .before .before .before .before .before .before .before .before .before .before .before .before .before .before .before .before .before .before) .args .to) x o ds d ((c .before .before .before .before .before .before .before .before .before .before .before .before .before .before .before .before .before .before .loop) .j) ((c .before .before .before .before .before .before .before .before .before .before .before .before .before .before .before .before .before .before .loop) .sorts) ((c .before .before .before .before .before .before .before .before .before .before .before .before .before .before .before .before .before .before .loop) .numbers) ((c .before .before .before .before .before .before .before .before .before .before .before .before .before .before .before .before .before .before .loop) .widths) ((c .before .before .before .before .before .before .before .before .before .before .before .before .before .before .before .before .before .loop-test) .taken) ((c .before .before .before .before .before .before .before .before .before .before .before .before .before .before .before .before .before .before .loop) .inv .1 .1 .1 .1 .1 .1 .1 f n m x o ds d h) ((c .before .before .before .before .before .before .before .before .before .before .before .before .before .before .before .wide) .result) ((c .before .before .before .before .before .before .before .before .before .before .before .before .before .wide2) .result) ((c .before .before .before .before .before .before .before .before .before .before .before .before .before .before .before .wide) .ensures) ((c .before .before .before .before .before .before .before .before .before .before .before .before .before .wide2) .ensures) ((c .before .before .before .before .before .before .width-of) .result) ((c .before .before .before .before .before .before .width-of) .ensures) _ _ ((c .enum-told) .given .1)), (c .before .before .before .before .before .before .before .before .before .before .before .before .before .before .before .before .before .before .loop) .inv .1 .1 .1 .1 .1 .1 .0)
+returns c = (
+  (λ f n m x o ds d h. turning-stopped ((c .before .before .before .before .before .before .before .before .before .before .before .before .before .before .before .before .before .before
+      .before .before .before .before .before .before .before .before .before .before .before) .args .text .now)
+      ((c .before .before .before .before .before .before .before .before .before .before .before .before .before .before .before .before .before .before .before .before .before .before .before .before
+      .before .before .before .before .before) .args .work .now) ((c .before .before .before .before .before .before .before .before .before .before .before .before .before .before .before .before
+      .before .before .before .before .before .before .before .before .before .before .before .before .before) .args .refs .now) f n m
+      ((c .before .before .before .before .before .before .before .before .before .before .before .before .before .before .before .before .before .before .before .before .before .before .before .before
+      .before .before .before .before .before) .args .places .now) ((c .before .before .before .before .before .before .before .before .before .before .before .before .before .before .before .before
+      .before .before .before .before .before .before .before .before .before .before .before .before .before) .args .enumerations .now)
+      ((c .before .before .before .before .before .before .before .before .before .before .before .before .before .before .before .before .before .before .before .before .before .before .before .before
+      .before .before .before .before .before) .args .from) ((c .before .before .before .before .before .before .before .before .before .before .before .before .before .before .before .before .before
+      .before .before .before .before .before .before .before .before .before .before .before .before) .args .to) x o ds d
+      ((c .before .before .before .before .before .before .before .before .before .before .before .before .before .before .before .before .before .before .loop) .j)
+      ((c .before .before .before .before .before .before .before .before .before .before .before .before .before .before .before .before .before .before .loop) .sorts)
+      ((c .before .before .before .before .before .before .before .before .before .before .before .before .before .before .before .before .before .before .loop) .numbers)
+      ((c .before .before .before .before .before .before .before .before .before .before .before .before .before .before .before .before .before .before .loop) .widths)
+      ((c .before .before .before .before .before .before .before .before .before .before .before .before .before .before .before .before .before .loop-test) .taken)
+      ((c .before .before .before .before .before .before .before .before .before .before .before .before .before .before .before .before .before .before .loop) .inv .1 .1 .1 .1 .1 .1 .1 f n m x o ds d
+      h) ((c .before .before .before .before .before .before .before .before .before .before .before .before .before .before .before .wide) .result)
+      ((c .before .before .before .before .before .before .before .before .before .before .before .before .before .wide2) .result)
+      ((c .before .before .before .before .before .before .before .before .before .before .before .before .before .before .before .wide) .ensures .0)
+      ((c .before .before .before .before .before .before .before .before .before .before .before .before .before .wide2) .ensures .0)
+      ((c .before .before .before .before .before .before .width-of) .result) ((c .before .before .before .before .before .before .width-of) .ensures) _ _ ((c .enum-told) .given .1)),
+  (c .before .before .before .before .before .before .before .before .before .before .before .before .before .before .before .before .before .before .loop) .inv .1 .1 .1 .1 .1 .1 .0,
+)
 
 sort-of-requires : tie.Need-sort-of-requires Inv-loop μ-loop
 sort-of-requires c κs = search needs
 
 slice-write-sorts : tie.Need-slice-write-sorts Inv-loop μ-loop
-slice-write-sorts c = let i : (c .before .before .before .before .before .before .before .before .before .before .before .before .before .wide3) .result < maxNames = subst (λ n. n < maxNames) (sym ((c .before .before .before .before .before .before .before .before .before .before .before .before .before .wide3) .ensures ∙ ap (λ k. getD ((c .before .before .before .before .before .before .before .before .before .before .before .before .before .before .before .before .before .before .before .before .before .before .before .before .before .before .before .before .before .before .before) .args .refs .now) k 0) ((c .before .before .before .before .before .before .before .before .before .before .before .before .before .before .before .before .before .wide) .ensures))) (next-small ((c .before .before .before .before .before .before .before .before .before .before .before .before .before .before .before .before .before .before .before .before .before .before .before .before .before .before .before .before .before .before .before) .args .text .now) ((c .before .before .before .before .before .before .before .before .before .before .before .before .before .before .before .before .before .before .before .before .before .before .before .before .before .before .before .before .before .before .before) .args .work .now) ((c .before .before .before .before .before .before .before .before .before .before .before .before .before .before .before .before .before .before .before .before .before .before .before .before .before .before .before .before .before .before .before) .args .refs .now) ((c .before .before .before .before .before .before .before .before .before .before .before .before .before .before .before .before .before .before .before .before .before .before .before .before .before .before .before .before .before .before .before) .pre .found) ((c .before .before .before .before .before .before .before .before .before .before .before .before .before .before .before .before .before .before .before .before .before .before .before .before .before .before .before .before .before .before .before) .pre .entries) ((c .before .before .before .before .before .before .before .before .before .before .before .before .before .before .before .before .before .before .before .before .before .before .before .before .before .before .before .before .before .before .before) .pre .names) ((c .before .before .before .before .before .before .before .before .before .before .before .before .before .before .before .before .before .before .before .before .before .before .before .before .before .before .before .before .before .before .before) .args .places .now) ((c .before .before .before .before .before .before .before .before .before .before .before .before .before .before .before .before .before .before .before .before .before .before .before .before .before .before .before .before .before .before .before) .args .enumerations .now) ((c .before .before .before .before .before .before .before .before .before .before .before .before .before .before .before .before .before .before .before .before .before .before .before .before .before .before .before .before .before .before .before) .args .from) ((c .before .before .before .before .before .before .before .before .before .before .before .before .before .before .before .before .before .before .before .before .before .before .before .before .before .before .before .before .before .before .before) .args .to) ((c .before .before .before .before .before .before .before .before .before .before .before .before .before .before .before .before .before .before .before .before .before .before .before .before .before .before .before .before .before .before .before) .pre .x) true ((c .before .before .before .before .before .before .before .before .before .before .before .before .before .before .before .before .before .before .before .before .before .before .before .before .before .before .before .before .before .before .before) .pre .ds) ((c .before .before .before .before .before .before .before .before .before .before .before .before .before .before .before .before .before .before .before .before .before .before .before .before .before .before .before .before .before .before .before) .pre .d) ((c .before .before .before .before .before .before .before .before .before .before .before .before .before .before .before .before .before .before .before .before .loop) .j) ((c .before .before .before .before .before .before .before .before .before .before .before .before .before .before .before .before .before .before .before .before .loop) .sorts) ((c .before .before .before .before .before .before .before .before .before .before .before .before .before .before .before .before .before .before .before .before .loop) .numbers) ((c .before .before .before .before .before .before .before .before .before .before .before .before .before .before .before .before .before .before .before .before .loop) .widths) ((c .before .before .before .before .before .before .before .before .before .before .before .before .before .before .before .before .before .before .before .loop-test) .taken) ((c .before .before .before .before .before .before .before .before .before .before .before .before .before .before .before .before .before .before .before .before .loop) .inv .1 .1 .1 .1 .1 .1 .1 ((c .before .before .before .before .before .before .before .before .before .before .before .before .before .before .before .before .before .before .before .before .before .before .before .before .before .before .before .before .before .before .before) .pre .found) ((c .before .before .before .before .before .before .before .before .before .before .before .before .before .before .before .before .before .before .before .before .before .before .before .before .before .before .before .before .before .before .before) .pre .entries) ((c .before .before .before .before .before .before .before .before .before .before .before .before .before .before .before .before .before .before .before .before .before .before .before .before .before .before .before .before .before .before .before) .pre .names) ((c .before .before .before .before .before .before .before .before .before .before .before .before .before .before .before .before .before .before .before .before .before .before .before .before .before .before .before .before .before .before .before) .pre .x) true ((c .before .before .before .before .before .before .before .before .before .before .before .before .before .before .before .before .before .before .before .before .before .before .before .before .before .before .before .before .before .before .before) .pre .ds) ((c .before .before .before .before .before .before .before .before .before .before .before .before .before .before .before .before .before .before .before .before .before .before .before .before .before .before .before .before .before .before .before) .pre .d) ((c .before .before .before .before .before .before .before .before .before .before .before .before .before .before .before .before .before .before .before .before .before .before .before .before .before .before .before .before .before .before .before) .pre .declared))) in omega (arith, (c .before .before .before .before .before .before .before .before .before .before .before .before .before .before .before .before .before .before .before .before .loop) .inv .0, (c .before .before .before .before .before .before .before .before .before .before .before .before .before .before .before .before .before .before .before .before .before .before .before .before .before .before .before .before .before .before .before) .pre .room .sorts-room)
+slice-write-sorts c = let i : (c .before .before .before .before .before .before .before .before .before .before .before .before .before .wide3) .result < maxNames = subst (λ n. n < maxNames)
+    (sym ((c .before .before .before .before .before .before .before .before .before .before .before .before .before .wide3) .ensures .0 ∙ ap
+    (λ k. getD ((c .before .before .before .before .before .before .before .before .before .before .before .before .before .before .before .before .before .before .before .before .before .before
+    .before .before .before .before .before .before .before .before .before) .args .refs .now) k 0)
+    ((c .before .before .before .before .before .before .before .before .before .before .before .before .before .before .before .before .before .wide) .ensures .0)))
+    (next-small ((c .before .before .before .before .before .before .before .before .before .before .before .before .before .before .before .before .before .before .before .before .before .before
+    .before .before .before .before .before .before .before .before .before) .args .text .now)
+    ((c .before .before .before .before .before .before .before .before .before .before .before .before .before .before .before .before .before .before .before .before .before .before .before .before
+    .before .before .before .before .before .before .before) .args .work .now)
+    ((c .before .before .before .before .before .before .before .before .before .before .before .before .before .before .before .before .before .before .before .before .before .before .before .before
+    .before .before .before .before .before .before .before) .args .refs .now)
+    ((c .before .before .before .before .before .before .before .before .before .before .before .before .before .before .before .before .before .before .before .before .before .before .before .before
+    .before .before .before .before .before .before .before) .pre .found)
+    ((c .before .before .before .before .before .before .before .before .before .before .before .before .before .before .before .before .before .before .before .before .before .before .before .before
+    .before .before .before .before .before .before .before) .pre .entries)
+    ((c .before .before .before .before .before .before .before .before .before .before .before .before .before .before .before .before .before .before .before .before .before .before .before .before
+    .before .before .before .before .before .before .before) .pre .names)
+    ((c .before .before .before .before .before .before .before .before .before .before .before .before .before .before .before .before .before .before .before .before .before .before .before .before
+    .before .before .before .before .before .before .before) .args .places .now)
+    ((c .before .before .before .before .before .before .before .before .before .before .before .before .before .before .before .before .before .before .before .before .before .before .before .before
+    .before .before .before .before .before .before .before) .args .enumerations .now)
+    ((c .before .before .before .before .before .before .before .before .before .before .before .before .before .before .before .before .before .before .before .before .before .before .before .before
+    .before .before .before .before .before .before .before) .args .from)
+    ((c .before .before .before .before .before .before .before .before .before .before .before .before .before .before .before .before .before .before .before .before .before .before .before .before
+    .before .before .before .before .before .before .before) .args .to)
+    ((c .before .before .before .before .before .before .before .before .before .before .before .before .before .before .before .before .before .before .before .before .before .before .before .before
+    .before .before .before .before .before .before .before) .pre .x) true
+    ((c .before .before .before .before .before .before .before .before .before .before .before .before .before .before .before .before .before .before .before .before .before .before .before .before
+    .before .before .before .before .before .before .before) .pre .ds)
+    ((c .before .before .before .before .before .before .before .before .before .before .before .before .before .before .before .before .before .before .before .before .before .before .before .before
+    .before .before .before .before .before .before .before) .pre .d)
+    ((c .before .before .before .before .before .before .before .before .before .before .before .before .before .before .before .before .before .before .before .before .loop) .j)
+    ((c .before .before .before .before .before .before .before .before .before .before .before .before .before .before .before .before .before .before .before .before .loop) .sorts)
+    ((c .before .before .before .before .before .before .before .before .before .before .before .before .before .before .before .before .before .before .before .before .loop) .numbers)
+    ((c .before .before .before .before .before .before .before .before .before .before .before .before .before .before .before .before .before .before .before .before .loop) .widths)
+    ((c .before .before .before .before .before .before .before .before .before .before .before .before .before .before .before .before .before .before .before .loop-test) .taken)
+    ((c .before .before .before .before .before .before .before .before .before .before .before .before .before .before .before .before .before .before
+    .before .before .loop) .inv .1 .1 .1 .1 .1 .1 .1 ((c .before .before .before .before .before .before .before .before .before .before .before .before .before .before .before .before .before
+    .before .before .before .before .before .before .before .before .before .before .before .before .before .before) .pre .found)
+    ((c .before .before .before .before .before .before .before .before .before .before .before .before .before .before .before .before .before .before .before .before .before .before .before .before
+    .before .before .before .before .before .before .before) .pre .entries)
+    ((c .before .before .before .before .before .before .before .before .before .before .before .before .before .before .before .before .before .before .before .before .before .before .before .before
+    .before .before .before .before .before .before .before) .pre .names)
+    ((c .before .before .before .before .before .before .before .before .before .before .before .before .before .before .before .before .before .before .before .before .before .before .before .before
+    .before .before .before .before .before .before .before) .pre .x) true
+    ((c .before .before .before .before .before .before .before .before .before .before .before .before .before .before .before .before .before .before .before .before .before .before .before .before
+    .before .before .before .before .before .before .before) .pre .ds)
+    ((c .before .before .before .before .before .before .before .before .before .before .before .before .before .before .before .before .before .before .before .before .before .before .before .before
+    .before .before .before .before .before .before .before) .pre .d)
+    ((c .before .before .before .before .before .before .before .before .before .before .before .before .before .before .before .before .before .before .before .before .before .before .before .before
+    .before .before .before .before .before .before .before) .pre .declared))) in
+    omega (
+      arith,
+      (c .before .before .before .before .before .before .before .before .before .before .before .before .before .before .before .before .before .before .before .before .loop) .inv .0,
+      (c .before .before .before .before .before .before .before .before .before .before .before .before .before .before .before .before .before .before .before .before .before .before .before .before
+          .before .before .before .before .before .before .before) .pre .room .sorts-room,
+    )
 
 mul-numbers : tie.Need-mul-numbers Inv-loop μ-loop
-mul-numbers c = let i : (c .before .before .before .before .before .before .before .before .before .before .before .before .before .wide3) .result < maxNames = subst (λ n. n < maxNames) (sym ((c .before .before .before .before .before .before .before .before .before .before .before .before .before .wide3) .ensures ∙ ap (λ k. getD ((c .before .before .before .before .before .before .before .before .before .before .before .before .before .before .before .before .before .before .before .before .before .before .before .before .before .before .before .before .before .before .before) .args .refs .now) k 0) ((c .before .before .before .before .before .before .before .before .before .before .before .before .before .before .before .before .before .wide) .ensures))) (next-small ((c .before .before .before .before .before .before .before .before .before .before .before .before .before .before .before .before .before .before .before .before .before .before .before .before .before .before .before .before .before .before .before) .args .text .now) ((c .before .before .before .before .before .before .before .before .before .before .before .before .before .before .before .before .before .before .before .before .before .before .before .before .before .before .before .before .before .before .before) .args .work .now) ((c .before .before .before .before .before .before .before .before .before .before .before .before .before .before .before .before .before .before .before .before .before .before .before .before .before .before .before .before .before .before .before) .args .refs .now) ((c .before .before .before .before .before .before .before .before .before .before .before .before .before .before .before .before .before .before .before .before .before .before .before .before .before .before .before .before .before .before .before) .pre .found) ((c .before .before .before .before .before .before .before .before .before .before .before .before .before .before .before .before .before .before .before .before .before .before .before .before .before .before .before .before .before .before .before) .pre .entries) ((c .before .before .before .before .before .before .before .before .before .before .before .before .before .before .before .before .before .before .before .before .before .before .before .before .before .before .before .before .before .before .before) .pre .names) ((c .before .before .before .before .before .before .before .before .before .before .before .before .before .before .before .before .before .before .before .before .before .before .before .before .before .before .before .before .before .before .before) .args .places .now) ((c .before .before .before .before .before .before .before .before .before .before .before .before .before .before .before .before .before .before .before .before .before .before .before .before .before .before .before .before .before .before .before) .args .enumerations .now) ((c .before .before .before .before .before .before .before .before .before .before .before .before .before .before .before .before .before .before .before .before .before .before .before .before .before .before .before .before .before .before .before) .args .from) ((c .before .before .before .before .before .before .before .before .before .before .before .before .before .before .before .before .before .before .before .before .before .before .before .before .before .before .before .before .before .before .before) .args .to) ((c .before .before .before .before .before .before .before .before .before .before .before .before .before .before .before .before .before .before .before .before .before .before .before .before .before .before .before .before .before .before .before) .pre .x) true ((c .before .before .before .before .before .before .before .before .before .before .before .before .before .before .before .before .before .before .before .before .before .before .before .before .before .before .before .before .before .before .before) .pre .ds) ((c .before .before .before .before .before .before .before .before .before .before .before .before .before .before .before .before .before .before .before .before .before .before .before .before .before .before .before .before .before .before .before) .pre .d) ((c .before .before .before .before .before .before .before .before .before .before .before .before .before .before .before .before .before .before .before .before .loop) .j) ((c .before .before .before .before .before .before .before .before .before .before .before .before .before .before .before .before .before .before .before .before .loop) .sorts) ((c .before .before .before .before .before .before .before .before .before .before .before .before .before .before .before .before .before .before .before .before .loop) .numbers) ((c .before .before .before .before .before .before .before .before .before .before .before .before .before .before .before .before .before .before .before .before .loop) .widths) ((c .before .before .before .before .before .before .before .before .before .before .before .before .before .before .before .before .before .before .before .loop-test) .taken) ((c .before .before .before .before .before .before .before .before .before .before .before .before .before .before .before .before .before .before .before .before .loop) .inv .1 .1 .1 .1 .1 .1 .1 ((c .before .before .before .before .before .before .before .before .before .before .before .before .before .before .before .before .before .before .before .before .before .before .before .before .before .before .before .before .before .before .before) .pre .found) ((c .before .before .before .before .before .before .before .before .before .before .before .before .before .before .before .before .before .before .before .before .before .before .before .before .before .before .before .before .before .before .before) .pre .entries) ((c .before .before .before .before .before .before .before .before .before .before .before .before .before .before .before .before .before .before .before .before .before .before .before .before .before .before .before .before .before .before .before) .pre .names) ((c .before .before .before .before .before .before .before .before .before .before .before .before .before .before .before .before .before .before .before .before .before .before .before .before .before .before .before .before .before .before .before) .pre .x) true ((c .before .before .before .before .before .before .before .before .before .before .before .before .before .before .before .before .before .before .before .before .before .before .before .before .before .before .before .before .before .before .before) .pre .ds) ((c .before .before .before .before .before .before .before .before .before .before .before .before .before .before .before .before .before .before .before .before .before .before .before .before .before .before .before .before .before .before .before) .pre .d) ((c .before .before .before .before .before .before .before .before .before .before .before .before .before .before .before .before .before .before .before .before .before .before .before .before .before .before .before .before .before .before .before) .pre .declared))) in omega arith
+mul-numbers c = let i : (c .before .before .before .before .before .before .before .before .before .before .before .before .before .wide3) .result < maxNames = subst (λ n. n < maxNames)
+    (sym ((c .before .before .before .before .before .before .before .before .before .before .before .before .before .wide3) .ensures .0 ∙ ap
+    (λ k. getD ((c .before .before .before .before .before .before .before .before .before .before .before .before .before .before .before .before .before .before .before .before .before .before
+    .before .before .before .before .before .before .before .before .before) .args .refs .now) k 0)
+    ((c .before .before .before .before .before .before .before .before .before .before .before .before .before .before .before .before .before .wide) .ensures .0)))
+    (next-small ((c .before .before .before .before .before .before .before .before .before .before .before .before .before .before .before .before .before .before .before .before .before .before
+    .before .before .before .before .before .before .before .before .before) .args .text .now)
+    ((c .before .before .before .before .before .before .before .before .before .before .before .before .before .before .before .before .before .before .before .before .before .before .before .before
+    .before .before .before .before .before .before .before) .args .work .now)
+    ((c .before .before .before .before .before .before .before .before .before .before .before .before .before .before .before .before .before .before .before .before .before .before .before .before
+    .before .before .before .before .before .before .before) .args .refs .now)
+    ((c .before .before .before .before .before .before .before .before .before .before .before .before .before .before .before .before .before .before .before .before .before .before .before .before
+    .before .before .before .before .before .before .before) .pre .found)
+    ((c .before .before .before .before .before .before .before .before .before .before .before .before .before .before .before .before .before .before .before .before .before .before .before .before
+    .before .before .before .before .before .before .before) .pre .entries)
+    ((c .before .before .before .before .before .before .before .before .before .before .before .before .before .before .before .before .before .before .before .before .before .before .before .before
+    .before .before .before .before .before .before .before) .pre .names)
+    ((c .before .before .before .before .before .before .before .before .before .before .before .before .before .before .before .before .before .before .before .before .before .before .before .before
+    .before .before .before .before .before .before .before) .args .places .now)
+    ((c .before .before .before .before .before .before .before .before .before .before .before .before .before .before .before .before .before .before .before .before .before .before .before .before
+    .before .before .before .before .before .before .before) .args .enumerations .now)
+    ((c .before .before .before .before .before .before .before .before .before .before .before .before .before .before .before .before .before .before .before .before .before .before .before .before
+    .before .before .before .before .before .before .before) .args .from)
+    ((c .before .before .before .before .before .before .before .before .before .before .before .before .before .before .before .before .before .before .before .before .before .before .before .before
+    .before .before .before .before .before .before .before) .args .to)
+    ((c .before .before .before .before .before .before .before .before .before .before .before .before .before .before .before .before .before .before .before .before .before .before .before .before
+    .before .before .before .before .before .before .before) .pre .x) true
+    ((c .before .before .before .before .before .before .before .before .before .before .before .before .before .before .before .before .before .before .before .before .before .before .before .before
+    .before .before .before .before .before .before .before) .pre .ds)
+    ((c .before .before .before .before .before .before .before .before .before .before .before .before .before .before .before .before .before .before .before .before .before .before .before .before
+    .before .before .before .before .before .before .before) .pre .d)
+    ((c .before .before .before .before .before .before .before .before .before .before .before .before .before .before .before .before .before .before .before .before .loop) .j)
+    ((c .before .before .before .before .before .before .before .before .before .before .before .before .before .before .before .before .before .before .before .before .loop) .sorts)
+    ((c .before .before .before .before .before .before .before .before .before .before .before .before .before .before .before .before .before .before .before .before .loop) .numbers)
+    ((c .before .before .before .before .before .before .before .before .before .before .before .before .before .before .before .before .before .before .before .before .loop) .widths)
+    ((c .before .before .before .before .before .before .before .before .before .before .before .before .before .before .before .before .before .before .before .loop-test) .taken)
+    ((c .before .before .before .before .before .before .before .before .before .before .before .before .before .before .before .before .before .before
+    .before .before .loop) .inv .1 .1 .1 .1 .1 .1 .1 ((c .before .before .before .before .before .before .before .before .before .before .before .before .before .before .before .before .before
+    .before .before .before .before .before .before .before .before .before .before .before .before .before .before) .pre .found)
+    ((c .before .before .before .before .before .before .before .before .before .before .before .before .before .before .before .before .before .before .before .before .before .before .before .before
+    .before .before .before .before .before .before .before) .pre .entries)
+    ((c .before .before .before .before .before .before .before .before .before .before .before .before .before .before .before .before .before .before .before .before .before .before .before .before
+    .before .before .before .before .before .before .before) .pre .names)
+    ((c .before .before .before .before .before .before .before .before .before .before .before .before .before .before .before .before .before .before .before .before .before .before .before .before
+    .before .before .before .before .before .before .before) .pre .x) true
+    ((c .before .before .before .before .before .before .before .before .before .before .before .before .before .before .before .before .before .before .before .before .before .before .before .before
+    .before .before .before .before .before .before .before) .pre .ds)
+    ((c .before .before .before .before .before .before .before .before .before .before .before .before .before .before .before .before .before .before .before .before .before .before .before .before
+    .before .before .before .before .before .before .before) .pre .d)
+    ((c .before .before .before .before .before .before .before .before .before .before .before .before .before .before .before .before .before .before .before .before .before .before .before .before
+    .before .before .before .before .before .before .before) .pre .declared))) in omega arith
 
 slice-write-numbers : tie.Need-slice-write-numbers Inv-loop μ-loop
-slice-write-numbers c = let i : (c .before .before .before .before .before .before .before .before .before .before .before .before .before .wide3) .result < maxNames = subst (λ n. n < maxNames) (sym ((c .before .before .before .before .before .before .before .before .before .before .before .before .before .wide3) .ensures ∙ ap (λ k. getD ((c .before .before .before .before .before .before .before .before .before .before .before .before .before .before .before .before .before .before .before .before .before .before .before .before .before .before .before .before .before .before .before) .args .refs .now) k 0) ((c .before .before .before .before .before .before .before .before .before .before .before .before .before .before .before .before .before .wide) .ensures))) (next-small ((c .before .before .before .before .before .before .before .before .before .before .before .before .before .before .before .before .before .before .before .before .before .before .before .before .before .before .before .before .before .before .before) .args .text .now) ((c .before .before .before .before .before .before .before .before .before .before .before .before .before .before .before .before .before .before .before .before .before .before .before .before .before .before .before .before .before .before .before) .args .work .now) ((c .before .before .before .before .before .before .before .before .before .before .before .before .before .before .before .before .before .before .before .before .before .before .before .before .before .before .before .before .before .before .before) .args .refs .now) ((c .before .before .before .before .before .before .before .before .before .before .before .before .before .before .before .before .before .before .before .before .before .before .before .before .before .before .before .before .before .before .before) .pre .found) ((c .before .before .before .before .before .before .before .before .before .before .before .before .before .before .before .before .before .before .before .before .before .before .before .before .before .before .before .before .before .before .before) .pre .entries) ((c .before .before .before .before .before .before .before .before .before .before .before .before .before .before .before .before .before .before .before .before .before .before .before .before .before .before .before .before .before .before .before) .pre .names) ((c .before .before .before .before .before .before .before .before .before .before .before .before .before .before .before .before .before .before .before .before .before .before .before .before .before .before .before .before .before .before .before) .args .places .now) ((c .before .before .before .before .before .before .before .before .before .before .before .before .before .before .before .before .before .before .before .before .before .before .before .before .before .before .before .before .before .before .before) .args .enumerations .now) ((c .before .before .before .before .before .before .before .before .before .before .before .before .before .before .before .before .before .before .before .before .before .before .before .before .before .before .before .before .before .before .before) .args .from) ((c .before .before .before .before .before .before .before .before .before .before .before .before .before .before .before .before .before .before .before .before .before .before .before .before .before .before .before .before .before .before .before) .args .to) ((c .before .before .before .before .before .before .before .before .before .before .before .before .before .before .before .before .before .before .before .before .before .before .before .before .before .before .before .before .before .before .before) .pre .x) true ((c .before .before .before .before .before .before .before .before .before .before .before .before .before .before .before .before .before .before .before .before .before .before .before .before .before .before .before .before .before .before .before) .pre .ds) ((c .before .before .before .before .before .before .before .before .before .before .before .before .before .before .before .before .before .before .before .before .before .before .before .before .before .before .before .before .before .before .before) .pre .d) ((c .before .before .before .before .before .before .before .before .before .before .before .before .before .before .before .before .before .before .before .before .loop) .j) ((c .before .before .before .before .before .before .before .before .before .before .before .before .before .before .before .before .before .before .before .before .loop) .sorts) ((c .before .before .before .before .before .before .before .before .before .before .before .before .before .before .before .before .before .before .before .before .loop) .numbers) ((c .before .before .before .before .before .before .before .before .before .before .before .before .before .before .before .before .before .before .before .before .loop) .widths) ((c .before .before .before .before .before .before .before .before .before .before .before .before .before .before .before .before .before .before .before .loop-test) .taken) ((c .before .before .before .before .before .before .before .before .before .before .before .before .before .before .before .before .before .before .before .before .loop) .inv .1 .1 .1 .1 .1 .1 .1 ((c .before .before .before .before .before .before .before .before .before .before .before .before .before .before .before .before .before .before .before .before .before .before .before .before .before .before .before .before .before .before .before) .pre .found) ((c .before .before .before .before .before .before .before .before .before .before .before .before .before .before .before .before .before .before .before .before .before .before .before .before .before .before .before .before .before .before .before) .pre .entries) ((c .before .before .before .before .before .before .before .before .before .before .before .before .before .before .before .before .before .before .before .before .before .before .before .before .before .before .before .before .before .before .before) .pre .names) ((c .before .before .before .before .before .before .before .before .before .before .before .before .before .before .before .before .before .before .before .before .before .before .before .before .before .before .before .before .before .before .before) .pre .x) true ((c .before .before .before .before .before .before .before .before .before .before .before .before .before .before .before .before .before .before .before .before .before .before .before .before .before .before .before .before .before .before .before) .pre .ds) ((c .before .before .before .before .before .before .before .before .before .before .before .before .before .before .before .before .before .before .before .before .before .before .before .before .before .before .before .before .before .before .before) .pre .d) ((c .before .before .before .before .before .before .before .before .before .before .before .before .before .before .before .before .before .before .before .before .before .before .before .before .before .before .before .before .before .before .before) .pre .declared))) in omega (arith, (c .before .before .before .before .before .before .before .before .before .before .before .before .before .before .before .before .before .before .before .before .loop) .inv .1 .0, (c .before .before .before .before .before .before .before .before .before .before .before .before .before .before .before .before .before .before .before .before .before .before .before .before .before .before .before .before .before .before .before) .pre .room .numbers-room)
+slice-write-numbers c = let i : (c .before .before .before .before .before .before .before .before .before .before .before .before .before .wide3) .result < maxNames = subst (λ n. n < maxNames)
+    (sym ((c .before .before .before .before .before .before .before .before .before .before .before .before .before .wide3) .ensures .0 ∙ ap
+    (λ k. getD ((c .before .before .before .before .before .before .before .before .before .before .before .before .before .before .before .before .before .before .before .before .before .before
+    .before .before .before .before .before .before .before .before .before) .args .refs .now) k 0)
+    ((c .before .before .before .before .before .before .before .before .before .before .before .before .before .before .before .before .before .wide) .ensures .0)))
+    (next-small ((c .before .before .before .before .before .before .before .before .before .before .before .before .before .before .before .before .before .before .before .before .before .before
+    .before .before .before .before .before .before .before .before .before) .args .text .now)
+    ((c .before .before .before .before .before .before .before .before .before .before .before .before .before .before .before .before .before .before .before .before .before .before .before .before
+    .before .before .before .before .before .before .before) .args .work .now)
+    ((c .before .before .before .before .before .before .before .before .before .before .before .before .before .before .before .before .before .before .before .before .before .before .before .before
+    .before .before .before .before .before .before .before) .args .refs .now)
+    ((c .before .before .before .before .before .before .before .before .before .before .before .before .before .before .before .before .before .before .before .before .before .before .before .before
+    .before .before .before .before .before .before .before) .pre .found)
+    ((c .before .before .before .before .before .before .before .before .before .before .before .before .before .before .before .before .before .before .before .before .before .before .before .before
+    .before .before .before .before .before .before .before) .pre .entries)
+    ((c .before .before .before .before .before .before .before .before .before .before .before .before .before .before .before .before .before .before .before .before .before .before .before .before
+    .before .before .before .before .before .before .before) .pre .names)
+    ((c .before .before .before .before .before .before .before .before .before .before .before .before .before .before .before .before .before .before .before .before .before .before .before .before
+    .before .before .before .before .before .before .before) .args .places .now)
+    ((c .before .before .before .before .before .before .before .before .before .before .before .before .before .before .before .before .before .before .before .before .before .before .before .before
+    .before .before .before .before .before .before .before) .args .enumerations .now)
+    ((c .before .before .before .before .before .before .before .before .before .before .before .before .before .before .before .before .before .before .before .before .before .before .before .before
+    .before .before .before .before .before .before .before) .args .from)
+    ((c .before .before .before .before .before .before .before .before .before .before .before .before .before .before .before .before .before .before .before .before .before .before .before .before
+    .before .before .before .before .before .before .before) .args .to)
+    ((c .before .before .before .before .before .before .before .before .before .before .before .before .before .before .before .before .before .before .before .before .before .before .before .before
+    .before .before .before .before .before .before .before) .pre .x) true
+    ((c .before .before .before .before .before .before .before .before .before .before .before .before .before .before .before .before .before .before .before .before .before .before .before .before
+    .before .before .before .before .before .before .before) .pre .ds)
+    ((c .before .before .before .before .before .before .before .before .before .before .before .before .before .before .before .before .before .before .before .before .before .before .before .before
+    .before .before .before .before .before .before .before) .pre .d)
+    ((c .before .before .before .before .before .before .before .before .before .before .before .before .before .before .before .before .before .before .before .before .loop) .j)
+    ((c .before .before .before .before .before .before .before .before .before .before .before .before .before .before .before .before .before .before .before .before .loop) .sorts)
+    ((c .before .before .before .before .before .before .before .before .before .before .before .before .before .before .before .before .before .before .before .before .loop) .numbers)
+    ((c .before .before .before .before .before .before .before .before .before .before .before .before .before .before .before .before .before .before .before .before .loop) .widths)
+    ((c .before .before .before .before .before .before .before .before .before .before .before .before .before .before .before .before .before .before .before .loop-test) .taken)
+    ((c .before .before .before .before .before .before .before .before .before .before .before .before .before .before .before .before .before .before
+    .before .before .loop) .inv .1 .1 .1 .1 .1 .1 .1 ((c .before .before .before .before .before .before .before .before .before .before .before .before .before .before .before .before .before
+    .before .before .before .before .before .before .before .before .before .before .before .before .before .before) .pre .found)
+    ((c .before .before .before .before .before .before .before .before .before .before .before .before .before .before .before .before .before .before .before .before .before .before .before .before
+    .before .before .before .before .before .before .before) .pre .entries)
+    ((c .before .before .before .before .before .before .before .before .before .before .before .before .before .before .before .before .before .before .before .before .before .before .before .before
+    .before .before .before .before .before .before .before) .pre .names)
+    ((c .before .before .before .before .before .before .before .before .before .before .before .before .before .before .before .before .before .before .before .before .before .before .before .before
+    .before .before .before .before .before .before .before) .pre .x) true
+    ((c .before .before .before .before .before .before .before .before .before .before .before .before .before .before .before .before .before .before .before .before .before .before .before .before
+    .before .before .before .before .before .before .before) .pre .ds)
+    ((c .before .before .before .before .before .before .before .before .before .before .before .before .before .before .before .before .before .before .before .before .before .before .before .before
+    .before .before .before .before .before .before .before) .pre .d)
+    ((c .before .before .before .before .before .before .before .before .before .before .before .before .before .before .before .before .before .before .before .before .before .before .before .before
+    .before .before .before .before .before .before .before) .pre .declared))) in
+    omega (
+      arith,
+      (c .before .before .before .before .before .before .before .before .before .before .before .before .before .before .before .before .before .before .before .before .loop) .inv .1 .0,
+      (c .before .before .before .before .before .before .before .before .before .before .before .before .before .before .before .before .before .before .before .before .before .before .before .before
+          .before .before .before .before .before .before .before) .pre .room .numbers-room,
+    )
 
 mul-widths : tie.Need-mul-widths Inv-loop μ-loop
-mul-widths c = omega (arith, (c .before .before .before .before .before .before .before .before .before .before .before .before .before .before .before .before .before .before .before .loop-test) .taken, (c .before .before .before .before .before .before .before .before .before .before .before .before .before .before .before .before .before .before .before .before .before .before .before .before .before .before .before .before .before .before .before) .pre .few)
+mul-widths c = omega (
+  arith,
+  (c .before .before .before .before .before .before .before .before .before .before .before .before .before .before .before .before .before
+      .before .before .loop-test) .taken,
+  (c .before .before .before .before .before .before .before .before .before .before .before .before .before .before .before .before .before .before .before
+      .before .before .before .before .before .before .before .before .before .before .before .before) .pre .few,
+)
 
 slice-write-widths : tie.Need-slice-write-widths Inv-loop μ-loop
-slice-write-widths c = omega (arith, (c .before .before .before .before .before .before .before .before .before .before .before .before .before .before .before .before .before .before .before .before .loop) .inv .1 .1 .1 .1 .0, (c .before .before .before .before .before .before .before .before .before .before .before .before .before .before .before .before .before .before .before .before .before .before .before .before .before .before .before .before .before .before .before) .pre .widths-room, (c .before .before .before .before .before .before .before .before .before .before .before .before .before .before .before .before .before .before .before .loop-test) .taken)
+slice-write-widths c = omega (
+  arith,
+  (c .before .before .before .before .before .before .before .before .before .before .before .before .before .before .before .before .before .before
+      .before .before .loop) .inv .1 .1 .1 .1 .0,
+  (c .before .before .before .before .before .before .before .before .before .before .before .before .before .before .before .before .before .before
+      .before .before .before .before .before .before .before .before .before .before .before .before .before) .pre .widths-room,
+  (c .before .before .before .before .before .before .before .before .before .before .before .before .before .before .before .before .before .before .before .loop-test) .taken,
+)
 
 add-j : tie.Need-add-j Inv-loop μ-loop
-add-j c = omega (arith, (c .before .before .before .before .before .before .before .before .before .before .before .before .before .before .before .before .before .before .before .loop-test) .taken, (c .before .before .before .before .before .before .before .before .before .before .before .before .before .before .before .before .before .before .before .before .before .before .before .before .before .before .before .before .before .before .before) .pre .few)
+add-j c = omega (
+  arith,
+  (c .before .before .before .before .before .before .before .before .before .before .before .before .before .before .before .before .before .before .before .loop-test) .taken,
+  (c .before .before .before .before .before .before .before .before .before .before .before .before .before .before .before .before .before .before .before .before .before .before .before .before
+      .before .before .before .before .before .before .before) .pre .few,
+)
 
 loop-less : tie.Need-loop-less Inv-loop μ-loop
-loop-less c = omega (arith, (c .before .before .before .before .before .before .before .before .before .before .before .before .before .before .before .before .before .before .before .loop-test) .taken)
+loop-less c = omega (
+  arith,
+  (c .before .before .before .before .before .before .before .before .before .before .before .before .before .before .before .before .before
+      .before .before .loop-test) .taken,
+)
 
 loop-again : tie.Need-loop-again Inv-loop μ-loop
-loop-again c = (simp length-set ((c .before .before .before .before .before .before .before .before .before .before .before .before .before .before .before .before .before .before .before .before .loop) .inv .0), (simp length-set ((c .before .before .before .before .before .before .before .before .before .before .before .before .before .before .before .before .before .before .before .before .loop) .inv .1 .0), ((c .before .before .before .before .before .before .before .kept) .given ∙ (c .before .before .before .before .before .before .before .before .before .before .before .before .before .before .before .before .before .before .before .before .loop) .inv .1 .1 .0, ((c .before .before .before .before .before .slots) .given ∙ (c .before .before .before .before .before .before .before .before .before .before .before .before .before .before .before .before .before .before .before .before .loop) .inv .1 .1 .1 .0, (simp length-set ((c .before .before .before .before .before .before .before .before .before .before .before .before .before .before .before .before .before .before .before .before .loop) .inv .1 .1 .1 .1 .0), (omega (arith, (c .before .before .before .before .before .before .before .before .before .before .before .before .before .before .before .before .before .before .before .before .loop) .inv .1 .1 .1 .1 .1 .0), (before-set ((c .before .before .before .before .before .before .before .before .before .before .before .before .before .before .before .before .before .before .before .before .before .before .before .before .before .before .before .before .before .before .before) .args .from) ((c .before .before .before .before .before .before .before .before .before .before .before .before .before .before .before .before .before .before .before .before .loop) .j) ((c .before .before .worked) .given .0 .0) ((c .before .before .before .before .before .before .before .before .before .before .before .before .before .before .before .before .before .before .before .before .before .before .before .before .before .before .before .before .before .before .before) .args .widths .now) ((c .before .before .before .before .before .before .before .before .before .before .before .before .before .before .before .before .before .before .before .before .loop) .widths) ((c .before .before .before .before .before .before .before .before .before .before .before .before .before .before .before .before .before .before .before .before .loop) .inv .1 .1 .1 .1 .1 .0) ((c .before .before .before .before .before .before .before .before .before .before .before .before .before .before .before .before .before .before .before .before .loop) .inv .1 .1 .1 .1 .1 .1 .0), λ f n m x o ds d h. turning-more ((c .before .before .before .before .before .before .before .before .before .before .before .before .before .before .before .before .before .before .before .before .before .before .before .before .before .before .before .before .before .before .before) .args .text .now) ((c .before .before .before .before .before .before .before .before .before .before .before .before .before .before .before .before .before .before .before .before .before .before .before .before .before .before .before .before .before .before .before) .args .work .now) ((c .before .before .before .before .before .before .before .before .before .before .before .before .before .before .before .before .before .before .before .before .before .before .before .before .before .before .before .before .before .before .before) .args .refs .now) f n m ((c .before .before .before .before .before .before .before .before .before .before .before .before .before .before .before .before .before .before .before .before .before .before .before .before .before .before .before .before .before .before .before) .args .places .now) ((c .before .before .before .before .before .before .before .before .before .before .before .before .before .before .before .before .before .before .before .before .before .before .before .before .before .before .before .before .before .before .before) .args .enumerations .now) ((c .before .before .before .before .before .before .before .before .before .before .before .before .before .before .before .before .before .before .before .before .before .before .before .before .before .before .before .before .before .before .before) .args .from) ((c .before .before .before .before .before .before .before .before .before .before .before .before .before .before .before .before .before .before .before .before .before .before .before .before .before .before .before .before .before .before .before) .args .to) x o ds d ((c .before .before .before .before .before .before .before .before .before .before .before .before .before .before .before .before .before .before .before .before .loop) .j) ((c .before .before .before .before .before .before .before .before .before .before .before .before .before .before .before .before .before .before .before .before .loop) .sorts) ((c .before .before .before .before .before .before .before .before .before .before .before .before .before .before .before .before .before .before .before .before .loop) .numbers) ((c .before .before .before .before .before .before .before .before .before .before .before .before .before .before .before .before .before .before .before .before .loop) .widths) ((c .before .before .before .before .before .before .before .before .before .before .before .before .before .before .before .before .before .before .before .loop-test) .taken) ((c .before .before .before .before .before .before .before .before .before .before .before .before .before .before .before .before .before .before .before .before .loop) .inv .1 .1 .1 .1 .1 .1 .1 f n m x o ds d h) ((c .before .before .before .before .before .before .before .before .before .before .before .before .before .before .before .before .before .wide) .result) ((c .before .before .before .before .before .before .before .before .before .before .before .before .before .before .before .wide2) .result) ((c .before .before .before .before .before .before .before .before .before .before .before .before .before .before .before .before .before .wide) .ensures) ((c .before .before .before .before .before .before .before .before .before .before .before .before .before .before .before .wide2) .ensures) ((c .before .before .before .before .before .before .before .before .width-of) .result) ((c .before .before .before .before .before .before .before .before .width-of) .ensures) _ ((c .before .before .before .before .before .before .before .before .before .before .before .before .before .wide3) .result) ((c .sort-of) .result) ((c .before .before .worked) .given .1) ((c .before .before .before .before .before .before .before .before .before .before .before .before .before .wide3) .ensures) ((c .sort-of) .ensures) (omega (arith, (c .before .before .before .before .before .before .before .before .before .before .before .before .before .before .before .before .before .before .before .before .loop) .inv .0, (c .before .before .before .before .before .before .before .before .before .before .before .before .before .before .before .before .before .before .before .before .before .before .before .before .before .before .before .before .before .before .before) .pre .room .sorts-room)) (omega (arith, (c .before .before .before .before .before .before .before .before .before .before .before .before .before .before .before .before .before .before .before .before .loop) .inv .1 .0, (c .before .before .before .before .before .before .before .before .before .before .before .before .before .before .before .before .before .before .before .before .before .before .before .before .before .before .before .before .before .before .before) .pre .room .numbers-room)) (omega (arith, (c .before .before .before .before .before .before .before .before .before .before .before .before .before .before .before .before .before .before .before .before .loop) .inv .1 .1 .1 .1 .0, (c .before .before .before .before .before .before .before .before .before .before .before .before .before .before .before .before .before .before .before .before .before .before .before .before .before .before .before .before .before .before .before) .pre .widths-room, (c .before .before .before .before .before .before .before .before .before .before .before .before .before .before .before .before .before .before .before .loop-test) .taken)))))))))
+loop-again c = (
+  simp length-set ((c .before .before .before .before .before .before .before .before .before .before .before .before .before .before .before .before .before .before
+      .before .before .loop) .inv .0),
+  (
+    simp length-set ((c .before .before .before .before .before .before .before .before .before .before .before .before .before .before .before .before .before
+        .before .before .before .loop) .inv .1 .0),
+    (
+      (c .before .before .before .before .before .before .before .kept) .given ∙
+          (c .before .before .before .before .before .before .before .before .before .before .before .before .before .before .before .before .before .before .before .before .loop) .inv .1 .1 .0,
+      (
+        (c .before .before .before .before .before .slots) .given ∙ (c .before .before .before .before .before .before .before .before .before .before .before .before .before .before .before .before
+            .before .before .before .before .loop) .inv .1 .1 .1 .0,
+        (
+          simp length-set
+              ((c .before .before .before .before .before .before .before .before .before .before .before .before .before .before .before .before .before .before .before .before .loop) .inv .1 .1 .1 .1 .0),
+          (
+            omega (
+              arith,
+              (c .before .before .before .before .before .before .before .before .before .before .before .before .before .before .before .before .before .before
+                  .before .before .loop) .inv .1 .1 .1 .1 .1 .0,
+            ),
+            (
+              before-set ((c .before .before .before .before .before .before .before .before .before .before .before .before .before .before .before .before
+                  .before .before .before .before .before .before .before .before .before .before .before .before .before .before .before) .args .from)
+                  ((c .before .before .before .before .before .before .before .before .before .before .before .before .before .before .before .before .before .before .before .before .loop) .j)
+                  ((c .before .before .worked) .given .0 .0) ((c .before .before .before .before .before .before .before .before .before .before .before .before .before .before .before .before .before .before
+                  .before .before .before .before .before .before .before .before .before .before .before .before .before) .args .widths .now)
+                  ((c .before .before .before .before .before .before .before .before .before .before .before .before .before .before .before .before .before .before .before .before .loop) .widths)
+                  ((c .before .before .before .before .before .before .before .before .before .before .before .before .before .before .before .before .before .before .before .before .loop) .inv .1 .1 .1 .1 .1 .0)
+                  ((c .before .before .before .before .before .before .before .before .before .before .before .before .before .before .before .before .before .before
+                  .before .before .loop) .inv .1 .1 .1 .1 .1 .1 .0),
+              λ f n m x o ds d h. turning-more
+                  ((c .before .before .before .before .before .before .before .before .before .before .before .before .before .before .before .before .before .before .before .before .before .before .before .before
+                  .before .before .before .before .before .before .before) .args .text .now)
+                  ((c .before .before .before .before .before .before .before .before .before .before .before .before .before .before .before .before .before .before .before .before .before .before .before .before
+                  .before .before .before .before .before .before .before) .args .work .now)
+                  ((c .before .before .before .before .before .before .before .before .before .before .before .before .before .before .before .before .before .before .before .before .before .before .before .before
+                  .before .before .before .before .before .before .before) .args .refs .now) f n m
+                  ((c .before .before .before .before .before .before .before .before .before .before .before .before .before .before .before .before .before .before .before .before .before .before .before .before
+                  .before .before .before .before .before .before .before) .args .places .now)
+                  ((c .before .before .before .before .before .before .before .before .before .before .before .before .before .before .before .before .before .before .before .before .before .before .before .before
+                  .before .before .before .before .before .before .before) .args .enumerations .now)
+                  ((c .before .before .before .before .before .before .before .before .before .before .before .before .before .before .before .before .before .before .before .before .before .before .before .before
+                  .before .before .before .before .before .before .before) .args .from)
+                  ((c .before .before .before .before .before .before .before .before .before .before .before .before .before .before .before .before .before .before .before .before .before .before .before .before
+                  .before .before .before .before .before .before .before) .args .to) x o ds d
+                  ((c .before .before .before .before .before .before .before .before .before .before .before .before .before .before .before .before .before .before .before .before .loop) .j)
+                  ((c .before .before .before .before .before .before .before .before .before .before .before .before .before .before .before .before .before .before .before .before .loop) .sorts)
+                  ((c .before .before .before .before .before .before .before .before .before .before .before .before .before .before .before .before .before .before .before .before .loop) .numbers)
+                  ((c .before .before .before .before .before .before .before .before .before .before .before .before .before .before .before .before .before .before .before .before .loop) .widths)
+                  ((c .before .before .before .before .before .before .before .before .before .before .before .before .before .before .before .before .before .before .before .loop-test) .taken)
+                  ((c .before .before .before .before .before .before .before .before .before .before .before .before .before .before .before .before .before .before
+                  .before .before .loop) .inv .1 .1 .1 .1 .1 .1 .1 f n m x o ds d h)
+                  ((c .before .before .before .before .before .before .before .before .before .before .before .before .before .before .before .before .before .wide) .result)
+                  ((c .before .before .before .before .before .before .before .before .before .before .before .before .before .before .before .wide2) .result)
+                  ((c .before .before .before .before .before .before .before .before .before .before .before .before .before .before .before .before .before .wide) .ensures .0)
+                  ((c .before .before .before .before .before .before .before .before .before .before .before .before .before .before .before .wide2) .ensures .0)
+                  ((c .before .before .before .before .before .before .before .before .width-of) .result) ((c .before .before .before .before .before .before .before .before .width-of) .ensures) _
+                  ((c .before .before .before .before .before .before .before .before .before .before .before .before .before .wide3) .result) ((c .sort-of) .result) ((c .before .before .worked) .given .1)
+                  ((c .before .before .before .before .before .before .before .before .before .before .before .before .before .wide3) .ensures .0) ((c .sort-of) .ensures)
+                  (omega (
+                    arith,
+                    (c .before .before .before .before .before .before .before .before .before .before .before .before .before .before .before .before .before .before .before .before .loop) .inv .0,
+                    (c .before .before .before .before .before .before .before .before .before .before .before .before .before .before .before .before .before .before .before .before .before .before .before .before
+                        .before .before .before .before .before .before .before) .pre .room .sorts-room,
+                  ))
+                  (omega (
+                    arith,
+                    (c .before .before .before .before .before .before .before .before .before .before .before .before .before .before .before .before .before .before
+                        .before .before .loop) .inv .1 .0,
+                    (c .before .before .before .before .before .before .before .before .before .before .before .before .before .before .before .before .before .before .before
+                        .before .before .before .before .before .before .before .before .before .before .before .before) .pre .room .numbers-room,
+                  ))
+                  (omega (
+                    arith,
+                    (c .before .before .before .before .before .before .before .before .before .before .before .before .before .before .before .before .before .before
+                        .before .before .loop) .inv .1 .1 .1 .1 .0,
+                    (c .before .before .before .before .before .before .before .before .before .before .before .before .before .before .before .before .before .before
+                        .before .before .before .before .before .before .before .before .before .before .before .before .before) .pre .widths-room,
+                    (c .before .before .before .before .before .before .before .before .before .before .before .before .before .before .before .before .before .before .before .loop-test) .taken,
+                  )),
+            ),
+          ),
+        ),
+      ),
+    ),
+  ),
+)
 
 same-length-6 : tie.Need-same-length-6 Inv-loop μ-loop
 same-length-6 c = (c .before .loop) .inv .0
@@ -119,7 +553,17 @@ same-length-10 : tie.Need-same-length-10 Inv-loop μ-loop
 same-length-10 c = (c .before .loop) .inv .1 .1 .1 .1 .0
 
 returns-2 : tie.Need-returns-2 Inv-loop μ-loop
-returns-2 c = ((λ f n m x o ds d h. turning-all ((c .before .before .before .before .before .before .before .before .before .before .before .before) .args .text .now) ((c .before .before .before .before .before .before .before .before .before .before .before .before) .args .work .now) ((c .before .before .before .before .before .before .before .before .before .before .before .before) .args .refs .now) f n m ((c .before .before .before .before .before .before .before .before .before .before .before .before) .args .places .now) ((c .before .before .before .before .before .before .before .before .before .before .before .before) .args .enumerations .now) ((c .before .before .before .before .before .before .before .before .before .before .before .before) .args .from) ((c .before .before .before .before .before .before .before .before .before .before .before .before) .args .to) x o ds d ((c .before .loop) .j) _ _ _ 0 ((c .loop-test) .left) ((c .before .loop) .inv .1 .1 .1 .1 .1 .1 .1 f n m x o ds d h)), (c .before .loop) .inv .1 .1 .1 .1 .1 .1 .0)
+returns-2 c = (
+  (λ f n m x o ds d h. turning-all ((c .before .before .before .before .before .before .before .before .before .before .before .before) .args .text .now)
+      ((c .before .before .before .before .before .before .before .before .before .before .before .before) .args .work .now)
+      ((c .before .before .before .before .before .before .before .before .before .before .before .before) .args .refs .now) f n m
+      ((c .before .before .before .before .before .before .before .before .before .before .before .before) .args .places .now)
+      ((c .before .before .before .before .before .before .before .before .before .before .before .before) .args .enumerations .now)
+      ((c .before .before .before .before .before .before .before .before .before .before .before .before) .args .from)
+      ((c .before .before .before .before .before .before .before .before .before .before .before .before) .args .to) x o ds d ((c .before .loop) .j) _ _ _ 0 ((c .loop-test) .left)
+      ((c .before .loop) .inv .1 .1 .1 .1 .1 .1 .1 f n m x o ds d h)),
+  (c .before .loop) .inv .1 .1 .1 .1 .1 .1 .0,
+)
 
 pub turns-spec : {M : Type 1} → statement M
 turns-spec =

@@ -65,4 +65,5 @@ returns-7 : tie.Need-returns-7
 returns-7 c = comparing-as ((c .before .x5) .given .1) (comparing-refused _ _ _)
 
 pub comparing-spec : {M : Type 1} → statement M
-comparing-spec = tie.close (tie.spec enum-known-x with-number-requires enum-told with-nothing-requires enum-told-2 with-nothing-requires-2 enum-known-x-2 with-bus-requires enum-known-x-3 with-nothing-requires-3 enum-known-x-4 with-identifier-requires enum-known-x-5 returns returns-2 returns-3 returns-4 returns-5 returns-6 returns-7)
+comparing-spec = tie.close (tie.spec enum-known-x with-number-requires enum-told with-nothing-requires enum-told-2 with-nothing-requires-2 enum-known-x-2 with-bus-requires enum-known-x-3
+    with-nothing-requires-3 enum-known-x-4 with-identifier-requires enum-known-x-5 returns returns-2 returns-3 returns-4 returns-5 returns-6 returns-7)

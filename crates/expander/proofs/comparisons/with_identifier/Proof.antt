@@ -58,4 +58,5 @@ unfolding _>>=_
 returns-7 c = comparing-other ((c .before .y3) .given .1) (λ ps W l r. refl)
 
 pub with-identifier-spec : {M : Type 1} → statement M
-with-identifier-spec = tie.close (tie.spec enum-told enum-told-2 enum-told-3 enum-known-y against-requires enum-known-y-2 enum-told-4 enum-known-y-3 returns returns-2 returns-3 returns-4 returns-5 returns-6 returns-7)
+with-identifier-spec = tie.close (tie.spec enum-told enum-told-2 enum-told-3 enum-known-y against-requires enum-known-y-2 enum-told-4 enum-known-y-3 returns returns-2 returns-3 returns-4 returns-5
+    returns-6 returns-7)

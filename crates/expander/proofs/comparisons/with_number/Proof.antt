@@ -62,4 +62,5 @@ unfolding _>>=_
 returns-7 c = record { says = λ text w firsts. comparing-other ((c .before .y2) .given .1) (λ ps W l r. refl) }
 
 pub with-number-spec : {M : Type 1} → statement M
-with-number-spec = tie.close (tie.spec enum-known-y compare-requires constant-requires enum-told enum-told-2 enum-told-3 enum-told-4 enum-told-5 enum-known-y-2 returns returns-2 returns-3 returns-4 returns-5 returns-6 returns-7)
+with-number-spec = tie.close (tie.spec enum-known-y compare-requires constant-requires enum-told enum-told-2 enum-told-3 enum-told-4 enum-told-5 enum-known-y-2 returns returns-2 returns-3 returns-4
+    returns-5 returns-6 returns-7)

@@ -1,5 +1,15 @@
 -- The cycle of `formula_at`: each function meets its contract, and the measure falls at each call.
-use Rattle.expander.proofs.formulas.+between+binary+defined+each+folded+formula_at+named+operand_at+repeated.Proof.Calls.{μ-between, μ-binary, μ-defined, μ-each, μ-folded, μ-formula-at, μ-named, μ-operand-at, μ-repeated}
+use Rattle.expander.proofs.formulas.+between+binary+defined+each+folded+formula_at+named+operand_at+repeated.Proof.Calls.{
+  μ-between,
+  μ-binary,
+  μ-defined,
+  μ-each,
+  μ-folded,
+  μ-formula-at,
+  μ-named,
+  μ-operand-at,
+  μ-repeated,
+}
 use Rattle.expander.proofs.formulas.+between+binary+defined+each+folded+formula_at+named+operand_at+repeated.Proof.Between.{between-met}
 use Rattle.expander.proofs.formulas.+between+binary+defined+each+folded+formula_at+named+operand_at+repeated.Proof.Binary.{binary-met}
 use Rattle.expander.proofs.formulas.+between+binary+defined+each+folded+formula_at+named+operand_at+repeated.Proof.Defined.{defined-met}

@@ -20,10 +20,24 @@ kind-at-requires : tie.Need-kind-at-requires Inv-loop μ-loop
 kind-at-requires c κs = (omega (arith, (c .before .before .before) .pre .0, (c .before .loop) .inv .within), (c .before .before .before) .pre .1)
 
 returns : tie.Need-returns Inv-loop μ-loop
-returns c = record { run = (c .before .before .before .before .loop) .inv; begins = λ l. record { no-parenthesis = λ e. omega (arith, e, (c .before .before .kind-at) .ensures, (c .before .if1) .taken); no-operator = λ f t. omega (arith, f, (c .before .before .kind-at) .ensures, (c .if2) .taken) } }
+returns c = record {
+  run = (c .before .before .before .before .loop) .inv;
+  begins = λ l. record {
+    no-parenthesis = λ e. omega (arith, e, (c .before .before .kind-at) .ensures, (c .before .if1) .taken);
+    no-operator = λ f t. omega
+        (arith, f, (c .before .before .kind-at) .ensures, (c .if2) .taken);
+  };
+}
 
 returns-2 : tie.Need-returns-2 Inv-loop μ-loop
-returns-2 c = record { run = (c .before .before .before .before .before .loop) .inv; begins = λ l. record { no-parenthesis = λ e. omega (arith, e, (c .before .before .before .kind-at) .ensures, (c .before .before .if1) .taken); no-operator = λ f t. omega (arith, t, (c .before .before .before .kind-at) .ensures, (c .if3) .taken) } }
+returns-2 c = record {
+  run = (c .before .before .before .before .before .loop) .inv;
+  begins = λ l. record {
+    no-parenthesis = λ e. omega (arith, e, (c .before .before .before .kind-at) .ensures, (c .before .before .if1) .taken);
+    no-operator = λ f t. omega
+        (arith, t, (c .before .before .before .kind-at) .ensures, (c .if3) .taken);
+  };
+}
 
 sub-i : tie.Need-sub-i Inv-loop μ-loop
 sub-i c = omega (arith, (c .before .before .loop-test) .taken)
@@ -32,7 +46,9 @@ loop-less : tie.Need-loop-less Inv-loop μ-loop
 loop-less c = omega (arith, (c .before .before .loop-test) .taken)
 
 loop-again : tie.Need-loop-again Inv-loop μ-loop
-loop-again c = ⊎-elim (λ w. run-more ((c .before .before .before .loop) .inv) (operator (omega (arith, (c .before .kind-at) .ensures, w .1 .left)) (omega (arith, (c .before .kind-at) .ensures, w .2 .left)))) (λ w. run-more ((c .before .before .before .loop) .inv) (parenthesis (sym ((c .before .kind-at) .ensures) ∙ w .left))) ((c .if1) .came)
+loop-again c = ⊎-elim (λ w. run-more ((c .before .before .before .loop) .inv)
+    (operator (omega (arith, (c .before .kind-at) .ensures, w .1 .left)) (omega (arith, (c .before .kind-at) .ensures, w .2 .left))))
+    (λ w. run-more ((c .before .before .before .loop) .inv) (parenthesis (sym ((c .before .kind-at) .ensures) ∙ w .left))) ((c .if1) .came)
 
 returns-3 : tie.Need-returns-3 Inv-loop μ-loop
 returns-3 c = record { run = (c .before .loop) .inv; begins = λ l. absurd (omega (arith, l, (c .loop-test) .left)) }

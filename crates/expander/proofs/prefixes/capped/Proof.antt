@@ -19,13 +19,19 @@ add-i : tie.Need-add-i Inv-loop μ-loop
 add-i c = omega (arith, (c .before .before .before) .pre .0 .0, (c .loop-test) .taken)
 
 applied-requires : tie.Need-applied-requires Inv-loop μ-loop
-applied-requires c κs = ((omega (arith, (c .before .before .before .before) .pre .0 .0, (c .before .loop-test) .taken), (c .before .before .before .before) .pre .0 .1), (c .before .before .before .before) .pre .1 .prefixes _ (omega (arith, (c .before .before .loop) .inv .0)) (omega (arith, (c .before .loop-test) .taken)))
+applied-requires c κs = (
+  (omega (arith, (c .before .before .before .before) .pre .0 .0, (c .before .loop-test) .taken), (c .before .before .before .before) .pre .0 .1),
+  (c .before .before .before .before) .pre .1 .prefixes _ (omega (arith, (c .before .before .loop) .inv .0)) (omega (arith, (c .before .loop-test) .taken)),
+)
 
 loop-less : tie.Need-loop-less Inv-loop μ-loop
 loop-less c = omega (arith, (c .before .before .loop-test) .taken)
 
 loop-again : tie.Need-loop-again Inv-loop μ-loop
-loop-again c = (omega (arith, (c .before .before .before .loop) .inv .0), (omega (arith, (c .before .before .loop-test) .taken), capped-next ((c .before .before .before .loop) .i) ((c .before .before .before .loop) .inv .1 .1) ((c .applied) .ensures)))
+loop-again c = (
+  omega (arith, (c .before .before .before .loop) .inv .0),
+  (omega (arith, (c .before .before .loop-test) .taken), capped-next ((c .before .before .before .loop) .i) ((c .before .before .before .loop) .inv .1 .1) ((c .applied) .ensures)),
+)
 
 returns : tie.Need-returns Inv-loop μ-loop
 returns c = capped-last (omega (arith, (c .before .loop) .inv .1 .0, (c .loop-test) .left)) ((c .before .loop) .inv .1 .1)

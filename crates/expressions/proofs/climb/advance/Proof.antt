@@ -16,8 +16,10 @@ same-length c = search needs
 
 returns : tie.Need-returns
 returns c =
-    let start = c .before .before .before .before .before .before in
-    λ ts s x h. (c .before .before .climb) .ensures ts s x (subst (λ b. State b ts s x (now (start .args .work)) (start .args .m)) ((c .before .before .before .before .if1) .taken) h)
+    let at-climb = c .before .before in
+    let at-if1 = at-climb .before .before in
+    let start = at-if1 .before .before in
+    λ ts s x h. (at-climb .climb) .ensures ts s x (subst (λ b. State b ts s x (now (start .args .work)) (start .args .m)) ((at-if1 .if1) .taken) h)
 
 operand-requires : tie.Need-operand-requires
 operand-requires c κs =
@@ -29,8 +31,10 @@ same-length-2 c = search needs
 
 returns-2 : tie.Need-returns-2
 returns-2 c =
-    let start = c .before .before .before .before .before .before in
-    λ ts s x h. (c .before .before .operand) .ensures ts s x (subst (λ b. State b ts s x (now (start .args .work)) (start .args .m)) ((c .before .before .before .before .if1) .left) h)
+    let at-operand = c .before .before in
+    let at-if1 = at-operand .before .before in
+    let start = at-if1 .before .before in
+    λ ts s x h. (at-operand .operand) .ensures ts s x (subst (λ b. State b ts s x (now (start .args .work)) (start .args .m)) ((at-if1 .if1) .left) h)
 
 pub advance-spec : {M : Type 1} → statement M
 advance-spec =

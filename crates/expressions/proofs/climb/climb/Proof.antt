@@ -20,47 +20,86 @@ infix-requires c κs = search needs
 
 pop-requires : tie.Need-pop-requires
 pop-requires c κs =
-    let start = c .before .before .before .before .before .before .before in
-    let row = c .before .before .«infix» in
-    record { tokens = start .pre .tokens; start = start .pre .start; answer = start .pre .answer; state = ends-none (start .pre .state) (row .result) (row .ensures ∙ ap infixAt ((c .before .before .before .kind) .ensures)) ((c .before .if1) .taken) }
+    let at-infix = c .before .before in
+    let at-kind = at-infix .before in
+    let start = at-kind .before .before .before .before in
+    let row = at-infix .«infix» in
+    record {
+      tokens = start .pre .tokens;
+      start = start .pre .start;
+      answer = start .pre .answer;
+      state = ends-none (start .pre .state) (row .result)
+          (row .ensures ∙ ap infixAt ((at-kind .kind) .ensures)) ((c .before .if1) .taken);
+    }
 
 same-length : tie.Need-same-length
 same-length c = search needs
 
 returns : tie.Need-returns
 returns c =
-    let row = c .before .before .before .before .before .«infix» in
-    λ ts s x h. (c .before .before .pop) .ensures ts s x (ends-none h (row .result) (row .ensures ∙ ap infixAt ((c .before .before .before .before .before .before .kind) .ensures)) ((c .before .before .before .before .if1) .taken))
+    let at-pop = c .before .before in
+    let at-if1 = at-pop .before .before in
+    let at-infix = at-if1 .before in
+    let at-kind = at-infix .before in
+    let row = at-infix .«infix» in
+    λ ts s x h. (at-pop .pop) .ensures ts s x (ends-none h (row .result) (row .ensures ∙ ap infixAt ((at-kind .kind) .ensures)) ((at-if1 .if1) .taken))
 
 pop-requires-2 : tie.Need-pop-requires-2
 pop-requires-2 c κs =
-    record { tokens = (c .before .before .before .before .before .before .before .before .before) .pre .tokens; start = (c .before .before .before .before .before .before .before .before .before) .pre .start; answer = (c .before .before .before .before .before .before .before .before .before) .pre .answer; state = ends-loose ((c .before .before .before .before .before .before .before .before .before) .pre .state) ((c .before .before .before .before .«infix») .result) ((c .before .before .before .before .«infix») .ensures ∙ ap infixAt ((c .before .before .before .before .before .kind) .ensures)) ((c .before .before .before .if1) .left) (omega arith) }
+    let at-if1 = c .before .before .before in
+    let at-infix = at-if1 .before in
+    let at-kind = at-infix .before in
+    let start-2 = at-kind .before .before .before .before in
+    record {
+      tokens = start-2 .pre .tokens;
+      start = start-2 .pre .start;
+      answer = start-2 .pre .answer;
+      state = ends-loose (start-2 .pre .state) ((at-infix .«infix») .result)
+          ((at-infix .«infix») .ensures ∙ ap infixAt ((at-kind .kind) .ensures)) ((at-if1 .if1) .left) (omega arith);
+    }
 
 same-length-2 : tie.Need-same-length-2
 same-length-2 c = search needs
 
 returns-2 : tie.Need-returns-2
 returns-2 c =
-    λ ts s x h. (c .before .before .pop2) .ensures ts s x (ends-loose h ((c .before .before .before .before .before .before .before .«infix») .result) ((c .before .before .before .before .before .before .before .«infix») .ensures ∙ ap infixAt ((c .before .before .before .before .before .before .before .before .kind) .ensures)) ((c .before .before .before .before .before .before .if1) .left) (omega arith))
+    let at-pop2 = c .before .before in
+    let at-if1 = at-pop2 .before .before .before .before in
+    let at-infix = at-if1 .before in
+    let at-kind = at-infix .before in
+    λ ts s x h. (at-pop2 .pop2) .ensures ts s x (ends-loose h ((at-infix .«infix») .result) ((at-infix .«infix») .ensures ∙ ap infixAt ((at-kind .kind) .ensures)) ((at-if1 .if1) .left) (omega arith))
 
 next-requires : tie.Need-next-requires
 next-requires c κs =
-    let start = c .before .before .before .before .before .before .before .before .before in
-    let row = c .before .before .before .before .«infix» in
-    let i = operator-inside (start .pre .state) (row .result) (row .ensures ∙ ap infixAt ((c .before .before .before .before .before .kind) .ensures)) ((c .before .before .before .if1) .left) in omega (arith, asks-kind (start .pre) .few)
+    let at-if1 = c .before .before .before in
+    let at-infix = at-if1 .before in
+    let at-kind = at-infix .before in
+    let start = at-kind .before .before .before .before in
+    let row = at-infix .«infix» in
+    let i = operator-inside (start .pre .state) (row .result) (row .ensures ∙ ap infixAt ((at-kind .kind) .ensures)) ((at-if1 .if1) .left) in omega (arith, asks-kind (start .pre) .few)
 
 push-requires : tie.Need-push-requires
 push-requires c κs =
-    let start = c .before .before .before .before .before .before .before .before .before .before in
-    let row = c .before .before .before .before .before .«infix» in
-    let i = operator-inside (start .pre .state) (row .result) (row .ensures ∙ ap infixAt ((c .before .before .before .before .before .before .kind) .ensures)) ((c .before .before .before .before .if1) .left) in let f = facts (start .pre .state) in record { room = f .fits .room; deep = omega (arith, f .apart, f .few); class-fits = lit< tt; level-fits = f .level-fits; token-fits = omega (arith, f .fits .few) }
+    let at-if1 = c .before .before .before .before in
+    let at-infix = at-if1 .before in
+    let at-kind = at-infix .before in
+    let start = at-kind .before .before .before .before in
+    let row = at-infix .«infix» in
+    let i = operator-inside (start .pre .state) (row .result) (row .ensures ∙ ap infixAt ((at-kind .kind) .ensures)) ((at-if1 .if1) .left) in let f = facts (start .pre .state) in
+    record { room = f .fits .room; deep = omega (arith, f .apart, f .few); class-fits = lit< tt; level-fits = f .level-fits; token-fits = omega (arith, f .fits .few) }
 
 same-length-3 : tie.Need-same-length-3
 same-length-3 c = search needs
 
 returns-3 : tie.Need-returns-3
 returns-3 c =
-    λ ts s x h. rw ((c .before .before .push) .ensures .0, (c .before .before .push) .ensures .1, (c .before .before .before .next) .ensures) (turn-right h ((c .before .before .before .before .before .before .before .before .«infix») .result) ((c .before .before .before .before .before .before .before .before .«infix») .ensures ∙ ap infixAt ((c .before .before .before .before .before .before .before .before .before .kind) .ensures)) ((c .before .before .before .before .before .before .before .if1) .left) (omega arith))
+    let at-push = c .before .before in
+    let at-next = at-push .before in
+    let at-if1 = at-next .before .before .before .before in
+    let at-infix = at-if1 .before in
+    let at-kind = at-infix .before in
+    λ ts s x h. rw ((at-push .push) .ensures .0, (at-push .push) .ensures .1, (at-next .next) .ensures)
+    (turn-right h ((at-infix .«infix») .result) ((at-infix .«infix») .ensures ∙ ap infixAt ((at-kind .kind) .ensures)) ((at-if1 .if1) .left) (omega arith))
 
 pub climb-spec : {M : Type 1} → statement M
 climb-spec =

@@ -15,7 +15,10 @@ top-requires c κs =
 
 whole-requires : tie.Need-whole-requires
 whole-requires c κs =
-    ((c .before .before .before .before .before .before .before) .pre, (let z = (c .before .before .before .before .if1) .left in omega arith), rw (← (c .before .before .top) .ensures) (omega arith))
+    let at-top = c .before .before in
+    let at-if1 = at-top .before .before in
+    let start = at-if1 .before .before .before in
+    (start .pre, (let z = (at-if1 .if1) .left in omega arith), rw (← (at-top .top) .ensures) (omega arith))
 
 same-length : tie.Need-same-length
 same-length c = search needs
@@ -25,7 +28,10 @@ returns-2 c = (c .before .before .whole) .ensures
 
 close-requires : tie.Need-close-requires
 close-requires c κs =
-    ((c .before .before .before .before .before .before .before .before) .pre, (let z = (c .before .before .before .before .before .if1) .left in omega arith), rw (← (c .before .before .before .top) .ensures) (omega arith), rw (← (c .before .before .before .top) .ensures) (omega arith))
+    let at-top = c .before .before .before in
+    let at-if1 = at-top .before .before in
+    let start = at-if1 .before .before .before in
+    (start .pre, (let z = (at-if1 .if1) .left in omega arith), rw (← (at-top .top) .ensures) (omega arith), rw (← (at-top .top) .ensures) (omega arith))
 
 same-length-2 : tie.Need-same-length-2
 same-length-2 c = search needs
@@ -35,7 +41,10 @@ returns-3 c = (c .before .before .close) .ensures
 
 all-requires : tie.Need-all-requires
 all-requires c κs =
-    ((c .before .before .before .before .before .before .before .before .before) .pre, (let z = (c .before .before .before .before .before .before .if1) .left in omega arith), rw (← (c .before .before .before .before .top) .ensures) (omega arith))
+    let at-top = c .before .before .before .before in
+    let at-if1 = at-top .before .before in
+    let start = at-if1 .before .before .before in
+    (start .pre, (let z = (at-if1 .if1) .left in omega arith), rw (← (at-top .top) .ensures) (omega arith))
 
 same-length-3 : tie.Need-same-length-3
 same-length-3 c = search needs
@@ -45,7 +54,10 @@ returns-4 c = (c .before .before .all) .ensures
 
 further-requires : tie.Need-further-requires
 further-requires c κs =
-    ((c .before .before .before .before .before .before .before .before .before .before) .pre, (let z = (c .before .before .before .before .before .before .before .if1) .left in omega arith), rw (← (c .before .before .before .before .before .top) .ensures) (omega arith), rw (← (c .before .before .before .before .before .top) .ensures) (omega arith))
+    let at-top = c .before .before .before .before .before in
+    let at-if1 = at-top .before .before in
+    let start = at-if1 .before .before .before in
+    (start .pre, (let z = (at-if1 .if1) .left in omega arith), rw (← (at-top .top) .ensures) (omega arith), rw (← (at-top .top) .ensures) (omega arith))
 
 same-length-4 : tie.Need-same-length-4
 same-length-4 c = search needs
@@ -55,7 +67,10 @@ returns-5 c = (c .before .before .further) .ensures
 
 set-requires : tie.Need-set-requires
 set-requires c κs =
-    ((c .before .before .before .before .before .before .before .before .before .before .before) .pre, (let z = (c .before .before .before .before .before .before .before .before .if1) .left in omega arith), rw (← (c .before .before .before .before .before .before .top) .ensures) (omega arith), rw (← (c .before .before .before .before .before .before .top) .ensures) (omega arith))
+    let at-top = c .before .before .before .before .before .before in
+    let at-if1 = at-top .before .before in
+    let start = at-if1 .before .before .before in
+    (start .pre, (let z = (at-if1 .if1) .left in omega arith), rw (← (at-top .top) .ensures) (omega arith), rw (← (at-top .top) .ensures) (omega arith))
 
 same-length-5 : tie.Need-same-length-5
 same-length-5 c = search needs
@@ -65,7 +80,10 @@ returns-6 c = (c .before .before .set) .ensures
 
 names-requires : tie.Need-names-requires
 names-requires c κs =
-    ((c .before .before .before .before .before .before .before .before .before .before .before) .pre, (let z = (c .before .before .before .before .before .before .before .before .if1) .left in omega arith), rw (← (c .before .before .before .before .before .before .top) .ensures) (omega arith))
+    let at-top = c .before .before .before .before .before .before in
+    let at-if1 = at-top .before .before in
+    let start = at-if1 .before .before .before in
+    (start .pre, (let z = (at-if1 .if1) .left in omega arith), rw (← (at-top .top) .ensures) (omega arith))
 
 same-length-6 : tie.Need-same-length-6
 same-length-6 c = search needs

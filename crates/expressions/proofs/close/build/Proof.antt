@@ -29,7 +29,8 @@ add-emit c =
 
 emit-requires : tie.Need-emit-requires
 emit-requires c κs =
-    let p = (c .before .before .before .before .before .before) .pre in record { room = p .room; few = omega (arith, p .few); kind-fits = p .kind-fits; index-fits = omega arith; size-fits = omega (arith, p .few) }
+    let p = (c .before .before .before .before .before .before) .pre in
+    record { room = p .room; few = omega (arith, p .few); kind-fits = p .kind-fits; index-fits = omega arith; size-fits = omega (arith, p .few) }
 
 popped-requires : tie.Need-popped-requires
 popped-requires c κs =
@@ -44,8 +45,11 @@ same-length c = search needs
 
 returns : tie.Need-returns
 returns c =
-    let emit = c .before .before .before .before .emit in
-    rw ((c .climbing) .ensures, (c .before .popped) .ensures, emit .ensures .0, emit .ensures .1, (c .before .before .before .before .before .before .start-of) .ensures, (c .before .before .before .before .before .before .before .before .top) .ensures) (search needs)
+    let at-emit = c .before .before .before .before in
+    let at-start-of = at-emit .before .before in
+    let at-top = at-start-of .before .before in
+    let emit = at-emit .emit in
+    rw ((c .climbing) .ensures, (c .before .popped) .ensures, emit .ensures .0, emit .ensures .1, (at-start-of .start-of) .ensures, (at-top .top) .ensures) (search needs)
 
 pub build-spec : {M : Type 1} → statement M
 build-spec =

@@ -13,22 +13,30 @@ strict-requires-2 c κs = search needs
 
 returns : tie.Need-returns
 returns c =
-    sym (ap₂ Kind.between (sym ((c .before .before .before .strict) .ensures) ∙ (c .before .before .if1) .taken) (sym ((c .before .strict2) .ensures) ∙ (c .if2) .taken))
+    let at-if1 = c .before .before in
+    let at-strict = at-if1 .before in
+    sym (ap₂ Kind.between (sym ((at-strict .strict) .ensures) ∙ (at-if1 .if1) .taken) (sym ((c .before .strict2) .ensures) ∙ (c .if2) .taken))
 
 returns-2 : tie.Need-returns-2
 returns-2 c =
-    sym (ap₂ Kind.between (sym ((c .before .before .before .strict) .ensures) ∙ (c .before .before .if1) .taken) (sym ((c .before .strict2) .ensures) ∙ (c .if2) .left))
+    let at-if1 = c .before .before in
+    let at-strict = at-if1 .before in
+    sym (ap₂ Kind.between (sym ((at-strict .strict) .ensures) ∙ (at-if1 .if1) .taken) (sym ((c .before .strict2) .ensures) ∙ (c .if2) .left))
 
 strict-requires-3 : tie.Need-strict-requires-3
 strict-requires-3 c κs = search needs
 
 returns-3 : tie.Need-returns-3
 returns-3 c =
-    sym (ap₂ Kind.between (sym ((c .before .before .before .strict) .ensures) ∙ (c .before .before .if1) .left) (sym ((c .before .strict3) .ensures) ∙ (c .if3) .taken))
+    let at-if1 = c .before .before in
+    let at-strict = at-if1 .before in
+    sym (ap₂ Kind.between (sym ((at-strict .strict) .ensures) ∙ (at-if1 .if1) .left) (sym ((c .before .strict3) .ensures) ∙ (c .if3) .taken))
 
 returns-4 : tie.Need-returns-4
 returns-4 c =
-    sym (ap₂ Kind.between (sym ((c .before .before .before .strict) .ensures) ∙ (c .before .before .if1) .left) (sym ((c .before .strict3) .ensures) ∙ (c .if3) .left))
+    let at-if1 = c .before .before in
+    let at-strict = at-if1 .before in
+    sym (ap₂ Kind.between (sym ((at-strict .strict) .ensures) ∙ (at-if1 .if1) .left) (sym ((c .before .strict3) .ensures) ∙ (c .if3) .left))
 
 pub between-spec : {M : Type 1} → statement M
 between-spec =

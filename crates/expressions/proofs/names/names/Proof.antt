@@ -16,7 +16,9 @@ top-requires c κs =
 
 low-requires : tie.Need-low-requires
 low-requires c κs =
-    ((c .before .before .before .before .before .before) .pre .0, ((c .before .before .before .before .before .before) .pre .1), (let q : (c .before .before .top) .result / 8192 / 32 ≡ 18 = omega arith in ap slotClass (sym ((c .before .before .top) .ensures)) ∙ q))
+    let at-top = c .before .before in
+    let start = at-top .before .before .before .before in
+    (start .pre .0, (start .pre .1), (let q : (at-top .top) .result / 8192 / 32 ≡ 18 = omega arith in ap slotClass (sym ((at-top .top) .ensures)) ∙ q))
 
 same-length : tie.Need-same-length
 same-length c = search needs
@@ -29,21 +31,33 @@ cast-at c = omega arith
 
 number-requires : tie.Need-number-requires
 number-requires c κs =
-    (((c .before .before .before .before .before .before .before) .pre .0 .state) .stacked .ready .fits .room, omega arith)
+    let start = c .before .before .before .before .before .before .before in
+    ((start .pre .0 .state) .stacked .ready .fits .room, omega arith)
 
 add-number : tie.Need-add-number
 add-number c = omega arith
 
 number-requires-2 : tie.Need-number-requires-2
 number-requires-2 c κs =
-    rw ((c .before .before .before .before .before .top) .ensures) (((c .before .before .before .before .before .before .before .before .before) .pre .0 .state) .stacked .ready .fits .room, upper-index ((c .before .before .before .before .before .before .before .before .before) .pre .0 .state) ((c .before .before .before .before .before .before .before .before .before) .pre .1) (let q : (c .before .before .before .before .before .top) .result / 8192 / 32 ≡ 19 = omega arith in ap slotClass (sym ((c .before .before .before .before .before .top) .ensures)) ∙ q))
+    let at-top = c .before .before .before .before .before in
+    let start = at-top .before .before .before .before in
+    rw ((at-top .top) .ensures) (
+      (start .pre .0 .state) .stacked .ready .fits .room,
+      upper-index (start .pre .0 .state) (start .pre .1)
+          (let q : (at-top .top) .result / 8192 / 32 ≡ 19 = omega arith in ap slotClass (sym ((at-top .top) .ensures)) ∙ q),
+    )
 
 between-requires : tie.Need-between-requires
 between-requires c κs = search needs
 
 grow-requires : tie.Need-grow-requires
 grow-requires c κs =
-    rw ((c .before .between) .ensures, (c .before .before .number2) .ensures, (c .before .before .before .before .number) .ensures, (c .before .before .before .before .before .before .before .before .top) .ensures) (upper-grows ((c .before .before .before .before .before .before .before .before .before .before .before .before) .pre .0 .state) ((c .before .before .before .before .before .before .before .before .before .before .before .before) .pre .1) (let q : (c .before .before .before .before .before .before .before .before .top) .result / 8192 / 32 ≡ 19 = omega arith in ap slotClass (sym ((c .before .before .before .before .before .before .before .before .top) .ensures)) ∙ q))
+    let at-number2 = c .before .before in
+    let at-number = at-number2 .before .before in
+    let at-top = at-number .before .before .before .before in
+    let start = at-top .before .before .before .before in
+    rw ((c .before .between) .ensures, (at-number2 .number2) .ensures, (at-number .number) .ensures, (at-top .top) .ensures)
+    (upper-grows (start .pre .0 .state) (start .pre .1) (let q : (at-top .top) .result / 8192 / 32 ≡ 19 = omega arith in ap slotClass (sym ((at-top .top) .ensures)) ∙ q))
 
 popped-requires : tie.Need-popped-requires
 popped-requires c κs =
@@ -55,14 +69,60 @@ add-named c = omega arith
 
 named-requires : tie.Need-named-requires
 named-requires c κs =
-    rw ((c .before .popped) .ensures, (c .before .before .before .before .grow) .ensures .0, (c .before .before .before .before .grow) .ensures .1, (c .before .before .before .before .before .before .between) .ensures, (c .before .before .before .before .before .before .before .number2) .ensures, (c .before .before .before .before .before .before .before .before .before .number) .ensures, (c .before .before .before .before .before .before .before .before .before .before .before .before .before .top) .ensures) (record { tokens = (c .before .before .before .before .before .before .before .before .before .before .before .before .before .before .before .before .before) .pre .0 .tokens; start = (c .before .before .before .before .before .before .before .before .before .before .before .before .before .before .before .before .before) .pre .0 .start; answer = (c .before .before .before .before .before .before .before .before .before .before .before .before .before .before .before .before .before) .pre .0 .answer; state = names-upper ((c .before .before .before .before .before .before .before .before .before .before .before .before .before .before .before .before .before) .pre .0 .state) ((c .before .before .before .before .before .before .before .before .before .before .before .before .before .before .before .before .before) .pre .1) (let q : (c .before .before .before .before .before .before .before .before .before .before .before .before .before .top) .result / 8192 / 32 ≡ 19 = omega arith in ap slotClass (sym ((c .before .before .before .before .before .before .before .before .before .before .before .before .before .top) .ensures)) ∙ q) })
+    let at-grow = c .before .before .before .before in
+    let at-between = at-grow .before .before in
+    let at-number2 = at-between .before in
+    let at-number = at-number2 .before .before in
+    let at-top = at-number .before .before .before .before in
+    let start-2 = at-top .before .before .before .before in
+    rw (
+      (c .before .popped) .ensures,
+      (at-grow .grow) .ensures .0,
+      (at-grow .grow) .ensures .1,
+      (at-between .between) .ensures,
+      (at-number2 .number2) .ensures,
+      (at-number .number) .ensures,
+      (at-top .top) .ensures,
+    ) (record {
+      tokens = start-2 .pre .0 .tokens;
+      start = start-2 .pre .0 .start;
+      answer = start-2 .pre .0 .answer;
+      state = names-upper (start-2 .pre .0 .state)
+          (start-2 .pre .1) (let q : (at-top .top) .result / 8192 / 32 ≡ 19 = omega arith in ap slotClass (sym ((at-top .top) .ensures)) ∙ q);
+    })
 
 same-length-2 : tie.Need-same-length-2
 same-length-2 c = search needs
 
 returns-2 : tie.Need-returns-2
 returns-2 c =
-    λ ts s x h. turn-upper h ((c .before .before .before .before .before .before .before .before .before .before .before .before .before .before .before .before .before .before .before .before) .pre .1) (let q : (c .before .before .before .before .before .before .before .before .before .before .before .before .before .before .before .before .top) .result / 8192 / 32 ≡ 19 = omega arith in ap slotClass (sym ((c .before .before .before .before .before .before .before .before .before .before .before .before .before .before .before .before .top) .ensures)) ∙ q) ((c .before .before .named) .result) (rw ((c .before .before .before .before .popped) .ensures, (c .before .before .before .before .before .before .before .grow) .ensures .0, (c .before .before .before .before .before .before .before .grow) .ensures .1, (c .before .before .before .before .before .before .before .before .before .between) .ensures, (c .before .before .before .before .before .before .before .before .before .before .number2) .ensures, (c .before .before .before .before .before .before .before .before .before .before .before .before .number) .ensures, (c .before .before .before .before .before .before .before .before .before .before .before .before .before .before .before .before .top) .ensures) at ((c .before .before .named) .ensures ts s x (rw ((c .before .before .before .before .popped) .ensures, (c .before .before .before .before .before .before .before .grow) .ensures .0, (c .before .before .before .before .before .before .before .grow) .ensures .1, (c .before .before .before .before .before .before .before .before .before .between) .ensures, (c .before .before .before .before .before .before .before .before .before .before .number2) .ensures, (c .before .before .before .before .before .before .before .before .before .before .before .before .number) .ensures, (c .before .before .before .before .before .before .before .before .before .before .before .before .before .before .before .before .top) .ensures) (names-upper h ((c .before .before .before .before .before .before .before .before .before .before .before .before .before .before .before .before .before .before .before .before) .pre .1) (let q : (c .before .before .before .before .before .before .before .before .before .before .before .before .before .before .before .before .top) .result / 8192 / 32 ≡ 19 = omega arith in ap slotClass (sym ((c .before .before .before .before .before .before .before .before .before .before .before .before .before .before .before .before .top) .ensures)) ∙ q)))))
+    let at-named = c .before .before in
+    let at-popped = at-named .before .before in
+    let at-grow = at-popped .before .before .before in
+    let at-between = at-grow .before .before in
+    let at-number2 = at-between .before in
+    let at-number = at-number2 .before .before in
+    let at-top = at-number .before .before .before .before in
+    let start = at-top .before .before .before .before in
+    λ ts s x h. turn-upper h (start .pre .1) (let q : (at-top .top) .result / 8192 / 32 ≡ 19 = omega arith in ap slotClass (sym ((at-top .top) .ensures)) ∙ q) ((at-named .named) .result)
+    (rw (
+      (at-popped .popped) .ensures,
+      (at-grow .grow) .ensures .0,
+      (at-grow .grow) .ensures .1,
+      (at-between .between) .ensures,
+      (at-number2 .number2) .ensures,
+      (at-number .number) .ensures,
+      (at-top .top) .ensures,
+    ) at ((at-named .named) .ensures ts s x
+    (rw (
+      (at-popped .popped) .ensures,
+      (at-grow .grow) .ensures .0,
+      (at-grow .grow) .ensures .1,
+      (at-between .between) .ensures,
+      (at-number2 .number2) .ensures,
+      (at-number .number) .ensures,
+      (at-top .top) .ensures,
+    ) (names-upper h (start .pre .1) (let q : (at-top .top) .result / 8192 / 32 ≡ 19 = omega arith in ap slotClass (sym ((at-top .top) .ensures)) ∙ q)))))
 
 popped-requires-2 : tie.Need-popped-requires-2
 popped-requires-2 c κs =
@@ -71,14 +131,31 @@ popped-requires-2 c κs =
 
 named-requires-2 : tie.Need-named-requires-2
 named-requires-2 c κs =
-    rw ((c .before .popped2) .ensures, (c .before .before .before .before .top) .ensures) (record { tokens = (c .before .before .before .before .before .before .before .before) .pre .0 .tokens; start = (c .before .before .before .before .before .before .before .before) .pre .0 .start; answer = (c .before .before .before .before .before .before .before .before) .pre .0 .answer; state = names-member ((c .before .before .before .before .before .before .before .before) .pre .0 .state) ((c .before .before .before .before .before .before .before .before) .pre .1) (let q : (c .before .before .before .before .top) .result / 8192 / 32 ≡ 20 = (let low = (c .before .before .before .before .before .before .before .before) .pre .2 in let high = class-few ((c .before .before .before .before .before .before .before .before) .pre .0 .state) ((c .before .before .before .before .before .before .before .before) .pre .1) in let e = ap slotClass ((c .before .before .before .before .top) .ensures) in omega arith) in ap slotClass (sym ((c .before .before .before .before .top) .ensures)) ∙ q) })
+    let at-top = c .before .before .before .before in
+    let start-2 = at-top .before .before .before .before in
+    rw ((c .before .popped2) .ensures, (at-top .top) .ensures) (record {
+      tokens = start-2 .pre .0 .tokens;
+      start = start-2 .pre .0 .start;
+      answer = start-2 .pre .0 .answer;
+      state = names-member (start-2 .pre .0 .state) (start-2 .pre .1)
+          (let q : (at-top .top) .result / 8192 / 32 ≡ 20 = (let low = start-2 .pre .2 in let high = class-few (start-2 .pre .0 .state) (start-2 .pre .1) in
+          let e = ap slotClass ((at-top .top) .ensures) in omega arith) in ap slotClass (sym ((at-top .top) .ensures)) ∙ q);
+    })
 
 same-length-3 : tie.Need-same-length-3
 same-length-3 c = search needs
 
 returns-3 : tie.Need-returns-3
 returns-3 c =
-    λ ts s x h. turn-member h ((c .before .before .before .before .before .before .before .before .before .before .before) .pre .1) ((c .before .before .named2) .result) (rw ((c .before .before .before .before .popped2) .ensures) at ((c .before .before .named2) .ensures ts s x (rw ((c .before .before .before .before .popped2) .ensures, (c .before .before .before .before .before .before .before .top) .ensures) (names-member h ((c .before .before .before .before .before .before .before .before .before .before .before) .pre .1) (let q : (c .before .before .before .before .before .before .before .top) .result / 8192 / 32 ≡ 20 = (let low = (c .before .before .before .before .before .before .before .before .before .before .before) .pre .2 in let high = class-few ((c .before .before .before .before .before .before .before .before .before .before .before) .pre .0 .state) ((c .before .before .before .before .before .before .before .before .before .before .before) .pre .1) in let e = ap slotClass ((c .before .before .before .before .before .before .before .top) .ensures) in omega arith) in ap slotClass (sym ((c .before .before .before .before .before .before .before .top) .ensures)) ∙ q)))))
+    let at-named2 = c .before .before in
+    let at-popped2 = at-named2 .before .before in
+    let at-top = at-popped2 .before .before .before in
+    let start = at-top .before .before .before .before in
+    λ ts s x h. turn-member h (start .pre .1) ((at-named2 .named2) .result)
+    (rw ((at-popped2 .popped2) .ensures) at ((at-named2 .named2) .ensures ts s x
+    (rw ((at-popped2 .popped2) .ensures, (at-top .top) .ensures) (names-member h (start .pre .1)
+    (let q : (at-top .top) .result / 8192 / 32 ≡ 20 = (let low = start .pre .2 in let high = class-few (start .pre .0 .state) (start .pre .1) in let e = ap slotClass ((at-top .top) .ensures) in
+    omega arith) in ap slotClass (sym ((at-top .top) .ensures)) ∙ q)))))
 
 pub names-spec : {M : Type 1} → statement M
 names-spec =

@@ -21,8 +21,9 @@ returns-2 c = sym (ap signAt ((c .if2) .taken))
 
 returns-3 : tie.Need-returns-3
 returns-3 c =
-    let start = c .before .before .before in
-    let n = start .args .number in sym (ap (λ b. b || (eqb n 13 || eqb n 85)) (sym ((c .before .before .strict) .ensures) ∙ (c .before .if1) .left) ∙ ap (λ b. b || eqb n 85) (ne-eqb n 13 ((c .if2) .left)))
+    let at-strict = c .before .before in
+    let start = at-strict .before in
+    let n = start .args .number in sym (ap (λ b. b || (eqb n 13 || eqb n 85)) (sym ((at-strict .strict) .ensures) ∙ (c .before .if1) .left) ∙ ap (λ b. b || eqb n 85) (ne-eqb n 13 ((c .if2) .left)))
 
 pub sign-spec : {M : Type 1} → statement M
 sign-spec =

@@ -30,21 +30,42 @@ same-length c = search needs
 
 returns : tie.Need-returns
 returns c =
-    let start = c .before .before .before .before .before .before .before in
-    λ ts s x h. let r = expected-refused (now (start .args .work)) (nextOf ((start .args .m) .c)) 24 _ _ (ap (λ d. expected (now (start .args .work)) d 24) (sym ((c .before .before .before .before .next) .ensures)) ∙ sym ((c .before .before .expect) .ensures) ∙ (c .enum-told) .given .1) in rw ((c .enum-told) .given .1 ∙ r .1) (turn-unopened h (start .pre .1) (start .pre .2) (r .0))
+    let at-expect = c .before .before in
+    let at-next = at-expect .before .before in
+    let start = at-next .before .before .before in
+    λ ts s x h. let r = expected-refused (now (start .args .work)) (nextOf ((start .args .m) .c)) 24 _ _
+    (ap (λ d. expected (now (start .args .work)) d 24) (sym ((at-next .next) .ensures)) ∙ sym ((at-expect .expect) .ensures) ∙ (c .enum-told) .given .1) in
+    rw ((c .enum-told) .given .1 ∙ r .1) (turn-unopened h (start .pre .1) (start .pre .2) (r .0))
 
 binder-requires : tie.Need-binder-requires
 binder-requires c κs =
-    let start = c .before .before .before .before .before .before .before .before .before in
-    let r = (expected-parsed (now (start .args .work)) (nextOf ((start .args .m) .c)) ((c .before .before .r) .given .0 .0) 24 (ap (λ d. expected (now (start .args .work)) d 24) (sym ((c .before .before .before .before .before .before .next) .ensures)) ∙ sym ((c .before .before .before .before .expect) .ensures) ∙ (c .before .before .r) .given .1)) in rw (r .1) (record { tokens = (start .pre .0) .tokens; start = (start .pre .0) .start; answer = (start .pre .0) .answer; state = fold-names (start .pre .0 .state) (start .pre .1) (start .pre .2) (r .0) })
+    let at-r = c .before .before in
+    let at-expect = at-r .before .before in
+    let at-next = at-expect .before .before in
+    let start = at-next .before .before .before in
+    let r = (expected-parsed (now (start .args .work)) (nextOf ((start .args .m) .c)) ((at-r .r) .given .0 .0) 24
+    (ap (λ d. expected (now (start .args .work)) d 24) (sym ((at-next .next) .ensures)) ∙ sym ((at-expect .expect) .ensures) ∙ (at-r .r) .given .1)) in
+    rw (r .1) (record {
+      tokens = (start .pre .0) .tokens;
+      start = (start .pre .0) .start;
+      answer = (start .pre .0) .answer;
+      state = fold-names (start .pre .0 .state) (start .pre .1)
+          (start .pre .2) (r .0);
+    })
 
 same-length-2 : tie.Need-same-length-2
 same-length-2 c = search needs
 
 returns-2 : tie.Need-returns-2
 returns-2 c =
-    let start = c .before .before .before .before .before .before .before .before .before .before .before .before in
-    λ ts s x h. let r = (expected-parsed (now (start .args .work)) (nextOf ((start .args .m) .c)) ((c .before .before .before .before .before .r) .given .0 .0) 24 (ap (λ d. expected (now (start .args .work)) d 24) (sym ((c .before .before .before .before .before .before .before .before .before .next) .ensures)) ∙ sym ((c .before .before .before .before .before .before .before .expect) .ensures) ∙ (c .before .before .before .before .before .r) .given .1)) in turn-fold h (start .pre .1) (start .pre .2) (r .0) (rw (r .1) at ((c .before .before .binder) .ensures ts s x (rw (r .1) (fold-names h (start .pre .1) (start .pre .2) (r .0)))))
+    let at-binder = c .before .before in
+    let at-r = at-binder .before .before .before in
+    let at-expect = at-r .before .before in
+    let at-next = at-expect .before .before in
+    let start = at-next .before .before .before in
+    λ ts s x h. let r = (expected-parsed (now (start .args .work)) (nextOf ((start .args .m) .c)) ((at-r .r) .given .0 .0) 24
+    (ap (λ d. expected (now (start .args .work)) d 24) (sym ((at-next .next) .ensures)) ∙ sym ((at-expect .expect) .ensures) ∙ (at-r .r) .given .1)) in
+    turn-fold h (start .pre .1) (start .pre .2) (r .0) (rw (r .1) at ((at-binder .binder) .ensures ts s x (rw (r .1) (fold-names h (start .pre .1) (start .pre .2) (r .0)))))
 
 pub fold-spec : {M : Type 1} → statement M
 fold-spec =

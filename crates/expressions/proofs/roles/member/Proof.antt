@@ -21,16 +21,23 @@ next-requires c κs =
 
 kind-requires-2 : tie.Need-kind-requires-2
 kind-requires-2 c κs =
-    let i = before-end (now ((c .before .before .before .before) .args .work)) ((c .before .before .before .before) .args .c) (omega (arith, (c .before .before .kind) .ensures)) in let f = (c .before .before .before .before) .pre in rw ((c .next) .ensures) (record { room = f .room; few = f .few; short = f .short; inside = omega arith })
+    let at-kind = c .before .before in
+    let start = at-kind .before .before in
+    let i = before-end (now (start .args .work)) (start .args .c) (omega (arith, (at-kind .kind) .ensures)) in let f = start .pre in
+    rw ((c .next) .ensures) (record { room = f .room; few = f .few; short = f .short; inside = omega arith })
 
 among-requires : tie.Need-among-requires
 among-requires c κs = search needs
 
 returns : tie.Need-returns
 returns c =
-    let start = c .before .before .before .before .before .before in
+    let at-next = c .before .before in
+    let at-if1 = at-next .before in
+    let at-kind = at-if1 .before in
+    let start = at-kind .before .before in
     let k = kindAt (now (start .args .work)) (start .args .c) in
-    (c .among) .ensures ∙ ap amongAt ((c .before .kind2) .ensures ∙ ap (kindAt (now (start .args .work))) ((c .before .before .next) .ensures)) ∙ ap (λ b. b && amongAt (kindAt (now (start .args .work)) (nextOf (start .args .c)))) (sym (eq-eqb k 1 (sym ((c .before .before .before .before .kind) .ensures) ∙ (c .before .before .before .if1) .taken)))
+    (c .among) .ensures ∙ ap amongAt ((c .before .kind2) .ensures ∙ ap (kindAt (now (start .args .work))) ((at-next .next) .ensures)) ∙ ap
+    (λ b. b && amongAt (kindAt (now (start .args .work)) (nextOf (start .args .c)))) (sym (eq-eqb k 1 (sym ((at-kind .kind) .ensures) ∙ (at-if1 .if1) .taken)))
 
 returns-2 : tie.Need-returns-2
 returns-2 c =

@@ -1,11 +1,10 @@
 -- `expressions::roles::operand` meets its contract: by the row of Table 1 that the first token has, and by the bracket behind it.
 use borrow.Author.Needs.{needs}
 use native.Mathlib.Omega.{arith}
-use mathlib.Core.Path.{_≡_, sym, ap, _∙_}
+use mathlib.Core.Path.{_≡_, sym, ap, _∙_, subst}
 use lib.Dec.{lit<}
 use denote.Ref.{now}
 use Prim.Native.Nat.{_/_, _%_, _≤_}
-use mathlib.Core.Path.{subst}
 use Rattle.entries.specs.Cursors.{kindAt, nextOf}
 use Rattle.operators.specs.Tables.{prefixAt}
 use Rattle.expressions.specs.StateAsks.{asks-kind, asks-next, asks-second, asks-third, asks-push}
@@ -23,8 +22,10 @@ prefix-requires c κs = search needs
 
 atom-requires : tie.Need-atom-requires
 atom-requires c κs =
-    let start = c .before .before .before .before .before .before .before in
-    ((start .pre), sym ((c .before .before .prefix) .ensures ∙ ap prefixAt ((c .before .before .before .kind) .ensures)) ∙ (c .before .if1) .taken)
+    let at-prefix = c .before .before in
+    let at-kind = at-prefix .before in
+    let start = at-kind .before .before .before .before in
+    ((start .pre), sym ((at-prefix .prefix) .ensures ∙ ap prefixAt ((at-kind .kind) .ensures)) ∙ (c .before .if1) .taken)
 
 same-length : tie.Need-same-length
 same-length c = search needs
@@ -42,11 +43,22 @@ same-length-2 c = search needs
 
 returns-2 : tie.Need-returns-2
 returns-2 c =
-    λ ts s x h. rw ((c .refuse) .ensures) (turn-loose h ((c .before .before .before .before .before .prefix) .result) ((c .before .before .before .before .before .prefix) .ensures ∙ ap prefixAt ((c .before .before .before .before .before .before .kind) .ensures)) ((c .before .before .before .before .if1) .left) (omega arith))
+    let at-if1 = c .before .before .before .before in
+    let at-prefix = at-if1 .before in
+    let at-kind = at-prefix .before in
+    λ ts s x h. rw ((c .refuse) .ensures) (turn-loose h ((at-prefix .prefix) .result) ((at-prefix .prefix) .ensures ∙ ap prefixAt ((at-kind .kind) .ensures)) ((at-if1 .if1) .left) (omega arith))
 
 fold-requires : tie.Need-fold-requires
 fold-requires c κs =
-    let l : ((c .before .before .before .before .before .prefix) .result) % 32 ≤ ((c .before .before .before .before .before .before .before .before .before .before) .args .m) .level = omega arith in (((c .before .before .before .before .before .before .before .before .before .before) .pre), ap (λ q. q / 32 % 8) (sym ((c .before .before .before .before .before .prefix) .ensures ∙ ap prefixAt ((c .before .before .before .before .before .before .kind) .ensures))) ∙ (c .before .if3) .taken, subst (λ q. q % 32 ≤ ((c .before .before .before .before .before .before .before .before .before .before) .args .m) .level) ((c .before .before .before .before .before .prefix) .ensures ∙ ap prefixAt ((c .before .before .before .before .before .before .kind) .ensures)) l)
+    let at-prefix = c .before .before .before .before .before in
+    let at-kind = at-prefix .before in
+    let start = at-kind .before .before .before .before in
+    let l : ((at-prefix .prefix) .result) % 32 ≤ (start .args .m) .level = omega arith in (
+      (start .pre),
+      ap (λ q. q / 32 % 8) (sym ((at-prefix .prefix) .ensures ∙ ap prefixAt ((at-kind .kind) .ensures))) ∙ (c .before .if3) .taken,
+      subst (λ q. q % 32 ≤ (start .args .m) .level)
+          ((at-prefix .prefix) .ensures ∙ ap prefixAt ((at-kind .kind) .ensures)) l,
+    )
 
 same-length-3 : tie.Need-same-length-3
 same-length-3 c = search needs
@@ -56,75 +68,161 @@ returns-3 c = (c .before .before .fold) .ensures
 
 next-requires : tie.Need-next-requires
 next-requires c κs =
-    let start = c .before .before .before .before .before .before .before .before .before in
-    let prefixed = c .before .before .before .before .prefix in
-    asks-next (start .pre) (not-end (start .pre .state) (prefixed .result) (prefixed .ensures ∙ ap prefixAt ((c .before .before .before .before .before .kind) .ensures)) ((c .before .before .before .if1) .left))
+    let at-if1 = c .before .before .before in
+    let at-prefix = at-if1 .before in
+    let at-kind = at-prefix .before in
+    let start = at-kind .before .before .before .before in
+    let prefixed = at-prefix .prefix in
+    asks-next (start .pre) (not-end (start .pre .state) (prefixed .result) (prefixed .ensures ∙ ap prefixAt ((at-kind .kind) .ensures)) ((at-if1 .if1) .left))
 
 push-requires : tie.Need-push-requires
 push-requires c κs =
-    let start = c .before .before .before .before .before .before .before .before .before .before .before .before in
-    let prefixed = c .before .before .before .before .before .before .before .prefix in
-    asks-push (start .pre) (not-end (start .pre .state) (prefixed .result) (prefixed .ensures ∙ ap prefixAt ((c .before .before .before .before .before .before .before .before .kind) .ensures)) ((c .before .before .before .before .before .before .if1) .left)) 2 (lit< tt)
+    let at-if1 = c .before .before .before .before .before .before in
+    let at-prefix = at-if1 .before in
+    let at-kind = at-prefix .before in
+    let start = at-kind .before .before .before .before in
+    let prefixed = at-prefix .prefix in
+    asks-push (start .pre) (not-end (start .pre .state) (prefixed .result) (prefixed .ensures ∙ ap prefixAt ((at-kind .kind) .ensures)) ((at-if1 .if1) .left)) 2 (lit< tt)
 
 same-length-4 : tie.Need-same-length-4
 same-length-4 c = search needs
 
 returns-4 : tie.Need-returns-4
 returns-4 c =
-    λ ts s x h. let l : ((c .before .before .before .before .before .before .before .before .before .before .prefix) .result) % 32 ≤ ((c .before .before .before .before .before .before .before .before .before .before .before .before .before .before .before) .args .m) .level = omega arith in rw ((c .before .before .push) .ensures .0, (c .before .before .push) .ensures .1, (c .before .before .before .before .before .next) .ensures) (turn-plain h ((c .before .before .before .before .before .before .before .before .before .before .prefix) .result) ((c .before .before .before .before .before .before .before .before .before .before .prefix) .ensures ∙ ap prefixAt ((c .before .before .before .before .before .before .before .before .before .before .before .kind) .ensures)) ((c .before .before .before .before .before .before .before .before .before .if1) .left) l ((c .before .before .before .before .if4) .taken))
+    let at-push = c .before .before in
+    let at-if4 = at-push .before .before in
+    let at-next = at-if4 .before in
+    let at-if1 = at-next .before .before .before .before in
+    let at-prefix = at-if1 .before in
+    let at-kind = at-prefix .before in
+    let start = at-kind .before .before .before .before in
+    λ ts s x h. let l : ((at-prefix .prefix) .result) % 32 ≤ (start .args .m) .level = omega arith in
+    rw ((at-push .push) .ensures .0, (at-push .push) .ensures .1, (at-next .next) .ensures)
+    (turn-plain h ((at-prefix .prefix) .result) ((at-prefix .prefix) .ensures ∙ ap prefixAt ((at-kind .kind) .ensures)) ((at-if1 .if1) .left) l ((at-if4 .if4) .taken))
 
 kind-requires-2 : tie.Need-kind-requires-2
 kind-requires-2 c κs =
-    let start = c .before .before .before .before .before .before .before .before .before .before .before .before in
-    let prefixed = c .before .before .before .before .before .before .before .prefix in
-    rw ((c .before .before .next) .ensures) (asks-second (start .pre) (not-end (start .pre .state) (prefixed .result) (prefixed .ensures ∙ ap prefixAt ((c .before .before .before .before .before .before .before .before .kind) .ensures)) ((c .before .before .before .before .before .before .if1) .left)))
+    let at-next = c .before .before in
+    let at-if1 = at-next .before .before .before .before in
+    let at-prefix = at-if1 .before in
+    let at-kind = at-prefix .before in
+    let start = at-kind .before .before .before .before in
+    let prefixed = at-prefix .prefix in
+    rw ((at-next .next) .ensures) (asks-second (start .pre) (not-end (start .pre .state) (prefixed .result) (prefixed .ensures ∙ ap prefixAt ((at-kind .kind) .ensures)) ((at-if1 .if1) .left)))
 
 push-requires-2 : tie.Need-push-requires-2
 push-requires-2 c κs =
-    let start = c .before .before .before .before .before .before .before .before .before .before .before .before .before .before .before in
-    let prefixed = c .before .before .before .before .before .before .before .before .before .before .prefix in
-    asks-push (start .pre) (not-end (start .pre .state) (prefixed .result) (prefixed .ensures ∙ ap prefixAt ((c .before .before .before .before .before .before .before .before .before .before .before .kind) .ensures)) ((c .before .before .before .before .before .before .before .before .before .if1) .left)) 2 (lit< tt)
+    let at-if1 = c .before .before .before .before .before .before .before .before .before in
+    let at-prefix = at-if1 .before in
+    let at-kind = at-prefix .before in
+    let start = at-kind .before .before .before .before in
+    let prefixed = at-prefix .prefix in
+    asks-push (start .pre) (not-end (start .pre .state) (prefixed .result) (prefixed .ensures ∙ ap prefixAt ((at-kind .kind) .ensures)) ((at-if1 .if1) .left)) 2 (lit< tt)
 
 same-length-5 : tie.Need-same-length-5
 same-length-5 c = search needs
 
 returns-5 : tie.Need-returns-5
 returns-5 c =
-    λ ts s x h. let l : ((c .before .before .before .before .before .before .before .before .before .before .before .before .before .prefix) .result) % 32 ≤ ((c .before .before .before .before .before .before .before .before .before .before .before .before .before .before .before .before .before .before) .args .m) .level = omega arith in rw ((c .before .before .push2) .ensures .0, (c .before .before .push2) .ensures .1, (c .before .before .before .before .before .before .before .before .next) .ensures) (turn-bare h ((c .before .before .before .before .before .before .before .before .before .before .before .before .before .prefix) .result) ((c .before .before .before .before .before .before .before .before .before .before .before .before .before .prefix) .ensures ∙ ap prefixAt ((c .before .before .before .before .before .before .before .before .before .before .before .before .before .before .kind) .ensures)) ((c .before .before .before .before .before .before .before .before .before .before .before .before .if1) .left) l ((c .before .before .before .before .before .before .before .before .before .if3) .left) (λ z. let q : (c .before .before .before .before .before .kind2) .result ≡ 24 = (c .before .before .before .before .before .kind2) .ensures ∙ ap (kindAt (now ((c .before .before .before .before .before .before .before .before .before .before .before .before .before .before .before .before .before .before) .args .work))) ((c .before .before .before .before .before .before .before .before .next) .ensures) ∙ z in omega arith))
+    let at-push2 = c .before .before in
+    let at-kind2 = at-push2 .before .before .before in
+    let at-next = at-kind2 .before .before .before in
+    let at-if3 = at-next .before in
+    let at-if1 = at-if3 .before .before .before in
+    let at-prefix = at-if1 .before in
+    let at-kind = at-prefix .before in
+    let start = at-kind .before .before .before .before in
+    λ ts s x h. let l : ((at-prefix .prefix) .result) % 32 ≤ (start .args .m) .level = omega arith in
+    rw ((at-push2 .push2) .ensures .0, (at-push2 .push2) .ensures .1, (at-next .next) .ensures)
+    (turn-bare h ((at-prefix .prefix) .result) ((at-prefix .prefix) .ensures ∙ ap prefixAt ((at-kind .kind) .ensures)) ((at-if1 .if1) .left) l ((at-if3 .if3) .left)
+    (λ z. let q : (at-kind2 .kind2) .result ≡ 24 = (at-kind2 .kind2) .ensures ∙ ap (kindAt (now (start .args .work))) ((at-next .next) .ensures) ∙ z in omega arith))
 
 next-requires-2 : tie.Need-next-requires-2
 next-requires-2 c κs =
-    let second : kindAt (now ((c .before .before .before .before .before .before .before .before .before .before .before .before .before .before .before .before) .args .work)) (nextOf (((c .before .before .before .before .before .before .before .before .before .before .before .before .before .before .before .before) .args .m) .c)) ≡ 24 = (let q : (c .before .before .before .kind2) .result ≡ 24 = omega arith in ap (kindAt (now ((c .before .before .before .before .before .before .before .before .before .before .before .before .before .before .before .before) .args .work))) (sym ((c .before .before .before .before .before .before .next) .ensures)) ∙ sym ((c .before .before .before .kind2) .ensures) ∙ q) in rw ((c .before .before .before .before .before .before .next) .ensures) (asks-third ((c .before .before .before .before .before .before .before .before .before .before .before .before .before .before .before .before) .pre) (not-end ((c .before .before .before .before .before .before .before .before .before .before .before .before .before .before .before .before) .pre .state) ((c .before .before .before .before .before .before .before .before .before .before .before .prefix) .result) ((c .before .before .before .before .before .before .before .before .before .before .before .prefix) .ensures ∙ ap prefixAt ((c .before .before .before .before .before .before .before .before .before .before .before .before .kind) .ensures)) ((c .before .before .before .before .before .before .before .before .before .before .if1) .left)) (omega arith))
+    let at-kind2 = c .before .before .before in
+    let at-next = at-kind2 .before .before .before in
+    let at-if1 = at-next .before .before .before .before in
+    let at-prefix = at-if1 .before in
+    let at-kind = at-prefix .before in
+    let start = at-kind .before .before .before .before in
+    let second : kindAt (now (start .args .work)) (nextOf ((start .args .m) .c)) ≡ 24 =
+    (let q : (at-kind2 .kind2) .result ≡ 24 = omega arith in ap (kindAt (now (start .args .work))) (sym ((at-next .next) .ensures)) ∙ sym ((at-kind2 .kind2) .ensures) ∙ q) in
+    rw ((at-next .next) .ensures) (asks-third (start .pre) (not-end (start .pre .state) ((at-prefix .prefix) .result) ((at-prefix .prefix) .ensures ∙ ap prefixAt ((at-kind .kind) .ensures))
+    ((at-if1 .if1) .left)) (omega arith))
 
 push-requires-3 : tie.Need-push-requires-3
 push-requires-3 c κs =
-    let start = c .before .before .before .before .before .before .before .before .before .before .before .before .before .before .before .before .before in
-    let prefixed = c .before .before .before .before .before .before .before .before .before .before .before .before .prefix in
-    asks-push (start .pre) (not-end (start .pre .state) (prefixed .result) (prefixed .ensures ∙ ap prefixAt ((c .before .before .before .before .before .before .before .before .before .before .before .before .before .kind) .ensures)) ((c .before .before .before .before .before .before .before .before .before .before .before .if1) .left)) 12 (lit< tt)
+    let at-if1 = c .before .before .before .before .before .before .before .before .before .before .before in
+    let at-prefix = at-if1 .before in
+    let at-kind = at-prefix .before in
+    let start = at-kind .before .before .before .before in
+    let prefixed = at-prefix .prefix in
+    asks-push (start .pre) (not-end (start .pre .state) (prefixed .result) (prefixed .ensures ∙ ap prefixAt ((at-kind .kind) .ensures)) ((at-if1 .if1) .left)) 12 (lit< tt)
 
 same-length-6 : tie.Need-same-length-6
 same-length-6 c = search needs
 
 returns-6 : tie.Need-returns-6
 returns-6 c =
-    λ ts s x h. let l : ((c .before .before .before .before .before .before .before .before .before .before .before .before .before .before .before .prefix) .result) % 32 ≤ ((c .before .before .before .before .before .before .before .before .before .before .before .before .before .before .before .before .before .before .before .before) .args .m) .level = omega arith in let second : kindAt (now ((c .before .before .before .before .before .before .before .before .before .before .before .before .before .before .before .before .before .before .before .before) .args .work)) (nextOf (((c .before .before .before .before .before .before .before .before .before .before .before .before .before .before .before .before .before .before .before .before) .args .m) .c)) ≡ 24 = (let q : (c .before .before .before .before .before .before .before .kind2) .result ≡ 24 = omega arith in ap (kindAt (now ((c .before .before .before .before .before .before .before .before .before .before .before .before .before .before .before .before .before .before .before .before) .args .work))) (sym ((c .before .before .before .before .before .before .before .before .before .before .next) .ensures)) ∙ sym ((c .before .before .before .before .before .before .before .kind2) .ensures) ∙ q) in rw ((c .before .before .push3) .ensures .0, (c .before .before .push3) .ensures .1, (c .before .before .before .next2) .ensures, (c .before .before .before .before .before .before .before .before .before .before .next) .ensures) (turn-count h ((c .before .before .before .before .before .before .before .before .before .before .before .before .before .before .before .prefix) .result) ((c .before .before .before .before .before .before .before .before .before .before .before .before .before .before .before .prefix) .ensures ∙ ap prefixAt ((c .before .before .before .before .before .before .before .before .before .before .before .before .before .before .before .before .kind) .ensures)) ((c .before .before .before .before .before .before .before .before .before .before .before .before .before .before .if1) .left) l second ((c .before .before .before .before .before .if6) .taken))
+    let at-push3 = c .before .before in
+    let at-next2 = at-push3 .before in
+    let at-if6 = at-next2 .before .before in
+    let at-kind2 = at-if6 .before .before in
+    let at-next = at-kind2 .before .before .before in
+    let at-if1 = at-next .before .before .before .before in
+    let at-prefix = at-if1 .before in
+    let at-kind = at-prefix .before in
+    let start = at-kind .before .before .before .before in
+    λ ts s x h. let l : ((at-prefix .prefix) .result) % 32 ≤ (start .args .m) .level = omega arith in
+    let second : kindAt (now (start .args .work)) (nextOf ((start .args .m) .c)) ≡ 24 =
+    (let q : (at-kind2 .kind2) .result ≡ 24 = omega arith in ap (kindAt (now (start .args .work))) (sym ((at-next .next) .ensures)) ∙ sym ((at-kind2 .kind2) .ensures) ∙ q) in
+    rw ((at-push3 .push3) .ensures .0, (at-push3 .push3) .ensures .1, (at-next2 .next2) .ensures, (at-next .next) .ensures)
+    (turn-count h ((at-prefix .prefix) .result) ((at-prefix .prefix) .ensures ∙ ap prefixAt ((at-kind .kind) .ensures)) ((at-if1 .if1) .left) l second ((at-if6 .if6) .taken))
 
 next-requires-3 : tie.Need-next-requires-3
 next-requires-3 c κs =
-    let second : kindAt (now ((c .before .before .before .before .before .before .before .before .before .before .before .before .before .before .before .before) .args .work)) (nextOf (((c .before .before .before .before .before .before .before .before .before .before .before .before .before .before .before .before) .args .m) .c)) ≡ 24 = (let q : (c .before .before .before .kind2) .result ≡ 24 = omega arith in ap (kindAt (now ((c .before .before .before .before .before .before .before .before .before .before .before .before .before .before .before .before) .args .work))) (sym ((c .before .before .before .before .before .before .next) .ensures)) ∙ sym ((c .before .before .before .kind2) .ensures) ∙ q) in rw ((c .before .before .before .before .before .before .next) .ensures) (asks-third ((c .before .before .before .before .before .before .before .before .before .before .before .before .before .before .before .before) .pre) (not-end ((c .before .before .before .before .before .before .before .before .before .before .before .before .before .before .before .before) .pre .state) ((c .before .before .before .before .before .before .before .before .before .before .before .prefix) .result) ((c .before .before .before .before .before .before .before .before .before .before .before .prefix) .ensures ∙ ap prefixAt ((c .before .before .before .before .before .before .before .before .before .before .before .before .kind) .ensures)) ((c .before .before .before .before .before .before .before .before .before .before .if1) .left)) (omega arith))
+    let at-kind2 = c .before .before .before in
+    let at-next = at-kind2 .before .before .before in
+    let at-if1 = at-next .before .before .before .before in
+    let at-prefix = at-if1 .before in
+    let at-kind = at-prefix .before in
+    let start = at-kind .before .before .before .before in
+    let second : kindAt (now (start .args .work)) (nextOf ((start .args .m) .c)) ≡ 24 =
+    (let q : (at-kind2 .kind2) .result ≡ 24 = omega arith in ap (kindAt (now (start .args .work))) (sym ((at-next .next) .ensures)) ∙ sym ((at-kind2 .kind2) .ensures) ∙ q) in
+    rw ((at-next .next) .ensures) (asks-third (start .pre) (not-end (start .pre .state) ((at-prefix .prefix) .result) ((at-prefix .prefix) .ensures ∙ ap prefixAt ((at-kind .kind) .ensures))
+    ((at-if1 .if1) .left)) (omega arith))
 
 push-requires-4 : tie.Need-push-requires-4
 push-requires-4 c κs =
-    let start = c .before .before .before .before .before .before .before .before .before .before .before .before .before .before .before .before .before in
-    let prefixed = c .before .before .before .before .before .before .before .before .before .before .before .before .prefix in
-    asks-push (start .pre) (not-end (start .pre .state) (prefixed .result) (prefixed .ensures ∙ ap prefixAt ((c .before .before .before .before .before .before .before .before .before .before .before .before .before .kind) .ensures)) ((c .before .before .before .before .before .before .before .before .before .before .before .if1) .left)) 13 (lit< tt)
+    let at-if1 = c .before .before .before .before .before .before .before .before .before .before .before in
+    let at-prefix = at-if1 .before in
+    let at-kind = at-prefix .before in
+    let start = at-kind .before .before .before .before in
+    let prefixed = at-prefix .prefix in
+    asks-push (start .pre) (not-end (start .pre .state) (prefixed .result) (prefixed .ensures ∙ ap prefixAt ((at-kind .kind) .ensures)) ((at-if1 .if1) .left)) 13 (lit< tt)
 
 same-length-7 : tie.Need-same-length-7
 same-length-7 c = search needs
 
 returns-7 : tie.Need-returns-7
 returns-7 c =
-    λ ts s x h. let l : ((c .before .before .before .before .before .before .before .before .before .before .before .before .before .before .before .prefix) .result) % 32 ≤ ((c .before .before .before .before .before .before .before .before .before .before .before .before .before .before .before .before .before .before .before .before) .args .m) .level = omega arith in let second : kindAt (now ((c .before .before .before .before .before .before .before .before .before .before .before .before .before .before .before .before .before .before .before .before) .args .work)) (nextOf (((c .before .before .before .before .before .before .before .before .before .before .before .before .before .before .before .before .before .before .before .before) .args .m) .c)) ≡ 24 = (let q : (c .before .before .before .before .before .before .before .kind2) .result ≡ 24 = omega arith in ap (kindAt (now ((c .before .before .before .before .before .before .before .before .before .before .before .before .before .before .before .before .before .before .before .before) .args .work))) (sym ((c .before .before .before .before .before .before .before .before .before .before .next) .ensures)) ∙ sym ((c .before .before .before .before .before .before .before .kind2) .ensures) ∙ q) in rw ((c .before .before .push4) .ensures .0, (c .before .before .push4) .ensures .1, (c .before .before .before .next3) .ensures, (c .before .before .before .before .before .before .before .before .before .before .next) .ensures) (turn-low h ((c .before .before .before .before .before .before .before .before .before .before .before .before .before .before .before .prefix) .result) ((c .before .before .before .before .before .before .before .before .before .before .before .before .before .before .before .prefix) .ensures ∙ ap prefixAt ((c .before .before .before .before .before .before .before .before .before .before .before .before .before .before .before .before .kind) .ensures)) ((c .before .before .before .before .before .before .before .before .before .before .before .before .before .before .if1) .left) l second ((c .before .before .before .before .before .before .before .before .before .before .before .if3) .left) ((c .before .before .before .before .before .before .before .before .before .if4) .left) ((c .before .before .before .before .before .if6) .left))
+    let at-push4 = c .before .before in
+    let at-next3 = at-push4 .before in
+    let at-if6 = at-next3 .before .before in
+    let at-kind2 = at-if6 .before .before in
+    let at-if4 = at-kind2 .before .before in
+    let at-next = at-if4 .before in
+    let at-if3 = at-next .before in
+    let at-if1 = at-if3 .before .before .before in
+    let at-prefix = at-if1 .before in
+    let at-kind = at-prefix .before in
+    let start = at-kind .before .before .before .before in
+    λ ts s x h. let l : ((at-prefix .prefix) .result) % 32 ≤ (start .args .m) .level = omega arith in
+    let second : kindAt (now (start .args .work)) (nextOf ((start .args .m) .c)) ≡ 24 =
+    (let q : (at-kind2 .kind2) .result ≡ 24 = omega arith in ap (kindAt (now (start .args .work))) (sym ((at-next .next) .ensures)) ∙ sym ((at-kind2 .kind2) .ensures) ∙ q) in
+    rw ((at-push4 .push4) .ensures .0, (at-push4 .push4) .ensures .1, (at-next3 .next3) .ensures, (at-next .next) .ensures)
+    (turn-low h ((at-prefix .prefix) .result) ((at-prefix .prefix) .ensures ∙ ap prefixAt ((at-kind .kind) .ensures)) ((at-if1 .if1) .left) l second ((at-if3 .if3) .left) ((at-if4 .if4) .left)
+    ((at-if6 .if6) .left))
 
 pub operand-spec : {M : Type 1} → statement M
 operand-spec =

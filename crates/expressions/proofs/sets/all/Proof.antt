@@ -16,18 +16,28 @@ kind-requires c κs =
 
 next-requires : tie.Need-next-requires
 next-requires c κs =
-    let e = (let q : (c .before .before .kind) .result ≡ 21 = omega arith in sym ((c .before .before .kind) .ensures) ∙ q) in omega (arith, before-end (now ((c .before .before .before .before .before .before) .args .work)) (((c .before .before .before .before .before .before) .args .m) .c) (omega arith), complete-fits ((c .before .before .before .before .before .before) .pre .0 .state) .few)
+    let at-kind = c .before .before in
+    let start = at-kind .before .before .before .before in
+    let e = (let q : (at-kind .kind) .result ≡ 21 = omega arith in sym ((at-kind .kind) .ensures) ∙ q) in
+    omega (arith, before-end (now (start .args .work)) ((start .args .m) .c) (omega arith), complete-fits (start .pre .0 .state) .few)
 
 listed-requires : tie.Need-listed-requires
 listed-requires c κs =
-    rw ((c .next) .ensures) (set-all ((c .before .before .before .before .before .before .before) .pre .0 .state) ((c .before .before .before .before .before .before .before) .pre .1) ((c .before .before .before .before .before .before .before) .pre .2) (let q : (c .before .before .before .kind) .result ≡ 21 = omega arith in sym ((c .before .before .before .kind) .ensures) ∙ q) .0)
+    let at-kind = c .before .before .before in
+    let start = at-kind .before .before .before .before in
+    rw ((c .next) .ensures) (set-all (start .pre .0 .state) (start .pre .1) (start .pre .2) (let q : (at-kind .kind) .result ≡ 21 = omega arith in sym ((at-kind .kind) .ensures) ∙ q) .0)
 
 same-length : tie.Need-same-length
 same-length c = search needs
 
 returns : tie.Need-returns
 returns c =
-    λ ts s x h. rw ((c .before .before .listed) .ensures .0, (c .before .before .listed) .ensures .1, (c .before .before .before .next) .ensures) (set-all h ((c .before .before .before .before .before .before .before .before .before .before) .pre .1) ((c .before .before .before .before .before .before .before .before .before .before) .pre .2) (let q : (c .before .before .before .before .before .before .kind) .result ≡ 21 = omega arith in sym ((c .before .before .before .before .before .before .kind) .ensures) ∙ q) .1)
+    let at-listed = c .before .before in
+    let at-next = at-listed .before in
+    let at-kind = at-next .before .before .before in
+    let start = at-kind .before .before .before .before in
+    λ ts s x h. rw ((at-listed .listed) .ensures .0, (at-listed .listed) .ensures .1, (at-next .next) .ensures)
+    (set-all h (start .pre .1) (start .pre .2) (let q : (at-kind .kind) .result ≡ 21 = omega arith in sym ((at-kind .kind) .ensures) ∙ q) .1)
 
 refuse-requires : tie.Need-refuse-requires
 refuse-requires c κs =
@@ -39,7 +49,9 @@ same-length-2 c = search needs
 
 returns-2 : tie.Need-returns-2
 returns-2 c =
-    λ ts s x h. rw ((c .refuse) .ensures) (unclosed-all h ((c .before .before .before .before .before .before .before) .pre .1) ((c .before .before .before .before .before .before .before) .pre .2) (λ z. let q : (c .before .before .before .kind) .result ≡ 21 = (c .before .before .before .kind) .ensures ∙ z in omega arith))
+    let at-kind = c .before .before .before in
+    let start = at-kind .before .before .before .before in
+    λ ts s x h. rw ((c .refuse) .ensures) (unclosed-all h (start .pre .1) (start .pre .2) (λ z. let q : (at-kind .kind) .result ≡ 21 = (at-kind .kind) .ensures ∙ z in omega arith))
 
 pub all-spec : {M : Type 1} → statement M
 all-spec =

@@ -13,22 +13,35 @@ kind-requires c κs =
 
 push-requires : tie.Need-push-requires
 push-requires c κs =
-    listing-push ((c .before .before .before .before .before .before) .pre .state) (let q : (c .before .before .kind) .result ≡ 27 = omega arith in sym ((c .before .before .kind) .ensures) ∙ q)
+    let at-kind = c .before .before in
+    let start = at-kind .before .before .before .before in
+    listing-push (start .pre .state) (let q : (at-kind .kind) .result ≡ 27 = omega arith in sym ((at-kind .kind) .ensures) ∙ q)
 
 next-requires : tie.Need-next-requires
 next-requires c κs =
-    let i = comma-inside ((c .before .before .before .before .before .before .before .before .before .before) .pre .state) (let q : (c .before .before .before .before .before .before .kind) .result ≡ 27 = omega arith in sym ((c .before .before .before .before .before .before .kind) .ensures) ∙ q) in omega (arith, listing-fits ((c .before .before .before .before .before .before .before .before .before .before) .pre .state) .few)
+    let at-kind = c .before .before .before .before .before .before in
+    let start = at-kind .before .before .before .before in
+    let i = comma-inside (start .pre .state) (let q : (at-kind .kind) .result ≡ 27 = omega arith in sym ((at-kind .kind) .ensures) ∙ q) in omega (arith, listing-fits (start .pre .state) .few)
 
 push-requires-2 : tie.Need-push-requires-2
 push-requires-2 c κs =
-    rw ((c .before .before .before .before .push) .ensures .0, (c .before .before .before .before .push) .ensures .1) (listing-second ((c .before .before .before .before .before .before .before .before .before .before .before) .pre .state) (let q : (c .before .before .before .before .before .before .before .kind) .result ≡ 27 = omega arith in sym ((c .before .before .before .before .before .before .before .kind) .ensures) ∙ q) 5 (((c .before .before .before .before .before .before .before .before .before .before .before) .args .m) .level) (((c .before .before .before .before .before .before .before .before .before .before .before) .args .m) .c .at))
+    let at-push = c .before .before .before .before in
+    let at-kind = at-push .before .before .before in
+    let start = at-kind .before .before .before .before in
+    rw ((at-push .push) .ensures .0, (at-push .push) .ensures .1)
+    (listing-second (start .pre .state) (let q : (at-kind .kind) .result ≡ 27 = omega arith in sym ((at-kind .kind) .ensures) ∙ q) 5 ((start .args .m) .level) ((start .args .m) .c .at))
 
 same-length : tie.Need-same-length
 same-length c = search needs
 
 returns : tie.Need-returns
 returns c =
-    λ ts s x h. rw ((c .before .before .push2) .ensures .0, (c .before .before .push2) .ensures .1, (c .before .before .before .before .before .before .before .push) .ensures .0, (c .before .before .before .before .before .before .before .push) .ensures .1, (c .before .before .before .next) .ensures) (listing-more h (let q : (c .before .before .before .before .before .before .before .before .before .before .kind) .result ≡ 27 = omega arith in sym ((c .before .before .before .before .before .before .before .before .before .before .kind) .ensures) ∙ q))
+    let at-push2 = c .before .before in
+    let at-next = at-push2 .before in
+    let at-push = at-next .before .before .before .before in
+    let at-kind = at-push .before .before .before in
+    λ ts s x h. rw ((at-push2 .push2) .ensures .0, (at-push2 .push2) .ensures .1, (at-push .push) .ensures .0, (at-push .push) .ensures .1, (at-next .next) .ensures)
+    (listing-more h (let q : (at-kind .kind) .result ≡ 27 = omega arith in sym ((at-kind .kind) .ensures) ∙ q))
 
 grow-requires : tie.Need-grow-requires
 grow-requires c κs =
@@ -40,7 +53,9 @@ same-length-2 c = search needs
 
 returns-2 : tie.Need-returns-2
 returns-2 c =
-    λ ts s x h. rw ((c .before .before .grow) .ensures .0, (c .before .before .grow) .ensures .1) (listing-ends h (λ z. let q : (c .before .before .before .before .before .kind) .result ≡ 27 = (c .before .before .before .before .before .kind) .ensures ∙ z in omega arith))
+    let at-grow = c .before .before in
+    let at-kind = at-grow .before .before .before in
+    λ ts s x h. rw ((at-grow .grow) .ensures .0, (at-grow .grow) .ensures .1) (listing-ends h (λ z. let q : (at-kind .kind) .result ≡ 27 = (at-kind .kind) .ensures ∙ z in omega arith))
 
 pub element-spec : {M : Type 1} → statement M
 element-spec =

@@ -24,7 +24,10 @@ kind-requires c κs =
 
 next-requires : tie.Need-next-requires
 next-requires c κs =
-    let e = (let q : (c .before .before .before .kind) .result ≡ 29 = omega arith in sym ((c .before .before .before .kind) .ensures) ∙ q) in omega (arith, before-end (now ((c .before .before .before .before .before .before .before .before .before) .args .work)) (((c .before .before .before .before .before .before .before .before .before) .args .m) .c) (omega arith), complete-fits ((c .before .before .before .before .before .before .before .before .before) .pre .0 .state) .few)
+    let at-kind = c .before .before .before in
+    let start = at-kind .before .before .before .before .before .before in
+    let e = (let q : (at-kind .kind) .result ≡ 29 = omega arith in sym ((at-kind .kind) .ensures) ∙ q) in
+    omega (arith, before-end (now (start .args .work)) ((start .args .m) .c) (omega arith), complete-fits (start .pre .0 .state) .few)
 
 reopen-requires : tie.Need-reopen-requires
 reopen-requires c κs =
@@ -36,7 +39,14 @@ same-length c = search needs
 
 returns : tie.Need-returns
 returns c =
-    λ ts s x h. rw ((c .before .before .reopen) .ensures .0, (c .before .before .reopen) .ensures .1, (c .before .before .before .next) .ensures) (turn-low h ((c .before .before .before .before .before .before .before .before .before .before .before .before .before) .pre .1) (let q : (c .before .before .before .before .before .before .before .before .before .top) .result / 8192 / 32 ≡ 13 = omega arith in ap slotClass (sym ((c .before .before .before .before .before .before .before .before .before .top) .ensures)) ∙ q) (let q : (c .before .before .before .before .before .before .before .kind) .result ≡ 29 = omega arith in sym ((c .before .before .before .before .before .before .before .kind) .ensures) ∙ q))
+    let at-reopen = c .before .before in
+    let at-next = at-reopen .before in
+    let at-kind = at-next .before .before .before .before in
+    let at-top = at-kind .before .before in
+    let start = at-top .before .before .before .before in
+    λ ts s x h. rw ((at-reopen .reopen) .ensures .0, (at-reopen .reopen) .ensures .1, (at-next .next) .ensures)
+    (turn-low h (start .pre .1) (let q : (at-top .top) .result / 8192 / 32 ≡ 13 = omega arith in ap slotClass (sym ((at-top .top) .ensures)) ∙ q)
+    (let q : (at-kind .kind) .result ≡ 29 = omega arith in sym ((at-kind .kind) .ensures) ∙ q))
 
 refuse-requires : tie.Need-refuse-requires
 refuse-requires c κs =
@@ -48,7 +58,11 @@ same-length-2 c = search needs
 
 returns-2 : tie.Need-returns-2
 returns-2 c =
-    λ ts s x h. rw ((c .refuse) .ensures) (turn-unlow h ((c .before .before .before .before .before .before .before .before .before .before) .pre .1) (let q : (c .before .before .before .before .before .before .top) .result / 8192 / 32 ≡ 13 = omega arith in ap slotClass (sym ((c .before .before .before .before .before .before .top) .ensures)) ∙ q) (λ z. let q : (c .before .before .before .before .kind) .result ≡ 29 = (c .before .before .before .before .kind) .ensures ∙ z in omega arith))
+    let at-kind = c .before .before .before .before in
+    let at-top = at-kind .before .before in
+    let start = at-top .before .before .before .before in
+    λ ts s x h. rw ((c .refuse) .ensures) (turn-unlow h (start .pre .1) (let q : (at-top .top) .result / 8192 / 32 ≡ 13 = omega arith in ap slotClass (sym ((at-top .top) .ensures)) ∙ q)
+    (λ z. let q : (at-kind .kind) .result ≡ 29 = (at-kind .kind) .ensures ∙ z in omega arith))
 
 refuse-requires-2 : tie.Need-refuse-requires-2
 refuse-requires-2 c κs =
@@ -60,7 +74,12 @@ same-length-3 c = search needs
 
 returns-3 : tie.Need-returns-3
 returns-3 c =
-    λ ts s x h. rw ((c .refuse2) .ensures) (turn-unopened h ((c .before .before .before .before .before .before .before .before .before .before) .pre .1) ((c .before .before .before .before .before .before .before .before .before .before) .pre .2) ((c .before .before .before .before .before .before .before .before .before .before) .pre .3) (λ z. (c .before .before .before .if1) .left (ap (λ y. y / 8192 / 32) ((c .before .before .before .before .before .before .top) .ensures) ∙ z)) (λ z. let q : (c .before .before .before .before .kind) .result ≡ 25 = (c .before .before .before .before .kind) .ensures ∙ z in omega arith))
+    let at-if1 = c .before .before .before in
+    let at-kind = at-if1 .before in
+    let at-top = at-kind .before .before in
+    let start = at-top .before .before .before .before in
+    λ ts s x h. rw ((c .refuse2) .ensures) (turn-unopened h (start .pre .1) (start .pre .2) (start .pre .3) (λ z. (at-if1 .if1) .left (ap (λ y. y / 8192 / 32) ((at-top .top) .ensures) ∙ z))
+    (λ z. let q : (at-kind .kind) .result ≡ 25 = (at-kind .kind) .ensures ∙ z in omega arith))
 
 operator-requires : tie.Need-operator-requires
 operator-requires c κs =
@@ -72,7 +91,10 @@ prefix-requires c κs = search needs
 
 next-requires-2 : tie.Need-next-requires-2
 next-requires-2 c κs =
-    let e = (let q : (c .before .before .before .before .before .before .before .kind) .result ≡ 25 = omega arith in sym ((c .before .before .before .before .before .before .before .kind) .ensures) ∙ q) in omega (arith, before-end (now ((c .before .before .before .before .before .before .before .before .before .before .before .before .before) .args .work)) (((c .before .before .before .before .before .before .before .before .before .before .before .before .before) .args .m) .c) (omega arith), complete-fits ((c .before .before .before .before .before .before .before .before .before .before .before .before .before) .pre .0 .state) .few)
+    let at-kind = c .before .before .before .before .before .before .before in
+    let start = at-kind .before .before .before .before .before .before in
+    let e = (let q : (at-kind .kind) .result ≡ 25 = omega arith in sym ((at-kind .kind) .ensures) ∙ q) in
+    omega (arith, before-end (now (start .args .work)) ((start .args .m) .c) (omega arith), complete-fits (start .pre .0 .state) .few)
 
 reopen-requires-2 : tie.Need-reopen-requires-2
 reopen-requires-2 c κs =
@@ -84,11 +106,29 @@ same-length-4 c = search needs
 
 returns-4 : tie.Need-returns-4
 returns-4 c =
-    λ ts s x h. rw ((c .before .before .reopen2) .ensures .0, (c .before .before .reopen2) .ensures .1, (c .before .before .before .next2) .ensures, (c .before .before .before .before .before .before .prefix) .ensures, (c .before .before .before .before .before .before .before .operator) .ensures, (c .before .before .before .before .before .before .before .before .before .before .before .before .before .top) .ensures) (turn-counted h ((c .before .before .before .before .before .before .before .before .before .before .before .before .before .before .before .before .before) .pre .1) (let q : (c .before .before .before .before .before .before .before .before .before .before .before .before .before .top) .result / 8192 / 32 ≡ 12 = omega arith in ap slotClass (sym ((c .before .before .before .before .before .before .before .before .before .before .before .before .before .top) .ensures)) ∙ q) (let q : (c .before .before .before .before .before .before .before .before .before .before .before .kind) .result ≡ 25 = omega arith in sym ((c .before .before .before .before .before .before .before .before .before .before .before .kind) .ensures) ∙ q))
+    let at-reopen2 = c .before .before in
+    let at-next2 = at-reopen2 .before in
+    let at-prefix = at-next2 .before .before .before in
+    let at-operator = at-prefix .before in
+    let at-kind = at-operator .before .before .before .before in
+    let at-top = at-kind .before .before in
+    let start = at-top .before .before .before .before in
+    λ ts s x h. rw (
+      (at-reopen2 .reopen2) .ensures .0,
+      (at-reopen2 .reopen2) .ensures .1,
+      (at-next2 .next2) .ensures,
+      (at-prefix .prefix) .ensures,
+      (at-operator .operator) .ensures,
+      (at-top .top) .ensures,
+    ) (turn-counted h (start .pre .1) (let q : (at-top .top) .result / 8192 / 32 ≡ 12 = omega arith in ap slotClass (sym ((at-top .top) .ensures)) ∙ q)
+    (let q : (at-kind .kind) .result ≡ 25 = omega arith in sym ((at-kind .kind) .ensures) ∙ q))
 
 next-requires-3 : tie.Need-next-requires-3
 next-requires-3 c κs =
-    let e = (let q : (c .before .before .before .before .before .before .before .kind) .result ≡ 25 = omega arith in sym ((c .before .before .before .before .before .before .before .kind) .ensures) ∙ q) in omega (arith, before-end (now ((c .before .before .before .before .before .before .before .before .before .before .before .before .before) .args .work)) (((c .before .before .before .before .before .before .before .before .before .before .before .before .before) .args .m) .c) (omega arith), complete-fits ((c .before .before .before .before .before .before .before .before .before .before .before .before .before) .pre .0 .state) .few)
+    let at-kind = c .before .before .before .before .before .before .before in
+    let start = at-kind .before .before .before .before .before .before in
+    let e = (let q : (at-kind .kind) .result ≡ 25 = omega arith in sym ((at-kind .kind) .ensures) ∙ q) in
+    omega (arith, before-end (now (start .args .work)) ((start .args .m) .c) (omega arith), complete-fits (start .pre .0 .state) .few)
 
 reopen-requires-3 : tie.Need-reopen-requires-3
 reopen-requires-3 c κs =
@@ -100,7 +140,23 @@ same-length-5 c = search needs
 
 returns-5 : tie.Need-returns-5
 returns-5 c =
-    λ ts s x h. rw ((c .before .before .reopen3) .ensures .0, (c .before .before .reopen3) .ensures .1, (c .before .before .before .next3) .ensures, (c .before .before .before .before .before .before .prefix) .ensures, (c .before .before .before .before .before .before .before .operator) .ensures, (c .before .before .before .before .before .before .before .before .before .before .before .before .before .top) .ensures) (turn-high h ((c .before .before .before .before .before .before .before .before .before .before .before .before .before .before .before .before .before) .pre .1) (let q : (c .before .before .before .before .before .before .before .before .before .before .before .before .before .top) .result / 8192 / 32 ≡ 14 = (let low = (c .before .before .before .before .before .before .before .before .before .before .before .before .before .before .before .before .before) .pre .2 in let high = (c .before .before .before .before .before .before .before .before .before .before .before .before .before .before .before .before .before) .pre .3 in let e = ap slotClass ((c .before .before .before .before .before .before .before .before .before .before .before .before .before .top) .ensures) in omega arith) in ap slotClass (sym ((c .before .before .before .before .before .before .before .before .before .before .before .before .before .top) .ensures)) ∙ q) (let q : (c .before .before .before .before .before .before .before .before .before .before .before .kind) .result ≡ 25 = omega arith in sym ((c .before .before .before .before .before .before .before .before .before .before .before .kind) .ensures) ∙ q))
+    let at-reopen3 = c .before .before in
+    let at-next3 = at-reopen3 .before in
+    let at-prefix = at-next3 .before .before .before in
+    let at-operator = at-prefix .before in
+    let at-kind = at-operator .before .before .before .before in
+    let at-top = at-kind .before .before in
+    let start = at-top .before .before .before .before in
+    λ ts s x h. rw (
+      (at-reopen3 .reopen3) .ensures .0,
+      (at-reopen3 .reopen3) .ensures .1,
+      (at-next3 .next3) .ensures,
+      (at-prefix .prefix) .ensures,
+      (at-operator .operator) .ensures,
+      (at-top .top) .ensures,
+    ) (turn-high h (start .pre .1) (let q : (at-top .top) .result / 8192 / 32 ≡ 14 =
+    (let low = start .pre .2 in let high = start .pre .3 in let e = ap slotClass ((at-top .top) .ensures) in omega arith) in ap slotClass (sym ((at-top .top) .ensures)) ∙ q)
+    (let q : (at-kind .kind) .result ≡ 25 = omega arith in sym ((at-kind .kind) .ensures) ∙ q))
 
 pub further-spec : {M : Type 1} → statement M
 further-spec =

@@ -29,8 +29,10 @@ same-length c = search needs
 
 returns : tie.Need-returns
 returns c =
-    let emit = c .before .before .emit in
-    rw (emit .ensures .0, emit .ensures .1, (c .before .before .before .before .start-of) .ensures) (search needs)
+    let at-emit = c .before .before in
+    let at-start-of = at-emit .before .before in
+    let emit = at-emit .emit in
+    rw (emit .ensures .0, emit .ensures .1, (at-start-of .start-of) .ensures) (search needs)
 
 pub grow-spec : {M : Type 1} → statement M
 grow-spec =

@@ -10,8 +10,9 @@ grow-requires c κs =
 
 build-requires : tie.Need-build-requires
 build-requires c κs =
-    let start = c .before .before .before .before .before .before in
-    let grow = c .before .before .before .grow in
+    let at-grow = c .before .before .before in
+    let start = at-grow .before .before .before in
+    let grow = at-grow .grow in
     rw (grow .ensures .0, grow .ensures .1) (start .pre .set)
 
 same-length : tie.Need-same-length
@@ -19,8 +20,10 @@ same-length c = search needs
 
 returns : tie.Need-returns
 returns c =
-    let grow = c .before .before .before .before .before .before .grow in
-    let build = c .before .before .build in
+    let at-build = c .before .before in
+    let at-grow = at-build .before .before .before .before in
+    let grow = at-grow .grow in
+    let build = at-build .build in
     rw (build .ensures .0, build .ensures .1, grow .ensures .0, grow .ensures .1) (search needs)
 
 pub listed-spec : {M : Type 1} → statement M

@@ -19,15 +19,20 @@ cast-push c = omega arith
 
 push-requires : tie.Need-push-requires
 push-requires c κs =
-    let p = (c .before .before .before .before .before) .pre .0 in rw ((c .before .popped) .ensures) (record { room = p .room; deep = omega (arith, p .deep, p .some); class-fits = (c .before .before .before .before .before) .pre .1; level-fits = omega arith; token-fits = omega arith })
+    let start = c .before .before .before .before .before in
+    let p = start .pre .0 in rw ((c .before .popped) .ensures) (record
+    { room = p .room; deep = omega (arith, p .deep, p .some); class-fits = start .pre .1; level-fits = omega arith; token-fits = omega arith })
 
 same-length : tie.Need-same-length
 same-length c = search needs
 
 returns : tie.Need-returns
 returns c =
-    let push = c .before .before .push in
-    rw (push .ensures .0, push .ensures .1, (c .before .before .before .before .popped) .ensures, (c .before .before .before .before .before .top) .ensures) (search needs)
+    let at-push = c .before .before in
+    let at-popped = at-push .before .before in
+    let at-top = at-popped .before in
+    let push = at-push .push in
+    rw (push .ensures .0, push .ensures .1, (at-popped .popped) .ensures, (at-top .top) .ensures) (search needs)
 
 pub reopen-spec : {M : Type 1} → statement M
 reopen-spec =

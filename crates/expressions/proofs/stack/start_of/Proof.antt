@@ -8,10 +8,11 @@ use Rattle.expressions.specs.Stack.{startOf, Trees}
 use Rattle.expressions.specs.StackLaws.{trees-first, start-first, start-none}
 use Rattle.expressions.proofs.stack.start_of.Statement.{statement}
 use Rattle.expressions.proofs.stack.start_of.Tie as tie
+use Rattle.language.specs.Limits.{maxTokens, workBytes}
 
 abbrev Inv-loop : tie.InvT-loop
 Inv-loop work out n start₀ left₀ start left =
-    (start ≤ 8_192) × (65_536 ≤ length work) × Trees work start left × (startOf work start left ≡ startOf work out n)
+    (start ≤ maxTokens) × (workBytes ≤ length work) × Trees work start left × (startOf work start left ≡ startOf work out n)
 
 abbrev μ-loop : tie.MeasureT-loop
 μ-loop work out n start₀ left₀ start left = left
@@ -37,7 +38,9 @@ cast-start c =
 
 sub-start : tie.Need-sub-start Inv-loop μ-loop
 sub-start c =
-    let l = c .before .before .loop in let first = trees-first (now (c .before .before .before .before .args .work)) (l .start) (l .left) (omega arith) (l .inv .2) in rw (c .get .ensures) (first .1)
+    let at-loop = c .before .before in
+    let start-2 = at-loop .before .before in
+    let l = at-loop .loop in let first = trees-first (now (start-2 .args .work)) (l .start) (l .left) (omega arith) (l .inv .2) in rw (c .get .ensures) (first .1)
 
 sub-left : tie.Need-sub-left Inv-loop μ-loop
 sub-left c = omega arith
@@ -47,8 +50,10 @@ loop-less c = omega arith
 
 loop-again : tie.Need-loop-again Inv-loop μ-loop
 loop-again c =
-    let l = c .before .before .loop in let first = trees-first (now (c .before .before .before .before .args .work)) (l .start) (l .left) (omega arith) (l .inv .2) in rw (c .get .ensures)
-    (omega (arith, l .inv .0), l .inv .1, first .2, sym (start-first (now (c .before .before .before .before .args .work)) (l .start) (l .left) (omega arith)) ∙ l .inv .3)
+    let at-loop = c .before .before in
+    let start-2 = at-loop .before .before in
+    let l = at-loop .loop in let first = trees-first (now (start-2 .args .work)) (l .start) (l .left) (omega arith) (l .inv .2) in rw (c .get .ensures)
+    (omega (arith, l .inv .0), l .inv .1, first .2, sym (start-first (now (start-2 .args .work)) (l .start) (l .left) (omega arith)) ∙ l .inv .3)
 
 returns : tie.Need-returns Inv-loop μ-loop
 returns c =

@@ -17,7 +17,9 @@ kind-requires c κs =
 
 name-requires : tie.Need-name-requires
 name-requires c κs =
-    ((c .before .before .before .before .before .before) .pre .0, let first : kindAt (now ((c .before .before .before .before .before .before) .args .work)) ((c .before .before .before .before .before .before) .args .m .c) ≡ 1 = (let q : (c .before .before .kind) .result ≡ 1 = omega arith in sym ((c .before .before .kind) .ensures) ∙ q) in first)
+    let at-kind = c .before .before in
+    let start = at-kind .before .before .before .before in
+    (start .pre .0, let first : kindAt (now (start .args .work)) (start .args .m .c) ≡ 1 = (let q : (at-kind .kind) .result ≡ 1 = omega arith in sym ((at-kind .kind) .ensures) ∙ q) in first)
 
 same-length : tie.Need-same-length
 same-length c = search needs
@@ -27,70 +29,115 @@ returns c = (c .before .before .name) .ensures
 
 leaf-requires : tie.Need-leaf-requires
 leaf-requires c κs =
-    let first : kindAt (now ((c .before .before .before .before .before .before .before) .args .work)) ((c .before .before .before .before .before .before .before) .args .m .c) ≡ 2 = (let q : (c .before .before .before .kind) .result ≡ 2 = omega arith in sym ((c .before .before .before .kind) .ensures) ∙ q) in asks-leaf ((c .before .before .before .before .before .before .before) .pre .0) (omega arith) 1 (lit< tt)
+    let at-kind = c .before .before .before in
+    let start = at-kind .before .before .before .before in
+    let first : kindAt (now (start .args .work)) (start .args .m .c) ≡ 2 = (let q : (at-kind .kind) .result ≡ 2 = omega arith in sym ((at-kind .kind) .ensures) ∙ q) in
+    asks-leaf (start .pre .0) (omega arith) 1 (lit< tt)
 
 same-length-2 : tie.Need-same-length-2
 same-length-2 c = search needs
 
 returns-2 : tie.Need-returns-2
 returns-2 c =
-    λ ts s x h. let first : kindAt (now ((c .before .before .before .before .before .before .before .before .before .before) .args .work)) ((c .before .before .before .before .before .before .before .before .before .before) .args .m .c) ≡ 2 = (let q : (c .before .before .before .before .before .before .kind) .result ≡ 2 = omega arith in sym ((c .before .before .before .before .before .before .kind) .ensures) ∙ q) in rw ((c .before .before .leaf) .ensures .0, (c .before .before .leaf) .ensures .1) (turn-numeral h ((c .before .before .before .before .before .before .before .before .before .before) .pre .1) first)
+    let at-leaf = c .before .before in
+    let at-kind = at-leaf .before .before .before .before in
+    let start = at-kind .before .before .before .before in
+    λ ts s x h. let first : kindAt (now (start .args .work)) (start .args .m .c) ≡ 2 = (let q : (at-kind .kind) .result ≡ 2 = omega arith in sym ((at-kind .kind) .ensures) ∙ q) in
+    rw ((at-leaf .leaf) .ensures .0, (at-leaf .leaf) .ensures .1) (turn-numeral h (start .pre .1) first)
 
 leaf-requires-2 : tie.Need-leaf-requires-2
 leaf-requires-2 c κs =
-    let first : kindAt (now ((c .before .before .before .before .before .before .before .before) .args .work)) ((c .before .before .before .before .before .before .before .before) .args .m .c) ≡ 66 = (let q : (c .before .before .before .before .kind) .result ≡ 66 = omega arith in sym ((c .before .before .before .before .kind) .ensures) ∙ q) in asks-leaf ((c .before .before .before .before .before .before .before .before) .pre .0) (omega arith) 3 (lit< tt)
+    let at-kind = c .before .before .before .before in
+    let start = at-kind .before .before .before .before in
+    let first : kindAt (now (start .args .work)) (start .args .m .c) ≡ 66 = (let q : (at-kind .kind) .result ≡ 66 = omega arith in sym ((at-kind .kind) .ensures) ∙ q) in
+    asks-leaf (start .pre .0) (omega arith) 3 (lit< tt)
 
 same-length-3 : tie.Need-same-length-3
 same-length-3 c = search needs
 
 returns-3 : tie.Need-returns-3
 returns-3 c =
-    λ ts s x h. let first : kindAt (now ((c .before .before .before .before .before .before .before .before .before .before .before) .args .work)) ((c .before .before .before .before .before .before .before .before .before .before .before) .args .m .c) ≡ 66 = (let q : (c .before .before .before .before .before .before .before .kind) .result ≡ 66 = omega arith in sym ((c .before .before .before .before .before .before .before .kind) .ensures) ∙ q) in rw ((c .before .before .leaf2) .ensures .0, (c .before .before .leaf2) .ensures .1) (turn-true h ((c .before .before .before .before .before .before .before .before .before .before .before) .pre .1) first)
+    let at-leaf2 = c .before .before in
+    let at-kind = at-leaf2 .before .before .before .before .before in
+    let start = at-kind .before .before .before .before in
+    λ ts s x h. let first : kindAt (now (start .args .work)) (start .args .m .c) ≡ 66 = (let q : (at-kind .kind) .result ≡ 66 = omega arith in sym ((at-kind .kind) .ensures) ∙ q) in
+    rw ((at-leaf2 .leaf2) .ensures .0, (at-leaf2 .leaf2) .ensures .1) (turn-true h (start .pre .1) first)
 
 leaf-requires-3 : tie.Need-leaf-requires-3
 leaf-requires-3 c κs =
-    let first : kindAt (now ((c .before .before .before .before .before .before .before .before .before) .args .work)) ((c .before .before .before .before .before .before .before .before .before) .args .m .c) ≡ 67 = (let q : (c .before .before .before .before .before .kind) .result ≡ 67 = omega arith in sym ((c .before .before .before .before .before .kind) .ensures) ∙ q) in asks-leaf ((c .before .before .before .before .before .before .before .before .before) .pre .0) (omega arith) 2 (lit< tt)
+    let at-kind = c .before .before .before .before .before in
+    let start = at-kind .before .before .before .before in
+    let first : kindAt (now (start .args .work)) (start .args .m .c) ≡ 67 = (let q : (at-kind .kind) .result ≡ 67 = omega arith in sym ((at-kind .kind) .ensures) ∙ q) in
+    asks-leaf (start .pre .0) (omega arith) 2 (lit< tt)
 
 same-length-4 : tie.Need-same-length-4
 same-length-4 c = search needs
 
 returns-4 : tie.Need-returns-4
 returns-4 c =
-    λ ts s x h. let first : kindAt (now ((c .before .before .before .before .before .before .before .before .before .before .before .before) .args .work)) ((c .before .before .before .before .before .before .before .before .before .before .before .before) .args .m .c) ≡ 67 = (let q : (c .before .before .before .before .before .before .before .before .kind) .result ≡ 67 = omega arith in sym ((c .before .before .before .before .before .before .before .before .kind) .ensures) ∙ q) in rw ((c .before .before .leaf3) .ensures .0, (c .before .before .leaf3) .ensures .1) (turn-false h ((c .before .before .before .before .before .before .before .before .before .before .before .before) .pre .1) first)
+    let at-leaf3 = c .before .before in
+    let at-kind = at-leaf3 .before .before .before .before .before .before in
+    let start = at-kind .before .before .before .before in
+    λ ts s x h. let first : kindAt (now (start .args .work)) (start .args .m .c) ≡ 67 = (let q : (at-kind .kind) .result ≡ 67 = omega arith in sym ((at-kind .kind) .ensures) ∙ q) in
+    rw ((at-leaf3 .leaf3) .ensures .0, (at-leaf3 .leaf3) .ensures .1) (turn-false h (start .pre .1) first)
 
 next-requires : tie.Need-next-requires
 next-requires c κs =
-    let first : kindAt (now ((c .before .before .before .before .before .before .before .before .before .before) .args .work)) ((c .before .before .before .before .before .before .before .before .before .before) .args .m .c) ≡ 22 = (let q : (c .before .before .before .before .before .before .kind) .result ≡ 22 = omega arith in sym ((c .before .before .before .before .before .before .kind) .ensures) ∙ q) in asks-next ((c .before .before .before .before .before .before .before .before .before .before) .pre .0) (omega arith)
+    let at-kind = c .before .before .before .before .before .before in
+    let start = at-kind .before .before .before .before in
+    let first : kindAt (now (start .args .work)) (start .args .m .c) ≡ 22 = (let q : (at-kind .kind) .result ≡ 22 = omega arith in sym ((at-kind .kind) .ensures) ∙ q) in
+    asks-next (start .pre .0) (omega arith)
 
 push-requires : tie.Need-push-requires
 push-requires c κs =
-    let first : kindAt (now ((c .before .before .before .before .before .before .before .before .before .before .before) .args .work)) ((c .before .before .before .before .before .before .before .before .before .before .before) .args .m .c) ≡ 22 = (let q : (c .before .before .before .before .before .before .before .kind) .result ≡ 22 = omega arith in sym ((c .before .before .before .before .before .before .before .kind) .ensures) ∙ q) in asks-push ((c .before .before .before .before .before .before .before .before .before .before .before) .pre .0) (omega arith) 7 (lit< tt)
+    let at-kind = c .before .before .before .before .before .before .before in
+    let start = at-kind .before .before .before .before in
+    let first : kindAt (now (start .args .work)) (start .args .m .c) ≡ 22 = (let q : (at-kind .kind) .result ≡ 22 = omega arith in sym ((at-kind .kind) .ensures) ∙ q) in
+    asks-push (start .pre .0) (omega arith) 7 (lit< tt)
 
 same-length-5 : tie.Need-same-length-5
 same-length-5 c = search needs
 
 returns-5 : tie.Need-returns-5
 returns-5 c =
-    λ ts s x h. let first : kindAt (now ((c .before .before .before .before .before .before .before .before .before .before .before .before .before .before) .args .work)) ((c .before .before .before .before .before .before .before .before .before .before .before .before .before .before) .args .m .c) ≡ 22 = (let q : (c .before .before .before .before .before .before .before .before .before .before .kind) .result ≡ 22 = omega arith in sym ((c .before .before .before .before .before .before .before .before .before .before .kind) .ensures) ∙ q) in rw ((c .before .before .push) .ensures .0, (c .before .before .push) .ensures .1, (c .before .before .before .next) .ensures) (turn-round h ((c .before .before .before .before .before .before .before .before .before .before .before .before .before .before) .pre .1) first)
+    let at-push = c .before .before in
+    let at-next = at-push .before in
+    let at-kind = at-next .before .before .before .before .before .before .before in
+    let start = at-kind .before .before .before .before in
+    λ ts s x h. let first : kindAt (now (start .args .work)) (start .args .m .c) ≡ 22 = (let q : (at-kind .kind) .result ≡ 22 = omega arith in sym ((at-kind .kind) .ensures) ∙ q) in
+    rw ((at-push .push) .ensures .0, (at-push .push) .ensures .1, (at-next .next) .ensures) (turn-round h (start .pre .1) first)
 
 next-requires-2 : tie.Need-next-requires-2
 next-requires-2 c κs =
-    let first : kindAt (now ((c .before .before .before .before .before .before .before .before .before .before .before) .args .work)) ((c .before .before .before .before .before .before .before .before .before .before .before) .args .m .c) ≡ 31 = (let q : (c .before .before .before .before .before .before .before .kind) .result ≡ 31 = omega arith in sym ((c .before .before .before .before .before .before .before .kind) .ensures) ∙ q) in asks-next ((c .before .before .before .before .before .before .before .before .before .before .before) .pre .0) (omega arith)
+    let at-kind = c .before .before .before .before .before .before .before in
+    let start = at-kind .before .before .before .before in
+    let first : kindAt (now (start .args .work)) (start .args .m .c) ≡ 31 = (let q : (at-kind .kind) .result ≡ 31 = omega arith in sym ((at-kind .kind) .ensures) ∙ q) in
+    asks-next (start .pre .0) (omega arith)
 
 push-requires-2 : tie.Need-push-requires-2
 push-requires-2 c κs =
-    let first : kindAt (now ((c .before .before .before .before .before .before .before .before .before .before .before .before) .args .work)) ((c .before .before .before .before .before .before .before .before .before .before .before .before) .args .m .c) ≡ 31 = (let q : (c .before .before .before .before .before .before .before .before .kind) .result ≡ 31 = omega arith in sym ((c .before .before .before .before .before .before .before .before .kind) .ensures) ∙ q) in asks-push ((c .before .before .before .before .before .before .before .before .before .before .before .before) .pre .0) (omega arith) 8 (lit< tt)
+    let at-kind = c .before .before .before .before .before .before .before .before in
+    let start = at-kind .before .before .before .before in
+    let first : kindAt (now (start .args .work)) (start .args .m .c) ≡ 31 = (let q : (at-kind .kind) .result ≡ 31 = omega arith in sym ((at-kind .kind) .ensures) ∙ q) in
+    asks-push (start .pre .0) (omega arith) 8 (lit< tt)
 
 same-length-6 : tie.Need-same-length-6
 same-length-6 c = search needs
 
 returns-6 : tie.Need-returns-6
 returns-6 c =
-    λ ts s x h. let first : kindAt (now ((c .before .before .before .before .before .before .before .before .before .before .before .before .before .before .before) .args .work)) ((c .before .before .before .before .before .before .before .before .before .before .before .before .before .before .before) .args .m .c) ≡ 31 = (let q : (c .before .before .before .before .before .before .before .before .before .before .before .kind) .result ≡ 31 = omega arith in sym ((c .before .before .before .before .before .before .before .before .before .before .before .kind) .ensures) ∙ q) in rw ((c .before .before .push2) .ensures .0, (c .before .before .push2) .ensures .1, (c .before .before .before .next2) .ensures) (turn-bars h ((c .before .before .before .before .before .before .before .before .before .before .before .before .before .before .before) .pre .1) first)
+    let at-push2 = c .before .before in
+    let at-next2 = at-push2 .before in
+    let at-kind = at-next2 .before .before .before .before .before .before .before .before in
+    let start = at-kind .before .before .before .before in
+    λ ts s x h. let first : kindAt (now (start .args .work)) (start .args .m .c) ≡ 31 = (let q : (at-kind .kind) .result ≡ 31 = omega arith in sym ((at-kind .kind) .ensures) ∙ q) in
+    rw ((at-push2 .push2) .ensures .0, (at-push2 .push2) .ensures .1, (at-next2 .next2) .ensures) (turn-bars h (start .pre .1) first)
 
 brace-requires : tie.Need-brace-requires
 brace-requires c κs =
-    ((c .before .before .before .before .before .before .before .before .before .before .before .before) .pre .0, let first : kindAt (now ((c .before .before .before .before .before .before .before .before .before .before .before .before) .args .work)) ((c .before .before .before .before .before .before .before .before .before .before .before .before) .args .m .c) ≡ 20 = (let q : (c .before .before .before .before .before .before .before .before .kind) .result ≡ 20 = omega arith in sym ((c .before .before .before .before .before .before .before .before .kind) .ensures) ∙ q) in first)
+    let at-kind = c .before .before .before .before .before .before .before .before in
+    let start = at-kind .before .before .before .before in
+    (start .pre .0, let first : kindAt (now (start .args .work)) (start .args .m .c) ≡ 20 = (let q : (at-kind .kind) .result ≡ 20 = omega arith in sym ((at-kind .kind) .ensures) ∙ q) in first)
 
 same-length-7 : tie.Need-same-length-7
 same-length-7 c = search needs
@@ -108,10 +155,20 @@ same-length-8 c = search needs
 
 returns-8 : tie.Need-returns-8
 returns-8 c =
-    let start = c .before .before .before .before .before .before .before .before .before .before .before .before .before in
-    let kind = c .before .before .before .before .before .before .before .before .before .kind in
+    let at-if7 = c .before .before in
+    let at-if6 = at-if7 .before in
+    let at-if5 = at-if6 .before in
+    let at-if4 = at-if5 .before in
+    let at-if3 = at-if4 .before in
+    let at-if2 = at-if3 .before in
+    let at-if1 = at-if2 .before in
+    let at-kind = at-if1 .before in
+    let start = at-kind .before .before .before .before in
+    let kind = at-kind .kind in
     λ ts s x h. rw ((c .refuse) .ensures)
-    (turn-not h (start .pre .1) (λ k z e. let q : kind .result ≡ k = kind .ensures ∙ e in starters k (λ y. (c .before .before .before .before .before .before .before .before .if1) .left (q ∙ y)) (λ y. (c .before .before .before .before .before .before .before .if2) .left (q ∙ y)) (λ y. (c .before .before .before .before .before .before .if3) .left (q ∙ y)) (λ y. (c .before .before .before .before .before .if4) .left (q ∙ y)) (λ y. (c .before .before .before .before .if5) .left (q ∙ y)) (λ y. (c .before .before .before .if6) .left (q ∙ y)) (λ y. (c .before .before .if7) .left (q ∙ y)) z))
+    (turn-not h (start .pre .1) (λ k z e. let q : kind .result ≡ k = kind .ensures ∙ e in
+    starters k (λ y. (at-if1 .if1) .left (q ∙ y)) (λ y. (at-if2 .if2) .left (q ∙ y)) (λ y. (at-if3 .if3) .left (q ∙ y)) (λ y. (at-if4 .if4) .left (q ∙ y)) (λ y. (at-if5 .if5) .left (q ∙ y))
+    (λ y. (at-if6 .if6) .left (q ∙ y)) (λ y. (at-if7 .if7) .left (q ∙ y)) z))
 
 pub atom-spec : {M : Type 1} → statement M
 atom-spec =

@@ -22,12 +22,18 @@ kind-requires c κs =
 
 next-requires-2 : tie.Need-next-requires-2
 next-requires-2 c κs =
-    let second : kindAt (now ((c .before .before .before .before .before .before) .args .work)) (nextOf ((c .before .before .before .before .before .before) .args .m .c)) ≡ 21 = (let q : (c .before .kind) .result ≡ 21 = omega arith in ap (kindAt (now ((c .before .before .before .before .before .before) .args .work))) (sym ((c .before .before .before .next) .ensures)) ∙ sym ((c .before .kind) .ensures) ∙ q) in rw ((c .before .before .before .next) .ensures) (asks-third ((c .before .before .before .before .before .before) .pre .0) (omega (arith, (c .before .before .before .before .before .before) .pre .1)) (omega arith))
+    let at-next = c .before .before .before in
+    let start = at-next .before .before .before in
+    let second : kindAt (now (start .args .work)) (nextOf (start .args .m .c)) ≡ 21 =
+    (let q : (c .before .kind) .result ≡ 21 = omega arith in ap (kindAt (now (start .args .work))) (sym ((at-next .next) .ensures)) ∙ sym ((c .before .kind) .ensures) ∙ q) in
+    rw ((at-next .next) .ensures) (asks-third (start .pre .0) (omega (arith, start .pre .1)) (omega arith))
 
 emit-requires : tie.Need-emit-requires
 emit-requires c κs =
-    let start = c .before .before .before .before .before .before .before .before in
-    let p = asks-leaf (start .pre .0) (omega (arith, start .pre .1)) 51 (lit< tt) in rw ((c .before .next2) .ensures, (c .before .before .before .before .before .next) .ensures) (record { room = p .room; few = p .out-fits; kind-fits = p .kind-fits; index-fits = p .at-fits; size-fits = lit< tt })
+    let at-next = c .before .before .before .before .before in
+    let start = at-next .before .before .before in
+    let p = asks-leaf (start .pre .0) (omega (arith, start .pre .1)) 51 (lit< tt) in
+    rw ((c .before .next2) .ensures, (at-next .next) .ensures) (record { room = p .room; few = p .out-fits; kind-fits = p .kind-fits; index-fits = p .at-fits; size-fits = lit< tt })
 
 climbing-requires : tie.Need-climbing-requires
 climbing-requires c κs = search needs
@@ -37,7 +43,14 @@ same-length c = search needs
 
 returns : tie.Need-returns
 returns c =
-    λ ts s x h. let second : kindAt (now ((c .before .before .before .before .before .before .before .before .before .before .before .before) .args .work)) (nextOf ((c .before .before .before .before .before .before .before .before .before .before .before .before) .args .m .c)) ≡ 21 = (let q : (c .before .before .before .before .before .before .before .kind) .result ≡ 21 = omega arith in ap (kindAt (now ((c .before .before .before .before .before .before .before .before .before .before .before .before) .args .work))) (sym ((c .before .before .before .before .before .before .before .before .before .next) .ensures)) ∙ sym ((c .before .before .before .before .before .before .before .kind) .ensures) ∙ q) in rw ((c .climbing) .ensures, (c .before .before .before .emit) .ensures .0, (c .before .before .before .emit) .ensures .1, (c .before .before .before .before .before .next2) .ensures, (c .before .before .before .before .before .before .before .before .before .next) .ensures) (turn-empty h ((c .before .before .before .before .before .before .before .before .before .before .before .before) .pre .1) second)
+    let at-emit = c .before .before .before in
+    let at-next2 = at-emit .before .before in
+    let at-kind = at-next2 .before .before in
+    let at-next = at-kind .before .before in
+    let start = at-next .before .before .before in
+    λ ts s x h. let second : kindAt (now (start .args .work)) (nextOf (start .args .m .c)) ≡ 21 =
+    (let q : (at-kind .kind) .result ≡ 21 = omega arith in ap (kindAt (now (start .args .work))) (sym ((at-next .next) .ensures)) ∙ sym ((at-kind .kind) .ensures) ∙ q) in
+    rw ((c .climbing) .ensures, (at-emit .emit) .ensures .0, (at-emit .emit) .ensures .1, (at-next2 .next2) .ensures, (at-next .next) .ensures) (turn-empty h (start .pre .1) second)
 
 push-requires : tie.Need-push-requires
 push-requires c κs =
@@ -49,7 +62,12 @@ same-length-2 c = search needs
 
 returns-2 : tie.Need-returns-2
 returns-2 c =
-    λ ts s x h. rw ((c .before .before .push) .ensures .0, (c .before .before .push) .ensures .1, (c .before .before .before .before .before .before .before .next) .ensures) (turn-set h ((c .before .before .before .before .before .before .before .before .before .before) .pre .1) (λ z. let q : (c .before .before .before .before .before .kind) .result ≡ 21 = (c .before .before .before .before .before .kind) .ensures ∙ ap (kindAt (now ((c .before .before .before .before .before .before .before .before .before .before) .args .work))) ((c .before .before .before .before .before .before .before .next) .ensures) ∙ z in omega arith))
+    let at-push = c .before .before in
+    let at-kind = at-push .before .before .before in
+    let at-next = at-kind .before .before in
+    let start = at-next .before .before .before in
+    λ ts s x h. rw ((at-push .push) .ensures .0, (at-push .push) .ensures .1, (at-next .next) .ensures)
+    (turn-set h (start .pre .1) (λ z. let q : (at-kind .kind) .result ≡ 21 = (at-kind .kind) .ensures ∙ ap (kindAt (now (start .args .work))) ((at-next .next) .ensures) ∙ z in omega arith))
 
 pub brace-spec : {M : Type 1} → statement M
 brace-spec =

@@ -21,8 +21,10 @@ same-length c = search needs
 
 returns : tie.Need-returns
 returns c =
-    let emit = c .before .before .before .emit in
-    rw ((c .climbing) .ensures, emit .ensures .0, emit .ensures .1, (c .before .before .before .before .before .next) .ensures) (search needs)
+    let at-emit = c .before .before .before in
+    let at-next = at-emit .before .before in
+    let emit = at-emit .emit in
+    rw ((c .climbing) .ensures, emit .ensures .0, emit .ensures .1, (at-next .next) .ensures) (search needs)
 
 pub leaf-spec : {M : Type 1} → statement M
 leaf-spec =

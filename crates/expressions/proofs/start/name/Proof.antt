@@ -22,7 +22,12 @@ kind-requires c κs =
 
 next-requires-2 : tie.Need-next-requires-2
 next-requires-2 c κs =
-    let second : kindAt (now ((c .before .before .before .before .before .before .before) .args .work)) (nextOf ((c .before .before .before .before .before .before .before) .args .m .c)) ≡ 24 = (let q : (c .before .before .kind) .result ≡ 24 = omega arith in ap (kindAt (now ((c .before .before .before .before .before .before .before) .args .work))) (sym ((c .before .before .before .before .next) .ensures)) ∙ sym ((c .before .before .kind) .ensures) ∙ q) in rw ((c .before .before .before .before .next) .ensures) (asks-third ((c .before .before .before .before .before .before .before) .pre .0) (omega (arith, (c .before .before .before .before .before .before .before) .pre .1)) (omega arith))
+    let at-kind = c .before .before in
+    let at-next = at-kind .before .before in
+    let start = at-next .before .before .before in
+    let second : kindAt (now (start .args .work)) (nextOf (start .args .m .c)) ≡ 24 =
+    (let q : (at-kind .kind) .result ≡ 24 = omega arith in ap (kindAt (now (start .args .work))) (sym ((at-next .next) .ensures)) ∙ sym ((at-kind .kind) .ensures) ∙ q) in
+    rw ((at-next .next) .ensures) (asks-third (start .pre .0) (omega (arith, start .pre .1)) (omega arith))
 
 push-requires : tie.Need-push-requires
 push-requires c κs =
@@ -34,7 +39,14 @@ same-length c = search needs
 
 returns : tie.Need-returns
 returns c =
-    λ ts s x h. let second : kindAt (now ((c .before .before .before .before .before .before .before .before .before .before .before) .args .work)) (nextOf ((c .before .before .before .before .before .before .before .before .before .before .before) .args .m .c)) ≡ 24 = (let q : (c .before .before .before .before .before .before .kind) .result ≡ 24 = omega arith in ap (kindAt (now ((c .before .before .before .before .before .before .before .before .before .before .before) .args .work))) (sym ((c .before .before .before .before .before .before .before .before .next) .ensures)) ∙ sym ((c .before .before .before .before .before .before .kind) .ensures) ∙ q) in rw ((c .before .before .push) .ensures .0, (c .before .before .push) .ensures .1, (c .before .before .before .next2) .ensures, (c .before .before .before .before .before .before .before .before .next) .ensures) (turn-index h ((c .before .before .before .before .before .before .before .before .before .before .before) .pre .1) second)
+    let at-push = c .before .before in
+    let at-next2 = at-push .before in
+    let at-kind = at-next2 .before .before .before in
+    let at-next = at-kind .before .before in
+    let start = at-next .before .before .before in
+    λ ts s x h. let second : kindAt (now (start .args .work)) (nextOf (start .args .m .c)) ≡ 24 =
+    (let q : (at-kind .kind) .result ≡ 24 = omega arith in ap (kindAt (now (start .args .work))) (sym ((at-next .next) .ensures)) ∙ sym ((at-kind .kind) .ensures) ∙ q) in
+    rw ((at-push .push) .ensures .0, (at-push .push) .ensures .1, (at-next2 .next2) .ensures, (at-next .next) .ensures) (turn-index h (start .pre .1) second)
 
 leaf-requires : tie.Need-leaf-requires
 leaf-requires c κs =
@@ -46,7 +58,12 @@ same-length-2 c = search needs
 
 returns-2 : tie.Need-returns-2
 returns-2 c =
-    λ ts s x h. rw ((c .before .before .leaf) .ensures .0, (c .before .before .leaf) .ensures .1) (turn-name h ((c .before .before .before .before .before .before .before .before .before .before) .pre .1) (λ z. let q : (c .before .before .before .before .before .kind) .result ≡ 24 = (c .before .before .before .before .before .kind) .ensures ∙ ap (kindAt (now ((c .before .before .before .before .before .before .before .before .before .before) .args .work))) ((c .before .before .before .before .before .before .before .next) .ensures) ∙ z in omega arith))
+    let at-leaf = c .before .before in
+    let at-kind = at-leaf .before .before .before in
+    let at-next = at-kind .before .before in
+    let start = at-next .before .before .before in
+    λ ts s x h. rw ((at-leaf .leaf) .ensures .0, (at-leaf .leaf) .ensures .1)
+    (turn-name h (start .pre .1) (λ z. let q : (at-kind .kind) .result ≡ 24 = (at-kind .kind) .ensures ∙ ap (kindAt (now (start .args .work))) ((at-next .next) .ensures) ∙ z in omega arith))
 
 pub name-spec : {M : Type 1} → statement M
 name-spec =

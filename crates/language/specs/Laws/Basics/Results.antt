@@ -59,7 +59,8 @@ gathered P f h [] u = done tt
 gathered P f h (a ∷ l) u = bind (f a) _ (h a (u .0)) (λ b q. bind (gather f l) _ (gathered P f h l (u .1)) (λ bs qs. done (q, qs)))
 
 -- folds over the elements of a set
-module _ {A : Type 0} {R : Refusals} (P : ℕ → Type 0) {Q : A → Type 0} (step : A → A → Result A) (kept : (a b : A) → Q a → Q b → Answers R Q (step a b)) (f : ℕ → Result A) (each : (k : ℕ) → P k → Answers R Q (f k)) where
+module _ {A : Type 0} {R : Refusals} (P : ℕ → Type 0) {Q : A → Type 0} (step : A → A → Result A) (kept : (a b : A) → Q a → Q b → Answers R Q (step a b)) (f : ℕ → Result A)
+    (each : (k : ℕ) → P k → Answers R Q (f k)) where
   onwards : (a : A) → Q a → (s : List ℕ) → All P s → Answers R Q (onward step f a s)
   onwards a h [] l = done h
   onwards a h (k ∷ s) l = bind (f k) _ (each k (l .0)) (λ b m. bind (step a b) _ (kept a b h m) (λ c n. onwards c n s (l .1)))
@@ -68,7 +69,8 @@ module _ {A : Type 0} {R : Refusals} (P : ℕ → Type 0) {Q : A → Type 0} (st
   folds over h [] l = h
   folds over h (k ∷ s) l = bind (f k) _ (each k (l .0)) (λ a m. onwards a m s (l .1))
 
-pub folds-any : {A : Type 0} {R : Refusals} (step : A → A → Result A) → ((a b : A) → Answers R Any (step a b)) → (f : ℕ → Result A) → ((k : ℕ) → Answers R Any (f k)) → (over : Result A) → Answers R Any over → (s : List ℕ) → Answers R Any (folded step over f s)
+pub folds-any : {A : Type 0} {R : Refusals} (step : A → A → Result A) → ((a b : A) → Answers R Any (step a b)) → (f : ℕ → Result A) → ((k : ℕ) → Answers R Any (f k)) → (over : Result A)
+    → Answers R Any over → (s : List ℕ) → Answers R Any (folded step over f s)
 folds-any step kept f each over h s = folds Any step (λ a b _ _. kept a b) f (λ k _. each k) over h s (all-any s)
 
 -- nothing is asked of a refusal

@@ -3,7 +3,37 @@
 use mathlib.Core.Path.{_≡_}
 use mathlib.Core.Bool.{Bool, true, false}
 use Rattle.language.specs.Tokens.{Name, Numeral as Digits, isOf}
-use Rattle.language.specs.Tree.{Expr, Named, Numeral, Truth, Index, Paren, Prefixed, Joined, Nexts, InWindow, Each, Between, Listed, Empty, Element, Range, Definition, Defined, Enumerated, Parameter, Declaration, OneSignal, OfWidth, OfType, Subsection, Inputs, Outputs, Lines, Spec}
+use Rattle.language.specs.Tree.{
+  Expr,
+  Named,
+  Numeral,
+  Truth,
+  Index,
+  Paren,
+  Prefixed,
+  Joined,
+  Nexts,
+  InWindow,
+  Each,
+  Between,
+  Listed,
+  Empty,
+  Element,
+  Range,
+  Definition,
+  Defined,
+  Enumerated,
+  Parameter,
+  Declaration,
+  OneSignal,
+  OfWidth,
+  OfType,
+  Subsection,
+  Inputs,
+  Outputs,
+  Lines,
+  Spec,
+}
 use Rattle.language.specs.Laws.Basics.Lists.{All}
 
 -- `braces`: are elements to stand here?

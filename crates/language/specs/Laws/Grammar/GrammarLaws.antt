@@ -27,7 +27,8 @@ use Rattle.language.specs.Laws.Grammar.ExprReads.{prefix-none, infix-non
 abbrev climbed : ℕ → Reader → ℕ → Expr → Token → Tokens → Option InfixRow → Read Expr
 climbed f rec max e t ts o = elim o [ none ↦ Done (e, ts) | some r ↦ rec (rightLevel r) (rest ts) >>= λ (b, us). climb f rec max (Joined t (r .operator) e b) us ]
 
-climb-step : (f : ℕ) (rec : Reader) (max : ℕ) (e : Expr) (t : Token) (o : Option InfixRow) (ts : Tokens) → front ts ≡ t → allowed max (infixOf infixes t) ≡ o → climb (suc f) rec max e ts ≡ climbed f rec max e t ts o
+climb-step : (f : ℕ) (rec : Reader) (max : ℕ) (e : Expr) (t : Token) (o : Option InfixRow) (ts : Tokens) → front ts ≡ t → allowed max (infixOf infixes t) ≡ o
+    → climb (suc f) rec max e ts ≡ climbed f rec max e t ts o
 climb-step f rec max e t o ts z w = ap (λ u. climbed f rec max e u ts (allowed max (infixOf infixes u))) z ∙ ap (climbed f rec max e t ts) w
 
 near-none : (max : ℕ) (ts us : Tokens) → allowed max (infixOf infixes (front ts)) ≡ none → Near (Follows max) ts us → allowed max (infixOf infixes (front us)) ≡ none
@@ -62,21 +63,26 @@ module _
     (n : ℕ)
     (reads : (m b : ℕ) (ts : Tokens) → length ts < n → b ≤ n → Reads Expr P (InExpr P) (Is truth) (Follows m) b 1 ts (rec m ts) (λ k. rec′ k m))
   where
-    climb-reads : (f max : ℕ) (e : Expr) (ts : Tokens) → f ≤ n → length ts < f → Reads Expr P (λ x. InExpr P e → InExpr P x) (Follows max) (Follows max) f 0 ts (climb f rec max e ts) (λ k us. climb (more f k) (rec′ k) max e us)
+    climb-reads : (f max : ℕ) (e : Expr) (ts : Tokens) → f ≤ n → length ts < f
+        → Reads Expr P (λ x. InExpr P e → InExpr P x) (Follows max) (Follows max) f 0 ts (climb f rec max e ts) (λ k us. climb (more f k) (rec′ k) max e us)
     climb-reads zero max e ts g h = absurd (omega arith)
     climb-reads (suc f) max e ts g h = go ts h (allowed max (infixOf infixes (front ts))) refl (λ b rs. climb-reads f max b rs)
       where
         go : (ts : Tokens) → length ts < suc f → (o : Option InfixRow) → allowed max (infixOf infixes (front ts)) ≡ o →
-            ((b : Expr) (rs : Tokens) → f ≤ n → length rs < f → Reads Expr P (λ x. InExpr P b → InExpr P x) (Follows max) (Follows max) f 0 rs (climb f rec max b rs) (λ k us. climb (more f k) (rec′ k) max b us)) →
+            ((b : Expr) (rs : Tokens) → f ≤ n → length rs < f → Reads Expr P (λ x. InExpr P b → InExpr P x) (Follows max) (Follows max) f 0 rs (climb f rec max b rs)
+            (λ k us. climb (more f k) (rec′ k) max b us)) →
             Reads Expr P (λ x. InExpr P e → InExpr P x) (Follows max) (Follows max) (suc f) 0 ts (climb (suc f) rec max e ts) (λ k us. climb (more (suc f) k) (rec′ k) max e us)
         go ts h none z later =
-            subst (λ r. Reads Expr P (λ x. InExpr P e → InExpr P x) (Follows max) (Follows max) (suc f) 0 ts r (λ k us. climb (more (suc f) k) (rec′ k) max e us)) (sym (climb-step f rec max e (front ts) none ts refl z))
+            subst (λ r. Reads Expr P (λ x. InExpr P e → InExpr P x) (Follows max) (Follows max) (suc f) 0 ts r (λ k us. climb (more (suc f) k) (rec′ k) max e us))
+            (sym (climb-step f rec max e (front ts) none ts refl z))
             (transfer (Done (e, ts)) (λ t v. v) (done e (λ v. v)) (λ k us w l. climb-step (more f k) (rec′ k) max e (front us) none us refl (near-none max ts us z w)))
         go [] h (some r) z later = absurd (some-none (sym z))
         go (t ∷ ts) h (some r) z later =
-            prefixed (λ k us. climb (more (suc f) k) (rec′ k) max e us) t _ (row-inner t (allowed max (infixOf infixes t)) r (λ c. ap (allowed max) (infix-none infixes t c)) z) (omega arith) (omega arith)
+            prefixed (λ k us. climb (more (suc f) k) (rec′ k) max e us) t _ (row-inner t (allowed max (infixOf infixes t)) r (λ c. ap (allowed max) (infix-none infixes t c)) z) (omega arith)
+            (omega arith)
             (rephrase _ (climb-step f rec max e t (some r) (t ∷ ts) refl z) (λ k us. climb-step (more f k) (rec′ k) max e t (some r) (t ∷ us) refl z)
-            (bind-before (rec (rightLevel r) ts) (tighter (rightLevel r) max (omega (arith, right-tighter r, allowed-level max (infixOf infixes t) r z))) _ _ (reads (rightLevel r) f ts (omega arith) (omega arith)) λ b rs l.
+            (bind-before (rec (rightLevel r) ts) (tighter (rightLevel r) max (omega (arith, right-tighter r, allowed-level max (infixOf infixes t) r z))) _ _
+            (reads (rightLevel r) f ts (omega arith) (omega arith)) λ b rs l.
             weaken _ (omega arith) (omega arith) (λ x q vb vt v. q (vt, v, vb)) (later (Joined t (r .operator) e b) rs (omega arith) (omega arith))))
 
 -- a name begins an operand
@@ -96,12 +102,14 @@ expr-truth (suc zero) max us w l = absurd (omega arith)
 expr-truth (suc (suc f)) max [] w l = absurd w
 expr-truth (suc (suc f)) max (u ∷ us) w l =
     let rec : Reader = λ m us. expr (suc f) m us in
-    bind-to (operandOf (suc f) rec max (truth ∷ u ∷ us)) (Truth truth true, u ∷ us) (λ (e, vs). climb (suc f) rec max e vs) refl ∙ climb-step f rec max (Truth truth true) u none (u ∷ us) refl (w .operator)
+    bind-to (operandOf (suc f) rec max (truth ∷ u ∷ us)) (Truth truth true, u ∷ us) (λ (e, vs). climb (suc f) rec max e vs) refl ∙ climb-step f rec max (Truth truth true) u none (u ∷ us) refl
+    (w .operator)
 
 -- the law of expressions with a fuel, and of those that begin with a name, seen from behind it
 record ExprLaw (P : Token → Type 0) (f : ℕ) : Type 0 where
   main : (max b : ℕ) (ts : Tokens) → length ts < f → b ≤ f → Reads Expr P (InExpr P) (Is truth) (Follows max) b 1 ts (expr f max ts) (λ k. expr (more f k) max)
-  names : (t : Token) → isOf Name t ≡ true → (b : ℕ) (ts : Tokens) → suc (length ts) < f → suc b ≤ f → Reads Expr P (λ e. P t → InExpr P e) (Follows 8) (Follows 8) b 0 ts (expr f 8 (t ∷ ts)) (λ k us. expr (more f k) 8 (t ∷ us))
+  names : (t : Token) → isOf Name t ≡ true → (b : ℕ) (ts : Tokens) → suc (length ts) < f → suc b ≤ f
+      → Reads Expr P (λ e. P t → InExpr P e) (Follows 8) (Follows 8) b 0 ts (expr f 8 (t ∷ ts)) (λ k us. expr (more f k) 8 (t ∷ us))
 
 expr-reads : (P : Token → Type 0) (f : ℕ) → ExprLaw P f
 expr-reads P zero = record { main = λ max b ts h g. absurd (omega arith); names = λ t i b ts h g. absurd (omega arith) }
@@ -120,13 +128,21 @@ expr-reads P (suc f) = go (expr-reads P f)
         main max b [] h g =
             subst (λ r. Reads Expr P (InExpr P) (Is truth) (Follows max) b 1 [] r (λ k. expr (more (suc f) k) max)) (sym (expr-none (suc f) max))
             (none-reads [] (omega arith) (λ k l. expr-none (more (suc f) k) max)
-            (record { ending = truth ∷ []; value = Truth truth true; enough = omega arith; accepted = λ k us w l. expr-truth (more (suc f) k) max us w (omega (arith, more-is f k)); opens = λ us w. opened refl }))
+            (record {
+              ending = truth ∷ [];
+              value = Truth truth true;
+              enough = omega arith;
+              accepted = λ k us w l. expr-truth (more (suc f) k) max us w (omega (arith, more-is f k));
+              opens = λ us w.
+                  opened refl;
+            }))
         main max b (t ∷ ts) h g =
             weaken _ g (omega arith) (λ a q. q)
             (bind-less {b′ = f} (operandOf f rec max (t ∷ ts)) (omega arith) (λ t v. v) _ _ (operandOf-reads P rec rec′ f (ih .main) (ih .names) f max (t ∷ ts) (omega arith) (omega arith)) λ e rs l.
             climb-reads P rec rec′ f (ih .main) f max e rs (omega arith) (omega arith))
 
-        names : (t : Token) → isOf Name t ≡ true → (b : ℕ) (ts : Tokens) → suc (length ts) < suc f → suc b ≤ suc f → Reads Expr P (λ e. P t → InExpr P e) (Follows 8) (Follows 8) b 0 ts (expr (suc f) 8 (t ∷ ts)) (λ k us. expr (more (suc f) k) 8 (t ∷ us))
+        names : (t : Token) → isOf Name t ≡ true → (b : ℕ) (ts : Tokens) → suc (length ts) < suc f → suc b ≤ suc f
+            → Reads Expr P (λ e. P t → InExpr P e) (Follows 8) (Follows 8) b 0 ts (expr (suc f) 8 (t ∷ ts)) (λ k us. expr (more (suc f) k) 8 (t ∷ us))
         names t i b ts h g =
             rephrase _ (ap (λ r. r >>= λ (e, us). climb f rec 8 e us) (named f rec t ts i)) (λ k us. ap (λ r. r >>= λ (e, vs). climb (more f k) (rec′ k) 8 e vs) (named (more f k) (rec′ k) t us i))
             (bind (nameOf rec t ts) _ _ (nameOf-reads P rec rec′ f (ih .main) (ih .names) 8 b t ts (omega arith) (omega arith)) λ e rs l.
@@ -146,9 +162,11 @@ pub upTo-reads : (P : Token → Type 0) (f max b : ℕ) (ts : Tokens) → length
 upTo-reads P f max b ts h =
     free (upTo max) (expr f max ts) (expr-reads P f .main max f ts h (omega arith)) (λ k us l. expr-fuel (suc (length us)) (more f k) max us (omega arith) (omega (arith, more-is f k)))
 
-upTo-names : (P : Token → Type 0) (f : ℕ) (t : Token) → isOf Name t ≡ true → (b : ℕ) (ts : Tokens) → suc (length ts) < f → Reads Expr P (λ e. P t → InExpr P e) (Follows 8) (Follows 8) b 0 ts (expr f 8 (t ∷ ts)) (λ k us. upTo 8 (t ∷ us))
+upTo-names : (P : Token → Type 0) (f : ℕ) (t : Token) → isOf Name t ≡ true → (b : ℕ) (ts : Tokens) → suc (length ts) < f
+    → Reads Expr P (λ e. P t → InExpr P e) (Follows 8) (Follows 8) b 0 ts (expr f 8 (t ∷ ts)) (λ k us. upTo 8 (t ∷ us))
 upTo-names P f t i b ts h =
-    free (λ us. upTo 8 (t ∷ us)) (expr f 8 (t ∷ ts)) (expr-reads P f .names t i (f - 1) ts h (omega arith)) (λ k us l. expr-fuel (suc (suc (length us))) (more f k) 8 (t ∷ us) (omega arith) (omega (arith, more-is f k)))
+    free (λ us. upTo 8 (t ∷ us)) (expr f 8 (t ∷ ts)) (expr-reads P f .names t i (f - 1) ts h (omega arith))
+    (λ k us l. expr-fuel (suc (suc (length us))) (more f k) 8 (t ∷ us) (omega arith) (omega (arith, more-is f k)))
 
 -- an accepted expression takes at least one token, and those it takes stand at the front
 pub upTo-takes : (max : ℕ) (ts : Tokens) (e : Expr) (rs : Tokens) → upTo max ts ≡ Done (e, rs) → (t : Token) × (us : Tokens) × (ts ≡ t ∷ (us ++ rs))
@@ -164,7 +182,8 @@ upTo-operand max ts e us z =
     let n = length ts in
     let s =
     takes (operandOf n upTo max ts) e us z
-    (operandOf-reads Any upTo (λ k. upTo) n (λ m b vs l g. upTo-reads Any (suc (length vs)) m b vs (omega arith)) (λ t i b vs l g. upTo-names Any (suc (suc (length vs))) t i b vs (omega arith)) n max ts (omega arith) (omega arith)) in
+    (operandOf-reads Any upTo (λ k. upTo) n (λ m b vs l g. upTo-reads Any (suc (length vs)) m b vs (omega arith)) (λ t i b vs l g. upTo-names Any (suc (suc (length vs))) t i b vs (omega arith)) n max
+    ts (omega arith) (omega arith)) in
     let l = s .2 in
     omega (arith, ap length (s .1), length-append (s .0) us)
 

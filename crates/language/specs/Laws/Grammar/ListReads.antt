@@ -29,13 +29,15 @@ begins-apart s [] w = absurd w
 begins-apart s (u ∷ us) w = w
 
 -- as much fuel as tokens
-long-reads : {A : Type 0} {P : Token → Type 0} {Q : A → Type 0} {S W : Token → Type 0} (F : ℕ → Tokens → Read A) → ((f : ℕ) (ts : Tokens) → length ts ≤ f → Reads A P Q S W 1 1 ts (F f ts) F) → (b : ℕ) (ts : Tokens) → Reads A P Q S W b 1 ts (F (length ts) ts) (λ k us. F (length us) us)
+long-reads : {A : Type 0} {P : Token → Type 0} {Q : A → Type 0} {S W : Token → Type 0} (F : ℕ → Tokens → Read A) → ((f : ℕ) (ts : Tokens) → length ts ≤ f → Reads A P Q S W 1 1 ts (F f ts) F)
+    → (b : ℕ) (ts : Tokens) → Reads A P Q S W b 1 ts (F (length ts) ts) (λ k us. F (length us) us)
 long-reads F law b ts =
     move {vs = []} _ (law (length ts) ts (omega arith)) (omega arith)
     (record { whole = refl; inner = tt; step = λ k us w l. (length us, omega arith, refl); near = λ us w. w; value = λ a _ q. q })
 
 -- a fuel that is one more
-one-more : {A : Type 0} {P : Token → Type 0} {Q : A → Type 0} {S W : Token → Type 0} (F : ℕ → Tokens → Read A) → ((k : ℕ) → F k [] ≡ stop []) → {ts : Tokens} (r : Read A) → Reads A P Q S W 2 1 ts r (λ k. F (suc k)) → Reads A P Q S W 1 1 ts r F
+one-more : {A : Type 0} {P : Token → Type 0} {Q : A → Type 0} {S W : Token → Type 0} (F : ℕ → Tokens → Read A) → ((k : ℕ) → F k [] ≡ stop []) → {ts : Tokens} (r : Read A)
+    → Reads A P Q S W 2 1 ts r (λ k. F (suc k)) → Reads A P Q S W 1 1 ts r F
 one-more {A} {P} {Q} {S} {W} F e {ts} r h = move {vs = []} r h (omega arith) (record { whole = refl; inner = tt; step = go; near = λ us w. w; value = λ a _ q. q })
   where
     go : (k : ℕ) (us : Tokens) → Near S ts us → length us < 1 + k → (j : ℕ) × (length us < 2 + j) × (F k us ≡ F (suc j) us)
@@ -61,7 +63,8 @@ module _ (P : Token → Type 0) where
       one-more tagsOf tags-none _
       (bind (tagOf ts) _ _ (tagOf-reads 2 ts) λ t rs l.
       choose (is ",") (λ t e. e)
-      (λ i. take {b′ = 1} {d′ = 0} rs _ (is-inner "," (front rs) i) (omega arith) (omega arith) (weaken _ (omega arith) (omega arith) (λ _ _ _ _. tt) (tags-law f (rest rs) (omega (arith, rest-less rs)))))
+      (λ i. take {b′ = 1} {d′ = 0} rs _ (is-inner "," (front rs) i) (omega arith) (omega arith)
+      (weaken _ (omega arith) (omega arith) (λ _ _ _ _. tt) (tags-law f (rest rs) (omega (arith, rest-less rs)))))
       (λ _. done t (λ _. tt)))
 
   words-none : (k : ℕ) → wordsOf k [] ≡ stop []
@@ -97,9 +100,17 @@ module _ (P : Token → Type 0) where
   identifiers-law : (f : ℕ) (ts : Tokens) → length ts ≤ f → Reads (List Identifier) P (All (InIdentifier P)) (Is (plain Name)) (Is (sign "}")) 1 1 ts (identifiersOf f ts) identifiersOf
   identifiers-law zero ts h =
       none-reads ts h (λ k _. identifiers-none k)
-      (record { ending = plain Name ∷ sign ":" ∷ plain Marks ∷ []; value = record { name = plain Name; words = plain Marks ∷ [] } ∷ []; enough = omega arith; accepted = go; opens = λ us w. opened refl })
+      (record {
+        ending = plain Name ∷ sign ":" ∷ plain Marks ∷ [];
+        value = record { name = plain Name; words = plain Marks ∷ [] } ∷ [];
+        enough = omega arith;
+        accepted = go;
+        opens = λ us w. opened
+            refl;
+      })
     where
-      go : (k : ℕ) (us : Tokens) → Begins (Is (sign "}")) us → length (plain Name ∷ sign ":" ∷ plain Marks ∷ us) < 1 + k → identifiersOf k (plain Name ∷ sign ":" ∷ plain Marks ∷ us) ≡ Done (record { name = plain Name; words = plain Marks ∷ [] } ∷ [], us)
+      go : (k : ℕ) (us : Tokens) → Begins (Is (sign "}")) us → length (plain Name ∷ sign ":" ∷ plain Marks ∷ us) < 1 + k
+          → identifiersOf k (plain Name ∷ sign ":" ∷ plain Marks ∷ us) ≡ Done (record { name = plain Name; words = plain Marks ∷ [] } ∷ [], us)
       go zero us w l = absurd (omega arith)
       go (suc k) [] w l = absurd w
       go (suc k) (u ∷ us) w l =
@@ -117,7 +128,8 @@ module _ (P : Token → Type 0) where
       (λ _. some-taken (bind (identifiersOf f rs₃) _ _ (identifiers-law f rs₃ (omega arith)) λ is us l′. done (record { name = x; words = ws } ∷ is) (λ v′ vs _ v. ((v, vs), v′))))
       (λ _. done (record { name = x; words = ws } ∷ []) (λ vs _ v. ((v, vs), tt))))))
 
-  pub identifiersOf-reads : (b : ℕ) (ts : Tokens) → Reads (List Identifier) P (All (InIdentifier P)) (Is (plain Name)) (Is (sign "}")) b 1 ts (identifiersOf (length ts) ts) (λ k us. identifiersOf (length us) us)
+  pub identifiersOf-reads : (b : ℕ) (ts : Tokens) → Reads (List Identifier) P (All (InIdentifier P)) (Is (plain Name)) (Is (sign "}")) b 1 ts (identifiersOf (length ts) ts)
+      (λ k us. identifiersOf (length us) us)
   identifiersOf-reads = long-reads identifiersOf identifiers-law
 
 -- lines, by the reader of one
@@ -154,6 +166,8 @@ module _
     pub blockOf-reads : {W : Token → Type 0} (b : ℕ) (ts : Tokens) → Reads (List A) P (All Q) (Is (sign "{")) W b 1 ts (blockOf line ts) (λ k us. blockOf line us)
     blockOf-reads b ts = bind (expect "{" ts) _ _ (expect-reads b ts "{") λ c rs l. weaken _ (omega arith) (omega arith) (λ a q _. q) (long-reads (λ k. linesOf k line) lines-law b rs)
 
-    pub optional-reads : {W : Token → Type 0} (word : String) → ((t : Token) → W t → is word t ≡ false) → (b : ℕ) (ts : Tokens) → Reads (List A) P (All Q) W W b 0 ts (optional word line ts) (λ k us. optional word line us)
+    pub optional-reads : {W : Token → Type 0} (word : String) → ((t : Token) → W t → is word t ≡ false) → (b : ℕ) (ts : Tokens)
+        → Reads (List A) P (All Q) W W b 0 ts (optional word line ts) (λ k us. optional word line us)
     optional-reads word z b ts =
-        choose (is word) z (λ i. take {b′ = b} {d′ = 0} ts _ (is-inner word (front ts) i) (omega arith) (omega arith) (weaken _ (omega arith) (omega arith) (λ a q _. q) (blockOf-reads b (rest ts)))) (λ _. done [] tt)
+        choose (is word) z (λ i. take {b′ = b} {d′ = 0} ts _ (is-inner word (front ts) i) (omega arith) (omega arith) (weaken _ (omega arith) (omega arith) (λ a q _. q) (blockOf-reads b (rest ts))))
+        (λ _. done [] tt)

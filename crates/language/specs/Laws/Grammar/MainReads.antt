@@ -74,7 +74,8 @@ unfolding number-of
 heading-found [] before t r e = absurd (some-none (sym e))
 heading-found (q ∷ rs) before t r e = go (named (q .names) t) refl (seen before (q .number)) refl (heading-found rs before t r)
   where
-    go : (c : Bool) → named (q .names) t ≡ c → (d : Bool) → seen before (q .number) ≡ d → (headingOf rs before t ≡ some r → suc (missing rs (r .number ∷ before)) ≤ missing rs before) → suc (missing (q ∷ rs) (r .number ∷ before)) ≤ missing (q ∷ rs) before
+    go : (c : Bool) → named (q .names) t ≡ c → (d : Bool) → seen before (q .number) ≡ d → (headingOf rs before t ≡ some r → suc (missing rs (r .number ∷ before)) ≤ missing rs before)
+        → suc (missing (q ∷ rs) (r .number ∷ before)) ≤ missing (q ∷ rs) before
     go true z true w later = absurd (some-none (sym e ∙ pick (named (q .names) t) _ _ z ∙ pick (seen before (q .number)) none (some q) w))
     go true z false w later =
         let same : some q ≡ some r = sym (pick (named (q .names) t) _ _ z ∙ leave (seen before (q .number)) none (some q) w) ∙ e in
@@ -96,13 +97,15 @@ finish-all f before e₀ e₁ =
       accepted = λ us. pick (seen before 0 && seen before 1) _ _ (ap (λ c. c && seen before 1) e₀ ∙ e₁) ∙ bind-to (expect "}" (sign "}" ∷ us)) (sign "}", us) _ refl;
     }
 
-finish-step : (f : ℕ) (before : List ℕ) (t : Token) (r : HeadingRow) (s : Subsection) → headingOf headings before t ≡ some r → ((us : Tokens) → subsectionOf (r .heading) (sign "{" ∷ sign "}" ∷ us) ≡ Done (s, us)) → Finish f (r .number ∷ before) → Finish (suc f) before
+finish-step : (f : ℕ) (before : List ℕ) (t : Token) (r : HeadingRow) (s : Subsection) → headingOf headings before t ≡ some r
+    → ((us : Tokens) → subsectionOf (r .heading) (sign "{" ∷ sign "}" ∷ us) ≡ Done (s, us)) → Finish f (r .number ∷ before) → Finish (suc f) before
 finish-step f before t r s e z h =
     record {
       ending = t ∷ sign "{" ∷ sign "}" ∷ h .ending;
       value = s ∷ h .value;
       accepted = λ us.
-          subsections-step f before (some r) (t ∷ sign "{" ∷ sign "}" ∷ (h .ending ++ us)) e ∙ bind-to (subsectionOf (r .heading) (sign "{" ∷ sign "}" ∷ (h .ending ++ us))) (s, h .ending ++ us) _ (z (h .ending ++ us))
+          subsections-step f before (some r) (t ∷ sign "{" ∷ sign "}" ∷ (h .ending ++ us)) e ∙ bind-to (subsectionOf (r .heading) (sign "{" ∷ sign "}" ∷ (h .ending ++ us))) (s, h .ending ++ us) _
+          (z (h .ending ++ us))
           ∙ bind-to (subsectionsOf f (r .number ∷ before) (h .ending ++ us)) (h .value, us) _ (h .accepted us);
     }
 
@@ -131,25 +134,31 @@ finish f before h = go f (seen before 0) refl h
         finish-step f before (sign "INPUTS") (record { names = "INPUTS" ∷ []; number = 0; heading = InputsHere }) (Inputs []) (leave (seen before 0) none _ e)
         (λ us. bind-to (blockOf declarationOf (sign "{" ∷ sign "}" ∷ us)) ([], us) _ (block-empty us)) (finish-outputs f (0 ∷ before) (omega arith) refl)
 
-subsectionOf-reads : {W : Token → Type 0} (P : Token → Type 0) (h : Heading) (b : ℕ) (ts : Tokens) → Reads Subsection P (InSubsection P) (Is (sign "{")) W b 1 ts (subsectionOf h ts) (λ k us. subsectionOf h us)
-subsectionOf-reads P InputsHere b ts = bind (blockOf declarationOf ts) _ _ (blockOf-reads declarationOf declaration-none (λ t e. ap (is "}") e) (declarationOf-reads P) b ts) λ ds rs l. done (Inputs ds) (λ v. v)
-subsectionOf-reads P OutputsHere b ts = bind (blockOf declarationOf ts) _ _ (blockOf-reads declarationOf declaration-none (λ t e. ap (is "}") e) (declarationOf-reads P) b ts) λ ds rs l. done (Outputs ds) (λ v. v)
+subsectionOf-reads : {W : Token → Type 0} (P : Token → Type 0) (h : Heading) (b : ℕ) (ts : Tokens)
+    → Reads Subsection P (InSubsection P) (Is (sign "{")) W b 1 ts (subsectionOf h ts) (λ k us. subsectionOf h us)
+subsectionOf-reads P InputsHere b ts = bind (blockOf declarationOf ts) _ _ (blockOf-reads declarationOf declaration-none (λ t e. ap (is "}") e) (declarationOf-reads P) b ts) λ ds rs l. done
+    (Inputs ds) (λ v. v)
+subsectionOf-reads P OutputsHere b ts = bind (blockOf declarationOf ts) _ _ (blockOf-reads declarationOf declaration-none (λ t e. ap (is "}") e) (declarationOf-reads P) b ts) λ ds rs l. done
+    (Outputs ds) (λ v. v)
 subsectionOf-reads P (LinesHere p) b ts =
-    bind (blockOf expression ts) _ _ (blockOf-reads expression expression-none (λ t e. ap (is "}") e) (λ c us. narrow _ (follows-at brace) (expression-reads P c us)) b ts) λ es rs l. done (Lines p es) (λ v. v)
+    bind (blockOf expression ts) _ _ (blockOf-reads expression expression-none (λ t e. ap (is "}") e) (λ c us. narrow _ (follows-at brace) (expression-reads P c us)) b ts) λ es rs l. done
+    (Lines p es) (λ v. v)
 
 near-none : (before : List ℕ) (ts us : Tokens) → headingOf headings before (front ts) ≡ none → Near (Is (sign "}")) ts us → headingOf headings before (front us) ≡ none
 near-none before ts us e (alike h) = ap (headingOf headings before) (alike-front ts us h) ∙ e
 near-none before ts [] e (opened v) = absurd v
 near-none before ts (u ∷ us) e (opened v) = ap (headingOf headings before) v
 
-pub subsectionsOf-reads : {W : Token → Type 0} (P : Token → Type 0) (f : ℕ) (before : List ℕ) → suc (missing headings before) ≤ f → (b : ℕ) (ts : Tokens) → Reads (List Subsection) P (All (InSubsection P)) Any W b 0 ts (subsectionsOf f before ts) (λ k us. subsectionsOf f before us)
+pub subsectionsOf-reads : {W : Token → Type 0} (P : Token → Type 0) (f : ℕ) (before : List ℕ) → suc (missing headings before) ≤ f → (b : ℕ) (ts : Tokens)
+    → Reads (List Subsection) P (All (InSubsection P)) Any W b 0 ts (subsectionsOf f before ts) (λ k us. subsectionsOf f before us)
 subsectionsOf-reads P zero before h b ts = absurd (omega arith)
 subsectionsOf-reads {W} P (suc f) before h b ts = go ts (headingOf headings before (front ts)) refl (subsectionsOf-reads P f)
   where
     R : ℕ → Tokens → Read (List Subsection)
     R k us = subsectionsOf (suc f) before us
 
-    closing : (ts : Tokens) → headingOf headings before (front ts) ≡ none → (c : Bool) → (seen before 0 && seen before 1) ≡ c → Reads (List Subsection) P (All (InSubsection P)) Any W b 0 ts (subsectionsOf (suc f) before ts) R
+    closing : (ts : Tokens) → headingOf headings before (front ts) ≡ none → (c : Bool) → (seen before 0 && seen before 1) ≡ c
+        → Reads (List Subsection) P (All (InSubsection P)) Any W b 0 ts (subsectionsOf (suc f) before ts) R
     closing ts e true z =
         let isEnd : (us : Tokens) → headingOf headings before (front us) ≡ none → subsectionsOf (suc f) before us ≡ (expect "}" us >>= λ (c, vs). Done ([], vs)) =
         λ us w. subsections-step f before none us w ∙ pick (seen before 0 && seen before 1) _ _ z in
@@ -176,7 +185,8 @@ subsectionsOf-reads {W} P (suc f) before h b ts = go ts (headingOf headings befo
         })
 
     go : (ts : Tokens) (o : Option HeadingRow) → headingOf headings before (front ts) ≡ o →
-        ((bs : List ℕ) → suc (missing headings bs) ≤ f → (b : ℕ) (us : Tokens) → Reads (List Subsection) P (All (InSubsection P)) Any W b 0 us (subsectionsOf f bs us) (λ k vs. subsectionsOf f bs vs)) →
+        ((bs : List ℕ) → suc (missing headings bs) ≤ f → (b : ℕ) (us : Tokens) → Reads (List Subsection) P (All (InSubsection P)) Any W b 0 us (subsectionsOf f bs us) (λ k vs. subsectionsOf f bs vs))
+        →
         Reads (List Subsection) P (All (InSubsection P)) Any W b 0 ts (subsectionsOf (suc f) before ts) R
     go ts none e later = closing ts e (seen before 0 && seen before 1) refl
     go [] (some r) e later = absurd (some-none (sym e))

@@ -9,7 +9,32 @@ use lib.ListN.{take, drop}
 use Rattle.node.specs.Result.{Done}
 use Rattle.language.specs.Limits.{maxName}
 use Rattle.language.specs.Bytes.{ascii, isBlank, isDigit, isNameStart, isNameByte, isMark, starts}
-use Rattle.language.specs.Tokens.{Class, Fixed, Name, Numeral, Quoted, Marks, Wrong, Blank, code, signs, Token, isOf, Piece, run, quotedSize, Nesting, commentSize, signAt, wordAt, closed, pieceAt, enumeratingAfter, lex, tokens}
+use Rattle.language.specs.Tokens.{
+  Class,
+  Fixed,
+  Name,
+  Numeral,
+  Quoted,
+  Marks,
+  Wrong,
+  Blank,
+  code,
+  signs,
+  Token,
+  isOf,
+  Piece,
+  run,
+  quotedSize,
+  Nesting,
+  commentSize,
+  signAt,
+  wordAt,
+  closed,
+  pieceAt,
+  enumeratingAfter,
+  lex,
+  tokens,
+}
 use Rattle.language.specs.Tree.{Spec}
 use Rattle.language.specs.Parsing.{parsed}
 use Rattle.language.specs.Numbered.{nameAt}

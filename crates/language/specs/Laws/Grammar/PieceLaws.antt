@@ -10,7 +10,30 @@ use native.Mathlib.Omega.{arith}
 use borrow.Author.Tests.{leb-true}
 use Rattle.language.specs.Limits.{maxName}
 use Rattle.language.specs.Bytes.{ascii, isBlank, isDigit, isNameStart, isNameByte, isMark, starts, isOneOf}
-use Rattle.language.specs.Tokens.{Class, Name, Numeral, Quoted, Marks, End, Wrong, Blank, code, words, signs, Piece, run, lineSize, quotedSize, Nesting, nested, commentSize, signAt, wordAt, closed, pieceAt}
+use Rattle.language.specs.Tokens.{
+  Class,
+  Name,
+  Numeral,
+  Quoted,
+  Marks,
+  End,
+  Wrong,
+  Blank,
+  code,
+  words,
+  signs,
+  Piece,
+  run,
+  lineSize,
+  quotedSize,
+  Nesting,
+  nested,
+  commentSize,
+  signAt,
+  wordAt,
+  closed,
+  pieceAt,
+}
 use Rattle.language.specs.Laws.Basics.Tests.{split, and-left, and-right, or-left}
 
 pub run-fits : (p : ℕ → Bool) (s : List ℕ) → run p s ≤ length s

@@ -111,12 +111,15 @@ module _ {A : Type 0} {P : Token → Type 0} {Q Q′ : A → Type 0} {S S′ : T
       }
 
 -- a reader that has taken t
-pub prefixed : {A : Type 0} {P : Token → Type 0} {Q : A → Type 0} {S S′ W : Token → Type 0} {b b′ d d′ : ℕ} {ts : Tokens} (Z : ℕ → Tokens → Read A) (t : Token) (r : Read A) → Inner t → b ≤ suc b′ → d ≤ suc d′ → Reads A P (λ a. P t → Q a) S W b′ d′ ts r (λ k us. Z k (t ∷ us)) → Reads A P Q S′ W b d (t ∷ ts) r Z
-prefixed Z t r i g m h = move {vs = t ∷ []} r h (omega arith) (record { whole = refl; inner = (i, tt); step = λ k us w l. (k, omega arith, refl); near = λ us w. alike refl; value = λ a p f. f (p .0) })
+pub prefixed : {A : Type 0} {P : Token → Type 0} {Q : A → Type 0} {S S′ W : Token → Type 0} {b b′ d d′ : ℕ} {ts : Tokens} (Z : ℕ → Tokens → Read A) (t : Token) (r : Read A) → Inner t → b ≤ suc b′
+    → d ≤ suc d′ → Reads A P (λ a. P t → Q a) S W b′ d′ ts r (λ k us. Z k (t ∷ us)) → Reads A P Q S′ W b d (t ∷ ts) r Z
+prefixed Z t r i g m h = move {vs = t ∷ []} r h (omega arith)
+    (record { whole = refl; inner = (i, tt); step = λ k us w l. (k, omega arith, refl); near = λ us w. alike refl; value = λ a p f. f (p .0) })
 
 module _ {A : Type 0} {P : Token → Type 0} {Q : A → Type 0} {S W : Token → Type 0} {b d : ℕ} {ts : Tokens} where
   -- another reader that answers alike, and a wider class
-  pub transfer : {S′ : Token → Type 0} {X Z : ℕ → Tokens → Read A} (r : Read A) → ((t : Token) → S t → S′ t) → Reads A P Q S W b d ts r X → ((k : ℕ) (us : Tokens) → Near S ts us → length us < b + k → Z k us ≡ X k us) → Reads A P Q S′ W b d ts r Z
+  pub transfer : {S′ : Token → Type 0} {X Z : ℕ → Tokens → Read A} (r : Read A) → ((t : Token) → S t → S′ t) → Reads A P Q S W b d ts r X
+      → ((k : ℕ) (us : Tokens) → Near S ts us → length us < b + k → Z k us ≡ X k us) → Reads A P Q S′ W b d ts r Z
   transfer r v h f = move {vs = []} r h (omega arith) (record { whole = refl; inner = tt; step = λ k us w l. (k, l, f k us w l); near = λ us w. near-more v w; value = λ a p q. q })
 
   -- another way to write the answer and the reader
@@ -139,7 +142,18 @@ module _ {A : Type 0} {P : Token → Type 0} {Q : A → Type 0} {S W : Token →
   pub narrow : {W′ : Token → Type 0} {X : ℕ → Tokens → Read A} (r : Read A) → ((t : Token) → W′ t → W t) → Reads A P Q S W b d ts r X → Reads A P Q S W′ b d ts r X
   narrow (Done x) v h =
       let s = h .says in
-      record { says = record { taken = s .taken; whole = s .whole; inner = s .inner; enough = s .enough; again = λ k us w l. s .again k us (near-more v w) l; opens = λ us w. s .opens us (near-more v w); value = s .value } }
+      record {
+        says = record {
+          taken = s .taken;
+          whole = s .whole;
+          inner = s .inner;
+          enough = s .enough;
+          again = λ k us w l. s .again k us (near-more v w) l;
+          opens = λ us w. s .opens us
+              (near-more v w);
+          value = s .value;
+        };
+      }
   narrow (Refused q p) v h =
       let s = h .says .1 in
       let c = s .completes in
@@ -153,7 +167,14 @@ module _ {A : Type 0} {P : Token → Type 0} {Q : A → Type 0} {S W : Token →
             inner = s .inner;
             place = s .place;
             again = s .again;
-            completes = record { ending = c .ending; value = c .value; enough = c .enough; accepted = λ k us w l. c .accepted k us (begins-more v us w) l; opens = λ us w. c .opens us (begins-more v us w) };
+            completes = record {
+              ending = c .ending;
+              value = c .value;
+              enough = c .enough;
+              accepted = λ k us w l. c .accepted k us (begins-more v us w) l;
+              opens = λ us w. c .opens us
+                  (begins-more v us w);
+            };
           },
         );
       }
@@ -166,13 +187,15 @@ module _ {A : Type 0} {P : Token → Type 0} {Q : A → Type 0} {S W : Token →
       ap (X k) (s .whole) ∙ s .again k (s .left) (alike-refl (s .left)) (subst (λ us. length us < b + k) (s .whole) l) ∙ ap (λ j. Refused j p) (sym (h .says .0))
 
 -- a reader whose fuel is enough by itself
-pub free : {A : Type 0} {P : Token → Type 0} {Q : A → Type 0} {S W : Token → Type 0} {b b′ d : ℕ} {ts : Tokens} {X : ℕ → Tokens → Read A} (Z : Tokens → Read A) (r : Read A) → Reads A P Q S W b d ts r X → ((k : ℕ) (us : Tokens) → length us < b + k → Z us ≡ X k us) → Reads A P Q S W b′ d ts r (λ k. Z)
+pub free : {A : Type 0} {P : Token → Type 0} {Q : A → Type 0} {S W : Token → Type 0} {b b′ d : ℕ} {ts : Tokens} {X : ℕ → Tokens → Read A} (Z : Tokens → Read A) (r : Read A)
+    → Reads A P Q S W b d ts r X → ((k : ℕ) (us : Tokens) → length us < b + k → Z us ≡ X k us) → Reads A P Q S W b′ d ts r (λ k. Z)
 free Z r h f =
     move {vs = []} r h (omega arith)
     (record { whole = refl; inner = tt; step = λ k us w l. (suc (length us), omega arith, f (suc (length us)) us (omega arith)); near = λ us w. w; value = λ a _ q. q })
 
 -- the tokens that are left of an accepted answer
-pub takes : {A : Type 0} {P : Token → Type 0} {Q : A → Type 0} {S W : Token → Type 0} {b d : ℕ} {ts : Tokens} {X : ℕ → Tokens → Read A} (r : Read A) (a : A) (left : Tokens) → r ≡ Done (a, left) → Reads A P Q S W b d ts r X → (us : Tokens) × (ts ≡ us ++ left) × (d ≤ length us)
+pub takes : {A : Type 0} {P : Token → Type 0} {Q : A → Type 0} {S W : Token → Type 0} {b d : ℕ} {ts : Tokens} {X : ℕ → Tokens → Read A} (r : Read A) (a : A) (left : Tokens) → r ≡ Done (a, left)
+    → Reads A P Q S W b d ts r X → (us : Tokens) × (ts ≡ us ++ left) × (d ≤ length us)
 takes {A} {P} {Q} {S} {W} {b} {d} {ts} {X} r a left e h = let s = subst (λ x. Reads A P Q S W b d ts x X) e h .says in (s .taken, s .whole, s .enough)
 
 -- an answer that takes nothing

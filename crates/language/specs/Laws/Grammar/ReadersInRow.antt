@@ -25,7 +25,8 @@ rest-inner (t ∷ ts) i = omega arith
 pub fresh : {A : Type 0} {P : Token → Type 0} {Q : A → Type 0} {S W : Token → Type 0} {b d : ℕ} {R : ℕ → Tokens → Read A} (r : Read A) → Reads A P Q S W b d [] r R → Completes A S W b d [] [] R
 fresh {A} {P} {Q} {S} {W} {b} {d} {R} (Done x) h = let s = h .says in go (s .taken) (s .whole) (s .enough) (λ k us w l. s .again k us (opened w) l) (λ us w. s .opens us (opened w))
   where
-    go : (vs : Tokens) → [] ≡ vs ++ x .1 → d ≤ length vs → ((k : ℕ) (us : Tokens) → Begins W us → length (vs ++ us) < b + k → R k (vs ++ us) ≡ Done (x .0, us)) → ((us : Tokens) → Begins W us → Near S [] (vs ++ us)) → Completes A S W b d [] [] R
+    go : (vs : Tokens) → [] ≡ vs ++ x .1 → d ≤ length vs → ((k : ℕ) (us : Tokens) → Begins W us → length (vs ++ us) < b + k → R k (vs ++ us) ≡ Done (x .0, us))
+        → ((us : Tokens) → Begins W us → Near S [] (vs ++ us)) → Completes A S W b d [] [] R
     go [] e n f g = record { ending = []; value = x .0; enough = n; accepted = f; opens = g }
     go (v ∷ vs) e n f g = absurd (omega (arith, ap length e))
 fresh {A} {P} {Q} {S} {W} {b} {d} {R} (Refused q p) h = let s = h .says .1 in go (s .taken) (s .whole) (s .completes)
@@ -42,7 +43,8 @@ opens-fresh W (v ∷ vs) us w (alike h) = absurd h
 
 module _ {A B : Type 0} {S S′ W W′ : Token → Type 0} {b b′ d : ℕ} {ts : Tokens} where
   -- a first part that is refused: its ending, then what the second part accepts from nothing
-  pub completes-first : {taken : Tokens} {G : ℕ → Tokens → Read A} (K : ℕ → A × Tokens → Read B) → b ≤ d + b′ → ((t : Token) → S′ t → W t) → (c : Completes A S W b d ts taken G) → Completes B S′ W′ b′ 0 [] [] (λ k us. K k (c .value, us)) → Completes B S W′ b d ts taken (λ k us. G k us >>= K k)
+  pub completes-first : {taken : Tokens} {G : ℕ → Tokens → Read A} (K : ℕ → A × Tokens → Read B) → b ≤ d + b′ → ((t : Token) → S′ t → W t) → (c : Completes A S W b d ts taken G)
+      → Completes B S′ W′ b′ 0 [] [] (λ k us. K k (c .value, us)) → Completes B S W′ b d ts taken (λ k us. G k us >>= K k)
   completes-first {taken} {G} K g v c n =
       let follows : (us : Tokens) → Begins W′ us → Begins W (n .ending ++ us) = λ us w. begins-more v (n .ending ++ us) (opens-fresh W′ (n .ending) us w (n .opens us w)) in
       let z = c .enough in
@@ -59,7 +61,8 @@ module _ {A B : Type 0} {S S′ W W′ : Token → Type 0} {b b′ d : ℕ} {ts 
       }
 
   -- The fuel that the second part needs may be less by the tokens that the first takes.
-  pub bind-less : {P : Token → Type 0} {Q : A → Type 0} {Q′ : B → Type 0} (r : Read A) {G : ℕ → Tokens → Read A} → b ≤ d + b′ → ((t : Token) → S′ t → W t) → (C : A × Tokens → Read B) (K : ℕ → A × Tokens → Read B) → Reads A P Q S W b d ts r G →
+  pub bind-less : {P : Token → Type 0} {Q : A → Type 0} {Q′ : B → Type 0} (r : Read A) {G : ℕ → Tokens → Read A} → b ≤ d + b′ → ((t : Token) → S′ t → W t)
+      → (C : A × Tokens → Read B) (K : ℕ → A × Tokens → Read B) → Reads A P Q S W b d ts r G →
       ((a : A) (rs : Tokens) → length rs ≤ length ts - d → Reads B P (λ x. Q a → Q′ x) S′ W′ b′ 0 rs (C (a, rs)) (λ k us. K k (a, us))) → Reads B P Q′ S W′ b d ts (r >>= C) (λ k us. G k us >>= K k)
   unfolding _>>=_
   bind-less (Done x) {G} g v C K h f =
@@ -102,8 +105,10 @@ module _ {A B : Type 0} {P : Token → Type 0} {Q : A → Type 0} {Q′ : B → 
 
 -- a choice by the front token
 module _ {A : Type 0} {P : Token → Type 0} {Q : A → Type 0} {S W : Token → Type 0} {b d : ℕ} {ts : Tokens} where
-  pub choose-both : {S₁ S₂ : Token → Type 0} (test : Token → Bool) {x y : Read A} {X Y : ℕ → Tokens → Read A} → ((t : Token) → S₁ t → test t ≡ true) → ((t : Token) → S₂ t → test t ≡ false) → ((t : Token) → S₁ t → S t) → ((t : Token) → S₂ t → S t) →
-      (test (front ts) ≡ true → Reads A P Q S₁ W b d ts x X) → (test (front ts) ≡ false → Reads A P Q S₂ W b d ts y Y) → Reads A P Q S W b d ts (elim (test (front ts)) [ true ↦ x | false ↦ y ]) (λ k us. elim (test (front us)) [ true ↦ X k us | false ↦ Y k us ])
+  pub choose-both : {S₁ S₂ : Token → Type 0} (test : Token → Bool) {x y : Read A} {X Y : ℕ → Tokens → Read A} → ((t : Token) → S₁ t → test t ≡ true) → ((t : Token) → S₂ t → test t ≡ false)
+      → ((t : Token) → S₁ t → S t) → ((t : Token) → S₂ t → S t) →
+      (test (front ts) ≡ true → Reads A P Q S₁ W b d ts x X) → (test (front ts) ≡ false → Reads A P Q S₂ W b d ts y Y)
+      → Reads A P Q S W b d ts (elim (test (front ts)) [ true ↦ x | false ↦ y ]) (λ k us. elim (test (front us)) [ true ↦ X k us | false ↦ Y k us ])
   choose-both test {x} {y} {X} {Y} c₁ c₂ v₁ v₂ f g = go (test (front ts)) refl
     where
       go : (c : Bool) → test (front ts) ≡ c → Reads A P Q S W b d ts (elim c [ true ↦ x | false ↦ y ]) (λ k us. elim (test (front us)) [ true ↦ X k us | false ↦ Y k us ])
@@ -112,21 +117,26 @@ module _ {A : Type 0} {P : Token → Type 0} {Q : A → Type 0} {S W : Token →
 
   -- where the first way takes the front token
   pub choose : (test : Token → Bool) {x y : Read A} {X Y : ℕ → Tokens → Read A} → ((t : Token) → S t → test t ≡ false) →
-      (test (front ts) ≡ true → Reads A P Q (λ t. ⊥) W b d ts x X) → (test (front ts) ≡ false → Reads A P Q S W b d ts y Y) → Reads A P Q S W b d ts (elim (test (front ts)) [ true ↦ x | false ↦ y ]) (λ k us. elim (test (front us)) [ true ↦ X k us | false ↦ Y k us ])
+      (test (front ts) ≡ true → Reads A P Q (λ t. ⊥) W b d ts x X) → (test (front ts) ≡ false → Reads A P Q S W b d ts y Y)
+      → Reads A P Q S W b d ts (elim (test (front ts)) [ true ↦ x | false ↦ y ]) (λ k us. elim (test (front us)) [ true ↦ X k us | false ↦ Y k us ])
   choose test c f g = choose-both {S₁ = λ t. ⊥} {S₂ = S} test (λ t v. absurd v) c (λ t v. absurd v) (λ t v. v) f g
 
 -- a token taken, then the rest
-pub take : {A : Type 0} {P : Token → Type 0} {Q : A → Type 0} {S S′ W : Token → Type 0} {b b′ d d′ : ℕ} {X : ℕ → Tokens → Read A} (ts : Tokens) (r : Read A) → Inner (front ts) → b ≤ suc b′ → d ≤ suc d′ → Reads A P (λ a. P (front ts) → Q a) S W b′ d′ (rest ts) r X → Reads A P Q S′ W b d ts r (λ k us. X k (rest us))
+pub take : {A : Type 0} {P : Token → Type 0} {Q : A → Type 0} {S S′ W : Token → Type 0} {b b′ d d′ : ℕ} {X : ℕ → Tokens → Read A} (ts : Tokens) (r : Read A) → Inner (front ts) → b ≤ suc b′
+    → d ≤ suc d′ → Reads A P (λ a. P (front ts) → Q a) S W b′ d′ (rest ts) r X → Reads A P Q S′ W b d ts r (λ k us. X k (rest us))
 take [] r i g m h = absurd (false≢true (sym i))
 take {X = X} (t ∷ ts) r i g m h = prefixed (λ k us. X k (rest us)) t r i g m h
 
 -- one token, or another one in its place
-pub one : {A : Type 0} {P : Token → Type 0} {Q : A → Type 0} {S W : Token → Type 0} {b : ℕ} (ts : Tokens) (f : Token → A) → Inner (front ts) → ((t : Token) → P t → Q (f t)) → Reads A P Q S W b 1 ts (Done (f (front ts), rest ts)) (λ k us. Done (f (front us), rest us))
+pub one : {A : Type 0} {P : Token → Type 0} {Q : A → Type 0} {S W : Token → Type 0} {b : ℕ} (ts : Tokens) (f : Token → A) → Inner (front ts) → ((t : Token) → P t → Q (f t))
+    → Reads A P Q S W b 1 ts (Done (f (front ts), rest ts)) (λ k us. Done (f (front us), rest us))
 one [] f i q = absurd (false≢true (sym i))
 one (t ∷ ts) f i q = record { says = record { taken = t ∷ []; whole = refl; inner = (i, tt); enough = omega arith; again = λ k us w l. refl; opens = λ us w. alike refl; value = λ p. q t (p .0) } }
 
-pub one-of : {A : Type 0} {P : Token → Type 0} {Q : A → Type 0} {W : Token → Type 0} {b : ℕ} (test : Token → Bool) (f : Token → A) (u : Token) (ts : Tokens) → test u ≡ true → ((t : Token) → test t ≡ true → Inner t) → ((t : Token) → P t → Q (f t)) →
-    Reads A P Q (λ t. t ≡ u) W b 1 ts (elim (test (front ts)) [ true ↦ Done (f (front ts), rest ts) | false ↦ stop ts ]) (λ k us. elim (test (front us)) [ true ↦ Done (f (front us), rest us) | false ↦ stop us ])
+pub one-of : {A : Type 0} {P : Token → Type 0} {Q : A → Type 0} {W : Token → Type 0} {b : ℕ} (test : Token → Bool) (f : Token → A) (u : Token) (ts : Tokens) → test u ≡ true
+    → ((t : Token) → test t ≡ true → Inner t) → ((t : Token) → P t → Q (f t)) →
+    Reads A P Q (λ t. t ≡ u) W b 1 ts (elim (test (front ts)) [ true ↦ Done (f (front ts), rest ts) | false ↦ stop ts ])
+    (λ k us. elim (test (front us)) [ true ↦ Done (f (front us), rest us) | false ↦ stop us ])
 one-of {A} {P} {Q} {W} {b} test f u ts h i q = go (test (front ts)) refl
   where
     R : ℕ → Tokens → Read A
@@ -153,7 +163,8 @@ one-of {A} {P} {Q} {W} {b} test f u ts h i q = go (test (front ts)) refl
         }
 
 -- no tokens: whatever the fuel, they are refused
-pub none-reads : {A : Type 0} {P : Token → Type 0} {Q : A → Type 0} {S W : Token → Type 0} {b d : ℕ} {F : ℕ → Tokens → Read A} (ts : Tokens) → length ts ≤ 0 → ((k : ℕ) → 0 < b + k → F k [] ≡ stop []) → Completes A S W b d [] [] F → Reads A P Q S W b d ts (stop ts) F
+pub none-reads : {A : Type 0} {P : Token → Type 0} {Q : A → Type 0} {S W : Token → Type 0} {b d : ℕ} {F : ℕ → Tokens → Read A} (ts : Tokens) → length ts ≤ 0 → ((k : ℕ) → 0 < b + k → F k [] ≡ stop [])
+    → Completes A S W b d [] [] F → Reads A P Q S W b d ts (stop ts) F
 none-reads {A} {b = b} {F = F} [] h e c = record { says = (refl, record { taken = []; left = []; whole = refl; inner = tt; place = refl; again = again; completes = c }) }
   where
     again : (k : ℕ) (us : Tokens) → Alike [] us → length us < b + k → F k us ≡ stop {A = A} []

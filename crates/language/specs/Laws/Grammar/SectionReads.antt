@@ -141,13 +141,16 @@ infoOf-reads P b ts =
     done (spec (x .0) (x .1)) (λ _ v _ _ _ _ _ _ _ _ _ _. record { targetWord = v; parameters = tt; definitions = tt; main = tt }))))))))))))
 
 -- GLOBAL, before MAIN
-pub globalOf-reads : (P : Token → Type 0) (s : Spec) (b : ℕ) (ts : Tokens) → Reads Spec P (λ x. InSpec P s → InSpec P x) (Is (sign "MAIN")) (Is (sign "MAIN")) b 0 ts (globalOf s ts) (λ k us. globalOf s us)
+pub globalOf-reads : (P : Token → Type 0) (s : Spec) (b : ℕ) (ts : Tokens)
+    → Reads Spec P (λ x. InSpec P s → InSpec P x) (Is (sign "MAIN")) (Is (sign "MAIN")) b 0 ts (globalOf s ts) (λ k us. globalOf s us)
 globalOf-reads P s b ts =
     choose (is "GLOBAL") (λ t e. ap (is "GLOBAL") e)
     (λ i. take {b′ = b} ts _ (is-inner "GLOBAL" (front ts) i) (omega arith) (omega arith)
     (bind (expect "{" (rest ts)) _ _ (expect-reads b (rest ts) "{") λ c rs l.
-    bind (optional "PARAMETERS" parameterOf rs) _ _ (optional-reads parameterOf parameter-none (λ t e. ap (is "}") e) (parameterOf-reads P) "PARAMETERS" (λ t e. ap (is "PARAMETERS") e) b rs) λ ps rs₂ l₂.
-    bind (optional "DEFINITIONS" definitionOf rs₂) _ _ (optional-reads definitionOf definition-none (λ t e. ap (is "}") e) (definitionOf-reads P) "DEFINITIONS" (λ t e. ap (is "DEFINITIONS") e) b rs₂) λ ds rs₃ l₃.
+    bind (optional "PARAMETERS" parameterOf rs) _ _ (optional-reads parameterOf parameter-none (λ t e. ap (is "}") e) (parameterOf-reads P) "PARAMETERS" (λ t e. ap (is "PARAMETERS") e) b rs) λ ps rs₂
+    l₂.
+    bind (optional "DEFINITIONS" definitionOf rs₂) _ _ (optional-reads definitionOf definition-none (λ t e. ap (is "}") e) (definitionOf-reads P) "DEFINITIONS" (λ t e. ap (is "DEFINITIONS") e) b rs₂)
+    λ ds rs₃ l₃.
     some-taken (bind (expect "}" rs₃) _ _ (expect-reads b rs₃ "}") λ c rs₄ l₄.
     done _ (λ _ vd vp _ _ v. record { targetWord = v .targetWord; parameters = vp; definitions = vd; main = tt }))))
     (λ _. done s (λ v. v))

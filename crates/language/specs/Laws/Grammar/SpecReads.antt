@@ -99,7 +99,8 @@ body-stops ts p s =
     }
 
 -- a body that another token than the end follows
-end-stops : (P : Token → Type 0) (ts : Tokens) (x : Spec) (left : Tokens) → ((us : Tokens) → Alike left us → endOf (x, us) ≡ Refused 4 (front left .at)) → Accepts Spec P (InSpec P) (Is (sign "INFO")) (Is (plain End)) 0 1 ts x left (λ k us. bodyOf us) → Refuses ts (front left .at)
+end-stops : (P : Token → Type 0) (ts : Tokens) (x : Spec) (left : Tokens) → ((us : Tokens) → Alike left us → endOf (x, us) ≡ Refused 4 (front left .at))
+    → Accepts Spec P (InSpec P) (Is (sign "INFO")) (Is (plain End)) 0 1 ts x left (λ k us. bodyOf us) → Refuses ts (front left .at)
 end-stops P ts x left f s =
     let us = s .taken in
     let vs = us ++ (plain End ∷ []) in
@@ -128,5 +129,6 @@ specOf-decides P ts h = go (bodyOf ts) refl (bodyOf-reads P ts)
             (record { says = let s = r .says in s .value (all-left P (s .taken) left (subst (All P) (s .whole) h)) })
         end false z =
             let stopped : (us : Tokens) → Alike left us → endOf (x, us) ≡ Refused 4 (front left .at) =
-            λ us al. bind-refused (expectOf End us) 4 (front left .at) _ (leave (isOf End (front us)) _ _ (ap (isOf End) (alike-front left us al) ∙ z) ∙ ap (λ (t : Token). Refused 4 (t .at)) (alike-front left us al)) in
+            λ us al. bind-refused (expectOf End us) 4 (front left .at) _ (leave (isOf End (front us)) _ _ (ap (isOf End) (alike-front left us al) ∙ z) ∙ ap (λ (t : Token). Refused 4 (t .at))
+            (alike-front left us al)) in
             subst (Decides P ts) (sym (stopped left (alike-refl left))) (record { says = (refl, end-stops P ts x left stopped (r .says)) })

@@ -133,7 +133,8 @@ place [] = 0
 place (t ∷ ts) = t .at
 
 module _ (text : List ℕ) (n : ℕ) where
-  places-apart : (from : ℕ) (us us′ : List Token) (t t′ : Token) (vs vs′ : List Token) → All (Stands text) (us ++ (t ∷ vs)) → Rising from (us ++ (t ∷ vs)) → Ends n (us ++ (t ∷ vs)) → us ++ (t ∷ vs) ≡ us′ ++ (t′ ∷ vs′) → t .at ≡ t′ .at → length us ≡ length us′
+  places-apart : (from : ℕ) (us us′ : List Token) (t t′ : Token) (vs vs′ : List Token) → All (Stands text) (us ++ (t ∷ vs)) → Rising from (us ++ (t ∷ vs)) → Ends n (us ++ (t ∷ vs))
+      → us ++ (t ∷ vs) ≡ us′ ++ (t′ ∷ vs′) → t .at ≡ t′ .at → length us ≡ length us′
   places-apart from [] [] t t′ vs vs′ s r e w p = refl
   places-apart from [] (u ∷ us′) t t′ vs vs′ s r e w p =
       let e′ = subst (λ ts. Ends n (t ∷ ts)) (ap tail w) e in
@@ -153,4 +154,5 @@ module _ (text : List ℕ) (n : ℕ) where
 
 pub tokens-apart : (text : List ℕ) (us us′ : List Token) (t t′ : Token) (vs vs′ : List Token) → tokens text ≡ us ++ (t ∷ vs) → tokens text ≡ us′ ++ (t′ ∷ vs′) → t .at ≡ t′ .at → length us ≡ length us′
 tokens-apart text us us′ t t′ vs vs′ e e′ p =
-    places-apart text (length text) 0 us us′ t t′ vs vs′ (subst (All (Stands text)) e (tokens-stand text)) (subst (Rising 0) e (tokens-rise text)) (subst (Ends (length text)) e (tokens-end text)) (sym e ∙ e′) p
+    places-apart text (length text) 0 us us′ t t′ vs vs′ (subst (All (Stands text)) e (tokens-stand text)) (subst (Rising 0) e (tokens-rise text)) (subst (Ends (length text)) e (tokens-end text))
+    (sym e ∙ e′) p

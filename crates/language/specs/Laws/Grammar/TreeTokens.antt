@@ -3,7 +3,38 @@ use mathlib.Core.List.{List, [], _∷_}
 use mathlib.Core.Bool.{Bool, true}
 use Rattle.language.specs.Tokens.{Token}
 use Rattle.language.specs.Operators.{Big}
-use Rattle.language.specs.Tree.{Expr, Named, Numeral, Truth, Index, Paren, Prefixed, Joined, Nexts, InWindow, Each, Between, Listed, Empty, Element, Range, Identifier, Definition, Defined, Enumerated, Parameter, Declaration, OneSignal, OfWidth, OfType, Subsection, Inputs, Outputs, Lines, Spec}
+use Rattle.language.specs.Tree.{
+  Expr,
+  Named,
+  Numeral,
+  Truth,
+  Index,
+  Paren,
+  Prefixed,
+  Joined,
+  Nexts,
+  InWindow,
+  Each,
+  Between,
+  Listed,
+  Empty,
+  Element,
+  Range,
+  Identifier,
+  Definition,
+  Defined,
+  Enumerated,
+  Parameter,
+  Declaration,
+  OneSignal,
+  OfWidth,
+  OfType,
+  Subsection,
+  Inputs,
+  Outputs,
+  Lines,
+  Spec,
+}
 use Rattle.language.specs.Grammar.{Binder, over}
 use Rattle.language.specs.Laws.Basics.Lists.{All}
 

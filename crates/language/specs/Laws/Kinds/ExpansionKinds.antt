@@ -13,7 +13,26 @@ use Rattle.language.specs.Tokens.{Token}
 use Rattle.language.specs.Operators.{Comparison, Equal, Unequal, Less, AtMost, Greater, AtLeast, Window, Calculates, Combines, Compares, Membership, Connects, Measures, WidthOf, Applies}
 use Rattle.language.specs.Tree.{Expr, Named, Numeral, Truth, Index, Paren, Prefixed, Joined, Nexts, InWindow, Each, Between, Listed, Empty, Element, Range}
 use Rattle.language.specs.Places.{start, first, unless}
-use Rattle.language.specs.Types.{Kind, ANumber, ASet, AFormula, ABus, Typings, isKind, kindIn, kindOf, withNumber, bigGives, comparable, fitting, wrongSides, wrongOperands, mistyped, demanded, wrong}
+use Rattle.language.specs.Types.{
+  Kind,
+  ANumber,
+  ASet,
+  AFormula,
+  ABus,
+  Typings,
+  isKind,
+  kindIn,
+  kindOf,
+  withNumber,
+  bigGives,
+  comparable,
+  fitting,
+  wrongSides,
+  wrongOperands,
+  mistyped,
+  demanded,
+  wrong,
+}
 use Rattle.language.specs.Values.{Value, misfit, Sized, Scope, number, value}
 use Rattle.language.specs.Declared.{Port}
 use Rattle.language.specs.Expansion.{nexts, chain, windowOperator, Context, at, against, compared, expansion}
@@ -42,7 +61,8 @@ not-first true k l h e = absurd (h e)
 not-first false k l h e = e
 
 -- a number's name is no formula
-number-formula : (b : Bool) (l : Kind) (r : Result Formula) → (l ≡ AFormula → Reaches Any r) → elim b [ true ↦ ANumber | false ↦ l ] ≡ AFormula → Reaches {A = Formula} Any (elim b [ true ↦ misfit | false ↦ r ])
+number-formula : (b : Bool) (l : Kind) (r : Result Formula) → (l ≡ AFormula → Reaches Any r) → elim b [ true ↦ ANumber | false ↦ l ] ≡ AFormula
+    → Reaches {A = Formula} Any (elim b [ true ↦ misfit | false ↦ r ])
 number-formula true l r h e = apart ANumber AFormula refl e
 number-formula false l r h e = h e
 
@@ -62,30 +82,31 @@ sides-none : (b f : Bool) (p q : ℕ) → (if b then unless f p else some q) ≡
 sides-none true f p q e = unless-none f p e
 sides-none false f p q e = absurd (some-none e)
 
-module _ (ps : List Port) (ys : Typings) (sc : Scope) (a b : Expr) (u : mistyped ys a ≡ none → Evaluates (kindOf ys a) (value sc a)) (v : mistyped ys b ≡ none → Evaluates (kindOf ys b) (value sc b)) where
-  numbers-compared : (o : Comparison) → first (first (wrong ANumber ys a) (wrong ANumber ys b)) (first (mistyped ys a) (mistyped ys b)) ≡ none
-      → Reaches Any (value sc a >>= λ x. value sc b >>= compared ps o x)
-  numbers-compared o h =
-      let w = taken-both ANumber ANumber ys a b h in
-      numbers-reach ps o (value sc a) (value sc b) (operand ANumber ys a _ (w .0) u) (operand ANumber ys b _ (w .1) v)
+module _ (ps : List Port) (ys : Typings) (sc : Scope) (a b : Expr) (u : mistyped ys a ≡ none → Evaluates (kindOf ys a) (value sc a)) (v : mistyped ys b ≡ none → Evaluates (kindOf ys b) (value sc b))
+  where
+    numbers-compared : (o : Comparison) → first (first (wrong ANumber ys a) (wrong ANumber ys b)) (first (mistyped ys a) (mistyped ys b)) ≡ none
+        → Reaches Any (value sc a >>= λ x. value sc b >>= compared ps o x)
+    numbers-compared o h =
+        let w = taken-both ANumber ANumber ys a b h in
+        numbers-reach ps o (value sc a) (value sc b) (operand ANumber ys a _ (w .0) u) (operand ANumber ys b _ (w .1) v)
 
-  sides-compared : (o : Comparison) → ((b : Sized) (w : List Token) → Reaches Any (against ps o b w)) → first (wrongSides ys a b) (first (mistyped ys a) (mistyped ys b)) ≡ none
-      → Reaches Any (value sc a >>= λ x. value sc b >>= compared ps o x)
-  sides-compared o f h =
-      let w = first-left (wrongSides ys a b) (first (mistyped ys a) (mistyped ys b)) h in
-      let m = first-right (wrongSides ys a b) (first (mistyped ys a) (mistyped ys b)) h in
-      fitting-reach ps o (value sc a) (value sc b) f (kindOf ys a) (kindOf ys b)
-      (sides-none (comparable (kindOf ys a)) (fitting (kindOf ys a) (kindOf ys b)) (start b) (start a) w)
-      (u (first-left (mistyped ys a) (mistyped ys b) m)) (v (first-right (mistyped ys a) (mistyped ys b) m))
+    sides-compared : (o : Comparison) → ((b : Sized) (w : List Token) → Reaches Any (against ps o b w)) → first (wrongSides ys a b) (first (mistyped ys a) (mistyped ys b)) ≡ none
+        → Reaches Any (value sc a >>= λ x. value sc b >>= compared ps o x)
+    sides-compared o f h =
+        let w = first-left (wrongSides ys a b) (first (mistyped ys a) (mistyped ys b)) h in
+        let m = first-right (wrongSides ys a b) (first (mistyped ys a) (mistyped ys b)) h in
+        fitting-reach ps o (value sc a) (value sc b) f (kindOf ys a) (kindOf ys b)
+        (sides-none (comparable (kindOf ys a)) (fitting (kindOf ys a) (kindOf ys b)) (start b) (start a) w)
+        (u (first-left (mistyped ys a) (mistyped ys b) m)) (v (first-right (mistyped ys a) (mistyped ys b) m))
 
-  compared-reaches : (o : Comparison) → first (wrongOperands ys (Compares o) a b) (first (mistyped ys a) (mistyped ys b)) ≡ none
-      → Reaches Any (value sc a >>= λ x. value sc b >>= compared ps o x)
-  compared-reaches Equal h = sides-compared Equal (equality-reaches ps) h
-  compared-reaches Unequal h = sides-compared Unequal (inequality-reaches ps) h
-  compared-reaches Less h = numbers-compared Less h
-  compared-reaches AtMost h = numbers-compared AtMost h
-  compared-reaches Greater h = numbers-compared Greater h
-  compared-reaches AtLeast h = numbers-compared AtLeast h
+    compared-reaches : (o : Comparison) → first (wrongOperands ys (Compares o) a b) (first (mistyped ys a) (mistyped ys b)) ≡ none
+        → Reaches Any (value sc a >>= λ x. value sc b >>= compared ps o x)
+    compared-reaches Equal h = sides-compared Equal (equality-reaches ps) h
+    compared-reaches Unequal h = sides-compared Unequal (inequality-reaches ps) h
+    compared-reaches Less h = numbers-compared Less h
+    compared-reaches AtMost h = numbers-compared AtMost h
+    compared-reaches Greater h = numbers-compared Greater h
+    compared-reaches AtLeast h = numbers-compared AtLeast h
 
 -- a number that an operator of a formula takes
 number-operand : (ys : Typings) (sc : Scope) → Agree ys sc → (e : Expr) → Proper false e → Taken ANumber ys e → Reaches Any (value sc e >>= number)

@@ -11,7 +11,7 @@ use Rattle.language.specs.Types.{Kind, AFormula, ABus, Typings, kindIn, 
 use Rattle.language.specs.Declared.{Table, identified, identifiers, waiting, inputs, outputs}
 use Rattle.language.specs.Laws.Basics.Lists.{All}
 use Rattle.language.specs.Laws.Basics.Tests.{or-left, or-right, or-cases}
-use Rattle.language.specs.Laws.Values.DistinctNames.{declaredName}
+use Rattle.language.specs.Listed.{declaredName}
 use Rattle.language.specs.Laws.Kinds.KnownKinds.{typings, Knows}
 use Rattle.language.specs.Laws.Kinds.DefinitionKinds.{found, values-right}
 use Rattle.language.specs.Laws.Kinds.TableKinds.{listed, seen, EntryKnown, Respects, Standing, respects-add}

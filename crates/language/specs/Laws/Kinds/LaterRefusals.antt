@@ -1,4 +1,4 @@
--- No text that passes refusals 1 to 10 comes to a value of a wrong kind or to an unknown name: afterwards it is refused by 11 to 16 only.
+-- No text that passes refusals 1 to 10 comes to a value of a wrong kind or to an unknown name: afterwards it is refused by 11, 12, 13, 15 and 16 only.
 use Prim.Native.Nat.{ℕ, _≤_}
 use mathlib.Core.Path.{_≡_, refl}
 use mathlib.Core.Bool.{true, false}
@@ -16,10 +16,11 @@ use Rattle.language.specs.Names.{doubled, declares, declaresSignal, over
 use Rattle.language.specs.Types.{Kind, Typings, kindIn, typedSignals, wrongType}
 use Rattle.language.specs.Parsing.{parsed}
 use Rattle.language.specs.Declared.{identifiers, waiting, Port, inputs, outputs, Declarations, declarations}
-use Rattle.language.specs.Numbering.{inOrder}
+use Rattle.language.specs.Numbering.{inOrder, signalList}
 use Rattle.language.specs.Lines.{Line, Written, Implied, implied, lines}
 use Rattle.language.specs.Expansion.{Context, atSignals, defineAll, expandLine, expandSection, expand}
-use Rattle.language.specs.Reading.{sameModel, converted, meant}
+use Rattle.language.specs.Shifting.{adapted}
+use Rattle.language.specs.Reading.{converted, meant}
 use Rattle.language.specs.Laws.Basics.Lists.{All, Any, all-any}
 use Rattle.language.specs.Laws.Basics.NoPlace.{first-left}
 use Rattle.language.specs.Laws.Basics.Results.{Answers, done, guarded, placed, bind, weaken, refusal-of, gathered}
@@ -108,9 +109,9 @@ module _ (x : Spec) (proper : ProperSpec x) (once : declaredAgain x ≡ none) (t
       (main-fit .written _ (implied-fits finally (d .inputs), (implied-fits finally (d .outputs), tt))))
       (λ fs _. done tt)
 
--- refusals from 11 to 16
+-- refusals from 11 to 16 without 14: '14 no longer occurs'
 abbrev pub Later : ℕ → Type 0
-Later n = (11 ≤ n) × (n ≤ 16)
+Later n = (11 ≤ n) × (n ≤ 16) × (n ≡ 14 → ⊥)
 
 later : {A : Type 0} {Q : A → Type 0} (r : Result A) → Reaches Q r → Answers (λ n p. Later n) Q r
 later r h = weaken r (λ n p l. omega arith) (λ a q. q) h
@@ -119,13 +120,13 @@ converted-later : (x : Spec) → ProperSpec x → declaredAgain x ≡ none → w
 unfolding converted
 converted-later x s o w =
     bind (declarations x) _ (later _ (declarations-reach x s o w)) (λ d k. bind (expand x d (lines x d)) _ (later _ (expand-reaches x s o w d k)) (λ f u.
-    guarded (sameModel (x .semantics) (x .target)) 14 _ (λ _. omega arith) (λ _.
-    placed 15 _ (λ p e. omega arith) (guarded (leb (size f) maxNodes) 16 0 (λ _. omega arith) (λ _. done tt)))))
+    placed 15 _ (λ p e. omega arith)
+    (guarded (leb (size (adapted (x .semantics) (x .target) (signalList (inOrder d)) f)) maxNodes) 16 0 (λ _. omega arith) (λ _. done tt))))
 
 pub converted-refused : (x : Spec) → ProperSpec x → declaredAgain x ≡ none → wrongType x ≡ none → (n p : ℕ) → converted x ≡ Refused n p → Later n
 converted-refused x s o w n p e = refusal-of e (converted-later x s o w)
 
--- a parsed text is refused by 11 to 16 only
+-- a parsed text is refused by 11 to 16 only, and never by 14
 pub parsed-refused : (text : List ℕ) (x : Spec) → parsed text ≡ Done x → (n p : ℕ) → converted x ≡ Refused n p → Later n
 parsed-refused text x e = let w = parses e .formed in converted-refused x (parsed-proper text e) (w .distinct) (w .typed)
 

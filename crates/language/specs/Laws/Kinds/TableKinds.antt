@@ -16,7 +16,7 @@ use Rattle.language.specs.Laws.Basics.Lists.{All, Any}
 use Rattle.language.specs.Laws.Basics.Tests.{or-right}
 use Rattle.language.specs.Laws.Basics.Results.{done, bind}
 use Rattle.language.specs.Laws.Values.ValueKinds.{valueKind, apart}
-use Rattle.language.specs.Laws.Values.DistinctNames.{declaredName}
+use Rattle.language.specs.Listed.{declaredName}
 use Rattle.language.specs.Laws.Kinds.Reaching.{Reaches}
 use Rattle.language.specs.Laws.Kinds.KindLaws.{Evaluates, reaches-evaluates}
 use Rattle.language.specs.Laws.Kinds.TypeSoundness.{Agree}

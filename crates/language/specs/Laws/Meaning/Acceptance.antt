@@ -1,8 +1,7 @@
 -- What an accepted text is: its tree, its declarations, its formula, and what each refusal has ruled out; and that its formula holds where the text does.
 use Prim.Native.Nat.{ℕ, _≤_}
-use mathlib.Core.Path.{_≡_, ap, _∙_, sym, subst}
-use mathlib.Core.Logic.{_↔_}
-use mathlib.Core.Bool.{true}
+use mathlib.Core.Path.{_≡_, sym, subst}
+use mathlib.Core.Logic.{_↔_, Iff·trans}
 use mathlib.Core.List.{List}
 use mathlib.Core.Option.{none}
 use lib.Dec.{leb}
@@ -10,7 +9,7 @@ use lib.ListN.{length}
 use native.Mathlib.Omega.{arith}
 use borrow.Author.Tests.{leb-true}
 use Rattle.node.specs.Limits.{maxNodes}
-use Rattle.node.specs.Ltl.{Holds}
+use Rattle.node.specs.Ltl.{Formula, Holds}
 use Rattle.node.specs.TemporalLaws.{Same}
 use Rattle.node.specs.Postorder.{size, SignalsBelow}
 use Rattle.node.specs.Result.{Done}
@@ -22,9 +21,11 @@ use Rattle.language.specs.Declared.{Identifies, find, Declarations, decl
 use Rattle.language.specs.Numbering.{inOrder, signalList, tooManySignals}
 use Rattle.language.specs.Lines.{lines}
 use Rattle.language.specs.Expansion.{expand}
-use Rattle.language.specs.Meaning.{Word, SpecMeans, OfSpec, TextMeans}
+use Rattle.language.specs.Shifting.{adapted}
+use Rattle.language.specs.Meaning.{Word, readAs, SpecMeans, OfSpec, TextMeans}
 use Rattle.language.specs.Numbered.{numbered}
-use Rattle.language.specs.Reading.{Converted, converted, meant, sameModel}
+use Rattle.language.specs.Listed.{Once, ListedAs}
+use Rattle.language.specs.Reading.{Converted, converted, meant}
 use Rattle.language.specs.Laws.Basics.Lists.{All}
 use Rattle.language.specs.Laws.Basics.NoPlace.{refuseAt-done}
 use Rattle.language.specs.Laws.Grammar.Parses.{WellFormed, parses, parsed-proper}
@@ -36,10 +37,12 @@ use Rattle.language.specs.Laws.Values.SignalLaws.{signals-few}
 use Rattle.language.specs.Laws.Values.TextSignals.{spec-counted}
 use Rattle.language.specs.Laws.Values.PortLaws.{ports-distinct}
 use Rattle.language.specs.Laws.Values.IdentifierWords.{allIdentifiers, identifiers-stand}
-use Rattle.language.specs.Laws.Meaning.ListedSignals.{Once, names-once}
-use Rattle.language.specs.Laws.Meaning.SignalOrder.{ListedAs, signals-listed}
+use Rattle.language.specs.Laws.Meaning.ListedSignals.{names-once}
+use Rattle.language.specs.Laws.Meaning.SignalOrder.{signals-listed}
 use Rattle.language.specs.Laws.Meaning.TextPorts.{ports-placed, ports-numbered}
 use Rattle.language.specs.Laws.Meaning.SpecAgreement.{spec-agrees}
+use Rattle.language.specs.Laws.Meaning.ShiftLaws.{adapted-below}
+use Rattle.language.specs.Laws.Meaning.ShiftedWords.{adapted-holds}
 
 -- an accepted text
 pub record Accepts (text : List ℕ) (c : Converted) : Type 0 where
@@ -48,8 +51,9 @@ pub record Accepts (text : List ℕ) (c : Converted) : Type 0 where
   pub parsing : parsed text ≡ Done spec
   pub formed : WellFormed spec
   pub declaring : declarations spec ≡ Done declared
-  pub expanding : expand spec declared (lines spec declared) ≡ Done (c .formula)
-  pub models : sameModel (spec .semantics) (spec .target) ≡ true
+  pub plain : Formula
+  pub expanding : expand spec declared (lines spec declared) ≡ Done plain
+  pub adapting : c .formula ≡ adapted (spec .semantics) (spec .target) (signalList (inOrder declared)) plain
   pub fewSignals : tooManySignals 0 (inOrder declared) ≡ none
   pub fewNodes : size (c .formula) ≤ maxNodes
   pub listing : c .signals ≡ signalList (inOrder declared)
@@ -62,11 +66,11 @@ accepts {text} {c} e =
     let b = bind-done (declarations x) _ (a .2) in
     let d : Declarations = b .0 in
     let f = bind-done (expand x d (lines x d)) _ (b .2) in
-    let g = guard-done (sameModel (x .semantics) (x .target)) 14 (x .targetWord .at) _ (f .2) in
-    let h = refuseAt-done 15 (tooManySignals 0 (inOrder d)) _ (g .1) in
-    let k = guard-done (leb (size (f .0)) maxNodes) 16 0 _ (h .1) in
-    let done : Done (record { formula = f .0; signals = signalList (inOrder d) }) ≡ Done c = k .1 in
-    let formula : f .0 ≡ c .formula = cc in
+    let h = refuseAt-done 15 (tooManySignals 0 (inOrder d)) _ (f .2) in
+    let g : Formula = adapted (x .semantics) (x .target) (signalList (inOrder d)) (f .0) in
+    let k = guard-done (leb (size g) maxNodes) 16 0 _ (h .1) in
+    let done : Done (record { formula = g; signals = signalList (inOrder d) }) ≡ Done c = k .1 in
+    let formula : g ≡ c .formula = cc in
     let list : signalList (inOrder d) ≡ c .signals = cc in
     record {
       spec = x;
@@ -74,10 +78,11 @@ accepts {text} {c} e =
       parsing = a .1;
       formed = parses (a .1) .formed;
       declaring = b .1;
-      expanding = f .1 ∙ ap Done formula;
-      models = g .0;
+      plain = f .0;
+      expanding = f .1;
+      adapting = sym formula;
       fewSignals = h .0;
-      fewNodes = subst (λ n. size n ≤ maxNodes) formula (leb-true (size (f .0)) maxNodes (k .0));
+      fewNodes = subst (λ n. size n ≤ maxNodes) formula (leb-true (size g) maxNodes (k .0));
       listing = sym list;
     }
 
@@ -86,16 +91,25 @@ module _ (text : List ℕ) (c : Converted) (e : meant text ≡ Done c) where
   pub text-agrees : (w : Word) → Same (TextMeans text w) (Holds (c .formula) (numbered text (c .signals) w))
   text-agrees w t =
       let a = accepts e in
+      let x = a .spec in
+      let list = signalList (inOrder (a .declared)) in
+      let read = readAs (x .semantics) (x .target) (x .main) w in
       subst (λ r. OfSpec r w t ↔ Holds (c .formula) (numbered text (c .signals) w) t) (sym (a .parsing))
-      (subst (λ (l : List ℕ). SpecMeans (a .spec) w t ↔ Holds (c .formula) (numbered text l w) t) (sym (a .listing))
-      (spec-agrees text (a .spec) (a .declared) (c .formula) (a .parsing) (a .declaring) (a .expanding) w t))
+      (subst (λ (l : List ℕ). SpecMeans x read t ↔ Holds (c .formula) (numbered text l w) t) (sym (a .listing))
+      (subst (λ (f : Formula). SpecMeans x read t ↔ Holds f (numbered text list w) t) (sym (a .adapting))
+      (Iff·trans (spec-agrees text x (a .declared) (a .plain) (a .parsing) (a .declaring) (a .expanding) read t)
+      (adapted-holds text x (a .declared) (a .parsing) (a .declaring) w (x .semantics) (x .target) (a .plain) t))))
 
   -- its signal numbers are those of entries of its signal list
   pub text-signals : SignalsBelow (length (c .signals)) (c .formula)
   text-signals =
       let a = accepts e in
+      let x = a .spec in
+      let list = signalList (inOrder (a .declared)) in
       subst (λ (l : List ℕ). SignalsBelow (length l) (c .formula)) (sym (a .listing))
-      (spec-counted (a .spec) (a .declared) (c .formula) (a .declaring) (a .formed .distinct) (regular-words (a .spec) (a .formed .words)) (a .expanding))
+      (subst (SignalsBelow (length list)) (sym (a .adapting))
+      (adapted-below (x .semantics) (x .target) list (length list) (a .plain)
+      (spec-counted x (a .declared) (a .plain) (a .declaring) (a .formed .distinct) (regular-words x (a .formed .words)) (a .expanding))))
 
   -- its signal list has at most 255 entries
   pub list-limited : length (c .signals) ≤ maxSignals

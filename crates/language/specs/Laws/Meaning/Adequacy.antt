@@ -12,14 +12,120 @@ use Rattle.node.specs.Adequacy.{or-plain, some-plain, unary-plain, binary-plain
 use Rattle.node.specs.Result.{Result, Done, Refused}
 use Rattle.language.specs.Bytes.{same}
 use Rattle.language.specs.Tokens.{Token}
-use Rattle.language.specs.Operators.{Comparison, Equal, Unequal, Less, AtMost, Greater, AtLeast, Big, BigSum, BigProduct, BigCap, BigCup, BigAnd, BigOr, Window, FinallyIn, GloballyIn, Calculates, Combines, Compares, Membership, Connects, Measures, WidthOf, Applies}
-use Rattle.language.specs.Tree.{Expr, Named, Numeral, Truth, Index, Paren, Prefixed, Joined, Nexts, InWindow, Each, Between, Listed, Empty, Element, Range, Identifier, Definition, Defined, Enumerated, Declaration, OneSignal, OfWidth, OfType, Part, Initially, Preset, Require, Assert, Assume, Guarantee, Subsection, Inputs, Outputs, Lines, Spec}
+use Rattle.language.specs.Operators.{
+  Comparison,
+  Equal,
+  Unequal,
+  Less,
+  AtMost,
+  Greater,
+  AtLeast,
+  Big,
+  BigSum,
+  BigProduct,
+  BigCap,
+  BigCup,
+  BigAnd,
+  BigOr,
+  Window,
+  FinallyIn,
+  GloballyIn,
+  Calculates,
+  Combines,
+  Compares,
+  Membership,
+  Connects,
+  Measures,
+  WidthOf,
+  Applies,
+}
+use Rattle.language.specs.Tree.{
+  Expr,
+  Named,
+  Numeral,
+  Truth,
+  Index,
+  Paren,
+  Prefixed,
+  Joined,
+  Nexts,
+  InWindow,
+  Each,
+  Between,
+  Listed,
+  Empty,
+  Element,
+  Range,
+  Identifier,
+  Definition,
+  Defined,
+  Enumerated,
+  Declaration,
+  OneSignal,
+  OfWidth,
+  OfType,
+  Part,
+  Initially,
+  Preset,
+  Require,
+  Assert,
+  Assume,
+  Guarantee,
+  Subsection,
+  Inputs,
+  Outputs,
+  Lines,
+  Spec,
+}
 use Rattle.language.specs.Values.{Value, Number, Set, Logic, Bus, Unsized, Choice, Scope, naming, value}
 use Rattle.language.specs.Parsing.{parsed}
-use Rattle.language.specs.Meaning.{EachMeans, WindowMeans, SignalOf, Word, Holding, MatchesOne, Equals, orElse, theNumber, theSet, theWords, theBus, SidesMean, Means, meaning, meaningAll, MatchesIdentifier, ImpliedMeans, DeclarationsMean, LinesMean, SectionMeans, WholeMeans, namesOf, OfSpec, TextMeans}
+use Rattle.language.specs.Meaning.{
+  EachMeans,
+  WindowMeans,
+  SignalOf,
+  Word,
+  Holding,
+  MatchesOne,
+  Equals,
+  orElse,
+  theNumber,
+  theSet,
+  theWords,
+  theBus,
+  SidesMean,
+  Means,
+  meaning,
+  meaningAll,
+  MatchesIdentifier,
+  ImpliedMeans,
+  DeclarationsMean,
+  LinesMean,
+  SectionMeans,
+  WholeMeans,
+  namesOf,
+  readAs,
+  OfSpec,
+  TextMeans,
+}
 use Rattle.language.specs.Laws.Meaning.OwedLaws.{owed-same}
 use Rattle.language.specs.Laws.Meaning.Stability.{Names, sense, means-stable, choice-stable}
-use Rattle.language.specs.Laws.Meaning.Plain.{EachPlain, WindowPlain, OnePlain, SidesPlain, MeansPlain, meaningPlain, meaningAllPlain, IdentifierPlain, ImpliedPlain, DeclarationsPlain, LinesPlain, SectionPlain, WholePlain, OfSpecPlain, TextPlain}
+use Rattle.language.specs.Laws.Meaning.Plain.{
+  EachPlain,
+  WindowPlain,
+  OnePlain,
+  SidesPlain,
+  MeansPlain,
+  meaningPlain,
+  meaningAllPlain,
+  IdentifierPlain,
+  ImpliedPlain,
+  DeclarationsPlain,
+  LinesPlain,
+  SectionPlain,
+  WholePlain,
+  OfSpecPlain,
+  TextPlain,
+}
 
 -- a choice between what means the same
 choice-same : (b : Bool) {P P′ Q Q′ : Property} → Same P P′ → Same Q Q′ → Same (λ p. elim b [ true ↦ P p | false ↦ Q p ]) (λ p. elim b [ true ↦ P′ p | false ↦ Q′ p ])
@@ -141,7 +247,7 @@ module _ (lem : LEM {0}) where
   spec-plain : (x : Spec) (w : Word) → Same (OfSpecPlain (Done x) w) (OfSpec (Done x) w)
   spec-plain x w =
       whole-plain (x .strict) (λ q. defined-plain (λ t. Holding (SignalOf (t .text))) (λ t. Holding (SignalOf (t .text)))
-      (λ t v p. Iff·rfl) (λ t v p. stable-so _) (namesOf x) (x .definitions) (x .definitions) (x .main) q w)
+      (λ t v p. Iff·rfl) (λ t v p. stable-so _) (namesOf x) (x .definitions) (x .definitions) (x .main) q (readAs (x .semantics) (x .target) (x .main) w))
 
   pub adequate-text : (text : List ℕ) (w : Word) → Same (TextPlain text w) (TextMeans text w)
   adequate-text text w = go (parsed text)

@@ -80,7 +80,8 @@ module _ (ps : List Port) (w : Word) (v : NodeWord) where
   numbers-agree o m (Unsized p) = tt
   numbers-agree o m (Choice vs) = tt
 
-  words-agree : (o : Comparison) (b : Sized) → BusAgrees ps w v (b .name) (b .width) → (y : Value) → Agrees (choice y >>= against ps o b) v (λ t. Equals o (MatchesOne (b .name) (theWords (Done y)) w t))
+  words-agree : (o : Comparison) (b : Sized) → BusAgrees ps w v (b .name) (b .width) → (y : Value)
+      → Agrees (choice y >>= against ps o b) v (λ t. Equals o (MatchesOne (b .name) (theWords (Done y)) w t))
   unfolding Agrees _>>=_
   words-agree o b h (Number n) = tt
   words-agree o b h (Set s) = tt

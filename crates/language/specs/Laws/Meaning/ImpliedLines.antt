@@ -14,7 +14,30 @@ use Rattle.node.specs.LogicLaws.{or-right, or-cases, stable-not, or-same, to-sa
 use Rattle.node.specs.TemporalLaws.{Same}
 use Rattle.language.specs.Bytes.{if_then_else_, same}
 use Rattle.language.specs.Tokens.{Token}
-use Rattle.language.specs.Tree.{Expr, Identifier, Definition, Defined, Enumerated, Declaration, OneSignal, OfWidth, OfType, Part, Initially, Preset, Require, Assert, Assume, Guarantee, partCode, Subsection, Inputs, Outputs, Lines, Spec}
+use Rattle.language.specs.Tree.{
+  Expr,
+  Identifier,
+  Definition,
+  Defined,
+  Enumerated,
+  Declaration,
+  OneSignal,
+  OfWidth,
+  OfType,
+  Part,
+  Initially,
+  Preset,
+  Require,
+  Assert,
+  Assume,
+  Guarantee,
+  partCode,
+  Subsection,
+  Inputs,
+  Outputs,
+  Lines,
+  Spec,
+}
 use Rattle.language.specs.Words.{wordsIn}
 use Rattle.language.specs.Declared.{wordsOfType, wordWidth, Port, inputs, outputs, Declarations}
 use Rattle.language.specs.Numbering.{marksOf, covered}
@@ -67,7 +90,8 @@ module _ (defs : List Definition) (output : Bool) (s : Sense) (w : Word) (t : �
   no-line : (D : Type 0) (p : Port) (ps : List Port) → leavesUnnamed (p .words) ≡ false → D ↔ LinesHold s (implied ps) w t → D ↔ LinesHold s (implied (p ∷ ps)) w t
   no-line D p ps e h = subst (λ (ls : List Line). D ↔ LinesHold s ls w t) (sym (leave (leavesUnnamed (p .words)) (Implied p ∷ implied ps) (implied ps) e)) h
 
-  a-line : (D : Type 0) (p : Port) (ps : List Port) → leavesUnnamed (p .words) ≡ true → D ↔ (MatchesOne (p .name .text) (p .words) w t × LinesHold s (implied ps) w t) → D ↔ LinesHold s (implied (p ∷ ps)) w t
+  a-line : (D : Type 0) (p : Port) (ps : List Port) → leavesUnnamed (p .words) ≡ true → D ↔ (MatchesOne (p .name .text) (p .words) w t × LinesHold s (implied ps) w t)
+      → D ↔ LinesHold s (implied (p ∷ ps)) w t
   a-line D p ps e h = subst (λ (ls : List Line). D ↔ LinesHold s ls w t) (sym (pick (leavesUnnamed (p .words)) (Implied p ∷ implied ps) (implied ps) e)) h
 
   typed-same : (u x : Token) (D : Type 0) (p : Port) (ps : List Port) → PortFor defs output (OfType u x) p → PortRegular p → D ↔ LinesHold s (implied ps) w t →
@@ -78,7 +102,8 @@ module _ (defs : List Definition) (output : Bool) (s : Sense) (w : Word) (t : �
       words = f .shaped .1
 
       here : ImpliedMeans defs u x w t ↔ MatchesOne (p .name .text) (p .words) w t
-      here = subst (λ (n : Token). ImpliedMeans defs u x w t ↔ MatchesOne (n .text) (p .words) w t) (sym (f .named)) (subst (λ (vs : List Token). ImpliedMeans defs u x w t ↔ MatchesOne (x .text) vs w t) (sym words) (implied-matches defs u x w t))
+      here = subst (λ (n : Token). ImpliedMeans defs u x w t ↔ MatchesOne (n .text) (p .words) w t) (sym (f .named))
+          (subst (λ (vs : List Token). ImpliedMeans defs u x w t ↔ MatchesOne (x .text) vs w t) (sym words) (implied-matches defs u x w t))
 
       width : p .width ≡ wordWidth (p .words)
       width = f .shaped .2 ∙ ap wordWidth (sym words)
@@ -166,6 +191,7 @@ sections-same x d s q w f i o t =
     let defs = x .definitions in
     Iff·trans (tree-parts s defs q w t (x .main))
     (Iff·trans (Iff·and Iff·rfl (Iff·trans
-    (Iff·and (to-same (part-same q Require) (declared-same defs false s w t (inputs (x .main)) (d .inputs) (f .ins) i)) (to-same (part-same q Assert) (declared-same defs true s w t (outputs (x .main)) (d .outputs) (f .outs) o)))
+    (Iff·and (to-same (part-same q Require) (declared-same defs false s w t (inputs (x .main)) (d .inputs) (f .ins) i))
+    (to-same (part-same q Assert) (declared-same defs true s w t (outputs (x .main)) (d .outputs) (f .outs) o)))
     (λ p. (p .0, (p .1, tt)), λ p. (p .0, p .1 .0))))
     (written-same s defs q w t (x .main) _))

@@ -13,6 +13,7 @@ use Rattle.language.specs.Declared.{Port}
 use Rattle.language.specs.Numbering.{signalsOf, firstOf, signalList}
 use Rattle.language.specs.Meaning.{Atom, SignalOf, BitOf, Word}
 use Rattle.language.specs.Numbered.{atomOf, numbered}
+use Rattle.language.specs.Listed.{Once}
 use Rattle.language.specs.Laws.Basics.Lists.{All}
 use Rattle.language.specs.Laws.Basics.Tests.{pick, leave, and-left, and-right, same-equal, same-refl}
 use Rattle.language.specs.Laws.Values.DistinctNames.{Apart, Distinct}
@@ -21,22 +22,24 @@ use Rattle.language.specs.Laws.Values.SignalLaws.{list-length}
 use Rattle.language.specs.Laws.Meaning.NumberedLaws.{numbered-at, atomAt, PortNumbered, entry-names}
 
 -- signal k is one of a port of which L holds
-record Located (L : Port → Type 0) (ps : List Port) (k : ℕ) : Type 0 where
-  port : Port
-  holds : L port
-  index : ℕ
-  small : index < signalsOf port
-  place : k ≡ firstOf ps (port .name .text) + index
+pub record Located (L : Port → Type 0) (ps : List Port) (k : ℕ) : Type 0 where
+  pub port : Port
+  pub holds : L port
+  pub index : ℕ
+  pub small : index < signalsOf port
+  pub place : k ≡ firstOf ps (port .name .text) + index
 
-locate : (ps : List Port) (L : Port → Type 0) → Distinct (portNames ps) → All L ps → (k : ℕ) → k < length (signalList ps) → Located L ps k
+pub locate : (ps : List Port) (L : Port → Type 0) → Distinct (portNames ps) → All L ps → (k : ℕ) → k < length (signalList ps) → Located L ps k
 locate [] L d h k l = absurd (omega arith)
-locate (p ∷ ps) L d h k l = go (ltb k (signalsOf p)) (ltb-true k (signalsOf p)) (ltb-false k (signalsOf p)) (λ m. locate ps (λ q. L q × Apart (p .name) (q .name)) (d .1) (both ps (d .0) (h .1)) (k - signalsOf p) m)
+locate (p ∷ ps) L d h k l = go (ltb k (signalsOf p)) (ltb-true k (signalsOf p)) (ltb-false k (signalsOf p))
+    (λ m. locate ps (λ q. L q × Apart (p .name) (q .name)) (d .1) (both ps (d .0) (h .1)) (k - signalsOf p) m)
   where
     both : (qs : List Port) → All (Apart (p .name)) (portNames qs) → All L qs → All (λ q. L q × Apart (p .name) (q .name)) qs
     both [] a h = tt
     both (q ∷ qs) a h = ((h .0, a .0), both qs (a .1) (h .1))
 
-    go : (b : Bool) → (b ≡ true → k < signalsOf p) → (b ≡ false → signalsOf p ≤ k) → (k - signalsOf p < length (signalList ps) → Located (λ q. L q × Apart (p .name) (q .name)) ps (k - signalsOf p)) → Located L (p ∷ ps) k
+    go : (b : Bool) → (b ≡ true → k < signalsOf p) → (b ≡ false → signalsOf p ≤ k) → (k - signalsOf p < length (signalList ps) → Located (λ q. L q × Apart (p .name) (q .name)) ps (k - signalsOf p))
+        → Located L (p ∷ ps) k
     go true f g r =
         let first : firstOf (p ∷ ps) (p .name .text) ≡ 0 = pick (same (p .name .text) (p .name .text)) 0 _ (same-refl (p .name .text)) in
         record { port = p; holds = h .0; index = k; small = f refl; place = omega (arith, first) }
@@ -64,17 +67,14 @@ atoms-alike x y a b i j hi hj = go (eqb a 0) (eqb b 0) (eqb-true a 0) (eqb-true 
     go false true f g e = absurd (signal-bit (sym e))
     go false false f g e = record { name = cc; index = cc }
 
--- no two entries name the same signal
-abbrev pub Once : List ℕ → List ℕ → Type 0
-Once text list = (k j : ℕ) → k < length list → j < length list → atomOf text (getD list k 0) ≡ atomOf text (getD list j 0) → k ≡ j
-
 module _ (text : List ℕ) (ps : List Port) (d : Distinct (portNames ps)) (h : All (PortNumbered text ps) ps) where
   abbrev Here : ℕ → Type 0
   Here k = Located (PortNumbered text ps) ps k
 
   named-at : (k : ℕ) (l : Here k) → atomOf text (getD (signalList ps) k 0) ≡ atomAt (l .port .name .text) (l .port .width) (l .index)
   named-at k l =
-      ap (λ (n : ℕ). atomOf text (getD (signalList ps) n 0)) (l .place) ∙ ap (atomOf text) (l .holds .listed .reads (l .index) (l .small)) ∙ entry-names text (l .port) (l .holds .placed) (l .index) (l .small)
+      ap (λ (n : ℕ). atomOf text (getD (signalList ps) n 0)) (l .place) ∙ ap (atomOf text) (l .holds .listed .reads (l .index) (l .small)) ∙ entry-names text (l .port) (l .holds .placed) (l .index)
+      (l .small)
 
   pub names-once : Once text (signalList ps)
   names-once k j hk hj e =

@@ -9,12 +9,69 @@ use Rattle.node.specs.Adequacy.{UnaryA1, BinaryA1}
 use Rattle.node.specs.Result.{Result, Done, Refused}
 use Rattle.language.specs.Bytes.{same}
 use Rattle.language.specs.Tokens.{Token}
-use Rattle.language.specs.Operators.{Comparison, Big, BigSum, BigProduct, BigCap, BigCup, BigAnd, BigOr, Window, FinallyIn, GloballyIn, Calculates, Combines, Compares, Membership, Connects, Measures, WidthOf, Applies}
-use Rattle.language.specs.Tree.{Expr, Named, Numeral, Truth, Index, Paren, Prefixed, Joined, Nexts, InWindow, Each, Between, Listed, Empty, Element, Range, Identifier, Definition, Defined, Enumerated, Declaration, OneSignal, OfWidth, OfType, Part, Initially, Preset, Require, Assert, Assume, Guarantee, Subsection, Inputs, Outputs, Lines, Spec}
+use Rattle.language.specs.Operators.{
+  Comparison,
+  Big,
+  BigSum,
+  BigProduct,
+  BigCap,
+  BigCup,
+  BigAnd,
+  BigOr,
+  Window,
+  FinallyIn,
+  GloballyIn,
+  Calculates,
+  Combines,
+  Compares,
+  Membership,
+  Connects,
+  Measures,
+  WidthOf,
+  Applies,
+}
+use Rattle.language.specs.Tree.{
+  Expr,
+  Named,
+  Numeral,
+  Truth,
+  Index,
+  Paren,
+  Prefixed,
+  Joined,
+  Nexts,
+  InWindow,
+  Each,
+  Between,
+  Listed,
+  Empty,
+  Element,
+  Range,
+  Identifier,
+  Definition,
+  Defined,
+  Enumerated,
+  Declaration,
+  OneSignal,
+  OfWidth,
+  OfType,
+  Part,
+  Initially,
+  Preset,
+  Require,
+  Assert,
+  Assume,
+  Guarantee,
+  Subsection,
+  Inputs,
+  Outputs,
+  Lines,
+  Spec,
+}
 use Rattle.language.specs.Sets.{memberOf}
 use Rattle.language.specs.Values.{Value, Number, Set, Logic, Bus, Unsized, Choice, naming, value}
 use Rattle.language.specs.Parsing.{parsed}
-use Rattle.language.specs.Meaning.{BitOf, Word, Holding, Matches, Relates, Equals, orElse, theNumber, theSet, theWords, theBus, Sense, with, present, IsPart, Owed, namesOf}
+use Rattle.language.specs.Meaning.{BitOf, Word, Holding, Matches, Relates, Equals, orElse, theNumber, theSet, theWords, theBus, Sense, with, present, IsPart, Owed, namesOf, readAs}
 
 -- '`&&[i IN M] e` holds if e does for each i in M, `||[i IN M] e` if for some'
 abbrev pub EachPlain : Big → List ℕ → (ℕ → Type 0) → Type 0
@@ -120,7 +177,7 @@ SpecPlain x w t =
     WholePlain (x .strict) (λ s. SectionPlain c (x .definitions) (x .main) s w) t
 
 abbrev pub OfSpecPlain : Result Spec → Word → Property
-OfSpecPlain (Done x) w t = SpecPlain x w t
+OfSpecPlain (Done x) w t = SpecPlain x (readAs (x .semantics) (x .target) (x .main) w) t
 OfSpecPlain (Refused n p) w t = ⊥
 
 abbrev pub TextPlain : List ℕ → Word → Property

@@ -1,5 +1,5 @@
 -- 'Signals number from 0, inputs first, a bus taking consecutive numbers': what the signal list has for every declared name, read from its entries.
-use Prim.Native.Nat.{ℕ, _+_, max, _^_, _≤_, _<_}
+use Prim.Native.Nat.{ℕ, _+_, _^_, _<_}
 use mathlib.Core.Path.{_≡_, refl, ap, sym, subst, _∙_}
 use mathlib.Core.Bool.{Bool, true, false}
 use mathlib.Core.List.{List, [], _∷_, _++_, append-assoc}
@@ -12,23 +12,14 @@ use Rattle.language.specs.Tokens.{Token}
 use Rattle.language.specs.Tree.{Definition, Declaration, OneSignal, OfWidth, OfType, Spec}
 use Rattle.language.specs.Declared.{Port, inputs, outputs, Declarations, declarations}
 use Rattle.language.specs.Numbering.{inOrder, signalsOf, entries, signalList}
-use Rattle.language.specs.Numbered.{widthOf, indexOf, offsetOf, flagOf}
 use Rattle.language.specs.Laws.Basics.Lists.{All, all-left, all-right}
-use Rattle.language.specs.Laws.Values.DistinctNames.{declaredName}
+use Rattle.language.specs.Listed.{EntryReads, HasWidth, NumberedAt, NumberedFrom, ListedAs}
 use Rattle.language.specs.Laws.Values.PortLaws.{PortFor, Pairs, ports-for}
 use Rattle.language.specs.Laws.Values.SignalLaws.{entryOf, list-length, first-reads, later-reads}
-use Rattle.language.specs.Laws.Values.EntryLaws.{flag, entry-width, entry-index, entry-offset, entry-flag, entry-small}
+use Rattle.language.specs.Laws.Values.EntryLaws.{entry-width, entry-index, entry-offset, entry-flag, entry-small}
 use Rattle.language.specs.Laws.Meaning.NumberedLaws.{PortPlaced}
 
--- the fields of an entry, and that it has 32 bits
-pub record Reads (e : ℕ) (output : Bool) (at i n : ℕ) : Type 0 where
-  pub flagged : flagOf e ≡ flag output
-  pub offset : offsetOf e ≡ at
-  pub index : indexOf e ≡ i
-  pub width : widthOf e ≡ n
-  pub small : e < 2 ^ 32
-
-entry-reads : (text : List ℕ) (p : Port) → PortPlaced text p → (i : ℕ) → i < signalsOf p → Reads (entryOf p i) (p .output) (p .name .at) i (p .width)
+entry-reads : (text : List ℕ) (p : Port) → PortPlaced text p → (i : ℕ) → i < signalsOf p → EntryReads (entryOf p i) (p .output) (p .name .at) i (p .width)
 entry-reads text p h i l =
     let at = h .offset in
     let narrow = h .narrow in
@@ -41,28 +32,6 @@ entry-reads text p h i l =
       width = entry-width (p .output) at index width;
       small = entry-small (p .output) at index width;
     }
-
--- a single signal has width 0, a bus one from 1 on
-abbrev pub HasWidth : Declaration → ℕ → Type 0
-HasWidth (OneSignal x) n = n ≡ 0
-HasWidth (OfWidth x e) n = 1 ≤ n
-HasWidth (OfType u x) n = 1 ≤ n
-
--- the signals of a declared name are numbered one after another from `first` on
-pub record NumberedAt (list : List ℕ) (output : Bool) (m : Declaration) (first width : ℕ) : Type 0 where
-  pub shaped : HasWidth m width
-  pub each : (i : ℕ) → i < max 1 width → Reads (getD list (first + i) 0) output (declaredName m .at) i width
-
--- those of some declarations follow each other from number k on, as far as `end`
-abbrev pub NumberedFrom : List ℕ → Bool → ℕ → List Declaration → ℕ → Type 0
-NumberedFrom list output k [] end = k ≡ end
-NumberedFrom list output k (m ∷ ms) end = (width : ℕ) × NumberedAt list output m k width × NumberedFrom list output (k + max 1 width) ms end
-
--- what a text's signal list has: from 0 on the inputs, from `between` on the outputs, and nothing else
-pub record ListedAs (x : Spec) (list : List ℕ) : Type 0 where
-  pub between : ℕ
-  pub ins : NumberedFrom list false 0 (inputs (x .main)) between
-  pub outs : NumberedFrom list true between (outputs (x .main)) (length list)
 
 has-width : (defs : List Definition) (output : Bool) (m : Declaration) (p : Port) → PortFor defs output m p → HasWidth m (p .width)
 has-width defs output (OneSignal x) p f = f .shaped .0
@@ -79,9 +48,9 @@ module _ (text list : List ℕ) (defs : List Definition) (output : Bool) where
       record {
         shaped = has-width defs output m p f;
         each = λ i l.
-            subst (λ (t : Token). Reads (getD list (k + i) 0) output (t .at) i (p .width)) (f .named)
-            (subst (λ (b : Bool). Reads (getD list (k + i) 0) b (p .name .at) i (p .width)) (f .flagged)
-            (subst (λ (e : ℕ). Reads e (p .output) (p .name .at) i (p .width)) (sym (s i (omega (arith, list-length p ps)) ∙ first-reads p ps i l)) (entry-reads text p h i l)));
+            subst (λ (t : Token). EntryReads (getD list (k + i) 0) output (t .at) i (p .width)) (f .named)
+            (subst (λ (b : Bool). EntryReads (getD list (k + i) 0) b (p .name .at) i (p .width)) (f .flagged)
+            (subst (λ (e : ℕ). EntryReads e (p .output) (p .name .at) i (p .width)) (sym (s i (omega (arith, list-length p ps)) ∙ first-reads p ps i l)) (entry-reads text p h i l)));
       }
 
   pub numbered-from : (k : ℕ) (ds : List Declaration) (ps : List Port) → Pairs (PortFor defs output) ds ps → All (PortPlaced text) ps → StandsFrom list k (signalList ps) →

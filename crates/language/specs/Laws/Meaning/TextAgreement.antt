@@ -68,7 +68,7 @@ module _ (w : Word) (v : NodeWord) where
   abbrev pub TableAgrees : Declarations → Type 0
   TableAgrees d = All (EntryOf (SingleAgrees (inOrder d) w v) (BusAgrees (inOrder d) w v)) (d .table)
 
-  signals-matched : (d : Declarations) → TableAgrees d → Matched w v (atSignals d) (present (declared (d .table)))
+  pub signals-matched : (d : Declarations) → TableAgrees d → Matched w v (atSignals d) (present (declared (d .table)))
   signals-matched d h =
       let ps = inOrder d in
       record {
@@ -90,13 +90,13 @@ module _ (w : Word) (v : NodeWord) where
       named t true = agrees h e
       named t false = h .names t
 
-  definitions-matched : (ds : List Definition) {c : Context} {s : Sense} → Matched w v c s → Matched w v (defineAll c ds) (meaningAll s ds)
+  pub definitions-matched : (ds : List Definition) {c : Context} {s : Sense} → Matched w v c s → Matched w v (defineAll c ds) (meaningAll s ds)
   definitions-matched [] h = h
   definitions-matched (Defined x e ∷ ds) h = definitions-matched ds (define-matched x e h)
   definitions-matched (Enumerated x is ∷ ds) h = definitions-matched ds h
 
   -- lines and sections
-  line-agrees : {c : Context} {s : Sense} → Matched w v c s → (l : Line) → LineAgrees (c .ports) w v l → Agrees (expandLine c l) v (LineMeans s l w)
+  pub line-agrees : {c : Context} {s : Sense} → Matched w v c s → (l : Line) → LineAgrees (c .ports) w v l → Agrees (expandLine c l) v (LineMeans s l w)
   line-agrees h (Written e) g = agrees h e
   line-agrees {c} h (Implied p) g = implied-agrees (c .ports) w v (p .name .text) (p .width) (g .0) (p .words) (all-more (λ u e. omega arith) (p .words) (g .1))
 
@@ -125,7 +125,8 @@ module _ (w : Word) (v : NodeWord) where
   SectionsAgree s ls (Done ss) = (p : Part) → Same (ListedMeans s ls p w) (AllHold (linesOf p ss) v)
   SectionsAgree s ls (Refused n p) = Unit {0}
 
-  sections-agree : {c : Context} {s : Sense} → Matched w v c s → (ls : List (Part × List Line)) → All (λ l. All (LineAgrees (c .ports) w v) (l .1)) ls → SectionsAgree s ls (gather (expandSection c) ls)
+  sections-agree : {c : Context} {s : Sense} → Matched w v c s → (ls : List (Part × List Line)) → All (λ l. All (LineAgrees (c .ports) w v) (l .1)) ls
+      → SectionsAgree s ls (gather (expandSection c) ls)
   unfolding SectionsAgree ListAgrees _>>=_
   sections-agree h [] g = λ p t. Iff·rfl
   sections-agree {c} {s} h (l ∷ ls) g = step (gather (expandLine c) (l .1)) (lines-agree h (l .1) (g .0)) (gather (expandSection c) ls) (sections-agree h ls (g .1))
@@ -167,6 +168,7 @@ module _ (w : Word) (v : NodeWord) where
       c : Context
       c = defineAll (atSignals d) (x .definitions)
 
-      go : (r : Result Sections) → SectionsAgree (meaningAll (present (declared (d .table))) (x .definitions)) ls r → Agrees (r >>= λ ss. Done (whole (x .strict) (section ss))) v (WholeMeans (x .strict) P)
+      go : (r : Result Sections) → SectionsAgree (meaningAll (present (declared (d .table))) (x .definitions)) ls r
+          → Agrees (r >>= λ ss. Done (whole (x .strict) (section ss))) v (WholeMeans (x .strict) P)
       go (Done ss) h = whole-agrees (x .strict) P (section ss) (λ p t. Iff·trans (same p t) (Iff·trans (h p t) (conjunction-holds (linesOf p ss) v t)))
       go (Refused n p) h = tt

@@ -21,7 +21,7 @@ use Rattle.language.specs.Laws.Grammar.TreeTokens.{InDeclaration, InSubs
 use Rattle.language.specs.Laws.Grammar.Braces.{ProperDeclaration, ProperSubsection}
 use Rattle.language.specs.Laws.Grammar.Parses.{parses, parsed-proper}
 use Rattle.language.specs.Laws.Grammar.NameTokens.{NamedIn, tokens-named, parsed-tokens}
-use Rattle.language.specs.Laws.Values.DistinctNames.{declaredName}
+use Rattle.language.specs.Listed.{declaredName}
 use Rattle.language.specs.Laws.Values.NameLaws.{inputs-all, outputs-all}
 use Rattle.language.specs.Laws.Values.PortLaws.{PortFor, ports-for, pairs-right, ports-distinct}
 use Rattle.language.specs.Laws.Values.SignalLaws.{ports-listed}
@@ -62,8 +62,10 @@ module _ (text : List ℕ) (x : Spec) (d : Declarations) (e : parsed text ≡ Do
       let proper = parsed-proper text e .main in
       let placed = tokens-placed .main in
       let I = InDeclaration (Placed text) in (
-        all-both (declared-placed text) (inputs (x .main)) (inputs-all (InSubsection (Placed text)) I (λ ds g. g) (x .main) placed) (inputs-all ProperSubsection ProperDeclaration (λ ds g. g) (x .main) proper),
-        all-both (declared-placed text) (outputs (x .main)) (outputs-all (InSubsection (Placed text)) I (λ ds g. g) (x .main) placed) (outputs-all ProperSubsection ProperDeclaration (λ ds g. g) (x .main) proper),
+        all-both (declared-placed text) (inputs (x .main)) (inputs-all (InSubsection (Placed text)) I (λ ds g. g) (x .main) placed)
+            (inputs-all ProperSubsection ProperDeclaration (λ ds g. g) (x .main) proper),
+        all-both (declared-placed text) (outputs (x .main)) (outputs-all (InSubsection (Placed text)) I (λ ds g. g) (x .main) placed)
+            (outputs-all ProperSubsection ProperDeclaration (λ ds g. g) (x .main) proper),
       )
 
   pub ports-placed : All (PortPlaced text) (inOrder d)

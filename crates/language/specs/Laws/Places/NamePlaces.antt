@@ -7,7 +7,30 @@ use native.Mathlib.Omega.{arith}
 use Rattle.language.specs.Limits.{maxNames}
 use Rattle.language.specs.Bytes.{same}
 use Rattle.language.specs.Tokens.{Token}
-use Rattle.language.specs.Tree.{Expr, Named, Numeral, Truth, Index, Paren, Prefixed, Joined, Nexts, InWindow, Each, Between, Listed, Empty, Element, Range, Defined, Enumerated, OneSignal, OfWidth, OfType, Spec}
+use Rattle.language.specs.Tree.{
+  Expr,
+  Named,
+  Numeral,
+  Truth,
+  Index,
+  Paren,
+  Prefixed,
+  Joined,
+  Nexts,
+  InWindow,
+  Each,
+  Between,
+  Listed,
+  Empty,
+  Element,
+  Range,
+  Defined,
+  Enumerated,
+  OneSignal,
+  OfWidth,
+  OfType,
+  Spec,
+}
 use Rattle.language.specs.Places.{Entry, ParameterLine, DefinitionLine, DeclarationLine, FormulaLine, allLines}
 use Rattle.language.specs.Names.{Names, visible, hidden, again, walk, declares, declaresSignal, over, walkLine, walkLines, nowhere, notVisible, doubled, declaredAgain, placeOfFirst, tooMany}
 use Rattle.language.specs.Laws.Basics.Lists.{All, all-append}

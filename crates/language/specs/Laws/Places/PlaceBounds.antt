@@ -9,8 +9,60 @@ use native.Mathlib.Omega.{arith}
 use Rattle.node.specs.Result.{Result}
 use Rattle.language.specs.Limits.{maxLevels}
 use Rattle.language.specs.Tokens.{Token}
-use Rattle.language.specs.Tree.{Expr, Named, Numeral, Truth, Index, Paren, Prefixed, Joined, Nexts, InWindow, Each, Between, Listed, Empty, Element, Range, Identifier, Definition, Defined, Enumerated, Parameter, Declaration, OneSignal, OfWidth, OfType, Subsection, Inputs, Outputs, Lines, Spec}
-use Rattle.language.specs.Places.{start, levels, first, firstIn, unless, Entry, ParameterLine, DefinitionLine, DeclarationLine, FormulaLine, parameterLines, definitionLines, declarationLines, formulaLines, mainLines, allLines, deep, deepLine, tooDeep, refuseAt}
+use Rattle.language.specs.Tree.{
+  Expr,
+  Named,
+  Numeral,
+  Truth,
+  Index,
+  Paren,
+  Prefixed,
+  Joined,
+  Nexts,
+  InWindow,
+  Each,
+  Between,
+  Listed,
+  Empty,
+  Element,
+  Range,
+  Identifier,
+  Definition,
+  Defined,
+  Enumerated,
+  Parameter,
+  Declaration,
+  OneSignal,
+  OfWidth,
+  OfType,
+  Subsection,
+  Inputs,
+  Outputs,
+  Lines,
+  Spec,
+}
+use Rattle.language.specs.Places.{
+  start,
+  levels,
+  first,
+  firstIn,
+  unless,
+  Entry,
+  ParameterLine,
+  DefinitionLine,
+  DeclarationLine,
+  FormulaLine,
+  parameterLines,
+  definitionLines,
+  declarationLines,
+  formulaLines,
+  mainLines,
+  allLines,
+  deep,
+  deepLine,
+  tooDeep,
+  refuseAt,
+}
 use Rattle.language.specs.Names.{Names, identifierNames, declares, declaresSignal, over}
 use Rattle.language.specs.Laws.Basics.Lists.{All, all-append}
 use Rattle.language.specs.Laws.Basics.Tests.{split}

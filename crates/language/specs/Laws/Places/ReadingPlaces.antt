@@ -12,15 +12,39 @@ use Rattle.node.specs.Postorder.{size}
 use Rattle.node.specs.Result.{Result, Done, Refused}
 use Rattle.language.specs.Limits.{maxSignals, workBytes}
 use Rattle.language.specs.Tokens.{Token}
-use Rattle.language.specs.Operators.{Comparison, Equal, Unequal, Less, AtMost, Greater, AtLeast, Big, BigSum, BigProduct, BigCap, BigCup, BigAnd, BigOr, Calculates, Combines, Compares, Membership, Connects, Measures, WidthOf, Applies}
+use Rattle.language.specs.Operators.{
+  Comparison,
+  Equal,
+  Unequal,
+  Less,
+  AtMost,
+  Greater,
+  AtLeast,
+  Big,
+  BigSum,
+  BigProduct,
+  BigCap,
+  BigCup,
+  BigAnd,
+  BigOr,
+  Calculates,
+  Combines,
+  Compares,
+  Membership,
+  Connects,
+  Measures,
+  WidthOf,
+  Applies,
+}
 use Rattle.language.specs.Tree.{Expr, Named, Numeral, Truth, Index, Paren, Prefixed, Joined, Nexts, InWindow, Each, Between, Listed, Empty, Element, Range, Definition, Part, Spec}
 use Rattle.language.specs.Parsing.{parsed}
 use Rattle.language.specs.Values.{Value, Number, Set, Logic, Bus, Unsized, Choice, misfit, number, Sized, bus, choice, value}
 use Rattle.language.specs.Declared.{Declared, Constant, Single, BusOf, Identifies, WaitingBus, Port, Declarations}
-use Rattle.language.specs.Numbering.{inOrder, signalsOf, tooManySignals}
+use Rattle.language.specs.Numbering.{inOrder, signalsOf, tooManySignals, signalList}
 use Rattle.language.specs.Lines.{Line, Written, Implied, implied, lines}
 use Rattle.language.specs.Expansion.{widthIs, against, compared, bigFormula, Context, at, expansion, signalOf, atSignals, define, defineAll, expandLine, expandSection, expand}
-use Rattle.language.specs.Reading.{sameModel, converted, meant, reading}
+use Rattle.language.specs.Shifting.{adapted}
+use Rattle.language.specs.Reading.{converted, meant, reading}
 use Rattle.language.specs.Laws.Basics.Lists.{All, Any, all-any, all-append}
 use Rattle.language.specs.Laws.Basics.Tests.{split}
 use Rattle.language.specs.Laws.Basics.Results.{done, refused, guarded, bind, refusal-of, gathered}
@@ -155,9 +179,8 @@ module _ (n : ℕ) where
   converted-held x h =
       bind _ _ (declarations-held n x h) λ d v.
       bind _ _ (expand-held x d h) λ f _.
-      guarded (sameModel (x .semantics) (x .target)) 14 _ (λ _. h .targetWord)
-      (λ _. held-refuseAt 15 _ (low-tooManySignals 0 (inOrder d) (all-append (PortAt n) (d .inputs) (d .outputs) (v .inputs) (v .outputs)))
-      (guarded (leb (size f) maxNodes) 16 _ (λ _. omega arith) (λ _. done tt)))
+      held-refuseAt 15 _ (low-tooManySignals 0 (inOrder d) (all-append (PortAt n) (d .inputs) (d .outputs) (v .inputs) (v .outputs)))
+      (guarded (leb (size (adapted (x .semantics) (x .target) (signalList (inOrder d)) f)) maxNodes) 16 _ (λ _. omega arith) (λ _. done tt))
 
 meant-held : (text : List ℕ) → Held (length text) Any (meant text)
 unfolding meant

@@ -7,7 +7,31 @@ use Rattle.language.specs.Bytes.{same}
 use Rattle.language.specs.Tokens.{Token}
 use Rattle.language.specs.Tree.{Definition, Parameter, Declaration, OneSignal, OfWidth, OfType, Spec}
 use Rattle.language.specs.Values.{Scope, value}
-use Rattle.language.specs.Declared.{Declared, Constant, Single, BusOf, Identifies, WaitingBus, Table, find, valueAt, declared, defining, wordsOfType, wordWidth, Port, sized, portOf, asDeclared, turns, constants, inputs, outputs, Declarations, declarations}
+use Rattle.language.specs.Declared.{
+  Declared,
+  Constant,
+  Single,
+  BusOf,
+  Identifies,
+  WaitingBus,
+  Table,
+  find,
+  valueAt,
+  declared,
+  defining,
+  wordsOfType,
+  wordWidth,
+  Port,
+  sized,
+  portOf,
+  asDeclared,
+  turns,
+  constants,
+  inputs,
+  outputs,
+  Declarations,
+  declarations,
+}
 use Rattle.language.specs.Laws.Basics.Lists.{All, Any}
 use Rattle.language.specs.Laws.Basics.Tests.{split}
 use Rattle.language.specs.Laws.Basics.Results.{done, refused, bind}
@@ -57,7 +81,8 @@ module _ (n : ℕ) where
       bind _ _ (bind _ _ (a-number n (value sc e) (value-held n sc e (in-defining defs g (declared d) (in-declared d)) (h .1))) λ m _. sized-held x m (h .0)) λ m _. done (h .0)
   portOf-held defs output d (OfType u x) g h = bind _ _ (sized-held x (wordWidth (wordsOfType defs u)) (h .1)) λ m _. done (h .1)
 
-  turns-held : (defs : List Definition) (output : Bool) (ds : List Declaration) (d : Table) → All (InDefinition (At n)) defs → All (InDeclaration (At n)) ds → Held n (λ s. All (PortAt n) (s .ports)) (turns defs output ds d)
+  turns-held : (defs : List Definition) (output : Bool) (ds : List Declaration) (d : Table) → All (InDefinition (At n)) defs → All (InDeclaration (At n)) ds
+      → Held n (λ s. All (PortAt n) (s .ports)) (turns defs output ds d)
   turns-held defs output [] d g h = done tt
   turns-held defs output (x ∷ ds) d g h =
       bind _ _ (portOf-held defs output d x g (h .0)) λ p a. bind _ _ (turns-held defs output ds ((p .name .text, asDeclared (p .width)) ∷ d) g (h .1)) λ s l. done (a, l)

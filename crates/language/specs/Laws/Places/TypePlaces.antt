@@ -7,9 +7,62 @@ use lib.ListN.{length}
 use Rattle.language.specs.Limits.{maxWords, maxMarks}
 use Rattle.language.specs.Tokens.{Token}
 use Rattle.language.specs.Operators.{Infix, Calculates, Combines, Compares, Equal, Unequal, Less, AtMost, Greater, AtLeast, Membership, Connects}
-use Rattle.language.specs.Tree.{Expr, Named, Numeral, Truth, Index, Paren, Prefixed, Joined, Nexts, InWindow, Each, Between, Listed, Empty, Element, Range, Identifier, Definition, Defined, Enumerated, OneSignal, OfWidth, OfType, Spec}
+use Rattle.language.specs.Tree.{
+  Expr,
+  Named,
+  Numeral,
+  Truth,
+  Index,
+  Paren,
+  Prefixed,
+  Joined,
+  Nexts,
+  InWindow,
+  Each,
+  Between,
+  Listed,
+  Empty,
+  Element,
+  Range,
+  Identifier,
+  Definition,
+  Defined,
+  Enumerated,
+  OneSignal,
+  OfWidth,
+  OfType,
+  Spec,
+}
 use Rattle.language.specs.Places.{start, firstIn, Entry, ParameterLine, DefinitionLine, DeclarationLine, FormulaLine, allLines}
-use Rattle.language.specs.Types.{Kind, ANumber, ASet, AFormula, ABus, AType, isKind, Typings, kindIn, kindOf, bigGives, prefixTakes, withNumber, wrong, comparable, fitting, wrongSides, wrongBoth, wrongOperands, mistyped, demanded, definable, mistypedLine, typedAfter, typedSignals, mistypedLines, wrongType}
+use Rattle.language.specs.Types.{
+  Kind,
+  ANumber,
+  ASet,
+  AFormula,
+  ABus,
+  AType,
+  isKind,
+  Typings,
+  kindIn,
+  kindOf,
+  bigGives,
+  prefixTakes,
+  withNumber,
+  wrong,
+  comparable,
+  fitting,
+  wrongSides,
+  wrongBoth,
+  wrongOperands,
+  mistyped,
+  demanded,
+  definable,
+  mistypedLine,
+  typedAfter,
+  typedSignals,
+  mistypedLines,
+  wrongType,
+}
 use Rattle.language.specs.Words.{meet, wordsIn, wrongLength, wrongLengths, clash, clashes, badWords, wrongWords}
 use Rattle.language.specs.Laws.Basics.Lists.{All, all-append}
 use Rattle.language.specs.Laws.Basics.Tests.{split}

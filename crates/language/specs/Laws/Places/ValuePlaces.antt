@@ -9,10 +9,59 @@ use Rattle.node.specs.Result.{Result, Done, _>>=_}
 use Rattle.language.specs.Limits.{maxNumber, maxElements}
 use Rattle.language.specs.Bytes.{same}
 use Rattle.language.specs.Tokens.{Token}
-use Rattle.language.specs.Operators.{Arithmetic, Plus, Minus, Times, Divide, Modulo, Measure, Size, Min, Max, Big, BigSum, BigProduct, BigCap, BigCup, BigAnd, BigOr, Calculates, Combines, Compares, Membership, Connects, Measures, WidthOf, Applies}
+use Rattle.language.specs.Operators.{
+  Arithmetic,
+  Plus,
+  Minus,
+  Times,
+  Divide,
+  Modulo,
+  Measure,
+  Size,
+  Min,
+  Max,
+  Big,
+  BigSum,
+  BigProduct,
+  BigCap,
+  BigCup,
+  BigAnd,
+  BigOr,
+  Calculates,
+  Combines,
+  Compares,
+  Membership,
+  Connects,
+  Measures,
+  WidthOf,
+  Applies,
+}
 use Rattle.language.specs.Tree.{Expr, Named, Numeral, Truth, Index, Paren, Prefixed, Joined, Nexts, InWindow, Each, Between, Listed, Empty, Element, Range}
 use Rattle.language.specs.Sets.{union, combine, rangeSize}
-use Rattle.language.specs.Values.{Value, Number, Set, Logic, Bus, Unsized, Choice, number, set, bus, choice, inRange, decimal, calculate, measure, limited, range, between, big, Scope, naming, value}
+use Rattle.language.specs.Values.{
+  Value,
+  Number,
+  Set,
+  Logic,
+  Bus,
+  Unsized,
+  Choice,
+  number,
+  set,
+  bus,
+  choice,
+  inRange,
+  decimal,
+  calculate,
+  measure,
+  limited,
+  range,
+  between,
+  big,
+  Scope,
+  naming,
+  value,
+}
 use Rattle.language.specs.Laws.Basics.Lists.{Any}
 use Rattle.language.specs.Laws.Basics.Tests.{split}
 use Rattle.language.specs.Laws.Basics.Results.{done, refused, guarded, bind, folds-any}
@@ -96,7 +145,8 @@ module _ (n : ℕ) where
   big-held p BigAnd f s l h = done tt
   big-held p BigOr f s l h = done tt
 
-  pub naming-held : {A : Type 0} {Q : A → Type 0} (x : Token) (r : Result A) (sc : Token → Result A) → Held n Q r → ((t : Token) → At n t → Held n Q (sc t)) → (t : Token) → At n t → Held n Q (naming x r sc t)
+  pub naming-held : {A : Type 0} {Q : A → Type 0} (x : Token) (r : Result A) (sc : Token → Result A) → Held n Q r → ((t : Token) → At n t → Held n Q (sc t)) → (t : Token) → At n t
+      → Held n Q (naming x r sc t)
   naming-held {Q = Q} x r sc h g t a = split (Held n Q) (same (x .text) (t .text)) (λ _. h) (λ _. g t a)
 
   pub value-held : (sc : Scope) (e : Expr) → InScope n sc → InExpr (At n) e → Held n (InValue n) (value sc e)

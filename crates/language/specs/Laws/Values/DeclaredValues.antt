@@ -15,7 +15,32 @@ use Rattle.language.specs.Tokens.{Token}
 use Rattle.language.specs.Tree.{Expr, Named, Identifier, Definition, Defined, Enumerated, Parameter, Declaration, OneSignal, OfWidth, OfType, Spec}
 use Rattle.language.specs.Words.{wordsIn}
 use Rattle.language.specs.Values.{Number, Logic, Bus, Unsized, Choice, number, value}
-use Rattle.language.specs.Declared.{Constant, Single, BusOf, Identifies, WaitingBus, Table, find, declared, defining, identifiers, wordsOfType, wordWidth, Port, sized, portOf, asDeclared, Turns, turns, waiting, constants, inputs, outputs, Declarations, declarations}
+use Rattle.language.specs.Declared.{
+  Constant,
+  Single,
+  BusOf,
+  Identifies,
+  WaitingBus,
+  Table,
+  find,
+  declared,
+  defining,
+  identifiers,
+  wordsOfType,
+  wordWidth,
+  Port,
+  sized,
+  portOf,
+  asDeclared,
+  Turns,
+  turns,
+  waiting,
+  constants,
+  inputs,
+  outputs,
+  Declarations,
+  declarations,
+}
 use Rattle.language.specs.Laws.Basics.Lists.{All}
 use Rattle.language.specs.Laws.Basics.Tests.{pick, split, and-left, and-right, same-equal, same-refl}
 use Rattle.language.specs.Laws.Basics.Exactly.{Exactly, exactly, exactly-if, exactly-as}
@@ -89,7 +114,8 @@ turns-more defs output [] m d =
     bind-same (portOf defs output d m) _ _ (λ p. bind-to (Done (alone p)) (alone p) (λ s. Done (behind p s)) refl) ∙
     sym (bind-to (Done first) first (λ s. portOf defs output (s .table) m >>= λ p. Done (then-port s p)) refl)
 turns-more defs output (l ∷ ms) m d =
-    bind-same (portOf defs output d l) _ _ (λ p. ap (λ r. r >>= λ s. Done (behind p s)) (turns-more defs output ms m (entered p d)) ∙ regrouped (turns defs output ms (entered p d)) (λ e. portOf defs output e m) p) ∙
+    bind-same (portOf defs output d l) _ _ (λ p. ap (λ r. r >>= λ s. Done (behind p s)) (turns-more defs output ms m (entered p d)) ∙ regrouped (turns defs output ms (entered p d))
+    (λ e. portOf defs output e m) p) ∙
     sym (bind-again (portOf defs output d l) _ _)
 
 -- 'width 0 or over 255' is 13 at the declared name

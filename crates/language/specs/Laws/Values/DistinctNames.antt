@@ -10,6 +10,7 @@ use Rattle.language.specs.Tree.{Expr, Definition, Parameter, Declaration
 use Rattle.language.specs.Places.{Entry, DefinitionLine, parameterLines, definitionLines, declarationLines, formulaLines, mainLines, allLines}
 use Rattle.language.specs.Names.{again, doubled, declares, declaresSignal, over, nowhere, walkLines, declaredAgain}
 use Rattle.language.specs.Declared.{inputs, outputs}
+use Rattle.language.specs.Listed.{declaredName}
 use Rattle.language.specs.Laws.Basics.Lists.{All, all-more, all-append, all-left, all-right, all-both, all-swap}
 use Rattle.language.specs.Laws.Basics.Tests.{some-none, same-equal, same-refl}
 use Rattle.language.specs.Laws.Basics.NoPlace.{first-left, first-right, firstIn-none}
@@ -62,12 +63,6 @@ across-sym l m f = all-more (λ n h. all-more (λ k a. apart-sym k n a) l h) m (
 pub distinct-before : (l m : List Token) → Distinct l → Distinct m → Across l m → Distinct (l ++ m)
 distinct-before [] m h k f = k
 distinct-before (n ∷ l) m h k f = (all-append (Apart n) l m (h .0) (f .0), distinct-before l m (h .1) k (f .1))
-
--- the name that a declaration declares
-abbrev pub declaredName : Declaration → Token
-declaredName (OneSignal x) = x
-declaredName (OfWidth x e) = x
-declaredName (OfType u x) = x
 
 abbrev pub declaredNames : List Declaration → List Token
 declaredNames ds = map declaredName ds

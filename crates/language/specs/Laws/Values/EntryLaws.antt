@@ -8,9 +8,9 @@ use lib.Arith.{digits-lt}
 use Rattle.node.specs.BitFields.{join, above, below}
 use Rattle.node.specs.FieldLaws.{above-join, below-join}
 use Rattle.language.specs.Limits.{offsetBits, indexBits, widthBits}
-use Rattle.language.specs.Bytes.{if_then_else_}
 use Rattle.language.specs.Numbering.{fields, entry}
 use Rattle.language.specs.Numbered.{widthOf, indexOf, offsetOf, flagOf}
+use Rattle.language.specs.Listed.{flag}
 
 -- fields of any width
 module _ (a b c top : ℕ) {x y z : ℕ} (hx : x < 2 ^ a) (hy : y < 2 ^ b) (hz : z < 2 ^ c) where
@@ -37,10 +37,6 @@ join-small m w {hi} {lo} h l = subst (λ n. join w hi lo < n) (sym (pow-sum m w)
 
 fields-small : (n a b c : ℕ) {top x y z : ℕ} → top < 2 ^ n → x < 2 ^ a → y < 2 ^ b → z < 2 ^ c → fields a b c top x y z < 2 ^ (n + a + b + c)
 fields-small n a b c ht hx hy hz = join-small (n + a + b) c (join-small (n + a) b (join-small n a ht hx) hy) hz
-
--- the output flag
-abbrev pub flag : Bool → ℕ
-flag output = if output then 1 else 0
 
 flag-small : (output : Bool) → flag output < 2 ^ 1
 flag-small true = omega arith

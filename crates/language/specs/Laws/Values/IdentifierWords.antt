@@ -14,7 +14,20 @@ use Rattle.language.specs.Declared.{Constant, Identifies, Table, find, i
 use Rattle.language.specs.Laws.Basics.Lists.{All, all-more, all-append, all-left, all-right, all-both, all-swap}
 use Rattle.language.specs.Laws.Basics.Tests.{pick, leave, same-refl}
 use Rattle.language.specs.Laws.Basics.Results.{done, bind, bind-any, weaken, value-of, Within}
-use Rattle.language.specs.Laws.Values.DistinctNames.{Apart, Distinct, apart-sym, distinct-right, distinct-left, Across, across, distinct-before, declaredNames, signals-among, distinct-names, distinct-definitions}
+use Rattle.language.specs.Laws.Values.DistinctNames.{
+  Apart,
+  Distinct,
+  apart-sym,
+  distinct-right,
+  distinct-left,
+  Across,
+  across,
+  distinct-before,
+  declaredNames,
+  signals-among,
+  distinct-names,
+  distinct-definitions,
+}
 use Rattle.language.specs.Laws.Values.PortLaws.{portOf-for}
 
 -- names that are not x are passed over
@@ -124,12 +137,14 @@ module _ (x : Spec) (once : declaredAgain x ≡ none) where
   alone =
       let ls = mainLines (x .main) in
       let ds = definitionLines (x .definitions) ls in
-      let before = all-more (λ p h. by-identifier (Apart (p .name)) ids (identifiers-among (Apart (p .name)) (x .definitions) ls h .0)) (x .parameters) (parameters-apart (x .parameters) ds (distinct-names x once)) in
+      let before = all-more (λ p h. by-identifier (Apart (p .name)) ids (identifiers-among (Apart (p .name)) (x .definitions) ls h .0)) (x .parameters)
+      (parameters-apart (x .parameters) ds (distinct-names x once)) in
       let after = by-identifier (λ n. All (Apart n) (over declares ls)) ids (distinct-identifiers (x .definitions) ls (distinct-definitions x once) .1) in
       let turned : (i : Identifier) (ns : List Token) → All (Apart (i .name)) ns → All (Other (i .name .text)) ns = λ i ns h. all-more (λ n a. apart-sym (i .name) n a) ns h in
       all-both (λ i p m.
       let s = signals-among (Apart (i .name)) (x .main) m in
-      record { parameters = p; ins = turned i (declaredNames (inputs (x .main))) (s .0); outs = turned i (declaredNames (outputs (x .main))) (s .1) }) ids (all-swap (λ p i. Apart (p .name) (i .name)) (x .parameters) ids before) after
+      record { parameters = p; ins = turned i (declaredNames (inputs (x .main))) (s .0); outs = turned i (declaredNames (outputs (x .main))) (s .1) }) ids
+      (all-swap (λ p i. Apart (p .name) (i .name)) (x .parameters) ids before) after
 
   -- an identifier stands for its own words
   pub identifiers-stand : (d : Declarations) → declarations x ≡ Done d → All (λ i. find (d .table) (i .name .text) ≡ Done (Identifies (i .words))) ids

@@ -9,7 +9,30 @@ use Rattle.language.specs.Limits.{maxWidth}
 use Rattle.language.specs.Tokens.{Token}
 use Rattle.language.specs.Tree.{Definition, Parameter, Declaration, OneSignal, OfWidth, OfType, Spec}
 use Rattle.language.specs.Values.{Scope, value}
-use Rattle.language.specs.Declared.{Declared, Constant, Single, BusOf, Identifies, WaitingBus, Table, valueAt, declared, defining, wordsOfType, wordWidth, Port, sized, portOf, asDeclared, turns, constants, inputs, outputs, Declarations, declarations}
+use Rattle.language.specs.Declared.{
+  Declared,
+  Constant,
+  Single,
+  BusOf,
+  Identifies,
+  WaitingBus,
+  Table,
+  valueAt,
+  declared,
+  defining,
+  wordsOfType,
+  wordWidth,
+  Port,
+  sized,
+  portOf,
+  asDeclared,
+  turns,
+  constants,
+  inputs,
+  outputs,
+  Declarations,
+  declarations,
+}
 use Rattle.language.specs.Expansion.{atSignals, defineAll}
 use Rattle.language.specs.Laws.Basics.Lists.{All}
 use Rattle.language.specs.Laws.Basics.Results.{done, bind, value-of, Within, bind-any}

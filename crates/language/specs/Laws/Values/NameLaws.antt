@@ -30,12 +30,14 @@ defined-ports (Defined x e ∷ ds) c = defined-ports ds (define c x e)
 defined-ports (Enumerated x is ∷ ds) c = defined-ports ds c
 
 -- what each definition keeps, all of them keep
-pub defining-keeps : (I : Scope → Type 0) (D : Definition → Type 0) → ((sc : Scope) (x : Token) (e : Expr) → D (Defined x e) → I sc → I (naming x (value sc e) sc)) → (ds : List Definition) → All D ds → (sc : Scope) → I sc → I (defining sc ds)
+pub defining-keeps : (I : Scope → Type 0) (D : Definition → Type 0) → ((sc : Scope) (x : Token) (e : Expr) → D (Defined x e) → I sc → I (naming x (value sc e) sc)) → (ds : List Definition) → All D ds
+    → (sc : Scope) → I sc → I (defining sc ds)
 defining-keeps I D f [] h sc g = g
 defining-keeps I D f (Defined x e ∷ ds) h sc g = defining-keeps I D f ds (h .1) (naming x (value sc e) sc) (f sc x e (h .0) g)
 defining-keeps I D f (Enumerated x is ∷ ds) h sc g = defining-keeps I D f ds (h .1) sc g
 
-pub defineAll-keeps : (I : Context → Type 0) (D : Definition → Type 0) → ((c : Context) (x : Token) (e : Expr) → D (Defined x e) → I c → I (define c x e)) → (ds : List Definition) → All D ds → (c : Context) → I c → I (defineAll c ds)
+pub defineAll-keeps : (I : Context → Type 0) (D : Definition → Type 0) → ((c : Context) (x : Token) (e : Expr) → D (Defined x e) → I c → I (define c x e)) → (ds : List Definition) → All D ds
+    → (c : Context) → I c → I (defineAll c ds)
 defineAll-keeps I D f [] h c g = g
 defineAll-keeps I D f (Defined x e ∷ ds) h c g = defineAll-keeps I D f ds (h .1) (define c x e) (f c x e (h .0) g)
 defineAll-keeps I D f (Enumerated x is ∷ ds) h c g = defineAll-keeps I D f ds (h .1) c g

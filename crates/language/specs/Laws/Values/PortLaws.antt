@@ -11,13 +11,37 @@ use Rattle.language.specs.Limits.{maxWidth}
 use Rattle.language.specs.Tokens.{Token}
 use Rattle.language.specs.Tree.{Identifier, Definition, Defined, Enumerated, Parameter, Declaration, OneSignal, OfWidth, OfType, Spec}
 use Rattle.language.specs.Names.{declaredAgain}
-use Rattle.language.specs.Declared.{Declared, Constant, Single, BusOf, Identifies, WaitingBus, Table, identified, identifiers, wordsOfType, wordWidth, Port, sized, portOf, asDeclared, turns, waiting, constants, inputs, outputs, Declarations, declarations}
+use Rattle.language.specs.Declared.{
+  Declared,
+  Constant,
+  Single,
+  BusOf,
+  Identifies,
+  WaitingBus,
+  Table,
+  identified,
+  identifiers,
+  wordsOfType,
+  wordWidth,
+  Port,
+  sized,
+  portOf,
+  asDeclared,
+  turns,
+  waiting,
+  constants,
+  inputs,
+  outputs,
+  Declarations,
+  declarations,
+}
 use Rattle.language.specs.Numbering.{inOrder}
 use Rattle.language.specs.Laws.Basics.Lists.{All, all-any, all-more, all-append}
 use Rattle.language.specs.Laws.Basics.Results.{done, bind, bind-any, value-of, Within}
 use Rattle.language.specs.Laws.Values.RegularWords.{RegularDefinition, regular-type, PortRegular}
 use Rattle.language.specs.Laws.Values.NameLaws.{sized-as}
-use Rattle.language.specs.Laws.Values.DistinctNames.{Distinct, declaredName, declaredNames, distinct-signals}
+use Rattle.language.specs.Listed.{declaredName}
+use Rattle.language.specs.Laws.Values.DistinctNames.{Distinct, declaredNames, distinct-signals}
 
 -- a single signal has width 0; a bus has one from 1 on; one of an enumeration has that of the words
 abbrev Shape : List Definition → Declaration → Port → Type 0
@@ -82,7 +106,8 @@ names-for defs output (m ∷ ds) (p ∷ ps) h = ap₂ _∷_ (h .0 .named) (names
 pub ports-distinct : (x : Spec) (d : Declarations) → declaredAgain x ≡ none → declarations x ≡ Done d → Distinct (portNames (inOrder d))
 ports-distinct x d e h =
     let f = ports-for x d h in
-    subst Distinct (ap₂ _++_ (sym (names-for (x .definitions) false (inputs (x .main)) (d .inputs) (f .ins))) (sym (names-for (x .definitions) true (outputs (x .main)) (d .outputs) (f .outs))) ∙ sym (map-append (λ (p : Port). p .name) (d .inputs) (d .outputs)))
+    subst Distinct (ap₂ _++_ (sym (names-for (x .definitions) false (inputs (x .main)) (d .inputs) (f .ins))) (sym (names-for (x .definitions) true (outputs (x .main)) (d .outputs) (f .outs))) ∙ sym
+    (map-append (λ (p : Port). p .name) (d .inputs) (d .outputs)))
     (distinct-signals x e)
 
 -- what holds of every element of the one list holds of every element of the other
@@ -162,7 +187,8 @@ module _ (L : Port → Type 0) where
   pub table-ported : (x : Spec) (d : Declarations) → declarations x ≡ Done d → All L (d .inputs) → All L (d .outputs) → All (EntryPorted L) (d .table)
   table-ported x d e i o =
       let f = ports-for x d e in
-      let first = waiting-ported (x .definitions) false (inputs (x .main)) (d .inputs) _ (f .ins) i (waiting-ported (x .definitions) true (outputs (x .main)) (d .outputs) _ (f .outs) o (identifiers-ported (x .definitions))) in
+      let first = waiting-ported (x .definitions) false (inputs (x .main)) (d .inputs) _ (f .ins) i
+      (waiting-ported (x .definitions) true (outputs (x .main)) (d .outputs) _ (f .outs) o (identifiers-ported (x .definitions))) in
       value-of e (within first) i o
     where
       within : All (EntryPorted L) (waiting (inputs (x .main)) (waiting (outputs (x .main)) (identifiers (x .definitions)))) →

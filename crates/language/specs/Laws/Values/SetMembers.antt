@@ -32,7 +32,7 @@ member-listed (x ∷ s) k =
       λ m. Or·elim (So-prop (eqb k x || memberOf s k)) (mem-cons .0 m) (λ e. or-left (eqb k x) (memberOf s k) (eq-eqb k x e)) (λ n. or-right (eqb k x) (memberOf s k) (rest .1 n)),
     )
 
-or-swap : (a b c : Bool) → (a || (b || c)) ≡ (b || (a || c))
+pub or-swap : (a b c : Bool) → (a || (b || c)) ≡ (b || (a || c))
 or-swap true true c = refl
 or-swap true false c = refl
 or-swap false b c = refl

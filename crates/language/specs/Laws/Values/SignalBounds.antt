@@ -10,13 +10,56 @@ use Rattle.node.specs.Ltl.{Binary, And, Or, Formula, Two}
 use Rattle.node.specs.Result.{Result}
 use Rattle.node.specs.Postorder.{SignalsBelow}
 use Rattle.language.specs.Tokens.{Token}
-use Rattle.language.specs.Operators.{Comparison, Equal, Unequal, Less, AtMost, Greater, AtLeast, Big, BigSum, BigProduct, BigCap, BigCup, BigAnd, BigOr, Calculates, Combines, Compares, Membership, Connects, Measures, WidthOf, Applies}
+use Rattle.language.specs.Operators.{
+  Comparison,
+  Equal,
+  Unequal,
+  Less,
+  AtMost,
+  Greater,
+  AtLeast,
+  Big,
+  BigSum,
+  BigProduct,
+  BigCap,
+  BigCup,
+  BigAnd,
+  BigOr,
+  Calculates,
+  Combines,
+  Compares,
+  Membership,
+  Connects,
+  Measures,
+  WidthOf,
+  Applies,
+}
 use Rattle.language.specs.Tree.{Expr, Named, Numeral, Truth, Index, Paren, Prefixed, Joined, Nexts, InWindow, Each, Between, Listed, Empty, Element, Range}
 use Rattle.language.specs.Sets.{memberOf}
 use Rattle.language.specs.Values.{Value, Number, Set, Logic, Bus, Unsized, Choice, number, bus, choice, Sized}
 use Rattle.language.specs.Declared.{Port}
 use Rattle.language.specs.Numbering.{firstOf, Mark, Absent, Present, Star, markOf, marksOf}
-use Rattle.language.specs.Expansion.{joined, conjunction, disjunction, truth, nexts, chain, windowOperator, literals, oneOf, widthIs, against, test, compared, gather, bigFormula, Context, bitAt, at, expansion}
+use Rattle.language.specs.Expansion.{
+  joined,
+  conjunction,
+  disjunction,
+  truth,
+  nexts,
+  chain,
+  windowOperator,
+  literals,
+  oneOf,
+  widthIs,
+  against,
+  test,
+  compared,
+  gather,
+  bigFormula,
+  Context,
+  bitAt,
+  at,
+  expansion,
+}
 use Rattle.language.specs.Laws.Basics.Lists.{All, Any, all-any, all-more, all-map}
 use Rattle.language.specs.Laws.Basics.Tests.{and-left, and-right, so-eqb, so-ltb}
 use Rattle.language.specs.Laws.Basics.Results.{done, refused, guarded, bind, gathered, Within, bind-any}

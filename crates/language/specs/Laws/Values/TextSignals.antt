@@ -101,7 +101,8 @@ module _ (N : ℕ) where
   line-within : (ps : List Port) (p : Port) → PortWithin ps p → LineBelow ps (Implied p)
   line-within ps p h = let low = h .0 in all-more (λ v e. omega arith) (p .words) (h .1)
 
-  expand-below : (x : Spec) (d : Declarations) → All (EntryOf (SingleBelow (inOrder d)) (BusBelow N (inOrder d))) (d .table) → All (SectionBelow (inOrder d)) (lines x d) → Within (SignalsBelow N) (expand x d (lines x d))
+  expand-below : (x : Spec) (d : Declarations) → All (EntryOf (SingleBelow (inOrder d)) (BusBelow N (inOrder d))) (d .table) → All (SectionBelow (inOrder d)) (lines x d)
+      → Within (SignalsBelow N) (expand x d (lines x d))
   expand-below x d h k =
       let c : Context = defineAll (atSignals d) (x .definitions) in
       let ports : c .ports ≡ inOrder d = defined-ports (x .definitions) (atSignals d) in

@@ -65,7 +65,8 @@ set-as P f m (Unsized p) h = refused (m (Unsized p) (apart ABus ASet refl) h)
 set-as P f m (Choice w) h = refused (m (Choice w) (apart AValue ASet refl) h)
 
 -- a bus before its turn is refused by 13
-pub bus-as : {R : Refusals} {Q : Sized → Type 0} (P : Value → Type 0) → ((p : ℕ) (x : List ℕ) (n : ℕ) → P (Bus p x n) → Q (record { place = p; name = x; width = n })) → ((p : ℕ) → P (Unsized p) → R 13 p) → ((v : Value) → ¬ IsOf ABus v → P v → R 9 0) → (v : Value) → P v → Answers R Q (bus v)
+pub bus-as : {R : Refusals} {Q : Sized → Type 0} (P : Value → Type 0) → ((p : ℕ) (x : List ℕ) (n : ℕ) → P (Bus p x n) → Q (record { place = p; name = x; width = n }))
+    → ((p : ℕ) → P (Unsized p) → R 13 p) → ((v : Value) → ¬ IsOf ABus v → P v → R 9 0) → (v : Value) → P v → Answers R Q (bus v)
 bus-as P f g m (Number n) h = refused (m (Number n) (apart ANumber ABus refl) h)
 bus-as P f g m (Set s) h = refused (m (Set s) (apart ASet ABus refl) h)
 bus-as P f g m Logic h = refused (m Logic (apart AFormula ABus refl) h)
@@ -73,7 +74,8 @@ bus-as P f g m (Bus p x n) h = done (f p x n h)
 bus-as P f g m (Unsized p) h = refused (g p h)
 bus-as P f g m (Choice w) h = refused (m (Choice w) (apart AValue ABus refl) h)
 
-pub choice-as : {R : Refusals} {Q : List Token → Type 0} (P : Value → Type 0) → ((w : List Token) → P (Choice w) → Q w) → ((v : Value) → ¬ IsOf AValue v → P v → R 9 0) → (v : Value) → P v → Answers R Q (choice v)
+pub choice-as : {R : Refusals} {Q : List Token → Type 0} (P : Value → Type 0) → ((w : List Token) → P (Choice w) → Q w) → ((v : Value) → ¬ IsOf AValue v → P v → R 9 0) → (v : Value) → P v
+    → Answers R Q (choice v)
 choice-as P f m (Number n) h = refused (m (Number n) (apart ANumber AValue refl) h)
 choice-as P f m (Set s) h = refused (m (Set s) (apart ASet AValue refl) h)
 choice-as P f m Logic h = refused (m Logic (apart AFormula AValue refl) h)

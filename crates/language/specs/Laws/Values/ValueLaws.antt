@@ -10,10 +10,57 @@ use native.Mathlib.Omega.{arith}
 use native.Mathlib.Nat.{le-trans}
 use Rattle.node.specs.Result.{Result, Done, _>>=_}
 use Rattle.language.specs.Limits.{maxNumber, maxElements, maxWidth}
-use Rattle.language.specs.Operators.{Arithmetic, Plus, Times, Measure, Size, Min, Max, Cap, Big, BigSum, BigProduct, BigCap, BigCup, BigAnd, BigOr, Calculates, Combines, Compares, Membership, Connects, Measures, WidthOf, Applies}
+use Rattle.language.specs.Operators.{
+  Arithmetic,
+  Plus,
+  Times,
+  Measure,
+  Size,
+  Min,
+  Max,
+  Cap,
+  Big,
+  BigSum,
+  BigProduct,
+  BigCap,
+  BigCup,
+  BigAnd,
+  BigOr,
+  Calculates,
+  Combines,
+  Compares,
+  Membership,
+  Connects,
+  Measures,
+  WidthOf,
+  Applies,
+}
 use Rattle.language.specs.Tree.{Expr, Named, Numeral, Truth, Index, Paren, Prefixed, Joined, Nexts, InWindow, Each, Between, Listed, Empty, Element, Range}
 use Rattle.language.specs.Sets.{memberOf, union, combine}
-use Rattle.language.specs.Values.{Value, Number, Set, Logic, Bus, Unsized, Choice, number, set, bus, Sized, inRange, decimal, calculate, measure, limited, range, between, big, Scope, naming, value}
+use Rattle.language.specs.Values.{
+  Value,
+  Number,
+  Set,
+  Logic,
+  Bus,
+  Unsized,
+  Choice,
+  number,
+  set,
+  bus,
+  Sized,
+  inRange,
+  decimal,
+  calculate,
+  measure,
+  limited,
+  range,
+  between,
+  big,
+  Scope,
+  naming,
+  value,
+}
 use Rattle.language.specs.Laws.Basics.Lists.{All}
 use Rattle.language.specs.Laws.Basics.Tests.{so-leb}
 use Rattle.language.specs.Laws.Basics.Results.{done, refused, guarded, bind, weaken, folds, Within}

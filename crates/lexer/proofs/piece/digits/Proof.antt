@@ -15,8 +15,9 @@ over h n = omega arith
 
 returns : tie.Need-returns
 returns c =
-    let start = c .before .before .before in
-    let bytes = c .before .before .shared-slice-known in
+    let at-shared-slice-known = c .before .before in
+    let start = at-shared-slice-known .before in
+    let bytes = at-shared-slice-known .shared-slice-known in
     let if1 = c .before .if1 in
     unmarked-at _ _ _ _ (start .pre .0) (λ i. omega (arith, bytes .given i)) _ (start .pre .1) _ (if1 .taken) (c .if2 .taken)
 
@@ -25,9 +26,11 @@ run-requires c κs = search needs
 
 returns-2 : tie.Need-returns-2
 returns-2 c =
-    let start = c .before .before .before .before in
-    let bytes = c .before .before .before .shared-slice-known in
-    let if1 = c .before .before .if1 in
+    let at-if1 = c .before .before in
+    let at-shared-slice-known = at-if1 .before in
+    let start = at-shared-slice-known .before in
+    let bytes = at-shared-slice-known .shared-slice-known in
+    let if1 = at-if1 .if1 in
     let if2 = c .before .if2 in
     marks-at _ _ _ _ (start .pre .0) (λ i. omega (arith, bytes .given i)) _ (start .pre .1) _ (if1 .taken) (start .pre .2) (below (start .pre .3) (if2 .left)) _ (c .run .ensures)
 
@@ -39,9 +42,11 @@ sign-requires c κs =
 
 returns-3 : tie.Need-returns-3
 returns-3 c =
-    let start = c .before .before .before .before in
-    let bytes = c .before .before .before .shared-slice-known in
-    let if1 = c .before .before .if1 in
+    let at-if1 = c .before .before in
+    let at-shared-slice-known = at-if1 .before in
+    let start = at-shared-slice-known .before in
+    let bytes = at-shared-slice-known .shared-slice-known in
+    let if1 = at-if1 .if1 in
     let if3 = c .before .if3 in
     star-at _ _ _ _ (start .pre .0) (λ i. omega (arith, bytes .given i)) _ (start .pre .1) _ (if1 .left) (if3 .taken) _ (c .sign .ensures)
 
@@ -50,9 +55,11 @@ run-requires-2 c κs = search needs
 
 returns-4 : tie.Need-returns-4
 returns-4 c =
-    let start = c .before .before .before .before in
-    let bytes = c .before .before .before .shared-slice-known in
-    let if1 = c .before .before .if1 in
+    let at-if1 = c .before .before in
+    let at-shared-slice-known = at-if1 .before in
+    let start = at-shared-slice-known .before in
+    let bytes = at-shared-slice-known .shared-slice-known in
+    let if1 = at-if1 .if1 in
     let if3 = c .before .if3 in
     numeral-at _ _ _ _ (start .pre .0) (λ i. omega (arith, bytes .given i)) _ (start .pre .1) _ (if1 .left) (over (start .pre .2) (if3 .left)) (start .pre .3) _ (c .run2 .ensures)
 

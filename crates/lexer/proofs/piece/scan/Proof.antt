@@ -13,24 +13,29 @@ class-requires c κs = search needs
 
 word-requires : tie.Need-word-requires
 word-requires c κs =
-    let start = c .before .before .before .before in
-    let bytes = c .before .before .before .shared-slice-known in
+    let at-shared-slice-known = c .before .before .before in
+    let start = at-shared-slice-known .before in
+    let bytes = at-shared-slice-known .shared-slice-known in
     let class = c .before .class in
     (start .pre, begins-name _ _ _ _ (start .pre) (λ i. omega (arith, bytes .given i)) _ (class .ensures) (c .if1 .taken))
 
 returns : tie.Need-returns
 returns c =
-    let start = c .before .before .before .before .before in
-    let bytes = c .before .before .before .before .shared-slice-known in
-    let class = c .before .before .class in
+    let at-class = c .before .before in
+    let at-shared-slice-known = at-class .before .before in
+    let start = at-shared-slice-known .before in
+    let bytes = at-shared-slice-known .shared-slice-known in
+    let class = at-class .class in
     let if1 = c .before .if1 in
     letter-at _ _ _ _ (start .pre) (λ i. omega (arith, bytes .given i)) _ (class .ensures) _ (if1 .taken) _ (c .word .ensures)
 
 returns-2 : tie.Need-returns-2
 returns-2 c =
-    let start = c .before .before .before .before .before in
-    let bytes = c .before .before .before .before .shared-slice-known in
-    let class = c .before .before .class in
+    let at-class = c .before .before in
+    let at-shared-slice-known = at-class .before .before in
+    let start = at-shared-slice-known .before in
+    let bytes = at-shared-slice-known .shared-slice-known in
+    let class = at-class .class in
     blank-at _ _ _ _ (start .pre) (λ i. omega (arith, bytes .given i)) _ (class .ensures) _ (c .if2 .taken)
 
 add-quoted-size : tie.Need-add-quoted-size
@@ -44,10 +49,13 @@ closed-requires c κs = search needs
 
 returns-3 : tie.Need-returns-3
 returns-3 c =
-    let start = c .before .before .before .before .before .before .before .before in
-    let bytes = c .before .before .before .before .before .before .before .shared-slice-known in
-    let class = c .before .before .before .before .before .class in
-    let if3 = c .before .before .if3 in
+    let at-if3 = c .before .before in
+    let at-class = at-if3 .before .before .before in
+    let at-shared-slice-known = at-class .before .before in
+    let start = at-shared-slice-known .before in
+    let bytes = at-shared-slice-known .shared-slice-known in
+    let class = at-class .class in
+    let if3 = at-if3 .if3 in
     let quoted-size = c .before .quoted-size in
     rw (c .closed .ensures) (quoted-at _ _ _ _ (start .pre) (λ i. omega (arith, bytes .given i)) _ (class .ensures) _ (if3 .taken) _ (quoted-size .ensures))
 
@@ -59,38 +67,52 @@ returns-4 c = c .slash .ensures _
 
 sign-requires : tie.Need-sign-requires
 sign-requires c κs =
-    let start = c .before .before .before .before .before .before .before .before in
-    let bytes = c .before .before .before .before .before .before .before .shared-slice-known in
-    let class = c .before .before .before .before .before .class in
-    let if1 = c .before .before .before .before .if1 in
+    let at-if1 = c .before .before .before .before in
+    let at-class = at-if1 .before in
+    let at-shared-slice-known = at-class .before .before in
+    let start = at-shared-slice-known .before in
+    let bytes = at-shared-slice-known .shared-slice-known in
+    let class = at-class .class in
+    let if1 = at-if1 .if1 in
     (start .pre, begins-none _ _ _ _ (start .pre) (λ i. omega (arith, bytes .given i)) _ (class .ensures) (if1 .left))
 
 returns-5 : tie.Need-returns-5
 returns-5 c =
-    let start = c .before .before .before .before .before .before .before .before .before in
-    let bytes = c .before .before .before .before .before .before .before .before .shared-slice-known in
-    let class = c .before .before .before .before .before .before .class in
+    let at-if4 = c .before .before in
+    let at-if3 = at-if4 .before in
+    let at-if2 = at-if3 .before in
+    let at-class = at-if2 .before .before in
+    let at-shared-slice-known = at-class .before .before in
+    let start = at-shared-slice-known .before in
+    let bytes = at-shared-slice-known .shared-slice-known in
+    let class = at-class .class in
     let if5 = c .before .if5 in
-    let if2 = c .before .before .before .before .if2 in
-    let if3 = c .before .before .before .if3 in
-    let if4 = c .before .before .if4 in
+    let if2 = at-if2 .if2 in
+    let if3 = at-if3 .if3 in
+    let if4 = at-if4 .if4 in
     low-at _ _ _ _ (start .pre) (λ i. omega (arith, bytes .given i)) _ (class .ensures) _ _ (c .sign .ensures) (if5 .taken) (if2 .left) (if3 .left) (if4 .left)
 
 sign-requires-2 : tie.Need-sign-requires-2
 sign-requires-2 c κs =
-    let start = c .before .before .before .before .before .before .before .before .before in
-    let bytes = c .before .before .before .before .before .before .before .before .shared-slice-known in
-    let class = c .before .before .before .before .before .before .class in
-    let if1 = c .before .before .before .before .before .if1 in
+    let at-if1 = c .before .before .before .before .before in
+    let at-class = at-if1 .before in
+    let at-shared-slice-known = at-class .before .before in
+    let start = at-shared-slice-known .before in
+    let bytes = at-shared-slice-known .shared-slice-known in
+    let class = at-class .class in
+    let if1 = at-if1 .if1 in
     (start .pre, begins-none _ _ _ _ (start .pre) (λ i. omega (arith, bytes .given i)) _ (class .ensures) (if1 .left))
 
 returns-6 : tie.Need-returns-6
 returns-6 c =
-    let start = c .before .before .before .before .before .before .before .before .before .before in
-    let bytes = c .before .before .before .before .before .before .before .before .before .shared-slice-known in
-    let class = c .before .before .before .before .before .before .before .class in
+    let at-if1 = c .before .before .before .before .before .before in
+    let at-class = at-if1 .before in
+    let at-shared-slice-known = at-class .before .before in
+    let start = at-shared-slice-known .before in
+    let bytes = at-shared-slice-known .shared-slice-known in
+    let class = at-class .class in
     let if6 = c .before .if6 in
-    let if1 = c .before .before .before .before .before .before .if1 in
+    let if1 = at-if1 .if1 in
     high-at _ _ _ _ (start .pre) (λ i. omega (arith, bytes .given i)) _ (class .ensures) _ _ (c .sign2 .ensures) (if6 .taken) (if1 .left)
 
 digits-requires : tie.Need-digits-requires

@@ -35,16 +35,20 @@ wide-requires c κs = search needs
 
 returns : tie.Need-returns
 returns c =
-    let start = c .before .before .before .before .before .before .before in
-    let bytes = c .before .before .before .before .before .before .shared-slice-known in
-    let find = c .before .before .before .find in
-    let if1 = c .before .before .if1 in
-    sign-at _ _ _ _ (start .pre .0) (λ i. omega (arith, bytes .given i)) (start .pre .1) _ (find .ensures) _ (if1 .taken) (c .wide .ensures ∙ start .pre .0 .rows .size _ (if1 .taken))
+    let at-if1 = c .before .before in
+    let at-find = at-if1 .before in
+    let at-shared-slice-known = at-find .before .before .before in
+    let start = at-shared-slice-known .before in
+    let bytes = at-shared-slice-known .shared-slice-known in
+    let find = at-find .find in
+    let if1 = at-if1 .if1 in
+    sign-at _ _ _ _ (start .pre .0) (λ i. omega (arith, bytes .given i)) (start .pre .1) _ (find .ensures) _ (if1 .taken) (c .wide .ensures .0 ∙ start .pre .0 .rows .size _ (if1 .taken))
 
 returns-2 : tie.Need-returns-2
 returns-2 c =
-    let start = c .before .before .before .before .before in
-    let bytes = c .before .before .before .before .shared-slice-known in
+    let at-shared-slice-known = c .before .before .before .before in
+    let start = at-shared-slice-known .before in
+    let bytes = at-shared-slice-known .shared-slice-known in
     let find = c .before .find in
     wrong-at _ _ _ _ (start .pre .0) (λ i. omega (arith, bytes .given i)) (start .pre .1) _ (find .ensures) (c .if1 .left)
 

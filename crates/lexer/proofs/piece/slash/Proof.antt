@@ -20,8 +20,9 @@ sign-requires c κs =
 
 returns : tie.Need-returns
 returns c =
-    let start = c .before .before .before in
-    let bytes = c .before .before .shared-slice-known in
+    let at-shared-slice-known = c .before .before in
+    let start = at-shared-slice-known .before in
+    let bytes = at-shared-slice-known .shared-slice-known in
     let if1 = c .before .if1 in
     λ e. slash-last _ _ _ _ (start .pre .0) (λ i. omega (arith, bytes .given i)) (start .pre .1) e _ (c .sign .ensures) (if1 .taken)
 
@@ -44,9 +45,11 @@ add-t13 c =
 
 returns-2 : tie.Need-returns-2
 returns-2 c =
-    let start = c .before .before .before .before .before in
-    let bytes = c .before .before .before .before .shared-slice-known in
-    let if1 = c .before .before .before .if1 in
+    let at-if1 = c .before .before .before in
+    let at-shared-slice-known = at-if1 .before in
+    let start = at-shared-slice-known .before in
+    let bytes = at-shared-slice-known .shared-slice-known in
+    let if1 = at-if1 .if1 in
     let if2 = c .before .if2 in
     λ e. line-at _ _ _ _ (start .pre .0) (λ i. omega (arith, bytes .given i)) (start .pre .1) e (if1 .left) (if2 .taken) _ (c .line-size .ensures)
 
@@ -61,25 +64,32 @@ closed-requires c κs = search needs
 
 returns-3 : tie.Need-returns-3
 returns-3 c =
-    let start = c .before .before .before .before .before .before .before in
-    let bytes = c .before .before .before .before .before .before .shared-slice-known in
-    let if1 = c .before .before .before .before .before .if1 in
-    let if3 = c .before .before .if3 in
+    let at-if3 = c .before .before in
+    let at-if1 = at-if3 .before .before .before in
+    let at-shared-slice-known = at-if1 .before in
+    let start = at-shared-slice-known .before in
+    let bytes = at-shared-slice-known .shared-slice-known in
+    let if1 = at-if1 .if1 in
+    let if3 = at-if3 .if3 in
     let comment-size = c .before .comment-size in
     λ e. rw (c .closed .ensures) (comment-at _ _ _ _ (start .pre .0) (λ i. omega (arith, bytes .given i)) (start .pre .1) e (if1 .left) (if3 .taken) _ (comment-size .ensures))
 
 sign-requires-2 : tie.Need-sign-requires-2
 sign-requires-2 c κs =
-    let start = c .before .before .before .before .before in
-    let bytes = c .before .before .before .before .shared-slice-known in
+    let at-shared-slice-known = c .before .before .before .before in
+    let start = at-shared-slice-known .before in
+    let bytes = at-shared-slice-known .shared-slice-known in
     (start .pre .0, begins-none _ _ _ _ (start .pre .0) (λ i. omega (arith, bytes .given i)) _ refl (λ e. let f = start .pre .1 in omega arith))
 
 returns-4 : tie.Need-returns-4
 returns-4 c =
-    let start = c .before .before .before .before .before .before in
-    let bytes = c .before .before .before .before .before .shared-slice-known in
-    let if1 = c .before .before .before .before .if1 in
-    let if2 = c .before .before .if2 in
+    let at-if2 = c .before .before in
+    let at-if1 = at-if2 .before .before in
+    let at-shared-slice-known = at-if1 .before in
+    let start = at-shared-slice-known .before in
+    let bytes = at-shared-slice-known .shared-slice-known in
+    let if1 = at-if1 .if1 in
+    let if2 = at-if2 .if2 in
     let if3 = c .before .if3 in
     λ e. slash-at _ _ _ _ (start .pre .0) (λ i. omega (arith, bytes .given i)) (start .pre .1) e _ (c .sign2 .ensures) (if1 .left) (if2 .left) (if3 .left)
 

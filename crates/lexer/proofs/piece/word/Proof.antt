@@ -10,8 +10,9 @@ run-requires c κs = search needs
 
 returns : tie.Need-returns
 returns c =
-    let start = c .before .before .before in
-    let bytes = c .before .before .shared-slice-known in
+    let at-shared-slice-known = c .before .before in
+    let start = at-shared-slice-known .before in
+    let bytes = at-shared-slice-known .shared-slice-known in
     let run = c .before .run in
     long-at _ _ _ _ (start .pre .0) (λ i. omega (arith, bytes .given i)) (start .pre .1) _ (run .ensures) (c .if1 .taken)
 
@@ -23,8 +24,9 @@ first-row-requires c κs = search needs
 
 find-requires : tie.Need-find-requires
 find-requires c κs =
-    let start = c .before .before .before .before .before in
-    let bytes = c .before .before .before .before .shared-slice-known in
+    let at-shared-slice-known = c .before .before .before .before in
+    let start = at-shared-slice-known .before in
+    let bytes = at-shared-slice-known .shared-slice-known in
     findable _ _ _ _ (start .pre .0) (λ i. omega (arith, bytes .given i)) _ (c .first-row .ensures)
 
 cast-t11 : tie.Need-cast-t11
@@ -35,19 +37,25 @@ add-t12 c = search needs
 
 returns-2 : tie.Need-returns-2
 returns-2 c =
-    let start = c .before .before .before .before .before .before .before in
-    let bytes = c .before .before .before .before .before .before .shared-slice-known in
-    let run = c .before .before .before .before .before .run in
-    let if1 = c .before .before .before .before .if1 in
+    let at-if1 = c .before .before .before .before in
+    let at-run = at-if1 .before in
+    let at-shared-slice-known = at-run .before in
+    let start = at-shared-slice-known .before in
+    let bytes = at-shared-slice-known .shared-slice-known in
+    let run = at-run .run in
+    let if1 = at-if1 .if1 in
     let find = c .before .find in
     fixed-at _ _ _ _ (start .pre .0) (λ i. omega (arith, bytes .given i)) (start .pre .1) _ (run .ensures) (if1 .left) _ (find .ensures) (c .if2 .taken)
 
 returns-3 : tie.Need-returns-3
 returns-3 c =
-    let start = c .before .before .before .before .before .before .before in
-    let bytes = c .before .before .before .before .before .before .shared-slice-known in
-    let run = c .before .before .before .before .before .run in
-    let if1 = c .before .before .before .before .if1 in
+    let at-if1 = c .before .before .before .before in
+    let at-run = at-if1 .before in
+    let at-shared-slice-known = at-run .before in
+    let start = at-shared-slice-known .before in
+    let bytes = at-shared-slice-known .shared-slice-known in
+    let run = at-run .run in
+    let if1 = at-if1 .if1 in
     let find = c .before .find in
     name-at _ _ _ _ (start .pre .0) (λ i. omega (arith, bytes .given i)) (start .pre .1) _ (run .ensures) (if1 .left) _ (find .ensures) (c .if2 .left)
 

@@ -25,9 +25,11 @@ fits-requires c κs =
 
 returns : tie.Need-returns Inv-loop μ-loop
 returns c =
-    let start = c .before .before .before .before .before in
-    let loop = c .before .before .before .loop in
-    let loop-test = c .before .before .loop-test in
+    let at-loop-test = c .before .before in
+    let at-loop = at-loop-test .before in
+    let start = at-loop .before .before in
+    let loop = at-loop .loop in
+    let loop-test = at-loop-test .loop-test in
     let fits2 = c .before .fits2 in
     finding-stop _ _ _ (start .pre .inside) _ (loop .inv) (loop-test .taken) _ (c .if1 .taken) (fits2 .ensures)
 
@@ -51,20 +53,26 @@ wide-requires c κs = search needs
 
 loop-less : tie.Need-loop-less Inv-loop μ-loop
 loop-less c =
-    let start = c .before .before .before .before .before .before .before in
-    let loop-test = c .before .before .before .before .loop-test in
-    let loop = c .before .before .before .before .before .loop in
-    let n = start .pre .rows .next _ _ (loop-test .taken) (loop .inv .begun (loop-test .taken)) in omega (arith, n .onward, n .fits, c .wide .ensures)
+    let at-loop-test = c .before .before .before .before in
+    let at-loop = at-loop-test .before in
+    let start = at-loop .before .before in
+    let loop-test = at-loop-test .loop-test in
+    let loop = at-loop .loop in
+    let n = start .pre .rows .next _ _ (loop-test .taken) (loop .inv .begun (loop-test .taken)) in omega (arith, n .onward, n .fits, c .wide .ensures .0)
 
 loop-again : tie.Need-loop-again Inv-loop μ-loop
 loop-again c =
-    let start = c .before .before .before .before .before .before .before in
-    let loop = c .before .before .before .before .before .loop in
-    let loop-test = c .before .before .before .before .loop-test in
-    let if1 = c .before .before .if1 in
-    let fits2 = c .before .before .before .fits2 in
+    let at-if1 = c .before .before in
+    let at-fits2 = at-if1 .before in
+    let at-loop-test = at-fits2 .before in
+    let at-loop = at-loop-test .before in
+    let start = at-loop .before .before in
+    let loop = at-loop .loop in
+    let loop-test = at-loop-test .loop-test in
+    let if1 = at-if1 .if1 in
+    let fits2 = at-fits2 .fits2 in
     finding-on _ _ _ (start .pre .inside) _ (loop .inv) _ (loop-test .taken) _ (if1 .left) (fits2 .ensures)
-    (subst (NextWith _ _) (sym (c .wide .ensures)) (start .pre .rows .next _ _ (loop-test .taken) (loop .inv .begun (loop-test .taken))))
+    (subst (NextWith _ _) (sym (c .wide .ensures .0)) (start .pre .rows .next _ _ (loop-test .taken) (loop .inv .begun (loop-test .taken))))
 
 returns-2 : tie.Need-returns-2 Inv-loop μ-loop
 returns-2 c =

@@ -21,8 +21,9 @@ shared-slice-read-nested c = omega arith
 
 nested-requires : tie.Need-nested-requires Inv-loop μ-loop
 nested-requires c κs =
-    let loop = c .before .before .loop in
-    let start = c .before .before .before .before in
+    let at-loop = c .before .before in
+    let start = at-loop .before .before in
+    let loop = at-loop .loop in
     let q = loop .inv in let p = start .pre .1 in (q .some, omega (arith, q .few))
 
 add-i : tie.Need-add-i Inv-loop μ-loop
@@ -38,8 +39,10 @@ add-result c = omega arith
 
 returns : tie.Need-returns Inv-loop μ-loop
 returns c =
-    let loop = c .before .before .before .before .loop in
-    let loop-test = c .before .before .before .loop-test in
+    let at-loop-test = c .before .before .before in
+    let at-loop = at-loop-test .before in
+    let loop = at-loop .loop in
+    let loop-test = at-loop-test .loop-test in
     let nested = c .before .nested in
     commenting-stop _ _ _ _ _ (loop .inv) (loop-test .taken) _ (nested .ensures) (c .if1 .taken)
 
@@ -48,8 +51,10 @@ loop-less c = omega arith
 
 loop-again : tie.Need-loop-again Inv-loop μ-loop
 loop-again c =
-    let loop = c .before .before .before .before .loop in
-    let loop-test = c .before .before .before .loop-test in
+    let at-loop-test = c .before .before .before in
+    let at-loop = at-loop-test .before in
+    let loop = at-loop .loop in
+    let loop-test = at-loop-test .loop-test in
     let nested = c .before .nested in
     commenting-on _ _ _ _ _ (loop .inv) (loop-test .taken) _ (nested .ensures) (c .if1 .left)
 

@@ -28,9 +28,11 @@ sub-result c =
 
 returns : tie.Need-returns Inv-loop μ-loop
 returns c =
-    let loop = c .before .before .before .loop in
-    let loop-test = c .before .before .loop-test in
-    let start = c .before .before .before .before in
+    let at-loop-test = c .before .before in
+    let at-loop = at-loop-test .before in
+    let start = at-loop .before in
+    let loop = at-loop .loop in
+    let loop-test = at-loop-test .loop-test in
     running-stop _ _ _ _ (loop .inv) (loop-test .taken) (ap not (eq-eqb _ _ (c .if1 .taken))) ∙ line-run (drop (start .args .at) (start .args .text .now))
 
 add-i : tie.Need-add-i Inv-loop μ-loop

@@ -30,9 +30,11 @@ add-result c = omega arith
 
 returns : tie.Need-returns Inv-loop μ-loop
 returns c =
-    let loop = c .before .before .before .loop in
-    let start = c .before .before .before .before in
-    let loop-test = c .before .before .loop-test in
+    let at-loop-test = c .before .before in
+    let at-loop = at-loop-test .before in
+    let start = at-loop .before in
+    let loop = at-loop .loop in
+    let loop-test = at-loop-test .loop-test in
     let onward = loop .inv .onward in
     omega (arith, loop .inv .same, quoted-stop (start .args .text .now) (loop .i) (loop-test .taken) (loop .i - start .args .from + 1) (eq-eqb _ _ (c .if1 .taken)))
 

@@ -30,9 +30,11 @@ sub-result c =
 
 returns : tie.Need-returns Inv-loop μ-loop
 returns c =
-    let loop = c .before .before .before .before .loop in
-    let loop-test = c .before .before .before .loop-test in
-    let start = c .before .before .before .before .before .before in
+    let at-loop-test = c .before .before .before in
+    let at-loop = at-loop-test .before in
+    let start = at-loop .before .before in
+    let loop = at-loop .loop in
+    let loop-test = at-loop-test .loop-test in
     let class = c .before .class in
     running-stop _ _ _ _ (loop .inv) (loop-test .taken) (class-below _ _ (start .args .high) _ _ (class .ensures) (c .if1 .taken))
 
@@ -43,9 +45,12 @@ sub-result-2 c =
 
 returns-2 : tie.Need-returns-2 Inv-loop μ-loop
 returns-2 c =
-    let loop = c .before .before .before .before .before .loop in
-    let loop-test = c .before .before .before .before .loop-test in
-    let class = c .before .before .class in
+    let at-class = c .before .before in
+    let at-loop-test = at-class .before .before in
+    let at-loop = at-loop-test .before in
+    let loop = at-loop .loop in
+    let loop-test = at-loop-test .loop-test in
+    let class = at-class .class in
     let if1 = c .before .if1 in
     running-stop _ _ _ _ (loop .inv) (loop-test .taken) (class-above _ _ _ _ _ (class .ensures) (if1 .left) (c .if2 .taken))
 
@@ -57,9 +62,12 @@ loop-less c = omega arith
 
 loop-again : tie.Need-loop-again Inv-loop μ-loop
 loop-again c =
-    let loop = c .before .before .before .before .before .loop in
-    let loop-test = c .before .before .before .before .loop-test in
-    let class = c .before .before .class in
+    let at-class = c .before .before in
+    let at-loop-test = at-class .before .before in
+    let at-loop = at-loop-test .before in
+    let loop = at-loop .loop in
+    let loop-test = at-loop-test .loop-test in
+    let class = at-class .class in
     let if1 = c .before .if1 in
     running-on _ _ _ _ (loop .inv) (loop-test .taken) (class-within _ _ _ _ _ (class .ensures) (if1 .left) (c .if2 .left))
 

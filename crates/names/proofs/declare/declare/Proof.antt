@@ -25,14 +25,22 @@ sub-k c = search needs
 
 declare-one-requires : tie.Need-declare-one-requires Inv-loop μ-loop
 declare-one-requires c κs =
-    ((c .before .before .before .before .before .before) .pre .0, omega arith, (c .before .before .before .before .before .before) .pre .1, let e = (c .before .before .loop) .inv .1 in let r = (c .before .before .before .before .before .before) .pre .2 in omega arith)
+    let at-loop = c .before .before in
+    let start = at-loop .before .before .before .before in
+    (start .pre .0, omega arith, start .pre .1, let e = (at-loop .loop) .inv .1 in let r = start .pre .2 in omega arith)
 
 loop-less : tie.Need-loop-less Inv-loop μ-loop
 loop-less c = search needs
 
 loop-again : tie.Need-loop-again Inv-loop μ-loop
 loop-again c =
-    (omega arith, (c .before .before .declare-one) .kept .1 .1 .1 .1 .1 .1 .0 ∙ (c .before .before .before .before .before .loop) .inv .1, λ h s. (c .before .before .declare-one) .ensures h (met-at ((c .before .before .before .before .before .loop) .inv .2 h s) (omega arith)))
+    let at-declare-one = c .before .before in
+    let at-loop = at-declare-one .before .before .before in (
+      omega arith,
+      (at-declare-one .declare-one) .kept .1 .1 .1 .1 .1 .1 .0 ∙ (at-loop .loop) .inv .1,
+      λ h s. (at-declare-one .declare-one) .ensures h
+          (met-at ((at-loop .loop) .inv .2 h s) (omega arith)),
+    )
 
 same-length : tie.Need-same-length Inv-loop μ-loop
 same-length c = search needs

@@ -17,7 +17,9 @@ declares-requires c κs = search needs
 
 returns : tie.Need-returns
 returns c =
-    λ h m. met-other h _ ((c .before .before .before .before .before .before) .pre .2) _ ((c .before .before .before .before .before .before) .pre .1) ((c .before .before .kind-at) .ensures) m (sym ((c .before .declares) .ensures) ∙ not-true _ ((c .if1) .taken))
+    let at-kind-at = c .before .before in
+    let start = at-kind-at .before .before .before .before in
+    λ h m. met-other h _ (start .pre .2) _ (start .pre .1) ((at-kind-at .kind-at) .ensures) m (sym ((c .before .declares) .ensures) ∙ not-true _ ((c .if1) .taken))
 
 token-at-requires : tie.Need-token-at-requires
 token-at-requires c κs = search needs
@@ -39,9 +41,11 @@ mul-word c = search needs
 
 slice-read-word : tie.Need-slice-read-word
 slice-read-word c =
-    let start = c .before .before .before .before .before .before .before .before .before .before .before in
-    let kind-at = c .before .before .before .before .before .before .before .kind-at in
-    let declares = c .before .before .before .before .before .before .declares in
+    let at-declares = c .before .before .before .before .before .before in
+    let at-kind-at = at-declares .before in
+    let start = at-kind-at .before .before .before .before in
+    let kind-at = at-kind-at .kind-at in
+    let declares = at-declares .declares in
     let f = inside-top _ _ (start .pre .3) ((c .before .wide) .ensures .0) in omega arith
 
 word-requires : tie.Need-word-requires
@@ -58,12 +62,17 @@ mul-table c = search needs
 
 slice-write-table : tie.Need-slice-write-table
 slice-write-table c =
-    let start = c .before .before .before .before .before .before .before .before .before .before .before .before .before in
-    let kind-at = c .before .before .before .before .before .before .before .before .before .kind-at in
-    let declares = c .before .before .before .before .before .before .before .before .declares in
-    let if1 = c .before .before .before .before .before .before .before .if1 in
-    let token-at = c .before .before .before .before .before .before .token-at in
-    let f = inside-top _ _ (start .pre .3) ((c .before .before .before .wide) .ensures .0) in omega arith
+    let at-wide = c .before .before .before in
+    let at-token-at = at-wide .before .before .before in
+    let at-if1 = at-token-at .before in
+    let at-declares = at-if1 .before in
+    let at-kind-at = at-declares .before in
+    let start = at-kind-at .before .before .before .before in
+    let kind-at = at-kind-at .kind-at in
+    let declares = at-declares .declares in
+    let if1 = at-if1 .if1 in
+    let token-at = at-token-at .token-at in
+    let f = inside-top _ _ (start .pre .3) ((at-wide .wide) .ensures .0) in omega arith
 
 larger-requires : tie.Need-larger-requires
 larger-requires c κs = search needs
@@ -76,13 +85,22 @@ same-length c = search needs
 
 returns-2 : tie.Need-returns-2
 returns-2 c =
-    let start = c .before .before .before .before .before .before .before .before .before .before .before .before .before .before .before in
-    let kind-at = c .before .before .before .before .before .before .before .before .before .before .before .kind-at in
-    let declares = c .before .before .before .before .before .before .before .before .before .before .declares in
-    let if1 = c .before .before .before .before .before .before .before .before .before .if1 in
-    let token-at = c .before .before .before .before .before .before .before .before .token-at in
-    let place-at = c .before .before .before .before .before .before .before .place-at in
-    λ h m. met-more h _ (start .pre .2) _ (start .pre .1) (kind-at .ensures) m (sym (declares .ensures) ∙ not-false _ (if1 .left)) (token-at .ensures) (place-at .ensures) ((c .before .before .before .before .before .wide) .ensures .0) ((c .before .before .before .word) .ensures .0) ((c .before .before .smaller) .ensures) ((c .smaller2) .ensures ∙ ap (min _) ((c .before .larger) .ensures))
+    let at-smaller = c .before .before in
+    let at-word = at-smaller .before in
+    let at-wide = at-word .before .before in
+    let at-place-at = at-wide .before .before in
+    let at-token-at = at-place-at .before in
+    let at-if1 = at-token-at .before in
+    let at-declares = at-if1 .before in
+    let at-kind-at = at-declares .before in
+    let start = at-kind-at .before .before .before .before in
+    let kind-at = at-kind-at .kind-at in
+    let declares = at-declares .declares in
+    let if1 = at-if1 .if1 in
+    let token-at = at-token-at .token-at in
+    let place-at = at-place-at .place-at in
+    λ h m. met-more h _ (start .pre .2) _ (start .pre .1) (kind-at .ensures) m (sym (declares .ensures) ∙ not-false _ (if1 .left)) (token-at .ensures) (place-at .ensures)
+    ((at-wide .wide) .ensures .0) ((at-word .word) .ensures .0) ((at-smaller .smaller) .ensures) ((c .smaller2) .ensures ∙ ap (min _) ((c .before .larger) .ensures))
 
 pub declare-one-spec : {M : Type 1} → statement M
 declare-one-spec =

@@ -12,7 +12,8 @@ use Rattle.names.proofs.numbering.number_declared.Tie as tie
 
 abbrev Inv-loop : tie.InvT-loop
 Inv-loop work ids entries table₀ declared₀ tally₀ k₀ table declared tally k =
-    (k ≤ entries) × (length table ≡ length table₀) × (length declared ≡ length declared₀) × (tally .count ≤ k) × ((h : Walkable work ids entries) → Table h table₀ (λ t. noPlace) → Numbered h k table declared (tally .count) (tally .place))
+    (k ≤ entries) × (length table ≡ length table₀) × (length declared ≡ length declared₀) × (tally .count ≤ k) ×
+    ((h : Walkable work ids entries) → Table h table₀ (λ t. noPlace) → Numbered h k table declared (tally .count) (tally .place))
 
 abbrev μ-loop : tie.MeasureT-loop
 μ-loop work ids entries table₀ declared₀ tally₀ k₀ table declared tally k = entries - k
@@ -22,8 +23,10 @@ loop-holds c = (omega arith, refl, refl, omega arith, λ h s. numbered-none h 0 
 
 number-one-requires : tie.Need-number-one-requires Inv-loop μ-loop
 number-one-requires c κs =
-    let start = c .before .before .before .before .before .before .before .before in
-    let n = (c .before .before .before .loop) .inv in (start .pre .0, (c .before .before .loop-test) .taken, n .3, let e = n .1 in let r = start .pre .1 in omega arith, let e = n .2 in let r = start .pre .2 in omega arith)
+    let at-loop-test = c .before .before in
+    let at-loop = at-loop-test .before in
+    let start = at-loop .before .before .before .before .before in
+    let n = (at-loop .loop) .inv in (start .pre .0, (at-loop-test .loop-test) .taken, n .3, let e = n .1 in let r = start .pre .1 in omega arith, let e = n .2 in let r = start .pre .2 in omega arith)
 
 add-k : tie.Need-add-k Inv-loop μ-loop
 add-k c = search needs
@@ -33,8 +36,16 @@ loop-less c = search needs
 
 loop-again : tie.Need-loop-again Inv-loop μ-loop
 loop-again c =
-    let loop = c .before .before .before .before .before .before .before .before .loop in
-    let n = loop .inv in (omega arith, (c .before .before .before .before .number-one) .kept .1 .1 .1 .1 .1 .0 ∙ n .1, (c .before .before .before .before .number-one) .kept .1 .1 .1 .1 .1 .1 .0 ∙ n .2, (c .before .before .before .before .number-one) .ensures .1, λ h s. (c .before .before .before .before .number-one) .ensures .0 h (n .4 h s))
+    let at-number-one = c .before .before .before .before in
+    let at-loop = at-number-one .before .before .before .before in
+    let loop = at-loop .loop in
+    let n = loop .inv in (
+      omega arith,
+      (at-number-one .number-one) .kept .1 .1 .1 .1 .1 .0 ∙ n .1,
+      (at-number-one .number-one) .kept .1 .1 .1 .1 .1 .1 .0 ∙ n .2,
+      (at-number-one .number-one) .ensures .1,
+      λ h s. (at-number-one .number-one) .ensures .0 h (n .4 h s),
+    )
 
 same-length : tie.Need-same-length Inv-loop μ-loop
 same-length c = search needs

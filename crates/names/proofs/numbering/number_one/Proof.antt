@@ -16,7 +16,9 @@ declares-requires c κs = search needs
 
 returns : tie.Need-returns
 returns c =
-    (λ h n. numbered-other h _ ((c .before .before .before .before .before .before .before) .pre .1) ((c .before .before .kind-at) .ensures) n (sym ((c .before .declares) .ensures) ∙ not-true _ ((c .if1) .taken)), omega arith)
+    let at-kind-at = c .before .before in
+    let start = at-kind-at .before .before .before .before .before in
+    (λ h n. numbered-other h _ (start .pre .1) ((at-kind-at .kind-at) .ensures) n (sym ((c .before .declares) .ensures) ∙ not-true _ ((c .if1) .taken)), omega arith)
 
 token-at-requires : tie.Need-token-at-requires
 token-at-requires c κs = search needs
@@ -67,9 +69,16 @@ same-length-2 c = search needs
 
 returns-2 : tie.Need-returns-2
 returns-2 c =
-    let start = c .before .before .before .before .before .before .before .before .before .before .before in
-    let kind-at = c .before .before .before .before .before .before .kind-at in
-    (λ h n. numbered-name h _ (start .pre .1) (kind-at .ensures) (sym ((c .before .before .before .before .before .declares) .ensures) ∙ not-false _ ((c .before .before .before .before .if1) .left)) n ((c .before .before .before .token-at) .ensures) ((c .before .wide) .ensures .0) ((c .if2) .taken) (start .pre .4), omega arith)
+    let at-token-at = c .before .before .before in
+    let at-if1 = at-token-at .before in
+    let at-declares = at-if1 .before in
+    let at-kind-at = at-declares .before in
+    let start = at-kind-at .before .before .before .before .before in
+    let kind-at = at-kind-at .kind-at in (
+      λ h n. numbered-name h _ (start .pre .1) (kind-at .ensures) (sym ((at-declares .declares) .ensures) ∙ not-false _ ((at-if1 .if1) .left)) n ((at-token-at .token-at) .ensures)
+          ((c .before .wide) .ensures .0) ((c .if2) .taken) (start .pre .4),
+      omega arith,
+    )
 
 add-t22 : tie.Need-add-t22
 add-t22 c = search needs
@@ -82,10 +91,18 @@ same-length-3 c = search needs
 
 returns-3 : tie.Need-returns-3
 returns-3 c =
-    let start = c .before .before .before .before .before .before .before .before .before .before .before .before .before in
-    let kind-at = c .before .before .before .before .before .before .before .before .kind-at in
-    let declares = c .before .before .before .before .before .before .before .declares in
-    (λ h n. numbered-first h _ (start .pre .1) (kind-at .ensures) (sym (declares .ensures) ∙ not-false _ ((c .before .before .before .before .before .before .if1) .left)) n ((c .before .before .before .before .before .token-at) .ensures) ((c .before .before .before .wide) .ensures .0) ((c .before .if3) .taken) ((c .place-at) .ensures), omega arith)
+    let at-wide = c .before .before .before in
+    let at-token-at = at-wide .before .before in
+    let at-if1 = at-token-at .before in
+    let at-declares = at-if1 .before in
+    let at-kind-at = at-declares .before in
+    let start = at-kind-at .before .before .before .before .before in
+    let kind-at = at-kind-at .kind-at in
+    let declares = at-declares .declares in (
+      λ h n. numbered-first h _ (start .pre .1) (kind-at .ensures) (sym (declares .ensures) ∙ not-false _ ((at-if1 .if1) .left)) n ((at-token-at .token-at) .ensures) ((at-wide .wide) .ensures .0)
+          ((c .before .if3) .taken) ((c .place-at) .ensures),
+      omega arith,
+    )
 
 add-t15 : tie.Need-add-t15
 add-t15 c = search needs
@@ -95,10 +112,18 @@ same-length-4 c = search needs
 
 returns-4 : tie.Need-returns-4
 returns-4 c =
-    let start = c .before .before .before .before .before .before .before .before .before .before .before .before in
-    let kind-at = c .before .before .before .before .before .before .before .kind-at in
-    let declares = c .before .before .before .before .before .before .declares in
-    (λ h n. numbered-behind h _ (start .pre .1) (kind-at .ensures) (sym (declares .ensures) ∙ not-false _ ((c .before .before .before .before .before .if1) .left)) n ((c .before .before .before .before .token-at) .ensures) ((c .before .before .wide) .ensures .0) (omega arith), omega arith)
+    let at-wide = c .before .before in
+    let at-token-at = at-wide .before .before in
+    let at-if1 = at-token-at .before in
+    let at-declares = at-if1 .before in
+    let at-kind-at = at-declares .before in
+    let start = at-kind-at .before .before .before .before .before in
+    let kind-at = at-kind-at .kind-at in
+    let declares = at-declares .declares in (
+      λ h n. numbered-behind h _ (start .pre .1) (kind-at .ensures) (sym (declares .ensures) ∙ not-false _ ((at-if1 .if1) .left)) n ((at-token-at .token-at) .ensures) ((at-wide .wide) .ensures .0)
+          (omega arith),
+      omega arith,
+    )
 
 pub number-one-spec : {M : Type 1} → statement M
 number-one-spec =

@@ -58,9 +58,11 @@ mul-stack-2 c = search needs
 
 slice-read-stack : tie.Need-slice-read-stack
 slice-read-stack c =
-    let start = c .before .before .before .before .before .before .before .before .before .before .before .before .before in
-    let token-at = c .before .before .before .before .before .before .token-at in
-    let f = inside-top _ _ (start .pre .0 .walking .shown .room) ((c .before .before .before .wide) .ensures .0) in omega arith
+    let at-wide = c .before .before .before in
+    let at-token-at = at-wide .before .before .before in
+    let start = at-token-at .before .before .before .before .before .before .before in
+    let token-at = at-token-at .token-at in
+    let f = inside-top _ _ (start .pre .0 .walking .shown .room) ((at-wide .wide) .ensures .0) in omega arith
 
 add-stack : tie.Need-add-stack
 add-stack c = search needs
@@ -78,9 +80,11 @@ mul-stack-4 c = search needs
 
 slice-read-stack-2 : tie.Need-slice-read-stack-2
 slice-read-stack-2 c =
-    let start = c .before .before .before .before .before .before .before .before .before .before .before .before .before .before in
-    let token-at = c .before .before .before .before .before .before .before .token-at in
-    let f = inside-top _ _ (start .pre .0 .walking .points .room) ((c .before .before .before .before .wide) .ensures .0) in omega arith
+    let at-wide = c .before .before .before .before in
+    let at-token-at = at-wide .before .before .before in
+    let start = at-token-at .before .before .before .before .before .before .before in
+    let token-at = at-token-at .token-at in
+    let f = inside-top _ _ (start .pre .0 .walking .points .room) ((at-wide .wide) .ensures .0) in omega arith
 
 add-stack-2 : tie.Need-add-stack-2
 add-stack-2 c = search needs
@@ -104,18 +108,22 @@ mul-seen c = search needs
 
 slice-write-seen : tie.Need-slice-write-seen
 slice-write-seen c =
-    let start = c .before .before .before .before .before .before .before .before .before .before .before .before .before .before .before in
-    let token-at = c .before .before .before .before .before .before .before .before .token-at in
-    let f = inside-top _ _ (start .pre .0 .walking .shown .room) ((c .before .before .before .before .before .wide) .ensures .0) in omega arith
+    let at-wide = c .before .before .before .before .before in
+    let at-token-at = at-wide .before .before .before in
+    let start = at-token-at .before .before .before .before .before .before .before in
+    let token-at = at-token-at .token-at in
+    let f = inside-top _ _ (start .pre .0 .walking .shown .room) ((at-wide .wide) .ensures .0) in omega arith
 
 mul-table : tie.Need-mul-table
 mul-table c = search needs
 
 slice-write-table : tie.Need-slice-write-table
 slice-write-table c =
-    let start = c .before .before .before .before .before .before .before .before .before .before .before .before .before .before .before in
-    let token-at = c .before .before .before .before .before .before .before .before .token-at in
-    let f = inside-top _ _ (start .pre .0 .walking .points .room) ((c .before .before .before .before .before .wide) .ensures .0) in omega arith
+    let at-wide = c .before .before .before .before .before in
+    let at-token-at = at-wide .before .before .before in
+    let start = at-token-at .before .before .before .before .before .before .before in
+    let token-at = at-token-at .token-at in
+    let f = inside-top _ _ (start .pre .0 .walking .points .room) ((at-wide .wide) .ensures .0) in omega arith
 
 mul-refs : tie.Need-mul-refs
 mul-refs c = search needs
@@ -146,11 +154,18 @@ same-length-4 c = search needs
 
 returns : tie.Need-returns
 returns c =
-    let start = c .before .before .before .before .before .before .before .before .before .before .before .before .before .before .before .before .before in
-    let token-at = c .before .before .before .before .before .before .before .before .before .before .token-at in
-    let place-at = c .before .before .before .before .before .before .before .before .before .place-at in
-    let wide = c .before .before .before .before .before .before .before .wide in
-    λ h d s. walk-bind h d _ (start .pre .0 .inside) refl s (start .pre .1) (token-at .ensures) (place-at .ensures) (wide .ensures .0) refl refl ((c .before .before .smaller) .ensures ∙ ap (λ v. min v (place-at .result)) ((c .before .before .before .before .before .word) .ensures .0)) refl ((c .smaller2) .ensures ∙ ap (min _) ((c .before .larger) .ensures ∙ ap (λ v. max v (place-at .result)) ((c .before .before .before .before .before .word) .ensures .0)))
+    let at-smaller = c .before .before in
+    let at-word = at-smaller .before .before .before in
+    let at-wide = at-word .before .before in
+    let at-place-at = at-wide .before .before in
+    let at-token-at = at-place-at .before in
+    let start = at-token-at .before .before .before .before .before .before .before in
+    let token-at = at-token-at .token-at in
+    let place-at = at-place-at .place-at in
+    let wide = at-wide .wide in
+    λ h d s. walk-bind h d _ (start .pre .0 .inside) refl s (start .pre .1) (token-at .ensures) (place-at .ensures) (wide .ensures .0) refl refl
+    ((at-smaller .smaller) .ensures ∙ ap (λ v. min v (place-at .result)) ((at-word .word) .ensures .0)) refl
+    ((c .smaller2) .ensures ∙ ap (min _) ((c .before .larger) .ensures ∙ ap (λ v. max v (place-at .result)) ((at-word .word) .ensures .0)))
 
 pub bind-name-spec : {M : Type 1} → statement M
 bind-name-spec =

@@ -41,8 +41,9 @@ mul-word c = search needs
 
 slice-read-word : tie.Need-slice-read-word
 slice-read-word c =
-    let start = c .before .before .before .before .before .before .before .before .before .before .before .before in
-    let f = inside-top _ _ (start .pre .0 .walking .shown .room) ((c .before .before .wide) .ensures .0) in omega arith
+    let at-wide = c .before .before in
+    let start = at-wide .before .before .before .before .before .before .before .before .before .before in
+    let f = inside-top _ _ (start .pre .0 .walking .shown .room) ((at-wide .wide) .ensures .0) in omega arith
 
 word-requires : tie.Need-word-requires
 word-requires c κs = search needs
@@ -58,9 +59,11 @@ mul-seen c = search needs
 
 slice-write-seen : tie.Need-slice-write-seen
 slice-write-seen c =
-    let start = c .before .before .before .before .before .before .before .before .before .before .before .before .before .before in
-    let token-at = c .before .before .before .before .before .before .before .token-at in
-    let f = inside-top _ _ (start .pre .0 .walking .shown .room) ((c .before .before .before .before .wide) .ensures .0) in omega arith
+    let at-wide = c .before .before .before .before in
+    let at-token-at = at-wide .before .before .before in
+    let start = at-token-at .before .before .before .before .before .before .before in
+    let token-at = at-token-at .token-at in
+    let f = inside-top _ _ (start .pre .0 .walking .shown .room) ((at-wide .wide) .ensures .0) in omega arith
 
 same-length : tie.Need-same-length
 same-length c = search needs
@@ -70,10 +73,14 @@ same-length-2 c = search needs
 
 returns : tie.Need-returns
 returns c =
-    let start = c .before .before .before .before .before .before .before .before .before .before .before .before .before .before in
-    let token-at = c .before .before .before .before .before .before .before .token-at in
-    let place-at = c .before .before .before .before .before .before .place-at in
-    λ h d s. walk-declare h _ (start .pre .0 .inside) refl d s (start .pre .1) (token-at .ensures) (place-at .ensures) ((c .before .before .before .before .wide) .ensures .0) ((c .before .word) .ensures .0) refl ((c .smaller) .ensures)
+    let at-wide = c .before .before .before .before in
+    let at-place-at = at-wide .before .before in
+    let at-token-at = at-place-at .before in
+    let start = at-token-at .before .before .before .before .before .before .before in
+    let token-at = at-token-at .token-at in
+    let place-at = at-place-at .place-at in
+    λ h d s. walk-declare h _ (start .pre .0 .inside) refl d s (start .pre .1) (token-at .ensures) (place-at .ensures) ((at-wide .wide) .ensures .0) ((c .before .word) .ensures .0) refl
+    ((c .smaller) .ensures)
 
 pub declare-name-spec : {M : Type 1} → statement M
 declare-name-spec =

@@ -8,7 +8,8 @@ use Rattle.names.proofs.walk.end_name.Tie as tie
 
 sub-depth : tie.Need-sub-depth
 sub-depth c =
-    let o = some-open ((c .before .before .before .before .before .before .before) .pre .0 .walkable) ((c .before .before .before .before .before .before .before) .pre .0 .declared) _ ((c .before .before .before .before .before .before .before) .pre .0 .inside) refl ((c .before .before .before .before .before .before .before) .pre .0 .walking) ((c .before .before .before .before .before .before .before) .pre .1) in omega arith
+    let start = c .before .before .before .before .before .before .before in
+    let o = some-open (start .pre .0 .walkable) (start .pre .0 .declared) _ (start .pre .0 .inside) refl (start .pre .0 .walking) (start .pre .1) in omega arith
 
 mul-top : tie.Need-mul-top
 mul-top c = search needs
@@ -37,7 +38,8 @@ mul-seen-2 c = search needs
 slice-write-seen : tie.Need-slice-write-seen
 slice-write-seen c =
     let start = c .before .before .before .before .before .before .before .before .before .before in
-    let f = end-inside (start .pre .0 .walkable) (start .pre .0 .declared) _ (start .pre .0 .inside) refl (start .pre .0 .walking) (start .pre .1) ((c .before .wide) .ensures .0) in let r = start .pre .0 .walking .shown .room in omega arith
+    let f = end-inside (start .pre .0 .walkable) (start .pre .0 .declared) _ (start .pre .0 .inside) refl (start .pre .0 .walking) (start .pre .1) ((c .before .wide) .ensures .0) in
+    let r = start .pre .0 .walking .shown .room in omega arith
 
 add-table : tie.Need-add-table
 add-table c = search needs
@@ -53,8 +55,10 @@ mul-table-2 c = search needs
 
 slice-write-table : tie.Need-slice-write-table
 slice-write-table c =
-    let start = c .before .before .before .before .before .before .before .before .before .before .before in
-    let f = end-inside (start .pre .0 .walkable) (start .pre .0 .declared) _ (start .pre .0 .inside) refl (start .pre .0 .walking) (start .pre .1) ((c .before .before .wide) .ensures .0) in let r = start .pre .0 .walking .points .room in omega arith
+    let at-wide = c .before .before in
+    let start = at-wide .before .before .before .before .before .before .before .before .before in
+    let f = end-inside (start .pre .0 .walkable) (start .pre .0 .declared) _ (start .pre .0 .inside) refl (start .pre .0 .walking) (start .pre .1) ((at-wide .wide) .ensures .0) in
+    let r = start .pre .0 .walking .points .room in omega arith
 
 same-length : tie.Need-same-length
 same-length c = search needs
@@ -64,8 +68,9 @@ same-length-2 c = search needs
 
 returns : tie.Need-returns
 returns c =
-    let start = c .before .before .before .before .before .before .before .before .before .before .before in
-    λ h d s. walk-end h d _ (start .pre .0 .inside) refl s (start .pre .1) ((c .before .before .wide) .ensures .0) refl refl
+    let at-wide = c .before .before in
+    let start = at-wide .before .before .before .before .before .before .before .before .before in
+    λ h d s. walk-end h d _ (start .pre .0 .inside) refl s (start .pre .1) ((at-wide .wide) .ensures .0) refl refl
 
 pub end-name-spec : {M : Type 1} → statement M
 end-name-spec =

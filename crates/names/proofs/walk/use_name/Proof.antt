@@ -42,9 +42,11 @@ mul-refs c = search needs
 
 slice-read-refs : tie.Need-slice-read-refs
 slice-read-refs c =
-    let start = c .before .before .before .before .before .before .before .before .before .before .before .before .before .before in
-    let token-at = c .before .before .before .before .before .before .before .token-at in
-    let f = inside-top _ _ (start .pre .0 .walking .points .room) ((c .before .before .before .before .wide) .ensures .0) in omega arith
+    let at-wide = c .before .before .before .before in
+    let at-token-at = at-wide .before .before .before in
+    let start = at-token-at .before .before .before .before .before .before .before in
+    let token-at = at-token-at .token-at in
+    let f = inside-top _ _ (start .pre .0 .walking .points .room) ((at-wide .wide) .ensures .0) in omega arith
 
 mul-refs-2 : tie.Need-mul-refs-2
 mul-refs-2 c = search needs
@@ -60,10 +62,16 @@ same-length c = search needs
 
 returns : tie.Need-returns
 returns c =
-    let start = c .before .before .before .before .before .before .before .before .before .before .before .before .before .before .before in
-    let token-at = c .before .before .before .before .before .before .before .before .token-at in
-    let place-at = c .before .before .before .before .before .before .before .place-at in
-    λ h d s. walk-use h _ (start .pre .0 .inside) refl d s (start .pre .1) (token-at .ensures) (place-at .ensures) ((c .before .before .before .before .before .wide) .ensures .0) ((c .before .before .before .word) .ensures .0) refl ((c .smaller) .ensures ∙ ap (min _) ((c .before .before .hidden-place) .ensures))
+    let at-hidden-place = c .before .before in
+    let at-word = at-hidden-place .before in
+    let at-wide = at-word .before .before in
+    let at-place-at = at-wide .before .before in
+    let at-token-at = at-place-at .before in
+    let start = at-token-at .before .before .before .before .before .before .before in
+    let token-at = at-token-at .token-at in
+    let place-at = at-place-at .place-at in
+    λ h d s. walk-use h _ (start .pre .0 .inside) refl d s (start .pre .1) (token-at .ensures) (place-at .ensures) ((at-wide .wide) .ensures .0) ((at-word .word) .ensures .0) refl
+    ((c .smaller) .ensures ∙ ap (min _) ((at-hidden-place .hidden-place) .ensures))
 
 pub use-name-spec : {M : Type 1} → statement M
 use-name-spec =

@@ -15,9 +15,12 @@ uses-requires c κs = search needs
 
 use-name-requires : tie.Need-use-name-requires
 use-name-requires c κs =
-    let start = c .before .before .before .before .before .before .before .before .before .before .before .before .before in
-    let kind-at = c .before .before .before .before .before .before .kind-at in
-    (start .pre, ap Roles.uses (sym (kind-at .ensures)) ∙ sym ((c .before .before .before .before .before .uses) .ensures) ∙ (c .before .before .before .before .if1) .taken)
+    let at-if1 = c .before .before .before .before in
+    let at-uses = at-if1 .before in
+    let at-kind-at = at-uses .before in
+    let start = at-kind-at .before .before .before .before .before .before .before in
+    let kind-at = at-kind-at .kind-at in
+    (start .pre, ap Roles.uses (sym (kind-at .ensures)) ∙ sym ((at-uses .uses) .ensures) ∙ (at-if1 .if1) .taken)
 
 same-length : tie.Need-same-length
 same-length c = search needs
@@ -39,9 +42,12 @@ binds-requires c κs = search needs
 
 bind-name-requires : tie.Need-bind-name-requires
 bind-name-requires c κs =
-    let start = c .before .before .before .before .before .before .before .before .before .before .before .before .before .before .before in
-    let kind-at = c .before .before .before .before .before .before .before .before .kind-at in
-    (start .pre, ap Roles.binds (sym (kind-at .ensures)) ∙ sym ((c .before .before .before .before .before .binds) .ensures) ∙ (c .before .before .before .before .if2) .taken)
+    let at-if2 = c .before .before .before .before in
+    let at-binds = at-if2 .before in
+    let at-kind-at = at-binds .before .before .before in
+    let start = at-kind-at .before .before .before .before .before .before .before in
+    let kind-at = at-kind-at .kind-at in
+    (start .pre, ap Roles.binds (sym (kind-at .ensures)) ∙ sym ((at-binds .binds) .ensures) ∙ (at-if2 .if2) .taken)
 
 same-length-5 : tie.Need-same-length-5
 same-length-5 c = search needs
@@ -63,9 +69,12 @@ ends-requires c κs = search needs
 
 end-name-requires : tie.Need-end-name-requires
 end-name-requires c κs =
-    let start = c .before .before .before .before .before .before .before .before .before .before .before .before .before .before .before .before .before in
-    let kind-at = c .before .before .before .before .before .before .before .before .before .before .kind-at in
-    (start .pre, ap Roles.ends (sym (kind-at .ensures)) ∙ sym ((c .before .before .before .before .before .ends) .ensures) ∙ (c .before .before .before .before .if3) .taken)
+    let at-if3 = c .before .before .before .before in
+    let at-ends = at-if3 .before in
+    let at-kind-at = at-ends .before .before .before .before .before in
+    let start = at-kind-at .before .before .before .before .before .before .before in
+    let kind-at = at-kind-at .kind-at in
+    (start .pre, ap Roles.ends (sym (kind-at .ensures)) ∙ sym ((at-ends .ends) .ensures) ∙ (at-if3 .if3) .taken)
 
 same-length-9 : tie.Need-same-length-9
 same-length-9 c = search needs
@@ -87,9 +96,12 @@ declares-requires c κs = search needs
 
 declare-name-requires : tie.Need-declare-name-requires
 declare-name-requires c κs =
-    let start = c .before .before .before .before .before .before .before .before .before .before .before .before .before .before .before .before .before .before .before in
-    let kind-at = c .before .before .before .before .before .before .before .before .before .before .before .before .kind-at in
-    (start .pre, ap (Roles.declares Kind.parameter) (sym (kind-at .ensures)) ∙ sym ((c .before .before .before .before .before .declares) .ensures) ∙ (c .before .before .before .before .if4) .taken)
+    let at-if4 = c .before .before .before .before in
+    let at-declares = at-if4 .before in
+    let at-kind-at = at-declares .before .before .before .before .before .before .before in
+    let start = at-kind-at .before .before .before .before .before .before .before in
+    let kind-at = at-kind-at .kind-at in
+    (start .pre, ap (Roles.declares Kind.parameter) (sym (kind-at .ensures)) ∙ sym ((at-declares .declares) .ensures) ∙ (at-if4 .if4) .taken)
 
 same-length-13 : tie.Need-same-length-13
 same-length-13 c = search needs
@@ -108,10 +120,18 @@ returns-4 c = search needs
 
 returns-5 : tie.Need-returns-5
 returns-5 c =
-    let start = c .before .before .before .before .before .before .before .before .before .before .before .before .before .before .before in
-    let kind-at = c .before .before .before .before .before .before .before .before .kind-at in
-    let uses = c .before .before .before .before .before .before .before .uses in
-    λ h d s. walk-quiet h _ (start .pre .inside) (kind-at .ensures) d s (sym (uses .ensures) ∙ (c .before .before .before .before .before .before .if1) .left) (sym ((c .before .before .before .before .before .binds) .ensures) ∙ (c .before .before .before .before .if2) .left) (sym ((c .before .before .before .ends) .ensures) ∙ (c .before .before .if3) .left) (sym ((c .before .declares) .ensures) ∙ (c .if4) .left)
+    let at-if3 = c .before .before in
+    let at-ends = at-if3 .before in
+    let at-if2 = at-ends .before in
+    let at-binds = at-if2 .before in
+    let at-if1 = at-binds .before in
+    let at-uses = at-if1 .before in
+    let at-kind-at = at-uses .before in
+    let start = at-kind-at .before .before .before .before .before .before .before in
+    let kind-at = at-kind-at .kind-at in
+    let uses = at-uses .uses in
+    λ h d s. walk-quiet h _ (start .pre .inside) (kind-at .ensures) d s (sym (uses .ensures) ∙ (at-if1 .if1) .left) (sym ((at-binds .binds) .ensures) ∙ (at-if2 .if2) .left)
+    (sym ((at-ends .ends) .ensures) ∙ (at-if3 .if3) .left) (sym ((c .before .declares) .ensures) ∙ (c .if4) .left)
 
 pub visit-spec : {M : Type 1} → statement M
 visit-spec =

@@ -14,7 +14,9 @@ use Rattle.names.proofs.walk.walk_all.Tie as tie
 
 abbrev Inv-loop : tie.InvT-loop
 Inv-loop work ids entries seen₀ table₀ stack₀ refs₀ walk₀ k₀ seen table stack refs walk k =
-    (k ≤ entries) × (length seen ≡ length seen₀) × (length table ≡ length table₀) × (length stack ≡ length stack₀) × (length refs ≡ length refs₀) × ((h : Walkable work ids entries) (declared : Names) → Walking h declared 0 seen₀ table₀ stack₀ refs₀ 0 noPlace noPlace → Walking h declared k seen table stack refs (walk .depth) (walk .hidden) (walk .again))
+    (k ≤ entries) × (length seen ≡ length seen₀) × (length table ≡ length table₀) × (length stack ≡ length stack₀) × (length refs ≡ length refs₀) ×
+    ((h : Walkable work ids entries) (declared : Names) → Walking h declared 0 seen₀ table₀ stack₀ refs₀ 0 noPlace noPlace
+    → Walking h declared k seen table stack refs (walk .depth) (walk .hidden) (walk .again))
 
 abbrev μ-loop : tie.MeasureT-loop
 μ-loop work ids entries seen₀ table₀ stack₀ refs₀ walk₀ k₀ seen table stack refs walk k = entries - k
@@ -24,8 +26,16 @@ loop-holds c = (omega arith, refl, refl, refl, refl, λ h d s. s)
 
 visit-requires : tie.Need-visit-requires Inv-loop μ-loop
 visit-requires c κs =
-    let start = c .before .before .before .before .before .before .before .before .before .before .before .before in
-    let b = start .pre in record { inside = (c .before .before .before .before .loop-test) .taken; walkable = b .walkable; declared = b .declared; walking = (c .before .before .before .before .before .loop) .inv .5 (b .walkable) (b .declared) (b .walking) }
+    let at-loop-test = c .before .before .before .before in
+    let at-loop = at-loop-test .before in
+    let start = at-loop .before .before .before .before .before .before .before in
+    let b = start .pre in record {
+      inside = (at-loop-test .loop-test) .taken;
+      walkable = b .walkable;
+      declared = b .declared;
+      walking = (at-loop .loop) .inv .5 (b .walkable) (b .declared)
+          (b .walking);
+    }
 
 add-k : tie.Need-add-k Inv-loop μ-loop
 add-k c = search needs
@@ -35,9 +45,18 @@ loop-less c = search needs
 
 loop-again : tie.Need-loop-again Inv-loop μ-loop
 loop-again c =
-    let loop = c .before .before .before .before .before .before .before .before .before .before .before .before .before .before .loop in
-    let visit = c .before .before .before .before .before .before .before .before .visit in
-    let n = loop .inv in (omega arith, visit .kept .1 .1 .1 .1 .1 .0 ∙ n .1, visit .kept .1 .1 .1 .1 .1 .1 .0 ∙ n .2, visit .kept .1 .1 .1 .1 .1 .1 .1 .0 ∙ n .3, visit .kept .1 .1 .1 .1 .1 .1 .1 .1 .0 ∙ n .4, λ h d s. visit .ensures h d (n .5 h d s))
+    let at-visit = c .before .before .before .before .before .before .before .before in
+    let at-loop = at-visit .before .before .before .before .before .before in
+    let loop = at-loop .loop in
+    let visit = at-visit .visit in
+    let n = loop .inv in (
+      omega arith,
+      visit .kept .1 .1 .1 .1 .1 .0 ∙ n .1,
+      visit .kept .1 .1 .1 .1 .1 .1 .0 ∙ n .2,
+      visit .kept .1 .1 .1 .1 .1 .1 .1 .0 ∙ n .3,
+      visit .kept .1 .1 .1 .1 .1 .1 .1 .1 .0 ∙ n .4,
+      λ h d s. visit .ensures h d (n .5 h d s),
+    )
 
 same-length : tie.Need-same-length Inv-loop μ-loop
 same-length c = search needs

@@ -2,7 +2,6 @@
 use mathlib.Core.Path.{sym}
 use lib.Seq.{set-out}
 use borrow.Author.Needs.{needs}
-use borrow.Author.Needs.{needs}
 use Rattle.notes.proofs.choose.store.Statement.{statement}
 use Rattle.notes.proofs.choose.store.Tie as tie
 

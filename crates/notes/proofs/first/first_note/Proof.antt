@@ -6,7 +6,6 @@ use borrow.Author.Needs.{needs}
 use Rattle.language.specs.Limits.{maxTokens}
 use Rattle.entries.specs.Stored.{kindOf}
 use Rattle.notes.specs.Noting.{found-inside, noted-as, unnoted}
-use borrow.Author.Needs.{needs}
 use Rattle.notes.proofs.first.first_note.Statement.{statement}
 use Rattle.notes.proofs.first.first_note.Tie as tie
 
@@ -23,13 +22,29 @@ wide-requires : tie.Need-wide-requires
 wide-requires c κs = search needs
 
 entry-word-requires : tie.Need-entry-word-requires
-entry-word-requires c κs = ((c .before .before .before .before .before) .pre .0 .stored .lexed .room, subst (λ n. n < maxTokens) (sym ((c .wide) .ensures)) (found-inside ((c .before .before .before .before .before) .pre .0 .stored) ((c .before .before .before .before .before) .pre .0 .resolved) ((c .before .before .before .before .before) .args .r) ((c .before .before .if1) .left)))
+entry-word-requires c κs =
+    let at-if1 = c .before .before in
+    let start = at-if1 .before .before .before in (
+      start .pre .0 .stored .lexed .room,
+      subst (λ n. n < maxTokens) (sym ((c .wide) .ensures .0))
+          (found-inside (start .pre .0 .stored) (start .pre .0 .resolved) (start .args .r) ((at-if1 .if1) .left)),
+    )
 
 note-of-requires : tie.Need-note-of-requires
-note-of-requires c κs = subst (λ n. n < maxTokens) (sym ((c .before .wide) .ensures)) (found-inside ((c .before .before .before .before .before .before) .pre .0 .stored) ((c .before .before .before .before .before .before) .pre .0 .resolved) ((c .before .before .before .before .before .before) .args .r) ((c .before .before .before .if1) .left))
+note-of-requires c κs =
+    let at-if1 = c .before .before .before in
+    let start = at-if1 .before .before .before in
+    subst (λ n. n < maxTokens) (sym ((c .before .wide) .ensures .0)) (found-inside (start .pre .0 .stored) (start .pre .0 .resolved) (start .args .r) ((at-if1 .if1) .left))
 
 returns-2 : tie.Need-returns-2
-returns-2 c = λ text refs count entries x s r. record { is = noted-as s r ((c .before .before .before .before .before .before .before) .args .r) ((c .before .before .before .before .if1) .left) ((c .before .before .wide) .result) _ _ _ ((c .before .before .wide) .ensures) (ap kindOf ((c .before .entry-word) .ensures)) ((c .note-of) .ensures) }
+returns-2 c =
+    let at-wide = c .before .before in
+    let at-if1 = at-wide .before .before in
+    let start = at-if1 .before .before .before in
+    λ text refs count entries x s r. record {
+      is = noted-as s r (start .args .r) ((at-if1 .if1) .left) ((at-wide .wide) .result) _ _ _ ((at-wide .wide) .ensures .0)
+          (ap kindOf ((c .before .entry-word) .ensures)) ((c .note-of) .ensures);
+    }
 
 pub first-note-spec : {M : Type 1} → statement M
 first-note-spec =

@@ -12,7 +12,9 @@ use Rattle.notes.proofs.first.note_names.Statement.{statement}
 use Rattle.notes.proofs.first.note_names.Tie as tie
 
 abbrev Inv-loop : tie.InvT-loop
-Inv-loop work found names sorts₀ numbers₀ r₀ sorts numbers r = (r ≤ 256) × ((length sorts ≡ length sorts₀) × ((length numbers ≡ length numbers₀) × ((text refs : List ℕ) (count entries : ℕ) (x : Spec) → Stored text work count entries x → Resolved x refs found names → NotedTo x text work sorts numbers r)))
+Inv-loop work found names sorts₀ numbers₀ r₀ sorts numbers r = (r ≤ 256) ×
+    ((length sorts ≡ length sorts₀) × ((length numbers ≡ length numbers₀) ×
+    ((text refs : List ℕ) (count entries : ℕ) (x : Spec) → Stored text work count entries x → Resolved x refs found names → NotedTo x text work sorts numbers r)))
 
 abbrev μ-loop : tie.MeasureT-loop
 μ-loop work found names sorts₀ numbers₀ r₀ sorts numbers r = 256 - r
@@ -24,13 +26,19 @@ first-note-requires : tie.Need-first-note-requires Inv-loop μ-loop
 first-note-requires c κs = ((c .before .before .before .before .before .before) .pre .0, (c .loop-test) .taken)
 
 slice-write-sorts : tie.Need-slice-write-sorts Inv-loop μ-loop
-slice-write-sorts c = omega (arith, (c .before .loop-test) .taken, (c .before .before .loop) .inv .1 .0, (c .before .before .before .before .before .before .before) .pre .1 .0)
+slice-write-sorts c =
+    let at-loop = c .before .before in
+    let start = at-loop .before .before .before .before .before in
+    omega (arith, (c .before .loop-test) .taken, (at-loop .loop) .inv .1 .0, start .pre .1 .0)
 
 mul-numbers : tie.Need-mul-numbers Inv-loop μ-loop
 mul-numbers c = search needs
 
 slice-write-numbers : tie.Need-slice-write-numbers Inv-loop μ-loop
-slice-write-numbers c = omega (arith, (c .before .loop-test) .taken, (c .before .before .loop) .inv .1 .1 .0, (c .before .before .before .before .before .before .before) .pre .1 .1)
+slice-write-numbers c =
+    let at-loop = c .before .before in
+    let start = at-loop .before .before .before .before .before in
+    omega (arith, (c .before .loop-test) .taken, (at-loop .loop) .inv .1 .1 .0, start .pre .1 .1)
 
 add-r : tie.Need-add-r Inv-loop μ-loop
 add-r c = search needs
@@ -39,7 +47,20 @@ loop-less : tie.Need-loop-less Inv-loop μ-loop
 loop-less c = omega (arith, (c .before .loop-test) .taken)
 
 loop-again : tie.Need-loop-again Inv-loop μ-loop
-loop-again c = (omega (arith, (c .before .loop-test) .taken), (simp length-set ((c .before .before .loop) .inv .1 .0), (simp length-set ((c .before .before .loop) .inv .1 .1 .0), λ text refs count entries x s q. noted-more x text _ ((c .before .before .loop) .sorts) ((c .before .before .loop) .numbers) ((c .before .before .loop) .r) _ _ (omega (arith, (c .before .loop-test) .taken, (c .before .before .loop) .inv .1 .0, (c .before .before .before .before .before .before .before) .pre .1 .0)) (omega (arith, (c .before .loop-test) .taken, (c .before .before .loop) .inv .1 .1 .0, (c .before .before .before .before .before .before .before) .pre .1 .1)) ((c .before .before .loop) .inv .1 .1 .1 text refs count entries x s q) ((c .first-note) .ensures text refs count entries x s q))))
+loop-again c =
+    let at-loop = c .before .before in
+    let start = at-loop .before .before .before .before .before in (
+      omega (arith, (c .before .loop-test) .taken),
+      (
+        simp length-set ((at-loop .loop) .inv .1 .0),
+        (
+          simp length-set ((at-loop .loop) .inv .1 .1 .0),
+          λ text refs count entries x s q. noted-more x text _ ((at-loop .loop) .sorts) ((at-loop .loop) .numbers) ((at-loop .loop) .r) _ _
+              (omega (arith, (c .before .loop-test) .taken, (at-loop .loop) .inv .1 .0, start .pre .1 .0)) (omega (arith, (c .before .loop-test) .taken, (at-loop .loop) .inv .1 .1 .0, start .pre .1 .1))
+              ((at-loop .loop) .inv .1 .1 .1 text refs count entries x s q) ((c .first-note) .ensures text refs count entries x s q),
+        ),
+      ),
+    )
 
 same-length : tie.Need-same-length Inv-loop μ-loop
 same-length c = (c .before .loop) .inv .1 .0

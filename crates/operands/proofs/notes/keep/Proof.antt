@@ -25,7 +25,9 @@ same-length-2 : tie.Need-same-length-2
 same-length-2 c = search needs
 
 returns : tie.Need-returns
-returns c = rw (c .before .w .given .1) (keeps-number (c .before .before .before .before .before .before .before .args .r) (c .before .before .before .before .before .before .before .pre .0, c .before .before .before .before .before .before .before .pre .1, c .before .before .before .before .before .before .before .pre .2))
+returns c =
+    let start = c .before .before .before .before .before .before .before in
+    rw (c .before .w .given .1) (keeps-number (start .args .r) (start .pre .0, start .pre .1, start .pre .2))
 
 enum-known-w-2 : tie.Need-enum-known-w-2
 enum-known-w-2 c = search needs
@@ -43,7 +45,10 @@ same-length-5 : tie.Need-same-length-5
 same-length-5 c = search needs
 
 returns-2 : tie.Need-returns-2
-returns-2 c = rw (c .before .before .before .before .before .before .before .before .before .before .before .w2 .given .1) (c .before .before .before .before .before .before .keep-set .ensures)
+returns-2 c =
+    let at-keep-set = c .before .before .before .before .before .before in
+    let at-w2 = at-keep-set .before .before .before .before .before in
+    rw (at-w2 .w2 .given .1) (at-keep-set .keep-set .ensures)
 
 returns-3 : tie.Need-returns-3
 returns-3 c = search needs

@@ -42,7 +42,9 @@ same-length-3 c = search needs
 
 returns-3 : tie.Need-returns-3
 returns-3 c =
-    keeps-set (c .before .before .before .before .before .before .before .before .before .before .args .r) (c .before .before .before .before .before .before .before .before .before .before .pre .0, c .before .before .before .before .before .before .before .before .before .before .pre .1, c .before .before .before .before .before .before .before .before .before .before .pre .2) (c .before .before .before .before .before .before .before .before .before .before .pre .3) (omega arith) (omega arith) (c .before .before .copy .ensures)
+    let at-copy = c .before .before in
+    let start = at-copy .before .before .before .before .before .before .before .before in
+    keeps-set (start .args .r) (start .pre .0, start .pre .1, start .pre .2) (start .pre .3) (omega arith) (omega arith) (at-copy .copy .ensures)
 
 pub keep-set-spec : {M : Type 1} → statement M
 keep-set-spec =

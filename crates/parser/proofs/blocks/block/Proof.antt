@@ -21,11 +21,15 @@ same-length c =
 
 returns : tie.Need-returns
 returns c =
-    λ ts ready. block-refused ((c .before .before .before .before .before .before) .args .which) ready (λ e. (c .before .before .if1) .taken ((c .before .before .before .kind) .ensures ∙ e)) ((c .refuse) .ensures)
+    λ ts ready. block-refused ((c .before .before .before .before .before .before) .args .which) ready (λ e. (c .before .before .if1) .taken ((c .before .before .before .kind) .ensures ∙ e))
+    ((c .refuse) .ensures)
 
 lines-requires : tie.Need-lines-requires
-lines-requires c κs =
-    ((c .before .before .before .before .before) .pre, inside ((c .before .before .before .before .before) .pre .ready) (sym ((c .before .before .kind) .ensures) ∙ (c .before .if1) .left) (omega arith))
+lines-requires c κs = (
+  (c .before .before .before .before .before) .pre,
+  inside ((c .before .before .before .before .before) .pre .ready) (sym ((c .before .before .kind) .ensures) ∙ (c .before .if1) .left)
+      (omega arith),
+)
 
 same-length-2 : tie.Need-same-length-2
 same-length-2 c =
@@ -33,7 +37,8 @@ same-length-2 c =
 
 returns-2 : tie.Need-returns-2
 returns-2 c =
-    λ ts ready. block-read ((c .before .before .before .before .before .before .before .before) .args .which) ready (sym ((c .before .before .before .before .before .kind) .ensures) ∙ (c .before .before .before .before .if1) .left) ((c .before .before .lines) .ensures ts ready)
+    λ ts ready. block-read ((c .before .before .before .before .before .before .before .before) .args .which) ready
+    (sym ((c .before .before .before .before .before .kind) .ensures) ∙ (c .before .before .before .before .if1) .left) ((c .before .before .lines) .ensures ts ready)
 
 pub block-spec : {M : Type 1} → statement M
 block-spec =

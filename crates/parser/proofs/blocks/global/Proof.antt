@@ -26,7 +26,8 @@ next-requires c κs =
 
 expect-requires : tie.Need-expect-requires
 expect-requires c κs =
-    let z = (c .before .before .before .before .before .before) .pre in (global-ready (z .ready) (sym ((c .before .before .before .kind) .ensures) ∙ (c .before .before .if1) .left) (next-of ((c .before .next) .ensures)) .fits, omega arith)
+    let z = (c .before .before .before .before .before .before) .pre in
+    (global-ready (z .ready) (sym ((c .before .before .before .kind) .ensures) ∙ (c .before .before .if1) .left) (next-of ((c .before .next) .ensures)) .fits, omega arith)
 
 enum-known-r : tie.Need-enum-known-r
 enum-known-r c =
@@ -42,11 +43,21 @@ same-length-2 c =
 
 returns-2 : tie.Need-returns-2
 returns-2 c =
-    λ ts ready. global-open ready (sym ((c .before .before .before .before .before .before .kind) .ensures) ∙ (c .before .before .before .before .before .if1) .left) (next-of ((c .before .before .before .before .next) .ensures)) ((c .before .before .expect) .ensures) ((c .enum-told) .given .1)
+    λ ts ready. global-open ready (sym ((c .before .before .before .before .before .before .kind) .ensures) ∙ (c .before .before .before .before .before .if1) .left)
+    (next-of ((c .before .before .before .before .next) .ensures)) ((c .before .before .expect) .ensures) ((c .enum-told) .given .1)
 
 optional-requires : tie.Need-optional-requires
 optional-requires c κs =
-    let z = (c .before .before .before .before .before .before .before .before .before .before .before) .pre in (record { tokens = z .tokens; ready = passed-ready (global-ready (z .ready) (sym ((c .before .before .before .before .before .before .before .before .kind) .ensures) ∙ (c .before .before .before .before .before .before .before .if1) .left) (next-of ((c .before .before .before .before .before .before .next) .ensures))) (passed _ _ _ ((c .before .before .before .before .expect) .ensures) ((c .before .before .r) .given .1)) (omega arith) }, omega arith)
+    let z = (c .before .before .before .before .before .before .before .before .before .before .before) .pre in (
+      record {
+        tokens = z .tokens;
+        ready = passed-ready (global-ready (z .ready)
+            (sym ((c .before .before .before .before .before .before .before .before .kind) .ensures) ∙ (c .before .before .before .before .before .before .before .if1) .left)
+            (next-of ((c .before .before .before .before .before .before .next) .ensures))) (passed _ _ _ ((c .before .before .before .before .expect) .ensures) ((c .before .before .r) .given .1))
+            (omega arith);
+      },
+      omega arith,
+    )
 
 enum-known-p : tie.Need-enum-known-p
 enum-known-p c =
@@ -62,11 +73,32 @@ same-length-3 c =
 
 returns-3 : tie.Need-returns-3
 returns-3 c =
-    λ ts ready. global-parameters ready (sym ((c .before .before .before .before .before .before .before .before .before .before .before .before .before .kind) .ensures) ∙ (c .before .before .before .before .before .before .before .before .before .before .before .before .if1) .left) (next-of ((c .before .before .before .before .before .before .before .before .before .before .before .next) .ensures)) (passed _ _ _ ((c .before .before .before .before .before .before .before .before .before .expect) .ensures) ((c .before .before .before .before .before .before .before .r) .given .1)) ((c .before .before .before .before .optional) .ensures "PARAMETERS" (record { known = refl; same = refl }) ts (passed-ready (global-ready ready (sym ((c .before .before .before .before .before .before .before .before .before .before .before .before .before .kind) .ensures) ∙ (c .before .before .before .before .before .before .before .before .before .before .before .before .if1) .left) (next-of ((c .before .before .before .before .before .before .before .before .before .before .before .next) .ensures))) (passed _ _ _ ((c .before .before .before .before .before .before .before .before .before .expect) .ensures) ((c .before .before .before .before .before .before .before .r) .given .1)) (omega arith))) ((c .enum-told2) .given .1)
+    λ ts ready. global-parameters ready (sym ((c .before .before .before .before .before .before .before .before .before .before .before .before .before .kind) .ensures) ∙
+    (c .before .before .before .before .before .before .before .before .before .before .before .before .if1) .left)
+    (next-of ((c .before .before .before .before .before .before .before .before .before .before .before .next) .ensures))
+    (passed _ _ _ ((c .before .before .before .before .before .before .before .before .before .expect) .ensures) ((c .before .before .before .before .before .before .before .r) .given .1))
+    ((c .before .before .before .before .optional) .ensures "PARAMETERS" (record { known = refl; same = refl }) ts
+    (passed-ready (global-ready ready (sym ((c .before .before .before .before .before .before .before .before .before .before .before .before .before .kind) .ensures) ∙
+    (c .before .before .before .before .before .before .before .before .before .before .before .before .if1) .left)
+    (next-of ((c .before .before .before .before .before .before .before .before .before .before .before .next) .ensures)))
+    (passed _ _ _ ((c .before .before .before .before .before .before .before .before .before .expect) .ensures) ((c .before .before .before .before .before .before .before .r) .given .1))
+    (omega arith))) ((c .enum-told2) .given .1)
 
 optional-requires-2 : tie.Need-optional-requires-2
 optional-requires-2 c κs =
-    let z = (c .before .before .before .before .before .before .before .before .before .before .before .before .before .before .before .before .before .before) .pre in (record { tokens = z .tokens; ready = accepted ((c .before .before .p) .given .1) ((c .before .before .before .before .before .before .optional) .ensures "PARAMETERS" (record { known = refl; same = refl }) (z .tokens) (passed-ready (global-ready (z .ready) (sym ((c .before .before .before .before .before .before .before .before .before .before .before .before .before .before .before .kind) .ensures) ∙ (c .before .before .before .before .before .before .before .before .before .before .before .before .before .before .if1) .left) (next-of ((c .before .before .before .before .before .before .before .before .before .before .before .before .before .next) .ensures))) (passed _ _ _ ((c .before .before .before .before .before .before .before .before .before .before .before .expect) .ensures) ((c .before .before .before .before .before .before .before .before .before .r) .given .1)) (omega arith))) .took .ready }, omega arith)
+    let z = (c .before .before .before .before .before .before .before .before .before .before .before .before .before .before .before .before .before .before) .pre in (
+      record {
+        tokens = z .tokens;
+        ready = accepted ((c .before .before .p) .given .1)
+            ((c .before .before .before .before .before .before .optional) .ensures "PARAMETERS" (record { known = refl; same = refl }) (z .tokens)
+            (passed-ready (global-ready (z .ready) (sym ((c .before .before .before .before .before .before .before .before .before .before .before .before .before .before .before .kind) .ensures) ∙
+            (c .before .before .before .before .before .before .before .before .before .before .before .before .before .before .if1) .left)
+            (next-of ((c .before .before .before .before .before .before .before .before .before .before .before .before .before .next) .ensures)))
+            (passed _ _ _ ((c .before .before .before .before .before .before .before .before .before .before .before .expect) .ensures)
+            ((c .before .before .before .before .before .before .before .before .before .r) .given .1)) (omega arith))) .took .ready;
+      },
+      omega arith,
+    )
 
 enum-known-q : tie.Need-enum-known-q
 enum-known-q c =
@@ -82,11 +114,45 @@ same-length-4 c =
 
 returns-4 : tie.Need-returns-4
 returns-4 c =
-    λ ts ready. global-definitions ready (sym ((c .before .before .before .before .before .before .before .before .before .before .before .before .before .before .before .before .before .before .before .before .kind) .ensures) ∙ (c .before .before .before .before .before .before .before .before .before .before .before .before .before .before .before .before .before .before .before .if1) .left) (next-of ((c .before .before .before .before .before .before .before .before .before .before .before .before .before .before .before .before .before .before .next) .ensures)) (passed _ _ _ ((c .before .before .before .before .before .before .before .before .before .before .before .before .before .before .before .before .expect) .ensures) ((c .before .before .before .before .before .before .before .before .before .before .before .before .before .before .r) .given .1)) ((c .before .before .before .before .before .before .before .before .before .before .before .optional) .ensures "PARAMETERS" (record { known = refl; same = refl }) ts (passed-ready (global-ready ready (sym ((c .before .before .before .before .before .before .before .before .before .before .before .before .before .before .before .before .before .before .before .before .kind) .ensures) ∙ (c .before .before .before .before .before .before .before .before .before .before .before .before .before .before .before .before .before .before .before .if1) .left) (next-of ((c .before .before .before .before .before .before .before .before .before .before .before .before .before .before .before .before .before .before .next) .ensures))) (passed _ _ _ ((c .before .before .before .before .before .before .before .before .before .before .before .before .before .before .before .before .expect) .ensures) ((c .before .before .before .before .before .before .before .before .before .before .before .before .before .before .r) .given .1)) (omega arith))) ((c .before .before .before .before .before .before .before .p) .given .1) ((c .before .before .before .before .optional2) .ensures "DEFINITIONS" (record { known = refl; same = refl }) ts (accepted ((c .before .before .before .before .before .before .before .p) .given .1) ((c .before .before .before .before .before .before .before .before .before .before .before .optional) .ensures "PARAMETERS" (record { known = refl; same = refl }) ts (passed-ready (global-ready ready (sym ((c .before .before .before .before .before .before .before .before .before .before .before .before .before .before .before .before .before .before .before .before .kind) .ensures) ∙ (c .before .before .before .before .before .before .before .before .before .before .before .before .before .before .before .before .before .before .before .if1) .left) (next-of ((c .before .before .before .before .before .before .before .before .before .before .before .before .before .before .before .before .before .before .next) .ensures))) (passed _ _ _ ((c .before .before .before .before .before .before .before .before .before .before .before .before .before .before .before .before .expect) .ensures) ((c .before .before .before .before .before .before .before .before .before .before .before .before .before .before .r) .given .1)) (omega arith))) .took .ready)) ((c .enum-told3) .given .1)
+    λ ts ready. global-definitions ready (sym ((c .before .before .before .before .before .before .before .before .before .before .before .before .before .before .before .before .before .before
+    .before .before .kind) .ensures) ∙ (c .before .before .before .before .before .before .before .before .before .before .before .before .before .before .before .before .before
+    .before .before .if1) .left) (next-of ((c .before .before .before .before .before .before .before .before .before .before .before .before .before .before .before .before
+    .before .before .next) .ensures)) (passed _ _ _ ((c .before .before .before .before .before .before .before .before .before .before .before .before .before .before
+    .before .before .expect) .ensures) ((c .before .before .before .before .before .before .before .before .before .before .before .before .before .before .r) .given .1))
+    ((c .before .before .before .before .before .before .before .before .before .before .before .optional) .ensures "PARAMETERS" (record { known = refl; same = refl }) ts
+    (passed-ready (global-ready ready (sym ((c .before .before .before .before .before .before .before .before .before .before .before .before .before .before .before .before .before .before
+    .before .before .kind) .ensures) ∙ (c .before .before .before .before .before .before .before .before .before .before .before .before .before .before .before .before .before
+    .before .before .if1) .left) (next-of ((c .before .before .before .before .before .before .before .before .before .before .before .before .before .before .before .before
+    .before .before .next) .ensures))) (passed _ _ _ ((c .before .before .before .before .before .before .before .before .before .before .before .before .before .before
+    .before .before .expect) .ensures) ((c .before .before .before .before .before .before .before .before .before .before .before .before .before .before .r) .given .1)) (omega arith)))
+    ((c .before .before .before .before .before .before .before .p) .given .1)
+    ((c .before .before .before .before .optional2) .ensures "DEFINITIONS" (record { known = refl; same = refl }) ts
+    (accepted ((c .before .before .before .before .before .before .before .p) .given .1)
+    ((c .before .before .before .before .before .before .before .before .before .before .before .optional) .ensures "PARAMETERS" (record { known = refl; same = refl }) ts
+    (passed-ready (global-ready ready (sym ((c .before .before .before .before .before .before .before .before .before .before .before .before .before .before .before .before .before .before
+    .before .before .kind) .ensures) ∙ (c .before .before .before .before .before .before .before .before .before .before .before .before .before .before .before .before .before
+    .before .before .if1) .left) (next-of ((c .before .before .before .before .before .before .before .before .before .before .before .before .before .before .before .before
+    .before .before .next) .ensures))) (passed _ _ _ ((c .before .before .before .before .before .before .before .before .before .before .before .before .before .before
+    .before .before .expect) .ensures) ((c .before .before .before .before .before .before .before .before .before .before .before .before .before .before .r) .given .1))
+    (omega arith))) .took .ready)) ((c .enum-told3) .given .1)
 
 expect-requires-2 : tie.Need-expect-requires-2
 expect-requires-2 c κs =
-    let z = (c .before .before .before .before .before .before .before .before .before .before .before .before .before .before .before .before .before .before .before .before .before .before .before .before .before) .pre in (accepted ((c .before .before .q) .given .1) ((c .before .before .before .before .before .before .optional2) .ensures "DEFINITIONS" (record { known = refl; same = refl }) (z .tokens) (accepted ((c .before .before .before .before .before .before .before .before .before .p) .given .1) ((c .before .before .before .before .before .before .before .before .before .before .before .before .before .optional) .ensures "PARAMETERS" (record { known = refl; same = refl }) (z .tokens) (passed-ready (global-ready (z .ready) (sym ((c .before .before .before .before .before .before .before .before .before .before .before .before .before .before .before .before .before .before .before .before .before .before .kind) .ensures) ∙ (c .before .before .before .before .before .before .before .before .before .before .before .before .before .before .before .before .before .before .before .before .before .if1) .left) (next-of ((c .before .before .before .before .before .before .before .before .before .before .before .before .before .before .before .before .before .before .before .before .next) .ensures))) (passed _ _ _ ((c .before .before .before .before .before .before .before .before .before .before .before .before .before .before .before .before .before .before .expect) .ensures) ((c .before .before .before .before .before .before .before .before .before .before .before .before .before .before .before .before .r) .given .1)) (omega arith))) .took .ready)) .took .ready .fits, omega arith)
+    let z = (c .before .before .before .before .before .before .before .before .before .before .before .before .before .before .before .before .before .before .before .before .before .before .before
+    .before .before) .pre in (
+      accepted ((c .before .before .q) .given .1)
+          ((c .before .before .before .before .before .before .optional2) .ensures "DEFINITIONS" (record { known = refl; same = refl }) (z .tokens)
+          (accepted ((c .before .before .before .before .before .before .before .before .before .p) .given .1)
+          ((c .before .before .before .before .before .before .before .before .before .before .before .before .before .optional) .ensures "PARAMETERS" (record { known = refl; same = refl }) (z .tokens)
+          (passed-ready (global-ready (z .ready) (sym ((c .before .before .before .before .before .before .before .before .before .before .before .before .before .before .before .before .before .before
+          .before .before .before .before .kind) .ensures) ∙ (c .before .before .before .before .before .before .before .before .before .before .before .before .before .before .before .before .before
+          .before .before .before .before .if1) .left) (next-of ((c .before .before .before .before .before .before .before .before .before .before .before .before .before .before .before .before
+          .before .before .before .before .next) .ensures))) (passed _ _ _
+          ((c .before .before .before .before .before .before .before .before .before .before .before .before .before .before .before .before .before .before .expect) .ensures)
+          ((c .before .before .before .before .before .before .before .before .before .before .before .before .before .before .before .before .r) .given .1))
+          (omega arith))) .took .ready)) .took .ready .fits,
+      omega arith,
+    )
 
 same-length-5 : tie.Need-same-length-5
 same-length-5 c =
@@ -94,7 +160,30 @@ same-length-5 c =
 
 returns-5 : tie.Need-returns-5
 returns-5 c =
-    λ ts ready. global-tail ready (sym ((c .before .before .before .before .before .before .before .before .before .before .before .before .before .before .before .before .before .before .before .before .before .before .before .kind) .ensures) ∙ (c .before .before .before .before .before .before .before .before .before .before .before .before .before .before .before .before .before .before .before .before .before .before .if1) .left) (next-of ((c .before .before .before .before .before .before .before .before .before .before .before .before .before .before .before .before .before .before .before .before .before .next) .ensures)) (passed _ _ _ ((c .before .before .before .before .before .before .before .before .before .before .before .before .before .before .before .before .before .before .before .expect) .ensures) ((c .before .before .before .before .before .before .before .before .before .before .before .before .before .before .before .before .before .r) .given .1)) ((c .before .before .before .before .before .before .before .before .before .before .before .before .before .before .optional) .ensures "PARAMETERS" (record { known = refl; same = refl }) ts (passed-ready (global-ready ready (sym ((c .before .before .before .before .before .before .before .before .before .before .before .before .before .before .before .before .before .before .before .before .before .before .before .kind) .ensures) ∙ (c .before .before .before .before .before .before .before .before .before .before .before .before .before .before .before .before .before .before .before .before .before .before .if1) .left) (next-of ((c .before .before .before .before .before .before .before .before .before .before .before .before .before .before .before .before .before .before .before .before .before .next) .ensures))) (passed _ _ _ ((c .before .before .before .before .before .before .before .before .before .before .before .before .before .before .before .before .before .before .before .expect) .ensures) ((c .before .before .before .before .before .before .before .before .before .before .before .before .before .before .before .before .before .r) .given .1)) (omega arith))) ((c .before .before .before .before .before .before .before .before .before .before .p) .given .1) ((c .before .before .before .before .before .before .before .optional2) .ensures "DEFINITIONS" (record { known = refl; same = refl }) ts (accepted ((c .before .before .before .before .before .before .before .before .before .before .p) .given .1) ((c .before .before .before .before .before .before .before .before .before .before .before .before .before .before .optional) .ensures "PARAMETERS" (record { known = refl; same = refl }) ts (passed-ready (global-ready ready (sym ((c .before .before .before .before .before .before .before .before .before .before .before .before .before .before .before .before .before .before .before .before .before .before .before .kind) .ensures) ∙ (c .before .before .before .before .before .before .before .before .before .before .before .before .before .before .before .before .before .before .before .before .before .before .if1) .left) (next-of ((c .before .before .before .before .before .before .before .before .before .before .before .before .before .before .before .before .before .before .before .before .before .next) .ensures))) (passed _ _ _ ((c .before .before .before .before .before .before .before .before .before .before .before .before .before .before .before .before .before .before .before .expect) .ensures) ((c .before .before .before .before .before .before .before .before .before .before .before .before .before .before .before .before .before .r) .given .1)) (omega arith))) .took .ready)) ((c .before .before .before .q) .given .1) ((c .expect2) .ensures)
+    λ ts ready. global-tail ready (sym ((c .before .before .before .before .before .before .before .before .before .before .before .before .before .before .before .before .before .before .before
+    .before .before .before .before .kind) .ensures) ∙ (c .before .before .before .before .before .before .before .before .before .before .before .before .before .before .before .before .before
+    .before .before .before .before .before .if1) .left) (next-of
+    ((c .before .before .before .before .before .before .before .before .before .before .before .before .before .before .before .before .before .before .before .before .before .next) .ensures))
+    (passed _ _ _ ((c .before .before .before .before .before .before .before .before .before .before .before .before .before .before .before .before .before .before .before .expect) .ensures)
+    ((c .before .before .before .before .before .before .before .before .before .before .before .before .before .before .before .before .before .r) .given .1))
+    ((c .before .before .before .before .before .before .before .before .before .before .before .before .before .before .optional) .ensures "PARAMETERS" (record { known = refl; same = refl }) ts
+    (passed-ready (global-ready ready (sym ((c .before .before .before .before .before .before .before .before .before .before .before .before .before .before .before .before .before .before
+    .before .before .before .before .before .kind) .ensures) ∙ (c .before .before .before .before .before .before .before .before .before .before .before .before .before .before .before .before
+    .before .before .before .before .before .before .if1) .left) (next-of
+    ((c .before .before .before .before .before .before .before .before .before .before .before .before .before .before .before .before .before .before .before .before .before .next) .ensures)))
+    (passed _ _ _ ((c .before .before .before .before .before .before .before .before .before .before .before .before .before .before .before .before .before .before .before .expect) .ensures)
+    ((c .before .before .before .before .before .before .before .before .before .before .before .before .before .before .before .before .before .r) .given .1)) (omega arith)))
+    ((c .before .before .before .before .before .before .before .before .before .before .p) .given .1)
+    ((c .before .before .before .before .before .before .before .optional2) .ensures "DEFINITIONS" (record { known = refl; same = refl }) ts
+    (accepted ((c .before .before .before .before .before .before .before .before .before .before .p) .given .1)
+    ((c .before .before .before .before .before .before .before .before .before .before .before .before .before .before .optional) .ensures "PARAMETERS" (record { known = refl; same = refl }) ts
+    (passed-ready (global-ready ready (sym ((c .before .before .before .before .before .before .before .before .before .before .before .before .before .before .before .before .before .before
+    .before .before .before .before .before .kind) .ensures) ∙ (c .before .before .before .before .before .before .before .before .before .before .before .before .before .before .before .before
+    .before .before .before .before .before .before .if1) .left) (next-of
+    ((c .before .before .before .before .before .before .before .before .before .before .before .before .before .before .before .before .before .before .before .before .before .next) .ensures)))
+    (passed _ _ _ ((c .before .before .before .before .before .before .before .before .before .before .before .before .before .before .before .before .before .before .before .expect) .ensures)
+    ((c .before .before .before .before .before .before .before .before .before .before .before .before .before .before .before .before .before .r) .given .1)) (omega arith))) .took .ready))
+    ((c .before .before .before .q) .given .1) ((c .expect2) .ensures)
 
 pub global-spec : {M : Type 1} → statement M
 global-spec =

@@ -32,11 +32,14 @@ next-requires c κs =
 
 kind-requires : tie.Need-kind-requires Inv-loop μ-loop
 kind-requires c κs =
-    let z = (c .before .before .before .before) .pre .0 in let h = (c .before .before .loop) .inv .1 (z .tokens) (z .ready) in behind-ready ((c .before .before .before .before) .args .which) h ((c .before .before .loop) .inv .0) (next-of ((c .before .next) .ensures)) .fits
+    let z = (c .before .before .before .before) .pre .0 in let h = (c .before .before .loop) .inv .1 (z .tokens) (z .ready) in
+    behind-ready ((c .before .before .before .before) .args .which) h ((c .before .before .loop) .inv .0) (next-of ((c .before .next) .ensures)) .fits
 
 next-requires-2 : tie.Need-next-requires-2 Inv-loop μ-loop
 next-requires-2 c κs =
-    let z = (c .before .before .before .before .before .before) .pre .0 in let h = (c .before .before .before .before .loop) .inv .1 (z .tokens) (z .ready) in next-fits (behind-ready ((c .before .before .before .before .before .before) .args .which) h ((c .before .before .before .before .loop) .inv .0) (next-of ((c .before .before .before .next) .ensures))) (sym ((c .before .kind) .ensures) ∙ (c .if1) .taken) (omega arith)
+    let z = (c .before .before .before .before .before .before) .pre .0 in let h = (c .before .before .before .before .loop) .inv .1 (z .tokens) (z .ready) in
+    next-fits (behind-ready ((c .before .before .before .before .before .before) .args .which) h ((c .before .before .before .before .loop) .inv .0)
+    (next-of ((c .before .before .before .next) .ensures))) (sym ((c .before .kind) .ensures) ∙ (c .if1) .taken) (omega arith)
 
 same-length : tie.Need-same-length Inv-loop μ-loop
 same-length c =
@@ -44,11 +47,14 @@ same-length c =
 
 returns : tie.Need-returns Inv-loop μ-loop
 returns c =
-    λ ts ready. let h = (c .before .before .before .before .before .loop) .inv .1 ts ready in lines-close ((c .before .before .before .before .before .before .before) .args .which) h ((c .before .before .before .before .before .loop) .inv .0) (next-of ((c .before .before .before .before .next) .ensures)) (sym ((c .before .before .kind) .ensures) ∙ (c .before .if1) .taken) (next-of ((c .next2) .ensures))
+    λ ts ready. let h = (c .before .before .before .before .before .loop) .inv .1 ts ready in
+    lines-close ((c .before .before .before .before .before .before .before) .args .which) h ((c .before .before .before .before .before .loop) .inv .0)
+    (next-of ((c .before .before .before .before .next) .ensures)) (sym ((c .before .before .kind) .ensures) ∙ (c .before .if1) .taken) (next-of ((c .next2) .ensures))
 
 line-requires : tie.Need-line-requires Inv-loop μ-loop
 line-requires c κs =
-    let z = (c .before .before .before .before .before .before .before) .pre .0 in let h = (c .before .before .before .before .before .loop) .inv .1 (z .tokens) (z .ready) in (listing-readied z h, ((c .before .before .before .before .before .loop) .inv .0))
+    let z = (c .before .before .before .before .before .before .before) .pre .0 in let h = (c .before .before .before .before .before .loop) .inv .1 (z .tokens) (z .ready) in
+    (listing-readied z h, ((c .before .before .before .before .before .loop) .inv .0))
 
 enum-known-r : tie.Need-enum-known-r Inv-loop μ-loop
 enum-known-r c =
@@ -60,35 +66,85 @@ enum-told c =
 
 same-length-2 : tie.Need-same-length-2 Inv-loop μ-loop
 same-length-2 c =
-    let z = (c .before .before .before .before .before .before .before .before .before .before .before .before) .pre .0 in let h = (c .before .before .before .before .before .before .before .before .before .before .loop) .inv .1 (z .tokens) (z .ready) in ((c .before .before .before .before .line) .ensures (z .tokens) (h .going .took .ready)) .kept .len ∙ h .going .kept .len
+    let z = (c .before .before .before .before .before .before .before .before .before .before .before .before) .pre .0 in
+    let h = (c .before .before .before .before .before .before .before .before .before .before .loop) .inv .1 (z .tokens) (z .ready) in
+    ((c .before .before .before .before .line) .ensures (z .tokens) (h .going .took .ready)) .kept .len ∙ h .going .kept .len
 
 returns-2 : tie.Need-returns-2 Inv-loop μ-loop
 returns-2 c =
-    λ ts ready. let h = (c .before .before .before .before .before .before .before .before .before .before .loop) .inv .1 ts ready in lines-stop ((c .before .before .before .before .before .before .before .before .before .before .before .before) .args .which) h ((c .before .before .before .before .before .before .before .before .before .before .loop) .inv .0) (next-of ((c .before .before .before .before .before .before .before .before .before .next) .ensures)) (λ e. (c .before .before .before .before .before .before .if1) .left ((c .before .before .before .before .before .before .before .kind) .ensures ∙ e)) ((c .before .before .before .before .line) .ensures ts (h .going .took .ready)) ((c .enum-told) .given .1)
+    λ ts ready. let h = (c .before .before .before .before .before .before .before .before .before .before .loop) .inv .1 ts ready in
+    lines-stop ((c .before .before .before .before .before .before .before .before .before .before .before .before) .args .which) h
+    ((c .before .before .before .before .before .before .before .before .before .before .loop) .inv .0)
+    (next-of ((c .before .before .before .before .before .before .before .before .before .next) .ensures))
+    (λ e. (c .before .before .before .before .before .before .if1) .left ((c .before .before .before .before .before .before .before .kind) .ensures ∙ e))
+    ((c .before .before .before .before .line) .ensures ts (h .going .took .ready)) ((c .enum-told) .given .1)
 
 kind-requires-2 : tie.Need-kind-requires-2 Inv-loop μ-loop
 kind-requires-2 c κs =
-    let z = (c .before .before .before .before .before .before .before .before .before .before .before .before .before .before) .pre .0 in let h = (c .before .before .before .before .before .before .before .before .before .before .before .before .loop) .inv .1 (z .tokens) (z .ready) in accepted ((c .before .before .r) .given .1) ((c .before .before .before .before .before .before .line) .ensures (z .tokens) (h .going .took .ready)) .took .ready .fits
+    let z = (c .before .before .before .before .before .before .before .before .before .before .before .before .before .before) .pre .0 in
+    let h = (c .before .before .before .before .before .before .before .before .before .before .before .before .loop) .inv .1 (z .tokens) (z .ready) in
+    accepted ((c .before .before .r) .given .1) ((c .before .before .before .before .before .before .line) .ensures (z .tokens) (h .going .took .ready)) .took .ready .fits
 
 expect-requires : tie.Need-expect-requires Inv-loop μ-loop
 expect-requires c κs =
-    let z = (c .before .before .before .before .before .before .before .before .before .before .before .before .before .before .before .before .before) .pre .0 in let h = (c .before .before .before .before .before .before .before .before .before .before .before .before .before .before .before .loop) .inv .1 (z .tokens) (z .ready) in (accepted ((c .before .before .before .before .before .r) .given .1) ((c .before .before .before .before .before .before .before .before .before .line) .ensures (z .tokens) (h .going .took .ready)) .took .ready .fits, omega arith)
+    let z = (c .before .before .before .before .before .before .before .before .before .before .before .before .before .before .before .before .before) .pre .0 in
+    let h = (c .before .before .before .before .before .before .before .before .before .before .before .before .before .before .before .loop) .inv .1 (z .tokens) (z .ready) in (
+      accepted ((c .before .before .before .before .before .r) .given .1)
+          ((c .before .before .before .before .before .before .before .before .before .line) .ensures (z .tokens) (h .going .took .ready)) .took .ready .fits,
+      omega arith,
+    )
 
 same-length-3 : tie.Need-same-length-3 Inv-loop μ-loop
 same-length-3 c =
-    let z = (c .before .before .before .before .before .before .before .before .before .before .before .before .before .before .before .before .before .before) .pre .0 in let h = (c .before .before .before .before .before .before .before .before .before .before .before .before .before .before .before .before .loop) .inv .1 (z .tokens) (z .ready) in ((c .before .before .before .before .before .before .before .before .before .before .line) .ensures (z .tokens) (h .going .took .ready)) .kept .len ∙ h .going .kept .len
+    let z = (c .before .before .before .before .before .before .before .before .before .before .before .before .before .before .before .before .before .before) .pre .0 in
+    let h = (c .before .before .before .before .before .before .before .before .before .before .before .before .before .before .before .before .loop) .inv .1 (z .tokens) (z .ready) in
+    ((c .before .before .before .before .before .before .before .before .before .before .line) .ensures (z .tokens) (h .going .took .ready)) .kept .len ∙ h .going .kept .len
 
 returns-3 : tie.Need-returns-3 Inv-loop μ-loop
 returns-3 c =
-    λ ts ready. let h = (c .before .before .before .before .before .before .before .before .before .before .before .before .before .before .before .before .loop) .inv .1 ts ready in lines-tail ((c .before .before .before .before .before .before .before .before .before .before .before .before .before .before .before .before .before .before) .args .which) h ((c .before .before .before .before .before .before .before .before .before .before .before .before .before .before .before .before .loop) .inv .0) (next-of ((c .before .before .before .before .before .before .before .before .before .before .before .before .before .before .before .next) .ensures)) (λ e. (c .before .before .before .before .before .before .before .before .before .before .before .before .if1) .left ((c .before .before .before .before .before .before .before .before .before .before .before .before .before .kind) .ensures ∙ e)) ((c .before .before .before .before .before .before .before .before .before .before .line) .ensures ts (h .going .took .ready)) ((c .before .before .before .before .before .before .r) .given .1) (λ e. (c .before .before .if2) .taken ((c .before .before .before .kind2) .ensures ∙ e)) ((c .expect) .ensures)
+    λ ts ready. let h = (c .before .before .before .before .before .before .before .before .before .before .before .before .before .before .before .before .loop) .inv .1 ts ready in
+    lines-tail ((c .before .before .before .before .before .before .before .before .before .before .before .before .before .before .before .before .before .before) .args .which) h
+    ((c .before .before .before .before .before .before .before .before .before .before .before .before .before .before .before .before .loop) .inv .0)
+    (next-of ((c .before .before .before .before .before .before .before .before .before .before .before .before .before .before .before .next) .ensures))
+    (λ e. (c .before .before .before .before .before .before .before .before .before .before .before .before .if1) .left
+    ((c .before .before .before .before .before .before .before .before .before .before .before .before .before .kind) .ensures ∙ e))
+    ((c .before .before .before .before .before .before .before .before .before .before .line) .ensures ts (h .going .took .ready))
+    ((c .before .before .before .before .before .before .r) .given .1) (λ e. (c .before .before .if2) .taken ((c .before .before .before .kind2) .ensures ∙ e)) ((c .expect) .ensures)
 
 loop-less : tie.Need-loop-less Inv-loop μ-loop
 loop-less c =
-    let z = (c .before .before .before .before .before .before .before .before .before .before .before .before .before .before .before .before) .pre .0 in let h = (c .before .before .before .before .before .before .before .before .before .before .before .before .before .before .loop) .inv .1 (z .tokens) (z .ready) in let t = accepted ((c .before .before .before .before .r) .given .1) ((c .before .before .before .before .before .before .before .before .line) .ensures (z .tokens) (h .going .took .ready)) .took in omega (arith, line-further ((c .before .before .before .before .before .before .before .before .before .before .before .before .before .before .before .before) .args .which) h ((c .before .before .before .before .before .before .before .before .before .before .before .before .before .before .loop) .inv .0) (next-of ((c .before .before .before .before .before .before .before .before .before .before .before .before .before .next) .ensures)) (λ e. (c .before .before .before .before .before .before .before .before .before .before .if1) .left ((c .before .before .before .before .before .before .before .before .before .before .before .kind) .ensures ∙ e)) ((c .before .before .before .before .before .before .before .before .line) .ensures (z .tokens) (h .going .took .ready)) ((c .before .before .before .before .r) .given .1), t .onward .count, t .ready .fits .inside)
+    let z = (c .before .before .before .before .before .before .before .before .before .before .before .before .before .before .before .before) .pre .0 in
+    let h = (c .before .before .before .before .before .before .before .before .before .before .before .before .before .before .loop) .inv .1 (z .tokens) (z .ready) in
+    let t = accepted ((c .before .before .before .before .r) .given .1)
+    ((c .before .before .before .before .before .before .before .before .line) .ensures (z .tokens) (h .going .took .ready)) .took in
+    omega (
+      arith,
+      line-further ((c .before .before .before .before .before .before .before .before .before .before .before .before .before .before .before .before) .args .which) h
+          ((c .before .before .before .before .before .before .before .before .before .before .before .before .before .before .loop) .inv .0)
+          (next-of ((c .before .before .before .before .before .before .before .before .before .before .before .before .before .next) .ensures))
+          (λ e. (c .before .before .before .before .before .before .before .before .before .before .if1) .left
+          ((c .before .before .before .before .before .before .before .before .before .before .before .kind) .ensures ∙ e))
+          ((c .before .before .before .before .before .before .before .before .line) .ensures (z .tokens) (h .going .took .ready)) ((c .before .before .before .before .r) .given .1),
+      t .onward .count,
+      t .ready .fits .inside,
+    )
 
 loop-again : tie.Need-loop-again Inv-loop μ-loop
-loop-again c =
-    (let z = (c .before .before .before .before .before .before .before .before .before .before .before .before .before .before .before .before) .pre .0 in let h = (c .before .before .before .before .before .before .before .before .before .before .before .before .before .before .loop) .inv .1 (z .tokens) (z .ready) in inside (accepted ((c .before .before .before .before .r) .given .1) ((c .before .before .before .before .before .before .before .before .line) .ensures (z .tokens) (h .going .took .ready)) .took .ready) (sym ((c .before .kind2) .ensures) ∙ (c .if2) .left) (omega arith), λ ts ready. let h = (c .before .before .before .before .before .before .before .before .before .before .before .before .before .before .loop) .inv .1 ts ready in lines-again ((c .before .before .before .before .before .before .before .before .before .before .before .before .before .before .before .before) .args .which) h ((c .before .before .before .before .before .before .before .before .before .before .before .before .before .before .loop) .inv .0) (next-of ((c .before .before .before .before .before .before .before .before .before .before .before .before .before .next) .ensures)) (λ e. (c .before .before .before .before .before .before .before .before .before .before .if1) .left ((c .before .before .before .before .before .before .before .before .before .before .before .kind) .ensures ∙ e)) ((c .before .before .before .before .before .before .before .before .line) .ensures ts (h .going .took .ready)) ((c .before .before .before .before .r) .given .1) (sym ((c .before .kind2) .ensures) ∙ (c .if2) .left))
+loop-again c = (
+  let z = (c .before .before .before .before .before .before .before .before .before .before .before .before .before .before .before .before) .pre .0 in
+      let h = (c .before .before .before .before .before .before .before .before .before .before .before .before .before .before .loop) .inv .1 (z .tokens) (z .ready) in
+      inside (accepted ((c .before .before .before .before .r) .given .1)
+      ((c .before .before .before .before .before .before .before .before .line) .ensures (z .tokens) (h .going .took .ready)) .took .ready) (sym ((c .before .kind2) .ensures) ∙ (c .if2) .left)
+      (omega arith),
+  λ ts ready. let h = (c .before .before .before .before .before .before .before .before .before .before .before .before .before .before .loop) .inv .1 ts ready in
+      lines-again ((c .before .before .before .before .before .before .before .before .before .before .before .before .before .before .before .before) .args .which) h
+      ((c .before .before .before .before .before .before .before .before .before .before .before .before .before .before .loop) .inv .0)
+      (next-of ((c .before .before .before .before .before .before .before .before .before .before .before .before .before .next) .ensures))
+      (λ e. (c .before .before .before .before .before .before .before .before .before .before .if1) .left
+      ((c .before .before .before .before .before .before .before .before .before .before .before .kind) .ensures ∙ e))
+      ((c .before .before .before .before .before .before .before .before .line) .ensures ts (h .going .took .ready)) ((c .before .before .before .before .r) .given .1)
+      (sym ((c .before .kind2) .ensures) ∙ (c .if2) .left),
+)
 
 pub lines-spec : {M : Type 1} → statement M
 lines-spec =

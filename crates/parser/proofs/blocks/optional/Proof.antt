@@ -24,7 +24,12 @@ next-requires c κs =
 
 block-requires : tie.Need-block-requires
 block-requires c κs =
-    record { tokens = (c .before .before .before .before .before .before) .pre .0 .tokens; ready = past-ready ((c .before .before .before .before .before .before) .pre .0 .ready) (next-of ((c .before .next) .ensures)) (inside ((c .before .before .before .before .before .before) .pre .0 .ready) (sym ((c .before .before .before .kind) .ensures) ∙ (c .before .before .if1) .left) ((c .before .before .before .before .before .before) .pre .1)) }
+    record {
+      tokens = (c .before .before .before .before .before .before) .pre .0 .tokens;
+      ready = past-ready ((c .before .before .before .before .before .before) .pre .0 .ready)
+          (next-of ((c .before .next) .ensures)) (inside ((c .before .before .before .before .before .before) .pre .0 .ready)
+          (sym ((c .before .before .before .kind) .ensures) ∙ (c .before .before .if1) .left) ((c .before .before .before .before .before .before) .pre .1));
+    }
 
 same-length-2 : tie.Need-same-length-2
 same-length-2 c =
@@ -32,7 +37,12 @@ same-length-2 c =
 
 returns-2 : tie.Need-returns-2
 returns-2 c =
-    λ s spells ts ready. optional-read ((c .before .before .before .before .before .before .before .before .before) .args .which) ready s spells (sym ((c .before .before .before .before .before .before .kind) .ensures) ∙ (c .before .before .before .before .before .if1) .left) ((c .before .before .before .before .before .before .before .before .before) .pre .1) (next-of ((c .before .before .before .before .next) .ensures)) ((c .before .before .block) .ensures ts (past-ready ready (next-of ((c .before .before .before .before .next) .ensures)) (inside ready (sym ((c .before .before .before .before .before .before .kind) .ensures) ∙ (c .before .before .before .before .before .if1) .left) ((c .before .before .before .before .before .before .before .before .before) .pre .1))))
+    λ s spells ts ready. optional-read ((c .before .before .before .before .before .before .before .before .before) .args .which) ready s spells
+    (sym ((c .before .before .before .before .before .before .kind) .ensures) ∙ (c .before .before .before .before .before .if1) .left)
+    ((c .before .before .before .before .before .before .before .before .before) .pre .1) (next-of ((c .before .before .before .before .next) .ensures))
+    ((c .before .before .block) .ensures ts (past-ready ready (next-of ((c .before .before .before .before .next) .ensures))
+    (inside ready (sym ((c .before .before .before .before .before .before .kind) .ensures) ∙ (c .before .before .before .before .before .if1) .left)
+    ((c .before .before .before .before .before .before .before .before .before) .pre .1))))
 
 pub optional-spec : {M : Type 1} → statement M
 optional-spec =

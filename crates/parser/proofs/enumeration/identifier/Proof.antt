@@ -32,11 +32,14 @@ same-length c =
 
 returns : tie.Need-returns
 returns c =
-    λ ts ready. name-refused Kind.identifier ":" refl (λ us. wordsOf (length us) us) (λ t ws. record { name = t; words = ws }) (each flatWord) flatIdentifier (λ t b. refl) ((c .before .before .before .before .leaf) .ensures Name (record { plain = refl; same = refl }) ts ready) ((c .enum-told) .given .1)
+    λ ts ready. name-refused Kind.identifier ":" refl (λ us. wordsOf (length us) us) (λ t ws. record { name = t; words = ws }) (each flatWord) flatIdentifier (λ t b. refl)
+    ((c .before .before .before .before .leaf) .ensures Name (record { plain = refl; same = refl }) ts ready) ((c .enum-told) .given .1)
 
 expect-requires : tie.Need-expect-requires
 expect-requires c κs =
-    let p = (c .before .before .before .before .before .before .before .before .before) .pre in let r = (c .before .before .before .before .before .before .leaf) .ensures Name (record { plain = refl; same = refl }) (p .tokens) (p .ready) in let a = accepted ((c .before .before .r) .given .1) r in (a .took .ready .fits, omega arith)
+    let p = (c .before .before .before .before .before .before .before .before .before) .pre in
+    let r = (c .before .before .before .before .before .before .leaf) .ensures Name (record { plain = refl; same = refl }) (p .tokens) (p .ready) in
+    let a = accepted ((c .before .before .r) .given .1) r in (a .took .ready .fits, omega arith)
 
 enum-known-q : tie.Need-enum-known-q
 enum-known-q c =
@@ -52,11 +55,16 @@ same-length-2 c =
 
 returns-2 : tie.Need-returns-2
 returns-2 c =
-    λ ts ready. sign-refused Kind.identifier ":" refl (λ us. wordsOf (length us) us) (λ t ws. record { name = t; words = ws }) (each flatWord) flatIdentifier (λ t b. refl) ((c .before .before .before .before .before .before .before .before .before .leaf) .ensures Name (record { plain = refl; same = refl }) ts ready) ((c .before .before .before .before .before .r) .given .1) ((c .before .before .expect) .ensures) ((c .enum-told2) .given .1)
+    λ ts ready. sign-refused Kind.identifier ":" refl (λ us. wordsOf (length us) us) (λ t ws. record { name = t; words = ws }) (each flatWord) flatIdentifier (λ t b. refl)
+    ((c .before .before .before .before .before .before .before .before .before .leaf) .ensures Name (record { plain = refl; same = refl }) ts ready)
+    ((c .before .before .before .before .before .r) .given .1) ((c .before .before .expect) .ensures) ((c .enum-told2) .given .1)
 
 words-requires : tie.Need-words-requires
 words-requires c κs =
-    let p = (c .before .before .before .before .before .before .before .before .before .before .before .before .before .before) .pre in let r = (c .before .before .before .before .before .before .before .before .before .before .before .leaf) .ensures Name (record { plain = refl; same = refl }) (p .tokens) (p .ready) in let a = accepted ((c .before .before .before .before .before .before .before .r) .given .1) r in passed-readied (a .took .ready) (passed _ _ _ ((c .before .before .before .before .expect) .ensures) ((c .before .before .q) .given .1)) (omega arith)
+    let p = (c .before .before .before .before .before .before .before .before .before .before .before .before .before .before) .pre in
+    let r = (c .before .before .before .before .before .before .before .before .before .before .before .leaf) .ensures Name (record { plain = refl; same = refl }) (p .tokens) (p .ready) in
+    let a = accepted ((c .before .before .before .before .before .before .before .r) .given .1) r in
+    passed-readied (a .took .ready) (passed _ _ _ ((c .before .before .before .before .expect) .ensures) ((c .before .before .q) .given .1)) (omega arith)
 
 same-length-3 : tie.Need-same-length-3
 same-length-3 c =
@@ -64,7 +72,13 @@ same-length-3 c =
 
 returns-3 : tie.Need-returns-3
 returns-3 c =
-    λ ts ready. rest-read Kind.identifier ":" refl (λ us. wordsOf (length us) us) (λ t ws. record { name = t; words = ws }) (each flatWord) flatIdentifier (λ t b. refl) ((c .before .before .before .before .before .before .before .before .before .before .before .before .before .before .leaf) .ensures Name (record { plain = refl; same = refl }) ts ready) ((c .before .before .before .before .before .before .before .before .before .before .r) .given .1) ((c .before .before .before .before .before .before .before .expect) .ensures) ((c .before .before .before .before .before .q) .given .1) ((c .before .before .words) .ensures ts (passed-ready (accepted ((c .before .before .before .before .before .before .before .before .before .before .r) .given .1) ((c .before .before .before .before .before .before .before .before .before .before .before .before .before .before .leaf) .ensures Name (record { plain = refl; same = refl }) ts ready) .took .ready) (passed _ _ _ ((c .before .before .before .before .before .before .before .expect) .ensures) ((c .before .before .before .before .before .q) .given .1)) (omega arith)))
+    λ ts ready. rest-read Kind.identifier ":" refl (λ us. wordsOf (length us) us) (λ t ws. record { name = t; words = ws }) (each flatWord) flatIdentifier (λ t b. refl)
+    ((c .before .before .before .before .before .before .before .before .before .before .before .before .before .before .leaf) .ensures Name (record { plain = refl; same = refl }) ts ready)
+    ((c .before .before .before .before .before .before .before .before .before .before .r) .given .1) ((c .before .before .before .before .before .before .before .expect) .ensures)
+    ((c .before .before .before .before .before .q) .given .1) ((c .before .before .words) .ensures ts
+    (passed-ready (accepted ((c .before .before .before .before .before .before .before .before .before .before .r) .given .1)
+    ((c .before .before .before .before .before .before .before .before .before .before .before .before .before .before .leaf) .ensures Name (record { plain = refl; same = refl }) ts
+    ready) .took .ready) (passed _ _ _ ((c .before .before .before .before .before .before .before .expect) .ensures) ((c .before .before .before .before .before .q) .given .1)) (omega arith)))
 
 pub identifier-spec : {M : Type 1} → statement M
 identifier-spec =

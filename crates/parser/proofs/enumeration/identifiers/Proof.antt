@@ -38,31 +38,45 @@ enum-told c =
 
 same-length : tie.Need-same-length Inv-loop μ-loop
 same-length c =
-    let p = (c .before .before .before .before .before .before .before .before) .pre in let h = (c .before .before .before .before .before .before .loop) .inv (p .tokens) (p .ready) in let r = (c .before .before .before .before .identifier) .ensures (p .tokens) (h .going .took .ready) in r .kept .len ∙ h .going .kept .len
+    let p = (c .before .before .before .before .before .before .before .before) .pre in let h = (c .before .before .before .before .before .before .loop) .inv (p .tokens) (p .ready) in
+    let r = (c .before .before .before .before .identifier) .ensures (p .tokens) (h .going .took .ready) in r .kept .len ∙ h .going .kept .len
 
 returns : tie.Need-returns Inv-loop μ-loop
 returns c =
-    λ ts ready. let h = (c .before .before .before .before .before .before .loop) .inv ts ready in let r = (c .before .before .before .before .identifier) .ensures ts (h .going .took .ready) in identifiers-stop h r ((c .enum-told) .given .1)
+    λ ts ready. let h = (c .before .before .before .before .before .before .loop) .inv ts ready in let r = (c .before .before .before .before .identifier) .ensures ts (h .going .took .ready) in
+    identifiers-stop h r ((c .enum-told) .given .1)
 
 kind-requires : tie.Need-kind-requires Inv-loop μ-loop
 kind-requires c κs =
-    let p = (c .before .before .before .before .before .before .before .before .before .before) .pre in let h = (c .before .before .before .before .before .before .before .before .loop) .inv (p .tokens) (p .ready) in let r = (c .before .before .before .before .before .before .identifier) .ensures (p .tokens) (h .going .took .ready) in accepted ((c .before .before .r) .given .1) r .took .ready .fits
+    let p = (c .before .before .before .before .before .before .before .before .before .before) .pre in
+    let h = (c .before .before .before .before .before .before .before .before .loop) .inv (p .tokens) (p .ready) in
+    let r = (c .before .before .before .before .before .before .identifier) .ensures (p .tokens) (h .going .took .ready) in accepted ((c .before .before .r) .given .1) r .took .ready .fits
 
 same-length-2 : tie.Need-same-length-2 Inv-loop μ-loop
 same-length-2 c =
-    let p = (c .before .before .before .before .before .before .before .before .before .before .before .before) .pre in let h = (c .before .before .before .before .before .before .before .before .before .before .loop) .inv (p .tokens) (p .ready) in let r = (c .before .before .before .before .before .before .before .before .identifier) .ensures (p .tokens) (h .going .took .ready) in r .kept .len ∙ h .going .kept .len
+    let p = (c .before .before .before .before .before .before .before .before .before .before .before .before) .pre in
+    let h = (c .before .before .before .before .before .before .before .before .before .before .loop) .inv (p .tokens) (p .ready) in
+    let r = (c .before .before .before .before .before .before .before .before .identifier) .ensures (p .tokens) (h .going .took .ready) in r .kept .len ∙ h .going .kept .len
 
 returns-2 : tie.Need-returns-2 Inv-loop μ-loop
 returns-2 c =
-    λ ts ready. let h = (c .before .before .before .before .before .before .before .before .before .before .loop) .inv ts ready in let r = (c .before .before .before .before .before .before .before .before .identifier) .ensures ts (h .going .took .ready) in identifiers-end h r ((c .before .before .before .before .r) .given .1) (λ e. (c .if1) .taken ((c .before .kind) .ensures ∙ e))
+    λ ts ready. let h = (c .before .before .before .before .before .before .before .before .before .before .loop) .inv ts ready in
+    let r = (c .before .before .before .before .before .before .before .before .identifier) .ensures ts (h .going .took .ready) in
+    identifiers-end h r ((c .before .before .before .before .r) .given .1) (λ e. (c .if1) .taken ((c .before .kind) .ensures ∙ e))
 
 loop-less : tie.Need-loop-less Inv-loop μ-loop
 loop-less c =
-    let p = (c .before .before .before .before .before .before .before .before .before .before .before .before) .pre in let h = (c .before .before .before .before .before .before .before .before .before .before .loop) .inv (p .tokens) (p .ready) in let r = (c .before .before .before .before .before .before .before .before .identifier) .ensures (p .tokens) (h .going .took .ready) in let t = accepted ((c .before .before .before .before .r) .given .1) r .took in omega (arith, took-some t, t .onward .count, t .ready .fits .inside)
+    let p = (c .before .before .before .before .before .before .before .before .before .before .before .before) .pre in
+    let h = (c .before .before .before .before .before .before .before .before .before .before .loop) .inv (p .tokens) (p .ready) in
+    let r = (c .before .before .before .before .before .before .before .before .identifier) .ensures (p .tokens) (h .going .took .ready) in
+    let t = accepted ((c .before .before .before .before .r) .given .1) r .took in omega (arith, took-some t, t .onward .count, t .ready .fits .inside)
 
 loop-again : tie.Need-loop-again Inv-loop μ-loop
 loop-again c =
-    λ ts ready. let h = (c .before .before .before .before .before .before .before .before .before .before .loop) .inv ts ready in let r = (c .before .before .before .before .before .before .before .before .identifier) .ensures ts (h .going .took .ready) in identifiers-again h r ((c .before .before .before .before .r) .given .1) (sym ((c .before .kind) .ensures) ∙ (c .if1) .left) (took-some (accepted ((c .before .before .before .before .r) .given .1) r .took))
+    λ ts ready. let h = (c .before .before .before .before .before .before .before .before .before .before .loop) .inv ts ready in
+    let r = (c .before .before .before .before .before .before .before .before .identifier) .ensures ts (h .going .took .ready) in
+    identifiers-again h r ((c .before .before .before .before .r) .given .1) (sym ((c .before .kind) .ensures) ∙ (c .if1) .left)
+    (took-some (accepted ((c .before .before .before .before .r) .given .1) r .took))
 
 pub identifiers-spec : {M : Type 1} → statement M
 identifiers-spec =

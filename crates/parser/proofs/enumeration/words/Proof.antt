@@ -40,35 +40,54 @@ enum-told c =
 
 same-length : tie.Need-same-length Inv-loop μ-loop
 same-length c =
-    let p = (c .before .before .before .before .before .before .before .before) .pre in let h = (c .before .before .before .before .before .before .loop) .inv (p .tokens) (p .ready) in let r = (c .before .before .before .before .leaf) .ensures Marks (record { plain = refl; same = refl }) (p .tokens) (h .going .took .ready) in r .kept .len ∙ h .going .kept .len
+    let p = (c .before .before .before .before .before .before .before .before) .pre in let h = (c .before .before .before .before .before .before .loop) .inv (p .tokens) (p .ready) in
+    let r = (c .before .before .before .before .leaf) .ensures Marks (record { plain = refl; same = refl }) (p .tokens) (h .going .took .ready) in r .kept .len ∙ h .going .kept .len
 
 returns : tie.Need-returns Inv-loop μ-loop
 returns c =
-    λ ts ready. let h = (c .before .before .before .before .before .before .loop) .inv ts ready in let r = (c .before .before .before .before .leaf) .ensures Marks (record { plain = refl; same = refl }) ts (h .going .took .ready) in words-stop h r ((c .enum-told) .given .1)
+    λ ts ready. let h = (c .before .before .before .before .before .before .loop) .inv ts ready in
+    let r = (c .before .before .before .before .leaf) .ensures Marks (record { plain = refl; same = refl }) ts (h .going .took .ready) in words-stop h r ((c .enum-told) .given .1)
 
 kind-requires : tie.Need-kind-requires Inv-loop μ-loop
 kind-requires c κs =
-    let p = (c .before .before .before .before .before .before .before .before .before .before) .pre in let h = (c .before .before .before .before .before .before .before .before .loop) .inv (p .tokens) (p .ready) in let r = (c .before .before .before .before .before .before .leaf) .ensures Marks (record { plain = refl; same = refl }) (p .tokens) (h .going .took .ready) in accepted ((c .before .before .r) .given .1) r .took .ready .fits
+    let p = (c .before .before .before .before .before .before .before .before .before .before) .pre in
+    let h = (c .before .before .before .before .before .before .before .before .loop) .inv (p .tokens) (p .ready) in
+    let r = (c .before .before .before .before .before .before .leaf) .ensures Marks (record { plain = refl; same = refl }) (p .tokens) (h .going .took .ready) in
+    accepted ((c .before .before .r) .given .1) r .took .ready .fits
 
 same-length-2 : tie.Need-same-length-2 Inv-loop μ-loop
 same-length-2 c =
-    let p = (c .before .before .before .before .before .before .before .before .before .before .before .before) .pre in let h = (c .before .before .before .before .before .before .before .before .before .before .loop) .inv (p .tokens) (p .ready) in let r = (c .before .before .before .before .before .before .before .before .leaf) .ensures Marks (record { plain = refl; same = refl }) (p .tokens) (h .going .took .ready) in r .kept .len ∙ h .going .kept .len
+    let p = (c .before .before .before .before .before .before .before .before .before .before .before .before) .pre in
+    let h = (c .before .before .before .before .before .before .before .before .before .before .loop) .inv (p .tokens) (p .ready) in
+    let r = (c .before .before .before .before .before .before .before .before .leaf) .ensures Marks (record { plain = refl; same = refl }) (p .tokens) (h .going .took .ready) in
+    r .kept .len ∙ h .going .kept .len
 
 returns-2 : tie.Need-returns-2 Inv-loop μ-loop
 returns-2 c =
-    λ ts ready. let h = (c .before .before .before .before .before .before .before .before .before .before .loop) .inv ts ready in let r = (c .before .before .before .before .before .before .before .before .leaf) .ensures Marks (record { plain = refl; same = refl }) ts (h .going .took .ready) in words-end h r ((c .before .before .before .before .r) .given .1) (λ e. (c .if1) .taken ((c .before .kind) .ensures ∙ e))
+    λ ts ready. let h = (c .before .before .before .before .before .before .before .before .before .before .loop) .inv ts ready in
+    let r = (c .before .before .before .before .before .before .before .before .leaf) .ensures Marks (record { plain = refl; same = refl }) ts (h .going .took .ready) in
+    words-end h r ((c .before .before .before .before .r) .given .1) (λ e. (c .if1) .taken ((c .before .kind) .ensures ∙ e))
 
 next-requires : tie.Need-next-requires Inv-loop μ-loop
 next-requires c κs =
-    let p = (c .before .before .before .before .before .before .before .before .before .before .before .before) .pre in let h = (c .before .before .before .before .before .before .before .before .before .before .loop) .inv (p .tokens) (p .ready) in let r = (c .before .before .before .before .before .before .before .before .leaf) .ensures Marks (record { plain = refl; same = refl }) (p .tokens) (h .going .took .ready) in next-fits (accepted ((c .before .before .before .before .r) .given .1) r .took .ready) (sym ((c .before .kind) .ensures) ∙ (c .if1) .left) (omega arith)
+    let p = (c .before .before .before .before .before .before .before .before .before .before .before .before) .pre in
+    let h = (c .before .before .before .before .before .before .before .before .before .before .loop) .inv (p .tokens) (p .ready) in
+    let r = (c .before .before .before .before .before .before .before .before .leaf) .ensures Marks (record { plain = refl; same = refl }) (p .tokens) (h .going .took .ready) in
+    next-fits (accepted ((c .before .before .before .before .r) .given .1) r .took .ready) (sym ((c .before .kind) .ensures) ∙ (c .if1) .left) (omega arith)
 
 loop-less : tie.Need-loop-less Inv-loop μ-loop
 loop-less c =
-    let p = (c .before .before .before .before .before .before .before .before .before .before .before .before .before) .pre in let h = (c .before .before .before .before .before .before .before .before .before .before .before .loop) .inv (p .tokens) (p .ready) in let r = (c .before .before .before .before .before .before .before .before .before .leaf) .ensures Marks (record { plain = refl; same = refl }) (p .tokens) (h .going .took .ready) in let t = accepted ((c .before .before .before .before .before .r) .given .1) r .took in turn-falls (t .ready) (t .onward) (sym ((c .before .before .kind) .ensures) ∙ (c .before .if1) .left) (omega arith) ((c .next) .ensures)
+    let p = (c .before .before .before .before .before .before .before .before .before .before .before .before .before) .pre in
+    let h = (c .before .before .before .before .before .before .before .before .before .before .before .loop) .inv (p .tokens) (p .ready) in
+    let r = (c .before .before .before .before .before .before .before .before .before .leaf) .ensures Marks (record { plain = refl; same = refl }) (p .tokens) (h .going .took .ready) in
+    let t = accepted ((c .before .before .before .before .before .r) .given .1) r .took in
+    turn-falls (t .ready) (t .onward) (sym ((c .before .before .kind) .ensures) ∙ (c .before .if1) .left) (omega arith) ((c .next) .ensures)
 
 loop-again : tie.Need-loop-again Inv-loop μ-loop
 loop-again c =
-    λ ts ready. let h = (c .before .before .before .before .before .before .before .before .before .before .before .loop) .inv ts ready in let r = (c .before .before .before .before .before .before .before .before .before .leaf) .ensures Marks (record { plain = refl; same = refl }) ts (h .going .took .ready) in words-again h r ((c .before .before .before .before .before .r) .given .1) (sym ((c .before .before .kind) .ensures) ∙ (c .before .if1) .left) ((c .next) .ensures)
+    λ ts ready. let h = (c .before .before .before .before .before .before .before .before .before .before .before .loop) .inv ts ready in
+    let r = (c .before .before .before .before .before .before .before .before .before .leaf) .ensures Marks (record { plain = refl; same = refl }) ts (h .going .took .ready) in
+    words-again h r ((c .before .before .before .before .before .r) .given .1) (sym ((c .before .before .kind) .ensures) ∙ (c .before .if1) .left) ((c .next) .ensures)
 
 pub words-spec : {M : Type 1} → statement M
 words-spec =

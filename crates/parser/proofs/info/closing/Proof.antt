@@ -23,11 +23,13 @@ returns c =
 
 info-end-requires : tie.Need-info-end-requires
 info-end-requires c κs =
-    let z = (c .before .before .before .before .before) .pre in record { tokens = z .tokens; ready = accepted ((c .before .r) .given .1) ((c .before .before .before .model) .ensures (z .tokens) (z .ready)) .took .ready }
+    let z = (c .before .before .before .before .before) .pre in record
+    { tokens = z .tokens; ready = accepted ((c .before .r) .given .1) ((c .before .before .before .model) .ensures (z .tokens) (z .ready)) .took .ready }
 
 returns-2 : tie.Need-returns-2
 returns-2 c =
-    λ ts ready. let later = accepted ((c .before .before .r) .given .1) ((c .before .before .before .before .model) .ensures ts ready) .took .ready in skim-then ((c .before .before .before .before .model) .ensures ts ready) _ ((c .before .before .r) .given .1) (λ m. skim-map later (λ t. m) ((c .info-end) .ensures ts later))
+    λ ts ready. let later = accepted ((c .before .before .r) .given .1) ((c .before .before .before .before .model) .ensures ts ready) .took .ready in
+    skim-then ((c .before .before .before .before .model) .ensures ts ready) _ ((c .before .before .r) .given .1) (λ m. skim-map later (λ t. m) ((c .info-end) .ensures ts later))
 
 pub closing-spec : {M : Type 1} → statement M
 closing-spec =

@@ -27,7 +27,11 @@ next-requires c κs =
 
 expect-requires-2 : tie.Need-expect-requires-2
 expect-requires-2 c κs =
-    let z = (c .before .before .before .before) .pre in ((past-ready (z .ready) (next-of ((c .next) .ensures)) (inside (z .ready) (sym ((c .before .before .kind) .ensures) ∙ (c .before .if1) .left) (omega arith))) .fits, omega arith)
+    let z = (c .before .before .before .before) .pre in (
+      (past-ready (z .ready) (next-of ((c .next) .ensures))
+          (inside (z .ready) (sym ((c .before .before .kind) .ensures) ∙ (c .before .if1) .left) (omega arith))) .fits,
+      omega arith,
+    )
 
 enum-known-r : tie.Need-enum-known-r
 enum-known-r c =
@@ -39,11 +43,21 @@ enum-told c =
 
 returns-2 : tie.Need-returns-2
 returns-2 c =
-    λ ts ready. with-tags ready (sym ((c .before .before .before .before .before .kind) .ensures) ∙ (c .before .before .before .before .if1) .left) (next-of ((c .before .before .before .next) .ensures)) (skim-refused (expect-spelt (past-ready ready (next-of ((c .before .before .before .next) .ensures)) (inside ready (sym ((c .before .before .before .before .before .kind) .ensures) ∙ (c .before .before .before .before .if1) .left) (omega arith))) ":" (record { known = refl; same = refl }) ((c .before .before .expect2) .ensures)) _ ((c .enum-told) .given .1))
+    λ ts ready. with-tags ready (sym ((c .before .before .before .before .before .kind) .ensures) ∙ (c .before .before .before .before .if1) .left)
+    (next-of ((c .before .before .before .next) .ensures)) (skim-refused
+    (expect-spelt (past-ready ready (next-of ((c .before .before .before .next) .ensures))
+    (inside ready (sym ((c .before .before .before .before .before .kind) .ensures) ∙ (c .before .before .before .before .if1) .left) (omega arith))) ":" (record { known = refl; same = refl })
+    ((c .before .before .expect2) .ensures)) _ ((c .enum-told) .given .1))
 
 tags-requires : tie.Need-tags-requires
 tags-requires c κs =
-    let z = (c .before .before .before .before .before .before .before .before) .pre in record { tokens = z .tokens; ready = passed-ready (past-ready (z .ready) (next-of ((c .before .before .before .before .next) .ensures)) (inside (z .ready) (sym ((c .before .before .before .before .before .before .kind) .ensures) ∙ (c .before .before .before .before .before .if1) .left) (omega arith))) (passed _ _ _ ((c .before .before .before .expect2) .ensures) ((c .before .r) .given .1)) (omega arith) }
+    let z = (c .before .before .before .before .before .before .before .before) .pre in
+    record {
+      tokens = z .tokens;
+      ready = passed-ready (past-ready (z .ready) (next-of ((c .before .before .before .before .next) .ensures))
+          (inside (z .ready) (sym ((c .before .before .before .before .before .before .kind) .ensures) ∙ (c .before .before .before .before .before .if1) .left) (omega arith)))
+          (passed _ _ _ ((c .before .before .before .expect2) .ensures) ((c .before .r) .given .1)) (omega arith);
+    }
 
 enum-known-q : tie.Need-enum-known-q
 enum-known-q c =
@@ -55,15 +69,50 @@ enum-told-2 c =
 
 returns-3 : tie.Need-returns-3
 returns-3 c =
-    λ ts ready. with-tags ready (sym ((c .before .before .before .before .before .before .before .before .before .kind) .ensures) ∙ (c .before .before .before .before .before .before .before .before .if1) .left) (next-of ((c .before .before .before .before .before .before .before .next) .ensures)) (skim-then (expect-spelt (past-ready ready (next-of ((c .before .before .before .before .before .before .before .next) .ensures)) (inside ready (sym ((c .before .before .before .before .before .before .before .before .before .kind) .ensures) ∙ (c .before .before .before .before .before .before .before .before .if1) .left) (omega arith))) ":" (record { known = refl; same = refl }) ((c .before .before .before .before .before .before .expect2) .ensures)) _ ((c .before .before .before .before .r) .given .1) (λ a. skim-refused ((c .before .before .tags) .ensures ts (passed-ready (past-ready ready (next-of ((c .before .before .before .before .before .before .before .next) .ensures)) (inside ready (sym ((c .before .before .before .before .before .before .before .before .before .kind) .ensures) ∙ (c .before .before .before .before .before .before .before .before .if1) .left) (omega arith))) (passed _ _ _ ((c .before .before .before .before .before .before .expect2) .ensures) ((c .before .before .before .before .r) .given .1)) (omega arith))) _ ((c .enum-told2) .given .1)))
+    λ ts ready. with-tags ready (sym ((c .before .before .before .before .before .before .before .before .before .kind) .ensures) ∙
+    (c .before .before .before .before .before .before .before .before .if1) .left) (next-of ((c .before .before .before .before .before .before .before .next) .ensures))
+    (skim-then (expect-spelt (past-ready ready (next-of ((c .before .before .before .before .before .before .before .next) .ensures))
+    (inside ready (sym ((c .before .before .before .before .before .before .before .before .before .kind) .ensures) ∙
+    (c .before .before .before .before .before .before .before .before .if1) .left) (omega arith))) ":" (record { known = refl; same = refl })
+    ((c .before .before .before .before .before .before .expect2) .ensures)) _ ((c .before .before .before .before .r) .given .1)
+    (λ a. skim-refused ((c .before .before .tags) .ensures ts (passed-ready
+    (past-ready ready (next-of ((c .before .before .before .before .before .before .before .next) .ensures))
+    (inside ready (sym ((c .before .before .before .before .before .before .before .before .before .kind) .ensures) ∙
+    (c .before .before .before .before .before .before .before .before .if1) .left) (omega arith)))
+    (passed _ _ _ ((c .before .before .before .before .before .before .expect2) .ensures) ((c .before .before .before .before .r) .given .1)) (omega arith))) _ ((c .enum-told2) .given .1)))
 
 expect-requires-3 : tie.Need-expect-requires-3
 expect-requires-3 c κs =
-    let z = (c .before .before .before .before .before .before .before .before .before .before .before .before) .pre in (accepted ((c .before .q) .given .1) ((c .before .before .before .tags) .ensures (z .tokens) (passed-ready (past-ready (z .ready) (next-of ((c .before .before .before .before .before .before .before .before .next) .ensures)) (inside (z .ready) (sym ((c .before .before .before .before .before .before .before .before .before .before .kind) .ensures) ∙ (c .before .before .before .before .before .before .before .before .before .if1) .left) (omega arith))) (passed _ _ _ ((c .before .before .before .before .before .before .before .expect2) .ensures) ((c .before .before .before .before .before .r) .given .1)) (omega arith))) .took .ready .fits, omega arith)
+    let z = (c .before .before .before .before .before .before .before .before .before .before .before .before) .pre in (
+      accepted ((c .before .q) .given .1) ((c .before .before .before .tags) .ensures (z .tokens)
+          (passed-ready (past-ready (z .ready) (next-of ((c .before .before .before .before .before .before .before .before .next) .ensures))
+          (inside (z .ready) (sym ((c .before .before .before .before .before .before .before .before .before .before .kind) .ensures) ∙
+          (c .before .before .before .before .before .before .before .before .before .if1) .left) (omega arith)))
+          (passed _ _ _ ((c .before .before .before .before .before .before .before .expect2) .ensures) ((c .before .before .before .before .before .r) .given .1)) (omega arith))) .took .ready .fits,
+      omega arith,
+    )
 
 returns-4 : tie.Need-returns-4
 returns-4 c =
-    λ ts ready. with-tags ready (sym ((c .before .before .before .before .before .before .before .before .before .before .before .kind) .ensures) ∙ (c .before .before .before .before .before .before .before .before .before .before .if1) .left) (next-of ((c .before .before .before .before .before .before .before .before .before .next) .ensures)) (skim-then (expect-spelt (past-ready ready (next-of ((c .before .before .before .before .before .before .before .before .before .next) .ensures)) (inside ready (sym ((c .before .before .before .before .before .before .before .before .before .before .before .kind) .ensures) ∙ (c .before .before .before .before .before .before .before .before .before .before .if1) .left) (omega arith))) ":" (record { known = refl; same = refl }) ((c .before .before .before .before .before .before .before .before .expect2) .ensures)) _ ((c .before .before .before .before .before .before .r) .given .1) (λ a. skim-then ((c .before .before .before .before .tags) .ensures ts (passed-ready (past-ready ready (next-of ((c .before .before .before .before .before .before .before .before .before .next) .ensures)) (inside ready (sym ((c .before .before .before .before .before .before .before .before .before .before .before .kind) .ensures) ∙ (c .before .before .before .before .before .before .before .before .before .before .if1) .left) (omega arith))) (passed _ _ _ ((c .before .before .before .before .before .before .before .before .expect2) .ensures) ((c .before .before .before .before .before .before .r) .given .1)) (omega arith))) _ ((c .before .before .q) .given .1) (λ b. expect-spelt (accepted ((c .before .before .q) .given .1) ((c .before .before .before .before .tags) .ensures ts (passed-ready (past-ready ready (next-of ((c .before .before .before .before .before .before .before .before .before .next) .ensures)) (inside ready (sym ((c .before .before .before .before .before .before .before .before .before .before .before .kind) .ensures) ∙ (c .before .before .before .before .before .before .before .before .before .before .if1) .left) (omega arith))) (passed _ _ _ ((c .before .before .before .before .before .before .before .before .expect2) .ensures) ((c .before .before .before .before .before .before .r) .given .1)) (omega arith))) .took .ready) "}" (record { known = refl; same = refl }) ((c .expect3) .ensures))))
+    λ ts ready. with-tags ready (sym ((c .before .before .before .before .before .before .before .before .before .before .before .kind) .ensures) ∙
+    (c .before .before .before .before .before .before .before .before .before .before .if1) .left)
+    (next-of ((c .before .before .before .before .before .before .before .before .before .next) .ensures))
+    (skim-then (expect-spelt (past-ready ready (next-of ((c .before .before .before .before .before .before .before .before .before .next) .ensures))
+    (inside ready (sym ((c .before .before .before .before .before .before .before .before .before .before .before .kind) .ensures) ∙
+    (c .before .before .before .before .before .before .before .before .before .before .if1) .left) (omega arith))) ":" (record { known = refl; same = refl })
+    ((c .before .before .before .before .before .before .before .before .expect2) .ensures)) _ ((c .before .before .before .before .before .before .r) .given .1)
+    (λ a. skim-then ((c .before .before .before .before .tags) .ensures ts
+    (passed-ready (past-ready ready (next-of ((c .before .before .before .before .before .before .before .before .before .next) .ensures))
+    (inside ready (sym ((c .before .before .before .before .before .before .before .before .before .before .before .kind) .ensures) ∙
+    (c .before .before .before .before .before .before .before .before .before .before .if1) .left) (omega arith)))
+    (passed _ _ _ ((c .before .before .before .before .before .before .before .before .expect2) .ensures) ((c .before .before .before .before .before .before .r) .given .1)) (omega arith))) _
+    ((c .before .before .q) .given .1) (λ b. expect-spelt (accepted ((c .before .before .q) .given .1)
+    ((c .before .before .before .before .tags) .ensures ts (passed-ready
+    (past-ready ready (next-of ((c .before .before .before .before .before .before .before .before .before .next) .ensures))
+    (inside ready (sym ((c .before .before .before .before .before .before .before .before .before .before .before .kind) .ensures) ∙
+    (c .before .before .before .before .before .before .before .before .before .before .if1) .left) (omega arith)))
+    (passed _ _ _ ((c .before .before .before .before .before .before .before .before .expect2) .ensures) ((c .before .before .before .before .before .before .r) .given .1))
+    (omega arith))) .took .ready) "}" (record { known = refl; same = refl }) ((c .expect3) .ensures))))
 
 pub info-end-spec : {M : Type 1} → statement M
 info-end-spec =

@@ -28,7 +28,9 @@ expect-requires-2 c κs =
 
 returns-2 : tie.Need-returns-2
 returns-2 c =
-    λ s u first second ts ready. skim-then (expect-spelt ready s first ((c .before .before .before .before .expect) .ensures)) _ ((c .before .before .r) .given .1) (λ a. expect-spelt (passed-ready ready (passed _ _ _ ((c .before .before .before .before .expect) .ensures) ((c .before .before .r) .given .1)) ((c .before .before .before .before .before .before) .pre .1)) u second ((c .expect2) .ensures))
+    λ s u first second ts ready. skim-then (expect-spelt ready s first ((c .before .before .before .before .expect) .ensures)) _ ((c .before .before .r) .given .1)
+    (λ a. expect-spelt (passed-ready ready (passed _ _ _ ((c .before .before .before .before .expect) .ensures) ((c .before .before .r) .given .1))
+    ((c .before .before .before .before .before .before) .pre .1)) u second ((c .expect2) .ensures))
 
 pub pair-spec : {M : Type 1} → statement M
 pair-spec =

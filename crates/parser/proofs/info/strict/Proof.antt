@@ -21,7 +21,11 @@ next-requires c κs =
 
 expect-requires : tie.Need-expect-requires
 expect-requires c κs =
-    let z = (c .before .before .before .before) .pre in (past-ready (z .ready) (next-of ((c .next) .ensures)) (inside (z .ready) (sym ((c .before .before .kind) .ensures) ∙ (c .before .if1) .left) (omega arith)) .fits, omega arith)
+    let z = (c .before .before .before .before) .pre in (
+      past-ready (z .ready) (next-of ((c .next) .ensures))
+          (inside (z .ready) (sym ((c .before .before .kind) .ensures) ∙ (c .before .if1) .left) (omega arith)) .fits,
+      omega arith,
+    )
 
 returns-2 : tie.Need-returns-2
 returns-2 c =

@@ -42,23 +42,32 @@ returns c =
 
 kind-requires : tie.Need-kind-requires Inv-loop μ-loop
 kind-requires c κs =
-    let z = (c .before .before .before .before .before .before) .pre in let h = (c .before .before .before .before .loop) .inv (z .tokens) (z .ready) in let r = (c .before .before .before .tag) .ensures (z .tokens) (h .took .ready) in accepted ((c .before .r) .given .1) r .took .ready .fits
+    let z = (c .before .before .before .before .before .before) .pre in let h = (c .before .before .before .before .loop) .inv (z .tokens) (z .ready) in
+    let r = (c .before .before .before .tag) .ensures (z .tokens) (h .took .ready) in accepted ((c .before .r) .given .1) r .took .ready .fits
 
 returns-2 : tie.Need-returns-2 Inv-loop μ-loop
 returns-2 c =
-    λ ts ready. let h = (c .before .before .before .before .before .before .loop) .inv ts ready in let r = (c .before .before .before .before .before .tag) .ensures ts (h .took .ready) in tags-end h r ((c .before .before .before .r) .given .1) (λ e. (c .if1) .taken ((c .before .kind) .ensures ∙ e))
+    λ ts ready. let h = (c .before .before .before .before .before .before .loop) .inv ts ready in let r = (c .before .before .before .before .before .tag) .ensures ts (h .took .ready) in
+    tags-end h r ((c .before .before .before .r) .given .1) (λ e. (c .if1) .taken ((c .before .kind) .ensures ∙ e))
 
 next-requires : tie.Need-next-requires Inv-loop μ-loop
 next-requires c κs =
-    let z = (c .before .before .before .before .before .before .before .before) .pre in let h = (c .before .before .before .before .before .before .loop) .inv (z .tokens) (z .ready) in let r = (c .before .before .before .before .before .tag) .ensures (z .tokens) (h .took .ready) in next-fits (accepted ((c .before .before .before .r) .given .1) r .took .ready) (sym ((c .before .kind) .ensures) ∙ (c .if1) .left) (omega arith)
+    let z = (c .before .before .before .before .before .before .before .before) .pre in let h = (c .before .before .before .before .before .before .loop) .inv (z .tokens) (z .ready) in
+    let r = (c .before .before .before .before .before .tag) .ensures (z .tokens) (h .took .ready) in
+    next-fits (accepted ((c .before .before .before .r) .given .1) r .took .ready) (sym ((c .before .kind) .ensures) ∙ (c .if1) .left) (omega arith)
 
 loop-less : tie.Need-loop-less Inv-loop μ-loop
 loop-less c =
-    let z = (c .before .before .before .before .before .before .before .before .before) .pre in let h = (c .before .before .before .before .before .before .before .loop) .inv (z .tokens) (z .ready) in let r = (c .before .before .before .before .before .before .tag) .ensures (z .tokens) (h .took .ready) in let t = accepted ((c .before .before .before .before .r) .given .1) r .took in turn-falls (t .ready) (t .onward) (sym ((c .before .before .kind) .ensures) ∙ (c .before .if1) .left) (omega arith) ((c .next) .ensures)
+    let z = (c .before .before .before .before .before .before .before .before .before) .pre in
+    let h = (c .before .before .before .before .before .before .before .loop) .inv (z .tokens) (z .ready) in
+    let r = (c .before .before .before .before .before .before .tag) .ensures (z .tokens) (h .took .ready) in let t = accepted ((c .before .before .before .before .r) .given .1) r .took in
+    turn-falls (t .ready) (t .onward) (sym ((c .before .before .kind) .ensures) ∙ (c .before .if1) .left) (omega arith) ((c .next) .ensures)
 
 loop-again : tie.Need-loop-again Inv-loop μ-loop
 loop-again c =
-    λ ts ready. let h = (c .before .before .before .before .before .before .before .loop) .inv ts ready in let r = (c .before .before .before .before .before .before .tag) .ensures ts (h .took .ready) in tags-again h r ((c .before .before .before .before .r) .given .1) (sym ((c .before .before .kind) .ensures) ∙ (c .before .if1) .left) (next-of ((c .next) .ensures))
+    λ ts ready. let h = (c .before .before .before .before .before .before .before .loop) .inv ts ready in
+    let r = (c .before .before .before .before .before .before .tag) .ensures ts (h .took .ready) in
+    tags-again h r ((c .before .before .before .before .r) .given .1) (sym ((c .before .before .kind) .ensures) ∙ (c .before .if1) .left) (next-of ((c .next) .ensures))
 
 pub tags-spec : {M : Type 1} → statement M
 tags-spec =

@@ -26,7 +26,12 @@ returns c =
 
 described-requires : tie.Need-described-requires
 described-requires c κs =
-    let z = (c .before .before .before .before .before) .pre in (record { tokens = z .tokens; ready = passed-ready (z .ready) (passed _ _ _ ((c .before .before .before .expect) .ensures) ((c .before .r) .given .1)) (omega arith) }, record { spelling = "TITLE"; spells = (record { known = refl; same = refl }) })
+    let z = (c .before .before .before .before .before) .pre in (
+      record
+          { tokens = z .tokens; ready = passed-ready (z .ready) (passed _ _ _ ((c .before .before .before .expect) .ensures) ((c .before .r) .given .1)) (omega arith) },
+      record
+          { spelling = "TITLE"; spells = (record { known = refl; same = refl }) },
+    )
 
 enum-known-q : tie.Need-enum-known-q
 enum-known-q c =
@@ -38,15 +43,35 @@ enum-told-2 c =
 
 returns-2 : tie.Need-returns-2
 returns-2 c =
-    λ ts ready. skim-then (expect-spelt ready "{" (record { known = refl; same = refl }) ((c .before .before .before .before .before .before .expect) .ensures)) _ ((c .before .before .before .before .r) .given .1) (λ a. skim-refused ((c .before .before .described) .ensures "TITLE" (record { known = refl; same = refl }) ts (passed-ready ready (passed _ _ _ ((c .before .before .before .before .before .before .expect) .ensures) ((c .before .before .before .before .r) .given .1)) (omega arith))) _ ((c .enum-told2) .given .1))
+    λ ts ready. skim-then (expect-spelt ready "{" (record { known = refl; same = refl }) ((c .before .before .before .before .before .before .expect) .ensures)) _
+    ((c .before .before .before .before .r) .given .1) (λ a. skim-refused
+    ((c .before .before .described) .ensures "TITLE" (record { known = refl; same = refl }) ts
+    (passed-ready ready (passed _ _ _ ((c .before .before .before .before .before .before .expect) .ensures) ((c .before .before .before .before .r) .given .1)) (omega arith))) _
+    ((c .enum-told2) .given .1))
 
 described-requires-2 : tie.Need-described-requires-2
 described-requires-2 c κs =
-    let z = (c .before .before .before .before .before .before .before .before .before) .pre in (record { tokens = z .tokens; ready = accepted ((c .before .q) .given .1) ((c .before .before .before .described) .ensures "TITLE" (record { known = refl; same = refl }) (z .tokens) (passed-ready (z .ready) (passed _ _ _ ((c .before .before .before .before .before .before .before .expect) .ensures) ((c .before .before .before .before .before .r) .given .1)) (omega arith))) .took .ready }, record { spelling = "DESCRIPTION"; spells = (record { known = refl; same = refl }) })
+    let z = (c .before .before .before .before .before .before .before .before .before) .pre in (
+      record {
+        tokens = z .tokens;
+        ready = accepted ((c .before .q) .given .1)
+            ((c .before .before .before .described) .ensures "TITLE" (record { known = refl; same = refl }) (z .tokens)
+            (passed-ready (z .ready) (passed _ _ _ ((c .before .before .before .before .before .before .before .expect) .ensures) ((c .before .before .before .before .before .r) .given .1))
+            (omega arith))) .took .ready;
+      },
+      record { spelling = "DESCRIPTION"; spells = (record { known = refl; same = refl }) },
+    )
 
 returns-3 : tie.Need-returns-3
 returns-3 c =
-    λ ts ready. skim-then (expect-spelt ready "{" (record { known = refl; same = refl }) ((c .before .before .before .before .before .before .before .before .expect) .ensures)) _ ((c .before .before .before .before .before .before .r) .given .1) (λ a. skim-then ((c .before .before .before .before .described) .ensures "TITLE" (record { known = refl; same = refl }) ts (passed-ready ready (passed _ _ _ ((c .before .before .before .before .before .before .before .before .expect) .ensures) ((c .before .before .before .before .before .before .r) .given .1)) (omega arith))) _ ((c .before .before .q) .given .1) (λ b. (c .described2) .ensures "DESCRIPTION" (record { known = refl; same = refl }) ts (accepted ((c .before .before .q) .given .1) ((c .before .before .before .before .described) .ensures "TITLE" (record { known = refl; same = refl }) ts (passed-ready ready (passed _ _ _ ((c .before .before .before .before .before .before .before .before .expect) .ensures) ((c .before .before .before .before .before .before .r) .given .1)) (omega arith))) .took .ready)))
+    λ ts ready. skim-then (expect-spelt ready "{" (record { known = refl; same = refl }) ((c .before .before .before .before .before .before .before .before .expect) .ensures)) _
+    ((c .before .before .before .before .before .before .r) .given .1)
+    (λ a. skim-then ((c .before .before .before .before .described) .ensures "TITLE" (record { known = refl; same = refl }) ts
+    (passed-ready ready (passed _ _ _ ((c .before .before .before .before .before .before .before .before .expect) .ensures) ((c .before .before .before .before .before .before .r) .given .1))
+    (omega arith))) _ ((c .before .before .q) .given .1) (λ b. (c .described2) .ensures "DESCRIPTION" (record { known = refl; same = refl }) ts
+    (accepted ((c .before .before .q) .given .1) ((c .before .before .before .before .described) .ensures "TITLE" (record { known = refl; same = refl }) ts
+    (passed-ready ready (passed _ _ _ ((c .before .before .before .before .before .before .before .before .expect) .ensures) ((c .before .before .before .before .before .before .r) .given .1))
+    (omega arith))) .took .ready)))
 
 pub titles-spec : {M : Type 1} → statement M
 titles-spec =

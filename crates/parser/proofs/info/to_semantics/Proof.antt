@@ -25,11 +25,18 @@ returns c =
 
 pair-requires : tie.Need-pair-requires
 pair-requires c κs =
-    let z = (c .before .before .before .before .before) .pre in (record { tokens = z .tokens; ready = accepted ((c .before .r) .given .1) ((c .before .before .before .titles) .ensures (z .tokens) (z .ready)) .took .ready }, omega arith, omega arith)
+    let z = (c .before .before .before .before .before) .pre in (
+      record
+          { tokens = z .tokens; ready = accepted ((c .before .r) .given .1) ((c .before .before .before .titles) .ensures (z .tokens) (z .ready)) .took .ready },
+      omega arith,
+      omega arith,
+    )
 
 returns-2 : tie.Need-returns-2
 returns-2 c =
-    λ ts ready. skim-then ((c .before .before .before .before .titles) .ensures ts ready) _ ((c .before .before .r) .given .1) (λ a. (c .pair) .ensures "SEMANTICS" ":" (record { known = refl; same = refl }) (record { known = refl; same = refl }) ts (accepted ((c .before .before .r) .given .1) ((c .before .before .before .before .titles) .ensures ts ready) .took .ready))
+    λ ts ready. skim-then ((c .before .before .before .before .titles) .ensures ts ready) _ ((c .before .before .r) .given .1)
+    (λ a. (c .pair) .ensures "SEMANTICS" ":" (record { known = refl; same = refl }) (record { known = refl; same = refl }) ts
+    (accepted ((c .before .before .r) .given .1) ((c .before .before .before .before .titles) .ensures ts ready) .took .ready))
 
 pub to-semantics-spec : {M : Type 1} → statement M
 to-semantics-spec =

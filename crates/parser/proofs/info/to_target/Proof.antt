@@ -25,11 +25,18 @@ returns c =
 
 pair-requires : tie.Need-pair-requires
 pair-requires c κs =
-    let z = (c .before .before .before .before .before) .pre in (record { tokens = z .tokens; ready = accepted ((c .before .r) .given .1) ((c .before .before .before .strict) .ensures (z .tokens) (z .ready)) .took .ready }, omega arith, omega arith)
+    let z = (c .before .before .before .before .before) .pre in (
+      record
+          { tokens = z .tokens; ready = accepted ((c .before .r) .given .1) ((c .before .before .before .strict) .ensures (z .tokens) (z .ready)) .took .ready },
+      omega arith,
+      omega arith,
+    )
 
 returns-2 : tie.Need-returns-2
 returns-2 c =
-    λ ts ready. let later = accepted ((c .before .before .r) .given .1) ((c .before .before .before .before .strict) .ensures ts ready) .took .ready in skim-then ((c .before .before .before .before .strict) .ensures ts ready) _ ((c .before .before .r) .given .1) (λ s. skim-map later (λ t. s) ((c .pair) .ensures "TARGET" ":" (record { known = refl; same = refl }) (record { known = refl; same = refl }) ts later))
+    λ ts ready. let later = accepted ((c .before .before .r) .given .1) ((c .before .before .before .before .strict) .ensures ts ready) .took .ready in
+    skim-then ((c .before .before .before .before .strict) .ensures ts ready) _ ((c .before .before .r) .given .1)
+    (λ s. skim-map later (λ t. s) ((c .pair) .ensures "TARGET" ":" (record { known = refl; same = refl }) (record { known = refl; same = refl }) ts later))
 
 pub to-target-spec : {M : Type 1} → statement M
 to-target-spec =

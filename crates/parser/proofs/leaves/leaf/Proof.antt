@@ -27,7 +27,8 @@ returns c =
 
 emit-requires : tie.Need-emit-requires
 emit-requires c κs =
-    leaf-writes ((c .before .before .before .before .before .before .before) .pre .0 .ready) ((c .before .before .before .before .before .before .before) .pre .2) ((c .before .before .before .before .before .before .before) .pre .1) (passed _ _ _ ((c .before .before .before .before .expect) .ensures) ((c .before .before .r) .given .1))
+    leaf-writes ((c .before .before .before .before .before .before .before) .pre .0 .ready) ((c .before .before .before .before .before .before .before) .pre .2)
+    ((c .before .before .before .before .before .before .before) .pre .1) (passed _ _ _ ((c .before .before .before .before .expect) .ensures) ((c .before .before .r) .given .1))
 
 same-length-2 : tie.Need-same-length-2
 same-length-2 c =
@@ -35,7 +36,10 @@ same-length-2 c =
 
 returns-2 : tie.Need-returns-2
 returns-2 c =
-    λ k names ts ready. leaf-read ready names _ ((c .before .before .before .before .before .before .before .before .before .before) .pre .2) ((c .before .before .before .before .before .before .before .before .before .before) .pre .1) (passed _ _ _ ((c .before .before .before .before .before .before .before .expect) .ensures) ((c .before .before .before .before .before .r) .given .1)) ((c .before .before .emit) .ensures .1) ((c .before .before .emit) .ensures .0)
+    λ k names ts ready. leaf-read ready names _ ((c .before .before .before .before .before .before .before .before .before .before) .pre .2)
+    ((c .before .before .before .before .before .before .before .before .before .before) .pre .1)
+    (passed _ _ _ ((c .before .before .before .before .before .before .before .expect) .ensures) ((c .before .before .before .before .before .r) .given .1))
+    ((c .before .before .emit) .ensures .1) ((c .before .before .emit) .ensures .0)
 
 pub leaf-spec : {M : Type 1} → statement M
 leaf-spec =

@@ -17,7 +17,8 @@ next-requires-2 c κs =
 
 expression-requires : tie.Need-expression-requires
 expression-requires c κs =
-    let z = (c .before .before .before .before) .pre .0 in record { tokens = z .tokens; ready = width-ready (z .ready) ((c .before .before .before .before) .pre .1) (next-of ((c .before .before .next) .ensures)) (next-of ((c .before .next2) .ensures)) }
+    let z = (c .before .before .before .before) .pre .0 in record
+    { tokens = z .tokens; ready = width-ready (z .ready) ((c .before .before .before .before) .pre .1) (next-of ((c .before .before .next) .ensures)) (next-of ((c .before .next2) .ensures)) }
 
 enum-known-r : tie.Need-enum-known-r
 enum-known-r c =
@@ -33,11 +34,21 @@ same-length c =
 
 returns : tie.Need-returns
 returns c =
-    λ ts ready. bus-refused ready ((c .before .before .before .before .before .before .before .before .before) .pre .1) (next-of ((c .before .before .before .before .before .before .before .next) .ensures)) (next-of ((c .before .before .before .before .before .before .next2) .ensures)) ((c .before .before .before .before .expression) .ensures ts (width-ready ready ((c .before .before .before .before .before .before .before .before .before) .pre .1) (next-of ((c .before .before .before .before .before .before .before .next) .ensures)) (next-of ((c .before .before .before .before .before .before .next2) .ensures)))) ((c .enum-told) .given .1)
+    λ ts ready. bus-refused ready ((c .before .before .before .before .before .before .before .before .before) .pre .1)
+    (next-of ((c .before .before .before .before .before .before .before .next) .ensures)) (next-of ((c .before .before .before .before .before .before .next2) .ensures))
+    ((c .before .before .before .before .expression) .ensures ts (width-ready ready ((c .before .before .before .before .before .before .before .before .before) .pre .1)
+    (next-of ((c .before .before .before .before .before .before .before .next) .ensures)) (next-of ((c .before .before .before .before .before .before .next2) .ensures))))
+    ((c .enum-told) .given .1)
 
 expect-requires : tie.Need-expect-requires
 expect-requires c κs =
-    let z = (c .before .before .before .before .before .before .before .before .before .before .before) .pre .0 in (accepted ((c .before .before .r) .given .1) ((c .before .before .before .before .before .before .expression) .ensures (z .tokens) (width-ready (z .ready) ((c .before .before .before .before .before .before .before .before .before .before .before) .pre .1) (next-of ((c .before .before .before .before .before .before .before .before .before .next) .ensures)) (next-of ((c .before .before .before .before .before .before .before .before .next2) .ensures)))) .took .ready .fits, omega arith)
+    let z = (c .before .before .before .before .before .before .before .before .before .before .before) .pre .0 in (
+      accepted ((c .before .before .r) .given .1) ((c .before .before .before .before .before .before .expression) .ensures (z .tokens)
+          (width-ready (z .ready) ((c .before .before .before .before .before .before .before .before .before .before .before) .pre .1)
+          (next-of ((c .before .before .before .before .before .before .before .before .before .next) .ensures))
+          (next-of ((c .before .before .before .before .before .before .before .before .next2) .ensures)))) .took .ready .fits,
+      omega arith,
+    )
 
 enum-known-q : tie.Need-enum-known-q
 enum-known-q c =
@@ -53,11 +64,26 @@ same-length-2 c =
 
 returns-2 : tie.Need-returns-2
 returns-2 c =
-    λ ts ready. bus-unclosed ready ((c .before .before .before .before .before .before .before .before .before .before .before .before .before .before) .pre .1) (next-of ((c .before .before .before .before .before .before .before .before .before .before .before .before .next) .ensures)) (next-of ((c .before .before .before .before .before .before .before .before .before .before .before .next2) .ensures)) ((c .before .before .before .before .before .before .before .before .before .expression) .ensures ts (width-ready ready ((c .before .before .before .before .before .before .before .before .before .before .before .before .before .before) .pre .1) (next-of ((c .before .before .before .before .before .before .before .before .before .before .before .before .next) .ensures)) (next-of ((c .before .before .before .before .before .before .before .before .before .before .before .next2) .ensures)))) ((c .before .before .before .before .before .r) .given .1) ((c .before .before .expect) .ensures) ((c .enum-told2) .given .1)
+    λ ts ready. bus-unclosed ready ((c .before .before .before .before .before .before .before .before .before .before .before .before .before .before) .pre .1)
+    (next-of ((c .before .before .before .before .before .before .before .before .before .before .before .before .next) .ensures))
+    (next-of ((c .before .before .before .before .before .before .before .before .before .before .before .next2) .ensures))
+    ((c .before .before .before .before .before .before .before .before .before .expression) .ensures ts
+    (width-ready ready ((c .before .before .before .before .before .before .before .before .before .before .before .before .before .before) .pre .1)
+    (next-of ((c .before .before .before .before .before .before .before .before .before .before .before .before .next) .ensures))
+    (next-of ((c .before .before .before .before .before .before .before .before .before .before .before .next2) .ensures)))) ((c .before .before .before .before .before .r) .given .1)
+    ((c .before .before .expect) .ensures) ((c .enum-told2) .given .1)
 
 close-requires : tie.Need-close-requires
 close-requires c κs =
-    let z = (c .before .before .before .before .before .before .before .before .before .before .before .before .before .before .before .before) .pre .0 in bus-writes (z .ready) ((c .before .before .before .before .before .before .before .before .before .before .before .before .before .before .before .before) .pre .1) (next-of ((c .before .before .before .before .before .before .before .before .before .before .before .before .before .before .next) .ensures)) (next-of ((c .before .before .before .before .before .before .before .before .before .before .before .before .before .next2) .ensures)) ((c .before .before .before .before .before .before .before .before .before .before .before .expression) .ensures (z .tokens) (width-ready (z .ready) ((c .before .before .before .before .before .before .before .before .before .before .before .before .before .before .before .before) .pre .1) (next-of ((c .before .before .before .before .before .before .before .before .before .before .before .before .before .before .next) .ensures)) (next-of ((c .before .before .before .before .before .before .before .before .before .before .before .before .before .next2) .ensures)))) ((c .before .before .before .before .before .before .before .r) .given .1) (passed _ _ _ ((c .before .before .before .before .expect) .ensures) ((c .before .before .q) .given .1))
+    let z = (c .before .before .before .before .before .before .before .before .before .before .before .before .before .before .before .before) .pre .0 in
+    bus-writes (z .ready) ((c .before .before .before .before .before .before .before .before .before .before .before .before .before .before .before .before) .pre .1)
+    (next-of ((c .before .before .before .before .before .before .before .before .before .before .before .before .before .before .next) .ensures))
+    (next-of ((c .before .before .before .before .before .before .before .before .before .before .before .before .before .next2) .ensures))
+    ((c .before .before .before .before .before .before .before .before .before .before .before .expression) .ensures (z .tokens)
+    (width-ready (z .ready) ((c .before .before .before .before .before .before .before .before .before .before .before .before .before .before .before .before) .pre .1)
+    (next-of ((c .before .before .before .before .before .before .before .before .before .before .before .before .before .before .next) .ensures))
+    (next-of ((c .before .before .before .before .before .before .before .before .before .before .before .before .before .next2) .ensures))))
+    ((c .before .before .before .before .before .before .before .r) .given .1) (passed _ _ _ ((c .before .before .before .before .expect) .ensures) ((c .before .before .q) .given .1))
 
 same-length-3 : tie.Need-same-length-3
 same-length-3 c =
@@ -65,7 +91,16 @@ same-length-3 c =
 
 returns-3 : tie.Need-returns-3
 returns-3 c =
-    λ ts ready. bus-read ready ((c .before .before .before .before .before .before .before .before .before .before .before .before .before .before .before .before .before .before .before) .pre .1) (next-of ((c .before .before .before .before .before .before .before .before .before .before .before .before .before .before .before .before .before .next) .ensures)) (next-of ((c .before .before .before .before .before .before .before .before .before .before .before .before .before .before .before .before .next2) .ensures)) ((c .before .before .before .before .before .before .before .before .before .before .before .before .before .before .expression) .ensures ts (width-ready ready ((c .before .before .before .before .before .before .before .before .before .before .before .before .before .before .before .before .before .before .before) .pre .1) (next-of ((c .before .before .before .before .before .before .before .before .before .before .before .before .before .before .before .before .before .next) .ensures)) (next-of ((c .before .before .before .before .before .before .before .before .before .before .before .before .before .before .before .before .next2) .ensures)))) ((c .before .before .before .before .before .before .before .before .before .before .r) .given .1) (passed _ _ _ ((c .before .before .before .before .before .before .before .expect) .ensures) ((c .before .before .before .before .before .q) .given .1)) ((c .before .before .close) .ensures .0) ((c .before .before .close) .ensures .1)
+    λ ts ready. bus-read ready ((c .before .before .before .before .before .before .before .before .before .before .before .before .before .before .before .before .before .before .before) .pre .1)
+    (next-of ((c .before .before .before .before .before .before .before .before .before .before .before .before .before .before .before .before .before .next) .ensures))
+    (next-of ((c .before .before .before .before .before .before .before .before .before .before .before .before .before .before .before .before .next2) .ensures))
+    ((c .before .before .before .before .before .before .before .before .before .before .before .before .before .before .expression) .ensures ts
+    (width-ready ready ((c .before .before .before .before .before .before .before .before .before .before .before .before .before .before .before .before .before .before .before) .pre .1)
+    (next-of ((c .before .before .before .before .before .before .before .before .before .before .before .before .before .before .before .before .before .next) .ensures))
+    (next-of ((c .before .before .before .before .before .before .before .before .before .before .before .before .before .before .before .before .next2) .ensures))))
+    ((c .before .before .before .before .before .before .before .before .before .before .r) .given .1)
+    (passed _ _ _ ((c .before .before .before .before .before .before .before .expect) .ensures) ((c .before .before .before .before .before .q) .given .1))
+    ((c .before .before .close) .ensures .0) ((c .before .before .close) .ensures .1)
 
 pub bus-spec : {M : Type 1} → statement M
 bus-spec =

@@ -29,11 +29,16 @@ returns c =
 
 kind-requires : tie.Need-kind-requires
 kind-requires c κs =
-    let z = (c .before .before .before .before .before .before .before) .pre in name-ready (z .ready) (passed _ _ _ ((c .before .before .before .before .expect) .ensures) ((c .before .before .r) .given .1)) .fits
+    let z = (c .before .before .before .before .before .before .before) .pre in
+    name-ready (z .ready) (passed _ _ _ ((c .before .before .before .before .expect) .ensures) ((c .before .before .r) .given .1)) .fits
 
 bus-requires : tie.Need-bus-requires
 bus-requires c κs =
-    let z = (c .before .before .before .before .before .before .before .before .before .before) .pre in (z, bus-within (z .ready) (passed _ _ _ ((c .before .before .before .before .before .before .before .expect) .ensures) ((c .before .before .before .before .before .r) .given .1)) (sym ((c .before .before .kind) .ensures) ∙ (c .before .if1) .taken))
+    let z = (c .before .before .before .before .before .before .before .before .before .before) .pre in (
+      z,
+      bus-within (z .ready) (passed _ _ _ ((c .before .before .before .before .before .before .before .expect) .ensures) ((c .before .before .before .before .before .r) .given .1))
+          (sym ((c .before .before .kind) .ensures) ∙ (c .before .if1) .taken),
+    )
 
 same-length-2 : tie.Need-same-length-2
 same-length-2 c =
@@ -41,19 +46,31 @@ same-length-2 c =
 
 returns-2 : tie.Need-returns-2
 returns-2 c =
-    λ ts ready. declaration-bus ready (passed _ _ _ ((c .before .before .before .before .before .before .before .before .before .before .expect) .ensures) ((c .before .before .before .before .before .before .before .before .r) .given .1)) (sym ((c .before .before .before .before .before .kind) .ensures) ∙ (c .before .before .before .before .if1) .taken) ((c .before .before .bus) .ensures ts ready)
+    λ ts ready. declaration-bus ready (passed _ _ _ ((c .before .before .before .before .before .before .before .before .before .before .expect) .ensures)
+    ((c .before .before .before .before .before .before .before .before .r) .given .1))
+    (sym ((c .before .before .before .before .before .kind) .ensures) ∙ (c .before .before .before .before .if1) .taken) ((c .before .before .bus) .ensures ts ready)
 
 next-requires : tie.Need-next-requires
 next-requires c κs =
-    let z = (c .before .before .before .before .before .before .before .before .before .before) .pre in next-fits (name-ready (z .ready) (passed _ _ _ ((c .before .before .before .before .before .before .before .expect) .ensures) ((c .before .before .before .before .before .r) .given .1))) (sym ((c .before .before .kind) .ensures) ∙ (c .if2) .taken) (omega arith)
+    let z = (c .before .before .before .before .before .before .before .before .before .before) .pre in
+    next-fits (name-ready (z .ready) (passed _ _ _ ((c .before .before .before .before .before .before .before .expect) .ensures) ((c .before .before .before .before .before .r) .given .1)))
+    (sym ((c .before .before .kind) .ensures) ∙ (c .if2) .taken) (omega arith)
 
 emit-requires : tie.Need-emit-requires
 emit-requires c κs =
-    let z = (c .before .before .before .before .before .before .before .before .before .before .before .before) .pre in first-writes (z .ready) (passed _ _ _ ((c .before .before .before .before .before .before .before .before .before .expect) .ensures) ((c .before .before .before .before .before .before .before .r) .given .1)) (λ e. (c .before .before .before .if1) .left ((c .before .before .before .before .kind) .ensures ∙ e)) (sym ((c .before .before .before .before .kind) .ensures) ∙ (c .before .before .if2) .taken) (next-of ((c .before .next) .ensures))
+    let z = (c .before .before .before .before .before .before .before .before .before .before .before .before) .pre in
+    first-writes (z .ready) (passed _ _ _ ((c .before .before .before .before .before .before .before .before .before .expect) .ensures)
+    ((c .before .before .before .before .before .before .before .r) .given .1)) (λ e. (c .before .before .before .if1) .left ((c .before .before .before .before .kind) .ensures ∙ e))
+    (sym ((c .before .before .before .before .kind) .ensures) ∙ (c .before .before .if2) .taken) (next-of ((c .before .next) .ensures))
 
 emit-requires-2 : tie.Need-emit-requires-2
 emit-requires-2 c κs =
-    let z = (c .before .before .before .before .before .before .before .before .before .before .before .before .before .before .before .before) .pre in second-writes (z .ready) (passed _ _ _ ((c .before .before .before .before .before .before .before .before .before .before .before .before .before .expect) .ensures) ((c .before .before .before .before .before .before .before .before .before .before .before .r) .given .1)) (λ e. (c .before .before .before .before .before .before .before .if1) .left ((c .before .before .before .before .before .before .before .before .kind) .ensures ∙ e)) (sym ((c .before .before .before .before .before .before .before .before .kind) .ensures) ∙ (c .before .before .before .before .before .before .if2) .taken) (next-of ((c .before .before .before .before .before .next) .ensures)) ((c .before .before .before .emit) .ensures .0) ((c .before .before .before .emit) .ensures .1)
+    let z = (c .before .before .before .before .before .before .before .before .before .before .before .before .before .before .before .before) .pre in
+    second-writes (z .ready) (passed _ _ _ ((c .before .before .before .before .before .before .before .before .before .before .before .before .before .expect) .ensures)
+    ((c .before .before .before .before .before .before .before .before .before .before .before .r) .given .1))
+    (λ e. (c .before .before .before .before .before .before .before .if1) .left ((c .before .before .before .before .before .before .before .before .kind) .ensures ∙ e))
+    (sym ((c .before .before .before .before .before .before .before .before .kind) .ensures) ∙ (c .before .before .before .before .before .before .if2) .taken)
+    (next-of ((c .before .before .before .before .before .next) .ensures)) ((c .before .before .before .emit) .ensures .0) ((c .before .before .before .emit) .ensures .1)
 
 same-length-3 : tie.Need-same-length-3
 same-length-3 c =
@@ -61,11 +78,21 @@ same-length-3 c =
 
 returns-3 : tie.Need-returns-3
 returns-3 c =
-    λ ts ready. declaration-typed ready (passed _ _ _ ((c .before .before .before .before .before .before .before .before .before .before .before .before .before .before .before .before .expect) .ensures) ((c .before .before .before .before .before .before .before .before .before .before .before .before .before .before .r) .given .1)) (λ e. (c .before .before .before .before .before .before .before .before .before .before .if1) .left ((c .before .before .before .before .before .before .before .before .before .before .before .kind) .ensures ∙ e)) (sym ((c .before .before .before .before .before .before .before .before .before .before .before .kind) .ensures) ∙ (c .before .before .before .before .before .before .before .before .before .if2) .taken) (next-of ((c .before .before .before .before .before .before .before .before .next) .ensures)) ((c .before .before .before .before .before .before .emit) .ensures .0) ((c .before .before .before .before .before .before .emit) .ensures .1) ((c .before .before .emit2) .ensures .0) ((c .before .before .emit2) .ensures .1)
+    λ ts ready. declaration-typed ready (passed _ _ _ ((c .before .before .before .before .before .before .before .before .before .before .before .before .before .before
+    .before .before .expect) .ensures) ((c .before .before .before .before .before .before .before .before .before .before .before .before .before .before .r) .given .1))
+    (λ e. (c .before .before .before .before .before .before .before .before .before .before .if1) .left
+    ((c .before .before .before .before .before .before .before .before .before .before .before .kind) .ensures ∙ e))
+    (sym ((c .before .before .before .before .before .before .before .before .before .before .before .kind) .ensures) ∙
+    (c .before .before .before .before .before .before .before .before .before .if2) .taken) (next-of ((c .before .before .before .before .before .before .before .before .next) .ensures))
+    ((c .before .before .before .before .before .before .emit) .ensures .0) ((c .before .before .before .before .before .before .emit) .ensures .1) ((c .before .before .emit2) .ensures .0)
+    ((c .before .before .emit2) .ensures .1)
 
 emit-requires-3 : tie.Need-emit-requires-3
 emit-requires-3 c κs =
-    let z = (c .before .before .before .before .before .before .before .before .before .before .before) .pre in signal-writes (z .ready) (passed _ _ _ ((c .before .before .before .before .before .before .before .before .expect) .ensures) ((c .before .before .before .before .before .before .r) .given .1)) (λ e. (c .before .before .if1) .left ((c .before .before .before .kind) .ensures ∙ e)) (λ e. (c .before .if2) .left ((c .before .before .before .kind) .ensures ∙ e))
+    let z = (c .before .before .before .before .before .before .before .before .before .before .before) .pre in
+    signal-writes (z .ready) (passed _ _ _ ((c .before .before .before .before .before .before .before .before .expect) .ensures)
+    ((c .before .before .before .before .before .before .r) .given .1)) (λ e. (c .before .before .if1) .left ((c .before .before .before .kind) .ensures ∙ e))
+    (λ e. (c .before .if2) .left ((c .before .before .before .kind) .ensures ∙ e))
 
 same-length-4 : tie.Need-same-length-4
 same-length-4 c =
@@ -73,7 +100,11 @@ same-length-4 c =
 
 returns-4 : tie.Need-returns-4
 returns-4 c =
-    λ ts ready. declaration-signal ready (passed _ _ _ ((c .before .before .before .before .before .before .before .before .before .before .before .expect) .ensures) ((c .before .before .before .before .before .before .before .before .before .r) .given .1)) (λ e. (c .before .before .before .before .before .if1) .left ((c .before .before .before .before .before .before .kind) .ensures ∙ e)) (λ e. (c .before .before .before .before .if2) .left ((c .before .before .before .before .before .before .kind) .ensures ∙ e)) ((c .before .before .emit3) .ensures .0) ((c .before .before .emit3) .ensures .1)
+    λ ts ready. declaration-signal ready (passed _ _ _ ((c .before .before .before .before .before .before .before .before .before .before .before .expect) .ensures)
+    ((c .before .before .before .before .before .before .before .before .before .r) .given .1))
+    (λ e. (c .before .before .before .before .before .if1) .left ((c .before .before .before .before .before .before .kind) .ensures ∙ e))
+    (λ e. (c .before .before .before .before .if2) .left ((c .before .before .before .before .before .before .kind) .ensures ∙ e)) ((c .before .before .emit3) .ensures .0)
+    ((c .before .before .emit3) .ensures .1)
 
 pub declaration-spec : {M : Type 1} → statement M
 declaration-spec =

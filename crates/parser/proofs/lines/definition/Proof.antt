@@ -17,7 +17,12 @@ next-requires c κs =
 
 enumeration-requires : tie.Need-enumeration-requires
 enumeration-requires c κs =
-    let z = (c .before .before .before .before .before .before) .pre in record { tokens = z .tokens; ready = past-ready (z .ready) (next-of ((c .before .next) .ensures)) (inside (z .ready) (sym ((c .before .before .before .kind) .ensures) ∙ (c .before .before .if1) .taken) (omega arith)) }
+    let z = (c .before .before .before .before .before .before) .pre in
+    record {
+      tokens = z .tokens;
+      ready = past-ready (z .ready) (next-of ((c .before .next) .ensures))
+          (inside (z .ready) (sym ((c .before .before .before .kind) .ensures) ∙ (c .before .before .if1) .taken) (omega arith));
+    }
 
 same-length : tie.Need-same-length
 same-length c =
@@ -25,7 +30,10 @@ same-length c =
 
 returns : tie.Need-returns
 returns c =
-    λ ts ready. definition-enum ready (sym ((c .before .before .before .before .before .before .kind) .ensures) ∙ (c .before .before .before .before .before .if1) .taken) (next-of ((c .before .before .before .before .next) .ensures)) ((c .before .before .enumeration) .ensures ts (past-ready ready (next-of ((c .before .before .before .before .next) .ensures)) (inside ready (sym ((c .before .before .before .before .before .before .kind) .ensures) ∙ (c .before .before .before .before .before .if1) .taken) (omega arith))))
+    λ ts ready. definition-enum ready (sym ((c .before .before .before .before .before .before .kind) .ensures) ∙ (c .before .before .before .before .before .if1) .taken)
+    (next-of ((c .before .before .before .before .next) .ensures))
+    ((c .before .before .enumeration) .ensures ts (past-ready ready (next-of ((c .before .before .before .before .next) .ensures))
+    (inside ready (sym ((c .before .before .before .before .before .before .kind) .ensures) ∙ (c .before .before .before .before .before .if1) .taken) (omega arith))))
 
 valued-requires : tie.Need-valued-requires
 valued-requires c κs =
@@ -37,7 +45,8 @@ same-length-2 c =
 
 returns-2 : tie.Need-returns-2
 returns-2 c =
-    λ ts ready. definition-valued ready (λ e. (c .before .before .before .before .if1) .left ((c .before .before .before .before .before .kind) .ensures ∙ e)) ((c .before .before .valued) .ensures ts ready)
+    λ ts ready. definition-valued ready (λ e. (c .before .before .before .before .if1) .left ((c .before .before .before .before .before .kind) .ensures ∙ e))
+    ((c .before .before .valued) .ensures ts ready)
 
 pub definition-spec : {M : Type 1} → statement M
 definition-spec =

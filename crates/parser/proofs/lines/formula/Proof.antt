@@ -27,11 +27,18 @@ same-length c =
 
 returns : tie.Need-returns
 returns c =
-    λ ts ready. formula-refused ready ((c .before .before .before .before .before .before .before .before) .pre .1) (next-of ((c .before .before .before .before .before .before .next) .ensures)) ((c .before .before .before .before .expression) .ensures ts (past-ready ready (next-of ((c .before .before .before .before .before .before .next) .ensures)) ((c .before .before .before .before .before .before .before .before) .pre .1))) ((c .enum-told) .given .1)
+    λ ts ready. formula-refused ready ((c .before .before .before .before .before .before .before .before) .pre .1) (next-of ((c .before .before .before .before .before .before .next) .ensures))
+    ((c .before .before .before .before .expression) .ensures ts (past-ready ready (next-of ((c .before .before .before .before .before .before .next) .ensures))
+    ((c .before .before .before .before .before .before .before .before) .pre .1))) ((c .enum-told) .given .1)
 
 close-requires : tie.Need-close-requires
 close-requires c κs =
-    let z = (c .before .before .before .before .before .before .before .before .before .before) .pre .0 in formula-writes (z .ready) ((c .before .before .before .before .before .before .before .before .before .before) .pre .1) (next-of ((c .before .before .before .before .before .before .before .before .next) .ensures)) ((c .before .before .before .before .before .before .expression) .ensures (z .tokens) (past-ready (z .ready) (next-of ((c .before .before .before .before .before .before .before .before .next) .ensures)) ((c .before .before .before .before .before .before .before .before .before .before) .pre .1))) ((c .before .before .r) .given .1)
+    let z = (c .before .before .before .before .before .before .before .before .before .before) .pre .0 in
+    formula-writes (z .ready) ((c .before .before .before .before .before .before .before .before .before .before) .pre .1)
+    (next-of ((c .before .before .before .before .before .before .before .before .next) .ensures))
+    ((c .before .before .before .before .before .before .expression) .ensures (z .tokens)
+    (past-ready (z .ready) (next-of ((c .before .before .before .before .before .before .before .before .next) .ensures))
+    ((c .before .before .before .before .before .before .before .before .before .before) .pre .1))) ((c .before .before .r) .given .1)
 
 same-length-2 : tie.Need-same-length-2
 same-length-2 c =
@@ -39,7 +46,12 @@ same-length-2 c =
 
 returns-2 : tie.Need-returns-2
 returns-2 c =
-    λ ts ready. formula-read ready ((c .before .before .before .before .before .before .before .before .before .before .before .before .before) .pre .1) (next-of ((c .before .before .before .before .before .before .before .before .before .before .before .next) .ensures)) ((c .before .before .before .before .before .before .before .before .before .expression) .ensures ts (past-ready ready (next-of ((c .before .before .before .before .before .before .before .before .before .before .before .next) .ensures)) ((c .before .before .before .before .before .before .before .before .before .before .before .before .before) .pre .1))) ((c .before .before .before .before .before .r) .given .1) ((c .before .before .close) .ensures .0) ((c .before .before .close) .ensures .1)
+    λ ts ready. formula-read ready ((c .before .before .before .before .before .before .before .before .before .before .before .before .before) .pre .1)
+    (next-of ((c .before .before .before .before .before .before .before .before .before .before .before .next) .ensures))
+    ((c .before .before .before .before .before .before .before .before .before .expression) .ensures ts
+    (past-ready ready (next-of ((c .before .before .before .before .before .before .before .before .before .before .before .next) .ensures))
+    ((c .before .before .before .before .before .before .before .before .before .before .before .before .before) .pre .1))) ((c .before .before .before .before .before .r) .given .1)
+    ((c .before .before .close) .ensures .0) ((c .before .before .close) .ensures .1)
 
 pub formula-spec : {M : Type 1} → statement M
 formula-spec =

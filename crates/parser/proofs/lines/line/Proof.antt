@@ -20,8 +20,14 @@ next-requires c κs =
     search needs
 
 valued-requires : tie.Need-valued-requires
-valued-requires c κs =
-    (record { tokens = (c .before .before .before .before .before) .pre .0 .tokens; ready = past-ready ((c .before .before .before .before .before) .pre .0 .ready) (next-of ((c .before .next) .ensures)) ((c .before .before .before .before .before) .pre .1) }, omega arith)
+valued-requires c κs = (
+  record {
+    tokens = (c .before .before .before .before .before) .pre .0 .tokens;
+    ready = past-ready ((c .before .before .before .before .before) .pre .0 .ready)
+        (next-of ((c .before .next) .ensures)) ((c .before .before .before .before .before) .pre .1);
+  },
+  omega arith,
+)
 
 enum-told-2 : tie.Need-enum-told-2
 enum-told-2 c =
@@ -33,7 +39,11 @@ next-requires-2 c κs =
 
 definition-requires : tie.Need-definition-requires
 definition-requires c κs =
-    record { tokens = (c .before .before .before .before .before) .pre .0 .tokens; ready = past-ready ((c .before .before .before .before .before) .pre .0 .ready) (next-of ((c .before .next2) .ensures)) ((c .before .before .before .before .before) .pre .1) }
+    record {
+      tokens = (c .before .before .before .before .before) .pre .0 .tokens;
+      ready = past-ready ((c .before .before .before .before .before) .pre .0 .ready)
+          (next-of ((c .before .next2) .ensures)) ((c .before .before .before .before .before) .pre .1);
+    }
 
 enum-told-3 : tie.Need-enum-told-3
 enum-told-3 c =
@@ -45,7 +55,11 @@ next-requires-3 c κs =
 
 declaration-requires : tie.Need-declaration-requires
 declaration-requires c κs =
-    record { tokens = (c .before .before .before .before .before) .pre .0 .tokens; ready = past-ready ((c .before .before .before .before .before) .pre .0 .ready) (next-of ((c .before .next3) .ensures)) ((c .before .before .before .before .before) .pre .1) }
+    record {
+      tokens = (c .before .before .before .before .before) .pre .0 .tokens;
+      ready = past-ready ((c .before .before .before .before .before) .pre .0 .ready)
+          (next-of ((c .before .next3) .ensures)) ((c .before .before .before .before .before) .pre .1);
+    }
 
 enum-told-4 : tie.Need-enum-told-4
 enum-told-4 c =
@@ -61,7 +75,12 @@ same-length c =
 
 returns : tie.Need-returns
 returns c =
-    λ ts ready. line-as (rest (drop ((c .before .before .before .before .before .before .before .before) .args .c .at) ts)) Parameters ((c .before .before .before .before .before .enum-told) .given .1) (reads-behind ready (next-of ((c .before .before .before .before .next) .ensures)) ((c .before .before .before .before .before .before .before .before) .pre .1) (ap parameterOf (rest-past ts (next-of ((c .before .before .before .before .next) .ensures)))) ((c .before .before .valued) .ensures ts (past-ready ready (next-of ((c .before .before .before .before .next) .ensures)) ((c .before .before .before .before .before .before .before .before) .pre .1))))
+    λ ts ready. line-as (rest (drop ((c .before .before .before .before .before .before .before .before) .args .c .at) ts)) Parameters
+    ((c .before .before .before .before .before .enum-told) .given .1)
+    (reads-behind ready (next-of ((c .before .before .before .before .next) .ensures)) ((c .before .before .before .before .before .before .before .before) .pre .1)
+    (ap parameterOf (rest-past ts (next-of ((c .before .before .before .before .next) .ensures))))
+    ((c .before .before .valued) .ensures ts (past-ready ready (next-of ((c .before .before .before .before .next) .ensures))
+    ((c .before .before .before .before .before .before .before .before) .pre .1))))
 
 same-length-2 : tie.Need-same-length-2
 same-length-2 c =
@@ -69,7 +88,12 @@ same-length-2 c =
 
 returns-2 : tie.Need-returns-2
 returns-2 c =
-    λ ts ready. line-as (rest (drop ((c .before .before .before .before .before .before .before .before) .args .c .at) ts)) Definitions ((c .before .before .before .before .before .enum-told2) .given .1) (reads-behind ready (next-of ((c .before .before .before .before .next2) .ensures)) ((c .before .before .before .before .before .before .before .before) .pre .1) (ap definitionOf (rest-past ts (next-of ((c .before .before .before .before .next2) .ensures)))) ((c .before .before .definition) .ensures ts (past-ready ready (next-of ((c .before .before .before .before .next2) .ensures)) ((c .before .before .before .before .before .before .before .before) .pre .1))))
+    λ ts ready. line-as (rest (drop ((c .before .before .before .before .before .before .before .before) .args .c .at) ts)) Definitions
+    ((c .before .before .before .before .before .enum-told2) .given .1)
+    (reads-behind ready (next-of ((c .before .before .before .before .next2) .ensures)) ((c .before .before .before .before .before .before .before .before) .pre .1)
+    (ap definitionOf (rest-past ts (next-of ((c .before .before .before .before .next2) .ensures))))
+    ((c .before .before .definition) .ensures ts (past-ready ready (next-of ((c .before .before .before .before .next2) .ensures))
+    ((c .before .before .before .before .before .before .before .before) .pre .1))))
 
 same-length-3 : tie.Need-same-length-3
 same-length-3 c =
@@ -77,7 +101,12 @@ same-length-3 c =
 
 returns-3 : tie.Need-returns-3
 returns-3 c =
-    λ ts ready. line-as (rest (drop ((c .before .before .before .before .before .before .before .before) .args .c .at) ts)) Declarations ((c .before .before .before .before .before .enum-told3) .given .1) (reads-behind ready (next-of ((c .before .before .before .before .next3) .ensures)) ((c .before .before .before .before .before .before .before .before) .pre .1) (ap declarationOf (rest-past ts (next-of ((c .before .before .before .before .next3) .ensures)))) ((c .before .before .declaration) .ensures ts (past-ready ready (next-of ((c .before .before .before .before .next3) .ensures)) ((c .before .before .before .before .before .before .before .before) .pre .1))))
+    λ ts ready. line-as (rest (drop ((c .before .before .before .before .before .before .before .before) .args .c .at) ts)) Declarations
+    ((c .before .before .before .before .before .enum-told3) .given .1)
+    (reads-behind ready (next-of ((c .before .before .before .before .next3) .ensures)) ((c .before .before .before .before .before .before .before .before) .pre .1)
+    (ap declarationOf (rest-past ts (next-of ((c .before .before .before .before .next3) .ensures))))
+    ((c .before .before .declaration) .ensures ts (past-ready ready (next-of ((c .before .before .before .before .next3) .ensures))
+    ((c .before .before .before .before .before .before .before .before) .pre .1))))
 
 same-length-4 : tie.Need-same-length-4
 same-length-4 c =
@@ -85,7 +114,8 @@ same-length-4 c =
 
 returns-4 : tie.Need-returns-4
 returns-4 c =
-    λ ts ready. line-as (rest (drop ((c .before .before .before .before .before .before .before) .args .c .at) ts)) Formulas ((c .before .before .before .before .enum-told4) .given .1) ((c .before .before .formula) .ensures ts ready)
+    λ ts ready. line-as (rest (drop ((c .before .before .before .before .before .before .before) .args .c .at) ts)) Formulas ((c .before .before .before .before .enum-told4) .given .1)
+    ((c .before .before .formula) .ensures ts ready)
 
 pub line-spec : {M : Type 1} → statement M
 line-spec =

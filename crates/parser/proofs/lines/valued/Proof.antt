@@ -28,7 +28,8 @@ returns c =
 
 expect-requires-2 : tie.Need-expect-requires-2
 expect-requires-2 c κs =
-    let z = (c .before .before .before .before .before .before .before) .pre .0 in (passed-ready (z .ready) (passed _ _ _ ((c .before .before .before .before .expect) .ensures) ((c .before .before .r) .given .1)) (omega arith) .fits, omega arith)
+    let z = (c .before .before .before .before .before .before .before) .pre .0 in
+    (passed-ready (z .ready) (passed _ _ _ ((c .before .before .before .before .expect) .ensures) ((c .before .before .r) .given .1)) (omega arith) .fits, omega arith)
 
 enum-known-p : tie.Need-enum-known-p
 enum-known-p c =
@@ -44,11 +45,15 @@ same-length-2 c =
 
 returns-2 : tie.Need-returns-2
 returns-2 c =
-    λ ts ready. valued-sign ready (passed _ _ _ ((c .before .before .before .before .before .before .before .expect) .ensures) ((c .before .before .before .before .before .r) .given .1)) ((c .before .before .expect2) .ensures) ((c .enum-told2) .given .1)
+    λ ts ready. valued-sign ready (passed _ _ _ ((c .before .before .before .before .before .before .before .expect) .ensures) ((c .before .before .before .before .before .r) .given .1))
+    ((c .before .before .expect2) .ensures) ((c .enum-told2) .given .1)
 
 expression-requires : tie.Need-expression-requires
 expression-requires c κs =
-    let z = (c .before .before .before .before .before .before .before .before .before .before .before .before) .pre .0 in passed-readied (passed-ready (z .ready) (passed _ _ _ ((c .before .before .before .before .before .before .before .before .before .expect) .ensures) ((c .before .before .before .before .before .before .before .r) .given .1)) (omega arith)) (passed _ _ _ ((c .before .before .before .before .expect2) .ensures) ((c .before .before .p) .given .1)) (omega arith)
+    let z = (c .before .before .before .before .before .before .before .before .before .before .before .before) .pre .0 in
+    passed-readied (passed-ready (z .ready) (passed _ _ _ ((c .before .before .before .before .before .before .before .before .before .expect) .ensures)
+    ((c .before .before .before .before .before .before .before .r) .given .1)) (omega arith))
+    (passed _ _ _ ((c .before .before .before .before .expect2) .ensures) ((c .before .before .p) .given .1)) (omega arith)
 
 enum-known-q : tie.Need-enum-known-q
 enum-known-q c =
@@ -64,11 +69,28 @@ same-length-3 c =
 
 returns-3 : tie.Need-returns-3
 returns-3 c =
-    λ ts ready. valued-refused ready (passed _ _ _ ((c .before .before .before .before .before .before .before .before .before .before .before .before .before .before .expect) .ensures) ((c .before .before .before .before .before .before .before .before .before .before .before .before .r) .given .1)) (passed _ _ _ ((c .before .before .before .before .before .before .before .before .before .expect2) .ensures) ((c .before .before .before .before .before .before .before .p) .given .1)) ((c .before .before .before .before .expression) .ensures ts (passed-ready (passed-ready ready (passed _ _ _ ((c .before .before .before .before .before .before .before .before .before .before .before .before .before .before .expect) .ensures) ((c .before .before .before .before .before .before .before .before .before .before .before .before .r) .given .1)) (omega arith)) (passed _ _ _ ((c .before .before .before .before .before .before .before .before .before .expect2) .ensures) ((c .before .before .before .before .before .before .before .p) .given .1)) (omega arith))) ((c .enum-told3) .given .1)
+    λ ts ready. valued-refused ready (passed _ _ _ ((c .before .before .before .before .before .before .before .before .before .before .before .before .before .before .expect) .ensures)
+    ((c .before .before .before .before .before .before .before .before .before .before .before .before .r) .given .1))
+    (passed _ _ _ ((c .before .before .before .before .before .before .before .before .before .expect2) .ensures) ((c .before .before .before .before .before .before .before .p) .given .1))
+    ((c .before .before .before .before .expression) .ensures ts (passed-ready
+    (passed-ready ready (passed _ _ _ ((c .before .before .before .before .before .before .before .before .before .before .before .before .before .before .expect) .ensures)
+    ((c .before .before .before .before .before .before .before .before .before .before .before .before .r) .given .1)) (omega arith))
+    (passed _ _ _ ((c .before .before .before .before .before .before .before .before .before .expect2) .ensures) ((c .before .before .before .before .before .before .before .p) .given .1))
+    (omega arith))) ((c .enum-told3) .given .1)
 
 close-requires : tie.Need-close-requires
 close-requires c κs =
-    let z = (c .before .before .before .before .before .before .before .before .before .before .before .before .before .before .before .before .before .before .before) .pre .0 in valued-writes (z .ready) (passed _ _ _ ((c .before .before .before .before .before .before .before .before .before .before .before .before .before .before .before .before .expect) .ensures) ((c .before .before .before .before .before .before .before .before .before .before .before .before .before .before .r) .given .1)) (passed _ _ _ ((c .before .before .before .before .before .before .before .before .before .before .before .expect2) .ensures) ((c .before .before .before .before .before .before .before .before .before .p) .given .1)) ((c .before .before .before .before .before .before .expression) .ensures (z .tokens) (passed-ready (passed-ready (z .ready) (passed _ _ _ ((c .before .before .before .before .before .before .before .before .before .before .before .before .before .before .before .before .expect) .ensures) ((c .before .before .before .before .before .before .before .before .before .before .before .before .before .before .r) .given .1)) (omega arith)) (passed _ _ _ ((c .before .before .before .before .before .before .before .before .before .before .before .expect2) .ensures) ((c .before .before .before .before .before .before .before .before .before .p) .given .1)) (omega arith))) ((c .before .before .q) .given .1) _ ((c .before .before .before .before .before .before .before .before .before .before .before .before .before .before .before .before .before .before .before) .pre .1)
+    let z = (c .before .before .before .before .before .before .before .before .before .before .before .before .before .before .before .before .before .before .before) .pre .0 in
+    valued-writes (z .ready) (passed _ _ _ ((c .before .before .before .before .before .before .before .before .before .before .before .before .before .before .before .before .expect) .ensures)
+    ((c .before .before .before .before .before .before .before .before .before .before .before .before .before .before .r) .given .1))
+    (passed _ _ _ ((c .before .before .before .before .before .before .before .before .before .before .before .expect2) .ensures)
+    ((c .before .before .before .before .before .before .before .before .before .p) .given .1))
+    ((c .before .before .before .before .before .before .expression) .ensures (z .tokens)
+    (passed-ready (passed-ready (z .ready) (passed _ _ _ ((c .before .before .before .before .before .before .before .before .before .before .before .before .before .before
+    .before .before .expect) .ensures) ((c .before .before .before .before .before .before .before .before .before .before .before .before .before .before .r) .given .1)) (omega arith))
+    (passed _ _ _ ((c .before .before .before .before .before .before .before .before .before .before .before .expect2) .ensures)
+    ((c .before .before .before .before .before .before .before .before .before .p) .given .1)) (omega arith))) ((c .before .before .q) .given .1) _
+    ((c .before .before .before .before .before .before .before .before .before .before .before .before .before .before .before .before .before .before .before) .pre .1)
 
 same-length-4 : tie.Need-same-length-4
 same-length-4 c =
@@ -76,7 +98,17 @@ same-length-4 c =
 
 returns-4 : tie.Need-returns-4
 returns-4 c =
-    λ ts ready. valued-read ready (passed _ _ _ ((c .before .before .before .before .before .before .before .before .before .before .before .before .before .before .before .before .before .before .before .expect) .ensures) ((c .before .before .before .before .before .before .before .before .before .before .before .before .before .before .before .before .before .r) .given .1)) (passed _ _ _ ((c .before .before .before .before .before .before .before .before .before .before .before .before .before .before .expect2) .ensures) ((c .before .before .before .before .before .before .before .before .before .before .before .before .p) .given .1)) ((c .before .before .before .before .before .before .before .before .before .expression) .ensures ts (passed-ready (passed-ready ready (passed _ _ _ ((c .before .before .before .before .before .before .before .before .before .before .before .before .before .before .before .before .before .before .before .expect) .ensures) ((c .before .before .before .before .before .before .before .before .before .before .before .before .before .before .before .before .before .r) .given .1)) (omega arith)) (passed _ _ _ ((c .before .before .before .before .before .before .before .before .before .before .before .before .before .before .expect2) .ensures) ((c .before .before .before .before .before .before .before .before .before .before .before .before .p) .given .1)) (omega arith))) ((c .before .before .before .before .before .q) .given .1) _ ((c .before .before .before .before .before .before .before .before .before .before .before .before .before .before .before .before .before .before .before .before .before .before) .pre .1) ((c .before .before .close) .ensures .0) ((c .before .before .close) .ensures .1)
+    λ ts ready. valued-read ready (passed _ _ _ ((c .before .before .before .before .before .before .before .before .before .before .before .before .before .before .before .before .before
+    .before .before .expect) .ensures) ((c .before .before .before .before .before .before .before .before .before .before .before .before .before .before .before .before .before .r) .given .1))
+    (passed _ _ _ ((c .before .before .before .before .before .before .before .before .before .before .before .before .before .before .expect2) .ensures)
+    ((c .before .before .before .before .before .before .before .before .before .before .before .before .p) .given .1))
+    ((c .before .before .before .before .before .before .before .before .before .expression) .ensures ts
+    (passed-ready (passed-ready ready (passed _ _ _ ((c .before .before .before .before .before .before .before .before .before .before .before .before .before .before .before .before .before
+    .before .before .expect) .ensures) ((c .before .before .before .before .before .before .before .before .before .before .before .before .before .before .before .before .before .r) .given .1))
+    (omega arith)) (passed _ _ _ ((c .before .before .before .before .before .before .before .before .before .before .before .before .before .before .expect2) .ensures)
+    ((c .before .before .before .before .before .before .before .before .before .before .before .before .p) .given .1)) (omega arith))) ((c .before .before .before .before .before .q) .given .1)
+    _ ((c .before .before .before .before .before .before .before .before .before .before .before .before .before .before .before .before .before .before .before .before .before .before) .pre .1)
+    ((c .before .before .close) .ensures .0) ((c .before .before .close) .ensures .1)
 
 pub valued-spec : {M : Type 1} → statement M
 valued-spec =

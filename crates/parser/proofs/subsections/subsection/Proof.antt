@@ -15,7 +15,13 @@ emit-requires c κs =
 
 block-requires : tie.Need-block-requires
 block-requires c κs =
-    record { tokens = (c .before .before .before .before .before .before .before .before) .pre .0 .tokens; ready = block-ready ((c .before .before .before .before .before .before .before .before) .pre .0 .ready) ((c .before .before .before .before .before .before .before .before) .pre .1) (next-of ((c .before .before .before .before .before .before .next) .ensures)) _ ((c .before .before .before .before .before .before .before .before) .pre .2) ((c .before .before .before .before .emit) .ensures .0) ((c .before .before .before .before .emit) .ensures .1) }
+    record {
+      tokens = (c .before .before .before .before .before .before .before .before) .pre .0 .tokens;
+      ready = block-ready
+          ((c .before .before .before .before .before .before .before .before) .pre .0 .ready) ((c .before .before .before .before .before .before .before .before) .pre .1)
+          (next-of ((c .before .before .before .before .before .before .next) .ensures)) _ ((c .before .before .before .before .before .before .before .before) .pre .2)
+          ((c .before .before .before .before .emit) .ensures .0) ((c .before .before .before .before .emit) .ensures .1);
+    }
 
 same-length : tie.Need-same-length
 same-length c =
@@ -23,11 +29,24 @@ same-length c =
 
 returns : tie.Need-returns
 returns c =
-    λ h code ts ready. declarations-read ready ((c .before .before .before .before .before .before .before .before .before .before .before) .pre .1) (next-of ((c .before .before .before .before .before .before .before .before .before .next) .ensures)) _ ((c .before .before .before .before .before .before .before .before .before .before .before) .pre .2) ((c .before .before .before .before .before .before .before .emit) .ensures .0) ((c .before .before .before .before .before .before .before .emit) .ensures .1) h code ((c .before .before .before .before .if1) .taken) ((c .before .before .block) .ensures ts (block-ready ready ((c .before .before .before .before .before .before .before .before .before .before .before) .pre .1) (next-of ((c .before .before .before .before .before .before .before .before .before .next) .ensures)) _ ((c .before .before .before .before .before .before .before .before .before .before .before) .pre .2) ((c .before .before .before .before .before .before .before .emit) .ensures .0) ((c .before .before .before .before .before .before .before .emit) .ensures .1)))
+    λ h code ts ready. declarations-read ready ((c .before .before .before .before .before .before .before .before .before .before .before) .pre .1)
+    (next-of ((c .before .before .before .before .before .before .before .before .before .next) .ensures)) _
+    ((c .before .before .before .before .before .before .before .before .before .before .before) .pre .2) ((c .before .before .before .before .before .before .before .emit) .ensures .0)
+    ((c .before .before .before .before .before .before .before .emit) .ensures .1) h code ((c .before .before .before .before .if1) .taken)
+    ((c .before .before .block) .ensures ts (block-ready ready ((c .before .before .before .before .before .before .before .before .before .before .before) .pre .1)
+    (next-of ((c .before .before .before .before .before .before .before .before .before .next) .ensures)) _
+    ((c .before .before .before .before .before .before .before .before .before .before .before) .pre .2) ((c .before .before .before .before .before .before .before .emit) .ensures .0)
+    ((c .before .before .before .before .before .before .before .emit) .ensures .1)))
 
 block-requires-2 : tie.Need-block-requires-2
 block-requires-2 c κs =
-    record { tokens = (c .before .before .before .before .before .before .before .before) .pre .0 .tokens; ready = block-ready ((c .before .before .before .before .before .before .before .before) .pre .0 .ready) ((c .before .before .before .before .before .before .before .before) .pre .1) (next-of ((c .before .before .before .before .before .before .next) .ensures)) _ ((c .before .before .before .before .before .before .before .before) .pre .2) ((c .before .before .before .before .emit) .ensures .0) ((c .before .before .before .before .emit) .ensures .1) }
+    record {
+      tokens = (c .before .before .before .before .before .before .before .before) .pre .0 .tokens;
+      ready = block-ready
+          ((c .before .before .before .before .before .before .before .before) .pre .0 .ready) ((c .before .before .before .before .before .before .before .before) .pre .1)
+          (next-of ((c .before .before .before .before .before .before .next) .ensures)) _ ((c .before .before .before .before .before .before .before .before) .pre .2)
+          ((c .before .before .before .before .emit) .ensures .0) ((c .before .before .before .before .emit) .ensures .1);
+    }
 
 same-length-2 : tie.Need-same-length-2
 same-length-2 c =
@@ -35,7 +54,14 @@ same-length-2 c =
 
 returns-2 : tie.Need-returns-2
 returns-2 c =
-    λ h code ts ready. formulas-read ready ((c .before .before .before .before .before .before .before .before .before .before .before) .pre .1) (next-of ((c .before .before .before .before .before .before .before .before .before .next) .ensures)) _ ((c .before .before .before .before .before .before .before .before .before .before .before) .pre .2) ((c .before .before .before .before .before .before .before .emit) .ensures .0) ((c .before .before .before .before .before .before .before .emit) .ensures .1) h code ((c .before .before .before .before .if1) .left) ((c .before .before .block2) .ensures ts (block-ready ready ((c .before .before .before .before .before .before .before .before .before .before .before) .pre .1) (next-of ((c .before .before .before .before .before .before .before .before .before .next) .ensures)) _ ((c .before .before .before .before .before .before .before .before .before .before .before) .pre .2) ((c .before .before .before .before .before .before .before .emit) .ensures .0) ((c .before .before .before .before .before .before .before .emit) .ensures .1)))
+    λ h code ts ready. formulas-read ready ((c .before .before .before .before .before .before .before .before .before .before .before) .pre .1)
+    (next-of ((c .before .before .before .before .before .before .before .before .before .next) .ensures)) _
+    ((c .before .before .before .before .before .before .before .before .before .before .before) .pre .2) ((c .before .before .before .before .before .before .before .emit) .ensures .0)
+    ((c .before .before .before .before .before .before .before .emit) .ensures .1) h code ((c .before .before .before .before .if1) .left)
+    ((c .before .before .block2) .ensures ts (block-ready ready ((c .before .before .before .before .before .before .before .before .before .before .before) .pre .1)
+    (next-of ((c .before .before .before .before .before .before .before .before .before .next) .ensures)) _
+    ((c .before .before .before .before .before .before .before .before .before .before .before) .pre .2) ((c .before .before .before .before .before .before .before .emit) .ensures .0)
+    ((c .before .before .before .before .before .before .before .emit) .ensures .1)))
 
 pub subsection-spec : {M : Type 1} → statement M
 subsection-spec =

@@ -5,7 +5,21 @@ use Rattle.entries.specs.Cursors.{Ready}
 use Rattle.language.specs.Grammar.{Tokens}
 use Rattle.language.specs.Sections.{subsectionsOf}
 use Rattle.parser.proofs.Laws.Rows.{accepted}
-use Rattle.parser.proofs.Laws.SubsectionLoop.{Standing, no-marks, below-eight, standing-start, word-none, row, row-code, word-inside, word-seen, subsections-stop, subsection-further, subsections-again, subsections-end}
+use Rattle.parser.proofs.Laws.SubsectionLoop.{
+  Standing,
+  no-marks,
+  below-eight,
+  standing-start,
+  word-none,
+  row,
+  row-code,
+  word-inside,
+  word-seen,
+  subsections-stop,
+  subsection-further,
+  subsections-again,
+  subsections-end,
+}
 use Rattle.parser.proofs.Laws.SubsectionReads.{marked-none, marked-some}
 use Rattle.parser.proofs.subsections.subsections.Statement.{statement}
 use Rattle.parser.proofs.subsections.subsections.Tie as tie
@@ -45,15 +59,19 @@ array-read-ending-2 c =
 
 ending-requires : tie.Need-ending-requires Inv-loop μ-loop
 ending-requires c κs =
-    let z = (c .before .before .before .before .before .before .before) .pre in let h = (c .before .before .before .before .before .loop) .inv .1 (z .tokens) (z .ready) in record { tokens = z .tokens; ready = h .going .took .ready }
+    let z = (c .before .before .before .before .before .before .before) .pre in let h = (c .before .before .before .before .before .loop) .inv .1 (z .tokens) (z .ready) in
+    record { tokens = z .tokens; ready = h .going .took .ready }
 
 same-length : tie.Need-same-length Inv-loop μ-loop
 same-length c =
-    let z = (c .before .before .before .before .before .before .before .before) .pre in let h = (c .before .before .before .before .before .before .loop) .inv .1 (z .tokens) (z .ready) in h .going .kept .len
+    let z = (c .before .before .before .before .before .before .before .before) .pre in let h = (c .before .before .before .before .before .before .loop) .inv .1 (z .tokens) (z .ready) in
+    h .going .kept .len
 
 returns : tie.Need-returns Inv-loop μ-loop
 returns c =
-    λ ts ready. let h = (c .before .before .before .before .before .before .loop) .inv .1 ts ready in subsections-end h (word-none h ((c .before .before .before .heading) .ensures ∙ ap headingNumber ((c .before .before .before .before .kind) .ensures)) ((c .before .before .if1) .taken)) ((c .ending) .ensures ts (h .going .took .ready))
+    λ ts ready. let h = (c .before .before .before .before .before .before .loop) .inv .1 ts ready in
+    subsections-end h (word-none h ((c .before .before .before .heading) .ensures ∙ ap headingNumber ((c .before .before .before .before .kind) .ensures)) ((c .before .before .if1) .taken))
+    ((c .ending) .ensures ts (h .going .took .ready))
 
 array-read-if2 : tie.Need-array-read-if2 Inv-loop μ-loop
 array-read-if2 c =
@@ -69,19 +87,30 @@ array-read-ending-4 c =
 
 ending-requires-2 : tie.Need-ending-requires-2 Inv-loop μ-loop
 ending-requires-2 c κs =
-    let z = (c .before .before .before .before .before .before .before .before) .pre in let h = (c .before .before .before .before .before .before .loop) .inv .1 (z .tokens) (z .ready) in record { tokens = z .tokens; ready = h .going .took .ready }
+    let z = (c .before .before .before .before .before .before .before .before) .pre in let h = (c .before .before .before .before .before .before .loop) .inv .1 (z .tokens) (z .ready) in
+    record { tokens = z .tokens; ready = h .going .took .ready }
 
 same-length-2 : tie.Need-same-length-2 Inv-loop μ-loop
 same-length-2 c =
-    let z = (c .before .before .before .before .before .before .before .before .before) .pre in let h = (c .before .before .before .before .before .before .before .loop) .inv .1 (z .tokens) (z .ready) in h .going .kept .len
+    let z = (c .before .before .before .before .before .before .before .before .before) .pre in
+    let h = (c .before .before .before .before .before .before .before .loop) .inv .1 (z .tokens) (z .ready) in h .going .kept .len
 
 returns-2 : tie.Need-returns-2 Inv-loop μ-loop
 returns-2 c =
-    λ ts ready. let h = (c .before .before .before .before .before .before .before .loop) .inv .1 ts ready in subsections-end h (word-seen h ((c .before .before .before .before .heading) .ensures ∙ ap headingNumber ((c .before .before .before .before .before .kind) .ensures)) (below-eight _ ((c .before .before .before .before .heading) .ensures) ((c .before .before .before .if1) .left)) (marked-some _ ((c .before .before .if2) .taken))) ((c .ending2) .ensures ts (h .going .took .ready))
+    λ ts ready. let h = (c .before .before .before .before .before .before .before .loop) .inv .1 ts ready in
+    subsections-end h (word-seen h ((c .before .before .before .before .heading) .ensures ∙ ap headingNumber ((c .before .before .before .before .before .kind) .ensures))
+    (below-eight _ ((c .before .before .before .before .heading) .ensures) ((c .before .before .before .if1) .left)) (marked-some _ ((c .before .before .if2) .taken)))
+    ((c .ending2) .ensures ts (h .going .took .ready))
 
 subsection-requires : tie.Need-subsection-requires Inv-loop μ-loop
 subsection-requires c κs =
-    let z = (c .before .before .before .before .before .before .before .before) .pre in let h = (c .before .before .before .before .before .before .loop) .inv .1 (z .tokens) (z .ready) in (record { tokens = z .tokens; ready = h .going .took .ready }, word-inside h ((c .before .before .before .heading) .ensures ∙ ap headingNumber ((c .before .before .before .before .kind) .ensures)) (below-eight _ ((c .before .before .before .heading) .ensures) ((c .before .before .if1) .left)), (below-eight _ ((c .before .before .before .heading) .ensures) ((c .before .before .if1) .left)))
+    let z = (c .before .before .before .before .before .before .before .before) .pre in let h = (c .before .before .before .before .before .before .loop) .inv .1 (z .tokens) (z .ready) in (
+      record { tokens = z .tokens; ready = h .going .took .ready },
+      word-inside h
+          ((c .before .before .before .heading) .ensures ∙ ap headingNumber ((c .before .before .before .before .kind) .ensures))
+          (below-eight _ ((c .before .before .before .heading) .ensures) ((c .before .before .if1) .left)),
+      (below-eight _ ((c .before .before .before .heading) .ensures) ((c .before .before .if1) .left)),
+    )
 
 enum-known-r : tie.Need-enum-known-r Inv-loop μ-loop
 enum-known-r c =
@@ -93,11 +122,32 @@ enum-told c =
 
 same-length-3 : tie.Need-same-length-3 Inv-loop μ-loop
 same-length-3 c =
-    let z = (c .before .before .before .before .before .before .before .before .before .before .before .before .before) .pre in let h = (c .before .before .before .before .before .before .before .before .before .before .before .loop) .inv .1 (z .tokens) (z .ready) in ((c .before .before .before .before .subsection) .ensures (row h ((c .before .before .before .before .before .before .before .before .heading) .ensures ∙ ap headingNumber ((c .before .before .before .before .before .before .before .before .before .kind) .ensures)) (below-eight _ ((c .before .before .before .before .before .before .before .before .heading) .ensures) ((c .before .before .before .before .before .before .before .if1) .left)) .row .heading) (row-code h ((c .before .before .before .before .before .before .before .before .heading) .ensures ∙ ap headingNumber ((c .before .before .before .before .before .before .before .before .before .kind) .ensures)) (below-eight _ ((c .before .before .before .before .before .before .before .before .heading) .ensures) ((c .before .before .before .before .before .before .before .if1) .left))) (z .tokens) (h .going .took .ready)) .kept .len ∙ h .going .kept .len
+    let z = (c .before .before .before .before .before .before .before .before .before .before .before .before .before) .pre in
+    let h = (c .before .before .before .before .before .before .before .before .before .before .before .loop) .inv .1 (z .tokens) (z .ready) in
+    ((c .before .before .before .before .subsection) .ensures (row h
+    ((c .before .before .before .before .before .before .before .before .heading) .ensures ∙ ap headingNumber
+    ((c .before .before .before .before .before .before .before .before .before .kind) .ensures))
+    (below-eight _ ((c .before .before .before .before .before .before .before .before .heading) .ensures) ((c .before .before .before .before .before .before .before .if1) .left)) .row .heading)
+    (row-code h ((c .before .before .before .before .before .before .before .before .heading) .ensures ∙ ap headingNumber
+    ((c .before .before .before .before .before .before .before .before .before .kind) .ensures))
+    (below-eight _ ((c .before .before .before .before .before .before .before .before .heading) .ensures) ((c .before .before .before .before .before .before .before .if1) .left))) (z .tokens)
+    (h .going .took .ready)) .kept .len ∙ h .going .kept .len
 
 returns-3 : tie.Need-returns-3 Inv-loop μ-loop
 returns-3 c =
-    λ ts ready. let h = (c .before .before .before .before .before .before .before .before .before .before .before .loop) .inv .1 ts ready in subsections-stop h ((c .before .before .before .before .before .before .before .before .heading) .ensures ∙ ap headingNumber ((c .before .before .before .before .before .before .before .before .before .kind) .ensures)) (below-eight _ ((c .before .before .before .before .before .before .before .before .heading) .ensures) ((c .before .before .before .before .before .before .before .if1) .left)) (marked-none _ ((c .before .before .before .before .before .before .if2) .left)) ((c .before .before .before .before .subsection) .ensures (row h ((c .before .before .before .before .before .before .before .before .heading) .ensures ∙ ap headingNumber ((c .before .before .before .before .before .before .before .before .before .kind) .ensures)) (below-eight _ ((c .before .before .before .before .before .before .before .before .heading) .ensures) ((c .before .before .before .before .before .before .before .if1) .left)) .row .heading) (row-code h ((c .before .before .before .before .before .before .before .before .heading) .ensures ∙ ap headingNumber ((c .before .before .before .before .before .before .before .before .before .kind) .ensures)) (below-eight _ ((c .before .before .before .before .before .before .before .before .heading) .ensures) ((c .before .before .before .before .before .before .before .if1) .left))) ts (h .going .took .ready)) ((c .enum-told) .given .1)
+    λ ts ready. let h = (c .before .before .before .before .before .before .before .before .before .before .before .loop) .inv .1 ts ready in
+    subsections-stop h ((c .before .before .before .before .before .before .before .before .heading) .ensures ∙ ap headingNumber
+    ((c .before .before .before .before .before .before .before .before .before .kind) .ensures))
+    (below-eight _ ((c .before .before .before .before .before .before .before .before .heading) .ensures) ((c .before .before .before .before .before .before .before .if1) .left))
+    (marked-none _ ((c .before .before .before .before .before .before .if2) .left))
+    ((c .before .before .before .before .subsection) .ensures (row h
+    ((c .before .before .before .before .before .before .before .before .heading) .ensures ∙ ap headingNumber
+    ((c .before .before .before .before .before .before .before .before .before .kind) .ensures))
+    (below-eight _ ((c .before .before .before .before .before .before .before .before .heading) .ensures) ((c .before .before .before .before .before .before .before .if1) .left)) .row .heading)
+    (row-code h ((c .before .before .before .before .before .before .before .before .heading) .ensures ∙ ap headingNumber
+    ((c .before .before .before .before .before .before .before .before .before .kind) .ensures))
+    (below-eight _ ((c .before .before .before .before .before .before .before .before .heading) .ensures) ((c .before .before .before .before .before .before .before .if1) .left))) ts
+    (h .going .took .ready)) ((c .enum-told) .given .1)
 
 array-write-before : tie.Need-array-write-before Inv-loop μ-loop
 array-write-before c =
@@ -105,11 +155,61 @@ array-write-before c =
 
 loop-less : tie.Need-loop-less Inv-loop μ-loop
 loop-less c =
-    let z = (c .before .before .before .before .before .before .before .before .before .before .before .before .before .before) .pre in let h = (c .before .before .before .before .before .before .before .before .before .before .before .before .loop) .inv .1 (z .tokens) (z .ready) in let t = accepted ((c .before .r) .given .1) ((c .before .before .before .before .before .subsection) .ensures (row h ((c .before .before .before .before .before .before .before .before .before .heading) .ensures ∙ ap headingNumber ((c .before .before .before .before .before .before .before .before .before .before .kind) .ensures)) (below-eight _ ((c .before .before .before .before .before .before .before .before .before .heading) .ensures) ((c .before .before .before .before .before .before .before .before .if1) .left)) .row .heading) (row-code h ((c .before .before .before .before .before .before .before .before .before .heading) .ensures ∙ ap headingNumber ((c .before .before .before .before .before .before .before .before .before .before .kind) .ensures)) (below-eight _ ((c .before .before .before .before .before .before .before .before .before .heading) .ensures) ((c .before .before .before .before .before .before .before .before .if1) .left))) (z .tokens) (h .going .took .ready)) .took in omega (arith, subsection-further h ((c .before .before .before .before .before .before .before .before .before .heading) .ensures ∙ ap headingNumber ((c .before .before .before .before .before .before .before .before .before .before .kind) .ensures)) (below-eight _ ((c .before .before .before .before .before .before .before .before .before .heading) .ensures) ((c .before .before .before .before .before .before .before .before .if1) .left)) (marked-none _ ((c .before .before .before .before .before .before .before .if2) .left)) ((c .before .before .before .before .before .subsection) .ensures (row h ((c .before .before .before .before .before .before .before .before .before .heading) .ensures ∙ ap headingNumber ((c .before .before .before .before .before .before .before .before .before .before .kind) .ensures)) (below-eight _ ((c .before .before .before .before .before .before .before .before .before .heading) .ensures) ((c .before .before .before .before .before .before .before .before .if1) .left)) .row .heading) (row-code h ((c .before .before .before .before .before .before .before .before .before .heading) .ensures ∙ ap headingNumber ((c .before .before .before .before .before .before .before .before .before .before .kind) .ensures)) (below-eight _ ((c .before .before .before .before .before .before .before .before .before .heading) .ensures) ((c .before .before .before .before .before .before .before .before .if1) .left))) (z .tokens) (h .going .took .ready)) ((c .before .r) .given .1), t .onward .count, t .ready .fits .inside)
+    let z = (c .before .before .before .before .before .before .before .before .before .before .before .before .before .before) .pre in
+    let h = (c .before .before .before .before .before .before .before .before .before .before .before .before .loop) .inv .1 (z .tokens) (z .ready) in
+    let t = accepted ((c .before .r) .given .1) ((c .before .before .before .before .before .subsection) .ensures
+    (row h ((c .before .before .before .before .before .before .before .before .before .heading) .ensures ∙ ap headingNumber
+    ((c .before .before .before .before .before .before .before .before .before .before .kind) .ensures))
+    (below-eight _ ((c .before .before .before .before .before .before .before .before .before .heading) .ensures)
+    ((c .before .before .before .before .before .before .before .before .if1) .left)) .row .heading)
+    (row-code h ((c .before .before .before .before .before .before .before .before .before .heading) .ensures ∙ ap headingNumber
+    ((c .before .before .before .before .before .before .before .before .before .before .kind) .ensures))
+    (below-eight _ ((c .before .before .before .before .before .before .before .before .before .heading) .ensures)
+    ((c .before .before .before .before .before .before .before .before .if1) .left))) (z .tokens) (h .going .took .ready)) .took in
+    omega (
+      arith,
+      subsection-further h ((c .before .before .before .before .before .before .before .before .before .heading) .ensures ∙ ap headingNumber
+          ((c .before .before .before .before .before .before .before .before .before .before .kind) .ensures))
+          (below-eight _ ((c .before .before .before .before .before .before .before .before .before .heading) .ensures)
+          ((c .before .before .before .before .before .before .before .before .if1) .left)) (marked-none _ ((c .before .before .before .before .before .before .before .if2) .left))
+          ((c .before .before .before .before .before .subsection) .ensures
+          (row h ((c .before .before .before .before .before .before .before .before .before .heading) .ensures ∙ ap headingNumber
+          ((c .before .before .before .before .before .before .before .before .before .before .kind) .ensures))
+          (below-eight _ ((c .before .before .before .before .before .before .before .before .before .heading) .ensures)
+          ((c .before .before .before .before .before .before .before .before .if1) .left)) .row .heading)
+          (row-code h ((c .before .before .before .before .before .before .before .before .before .heading) .ensures ∙ ap headingNumber
+          ((c .before .before .before .before .before .before .before .before .before .before .kind) .ensures))
+          (below-eight _ ((c .before .before .before .before .before .before .before .before .before .heading) .ensures)
+          ((c .before .before .before .before .before .before .before .before .if1) .left))) (z .tokens) (h .going .took .ready)) ((c .before .r) .given .1),
+      t .onward .count,
+      t .ready .fits .inside,
+    )
 
 loop-again : tie.Need-loop-again Inv-loop μ-loop
-loop-again c =
-    (simp length-set ((c .before .before .before .before .before .before .before .before .before .before .before .before .loop) .inv .0), λ ts ready. let h = (c .before .before .before .before .before .before .before .before .before .before .before .before .loop) .inv .1 ts ready in subsections-again h ((c .before .before .before .before .before .before .before .before .before .heading) .ensures ∙ ap headingNumber ((c .before .before .before .before .before .before .before .before .before .before .kind) .ensures)) (below-eight _ ((c .before .before .before .before .before .before .before .before .before .heading) .ensures) ((c .before .before .before .before .before .before .before .before .if1) .left)) (marked-none _ ((c .before .before .before .before .before .before .before .if2) .left)) ((c .before .before .before .before .before .subsection) .ensures (row h ((c .before .before .before .before .before .before .before .before .before .heading) .ensures ∙ ap headingNumber ((c .before .before .before .before .before .before .before .before .before .before .kind) .ensures)) (below-eight _ ((c .before .before .before .before .before .before .before .before .before .heading) .ensures) ((c .before .before .before .before .before .before .before .before .if1) .left)) .row .heading) (row-code h ((c .before .before .before .before .before .before .before .before .before .heading) .ensures ∙ ap headingNumber ((c .before .before .before .before .before .before .before .before .before .before .kind) .ensures)) (below-eight _ ((c .before .before .before .before .before .before .before .before .before .heading) .ensures) ((c .before .before .before .before .before .before .before .before .if1) .left))) ts (h .going .took .ready)) (omega (arith, (below-eight _ ((c .before .before .before .before .before .before .before .before .before .heading) .ensures) ((c .before .before .before .before .before .before .before .before .if1) .left)), (c .before .before .before .before .before .before .before .before .before .before .before .before .loop) .inv .0)) ((c .before .r) .given .1))
+loop-again c = (
+  simp length-set ((c .before .before .before .before .before .before .before .before .before .before .before .before .loop) .inv .0),
+  λ ts ready. let h =
+      (c .before .before .before .before .before .before .before .before .before .before .before .before .loop) .inv .1 ts ready in
+      subsections-again h ((c .before .before .before .before .before .before .before .before .before .heading) .ensures ∙ ap headingNumber
+      ((c .before .before .before .before .before .before .before .before .before .before .kind) .ensures))
+      (below-eight _ ((c .before .before .before .before .before .before .before .before .before .heading) .ensures)
+      ((c .before .before .before .before .before .before .before .before .if1) .left)) (marked-none _ ((c .before .before .before .before .before .before .before .if2) .left))
+      ((c .before .before .before .before .before .subsection) .ensures
+      (row h ((c .before .before .before .before .before .before .before .before .before .heading) .ensures ∙ ap headingNumber
+      ((c .before .before .before .before .before .before .before .before .before .before .kind) .ensures))
+      (below-eight _ ((c .before .before .before .before .before .before .before .before .before .heading) .ensures)
+      ((c .before .before .before .before .before .before .before .before .if1) .left)) .row .heading)
+      (row-code h ((c .before .before .before .before .before .before .before .before .before .heading) .ensures ∙ ap headingNumber
+      ((c .before .before .before .before .before .before .before .before .before .before .kind) .ensures))
+      (below-eight _ ((c .before .before .before .before .before .before .before .before .before .heading) .ensures)
+      ((c .before .before .before .before .before .before .before .before .if1) .left))) ts (h .going .took .ready))
+      (omega (
+        arith,
+        (below-eight _ ((c .before .before .before .before .before .before .before .before .before .heading) .ensures)
+            ((c .before .before .before .before .before .before .before .before .if1) .left)),
+        (c .before .before .before .before .before .before .before .before .before .before .before .before .loop) .inv .0,
+      )) ((c .before .r) .given .1),
+)
 
 pub subsections-spec : {M : Type 1} → statement M
 subsections-spec =

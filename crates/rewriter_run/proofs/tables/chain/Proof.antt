@@ -41,8 +41,9 @@ second-requires c κs = search needs
 
 binary-requires : tie.Need-binary-requires Inv-loop μ-loop
 binary-requires c κs =
-    let s = c .before .before .before .before in
-    let l = second-low (s .args .shared) (c .before .before .loop .i - 1) in
+    let at-loop = c .before .before in
+    let s = at-loop .before .before in
+    let l = second-low (s .args .shared) (at-loop .loop .i - 1) in
     let e = c .second .ensures in
     let z = length-set (s .args .nodes .now) 0 (pack 2 0 0) in
     let p = s .pre .1 .1 in

@@ -26,11 +26,16 @@ wide-requires c κs = search needs
 
 returns : tie.Need-returns Inv-loop μ-loop
 returns c =
-    numeral-read _ _ _ _ (c .before .before .before .before .loop .inv .1) (c .before .before .before .before .loop .inv .0) (digits-low _ _ (c .before .before .before .loop-test .taken) (rw (c .before .wide .ensures .0) at (c .if1 .taken)))
+    let at-loop-test = c .before .before .before in
+    let at-loop = at-loop-test .before in
+    numeral-read _ _ _ _ (at-loop .loop .inv .1) (at-loop .loop .inv .0) (digits-low _ _ (at-loop-test .loop-test .taken) (rw (c .before .wide .ensures .0) at (c .if1 .taken)))
 
 returns-2 : tie.Need-returns-2 Inv-loop μ-loop
 returns-2 c =
-    numeral-read _ _ _ _ (c .before .before .before .before .before .loop .inv .1) (c .before .before .before .before .before .loop .inv .0) (digits-high _ _ (c .before .before .before .before .loop-test .taken) (rw (c .before .before .wide .ensures .0) at (c .if2 .taken)))
+    let at-wide = c .before .before in
+    let at-loop-test = at-wide .before .before in
+    let at-loop = at-loop-test .before in
+    numeral-read _ _ _ _ (at-loop .loop .inv .1) (at-loop .loop .inv .0) (digits-high _ _ (at-loop-test .loop-test .taken) (rw (at-wide .wide .ensures .0) at (c .if2 .taken)))
 
 mul-v : tie.Need-mul-v Inv-loop μ-loop
 mul-v c = omega arith
@@ -40,7 +45,11 @@ add-v c = omega arith
 
 returns-3 : tie.Need-returns-3 Inv-loop μ-loop
 returns-3 c =
-    numeral-large _ _ _ _ (reading-on _ _ _ _ _ (c .before .before .before .before .before .before .loop .inv .1) (c .before .before .before .before .before .loop-test .taken) (c .before .before .before .wide .ensures .0) (c .before .before .if1 .left) (c .before .if2 .left)) (c .if3 .taken)
+    let at-if1 = c .before .before in
+    let at-wide = at-if1 .before in
+    let at-loop-test = at-wide .before .before in
+    let at-loop = at-loop-test .before in
+    numeral-large _ _ _ _ (reading-on _ _ _ _ _ (at-loop .loop .inv .1) (at-loop-test .loop-test .taken) (at-wide .wide .ensures .0) (at-if1 .if1 .left) (c .before .if2 .left)) (c .if3 .taken)
 
 add-i : tie.Need-add-i Inv-loop μ-loop
 add-i c = omega arith
@@ -50,7 +59,11 @@ loop-less c = omega arith
 
 loop-again : tie.Need-loop-again Inv-loop μ-loop
 loop-again c =
-    (omega arith, rw add-one (reading-on _ _ _ _ _ (c .before .before .before .before .before .before .loop .inv .1) (c .before .before .before .before .before .loop-test .taken) (c .before .before .before .wide .ensures .0) (c .before .before .if1 .left) (c .before .if2 .left)))
+    let at-if1 = c .before .before in
+    let at-wide = at-if1 .before in
+    let at-loop-test = at-wide .before .before in
+    let at-loop = at-loop-test .before in
+    (omega arith, rw add-one (reading-on _ _ _ _ _ (at-loop .loop .inv .1) (at-loop-test .loop-test .taken) (at-wide .wide .ensures .0) (at-if1 .if1 .left) (c .before .if2 .left)))
 
 returns-4 : tie.Need-returns-4 Inv-loop μ-loop
 returns-4 c =

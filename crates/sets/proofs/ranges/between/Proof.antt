@@ -16,26 +16,35 @@ next-if-requires-2 c κs = search needs
 
 returns : tie.Need-returns
 returns c =
-    between-none (c .before .before .before .before .args .place) (c .before .before .before .before .args .above) (c .before .before .before .before .args .under) (c .before .before .before .before .args .low) (c .before .before .before .before .args .high) _ _ _ (c .before .before .next-if .ensures) (c .before .next-if2 .ensures) (c .if1 .taken)
+    let at-next-if = c .before .before in
+    let start = at-next-if .before .before in
+    between-none (start .args .place) (start .args .above) (start .args .under) (start .args .low) (start .args .high) _ _ _ (at-next-if .next-if .ensures) (c .before .next-if2 .ensures)
+    (c .if1 .taken)
 
 sub-n : tie.Need-sub-n
 sub-n c = search needs
 
 returns-2 : tie.Need-returns-2
 returns-2 c =
-    between-over (c .before .before .before .before .before .args .place) (c .before .before .before .before .before .args .above) (c .before .before .before .before .before .args .under) (c .before .before .before .before .before .args .low) (c .before .before .before .before .before .args .high) _ _ _ (c .before .before .before .next-if .ensures) (c .before .before .next-if2 .ensures) _ refl (c .if2 .taken)
+    let at-next-if2 = c .before .before in
+    let at-next-if = at-next-if2 .before in
+    let start = at-next-if .before .before in
+    between-over (start .args .place) (start .args .above) (start .args .under) (start .args .low) (start .args .high) _ _ _ (at-next-if .next-if .ensures) (at-next-if2 .next-if2 .ensures) _ refl
+    (c .if2 .taken)
 
 fill-requires : tie.Need-fill-requires
-fill-requires c κs = (
-  omega arith,
-  (
-    omega arith,
-    λ i l.
-        let top : c .before .before .before .next-if2 .result ≤ suc (c .before .before .before .before .before .before .args .high) = rw (c .before .before .before .next-if2 .ensures) (start-bound (not (c .before .before .before .before .before .before .args .under)) (c .before .before .before .before .before .before .args .high)) in
-        let fits = c .before .before .before .before .before .before .fits .high in
+fill-requires c κs =
+    let at-next-if2 = c .before .before .before in
+    let start = at-next-if2 .before .before .before in (
+      omega arith,
+      (
         omega arith,
-  ),
-)
+        λ i l.
+            let top : at-next-if2 .next-if2 .result ≤ suc (start .args .high) = rw (at-next-if2 .next-if2 .ensures) (start-bound (not (start .args .under)) (start .args .high)) in
+            let fits = start .fits .high in
+            omega arith,
+      ),
+    )
 
 cast-t16 : tie.Need-cast-t16
 cast-t16 c = search needs
@@ -45,7 +54,13 @@ same-length c = search needs
 
 returns-3 : tie.Need-returns-3
 returns-3 c =
-    between-filled (c .before .before .before .before .before .before .before .before .before .args .place) (c .before .before .before .before .before .before .before .before .before .args .above) (c .before .before .before .before .before .before .before .before .before .args .under) (c .before .before .before .before .before .before .before .before .before .args .low) (c .before .before .before .before .before .before .before .before .before .args .high) _ _ _ (c .before .before .before .before .before .before .before .next-if .ensures) (c .before .before .before .before .before .before .next-if2 .ensures) _ refl (c .before .before .before .before .if2 .left) (c .before .before .fill .ensures)
+    let at-fill = c .before .before in
+    let at-if2 = at-fill .before .before in
+    let at-next-if2 = at-if2 .before .before in
+    let at-next-if = at-next-if2 .before in
+    let start = at-next-if .before .before in
+    between-filled (start .args .place) (start .args .above) (start .args .under) (start .args .low) (start .args .high) _ _ _ (at-next-if .next-if .ensures) (at-next-if2 .next-if2 .ensures) _ refl
+    (at-if2 .if2 .left) (at-fill .fill .ensures)
 
 pub between-spec : {M : Type 1} → statement M
 between-spec =

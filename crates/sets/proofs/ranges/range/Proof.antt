@@ -32,14 +32,21 @@ cast-fill c = search needs
 
 fill-requires : tie.Need-fill-requires
 fill-requires c κs =
-    (omega arith, (omega arith, λ i l. let most = range-fits _ _ _ (c .before .before .before .if1 .left) (c .before .before .if2 .left) i (omega arith) in let fits = c .before .before .before .before .before .fits .z in omega arith))
+    let at-if2 = c .before .before in
+    let at-if1 = at-if2 .before in
+    let at-fits = at-if1 .before .before in
+    (omega arith, (omega arith, λ i l. let most = range-fits _ _ _ (at-if1 .if1 .left) (at-if2 .if2 .left) i (omega arith) in let fits = at-fits .fits .z in omega arith))
 
 same-length : tie.Need-same-length
 same-length c = search needs
 
 returns-4 : tie.Need-returns-4
 returns-4 c =
-    range-filled _ _ _ _ _ (c .before .before .before .before .before .before .if1 .left) (c .before .before .before .before .before .if2 .left) _ refl (c .before .before .before .before .if3 .left) (c .before .before .fill .ensures)
+    let at-fill = c .before .before in
+    let at-if3 = at-fill .before .before in
+    let at-if2 = at-if3 .before in
+    let at-if1 = at-if2 .before in
+    range-filled _ _ _ _ _ (at-if1 .if1 .left) (at-if2 .if2 .left) _ refl (at-if3 .if3 .left) (at-fill .fill .ensures)
 
 pub range-spec : {M : Type 1} → statement M
 range-spec =

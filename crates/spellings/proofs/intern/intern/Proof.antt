@@ -24,9 +24,11 @@ loop-holds c =
 
 number-requires : tie.Need-number-requires Inv-loop μ-loop
 number-requires c κs =
-    let start = c .before .before .before .before .before .before .before .before .before .before in
-    let loop-test = c .before .before .before .loop-test in
-    let loop = c .before .before .before .before .loop in
+    let at-loop-test = c .before .before .before in
+    let at-loop = at-loop-test .before in
+    let start = at-loop .before .before .before .before .before .before in
+    let loop-test = at-loop-test .loop-test in
+    let loop = at-loop .loop in
     (start .pre .0, loop-test .taken, loop .inv .4, let e = loop .inv .2 in let r = start .pre .1 .room in omega arith)
 
 add-j : tie.Need-add-j Inv-loop μ-loop
@@ -37,8 +39,10 @@ loop-less c = search needs
 
 loop-again : tie.Need-loop-again Inv-loop μ-loop
 loop-again c =
-    let loop = c .before .before .before .before .before .before .before .before .before .before .before .loop in
-    let number = c .before .before .before .before .before .before .number in
+    let at-number = c .before .before .before .before .before .before in
+    let at-loop = at-number .before .before .before .before .before in
+    let loop = at-loop .loop in
+    let number = at-number .number in
     let n = loop .inv in (omega arith, number .kept .1 .1 .1 .1 .0 ∙ n .1, number .kept .1 .1 .1 .1 .1 .0 ∙ n .2, number .kept .1 .1 .1 .1 .1 .1 .1 .0 ∙ n .3, number .ensures)
 
 same-length : tie.Need-same-length Inv-loop μ-loop

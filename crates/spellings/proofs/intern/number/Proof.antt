@@ -2,7 +2,6 @@
 use native.Mathlib.Omega.{arith}
 use borrow.Author.Needs.{needs}
 use Rattle.spellings.specs.InternLaws.{numbered-other, name-bounds, numbered-name, node-small}
-use borrow.Author.Needs.{needs}
 use Rattle.spellings.proofs.intern.number.Statement.{statement}
 use Rattle.spellings.proofs.intern.number.Tie as tie
 
@@ -23,17 +22,22 @@ cast-len c = search needs
 
 spell-requires : tie.Need-spell-requires
 spell-requires c κs =
-    let start = c .before .before .before .before .before .before .before .before .before in
-    let get = c .before .before .before .get in
-    let if1 = c .before .before .if1 in
+    let at-if1 = c .before .before in
+    let at-get = at-if1 .before in
+    let start = at-get .before .before .before .before .before .before in
+    let get = at-get .get in
+    let if1 = at-if1 .if1 in
     let b = name-bounds (start .pre .0) (start .pre .1) (get .ensures) (start .pre .2) (if1 .left) in (start .pre .2 .trie, b .0, b .1, let r = start .pre .3 in omega (arith, b .2))
 
 cast-ids : tie.Need-cast-ids
 cast-ids c =
-    let start = c .before .before .before .before .before .before .before .before .before .before .before .before .before .before .before in
-    let get = c .before .before .before .before .before .before .before .before .before .get in
-    let if1 = c .before .before .before .before .before .before .before .before .if1 in
-    let spell = c .before .before .before .before .before .spell in
+    let at-spell = c .before .before .before .before .before in
+    let at-if1 = at-spell .before .before .before in
+    let at-get = at-if1 .before in
+    let start = at-get .before .before .before .before .before .before in
+    let get = at-get .get in
+    let if1 = at-if1 .if1 in
+    let spell = at-spell .spell in
     let s = node-small (start .pre .0) (start .pre .1) (get .ensures) (start .pre .2) (if1 .left) (spell .ensures (start .pre .2 .trie)) in record { fits = omega arith }
 
 mul-ids : tie.Need-mul-ids
@@ -53,10 +57,13 @@ same-length-3 c = search needs
 
 returns-2 : tie.Need-returns-2
 returns-2 c =
-    let start = c .before .before .before .before .before .before .before .before .before .before .before .before .before .before .before in
-    let get = c .before .before .before .before .before .before .before .before .before .get in
-    let if1 = c .before .before .before .before .before .before .before .before .if1 in
-    let spell = c .before .before .before .before .before .spell in
+    let at-spell = c .before .before .before .before .before in
+    let at-if1 = at-spell .before .before .before in
+    let at-get = at-if1 .before in
+    let start = at-get .before .before .before .before .before .before in
+    let get = at-get .get in
+    let if1 = at-if1 .if1 in
+    let spell = at-spell .spell in
     numbered-name (start .pre .0) (start .pre .1) (get .ensures) (start .pre .2) (if1 .left) (spell .ensures (start .pre .2 .trie))
 
 pub number-spec : {M : Type 1} → statement M

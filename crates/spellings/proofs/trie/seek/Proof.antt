@@ -37,44 +37,51 @@ wide-requires c κs = search needs
 
 loop-holds : tie.Need-loop-holds Inv-loop μ-loop
 loop-holds c =
-    let start = c .before .before .before .before .before in
-    let wide-byte = c .before .before .wide-byte in
+    let at-wide-byte = c .before .before in
+    let start = at-wide-byte .before .before .before in
+    let wide-byte = at-wide-byte .wide-byte in
     ((c .wide) .ensures .0, λ t. seek-start t _ _ (start .pre .1) (wide-byte .ensures))
 
 shared-slice-read-if1 : tie.Need-shared-slice-read-if1 Inv-loop μ-loop
 shared-slice-read-if1 c =
-    let start = c .before .before .before .before .before .before .before .before in
-    let loop = c .before .before .loop in
+    let at-loop = c .before .before in
+    let start = at-loop .before .before .before .before .before .before in
+    let loop = at-loop .loop in
     let t = start .pre .0 in let r = t .byte-room in omega (arith, seek-inside t _ _ (start .pre .1) (loop .inv .1 t) (loop .inv .0))
 
 returns : tie.Need-returns Inv-loop μ-loop
 returns c =
-    let start = c .before .before .before .before .before .before .before .before .before in
-    let loop = c .before .before .before .loop in
+    let at-loop = c .before .before .before in
+    let start = at-loop .before .before .before .before .before .before in
+    let loop = at-loop .loop in
     λ t. seek-ends t _ _ (start .pre .1) (loop .inv .1 t) (loop .inv .0) (start .fits .b .fits) (λ d. (c .if1) .taken)
 
 mul-link-2 : tie.Need-mul-link-2 Inv-loop μ-loop
 mul-link-2 c =
-    let start = c .before .before .before .before .before .before .before .before .before in
-    let loop = c .before .before .before .loop in
+    let at-loop = c .before .before .before in
+    let start = at-loop .before .before .before .before .before .before in
+    let loop = at-loop .loop in
     let t = start .pre .0 in let i = seek-inside t _ _ (start .pre .1) (loop .inv .1 t) (loop .inv .0) in record { fits = omega (arith, start .pre .2) }
 
 add-link-2 : tie.Need-add-link-2 Inv-loop μ-loop
 add-link-2 c =
-    let start = c .before .before .before .before .before .before .before .before .before in
-    let loop = c .before .before .before .loop in
+    let at-loop = c .before .before .before in
+    let start = at-loop .before .before .before .before .before .before in
+    let loop = at-loop .loop in
     let t = start .pre .0 in let i = seek-inside t _ _ (start .pre .1) (loop .inv .1 t) (loop .inv .0) in record { fits = omega (arith, start .pre .2) }
 
 mul-wide-2 : tie.Need-mul-wide-2 Inv-loop μ-loop
 mul-wide-2 c =
-    let start = c .before .before .before .before .before .before .before .before .before in
-    let loop = c .before .before .before .loop in
+    let at-loop = c .before .before .before in
+    let start = at-loop .before .before .before .before .before .before in
+    let loop = at-loop .loop in
     let t = start .pre .0 in let i = seek-inside t _ _ (start .pre .1) (loop .inv .1 t) (loop .inv .0) in record { fits = omega (arith, start .pre .2) }
 
 shared-slice-read-wide-2 : tie.Need-shared-slice-read-wide-2 Inv-loop μ-loop
 shared-slice-read-wide-2 c =
-    let start = c .before .before .before .before .before .before .before .before .before .before in
-    let loop = c .before .before .before .before .loop in
+    let at-loop = c .before .before .before .before in
+    let start = at-loop .before .before .before .before .before .before in
+    let loop = at-loop .loop in
     let t = start .pre .0 in let l = t .links-room in let r = t .byte-room in let i = seek-inside t _ _ (start .pre .1) (loop .inv .1 t) (loop .inv .0) in omega arith
 
 wide-requires-2 : tie.Need-wide-requires-2 Inv-loop μ-loop
@@ -82,18 +89,24 @@ wide-requires-2 c κs = search needs
 
 loop-less : tie.Need-loop-less Inv-loop μ-loop
 loop-less c =
-    let start = c .before .before .before .before .before .before .before .before .before .before .before in
-    let loop = c .before .before .before .before .before .loop in
-    let loop-test = c .before .before .before .before .loop-test in
-    let if1 = c .before .before .if1 in
+    let at-if1 = c .before .before in
+    let at-loop-test = at-if1 .before .before in
+    let at-loop = at-loop-test .before in
+    let start = at-loop .before .before .before .before .before .before in
+    let loop = at-loop .loop in
+    let loop-test = at-loop-test .loop-test in
+    let if1 = at-if1 .if1 in
     let t = start .pre .0 in let s = seek-further t _ _ (start .pre .1) (loop .inv .1 t) (loop .inv .0) (loop-test .taken) (if1 .left) in let i = s .0 .inside in omega (arith, s .1)
 
 loop-again : tie.Need-loop-again Inv-loop μ-loop
 loop-again c =
-    let start = c .before .before .before .before .before .before .before .before .before .before .before in
-    let loop = c .before .before .before .before .before .loop in
-    let loop-test = c .before .before .before .before .loop-test in
-    let if1 = c .before .before .if1 in
+    let at-if1 = c .before .before in
+    let at-loop-test = at-if1 .before .before in
+    let at-loop = at-loop-test .before in
+    let start = at-loop .before .before .before .before .before .before in
+    let loop = at-loop .loop in
+    let loop-test = at-loop-test .loop-test in
+    let if1 = at-if1 .if1 in
     ((c .wide2) .ensures .0, λ t. seek-further t _ _ (start .pre .1) (loop .inv .1 t) (loop .inv .0) (loop-test .taken) (if1 .left) .0)
 
 returns-2 : tie.Need-returns-2 Inv-loop μ-loop

@@ -27,8 +27,9 @@ shared-slice-read-step c = search needs
 
 step-requires : tie.Need-step-requires Inv-loop μ-loop
 step-requires c κs =
-    let loop = c .before .before .before .before .loop in
-    let start = c .before .before .before .before .before .before .before .before in
+    let at-loop = c .before .before .before .before in
+    let start = at-loop .before .before .before .before in
+    let loop = at-loop .loop in
     let s = loop .inv .3 (start .pre .0) in
     let f = spells-few _ _ _ s (omega arith) in
     let e = loop .inv .2 in
@@ -36,9 +37,11 @@ step-requires c κs =
 
 nodes-with-requires : tie.Need-nodes-with-requires Inv-loop μ-loop
 nodes-with-requires c κs =
-    let loop = c .before .before .before .before .before .before .before .before .before .loop in
-    let start = c .before .before .before .before .before .before .before .before .before .before .before .before .before in
-    let step = c .before .before .before .before .step in
+    let at-step = c .before .before .before .before in
+    let at-loop = at-step .before .before .before .before .before in
+    let start = at-loop .before .before .before .before in
+    let loop = at-loop .loop in
+    let step = at-step .step in
     let s = loop .inv .3 (start .pre .0) in
     let f = spells-few _ _ _ s (omega arith) in
     omega (arith, step .ensures (s .trie) .0)
@@ -51,8 +54,10 @@ loop-less c = search needs
 
 loop-again : tie.Need-loop-again Inv-loop μ-loop
 loop-again c =
-    let loop = c .before .before .before .before .before .before .before .before .before .before .loop in
-    let step = c .before .before .before .before .before .step in
+    let at-step = c .before .before .before .before .before in
+    let at-loop = at-step .before .before .before .before .before in
+    let loop = at-loop .loop in
+    let step = at-step .step in
     let n = loop .inv in
     (omega arith, step .kept .0 ∙ n .1, step .kept .1 .0 ∙ n .2, λ t. spells-more t (n .3 t) (step .ensures (n .3 t .trie)) (part-more _ _ _ (omega arith)) ((c .nodes-with) .ensures))
 

@@ -15,8 +15,8 @@ mul-wide c =
 
 slice-read-wide : tie.Need-slice-read-wide
 slice-read-wide c =
-    let seek = c .before .seek in
     let start = c .before .before .before .before .before .before in
+    let seek = c .before .seek in
     step-room _ _ _ _ (seek .ensures (start .pre .0))
 
 wide-requires : tie.Need-wide-requires
@@ -42,14 +42,16 @@ cast-links c = search needs
 
 mul-links : tie.Need-mul-links
 mul-links c =
-    let seek = c .before .before .before .seek in
-    let start = c .before .before .before .before .before .before .before .before in
+    let at-seek = c .before .before .before in
+    let start = at-seek .before .before .before .before .before in
+    let seek = at-seek .seek in
     let i = seek .ensures (start .pre .0) .inside in record { fits = omega (arith, start .pre .2) }
 
 slice-write-links : tie.Need-slice-write-links
 slice-write-links c =
-    let seek = c .before .before .before .seek in
-    let start = c .before .before .before .before .before .before .before .before in
+    let at-seek = c .before .before .before in
+    let start = at-seek .before .before .before .before .before in
+    let seek = at-seek .seek in
     step-room _ _ _ _ (seek .ensures (start .pre .0))
 
 same-length-3 : tie.Need-same-length-3
@@ -60,9 +62,10 @@ same-length-4 c = search needs
 
 returns-2 : tie.Need-returns-2
 returns-2 c =
-    let seek = c .before .before .before .seek in
+    let at-seek = c .before .before .before in
+    let start = at-seek .before .before .before .before .before in
+    let seek = at-seek .seek in
     let wide = c .before .wide in
-    let start = c .before .before .before .before .before .before .before .before in
     λ t. step-new t _ _ _ (seek .ensures t) (wide .ensures .0) ((c .if1) .left) (start .pre .1) (start .pre .3) (start .fits .b .fits)
 
 pub step-spec : {M : Type 1} → statement M

@@ -1,8 +1,9 @@
--- `call_with` is safe: each part lies within its buffer.
+-- `call_with` meets its contract: each part lies within its buffer.
 use mathlib.Core.Path.{sym}
 use lib.Seq.{length-take-le}
 use borrow.Author.Needs.{needs}
 use native.Mathlib.Omega.{arith}
+use Rattle.stored_texts.specs.Calling.{calls-with}
 use Rattle.stored_texts.proofs.calls.call_with.Statement.{statement}
 use Rattle.stored_texts.proofs.calls.call_with.Tie as tie
 
@@ -46,7 +47,10 @@ same-length-3 : tie.Need-same-length-3
 same-length-3 c = search needs
 
 returns : tie.Need-returns
-returns c = search needs
+returns c =
+    let at-call = c .before .before .before .before .before .before in
+    let at-least = at-call .before .before .before .before in
+    calls-with (at-least .before .before .least .ensures) (at-least .before .least2 .ensures) (at-least .least3 .ensures) (at-call .call-lending .ensures)
 
 pub call-with-spec : {M : Type 1} → statement M
 call-with-spec =

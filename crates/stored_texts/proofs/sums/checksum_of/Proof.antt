@@ -20,8 +20,9 @@ checksum-requires c κs = search needs
 
 returns : tie.Need-returns
 returns c =
-    let s = c .before .before .before .before in
-    c .checksum .ensures ∙ ap (λ k. checksum (take k (s .args .words .now))) (c .before .before .least .ensures) ∙ ap checksum (take-least (s .args .n) (s .args .words .now))
+    let at-least = c .before .before in
+    let s = at-least .before .before in
+    c .checksum .ensures ∙ ap (λ k. checksum (take k (s .args .words .now))) (at-least .least .ensures) ∙ ap checksum (take-least (s .args .n) (s .args .words .now))
 
 pub checksum-of-spec : {M : Type 1} → statement M
 checksum-of-spec = tie.close (tie.spec least-requires slice-aggregate-checksum checksum-requires returns)

@@ -21,15 +21,23 @@ enum-told-2 c = search needs
 
 returns-2 : tie.Need-returns-2
 returns-2 c =
-    first-only ((c .before .before .before .before .before) .args .self) ((c .before .before .before .before .before) .args .other) ((c .before .before .before .self) .given .1) ((c .enum-told2) .given .1)
+    let at-self = c .before .before .before in
+    let start = at-self .before .before in
+    first-only (start .args .self) (start .args .other) ((at-self .self) .given .1) ((c .enum-told2) .given .1)
 
 returns-3 : tie.Need-returns-3
 returns-3 c =
-    first-left ((c .before .before .before .before .before .before .before) .args .self) ((c .before .before .before .before .before .before .before) .args .other) ((c .before .before .before .before .before .self) .given .1) ((c .before .before .other) .given .1) ((c .if1) .taken)
+    let at-other = c .before .before in
+    let at-self = at-other .before .before .before in
+    let start = at-self .before .before in
+    first-left (start .args .self) (start .args .other) ((at-self .self) .given .1) ((at-other .other) .given .1) ((c .if1) .taken)
 
 returns-4 : tie.Need-returns-4
 returns-4 c =
-    first-right ((c .before .before .before .before .before .before .before) .args .self) ((c .before .before .before .before .before .before .before) .args .other) ((c .before .before .before .before .before .self) .given .1) ((c .before .before .other) .given .1) ((c .if1) .left)
+    let at-other = c .before .before in
+    let at-self = at-other .before .before .before in
+    let start = at-self .before .before in
+    first-right (start .args .self) (start .args .other) ((at-self .self) .given .1) ((at-other .other) .given .1) ((c .if1) .left)
 
 pub first-spec : {M : Type 1} → statement M
 first-spec =

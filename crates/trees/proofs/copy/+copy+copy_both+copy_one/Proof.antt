@@ -45,22 +45,54 @@ copy-met t =
     (λ c κs. let s = (c .before .before) in (s .pre .1 .formed, s .pre .1 .inside))
     (λ c κs. let s = (c .before .before .before .before .before) in (omega arith, s .pre .1 .room))
     (λ c κs. let s = (c .before .before .before .before .before) in (omega arith, s .pre .1 .room))
-    (λ c κs. let s = (c .before .before .before .before .before) in let n = copy-node t (c .before .before) 2 ((c .before) .match .keys3) in (n .lower, s .pre .1 .room))
-    (λ c κs. let s = (c .before .before .before .before .before) in let n = copy-node t (c .before .before) 3 ((c .before) .match .keys4) in (omega (arith, s .pre .0, n .lower), (operand (s .pre .1) (n .lower), search needs)))
-    (λ c κs. let s = (c .before .before .before .before .before .before .before) in let n = copy-ones-at t (c .before) in (omega (arith, s .pre .0, n .below), (operand (s .pre .1) (n .below), n .operator)))
-    (λ c κs. let s = (c .before .before .before .before .before .before) in let n = copy-twos-at t (c .before) in (omega (arith, s .pre .0, n .below), (operands (s .pre .1) (n .below), n .operator)))
+    (λ c κs.
+    let place = c .before .before in
+    let s = place .before .before .before in
+    let n = copy-node t place 2 ((c .before) .match .keys3) in (n .lower, s .pre .1 .room))
+    (λ c κs.
+    let place = c .before .before in
+    let s = place .before .before .before in
+    let n = copy-node t place 3 ((c .before) .match .keys4) in (omega (arith, s .pre .0, n .lower), (operand (s .pre .1) (n .lower), search needs)))
+    (λ c κs.
+    let s = c .before .before .before .before .before .before .before in
+    let n = copy-ones-at t (c .before) in (omega (arith, s .pre .0, n .below), (operand (s .pre .1) (n .below), n .operator)))
+    (λ c κs.
+    let s = c .before .before .before .before .before .before in
+    let n = copy-twos-at t (c .before) in (omega (arith, s .pre .0, n .below), (operands (s .pre .1) (n .below), n .operator)))
     (λ c. search needs)
-    (λ c. let n = copy-node t (c .before .before .before .before .before) 0 ((c .before .before .before .before) .match .keys1) in rw (n .tree) ((c .before .before) .constant .ensures))
+    (λ c.
+    let at-constant = c .before .before in
+    let at-match = at-constant .before .before in
+    let place = at-match .before in
+    let n = copy-node t place 0 (at-match .match .keys1) in rw (n .tree) (at-constant .constant .ensures))
     (λ c. search needs)
-    (λ c. let n = copy-node t (c .before .before .before .before .before) 1 ((c .before .before .before .before) .match .keys2) in rw (n .tree) ((c .before .before) .constant2 .ensures))
+    (λ c.
+    let at-constant2 = c .before .before in
+    let at-match = at-constant2 .before .before in
+    let place = at-match .before in
+    let n = copy-node t place 1 (at-match .match .keys2) in rw (n .tree) (at-constant2 .constant2 .ensures))
     (λ c. search needs)
-    (λ c. let n = copy-node t (c .before .before .before .before .before) 2 ((c .before .before .before .before) .match .keys3) in rw (n .tree) ((c .before .before) .signal .ensures))
+    (λ c.
+    let at-signal = c .before .before in
+    let at-match = at-signal .before .before in
+    let place = at-match .before in
+    let n = copy-node t place 2 (at-match .match .keys3) in rw (n .tree) (at-signal .signal .ensures))
     (λ c. search needs)
-    (λ c. let n = copy-node t (c .before .before .before .before .before) 3 ((c .before .before .before .before) .match .keys4) in rw (n .tree) ((c .before .before) .copy-one .ensures))
+    (λ c.
+    let at-copy-one = c .before .before in
+    let at-match = at-copy-one .before .before in
+    let place = at-match .before in
+    let n = copy-node t place 3 (at-match .match .keys4) in rw (n .tree) (at-copy-one .copy-one .ensures))
     (λ c. search needs)
-    (λ c. rw (copy-ones-at t (c .before .before .before .before) .tree) ((c .before .before) .copy-one2 .ensures))
+    (λ c.
+    let at-copy-one2 = c .before .before in
+    let at-tree = at-copy-one2 .before .before in
+    rw (copy-ones-at t at-tree .tree) (at-copy-one2 .copy-one2 .ensures))
     (λ c. search needs)
-    (λ c. rw (copy-twos-at t (c .before .before .before .before) .tree) ((c .before .before) .copy-both .ensures))
+    (λ c.
+    let at-copy-both = c .before .before in
+    let at-tree = at-copy-both .before .before in
+    rw (copy-twos-at t at-tree .tree) (at-copy-both .copy-both .ensures))
 
 pub +copy+copy-both+copy-one-spec : {M : Type 1} → statement M
 +copy+copy-both+copy-one-spec =

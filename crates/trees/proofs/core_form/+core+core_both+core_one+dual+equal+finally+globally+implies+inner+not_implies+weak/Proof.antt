@@ -14,8 +14,34 @@ use Rattle.trees.proofs.core_form.core.Reads as core
 use Rattle.trees.proofs.core_form.+core+core_both+core_one+dual+equal+finally+globally+implies+inner+not_implies+weak.Lts-core as core-lts
 use Rattle.trees.proofs.core_form.inner.Reads as inner
 use Rattle.trees.proofs.core_form.+core+core_both+core_one+dual+equal+finally+globally+implies+inner+not_implies+weak.Lts-inner as inner-lts
-use Rattle.trees.proofs.core_form.+core+core_both+core_one+dual+equal+finally+globally+implies+inner+not_implies+weak.Proof.Calls.{μ-core, μ-core-both, μ-core-one, μ-dual, μ-equal, μ-finally, μ-globally, μ-implies, μ-inner, μ-not-implies, μ-weak, core-at, core-calls, inner-at, inner-calls}
-use Rattle.trees.proofs.core_form.+core+core_both+core_one+dual+equal+finally+globally+implies+inner+not_implies+weak.Proof.Between.{core-one-met, core-both-met, dual-met, implies-met, not-implies-met, equal-met, finally-met, globally-met, weak-met}
+use Rattle.trees.proofs.core_form.+core+core_both+core_one+dual+equal+finally+globally+implies+inner+not_implies+weak.Proof.Calls.{
+  μ-core,
+  μ-core-both,
+  μ-core-one,
+  μ-dual,
+  μ-equal,
+  μ-finally,
+  μ-globally,
+  μ-implies,
+  μ-inner,
+  μ-not-implies,
+  μ-weak,
+  core-at,
+  core-calls,
+  inner-at,
+  inner-calls,
+}
+use Rattle.trees.proofs.core_form.+core+core_both+core_one+dual+equal+finally+globally+implies+inner+not_implies+weak.Proof.Between.{
+  core-one-met,
+  core-both-met,
+  dual-met,
+  implies-met,
+  not-implies-met,
+  equal-met,
+  finally-met,
+  globally-met,
+  weak-met,
+}
 use Rattle.trees.proofs.core_form.+core+core_both+core_one+dual+equal+finally+globally+implies+inner+not_implies+weak.{statement}
 use Rattle.trees.proofs.core_form.+core+core_both+core_one+dual+equal+finally+globally+implies+inner+not_implies+weak.Tie.{close}
 mod Calls
@@ -31,9 +57,14 @@ unfolding core'
 core-met t =
     core-lts.spec (core-calls t) (core-at t) core.Post
     (λ c κs. let s = (c .before .before) in (s .pre .1 .formed, s .pre .1 .inside))
-    (λ c κs. let s = (c .before .before .before .before .before .before) in (core-signal t (c .before) .lower, s .pre .1 .room))
+    (λ c κs.
+    let s = c .before .before .before .before .before .before in
+    (core-signal t (c .before) .lower, s .pre .1 .room))
     (λ c. search needs)
-    (λ c. rw (core-signal t (c .before .before .before .before) .tree) ((c .before .before) .signal .ensures))
+    (λ c.
+    let at-signal = c .before .before in
+    let at-tree = at-signal .before .before in
+    rw (core-signal t at-tree .tree) (at-signal .signal .ensures))
     (λ c κs. let s = (c .before .before .before .before .before .before) in (omega (arith, s .pre .0), s .pre .1))
     (λ c. search needs)
     (λ c. (c .before .before) .inner .ensures)
@@ -85,41 +116,107 @@ inner-met t =
     (λ c κs. let s = (c .before .before) in (s .pre .1 .formed, s .pre .1 .inside))
     (λ c κs. let s = (c .before .before .before .before .before) in (omega arith, s .pre .1 .room))
     (λ c κs. let s = (c .before .before .before .before .before) in s .pre .1 .room)
-    (λ c κs. let s = (c .before .before .before .before .before) in let n = inner-node t (c .before .before) 2 ((c .before) .match .keys3) in (n .lower, s .pre .1 .room))
-    (λ c κs. let s = (c .before .before .before .before .before) in let n = inner-one-at t (c .before) in (omega (arith, s .pre .0, n .below), (operand (s .pre .1) (n .below), n .operator)))
+    (λ c κs.
+    let place = c .before .before in
+    let s = place .before .before .before in
+    let n = inner-node t place 2 ((c .before) .match .keys3) in (n .lower, s .pre .1 .room))
+    (λ c κs.
+    let s = c .before .before .before .before .before in
+    let n = inner-one-at t (c .before) in (omega (arith, s .pre .0, n .below), (operand (s .pre .1) (n .below), n .operator)))
     (λ c κs. search needs)
-    (λ c κs. let s = (c .before .before .before .before .before .before) in let n = inner-dual-at t (c .before) in (omega (arith, s .pre .0, n .below), (operands (s .pre .1) (n .below), n .operator)))
-    (λ c κs. let s = (c .before .before .before .before .before) in let n = inner-two-at t (c .before) in (omega (arith, s .pre .0, n .below), (operands (s .pre .1) (n .below), n .operator)))
-    (λ c κs. let s = (c .before .before .before .before .before) in let n = inner-node t (c .before .before) 6 ((c .before) .match .keys7) in (omega (arith, s .pre .0, n .lower), operands (s .pre .1) (n .lower)))
-    (λ c κs. let s = (c .before .before .before .before .before) in let n = inner-node t (c .before .before) 7 ((c .before) .match .keys8) in (omega (arith, s .pre .0, n .lower), operands (s .pre .1) (n .lower)))
-    (λ c κs. let s = (c .before .before .before .before .before) in let n = inner-node t (c .before .before) 9 ((c .before) .match .keys9) in (omega (arith, s .pre .0, n .lower), operand (s .pre .1) (n .lower)))
-    (λ c κs. let s = (c .before .before .before .before .before) in let n = inner-node t (c .before .before) 10 ((c .before) .match .keys10) in (omega (arith, s .pre .0, n .lower), operand (s .pre .1) (n .lower)))
-    (λ c κs. let s = (c .before .before .before .before .before) in let n = inner-node t (c .before .before) 13 ((c .before) .match .keys11) in (omega (arith, s .pre .0, n .lower), operands (s .pre .1) (n .lower)))
+    (λ c κs.
+    let s = c .before .before .before .before .before .before in
+    let n = inner-dual-at t (c .before) in (omega (arith, s .pre .0, n .below), (operands (s .pre .1) (n .below), n .operator)))
+    (λ c κs.
+    let s = c .before .before .before .before .before in
+    let n = inner-two-at t (c .before) in (omega (arith, s .pre .0, n .below), (operands (s .pre .1) (n .below), n .operator)))
+    (λ c κs.
+    let place = c .before .before in
+    let s = place .before .before .before in
+    let n = inner-node t place 6 ((c .before) .match .keys7) in (omega (arith, s .pre .0, n .lower), operands (s .pre .1) (n .lower)))
+    (λ c κs.
+    let place = c .before .before in
+    let s = place .before .before .before in
+    let n = inner-node t place 7 ((c .before) .match .keys8) in (omega (arith, s .pre .0, n .lower), operands (s .pre .1) (n .lower)))
+    (λ c κs.
+    let place = c .before .before in
+    let s = place .before .before .before in
+    let n = inner-node t place 9 ((c .before) .match .keys9) in (omega (arith, s .pre .0, n .lower), operand (s .pre .1) (n .lower)))
+    (λ c κs.
+    let place = c .before .before in
+    let s = place .before .before .before in
+    let n = inner-node t place 10 ((c .before) .match .keys10) in (omega (arith, s .pre .0, n .lower), operand (s .pre .1) (n .lower)))
+    (λ c κs.
+    let place = c .before .before in
+    let s = place .before .before .before in
+    let n = inner-node t place 13 ((c .before) .match .keys11) in (omega (arith, s .pre .0, n .lower), operands (s .pre .1) (n .lower)))
     (λ c. search needs)
-    (λ c. let n = inner-node t (c .before .before .before .before .before) 0 ((c .before .before .before .before) .match .keys1) in rw (n .tree) ((c .before .before) .constant .ensures))
+    (λ c.
+    let at-constant = c .before .before in
+    let at-match = at-constant .before .before in
+    let place = at-match .before in
+    let n = inner-node t place 0 (at-match .match .keys1) in rw (n .tree) (at-constant .constant .ensures))
     (λ c. search needs)
-    (λ c. let n = inner-node t (c .before .before .before .before .before) 1 ((c .before .before .before .before) .match .keys2) in rw (n .tree) ((c .before .before) .not-true .ensures))
+    (λ c.
+    let at-not-true = c .before .before in
+    let at-match = at-not-true .before .before in
+    let place = at-match .before in
+    let n = inner-node t place 1 (at-match .match .keys2) in rw (n .tree) (at-not-true .not-true .ensures))
     (λ c. search needs)
-    (λ c. let n = inner-node t (c .before .before .before .before .before) 2 ((c .before .before .before .before) .match .keys3) in rw (n .tree) ((c .before .before) .signal .ensures))
+    (λ c.
+    let at-signal = c .before .before in
+    let at-match = at-signal .before .before in
+    let place = at-match .before in
+    let n = inner-node t place 2 (at-match .match .keys3) in rw (n .tree) (at-signal .signal .ensures))
     (λ c. search needs)
-    (λ c. rw (inner-one-at t (c .before .before .before .before) .tree) ((c .before .before) .core-one .ensures))
+    (λ c.
+    let at-core-one = c .before .before in
+    let at-tree = at-core-one .before .before in
+    rw (inner-one-at t at-tree .tree) (at-core-one .core-one .ensures))
     (λ c. search needs)
-    (λ c. rw (inner-dual-at t (c .before .before .before .before) .tree) ((c .before .before) .dual .ensures))
+    (λ c.
+    let at-dual = c .before .before in
+    let at-tree = at-dual .before .before in
+    rw (inner-dual-at t at-tree .tree) (at-dual .dual .ensures))
     (λ c. search needs)
-    (λ c. rw (inner-two-at t (c .before .before .before .before) .tree) ((c .before .before) .core-both .ensures))
+    (λ c.
+    let at-core-both = c .before .before in
+    let at-tree = at-core-both .before .before in
+    rw (inner-two-at t at-tree .tree) (at-core-both .core-both .ensures))
     (λ c. search needs)
-    (λ c. let n = inner-node t (c .before .before .before .before .before) 6 ((c .before .before .before .before) .match .keys7) in rw (n .tree) ((c .before .before) .implies .ensures))
+    (λ c.
+    let at-implies = c .before .before in
+    let at-match = at-implies .before .before in
+    let place = at-match .before in
+    let n = inner-node t place 6 (at-match .match .keys7) in rw (n .tree) (at-implies .implies .ensures))
     (λ c. search needs)
-    (λ c. let n = inner-node t (c .before .before .before .before .before) 7 ((c .before .before .before .before) .match .keys8) in rw (n .tree) ((c .before .before) .equal .ensures))
+    (λ c.
+    let at-equal = c .before .before in
+    let at-match = at-equal .before .before in
+    let place = at-match .before in
+    let n = inner-node t place 7 (at-match .match .keys8) in rw (n .tree) (at-equal .equal .ensures))
     (λ c. search needs)
-    (λ c. let n = inner-node t (c .before .before .before .before .before) 9 ((c .before .before .before .before) .match .keys9) in rw (n .tree) ((c .before .before) .globally .ensures))
+    (λ c.
+    let at-globally = c .before .before in
+    let at-match = at-globally .before .before in
+    let place = at-match .before in
+    let n = inner-node t place 9 (at-match .match .keys9) in rw (n .tree) (at-globally .globally .ensures))
     (λ c. search needs)
-    (λ c. let n = inner-node t (c .before .before .before .before .before) 10 ((c .before .before .before .before) .match .keys10) in rw (n .tree) ((c .before .before) .finally .ensures))
+    (λ c.
+    let at-finally = c .before .before in
+    let at-match = at-finally .before .before in
+    let place = at-match .before in
+    let n = inner-node t place 10 (at-match .match .keys10) in rw (n .tree) (at-finally .finally .ensures))
     (λ c. search needs)
-    (λ c. let n = inner-node t (c .before .before .before .before .before) 13 ((c .before .before .before .before) .match .keys11) in rw (n .tree) ((c .before .before) .weak .ensures))
+    (λ c.
+    let at-weak = c .before .before in
+    let at-match = at-weak .before .before in
+    let place = at-match .before in
+    let n = inner-node t place 13 (at-match .match .keys11) in rw (n .tree) (at-weak .weak .ensures))
     (λ c. absurd (inner-none t c))
 
 pub +core+core-both+core-one+dual+equal+finally+globally+implies+inner+not-implies+weak-spec : {M : Type 1} → statement M
 +core+core-both+core-one+dual+equal+finally+globally+implies+inner+not-implies+weak-spec =
     close μ-core μ-core-both μ-core-one μ-dual μ-equal μ-finally μ-globally μ-implies μ-inner μ-not-implies μ-weak
-    (λ t. core-met t) (λ t. core-both-met t) (λ t. core-one-met t) (λ t. dual-met t) (λ t. equal-met t) (λ t. finally-met t) (λ t. globally-met t) (λ t. implies-met t) (λ t. inner-met t) (λ t. not-implies-met t) (λ t. weak-met t)
+    (λ t. core-met t) (λ t. core-both-met t) (λ t. core-one-met t) (λ t. dual-met t) (λ t. equal-met t) (λ t. finally-met t) (λ t. globally-met t) (λ t. implies-met t) (λ t. inner-met t)
+    (λ t. not-implies-met t) (λ t. weak-met t)

@@ -27,9 +27,10 @@ cast-t9 c = search needs
 
 returns : tie.Need-returns
 returns c =
-    let s = (c .before .before .before .before .before) in
-    node-is (s .args .i) ((c .before .before) .kind .result) ((c .before) .first .result) (c .second .result) (s .pre .0) (s .pre .1)
-    ((c .before .before) .kind .ensures) ((c .before) .first .ensures) (c .second .ensures)
+    let at-kind = c .before .before in
+    let s = at-kind .before .before .before in
+    node-is (s .args .i) (at-kind .kind .result) ((c .before) .first .result) (c .second .result) (s .pre .0) (s .pre .1)
+    (at-kind .kind .ensures) ((c .before) .first .ensures) (c .second .ensures)
 
 pub fields-at-spec : {M : Type 1} → statement M
 fields-at-spec =

@@ -2,7 +2,7 @@
 use mathlib.Core.Path.{refl}
 use native.Mathlib.Omega.{arith}
 use Rattle.node.specs.Ltl.{Not, Signal}
-use Rattle.trees.specs.WritingLaws.{unary-full, unary-wrote, end}
+use Rattle.storing.specs.StoringLaws.{unary-full, unary-wrote, end}
 use borrow.Author.Needs.{needs}
 use Rattle.trees.proofs.write.not_signal.Statement.{statement}
 use Rattle.trees.proofs.write.not_signal.Tie as tie
@@ -17,13 +17,20 @@ returns : tie.Need-returns
 returns c = unary-full Not (Signal _) (c .if1 .taken) ((c .before .before .before) .signal .ensures)
 
 cap-requires : tie.Need-cap-requires
-cap-requires c κs = end 3 (Signal _) (omega arith) ((c .before .before .before .before .before .before .before) .pre .1) ((c .before .before .before .before) .signal .ensures .stored ((c .before) .if1 .left))
+cap-requires c κs =
+    let at-signal = c .before .before .before .before in
+    let start = at-signal .before .before .before in
+    end 3 (Signal _) (omega arith) (start .pre .1) (at-signal .signal .ensures .stored ((c .before) .if1 .left))
 
 same-length-2 : tie.Need-same-length-2
 same-length-2 c = search needs
 
 returns-2 : tie.Need-returns-2
-returns-2 c = unary-wrote Not (Signal _) ((c .before .before .before .before .before .before .before) .signal .ensures .stored ((c .before .before .before .before) .if1 .left)) refl ((c .before .before) .cap .ensures)
+returns-2 c =
+    let at-cap = c .before .before in
+    let at-if1 = at-cap .before .before in
+    let at-signal = at-if1 .before .before .before in
+    unary-wrote Not (Signal _) (at-signal .signal .ensures .stored (at-if1 .if1 .left)) refl (at-cap .cap .ensures)
 
 pub not-signal-spec : {M : Type 1} → statement M
 not-signal-spec =

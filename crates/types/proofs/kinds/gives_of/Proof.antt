@@ -13,14 +13,17 @@ returns c = gives-name ((c .before) .args .kind) ((c .before) .args .name) ((c .
 
 returns-2 : tie.Need-returns-2
 returns-2 c =
-    gives-operand ((c .before .before) .args .kind) ((c .before .before) .args .name) ((c .before .before) .args .operand) ((c .before .if1) .left) ((c .if2) .taken)
+    let start = c .before .before in
+    gives-operand (start .args .kind) (start .args .name) (start .args .operand) ((c .before .if1) .left) ((c .if2) .taken)
 
 wide-requires : tie.Need-wide-requires
 wide-requires c κs = search needs
 
 returns-3 : tie.Need-returns-3
 returns-3 c =
-    (c .wide) .ensures ∙ gives-own ((c .before .before .before) .args .kind) ((c .before .before .before) .args .name) ((c .before .before .before) .args .operand) ((c .before .before .if1) .left) ((c .before .if2) .left)
+    let at-if1 = c .before .before in
+    let start = at-if1 .before in
+    (c .wide) .ensures .0 ∙ gives-own (start .args .kind) (start .args .name) (start .args .operand) ((at-if1 .if1) .left) ((c .before .if2) .left)
 
 pub gives-of-spec : {M : Type 1} → statement M
 gives-of-spec = tie.close (tie.spec array-read-gives returns returns-2 wide-requires returns-3)

@@ -13,7 +13,8 @@ misfit-requires c κs = search needs
 
 returns : tie.Need-returns
 returns c =
-    (c .misfit) .ensures ∙ index-bus ((c .before .before) .args .kind) ((c .before .before) .args .name) ((c .before .before) .args .place) ((c .before .if1) .taken)
+    let start = c .before .before in
+    (c .misfit) .ensures ∙ index-bus (start .args .kind) (start .args .name) (start .args .place) ((c .before .if1) .taken)
 
 returns-2 : tie.Need-returns-2
 returns-2 c = no-index ((c .before) .args .kind) ((c .before) .args .name) ((c .before) .args .place) ((c .if1) .left)

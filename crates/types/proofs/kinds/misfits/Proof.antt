@@ -12,7 +12,8 @@ use Rattle.types.proofs.kinds.misfits.Statement.{statement}
 use Rattle.types.proofs.kinds.misfits.Tie as tie
 
 abbrev Inv-loop : tie.InvT-loop
-Inv-loop other last kinds starts from to found₀ i₀ found i = first (placeIn found) (misfits other last (slice i to kinds) (slice i to starts)) ≡ misfits other last (slice from to kinds) (slice from to starts)
+Inv-loop other last kinds starts from to found₀ i₀ found i = first (placeIn found) (misfits other last (slice i to kinds) (slice i to starts)) ≡ misfits other last (slice from to kinds)
+    (slice from to starts)
 
 abbrev μ-loop : tie.MeasureT-loop
 μ-loop other last kinds starts from to found₀ i₀ found i = to - i
@@ -44,7 +45,11 @@ first-requires c κs = search needs
 
 returns : tie.Need-returns Inv-loop μ-loop
 returns c =
-    found-last ((c .before .before .before .before .before .before .before .before .before) .args .other) ((c .before .before .before .before .before .before .before .before .before) .args .last) ((c .before .before .before .before .before .before .before .before .before) .args .kinds .now) ((c .before .before .before .before .before .before .before .before .before) .args .starts .now) ((c .before .before .before .before .before .before .loop) .i) ((c .before .before .before .before .before .before .before .before .before) .args .to) ((c .before .before .before .before .before .before .before .before .before) .pre .0) ((c .before .before .before .before .before .before .before .before .before) .pre .1) ((c .before .before .before .before .before .before .loop) .found) _ ((c .before .before .before .before .before .before .loop) .inv) ((c .before .misfit) .result) _ ((c .first) .ensures) ((c .before .before .before .before .if1) .taken) ((c .before .misfit) .ensures)
+    let at-if1 = c .before .before .before .before in
+    let at-loop = at-if1 .before .before in
+    let start = at-loop .before .before .before in
+    found-last (start .args .other) (start .args .last) (start .args .kinds .now) (start .args .starts .now) ((at-loop .loop) .i) (start .args .to) (start .pre .0) (start .pre .1)
+    ((at-loop .loop) .found) _ ((at-loop .loop) .inv) ((c .before .misfit) .result) _ ((c .first) .ensures) ((at-if1 .if1) .taken) ((c .before .misfit) .ensures)
 
 mul-misfit-3 : tie.Need-mul-misfit-3 Inv-loop μ-loop
 mul-misfit-3 c = search needs
@@ -72,11 +77,19 @@ loop-less c = omega arith
 
 loop-again : tie.Need-loop-again Inv-loop μ-loop
 loop-again c =
-    found-other ((c .before .before .before .before .before .before .before .before .before) .args .other) ((c .before .before .before .before .before .before .before .before .before) .args .last) ((c .before .before .before .before .before .before .before .before .before) .args .kinds .now) ((c .before .before .before .before .before .before .before .before .before) .args .starts .now) ((c .before .before .before .before .before .before .loop) .i) ((c .before .before .before .before .before .before .before .before .before) .args .to) ((c .before .before .before .before .before .before .before .before .before) .pre .0) ((c .before .before .before .before .before .before .before .before .before) .pre .1) ((c .before .before .before .before .before .before .loop) .found) _ ((c .before .before .before .before .before .before .loop) .inv) ((c .before .misfit2) .result) _ ((c .first2) .ensures) ((c .before .before .before .before .before .loop-test) .taken) ((c .before .before .before .before .if1) .left) ((c .before .misfit2) .ensures)
+    let at-if1 = c .before .before .before .before in
+    let at-loop-test = at-if1 .before in
+    let at-loop = at-loop-test .before in
+    let start = at-loop .before .before .before in
+    found-other (start .args .other) (start .args .last) (start .args .kinds .now) (start .args .starts .now) ((at-loop .loop) .i) (start .args .to) (start .pre .0) (start .pre .1)
+    ((at-loop .loop) .found) _ ((at-loop .loop) .inv) ((c .before .misfit2) .result) _ ((c .first2) .ensures) ((at-loop-test .loop-test) .taken) ((at-if1 .if1) .left)
+    ((c .before .misfit2) .ensures)
 
 returns-2 : tie.Need-returns-2 Inv-loop μ-loop
 returns-2 c =
-    found-all ((c .before .before .before .before) .args .other) ((c .before .before .before .before) .args .last) ((c .before .before .before .before) .args .kinds .now) ((c .before .before .before .before) .args .starts .now) ((c .before .loop) .i) ((c .before .before .before .before) .args .to) ((c .before .before .before .before) .pre .0) ((c .before .before .before .before) .pre .1) ((c .before .loop) .found) _ ((c .before .loop) .inv) ((c .loop-test) .left)
+    let start = c .before .before .before .before in
+    found-all (start .args .other) (start .args .last) (start .args .kinds .now) (start .args .starts .now) ((c .before .loop) .i) (start .args .to) (start .pre .0) (start .pre .1)
+    ((c .before .loop) .found) _ ((c .before .loop) .inv) ((c .loop-test) .left)
 
 pub misfits-spec : {M : Type 1} → statement M
 misfits-spec =

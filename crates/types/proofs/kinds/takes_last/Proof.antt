@@ -18,7 +18,7 @@ wide-requires : tie.Need-wide-requires
 wide-requires c κs = search needs
 
 returns-3 : tie.Need-returns-3
-returns-3 c = (c .wide) .ensures ∙ last-table ((c .before .before) .args .kind) ((c .before .before) .args .n) ((c .before .if1) .left)
+returns-3 c = (c .wide) .ensures .0 ∙ last-table ((c .before .before) .args .kind) ((c .before .before) .args .n) ((c .before .if1) .left)
 
 pub takes-last-spec : {M : Type 1} → statement M
 takes-last-spec = tie.close (tie.spec returns returns-2 array-read-wide wide-requires returns-3)

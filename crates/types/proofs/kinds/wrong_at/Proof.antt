@@ -30,7 +30,13 @@ sides-of-requires c κs = search needs
 
 returns : tie.Need-returns
 returns c =
-    wrong-sides ((c .before .before .before .before .before .before .before .before) .args .kind) ((c .before .before .before .before .before .before .before .before) .args .kinds .now) ((c .before .before .before .before .before .before .before .before) .args .starts .now) ((c .before .before .before .before .before .before .before .before) .args .from) ((c .before .before .before .before .before .before .before .before) .args .to) _ ((c .before .before .before .before .before .if1) .taken) ((c .before .before .before .before .first-of) .ensures) ((c .before .before .before .first-of2) .ensures) ((c .before .before .first-of3) .ensures) ((c .before .first-of4) .ensures) ((c .sides-of) .ensures)
+    let at-first-of3 = c .before .before in
+    let at-first-of2 = at-first-of3 .before in
+    let at-first-of = at-first-of2 .before in
+    let at-if1 = at-first-of .before in
+    let start = at-if1 .before .before .before in
+    wrong-sides (start .args .kind) (start .args .kinds .now) (start .args .starts .now) (start .args .from) (start .args .to) _ ((at-if1 .if1) .taken) ((at-first-of .first-of) .ensures)
+    ((at-first-of2 .first-of2) .ensures) ((at-first-of3 .first-of3) .ensures) ((c .before .first-of4) .ensures) ((c .sides-of) .ensures)
 
 wide-requires : tie.Need-wide-requires
 wide-requires c κs = search needs
@@ -46,7 +52,11 @@ misfits-requires c κs = search needs
 
 returns-2 : tie.Need-returns-2
 returns-2 c =
-    wrong-misfits ((c .before .before .before .before .before .before) .args .kind) ((c .before .before .before .before .before .before) .args .kinds .now) ((c .before .before .before .before .before .before) .args .starts .now) ((c .before .before .before .before .before .before) .args .from) ((c .before .before .before .before .before .before) .args .to) _ ((c .before .before .before .if1) .left) ((c .before .before .before .before .before .before) .pre .1) ((c .before .before .wide) .ensures) ((c .before .takes-last) .ensures) ((c .misfits) .ensures)
+    let at-wide = c .before .before in
+    let at-if1 = at-wide .before in
+    let start = at-if1 .before .before .before in
+    wrong-misfits (start .args .kind) (start .args .kinds .now) (start .args .starts .now) (start .args .from) (start .args .to) _ ((at-if1 .if1) .left) (start .pre .1) ((at-wide .wide) .ensures .0)
+    ((c .before .takes-last) .ensures) ((c .misfits) .ensures)
 
 pub wrong-at-spec : {M : Type 1} → statement M
 wrong-at-spec =

@@ -11,7 +11,9 @@ array-read-kind : tie.Need-array-read-kind
 array-read-kind c = search needs
 
 returns : tie.Need-returns
-returns c = declares-none ((c .before .before .before) .args .c) ((c .before .before .before) .args .table .now) ((c .if1) .taken)
+returns c =
+    let start = c .before .before .before in
+    declares-none (start .args .c) (start .args .table .now) ((c .if1) .taken)
 
 cast-reference : tie.Need-cast-reference
 cast-reference c = search needs
@@ -30,11 +32,15 @@ same-length c = search needs
 
 returns-2 : tie.Need-returns-2
 returns-2 c =
-    declares-set ((c .before .before .before .before .before .before) .args .c) ((c .before .before .before .before .before .before) .args .table .now) ((c .wide) .result) ((c .before .before .before .if1) .left) ((c .wide) .ensures)
+    let at-if1 = c .before .before .before in
+    let start = at-if1 .before .before .before in
+    declares-set (start .args .c) (start .args .table .now) ((c .wide) .result) ((at-if1 .if1) .left) ((c .wide) .ensures .0)
 
 returns-3 : tie.Need-returns-3
 returns-3 c =
-    declares-out ((c .before .before .before .before .before) .args .c) ((c .before .before .before .before .before) .args .table .now) ((c .before .before .if1) .left) ((c .before .before .before .before .before) .pre .1) ((c .if2) .left)
+    let at-if1 = c .before .before in
+    let start = at-if1 .before .before .before in
+    declares-out (start .args .c) (start .args .table .now) ((at-if1 .if1) .left) (start .pre .1) ((c .if2) .left)
 
 pub declare-spec : {M : Type 1} → statement M
 declare-spec =

@@ -15,11 +15,13 @@ abbrev μ-loop : tie.MeasureT-loop
 
 loop-holds : tie.Need-loop-holds Inv-loop μ-loop
 loop-holds c =
-    (declared-none ((c .before .before .before) .args .refs .now) ((c .before .before .before) .args .work .now) ((c .before .before .before) .args .table .now) ((c .before .before .before) .pre .2), omega arith)
+    let start = c .before .before .before in
+    (declared-none (start .args .refs .now) (start .args .work .now) (start .args .table .now) (start .pre .2), omega arith)
 
 named-cell-requires : tie.Need-named-cell-requires Inv-loop μ-loop
 named-cell-requires c κs =
-    ((c .before .before .before .before .before) .pre .0, omega (arith, (c .before .before .before .before .before) .pre .1, (c .loop-test) .taken), (c .before .before .before .before .before) .pre .3)
+    let start = c .before .before .before .before .before in
+    (start .pre .0, omega (arith, start .pre .1, (c .loop-test) .taken), start .pre .3)
 
 declare-requires : tie.Need-declare-requires Inv-loop μ-loop
 declare-requires c κs = ((c .before .named-cell) .ensures .1, (c .before .before .before .loop) .inv .0 .size)
@@ -32,14 +34,24 @@ loop-less c = omega arith
 
 loop-again : tie.Need-loop-again Inv-loop μ-loop
 loop-again c =
-    (declared-more _ ((c .before .before .before .before .named-cell) .result) ((c .before .before .before .before .before .before .loop) .inv .0) ((c .before .before .before .before .named-cell) .ensures .0) ((c .before .before .declare) .ensures), omega (arith, (c .before .before .before .before .before .loop-test) .taken))
+    let at-declare = c .before .before in
+    let at-named-cell = at-declare .before .before in
+    let at-loop-test = at-named-cell .before in
+    let at-loop = at-loop-test .before in (
+      declared-more _ ((at-named-cell .named-cell) .result) ((at-loop .loop) .inv .0) ((at-named-cell .named-cell) .ensures .0) ((at-declare .declare) .ensures),
+      omega
+          (arith, (at-loop-test .loop-test) .taken),
+    )
 
 same-length : tie.Need-same-length Inv-loop μ-loop
-same-length c = (c .before .loop) .inv .0 .size ∙ sym ((c .before .before .before .before .before) .pre .2)
+same-length c =
+    let start = c .before .before .before .before .before in
+    (c .before .loop) .inv .0 .size ∙ sym (start .pre .2)
 
 returns : tie.Need-returns Inv-loop μ-loop
 returns c =
-    declared-all ((c .before .before .before .before .before) .args .entries) ((c .before .loop) .inv .0) ((c .before .loop) .inv .1) ((c .loop-test) .left)
+    let start = c .before .before .before .before .before in
+    declared-all (start .args .entries) ((c .before .loop) .inv .0) ((c .before .loop) .inv .1) ((c .loop-test) .left)
 
 pub declare-all-spec : {M : Type 1} → statement M
 declare-all-spec =

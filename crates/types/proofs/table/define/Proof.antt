@@ -18,11 +18,13 @@ same-length c = search needs
 
 returns : tie.Need-returns
 returns c =
-    table-set ((c .before .before) .args .table .now) ((c .before .before) .args .kind) ((c .before .before) .args .word) ((c .before .before) .args .operand) ((c .before .if1) .taken)
+    let start = c .before .before in
+    table-set (start .args .table .now) (start .args .kind) (start .args .word) (start .args .operand) ((c .before .if1) .taken)
 
 returns-2 : tie.Need-returns-2
 returns-2 c =
-    table-out ((c .before .before) .args .table .now) ((c .before .before) .args .kind) ((c .before .before) .args .word) ((c .before .before) .args .operand) ((c .before .before) .pre) ((c .if2) .left) ((c .before .if1) .taken)
+    let start = c .before .before in
+    table-out (start .args .table .now) (start .args .kind) (start .args .word) (start .args .operand) (start .pre) ((c .if2) .left) ((c .before .if1) .taken)
 
 returns-3 : tie.Need-returns-3
 returns-3 c = table-same ((c .before) .args .table .now) ((c .before) .args .kind) ((c .before) .args .word) ((c .before) .args .operand) ((c .if1) .left)

@@ -24,7 +24,12 @@ add-t12 c = search needs
 
 returns : tie.Need-returns
 returns c =
-    (named-of ((c .before .before .before .before .before .before) .args .refs .now) ((c .before .before .before .before .before .before) .args .work .now) ((c .before .before .before .before .before .before) .args .i) ((c .before .wide-reference) .result) ((c .before .before .before .cell-at) .result) ((c .before .before .before .cell-at) .ensures .0) ((c .before .wide-reference) .ensures .0), (c .before .before .before .cell-at) .ensures .1)
+    let at-cell-at = c .before .before .before in
+    let start = at-cell-at .before .before .before in (
+      named-of (start .args .refs .now) (start .args .work .now) (start .args .i) ((c .before .wide-reference) .result) ((at-cell-at .cell-at) .result) ((at-cell-at .cell-at) .ensures .0)
+          ((c .before .wide-reference) .ensures .0),
+      (at-cell-at .cell-at) .ensures .1,
+    )
 
 pub named-cell-spec : {M : Type 1} → statement M
 named-cell-spec =

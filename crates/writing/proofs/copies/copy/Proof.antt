@@ -57,17 +57,19 @@ loop-less c = omega arith
 
 loop-again : tie.Need-loop-again Inv-loop μ-loop
 loop-again c =
-    let d = c .before .before .before .before .before in
+    let at-moved = c .before .before in
+    let d = at-moved .before .before .before in
     let e = d .before .before in
-    (omega arith, rw add-one (moves-more (e .args .from) (e .args .at) (d .loop .i) _ (d .loop .inv .1) (omega arith) (c .before .before .moved .ensures) (c .put .ensures) (omega arith)))
+    (omega arith, rw add-one (moves-more (e .args .from) (e .args .at) (d .loop .i) _ (d .loop .inv .1) (omega arith) (at-moved .moved .ensures) (c .put .ensures) (omega arith)))
 
 add-result : tie.Need-add-result Inv-loop μ-loop
 add-result c = omega arith
 
 returns-2 : tie.Need-returns-2 Inv-loop μ-loop
 returns-2 c =
-    let e : c .before .loop .i ≡ c .before .before .before .args .size = omega arith in
-    moves-all (c .before .before .before .args .from) (c .before .before .before .args .at) (c .before .loop .i) (c .before .before .before .args .size) _ _ e (c .before .loop .inv .1) (omega arith)
+    let start = c .before .before .before in
+    let e : c .before .loop .i ≡ start .args .size = omega arith in
+    moves-all (start .args .from) (start .args .at) (c .before .loop .i) (start .args .size) _ _ e (c .before .loop .inv .1) (omega arith)
 
 pub copy-spec : {M : Type 1} → statement M
 copy-spec =

@@ -24,7 +24,9 @@ add-result : tie.Need-add-result
 add-result c = let h = in-word (c .before .before .args .word) _ _ (c .before .before .args .to) (c .before .kind .ensures) (c .weight .ensures) (omega arith) (omega arith) in omega arith
 
 returns : tie.Need-returns
-returns c = moved-is (c .before .before .args .word) _ _ (c .before .before .args .from) (c .before .before .args .to) (c .before .kind .ensures) (c .weight .ensures)
+returns c =
+    let start = c .before .before in
+    moved-is (start .args .word) _ _ (start .args .from) (start .args .to) (c .before .kind .ensures) (c .weight .ensures)
 
 pub moved-spec : {M : Type 1} → statement M
 moved-spec =

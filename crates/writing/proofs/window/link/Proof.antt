@@ -43,13 +43,15 @@ loop-less c = omega arith
 
 loop-again : tie.Need-loop-again Inv-loop μ-loop
 loop-again c =
-    let d = c .before .before .before .before .before in
+    let at-cap = c .before .before in
+    let d = at-cap .before .before .before in
     let e = d .before in
     let b = place-back (e .args .from) (e .args .size) (d .loop .j) (omega arith) in (
       omega arith,
       (
         omega arith,
-        linked-more (e .args .op) (e .args .n) (d .loop .j - 1) (d .loop .j) (e .args .from) (e .args .size) (omega arith) (d .loop .inv .0) (d .loop .inv .1 .0) (d .loop .inv .1 .1) (c .before .before .cap .ensures) (c .join .ensures),
+        linked-more (e .args .op) (e .args .n) (d .loop .j - 1) (d .loop .j) (e .args .from) (e .args .size) (omega arith) (d .loop .inv .0) (d .loop .inv .1 .0) (d .loop .inv .1 .1)
+            (at-cap .cap .ensures) (c .join .ensures),
       ),
     )
 

@@ -42,14 +42,17 @@ add-link c = search needs
 
 link-requires : tie.Need-link-requires
 link-requires c κs =
-    let d = c .before .before .before .before .before .before .before .args in
+    let start = c .before .before .before .before .before .before .before in
+    let d = start .args in
     let e = place-end (d .from) (d .m - d .from) (d .n) in
     (omega arith, (omega arith, omega arith))
 
 returns-5 : tie.Need-returns-5
 returns-5 c =
-    let d = c .before .before .before .before .before .before .before .before .args in
-    windowed (d .op) (d .n) (d .from) (d .m) (d .m - d .from) (omega arith) (omega arith) (c .before .before .layer .ensures) (c .link .ensures)
+    let at-layer = c .before .before in
+    let start = at-layer .before .before .before .before .before .before in
+    let d = start .args in
+    windowed (d .op) (d .n) (d .from) (d .m) (d .m - d .from) (omega arith) (omega arith) (at-layer .layer .ensures) (c .link .ensures)
 
 pub window-spec : {M : Type 1} → statement M
 window-spec =

@@ -10,16 +10,42 @@ use Rattle.operands.specs.Operands as O
 use Rattle.operands.specs.TellingLaws as T
 use Rattle.evaluation.proofs.evaluate.arithmetic.Reads as arithmetic
 use Rattle.evaluation.proofs.evaluate.+arithmetic+big+bounds+braces+chained+combination+elements+gathered+joined+listed+measured+merged+named+number_at+operated+quantified+set_at+stepped+summed+total+value_at+width.Lts-arithmetic as arithmetic-lts
-use Rattle.evaluation.proofs.evaluate.+arithmetic+big+bounds+braces+chained+combination+elements+gathered+joined+listed+measured+merged+named+number_at+operated+quantified+set_at+stepped+summed+total+value_at+width.Proof.Calls.{arithmetic-at, arithmetic-calls}
+use Rattle.evaluation.proofs.evaluate.+arithmetic+big+bounds+braces+chained+combination+elements+gathered+joined+listed+measured+merged+named+number_at+operated+quantified+set_at+stepped+summed+total+value_at+width.Proof.Calls.{
+  arithmetic-at,
+  arithmetic-calls,
+}
 
 pub arithmetic-met : (t : ℕ) {M : Type 1} → arithmetic-lts.Closed (arithmetic-calls t) (arithmetic-at t) arithmetic.Post M
 arithmetic-met t =
     arithmetic-lts.spec (arithmetic-calls t) (arithmetic-at t) arithmetic.Post
-    (λ c. let start = c .before .before .before .before .before .before .before .before .before .before .before .before in S.two-some (λ W env d e f. O.calculation-of f (K.calculation-class _ ((start .pre .1 .1 .1) .0) ((start .pre .1 .1 .1) .1))) (start .pre .1 .0))
-    (λ c. let start = c .before .before .before .before .before .before .before .before .before .before .before .before in S.two-some (λ W env d e f. O.calculation-of f (K.calculation-class _ ((start .pre .1 .1 .1) .0) ((start .pre .1 .1 .1) .1))) (start .pre .1 .0))
-    (λ c κs. let start = c .before .before .before .before .before .before .before .before .before .before .before .before in (let i = S.two-some (λ W env d e f. O.calculation-of f (K.calculation-class _ ((start .pre .1 .1 .1) .0) ((start .pre .1 .1 .1) .1))) (start .pre .1 .0) in omega (arith, (start .pre .1 .0) .room .inside), (start .pre .1 .0) .room .work))
-    (λ c. let start = c .before .before .before .before .before .before .before .before .before .before .before .before .before in omega (arith, (S.two-inside (λ W env d e f. O.calculation-of f (K.calculation-class _ ((start .pre .1 .1 .1) .0) ((start .pre .1 .1 .1) .1))) (c .size-at .result) (c .size-at .ensures) (start .pre .1 .0))))
-    (λ c κs. let start = c .before .before .before .before .before .before .before .before .before .before .before .before .before .before in (omega (arith, (start .pre .0), (S.two-inside (λ W env d e f. O.calculation-of f (K.calculation-class _ ((start .pre .1 .1 .1) .0) ((start .pre .1 .1 .1) .1))) (c .before .size-at .result) (c .before .size-at .ensures) (start .pre .1 .0))), (S.two-left (λ W env d e f. O.calculation-of f (K.calculation-class _ ((start .pre .1 .1 .1) .0) ((start .pre .1 .1 .1) .1))) (c .before .size-at .result) (c .before .size-at .ensures) (start .pre .1 .0), (start .pre .1 .1 .0))))
+    (λ c. let start = c .before .before .before .before .before .before .before .before .before .before .before .before in
+    S.two-some (λ W env d e f. O.calculation-of f (K.calculation-class _ ((start .pre .1 .1 .1) .0) ((start .pre .1 .1 .1) .1))) (start .pre .1 .0))
+    (λ c. let start = c .before .before .before .before .before .before .before .before .before .before .before .before in
+    S.two-some (λ W env d e f. O.calculation-of f (K.calculation-class _ ((start .pre .1 .1 .1) .0) ((start .pre .1 .1 .1) .1))) (start .pre .1 .0))
+    (λ c κs. let start = c .before .before .before .before .before .before .before .before .before .before .before .before in (
+      let i = S.two-some (λ W env d e f. O.calculation-of f (K.calculation-class _ ((start .pre .1 .1 .1) .0) ((start .pre .1 .1 .1) .1))) (start .pre .1 .0) in
+          omega (arith, (start .pre .1 .0) .room .inside),
+      (start .pre .1 .0) .room .work,
+    ))
+    (λ c. let start = c .before .before .before .before .before .before .before .before .before .before .before .before .before in
+    omega (
+      arith,
+      (S.two-inside (λ W env d e f. O.calculation-of f (K.calculation-class _ ((start .pre .1 .1 .1) .0) ((start .pre .1 .1 .1) .1))) (c .size-at .result) (c .size-at .ensures)
+          (start .pre .1 .0)),
+    ))
+    (λ c κs. let start = c .before .before .before .before .before .before .before .before .before .before .before .before .before .before in (
+      omega (
+        arith,
+        (start .pre .0),
+        (S.two-inside (λ W env d e f. O.calculation-of f (K.calculation-class _ ((start .pre .1 .1 .1) .0) ((start .pre .1 .1 .1) .1))) (c .before .size-at .result)
+            (c .before .size-at .ensures) (start .pre .1 .0)),
+      ),
+      (
+        S.two-left (λ W env d e f. O.calculation-of f (K.calculation-class _ ((start .pre .1 .1 .1) .0) ((start .pre .1 .1 .1) .1)))
+            (c .before .size-at .result) (c .before .size-at .ensures) (start .pre .1 .0),
+        (start .pre .1 .1 .0),
+      ),
+    ))
     (λ c. search needs)
     (λ c. search needs)
     (λ c κs. search needs)
@@ -28,9 +54,58 @@ arithmetic-met t =
     (λ c. search needs)
     (λ c. search needs)
     (λ c. search needs)
-    (λ c. let at-number-at = c .before .before .before .before .before .before .before .before .before .before .before .before .before in let at-size-at = at-number-at .before .before in let start = at-size-at .before .before .before .before .before .before .before .before .before .before .before .before .before in rw (c .number .ensures) (S.left-works (λ W env d e f. O.calculation-of f (K.calculation-class _ ((start .pre .1 .1 .1) .0) ((start .pre .1 .1 .1) .1))) (at-size-at .size-at .result) (at-size-at .size-at .ensures) (at-number-at .number-at .ensures) (λ W x y tx. T.refuses-number (c .before .enum-told .given .1) (T.number-no _ tx (c .before .enum-told .given .1)))))
-    (λ c. let at-size-at = c .before .before .before .before .before .before .before .before .before .before .before .before .before .before .before .before .before .before .before in let start = at-size-at .before .before .before .before .before .before .before .before .before .before .before .before .before in omega (arith, (S.two-inside (λ W env d e f. O.calculation-of f (K.calculation-class _ ((start .pre .1 .1 .1) .0) ((start .pre .1 .1 .1) .1))) (at-size-at .size-at .result) (at-size-at .size-at .ensures) (start .pre .1 .0))))
-    (λ c κs. (omega (arith, (c .before .before .before .before .before .before .before .before .before .before .before .before .before .before .before .before .before .before .before .before .before .before .before .before .before .before .before .before .before .before .before .before .before .pre .0), (S.two-inside (λ W env d e f. O.calculation-of f (K.calculation-class _ ((c .before .before .before .before .before .before .before .before .before .before .before .before .before .before .before .before .before .before .before .before .before .before .before .before .before .before .before .before .before .before .before .before .before .pre .1 .1 .1) .0) ((c .before .before .before .before .before .before .before .before .before .before .before .before .before .before .before .before .before .before .before .before .before .before .before .before .before .before .before .before .before .before .before .before .before .pre .1 .1 .1) .1))) (c .before .before .before .before .before .before .before .before .before .before .before .before .before .before .before .before .before .before .before .before .size-at .result) (c .before .before .before .before .before .before .before .before .before .before .before .before .before .before .before .before .before .before .before .before .size-at .ensures) (c .before .before .before .before .before .before .before .before .before .before .before .before .before .before .before .before .before .before .before .before .before .before .before .before .before .before .before .before .before .before .before .before .before .pre .1 .0))), (S.two-right (λ W env d e f. O.calculation-of f (K.calculation-class _ ((c .before .before .before .before .before .before .before .before .before .before .before .before .before .before .before .before .before .before .before .before .before .before .before .before .before .before .before .before .before .before .before .before .before .pre .1 .1 .1) .0) ((c .before .before .before .before .before .before .before .before .before .before .before .before .before .before .before .before .before .before .before .before .before .before .before .before .before .before .before .before .before .before .before .before .before .pre .1 .1 .1) .1))) (c .before .before .before .before .before .before .before .before .before .before .before .before .before .before .before .before .before .before .before .before .size-at .result) (c .before .before .before .before .before .before .before .before .before .before .before .before .before .before .before .before .before .before .before .before .size-at .ensures) (c .before .before .before .before .before .before .before .before .before .before .before .before .before .before .before .before .before .before .before .before .before .before .before .before .before .before .before .before .before .before .before .before .before .pre .1 .0) (record { sorts = c .before .before .before .before .before .before .before .before .before .before .before .before .before .before .before .before .before .before .number-at .kept .1 .1 .1 .0; numbers = c .before .before .before .before .before .before .before .before .before .before .before .before .before .before .before .before .before .before .number-at .kept .1 .1 .1 .1 .0; slots = c .before .before .before .before .before .before .before .before .before .before .before .before .before .before .before .before .before .before .number-at .kept .1 .1 .1 .1 .1 .1 .0 }) (c .before .before .before .before .before .before .before .before .before .before .before .before .before .before .before .before .before .before .number-at .ensures), omega (arith, (c .before .before .before .before .before .before .before .before .before .before .before .before .before .before .before .before .before .before .before .before .before .before .before .before .before .before .before .before .before .before .before .before .before .pre .1 .1 .0)))))
+    (λ c. let at-number-at = c .before .before .before .before .before .before .before .before .before .before .before .before .before in let at-size-at = at-number-at .before .before in
+    let start = at-size-at .before .before .before .before .before .before .before .before .before .before .before .before .before in
+    rw (c .number .ensures) (S.left-works (λ W env d e f. O.calculation-of f (K.calculation-class _ ((start .pre .1 .1 .1) .0) ((start .pre .1 .1 .1) .1))) (at-size-at .size-at .result)
+    (at-size-at .size-at .ensures) (at-number-at .number-at .ensures) (λ W x y tx. T.refuses-number (c .before .enum-told .given .1) (T.number-no _ tx (c .before .enum-told .given .1)))))
+    (λ c. let at-size-at = c .before .before .before .before .before .before .before .before .before .before .before .before .before .before .before .before .before .before .before in
+    let start = at-size-at .before .before .before .before .before .before .before .before .before .before .before .before .before in
+    omega (
+      arith,
+      (S.two-inside (λ W env d e f. O.calculation-of f (K.calculation-class _ ((start .pre .1 .1 .1) .0) ((start .pre .1 .1 .1) .1))) (at-size-at .size-at .result)
+          (at-size-at .size-at .ensures) (start .pre .1 .0)),
+    ))
+    (λ c κs. (
+      omega (
+        arith,
+        (c .before .before .before .before .before .before .before .before .before .before .before .before .before .before .before .before .before .before .before .before .before
+            .before .before .before .before .before .before .before .before .before .before .before .before .pre .0),
+        (S.two-inside (λ W env d e f. O.calculation-of f (K.calculation-class _
+            ((c .before .before .before .before .before .before .before .before .before .before .before .before .before .before .before .before .before .before .before .before .before .before .before
+            .before .before .before .before .before .before .before .before .before .before .pre .1 .1 .1) .0)
+            ((c .before .before .before .before .before .before .before .before .before .before .before .before .before .before .before .before .before .before .before .before .before .before .before
+            .before .before .before .before .before .before .before .before .before .before .pre .1 .1 .1) .1)))
+            (c .before .before .before .before .before .before .before .before .before .before .before .before .before .before .before .before .before .before .before .before .size-at .result)
+            (c .before .before .before .before .before .before .before .before .before .before .before .before .before .before .before .before .before .before .before .before .size-at .ensures)
+            (c .before .before .before .before .before .before .before .before .before .before .before .before .before .before .before .before .before .before .before .before .before .before .before
+            .before .before .before .before .before .before .before .before .before .before .pre .1 .0)),
+      ),
+      (
+        S.two-right (λ W env d e f. O.calculation-of f (K.calculation-class _
+            ((c .before .before .before .before .before .before .before .before .before .before .before .before .before .before .before .before .before .before .before .before .before .before .before
+            .before .before .before .before .before .before .before .before .before .before .pre .1 .1 .1) .0)
+            ((c .before .before .before .before .before .before .before .before .before .before .before .before .before .before .before .before .before .before .before .before .before .before .before
+            .before .before .before .before .before .before .before .before .before .before .pre .1 .1 .1) .1)))
+            (c .before .before .before .before .before .before .before .before .before .before .before .before .before .before .before .before .before .before .before .before .size-at .result)
+            (c .before .before .before .before .before .before .before .before .before .before .before .before .before .before .before .before .before .before .before .before .size-at .ensures)
+            (c .before .before .before .before .before .before .before .before .before .before .before .before .before .before .before .before .before .before .before .before .before .before .before
+            .before .before .before .before .before .before .before .before .before .before .pre .1 .0)
+            (record {
+              sorts = c .before .before .before .before .before .before .before .before .before .before .before .before .before .before .before .before
+                  .before .before .number-at .kept .1 .1 .1 .0;
+              numbers = c .before .before .before .before .before .before .before .before .before .before .before .before .before .before .before .before
+                  .before .before .number-at .kept .1 .1 .1 .1 .0;
+              slots = c .before .before .before .before .before .before .before .before .before .before .before .before .before .before .before .before
+                  .before .before .number-at .kept .1 .1 .1 .1 .1 .1 .0;
+            }) (c .before .before .before .before .before .before .before .before .before .before .before .before .before .before .before .before
+            .before .before .number-at .ensures),
+        omega (
+          arith,
+          (c .before .before .before .before .before .before .before .before .before .before .before .before .before .before .before .before .before
+              .before .before .before .before .before .before .before .before .before .before .before .before .before .before .before .before .pre .1 .1 .0),
+        ),
+      ),
+    ))
     (λ c. search needs)
     (λ c. search needs)
     (λ c κs. search needs)
@@ -39,15 +114,45 @@ arithmetic-met t =
     (λ c. search needs)
     (λ c. search needs)
     (λ c. search needs)
-    (λ c. let at-number-at2 = c .before .before .before .before .before .before .before .before .before .before .before .before .before in let at-x = at-number-at2 .before .before .before .before .before .before .before in let at-number-at = at-x .before .before .before .before .before .before .before .before .before .before .before .before in let at-size-at = at-number-at .before .before in let start = at-size-at .before .before .before .before .before .before .before .before .before .before .before .before .before in rw (c .number2 .ensures) (S.both-work (λ W env d e f. O.calculation-of f (K.calculation-class _ ((start .pre .1 .1 .1) .0) ((start .pre .1 .1 .1) .1))) (at-size-at .size-at .result) (at-size-at .size-at .ensures) (at-number-at .number-at .ensures) (at-number-at2 .number-at2 .ensures) (λ W x y tx ty. T.refuses-number (c .before .enum-told2 .given .1) (T.number-done _ tx (at-x .x .given .1) ∙ T.number-no _ ty (c .before .enum-told2 .given .1)))))
-    (λ c κs. let start = c .before .before .before .before .before .before .before .before .before .before .before .before .before .before .before .before .before .before .before .before .before .before .before .before .before .before .before .before .before .before .before .before .before .before .before .before .before .before .before .before .before .before .before .before .before .before .before in (((start .pre .1 .0) .room .inside, (start .pre .1 .0) .room .work)))
-    (λ c κs. let start = c .before .before .before .before .before .before .before .before .before .before .before .before .before .before .before .before .before .before .before .before .before .before .before .before .before .before .before .before .before .before .before .before .before .before .before .before .before .before .before .before .before .before .before .before .before .before .before .before in (((start .pre .1 .0) .room .inside, (start .pre .1 .0) .room .work)))
-    (λ c. let start = c .before .before .before .before .before .before .before .before .before .before .before .before .before .before .before .before .before .before .before .before .before .before .before .before .before .before .before .before .before .before .before .before .before .before .before .before .before .before .before .before .before .before .before .before .before .before .before .before .before in omega (arith, c .kind-at .ensures, (start .pre .1 .1 .1) .0))
+    (λ c. let at-number-at2 = c .before .before .before .before .before .before .before .before .before .before .before .before .before in
+    let at-x = at-number-at2 .before .before .before .before .before .before .before in
+    let at-number-at = at-x .before .before .before .before .before .before .before .before .before .before .before .before in let at-size-at = at-number-at .before .before in
+    let start = at-size-at .before .before .before .before .before .before .before .before .before .before .before .before .before in
+    rw (c .number2 .ensures) (S.both-work (λ W env d e f. O.calculation-of f (K.calculation-class _ ((start .pre .1 .1 .1) .0) ((start .pre .1 .1 .1) .1))) (at-size-at .size-at .result)
+    (at-size-at .size-at .ensures) (at-number-at .number-at .ensures) (at-number-at2 .number-at2 .ensures)
+    (λ W x y tx ty. T.refuses-number (c .before .enum-told2 .given .1) (T.number-done _ tx (at-x .x .given .1) ∙ T.number-no _ ty (c .before .enum-told2 .given .1)))))
+    (λ c κs. let start = c .before .before .before .before .before .before .before .before .before .before .before .before .before .before .before .before .before .before .before .before .before
+    .before .before .before .before .before .before .before .before .before .before .before .before .before .before .before .before .before .before .before .before .before .before .before .before
+    .before .before in (((start .pre .1 .0) .room .inside, (start .pre .1 .0) .room .work)))
+    (λ c κs. let start = c .before .before .before .before .before .before .before .before .before .before .before .before .before .before .before .before .before .before .before .before .before
+    .before .before .before .before .before .before .before .before .before .before .before .before .before .before .before .before .before .before .before .before .before .before .before .before
+    .before .before .before in (((start .pre .1 .0) .room .inside, (start .pre .1 .0) .room .work)))
+    (λ c. let start = c .before .before .before .before .before .before .before .before .before .before .before .before .before .before .before .before .before .before .before .before .before .before
+    .before .before .before .before .before .before .before .before .before .before .before .before .before .before .before .before .before .before .before .before .before .before .before .before
+    .before .before .before in omega (arith, c .kind-at .ensures, (start .pre .1 .1 .1) .0))
     (λ c κs. search needs)
     (λ c κs. search needs)
-    (λ c. let at-number-at2 = c .before .before .before .before .before .before .before .before .before .before .before .before .before .before .before .before .before in let at-number-at = at-number-at2 .before .before .before .before .before .before .before .before .before .before .before .before .before .before .before .before .before .before .before in at-number-at2 .number-at2 .kept .1 .1 .1 .0 ∙ at-number-at .number-at .kept .1 .1 .1 .0)
-    (λ c. let at-number-at2 = c .before .before .before .before .before .before .before .before .before .before .before .before .before .before .before .before .before in let at-number-at = at-number-at2 .before .before .before .before .before .before .before .before .before .before .before .before .before .before .before .before .before .before .before in at-number-at2 .number-at2 .kept .1 .1 .1 .1 .0 ∙ at-number-at .number-at .kept .1 .1 .1 .1 .0)
-    (λ c. let at-number-at2 = c .before .before .before .before .before .before .before .before .before .before .before .before .before .before .before .before .before in let at-number-at = at-number-at2 .before .before .before .before .before .before .before .before .before .before .before .before .before .before .before .before .before .before .before in at-number-at2 .number-at2 .kept .1 .1 .1 .1 .1 .0 ∙ at-number-at .number-at .kept .1 .1 .1 .1 .1 .0)
-    (λ c. let at-number-at2 = c .before .before .before .before .before .before .before .before .before .before .before .before .before .before .before .before .before in let at-number-at = at-number-at2 .before .before .before .before .before .before .before .before .before .before .before .before .before .before .before .before .before .before .before in at-number-at2 .number-at2 .kept .1 .1 .1 .1 .1 .1 .0 ∙ at-number-at .number-at .kept .1 .1 .1 .1 .1 .1 .0)
-    (λ c. let at-number-at2 = c .before .before .before .before .before .before .before .before .before .before .before .before .before .before .before .before .before in let at-number-at = at-number-at2 .before .before .before .before .before .before .before .before .before .before .before .before .before .before .before .before .before .before .before in at-number-at2 .number-at2 .kept .1 .1 .1 .1 .1 .1 .1 .1 .1 .1 .0 ∙ at-number-at .number-at .kept .1 .1 .1 .1 .1 .1 .1 .1 .1 .1 .0)
-    (λ c. let at-place-at = c .before .before .before in let at-y = at-place-at .before .before in let at-number-at2 = at-y .before .before .before .before .before .before .before .before .before .before .before .before in let at-x = at-number-at2 .before .before .before .before .before .before .before in let at-number-at = at-x .before .before .before .before .before .before .before .before .before .before .before .before in let at-size-at = at-number-at .before .before in let start = at-size-at .before .before .before .before .before .before .before .before .before .before .before .before .before in rw (c .number3 .ensures) (S.both-work (λ W env d e f. O.calculation-of f (K.calculation-class _ ((start .pre .1 .1 .1) .0) ((start .pre .1 .1 .1) .1))) (at-size-at .size-at .result) (at-size-at .size-at .ensures) (at-number-at .number-at .ensures) (at-number-at2 .number-at2 .ensures) (λ W x y tx ty. P.calculated-gives (c .before .calculate .result) tx (at-x .x .given .1) ty (at-y .y .given .1) (c .before .calculate .ensures) (at-place-at .place-at .ensures) (ap (λ n. n - 14) (c .before .before .kind-at .ensures)))))
+    (λ c. let at-number-at2 = c .before .before .before .before .before .before .before .before .before .before .before .before .before .before .before .before .before in
+    let at-number-at = at-number-at2 .before .before .before .before .before .before .before .before .before .before .before .before .before .before .before .before .before .before .before in
+    at-number-at2 .number-at2 .kept .1 .1 .1 .0 ∙ at-number-at .number-at .kept .1 .1 .1 .0)
+    (λ c. let at-number-at2 = c .before .before .before .before .before .before .before .before .before .before .before .before .before .before .before .before .before in
+    let at-number-at = at-number-at2 .before .before .before .before .before .before .before .before .before .before .before .before .before .before .before .before .before .before .before in
+    at-number-at2 .number-at2 .kept .1 .1 .1 .1 .0 ∙ at-number-at .number-at .kept .1 .1 .1 .1 .0)
+    (λ c. let at-number-at2 = c .before .before .before .before .before .before .before .before .before .before .before .before .before .before .before .before .before in
+    let at-number-at = at-number-at2 .before .before .before .before .before .before .before .before .before .before .before .before .before .before .before .before .before .before .before in
+    at-number-at2 .number-at2 .kept .1 .1 .1 .1 .1 .0 ∙ at-number-at .number-at .kept .1 .1 .1 .1 .1 .0)
+    (λ c. let at-number-at2 = c .before .before .before .before .before .before .before .before .before .before .before .before .before .before .before .before .before in
+    let at-number-at = at-number-at2 .before .before .before .before .before .before .before .before .before .before .before .before .before .before .before .before .before .before .before in
+    at-number-at2 .number-at2 .kept .1 .1 .1 .1 .1 .1 .0 ∙ at-number-at .number-at .kept .1 .1 .1 .1 .1 .1 .0)
+    (λ c. let at-number-at2 = c .before .before .before .before .before .before .before .before .before .before .before .before .before .before .before .before .before in
+    let at-number-at = at-number-at2 .before .before .before .before .before .before .before .before .before .before .before .before .before .before .before .before .before .before .before in
+    at-number-at2 .number-at2 .kept .1 .1 .1 .1 .1 .1 .1 .1 .1 .1 .0 ∙ at-number-at .number-at .kept .1 .1 .1 .1 .1 .1 .1 .1 .1 .1 .0)
+    (λ c. let at-place-at = c .before .before .before in let at-y = at-place-at .before .before in
+    let at-number-at2 = at-y .before .before .before .before .before .before .before .before .before .before .before .before in
+    let at-x = at-number-at2 .before .before .before .before .before .before .before in
+    let at-number-at = at-x .before .before .before .before .before .before .before .before .before .before .before .before in let at-size-at = at-number-at .before .before in
+    let start = at-size-at .before .before .before .before .before .before .before .before .before .before .before .before .before in
+    rw (c .number3 .ensures) (S.both-work (λ W env d e f. O.calculation-of f (K.calculation-class _ ((start .pre .1 .1 .1) .0) ((start .pre .1 .1 .1) .1))) (at-size-at .size-at .result)
+    (at-size-at .size-at .ensures) (at-number-at .number-at .ensures) (at-number-at2 .number-at2 .ensures)
+    (λ W x y tx ty. P.calculated-gives (c .before .calculate .result) tx (at-x .x .given .1) ty (at-y .y .given .1) (c .before .calculate .ensures) (at-place-at .place-at .ensures)
+    (ap (λ n. n - 14) (c .before .before .kind-at .ensures)))))

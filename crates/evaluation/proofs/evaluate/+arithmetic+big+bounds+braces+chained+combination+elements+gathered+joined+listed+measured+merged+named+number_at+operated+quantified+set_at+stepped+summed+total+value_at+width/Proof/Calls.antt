@@ -299,25 +299,95 @@ abbrev pub joined-below : ℕ → In 8 joined-kinds.ps
 joined-below t = and 8 joined-kinds.ps (falls 8 joined-kinds.ps _<_ μ-joined t) joined.Pre
 
 abbrev pub arithmetic-calls : ℕ → arithmetic-lts.Claims
-arithmetic-calls t = (size-at-reads.Asked, size-at-reads.Learnt, number-at-below t, number-at.Post, number-reads.Asked, number-reads.Learnt, place-at-reads.Asked, place-at-reads.Learnt, kind-at-reads.Asked, kind-at-reads.Learnt, calculate-reads.Asked, calculate-reads.Learnt)
+arithmetic-calls t = (
+  size-at-reads.Asked,
+  size-at-reads.Learnt,
+  number-at-below t,
+  number-at.Post,
+  number-reads.Asked,
+  number-reads.Learnt,
+  place-at-reads.Asked,
+  place-at-reads.Learnt,
+  kind-at-reads.Asked,
+  kind-at-reads.Learnt,
+  calculate-reads.Asked,
+  calculate-reads.Learnt,
+)
 
 abbrev pub bounds-calls : ℕ → bounds-lts.Claims
-bounds-calls t = (size-at-reads.Asked, size-at-reads.Learnt, number-at-below t, number-at.Post, set-reads.Asked, set-reads.Learnt, kind-at-reads.Asked, kind-at-reads.Learnt, place-at-reads.Asked, place-at-reads.Learnt, between-reads.Asked, between-reads.Learnt)
+bounds-calls t = (
+  size-at-reads.Asked,
+  size-at-reads.Learnt,
+  number-at-below t,
+  number-at.Post,
+  set-reads.Asked,
+  set-reads.Learnt,
+  kind-at-reads.Asked,
+  kind-at-reads.Learnt,
+  place-at-reads.Asked,
+  place-at-reads.Learnt,
+  between-reads.Asked,
+  between-reads.Learnt,
+)
 
 abbrev pub combination-calls : ℕ → combination-lts.Claims
-combination-calls t = (set-at-below t, set-at.Post, set-reads.Asked, set-reads.Learnt, place-at-reads.Asked, place-at-reads.Learnt, kind-at-reads.Asked, kind-at-reads.Learnt, combine-reads.Asked, combine-reads.Learnt)
+combination-calls t = (
+  set-at-below t,
+  set-at.Post,
+  set-reads.Asked,
+  set-reads.Learnt,
+  place-at-reads.Asked,
+  place-at-reads.Learnt,
+  kind-at-reads.Asked,
+  kind-at-reads.Learnt,
+  combine-reads.Asked,
+  combine-reads.Learnt,
+)
 
 abbrev pub elements-calls : ℕ → elements-lts.Claims
-elements-calls t = (kind-at-reads.Asked, kind-at-reads.Learnt, number-at-below t, number-at.Post, insert-reads.Asked, insert-reads.Learnt, size-at-reads.Asked, size-at-reads.Learnt, elements-below t, elements.Post)
+elements-calls t = (
+  kind-at-reads.Asked,
+  kind-at-reads.Learnt,
+  number-at-below t,
+  number-at.Post,
+  insert-reads.Asked,
+  insert-reads.Learnt,
+  size-at-reads.Asked,
+  size-at-reads.Learnt,
+  elements-below t,
+  elements.Post,
+)
 
 abbrev pub gathered-calls : ℕ → gathered-lts.Claims
 gathered-calls t = (size-at-reads.Asked, size-at-reads.Learnt, set-at-below t, set-at.Post, set-reads.Asked, set-reads.Learnt, merged-below t, merged.Post)
 
 abbrev pub listed-calls : ℕ → listed-lts.Claims
-listed-calls t = (size-at-reads.Asked, size-at-reads.Learnt, elements-below t, elements.Post, set-reads.Asked, set-reads.Learnt, place-at-reads.Asked, place-at-reads.Learnt, limited-reads.Asked, limited-reads.Learnt)
+listed-calls t = (
+  size-at-reads.Asked,
+  size-at-reads.Learnt,
+  elements-below t,
+  elements.Post,
+  set-reads.Asked,
+  set-reads.Learnt,
+  place-at-reads.Asked,
+  place-at-reads.Learnt,
+  limited-reads.Asked,
+  limited-reads.Learnt,
+)
 
 abbrev pub measured-calls : ℕ → measured-lts.Claims
-measured-calls t = (set-at-below t, set-at.Post, number-reads.Asked, number-reads.Learnt, place-at-reads.Asked, place-at-reads.Learnt, kind-at-reads.Asked, kind-at-reads.Learnt, measure-reads.Asked, measure-reads.Learnt)
+measured-calls t = (
+  set-at-below t,
+  set-at.Post,
+  number-reads.Asked,
+  number-reads.Learnt,
+  place-at-reads.Asked,
+  place-at-reads.Learnt,
+  kind-at-reads.Asked,
+  kind-at-reads.Learnt,
+  measure-reads.Asked,
+  measure-reads.Learnt,
+)
 
 abbrev pub merged-calls : ℕ → merged-lts.Claims
 merged-calls t = (kind-at-reads.Asked, kind-at-reads.Learnt, place-at-reads.Asked, place-at-reads.Learnt, set-at-below t, set-at.Post, combine-reads.Asked, combine-reads.Learnt)
@@ -338,7 +408,18 @@ abbrev pub set-at-calls : ℕ → set-at-lts.Claims
 set-at-calls t = (value-at-below t, value-at.Post, as-set-reads.Asked, as-set-reads.Learnt)
 
 abbrev pub stepped-calls : ℕ → stepped-lts.Claims
-stepped-calls t = (size-at-reads.Asked, size-at-reads.Learnt, number-at-below t, number-at.Post, set-reads.Asked, set-reads.Learnt, place-at-reads.Asked, place-at-reads.Learnt, range-reads.Asked, range-reads.Learnt)
+stepped-calls t = (
+  size-at-reads.Asked,
+  size-at-reads.Learnt,
+  number-at-below t,
+  number-at.Post,
+  set-reads.Asked,
+  set-reads.Learnt,
+  place-at-reads.Asked,
+  place-at-reads.Learnt,
+  range-reads.Asked,
+  range-reads.Learnt,
+)
 
 abbrev pub summed-calls : ℕ → summed-lts.Claims
 summed-calls t = (size-at-reads.Asked, size-at-reads.Learnt, set-at-below t, set-at.Post, number-reads.Asked, number-reads.Learnt, total-below t, total.Post)
@@ -347,7 +428,28 @@ abbrev pub total-calls : ℕ → total-lts.Claims
 total-calls t = (kind-at-reads.Asked, kind-at-reads.Learnt, place-at-reads.Asked, place-at-reads.Learnt, number-at-below t, number-at.Post, calculate-reads.Asked, calculate-reads.Learnt)
 
 abbrev pub value-at-calls : ℕ → value-at-lts.Claims
-value-at-calls t = (kind-at-reads.Asked, kind-at-reads.Learnt, operated-below t, operated.Post, value-at-below t, value-at.Post, named-below t, named.Post, place-at-reads.Asked, place-at-reads.Learnt, numeral-reads.Asked, numeral-reads.Learnt, number-reads.Asked, number-reads.Learnt, chained-below t, chained.Post, big-below t, big.Post, braces-below t, braces.Post)
+value-at-calls t = (
+  kind-at-reads.Asked,
+  kind-at-reads.Learnt,
+  operated-below t,
+  operated.Post,
+  value-at-below t,
+  value-at.Post,
+  named-below t,
+  named.Post,
+  place-at-reads.Asked,
+  place-at-reads.Learnt,
+  numeral-reads.Asked,
+  numeral-reads.Learnt,
+  number-reads.Asked,
+  number-reads.Learnt,
+  chained-below t,
+  chained.Post,
+  big-below t,
+  big.Post,
+  braces-below t,
+  braces.Post,
+)
 
 abbrev pub width-calls : ℕ → width-lts.Claims
 width-calls t = (value-at-below t, value-at.Post, as-width-reads.Asked, as-width-reads.Learnt, number-reads.Asked, number-reads.Learnt)
@@ -362,4 +464,19 @@ abbrev pub chained-calls : ℕ → chained-lts.Claims
 chained-calls t = (size-at-reads.Asked, size-at-reads.Learnt, set-at-below t, set-at.Post, set-reads.Asked, set-reads.Learnt, combination-below t, combination.Post, joined-below t, joined.Post)
 
 abbrev pub joined-calls : ℕ → joined-lts.Claims
-joined-calls t = (copy-reads.Asked, copy-reads.Learnt, size-at-reads.Asked, size-at-reads.Learnt, set-at-below t, set-at.Post, set-reads.Asked, set-reads.Learnt, place-at-reads.Asked, place-at-reads.Learnt, kind-at-reads.Asked, kind-at-reads.Learnt, combine-reads.Asked, combine-reads.Learnt)
+joined-calls t = (
+  copy-reads.Asked,
+  copy-reads.Learnt,
+  size-at-reads.Asked,
+  size-at-reads.Learnt,
+  set-at-below t,
+  set-at.Post,
+  set-reads.Asked,
+  set-reads.Learnt,
+  place-at-reads.Asked,
+  place-at-reads.Learnt,
+  kind-at-reads.Asked,
+  kind-at-reads.Learnt,
+  combine-reads.Asked,
+  combine-reads.Learnt,
+)

@@ -132,16 +132,57 @@ abbrev pub repeated-below : ℕ → In 11 repeated-kinds.ps
 repeated-below t = and 11 repeated-kinds.ps (falls 11 repeated-kinds.ps _<_ μ-repeated t) repeated.Pre
 
 abbrev pub between-calls : ℕ → between-lts.Claims
-between-calls t = (size-at-reads.Asked, size-at-reads.Learnt, number-at-reads.Asked, number-at-reads.Learnt, handed-reads.Asked, handed-reads.Learnt, place-at-reads.Asked, place-at-reads.Learnt, formula-at-below t, formula-at.Post, kind-at-reads.Asked, kind-at-reads.Learnt, window-kind-reads.Asked, window-kind-reads.Learnt, window-reads.Asked, window-reads.Learnt, nexts-reads.Asked, nexts-reads.Learnt)
+between-calls t = (
+  size-at-reads.Asked,
+  size-at-reads.Learnt,
+  number-at-reads.Asked,
+  number-at-reads.Learnt,
+  handed-reads.Asked,
+  handed-reads.Learnt,
+  place-at-reads.Asked,
+  place-at-reads.Learnt,
+  formula-at-below t,
+  formula-at.Post,
+  kind-at-reads.Asked,
+  kind-at-reads.Learnt,
+  window-kind-reads.Asked,
+  window-kind-reads.Learnt,
+  window-reads.Asked,
+  window-reads.Learnt,
+  nexts-reads.Asked,
+  nexts-reads.Learnt,
+)
 
 abbrev pub binary-calls : ℕ → binary-lts.Claims
-binary-calls t = (kind-at-reads.Asked, kind-at-reads.Learnt, binary-kind-reads.Asked, binary-kind-reads.Learnt, size-at-reads.Asked, size-at-reads.Learnt, formula-at-below t, formula-at.Post, join-reads.Asked, join-reads.Learnt)
+binary-calls t = (
+  kind-at-reads.Asked,
+  kind-at-reads.Learnt,
+  binary-kind-reads.Asked,
+  binary-kind-reads.Learnt,
+  size-at-reads.Asked,
+  size-at-reads.Learnt,
+  formula-at-below t,
+  formula-at.Post,
+  join-reads.Asked,
+  join-reads.Learnt,
+)
 
 abbrev pub defined-calls : ℕ → defined-lts.Claims
 defined-calls t = (again-reads.Asked, again-reads.Learnt, formula-at-below t, formula-at.Post, mark-reads.Asked, mark-reads.Learnt)
 
 abbrev pub each-calls : ℕ → each-lts.Claims
-each-calls t = (size-at-reads.Asked, size-at-reads.Learnt, set-at-reads.Asked, set-at-reads.Learnt, handed-reads.Asked, handed-reads.Learnt, kind-at-reads.Asked, kind-at-reads.Learnt, folded-below t, folded.Post)
+each-calls t = (
+  size-at-reads.Asked,
+  size-at-reads.Learnt,
+  set-at-reads.Asked,
+  set-at-reads.Learnt,
+  handed-reads.Asked,
+  handed-reads.Learnt,
+  kind-at-reads.Asked,
+  kind-at-reads.Learnt,
+  folded-below t,
+  folded.Post,
+)
 
 abbrev pub folded-calls : ℕ → folded-lts.Claims
 folded-calls t = (kind-at-reads.Asked, kind-at-reads.Learnt, formula-at-below t, formula-at.Post, further-reads.Asked, further-reads.Learnt, finish-reads.Asked, finish-reads.Learnt)
@@ -153,7 +194,33 @@ abbrev pub named-calls : ℕ → named-lts.Claims
 named-calls t = (defined-below t, defined.Post, signal-at-reads.Asked, signal-at-reads.Learnt)
 
 abbrev pub operand-at-calls : ℕ → operand-at-lts.Claims
-operand-at-calls t = (kind-at-reads.Asked, kind-at-reads.Learnt, named-below t, named.Post, atom-at-reads.Asked, atom-at-reads.Learnt, binary-below t, binary.Post, repeated-below t, repeated.Post, between-below t, between.Post, each-below t, each.Post)
+operand-at-calls t = (
+  kind-at-reads.Asked,
+  kind-at-reads.Learnt,
+  named-below t,
+  named.Post,
+  atom-at-reads.Asked,
+  atom-at-reads.Learnt,
+  binary-below t,
+  binary.Post,
+  repeated-below t,
+  repeated.Post,
+  between-below t,
+  between.Post,
+  each-below t,
+  each.Post,
+)
 
 abbrev pub repeated-calls : ℕ → repeated-lts.Claims
-repeated-calls t = (size-at-reads.Asked, size-at-reads.Learnt, number-at-reads.Asked, number-at-reads.Learnt, handed-reads.Asked, handed-reads.Learnt, formula-at-below t, formula-at.Post, nexts-reads.Asked, nexts-reads.Learnt)
+repeated-calls t = (
+  size-at-reads.Asked,
+  size-at-reads.Learnt,
+  number-at-reads.Asked,
+  number-at-reads.Learnt,
+  handed-reads.Asked,
+  handed-reads.Learnt,
+  formula-at-below t,
+  formula-at.Post,
+  nexts-reads.Asked,
+  nexts-reads.Learnt,
+)

@@ -31,25 +31,69 @@ at-loop-holds : (t : ℕ) → folded-lts.Need-loop-holds (folded-calls t) (folde
 at-loop-holds t c = record { inside = omega arith; gathering = gathering-none; alike = unchanged _; kept = refl; written = refl; out = refl }
 
 at-mul-slots : (t : ℕ) → folded-lts.Need-mul-slots (folded-calls t) (folded-at t) folded.Post Inv fuel
-at-mul-slots t c = let l : ((c .before .loop) .i) < length ((c .before .before .before .before .before .before .before .before .before .before .before .before .before .before) .args .elements .now) = omega (arith, (c .loop-test) .taken, ((c .before .before .before .before .before .before .before .before .before .before .before .before .before .before) .pre .1 .1 .0) .few) in omega (arith, l, (c .before .before .before .before .before .before .before .before .before .before .before .before .before .before) .good)
+at-mul-slots t c = let l : ((c .before .loop) .i) < length ((c .before .before .before .before .before .before .before .before .before .before .before .before .before .before) .args .elements .now) =
+    omega (arith, (c .loop-test) .taken, ((c .before .before .before .before .before .before .before .before .before .before .before .before .before .before) .pre .1 .1 .0) .few) in
+    omega (arith, l, (c .before .before .before .before .before .before .before .before .before .before .before .before .before .before) .good)
 
 at-shared-slice-read-slots : (t : ℕ) → folded-lts.Need-shared-slice-read-slots (folded-calls t) (folded-at t) folded.Post Inv fuel
-at-shared-slice-read-slots t c = omega (arith, (c .before .loop-test) .taken, ((c .before .before .before .before .before .before .before .before .before .before .before .before .before .before .before) .pre .1 .1 .0) .few)
+at-shared-slice-read-slots t c = omega (
+  arith,
+  (c .before .loop-test) .taken,
+  ((c .before .before .before .before .before .before .before .before .before .before .before .before .before .before .before) .pre .1 .1 .0) .few,
+)
 
 at-mul-slots-2 : (t : ℕ) → folded-lts.Need-mul-slots-2 (folded-calls t) (folded-at t) folded.Post Inv fuel
-at-mul-slots-2 t c = omega (arith, turn-room ((c .before .before .before .before .before .before .before .before .before .before .before .before .before .before .before) .pre .1 .0) ((c .before .before .before .before .before .before .before .before .before .before .before .before .before .before .before) .pre .1 .1 .0) ((c .before .before .loop) .inv))
+at-mul-slots-2 t c = omega (
+  arith,
+  turn-room ((c .before .before .before .before .before .before .before .before .before .before .before .before .before .before .before) .pre .1 .0)
+      ((c .before .before .before .before .before .before .before .before .before .before .before .before .before .before .before) .pre .1 .1 .0) ((c .before .before .loop) .inv),
+)
 
 at-slice-write-slots : (t : ℕ) → folded-lts.Need-slice-write-slots (folded-calls t) (folded-at t) folded.Post Inv fuel
-at-slice-write-slots t c = turn-room ((c .before .before .before .before .before .before .before .before .before .before .before .before .before .before .before) .pre .1 .0) ((c .before .before .before .before .before .before .before .before .before .before .before .before .before .before .before) .pre .1 .1 .0) ((c .before .before .loop) .inv)
+at-slice-write-slots t c = turn-room ((c .before .before .before .before .before .before .before .before .before .before .before .before .before .before .before) .pre .1 .0)
+    ((c .before .before .before .before .before .before .before .before .before .before .before .before .before .before .before) .pre .1 .1 .0) ((c .before .before .loop) .inv)
 
 at-add-formula-at : (t : ℕ) → folded-lts.Need-add-formula-at (folded-calls t) (folded-at t) folded.Post Inv fuel
-at-add-formula-at t c = omega (arith, ((c .before .before .before .before .before .before .before .before .before .before .before .before .before .before .before .before .before .before .before .before .before .before) .pre .1 .0) .space .room .slots, ((c .before .before .before .before .before .before .before .before .before .before .before .before .before .before .before .before .before .before .before .before .before .before) .pre .1 .1 .0) .inside, (c .before .before .before .before .before .before .before .before .before .before .before .before .before .before .before .before .before .before .before .before .before .before) .good, (c .before .before .before .before .before .before .before .before .before .before .before .before .before .before .before .before .before .before .before .before .before .before) .fits)
+at-add-formula-at t c = omega (
+  arith,
+  ((c .before .before .before .before .before .before .before .before .before .before .before .before .before .before .before .before .before .before .before
+      .before .before .before) .pre .1 .0) .space .room .slots,
+  ((c .before .before .before .before .before .before .before .before .before .before .before .before .before .before .before .before
+      .before .before .before .before .before .before) .pre .1 .1 .0) .inside,
+  (c .before .before .before .before .before .before .before .before .before .before .before .before .before .before .before .before .before .before .before .before .before .before) .good,
+  (c .before .before .before .before .before .before .before .before .before .before .before .before .before .before .before .before .before .before .before .before .before .before) .fits,
+)
 
 at-sub-formula-at : (t : ℕ) → folded-lts.Need-sub-formula-at (folded-calls t) (folded-at t) folded.Post Inv fuel
-at-sub-formula-at t c = ((c .before .before .before .before .before .before .before .before .before .before .before .before .before .before .before .before .before .before .before .before .before .before) .pre .1 .1 .0) .inside
+at-sub-formula-at t c = ((c .before .before .before .before .before .before .before .before .before .before .before .before .before .before .before .before .before .before .before .before
+    .before .before) .pre .1 .1 .0) .inside
 
 at-formula-at-requires : (t : ℕ) → folded-lts.Need-formula-at-requires (folded-calls t) (folded-at t) folded.Post Inv fuel
-at-formula-at-requires t c κs = (omega (arith, (c .before .before .before .before .before .before .before .before .before .before .before .before .before .before .before .before .before .before .before .before .before .before) .pre .0, ((c .before .before .before .before .before .before .before .before .before .before .before .before .before .before .before .before .before .before .before .before .before .before) .pre .1 .1 .0) .inside), turn-prepared ((c .before .before .before .before .before .before .before .before .before .before .before .before .before .before .before .before .before .before .before .before .before .before) .pre .1 .0) ((c .before .before .before .before .before .before .before .before .before .before .before .before .before .before .before .before .before .before .before .before .before .before) .pre .1 .1 .0) ((c .before .before .before .before .before .before .before .before .before .loop) .inv) ((big-kind _ (omega (arith, ((c .before .before .before .before .before .before .before .before .before .before .before .before .before .before .before .before .before .before .before .before .before .before) .pre .1 .1 .1) .0)) (((c .before .before .before .before .before .before .before .before .before .before .before .before .before .before .before .before .before .before .before .before .before .before) .pre .1 .1 .1) .1)) .operator) ((big-kind _ (omega (arith, ((c .before .before .before .before .before .before .before .before .before .before .before .before .before .before .before .before .before .before .before .before .before .before) .pre .1 .1 .1) .0)) (((c .before .before .before .before .before .before .before .before .before .before .before .before .before .before .before .before .before .before .before .before .before .before) .pre .1 .1 .1) .1)) .shape) ((c .before .before .before .before .before .before .before .before .loop-test) .taken))
+at-formula-at-requires t c κs = (
+  omega (
+    arith,
+    (c .before .before .before .before .before .before .before .before .before .before .before .before .before .before .before .before .before .before
+        .before .before .before .before) .pre .0,
+    ((c .before .before .before .before .before .before .before .before .before .before .before .before .before .before .before .before .before .before
+        .before .before .before .before) .pre .1 .1 .0) .inside,
+  ),
+  turn-prepared
+      ((c .before .before .before .before .before .before .before .before .before .before .before .before .before .before .before .before .before .before .before .before .before .before) .pre .1 .0)
+      ((c .before .before .before .before .before .before .before .before .before .before .before .before .before .before .before .before .before .before .before .before .before .before) .pre .1 .1 .0)
+      ((c .before .before .before .before .before .before .before .before .before .loop) .inv)
+      ((big-kind _ (omega (
+        arith,
+        ((c .before .before .before .before .before .before .before .before .before .before .before .before .before .before .before .before .before .before .before .before
+            .before .before) .pre .1 .1 .1) .0,
+      )) (((c .before .before .before .before .before .before .before .before .before .before .before .before .before .before .before .before .before .before .before
+      .before .before .before) .pre .1 .1 .1) .1)) .operator) ((big-kind _
+      (omega (
+        arith,
+        ((c .before .before .before .before .before .before .before .before .before .before .before .before .before .before .before .before .before .before .before .before
+            .before .before) .pre .1 .1 .1) .0,
+      )) (((c .before .before .before .before .before .before .before .before .before .before .before .before .before .before .before .before .before .before .before
+      .before .before .before) .pre .1 .1 .1) .1)) .shape) ((c .before .before .before .before .before .before .before .before .loop-test) .taken),
+)
 
 at-enum-known-x : (t : ℕ) → folded-lts.Need-enum-known-x (folded-calls t) (folded-at t) folded.Post Inv fuel
 at-enum-known-x t c = search needs
@@ -58,37 +102,146 @@ at-enum-told : (t : ℕ) → folded-lts.Need-enum-told (folded-calls t) (folded-
 at-enum-told t c = search needs
 
 at-same-length : (t : ℕ) → folded-lts.Need-same-length (folded-calls t) (folded-at t) folded.Post Inv fuel
-at-same-length t c = (c .before .before .before .before .before .before .before .before .before .before .before .before .before .before .formula-at) .kept .1 .1 .1 .0 ∙ ((c .before .before .before .before .before .before .before .before .before .before .before .before .before .before .before .before .before .before .before .before .before .before .before .before .loop) .inv) .alike .sorts
+at-same-length t c = (c .before .before .before .before .before .before .before .before .before .before .before .before .before .before .formula-at) .kept .1 .1 .1 .0 ∙
+    ((c .before .before .before .before .before .before .before .before .before .before .before .before .before .before .before .before .before .before .before .before .before .before
+    .before .before .loop) .inv) .alike .sorts
 
 at-same-length-2 : (t : ℕ) → folded-lts.Need-same-length-2 (folded-calls t) (folded-at t) folded.Post Inv fuel
-at-same-length-2 t c = (c .before .before .before .before .before .before .before .before .before .before .before .before .before .before .formula-at) .kept .1 .1 .1 .1 .0 ∙ ((c .before .before .before .before .before .before .before .before .before .before .before .before .before .before .before .before .before .before .before .before .before .before .before .before .loop) .inv) .alike .numbers
+at-same-length-2 t c = (c .before .before .before .before .before .before .before .before .before .before .before .before .before .before .formula-at) .kept .1 .1 .1 .1 .0 ∙
+    ((c .before .before .before .before .before .before .before .before .before .before .before .before .before .before .before .before .before .before .before .before .before .before
+    .before .before .loop) .inv) .alike .numbers
 
 at-same-length-3 : (t : ℕ) → folded-lts.Need-same-length-3 (folded-calls t) (folded-at t) folded.Post Inv fuel
-at-same-length-3 t c = (c .before .before .before .before .before .before .before .before .before .before .before .before .before .before .formula-at) .kept .1 .1 .1 .1 .1 .0 ∙ ((c .before .before .before .before .before .before .before .before .before .before .before .before .before .before .before .before .before .before .before .before .before .before .before .before .loop) .inv) .kept
+at-same-length-3 t c = (c .before .before .before .before .before .before .before .before .before .before .before .before .before .before .formula-at) .kept .1 .1 .1 .1 .1 .0 ∙
+    ((c .before .before .before .before .before .before .before .before .before .before .before .before .before .before .before .before .before .before .before .before .before .before
+    .before .before .loop) .inv) .kept
 
 at-same-length-4 : (t : ℕ) → folded-lts.Need-same-length-4 (folded-calls t) (folded-at t) folded.Post Inv fuel
-at-same-length-4 t c = (c .before .before .before .before .before .before .before .before .before .before .before .before .before .before .formula-at) .kept .1 .1 .1 .1 .1 .1 .0 ∙ length-set ((c .before .before .before .before .before .before .before .before .before .before .before .before .before .before .before .before .before .before .before .before .before .before .before .before .loop) .slots) ((c .before .before .before .before .before .before .before .before .before .before .before .before .before .before .before .before .before .before .before .before .before .before .before .before .before .before .before .before .before .before .before .before .before .before .before .before .before) .args .base + (c .before .before .before .before .before .before .before .before .before .before .before .before .before .before .before .before .before .before .before .before .before .before .before .before .before .before .before .before .before .before .before .before .before .before .before .before .before) .args .depth) (getD ((c .before .before .before .before .before .before .before .before .before .before .before .before .before .before .before .before .before .before .before .before .before .before .before .before .before .before .before .before .before .before .before .before .before .before .before .before .before) .args .elements .now) ((c .before .before .before .before .before .before .before .before .before .before .before .before .before .before .before .before .before .before .before .before .before .before .before .before .loop) .i) 0) ∙ ((c .before .before .before .before .before .before .before .before .before .before .before .before .before .before .before .before .before .before .before .before .before .before .before .before .loop) .inv) .alike .slots
+at-same-length-4 t c = (c .before .before .before .before .before .before .before .before .before .before .before .before .before .before .formula-at) .kept .1 .1 .1 .1 .1 .1 .0 ∙ length-set
+    ((c .before .before .before .before .before .before .before .before .before .before .before .before .before .before .before .before .before .before .before .before .before .before
+    .before .before .loop) .slots) ((c .before .before .before .before .before .before .before .before .before .before .before .before .before .before .before .before .before .before .before .before
+    .before .before .before .before .before .before .before .before .before .before .before .before .before .before .before .before .before) .args .base +
+    (c .before .before .before .before .before .before .before .before .before .before .before .before .before .before .before .before .before .before .before .before .before .before .before .before
+    .before .before .before .before .before .before .before .before .before .before .before .before .before) .args .depth)
+    (getD ((c .before .before .before .before .before .before .before .before .before .before .before .before .before .before .before .before .before .before .before .before .before .before .before
+    .before .before .before .before .before .before .before .before .before .before .before .before .before .before) .args .elements .now)
+    ((c .before .before .before .before .before .before .before .before .before .before .before .before .before .before .before .before .before .before .before .before .before .before
+    .before .before .loop) .i) 0) ∙ ((c .before .before .before .before .before .before .before .before .before .before .before .before .before .before .before .before .before .before .before .before
+    .before .before .before .before .loop) .inv) .alike .slots
 
 at-same-length-5 : (t : ℕ) → folded-lts.Need-same-length-5 (folded-calls t) (folded-at t) folded.Post Inv fuel
-at-same-length-5 t c = (c .before .before .before .before .before .before .before .before .before .before .before .before .before .before .formula-at) .kept .1 .1 .1 .1 .1 .1 .1 .1 .0 ∙ ((c .before .before .before .before .before .before .before .before .before .before .before .before .before .before .before .before .before .before .before .before .before .before .before .before .loop) .inv) .written
+at-same-length-5 t c = (c .before .before .before .before .before .before .before .before .before .before .before .before .before .before .formula-at) .kept .1 .1 .1 .1 .1 .1 .1 .1 .0 ∙
+    ((c .before .before .before .before .before .before .before .before .before .before .before .before .before .before .before .before .before .before .before .before .before .before
+    .before .before .loop) .inv) .written
 
 at-same-length-6 : (t : ℕ) → folded-lts.Need-same-length-6 (folded-calls t) (folded-at t) folded.Post Inv fuel
-at-same-length-6 t c = (c .before .before .before .before .before .before .before .before .before .before .before .before .before .before .formula-at) .kept .1 .1 .1 .1 .1 .1 .1 .1 .1 .0 ∙ ((c .before .before .before .before .before .before .before .before .before .before .before .before .before .before .before .before .before .before .before .before .before .before .before .before .loop) .inv) .out
+at-same-length-6 t c = (c .before .before .before .before .before .before .before .before .before .before .before .before .before .before .formula-at) .kept .1 .1 .1 .1 .1 .1 .1 .1 .1 .0 ∙
+    ((c .before .before .before .before .before .before .before .before .before .before .before .before .before .before .before .before .before .before .before .before .before .before
+    .before .before .loop) .inv) .out
 
 at-returns : (t : ℕ) → folded-lts.Need-returns (folded-calls t) (folded-at t) folded.Post Inv fuel
-at-returns t c = gathering-no (((c .before .before .before .before .before .before .before .before .before .before .before .before .before .before .before .before .before .before .before .before .before .before .before .before .loop) .inv) .gathering) refl (omega (arith, (c .before .before .before .before .before .before .before .before .before .before .before .before .before .before .before .before .before .before .before .before .before .before .before .loop-test) .taken, ((c .before .before .before .before .before .before .before .before .before .before .before .before .before .before .before .before .before .before .before .before .before .before .before .before .before .before .before .before .before .before .before .before .before .before .before .before .before) .pre .1 .1 .0) .few)) (((c .before .before .before .before .before .before .before .before .before .before .before .before .before .before .before .before .before .before .before .before .before .before .before .before .before .before .before .before .before .before .before .before .before .before .before .before .before) .pre .1 .1 .0) .small _ ((c .before .before .before .before .before .before .before .before .before .before .before .before .before .before .before .before .before .before .before .before .before .before .before .loop-test) .taken)) (turn-room ((c .before .before .before .before .before .before .before .before .before .before .before .before .before .before .before .before .before .before .before .before .before .before .before .before .before .before .before .before .before .before .before .before .before .before .before .before .before) .pre .1 .0) ((c .before .before .before .before .before .before .before .before .before .before .before .before .before .before .before .before .before .before .before .before .before .before .before .before .before .before .before .before .before .before .before .before .before .before .before .before .before) .pre .1 .1 .0) ((c .before .before .before .before .before .before .before .before .before .before .before .before .before .before .before .before .before .before .before .before .before .before .before .before .loop) .inv)) ((c .before .before .before .before .before .before .before .before .before .before .before .before .before .before .formula-at) .ensures) (((c .before .before .before .before .before .before .before .before .before .before .before .before .before .before .before .before .before .before .before .before .before .before .before .before .before .before .before .before .before .before .before .before .before .before .before .before .before) .pre .1 .1 .0) .few) ((c .before .before .before .before .before .before .before .before .before .before .before .before .before .before .before .before .before .before .before .before .before .before .before .loop-test) .taken) (ap (λ i. eqb i 43) ((c .before .before .before .before .before .before .before .before .before .before .before .before .before .before .before .before .before .before .before .before .before .before .before .before .before .kind-at) .ensures)) ((c .enum-told) .given .1)
+at-returns t c = gathering-no (((c .before .before .before .before .before .before .before .before .before .before .before .before .before .before .before .before .before .before .before .before
+    .before .before .before .before .loop) .inv) .gathering) refl
+    (omega (
+      arith,
+      (c .before .before .before .before .before .before .before .before .before .before .before .before .before .before .before .before .before .before .before .before .before
+          .before .before .loop-test) .taken,
+      ((c .before .before .before .before .before .before .before .before .before .before .before .before .before .before .before .before .before .before .before
+          .before .before .before .before .before .before .before .before .before .before .before .before .before .before .before .before .before .before) .pre .1 .1 .0) .few,
+    ))
+    (((c .before .before .before .before .before .before .before .before .before .before .before .before .before .before .before .before .before .before .before .before .before .before .before
+    .before .before .before .before .before .before .before .before .before .before .before .before .before .before) .pre .1 .1 .0) .small _
+    ((c .before .before .before .before .before .before .before .before .before .before .before .before .before .before .before .before .before .before .before .before .before
+    .before .before .loop-test) .taken)) (turn-room ((c .before .before .before .before .before .before .before .before .before .before .before .before .before .before .before .before .before .before
+    .before .before .before .before .before .before .before .before .before .before .before .before .before .before .before .before .before .before .before) .pre .1 .0)
+    ((c .before .before .before .before .before .before .before .before .before .before .before .before .before .before .before .before .before .before .before .before .before .before .before .before
+    .before .before .before .before .before .before .before .before .before .before .before .before .before) .pre .1 .1 .0)
+    ((c .before .before .before .before .before .before .before .before .before .before .before .before .before .before .before .before .before .before .before .before .before .before
+    .before .before .loop) .inv)) ((c .before .before .before .before .before .before .before .before .before .before .before .before .before .before .formula-at) .ensures)
+    (((c .before .before .before .before .before .before .before .before .before .before .before .before .before .before .before .before .before .before .before .before .before .before .before
+    .before .before .before .before .before .before .before .before .before .before .before .before .before .before) .pre .1 .1 .0) .few)
+    ((c .before .before .before .before .before .before .before .before .before .before .before .before .before .before .before .before .before .before .before .before .before
+    .before .before .loop-test) .taken) (ap (λ i. eqb i 43) ((c .before .before .before .before .before .before .before .before .before .before .before .before .before .before .before .before .before
+    .before .before .before .before .before .before .before .before .kind-at) .ensures)) ((c .enum-told) .given .1)
 
 at-further-requires : (t : ℕ) → folded-lts.Need-further-requires (folded-calls t) (folded-at t) folded.Post Inv fuel
 at-further-requires t c κs = search needs
 
 at-add-i : (t : ℕ) → folded-lts.Need-add-i (folded-calls t) (folded-at t) folded.Post Inv fuel
-at-add-i t c = omega (arith, (c .before .before .before .before .before .before .before .before .before .before .before .before .before .before .before .before .before .before .before .before .before .before .before .before .before .before .loop-test) .taken, (c .before .before .before .before .before .before .before .before .before .before .before .before .before .before .before .before .before .before .before .before .before .before .before .before .before .before .before .before .before .before .before .before .before .before .before .before .before .before .before .before) .fits .n)
+at-add-i t c = omega (
+  arith,
+  (c .before .before .before .before .before .before .before .before .before .before .before .before .before .before .before .before .before .before .before .before .before
+      .before .before .before .before .before .loop-test) .taken,
+  (c .before .before .before .before .before .before .before .before .before .before .before .before .before .before .before .before
+      .before .before .before .before .before .before .before .before .before .before .before .before .before .before .before .before .before .before .before .before .before .before
+      .before .before) .fits .n,
+)
 
 at-loop-less : (t : ℕ) → folded-lts.Need-loop-less (folded-calls t) (folded-at t) folded.Post Inv fuel
 at-loop-less t c = omega arith
 
 at-loop-again : (t : ℕ) → folded-lts.Need-loop-again (folded-calls t) (folded-at t) folded.Post Inv fuel
-at-loop-again t c = record { inside = omega (arith, (c .before .before .before .before .before .before .before .before .before .before .before .before .before .before .before .before .before .before .before .before .before .before .before .before .before .before .loop-test) .taken); gathering = gathering-more (((c .before .before .before .before .before .before .before .before .before .before .before .before .before .before .before .before .before .before .before .before .before .before .before .before .before .before .before .loop) .inv) .gathering) refl (omega (arith, (c .before .before .before .before .before .before .before .before .before .before .before .before .before .before .before .before .before .before .before .before .before .before .before .before .before .before .loop-test) .taken, ((c .before .before .before .before .before .before .before .before .before .before .before .before .before .before .before .before .before .before .before .before .before .before .before .before .before .before .before .before .before .before .before .before .before .before .before .before .before .before .before .before) .pre .1 .1 .0) .few)) (((c .before .before .before .before .before .before .before .before .before .before .before .before .before .before .before .before .before .before .before .before .before .before .before .before .before .before .before .before .before .before .before .before .before .before .before .before .before .before .before .before) .pre .1 .1 .0) .small _ ((c .before .before .before .before .before .before .before .before .before .before .before .before .before .before .before .before .before .before .before .before .before .before .before .before .before .before .loop-test) .taken)) (turn-room ((c .before .before .before .before .before .before .before .before .before .before .before .before .before .before .before .before .before .before .before .before .before .before .before .before .before .before .before .before .before .before .before .before .before .before .before .before .before .before .before .before) .pre .1 .0) ((c .before .before .before .before .before .before .before .before .before .before .before .before .before .before .before .before .before .before .before .before .before .before .before .before .before .before .before .before .before .before .before .before .before .before .before .before .before .before .before .before) .pre .1 .1 .0) ((c .before .before .before .before .before .before .before .before .before .before .before .before .before .before .before .before .before .before .before .before .before .before .before .before .before .before .before .loop) .inv)) ((c .before .before .before .before .before .before .before .before .before .before .before .before .before .before .before .before .before .formula-at) .ensures) ((c .before .before .before .x) .given .1) ((c .further) .ensures); alike = (record { sorts = (c .before .before .before .before .before .before .before .before .before .before .before .before .before .before .before .before .before .formula-at) .kept .1 .1 .1 .0 ∙ ((c .before .before .before .before .before .before .before .before .before .before .before .before .before .before .before .before .before .before .before .before .before .before .before .before .before .before .before .loop) .inv) .alike .sorts; numbers = (c .before .before .before .before .before .before .before .before .before .before .before .before .before .before .before .before .before .formula-at) .kept .1 .1 .1 .1 .0 ∙ ((c .before .before .before .before .before .before .before .before .before .before .before .before .before .before .before .before .before .before .before .before .before .before .before .before .before .before .before .loop) .inv) .alike .numbers; slots = (c .before .before .before .before .before .before .before .before .before .before .before .before .before .before .before .before .before .formula-at) .kept .1 .1 .1 .1 .1 .1 .0 ∙ length-set ((c .before .before .before .before .before .before .before .before .before .before .before .before .before .before .before .before .before .before .before .before .before .before .before .before .before .before .before .loop) .slots) ((c .before .before .before .before .before .before .before .before .before .before .before .before .before .before .before .before .before .before .before .before .before .before .before .before .before .before .before .before .before .before .before .before .before .before .before .before .before .before .before .before) .args .base + (c .before .before .before .before .before .before .before .before .before .before .before .before .before .before .before .before .before .before .before .before .before .before .before .before .before .before .before .before .before .before .before .before .before .before .before .before .before .before .before .before) .args .depth) (getD ((c .before .before .before .before .before .before .before .before .before .before .before .before .before .before .before .before .before .before .before .before .before .before .before .before .before .before .before .before .before .before .before .before .before .before .before .before .before .before .before .before) .args .elements .now) ((c .before .before .before .before .before .before .before .before .before .before .before .before .before .before .before .before .before .before .before .before .before .before .before .before .before .before .before .loop) .i) 0) ∙ ((c .before .before .before .before .before .before .before .before .before .before .before .before .before .before .before .before .before .before .before .before .before .before .before .before .before .before .before .loop) .inv) .alike .slots }); kept = (c .before .before .before .before .before .before .before .before .before .before .before .before .before .before .before .before .before .formula-at) .kept .1 .1 .1 .1 .1 .0 ∙ ((c .before .before .before .before .before .before .before .before .before .before .before .before .before .before .before .before .before .before .before .before .before .before .before .before .before .before .before .loop) .inv) .kept; written = (c .before .before .before .before .before .before .before .before .before .before .before .before .before .before .before .before .before .formula-at) .kept .1 .1 .1 .1 .1 .1 .1 .1 .0 ∙ ((c .before .before .before .before .before .before .before .before .before .before .before .before .before .before .before .before .before .before .before .before .before .before .before .before .before .before .before .loop) .inv) .written; out = (c .before .before .before .before .before .before .before .before .before .before .before .before .before .before .before .before .before .formula-at) .kept .1 .1 .1 .1 .1 .1 .1 .1 .1 .0 ∙ ((c .before .before .before .before .before .before .before .before .before .before .before .before .before .before .before .before .before .before .before .before .before .before .before .before .before .before .before .loop) .inv) .out }
+at-loop-again t c = record {
+  inside = omega (
+    arith,
+    (c .before .before .before .before .before .before .before .before .before .before .before .before .before .before .before .before .before .before
+        .before .before .before .before .before .before .before .before .loop-test) .taken,
+  );
+  gathering = gathering-more
+      (((c .before .before .before .before .before .before .before .before .before .before .before .before .before .before .before .before .before .before .before .before .before .before .before
+      .before .before .before .before .loop) .inv) .gathering) refl
+      (omega (
+        arith,
+        (c .before .before .before .before .before .before .before .before .before .before .before .before .before .before .before .before .before .before .before .before .before .before
+            .before .before .before .before .loop-test) .taken,
+        ((c .before .before .before .before .before .before .before .before .before .before .before .before .before .before .before .before .before
+            .before .before .before .before .before .before .before .before .before .before .before .before .before .before .before .before .before .before .before .before .before
+            .before .before) .pre .1 .1 .0) .few,
+      )) (((c .before .before .before .before .before .before .before .before .before .before .before .before .before .before .before .before .before .before .before
+      .before .before .before .before .before .before .before .before .before .before .before .before .before .before .before .before .before .before .before .before .before) .pre .1 .1 .0) .small _
+      ((c .before .before .before .before .before .before .before .before .before .before .before .before .before .before .before .before .before .before .before .before .before .before .before .before
+      .before .before .loop-test) .taken)) (turn-room ((c .before .before .before .before .before .before .before .before .before .before .before .before .before .before .before .before .before .before
+      .before .before .before .before .before .before .before .before .before .before .before .before .before .before .before .before .before .before .before .before .before .before) .pre .1 .0)
+      ((c .before .before .before .before .before .before .before .before .before .before .before .before .before .before .before .before .before .before .before .before .before .before .before .before
+      .before .before .before .before .before .before .before .before .before .before .before .before .before .before .before .before) .pre .1 .1 .0)
+      ((c .before .before .before .before .before .before .before .before .before .before .before .before .before .before .before .before .before .before .before .before .before .before .before .before
+      .before .before .before .loop) .inv)) ((c .before .before .before .before .before .before .before .before .before .before .before .before .before .before .before
+      .before .before .formula-at) .ensures) ((c .before .before .before .x) .given .1) ((c .further) .ensures);
+  alike =
+      (record {
+        sorts = (c .before .before .before .before .before .before .before .before .before .before .before .before .before .before .before .before .before .formula-at) .kept .1 .1 .1 .0 ∙
+            ((c .before .before .before .before .before .before .before .before .before .before .before .before .before .before .before .before .before .before .before .before .before .before .before .before
+            .before .before .before .loop) .inv) .alike .sorts;
+        numbers =
+            (c .before .before .before .before .before .before .before .before .before .before .before .before .before .before .before .before .before .formula-at) .kept .1 .1 .1 .1 .0 ∙
+            ((c .before .before .before .before .before .before .before .before .before .before .before .before .before .before .before .before .before .before .before .before .before .before .before .before
+            .before .before .before .loop) .inv) .alike .numbers;
+        slots =
+            (c .before .before .before .before .before .before .before .before .before .before .before .before .before .before .before .before .before .formula-at) .kept .1 .1 .1 .1 .1 .1 .0 ∙ length-set
+            ((c .before .before .before .before .before .before .before .before .before .before .before .before .before .before .before .before .before .before .before .before .before .before .before .before
+            .before .before .before .loop) .slots) ((c .before .before .before .before .before .before .before .before .before .before .before .before .before .before .before .before .before .before .before
+            .before .before .before .before .before .before .before .before .before .before .before .before .before .before .before .before .before .before .before .before .before) .args .base +
+            (c .before .before .before .before .before .before .before .before .before .before .before .before .before .before .before .before .before .before .before .before .before .before .before .before
+            .before .before .before .before .before .before .before .before .before .before .before .before .before .before .before .before) .args .depth)
+            (getD ((c .before .before .before .before .before .before .before .before .before .before .before .before .before .before .before .before .before .before .before .before .before .before .before
+            .before .before .before .before .before .before .before .before .before .before .before .before .before .before .before .before .before) .args .elements .now)
+            ((c .before .before .before .before .before .before .before .before .before .before .before .before .before .before .before .before .before .before .before .before .before .before .before .before
+            .before .before .before .loop) .i) 0) ∙ ((c .before .before .before .before .before .before .before .before .before .before .before .before .before .before .before .before .before .before .before
+            .before .before .before .before .before .before .before .before .loop) .inv) .alike .slots;
+      });
+  kept =
+      (c .before .before .before .before .before .before .before .before .before .before .before .before .before .before .before .before .before .formula-at) .kept .1 .1 .1 .1 .1 .0 ∙
+      ((c .before .before .before .before .before .before .before .before .before .before .before .before .before .before .before .before .before .before .before .before .before .before .before .before
+      .before .before .before .loop) .inv) .kept;
+  written = (c .before .before .before .before .before .before .before .before .before .before .before .before .before .before .before
+      .before .before .formula-at) .kept .1 .1 .1 .1 .1 .1 .1 .1 .0 ∙
+      ((c .before .before .before .before .before .before .before .before .before .before .before .before .before .before .before .before .before .before .before .before .before .before .before .before
+      .before .before .before .loop) .inv) .written;
+  out = (c .before .before .before .before .before .before .before .before .before .before .before .before .before .before .before
+      .before .before .formula-at) .kept .1 .1 .1 .1 .1 .1 .1 .1 .1 .0 ∙
+      ((c .before .before .before .before .before .before .before .before .before .before .before .before .before .before .before .before .before .before .before .before .before .before .before .before
+      .before .before .before .loop) .inv) .out;
+}
 
 at-finish-requires : (t : ℕ) → folded-lts.Need-finish-requires (folded-calls t) (folded-at t) folded.Post Inv fuel
 at-finish-requires t c κs = search needs
@@ -112,7 +265,10 @@ at-same-length-12 : (t : ℕ) → folded-lts.Need-same-length-12 (folded-calls t
 at-same-length-12 t c = ((c .before .before .before .loop) .inv) .out
 
 at-returns-2 : (t : ℕ) → folded-lts.Need-returns-2 (folded-calls t) (folded-at t) folded.Post Inv fuel
-at-returns-2 t c = let z : ((c .before .before .before .loop) .i) ≡ ((c .before .before .before .before .before .before .before .before .before .before .before .before .before .before .before .before) .args .n) = omega (arith, ((c .before .before .before .loop) .inv) .inside, (c .before .before .loop-test) .left) in gathering-all (((c .before .before .before .loop) .inv) .gathering) z (ap (λ i. eqb i 43) ((c .before .before .before .before .kind-at) .ensures)) ((c .finish) .ensures)
+at-returns-2 t c = let z : ((c .before .before .before .loop) .i) ≡
+    ((c .before .before .before .before .before .before .before .before .before .before .before .before .before .before .before .before) .args .n) = omega
+    (arith, ((c .before .before .before .loop) .inv) .inside, (c .before .before .loop-test) .left) in
+    gathering-all (((c .before .before .before .loop) .inv) .gathering) z (ap (λ i. eqb i 43) ((c .before .before .before .before .kind-at) .ensures)) ((c .finish) .ensures)
 
 pub folded-met : (t : ℕ) {M : Type 1} → folded-lts.Closed (folded-calls t) (folded-at t) folded.Post M
 folded-met t =

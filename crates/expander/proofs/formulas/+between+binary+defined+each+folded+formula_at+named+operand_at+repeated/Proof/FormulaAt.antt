@@ -12,7 +12,21 @@ pub formula-at-met : (t : ℕ) {M : Type 1} → formula-at-lts.Closed (formula-a
 formula-at-met t =
     formula-at-lts.spec (formula-at-calls t) (formula-at-at t) formula-at.Post
     (λ c κs. entry-room ((c .before .before .before .before .before .before .before .before .before .before) .pre .1))
-    (λ c κs. (omega (arith, (c .before .before .before .before .before .before .before .before .before .before .before .before .before .before .before .before .before .before) .pre .0, (c .before .before .before .before .before .before .before .below) .ensures .run .within), (run-prepared ((c .before .before .before .before .before .before .before .below) .ensures .run) ((c .before .before .before .before .before .before .before .before .before .before .before .before .before .before .before .before .before .before) .pre .1), run-operand ((c .before .before .before .before .before .before .before .below) .ensures) (run-prepared ((c .before .before .before .before .before .before .before .below) .ensures .run) ((c .before .before .before .before .before .before .before .before .before .before .before .before .before .before .before .before .before .before) .pre .1)))))
+    (λ c κs. (
+      omega (
+        arith,
+        (c .before .before .before .before .before .before .before .before .before .before .before .before .before .before .before .before .before .before) .pre .0,
+        (c .before .before .before .before .before .before .before .below) .ensures .run .within,
+      ),
+      (
+        run-prepared ((c .before .before .before .before .before .before .before .below) .ensures .run)
+            ((c .before .before .before .before .before .before .before .before .before .before .before .before .before .before .before .before .before .before) .pre .1),
+        run-operand
+            ((c .before .before .before .before .before .before .before .below) .ensures)
+            (run-prepared ((c .before .before .before .before .before .before .before .below) .ensures .run)
+            ((c .before .before .before .before .before .before .before .before .before .before .before .before .before .before .before .before .before .before) .pre .1)),
+      ),
+    ))
     (λ c. search needs)
     (λ c. search needs)
     (λ c. (c .before .before .before .before .before .before .before .before .before .before .before .before .before .before .operand-at) .kept .1 .1 .1 .0)
@@ -21,12 +35,20 @@ formula-at-met t =
     (λ c. (c .before .before .before .before .before .before .before .before .before .before .before .before .before .before .operand-at) .kept .1 .1 .1 .1 .1 .1 .0)
     (λ c. (c .before .before .before .before .before .before .before .before .before .before .before .before .before .before .operand-at) .kept .1 .1 .1 .1 .1 .1 .1 .1 .0)
     (λ c. (c .before .before .before .before .before .before .before .before .before .before .before .before .before .before .operand-at) .kept .1 .1 .1 .1 .1 .1 .1 .1 .1 .0)
-    (λ c. run-no ((c .before .before .before .before .before .before .before .before .before .before .before .before .before .before .before .before .before .before .before .before .before .before .below) .ensures .run) ((c .before .before .before .before .before .before .before .before .before .before .before .before .before .before .operand-at) .ensures) ((c .enum-told) .given .1))
-    (λ c κs. (entry-room ((c .before .before .before .before .before .before .before .before .before .before .before .before .before .before .before .before .before .before .before .before .before .before .before .before .before .before .before .before .before .before .before .before .before .before .before) .pre .1), (c .before .before .before .before .before .before .before .before .before .before .before .before .before .before .before .before .before .before .before .before .before .before .before .before .below) .ensures .run))
+    (λ c. run-no ((c .before .before .before .before .before .before .before .before .before .before .before .before .before .before .before .before .before .before .before .before
+    .before .before .below) .ensures .run) ((c .before .before .before .before .before .before .before .before .before .before .before .before .before .before .operand-at) .ensures)
+    ((c .enum-told) .given .1))
+    (λ c κs. (
+      entry-room ((c .before .before .before .before .before .before .before .before .before .before .before .before .before .before .before .before .before .before .before .before .before
+          .before .before .before .before .before .before .before .before .before .before .before .before .before .before) .pre .1),
+      (c .before .before .before .before .before .before .before .before .before .before .before .before .before .before .before .before .before .before .before .before .before .before
+          .before .before .below) .ensures .run,
+    ))
     (λ c. (c .before .before .before .before .before .before .before .before .before .before .before .before .before .before .before .before .before .operand-at) .kept .1 .1 .1 .0)
     (λ c. (c .before .before .before .before .before .before .before .before .before .before .before .before .before .before .before .before .before .operand-at) .kept .1 .1 .1 .1 .0)
     (λ c. (c .before .before .before .before .before .before .before .before .before .before .before .before .before .before .before .before .before .operand-at) .kept .1 .1 .1 .1 .1 .0)
     (λ c. (c .before .before .before .before .before .before .before .before .before .before .before .before .before .before .before .before .before .operand-at) .kept .1 .1 .1 .1 .1 .1 .0)
     (λ c. (c .before .before .before .before .before .before .before .before .before .before .before .before .before .before .before .before .before .operand-at) .kept .1 .1 .1 .1 .1 .1 .1 .1 .0)
     (λ c. (c .before .before .before .before .before .before .before .before .before .before .before .before .before .before .before .before .before .operand-at) .kept .1 .1 .1 .1 .1 .1 .1 .1 .1 .0)
-    (λ c. run-done ((c .capped) .ensures) ((c .before .before .before .before .before .before .before .before .before .before .before .before .before .before .before .before .before .operand-at) .ensures) ((c .before .before .before .x) .given .1))
+    (λ c. run-done ((c .capped) .ensures) ((c .before .before .before .before .before .before .before .before .before .before .before .before .before .before .before
+    .before .before .operand-at) .ensures) ((c .before .before .before .x) .given .1))

@@ -2,7 +2,8 @@
 use Prim.Native.Nat.{ℕ}
 use native.Mathlib.Omega.{arith}
 use borrow.Author.Needs.{needs}
-use Rattle.trees.specs.WritingLaws.{room-after, unary-full, unary-wrote, end, lower, binary-full, binary-full-right, binary-wrote, ends}
+use Rattle.storing.specs.StoringLaws.{room-after, unary-full, unary-wrote, end, binary-full, binary-full-right, binary-wrote, ends}
+use Rattle.trees.specs.WritingLaws.{lower}
 use Rattle.trees.proofs.copy.copy_both.Reads as copy-both
 use Rattle.trees.proofs.copy.+copy+copy_both+copy_one.Lts-copy_both as copy-both-lts
 use Rattle.trees.proofs.copy.copy_one.Reads as copy-one
@@ -15,9 +16,17 @@ copy-one-met t =
     (λ c κs. let s = (c .before .before .before) in (omega (arith, s .pre .0), lower _ (s .pre .1 .0) (omega arith) (s .pre .1 .0 .room)))
     (λ c. search needs)
     (λ c. unary-full _ _ (c .if1 .taken) ((c .before .before .before) .copy .ensures))
-    (λ c κs. let s = (c .before .before .before .before .before .before .before .before) in end _ _ (s .pre .1 .1 .small) (s .pre .1 .0 .room) ((c .before .before .before .before) .copy .ensures .stored ((c .before) .if1 .left)))
+    (λ c κs.
+    let at-copy = c .before .before .before .before in
+    let s = at-copy .before .before .before .before in
+    end _ _ (s .pre .1 .1 .small) (s .pre .1 .0 .room) (at-copy .copy .ensures .stored ((c .before) .if1 .left)))
     (λ c. search needs)
-    (λ c. unary-wrote _ _ ((c .before .before .before .before .before .before .before) .copy .ensures .stored ((c .before .before .before .before) .if1 .left)) ((c .before .before .before .before .before .before .before .before .before .before .before) .pre .1 .1 .number) ((c .before .before) .cap .ensures))
+    (λ c.
+    let at-cap = c .before .before in
+    let at-if1 = at-cap .before .before in
+    let at-copy = at-if1 .before .before .before in
+    let start = at-copy .before .before .before .before in
+    unary-wrote _ _ (at-copy .copy .ensures .stored (at-if1 .if1 .left)) (start .pre .1 .1 .number) (at-cap .cap .ensures))
 
 pub copy-both-met : (t : ℕ) {M : Type 1} → copy-both-lts.Closed (copy-both-calls t) (copy-both-at t) copy-both.Post M
 copy-both-met t =
@@ -25,9 +34,28 @@ copy-both-met t =
     (λ c κs. let s = (c .before .before .before) in (omega (arith, s .pre .0), lower _ (s .pre .1 .0) (omega arith) (s .pre .1 .0 .room)))
     (λ c. search needs)
     (λ c. binary-full _ _ _ (c .if1 .taken) ((c .before .before .before) .copy .ensures))
-    (λ c κs. let s = (c .before .before .before .before .before .before .before .before) in (omega (arith, s .pre .0), lower _ (s .pre .1 .0) (omega arith) (room-after (s .pre .1 .0 .room) ((c .before .before .before .before) .copy .ensures .stored ((c .before) .if1 .left)))))
+    (λ c κs.
+    let at-copy = c .before .before .before .before in
+    let s = at-copy .before .before .before .before in
+    (omega (arith, s .pre .0), lower _ (s .pre .1 .0) (omega arith) (room-after (s .pre .1 .0 .room) (at-copy .copy .ensures .stored ((c .before) .if1 .left)))))
     (λ c. search needs)
-    (λ c. binary-full-right _ _ _ (c .if2 .taken) ((c .before .before .before .before .before .before .before .before) .copy .ensures .stored ((c .before .before .before .before .before) .if1 .left)) ((c .before .before .before) .copy2 .ensures))
-    (λ c κs. let s = (c .before .before .before .before .before .before .before .before .before .before .before .before .before) in ends _ _ _ (s .pre .1 .1 .small) (s .pre .1 .0 .room) ((c .before .before .before .before .before .before .before .before .before) .copy .ensures .stored ((c .before .before .before .before .before .before) .if1 .left)) ((c .before .before .before .before) .copy2 .ensures .stored ((c .before) .if2 .left)))
+    (λ c.
+    let at-copy2 = c .before .before .before in
+    let at-if1 = at-copy2 .before .before in
+    let at-copy = at-if1 .before .before .before in
+    binary-full-right _ _ _ (c .if2 .taken) (at-copy .copy .ensures .stored (at-if1 .if1 .left)) (at-copy2 .copy2 .ensures))
+    (λ c κs.
+    let at-copy2 = c .before .before .before .before in
+    let at-if1 = at-copy2 .before .before in
+    let at-copy = at-if1 .before .before .before in
+    let s = at-copy .before .before .before .before in
+    ends _ _ _ (s .pre .1 .1 .small) (s .pre .1 .0 .room) (at-copy .copy .ensures .stored (at-if1 .if1 .left)) (at-copy2 .copy2 .ensures .stored ((c .before) .if2 .left)))
     (λ c. search needs)
-    (λ c. binary-wrote _ _ _ ((c .before .before .before .before .before .before .before .before .before .before .before .before) .copy .ensures .stored ((c .before .before .before .before .before .before .before .before .before) .if1 .left)) ((c .before .before .before .before .before .before .before) .copy2 .ensures .stored ((c .before .before .before .before) .if2 .left)) ((c .before .before .before .before .before .before .before .before .before .before .before .before .before .before .before .before) .pre .1 .1 .number) ((c .before .before) .join .ensures))
+    (λ c.
+    let at-join = c .before .before in
+    let at-if2 = at-join .before .before in
+    let at-copy2 = at-if2 .before .before .before in
+    let at-if1 = at-copy2 .before .before in
+    let at-copy = at-if1 .before .before .before in
+    let start = at-copy .before .before .before .before in
+    binary-wrote _ _ _ (at-copy .copy .ensures .stored (at-if1 .if1 .left)) (at-copy2 .copy2 .ensures .stored (at-if2 .if2 .left)) (start .pre .1 .1 .number) (at-join .join .ensures))

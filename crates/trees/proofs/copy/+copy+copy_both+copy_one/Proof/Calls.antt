@@ -12,11 +12,11 @@ use Rattle.trees.proofs.copy.+copy+copy_both+copy_one.Lts-copy_both as 
 use Rattle.trees.proofs.copy.copy_one.Reads as copy-one
 use Rattle.trees.proofs.copy.copy_one.Kinds as copy-one-kinds
 use Rattle.trees.proofs.copy.+copy+copy_both+copy_one.Lts-copy_one as copy-one-lts
-use Rattle.trees.proofs.write.cap.Reads as cap-reads
-use Rattle.trees.proofs.write.constant.Reads as constant-reads
+use Rattle.storing.proofs.cap.Reads as cap-reads
+use Rattle.storing.proofs.constant.Reads as constant-reads
 use Rattle.trees.proofs.write.fields_at.Reads as fields-at-reads
-use Rattle.trees.proofs.write.join.Reads as join-reads
-use Rattle.trees.proofs.write.signal.Reads as signal-reads
+use Rattle.storing.proofs.join.Reads as join-reads
+use Rattle.storing.proofs.signal.Reads as signal-reads
 
 abbrev pub μ-copy : Measures 2 copy-kinds.ps ℕ
 μ-copy κs a = 2 * a .1 .0
@@ -46,7 +46,19 @@ abbrev pub copy-one-below : ℕ → In 2 copy-one-kinds.ps
 copy-one-below t = and 2 copy-one-kinds.ps (falls 2 copy-one-kinds.ps _<_ μ-copy-one t) copy-one.Pre
 
 abbrev pub copy-calls : ℕ → copy-lts.Claims
-copy-calls t = (fields-at-reads.Asked, fields-at-reads.Learnt, constant-reads.Asked, constant-reads.Learnt, signal-reads.Asked, signal-reads.Learnt, copy-one-below t, copy-one.Post, copy-both-below t, copy-both.Post)
+copy-calls t = (
+  fields-at-reads.Asked,
+  fields-at-reads.Learnt,
+  constant-reads.Asked,
+  constant-reads.Learnt,
+  signal-reads.Asked,
+  signal-reads.Learnt,
+  copy-one-below t,
+  copy-one.Post,
+  copy-both-below
+      t,
+  copy-both.Post,
+)
 
 abbrev pub copy-both-calls : ℕ → copy-both-lts.Claims
 copy-both-calls t = (copy-below t, copy.Post, join-reads.Asked, join-reads.Learnt)

@@ -37,13 +37,13 @@ use Rattle.trees.proofs.core_form.weak.Reads as weak
 use Rattle.trees.proofs.core_form.weak.Kinds as weak-kinds
 use Rattle.trees.proofs.core_form.+core+core_both+core_one+dual+equal+finally+globally+implies+inner+not_implies+weak.Lts-weak as weak-lts
 use Rattle.trees.proofs.core_form.base.Reads as base-reads
-use Rattle.trees.proofs.write.cap.Reads as cap-reads
-use Rattle.trees.proofs.write.constant.Reads as constant-reads
+use Rattle.storing.proofs.cap.Reads as cap-reads
+use Rattle.storing.proofs.constant.Reads as constant-reads
 use Rattle.trees.proofs.write.fields_at.Reads as fields-at-reads
-use Rattle.trees.proofs.write.join.Reads as join-reads
+use Rattle.storing.proofs.join.Reads as join-reads
 use Rattle.trees.proofs.write.join_not.Reads as join-not-reads
 use Rattle.trees.proofs.write.not_true.Reads as not-true-reads
-use Rattle.trees.proofs.write.signal.Reads as signal-reads
+use Rattle.storing.proofs.signal.Reads as signal-reads
 
 abbrev pub μ-core : Measures 2 core-kinds.ps ℕ
 μ-core κs a = 6 * a .1 .0 + 1
@@ -169,7 +169,34 @@ abbrev pub implies-calls : ℕ → implies-lts.Claims
 implies-calls t = (core-one-below t, core-one.Post, core-below t, core.Post, join-reads.Asked, join-reads.Learnt)
 
 abbrev pub inner-calls : ℕ → inner-lts.Claims
-inner-calls t = (fields-at-reads.Asked, fields-at-reads.Learnt, constant-reads.Asked, constant-reads.Learnt, not-true-reads.Asked, not-true-reads.Learnt, signal-reads.Asked, signal-reads.Learnt, core-one-below t, core-one.Post, base-reads.Asked, base-reads.Learnt, dual-below t, dual.Post, core-both-below t, core-both.Post, implies-below t, implies.Post, equal-below t, equal.Post, globally-below t, globally.Post, finally-below t, finally.Post, weak-below t, weak.Post)
+inner-calls t = (
+  fields-at-reads.Asked,
+  fields-at-reads.Learnt,
+  constant-reads.Asked,
+  constant-reads.Learnt,
+  not-true-reads.Asked,
+  not-true-reads.Learnt,
+  signal-reads.Asked,
+  signal-reads.Learnt,
+  core-one-below t,
+  core-one.Post,
+  base-reads.Asked,
+  base-reads.Learnt,
+  dual-below t,
+  dual.Post,
+  core-both-below t,
+  core-both.Post,
+  implies-below t,
+  implies.Post,
+  equal-below t,
+  equal.Post,
+  globally-below t,
+  globally.Post,
+  finally-below t,
+  finally.Post,
+  weak-below t,
+  weak.Post,
+)
 
 abbrev pub not-implies-calls : ℕ → not-implies-lts.Claims
 not-implies-calls t = (implies-below t, implies.Post, cap-reads.Asked, cap-reads.Learnt)

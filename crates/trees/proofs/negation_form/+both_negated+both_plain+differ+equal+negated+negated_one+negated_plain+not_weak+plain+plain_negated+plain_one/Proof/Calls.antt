@@ -37,12 +37,12 @@ use Rattle.trees.proofs.negation_form.plain_one.Reads as plain-one
 use Rattle.trees.proofs.negation_form.plain_one.Kinds as plain-one-kinds
 use Rattle.trees.proofs.negation_form.+both_negated+both_plain+differ+equal+negated+negated_one+negated_plain+not_weak+plain+plain_negated+plain_one.Lts-plain_one as plain-one-lts
 use Rattle.trees.proofs.negation_form.dual.Reads as dual-reads
-use Rattle.trees.proofs.write.cap.Reads as cap-reads
-use Rattle.trees.proofs.write.constant.Reads as constant-reads
+use Rattle.storing.proofs.cap.Reads as cap-reads
+use Rattle.storing.proofs.constant.Reads as constant-reads
 use Rattle.trees.proofs.write.fields_at.Reads as fields-at-reads
-use Rattle.trees.proofs.write.join.Reads as join-reads
+use Rattle.storing.proofs.join.Reads as join-reads
 use Rattle.trees.proofs.write.not_signal.Reads as not-signal-reads
-use Rattle.trees.proofs.write.signal.Reads as signal-reads
+use Rattle.storing.proofs.signal.Reads as signal-reads
 
 abbrev pub μ-both-negated : Measures 2 both-negated-kinds.ps ℕ
 μ-both-negated κs a = 4 * max (a .1 .0) (a .1 .1 .0) + 1
@@ -156,7 +156,28 @@ abbrev pub equal-calls : ℕ → equal-lts.Claims
 equal-calls t = (both-plain-below t, both-plain.Post, both-negated-below t, both-negated.Post, join-reads.Asked, join-reads.Learnt)
 
 abbrev pub negated-calls : ℕ → negated-lts.Claims
-negated-calls t = (fields-at-reads.Asked, fields-at-reads.Learnt, constant-reads.Asked, constant-reads.Learnt, not-signal-reads.Asked, not-signal-reads.Learnt, plain-below t, plain.Post, plain-negated-below t, plain-negated.Post, differ-below t, differ.Post, not-weak-below t, not-weak.Post, dual-reads.Asked, dual-reads.Learnt, negated-one-below t, negated-one.Post, both-negated-below t, both-negated.Post)
+negated-calls t = (
+  fields-at-reads.Asked,
+  fields-at-reads.Learnt,
+  constant-reads.Asked,
+  constant-reads.Learnt,
+  not-signal-reads.Asked,
+  not-signal-reads.Learnt,
+  plain-below t,
+  plain.Post,
+  plain-negated-below t,
+  plain-negated.Post,
+  differ-below t,
+  differ.Post,
+  not-weak-below t,
+  not-weak.Post,
+  dual-reads.Asked,
+  dual-reads.Learnt,
+  negated-one-below t,
+  negated-one.Post,
+  both-negated-below t,
+  both-negated.Post,
+)
 
 abbrev pub negated-one-calls : ℕ → negated-one-lts.Claims
 negated-one-calls t = (negated-below t, negated.Post, cap-reads.Asked, cap-reads.Learnt)
@@ -168,7 +189,24 @@ abbrev pub not-weak-calls : ℕ → not-weak-lts.Claims
 not-weak-calls t = (negated-below t, negated.Post, both-negated-below t, both-negated.Post, join-reads.Asked, join-reads.Learnt)
 
 abbrev pub plain-calls : ℕ → plain-lts.Claims
-plain-calls t = (fields-at-reads.Asked, fields-at-reads.Learnt, constant-reads.Asked, constant-reads.Learnt, signal-reads.Asked, signal-reads.Learnt, negated-below t, negated.Post, negated-plain-below t, negated-plain.Post, equal-below t, equal.Post, plain-one-below t, plain-one.Post, both-plain-below t, both-plain.Post)
+plain-calls t = (
+  fields-at-reads.Asked,
+  fields-at-reads.Learnt,
+  constant-reads.Asked,
+  constant-reads.Learnt,
+  signal-reads.Asked,
+  signal-reads.Learnt,
+  negated-below t,
+  negated.Post,
+  negated-plain-below t,
+  negated-plain.Post,
+  equal-below t,
+  equal.Post,
+  plain-one-below t,
+  plain-one.Post,
+  both-plain-below t,
+  both-plain.Post,
+)
 
 abbrev pub plain-negated-calls : ℕ → plain-negated-lts.Claims
 plain-negated-calls t = (plain-below t, plain.Post, negated-below t, negated.Post, join-reads.Asked, join-reads.Learnt)

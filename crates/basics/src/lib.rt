@@ -1,0 +1,27 @@
+// Small helpers below all other crates: a number in a wider type, with what its own type says of it; the least of two; copying words.
+pub mod u16_usize;
+pub mod u8_u32;
+pub mod u8_usize;
+
+ghost use mathlib.Core.Path.{_≡_};
+ghost use Prim.Native.Nat.{_≤_, min};
+ghost use lib.ListN.{length};
+ghost use lib.Seq.{paste};
+
+pub fn least(a: usize, b: usize) -> usize
+    ensures { λ r. ⌜ r ≡ min a b ⌝ }
+{
+    if a < b { a } else { b }
+}
+
+// The first n words, to the front of `out`. It asks that both have as many, and its callers show it.
+pub fn copy_words(from: &[u32], n: usize, out: &mut [u32])
+    requires { ⌜ (n ≤ length (now from)) × (n ≤ length (now out)) ⌝ }
+    ensures { λ _. ⌜ now (out .exit) ≡ paste (now (out .entry)) 0 (now (from .entry)) n ⌝ }
+{
+    let mut i = 0;
+    while i < n {
+        out[i] = from[i];
+        i += 1;
+    }
+}

@@ -1,0 +1,384 @@
+-- What holds of every tree that the grammar reads: P of its expressions and E of the elements of its sets, wherever they hold of what is built of parts of which they hold.
+use Prim.Native.Nat.{ℕ, zero, suc}
+use Prim.Native.String.{String}
+use mathlib.Core.Path.{_≡_}
+use mathlib.Core.Bool.{Bool, true, false, _&&_, _||_}
+use mathlib.Core.List.{List, [], _∷_}
+use mathlib.Core.Option.{Option, none, some}
+use lib.Dec.{leb}
+use lib.ListN.{length}
+use Rattle.node.specs.Result.{Done, _>>=_}
+use Rattle.language.specs.Tokens.{Name, Numeral as Digits, End, Token, isOf, is}
+use Rattle.language.specs.Operators.{Prefix, Infix, Window, Role, Plain, Counted, Windowed, Folding, Big, InfixRow, infixes, PrefixRow, prefixes, loosest}
+use Rattle.language.specs.Tree.{
+  Expr,
+  Named,
+  Numeral,
+  Truth,
+  Index,
+  Paren,
+  Prefixed,
+  Joined,
+  Nexts,
+  InWindow,
+  Each,
+  Between,
+  Listed,
+  Empty,
+  Element,
+  Range,
+  Identifier,
+  Definition,
+  Defined,
+  Enumerated,
+  Parameter,
+  Declaration,
+  OneSignal,
+  OfWidth,
+  OfType,
+  Subsection,
+  Inputs,
+  Outputs,
+  Lines,
+  Spec,
+}
+use Rattle.language.specs.Grammar.{
+  Tokens,
+  Read,
+  front,
+  rest,
+  next,
+  expect,
+  expectOf,
+  named,
+  infixOf,
+  prefixOf,
+  closedBy,
+  elements,
+  afterTwo,
+  afterOne,
+  setOf,
+  Binder,
+  signOf,
+  binderOf,
+  bindersOf,
+  over,
+  roleOf,
+  nameOf,
+  atomOf,
+  operandBy,
+  operandOf,
+  rightLevel,
+  allowed,
+  climb,
+  expr,
+  Reader,
+}
+use Rattle.language.specs.Sections.{
+  expression,
+  described,
+  modelOf,
+  strictOf,
+  infoEnd,
+  infoOf,
+  linesOf,
+  blockOf,
+  parameterOf,
+  wordsOf,
+  identifiersOf,
+  definitionOf,
+  declarationOf,
+  optional,
+  globalOf,
+  Heading,
+  InputsHere,
+  OutputsHere,
+  LinesHere,
+  HeadingRow,
+  headings,
+  headingOf,
+  seen,
+  subsectionOf,
+  subsectionsOf,
+  specOf,
+}
+use Rattle.language.specs.Laws.Basics.Lists.{All}
+use Rattle.language.specs.Laws.Basics.Tests.{split}
+use Rattle.language.specs.Laws.Basics.Results.{done, refused, bind, Within, bind-any}
+use Rattle.language.specs.Laws.Grammar.TokenReads.{among}
+use Rattle.language.specs.Laws.Grammar.MainReads.{subsectionsBy}
+
+-- P of what is read, if something is
+abbrev pub Gives : {A : Type 0} → (A → Type 0) → Read A → Type 0
+Gives P r = Within (λ x. P (x .0)) r
+
+abbrev pub IsName : Token → Type 0
+IsName t = isOf Name t ≡ true
+
+-- the parts of which an expression is built have P, the elements of a set E
+pub record Built (P E : Expr → Type 0) : Type 0 where
+  pub of-name : (t : Token) → IsName t → P (Named t)
+  pub of-numeral : (t : Token) → isOf Digits t ≡ true → P (Numeral t)
+  pub of-truth : (t : Token) (b : Bool) → P (Truth t b)
+  pub of-index : (t : Token) (e : Expr) → IsName t → P e → P (Index t e)
+  pub of-paren : (t : Token) (e : Expr) → P e → P (Paren t e)
+  pub of-prefix : (t : Token) (o : Prefix) (e : Expr) → P e → P (Prefixed t o e)
+  pub of-infix : (t : Token) (o : Infix) (a b : Expr) → P a → P b → P (Joined t o a b)
+  pub of-nexts : (t : Token) (n e : Expr) → P n → P e → P (Nexts t n e)
+  pub of-window : (t : Token) (o : Window) (n m e : Expr) → P n → P m → P e → P (InWindow t o n m e)
+  pub of-big : (t : Token) (o : Big) (further : Bool) (i : Token) (s e : Expr) → IsName i → P s → P e → P (Each t o further i s e)
+  pub of-bounds : (t : Token) (low high : Bool) (a b : Expr) → P a → P b → P (Between t low high a b)
+  pub of-listed : (t : Token) (es : Expr) → E es → P (Listed t es)
+  pub of-none : E Empty
+  pub of-element : (e es : Expr) → P e → E es → E (Element e es)
+  pub of-range : (t : Token) (x y z : Expr) → P x → P y → P z → P (Range t x y z)
+
+-- the lines of a text: what they name is a name, and their expressions have P
+abbrev pub ReadParameter : (Expr → Type 0) → Parameter → Type 0
+ReadParameter P p = IsName (p .name) × P (p .value)
+
+abbrev pub ReadIdentifier : Identifier → Type 0
+ReadIdentifier i = IsName (i .name)
+
+abbrev pub ReadDefinition : (Expr → Type 0) → Definition → Type 0
+ReadDefinition P (Defined x e) = IsName x × P e
+ReadDefinition P (Enumerated x is) = IsName x × All ReadIdentifier is
+
+abbrev pub ReadDeclaration : (Expr → Type 0) → Declaration → Type 0
+ReadDeclaration P (OneSignal x) = IsName x
+ReadDeclaration P (OfWidth x e) = IsName x × P e
+ReadDeclaration P (OfType u x) = IsName u × IsName x
+
+abbrev pub ReadSubsection : (Expr → Type 0) → Subsection → Type 0
+ReadSubsection P (Inputs ds) = All (ReadDeclaration P) ds
+ReadSubsection P (Outputs ds) = All (ReadDeclaration P) ds
+ReadSubsection P (Lines p es) = All P es
+
+pub record ReadSpec (P : Expr → Type 0) (x : Spec) : Type 0 where
+  pub parameters : All (ReadParameter P) (x .parameters)
+  pub definitions : All (ReadDefinition P) (x .definitions)
+  pub main : All (ReadSubsection P) (x .main)
+
+-- one reader after another, and a choice between two
+module _ {A : Type 0} (Q : A → Type 0) where
+  after : {B : Type 0} (r : Read B) (k : B × Tokens → Read A) → ((b : B) (ts : Tokens) → Gives Q (k (b, ts))) → Gives Q (r >>= k)
+  after r k f = bind-any r k (λ x. f (x .0) (x .1))
+
+  with : {B : Type 0} (S : B → Type 0) (r : Read B) (k : B × Tokens → Read A) → Gives S r → ((b : B) (ts : Tokens) → S b → Gives Q (k (b, ts))) → Gives Q (r >>= k)
+  with S r k h f = bind r k h (λ x p. f (x .0) (x .1) p)
+
+  chosen : (b : Bool) (r s : Read A) → Gives Q r → Gives Q s → Gives Q (elim b [ true ↦ r | false ↦ s ])
+  chosen b r s h k = split (Gives Q) b (λ _. h) (λ _. k)
+
+-- a token of a name
+expect-name : (ts : Tokens) → Gives IsName (expectOf Name ts)
+expect-name ts = split (Gives IsName) (isOf Name (front ts)) (λ e. done e) (λ _. refused tt)
+
+-- the lines of a block
+module _ {A : Type 0} (Q : A → Type 0) (line : Tokens → Read A) (good : (ts : Tokens) → Gives Q (line ts)) where
+  linesOf-gives : (f : ℕ) (ts : Tokens) → Gives (All Q) (linesOf f line ts)
+  linesOf-gives zero ts = refused tt
+  linesOf-gives (suc f) ts =
+      chosen (All Q) (next "}" ts) _ _ (done tt)
+      (with (All Q) Q (line ts) _ (good ts) (λ l us h.
+      chosen (All Q) (next ";" us) _ _
+      (with (All Q) (All Q) (linesOf f line (rest us)) _ (linesOf-gives f (rest us)) (λ ls vs k. done (h, k)))
+      (after (All Q) (expect "}" us) _ (λ c vs. done (h, tt)))))
+
+  pub blockOf-gives : (ts : Tokens) → Gives (All Q) (blockOf line ts)
+  blockOf-gives ts = after (All Q) (expect "{" ts) _ (λ c us. linesOf-gives (length us) us)
+
+  optional-gives : (word : String) (ts : Tokens) → Gives (All Q) (optional word line ts)
+  optional-gives word ts = chosen (All Q) (next word ts) _ _ (blockOf-gives (rest ts)) (done tt)
+
+-- every reader of the grammar, up to `spec-read`
+module _ (P E : Expr → Type 0) (K : Built P E) where
+  abbrev Bound : Binder → Type 0
+  Bound b = IsName (b .name) × P (b .range)
+
+  -- the parts of an expression, if `rec` gives expressions that have P
+  module _ (rec : Reader) (good : (n : ℕ) (ts : Tokens) → Gives P (rec n ts)) where
+    closedBy-read : (s : String) (ts : Tokens) → Gives P (closedBy rec s ts)
+    closedBy-read s ts = with P P (rec loosest ts) _ (good loosest ts) (λ e us h. after P (expect s us) _ (λ c vs. done h))
+
+    elements-read : (f : ℕ) (ts : Tokens) → Gives E (elements f rec ts)
+    elements-read zero ts = refused tt
+    elements-read (suc f) ts =
+        chosen E (next "," ts) _ _
+        (with E P (rec loosest (rest ts)) _ (good loosest (rest ts)) (λ e us h.
+        with E E (elements f rec us) _ (elements-read f us) (λ es vs k. done (K .of-element e es h k))))
+        (after E (expect "}" ts) _ (λ c us. done (K .of-none)))
+
+    afterTwo-read : (f : ℕ) (t : Token) (x y : Expr) → P x → P y → (ts : Tokens) → Gives P (afterTwo f rec t x y ts)
+    afterTwo-read f t x y hx hy ts =
+        chosen P (next ".." ts) _ _
+        (with P P (closedBy rec "}" (rest ts)) _ (closedBy-read "}" (rest ts)) (λ z us hz. done (K .of-range t x y z hx hy hz)))
+        (with P E (elements f rec ts) _ (elements-read f ts) (λ es us k. done (K .of-listed t _ (K .of-element x _ hx (K .of-element y es hy k)))))
+
+    afterOne-read : (f : ℕ) (t : Token) (x : Expr) → P x → (ts : Tokens) → Gives P (afterOne f rec t x ts)
+    afterOne-read f t x hx ts =
+        chosen P (next "," ts) _ _
+        (with P P (rec loosest (rest ts)) _ (good loosest (rest ts)) (λ y us hy. afterTwo-read f t x y hx hy us))
+        (after P (expect "}" ts) _ (λ c us. done (K .of-listed t _ (K .of-element x Empty hx (K .of-none)))))
+
+    setOf-read : (f : ℕ) (t : Token) (ts : Tokens) → Gives P (setOf f rec t ts)
+    setOf-read f t ts =
+        chosen P (next "}" ts) _ _ (done (K .of-listed t Empty (K .of-none))) (with P P (rec loosest ts) _ (good loosest ts) (λ x us h. afterOne-read f t x h us))
+
+    binderOf-read : (ts : Tokens) → Gives Bound (binderOf rec ts)
+    binderOf-read ts =
+        chosen Bound (isOf Name (front ts) && named among (front (rest ts))) _ _
+        (with Bound IsName (expectOf Name ts) _ (expect-name ts) (λ i us y. with Bound P (rec loosest (rest us)) _ (good loosest (rest us)) (λ s vs h. done (y, h))))
+        (with Bound P (rec 8 ts) _ (good 8 ts) (λ a us ha. after Bound (signOf us) _ (λ low vs. with Bound IsName (expectOf Name vs) _ (expect-name vs) (λ i ws y. after Bound (signOf ws) _ (λ high xs.
+        with Bound P (rec 8 xs) _ (good 8 xs) (λ b ys hb. done (y, K .of-bounds _ _ _ a b ha hb)))))))
+
+    bindersOf-read : (f : ℕ) (ts : Tokens) → Gives (All Bound) (bindersOf f rec ts)
+    bindersOf-read zero ts = refused tt
+    bindersOf-read (suc f) ts =
+        with (All Bound) Bound (binderOf rec ts) _ (binderOf-read ts) (λ b us h.
+        chosen (All Bound) (next "," us) _ _
+        (with (All Bound) (All Bound) (bindersOf f rec (rest us)) _ (bindersOf-read f (rest us)) (λ bs vs k. done (h, k)))
+        (after (All Bound) (expect "]" us) _ (λ c vs. done (h, tt))))
+
+    over-read : (t : Token) (o : Big) (further : Bool) (bs : List Binder) (e : Expr) → All Bound bs → P e → P (over t o further bs e)
+    over-read t o further [] e h k = k
+    over-read t o further (b ∷ bs) e h k = K .of-big t o further (b .name) (b .range) _ (h .0 .0) (h .0 .1) (over-read t o true bs e (h .1) k)
+
+    roleOf-read : (f : ℕ) (t : Token) (level : ℕ) (r : Role) (ts : Tokens) → Gives P (roleOf f rec t level r ts)
+    roleOf-read f t level (Plain p) ts = with P P (rec level ts) _ (good level ts) (λ e us h. done (K .of-prefix t p e h))
+    roleOf-read f t level Counted ts =
+        chosen P (next "[" ts) _ _
+        (with P P (closedBy rec "]" (rest ts)) _ (closedBy-read "]" (rest ts)) (λ n us h. with P P (rec level us) _ (good level us) (λ e vs k. done (K .of-nexts t n e h k))))
+        (with P P (rec level ts) _ (good level ts) (λ e us h. done (K .of-prefix t _ e h)))
+    roleOf-read f t level (Windowed o) ts =
+        chosen P (next "[" ts) _ _
+        (with P P (closedBy rec ":" (rest ts)) _ (closedBy-read ":" (rest ts)) (λ n us h. with P P (closedBy rec "]" us) _ (closedBy-read "]" us) (λ m vs k.
+        with P P (rec level vs) _ (good level vs) (λ e ws l. done (K .of-window t o n m e h k l)))))
+        (with P P (rec level ts) _ (good level ts) (λ e us h. done (K .of-prefix t _ e h)))
+    roleOf-read f t level (Folding o) ts =
+        after P (expect "[" ts) _ (λ c us. with P (All Bound) (bindersOf f rec us) _ (bindersOf-read f us) (λ bs vs h.
+        with P P (rec level vs) _ (good level vs) (λ e ws k. done (over-read t o false bs e h k))))
+
+    nameOf-read : (t : Token) → IsName t → (ts : Tokens) → Gives P (nameOf rec t ts)
+    nameOf-read t n ts =
+        chosen P (next "[" ts) _ _ (with P P (closedBy rec "]" (rest ts)) _ (closedBy-read "]" (rest ts)) (λ e us h. done (K .of-index t e n h))) (done (K .of-name t n))
+
+    atomOf-read : (f : ℕ) (t : Token) (ts : Tokens) → Gives P (atomOf f rec t ts)
+    atomOf-read f t ts =
+        split (Gives P) (isOf Name t) (λ n. nameOf-read t n ts)
+        (λ _. split (Gives P) (isOf Digits t) (λ n. done (K .of-numeral t n))
+        (λ _. chosen P (is "true" t || is "false" t) _ _ (done (K .of-truth t _))
+        (chosen P (is "(" t) _ _ (with P P (closedBy rec ")" ts) _ (closedBy-read ")" ts) (λ e us h. done (K .of-paren t e h)))
+        (chosen P (is "|" t) _ _ (with P P (closedBy rec "|" ts) _ (closedBy-read "|" ts) (λ e us h. done (K .of-prefix t _ e h)))
+        (chosen P (is "{" t) _ _ (setOf-read f t ts) (refused tt))))))
+
+    operandBy-read : (f max : ℕ) (t : Token) (o : Option PrefixRow) (ts : Tokens) → Gives P (operandBy f rec max t o ts)
+    operandBy-read f max t none ts = atomOf-read f t ts
+    operandBy-read f max t (some r) ts = chosen P (leb (r .level) max) _ _ (roleOf-read f t (r .level) (r .role) ts) (refused tt)
+
+    climb-read : (f max : ℕ) (e : Expr) → P e → (ts : Tokens) → Gives P (climb f rec max e ts)
+    climb-read zero max e h ts = refused tt
+    climb-read (suc f) max e h ts = go (λ a k us. climb-read f max a k us) (allowed max (infixOf infixes (front ts)))
+      where
+        go : ((a : Expr) → P a → (us : Tokens) → Gives P (climb f rec max a us)) → (o : Option InfixRow)
+            → Gives P (elim o [ none ↦ Done (e, ts) | some r ↦ rec (rightLevel r) (rest ts) >>= λ x. climb f rec max (Joined (front ts) (r .operator) e (x .0)) (x .1) ])
+        go on none = done h
+        go on (some r) = with P P (rec (rightLevel r) (rest ts)) _ (good (rightLevel r) (rest ts))
+            (λ b us k. on (Joined (front ts) (r .operator) e b) (K .of-infix (front ts) (r .operator) e b h k) us)
+
+  expr-read : (f max : ℕ) (ts : Tokens) → Gives P (expr f max ts)
+  expr-read zero max ts = refused tt
+  expr-read (suc f) max ts =
+      with P P (operandOf f (λ m us. expr f m us) max ts) _ (operandBy-read (λ m us. expr f m us) (expr-read f) f max (front ts) (prefixOf prefixes (front ts)) (rest ts))
+      (λ e us h. climb-read (λ m vs. expr f m vs) (expr-read f) f max e h us)
+
+  expression-read : (ts : Tokens) → Gives P (expression ts)
+  expression-read ts = expr-read (suc (length ts)) loosest ts
+
+  -- sections
+  abbrev Param : Parameter → Type 0
+  Param p = ReadParameter P p
+
+  abbrev Defin : Definition → Type 0
+  Defin d = ReadDefinition P d
+
+  abbrev Decl : Declaration → Type 0
+  Decl d = ReadDeclaration P d
+
+  abbrev Subs : Subsection → Type 0
+  Subs s = ReadSubsection P s
+
+  abbrev Whole : Spec → Type 0
+  Whole x = ReadSpec P x
+
+  parameterOf-read : (ts : Tokens) → Gives Param (parameterOf ts)
+  parameterOf-read ts =
+      with Param IsName (expectOf Name ts) _ (expect-name ts) (λ x us y. after Param (expect "=" us) _ (λ c vs.
+      with Param P (expression vs) _ (expression-read vs) (λ e ws h. done (y, h))))
+
+  identifiersOf-read : (f : ℕ) (ts : Tokens) → Gives (All ReadIdentifier) (identifiersOf f ts)
+  identifiersOf-read zero ts = refused tt
+  identifiersOf-read (suc f) ts =
+      let Q = All ReadIdentifier in
+      with Q IsName (expectOf Name ts) _ (expect-name ts) (λ x us y. after Q (expect ":" us) _ (λ c vs. after Q (wordsOf (length vs) vs) _ (λ ws xs.
+      chosen Q (isOf Name (front xs)) _ _ (with Q Q (identifiersOf f xs) _ (identifiersOf-read f xs) (λ is zs k. done (y, k))) (done (y, tt)))))
+
+  definitionOf-read : (ts : Tokens) → Gives Defin (definitionOf ts)
+  definitionOf-read ts =
+      chosen Defin (next "enum" ts) _ _
+      (with Defin IsName (expectOf Name (rest ts)) _ (expect-name (rest ts)) (λ x us y. after Defin (expect "=" us) _ (λ c vs.
+      with Defin (All ReadIdentifier) (identifiersOf (length vs) vs) _ (identifiersOf-read (length vs) vs) (λ is ws k. done (y, k)))))
+      (with Defin Param (parameterOf ts) _ (parameterOf-read ts) (λ p us h. done h))
+
+  declarationOf-read : (ts : Tokens) → Gives Decl (declarationOf ts)
+  declarationOf-read ts =
+      with Decl IsName (expectOf Name ts) _ (expect-name ts) (λ x us n.
+      chosen Decl (next "[" us) _ _
+      (with Decl P (expression (rest us)) _ (expression-read (rest us)) (λ e vs h. after Decl (expect "]" vs) _ (λ c ws. done (n, h))))
+      (split (Gives Decl) (isOf Name (front us)) (λ e. done (n, e)) (λ _. done n)))
+
+  subsectionOf-read : (h : Heading) (ts : Tokens) → Gives Subs (subsectionOf h ts)
+  subsectionOf-read InputsHere ts =
+      with Subs (All Decl) (blockOf declarationOf ts) _ (blockOf-gives Decl declarationOf declarationOf-read ts) (λ ds us h. done h)
+  subsectionOf-read OutputsHere ts =
+      with Subs (All Decl) (blockOf declarationOf ts) _ (blockOf-gives Decl declarationOf declarationOf-read ts) (λ ds us h. done h)
+  subsectionOf-read (LinesHere p) ts =
+      with Subs (All P) (blockOf expression ts) _ (blockOf-gives P expression expression-read ts) (λ es us h. done h)
+
+  subsectionsOf-read : (f : ℕ) (before : List ℕ) (ts : Tokens) → Gives (All Subs) (subsectionsOf f before ts)
+  subsectionsOf-read zero before ts = refused tt
+  subsectionsOf-read (suc f) before ts = go (λ b us. subsectionsOf-read f b us) (headingOf headings before (front ts))
+    where
+      go : ((b : List ℕ) (us : Tokens) → Gives (All Subs) (subsectionsOf f b us)) → (o : Option HeadingRow)
+          → Gives (All Subs) (subsectionsBy f before ts o)
+      go on (some r) =
+          with (All Subs) Subs (subsectionOf (r .heading) (rest ts)) _ (subsectionOf-read (r .heading) (rest ts)) (λ s us h.
+          with (All Subs) (All Subs) (subsectionsOf f (r .number ∷ before) us) _ (on (r .number ∷ before) us) (λ ss vs k. done (h, k)))
+      go on none =
+          chosen (All Subs) (seen before 0 && seen before 1) _ _ (after (All Subs) (expect "}" ts) _ (λ c us. done tt)) (refused tt)
+
+  infoOf-read : (ts : Tokens) → Gives Whole (infoOf ts)
+  infoOf-read ts =
+      after Whole (expect "INFO" ts) _ (λ w t1. after Whole (expect "{" t1) _ (λ w t2. after Whole (described "TITLE" t2) _ (λ w t3.
+      after Whole (described "DESCRIPTION" t3) _ (λ w t4. after Whole (expect "SEMANTICS" t4) _ (λ w t5. after Whole (expect ":" t5) _ (λ w t6.
+      after Whole (modelOf t6) _ (λ m t7. after Whole (strictOf t7) _ (λ s t8. after Whole (expect "TARGET" t8) _ (λ w t9.
+      after Whole (expect ":" t9) _ (λ w t10. after Whole (modelOf t10) _ (λ n t11. after Whole (infoEnd t11) _ (λ w t12.
+      done (record { parameters = tt; definitions = tt; main = tt })))))))))))))
+
+  globalOf-read : (s : Spec) → Whole s → (ts : Tokens) → Gives Whole (globalOf s ts)
+  globalOf-read s h ts =
+      chosen Whole (next "GLOBAL" ts) _ _
+      (after Whole (expect "{" (rest ts)) _ (λ c t1.
+      with Whole (All Param) (optional "PARAMETERS" parameterOf t1) _ (optional-gives Param parameterOf parameterOf-read "PARAMETERS" t1) (λ ps t2 hp.
+      with Whole (All Defin) (optional "DEFINITIONS" definitionOf t2) _ (optional-gives Defin definitionOf definitionOf-read "DEFINITIONS" t2) (λ ds t3 hd.
+      after Whole (expect "}" t3) _ (λ c t4. done (record { parameters = hp; definitions = hd; main = tt }))))))
+      (done h)
+
+  -- the tree of a text
+  pub spec-read : (ts : Tokens) → Within Whole (specOf ts)
+  spec-read ts =
+      bind (infoOf ts) _ (infoOf-read ts) (λ x hx.
+      bind (globalOf (x .0) (x .1)) _ (globalOf-read (x .0) hx (x .1)) (λ y hy.
+      bind-any (expect "MAIN" (y .1)) _ (λ a. bind-any (expect "{" (a .1)) _ (λ b.
+      bind (subsectionsOf 9 [] (b .1)) _ (subsectionsOf-read 9 [] (b .1)) (λ z hz.
+      bind-any (expectOf End (z .1)) _ (λ c. done (record { parameters = hy .parameters; definitions = hy .definitions; main = hz })))))))
