@@ -1,0 +1,81 @@
+-- Spans as the code keeps them, as numbers of which the wider is the larger. Laws in CodeLaws.
+use Prim.Native.Nat.{ℕ, _+_, _-_, _≤_, _<_, max}
+use mathlib.Core.Path.{_≡_}
+use mathlib.Core.List.{List}
+use mathlib.Core.Bool.{Bool, true, false}
+use lib.Dec.{ltb, leb, eqb}
+use lib.ListN.{length, getD}
+use Rattle.node.specs.Limits.{maxNodes}
+use Rattle.node.specs.Fields.{kindOf, firstOf, secondOf}
+use Rattle.node.specs.Bounds.{pick}
+use Rattle.node.specs.Result.{Result, Done}
+use Rattle.lookahead.specs.Span.{Span, Silent, Ahead, Endless}
+use Rattle.lookahead.specs.Reaching.{Distance, Letters, Unbounded}
+
+-- below it a number says that there is no signal
+abbrev pub here : ℕ
+here = 16_384
+
+-- from it on a number says that there is no bound
+abbrev pub endless : ℕ
+endless = 32_768
+
+-- a number that node n may have for a span: X adds one to every number
+abbrev pub Coded : ℕ → ℕ → Span → Type 0
+Coded n s Silent = s ≤ n
+Coded n s (Ahead k) = s ≡ here + k
+Coded n s Endless = (endless ≤ s) × (s ≤ endless + n)
+
+abbrev pub foreverCode : ℕ → ℕ
+foreverCode s = pick (ltb s here) s endless
+
+-- an operator other than X and !
+abbrev pub joinedCode : ℕ → ℕ → ℕ → ℕ
+joinedCode kind a b = pick (ltb kind 8) (max a b) (pick (leb kind 10) (foreverCode a) (foreverCode (max a b)))
+
+-- the number of a node of a kind, from those of its operands
+abbrev pub codeOf : ℕ → ℕ → ℕ → ℕ
+codeOf kind a b = pick (ltb kind 2) 0 (pick (ltb kind 3) here (pick (eqb kind 8) (a + 1) (pick (eqb kind 3) a (joinedCode kind a b))))
+
+-- a node's number, from those of the nodes before it
+abbrev pub nodeCode : ℕ → (ℕ → ℕ) → ℕ
+nodeCode word at = codeOf (kindOf word) (at (firstOf word)) (at (secondOf word))
+
+-- so many nodes, the first, have their numbers in a byte each, the others in two
+abbrev pub nearCount : ℕ
+nearCount = 254
+
+abbrev pub farCount : ℕ
+farCount = 7_938
+
+abbrev pub nearEndless : ℕ
+nearEndless = 255
+
+abbrev pub narrowCode : ℕ → ℕ
+narrowCode s = pick (ltb s here) 0 (pick (leb endless s) nearEndless (s - here + 1))
+
+abbrev pub widened : ℕ → ℕ
+widened b = pick (eqb b 0) 0 (pick (eqb b nearEndless) endless (b + 16_383))
+
+-- the number that is kept for node i
+abbrev pub numberAt : List ℕ → List ℕ → ℕ → ℕ
+numberAt bytes words i = pick (leb nearCount i) (getD words (i - nearCount) 0) (widened (getD bytes i 0))
+
+abbrev pub Sized : List ℕ → List ℕ → Type 0
+Sized bytes words = (length bytes ≡ nearCount) × (length words ≡ farCount)
+
+-- a number that a node of the first ones can have
+abbrev pub Narrow : ℕ → Type 0
+Narrow s = s < endless → s < here + nearCount
+
+-- the operands of a node lie in a table, with room for one letter more
+abbrev pub InTable : ℕ → (ℕ → ℕ) → Type 0
+InTable word at = 3 ≤ kindOf word → (firstOf word < maxNodes) × (secondOf word < maxNodes) × (at (firstOf word) ≤ endless + maxNodes)
+
+abbrev pub chosen : Bool → Distance → Distance → Distance
+chosen true a b = a
+chosen false a b = b
+
+-- the reach that a number stands for
+abbrev pub toldCode : ℕ → Result Distance
+toldCode s = Done (chosen (leb endless s) Unbounded (Letters (s - here)))

@@ -1,0 +1,10 @@
+pub mod Span
+pub mod Reaching
+pub mod SpanAgrees
+pub mod SpanLaws
+pub mod SpanForms
+pub mod ReachingLaws
+pub mod Low
+pub mod Codes
+pub mod KeptLaws
+pub mod CodeLaws
