@@ -2,7 +2,7 @@
 use Prim.Native.Nat.{ℕ, suc, _+_, _*_, _≤_, _<_}
 use mathlib.Core.Path.{_≡_, refl, sym, ap, _∙_, subst}
 use mathlib.Core.List.{List}
-use native.Mathlib.Decide.{ℕ-discrete, decLt}
+use native.Mathlib.Decide.{ℕ-discrete}
 use native.Mathlib.Nat.{mul-le-mul-left, mul-le-mul}
 use native.Mathlib.Omega.{arith}
 use lib.ListN.{length, getD}
@@ -11,15 +11,16 @@ use Rattle.node.specs.Fields.{kindOf, firstOf, secondOf}
 use Rattle.node.specs.Kinds.{Shape, Truth, Falsehood, Atom, UnaryOf, BinaryOf, Unused, shapeOf, build}
 use Rattle.node.specs.Table.{treeAt}
 use Rattle.node.specs.TableLaws.{Formed, Below, node-is}
-use Rattle.evaluator.specs.Limits.{maxPositions, rowsLimit}
-use Rattle.evaluator.specs.Bits.{width}
-use Rattle.evaluator.specs.Recording.{letterOf}
-use Rattle.evaluator.specs.Row.{row, nodeRow, shown}
-use Rattle.evaluator.specs.RowLaws.{Agree, Uses, uses-map, shape-ext, row-build, shown-in, shown-out}
-use Rattle.evaluator.specs.Memory.{bitsAt, Kept, Cleared, Filled, kept-row, kept-trans, cleared-bit}
-use Rattle.evaluator.specs.Ready.{Recorded, Ready, opRow}
-use Rattle.evaluator.specs.declared.Lasso.{Lasso}
-use Rattle.evaluator.specs.declared.row.Op.{Op}
+use Rattle.recordings.specs.Limits.{maxPositions}
+use Rattle.rows.specs.Memory.{rowBytes, rowsLimit, bitsAt, Kept, Written, kept-row, written-as}
+use Rattle.bits.specs.Bits.{width}
+use Rattle.recordings.specs.Recording.{letterOf}
+use Rattle.rows.specs.Row.{row, nodeRow, shown}
+use Rattle.rows.specs.RowLaws.{Agree, Uses, uses-map, shape-ext, row-build, shown-in}
+use Rattle.recordings.specs.Letters.{Recorded}
+use Rattle.rows.specs.Ready.{Ready, opRow}
+use Rattle.recordings.specs.declared.Lasso.{Lasso}
+use Rattle.rows.specs.declared.Op.{Op}
 
 -- a table in order, as the rows need it: each node's tree is made of the trees of earlier nodes
 pub record NodeOf (ws : List ℕ) (i : ℕ) (s : Shape) (a b : ℕ) : Type 0 where
@@ -91,13 +92,10 @@ pub ready-of : (bs rows : List ℕ) (w : Lasso) (ws : List ℕ) (i k x y : ℕ) 
 ready-of bs rows w ws i k x y r room low t =
     record { recorded = r; room = room; low = low; uses = uses-map (shapeOf k) (λ h. before-row (width (w .n)) x i h) (λ h. before-row (width (w .n)) y i h) (t .uses) }
 
--- a row cleared, and then filled from its operands' rows, is right
-pub row-done : (bs : List ℕ) (w : Lasso) (ws : List ℕ) (i k x y : ℕ) {old mid new : List ℕ} → w .l < w .n
-    → ((j : ℕ) → j < i → RightRow bs w ws old j) → NodeOf ws i (shapeOf k) x y
-    → Cleared (width (w .n) * i) (width (w .n)) (width (w .n)) old mid
-    → Filled (w .n) (width (w .n) * i) (opRow bs mid w (opOf (width (w .n)) k x y)) mid new → RowDone bs w ws i old new
-row-done bs w ws i k x y {old} {mid} {new} inside r t c f =
-    record { kept = kept-trans (c .kept) (f .kept); right = λ p l. go p l (decLt p n) }
+-- a row written from its operands' rows is right
+pub row-done : (bs : List ℕ) (w : Lasso) (ws : List ℕ) (i k x y : ℕ) {old new : List ℕ} → w .l < w .n → ((j : ℕ) → j < i → RightRow bs w ws old j) → NodeOf ws i (shapeOf k) x y
+    → Written (w .n) (width (w .n) * i) (opRow bs old w (opOf (width (w .n)) k x y)) old new → RowDone bs w ws i old new
+row-done bs w ws i k x y {old} {new} inside r t f = record { kept = f .kept; right = written-as n (v * i) (opRow bs old w (opOf v k x y)) (nodeRow bs w ws i) f value .right }
   where
     n : ℕ
     n = w .n
@@ -105,20 +103,15 @@ row-done bs w ws i k x y {old} {mid} {new} inside r t c f =
     v : ℕ
     v = width n
 
-    agree : (j : ℕ) → j < i → Agree n (bitsAt mid (v * j)) (nodeRow bs w ws j)
-    agree j h q l =
-        kept-row n (v * i) (v * j) (c .kept) (before-row v j i h) q (omega arith) ∙ r j h q (omega arith) ∙ shown-in n (nodeRow bs w ws j) q l
+    agree : (j : ℕ) → j < i → Agree n (bitsAt old (v * j)) (nodeRow bs w ws j)
+    agree j h q l = r j h q (omega arith) ∙ shown-in n (nodeRow bs w ws j) q l
 
-    value : (p : ℕ) → p < n → opRow bs mid w (opOf v k x y) p ≡ nodeRow bs w ws i p
+    value : (p : ℕ) → p < n → opRow bs old w (opOf v k x y) p ≡ nodeRow bs w ws i p
     value p l =
-        shape-ext n (w .l) (letterOf bs (w .k)) (shapeOf k) x (bitsAt mid (v * x)) (bitsAt mid (v * y)) (nodeRow bs w ws x) (nodeRow bs w ws y) inside
+        shape-ext n (w .l) (letterOf bs (w .k)) (shapeOf k) x (bitsAt old (v * x)) (bitsAt old (v * y)) (nodeRow bs w ws x) (nodeRow bs w ws y) inside
         (uses-map (shapeOf k) (agree x) (agree y) (t .uses)) p l
         ∙ sym (row-build n (w .l) (letterOf bs (w .k)) (shapeOf k) (treeAt ws) x y p)
         ∙ ap (λ f. row n (w .l) (letterOf bs (w .k)) f p) (sym (t .tree))
-
-    go : (p : ℕ) → p < 8 * v → Dec (p < n) → bitsAt new (v * i) p ≡ shown n (nodeRow bs w ws i) p
-    go p l (yes h) = f .here p (omega arith) h ∙ value p h ∙ sym (shown-in n (nodeRow bs w ws i) p h)
-    go p l (no h) = f .spare p (omega arith) ∙ cleared-bit (v * i) v c p l ∙ sym (shown-out n (nodeRow bs w ws i) p (omega arith))
 
 -- what the evaluation of node i requires
 pub record Turn (ws bs : List ℕ) (w : Lasso) (i : ℕ) (rows : List ℕ) : Type 0 where
@@ -137,7 +130,7 @@ pub record Table (ws bs : List ℕ) (w : Lasso) (rows : List ℕ) : Type 0 where
 
 -- the offset of a row fits
 pub offset-fits : (n x : ℕ) → n ≤ maxPositions → x < fieldLimit → width n * x ≤ rowsLimit
-offset-fits n x h l = let v : width n ≤ 256 = omega arith in let m : x ≤ fieldLimit = omega arith in mul-le-mul v m
+offset-fits n x h l = let v : width n ≤ rowBytes = omega arith in let m : x ≤ fieldLimit = omega arith in mul-le-mul v m
 
 -- row i lies in the buffer, and begins below the limit
 pub row-room : (ws bs : List ℕ) (w : Lasso) (i : ℕ) (rows : List ℕ) → Turn ws bs w i rows → (width (w .n) * i + width (w .n) ≤ length rows) × (width (w .n) * i ≤ rowsLimit)

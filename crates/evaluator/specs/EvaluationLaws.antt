@@ -15,25 +15,33 @@ use Rattle.node.specs.Answer.{says}
 use Rattle.node.specs.Table.{checked, treeAt, NodeHolds}
 use Rattle.node.specs.TableLaws.{Formed, checked-done}
 use Rattle.node.specs.declared.Answer.{Answer}
-use Rattle.evaluator.specs.Limits.{maxSignals, maxPositions, rowsLimit}
-use Rattle.evaluator.specs.Bits.{bitAt, width}
-use Rattle.evaluator.specs.Recording.{lassoOf, letterOf, readable, counted}
-use Rattle.evaluator.specs.RecordingLaws.{Reads, readable-done, readable-refused, readable-passed}
-use Rattle.evaluator.specs.Lasso.{recorded}
-use Rattle.evaluator.specs.Row.{nodeRow}
-use Rattle.evaluator.specs.RowLaws.{shown-in}
-use Rattle.evaluator.specs.Agreement.{row-right}
-use Rattle.evaluator.specs.Ready.{Recorded}
+use Rattle.recordings.specs.Limits.{maxSignals, maxPositions}
+use Rattle.rows.specs.Memory.{rowsLimit}
+use Rattle.bits.specs.Bits.{bitAt, width}
+use Rattle.recordings.specs.Recording.{lassoOf, letterOf, readable, counted}
+use Rattle.recordings.specs.RecordingLaws.{Reads, readable-done, readable-refused, readable-reads}
+use Rattle.recordings.specs.Lasso.{recorded}
+use Rattle.rows.specs.Row.{nodeRow}
+use Rattle.rows.specs.RowLaws.{shown-in}
+use Rattle.rows.specs.Agreement.{row-right}
+use Rattle.recordings.specs.Letters.{Recorded}
 use Rattle.evaluator.specs.Evaluated.{Evaluated, Table, trees-of, offset-fits, before-row}
 use Rattle.evaluator.specs.Listed.{listed}
-use Rattle.evaluator.specs.Evaluation.{rowsSize, evaluation, left, bitOfRow, RowsHold, Evaluates, finds, verdictOf, Judges}
-use Rattle.evaluator.specs.declared.Lasso.{Lasso}
+use Rattle.evaluator.specs.Evaluation.{rowsSize, whole, evaluation, left, bitOfRow, RowsHold, Evaluates, finds, unjudged, verdictOf, Judges}
+use Rattle.recordings.specs.declared.Lasso.{Lasso}
 use Rattle.evaluator.specs.declared.Verdict.{Verdict}
+
+done-same : {x y : Counts} → Done x ≡ Done y → x ≡ y
+done-same q = cc
+
+-- the signals that a recording carries
+signals-read : (signals : ℕ) (bs : List ℕ) {d : Counts} → readable signals bs (counted (lassoOf bs)) ≡ Done d → lassoOf bs .k ≡ d .signals
+signals-read signals bs g = ap (λ x. x .signals) (done-same (readable-done signals bs (counted (lassoOf bs)) g .1))
 
 -- the ways to an answer
 module _ (nodes : List ℕ) (signals : ℕ) (bs : List ℕ) (room : ℕ) where
   abbrev onward : Counts → Result Counts
-  onward counts = readable signals bs (guard (leb (rowsSize nodes bs) room) 18 0 (Done counts))
+  onward counts = readable signals bs (whole signals (lassoOf bs) (guard (leb (rowsSize nodes bs) room) 18 0 (Done counts)))
 
   pub many-signals : maxSignals < signals → evaluation nodes signals bs room ≡ Result.Refused 15 0
   unfolding evaluation
@@ -56,16 +64,28 @@ module _ (nodes : List ℕ) (signals : ℕ) (bs : List ℕ) (room : ℕ) where
   bad-recording h e g = good-table h e ∙ readable-refused _ signals bs _ g
 
   good-recording : {c d : Counts} → signals ≤ maxSignals → checked signals nodes ≡ Done c → readable signals bs (counted (lassoOf bs)) ≡ Done d
+      → evaluation nodes signals bs room ≡ whole signals (lassoOf bs) (guard (leb (rowsSize nodes bs) room) 18 0 (Done c))
+  good-recording h e g = good-table h e ∙ readable-reads signals bs (counted (lassoOf bs)) _ g
+
+  pub missing-signals : {c d : Counts} → signals ≤ maxSignals → checked signals nodes ≡ Done c → readable signals bs (counted (lassoOf bs)) ≡ Done d → d .signals < signals
+      → evaluation nodes signals bs room ≡ Result.Refused 23 0
+  missing-signals {d = d} h e g l =
+      let k : lassoOf bs .k ≡ d .signals = signals-read signals bs g in
+      good-recording h e g ∙ guard-stop 23 0 _ (lt-leb signals (lassoOf bs .k) (omega arith))
+
+  all-signals : {c d : Counts} → signals ≤ maxSignals → checked signals nodes ≡ Done c → readable signals bs (counted (lassoOf bs)) ≡ Done d → signals ≤ d .signals
       → evaluation nodes signals bs room ≡ guard (leb (rowsSize nodes bs) room) 18 0 (Done c)
-  good-recording h e g = good-table h e ∙ readable-passed _ signals bs _ g
+  all-signals {d = d} h e g l =
+      let k : lassoOf bs .k ≡ d .signals = signals-read signals bs g in
+      good-recording h e g ∙ guard-pass 23 0 _ (le-leb signals (lassoOf bs .k) (omega arith))
 
-  pub short-rows : {c d : Counts} → signals ≤ maxSignals → checked signals nodes ≡ Done c → readable signals bs (counted (lassoOf bs)) ≡ Done d → room < rowsSize nodes bs
-      → evaluation nodes signals bs room ≡ Result.Refused 18 0
-  short-rows h e g l = good-recording h e g ∙ guard-stop 18 0 _ (lt-leb (rowsSize nodes bs) room l)
+  pub short-rows : {c d : Counts} → signals ≤ maxSignals → checked signals nodes ≡ Done c → readable signals bs (counted (lassoOf bs)) ≡ Done d → signals ≤ d .signals
+      → room < rowsSize nodes bs → evaluation nodes signals bs room ≡ Result.Refused 18 0
+  short-rows h e g k l = all-signals h e g k ∙ guard-stop 18 0 _ (lt-leb (rowsSize nodes bs) room l)
 
-  pub accepts : {c d : Counts} → signals ≤ maxSignals → checked signals nodes ≡ Done c → readable signals bs (counted (lassoOf bs)) ≡ Done d → rowsSize nodes bs ≤ room
-      → evaluation nodes signals bs room ≡ Done c
-  accepts h e g l = good-recording h e g ∙ guard-pass 18 0 _ (le-leb (rowsSize nodes bs) room l)
+  pub accepts : {c d : Counts} → signals ≤ maxSignals → checked signals nodes ≡ Done c → readable signals bs (counted (lassoOf bs)) ≡ Done d → signals ≤ d .signals
+      → rowsSize nodes bs ≤ room → evaluation nodes signals bs room ≡ Done c
+  accepts h e g k l = all-signals h e g k ∙ guard-pass 18 0 _ (le-leb (rowsSize nodes bs) room l)
 
 -- the size of all rows, as the code works it out
 pub record Sized (nodes bs : List ℕ) (n count : ℕ) : Type 0 where
@@ -82,15 +102,13 @@ sized signals nodes bs {c} {d} e g =
     let n : lassoOf bs .n ≡ d .nodes = ap (λ x. x .nodes) (done-same (p .1)) in
     let m : c .nodes ≡ length nodes = ap (λ x. x .nodes) (t .counts) in
     record { same = ap₂ (λ x y. width x * y) (sym n) m; small = rows-small nodes bs (t .formed) (p .0) }
-  where
-    done-same : {x y : Counts} → Done x ≡ Done y → x ≡ y
-    done-same q = cc
 
 -- what an accepted call has
 pub record Opens (nodes : List ℕ) (signals : ℕ) (bs : List ℕ) (room : ℕ) : Type 0 where
   pub known : signals ≤ maxSignals
   pub formed : Formed signals nodes
   pub reads : Reads signals bs
+  pub all : lassoOf bs .k ≡ signals
   pub fits : rowsSize nodes bs ≤ room
   pub small : rowsSize nodes bs ≤ rowsLimit
 
@@ -99,10 +117,21 @@ unfolding evaluation
 opens nodes signals bs room e =
     let p = guard-done (leb signals maxSignals) 15 0 _ e in
     let q = bind-done (checked signals nodes) (onward nodes signals bs room) (p .1) in
-    let r = readable-done signals bs (guard (leb (rowsSize nodes bs) room) 18 0 (Done (q .0))) (q .2) in
-    let s = guard-done (leb (rowsSize nodes bs) room) 18 0 (Done (q .0)) (r .1) in
+    let rooms : Result Counts = guard (leb (rowsSize nodes bs) room) 18 0 (Done (q .0)) in
+    let r = readable-done signals bs (whole signals (lassoOf bs) rooms) (q .2) in
+    let t = guard-done (leb signals (lassoOf bs .k)) 23 0 rooms (r .1) in
+    let s = guard-done (leb (rowsSize nodes bs) room) 18 0 (Done (q .0)) (t .1) in
     let f = checked-done (q .1) .formed in
-    record { known = leb-true signals maxSignals (p .0); formed = f; reads = r .0; fits = leb-true (rowsSize nodes bs) room (s .0); small = rows-small nodes bs f (r .0) }
+    let most = r .0 .header .known in
+    let least = leb-true signals (lassoOf bs .k) (t .0) in
+    record {
+      known = leb-true signals maxSignals (p .0);
+      formed = f;
+      reads = r .0;
+      all = omega arith;
+      fits = leb-true (rowsSize nodes bs) room (s .0);
+      small = rows-small nodes bs f (r .0);
+    }
 
 pub table-of : (nodes : List ℕ) (signals : ℕ) (bs old : List ℕ) {w : Lasso} → Opens nodes signals bs (length old) → w ≡ lassoOf bs → Table nodes bs w old
 table-of nodes signals bs old o e = subst (λ w. Table nodes bs w old) (sym e) (record { some = o .formed .some; trees = trees-of (o .formed); recorded = heard; room = o .fits })
@@ -159,7 +188,7 @@ root-in nodes signals bs room o e = subst (λ w. RootIn nodes room w) (sym e) he
         let k = o .small in
         record { few = h .few; some = s; low = omega arith; inside = omega arith }
 
-so-same : (b c : Bool) → So b ↔ So c → b ≡ c
+pub so-same : (b c : Bool) → So b ↔ So c → b ≡ c
 so-same true true h = refl
 so-same true false h = sym (h .0 refl)
 so-same false true h = h .1 refl
@@ -179,12 +208,19 @@ verdict-means nodes signals bs room e =
     subst (λ x. So x ↔ NodeHolds nodes (length nodes - 1) (recorded bs) 0) (done-bool (p .2))
     (row-right (w .n) (w .l) (letterOf bs (w .k)) (h .loop) (treeAt nodes (length nodes - 1)) 0 (h .some))
 
+-- a refusal that is handed up
+pub unjudged-refusal : {t : Answer} {v : Verdict} {x y : ℕ} → t ≡ Answer.Refused x y → v ≡ unjudged t → v ≡ Verdict.Refused x y
+unjudged-refusal q h = h ∙ ap unjudged q
+
 module _ (nodes : List ℕ) (signals : ℕ) (bs old new : List ℕ) {t : Answer} (e : Evaluates t nodes signals bs old new) where
-  pub judges-refusal : {x y : ℕ} → t ≡ Answer.Refused x y → Judges (Verdict.Refused x y) nodes signals bs old new
+  judges-refusal : {x y : ℕ} → t ≡ Answer.Refused x y → Judges (Verdict.Refused x y) nodes signals bs old new
   unfolding verdictOf _>>=_
   judges-refusal q =
       let r : evaluation nodes signals bs (length old) ≡ Result.Refused _ _ = sym (e .answer) ∙ ap says q in
-      record { answer = sym (ap (λ x. x >>= (λ counts. Done (nodeRow bs (lassoOf bs) nodes (length nodes - 1) 0))) r); buffer = e .buffer; holds = λ b d. absurd (not-done d) }
+      record { answer = sym (ap (λ x. x >>= (λ counts. Done (nodeRow bs (lassoOf bs) nodes (length nodes - 1) 0))) r); buffer = e .buffer; holds = λ b d. absurd (not-done d); rows = λ b d. absurd (not-done d) }
+
+  pub judges-handed : {x y : ℕ} {v : Verdict} → t ≡ Answer.Refused x y → v ≡ unjudged t → Judges v nodes signals bs old new
+  judges-handed q h = subst (λ (u : Verdict). Judges u nodes signals bs old new) (sym (unjudged-refusal q h)) (judges-refusal q)
 
   pub judges : {c : Counts} (v : Verdict) {b d : Bool} {lasso : Lasso} → says t ≡ Done c → lasso ≡ lassoOf bs → d ≡ bitAt new (8 * (width (lasso .n) * (length nodes - 1))) → d ≡ b
       → finds v ≡ Done b → Judges v nodes signals bs old new
@@ -201,4 +237,4 @@ module _ (nodes : List ℕ) (signals : ℕ) (bs old new : List ℕ) {t : Answer}
       let same : b ≡ nodeRow bs w nodes (length nodes - 1) 0 = here ∙ so-same _ _ (Iff·trans root (Iff·symm row)) in
       let answer : finds v ≡ verdictOf nodes signals bs (length old) =
       f ∙ ap Done same ∙ sym (ap (λ x. x >>= (λ counts. Done (nodeRow bs w nodes (length nodes - 1) 0))) r) in
-      record { answer = answer; buffer = e .buffer; holds = λ d g. verdict-means nodes signals bs (length old) (sym answer ∙ g) }
+      record { answer = answer; buffer = e .buffer; holds = λ d g. verdict-means nodes signals bs (length old) (sym answer ∙ g); rows = λ d g. e .holds c q }

@@ -7,11 +7,11 @@ use native.Mathlib.Nat.{mul-le-mul-left}
 use native.Mathlib.Omega.{arith}
 use lib.ListN.{length, getD, take, drop, take-append-drop, length-append, length-drop, length-take, List·getD-append}
 use lib.Seq.{ext-getD, getD-drop, getD-take, getD-at, take-add}
-use Rattle.evaluator.specs.Bits.{Values, bitOf, bitAt, number, width}
-use Rattle.evaluator.specs.BitLaws.{number-lt, number-bit, bits-same}
-use Rattle.evaluator.specs.Row.{nodeRow, shown, tabulate, joined, tableBytes}
+use Rattle.bits.specs.Bits.{Values, bitOf, bitAt, number, width}
+use Rattle.bits.specs.BitLaws.{number-lt, number-bit, bits-same}
+use Rattle.rows.specs.Row.{nodeRow, shown, tabulate, joined, tableBytes}
 use Rattle.evaluator.specs.Evaluated.{Evaluated}
-use Rattle.evaluator.specs.declared.Lasso.{Lasso}
+use Rattle.recordings.specs.declared.Lasso.{Lasso}
 
 length-tab : (g : ℕ → ℕ) (n : ℕ) → length (tabulate g n) ≡ n
 unfolding tabulate

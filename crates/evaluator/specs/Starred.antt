@@ -6,17 +6,18 @@ use mathlib.Core.List.{List, [], _∷_}
 use Rattle.node.specs.Result.{Done, guard, _>>=_}
 use Rattle.node.specs.Fields.{pack}
 use Rattle.node.specs.Table.{treeAt, formulas, scanned, checked, NodeHolds}
-use Rattle.evaluator.specs.Bits.{bitAt, number}
-use Rattle.evaluator.specs.Recording.{blank, filled, readable}
-use Rattle.evaluator.specs.Lasso.{next, recorded}
-use Rattle.evaluator.specs.Row.{sweepFrom, around, row}
+use Rattle.bits.specs.Bits.{bitAt, number}
+use Rattle.recordings.specs.Recording.{blank, filled, readable}
+use Rattle.recordings.specs.Lasso.{next, recorded}
+use Rattle.rows.specs.Row.{sweepFrom, around, row}
 use Rattle.evaluator.specs.Evaluation.{evaluation, verdictOf}
 use Rattle.evaluator.specs.EvaluationLaws.{verdict-means}
 
 -- the listing of 'One file in full', two signals
 abbrev pub file : List ℕ
 file =
-    pack 0 0 0 ∷ pack 0 0 0 ∷ pack 0 0 0 ∷ pack 9 2 0 ∷ pack 0 0 0 ∷ pack 4 3 4 ∷ pack 0 0 0 ∷ pack 9 6 0 ∷ pack 2 0 0 ∷ pack 2 1 0 ∷ pack 10 9 0 ∷ pack 6 8 10 ∷ pack 9 11 0 ∷ pack 4 7 12 ∷ pack 6 5 13 ∷ pack 4 1 14 ∷ pack 6 0 15 ∷ []
+    pack 0 0 0 ∷ pack 0 0 0 ∷ pack 0 0 0 ∷ pack 9 2 0 ∷ pack 0 0 0 ∷ pack 4 3 4 ∷ pack 0 0 0 ∷ pack 9 6 0 ∷ pack 2 0 0 ∷ pack 2 1 0 ∷ pack 10 9 0 ∷ pack 6 8 10 ∷ pack 9 11 0 ∷ pack 4 7 12 ∷ pack 6 5
+    13 ∷ pack 4 1 14 ∷ pack 6 0 15 ∷ []
 
 -- a recording, and what it is said to do on the file
 pub record Marked : Type 0 where

@@ -1,10 +1,10 @@
--- `node_row` meets its contract: the row is cleared, so that its spare bits are 0, and then filled from the rows of earlier nodes.
+-- `node_row` meets its contract: the row is filled from the rows of earlier nodes.
 use Prim.Native.Nat.{_+_, _*_, _≤_}
 use native.Mathlib.Omega.{arith}
 use lib.ListN.{length}
 use Rattle.node.specs.Kinds.{shapeOf}
-use Rattle.evaluator.specs.Limits.{rowsLimit}
-use Rattle.evaluator.specs.Bits.{width}
+use Rattle.bits.specs.Bits.{width}
+use Rattle.rows.specs.Memory.{rowsLimit}
 use Rattle.evaluator.specs.Evaluated.{NodeOf, row-room, offset-fits, ready-of, row-done}
 use borrow.Author.Needs.{needs}
 use Rattle.evaluator.proofs.node_row.Statement.{statement}
@@ -44,37 +44,41 @@ add-w : tie.Need-add-w
 add-w c = search needs
 
 mul-base : tie.Need-mul-base
-mul-base c = record { fits = omega (arith, room-of (c .before .before .before .before .before .before .before .before) .1) }
-
-clear-requires : tie.Need-clear-requires
-clear-requires c κs = room-of (c .before .before .before .before .before .before .before .before .before) .0
+mul-base c =
+    let before = c .before .before .before .before .before .before .before .before in
+    record { fits = omega (arith, room-of before .1) }
 
 mul-t13 : tie.Need-mul-t13
 mul-t13 c =
-    let m = c .before .before .before .before .before in
-    let s = m .before .before .before .before .before .before .before in
-    record { fits = omega (arith, offset-fits (s .args .lasso .n) (m .before .first .result) (s .pre .recorded .few) (omega (arith, m .before .first .ensures))) }
+    let first = c .before .before .first in
+    let start = c .before .before .before .before .before .before .before .before in
+    record { fits = omega (arith, offset-fits (start .args .lasso .n) (first .result) (start .pre .recorded .few) (omega (arith, first .ensures))) }
 
-mul-t19 : tie.Need-mul-t19
-mul-t19 c =
-    let m = c .before .before .before .before .before in
-    let s = m .before .before .before .before .before .before .before in
-    record { fits = omega (arith, offset-fits (s .args .lasso .n) (m .second .result) (s .pre .recorded .few) (omega (arith, m .second .ensures))) }
+mul-t16 : tie.Need-mul-t16
+mul-t16 c =
+    let start = c .before .before .before .before .before .before .before .before in
+    record { fits = omega (arith, offset-fits (start .args .lasso .n) ((c .before .second) .result) (start .pre .recorded .few) (omega (arith, (c .before .second) .ensures))) }
 
 fill-row-requires : tie.Need-fill-row-requires
 fill-row-requires c κs =
-    let m = c .before .before .before .before .before .before in
-    let s = m .before .before .before .before .before .before .before in
-    ready-of _ _ _ (s .args .nodes .now) _ (m .before .before .kind .result) (m .before .first .result) (m .second .result) (s .pre .recorded) (omega (arith, room-of s .0, c .before .before .before .clear .ensures .kept .size)) (room-of s .1) (node-of m)
+    let kind = c .before .before .before .before .kind in
+    let first = c .before .before .before .first in
+    let second = c .before .before .second in
+    let start = c .before .before .before .before .before .before .before .before .before in
+    ready-of _ _ _ (start .args .nodes .now) _ (kind .result) (first .result) (second .result) (start .pre .recorded) (room-of start .0) (room-of start .1) (node-of (c .before .before))
 
 same-length : tie.Need-same-length
 same-length c = search needs
 
 returns : tie.Need-returns
 returns c =
-    let m = c .before .before .before .before .before .before .before .before .before in
-    let s = m .before .before .before .before .before .before .before in
-    row-done _ _ _ _ (m .before .before .kind .result) (m .before .first .result) (m .second .result) (s .pre .recorded .loop) (s .pre .right) (node-of m) (c .before .before .before .before .before .before .clear .ensures) (c .before .before .fill-row .ensures)
+    let kind = c .before .before .before .before .before .before .before .kind in
+    let first = c .before .before .before .before .before .before .first in
+    let second = c .before .before .before .before .before .second in
+    let before = c .before .before .before .before .before in
+    let fill-row = c .before .before .fill-row in
+    let start = c .before .before .before .before .before .before .before .before .before .before .before .before in
+    row-done _ _ _ _ (kind .result) (first .result) (second .result) (start .pre .recorded .loop) (start .pre .right) (node-of before) (fill-row .ensures)
 
 pub node-row-spec : {M : Type 1} → statement M
 node-row-spec =
@@ -89,9 +93,8 @@ node-row-spec =
     cast-y
     add-w
     mul-base
-    clear-requires
     mul-t13
-    mul-t19
+    mul-t16
     fill-row-requires
     same-length
     returns)

@@ -1,0 +1,6 @@
+pub mod Limits
+pub mod Recording
+pub mod Lasso
+pub mod RecordingLaws
+pub mod LassoLaws
+pub mod Letters

@@ -1,0 +1,12 @@
+pub mod Row
+pub mod RowLaws
+pub mod Agreement
+pub mod Steps
+pub mod Memory
+pub mod Ready
+pub mod Stretches
+pub mod SpanSteps
+pub mod Sweeping
+pub mod Plain
+pub mod Booleans
+pub mod BooleanLaws
