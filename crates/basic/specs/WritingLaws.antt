@@ -1,0 +1,79 @@
+-- The writer's whole answer: the order of its refusals by computing, and that what it tells stands in the lent buffer and reads back.
+use Prim.Native.Nat.{ℕ, _≤_}
+use mathlib.Core.Path.{_≡_, refl, ap, ap₂, _∙_, subst}
+use mathlib.Core.Bool.{true, false, _&&_}
+use mathlib.Core.List.{List}
+use lib.Dec.{leb}
+use lib.ListN.{length, take, drop}
+use lib.Seq.{take-at}
+use native.Mathlib.Omega.{arith}
+use borrow.Author.Tests.{leb-true, le-leb, lt-leb}
+use Rattle.node.specs.Postorder.{size}
+use Rattle.node.specs.Result.{Result, Done, Refused, _>>=_, guard}
+use Rattle.node.specs.ResultLaws.{bind-done, guard-done}
+use Rattle.language.specs.Limits.{workBytes}
+use Rattle.language.specs.Bytes.{ascii}
+use Rattle.language.specs.Places.{refuseAt}
+use Rattle.language.specs.Parsing.{parsed}
+use Rattle.language.specs.Reading.{converted}
+use Rattle.language.specs.Cases.{repeated}
+use Rattle.language.specs.Laws.Basics.Tests.{and-left}
+use Rattle.basic.specs.Spelling.{digitsOf}
+use Rattle.basic.specs.Basic.{formulaTokens, infoTokens, lineTokens, basicTokens, parted}
+use Rattle.basic.specs.Writing.{written, maxTold, fits, writing, bytesTold, textAfter}
+use Rattle.basic.specs.Statements.{Kept, ReadsBack}
+use Rattle.basic.specs.Cases.{file, declaring}
+use Rattle.basic.specs.ReadBack.{read-back}
+
+-- 17 before 1, the reader's refusals before 22, 22 before 18
+work-first : writing (repeated 32769 " ") 65535 0 ≡ Refused 17 0
+unfolding writing written parsed converted _>>=_ guard refuseAt size
+work-first = refl
+
+text-next : writing (repeated 32769 " ") 65536 0 ≡ Refused 1 32768
+unfolding writing written parsed converted _>>=_ guard refuseAt size
+text-next = refl
+
+names-before-room : writing (declaring (ascii "b@0; b[1];")) 65536 0 ≡ Refused 22 1
+unfolding writing written parsed converted _>>=_ guard refuseAt size digitsOf formulaTokens infoTokens lineTokens basicTokens parted
+names-before-room = refl
+
+-- room: just enough, one more, one short, none
+room : bytesTold (writing file 65536 266) ≡ Done 266
+unfolding writing written parsed converted _>>=_ guard refuseAt size formulaTokens infoTokens lineTokens basicTokens parted digitsOf
+room = refl
+
+room-short : writing file 65536 265 ≡ Refused 18 0
+unfolding writing written parsed converted _>>=_ guard refuseAt size formulaTokens infoTokens lineTokens basicTokens parted digitsOf
+room-short = refl
+
+no-room : writing file 65537 0 ≡ Refused 18 0
+unfolding writing written parsed converted _>>=_ guard refuseAt size formulaTokens infoTokens lineTokens basicTokens parted digitsOf
+no-room = refl
+
+-- a count of 32 bits can be told, and one more not, whatever room there is
+module _ (s : List ℕ) (room : ℕ) (enough : length s ≤ room) where
+  largest-told : length s ≡ 4_294_967_295 → fits room s ≡ true
+  largest-told e = ap₂ _&&_ (le-leb (length s) room enough) (le-leb (length s) 4_294_967_295 (omega arith))
+
+  one-more : length s ≡ 4_294_967_296 → fits room s ≡ false
+  one-more e = ap₂ _&&_ (le-leb (length s) room enough) (lt-leb (length s) 4_294_967_295 (omega arith))
+
+-- what was written and told stands in the lent buffer, and reads back
+pub writing-done : (text : List ℕ) (work room : ℕ) {s : List ℕ} → writing text work room ≡ Done s → (written text ≡ Done s) × (length s ≤ room)
+unfolding writing
+writing-done text work room {s} e =
+    let a = guard-done (leb workBytes work) 17 0 _ e in
+    let b = bind-done (written text) _ (a .1) in
+    let c = guard-done (fits room (b .0)) 18 0 _ (b .2) in
+    let value = c .1 in
+    let same : b .0 ≡ s = cc in
+    let fit = leb-true (length (b .0)) room (and-left (leb (length (b .0)) room) (leb (length (b .0)) maxTold) (c .0)) in
+    (b .1 ∙ ap Done same, subst (λ (r : List ℕ). length r ≤ room) same fit)
+
+pub stands-back : (text out : List ℕ) (work room : ℕ) {s : List ℕ} → writing text work room ≡ Done s → (take (length s) (textAfter (writing text work room) out) ≡ s) × (Kept s → ReadsBack text s)
+stands-back text out work room {s} e = (
+  ap (λ (r : Result (List ℕ)). take (length s) (textAfter r out)) e ∙ take-at s (drop (length s) out) (length s) refl,
+  λ k. read-back
+      (writing-done text work room e .0) k,
+)

@@ -1,0 +1,13 @@
+pub mod Layout
+pub mod Table
+pub mod TableLaws
+pub mod SizeLaws
+pub mod NodeLaws
+pub mod PieceLaws
+pub mod Stack
+pub mod StackLaws
+pub mod Emitting
+pub mod Text
+pub mod TextLaws
+pub mod WholeLaws
+pub mod Meaning

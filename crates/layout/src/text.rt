@@ -1,0 +1,206 @@
+// The whole text: INFO, the lists of inputs and outputs, and the formula as the one line of GUARANTEE.
+ghost use mathlib.Core.Path.{_≡_};
+ghost use Prim.Native.Nat.{_+_, _*_, _≤_};
+ghost use lib.ListN.{length};
+ghost use lib.Seq.{sets};
+ghost use Rattle.node.specs.Table.{root};
+ghost use Rattle.node.specs.TableLaws.{Formed};
+ghost use Rattle.language.specs.Limits.{maxName, maxSignals};
+ghost use Rattle.signal_names.specs.Runs.{Puts};
+ghost use Rattle.signal_names.specs.Slots.{slot, Held};
+ghost use Rattle.layout.specs.Layout.{nth};
+ghost use Rattle.layout.specs.Table.{table as table'};
+ghost use Rattle.layout.specs.Stack.{Scene};
+ghost use Rattle.layout.specs.Text.{modelOf, headText, lineOf, linesFrom, lineSize, linesSize, textOf, Delivers, handed, outcome};
+ghost use Rattle.layout.specs.TextLaws.{Listed};
+ghost use Rattle.layout.specs.WholeLaws.{Sizes};
+use crate::formula::measure;
+use crate::formula::put_formula;
+use crate::pieces::pieces;
+use basic::Written;
+use language::limits::MAX_NAME;
+use node::MAX_SIGNALS;
+use node::refusals::SHORT_RESULT;
+use signal_names::flag_of;
+use signal_names::put_bytes;
+use signal_names::spell;
+
+// A name that the basic format cannot carry (document 02, 22).
+const BAD_NAME: u32 = 22;
+
+// The largest count that an answer can tell.
+const MAX_TOLD: usize = 4294967295;
+
+// The bytes of all signals' slots, with room for a name that is too long.
+const NAMES: usize = MAX_SIGNALS * MAX_NAME + MAX_NAME + 4;
+
+// The bytes of INFO, and of the words between the lists.
+const FIXED: usize = 135;
+
+// The directions of an entry.
+const INPUT: u32 = 0;
+
+const OUTPUT: u32 = 1;
+
+fn put_all(from: &[u8], out: &mut [u8], at: usize) -> usize
+    requires { ⌜ at + length (now from) ≤ length (now out) ⌝ }
+    ensures { λ r. ⌜ Puts (now (from .entry)) (now (out .entry)) (now (out .exit)) at r ⌝ }
+{
+    put_bytes(from, 0, from.len(), out, at)
+}
+
+fn put_head(target: u32, out: &mut [u8]) -> usize
+    requires { ⌜ length (headText (modelOf target)) ≤ length (now out) ⌝ }
+    ensures { λ r. ⌜ Puts (headText (modelOf target)) (now (out .entry)) (now (out .exit)) 0 r ⌝ }
+{
+    if target == 0 {
+        return put_all(
+            b"INFO { TITLE : \"converted\" DESCRIPTION : \"converted\" SEMANTICS : Mealy TARGET : Mealy } MAIN { INPUTS { ",
+            out,
+            0,
+        );
+    }
+    put_all(
+        b"INFO { TITLE : \"converted\" DESCRIPTION : \"converted\" SEMANTICS : Moore TARGET : Moore } MAIN { INPUTS { ",
+        out,
+        0,
+    )
+}
+
+// The line of entry k, if it is of this direction.
+fn put_line(
+    entry: u32,
+    flag: u32,
+    names: &[u8],
+    sizes: &[usize],
+    k: usize,
+    out: &mut [u8],
+    at: usize,
+) -> usize
+    requires { ⌜ Listed (now names) (now sizes) k × (at + length (lineOf (slot (now names) (now sizes)) flag k entry) ≤ length (now out)) ⌝ }
+    ensures { λ r. ⌜ Puts (lineOf (slot (now (names .entry)) (now (sizes .entry))) flag k entry) (now (out .entry)) (now (out .exit)) at r ⌝ }
+{
+    if flag_of(entry) != flag {
+        return at;
+    }
+    let end = put_bytes(names, MAX_NAME * k, sizes[k], out, at);
+    put_all(b" ; ", out, end)
+}
+
+// The lines of the entries of a direction.
+fn put_lines(
+    list: &[u32],
+    flag: u32,
+    names: &[u8],
+    sizes: &[usize],
+    out: &mut [u8],
+    start: usize,
+) -> usize
+    requires { ⌜ Held (now names) (now sizes) (length (now list)) × (start + length (linesFrom (slot (now names) (now sizes)) flag 0 (now list)) ≤ length (now out)) ⌝ }
+    ensures { λ r. ⌜ Puts (linesFrom (slot (now (names .entry)) (now (sizes .entry))) flag 0 (now (list .entry))) (now (out .entry)) (now (out .exit)) start r ⌝ }
+{
+    let mut at = start;
+    let mut k = 0;
+    while k < list.len() {
+        at = put_line(list[k], flag, names, sizes, k, out, at);
+        k += 1;
+    }
+    at
+}
+
+fn line_size(entry: u32, flag: u32, size: usize) -> usize
+    requires { ⌜ size ≤ maxName ⌝ }
+    ensures { λ r. ⌜ (r ≡ lineSize flag entry size) × (r ≤ 67) ⌝ }
+{
+    if flag_of(entry) != flag {
+        return 0;
+    }
+    size + 3
+}
+
+fn lines_size(list: &[u32], flag: u32, names: &[u8], sizes: &[usize]) -> usize
+    requires { ⌜ Held (now names) (now sizes) (length (now list)) × (length (now list) ≤ maxSignals) ⌝ }
+    ensures { λ r. ⌜ (r ≡ linesSize (nth (now (sizes .entry))) flag 0 (now (list .entry))) × (r ≤ 67 * maxSignals) ⌝ }
+{
+    let mut n: usize = 0;
+    let mut k = 0;
+    while k < list.len() {
+        n += line_size(list[k], flag, sizes[k]);
+        k += 1;
+    }
+    n
+}
+
+// The size of the whole text; a formula's beyond the largest 32-bit number counts as that number.
+fn text_size(nodes: &[u32], list: &[u32], names: &[u8], sizes: &[usize], table: &[u8]) -> usize
+    requires { ⌜ (now table ≡ table') × (Scene (now nodes) (now names) (now sizes) × (Held (now names) (now sizes) (length (now list)) × (length (now list) ≤ maxSignals))) ⌝ }
+    ensures { λ r. ⌜ Sizes (now (sizes .entry)) (now (list .entry)) (root (now (nodes .entry))) r ⌝ }
+{
+    let inputs = lines_size(list, INPUT, names, sizes);
+    let outputs = lines_size(list, OUTPUT, names, sizes);
+    let formula = measure(nodes, names, sizes, table) as usize;
+    FIXED + inputs + outputs + formula
+}
+
+// Writes the whole text to the front of `out`, which has room for it.
+fn put_text(
+    target: u32,
+    nodes: &[u32],
+    list: &[u32],
+    names: &[u8],
+    sizes: &[usize],
+    table: &[u8],
+    out: &mut [u8],
+)
+    requires { ⌜ (now table ≡ table') × (Scene (now nodes) (now names) (now sizes) × Held (now names) (now sizes) (length (now list))) ⌝ }
+    requires { ⌜ length (textOf (modelOf target) (slot (now names) (now sizes)) (now list) (root (now nodes))) ≤ length (now out) ⌝ }
+    ensures { λ _. ⌜ now (out .exit) ≡ sets (now (out .entry)) 0 (textOf (modelOf target) (slot (now (names .entry)) (now (sizes .entry))) (now (list .entry)) (root (now (nodes .entry)))) ⌝ }
+{
+    let inputs = put_head(target, out);
+    let between = put_lines(list, INPUT, names, sizes, out, inputs);
+    let outputs = put_all(b"} OUTPUTS { ", out, between);
+    let behind = put_lines(list, OUTPUT, names, sizes, out, outputs);
+    let formula = put_all(b"} GUARANTEE { ", out, behind);
+    let end = put_formula(nodes, names, sizes, table, out, formula);
+    put_all(b"; } }", out, end);
+}
+
+// The text of a table whose signals have names, if it fits.
+fn write_text(
+    target: u32,
+    nodes: &[u32],
+    list: &[u32],
+    names: &[u8],
+    sizes: &[usize],
+    out: &mut [u8],
+) -> Written
+    requires { ⌜ Scene (now nodes) (now names) (now sizes) × (Held (now names) (now sizes) (length (now list)) × (length (now list) ≤ maxSignals)) ⌝ }
+    ensures { λ r. ⌜ Delivers (handed (length (now (out .entry))) (textOf (modelOf target) (slot (now (names .entry)) (now (sizes .entry))) (now (list .entry)) (root (now (nodes .entry)))))
+        (now (out .entry)) (now (out .exit)) r ⌝ }
+{
+    let table = pieces();
+    let size = text_size(nodes, list, names, sizes, &table);
+    if out.len() < size {
+        return Written::Refused(SHORT_RESULT, 0);
+    }
+    if MAX_TOLD < size {
+        return Written::Refused(SHORT_RESULT, 0);
+    }
+    put_text(target, nodes, list, names, sizes, &table, out);
+    Written::Bytes(size as u32)
+}
+
+// The basic text of an accepted text's node table and signal list, with the target's model: 22, then 18. An inner function: the reader has made the table and the
+// list.
+pub fn write_nodes(text: &[u8], target: u32, nodes: &[u32], list: &[u32], out: &mut [u8]) -> Written
+    requires { ⌜ Formed (length (now list)) (now nodes) × (length (now list) ≤ maxSignals) ⌝ }
+    ensures { λ r. ⌜ Delivers (outcome (length (now (out .entry))) (now (text .entry)) (modelOf target) (now (list .entry)) (now (nodes .entry))) (now (out .entry)) (now (out .exit)) r ⌝ }
+{
+    let mut names = [0u8; NAMES];
+    let mut sizes = [0usize; MAX_SIGNALS];
+    let fault = spell(text, list, &mut names, &mut sizes);
+    if fault < list.len() {
+        return Written::Refused(BAD_NAME, fault as u32);
+    }
+    write_text(target, nodes, list, &names, &sizes, out)
+}

@@ -1,0 +1,6 @@
+pub mod Runs
+pub mod Slots
+pub mod Digits
+pub mod NameLaws
+pub mod SlotLaws
+pub mod Turns

@@ -1,0 +1,160 @@
+-- `write_basic` by stages: the reader's answer into a table and a list of the largest size, then what is written out of them.
+use Prim.Native.Nat.{ℕ, _≤_, min}
+use mathlib.Core.Path.{_≡_, refl, ap, ap₂, _∙_, sym, subst}
+use mathlib.Core.Bool.{Bool, true, false, _&&_}
+use mathlib.Core.List.{List, []}
+use mathlib.Core.Option.{Option}
+use lib.Dec.{leb}
+use lib.ListN.{length, take, length-take}
+use native.Mathlib.Omega.{arith}
+use borrow.Author.Tests.{le-leb, leb-true}
+use Rattle.node.specs.Limits.{maxNodes}
+use Rattle.node.specs.Postorder.{size}
+use Rattle.node.specs.PostorderLaws.{length-nodes}
+use Rattle.node.specs.Result.{Result, Done, Refused, _>>=_, guard, Counts}
+use Rattle.node.specs.ResultLaws.{bind-done, bind-to, bind-refused, guard-pass, guard-done}
+use Rattle.node.specs.TableLaws.{Formed, checked-done}
+use Rattle.node.specs.declared.Answer.{Answer}
+use Rattle.node.specs.declared.Answer.the-variants.{Accepted}
+use Rattle.rewriter.specs.OwnNodes.{own-checked, own-root}
+use Rattle.language.specs.Limits.{maxSignals, workBytes}
+use Rattle.language.specs.Tree.{Model, Mealy, Moore, Spec}
+use Rattle.language.specs.Places.{refuseAt}
+use Rattle.language.specs.Parsing.{parsed}
+use Rattle.language.specs.Reading.{Converted, converted, meant, delivered, reading, workAfter}
+use Rattle.language.specs.Laws.Buffers.{accepted-meant}
+use Rattle.language.specs.Laws.Meaning.Acceptance.{accepts, text-signals, list-limited}
+use Rattle.parser.specs.Outlines.{modelCode}
+use Rattle.parser.specs.declared.Facts.{Facts}
+use Rattle.claim.specs.Claim.{nodesOf}
+use Rattle.claim.specs.ClaimLaws.{text-few, text-small}
+use Rattle.claim.specs.YieldsLaws.{accepted, refused}
+use Rattle.reader.specs.declared.Told.{Told}
+use Rattle.reader.specs.Telling.{ReadsTold}
+use Rattle.basic.specs.Spelling.{namesOf}
+use Rattle.basic.specs.Basic.{basicText}
+use Rattle.basic.specs.Writing.{written, writing, faultFrom}
+use Rattle.basic.specs.declared.Written.{Written}
+use Rattle.layout.specs.Text.{modelOf, Delivers, handed, outcome}
+use Rattle.writer.specs.Writes.{unwritten, Writes, writes}
+
+-- no accepted text is too large for the largest table and list
+all-delivered : (text : List ℕ) (r : Result Converted) → meant text ≡ r → r >>= delivered maxNodes maxSignals ≡ r
+unfolding _>>=_
+all-delivered text (Done c) e =
+    guard-pass 18 0 _ (ap₂ _&&_ (le-leb (size (c .formula)) maxNodes (accepts e .fewNodes)) (le-leb (length (c .signals)) maxSignals (list-limited text c e)))
+all-delivered text (Refused n p) e = refl
+
+-- what the reader refuses the writer does
+behind-refused : {A B : Type 0} (r : Result Spec) (f : Spec → Result A) (k : Spec → A → Result B) {n p : ℕ} → r >>= f ≡ Refused n p → r >>= (λ x. f x >>= k x) ≡ Refused n p
+unfolding _>>=_
+behind-refused (Done x) f k e = bind-refused (f x) _ _ (k x) e
+behind-refused (Refused m q) f k e = cc
+
+written-refused : (text : List ℕ) {n p : ℕ} → meant text ≡ Refused n p → written text ≡ Refused n p
+unfolding meant written
+written-refused text e = behind-refused (parsed text) converted _ e
+
+guard-both : {A B : Type 0} (b : Bool) (number place : ℕ) (r : Result A) (q : Result B) {n p : ℕ} → (r ≡ Refused n p → q ≡ Refused n p) → guard b number place r ≡ Refused n p
+    → guard b number place q ≡ Refused n p
+unfolding guard
+guard-both true number place r q f e = f e
+guard-both false number place r q f e = cc
+
+module _ (text : List ℕ) (work room : ℕ) where
+  pub writing-refused : {n p : ℕ} → reading text work maxNodes maxSignals ≡ Refused n p → writing text work room ≡ Refused n p
+  unfolding reading writing
+  writing-refused {n} {p} e =
+      guard-both (leb workBytes work) 17 0 (meant text >>= delivered maxNodes maxSignals) (written text >>= handed room)
+      (λ h. bind-refused (written text) n p (handed room) (written-refused text (sym (all-delivered text (meant text) refl) ∙ h))) e
+
+  -- and what it accepts is written
+  writing-text : {x : Spec} {c : Converted} → workBytes ≤ work → parsed text ≡ Done x → converted x ≡ Done c
+      → writing text work room ≡ refuseAt 22 (faultFrom [] 0 (namesOf text (c .signals))) (Done (basicText (x .target) text c)) >>= handed room
+  unfolding writing written
+  writing-text {x} {c} h e d =
+      guard-pass 17 0 _ (le-leb workBytes work h) ∙ ap (λ (r : Result (List ℕ)). r >>= handed room) (bind-to (parsed text) x _ e ∙ bind-to (converted x) c _ d)
+
+-- an accepted text had work buffer enough
+enough : (text : List ℕ) (work nodes signals : ℕ) {c : Converted} → reading text work nodes signals ≡ Done c → workBytes ≤ work
+unfolding reading
+enough text work nodes signals e = leb-true workBytes work (guard-done (leb workBytes work) 17 0 _ e .0)
+
+-- an accepted text's bytes, unless a name is at fault
+pub record Bytes (text : List ℕ) (work room : ℕ) : Type 0 where
+  pub fault : Option ℕ
+  pub bytes : List ℕ
+  pub is : writing text work room ≡ refuseAt 22 fault (Done bytes) >>= handed room
+
+pub writing-accepted : (text : List ℕ) (work room nodes signals : ℕ) {c : Converted} → reading text work nodes signals ≡ Done c → Bytes text work room
+unfolding meant reading
+writing-accepted text work room nodes signals e =
+    let passed = guard-done (leb workBytes work) 17 0 _ e in
+    let meaning = bind-done (meant text) _ (passed .1) in
+    let tree = bind-done (parsed text) converted (meaning .1) in
+    record { fault = _; bytes = _; is = writing-text text work room (leb-true workBytes work (passed .0)) (tree .1) (tree .2) }
+
+-- a model from its code
+model-is : (t : ℕ) (m : Model) → t ≡ modelCode m → modelOf t ≡ m
+model-is t Mealy e = ap modelOf e
+model-is t Moore e = ap modelOf e
+
+-- as many entries as were taken are there
+taken-room : (n : ℕ) (l : List ℕ) → length (take n l) ≡ n → n ≤ length l
+taken-room n l e = let cut : length (take n l) ≡ min n (length l) = length-take n l in omega arith
+
+-- what is at hand once the text is read: its nodes in the table, its signals in the list, the target's model
+pub record AtHand (text work work′ table list : List ℕ) (n s target : ℕ) : Type 0 where
+  pub formed : Formed (length (take s list)) (take n table)
+  pub few : length (take s list) ≤ maxSignals
+  pub result : (room : ℕ) → writing text (length work) room ≡ outcome room text (modelOf target) (take s list) (take n table)
+  pub tableRoom : n ≤ length table
+  pub listRoom : s ≤ length list
+  pub workLeft : work′ ≡ workAfter work
+
+module _ {text work work′ table table′ list list′ : List ℕ} {told : Told} (read : ReadsTold text work table list work′ table′ list′ told) (large : length table ≡ maxNodes)
+    (long : length list ≡ maxSignals) where
+  -- a text that is refused
+  read-refused : {n p : ℕ} (out : List ℕ) → told .answer ≡ Answer.Refused n p → Writes text work out work′ out (Written.Refused n p)
+  unfolding _>>=_
+  read-refused {n} {p} out e =
+      let r : writing text (length work) (length out) ≡ Refused n p =
+      writing-refused text (length work) (length out) (ap₂ (reading text (length work)) (sym large) (sym long) ∙ refused (read .reads .yields) e) in
+      writes (rw r) (rw r) (read .reads .yields .workLeft)
+
+  pub read-handed : {n p : ℕ} {r : Written} (out : List ℕ) → told .answer ≡ Answer.Refused n p → r ≡ unwritten (told .answer) → Writes text work out work′ out r
+  read-handed out e h = subst (Writes text work out work′ out) (sym (h ∙ ap unwritten e)) (read-refused out e)
+
+  -- a text that is accepted
+  module _ {n s : ℕ} (e : told .answer ≡ Accepted n s) where
+    pub read-accepted : AtHand text work work′ table′ list′ n s (told .facts .target)
+    unfolding meant
+    read-accepted =
+        let t = accepted (read .reads .yields) e in
+        let c = t .value in
+        let left = read .reads .leaves c (t .done) in
+        let both = accepted-meant text (length work) table list c (t .done) in
+        let meaning = both .0 in
+        let tree = bind-done (parsed text) converted meaning in
+        let nodesTold : size (c .formula) ≡ n = ap (λ (k : Counts). k .nodes) (t .same) in
+        let signalsTold : length (c .signals) ≡ s = ap (λ (k : Counts). k .signals) (t .same) in
+        let handed-on : take n table′ ≡ nodesOf c = subst (λ (k : ℕ). take k table′ ≡ nodesOf c) nodesTold (left .handed) in
+        let listed : take s list′ ≡ c .signals = subst (λ (k : ℕ). take k list′ ≡ c .signals) signalsTold (left .list) in
+        let limited = list-limited text c meaning in
+        let ready = checked-done (own-checked (length (c .signals)) (c .formula) (omega arith) (text-signals text c meaning) (text-few text c meaning)) .formed in
+        let work-long : workBytes ≤ length work = enough text (length work) (length table) (length list) (t .done) in
+        let model = model-is (told .facts .target) (tree .0 .target) (ap (λ (f : Facts). f .target) (read .facts work-long (tree .0) (tree .1))) in
+        let own = own-root (c .formula) (text-small text c meaning) (text-few text c meaning) in
+        record {
+          formed = rw (listed, handed-on) ready;
+          few = rw listed limited;
+          result = λ room. writing-text text (length work) room work-long (tree .1) (tree .2) ∙ sym (rw (model, listed, handed-on, own) refl);
+          tableRoom = taken-room n table′ (ap length handed-on ∙ length-nodes 0 (c .formula) ∙ nodesTold);
+          listRoom = taken-room s list′ (ap length listed ∙ signalsTold);
+          workLeft = read .reads .yields .workLeft;
+        }
+
+-- what is written
+pub hand-writes : {text work work′ table list out out′ : List ℕ} {n s target : ℕ} {r : Written} → AtHand text work work′ table list n s target
+    → Delivers (outcome (length out) text (modelOf target) (take s list) (take n table)) out out′ r → Writes text work out work′ out′ r
+hand-writes {text} {out = out} h d = let e = h .result (length out) in writes (rw e (d .answer)) (rw e (d .textLeft)) (h .workLeft)
