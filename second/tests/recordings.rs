@@ -1,9 +1,11 @@
-//! The evaluator: refusals 15, 19, 20, 18, and rows.
+//! The evaluator: refusals 15, 19, 20, 23, 18, and rows.
 
 mod common;
 use common::*;
 use second::answer::Answer;
 use second::evaluator::{evaluate, Evaluation};
+use second::generate::prng::Prng;
+use second::generate::{recordings, tables};
 use second::node::Node;
 
 fn node(kind: u32, first: usize, second: usize) -> u32 {
@@ -39,7 +41,7 @@ fn refusals_in_order() {
         evaluate(nodes, signals, recording, room).answer
     };
     assert!(answer(&table, 1, &recording, 1).is_accepted());
-    assert!(answer(&table, 255, &recording, 1).is_accepted());
+    assert_eq!(answer(&table, 255, &recording, 1), Answer::refused(23, 0));
     assert_eq!(answer(&[], 256, &[], 0), Answer::refused(15, 0));
     assert_eq!(answer(&[], 255, &[], 0), Answer::refused(19, 0));
     assert_eq!(answer(&[0; 8193], 255, &[], 0), Answer::refused(19, 8192));
@@ -61,7 +63,7 @@ fn refusals_in_order() {
         answer(&table, 1, &[0x80, 0x10, 0, 0], 0),
         Answer::refused(20, 0)
     );
-    assert!(answer(&table, 1, &[0x80, 0x00, 0, 0], 256).is_accepted());
+    assert!(answer(&[0], 0, &[0x80, 0x00, 0, 0], 256).is_accepted());
     // L = N.
     assert_eq!(
         answer(&table, 1, &[0, 0x10, 1, 1, 0x80], 0),
@@ -90,10 +92,10 @@ fn refusals_in_order() {
     );
     assert_eq!(answer(&table, 1, &recording, 0), Answer::refused(18, 0));
     assert_eq!(
-        answer(&[0, 0], 1, &[0, 0x90, 0, 0], 3),
+        answer(&[0, 0], 0, &[0, 0x90, 0, 0], 3),
         Answer::refused(18, 0)
     );
-    assert!(answer(&[0, 0], 1, &[0, 0x90, 0, 0], 4).is_accepted());
+    assert!(answer(&[0, 0], 0, &[0, 0x90, 0, 0], 4).is_accepted());
 }
 
 #[test]
@@ -166,11 +168,88 @@ fn weak_until_is_not_until() {
     assert_eq!(run(&nodes, 2, &recording).rows, [0x80, 0, 0x80, 0, 0x80]);
 }
 
+/// 02, F-5: 'a recording must carry every signal of its specification'.
 #[test]
-fn signals_not_recorded_are_absent() {
-    let nodes = [node(2, 0, 0), node(2, 1, 0), node(3, 1, 0)];
-    assert_eq!(run(&nodes, 2, &[0, 0x10, 0, 1, 0x80]).rows, [0x80, 0, 0x80]);
-    assert_eq!(run(&nodes, 2, &[0, 0x10, 0, 0]).rows, [0, 0, 0x80]);
+fn refusal_23() {
+    let table = [node(2, 0, 0)];
+    let answer = |signals, recording: &[u8], room| {
+        let answer = evaluate(&table, signals, recording, room).answer;
+        match answer {
+            Answer::Accepted { .. } => (0, 0),
+            Answer::Refused(refusal) => (refusal.number, refusal.place),
+        }
+    };
+    // Three positions and K 2 of 3: good, a byte too many, a spare bit, K above, rows short.
+    assert_eq!(answer(3, &[0, 0x30, 0, 2, 0x90], 9), (23, 0));
+    assert_eq!(answer(3, &[0, 0x30, 0, 2, 0x90, 0], 9), (20, 6));
+    assert_eq!(answer(3, &[0, 0x30, 0, 2, 0x91], 9), (20, 4));
+    assert_eq!(answer(3, &[0, 0x30, 0, 4, 0x90, 0], 9), (20, 0));
+    assert_eq!(answer(3, &[0, 0x30, 0, 2, 0x90], 0), (23, 0));
+    assert_eq!(answer(3, &[0, 0x30, 0, 3, 0x90, 0], 0), (18, 0));
+    assert_eq!(answer(3, &[0, 0x30, 0, 3, 0x90, 0], 1), (0, 0));
+    // Signals that no node uses are asked for too; without signals there is nothing to record.
+    assert_eq!(answer(255, &full(1, 254), 9), (23, 0));
+    assert_eq!(answer(255, &full(1, 255), 9), (0, 0));
+    assert_eq!(answer(256, &full(1, 255), 9), (15, 0));
+    let nothing = evaluate(&[node(0, 0, 0)], 0, &[0, 0x10, 0, 0], 1);
+    assert!(nothing.answer.is_accepted() && nothing.verdict());
+}
+
+/// Some positions at which all of the signals are present.
+fn full(positions: usize, signals: usize) -> Vec<u8> {
+    let word = second::recording::Lasso {
+        loop_start: 0,
+        letters: vec![vec![true; signals]; positions],
+    };
+    word.bytes(signals)
+}
+
+/// 02, F-5: 'The evaluator's verdicts on full recordings are the old ones'; others are refused.
+#[test]
+fn full_recordings_keep_their_rows() {
+    let mut rng = Prng::new(8);
+    let mut seen = [0; 2];
+    for _ in 0..2000 {
+        let signals = rng.between(1, 5);
+        let count = rng.between(1, 9);
+        let nodes = tables::sound(&mut rng, count, signals);
+        let recorded = rng.between(0, signals);
+        let word = recordings::lasso(&mut rng, 20, recorded);
+        let done = run(&nodes, signals, &word.bytes(recorded));
+        if recorded < signals {
+            assert_eq!(done.answer, Answer::refused(23, 0));
+            assert!(done.rows.is_empty());
+        } else {
+            let rows = second::evaluator::rows(&nodes, &word);
+            let packed = rows.into_iter().flat_map(second::recording::pack_bits);
+            assert_eq!(done.rows, packed.collect::<Vec<u8>>());
+        }
+        seen[usize::from(recorded < signals)] += 1;
+    }
+    assert!(seen[0] > 300 && seen[1] > 300, "{seen:?}");
+}
+
+/// The drawn recordings: every refusal and every place of 20 occurs, and about one of twelve lacks a signal.
+#[test]
+fn drawn_recordings_meet_every_refusal() {
+    let mut rng = Prng::new(9);
+    let mut seen = std::collections::BTreeMap::new();
+    for _ in 0..6000 {
+        let signals = rng.between(1, 4);
+        let recording = recordings::recording(&mut rng, signals);
+        let answer = evaluate(&[node(0, 0, 0)], signals, &recording, 256).answer;
+        let what = match answer {
+            Answer::Accepted { .. } => "accepted",
+            Answer::Refused(refusal) if refusal.number == 23 => "23",
+            Answer::Refused(refusal) if refusal.place == 0 => "20 of the header",
+            Answer::Refused(refusal) if refusal.place == recording.len() => "20 of the length",
+            Answer::Refused(_) => "20 of spare bits",
+        };
+        *seen.entry(what).or_insert(0) += 1;
+    }
+    assert_eq!(seen.len(), 5, "{seen:?}");
+    // A twelfth, less those that are damaged too.
+    assert!((250..600).contains(&seen["23"]), "{seen:?}");
 }
 
 #[test]
