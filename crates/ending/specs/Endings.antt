@@ -1,6 +1,5 @@
--- A text's answer by stages: refused by its tree, by its declarations, by a line, or by 14 to 16, which come behind all lines.
+-- A text's answer by stages: refused by its tree, by its declarations, by a line, or by 15 and 16, which come behind all lines.
 use Prim.Native.Nat.{ℕ, _≤_, _<_}
-use mathlib.Core.Bool.{true, false}
 use mathlib.Core.List.{List}
 use mathlib.Core.Option.{none, some}
 use mathlib.Core.Path.{_≡_, ap, _∙_}
@@ -18,15 +17,18 @@ use Rattle.language.specs.Declared.{Declarations, declarations}
 use Rattle.language.specs.Numbering.{inOrder, signalList, tooManySignals}
 use Rattle.language.specs.Lines.{lines}
 use Rattle.language.specs.Expansion.{expand}
-use Rattle.language.specs.Reading.{sameModel, Converted, converted, meant}
+use Rattle.language.specs.Shifting.{adapted}
+use Rattle.language.specs.Reading.{Converted, converted, meant}
 
 -- 16
 abbrev pub fitted : Formula → List ℕ → Result Converted
 fitted f list = guard (leb (size f) maxNodes) 16 0 (Done (record { formula = f; signals = list }))
 
--- 14 and 15 before it
+-- 15 before it
 abbrev pub ended : Spec → Declarations → Formula → Result Converted
-ended x d f = guard (sameModel (x .semantics) (x .target)) 14 (x .targetWord .at) (refuseAt 15 (tooManySignals 0 (inOrder d)) (fitted f (signalList (inOrder d))))
+ended x d f =
+    let list = signalList (inOrder d) in
+    refuseAt 15 (tooManySignals 0 (inOrder d)) (fitted (adapted (x .semantics) (x .target) list f) list)
 
 module _ (k : Converted → Result Converted) where
   pub text-refused : (text : List ℕ) {n p : ℕ} → parsed text ≡ Refused n p → meant text >>= k ≡ Refused n p
@@ -54,17 +56,16 @@ module _ (k : Converted → Result Converted) where
         lines-done : (expand x d (lines x d) >>= ended x d) >>= k ≡ ended x d f >>= k
         lines-done = ap (λ r. r >>= k) (bind-to _ _ (ended x d) e)
 
-        pub models-differ : sameModel (x .semantics) (x .target) ≡ false → (expand x d (lines x d) >>= ended x d) >>= k ≡ Refused 14 (x .targetWord .at)
-        models-differ m = lines-done ∙ bind-refused _ _ _ k (guard-stop 14 (x .targetWord .at) _ m)
+        abbrev rest : Result Converted
+        rest = fitted (adapted (x .semantics) (x .target) (signalList (inOrder d)) f) (signalList (inOrder d))
 
-        module _ (m : sameModel (x .semantics) (x .target) ≡ true) where
-          pub too-many : {p : ℕ} → tooManySignals 0 (inOrder d) ≡ some p → (expand x d (lines x d) >>= ended x d) >>= k ≡ Refused 15 p
-          unfolding refuseAt
-          too-many s = lines-done ∙ bind-refused _ _ _ k (guard-pass 14 (x .targetWord .at) _ m ∙ ap (λ o. refuseAt 15 o (fitted f (signalList (inOrder d)))) s)
+        pub too-many : {p : ℕ} → tooManySignals 0 (inOrder d) ≡ some p → (expand x d (lines x d) >>= ended x d) >>= k ≡ Refused 15 p
+        unfolding refuseAt
+        too-many s = lines-done ∙ bind-refused _ _ _ k (ap (λ o. refuseAt 15 o rest) s)
 
-          pub few-signals : tooManySignals 0 (inOrder d) ≡ none → (expand x d (lines x d) >>= ended x d) >>= k ≡ fitted f (signalList (inOrder d)) >>= k
-          unfolding refuseAt
-          few-signals s = lines-done ∙ ap (λ r. r >>= k) (guard-pass 14 (x .targetWord .at) _ m ∙ ap (λ o. refuseAt 15 o (fitted f (signalList (inOrder d)))) s)
+        pub few-signals : tooManySignals 0 (inOrder d) ≡ none → (expand x d (lines x d) >>= ended x d) >>= k ≡ rest >>= k
+        unfolding refuseAt
+        few-signals s = lines-done ∙ ap (λ r. r >>= k) (ap (λ o. refuseAt 15 o rest) s)
 
   -- 16
   module _ (f : Formula) (list : List ℕ) where

@@ -1,9 +1,9 @@
--- 14 and 15 behind all lines, then what is handed over.
+-- 15 behind all lines, then what is handed over: the formula, or the formula converted where the models differ.
 use Prim.Native.Nat.{ℕ}
-use mathlib.Core.Bool.{true, false}
+use mathlib.Core.Bool.{Bool}
 use mathlib.Core.List.{List}
-use mathlib.Core.Option.{some}
-use mathlib.Core.Path.{_≡_, refl, sym, ap, subst}
+use mathlib.Core.Path.{_≡_, refl, ap, _∙_, subst}
+use lib.Dec.{eqb}
 use lib.ListN.{length}
 use native.Mathlib.Omega.{arith}
 use Rattle.node.specs.Ltl.{Formula}
@@ -15,7 +15,8 @@ use Rattle.language.specs.Declared.{Declarations}
 use Rattle.language.specs.Numbering.{inOrder, signalList}
 use Rattle.language.specs.Lines.{lines}
 use Rattle.language.specs.Expansion.{Sections, gather, atSignals, defineAll, expandSection, section, whole, expand}
-use Rattle.language.specs.Reading.{sameModel, Converted, delivered}
+use Rattle.language.specs.Shifting.{adapted}
+use Rattle.language.specs.Reading.{Converted, delivered}
 use Rattle.language.specs.Laws.Values.SignalLaws.{signals-few}
 use Rattle.parser.specs.declared.Facts.{Facts}
 use Rattle.parser.specs.Outlines.{modelCode, factsOf}
@@ -23,10 +24,10 @@ use Rattle.ports.specs.declared.Signals.{Signals}
 use Rattle.ports.specs.declared.Signals.the-variants.{Listed, TooMany}
 use Rattle.assembly.specs.Gathered.{inTurn, Gathered, GatheredFrom}
 use Rattle.assembly.specs.ExpandLaws.{linesInTurn}
-use Rattle.ending.specs.Endings.{ended, fitted, models-differ, too-many, few-signals}
+use Rattle.ending.specs.Endings.{ended, fitted, too-many, few-signals}
 use Rattle.ending.specs.Listing.{startOf, Listing}
 use Rattle.ending.specs.Hands.{Hands, hands-as, hands-refused}
-use Rattle.ending.specs.Handing.{Assemblable, HandsOver}
+use Rattle.ending.specs.Handing.{Assemblable, asExpanded, asShifted, HandsOver}
 
 -- all lines of the text x are worked out and gathered, by what it declares
 pub record Complete (f : Facts) (s : Signals) (words : List ℕ) (count : ℕ) (table : List ℕ) (at : ℕ) (list : List ℕ) (x : Spec) (d : Declarations) : Type 0 where
@@ -46,17 +47,18 @@ abbrev pub Finishes : Spec → Declarations → (nodes signals nodes′ signals�
 Finishes x d nodes signals nodes′ signals′ r = Hands ((expand x d (lines x d) >>= ended x d) >>= delivered (length nodes) (length signals)) nodes signals nodes′ signals′ r
 
 -- models by their codes
-same-models : (a b : Model) → modelCode a ≡ modelCode b → sameModel a b ≡ true
-same-models Mealy Mealy e = refl
-same-models Mealy Moore e = absurd (omega arith)
-same-models Moore Mealy e = absurd (omega arith)
-same-models Moore Moore e = refl
+pub alike : (a b : Model) (list : List ℕ) (f : Formula) → modelCode a ≡ modelCode b → asExpanded list f ≡ adapted a b list f
+alike Mealy Mealy list f e = refl
+alike Mealy Moore list f e = absurd (omega arith)
+alike Moore Mealy list f e = absurd (omega arith)
+alike Moore Moore list f e = refl
 
-other-models : (a b : Model) → (modelCode a ≡ modelCode b → ⊥) → sameModel a b ≡ false
-other-models Mealy Mealy e = absurd (e refl)
-other-models Mealy Moore e = refl
-other-models Moore Mealy e = refl
-other-models Moore Moore e = absurd (e refl)
+-- .. the outputs are late where the target is Moore
+pub unlike : (a b : Model) (list : List ℕ) (f : Formula) → (modelCode a ≡ modelCode b → ⊥) → asShifted (eqb (modelCode b) 1) list f ≡ adapted a b list f
+unlike Mealy Mealy list f e = absurd (e refl)
+unlike Mealy Moore list f e = refl
+unlike Moore Mealy list f e = refl
+unlike Moore Moore list f e = absurd (e refl)
 
 -- lines that are all worked out make a formula of their sections
 pub record Sectioned (x : Spec) (d : Declarations) (all : List (Part × Formula)) : Type 0 where
@@ -79,29 +81,34 @@ module _ {f : Facts} {s : Signals} {words table list : List ℕ} {count at : ℕ
   made : Sectioned x d (g .all)
   made = sectioned x d (g .turned)
 
-  pub finish-models : (f .semantics ≡ f .target → ⊥) → Finishes x d nodes signals nodes signals (Answer.Refused 14 (f .place))
-  finish-models h =
-      let same = g .facts in
-      subst (λ (i : Facts). Finishes x d nodes signals nodes signals (Answer.Refused 14 (i .place))) (sym same)
-      (hands-refused nodes signals (models-differ end x d (made .is) (other-models (x .semantics) (x .target) (subst (λ (i : Facts). i .semantics ≡ i .target → ⊥) same h))))
+  pub finish-many : {p : ℕ} → s ≡ TooMany p → Finishes x d nodes signals nodes signals (Answer.Refused 15 p)
+  finish-many q = hands-refused nodes signals (too-many end x d (made .is) (subst (λ i. Listing i d list) q (g .listing)))
 
-  module _ (h : f .semantics ≡ f .target) where
-    model : sameModel (x .semantics) (x .target) ≡ true
-    model = same-models (x .semantics) (x .target) (subst (λ (i : Facts). i .semantics ≡ i .target) (g .facts) h)
+  -- what is made of the formula is its conversion from the stated model to the targeted one
+  finish-as : (make : List ℕ → Formula → Formula) → ((l : List ℕ) (h : Formula) → make l h ≡ adapted (x .semantics) (x .target) l h)
+      → {n : ℕ} {nodes′ signals′ : List ℕ} {r : Answer} → s ≡ Listed n → HandsOver make (f .strict) words count table at list n nodes signals nodes′ signals′ r
+      → Finishes x d nodes signals nodes′ signals′ r
+  finish-as make e {n} {nodes′} {signals′} {r} q o =
+      let l : Listing (Listed n) d list = subst (λ i. Listing i d list) q (g .listing) in
+      let t : Gathered (inTurn (made .sections)) words count table at =
+      subst (λ a. Gathered a words count table at) (made .same) (subst (λ i. GatheredFrom (startOf i) (g .all) words count table at) q (g .gathered)) in
+      let strict : f .strict ≡ x .strict = ap (λ (i : Facts). i .strict) (g .facts) in
+      let formula : Bool → Formula = λ b. whole b (section (made .sections)) in
+      let ends : List ℕ → Formula → Result Converted = λ a h. fitted h a >>= end in
+      hands-as (few-signals end x d (made .is) (l .0))
+      (subst (λ h. Hands (ends (signalList (inOrder d)) h) nodes signals nodes′ signals′ r) (e (signalList (inOrder d)) (formula (x .strict)))
+      (subst (λ b. Hands (ends (signalList (inOrder d)) (make (signalList (inOrder d)) (formula b))) nodes signals nodes′ signals′ r) strict
+      (subst (λ a. Hands (ends a (make a (formula (f .strict)))) nodes signals nodes′ signals′ r) (l .1 .1 .0) (o .hands (made .sections) t))))
 
-    pub finish-many : {p : ℕ} → s ≡ TooMany p → Finishes x d nodes signals nodes signals (Answer.Refused 15 p)
-    finish-many q = hands-refused nodes signals (too-many end x d (made .is) model (subst (λ i. Listing i d list) q (g .listing)))
+  module _ {n : ℕ} {nodes′ signals′ : List ℕ} {r : Answer} (q : s ≡ Listed n) where
+    pub finish-few : f .semantics ≡ f .target → HandsOver asExpanded (f .strict) words count table at list n nodes signals nodes′ signals′ r → Finishes x d nodes signals nodes′ signals′ r
+    finish-few h o = finish-as asExpanded (λ l k. alike (x .semantics) (x .target) l k (subst (λ (i : Facts). i .semantics ≡ i .target) (g .facts) h)) q o
 
-    pub finish-few : {n : ℕ} {nodes′ signals′ : List ℕ} {r : Answer} → s ≡ Listed n → HandsOver (f .strict) words count table at list n nodes signals nodes′ signals′ r
-        → Finishes x d nodes signals nodes′ signals′ r
-    finish-few {n} {nodes′} {signals′} {r} q o =
-        let l : Listing (Listed n) d list = subst (λ i. Listing i d list) q (g .listing) in
-        let t : Gathered (inTurn (made .sections)) words count table at =
-        subst (λ a. Gathered a words count table at) (made .same) (subst (λ i. GatheredFrom (startOf i) (g .all) words count table at) q (g .gathered)) in
-        let strict : f .strict ≡ x .strict = ap (λ (i : Facts). i .strict) (g .facts) in
-        hands-as (few-signals end x d (made .is) model (l .0))
-        (subst (λ b. Hands (fitted (whole b (section (made .sections))) (signalList (inOrder d)) >>= end) nodes signals nodes′ signals′ r) strict
-        (subst (λ a. Hands (fitted (whole (f .strict) (section (made .sections))) a >>= end) nodes signals nodes′ signals′ r) (l .1 .1 .0) (o .hands (made .sections) t)))
+    pub finish-shifted : {outputs : Bool} → (f .semantics ≡ f .target → ⊥) → outputs ≡ eqb (f .target) 1
+        → HandsOver (asShifted outputs) (f .strict) words count table at list n nodes signals nodes′ signals′ r → Finishes x d nodes signals nodes′ signals′ r
+    finish-shifted {outputs} h e o =
+        let target : outputs ≡ eqb (modelCode (x .target)) 1 = e ∙ ap (λ (i : Facts). eqb (i .target) 1) (g .facts) in
+        finish-as (asShifted outputs) (λ l k. ap (λ (b : Bool). asShifted b l k) target ∙ unlike (x .semantics) (x .target) l k (subst (λ (i : Facts). i .semantics ≡ i .target → ⊥) (g .facts) h)) q o
 
 -- what the handing over asks for
 pub finish-gathering : {f : Facts} {s : Signals} {words table list : List ℕ} {count at n : ℕ} → SomeComplete f s words count table at list → s ≡ Listed n → Assemblable words count table at list n

@@ -1,11 +1,12 @@
--- 16 and 18, and the handing over: the whole formula's nodes and the signal list in front of the lent buffers.
+-- 16 and 18, and the handing over: the formula's nodes, converted or not, and the signal list in front of the lent buffers.
 use Prim.Native.Nat.{ℕ, _≤_, _<_}
 use mathlib.Core.Bool.{Bool, true, false, _&&_}
 use mathlib.Core.List.{List, _++_}
 use mathlib.Core.Path.{_≡_, refl, sym, ap, ap₂, _∙_, subst}
 use lib.Dec.{leb}
 use lib.ListN.{length, take, drop}
-use lib.Seq.{sets, length-take-le}
+use lib.Seq.{sets, paste, length-take-le}
+use native.Mathlib.Nat.{zero-add}
 use native.Mathlib.Omega.{arith}
 use borrow.Author.Tests.{le-leb, lt-leb}
 use Rattle.node.specs.Limits.{maxNodes}
@@ -17,6 +18,7 @@ use Rattle.node.specs.declared.Answer.{Answer}
 use Rattle.node.specs.declared.Answer.the-variants.{Accepted}
 use Rattle.language.specs.Limits.{maxSignals}
 use Rattle.language.specs.Expansion.{Sections, section, whole}
+use Rattle.language.specs.Shifting.{shifted}
 use Rattle.language.specs.Reading.{delivered}
 use Rattle.writing.specs.Writing.{Wrote}
 use Rattle.writing.specs.WritingLaws.{ends, past}
@@ -24,6 +26,7 @@ use Rattle.writing.specs.Parts.{moves}
 use Rattle.assembly.specs.Gathered.{inTurn, Gathered, SomeGathered}
 use Rattle.assembly.specs.Layout.{Assembles}
 use Rattle.assembly.specs.WholeLaws as Whole
+use Rattle.shifting.specs.Passing.{lateBy, Shifts}
 use Rattle.ending.specs.Endings.{fitted, too-large, not-too-large}
 use Rattle.ending.specs.Hands.{Hands, hands-refused, hands-accepted}
 
@@ -33,10 +36,23 @@ pub record Assemblable (words : List ℕ) (count : ℕ) (table : List ℕ) (at :
   pub few : n ≤ maxSignals
   pub listed : n ≤ length list
 
--- of whatever sections the lines are: 16, 18, or their formula and the list's first n words
-pub record HandsOver (strict : Bool) (words : List ℕ) (count : ℕ) (table : List ℕ) (at : ℕ) (list : List ℕ) (n : ℕ) (nodes signals nodes′ signals′ : List ℕ) (r : Answer) : Type 0 where
+-- 16, 18, or a formula that was written to a table up to m and the list's first n words
+pub record Delivers (whole : List ℕ) (m : ℕ) (list : List ℕ) (n : ℕ) (nodes signals nodes′ signals′ : List ℕ) (r : Answer) : Type 0 where
+  pub delivers : {f : Formula} {before : List ℕ} → length before ≡ maxNodes → Wrote f before whole 0 m
+      → Hands (fitted f (take n list) >>= delivered (length nodes) (length signals)) nodes signals nodes′ signals′ r
+
+-- what is made of the formula, by the signal list: nothing; an X above each output, or above each input
+abbrev pub asExpanded : List ℕ → Formula → Formula
+asExpanded list f = f
+
+abbrev pub asShifted : Bool → List ℕ → Formula → Formula
+asShifted outputs list f = shifted (lateBy outputs list) f
+
+-- of whatever sections the lines are: what is made of their formula, with the list's first n words
+pub record HandsOver (make : List ℕ → Formula → Formula) (strict : Bool) (words : List ℕ) (count : ℕ) (table : List ℕ) (at : ℕ) (list : List ℕ) (n : ℕ)
+    (nodes signals nodes′ signals′ : List ℕ) (r : Answer) : Type 0 where
   pub hands : (ss : Sections) → Gathered (inTurn ss) words count table at
-      → Hands (fitted (whole strict (section ss)) (take n list) >>= delivered (length nodes) (length signals)) nodes signals nodes′ signals′ r
+      → Hands (fitted (make (take n list) (whole strict (section ss))) (take n list) >>= delivered (length nodes) (length signals)) nodes signals nodes′ signals′ r
 
 and-stop : (a b : Bool) → b ≡ false → (a && b) ≡ false
 and-stop true b e = e
@@ -74,30 +90,39 @@ module _ {f : Formula} {out out′ : List ℕ} {m : ℕ} (w : Wrote f out out′
         subst (λ N. Hands R nodes signals N S (Accepted m (length list))) (sym (Whole.delivered nodes w l h p))
         (subst (λ k. Hands R nodes signals (nodesFrom 0 f ++ drop (size f) nodes) S (Accepted k (length list))) (sym n) (hands-accepted nodes signals done))
 
--- the same of the sections
-module _ (strict : Bool) (words : List ℕ) (count : ℕ) (table : List ℕ) (at : ℕ) {out out′ : List ℕ} {m : ℕ} (a : Assembles strict words count table at out out′ m) (list : List ℕ) (n : ℕ) (nodes signals : List ℕ) where
-  pub over-large : maxNodes < m → HandsOver strict words count table at list n nodes signals nodes signals (Answer.Refused 16 0)
-  over-large h = record { hands = λ ss g. formula-large (a ss g) (take n list) nodes signals h }
+-- the same of whatever formula was written
+module _ {whole : List ℕ} {m : ℕ} (list : List ℕ) (n : ℕ) (nodes signals : List ℕ) where
+  pub deliver-large : maxNodes < m → Delivers whole m list n nodes signals nodes signals (Answer.Refused 16 0)
+  deliver-large h = record { delivers = λ l w. formula-large w (take n list) nodes signals h }
 
   module _ (h : m ≤ maxNodes) where
-    pub over-nodes : length nodes < m → HandsOver strict words count table at list n nodes signals nodes signals (Answer.Refused 18 0)
-    over-nodes s = record { hands = λ ss g. nodes-short (a ss g) (take n list) nodes signals h s }
+    pub deliver-nodes : length nodes < m → Delivers whole m list n nodes signals nodes signals (Answer.Refused 18 0)
+    deliver-nodes s = record { delivers = λ l w. nodes-short w (take n list) nodes signals h s }
 
     module _ (k : n ≤ length list) where
-      taken : length (take n list) ≡ n
-      taken = length-take-le n list k
+      pub deliver-signals : length signals < n → Delivers whole m list n nodes signals nodes signals (Answer.Refused 18 0)
+      deliver-signals s = record { delivers = λ l w. let t = length-take-le n list k in signals-short w (take n list) nodes signals h (omega arith) }
 
-      pub over-signals : length signals < n → HandsOver strict words count table at list n nodes signals nodes signals (Answer.Refused 18 0)
-      over-signals s = record { hands = λ ss g. let t = taken in signals-short (a ss g) (take n list) nodes signals h (omega arith) }
-
-      pub over-handed : {nodes′ signals′ : List ℕ} → length out ≡ maxNodes → m ≤ length nodes → n ≤ length signals → nodes′ ≡ sets nodes 0 (moves 0 0 m out′) → signals′ ≡ take n list ++ drop n signals
-          → HandsOver strict words count table at list n nodes signals nodes′ signals′ (Accepted m n)
-      over-handed {nodes′} {signals′} l p q c d = record {
-        hands = λ ss g.
-            let t = taken in
-            let R = fitted (whole strict (section ss)) (take n list) >>= delivered (length nodes) (length signals) in
-            let here = formula-handed (a ss g) (take n list) nodes signals h l p (omega arith) in
+      pub deliver-all : {nodes′ signals′ : List ℕ} → m ≤ length nodes → n ≤ length signals → nodes′ ≡ sets nodes 0 (moves 0 0 m whole) → signals′ ≡ paste signals 0 list n
+          → Delivers whole m list n nodes signals nodes′ signals′ (Accepted m n)
+      deliver-all {nodes′} {signals′} p q c d = record {
+        delivers = λ {f} l w.
+            let t = length-take-le n list k in
+            let copied : paste signals 0 list n ≡ take n list ++ drop n signals = ap (λ i. take n list ++ drop i signals) (zero-add n) in
+            let R = fitted f (take n list) >>= delivered (length nodes) (length signals) in
+            let here = formula-handed w (take n list) nodes signals h l p (omega arith) in
             subst (λ N. Hands R nodes signals N signals′ (Accepted m n)) (sym c)
-            (subst (λ S. Hands R nodes signals (sets nodes 0 (moves 0 0 m out′)) S (Accepted m n)) (sym d)
-            (subst (λ i. Hands R nodes signals (sets nodes 0 (moves 0 0 m out′)) (take n list ++ drop i signals) (Accepted m i)) t here));
+            (subst (λ S. Hands R nodes signals (sets nodes 0 (moves 0 0 m whole)) S (Accepted m n)) (sym (d ∙ copied))
+            (subst (λ i. Hands R nodes signals (sets nodes 0 (moves 0 0 m whole)) (take n list ++ drop i signals) (Accepted m i)) t here));
       }
+
+-- .. and of the sections, as they are assembled, or with the X
+module _ {strict : Bool} {words : List ℕ} {count : ℕ} {table : List ℕ} {at : ℕ} {out whole′ : List ℕ} {m : ℕ} (a : Assembles strict words count table at out whole′ m) (l : length out ≡ maxNodes)
+    {list : List ℕ} {n : ℕ} {nodes signals nodes′ signals′ : List ℕ} {r : Answer} where
+  pub hands-expanded : Delivers whole′ m list n nodes signals nodes′ signals′ r → HandsOver asExpanded strict words count table at list n nodes signals nodes′ signals′ r
+  hands-expanded d = record { hands = λ ss g. d .delivers l (a ss g) }
+
+  pub hands-shifted : (outputs : Bool) {before out′ : List ℕ} {k : ℕ} → length before ≡ maxNodes → Shifts (lateBy outputs (take n list)) whole′ m before out′ k
+      → Delivers out′ k list n nodes signals nodes′ signals′ r
+      → HandsOver (asShifted outputs) strict words count table at list n nodes signals nodes′ signals′ r
+  hands-shifted outputs e s d = record { hands = λ ss g. d .delivers e (s .shifts l (a ss g)) }

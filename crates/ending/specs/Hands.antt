@@ -31,5 +31,6 @@ module _ {result : Result Converted} where
       → Hands result nodes signals (nodesFrom 0 (c .formula) ++ drop (size (c .formula)) nodes) (c .signals ++ drop (length (c .signals)) signals) (Accepted (size (c .formula)) (length (c .signals)))
   unfolding _>>=_
   hands-accepted {c} nodes signals e =
-      subst (λ x. Hands x nodes signals (nodesFrom 0 (c .formula) ++ drop (size (c .formula)) nodes) (c .signals ++ drop (length (c .signals)) signals) (Accepted (size (c .formula)) (length (c .signals))))
+      subst (λ x. Hands x nodes signals (nodesFrom 0 (c .formula) ++ drop (size (c .formula)) nodes) (c .signals ++ drop (length (c .signals)) signals)
+      (Accepted (size (c .formula)) (length (c .signals))))
       (sym e) (record { answer = refl; nodesLeft = refl; signalsLeft = refl })

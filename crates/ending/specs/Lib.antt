@@ -1,6 +1,5 @@
 pub mod Endings
 pub mod Hands
-pub mod Copying
 pub mod Handing
 pub mod Listing
 pub mod Finishing

@@ -1,22 +1,18 @@
--- `finish` meets its contract: 14, 15, and what is handed over.
-use Rattle.ending.specs.Finishing.{finish-models, finish-many, finish-few, finish-gathering}
+-- `finish` meets its contract: 15, and what is handed over, converted where the models differ.
+use mathlib.Core.Path.{refl}
 use borrow.Author.Needs.{needs}
+use Rattle.ending.specs.Finishing.{finish-many, finish-few, finish-shifted, finish-gathering}
 use Rattle.ending.proofs.finish.Statement.{statement}
 use Rattle.ending.proofs.finish.Tie as tie
-
-returns : tie.Need-returns
-returns c =
-    λ x d g. finish-models g _ _ ((c .if1) .taken)
 
 enum-known-listed : tie.Need-enum-known-listed
 enum-known-listed c = search needs
 
 hand-over-requires : tie.Need-hand-over-requires
 hand-over-requires c κs =
-    finish-gathering ((c .before .before .before .before .before .before .before .before .before .before .before) .pre) ((c .before .before .before .listed) .given .1)
-
-enum-known-listed-2 : tie.Need-enum-known-listed-2
-enum-known-listed-2 c = search needs
+    let at-listed = c .before .before .before .before .before in
+    let start = at-listed .before .before .before .before .before .before in
+    finish-gathering (start .pre) (at-listed .listed .given .1)
 
 same-length : tie.Need-same-length
 same-length c = search needs
@@ -24,23 +20,37 @@ same-length c = search needs
 same-length-2 : tie.Need-same-length-2
 same-length-2 c = search needs
 
+returns : tie.Need-returns
+returns c =
+    let at-hand-over = c .before .before .before .before in
+    let at-if1 = at-hand-over .before .before .before in
+    let at-listed = at-if1 .before .before .before in
+    λ x d g. finish-few g _ _ (at-listed .listed .given .1) (at-if1 .if1 .taken) (at-hand-over .hand-over .ensures)
+
+hand-over-shifted-requires : tie.Need-hand-over-shifted-requires
+hand-over-shifted-requires c κs =
+    let at-listed = c .before .before .before .before .before .before in
+    let start = at-listed .before .before .before .before .before .before in
+    finish-gathering (start .pre) (at-listed .listed .given .1)
+
+enum-known-listed-2 : tie.Need-enum-known-listed-2
+enum-known-listed-2 c = search needs
+
+same-length-3 : tie.Need-same-length-3
+same-length-3 c = search needs
+
+same-length-4 : tie.Need-same-length-4
+same-length-4 c = search needs
+
 returns-2 : tie.Need-returns-2
 returns-2 c =
-    λ x d g. finish-few g _ _ ((c .before .before .before .before .before .before .before .before .before .before .if1) .left) ((c .before .before .before .before .before .before .before .before .listed) .given .1) ((c .before .before .before .before .hand-over) .ensures)
+    let at-hand-over-shifted = c .before .before .before .before in
+    let at-if1 = at-hand-over-shifted .before .before .before .before in
+    let at-listed = at-if1 .before .before .before in
+    λ x d g. finish-shifted g _ _ (at-listed .listed .given .1) (at-if1 .if1 .left) refl (at-hand-over-shifted .hand-over-shifted .ensures)
 
 returns-3 : tie.Need-returns-3
-returns-3 c =
-    λ x d g. finish-many g _ _ ((c .before .before .before .if1) .left) ((c .before .listed2) .given .1)
+returns-3 c = λ x d g. finish-many g _ _ (c .before .listed2 .given .1)
 
 pub finish-spec : {M : Type 1} → statement M
-finish-spec =
-    tie.close
-    (tie.spec
-    returns
-    enum-known-listed
-    hand-over-requires
-    enum-known-listed-2
-    same-length
-    same-length-2
-    returns-2
-    returns-3)
+finish-spec = tie.close (tie.spec enum-known-listed hand-over-requires same-length same-length-2 returns hand-over-shifted-requires enum-known-listed-2 same-length-3 same-length-4 returns-2 returns-3)

@@ -1,0 +1,4 @@
+pub mod Passing
+pub mod PassingLaws
+pub mod NodeLaws
+pub mod LoopLaws
