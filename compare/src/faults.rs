@@ -14,6 +14,7 @@ pub struct Left {
     pub node_room: usize,
     pub signals: *mut u32,
     pub signal_room: usize,
+    /// The rows, or the basic text.
     pub rows: *mut u8,
     pub rows_size: usize,
 }
@@ -39,6 +40,9 @@ pub enum Where {
     Texts,
     Tables,
     Recordings,
+    Reaches,
+    BasicTexts,
+    Diagnoses,
 }
 
 pub struct Fault {
@@ -60,6 +64,9 @@ pub fn planted(fault: &'static Fault) -> Library {
         convert,
         rewrite,
         evaluate,
+        reach,
+        write,
+        diagnose,
     }
 }
 
@@ -180,4 +187,66 @@ unsafe extern "C" fn evaluate(
         ..nothing(answer)
     };
     spoiled(Where::Recordings, left)
+}
+
+unsafe extern "C" fn reach(nodes: *const u32, count: usize) -> u64 {
+    let left = Left {
+        input: nodes.cast_mut().cast(),
+        input_size: 4 * count,
+        ..nothing((PROVED.reach)(nodes, count))
+    };
+    spoiled(Where::Reaches, left)
+}
+
+unsafe extern "C" fn write(
+    text: *const u8,
+    size: usize,
+    work: *mut u8,
+    work_size: usize,
+    out: *mut u8,
+    room: usize,
+) -> u64 {
+    let answer = (PROVED.write)(text, size, work, work_size, out, room);
+    let left = Left {
+        input: text.cast_mut(),
+        input_size: size,
+        work,
+        work_size,
+        rows: out,
+        rows_size: room,
+        ..nothing(answer)
+    };
+    spoiled(Where::BasicTexts, left)
+}
+
+unsafe extern "C" fn diagnose(
+    text: *const u8,
+    text_size: usize,
+    recording: *const u8,
+    recording_size: usize,
+    work: *mut u8,
+    work_size: usize,
+    rows: *mut u8,
+    room: usize,
+) -> u64 {
+    let answer = (PROVED.diagnose)(
+        text,
+        text_size,
+        recording,
+        recording_size,
+        work,
+        work_size,
+        rows,
+        room,
+    );
+    let left = Left {
+        input: recording.cast_mut(),
+        input_size: recording_size,
+        work,
+        work_size,
+        rows,
+        rows_size: room,
+        ..nothing(answer)
+    };
+    spoiled(Where::Diagnoses, left)
 }

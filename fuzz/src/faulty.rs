@@ -14,7 +14,7 @@ const fn fault(entry: Where, name: &'static str, spoil: unsafe fn(&mut Left)) ->
     Fault { name, entry, spoil }
 }
 
-static FAULTS: [Fault; 9] = [
+static FAULTS: [Fault; 14] = [
     fault(Where::Texts, "reads behind the text", read_behind),
     fault(Where::Texts, "reads before the text", read_before),
     fault(Where::Texts, "writes behind the nodes", write_behind),
@@ -23,6 +23,19 @@ static FAULTS: [Fault; 9] = [
     fault(Where::Recordings, "writes behind the rows", write_rows),
     fault(Where::Texts, "does not clear the work buffer", not_cleared),
     fault(Where::Tables, "answers another place", other_place),
+    fault(Where::Reaches, "reads behind the table", read_behind),
+    fault(Where::Diagnoses, "reads behind the recording", read_behind),
+    fault(Where::Diagnoses, "writes behind its rows", write_rows),
+    fault(
+        Where::BasicTexts,
+        "writes behind the basic text",
+        write_rows,
+    ),
+    fault(
+        Where::BasicTexts,
+        "reads before the writer's text",
+        read_before,
+    ),
     fault(Where::Texts, "does not end", no_end),
 ];
 

@@ -6,11 +6,11 @@ use mathlib.Core.Path.{_≡_, refl}
 use Rattle.node.specs.Postorder.{size, nodesFrom}
 use Rattle.node.specs.Result.{Done, Refused, _>>=_, guard}
 use Rattle.node.specs.Table.{treeAt, formulas, scanned, checked}
-use Rattle.evaluator.specs.Bits.{bitAt, number}
-use Rattle.evaluator.specs.Limits.{told}
-use Rattle.evaluator.specs.Recording.{blank, filled, readable}
-use Rattle.evaluator.specs.Lasso.{next}
-use Rattle.evaluator.specs.Row.{sweepFrom, around, row}
+use Rattle.bits.specs.Bits.{bitAt, number}
+use Rattle.recordings.specs.Limits.{told}
+use Rattle.recordings.specs.Recording.{blank, filled, readable}
+use Rattle.recordings.specs.Lasso.{next}
+use Rattle.rows.specs.Row.{sweepFrom, around, row}
 use Rattle.evaluator.specs.Evaluation.{evaluation, verdictOf}
 use Rattle.language.specs.Bytes.{ascii}
 use Rattle.language.specs.Places.{refuseAt}
@@ -56,3 +56,16 @@ recording-long = refl
 spare-bit : judging file (0x00 ∷ 0x30 ∷ 0x01 ∷ 0x02 ∷ 0x91 ∷ []) 65536 ≡ Refused 20 4
 unfolding judging meant parsed converted refuseAt size nodesFrom verdictOf evaluation _>>=_ guard checked scanned readable filled blank told number bitAt
 spare-bit = refl
+
+-- document 02, F-5: a recording of one of the two signals is 23; what is wrong with it besides is 20, and goes first
+signal-missing : judging file (0x00 ∷ 0x30 ∷ 0x01 ∷ 0x01 ∷ 0x80 ∷ []) 65536 ≡ Refused 23 0
+unfolding judging meant parsed converted refuseAt size nodesFrom verdictOf evaluation _>>=_ guard checked scanned readable filled blank told number bitAt
+signal-missing = refl
+
+signal-missing-long : judging file (0x00 ∷ 0x30 ∷ 0x01 ∷ 0x01 ∷ 0x80 ∷ 0x00 ∷ []) 65536 ≡ Refused 20 6
+unfolding judging meant parsed converted refuseAt size nodesFrom verdictOf evaluation _>>=_ guard checked scanned readable filled blank told number bitAt
+signal-missing-long = refl
+
+signal-missing-spare : judging file (0x00 ∷ 0x30 ∷ 0x01 ∷ 0x01 ∷ 0x81 ∷ []) 65536 ≡ Refused 20 4
+unfolding judging meant parsed converted refuseAt size nodesFrom verdictOf evaluation _>>=_ guard checked scanned readable filled blank told number bitAt
+signal-missing-spare = refl

@@ -9,7 +9,7 @@ use lib.Dec.{leb}
 use lib.ListN.{length}
 use Rattle.node.specs.Result.{Result, Done, _>>=_, guard}
 use Rattle.evaluator.specs.Evaluation.{rowsSize, verdictOf, finds}
-use Rattle.evaluator.specs.Lasso.{recorded}
+use Rattle.recordings.specs.Lasso.{recorded}
 use Rattle.evaluator.specs.declared.Verdict.{Verdict}
 use Rattle.language.specs.Limits.{workBytes}
 use Rattle.language.specs.Meaning.{TextMeans}

@@ -8,27 +8,29 @@ use lib.ListN.{length, take, getD}
 use lib.Seq.{getD-take}
 use native.Mathlib.Nat.{mul-le-mul}
 use native.Mathlib.Omega.{arith}
-use borrow.Author.Tests.{ne-eqb, eq-eqb, lt-ltb}
+use borrow.Author.Tests.{ne-eqb, eq-eqb, le-leb, lt-leb, lt-ltb}
 use Rattle.node.specs.Result.{Result, Done, Refused, _>>=_}
 use Rattle.node.specs.ResultLaws.{guard-done}
 use Rattle.rewriter.specs.OwnNodes.{own-checked}
-use Rattle.evaluator.specs.Limits.{maxPositions, maxSignals, headerBytes, lastPlace, pick, told}
-use Rattle.evaluator.specs.Bits.{Values, digit, number}
-use Rattle.evaluator.specs.BitLaws.{same-byte}
-use Rattle.evaluator.specs.Recording.{fieldAt, lassoOf, headerFits, readable, counted}
-use Rattle.evaluator.specs.RecordingLaws.{heads, filled-long, readable-header, readable-letters}
+use Rattle.recordings.specs.Limits.{maxPositions, maxSignals, positionBits, startBits, signalBits, headerBits, headerBytes, longest, lastPlace, pick, told}
+use Rattle.bits.specs.Bits.{Values, digit, number}
+use Rattle.bits.specs.BitLaws.{same-byte}
+use Rattle.recordings.specs.Recording.{fieldAt, lassoOf, headerFits, readable, counted}
+use Rattle.recordings.specs.RecordingLaws.{heads, filled-long, readable-header, readable-letters}
 use Rattle.evaluator.specs.Evaluation.{rowsSize, verdictOf, finds}
 use Rattle.evaluator.specs.EvaluationLaws.{bad-recording}
-use Rattle.evaluator.specs.declared.Lasso.{Lasso}
+use Rattle.recordings.specs.declared.Lasso.{Lasso}
 use Rattle.evaluator.specs.declared.Verdict.{Verdict}
 use Rattle.language.specs.Limits.{workBytes}
 use Rattle.language.specs.Reading.{Converted, meant}
 use Rattle.language.specs.Laws.Basics.Results.{refusal-of}
 use Rattle.language.specs.Laws.Meaning.Acceptance.{text-signals, list-limited}
-use Rattle.claim.specs.Claim.{nodesOf, text-few}
+use Rattle.claim.specs.Claim.{nodesOf}
+use Rattle.claim.specs.ClaimLaws.{text-few}
 use Rattle.judging.specs.Judging.{verdictOn, judging, JudgesText}
-use Rattle.judging.specs.Stages.{accepting, judging-accepting, accepting-numbers, taken-room}
-use Rattle.judging.specs.Longer.{longest, Begins, placeTold, moved, JudgesStart}
+use Rattle.faults.specs.Delivered.{accepting, accepting-numbers, taken-room}
+use Rattle.judging.specs.Stages.{judging-accepting}
+use Rattle.judging.specs.Longer.{Begins, placeTold, moved, JudgesStart}
 
 number-same : (f g : Values) (n : ℕ) → ((i : ℕ) → i < n → f i ≡ g i) → number f n ≡ number g n
 unfolding number
@@ -40,14 +42,14 @@ module _ (start whole : List ℕ) (h : headerBytes ≤ length start) (e : take (
   byte-same : (j : ℕ) → j < length start → getD whole j 0 ≡ getD start j 0
   byte-same j l = sym (getD-take (length start) whole j 0 l) ∙ ap (λ (x : List ℕ). getD x j 0) e
 
-  field-same : (at count : ℕ) → at + count ≤ 32 → fieldAt whole at count ≡ fieldAt start at count
+  field-same : (at count : ℕ) → at + count ≤ headerBits → fieldAt whole at count ≡ fieldAt start at count
   field-same at count l = number-same _ _ count (λ i m. same-byte whole start (at + i) (byte-same ((at + i) / 8) (omega arith)))
 
   lasso-same : lassoOf whole ≡ lassoOf start
   lasso-same =
-      let n = field-same 0 12 (omega arith) in
-      let l = field-same 12 12 (omega arith) in
-      let k = field-same 24 8 (omega arith) in
+      let n = field-same 0 positionBits (omega arith) in
+      let l = field-same positionBits startBits (omega arith) in
+      let k = field-same (positionBits + startBits) signalBits (omega arith) in
       rw (n, l, k) refl
 
 -- a recording that is too long, on an accepted text
@@ -130,9 +132,22 @@ module _ (text start whole : List ℕ) {size : ℕ} (b : Begins start size whole
 
 -- the promise: of a recording that was judged whole, and of one that is too long
 module _ {text start work work′ : List ℕ} (size : ℕ) {v : Verdict} (j : JudgesText text start work work′ v) where
+  abbrev chosen : Bool → Result Bool
+  chosen b = pick b (judging text start (length work)) (moved size (judging text start (length work)))
+
   pub start-whole : length start ≤ longest → JudgesStart text start size work work′ v
-  start-whole h = record { answer = λ whole b. j .answer ∙ ap (λ (x : List ℕ). judging text x (length work)) (sym (b .enough h)); workLeft = j .workLeft }
+  start-whole h =
+      record {
+        tells = j .answer ∙ ap chosen (sym (le-leb (length start) longest h));
+        answer = λ whole b. j .answer ∙ ap (λ (x : List ℕ). judging text x (length work)) (sym (b .enough h));
+        workLeft = j .workLeft;
+      }
 
   pub start-longer : {r : Verdict} → longest < length start → finds r ≡ moved size (finds v) → JudgesStart text start size work work′ r
   start-longer h e =
-      record { answer = λ whole b. e ∙ ap (moved size) (j .answer) ∙ sym (moved-verdict text start whole b h (length work)); workLeft = j .workLeft }
+      let here = e ∙ ap (moved size) (j .answer) in
+      record {
+        tells = here ∙ ap chosen (sym (lt-leb (length start) longest h));
+        answer = λ whole b. here ∙ sym (moved-verdict text start whole b h (length work));
+        workLeft = j .workLeft;
+      }

@@ -3,23 +3,25 @@ ghost use mathlib.Core.Path.{_≡_};
 ghost use lib.ListN.{length};
 ghost use Rattle.evaluator.specs.Evaluation.{rowsSize, verdictOf, finds};
 ghost use Rattle.judging.specs.Judging.{JudgesText};
+ghost use Rattle.judging.specs.RoomLaws.{rowsRoom};
 ghost use Rattle.judging.specs.Longer.{JudgesStart, placeTold, moved as moved'};
-use evaluator::BAD_RECORDING;
 use evaluator::Verdict;
+use evaluator::unjudged;
 use node::Answer;
 use node::MAX_NODES;
+use node::MAX_SIGNALS;
+use node::refusals::BAD_RECORDING;
+use recordings::LONGEST;
+use recordings::MAX_POSITIONS;
 
-// 'Limits: .. 255 signals': the longest signal list.
-const MAX_SIGNALS: usize = 255;
+// The longest row for each of the most nodes: 2 MB.
+const ROWS: usize = (MAX_POSITIONS + 7) / 8 * MAX_NODES;
 
-// The longest recording: 4 bytes, then 2,048 letters of 255 bits.
-const LONGEST: usize = 65284;
-
-// A row of 256 bytes for each of 8,192 nodes. A function of its own, so that the callers' proofs do not write the array out.
-fn room() -> [u8; 2097152]
-    ensures { λ r. ⌜ 2097152 ≡ length r ⌝ }
+// Room for the rows. A function of its own, so that the callers' proofs do not write the array out.
+fn room() -> [u8; ROWS]
+    ensures { λ r. ⌜ rowsRoom ≡ length r ⌝ }
 {
-    [0; 2097152]
+    [0; ROWS]
 }
 
 // The verdict on a table. The rows take 2 MB of stack; compiled into its caller, also while the text is read.
@@ -38,13 +40,11 @@ pub fn judge_text(text: &[u8], recording: &[u8], work: &mut [u8]) -> Verdict
     let mut table: [u32; MAX_NODES] = [0; MAX_NODES];
     let mut list: [u32; MAX_SIGNALS] = [0; MAX_SIGNALS];
     let read = reader::read(text, work, &mut table, &mut list);
-    match read {
-        Answer::Refused(number, place) => Verdict::Refused(number, place),
-        Answer::Accepted(count, listed) => {
-            let n = count as usize;
-            verdict(&table[..n], listed, recording)
-        }
-    }
+    let Answer::Accepted(count, listed) = read else {
+        return unjudged(read);
+    };
+    let n = count as usize;
+    verdict(&table[..n], listed, recording)
 }
 
 // A refusal's place, or a length in its stead if that is what it tells: 20 at any place but the header's.

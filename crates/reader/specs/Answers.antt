@@ -14,7 +14,8 @@ use Rattle.language.specs.Limits.{workBytes}
 use Rattle.language.specs.Reading.{meant, delivered, reading, cleared, workAfter}
 use Rattle.language.specs.Laws.Buffers.{work-short, short-refused}
 use Rattle.language.specs.Laws.Basics.Tests.{pick}
-use Rattle.claim.specs.Reads.{Reads, reads}
+use Rattle.claim.specs.Reads.{Reads}
+use Rattle.claim.specs.ReadsLaws.{reads}
 use Rattle.ending.specs.Hands.{Hands, hands-as, hands-refused}
 
 -- the first bytes zero, by both definitions

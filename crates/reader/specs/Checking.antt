@@ -1,12 +1,16 @@
 -- The tree of a text: refused by 1 to 10, or checked.
 use Prim.Native.Nat.{ℕ, _≤_}
 use mathlib.Core.List.{List}
-use mathlib.Core.Path.{_≡_}
+use mathlib.Core.Path.{_≡_, subst}
 use native.Mathlib.Omega.{arith}
 use lib.ListN.{length}
+use Rattle.node.specs.Result.{Done}
 use Rattle.node.specs.declared.Answer.{Answer}
+use Rattle.node.specs.declared.Answer.the-variants.{Accepted}
 use Rattle.language.specs.Limits.{maxTokens, maxNames, workBytes}
 use Rattle.language.specs.Tree.{Spec}
+use Rattle.language.specs.Declared.{Declarations, declarations}
+use Rattle.language.specs.Parsing.{parsed}
 use Rattle.language.specs.Reading.{delivered}
 use Rattle.language.specs.Laws.Grammar.Parses.{parses}
 use Rattle.language.specs.Laws.Values.RegularWords.{regular-words}
@@ -18,7 +22,9 @@ use Rattle.checked.specs.Checking.{Tree, Checks}
 use Rattle.ending.specs.Endings.{text-refused, text-parsed}
 use Rattle.ending.specs.Hands.{hands-as, hands-refused}
 use Rattle.reader.specs.Answers.{Answers}
-use Rattle.checked.specs.AnswerLaws.{accepted, refused}
+use Rattle.checked.specs.AnswerLaws.{accepted, refused, tree-parsed as only-tree}
+use Rattle.line_counts.specs.Counting.{CountsOf}
+use Rattle.reader.specs.declared.Counted.{Counted}
 use Rattle.reader.specs.Naming.{Parsed, SomeParsed, Converts}
 
 -- the text
@@ -32,12 +38,23 @@ module _ {text work used refs found : List ℕ} {r : Answered} (c : Checks text 
     tree = accepted c e
 
     tree-parsed : Parsed text used refs found (k .entries) (k .names) f (tree .tree)
-    tree-parsed = record { checked = record { tree = record { count = k .tokens; stored = tree .stored; resolved = tree .resolved }; regular = regular-words (tree .tree) (parses (tree .read) .formed .words) }; facts = tree .facts }
+    tree-parsed = record {
+      checked = record {
+        tree = record { count = k .tokens; stored = tree .stored; resolved = tree .resolved };
+        regular = regular-words (tree .tree)
+            (parses (tree .read) .formed .words);
+      };
+      facts = tree .facts;
+    }
 
     pub some-parsed : workBytes ≤ length work → maxTokens ≤ length refs → maxNames ≤ length found → SomeParsed text used refs found (k .entries) (k .names) f
     some-parsed a b d = let z = c .size in record { x = tree .tree; parsed = tree-parsed; work-room = omega arith; refs-room = b; found-room = d }
 
-    pub tree-answers : {nodes signals nodes′ signals′ : List ℕ} {answer : Answer}
-        → ((x : Spec) → Parsed text used refs found (k .entries) (k .names) f x → Converts x nodes signals nodes′ signals′ answer) → Answers text work nodes signals used nodes′ signals′ answer
-    tree-answers {nodes} {signals} g =
-        record { hands = hands-as (text-parsed (delivered (length nodes) (length signals)) text (tree .read)) (g (tree .tree) tree-parsed); size = c .size; beyond = c .beyond }
+    module _ {nodes signals nodes′ signals′ : List ℕ} {a : Counted} (g : (x : Spec) → Parsed text used refs found (k .entries) (k .names) f x → Converts x nodes signals nodes′ signals′ a) where
+      pub tree-answers : Answers text work nodes signals used nodes′ signals′ (a .answer)
+      tree-answers =
+          record { hands = hands-as (text-parsed (delivered (length nodes) (length signals)) text (tree .read)) (g (tree .tree) tree-parsed .hands); size = c .size; beyond = c .beyond }
+
+      pub tree-counts : (n s : ℕ) → a .answer ≡ Accepted n s → (x : Spec) (d : Declarations) → parsed text ≡ Done x → declarations x ≡ Done d → CountsOf x d (a .lines)
+      tree-counts n s e x d p =
+          subst (λ y. declarations y ≡ Done d → CountsOf y d (a .lines)) (only-tree tree p) (g (tree .tree) tree-parsed .lines n s e d)

@@ -1,12 +1,53 @@
-// The verdict of a recording on a text: reads the text on standard input and the recording from the file that its argument names; prints `holds`, `fails`, or `refused`,
-// number, place. What cannot be read is told on standard error, and then nothing is printed.
+// The verdict of a recording on a text: reads the text on standard input and the recording from the file that its argument names; prints `holds`, or `fails` and on a
+// second line the section and the number of the line that failed, or `refused`, number, place. What cannot be read is told on standard error, and then nothing is printed.
+use diagnosis::Diagnosis;
+use diagnosis::diagnose;
 use evaluator::Verdict;
 use libc::STDERR_FILENO;
 use libc::STDIN_FILENO;
 use libc::STDOUT_FILENO;
 use node::Answer;
+use node::MAX_NODES;
+use recordings::LONGEST;
+use recordings::MAX_POSITIONS;
 
-fn print(verdict: Verdict) {
+// What is read of a recording: one byte more than the longest has, so that a longer one shows.
+const START: usize = LONGEST + 1;
+
+// A row of the longest recording for each node of the largest table.
+const ROWS: usize = MAX_NODES * ((MAX_POSITIONS + 7) / 8);
+
+// Functions of their own, so that the callers' proofs do not write the arrays out.
+fn start_buffer() -> [u8; START] {
+    [0; START]
+}
+
+fn rows_buffer() -> [u8; ROWS] {
+    [0; ROWS]
+}
+
+fn print_line(section: &[u8], line: u32) {
+    io::write_all(STDOUT_FILENO, section);
+    io::print_decimal(STDOUT_FILENO, line as u64);
+    io::write_all(STDOUT_FILENO, b"\n");
+}
+
+// The line that failed.
+fn print_fault(text: &[u8], recording: &[u8], work: &mut [u8]) {
+    let mut rows = rows_buffer();
+    let found = diagnose(text, recording, work, &mut rows);
+    match found {
+        Diagnosis::Preset(line) => print_line(b"PRESET ", line),
+        Diagnosis::Assert(line) => print_line(b"ASSERT ", line),
+        Diagnosis::Guarantee(line) => print_line(b"GUARANTEE ", line),
+        Diagnosis::Holds => {}
+        Diagnosis::Refused(_, _) => {}
+    }
+}
+
+// The verdict on a recording of `size` bytes, of which `start` has all, or more than the longest recording has: a recording on which the text fails is there whole.
+fn print_verdict(text: &[u8], start: &[u8], size: u32, work: &mut [u8]) {
+    let verdict = judging::judge_start(text, start, size, work);
     match verdict {
         Verdict::Refused(number, place) => listing::answer(Answer::Refused(number, place)),
         Verdict::Holds => {
@@ -14,6 +55,7 @@ fn print(verdict: Verdict) {
         }
         Verdict::Fails => {
             io::write_all(STDOUT_FILENO, b"fails\n");
+            print_fault(text, start, work);
         }
     }
 }
@@ -34,10 +76,10 @@ fn run(fd: i32, text: &mut [u8], start: &mut [u8], work: &mut [u8]) {
     }
     let t = input::within(n, text);
     let s = input::within(first, start);
-    print(judging::judge_start(&text[..t], &start[..s], input::told(size), work));
+    print_verdict(&text[..t], &start[..s], input::told(size), work);
 }
 
-// A text of more than 32,768 bytes is refused by 1 wherever it ends, so that the first 65,536 tell enough; so do those of a recording, with its length.
+// A text of more than 32,768 bytes is refused by 1 wherever it ends, so that the first 65,536 tell enough; so does a recording's start, with its length.
 fn main() {
     if os::arg_count() != 2 {
         io::write_all(STDERR_FILENO, b"usage: verdict RECORDING < TEXT\n");
@@ -51,7 +93,7 @@ fn main() {
         return;
     }
     let mut text = io::large_buffer();
-    let mut start = io::large_buffer();
+    let mut start = start_buffer();
     let mut work = io::large_buffer();
     run(fd, &mut text, &mut start, &mut work);
 }

@@ -1,6 +1,7 @@
--- `answer` meets its contract: refused by 1 to 10, or the answer on the checked tree.
+-- `answer` meets its contract: refused by 1 to 10, or the answer on the checked tree, with what INFO says and how many lines the sections have.
 use native.Mathlib.Omega.{arith}
-use Rattle.reader.specs.Checking.{tree-refused, some-parsed, tree-answers}
+use Rattle.reader.specs.Checking.{some-parsed}
+use Rattle.reader.specs.Telling.{refused-tells, tree-tells}
 use borrow.Author.Needs.{needs}
 use Rattle.reader.proofs.answer.Statement.{statement}
 use Rattle.reader.proofs.answer.Tie as tie
@@ -35,6 +36,9 @@ convert-requires c κs =
 enum-known-checked-2 : tie.Need-enum-known-checked-2
 enum-known-checked-2 c = search needs
 
+untold-requires : tie.Need-untold-requires
+untold-requires c κs = search needs
+
 same-length : tie.Need-same-length
 same-length c = search needs
 
@@ -46,19 +50,19 @@ same-length-3 c = search needs
 
 returns : tie.Need-returns
 returns c =
-    let convert-at = c .before .before .before .before in
+    let convert-at = c .before .before .before .before .before in
     let checked-at = convert-at .before .before .before .before .before .before .before in
     let check-at = checked-at .before .before .before .before .before .before in
-    tree-answers (check-at .check .ensures) (checked-at .checked .given .1) (convert-at .convert .ensures)
+    tree-tells (check-at .check .ensures) (checked-at .checked .given .1) (convert-at .convert .ensures)
 
 same-length-4 : tie.Need-same-length-4
 same-length-4 c = search needs
 
 returns-2 : tie.Need-returns-2
 returns-2 c =
-    let checked-at = c .before in
-    let check-at = checked-at .before .before .before .before .before .before in
-    tree-refused (check-at .check .ensures) _ _ (checked-at .checked2 .given .1)
+    let checked2-at = c .before .before in
+    let check-at = checked2-at .before .before .before .before .before .before in
+    refused-tells (check-at .check .ensures) _ _ (checked2-at .checked2 .given .1) (c .untold .ensures)
 
 pub answer-spec : {M : Type 1} → statement M
 answer-spec =
@@ -72,6 +76,7 @@ answer-spec =
     slice-aggregate-convert-2
     convert-requires
     enum-known-checked-2
+    untold-requires
     same-length
     same-length-2
     same-length-3

@@ -1,9 +1,10 @@
--- `expand` meets its contract: refused by a line, or what follows the lines.
+-- `expand` meets its contract: refused by a line, or what follows the lines, which are counted.
 use Prim.Native.Nat.{ℕ}
 use native.Mathlib.Omega.{arith}
 use lib.ListN.{getD-replicate, length-replicate}
 use Rattle.node.specs.Limits.{maxNodes}
 use Rattle.language.specs.Limits.{maxNames}
+use Rattle.reader.specs.Counting.{finishes-counted}
 use Rattle.reader.specs.Lining.{sizes, some-given, some-complete, lines-complete, lines-refused}
 use borrow.Author.Needs.{needs}
 use Rattle.reader.proofs.expand.Statement.{statement}
@@ -24,25 +25,35 @@ slice-aggregate-gather-3 c = search needs
 gather-requires : tie.Need-gather-requires
 gather-requires c κs =
     let start-at = c .before .before .before .before .before .before .before .before in
-    let start = start-at .before .before .before .before .before .before .before .before .before .before .before .before .before .before in
-    (sizes (start .pre .1) (omega arith) (omega arith) (omega arith), some-given (λ r l. getD-replicate {A = ℕ} maxNames r 0 0 l) (length-replicate {A = ℕ} maxNodes 0) (start-at .start .ensures) (start .pre .0))
+    let start = start-at .before .before .before .before .before .before .before .before .before .before .before .before .before .before in (
+      sizes (start .pre .1) (omega arith) (omega arith) (omega arith),
+      some-given (λ r l. getD-replicate {A = ℕ} maxNames r 0 0 l) (length-replicate {A = ℕ} maxNodes 0) (start-at .start .ensures)
+          (start .pre .0),
+    )
 
 enum-known-gathering : tie.Need-enum-known-gathering
 enum-known-gathering c = search needs
+
+count-lines-requires : tie.Need-count-lines-requires
+count-lines-requires c κs = search needs
 
 slice-aggregate-finish : tie.Need-slice-aggregate-finish
 slice-aggregate-finish c = search needs
 
 finish-requires : tie.Need-finish-requires
 finish-requires c κs =
-    let gathering-at = c .before .before .before .before .before in
+    let gathering-at = c .before .before .before .before .before .before .before in
     let gather-at = gathering-at .before .before .before .before .before .before .before .before .before .before .before .before .before in
     let start-at = gather-at .before .before .before .before .before .before .before .before .before in
     let start = start-at .before .before .before .before .before .before .before .before .before .before .before .before .before .before in
-    some-complete (λ r l. getD-replicate {A = ℕ} maxNames r 0 0 l) (length-replicate {A = ℕ} maxNodes 0) (start-at .start .ensures) (gather-at .gather .ensures) (start .pre .0) (gathering-at .gathering .given .1)
+    some-complete (λ r l. getD-replicate {A = ℕ} maxNames r 0 0 l) (length-replicate {A = ℕ} maxNodes 0) (start-at .start .ensures) (gather-at .gather .ensures) (start .pre .0)
+    (gathering-at .gathering .given .1)
 
 enum-known-gathering-2 : tie.Need-enum-known-gathering-2
 enum-known-gathering-2 c = search needs
+
+uncounted-requires : tie.Need-uncounted-requires
+uncounted-requires c κs = search needs
 
 same-length : tie.Need-same-length
 same-length c = search needs
@@ -65,10 +76,14 @@ same-length-6 c = search needs
 returns : tie.Need-returns
 returns c =
     let finish-at = c .before .before .before .before in
-    let gathering-at = finish-at .before .before .before .before .before .before in
+    let count-lines-at = finish-at .before .before .before .before .before in
+    let gathering-at = count-lines-at .before .before .before in
     let gather-at = gathering-at .before .before .before .before .before .before .before .before .before .before .before .before .before in
     let start-at = gather-at .before .before .before .before .before .before .before .before .before in
-    λ x d h. finish-at .finish .ensures x d (lines-complete (λ r l. getD-replicate {A = ℕ} maxNames r 0 0 l) (length-replicate {A = ℕ} maxNodes 0) (start-at .start .ensures) (gather-at .gather .ensures) h (gathering-at .gathering .given .1))
+    λ x d h.
+    let g = lines-complete (λ r l. getD-replicate {A = ℕ} maxNames r 0 0 l) (length-replicate {A = ℕ} maxNodes 0) (start-at .start .ensures) (gather-at .gather .ensures) h
+    (gathering-at .gathering .given .1) in
+    finishes-counted g (finish-at .finish .ensures x d g) (count-lines-at .count-lines .ensures)
 
 same-length-7 : tie.Need-same-length-7
 same-length-7 c = search needs
@@ -84,10 +99,11 @@ same-length-10 c = search needs
 
 returns-2 : tie.Need-returns-2
 returns-2 c =
-    let gathering-at = c .before in
+    let gathering-at = c .before .before in
     let gather-at = gathering-at .before .before .before .before .before .before .before .before .before .before .before .before .before in
     let start-at = gather-at .before .before .before .before .before .before .before .before .before in
-    λ x d h. lines-refused (λ r l. getD-replicate {A = ℕ} maxNames r 0 0 l) (length-replicate {A = ℕ} maxNodes 0) (start-at .start .ensures) (gather-at .gather .ensures) h _ _ (gathering-at .gathering2 .given .1)
+    λ x d h. lines-refused (λ r l. getD-replicate {A = ℕ} maxNames r 0 0 l) (length-replicate {A = ℕ} maxNodes 0) (start-at .start .ensures) (gather-at .gather .ensures) h _ _
+    (gathering-at .gathering2 .given .1) (c .uncounted .ensures)
 
 pub expand-spec : {M : Type 1} → statement M
 expand-spec =
@@ -99,9 +115,11 @@ expand-spec =
     slice-aggregate-gather-3
     gather-requires
     enum-known-gathering
+    count-lines-requires
     slice-aggregate-finish
     finish-requires
     enum-known-gathering-2
+    uncounted-requires
     same-length
     same-length-2
     same-length-3

@@ -1,12 +1,17 @@
--- `read` meets its contract: 17, or the answer on the text with the work buffer cleared.
+-- `read_told` meets its contract: 17, or the answer on the text with the work buffer cleared.
 use native.Mathlib.Omega.{arith}
-use Rattle.reader.specs.Answers.{reads-short, reads-long}
+use Rattle.reader.specs.Telling.{told-short, told-long}
 use borrow.Author.Needs.{needs}
-use Rattle.reader.proofs.read.Statement.{statement}
-use Rattle.reader.proofs.read.Tie as tie
+use Rattle.reader.proofs.read_told.Statement.{statement}
+use Rattle.reader.proofs.read_told.Tie as tie
+
+untold-requires : tie.Need-untold-requires
+untold-requires c κs = search needs
 
 returns : tie.Need-returns
-returns c = reads-short _ (omega (arith, c .if1 .taken))
+returns c =
+    let if1-at = c .before in
+    told-short _ (omega (arith, if1-at .if1 .taken)) (c .untold .ensures)
 
 answer-requires : tie.Need-answer-requires
 answer-requires c κs = search needs
@@ -27,13 +32,14 @@ returns-2 : tie.Need-returns-2
 returns-2 c =
     let clear-at = c .before .before in
     let answer-at = clear-at .before .before .before .before .before .before .before .before in
-    let if-at = answer-at .before .before .before .before in
-    reads-long _ (omega (arith, if-at .if1 .left)) (answer-at .answer .ensures) (clear-at .clear .ensures)
+    let if1-at = answer-at .before .before .before .before in
+    told-long _ (omega (arith, if1-at .if1 .left)) (answer-at .answer .ensures) (clear-at .clear .ensures)
 
-pub read-spec : {M : Type 1} → statement M
-read-spec =
+pub read-told-spec : {M : Type 1} → statement M
+read-told-spec =
     tie.close
     (tie.spec
+    untold-requires
     returns
     answer-requires
     clear-requires

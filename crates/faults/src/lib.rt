@@ -1,0 +1,1 @@
+// Which line of a text failed on a recording: see specs/.

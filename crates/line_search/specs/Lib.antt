@@ -1,0 +1,5 @@
+pub mod Walking
+pub mod WalkingLaws
+pub mod LineLaws
+pub mod Findings
+pub mod FoundLaws

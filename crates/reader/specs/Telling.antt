@@ -1,0 +1,81 @@
+-- What INFO says, handed back beside the answer: of every text that 1 to 10 do not refuse, also where a later refusal stands. And how many lines the sections have that
+-- promise something: of every text that is accepted.
+use Prim.Native.Nat.{ℕ, _≤_, _<_}
+use mathlib.Core.List.{List}
+use mathlib.Core.Path.{_≡_, sym, ap, _∙_, subst}
+use native.Mathlib.Omega.{arith}
+use lib.ListN.{length}
+use Rattle.node.specs.Result.{Done, Refused}
+use Rattle.node.specs.declared.Answer.{Answer}
+use Rattle.node.specs.declared.Answer.the-variants.{Accepted}
+use Rattle.words.specs.Words.{cleared}
+use Rattle.language.specs.Limits.{workBytes}
+use Rattle.language.specs.Tree.{Spec}
+use Rattle.language.specs.Parsing.{parsed}
+use Rattle.language.specs.Declared.{Declarations, declarations}
+use Rattle.claim.specs.Reads.{Reads}
+use Rattle.parser.specs.declared.Facts.{Facts}
+use Rattle.parser.specs.Outlines.{factsOf}
+use Rattle.checked.specs.declared.Counts.{Counts}
+use Rattle.checked.specs.declared.Checked.{Checked}
+use Rattle.checked.specs.declared.Checked.the-variants.{Accepted as Passed, Refused as NotPassed}
+use Rattle.checked.specs.Checking.{Checks}
+use Rattle.checked.specs.AnswerLaws.{accepted, refused, tree-parsed}
+use Rattle.line_counts.specs.declared.LineCounts.{LineCounts}
+use Rattle.line_counts.specs.Counting.{CountsOf}
+use Rattle.reader.specs.declared.Counted.{Counted}
+use Rattle.reader.specs.declared.Told.{Told}
+use Rattle.reader.specs.Counting.{not-accepted}
+use Rattle.reader.specs.Answers.{Answers, reads-short, reads-long}
+use Rattle.reader.specs.Checking.{tree-refused, tree-answers, tree-counts}
+use Rattle.reader.specs.Naming.{Parsed, Converts}
+
+-- what INFO says, if the text has a tree
+abbrev pub Informed : List ℕ → Facts → Type 0
+Informed text f = (x : Spec) → parsed text ≡ Done x → f ≡ factsOf x
+
+-- how many lines its sections have that promise something
+abbrev pub TextCounts : List ℕ → LineCounts → Type 0
+TextCounts text k = (x : Spec) (d : Declarations) → parsed text ≡ Done x → declarations x ≡ Done d → CountsOf x d k
+
+-- the answer on a text, with what INFO says, and the counts of an accepted one
+pub record Tells (text work nodes signals used nodes′ signals′ : List ℕ) (r : Told) : Type 0 where
+  pub answers : Answers text work nodes signals used nodes′ signals′ (r .answer)
+  pub facts : Informed text (r .facts)
+  pub lines : (n s : ℕ) → r .answer ≡ Accepted n s → TextCounts text (r .lines)
+
+-- the reader's answer, with what INFO says unless 17 stands, and how many lines the sections of an accepted text have
+pub record ReadsTold (text work nodes signals work′ nodes′ signals′ : List ℕ) (r : Told) : Type 0 where
+  pub reads : Reads text work nodes signals work′ nodes′ signals′ (r .answer)
+  pub facts : workBytes ≤ length work → Informed text (r .facts)
+  pub lines : (n s : ℕ) → r .answer ≡ Accepted n s → TextCounts text (r .lines)
+
+-- a refused text has no tree
+refused-untold : (text : List ℕ) {n p : ℕ} (f : Facts) → parsed text ≡ Refused n p → Informed text f
+refused-untold text f e x d = let z : _≡_ {A = ℕ} 0 1 = cc in absurd (omega arith)
+
+module _ {text work used refs found : List ℕ} {r : Checked} (c : Checks text work used refs found r) where
+  pub refused-tells : {n p : ℕ} {t : Told} (nodes signals : List ℕ) → r ≡ NotPassed n p → t .answer ≡ Answer.Refused n p → Tells text work nodes signals used nodes signals t
+  refused-tells {t = t} nodes signals e a =
+      record {
+        answers = subst (Answers text work nodes signals used nodes signals) (sym a) (tree-refused c nodes signals e);
+        facts = refused-untold text (t .facts) (refused c e);
+        lines = λ n s q. absurd (not-accepted a q);
+      }
+
+  pub tree-tells : {k : Counts} {f : Facts} {nodes signals nodes′ signals′ : List ℕ} {a : Counted} → r ≡ Passed k f
+      → ((x : Spec) → Parsed text used refs found (k .entries) (k .names) f x → Converts x nodes signals nodes′ signals′ a)
+      → Tells text work nodes signals used nodes′ signals′ (record { answer = a .answer; facts = f; lines = a .lines })
+  tree-tells e g = let t = accepted c e in record { answers = tree-answers c e g; facts = λ x d. t .facts ∙ ap factsOf (tree-parsed t d); lines = tree-counts c e g }
+
+module _ (text : List ℕ) {work nodes signals : List ℕ} {t : Told} where
+  pub told-short : length work < workBytes → t .answer ≡ Answer.Refused 17 0 → ReadsTold text work nodes signals work nodes signals t
+  told-short h a = record {
+    reads = subst (Reads text work nodes signals work nodes signals) (sym a) (reads-short text h);
+    facts = λ l. absurd (omega arith);
+    lines = λ n s e. absurd (not-accepted a e);
+  }
+
+  pub told-long : {used nodes′ signals′ work′ : List ℕ} → workBytes ≤ length work → Tells text work nodes signals used nodes′ signals′ t → work′ ≡ cleared workBytes used
+      → ReadsTold text work nodes signals work′ nodes′ signals′ t
+  told-long h a e = record { reads = reads-long text h (a .answers) e; facts = λ l. a .facts; lines = a .lines }
