@@ -1,0 +1,107 @@
+use native.Mathlib.Omega.{arith}
+use mathlib.Core.Path.{refl, ap, _∙_}
+use Prim.Native.Nat.{_+_}
+use Rattle.formula_steps.specs.ConnectiveLaws.{right-misfits, right-kind, right-steps}
+use Rattle.shapes.specs.ShapeLaws.{binary-small}
+use Rattle.machine.specs.declared.Move.the-variants.{Next}
+use Rattle.machine.specs.declared.Machine.{Machine}
+use Rattle.machine.specs.EnterLaws.{wrote}
+use Rattle.machine.specs.ContractLaws.{takes-to-write-as}
+use Rattle.machine.specs.OperandLaws.{topped-to-write-entry}
+use borrow.Author.Needs.{needs}
+use Rattle.formula_steps.proofs.connectives.right.Statement.{statement}
+use Rattle.formula_steps.proofs.connectives.right.Tie as tie
+
+returns : tie.Need-returns
+returns c =
+    let start = c .before .before .before .before .before .before in
+    let at-if1 = c .if1 in
+    right-misfits (start .pre .1) (at-if1 .taken)
+
+add-k : tie.Need-add-k
+add-k c = search needs
+
+mul-k : tie.Need-mul-k
+mul-k c = search needs
+
+shared-slice-read-k : tie.Need-shared-slice-read-k
+shared-slice-read-k c = search needs
+
+cast-k : tie.Need-cast-k
+cast-k c =
+    let start = c .before .before .before .before .before .before .before in
+    let f = topped-to-write-entry (start .pre .0) .few in omega arith
+
+add-first : tie.Need-add-first
+add-first c = search needs
+
+mul-first : tie.Need-mul-first
+mul-first c = search needs
+
+shared-slice-read-first : tie.Need-shared-slice-read-first
+shared-slice-read-first c = search needs
+
+cast-first : tie.Need-cast-first
+cast-first c =
+    let start = c .before .before .before .before .before .before .before .before in
+    let at-shared-slice-known6 = c .shared-slice-known6 in
+    omega (arith, at-shared-slice-known6 .given (start .args .m .frames + 5))
+
+kind-at-requires : tie.Need-kind-at-requires
+kind-at-requires c κs =
+    let start = c .before .before .before .before .before .before .before .before in
+    let f = topped-to-write-entry (start .pre .0) in (f .few, f .work)
+
+binary-kind-requires : tie.Need-binary-kind-requires
+binary-kind-requires c κs =
+    let start = c .before .before .before .before .before .before .before .before .before in
+    let at-kind-at = c .kind-at in
+    let k = right-kind (start .pre .1) (start .pre .0) in let z = at-kind-at .ensures in let l = k .0 in let u = k .1 in ((omega arith), (omega arith))
+
+join-requires : tie.Need-join-requires
+join-requires c κs =
+    let at-binary-kind = c .before .binary-kind in
+    let b = at-binary-kind .ensures in let l = binary-small (b .operator) in let e = b .node in omega arith
+
+popped-requires : tie.Need-popped-requires
+popped-requires c κs = search needs
+
+capped-requires : tie.Need-capped-requires
+capped-requires c κs = search needs
+
+wrote-requires : tie.Need-wrote-requires
+wrote-requires c κs = search needs
+
+returns-2 : tie.Need-returns-2
+returns-2 c =
+    let start = c .before .before .before .before .before .before .before .before .before .before .before .before .before .before .before in
+    let at-if1 = c .before .before .before .before .before .before .before .before .before .if1 in
+    let at-kind-at = c .before .before .before .before .before .before .kind-at in
+    let at-binary-kind = c .before .before .before .before .before .binary-kind in
+    let at-join = c .before .before .before .join in
+    let at-popped = c .before .before .popped in
+    let at-capped = c .before .capped in
+    let at-wrote = c .wrote in
+    takes-to-write-as (ap Next (at-wrote .ensures ∙ ap (λ (n : Machine). wrote n (at-capped .result)) (at-popped .ensures)))
+    (right-steps (start .pre .1) (at-if1 .left) refl (at-kind-at .ensures) (at-binary-kind .ensures) refl (at-join .ensures) (at-capped .ensures))
+
+pub right-spec : {M : Type 1} → statement M
+right-spec =
+    tie.close
+    (tie.spec
+    returns
+    add-k
+    mul-k
+    shared-slice-read-k
+    cast-k
+    add-first
+    mul-first
+    shared-slice-read-first
+    cast-first
+    kind-at-requires
+    binary-kind-requires
+    join-requires
+    popped-requires
+    capped-requires
+    wrote-requires
+    returns-2)

@@ -1,0 +1,237 @@
+-- A connective: its left operand, its right operand.
+use Prim.Native.Nat.{ℕ, zero, suc, _+_, _-_, _≤_, _<_, min}
+use mathlib.Core.List.{List, [], _∷_, _++_, append-assoc}
+use mathlib.Core.Option.{some}
+use mathlib.Core.Path.{_≡_, refl, sym, ap, _∙_, subst}
+use native.Mathlib.Omega.{arith}
+use native.Mathlib.Decide.{decLt}
+use lib.ListN.{getD, length-append}
+use Rattle.node.specs.Limits.{maxNodes}
+use Rattle.node.specs.Operators.{Binary, And, Or, Implies, Iff, U, R, W}
+use Rattle.node.specs.Ltl.{Formula, Two}
+use Rattle.node.specs.Fields.{pack}
+use Rattle.node.specs.Kinds.{binaryKind}
+use Rattle.node.specs.Postorder.{size, nodesFrom}
+use Rattle.node.specs.PostorderLaws.{length-nodes}
+use Rattle.node.specs.Result.{Result, Done, _>>=_}
+use Rattle.node.specs.ResultLaws.{bind-at}
+use Rattle.writing.specs.Writing.{Wrote, Joins}
+use Rattle.writing.specs.WritingLaws.{after, puts-as, ends, past}
+use Rattle.language.specs.Operators.{Connects}
+use Rattle.language.specs.Tree.{Expr}
+use Rattle.language.specs.Expansion.{expansion}
+use Rattle.entries.specs.Kinds as Kind
+use Rattle.entries.specs.Flat.{flat}
+use Rattle.values.specs.KnownLaws.{known-joined}
+use Rattle.operands.specs.Entries.{kindAt, sizeAt}
+use Rattle.operands.specs.ClassLaws.{kind-of, place-is}
+use Rattle.operands.specs.KindLaws.{from}
+use Rattle.operands.specs.Working.{Source}
+use Rattle.shapes.specs.Shapes.{aBinary, shapeOf, BinaryIs}
+use Rattle.machine.specs.Came.{Expand, nodes, works, asFormula}
+use Rattle.machine.specs.Frames.{LeftFormula, RightFormula, connected, apply}
+use Rattle.machine.specs.Realm.{Operand}
+use Rattle.machine.specs.Operators.{Between, OpAt}
+use Rattle.machine.specs.OperatorLaws.{op-binary}
+use Rattle.machine.specs.Memory.{Framed}
+use Rattle.machine.specs.Telling.{isNodes}
+use Rattle.machine.specs.TableLaws.{Stays, laid-last, laid-end, wrote-capped}
+use Rattle.machine.specs.States.{modeOf, Ready, Steps, Takes, ToppedToWrite, TakesToWrite}
+use Rattle.machine.specs.StateLaws.{entered}
+use Rattle.machine.specs.EnterLaws.{came, wrote}
+use Rattle.machine.specs.ComeLaws.{came-formula, not-formula, misfit-then}
+use Rattle.machine.specs.FrameViews.{by-phase}
+use Rattle.machine.specs.TakeLaws.{words, entry-word, value-word, refuses, top-phase, top-as}
+use Rattle.machine.specs.Openings.{Opened}
+use Rattle.machine.specs.OpenLaws.{opens}
+use Rattle.machine.specs.FlatLaws.{popped}
+use Rattle.machine.specs.FormulaLaws.{more-stays, formula-laid, retains, finishes}
+use Rattle.machine.specs.BindLaws.{take-formula, then-nodes}
+use Rattle.machine.specs.OperandLaws.{operand-as, two-operands}
+use Rattle.machine.specs.declared.Machine.{Machine}
+use Rattle.machine.specs.declared.Move.{Move}
+use Rattle.machine.specs.declared.Move.the-variants.{Next, Refused as Refuses}
+use Rattle.formula_steps.specs.Entering.{Expands, Waiting, works-formula, operand-shape}
+
+-- the clause as its frames have it
+connective-same : (o : Binary) (a b : Result Formula) → ((a >>= λ f. b >>= λ g. Done (Two o f g)) >>= nodes) ≡ ((a >>= nodes) >>= λ v. asFormula v >>= λ f. (b >>= nodes) >>= connected o f)
+connective-same o a b =
+    then-nodes a _ (λ f. (b >>= nodes) >>= connected o f) (λ f. then-nodes b _ (λ g. nodes (Two o f g)) (λ g. bind-at (Two o f g) nodes) ∙ sym (take-formula b (λ g. nodes (Two o f g))))
+    ∙ sym (take-formula a (λ f. (b >>= nodes) >>= connected o f))
+
+-- the connective of a kind
+pub record Connective (kind : ℕ) : Type 0 where
+  pub operator : Binary
+  pub shape : shapeOf kind ≡ aBinary operator
+
+connective-of : (k : ℕ) → 29 ≤ k → k < 36 → Connective k
+connective-of = from Connective 29 7 go
+  where
+    go : (j : ℕ) → j < 7 → Connective (29 + j)
+    go zero l = record { operator = And; shape = refl }
+    go (suc zero) l = record { operator = Or; shape = refl }
+    go (suc (suc zero)) l = record { operator = Implies; shape = refl }
+    go (suc (suc (suc zero))) l = record { operator = Iff; shape = refl }
+    go (suc (suc (suc (suc zero)))) l = record { operator = U; shape = refl }
+    go (suc (suc (suc (suc (suc zero))))) l = record { operator = R; shape = refl }
+    go (suc (suc (suc (suc (suc (suc zero)))))) l = record { operator = W; shape = refl }
+    go (suc (suc (suc (suc (suc (suc (suc j))))))) l = absurd (omega arith)
+
+shape-binary : (o : Binary) → shapeOf (Kind.binary o) ≡ aBinary o
+shape-binary And = refl
+shape-binary Or = refl
+shape-binary Implies = refl
+shape-binary Iff = refl
+shape-binary U = refl
+shape-binary R = refl
+shape-binary W = refl
+
+same-binary : {o p : Binary} → aBinary o ≡ aBinary p → o ≡ p
+same-binary e = cc
+
+-- the entry: its left operand is worked out first
+pub connective-inside : {s : Source} {mem : List ℕ} {m : Machine} → Ready s mem m → Expands (s .work) m 29 36 → 1 + sizeAt (s .work) (m .value - 1) ≤ m .value
+connective-inside {s} {m = m} r k =
+    let e0 = k .mode in
+    let n = entered (r .state) (omega arith) in
+    let q = connective-of (kindAt (s .work) (m .value)) (k .from) (k .until) in
+    let v = operand-shape (n .at .operand) (q .shape) in
+    let p = operand-as (n .at .operand) (v .3) in
+    two-operands p (Kind.joining (Connects (q .operator))) (v .0) (v .1) (v .2) (p .known .at) (known-joined (v .0) (Connects (q .operator)) (v .1) (v .2) (p .known)) .inside
+
+pub connective-steps : {s : Source} {mem mem' : List ℕ} {m : Machine} {j : ℕ} {r : Move} → Expands (s .work) m 29 36 → j ≡ m .value - 1 - sizeAt (s .work) (m .value - 1)
+    → Opened mem mem' m 19 (modeOf Expand) j r → Steps s mem mem' m r
+connective-steps {s} {mem} {mem'} {m} {j} {r} k ej w = record {
+  turns = λ R x o out h.
+      let e0 = k .mode in
+      let n = entered h (omega arith) in
+      let q = connective-of (kindAt (s .work) (m .value)) (k .from) (k .until) in
+      let op = q .operator in
+      let v = operand-shape (n .at .operand) (q .shape) in
+      let t = v .0 in
+      let a = v .1 in
+      let b = v .2 in
+      let p = operand-as (n .at .operand) (v .3) in
+      let two = two-operands p (Kind.joining (Connects op)) t a b (p .known .at) (known-joined t (Connects op) a b (p .known)) in
+      let ins = two .inside in
+      opens n {F = LeftFormula op (n .context) b} {phase = 19} {a = Expand} {e = a} {j = j} (record {
+        holds-nothing = refl;
+        few-turns = omega arith;
+        below = omega arith;
+        operand = subst (λ (i : ℕ). Operand s (R .W) (R .ports) (n .at .env) (n .context) i a) (sym ej) (two .left);
+        holds = tt;
+        waits = (
+          t .at,
+          record {
+            kind = kind-of (Kind.joining (Connects op)) (some t) (flat a ++ flat b) (p .known .at);
+            place = place-is (R .lexed) (Kind.joining (Connects op)) t (flat a ++ flat b) (p .known .at);
+          },
+          two .right,
+        );
+        kept = tt;
+        same = works-formula n e0 ∙ ap (λ (d : Expr). expansion (n .context) d >>= nodes) (v .3) ∙ connective-same op (expansion (n .context) a) (expansion (n .context) b);
+      }) r w;
+}
+
+-- the left operand has come
+module _ {s : Source} {mem : List ℕ} {m : Machine} (w : Waiting mem m 19) where
+  pub left-misfits : (m .mode ≡ isNodes → ⊥) → Takes s mem mem m (Refuses 9 0)
+  left-misfits e = record {
+    turns = λ R x o out t.
+        let v = by-phase (t .frame) 19 (top-phase t ∙ w .phase) in
+        let h = top-as t (v .3) in
+        refuses h (misfit-then _ (not-formula R o mem m (h .came) (h .come) e));
+  }
+
+  pub left-steps : m .mode ≡ isNodes → {mem' : List ℕ} {k n : ℕ} → k ≡ getD mem (m .frames + 1) 0 → n ≡ m .nodes
+      → Framed mem mem' (m .frames) (record { phase = 20; entry = k; base = m .top; at = 0; count = 0; value = n; other = 0 }) → Takes s mem mem' m (Next (came m (modeOf Expand) (k - 1) 0))
+  left-steps e {mem'} {k} {n} ek en f = record {
+    turns = λ R x o out t.
+        let v = by-phase (t .frame) 19 (top-phase t ∙ w .phase) in
+        let op = v .0 in
+        let c = v .1 in
+        let b = v .2 in
+        let h = top-as t (v .3) in
+        let g = came-formula R o mem m (h .came) (h .come) e in
+        let same-entry : k ≡ words h .entry = ek ∙ entry-word h in
+        let some' = h .at .some in
+        let at = h .at .entry in
+        retains h {G = RightFormula op (g .formula) (m .nodes)} {phase = 19} {c = c} {e = b} (g .same) (record {
+          nothing = refl;
+          holds-one = refl;
+          framed = f;
+          entry-is = same-entry;
+          base-is = refl;
+          count-is = refl;
+          fewer = omega arith;
+          below = omega arith;
+          operand = subst (λ (i : ℕ). Operand s (R .W) (R .ports) (h .ground .env) c (i - 1) b) (sym same-entry) (h .at .waits .2);
+          holds = en;
+          waits = (h .at .waits .0, subst (λ (i : ℕ). OpAt s i (Between (Connects op)) (h .at .waits .0)) (sym same-entry) (h .at .waits .1));
+          kept = tt;
+          same = ap (apply (LeftFormula op c b)) (g .same) ∙ bind-at (g .formula) (λ y. works Expand c b >>= connected op y);
+        });
+  }
+
+-- the operator is put behind its operands' nodes
+two-stays : (o : Binary) {f g : Formula} {table middle out out′ : List ℕ} {at m n r : ℕ} → Wrote f table middle at m → Wrote g middle out m n → Wrote (Two o f g) table out′ at r → Stays out out′ n r
+unfolding nodesFrom size
+two-stays o {f} {g} {table} {middle} {out} {out′} {at} {m} {n} {r} u v w =
+    let last : List ℕ = pack (binaryKind o) (at + size f - 1) (at + size f + size g - 1) ∷ [] in
+    let a = length-nodes (at + size f) g in
+    let b = length-nodes m g in
+    more-stays last (after (u .puts) (v .puts))
+    (puts-as
+    (let j = length-append (nodesFrom at f) (nodesFrom (at + size f) g ++ last) in
+    let k = length-append (nodesFrom (at + size f) g) last in
+    let x = length-append (nodesFrom at f ++ nodesFrom m g) last in
+    let y = length-append (nodesFrom at f) (nodesFrom m g) in
+    omega arith)
+    (λ h.
+    let z : m ≡ at + size f = whole h (decLt maxNodes m) in
+    sym (append-assoc (nodesFrom at f) (nodesFrom (at + size f) g) last) ∙ ap (λ (j : ℕ). (nodesFrom at f ++ nodesFrom j g) ++ last) (sym z))
+    (w .puts))
+  where
+    whole : r ≤ maxNodes → Dec (maxNodes < m) → m ≡ at + size f
+    whole h (yes l) = absurd (let e = ends w h in let p = past u l in omega arith)
+    whole h (no l) = ends u (omega arith)
+
+-- the right operand has come
+module _ {s : Source} {mem out : List ℕ} {m : Machine} (w : Waiting mem m 20) where
+  pub right-misfits : (m .mode ≡ isNodes → ⊥) → TakesToWrite s mem mem out out m (Refuses 9 0)
+  right-misfits e = record {
+    turns = λ R x o t.
+        let v = by-phase (t .frame) 20 (top-phase t ∙ w .phase) in
+        let h = top-as t (v .3) in
+        refuses h (misfit-then _ (not-formula R o mem m (h .came) (h .come) e));
+  }
+
+  pub right-kind : ToppedToWrite s mem out m → (29 ≤ kindAt (s .work) (getD mem (m .frames + 1) 0)) × (kindAt (s .work) (getD mem (m .frames + 1) 0) < 36)
+  right-kind t =
+      let v = by-phase (t .top .frame) 20 (top-phase (t .top) ∙ w .phase) in
+      let h = top-as (t .top) (v .3) in
+      let b = op-binary (h .at .waits .1) in
+      let e = ap (kindAt (s .work)) (entry-word h) in
+      let l = b .1 in
+      let u = b .2 in
+      (omega arith, omega arith)
+
+  pub right-steps : m .mode ≡ isNodes → {k kind op a r n : ℕ} {out' : List ℕ} → k ≡ getD mem (m .frames + 1) 0 → kind ≡ kindAt (s .work) k → BinaryIs kind op → a ≡ getD mem (m .frames + 5) 0
+      → Joins op out out' a (m .nodes) r → n ≡ min r (suc maxNodes) → TakesToWrite s mem mem out out' m (Next (wrote (popped m) n))
+  right-steps e {k} {kind} {op} {a} {r} {n} {out'} ek ei bi ea j en = record {
+    turns = λ R x o t.
+        let v = by-phase (t .frame) 20 (top-phase t ∙ w .phase) in
+        let h = top-as t (v .3) in
+        let g = came-formula R o mem m (h .came) (h .come) e in
+        let same-kind : kind ≡ Kind.binary (v .0) = ei ∙ ap (kindAt (s .work)) (ek ∙ entry-word h) ∙ op-binary (h .at .waits .1) .0 in
+        let same-op : bi .operator ≡ v .0 = same-binary (sym (bi .shape) ∙ ap shapeOf same-kind ∙ shape-binary (v .0)) in
+        let l1 = laid-last (formula-laid h (g .same)) in
+        let l2 = laid-last (l1 .others) in
+        let same-end : l1 .at ≡ a = laid-end _ (l1 .others) ∙ sym (ea ∙ value-word h ∙ h .at .holds) in
+        let first : Wrote (v .1) (l2 .before) (l1 .before) (l2 .at) a = subst (λ (i : ℕ). Wrote (v .1) (l2 .before) (l1 .before) (l2 .at) i) same-end (l2 .wrote) in
+        let second : Wrote (g .formula) (l1 .before) out a (m .nodes) = subst (λ (i : ℕ). Wrote (g .formula) (l1 .before) out i (m .nodes)) same-end (l1 .wrote) in
+        let both = wrote-capped en (j .wrote (v .0) (bi .node ∙ ap binaryKind same-op) first second) in
+        finishes h (Two (v .0) (v .1) (g .formula)) refl refl refl
+        (ap (apply (RightFormula (v .0) (v .1) (v .2))) (g .same) ∙ bind-at (g .formula) (λ y. nodes (Two (v .0) (v .1) y)))
+        (l2 .others) both (omega arith) (two-stays (v .0) first second both);
+  }

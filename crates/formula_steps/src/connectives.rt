@@ -1,0 +1,91 @@
+// Operators between two formulas.
+use machine::Machine;
+use machine::Move;
+use machine::Words;
+use machine::frame;
+use machine::modes;
+use machine::phases;
+use node::MAX_NODES;
+use node::refusals;
+use operands::entry::kind_at;
+use operands::entry::size_at;
+use shapes::binary_kind;
+use writing::TOO_MANY;
+use writing::join;
+ghost use mathlib.Core.Path.{_≡_};
+ghost use Prim.Native.Nat.{suc, min};
+ghost use Rattle.node.specs.Limits.{maxNodes};
+ghost use Rattle.machine.specs.States.{Ready, Steps, Topped, Takes, ToppedToWrite, TakesToWrite};
+ghost use Rattle.operands.specs.Working.{source};
+ghost use Rattle.formula_steps.specs.Entering.{Expands, Waiting};
+
+// One index for all past the last node.
+pub fn capped(n: usize) -> usize
+    ensures { λ r. ⌜ r ≡ min n (suc maxNodes) ⌝ }
+{
+    if n < TOO_MANY {
+        return n;
+    }
+    TOO_MANY
+}
+
+// The left operand is worked out first.
+pub fn connective(text: &[u8], work: &[u8], refs: &[u16], memory: &mut [u32], m: Machine) -> Move
+    requires { ⌜ Ready (source (now text) (now work) (now refs)) (now memory) m ⌝ }
+    requires { ⌜ Expands (now work) m 29 36 ⌝ }
+    ensures { λ r. ⌜ Steps (source (now (text .entry)) (now (work .entry)) (now (refs .entry))) (now (memory .entry)) (now (memory .exit)) m r ⌝ }
+{
+    let k = m.value as usize;
+    let j = k - 1 - size_at(work, k - 1);
+    m.push(memory, phases::LEFT_FORMULA, modes::EXPAND, j as u32)
+}
+
+// The left operand is written: the right one is worked out.
+pub fn left(text: &[u8], work: &[u8], refs: &[u16], memory: &mut [u32], m: Machine) -> Move
+    requires { ⌜ Topped (source (now text) (now work) (now refs)) (now memory) m ⌝ }
+    requires { ⌜ Waiting (now memory) m 19 ⌝ }
+    ensures { λ r. ⌜ Takes (source (now (text .entry)) (now (work .entry)) (now (refs .entry))) (now (memory .entry)) (now (memory .exit)) m r ⌝ }
+{
+    if m.mode != modes::NODES {
+        return Move::Refused(refusals::WRONG_TYPE, 0);
+    }
+    let at = m.frames;
+    let k = memory[at + 1];
+    frame(
+        memory,
+        at,
+        Words {
+            phase: phases::RIGHT_FORMULA,
+            entry: k,
+            base: m.top,
+            at: 0,
+            count: 0,
+            value: m.nodes as u32,
+            other: 0,
+        },
+    );
+    Move::Next(m.came(modes::EXPAND, k - 1, 0))
+}
+
+// The right operand is written behind the left one.
+pub fn right(
+    text: &[u8],
+    work: &[u8],
+    refs: &[u16],
+    memory: &[u32],
+    table: &mut [u32; MAX_NODES],
+    m: Machine,
+) -> Move
+    requires { ⌜ ToppedToWrite (source (now text) (now work) (now refs)) (now memory) (now table) m ⌝ }
+    requires { ⌜ Waiting (now memory) m 20 ⌝ }
+    ensures { λ r. ⌜ TakesToWrite (source (now (text .entry)) (now (work .entry)) (now (refs .entry))) (now (memory .entry)) (now (memory .entry)) (now (table .entry)) (now (table .exit)) m r ⌝ }
+{
+    if m.mode != modes::NODES {
+        return Move::Refused(refusals::WRONG_TYPE, 0);
+    }
+    let at = m.frames;
+    let k = memory[at + 1] as usize;
+    let first = memory[at + 5] as usize;
+    let n = join(binary_kind(kind_at(work, k)), first, m.nodes, table);
+    Move::Next(m.popped().wrote(capped(n)))
+}

@@ -1,0 +1,9 @@
+pub mod Places
+pub mod Sorting
+pub mod PlaceLaws
+pub mod AnswerLaws
+pub mod PlacedLaws
+pub mod SearchLaws
+pub mod MergeLaws
+pub mod SelectLaws
+pub mod SortingLaws

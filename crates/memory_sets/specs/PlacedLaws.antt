@@ -1,0 +1,91 @@
+-- What stands at the place of an answer is a set again: its elements ascend; and a set word by word.
+use Prim.Native.Nat.{ℕ, suc, _+_, _-_, _≤_, _<_}
+use mathlib.Core.Path.{_≡_, sym, ap, _∙_}
+use mathlib.Core.List.{List, [], _∷_}
+use lib.ListN.{length, getD, take, drop, length-take, length-drop}
+use lib.Seq.{length-take-le, getD-take, getD-drop, ext-getD}
+use native.Mathlib.Omega.{arith}
+use borrow.Author.Tests.{le-leb}
+use Rattle.node.specs.Result.{Result, Done}
+use Rattle.node.specs.ResultLaws.{guard-pass}
+use Rattle.language.specs.Limits.{maxNumber, maxElements}
+use Rattle.language.specs.Operators.{Combination, Cap}
+use Rattle.language.specs.Sets.{memberOf, combine}
+use Rattle.language.specs.Values.{limited}
+use Rattle.language.specs.Laws.Basics.Lists.{All}
+use Rattle.language.specs.Laws.Basics.Results.{Within, value-of}
+use Rattle.language.specs.Laws.Values.SetLaws.{Ascending, insert-ascending, keep-fewer, combine-ascending}
+use Rattle.language.specs.Laws.Values.ValueLaws.{SaneNumber, SaneSet, limited-sane}
+use Rattle.sets.specs.Answers.{SetIs}
+use Rattle.sets.specs.declared.Worked.the-variants.{Value}
+use Rattle.memory_sets.specs.declared.Span.{Span}
+use Rattle.memory_sets.specs.Places.{Outside, Copied, elementsAt, Room, Placed, Two, SetAt}
+use Rattle.memory_sets.specs.PlaceLaws.{outside-both, outside-within, copied-words}
+use Rattle.memory_sets.specs.Sorting.{setOf, SortedAt}
+
+-- a set's words from its elements, and its elements from its words
+pub words-of : (mem : List ℕ) (s : Span) (l : List ℕ) → elementsAt mem s ≡ l → (i : ℕ) → i < length l → getD mem (s .at + i) 0 ≡ getD l i 0
+words-of mem s l e i u =
+    let size = ap length e in
+    let most = length-take (s .count) (drop (s .at) mem) in
+    sym (getD-drop (s .at) mem i 0) ∙ sym (getD-take (s .count) (drop (s .at) mem) i 0 (omega arith)) ∙ ap (λ r. getD r i 0) e
+
+pub elements-of : (mem : List ℕ) (at : ℕ) (l : List ℕ) → at + length l ≤ length mem → ((i : ℕ) → i < length l → getD mem (at + i) 0 ≡ getD l i 0) → take (length l) (drop at mem) ≡ l
+elements-of mem at l fits h = ext-getD 0 _ _ size (λ i u. word i (omega (arith, size, u)))
+  where
+    size : length (take (length l) (drop at mem)) ≡ length l
+    size = length-take-le (length l) (drop at mem) (rw length-drop (omega arith))
+
+    word : (i : ℕ) → i < length l → getD (take (length l) (drop at mem)) i 0 ≡ getD l i 0
+    word i u = getD-take (length l) (drop at mem) i 0 u ∙ getD-drop at mem i 0 ∙ h i u
+
+-- an intersection is within the limit
+pub cap-limited : (place : ℕ) (s t : List ℕ) → length s ≤ maxElements → limited place (combine Cap s t) ≡ Done (combine Cap s t)
+cap-limited place s t few =
+    guard-pass 12 place (Done (combine Cap s t)) (le-leb (length (combine Cap s t)) maxElements (omega (arith, few, keep-fewer (memberOf t) s)))
+
+-- the set at the place of an answer, where the definition's is one
+there : (mem mem' : List ℕ) (at n : ℕ) (r : Result (List ℕ)) → length mem' ≡ length mem → Room mem at → SetIs (Value n) (drop at mem') r → Within SaneSet r →
+    Placed mem' (record { at = at; count = n })
+there mem mem' at n r len room h sane = record { few = h .few; room = rw length-drop (omega (arith, room .room)); ascends = value-of (sym (h .says)) sane .0 }
+
+pub answer-placed : {mem mem' : List ℕ} {at n : ℕ} {r : Result (List ℕ)} → SetAt mem mem' at (Value n) r → Room mem at → Within SaneSet r → Placed mem' (record { at = at; count = n })
+answer-placed {mem} {mem'} {at} {n} {r} h room sane = there mem mem' at n r (h .kept .len) room (h .set) sane
+
+pub sorted-placed : {mem mem' : List ℕ} {at m n : ℕ} {r : Result (List ℕ)} → SortedAt mem mem' at m (Value n) r → Room mem at → Within SaneSet r → Placed mem' (record { at = at; count = n })
+sorted-placed {mem} {mem'} {at} {m} {n} {r} h room sane = there mem mem' at n r (h .kept .len) room (h .set) sane
+
+-- the definitions' sets are (ranges and bounds: the language's `range-sane` and `between-sane`)
+pub combine-sane : (place : ℕ) (o : Combination) {mem : List ℕ} {l r : Span} {to : ℕ} → Two mem l r to → Within SaneSet (limited place (combine o (elementsAt mem l) (elementsAt mem r)))
+combine-sane place o {mem} {l} {r} two =
+    let left = elementsAt mem l in
+    let right = elementsAt mem r in
+    limited-sane place (combine o left right) (combine-ascending o 0 maxNumber left right (two .left .ascends) (two .right .ascends))
+
+setOf-ascending : (s : List ℕ) → All SaneNumber s → Ascending 0 maxNumber (setOf s)
+setOf-ascending [] h = tt
+setOf-ascending (x ∷ s) h = insert-ascending 0 maxNumber x (setOf s) (omega arith) (h .0) (setOf-ascending s (h .1))
+
+pub setOf-sane : (place : ℕ) (s : List ℕ) → All SaneNumber s → Within SaneSet (limited place (setOf s))
+setOf-sane place s h = limited-sane place (setOf s) (setOf-ascending s h)
+
+-- an answer moved down to another place, as an operator's result is to that of its operands
+pub record Lowered (mem mem'' : List ℕ) (base to n : ℕ) (r : Result (List ℕ)) : Type 0 where
+  pub set : SetIs (Value n) (drop base mem'') r
+  pub kept : Outside mem mem'' base (to + suc maxElements - base)
+
+pub answer-lowered : {mem mem' mem'' : List ℕ} {base to n : ℕ} {r : Result (List ℕ)} → base ≤ to → Room mem to → SetAt mem mem' to (Value n) r → Copied mem' to mem' mem'' base n →
+    Lowered mem mem'' base to n r
+answer-lowered {mem} {mem'} {mem''} {base} {to} {n} {r} l room h c =
+    let len = h .kept .len in
+    let few = h .set .few in
+    let fits = room .room in
+    record {
+      set = record { says = ap Done (copied-words c (omega arith) (omega arith)) ∙ h .set .says; few = few };
+      kept = outside-both (outside-within l (omega arith) (h .kept)) (outside-within (omega arith) (omega arith) (c .kept));
+    }
+
+pub lowered-placed : {mem mem'' : List ℕ} {base to n : ℕ} {r : Result (List ℕ)} → base ≤ to → Room mem to → Lowered mem mem'' base to n r → Within SaneSet r →
+    Placed mem'' (record { at = base; count = n })
+lowered-placed {mem} {mem''} {base} {to} {n} {r} l room h sane =
+    there mem mem'' base n r (h .kept .len) (record { room = omega (arith, room .room) }) (h .set) sane

@@ -1,0 +1,6 @@
+pub mod OperatorLaws
+pub mod MakingLaws
+pub mod MeasureLaws
+pub mod BoundLaws
+pub mod RangeLaws
+pub mod BraceLaws

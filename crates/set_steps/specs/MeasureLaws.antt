@@ -1,0 +1,159 @@
+-- A measure of a set: the set, then the number.
+use Prim.Native.Nat.{ℕ, _+_, _-_, _≤_, _<_}
+use mathlib.Core.List.{List}
+use mathlib.Core.Option.{some}
+use mathlib.Core.Path.{_≡_, refl, sym, ap, ap₂, _∙_, subst}
+use native.Mathlib.Omega.{arith}
+use lib.ListN.{length, getD}
+use Rattle.node.specs.Result.{Result, Done, _>>=_}
+use Rattle.node.specs.ResultLaws.{bind-again, bind-at}
+use Rattle.language.specs.Limits.{maxElements}
+use Rattle.language.specs.Operators.{Measure, Measures}
+use Rattle.language.specs.Tree.{Expr}
+use Rattle.language.specs.Values.{Value, Number, set, measure, value}
+use Rattle.language.specs.Laws.Values.ValueLaws.{measure-sane}
+use Rattle.entries.specs.Kinds as Kind
+use Rattle.entries.specs.Flat.{flat}
+use Rattle.values.specs.KnownLaws.{known-prefixed}
+use Rattle.sets.specs.Answers.{says}
+use Rattle.sets.specs.Operators.{measurement}
+use Rattle.sets.specs.declared.Worked.{Worked}
+use Rattle.operands.specs.Entries.{kindAt, placeAt}
+use Rattle.operands.specs.ClassLaws.{has-entry, kind-of, place-is}
+use Rattle.operands.specs.KindLaws.{measure-class}
+use Rattle.operands.specs.Operands.{below}
+use Rattle.operands.specs.Working.{Source}
+use Rattle.memory_sets.specs.Places.{elementsAt, Placed}
+use Rattle.memory_sets.specs.declared.Span.{Span}
+use Rattle.machine.specs.Came.{Evaluate, Came, worth, asSet}
+use Rattle.machine.specs.Frames.{Measured, apply}
+use Rattle.machine.specs.Realm.{Realm}
+use Rattle.machine.specs.Operators.{Before, OpAt}
+use Rattle.machine.specs.SetLaws.{sits-low}
+use Rattle.machine.specs.Telling.{isSet}
+use Rattle.machine.specs.Table.{Began}
+use Rattle.machine.specs.States.{modeOf, Ready, Steps, TopOf, Topped, Takes}
+use Rattle.machine.specs.StateLaws.{entered}
+use Rattle.machine.specs.ComeLaws.{came-set, not-set, misfit-then}
+use Rattle.machine.specs.FrameViews.{by-phase}
+use Rattle.machine.specs.TakeLaws.{entry-word, room-under, refuses, top-phase, top-as}
+use Rattle.machine.specs.Openings.{Opened}
+use Rattle.machine.specs.OpenLaws.{opens}
+use Rattle.machine.specs.FlatLaws.{popped}
+use Rattle.machine.specs.NumberLaws.{numbered, yields-number}
+use Rattle.machine.specs.BindLaws.{take-set, number-last}
+use Rattle.machine.specs.OperandLaws.{operand-view, operand-as, alongside}
+use Rattle.machine.specs.declared.Machine.{Machine}
+use Rattle.machine.specs.declared.Move.{Move}
+use Rattle.machine.specs.declared.Move.the-variants.{Refused as Refuses}
+use Rattle.value_steps.specs.Entering.{Evaluates, Waiting, works-value}
+use Rattle.value_steps.specs.PlacedLaws.{elements-are, placed}
+use Rattle.set_steps.specs.OperatorLaws.{op-measure}
+
+-- the clause as its frame has it
+measure-same : (p : ℕ) (o : Measure) (a : Result Value) → ((a >>= set >>= measure p o >>= λ n. Done (Number n)) >>= worth)
+    ≡ ((a >>= worth) >>= λ v. asSet v >>= λ s. measure p o s >>= λ n. worth (Number n))
+measure-same p o a = number-last (a >>= set >>= measure p o) ∙ bind-again (a >>= set) (measure p o) _ ∙ sym (take-set a (λ s. measure p o s >>= λ n. worth (Number n)))
+
+-- the operand stands before the entry
+pub measurement-inside : {s : Source} {mem : List ℕ} {m : Machine} → Ready s mem m → Evaluates (s .work) m 6 9 → 0 < m .value
+measurement-inside {s} {m = m} r k =
+    let e0 = k .mode in
+    let n = entered (r .state) (omega arith) in
+    let kind = kindAt (s .work) (m .value) in
+    let o = measurement (kind - 6) in
+    let v = operand-view (n .at .operand) (measure-class kind (k .from) (k .until)) in
+    let p = operand-as (n .at .operand) (v .2) in
+    let l = below (Kind.before (Measures o)) (some (v .0)) (flat (v .1)) (p .known .at) in
+    let y = has-entry (v .1) (known-prefixed (v .0) (Measures o) (v .1) (p .known) .proper) in
+    omega arith
+
+-- the entry: the set is worked out first
+pub measurement-steps : {s : Source} {mem mem' : List ℕ} {m : Machine} {r : Move} → Ready s mem m → Evaluates (s .work) m 6 9
+    → Opened mem mem' m 0 (modeOf Evaluate) (m .value - 1) r → Steps s mem mem' m r
+measurement-steps {s} {mem} {mem'} {m} {r} y k q = record {
+  turns = λ R x o out h.
+      let e0 = k .mode in
+      let n = entered h (omega arith) in
+      let kind = kindAt (s .work) (m .value) in
+      let op = measurement (kind - 6) in
+      let v = operand-view (n .at .operand) (measure-class kind (k .from) (k .until)) in
+      let t = v .0 in
+      let a = v .1 in
+      let p = operand-as (n .at .operand) (v .2) in
+      let ins = measurement-inside y k in
+      opens n {F = Measured (t .at) op} {phase = 0} {a = Evaluate} {e = a} {j = m .value - 1} (record {
+        holds-nothing = refl;
+        few-turns = omega arith;
+        below = omega arith;
+        operand = alongside p (known-prefixed t (Measures op) a (p .known));
+        holds = tt;
+        waits = record {
+          kind = kind-of (Kind.before (Measures op)) (some t) (flat a) (p .known .at);
+          place = place-is (R .lexed) (Kind.before (Measures op)) t (flat a) (p .known .at);
+        };
+        kept = tt;
+        same = works-value n e0 ∙ ap (λ (d : Expr). value (n .context .values) d >>= worth) (v .2) ∙ measure-same (t .at) op (value (n .context .values) a);
+      }) r q;
+}
+
+-- where a set that has come stands
+abbrev spanOf : Machine → Span
+spanOf m = record { at = m .from; count = m .value }
+
+-- the set has come
+module _ {s : Source} {mem : List ℕ} {m : Machine} (w : Waiting mem m 0) where
+  pub measured-misfits : (m .mode ≡ isSet → ⊥) → Takes s mem mem m (Refuses 9 0)
+  measured-misfits e = record {
+    turns = λ R x o out t.
+        let v = by-phase (t .frame) 0 (top-phase t ∙ w .phase) in
+        let h = top-as t (v .2) in
+        refuses h (misfit-then _ (not-set R o mem m (h .came) (h .come) e));
+  }
+
+  pub measured-kind : Topped s mem m → 6 ≤ kindAt (s .work) (getD mem (m .frames + 1) 0)
+  measured-kind t =
+      let v = by-phase (t .top .frame) 0 (top-phase (t .top) ∙ w .phase) in
+      let h = top-as (t .top) (v .2) in
+      subst (λ (j : ℕ). 6 ≤ kindAt (s .work) j) (sym (entry-word h)) (op-measure (h .at .waits) .0)
+
+  module _ (e : m .mode ≡ isSet) where
+    -- it stands below the frames
+    under : {R : Realm s} {out : List ℕ} {x : Result Came} {o : Began} {p : ℕ} {op : Measure} (h : TopOf R mem out m x o (Measured p op)) → m .from + maxElements < length mem
+    under {R} {o = o} h =
+        let g = came-set R o mem m (h .came) (h .come) e in
+        let u = room-under h .values in
+        let n1 = h .noted .within in
+        let n2 = h .noted .ascending in
+        let lo = h .at .lower in
+        let hi = h .at .high in
+        let ro = h .at .room in
+        let ins = h .at .inside in
+        let lw = sits-low m (omega arith) (g .sits) in
+        omega arith
+
+    pub measured-placed : Topped s mem m → Placed mem (spanOf m)
+    measured-placed t =
+        let v = by-phase (t .top .frame) 0 (top-phase (t .top) ∙ w .phase) in
+        let h = top-as (t .top) (v .2) in
+        let g = came-set (t .realm) (t .began) mem m (h .came) (h .come) e in
+        placed mem (spanOf m) (g .set) (g .held) (g .count) (g .fine) (under h)
+
+    pub measured-steps : {k i p : ℕ} (r : Worked) → k ≡ getD mem (m .frames + 1) 0 → i ≡ kindAt (s .work) k - 6 → p ≡ placeAt (s .work) k
+        → says r ≡ measure p (measurement i) (elementsAt mem (spanOf m)) → Takes s mem mem m (numbered (popped m) r)
+    measured-steps {k} {i} {p} r ek ei ep q = record {
+      turns = λ R x o out t.
+          let v = by-phase (t .frame) 0 (top-phase t ∙ w .phase) in
+          let op = v .1 in
+          let h = top-as t (v .2) in
+          let g = came-set R o mem m (h .came) (h .come) e in
+          let l = g .set in
+          let at : OpAt s k (Before (Measures op)) (v .0) = subst (λ (j : ℕ). OpAt s j (Before (Measures op)) (v .0)) (sym (ek ∙ entry-word h)) (h .at .waits) in
+          let same-op : measurement i ≡ op = ap measurement ei ∙ op-measure at .1 in
+          let same-place : p ≡ v .0 = ep ∙ at .place in
+          let same-set : elementsAt mem (spanOf m) ≡ l = elements-are mem (spanOf m) l (g .held) (g .count) (g .fine) (under h) in
+          let q' : says r ≡ measure (v .0) op l = q ∙ ap (λ (j : ℕ). measure j (measurement i) (elementsAt mem (spanOf m))) same-place
+          ∙ ap₂ (λ (y : Measure) (j : List ℕ). measure (v .0) y j) same-op same-set in
+          yields-number h {phase = 0} refl (g .same) r q' (measure-sane (v .0) op l (g .fine .ordered, g .fine .few))
+          (ap (apply (Measured (v .0) op)) (g .same) ∙ bind-at l (λ j. measure (v .0) op j >>= λ y. worth (Number y)));
+    }

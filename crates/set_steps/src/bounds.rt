@@ -1,0 +1,80 @@
+// The numbers between two bounds.
+use entries::kinds;
+use machine::Machine;
+use machine::Move;
+use machine::Words;
+use machine::frame;
+use machine::modes;
+use machine::phases;
+use memory_sets::one::between;
+use node::refusals;
+use operands::entry::kind_at;
+use operands::entry::place_at;
+use operands::entry::size_at;
+ghost use Rattle.machine.specs.States.{Ready, Steps, Topped, Takes};
+ghost use Rattle.operands.specs.Working.{source};
+ghost use Rattle.value_steps.specs.Entering.{Evaluates, Waiting};
+use crate::making::made;
+
+// The low bound is worked out first.
+pub fn bounds(text: &[u8], work: &[u8], refs: &[u16], memory: &mut [u32], m: Machine) -> Move
+    requires { ⌜ Ready (source (now text) (now work) (now refs)) (now memory) m ⌝ }
+    requires { ⌜ Evaluates (now work) m 47 51 ⌝ }
+    ensures { λ r. ⌜ Steps (source (now (text .entry)) (now (work .entry)) (now (refs .entry))) (now (memory .entry)) (now (memory .exit)) m r ⌝ }
+{
+    let k = m.value as usize;
+    let j = k - 1 - size_at(work, k - 1);
+    m.push(memory, phases::LOW, modes::EVALUATE, j as u32)
+}
+
+// The low bound has come: the high one is worked out.
+pub fn low(text: &[u8], work: &[u8], refs: &[u16], memory: &mut [u32], m: Machine) -> Move
+    requires { ⌜ Topped (source (now text) (now work) (now refs)) (now memory) m ⌝ }
+    requires { ⌜ Waiting (now memory) m 6 ⌝ }
+    ensures { λ r. ⌜ Takes (source (now (text .entry)) (now (work .entry)) (now (refs .entry))) (now (memory .entry)) (now (memory .exit)) m r ⌝ }
+{
+    if m.mode != modes::NUMBER {
+        return Move::Refused(refusals::WRONG_TYPE, 0);
+    }
+    let at = m.frames;
+    let k = memory[at + 1];
+    frame(
+        memory,
+        at,
+        Words {
+            phase: phases::HIGH,
+            entry: k,
+            base: m.top,
+            at: 0,
+            count: 0,
+            value: m.value,
+            other: 0,
+        },
+    );
+    Move::Next(m.came(modes::EVALUATE, k - 1, 0))
+}
+
+// The high bound has come.
+pub fn high(text: &[u8], work: &[u8], refs: &[u16], memory: &mut [u32], m: Machine) -> Move
+    requires { ⌜ Topped (source (now text) (now work) (now refs)) (now memory) m ⌝ }
+    requires { ⌜ Waiting (now memory) m 7 ⌝ }
+    ensures { λ r. ⌜ Takes (source (now (text .entry)) (now (work .entry)) (now (refs .entry))) (now (memory .entry)) (now (memory .exit)) m r ⌝ }
+{
+    if m.mode != modes::NUMBER {
+        return Move::Refused(refusals::WRONG_TYPE, 0);
+    }
+    let at = m.frames;
+    let k = memory[at + 1] as usize;
+    let a = memory[at + 5];
+    let kind = kind_at(work, k);
+    let r = between(
+        place_at(work, k),
+        kind >= kinds::BETWEEN_NO_LOW,
+        kind % 2 == 0,
+        a,
+        m.value,
+        memory,
+        m.top,
+    );
+    made(m, m.top, r)
+}

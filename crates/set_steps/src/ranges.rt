@@ -1,0 +1,100 @@
+// The numbers from one on by steps: {x, y .. z}.
+use machine::Machine;
+use machine::Move;
+use machine::Words;
+use machine::frame;
+use machine::modes;
+use machine::phases;
+use memory_sets::one::range;
+use node::refusals;
+use operands::entry::place_at;
+use operands::entry::size_at;
+ghost use Rattle.machine.specs.States.{Ready, Steps, Topped, Takes};
+ghost use Rattle.operands.specs.Working.{source};
+ghost use Rattle.value_steps.specs.Entering.{Evaluates, Waiting};
+use crate::making::made;
+
+// The first number is worked out first.
+pub fn stepping(text: &[u8], work: &[u8], refs: &[u16], memory: &mut [u32], m: Machine) -> Move
+    requires { ⌜ Ready (source (now text) (now work) (now refs)) (now memory) m ⌝ }
+    requires { ⌜ Evaluates (now work) m 53 54 ⌝ }
+    ensures { λ r. ⌜ Steps (source (now (text .entry)) (now (work .entry)) (now (refs .entry))) (now (memory .entry)) (now (memory .exit)) m r ⌝ }
+{
+    let k = m.value as usize;
+    let second = k - 1 - size_at(work, k - 1);
+    let first = second - size_at(work, second);
+    m.push(memory, phases::RANGE_FIRST, modes::EVALUATE, first as u32)
+}
+
+// The first number has come: the second is worked out.
+pub fn first(text: &[u8], work: &[u8], refs: &[u16], memory: &mut [u32], m: Machine) -> Move
+    requires { ⌜ Topped (source (now text) (now work) (now refs)) (now memory) m ⌝ }
+    requires { ⌜ Waiting (now memory) m 9 ⌝ }
+    ensures { λ r. ⌜ Takes (source (now (text .entry)) (now (work .entry)) (now (refs .entry))) (now (memory .entry)) (now (memory .exit)) m r ⌝ }
+{
+    if m.mode != modes::NUMBER {
+        return Move::Refused(refusals::WRONG_TYPE, 0);
+    }
+    let at = m.frames;
+    let k = memory[at + 1] as usize;
+    let j = k - 1 - size_at(work, k - 1);
+    frame(
+        memory,
+        at,
+        Words {
+            phase: phases::RANGE_SECOND,
+            entry: k as u32,
+            base: m.top,
+            at: 0,
+            count: 0,
+            value: m.value,
+            other: 0,
+        },
+    );
+    Move::Next(m.came(modes::EVALUATE, j as u32, 0))
+}
+
+// The second number has come: the last is worked out.
+pub fn second(text: &[u8], work: &[u8], refs: &[u16], memory: &mut [u32], m: Machine) -> Move
+    requires { ⌜ Topped (source (now text) (now work) (now refs)) (now memory) m ⌝ }
+    requires { ⌜ Waiting (now memory) m 10 ⌝ }
+    ensures { λ r. ⌜ Takes (source (now (text .entry)) (now (work .entry)) (now (refs .entry))) (now (memory .entry)) (now (memory .exit)) m r ⌝ }
+{
+    if m.mode != modes::NUMBER {
+        return Move::Refused(refusals::WRONG_TYPE, 0);
+    }
+    let at = m.frames;
+    let k = memory[at + 1];
+    let x = memory[at + 5];
+    frame(
+        memory,
+        at,
+        Words {
+            phase: phases::RANGE_LAST,
+            entry: k,
+            base: m.top,
+            at: 0,
+            count: 0,
+            value: x,
+            other: m.value as usize,
+        },
+    );
+    Move::Next(m.came(modes::EVALUATE, k - 1, 0))
+}
+
+// The last number has come.
+pub fn last(text: &[u8], work: &[u8], refs: &[u16], memory: &mut [u32], m: Machine) -> Move
+    requires { ⌜ Topped (source (now text) (now work) (now refs)) (now memory) m ⌝ }
+    requires { ⌜ Waiting (now memory) m 11 ⌝ }
+    ensures { λ r. ⌜ Takes (source (now (text .entry)) (now (work .entry)) (now (refs .entry))) (now (memory .entry)) (now (memory .exit)) m r ⌝ }
+{
+    if m.mode != modes::NUMBER {
+        return Move::Refused(refusals::WRONG_TYPE, 0);
+    }
+    let at = m.frames;
+    let k = memory[at + 1] as usize;
+    let x = memory[at + 5];
+    let y = memory[at + 6];
+    let r = range(place_at(work, k), x, y, m.value, memory, m.top);
+    made(m, m.top, r)
+}

@@ -1,0 +1,73 @@
+// X[n]: the number first, then the formula.
+use crate::capped;
+use machine::Machine;
+use machine::Move;
+use machine::Words;
+use machine::frame;
+use machine::modes;
+use machine::phases;
+use node::MAX_NODES;
+use node::refusals;
+use operands::entry::size_at;
+use writing::nexts;
+ghost use Rattle.machine.specs.States.{Ready, Steps, Topped, Takes, ToppedToWrite, TakesToWrite};
+ghost use Rattle.operands.specs.Working.{source};
+ghost use Rattle.temporal_steps.specs.Entering.{Expands, Waiting};
+
+pub fn repetition(text: &[u8], work: &[u8], refs: &[u16], memory: &mut [u32], m: Machine) -> Move
+    requires { ⌜ Ready (source (now text) (now work) (now refs)) (now memory) m ⌝ }
+    requires { ⌜ Expands (now work) m 36 37 ⌝ }
+    ensures { λ r. ⌜ Steps (source (now (text .entry)) (now (work .entry)) (now (refs .entry))) (now (memory .entry)) (now (memory .exit)) m r ⌝ }
+{
+    let k = m.value as usize;
+    let j = k - 1 - size_at(work, k - 1);
+    m.push(memory, phases::REPEAT, modes::EVALUATE, j as u32)
+}
+
+// The number has come: the formula is worked out.
+pub fn number(text: &[u8], work: &[u8], refs: &[u16], memory: &mut [u32], m: Machine) -> Move
+    requires { ⌜ Topped (source (now text) (now work) (now refs)) (now memory) m ⌝ }
+    requires { ⌜ Waiting (now memory) m 26 ⌝ }
+    ensures { λ r. ⌜ Takes (source (now (text .entry)) (now (work .entry)) (now (refs .entry))) (now (memory .entry)) (now (memory .exit)) m r ⌝ }
+{
+    if m.mode != modes::NUMBER {
+        return Move::Refused(refusals::WRONG_TYPE, 0);
+    }
+    let at = m.frames;
+    let k = memory[at + 1];
+    frame(
+        memory,
+        at,
+        Words {
+            phase: phases::REPEATED,
+            entry: k,
+            base: m.top,
+            at: 0,
+            count: 0,
+            value: m.value,
+            other: 0,
+        },
+    );
+    Move::Next(m.came(modes::EXPAND, k - 1, 0))
+}
+
+// The formula is written: as many X as the number says go behind it.
+pub fn repeated(
+    text: &[u8],
+    work: &[u8],
+    refs: &[u16],
+    memory: &[u32],
+    table: &mut [u32; MAX_NODES],
+    m: Machine,
+) -> Move
+    requires { ⌜ ToppedToWrite (source (now text) (now work) (now refs)) (now memory) (now table) m ⌝ }
+    requires { ⌜ Waiting (now memory) m 27 ⌝ }
+    ensures { λ r. ⌜ TakesToWrite (source (now (text .entry)) (now (work .entry)) (now (refs .entry))) (now (memory .entry)) (now (memory .entry)) (now (table .entry)) (now (table .exit)) m r ⌝ }
+{
+    if m.mode != modes::NODES {
+        return Move::Refused(refusals::WRONG_TYPE, 0);
+    }
+    let n = memory[m.frames + 5] as usize;
+    let end = nexts(n, m.nodes, table);
+    Move::Next(m.popped().wrote(capped(end)))
+}

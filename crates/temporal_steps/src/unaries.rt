@@ -1,0 +1,44 @@
+// `!`, X, G and F.
+use crate::capped;
+use machine::Machine;
+use machine::Move;
+use machine::modes;
+use machine::phases;
+use node::MAX_NODES;
+use node::refusals;
+use operands::entry::kind_at;
+use shapes::unary_kind;
+use writing::cap;
+ghost use Rattle.machine.specs.States.{Ready, Steps, ToppedToWrite, TakesToWrite};
+ghost use Rattle.operands.specs.Working.{source};
+ghost use Rattle.temporal_steps.specs.Entering.{Expands, Waiting};
+
+// The operand is worked out first.
+pub fn unary(text: &[u8], work: &[u8], refs: &[u16], memory: &mut [u32], m: Machine) -> Move
+    requires { ⌜ Ready (source (now text) (now work) (now refs)) (now memory) m ⌝ }
+    requires { ⌜ Expands (now work) m 10 14 ⌝ }
+    ensures { λ r. ⌜ Steps (source (now (text .entry)) (now (work .entry)) (now (refs .entry))) (now (memory .entry)) (now (memory .exit)) m r ⌝ }
+{
+    m.push(memory, phases::CAPPING, modes::EXPAND, m.value - 1)
+}
+
+// The operand is written: the operator goes behind it.
+pub fn capping(
+    text: &[u8],
+    work: &[u8],
+    refs: &[u16],
+    memory: &[u32],
+    table: &mut [u32; MAX_NODES],
+    m: Machine,
+) -> Move
+    requires { ⌜ ToppedToWrite (source (now text) (now work) (now refs)) (now memory) (now table) m ⌝ }
+    requires { ⌜ Waiting (now memory) m 18 ⌝ }
+    ensures { λ r. ⌜ TakesToWrite (source (now (text .entry)) (now (work .entry)) (now (refs .entry))) (now (memory .entry)) (now (memory .entry)) (now (table .entry)) (now (table .exit)) m r ⌝ }
+{
+    if m.mode != modes::NODES {
+        return Move::Refused(refusals::WRONG_TYPE, 0);
+    }
+    let k = memory[m.frames + 1] as usize;
+    let n = cap(unary_kind(kind_at(work, k)), m.nodes, table);
+    Move::Next(m.popped().wrote(capped(n)))
+}

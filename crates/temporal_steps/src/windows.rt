@@ -1,0 +1,117 @@
+// F[n:m] and G[n:m]: the two numbers first, then the formula.
+use crate::capped;
+use machine::Machine;
+use machine::Move;
+use machine::Words;
+use machine::frame;
+use machine::modes;
+use machine::phases;
+use node::MAX_NODES;
+use node::refusals;
+use operands::entry::kind_at;
+use operands::entry::place_at;
+use operands::entry::size_at;
+use shapes::window_kind;
+use writing::nexts;
+use writing::window::window;
+ghost use Rattle.machine.specs.States.{Ready, Steps, Topped, Takes, ToppedToWrite, TakesToWrite};
+ghost use Rattle.operands.specs.Working.{source};
+ghost use Rattle.temporal_steps.specs.Entering.{Expands, Waiting};
+
+// The number where the window begins is worked out first.
+pub fn windowing(text: &[u8], work: &[u8], refs: &[u16], memory: &mut [u32], m: Machine) -> Move
+    requires { ⌜ Ready (source (now text) (now work) (now refs)) (now memory) m ⌝ }
+    requires { ⌜ Expands (now work) m 37 39 ⌝ }
+    ensures { λ r. ⌜ Steps (source (now (text .entry)) (now (work .entry)) (now (refs .entry))) (now (memory .entry)) (now (memory .exit)) m r ⌝ }
+{
+    let k = m.value as usize;
+    let second = k - 1 - size_at(work, k - 1);
+    let first = second - size_at(work, second);
+    m.push(memory, phases::WINDOW_FROM, modes::EVALUATE, first as u32)
+}
+
+// It has come: the number where the window ends is worked out.
+pub fn from(text: &[u8], work: &[u8], refs: &[u16], memory: &mut [u32], m: Machine) -> Move
+    requires { ⌜ Topped (source (now text) (now work) (now refs)) (now memory) m ⌝ }
+    requires { ⌜ Waiting (now memory) m 28 ⌝ }
+    ensures { λ r. ⌜ Takes (source (now (text .entry)) (now (work .entry)) (now (refs .entry))) (now (memory .entry)) (now (memory .exit)) m r ⌝ }
+{
+    if m.mode != modes::NUMBER {
+        return Move::Refused(refusals::WRONG_TYPE, 0);
+    }
+    let at = m.frames;
+    let k = memory[at + 1] as usize;
+    let second = k - 1 - size_at(work, k - 1);
+    frame(
+        memory,
+        at,
+        Words {
+            phase: phases::WINDOW_TO,
+            entry: k as u32,
+            base: m.top,
+            at: 0,
+            count: 0,
+            value: m.value,
+            other: 0,
+        },
+    );
+    Move::Next(m.came(modes::EVALUATE, second as u32, 0))
+}
+
+// It has come: a window that ends before it begins is refused, else the formula is worked out.
+pub fn to(text: &[u8], work: &[u8], refs: &[u16], memory: &mut [u32], m: Machine) -> Move
+    requires { ⌜ Topped (source (now text) (now work) (now refs)) (now memory) m ⌝ }
+    requires { ⌜ Waiting (now memory) m 29 ⌝ }
+    ensures { λ r. ⌜ Takes (source (now (text .entry)) (now (work .entry)) (now (refs .entry))) (now (memory .entry)) (now (memory .exit)) m r ⌝ }
+{
+    if m.mode != modes::NUMBER {
+        return Move::Refused(refusals::WRONG_TYPE, 0);
+    }
+    let at = m.frames;
+    let k = memory[at + 1];
+    let begin = memory[at + 5];
+    if m.value < begin {
+        return Move::Refused(refusals::OUT_OF_RANGE, place_at(work, k as usize));
+    }
+    frame(
+        memory,
+        at,
+        Words {
+            phase: phases::WINDOWED,
+            entry: k,
+            base: m.top,
+            at: m.nodes,
+            count: 0,
+            value: begin,
+            other: m.value as usize,
+        },
+    );
+    Move::Next(m.came(modes::EXPAND, k - 1, 0))
+}
+
+// The formula is written: its copies and their chain go behind it, then X as often as the window's first number says.
+pub fn windowed(
+    text: &[u8],
+    work: &[u8],
+    refs: &[u16],
+    memory: &[u32],
+    table: &mut [u32; MAX_NODES],
+    m: Machine,
+) -> Move
+    requires { ⌜ ToppedToWrite (source (now text) (now work) (now refs)) (now memory) (now table) m ⌝ }
+    requires { ⌜ Waiting (now memory) m 30 ⌝ }
+    ensures { λ r. ⌜ TakesToWrite (source (now (text .entry)) (now (work .entry)) (now (refs .entry))) (now (memory .entry)) (now (memory .entry)) (now (table .entry)) (now (table .exit)) m r ⌝ }
+{
+    if m.mode != modes::NODES {
+        return Move::Refused(refusals::WRONG_TYPE, 0);
+    }
+    let at = m.frames;
+    let k = memory[at + 1] as usize;
+    let start = memory[at + 3] as usize;
+    let begin = memory[at + 5] as usize;
+    let end = memory[at + 6] as usize;
+    let operator = window_kind(kind_at(work, k));
+    let chained = window(operator, end - begin, start, m.nodes, table);
+    let n = nexts(begin, chained, table);
+    Move::Next(m.popped().wrote(capped(n)))
+}

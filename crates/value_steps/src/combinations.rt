@@ -1,0 +1,110 @@
+// Operators between two sets. A set that a frame holds stays where it stands; the result is made above both and moved to where the frame's values begin.
+use entries::kinds;
+use machine::FRAME;
+use machine::Machine;
+use machine::Move;
+use machine::Words;
+use machine::frame;
+use machine::modes;
+use machine::phases;
+use memory_sets::Span;
+use memory_sets::moving::lower;
+use memory_sets::two::combine;
+use node::refusals;
+use operands::entry::kind_at;
+use operands::entry::place_at;
+use operands::entry::size_at;
+use sets::Worked;
+ghost use Rattle.machine.specs.States.{Ready, Steps, Topped, Takes};
+ghost use Rattle.operands.specs.Working.{source};
+ghost use Rattle.value_steps.specs.Entering.{Evaluates, Waiting};
+
+// The left operand is worked out first.
+pub fn combination(text: &[u8], work: &[u8], refs: &[u16], memory: &mut [u32], m: Machine) -> Move
+    requires { ⌜ Ready (source (now text) (now work) (now refs)) (now memory) m ⌝ }
+    requires { ⌜ Evaluates (now work) m 19 22 ⌝ }
+    ensures { λ r. ⌜ Steps (source (now (text .entry)) (now (work .entry)) (now (refs .entry))) (now (memory .entry)) (now (memory .exit)) m r ⌝ }
+{
+    let k = m.value as usize;
+    let j = k - 1 - size_at(work, k - 1);
+    m.push(memory, phases::LEFT_SET, modes::EVALUATE, j as u32)
+}
+
+// The left operand has come: the right one is worked out above it.
+pub fn left(text: &[u8], work: &[u8], refs: &[u16], memory: &mut [u32], m: Machine) -> Move
+    requires { ⌜ Topped (source (now text) (now work) (now refs)) (now memory) m ⌝ }
+    requires { ⌜ Waiting (now memory) m 4 ⌝ }
+    ensures { λ r. ⌜ Takes (source (now (text .entry)) (now (work .entry)) (now (refs .entry))) (now (memory .entry)) (now (memory .exit)) m r ⌝ }
+{
+    if m.mode != modes::SET {
+        return Move::Refused(refusals::WRONG_TYPE, 0);
+    }
+    let at = m.frames;
+    let top = m.above();
+    let k = memory[at + 1];
+    frame(
+        memory,
+        at,
+        Words {
+            phase: phases::RIGHT_SET,
+            entry: k,
+            base: m.top,
+            at: m.from,
+            count: m.value,
+            value: 0,
+            other: 0,
+        },
+    );
+    Move::Next(Machine {
+        mode: modes::EVALUATE,
+        value: k - 1,
+        from: 0,
+        scope: m.scope,
+        depth: m.depth,
+        top,
+        frames: at,
+        nodes: m.nodes,
+    })
+}
+
+// The right operand has come.
+pub fn right(text: &[u8], work: &[u8], refs: &[u16], memory: &mut [u32], m: Machine) -> Move
+    requires { ⌜ Topped (source (now text) (now work) (now refs)) (now memory) m ⌝ }
+    requires { ⌜ Waiting (now memory) m 5 ⌝ }
+    ensures { λ r. ⌜ Takes (source (now (text .entry)) (now (work .entry)) (now (refs .entry))) (now (memory .entry)) (now (memory .exit)) m r ⌝ }
+{
+    if m.mode != modes::SET {
+        return Move::Refused(refusals::WRONG_TYPE, 0);
+    }
+    let at = m.frames;
+    let k = memory[at + 1] as usize;
+    let base = memory[at + 2] as usize;
+    let left = Span {
+        at: memory[at + 3] as usize,
+        count: memory[at + 4] as usize,
+    };
+    let right = Span {
+        at: m.from,
+        count: m.value as usize,
+    };
+    let to = m.above();
+    let operator = kind_at(work, k) - kinds::COMBINATIONS;
+    let place = place_at(work, k);
+    let r = combine(place, operator, memory, left, right, to);
+    match r {
+        Worked::Value(n) => {
+            lower(memory, to, base, n as usize);
+            Move::Next(Machine {
+                mode: modes::SET,
+                value: n,
+                from: base,
+                scope: m.scope,
+                depth: m.depth,
+                top: base,
+                frames: at + FRAME,
+                nodes: m.nodes,
+            })
+        }
+        Worked::Refused(n, p) => Move::Refused(n, p),
+    }
+}

@@ -1,0 +1,80 @@
+// Numerals, and operators between two numbers.
+use entries::kinds;
+use machine::Machine;
+use machine::Move;
+use machine::Words;
+use machine::frame;
+use machine::modes;
+use machine::phases;
+use node::refusals;
+use operands::entry::kind_at;
+use operands::entry::place_at;
+use operands::entry::size_at;
+use sets::numbers;
+ghost use Rattle.machine.specs.States.{Ready, Steps, Topped, Takes};
+ghost use Rattle.operands.specs.Working.{source};
+ghost use Rattle.value_steps.specs.Entering.{Evaluates, Waiting};
+
+pub fn numeral(text: &[u8], work: &[u8], refs: &[u16], memory: &[u32], m: Machine) -> Move
+    requires { ⌜ Ready (source (now text) (now work) (now refs)) (now memory) m ⌝ }
+    requires { ⌜ Evaluates (now work) m 1 2 ⌝ }
+    ensures { λ r. ⌜ Steps (source (now (text .entry)) (now (work .entry)) (now (refs .entry))) (now (memory .entry)) (now (memory .entry)) m r ⌝ }
+{
+    let k = m.value as usize;
+    m.numbered(numbers::numeral(text, place_at(work, k)))
+}
+
+// An operator between two numbers: its left operand is worked out first.
+pub fn calculation(text: &[u8], work: &[u8], refs: &[u16], memory: &mut [u32], m: Machine) -> Move
+    requires { ⌜ Ready (source (now text) (now work) (now refs)) (now memory) m ⌝ }
+    requires { ⌜ Evaluates (now work) m 14 19 ⌝ }
+    ensures { λ r. ⌜ Steps (source (now (text .entry)) (now (work .entry)) (now (refs .entry))) (now (memory .entry)) (now (memory .exit)) m r ⌝ }
+{
+    let k = m.value as usize;
+    let j = k - 1 - size_at(work, k - 1);
+    m.push(memory, phases::LEFT, modes::EVALUATE, j as u32)
+}
+
+// The left operand has come: the right one is worked out.
+pub fn left(text: &[u8], work: &[u8], refs: &[u16], memory: &mut [u32], m: Machine) -> Move
+    requires { ⌜ Topped (source (now text) (now work) (now refs)) (now memory) m ⌝ }
+    requires { ⌜ Waiting (now memory) m 2 ⌝ }
+    ensures { λ r. ⌜ Takes (source (now (text .entry)) (now (work .entry)) (now (refs .entry))) (now (memory .entry)) (now (memory .exit)) m r ⌝ }
+{
+    if m.mode != modes::NUMBER {
+        return Move::Refused(refusals::WRONG_TYPE, 0);
+    }
+    let at = m.frames;
+    let k = memory[at + 1];
+    frame(
+        memory,
+        at,
+        Words {
+            phase: phases::RIGHT,
+            entry: k,
+            base: m.top,
+            at: 0,
+            count: 0,
+            value: m.value,
+            other: 0,
+        },
+    );
+    Move::Next(m.came(modes::EVALUATE, k - 1, 0))
+}
+
+// The right operand has come.
+pub fn right(text: &[u8], work: &[u8], refs: &[u16], memory: &[u32], m: Machine) -> Move
+    requires { ⌜ Topped (source (now text) (now work) (now refs)) (now memory) m ⌝ }
+    requires { ⌜ Waiting (now memory) m 3 ⌝ }
+    ensures { λ r. ⌜ Takes (source (now (text .entry)) (now (work .entry)) (now (refs .entry))) (now (memory .entry)) (now (memory .entry)) m r ⌝ }
+{
+    if m.mode != modes::NUMBER {
+        return Move::Refused(refusals::WRONG_TYPE, 0);
+    }
+    let at = m.frames;
+    let k = memory[at + 1] as usize;
+    let a = memory[at + 5];
+    let operator = kind_at(work, k) - kinds::ARITHMETIC;
+    let r = numbers::calculate(place_at(work, k), operator, a, m.value);
+    m.popped().numbered(r)
+}
