@@ -8,7 +8,7 @@ use Rattle.node.specs.Operators.{Unary, Not, X, G, F, Binary, And, Or, Implies,
 use Rattle.node.specs.Ltl.{Formula, True, False, Signal, One, Two}
 use Rattle.language.specs.Bytes.{ascii}
 use Rattle.language.specs.Tree.{Model, Mealy, Moore}
-use Rattle.language.specs.Reading.{Converted}
+use Rattle.language.specs.Reading.{NumberedFormula}
 use Rattle.basic.specs.Spelling.{namesOf, sideOf}
 
 abbrev pub unarySign : Unary → String
@@ -66,10 +66,10 @@ parted (t ∷ []) = t
 parted (t ∷ u ∷ us) = t ++ (32 ∷ parted (u ∷ us))
 
 -- the tokens of what a text gives, with the target's model
-abbrev pub tokensOf : Model → (text : List ℕ) → Converted → List (List ℕ)
+abbrev pub tokensOf : Model → (text : List ℕ) → NumberedFormula → List (List ℕ)
 tokensOf m text c =
     let list = c .signals in
     basicTokens m (sideOf false text list) (sideOf true text list) (namesOf text list) (c .formula)
 
-abbrev pub basicText : Model → (text : List ℕ) → Converted → List ℕ
+abbrev pub basicText : Model → (text : List ℕ) → NumberedFormula → List ℕ
 basicText m text c = parted (tokensOf m text c)

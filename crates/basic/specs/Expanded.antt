@@ -24,7 +24,7 @@ use Rattle.language.specs.Lines.{Line, Written, implied, lines}
 use Rattle.language.specs.Expansion.{gather, Context, expansion, signalOf, atSignals, defineAll, expandLine, expandSection, section as sectionOf, whole, expand}
 use Rattle.language.specs.Numbered.{flagOf}
 use Rattle.language.specs.Shifting.{adapted}
-use Rattle.language.specs.Reading.{converted}
+use Rattle.language.specs.Reading.{specExpansion}
 use Rattle.language.specs.Laws.Basics.Lists.{All, all-append}
 use Rattle.language.specs.Laws.Basics.Tests.{split, pick, leave, same-refl}
 use Rattle.language.specs.Listed.{flag}
@@ -139,8 +139,8 @@ expand-line x d tree f undefined plain h =
 -- what a tree of one model gives, where refusals 15 and 16 find nothing: the one place that opens `converted`
 converted-by : (x : Spec) (d : Declarations) (f : Formula) (m : Model) → x .semantics ≡ m → x .target ≡ m → declarations x ≡ Done d → expand x d (lines x d) ≡ Done f
     → tooManySignals 0 (inOrder d) ≡ none → size f ≤ maxNodes →
-    converted x ≡ Done (record { formula = f; signals = signalList (inOrder d) })
-unfolding converted refuseAt
+    specExpansion x ≡ Done (record { formula = f; signals = signalList (inOrder d) })
+unfolding specExpansion refuseAt
 converted-by x d f m semantics target hd hf few small =
     let signals = signalList (inOrder d) in
     let unshifted : adapted (x .semantics) (x .target) signals f ≡ f = ap₂ (λ (semantics target : Model). adapted semantics target signals f) semantics target ∙ one-model m in
@@ -213,7 +213,7 @@ module _
         ∙ expand-line spec declaredFor tree f refl refl (expansion-inside (atSignals declaredFor) names name-stands f below _)
 
     -- what the tree gives
-    pub converted-for : length names ≤ maxSignals → size (guaranteeing f) ≤ maxNodes → converted spec ≡ Done (record { formula = guaranteeing f; signals = signalList ports })
+    pub converted-for : length names ≤ maxSignals → size (guaranteeing f) ≤ maxNodes → specExpansion spec ≡ Done (record { formula = guaranteeing f; signals = signalList ports })
     converted-for few small =
         let count : length ports ≡ length names = sym (length-map ports (λ p. p .name .text)) ∙ ap length texts-for in
         converted-by spec declaredFor (guaranteeing f) m refl refl declared-for expanded-for (few-signals 0 ports narrow (omega arith)) small

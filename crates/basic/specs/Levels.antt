@@ -10,7 +10,7 @@ use Rattle.node.specs.Ltl.{Formula, True, False, Signal, One, Two}
 use Rattle.language.specs.Limits.{maxLevels}
 use Rattle.language.specs.Tokens.{Name, Token}
 use Rattle.language.specs.Tree.{Model}
-use Rattle.language.specs.Places.{levels, first, firstIn, unless, Entry, declarationLines, deepLine, tooDeep}
+use Rattle.language.specs.Places.{levels, first, firstIn, unless, TextLine, declarationLines, deepLine, tooDeep}
 use Rattle.basic.specs.Basic.{unarySign, binarySign}
 use Rattle.basic.specs.Lexed.{sign, past, ending}
 use Rattle.basic.specs.Lexemes.{bodyLexemes}
@@ -37,7 +37,7 @@ inside-levels names (Two o a b) at =
     let right = inside-levels names b second in
     omega arith
 
-singles-shallow : (at : ℕ) (ns : List (List ℕ)) (ls : List Entry) → firstIn deepLine (declarationLines (singles at ns) ls) ≡ firstIn deepLine ls
+singles-shallow : (at : ℕ) (ns : List (List ℕ)) (ls : List TextLine) → firstIn deepLine (declarationLines (singles at ns) ls) ≡ firstIn deepLine ls
 singles-shallow at [] ls = refl
 singles-shallow at (n ∷ ns) ls = singles-shallow (past (sign ";") (past (Name, n) at)) ns ls
 

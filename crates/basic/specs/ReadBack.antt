@@ -25,7 +25,7 @@ use Rattle.language.specs.Parsing.{noToken, tooManyTokens, wellFormed, parsed}
 use Rattle.language.specs.Declared.{Declarations}
 use Rattle.language.specs.Numbering.{inOrder, signalList}
 use Rattle.language.specs.Numbered.{flagOf}
-use Rattle.language.specs.Reading.{Converted, converted, meant}
+use Rattle.language.specs.Reading.{NumberedFormula, specExpansion, textExpansion}
 use Rattle.language.specs.Laws.Basics.Lists.{All, all-left, all-right, all-both}
 use Rattle.language.specs.Laws.Basics.NoPlace.{refuseAt-done}
 use Rattle.language.specs.Laws.Grammar.TokenLaws.{Ends, tokens-end}
@@ -51,19 +51,19 @@ use Rattle.basic.specs.Passing.{no-wrong, few-tokens, count-at-most, par
 -- what stands where a text was written
 record WrittenOf (text s : List ℕ) : Type 0 where
   spec : Spec
-  source : Converted
-  meaning : meant text ≡ Done source
+  source : NumberedFormula
+  meaning : textExpansion text ≡ Done source
   fair : faultFrom [] 0 (namesOf text (source .signals)) ≡ none
   bytes : basicText (spec .target) text source ≡ s
 
 written-of : {text s : List ℕ} → written text ≡ Done s → WrittenOf text s
-unfolding written meant
+unfolding written textExpansion
 written-of {text} {s} e =
     let a = bind-done (parsed text) _ e in
-    let b = bind-done (converted (a .0)) _ (a .2) in
+    let b = bind-done (specExpansion (a .0)) _ (a .2) in
     let r = refuseAt-done 22 (faultFrom [] 0 (namesOf text (b .0 .signals))) _ (b .2) in
     let same = r .1 in
-    record { spec = a .0; source = b .0; meaning = bind-to (parsed text) (a .0) converted (a .1) ∙ b .1; fair = r .0; bytes = cc }
+    record { spec = a .0; source = b .0; meaning = bind-to (parsed text) (a .0) specExpansion (a .1) ∙ b .1; fair = r .0; bytes = cc }
 
 module _ {text s : List ℕ} (w : WrittenOf text s) where
   abbrev m : Model
@@ -157,17 +157,17 @@ module _ {text s : List ℕ} (w : WrittenOf text s) where
   abbrev declared : Declarations
   declared = declaredFor m inputs outputs names f word places (listed .sides) below (fine .1)
 
-  abbrev back : Converted
+  abbrev back : NumberedFormula
   back = record { formula = guaranteeing f; signals = signalList (inOrder declared) }
 
   module _ (k : Kept s) where
     parses-as : parsed s ≡ Done tree
     parses-as = parsed-by s tree (k .short) lexes (k .counted) reads-as (well-formed (k .shallow tree reads-as))
 
-    means : meant s ≡ Done back
-    unfolding meant
+    means : textExpansion s ≡ Done back
+    unfolding textExpansion
     means =
-        bind-to (parsed s) tree converted parses-as
+        bind-to (parsed s) tree specExpansion parses-as
         ∙ converted-for m inputs outputs names f word places (listed .sides) below (fine .1) few (omega (arith, guaranteed-size f, size-small (k .counted)))
 
     -- its signals, entry by entry
@@ -222,20 +222,20 @@ module _ {text s : List ℕ} (w : WrittenOf text s) where
   abbrev read : Spec
   read = tree w
 
-  too-long : leb (length s) maxBytes ≡ false → meant s ≡ Refused 1 maxBytes
-  unfolding meant parsed
-  too-long e = bind-refused (parsed s) 1 maxBytes converted (guard-stop 1 maxBytes _ e)
+  too-long : leb (length s) maxBytes ≡ false → textExpansion s ≡ Refused 1 maxBytes
+  unfolding textExpansion parsed
+  too-long e = bind-refused (parsed s) 1 maxBytes specExpansion (guard-stop 1 maxBytes _ e)
 
-  many-tokens : (p : ℕ) → leb (length s) maxBytes ≡ true → tooManyTokens (tokens s) ≡ some p → meant s ≡ Refused 3 p
-  unfolding meant parsed refuseAt
+  many-tokens : (p : ℕ) → leb (length s) maxBytes ≡ true → tooManyTokens (tokens s) ≡ some p → textExpansion s ≡ Refused 3 p
+  unfolding textExpansion parsed refuseAt
   many-tokens p short e =
-      bind-refused (parsed s) 3 p converted
+      bind-refused (parsed s) 3 p specExpansion
       (guard-pass 1 maxBytes _ short ∙ ap₂ (λ (a b : Option ℕ). refuseAt 2 a (refuseAt 3 b (specOf (tokens s) >>= wellFormed))) (lexes w) e)
 
-  deep-tree : (p : ℕ) → leb (length s) maxBytes ≡ true → tooManyTokens (tokens s) ≡ none → tooDeep read ≡ some p → meant s ≡ Refused 5 p
-  unfolding meant parsed refuseAt
+  deep-tree : (p : ℕ) → leb (length s) maxBytes ≡ true → tooManyTokens (tokens s) ≡ none → tooDeep read ≡ some p → textExpansion s ≡ Refused 5 p
+  unfolding textExpansion parsed refuseAt
   deep-tree p short counted e =
-      bind-refused (parsed s) 5 p converted
+      bind-refused (parsed s) 5 p specExpansion
       (guard-pass 1 maxBytes _ short ∙ ap₂ (λ (a b : Option ℕ). refuseAt 2 a (refuseAt 3 b (specOf (tokens s) >>= wellFormed))) (lexes w) counted
       ∙ bind-to (specOf (tokens s)) read wellFormed (reads-as w) ∙ rw e)
 
@@ -253,7 +253,7 @@ module _ {text s : List ℕ} (w : WrittenOf text s) where
       kept-by (le-leb (length s) maxBytes short) (few-tokens maxTokens (tokens s) (omega (arith, tokens-count w)))
       (shallow-for (m w) (inputs w) (outputs w) (names w) (f w) (word w) (places w) shallow)
 
-  only-three : (n p : ℕ) → meant s ≡ Refused n p → (n ≡ 1) ⊎ ((n ≡ 3) ⊎ (n ≡ 5))
+  only-three : (n p : ℕ) → textExpansion s ≡ Refused n p → (n ≡ 1) ⊎ ((n ≡ 3) ⊎ (n ≡ 5))
   only-three n p e = by-length (leb (length s) maxBytes) refl
     where
       by-depth : (o : Option ℕ) → leb (length s) maxBytes ≡ true → tooManyTokens (tokens s) ≡ none → tooDeep read ≡ o → (n ≡ 1) ⊎ ((n ≡ 3) ⊎ (n ≡ 5))
@@ -269,14 +269,14 @@ module _ {text s : List ℕ} (w : WrittenOf text s) where
       by-length true l = by-count (tooManyTokens (tokens s)) l refl
 
 -- no other refusal than 1, 3 or 5 can meet a written text
-pub only-limits : (text : List ℕ) {s : List ℕ} {n p : ℕ} → written text ≡ Done s → meant s ≡ Refused n p → (n ≡ 1) ⊎ ((n ≡ 3) ⊎ (n ≡ 5))
+pub only-limits : (text : List ℕ) {s : List ℕ} {n p : ℕ} → written text ≡ Done s → textExpansion s ≡ Refused n p → (n ≡ 1) ⊎ ((n ≡ 3) ⊎ (n ≡ 5))
 only-limits text {n = n} {p = p} e r = only-three (written-of {text = text} e) n p r
 
 -- so the text reads back where it has at most 32,768 bytes, 8,192 tokens, and a formula of at most 128 levels
-pub kept-by-size : (text : List ℕ) {s : List ℕ} (c : Converted) → written text ≡ Done s → meant text ≡ Done c → length s ≤ maxBytes → 28 + 2 * length (c .signals) + 3 * size (c .formula) ≤ maxTokens →
+pub kept-by-size : (text : List ℕ) {s : List ℕ} (c : NumberedFormula) → written text ≡ Done s → textExpansion text ≡ Done c → length s ≤ maxBytes → 28 + 2 * length (c .signals) + 3 * size (c .formula) ≤ maxTokens →
     2 * depth (c .formula) ≤ maxLevels → Kept s
 kept-by-size text {s} c e g short few shallow =
     let w = written-of {text = text} e in
     let same : c ≡ w .source = cc (w .meaning) in
-    kept-when w short (subst (λ (d : Converted). 28 + 2 * length (d .signals) + 3 * size (d .formula) ≤ maxTokens) same few)
-    (subst (λ (d : Converted). 2 * depth (d .formula) ≤ maxLevels) same shallow)
+    kept-when w short (subst (λ (d : NumberedFormula). 28 + 2 * length (d .signals) + 3 * size (d .formula) ≤ maxTokens) same few)
+    (subst (λ (d : NumberedFormula). 2 * depth (d .formula) ≤ maxLevels) same shallow)

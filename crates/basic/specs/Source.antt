@@ -18,7 +18,7 @@ use Rattle.language.specs.Declared.{Port, inputs, outputs, Declarations, declar
 use Rattle.language.specs.Numbering.{signalsOf, entries, signalList}
 use Rattle.language.specs.Meaning.{Atom}
 use Rattle.language.specs.Numbered.{flagOf}
-use Rattle.language.specs.Reading.{Converted, meant}
+use Rattle.language.specs.Reading.{NumberedFormula, textExpansion}
 use Rattle.language.specs.Laws.Basics.Lists.{All, all-more, all-append, all-left, all-right, all-both}
 use Rattle.language.specs.Laws.Basics.Tests.{split, pick, leave, and-left, and-right, some-none}
 use Rattle.language.specs.Laws.Grammar.TreeTokens.{InDeclaration, InSubsection}
@@ -165,7 +165,7 @@ ports-of : (text : List ℕ) (output : Bool) (ps : List Port) → All (PortPlace
 ports-of text output [] a b c = tt
 ports-of text output (p ∷ ps) a b c = (record { placed = a .0; named = b .0; sided = c .0 }, ports-of text output ps (a .1) (b .1) (c .1))
 
-pub source-listed : {text : List ℕ} {c : Converted} → meant text ≡ Done c → Listed text (c .signals)
+pub source-listed : {text : List ℕ} {c : NumberedFormula} → textExpansion text ≡ Done c → Listed text (c .signals)
 source-listed {text} {c} e =
     let a = accepts e in
     let d = a .declared in

@@ -16,7 +16,7 @@ use Rattle.language.specs.Sections.{specOf}
 use Rattle.language.specs.Places.{tooDeep}
 use Rattle.language.specs.Parsing.{tooManyTokens}
 use Rattle.language.specs.Numbered.{flagOf}
-use Rattle.language.specs.Reading.{Converted, meant}
+use Rattle.language.specs.Reading.{NumberedFormula, textExpansion}
 use Rattle.writing.specs.Moving.{moved}
 use Rattle.basic.specs.Spelling.{namesOf}
 
@@ -40,10 +40,10 @@ behind n = pack 4 7 (n + 7) ∷ pack 6 5 (n + 8) ∷ pack 4 1 (n + 9) ∷ pack 6
 
 -- the text s, written of `text`, is accepted, and gives what a specification without lines gives, with the nodes written as those of its GUARANTEE
 pub record ReadsBack (text s : List ℕ) : Type 0 where
-  pub source : Converted
-  pub back : Converted
-  pub meaning : meant text ≡ Done source
-  pub reads : meant s ≡ Done back
+  pub source : NumberedFormula
+  pub back : NumberedFormula
+  pub meaning : textExpansion text ≡ Done source
+  pub reads : textExpansion s ≡ Done back
   pub formula : back .formula ≡ guaranteeing (source .formula)
   pub nodes : nodesFrom 0 (back .formula) ≡ front ++ (map (moved 0 8) (nodesFrom 0 (source .formula)) ++ behind (size (source .formula)))
   pub names : namesOf s (back .signals) ≡ namesOf text (source .signals)

@@ -12,9 +12,9 @@ use Rattle.language.specs.Limits.{maxNames}
 use Rattle.language.specs.Bytes.{same}
 use Rattle.language.specs.Tokens.{Name, Token}
 use Rattle.language.specs.Tree.{Expr, OneSignal, Model, Spec}
-use Rattle.language.specs.Places.{first, unless, Entry, DeclarationLine, FormulaLine, declarationLines, allLines, tooDeep}
+use Rattle.language.specs.Places.{first, unless, TextLine, DeclarationLine, FormulaLine, declarationLines, allLines, tooDeep}
 use Rattle.language.specs.Names.{Names, visible, hidden, again, walk, declares, declaresSignal, over, walkLines, nowhere, notVisible, doubled, declaredAgain, placeOfFirst, tooMany}
-use Rattle.language.specs.Types.{Kind, AFormula, Typings, kindIn, kindOf, isKind, mistyped, typedSignals, mistypedLines, wrongType}
+use Rattle.language.specs.Types.{ExprType, AFormula, Typings, typeIn, typeOf, isType, mistyped, typedSignals, mistypedLines, wrongType}
 use Rattle.language.specs.Laws.Basics.Lists.{All}
 use Rattle.language.specs.Laws.Basics.Tests.{leave, or-right, same-refl}
 use Rattle.language.specs.Laws.Grammar.Parses.{WellFormed}
@@ -43,7 +43,7 @@ visible-at (n ∷ ns) zero t h e = ap (λ (s : List ℕ). same (n .text) s || vi
 visible-at (n ∷ ns) (suc k) t h e = or-right (same (n .text) (t .text)) (visible ns t) (visible-at ns k t (omega arith) e)
 
 -- their tokens are what the lines declare
-declared-over : (f : Entry → Names) → ((t : Token) → f (DeclarationLine (OneSignal t)) ≡ t ∷ []) → (at : ℕ) (ns : List (List ℕ)) (ls : List Entry)
+declared-over : (f : TextLine → Names) → ((t : Token) → f (DeclarationLine (OneSignal t)) ≡ t ∷ []) → (at : ℕ) (ns : List (List ℕ)) (ls : List TextLine)
     → over f (declarationLines (singles at ns) ls) ≡ nameTokens at ns ++ over f ls
 declared-over f h at [] ls = refl
 declared-over f h at (n ∷ ns) ls =
@@ -52,7 +52,7 @@ declared-over f h at (n ∷ ns) ls =
 
 -- a walk over the declarations finds no place of its own; what is asked of the visible names stays true of more
 module _ (used bound : Names → Token → Option ℕ) (P : Names → Type 0) (grows : (t : Token) (ns : Names) → P ns → P (t ∷ ns)) where
-  walk-singles : (at : ℕ) (ms : List (List ℕ)) (ls : List Entry) → ((ns : Names) → P ns → walkLines used bound ns ls ≡ none) → (ns : Names) → P ns
+  walk-singles : (at : ℕ) (ms : List (List ℕ)) (ls : List TextLine) → ((ns : Names) → P ns → walkLines used bound ns ls ≡ none) → (ns : Names) → P ns
       → walkLines used bound ns (declarationLines (singles at ms) ls) ≡ none
   walk-singles at [] ls h ns p = h ns p
   walk-singles at (m ∷ ms) ls h ns p = walk-singles (past (sign ";") (past (Name, m) at)) ms ls h (tokenAt at (Name, m) ∷ ns) (grows (tokenAt at (Name, m)) ns p)
@@ -80,24 +80,24 @@ doubled-none (n ∷ ns) h = ap₂ first (again-none ns n (h .0)) (doubled-none n
 abbrev typings : Names → Typings
 typings ns = map (λ t. record { name = t; kind = AFormula }) ns
 
-kind-visible : (ns : Names) (t : Token) → visible ns t ≡ true → kindIn (typings ns) t ≡ AFormula
+kind-visible : (ns : Names) (t : Token) → visible ns t ≡ true → typeIn (typings ns) t ≡ AFormula
 kind-visible [] t h = absurd (false≢true h)
 kind-visible (n ∷ ns) t h = go (same (n .text) (t .text)) h (λ g. kind-visible ns t g)
   where
-    go : (c : Bool) → (c || visible ns t) ≡ true → (visible ns t ≡ true → kindIn (typings ns) t ≡ AFormula) → _≡_ {A = Kind} (elim c [ true ↦ AFormula | false ↦ kindIn (typings ns) t ]) AFormula
+    go : (c : Bool) → (c || visible ns t) ≡ true → (visible ns t ≡ true → typeIn (typings ns) t ≡ AFormula) → _≡_ {A = ExprType} (elim c [ true ↦ AFormula | false ↦ typeIn (typings ns) t ]) AFormula
     go true g f = refl
     go false g f = f g
 
-typed-singles : (at : ℕ) (ns : List (List ℕ)) (ls : List Entry) → typedSignals (declarationLines (singles at ns) ls) ≡ typings (nameTokens at ns) ++ typedSignals ls
+typed-singles : (at : ℕ) (ns : List (List ℕ)) (ls : List TextLine) → typedSignals (declarationLines (singles at ns) ls) ≡ typings (nameTokens at ns) ++ typedSignals ls
 typed-singles at [] ls = refl
 typed-singles at (n ∷ ns) ls = let next = past (sign ";") (past (Name, n) at) in ap (record { name = tokenAt at (Name, n); kind = AFormula } ∷_) (typed-singles next ns ls)
 
-mistyped-singles : (ys : Typings) (at : ℕ) (ns : List (List ℕ)) (ls : List Entry) → mistypedLines ys (declarationLines (singles at ns) ls) ≡ mistypedLines ys ls
+mistyped-singles : (ys : Typings) (at : ℕ) (ns : List (List ℕ)) (ls : List TextLine) → mistypedLines ys (declarationLines (singles at ns) ls) ≡ mistypedLines ys ls
 mistyped-singles ys at [] ls = refl
 mistyped-singles ys at (n ∷ ns) ls = mistyped-singles ys (past (sign ";") (past (Name, n) at)) ns ls
 
-module _ (ys : Typings) (names : List (List ℕ)) (h : (k : ℕ) (t : Token) → k < length names → t .text ≡ getD names k [] → kindIn ys t ≡ AFormula) where
-  kind-inside : (f : Formula) → SignalsBelow (length names) f → (at : ℕ) → kindOf ys (insideOf names at f) ≡ AFormula
+module _ (ys : Typings) (names : List (List ℕ)) (h : (k : ℕ) (t : Token) → k < length names → t .text ≡ getD names k [] → typeIn ys t ≡ AFormula) where
+  kind-inside : (f : Formula) → SignalsBelow (length names) f → (at : ℕ) → typeOf ys (insideOf names at f) ≡ AFormula
   unfolding SignalsBelow
   kind-inside True s at = refl
   kind-inside False s at = refl
@@ -105,8 +105,8 @@ module _ (ys : Typings) (names : List (List ℕ)) (h : (k : ℕ) (t : Token) →
   kind-inside (One o a) s at = refl
   kind-inside (Two o a b) s at = refl
 
-  right-kind : (f : Formula) → SignalsBelow (length names) f → (at place : ℕ) → unless (isKind AFormula (kindOf ys (insideOf names at f))) place ≡ none
-  right-kind f s at place = ap (λ (k : Kind). unless (isKind AFormula k) place) (kind-inside f s at)
+  right-kind : (f : Formula) → SignalsBelow (length names) f → (at place : ℕ) → unless (isType AFormula (typeOf ys (insideOf names at f))) place ≡ none
+  right-kind f s at place = ap (λ (k : ExprType). unless (isType AFormula k) place) (kind-inside f s at)
 
   mistyped-inside : (f : Formula) → SignalsBelow (length names) f → (at : ℕ) → mistyped ys (insideOf names at f) ≡ none
   unfolding SignalsBelow
@@ -133,7 +133,7 @@ module _
     abbrev tokenNames : Names
     tokenNames = nameTokens (at .0) inputs ++ nameTokens (at .1) outputs
 
-    tokens-over : (g : Entry → Names) → ((t : Token) → g (DeclarationLine (OneSignal t)) ≡ t ∷ []) → ((e : Expr) → g (FormulaLine e) ≡ []) → over g (allLines spec) ≡ tokenNames
+    tokens-over : (g : TextLine → Names) → ((t : Token) → g (DeclarationLine (OneSignal t)) ≡ t ∷ []) → ((e : Expr) → g (FormulaLine e) ≡ []) → over g (allLines spec) ≡ tokenNames
     tokens-over g h no-more =
         declared-over g h (at .0) inputs _
         ∙ ap (λ (ns : Names). nameTokens (at .0) inputs ++ ns) (declared-over g h (at .1) outputs _ ∙ ap (λ (ns : Names). nameTokens (at .1) outputs ++ (ns ++ [])) (no-more _) ∙ append-nil
@@ -184,7 +184,7 @@ module _
     right-types =
         let ys = typings tokenNames in
         let tree = treeOf names (at .2) f in
-        let kinds : (k : ℕ) (t : Token) → k < length names → t .text ≡ getD names k [] → kindIn ys t ≡ AFormula = λ k t l e. kind-visible tokenNames t (sees-all k t l e) in
+        let kinds : (k : ℕ) (t : Token) → k < length names → t .text ≡ getD names k [] → typeIn ys t ≡ AFormula = λ k t l e. kind-visible tokenNames t (sees-all k t l e) in
         let typed : typedSignals (allLines spec) ≡ ys =
         typed-singles (at .0) inputs _ ∙ ap (typings (nameTokens (at .0) inputs) ++_) (typed-singles (at .1) outputs _ ∙ append-nil (typings (nameTokens (at .1) outputs)))
         ∙ sym (map-append (λ (t : Token). record { name = t; kind = AFormula }) (nameTokens (at .0) inputs) (nameTokens (at .1) outputs)) in

@@ -10,7 +10,7 @@ use Rattle.language.specs.Limits.{maxName, workBytes}
 use Rattle.language.specs.Bytes.{same}
 use Rattle.language.specs.Places.{refuseAt}
 use Rattle.language.specs.Parsing.{parsed}
-use Rattle.language.specs.Reading.{converted}
+use Rattle.language.specs.Reading.{specExpansion}
 use Rattle.basic.specs.Spelling.{namesOf}
 use Rattle.basic.specs.Basic.{basicText}
 
@@ -28,7 +28,7 @@ faultFrom before k (n ∷ ns) =
 -- what the text alone decides
 unfoldable pub written : List ℕ → Result (List ℕ)
 written text =
-    parsed text >>= λ x. converted x >>= λ c.
+    parsed text >>= λ x. specExpansion x >>= λ c.
     refuseAt 22 (faultFrom [] 0 (namesOf text (c .signals))) (Done (basicText (x .target) text c))
 
 -- the largest count that an answer can tell

@@ -15,7 +15,7 @@ use Rattle.language.specs.Limits.{workBytes}
 use Rattle.language.specs.Bytes.{ascii}
 use Rattle.language.specs.Places.{refuseAt}
 use Rattle.language.specs.Parsing.{parsed}
-use Rattle.language.specs.Reading.{converted}
+use Rattle.language.specs.Reading.{specExpansion}
 use Rattle.language.specs.Cases.{repeated}
 use Rattle.language.specs.Laws.Basics.Tests.{and-left}
 use Rattle.basic.specs.Spelling.{digitsOf}
@@ -27,28 +27,28 @@ use Rattle.basic.specs.ReadBack.{read-back}
 
 -- 17 before 1, the reader's refusals before 22, 22 before 18
 work-first : writing (repeated 32769 " ") 65535 0 ≡ Refused 17 0
-unfolding writing written parsed converted _>>=_ guard refuseAt size
+unfolding writing written parsed specExpansion _>>=_ guard refuseAt size
 work-first = refl
 
 text-next : writing (repeated 32769 " ") 65536 0 ≡ Refused 1 32768
-unfolding writing written parsed converted _>>=_ guard refuseAt size
+unfolding writing written parsed specExpansion _>>=_ guard refuseAt size
 text-next = refl
 
 names-before-room : writing (declaring (ascii "b@0; b[1];")) 65536 0 ≡ Refused 22 1
-unfolding writing written parsed converted _>>=_ guard refuseAt size digitsOf formulaTokens infoTokens lineTokens basicTokens parted
+unfolding writing written parsed specExpansion _>>=_ guard refuseAt size digitsOf formulaTokens infoTokens lineTokens basicTokens parted
 names-before-room = refl
 
 -- room: just enough, one more, one short, none
 room : bytesTold (writing file 65536 266) ≡ Done 266
-unfolding writing written parsed converted _>>=_ guard refuseAt size formulaTokens infoTokens lineTokens basicTokens parted digitsOf
+unfolding writing written parsed specExpansion _>>=_ guard refuseAt size formulaTokens infoTokens lineTokens basicTokens parted digitsOf
 room = refl
 
 room-short : writing file 65536 265 ≡ Refused 18 0
-unfolding writing written parsed converted _>>=_ guard refuseAt size formulaTokens infoTokens lineTokens basicTokens parted digitsOf
+unfolding writing written parsed specExpansion _>>=_ guard refuseAt size formulaTokens infoTokens lineTokens basicTokens parted digitsOf
 room-short = refl
 
 no-room : writing file 65537 0 ≡ Refused 18 0
-unfolding writing written parsed converted _>>=_ guard refuseAt size formulaTokens infoTokens lineTokens basicTokens parted digitsOf
+unfolding writing written parsed specExpansion _>>=_ guard refuseAt size formulaTokens infoTokens lineTokens basicTokens parted digitsOf
 no-room = refl
 
 -- a count of 32 bits can be told, and one more not, whatever room there is

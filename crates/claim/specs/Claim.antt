@@ -20,7 +20,7 @@ use Rattle.language.specs.Parsing.{parsed}
 use Rattle.language.specs.Meaning.{Word, TextMeans}
 use Rattle.language.specs.Numbered.{numbered}
 use Rattle.language.specs.Listed.{Once, ListedAs}
-use Rattle.language.specs.Reading.{Converted, counts}
+use Rattle.language.specs.Reading.{NumberedFormula, counts}
 
 -- the nodes that stand in a buffer, n of them: their root, the last, holds where the text does, signal k being what entry k of the signal list names
 abbrev pub Says : List ℕ → List ℕ → List ℕ → ℕ → Type 0
@@ -46,11 +46,11 @@ pub record Demand3 (text : List ℕ) (number : ℕ) (nodes signals : List ℕ) (
   pub listed : (x : Spec) → parsed text ≡ Done x → ListedAs x (take s signals)
 
 -- the reader's nodes for an accepted text
-abbrev pub nodesOf : Converted → List ℕ
+abbrev pub nodesOf : NumberedFormula → List ℕ
 nodesOf c = nodesFrom 0 (c .formula)
 
 -- demand 3 of an accepted text
-pub record Claim (text : List ℕ) (c : Converted) : Type 0 where
+pub record Claim (text : List ℕ) (c : NumberedFormula) : Type 0 where
   -- what the reader leaves, whatever stands after it
   pub reader : (rest others : List ℕ) → Demand3 text 0 (nodesOf c ++ rest) (c .signals ++ others) (size (c .formula)) (length (c .signals))
   -- what the rewriter leaves, given the reader's nodes and a form
@@ -61,7 +61,7 @@ pub record Claim (text : List ℕ) (c : Converted) : Type 0 where
       → rewriting number (nodesOf c) room ≡ guard (leb (size (form number (c .formula))) room) 18 0 (Done (record { nodes = size (form number (c .formula)); signals = 0 }))
 
 -- what the reader's whole answer leaves in buffers of any length: the claim on what stands there, and the nodes and the signal list to hand on
-pub record Leaves (text nodes signals : List ℕ) (c : Converted) : Type 0 where
+pub record Leaves (text nodes signals : List ℕ) (c : NumberedFormula) : Type 0 where
   pub claim : Claim text c
   pub demand : Demand3 text 0 nodes signals (counts c .nodes) (counts c .signals)
   pub handed : take (counts c .nodes) nodes ≡ nodesOf c

@@ -24,13 +24,13 @@ use Rattle.rewriter.specs.Rewriting.{fitting, rewriting, rewritten, target}
 use Rattle.rewriter.specs.RewritingLaws.{accepts as rewriter-accepts}
 use Rattle.rewriter.specs.OwnNodes.{own-root, own-rewriting}
 use Rattle.language.specs.Numbered.{numbered}
-use Rattle.language.specs.Reading.{Converted, meant, reading, nodesAfter, signalsAfter}
+use Rattle.language.specs.Reading.{NumberedFormula, textExpansion, reading, nodesAfter, signalsAfter}
 use Rattle.language.specs.Laws.Buffers.{accepted-meant, accepted-delivers}
 use Rattle.language.specs.Laws.Meaning.ListedSignals.{unnumbered, numbered-back}
 use Rattle.language.specs.Laws.Meaning.Acceptance.{accepts, text-agrees, text-signals, list-limited, text-once, text-listed}
 use Rattle.claim.specs.Claim.{Demand3, Claim, Leaves, nodesOf}
 
-module _ (text : List ℕ) (c : Converted) (e : meant text ≡ Done c) where
+module _ (text : List ℕ) (c : NumberedFormula) (e : textExpansion text ≡ Done c) where
   pub text-few : size (c .formula) ≤ maxNodes
   text-few = accepts e .fewNodes
 
@@ -72,11 +72,11 @@ module _ (text : List ℕ) (c : Converted) (e : meant text ≡ Done c) where
   form-fits number h room k = own-rewriting number (c .formula) room h text-small text-few ∙ guard-pass 16 0 _ (le-leb (size (form number (c .formula))) maxNodes k)
 
 -- demand 3: for every text's bytes that are accepted
-pub demand-3 : (text : List ℕ) (c : Converted) → meant text ≡ Done c → Claim text c
+pub demand-3 : (text : List ℕ) (c : NumberedFormula) → textExpansion text ≡ Done c → Claim text c
 demand-3 text c e =
     record { reader = λ rest others. form-demand text c e 0 rest others (text-few text c e); rewriter = rewriter-demand text c e; fits = form-fits text c e }
 
-pub reader-claim : (text : List ℕ) (work : ℕ) (nodes signals : List ℕ) (c : Converted) → reading text work (length nodes) (length signals) ≡ Done c
+pub reader-claim : (text : List ℕ) (work : ℕ) (nodes signals : List ℕ) (c : NumberedFormula) → reading text work (length nodes) (length signals) ≡ Done c
     → Leaves text (nodesAfter (Done c) nodes) (signalsAfter (Done c) signals) c
 reader-claim text work nodes signals c e =
     let d = demand-3 text c (accepted-meant text work nodes signals c e .0) in

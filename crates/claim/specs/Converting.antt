@@ -9,21 +9,21 @@ use Rattle.node.specs.Postorder.{size}
 use Rattle.node.specs.Result.{Result, _>>=_, guard}
 use Rattle.forms.specs.Forms.{form}
 use Rattle.language.specs.Limits.{workBytes}
-use Rattle.language.specs.Reading.{Converted, meant, delivered}
+use Rattle.language.specs.Reading.{NumberedFormula, textExpansion, delivered}
 
 -- the text's formula in a form, and the text's signals
-abbrev pub inForm : (number : ℕ) → Converted → Converted
+abbrev pub inForm : (number : ℕ) → NumberedFormula → NumberedFormula
 inForm number c = record { formula = form number (c .formula); signals = c .signals }
 
 -- 'Rewriter: 21, 19, 16, 18': 21: 'form not 0, 1, 2'; 19 is never due, the reader's nodes being a table of the format; 16: 'more than 8,192 nodes by the definition'
-unfoldable pub formed : (number nodes signals : ℕ) → Converted → Result Converted
+unfoldable pub formed : (number nodes signals : ℕ) → NumberedFormula → Result NumberedFormula
 formed number nodes signals c =
     guard (leb number 2) 21 0 (guard (leb (size (form number (c .formula))) maxNodes) 16 0 (delivered nodes signals (inForm number c)))
 
 -- the reader's 17, then 1 to 16, then the rewriter's
-unfoldable pub converting : (text : List ℕ) (number work nodes signals : ℕ) → Result Converted
-converting text number work nodes signals = guard (leb workBytes work) 17 0 (meant text >>= formed number nodes signals)
+unfoldable pub converting : (text : List ℕ) (number work nodes signals : ℕ) → Result NumberedFormula
+converting text number work nodes signals = guard (leb workBytes work) 17 0 (textExpansion text >>= formed number nodes signals)
 
 -- on the buffers themselves
-abbrev pub conversion : (text : List ℕ) (number : ℕ) (work nodes signals : List ℕ) → Result Converted
+abbrev pub conversion : (text : List ℕ) (number : ℕ) (work nodes signals : List ℕ) → Result NumberedFormula
 conversion text number work nodes signals = converting text number (length work) (length nodes) (length signals)

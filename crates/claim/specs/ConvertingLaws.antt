@@ -12,17 +12,17 @@ use Rattle.node.specs.Result.{Result, Done, Refused, _>>=_, guard}
 use Rattle.node.specs.ResultLaws.{guard-pass, guard-done, guard-bind}
 use Rattle.forms.specs.Forms.{form}
 use Rattle.language.specs.Limits.{maxSignals, workBytes}
-use Rattle.language.specs.Reading.{Converted, meant, delivered, reading}
+use Rattle.language.specs.Reading.{NumberedFormula, textExpansion, delivered, reading}
 use Rattle.language.specs.Laws.Buffers.{delivered-same}
 use Rattle.language.specs.Laws.Meaning.Acceptance.{accepts, list-limited}
 use Rattle.claim.specs.Converting.{inForm, formed, converting}
 
 -- no accepted text is too large for the largest buffers
-all-delivered : (text : List ℕ) → meant text >>= delivered maxNodes maxSignals ≡ meant text
+all-delivered : (text : List ℕ) → textExpansion text >>= delivered maxNodes maxSignals ≡ textExpansion text
 unfolding _>>=_
-all-delivered text = go (meant text) refl
+all-delivered text = go (textExpansion text) refl
   where
-    go : (r : Result Converted) → meant text ≡ r → r >>= delivered maxNodes maxSignals ≡ r
+    go : (r : Result NumberedFormula) → textExpansion text ≡ r → r >>= delivered maxNodes maxSignals ≡ r
     go (Done c) e = guard-pass 18 0 _ (ap₂ _&&_ (le-leb (size (c .formula)) maxNodes (accepts e .fewNodes)) (le-leb (length (c .signals)) maxSignals (list-limited text c e)))
     go (Refused n p) e = refl
 
@@ -32,14 +32,14 @@ pub converting-reads : (text : List ℕ) (number work nodes signals : ℕ)
 unfolding converting reading
 converting-reads text number work nodes signals =
     let k = formed number nodes signals in
-    sym (guard-bind (leb workBytes work) 17 0 _ k ∙ ap (λ (r : Result Converted). guard (leb workBytes work) 17 0 (r >>= k)) (all-delivered text))
+    sym (guard-bind (leb workBytes work) 17 0 _ k ∙ ap (λ (r : Result NumberedFormula). guard (leb workBytes work) 17 0 (r >>= k)) (all-delivered text))
 
 -- what is accepted of a text is its form, which fits
-pub record FormOf (number : ℕ) (c d : Converted) : Type 0 where
+pub record FormOf (number : ℕ) (c d : NumberedFormula) : Type 0 where
   pub few : size (form number (c .formula)) ≤ maxNodes
   pub same : inForm number c ≡ d
 
-pub formed-done : (number : ℕ) (nodes signals : List ℕ) (c : Converted) {d : Converted} → formed number (length nodes) (length signals) c ≡ Done d → FormOf number c d
+pub formed-done : (number : ℕ) (nodes signals : List ℕ) (c : NumberedFormula) {d : NumberedFormula} → formed number (length nodes) (length signals) c ≡ Done d → FormOf number c d
 unfolding formed
 formed-done number nodes signals c e =
     let g = guard-done _ 21 0 _ e in

@@ -12,7 +12,7 @@ use Rattle.node.specs.declared.Answer.{Answer}
 use Rattle.node.specs.declared.Answer.the-variants.{Accepted}
 use Rattle.forms.specs.Forms.{form}
 use Rattle.language.specs.Limits.{workBytes}
-use Rattle.language.specs.Reading.{Converted, meant, delivered}
+use Rattle.language.specs.Reading.{NumberedFormula, textExpansion, delivered}
 use Rattle.claim.specs.Claim.{Demand3}
 use Rattle.claim.specs.Yields.{told, Yields}
 use Rattle.claim.specs.Converting.{inForm, conversion}
@@ -23,5 +23,5 @@ pub record Converts (text : List ℕ) (number : ℕ) (work nodes signals work′
   -- accepted: demand 3 on what stands in the lent buffers, by the counts told
   pub demand : (n s : ℕ) → r ≡ Accepted n s → Demand3 text number nodes′ signals′ n s
   -- 'A form fits if its definition gives at most 8,192 nodes; then only 18 refuses it': of an accepted text, given a work buffer that is long enough
-  pub fits : (c : Converted) → meant text ≡ Done c → number ≤ 2 → size (form number (c .formula)) ≤ maxNodes → workBytes ≤ length work
+  pub fits : (c : NumberedFormula) → textExpansion text ≡ Done c → number ≤ 2 → size (form number (c .formula)) ≤ maxNodes → workBytes ≤ length work
       → says r ≡ told (delivered (length nodes) (length signals) (inForm number c))

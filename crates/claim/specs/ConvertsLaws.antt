@@ -12,7 +12,7 @@ use Rattle.node.specs.declared.Answer.{Answer}
 use Rattle.node.specs.declared.Answer.the-variants.{Accepted}
 use Rattle.forms.specs.Forms.{form}
 use Rattle.language.specs.Limits.{workBytes}
-use Rattle.language.specs.Reading.{Converted, counts, meant, delivered, nodesAfter, signalsAfter}
+use Rattle.language.specs.Reading.{NumberedFormula, counts, textExpansion, delivered, nodesAfter, signalsAfter}
 use Rattle.claim.specs.Claim.{Demand3}
 use Rattle.claim.specs.ClaimLaws.{form-demand}
 use Rattle.claim.specs.Yields.{told, Yields}
@@ -22,20 +22,20 @@ use Rattle.claim.specs.ConvertingLaws.{FormOf, formed-done}
 use Rattle.claim.specs.Converts.{Converts}
 
 -- an accepted conversion is one of an accepted text
-record FromText (text : List ℕ) (number : ℕ) (d : Converted) : Type 0 where
-  source : Converted
-  meaning : meant text ≡ Done source
+record FromText (text : List ℕ) (number : ℕ) (d : NumberedFormula) : Type 0 where
+  source : NumberedFormula
+  meaning : textExpansion text ≡ Done source
   form : FormOf number source d
 
 module _ (text : List ℕ) (number work : ℕ) (nodes signals : List ℕ) where
-  from-text : (d : Converted) → converting text number work (length nodes) (length signals) ≡ Done d → FromText text number d
+  from-text : (d : NumberedFormula) → converting text number work (length nodes) (length signals) ≡ Done d → FromText text number d
   unfolding converting
   from-text d e =
       let a = guard-done _ 17 0 _ e in
-      let b = bind-done (meant text) _ (a .1) in
+      let b = bind-done (textExpansion text) _ (a .1) in
       record { source = b .0; meaning = b .1; form = formed-done number nodes signals (b .0) (b .2) }
 
-  fitting-delivered : (c : Converted) → meant text ≡ Done c → number ≤ 2 → size (form number (c .formula)) ≤ maxNodes → workBytes ≤ work
+  fitting-delivered : (c : NumberedFormula) → textExpansion text ≡ Done c → number ≤ 2 → size (form number (c .formula)) ≤ maxNodes → workBytes ≤ work
       → converting text number work (length nodes) (length signals) ≡ delivered (length nodes) (length signals) (inForm number c)
   unfolding converting formed _>>=_
   fitting-delivered c e h k l =
@@ -51,7 +51,7 @@ module _ (text : List ℕ) (number : ℕ) {work nodes signals work′ nodes′ s
       let f = from-text text number (length work) nodes signals d (a .done) in
       let c = f .source in
       let here : Demand3 text number (nodesAfter (Done d) nodes) (signalsAfter (Done d) signals) (counts d .nodes) (counts d .signals) =
-      subst (λ (x : Converted). Demand3 text number (nodesAfter (Done x) nodes) (signalsAfter (Done x) signals) (counts x .nodes) (counts x .signals)) (f .form .same)
+      subst (λ (x : NumberedFormula). Demand3 text number (nodesAfter (Done x) nodes) (signalsAfter (Done x) signals) (counts x .nodes) (counts x .signals)) (f .form .same)
       (form-demand text c (f .meaning) number (drop (size (form number (c .formula))) nodes) (drop (length (c .signals)) signals) (f .form .few)) in
       rw (y .nodesLeft, y .signalsLeft, a .done) (subst (λ (k : Counts). Demand3 text number (nodesAfter (Done d) nodes) (signalsAfter (Done d) signals) (k .nodes) (k .signals)) (a .same) here)
 

@@ -5,10 +5,10 @@ use Prim.Native.Nat.{ℕ}
 use lib.ListN.{length}
 use Rattle.node.specs.Result.{Done}
 use Rattle.node.specs.declared.Answer.{Answer}
-use Rattle.language.specs.Reading.{Converted, reading}
+use Rattle.language.specs.Reading.{NumberedFormula, reading}
 use Rattle.claim.specs.Claim.{Leaves}
 use Rattle.claim.specs.Yields.{Yields}
 
 pub record Reads (text work nodes signals work′ nodes′ signals′ : List ℕ) (r : Answer) : Type 0 where
   pub yields : Yields (reading text (length work) (length nodes) (length signals)) work nodes signals work′ nodes′ signals′ r
-  pub leaves : (c : Converted) → reading text (length work) (length nodes) (length signals) ≡ Done c → Leaves text nodes′ signals′ c
+  pub leaves : (c : NumberedFormula) → reading text (length work) (length nodes) (length signals) ≡ Done c → Leaves text nodes′ signals′ c

@@ -12,7 +12,7 @@ use Rattle.language.specs.Tokens.{tokens}
 use Rattle.language.specs.Tree.{Spec}
 use Rattle.language.specs.Sections.{specOf}
 use Rattle.language.specs.Parsing.{wellFormed, parsed}
-use Rattle.language.specs.Reading.{Converted, converted, meant, delivered, reading}
+use Rattle.language.specs.Reading.{NumberedFormula, specExpansion, textExpansion, delivered, reading}
 use Rattle.language.specs.Laws.Basics.Lists.{Any, all-any}
 use Rattle.language.specs.Laws.Basics.Results.{Answers, done, refused, guarded, placed, bind, weaken, refusal-of}
 use Rattle.language.specs.Laws.Grammar.SpecReads.{specOf-decides}
@@ -48,26 +48,26 @@ parsed-numbers text =
     placed 5 _ (λ p _. omega arith) (placed 6 _ (λ p _. omega arith) (placed 7 _ (λ p _. omega arith) (placed 8 _ (λ p _. omega arith)
     (placed 9 _ (λ p _. omega arith) (placed 10 _ (λ p _. omega arith) (done tt)))))))))
 
-meant-numbers : (text : List ℕ) → Uses 16 (meant text)
-unfolding meant _>>=_
+meant-numbers : (text : List ℕ) → Uses 16 (textExpansion text)
+unfolding textExpansion _>>=_
 meant-numbers text = go (parsed text) refl (parsed-numbers text)
   where
-    go : (r : Result Spec) → parsed text ≡ r → Uses 10 r → Uses 16 (r >>= converted)
-    go (Done x) e h = uses 16 (converted x) (λ n p q. let late = parsed-refused text x e n p q in (late .1, late .2))
+    go : (r : Result Spec) → parsed text ≡ r → Uses 10 r → Uses 16 (r >>= specExpansion)
+    go (Done x) e h = uses 16 (specExpansion x) (λ n p q. let late = parsed-refused text x e n p q in (late .1, late .2))
     go (Refused n p) e h = let first = h .says in refused (omega (arith, first .0), first .1)
 
 module _ (m : ℕ) (large : 18 ≤ m) where
-  delivered-numbers : (nodes signals : ℕ) (c : Converted) → Uses m (delivered nodes signals c)
+  delivered-numbers : (nodes signals : ℕ) (c : NumberedFormula) → Uses m (delivered nodes signals c)
   delivered-numbers nodes signals c = tested _ 18 0 (omega arith) (done tt)
 
-  meant-up : (text : List ℕ) → Uses m (meant text)
-  meant-up text = weaken (meant text) (λ n p l. (omega (arith, l .0), l .1)) (λ c _. tt) (meant-numbers text)
+  meant-up : (text : List ℕ) → Uses m (textExpansion text)
+  meant-up text = weaken (textExpansion text) (λ n p l. (omega (arith, l .0), l .1)) (λ c _. tt) (meant-numbers text)
 
 module _ (text : List ℕ) (work nodes signals : ℕ) where
   reading-uses : Uses 18 (reading text work nodes signals)
   unfolding reading
   reading-uses =
-      tested _ 17 0 (omega arith) (bind (meant text) _ (meant-up 18 (omega arith) text) (λ c _. delivered-numbers 18 (omega arith) nodes signals c))
+      tested _ 17 0 (omega arith) (bind (textExpansion text) _ (meant-up 18 (omega arith) text) (λ c _. delivered-numbers 18 (omega arith) nodes signals c))
 
   pub reading-numbers : UpTo 18 (reading text work nodes signals)
   reading-numbers = weaken (reading text work nodes signals) (λ n p l. l .0) (λ c _. tt) reading-uses
@@ -80,7 +80,7 @@ module _ (text : List ℕ) (number work nodes signals : ℕ) where
   converting-uses : Uses 21 (converting text number work nodes signals)
   unfolding converting formed
   converting-uses =
-      tested _ 17 0 (omega arith) (bind (meant text) _ (meant-up 21 (omega arith) text) (λ c _.
+      tested _ 17 0 (omega arith) (bind (textExpansion text) _ (meant-up 21 (omega arith) text) (λ c _.
       tested _ 21 0 (omega arith) (tested _ 16 0 (omega arith) (delivered-numbers 21 (omega arith) nodes signals (inForm number c)))))
 
   pub converting-numbers : UpTo 21 (converting text number work nodes signals)

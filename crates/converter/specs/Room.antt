@@ -18,7 +18,7 @@ use Rattle.forms.specs.Forms.{form}
 use Rattle.rewriter.specs.Rewriting.{fitting, rewriting}
 use Rattle.rewriter.specs.RewritingLaws.{rewriting-form}
 use Rattle.rewriter.specs.OwnNodes.{own-rewriting}
-use Rattle.language.specs.Reading.{Converted, meant}
+use Rattle.language.specs.Reading.{NumberedFormula, textExpansion}
 use Rattle.claim.specs.Claim.{nodesOf}
 use Rattle.claim.specs.ClaimLaws.{text-few, text-small}
 use Rattle.claim.specs.Yields.{told}
@@ -66,7 +66,7 @@ told-behind k l a b e false q r = refl
 abbrev pub withSignals : ℕ → Result Counts → Result Counts
 withSignals s r = r >>= λ k. Done (record { nodes = k .nodes; signals = s })
 
-module _ (text : List ℕ) (c : Converted) (e : meant text ≡ Done c) (number : ℕ) where
+module _ (text : List ℕ) (c : NumberedFormula) (e : textExpansion text ≡ Done c) (number : ℕ) where
   -- the rewriter on the reader's nodes: never 19
   own-answer : (room : ℕ) → rewriting number (nodesOf c) room ≡ guard (leb number 2) 21 0 (fitting (form number (c .formula)) room)
   own-answer room = go (decLe number 2)

@@ -17,7 +17,7 @@ use Rattle.forms.specs.Forms.{form}
 use Rattle.rewriter.specs.Rewriting.{rewriting, target, leaves}
 use Rattle.rewriter.specs.OwnNodes.{own-root}
 use Rattle.language.specs.Limits.{maxSignals}
-use Rattle.language.specs.Reading.{Converted, meant, reading, nodesAfter, signalsAfter, workAfter}
+use Rattle.language.specs.Reading.{NumberedFormula, textExpansion, reading, nodesAfter, signalsAfter, workAfter}
 use Rattle.language.specs.Laws.Buffers.{accepted-meant}
 use Rattle.claim.specs.Claim.{nodesOf}
 use Rattle.claim.specs.ClaimLaws.{text-few, text-small}
@@ -33,8 +33,8 @@ use Rattle.converter.specs.WritingOut.{listLeft, WritesOut}
 
 -- what is at hand once the text is read: its nodes in the table, its signals in the list
 pub record AtHand (text : List ℕ) (number : ℕ) (work nodes signals work′ table list : List ℕ) (n s : ℕ) : Type 0 where
-  pub source : Converted
-  pub meaning : meant text ≡ Done source
+  pub source : NumberedFormula
+  pub meaning : textExpansion text ≡ Done source
   pub answer : conversion text number work nodes signals ≡ formed number (length nodes) (length signals) source
   pub listTold : s ≡ length (source .signals)
   pub handed : take n table ≡ nodesOf source
@@ -49,11 +49,11 @@ taken-room n l e = let cut : length (take n l) ≡ min n (length l) = length-tak
 
 module _ (number : ℕ) (nodes signals : List ℕ) {text work work′ table table′ list list′ : List ℕ} {a : Answer}
     (read : Reads text work table list work′ table′ list′ a) (large : length table ≡ maxNodes) (long : length list ≡ maxSignals) where
-  after-reading : (r : Result Converted) → reading text (length work) (length table) (length list) ≡ r
+  after-reading : (r : Result NumberedFormula) → reading text (length work) (length table) (length list) ≡ r
       → conversion text number work nodes signals ≡ r >>= formed number (length nodes) (length signals)
   after-reading r e =
       converting-reads text number (length work) (length nodes) (length signals)
-      ∙ ap (λ (x : Result Converted). x >>= formed number (length nodes) (length signals)) (ap₂ (reading text (length work)) (sym large) (sym long) ∙ e)
+      ∙ ap (λ (x : Result NumberedFormula). x >>= formed number (length nodes) (length signals)) (ap₂ (reading text (length work)) (sym large) (sym long) ∙ e)
 
   -- a text that is refused
   pub read-refused : {n p : ℕ} → a ≡ Answer.Refused n p → Converts text number work nodes signals work′ nodes signals a

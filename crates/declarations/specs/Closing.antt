@@ -11,7 +11,7 @@ use Rattle.language.specs.Declared.{Table, Port, constants, Declarations, decla
 use Rattle.language.specs.Numbering.{inOrder, firstOf}
 use Rattle.language.specs.Laws.Basics.Lists.{All}
 use Rattle.sets.specs.declared.Worked.{Worked}
-use Rattle.values.specs.Worked.{worldIn}
+use Rattle.name_values.specs.Worked.{worldIn}
 use Rattle.notes.specs.Notes.{Notes, notes-facts}
 use Rattle.notes.specs.NotesLaws.{notes-ported}
 use Rattle.notes.specs.FirstTable.{firstTable}

@@ -17,9 +17,9 @@ use Rattle.names.specs.References.{numberIn}
 use Rattle.names.specs.Resolved.{declaredNames}
 use Rattle.sets.specs.Answers.{says}
 use Rattle.sets.specs.declared.Worked.{Worked}
-use Rattle.values.specs.World.{World}
-use Rattle.values.specs.Sorts as Sort
-use Rattle.values.specs.Worked.{worldIn}
+use Rattle.name_values.specs.World.{World}
+use Rattle.name_values.specs.Sorts as Sort
+use Rattle.name_values.specs.Worked.{worldIn}
 use Rattle.operands.specs.Working.{TellsNumber}
 use Rattle.notes.specs.Notes.{Notes}
 use Rattle.notes.specs.NotesLaws.{names-distinct, notes-turn}

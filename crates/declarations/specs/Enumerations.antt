@@ -34,8 +34,8 @@ use Rattle.names.specs.Numbering.{number-other}
 use Rattle.names.specs.WalkBinders.{reference-outside}
 use Rattle.names.specs.Resolved.{declaredNames}
 use Rattle.names.specs.ResolvedLaws.{Found, number-found}
-use Rattle.values.specs.Declaring.{EnumerationAt}
-use Rattle.values.specs.IdentifierLaws.{enumeration-at}
+use Rattle.name_values.specs.Declaring.{EnumerationAt}
+use Rattle.name_values.specs.IdentifierLaws.{enumeration-at}
 use Rattle.notes.specs.Owned.{DeclarationAt}
 use Rattle.notes.specs.FirstTable.{first-at}
 use Rattle.declarations.specs.Trees.{Tree}

@@ -13,9 +13,9 @@ use Rattle.language.specs.Tokens.{tokens}
 use Rattle.language.specs.Tree.{Expr}
 use Rattle.language.specs.Expansion.{Context}
 use Rattle.spellings.specs.Interned.{Lexed}
-use Rattle.values.specs.World.{World, meaningAt}
-use Rattle.values.specs.Known.{Known}
-use Rattle.values.specs.Bodies.{Bodies}
+use Rattle.name_values.specs.World.{World, meaningAt}
+use Rattle.name_values.specs.Known.{Known}
+use Rattle.name_values.specs.Bodies.{Bodies}
 use Rattle.operands.specs.Working.{source, state, Fits, Ready}
 use Rattle.notes.specs.Notes.{Note, Notes, notes-facts}
 

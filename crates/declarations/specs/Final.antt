@@ -22,7 +22,7 @@ use Rattle.language.specs.Listed.{declaredName}
 use Rattle.lexer.specs.LexingLaws.{token-stands}
 use Rattle.names.specs.References.{numberIn}
 use Rattle.names.specs.Resolved.{declaredNames}
-use Rattle.values.specs.Worked.{worldIn}
+use Rattle.name_values.specs.Worked.{worldIn}
 use Rattle.notes.specs.Notes.{Notes}
 use Rattle.notes.specs.Owned.{DeclarationAt}
 use Rattle.declarations.specs.Trees.{Tree}

@@ -6,14 +6,14 @@ use native.Mathlib.Omega.{arith}
 use lib.ListN.{length, getD, length-append}
 use Rattle.language.specs.Limits.{maxNames}
 use Rattle.language.specs.Tree.{Expr, Parameter, Declaration, OneSignal, OfWidth, OfType, Subsection, Inputs, Outputs, Lines, Spec}
-use Rattle.language.specs.Places.{Entry, parameterLines, definitionLines, declarationLines, formulaLines, mainLines, allLines}
+use Rattle.language.specs.Places.{TextLine, parameterLines, definitionLines, declarationLines, formulaLines, mainLines, allLines}
 use Rattle.language.specs.Names.{Names, declares, over}
 use Rattle.language.specs.Declared.{inputs, outputs}
 use Rattle.language.specs.Listed.{declaredName}
 use Rattle.entries.specs.Flat.{outline}
 use Rattle.names.specs.AlikeLaws.{pushed}
-use Rattle.values.specs.ElsewhereLaws.{ownNames, over-definitions}
-use Rattle.values.specs.WorkedLaws.{tree-worked}
+use Rattle.name_values.specs.ElsewhereLaws.{ownNames, over-definitions}
+use Rattle.name_values.specs.WorkedLaws.{tree-worked}
 use Rattle.notes.specs.Chosen.{noHeading, chosen}
 use Rattle.notes.specs.Choosing.{Chooses}
 use Rattle.notes.specs.ChosenLaws.{parameterChoice, portChoice, parameters-chosen, inputs-chosen, outputs-chosen}
@@ -28,17 +28,17 @@ pushed-length : (ns ms : Names) → length (pushed ns ms) ≡ length ns + length
 pushed-length [] ms = omega arith
 pushed-length (n ∷ ns) ms = let h = pushed-length ns (n ∷ ms) in omega arith
 
-parameters-length : (ps : List Parameter) (ls : List Entry) → length (over declares (parameterLines ps ls)) ≡ length ps + length (over declares ls)
+parameters-length : (ps : List Parameter) (ls : List TextLine) → length (over declares (parameterLines ps ls)) ≡ length ps + length (over declares ls)
 parameters-length [] ls = omega arith
 parameters-length (p ∷ ps) ls = let h = parameters-length ps ls in omega arith
 
-declarations-length : (ds : List Declaration) (ls : List Entry) → length (over declares (declarationLines ds ls)) ≡ length ds + length (over declares ls)
+declarations-length : (ds : List Declaration) (ls : List TextLine) → length (over declares (declarationLines ds ls)) ≡ length ds + length (over declares ls)
 declarations-length [] ls = omega arith
 declarations-length (OneSignal n ∷ ds) ls = let h = declarations-length ds ls in omega arith
 declarations-length (OfWidth n e ∷ ds) ls = let h = declarations-length ds ls in omega arith
 declarations-length (OfType u n ∷ ds) ls = let h = declarations-length ds ls in omega arith
 
-formulas-length : (es : List Expr) (ls : List Entry) → length (over declares (formulaLines es ls)) ≡ length (over declares ls)
+formulas-length : (es : List Expr) (ls : List TextLine) → length (over declares (formulaLines es ls)) ≡ length (over declares ls)
 formulas-length [] ls = refl
 formulas-length (e ∷ es) ls = formulas-length es ls
 

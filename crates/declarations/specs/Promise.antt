@@ -18,8 +18,8 @@ use Rattle.language.specs.Laws.Basics.Lists.{All}
 use Rattle.language.specs.Laws.Values.RegularWords.{RegularDefinition}
 use Rattle.names.specs.References.{numberIn}
 use Rattle.names.specs.Resolved.{declaredNames}
-use Rattle.values.specs.Facts.{Facts}
-use Rattle.values.specs.Worked.{worldIn}
+use Rattle.name_values.specs.Facts.{Facts}
+use Rattle.name_values.specs.Worked.{worldIn}
 use Rattle.ports.specs.declared.Signals.{Signals}
 use Rattle.ports.specs.declared.Signals.the-variants.{Listed, TooMany}
 use Rattle.declarations.specs.declared.Declared.{Declared}

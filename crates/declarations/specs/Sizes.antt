@@ -14,7 +14,7 @@ use Rattle.language.specs.Laws.Basics.Lists.{All}
 use Rattle.language.specs.Laws.Basics.Results.{done, bind, bind-any, value-of, Within}
 use Rattle.language.specs.Laws.Values.RegularWords.{RegularDefinition}
 use Rattle.sets.specs.declared.Worked.{Worked}
-use Rattle.values.specs.Worked.{worldIn}
+use Rattle.name_values.specs.Worked.{worldIn}
 use Rattle.notes.specs.Notes.{Notes}
 use Rattle.declarations.specs.Trees.{Tree}
 use Rattle.declarations.specs.Constants.{Room}

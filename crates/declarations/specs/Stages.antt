@@ -16,7 +16,7 @@ use Rattle.language.specs.Listed.{declaredName}
 use Rattle.entries.specs.Flat.{Entry, outline}
 use Rattle.entries.specs.Stored.{EntriesFrom}
 use Rattle.names.specs.Resolved.{Stored, Resolved}
-use Rattle.values.specs.Worked.{worldIn}
+use Rattle.name_values.specs.Worked.{worldIn}
 use Rattle.notes.specs.Notes.{Notes}
 use Rattle.notes.specs.FirstTable.{firstTable}
 use Rattle.notes.specs.Noting.{NotesGiven}

@@ -15,9 +15,9 @@ use Rattle.entries.specs.Flat.{outline}
 use Rattle.names.specs.References.{numberIn}
 use Rattle.names.specs.ResolvedLaws.{number-below}
 use Rattle.names.specs.Resolved.{Stored, declaredNames, Resolved}
-use Rattle.values.specs.Worked.{worldIn, Worked}
-use Rattle.values.specs.WorkedLaws.{tree-worked}
-use Rattle.values.specs.BodiesLaws.{bodies}
+use Rattle.name_values.specs.Worked.{worldIn, Worked}
+use Rattle.name_values.specs.WorkedLaws.{tree-worked}
+use Rattle.name_values.specs.BodiesLaws.{bodies}
 use Rattle.notes.specs.Notes.{Notes}
 use Rattle.declarations.specs.Expressions.{Expression}
 

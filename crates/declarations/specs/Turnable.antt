@@ -5,22 +5,22 @@ use mathlib.Core.Option.{none}
 use mathlib.Core.Path.{_≡_, subst}
 use Rattle.language.specs.Tokens.{Token}
 use Rattle.language.specs.Tree.{Parameter, Declaration, Spec}
-use Rattle.language.specs.Places.{Entry, parameterLines, definitionLines, mainLines}
+use Rattle.language.specs.Places.{TextLine, parameterLines, definitionLines, mainLines}
 use Rattle.language.specs.Names.{visible, declares, over, declaredAgain}
 use Rattle.language.specs.Declared.{inputs, outputs}
 use Rattle.language.specs.Laws.Basics.Lists.{All, all-both, all-left, all-right, all-more}
 use Rattle.language.specs.Listed.{declaredName}
 use Rattle.language.specs.Laws.Values.DistinctNames.{Apart, Distinct, declaredNames, signals-among, distinct-names, distinct-definitions}
 use Rattle.names.specs.Resolved.{declaredNames as allNames}
-use Rattle.values.specs.WorldsLaws.{Elsewhere}
+use Rattle.name_values.specs.WorldsLaws.{Elsewhere}
 use Rattle.names.specs.VisibleLaws.{In, in-declared}
-use Rattle.values.specs.ElsewhereLaws.{ownNames, apart-elsewhere, behind-parameters, over-definitions, main-apart}
+use Rattle.name_values.specs.ElsewhereLaws.{ownNames, apart-elsewhere, behind-parameters, over-definitions, main-apart}
 
 pub record Turnable (x : Spec) (t : Token) : Type 0 where
   pub shown : visible (allNames x) t ≡ true
   pub undefined : All (Elsewhere t) (x .definitions)
 
-of-parameters : (P : Token → Type 0) (ps : List Parameter) (ls : List Entry) → All P (over declares (parameterLines ps ls)) → All (λ p. P (p .name)) ps
+of-parameters : (P : Token → Type 0) (ps : List Parameter) (ls : List TextLine) → All P (over declares (parameterLines ps ls)) → All (λ p. P (p .name)) ps
 of-parameters P [] ls h = tt
 of-parameters P (p ∷ ps) ls h = (h .0, of-parameters P ps ls (h .1))
 
@@ -29,7 +29,7 @@ of-declarations P [] h = tt
 of-declarations P (m ∷ ds) h = (h .0, of-declarations P ds (h .1))
 
 module _ (x : Spec) (once : declaredAgain x ≡ none) where
-  abbrev rest : List Entry
+  abbrev rest : List TextLine
   rest = definitionLines (x .definitions) (mainLines (x .main))
 
   parameters-free : (ps : List Parameter) → Distinct (over declares (parameterLines ps rest)) → All (λ p. All (Elsewhere (p .name)) (x .definitions)) ps

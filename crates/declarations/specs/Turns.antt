@@ -18,7 +18,7 @@ use Rattle.language.specs.Laws.Values.RegularWords.{RegularDefinition}
 use Rattle.names.specs.References.{numberIn}
 use Rattle.names.specs.Resolved.{declaredNames}
 use Rattle.sets.specs.declared.Worked.{Worked}
-use Rattle.values.specs.Worked.{worldIn}
+use Rattle.name_values.specs.Worked.{worldIn}
 use Rattle.notes.specs.Notes.{Notes}
 use Rattle.notes.specs.NotesLaws.{names-distinct, notes-turn}
 use Rattle.notes.specs.Owned.{DeclarationAt}

@@ -26,10 +26,10 @@ use Rattle.entries.specs.StoredLaws.{entry-kind}
 use Rattle.spellings.specs.Interned.{Lexed}
 use Rattle.sets.specs.Answers.{says}
 use Rattle.sets.specs.declared.Worked.{Worked}
-use Rattle.values.specs.World.{World, Stands}
-use Rattle.values.specs.Sorts as Sort
-use Rattle.values.specs.Declaring.{EnumerationAt}
-use Rattle.values.specs.Worked.{worldIn}
+use Rattle.name_values.specs.World.{World, Stands}
+use Rattle.name_values.specs.Sorts as Sort
+use Rattle.name_values.specs.Declaring.{EnumerationAt}
+use Rattle.name_values.specs.Worked.{worldIn}
 use Rattle.operands.specs.Working.{TellsNumber}
 use Rattle.notes.specs.Notes.{Note, Notes}
 use Rattle.notes.specs.Owned.{DeclarationAt, kindOf as kindOfDeclaration}

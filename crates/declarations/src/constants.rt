@@ -2,7 +2,7 @@
 use crate::evaluate::number_of;
 use basics::u16_usize::wide;
 use sets::Worked;
-use values::sorts;
+use name_values::sorts;
 ghost use mathlib.Core.Path.{_≡_};
 ghost use Prim.Native.Nat.{_-_};
 ghost use Rattle.language.specs.Tree.{Spec};

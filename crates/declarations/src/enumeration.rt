@@ -19,7 +19,7 @@ ghost use Rattle.language.specs.Declared.{wordWidth};
 ghost use Rattle.lexer.specs.Stored.{longest};
 ghost use Rattle.entries.specs.Stored.{firstEntry, indexOf};
 ghost use Rattle.spellings.specs.Interned.{Lexed};
-ghost use Rattle.values.specs.Declaring.{EnumerationAt};
+ghost use Rattle.name_values.specs.Declaring.{EnumerationAt};
 ghost use Rattle.declarations.specs.Enumerations.{enumerationOf};
 
 // No entry has this number.

@@ -8,7 +8,7 @@ ghost use Rattle.language.specs.Limits.{maxNames, maxElements};
 ghost use Rattle.language.specs.Tree.{Expr};
 ghost use Rattle.language.specs.Values.{value};
 ghost use Rattle.language.specs.Expansion.{Context};
-ghost use Rattle.values.specs.World.{World};
+ghost use Rattle.name_values.specs.World.{World};
 ghost use Rattle.operands.specs.Working.{TellsNumber};
 ghost use Rattle.declarations.specs.Expressions.{Expression, Workable, Copied};
 

@@ -13,7 +13,7 @@ use lexer::fields::OFFSETS;
 use node::refusals;
 use notes::choose::entry_word;
 use sets::Worked;
-use values::sorts;
+use name_values::sorts;
 ghost use mathlib.Core.List.{List};
 ghost use mathlib.Core.Path.{_≡_};
 ghost use Prim.Native.Nat.{ℕ};

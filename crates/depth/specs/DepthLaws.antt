@@ -13,7 +13,7 @@ use Rattle.language.specs.Limits.{maxLevels}
 use Rattle.language.specs.Tokens.{Token}
 use Rattle.language.specs.Tree.{Expr, Named, Defined, Enumerated, OneSignal, OfWidth, OfType, Spec}
 use Rattle.language.specs.Grammar.{Tokens}
-use Rattle.language.specs.Places.{start, levels, first, firstIn, unless, Entry as Line, ParameterLine, DefinitionLine, DeclarationLine, FormulaLine, allLines, deep, deepLine, tooDeep}
+use Rattle.language.specs.Places.{start, levels, first, firstIn, unless, TextLine as Line, ParameterLine, DefinitionLine, DeclarationLine, FormulaLine, allLines, deep, deepLine, tooDeep}
 use Rattle.language.specs.Laws.Basics.Lists.{All}
 use Rattle.language.specs.Laws.Basics.Tests.{pick, leave}
 use Rattle.language.specs.Laws.Grammar.Braces.{Proper}

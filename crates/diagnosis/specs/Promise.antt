@@ -7,7 +7,7 @@ use Rattle.node.specs.Result.{Result, Done, Refused}
 use Rattle.recordings.specs.Lasso.{recorded}
 use Rattle.language.specs.Tree.{Part, Preset, Assert, Guarantee}
 use Rattle.language.specs.Meaning.{TextMeans}
-use Rattle.language.specs.Reading.{Converted, meant, workAfter}
+use Rattle.language.specs.Reading.{NumberedFormula, textExpansion, workAfter}
 use Rattle.claim.specs.Claim.{Gives}
 use Rattle.faults.specs.Naming.{Finding, NoFault, FaultIn}
 use Rattle.faults.specs.Diagnosing.{diagnosing, rowsAfter, Fault}
@@ -37,5 +37,5 @@ pub record Diagnoses (text recording work rows work′ rows′ : List ℕ) (r : 
   pub rowsLeft : rows′ ≡ rowsAfter text recording (length work) rows
   pub workLeft : work′ ≡ workAfter work
   -- in every word over the declared signals that has the recording's letters: no fault is found where the text holds, and one that is found is one
-  pub holds : (c : Converted) → meant text ≡ Done c → tells r ≡ Done NoFault → (g : Gives text (c .signals) (recorded recording)) → TextMeans text (g .word) 0
-  pub fault : (c : Converted) → meant text ≡ Done c → (q : Part) (k : ℕ) → tells r ≡ Done (FaultIn q k) → (g : Gives text (c .signals) (recorded recording)) → Fault text (g .word) q k
+  pub holds : (c : NumberedFormula) → textExpansion text ≡ Done c → tells r ≡ Done NoFault → (g : Gives text (c .signals) (recorded recording)) → TextMeans text (g .word) 0
+  pub fault : (c : NumberedFormula) → textExpansion text ≡ Done c → (q : Part) (k : ℕ) → tells r ≡ Done (FaultIn q k) → (g : Gives text (c .signals) (recorded recording)) → Fault text (g .word) q k

@@ -27,7 +27,7 @@ use Rattle.language.specs.Tree.{Part, Preset, Assert, Guarantee}
 use Rattle.language.specs.Numbering.{inOrder, signalList}
 use Rattle.language.specs.Expansion.{linesOf, conjunction, whole}
 use Rattle.language.specs.Shifting.{adapted}
-use Rattle.language.specs.Reading.{Converted, meant, reading, workAfter}
+use Rattle.language.specs.Reading.{NumberedFormula, textExpansion, reading, workAfter}
 use Rattle.language.specs.Laws.Meaning.Acceptance.{accepts}
 use Rattle.claim.specs.Claim.{nodesOf}
 use Rattle.claim.specs.ClaimLaws.{text-few, text-small}
@@ -62,10 +62,10 @@ diagnosed {text} {recording} {work} {rows} e l w =
 pub diagnosing-accepting : (text recording : List ℕ) (work rows : ℕ)
     → diagnosing text recording work rows ≡ accepting text work >>= λ c. verdictOf (nodesOf c) (length (c .signals)) recording rows >>= finding text recording
 unfolding diagnosing
-diagnosing-accepting text recording work rows = sym (guard-bind (leb workBytes work) 17 0 (meant text) _)
+diagnosing-accepting text recording work rows = sym (guard-bind (leb workBytes work) 17 0 (textExpansion text) _)
 
 -- the line that the walk finds in the rows of a text's own nodes is the one that the definition names
-module _ (text : List ℕ) (c : Converted) (e : meant text ≡ Done c) (recording rows : List ℕ) (strict : Bool) (lines : LineCounts)
+module _ (text : List ℕ) (c : NumberedFormula) (e : textExpansion text ≡ Done c) (recording rows : List ℕ) (strict : Bool) (lines : LineCounts)
     (strictly : strict ≡ accepts e .spec .strict) (counted : lines ≡ countsOf (lines-of text c e .sections)) where
   abbrev own : Lined
   own = linedBy (accepts e .spec) (accepts e .declared) (lines-of text c e .sections)
@@ -109,8 +109,8 @@ module _ (text : List ℕ) (c : Converted) (e : meant text ≡ Done c) (recordin
 
 -- what is at hand once the text is read: its nodes in the table, how many signals it has, and of its lines what the search wants to know
 pub record AtHand (text work work′ table : List ℕ) (n s : ℕ) (told : Told) : Type 0 where
-  pub source : Converted
-  pub meaning : meant text ≡ Done source
+  pub source : NumberedFormula
+  pub meaning : textExpansion text ≡ Done source
   pub passed : accepting text (length work) ≡ Done source
   pub handed : take n table ≡ nodesOf source
   pub listed : s ≡ length (source .signals)
@@ -121,7 +121,7 @@ pub record AtHand (text work work′ table : List ℕ) (n s : ℕ) (told : Told)
 
 module _ {text work work′ table table′ list list′ : List ℕ} {told : Told} (read : ReadsTold text work table list work′ table′ list′ told) (large : length table ≡ maxNodes)
     (long : length list ≡ maxSignals) where
-  answered : (r : Result Converted) → reading text (length work) (length table) (length list) ≡ r → accepting text (length work) ≡ r
+  answered : (r : Result NumberedFormula) → reading text (length work) (length table) (length list) ≡ r → accepting text (length work) ≡ r
   answered r e = sym (reading-accepting text (length work)) ∙ ap₂ (reading text (length work)) (sym large) (sym long) ∙ e
 
   -- a text that is refused
@@ -137,7 +137,7 @@ module _ {text work work′ table table′ list list′ : List ℕ} {told : Told
       let t = accepted (read .reads .yields) e in
       let c = t .value in
       let a = answered (Done c) (t .done) in
-      let g = guard-done (leb workBytes (length work)) 17 0 (meant text) a in
+      let g = guard-done (leb workBytes (length work)) 17 0 (textExpansion text) a in
       let x = accepts (g .1) in
       let nodesTold : size (c .formula) ≡ n = ap (λ (k : Counts). k .nodes) (t .same) in
       let handed : take n table′ ≡ nodesOf c = subst (λ (k : ℕ). take k table′ ≡ nodesOf c) nodesTold (read .reads .leaves c (t .done) .handed) in

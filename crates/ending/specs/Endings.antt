@@ -18,34 +18,34 @@ use Rattle.language.specs.Numbering.{inOrder, signalList, tooManySignals}
 use Rattle.language.specs.Lines.{lines}
 use Rattle.language.specs.Expansion.{expand}
 use Rattle.language.specs.Shifting.{adapted}
-use Rattle.language.specs.Reading.{Converted, converted, meant}
+use Rattle.language.specs.Reading.{NumberedFormula, specExpansion, textExpansion}
 
 -- 16
-abbrev pub fitted : Formula → List ℕ → Result Converted
+abbrev pub fitted : Formula → List ℕ → Result NumberedFormula
 fitted f list = guard (leb (size f) maxNodes) 16 0 (Done (record { formula = f; signals = list }))
 
 -- 15 before it
-abbrev pub ended : Spec → Declarations → Formula → Result Converted
+abbrev pub ended : Spec → Declarations → Formula → Result NumberedFormula
 ended x d f =
     let list = signalList (inOrder d) in
     refuseAt 15 (tooManySignals 0 (inOrder d)) (fitted (adapted (x .semantics) (x .target) list f) list)
 
-module _ (k : Converted → Result Converted) where
-  pub text-refused : (text : List ℕ) {n p : ℕ} → parsed text ≡ Refused n p → meant text >>= k ≡ Refused n p
-  unfolding meant
-  text-refused text e = bind-refused _ _ _ k (bind-refused _ _ _ converted e)
+module _ (k : NumberedFormula → Result NumberedFormula) where
+  pub text-refused : (text : List ℕ) {n p : ℕ} → parsed text ≡ Refused n p → textExpansion text >>= k ≡ Refused n p
+  unfolding textExpansion
+  text-refused text e = bind-refused _ _ _ k (bind-refused _ _ _ specExpansion e)
 
-  pub text-parsed : (text : List ℕ) {x : Spec} → parsed text ≡ Done x → meant text >>= k ≡ converted x >>= k
-  unfolding meant
-  text-parsed text e = ap (λ r. r >>= k) (bind-to _ _ converted e)
+  pub text-parsed : (text : List ℕ) {x : Spec} → parsed text ≡ Done x → textExpansion text >>= k ≡ specExpansion x >>= k
+  unfolding textExpansion
+  text-parsed text e = ap (λ r. r >>= k) (bind-to _ _ specExpansion e)
 
   module _ (x : Spec) where
-    pub declarations-refused : {n p : ℕ} → declarations x ≡ Refused n p → converted x >>= k ≡ Refused n p
-    unfolding converted
+    pub declarations-refused : {n p : ℕ} → declarations x ≡ Refused n p → specExpansion x >>= k ≡ Refused n p
+    unfolding specExpansion
     declarations-refused e = bind-refused _ _ _ k (bind-refused _ _ _ (λ d. expand x d (lines x d) >>= ended x d) e)
 
-    pub declarations-done : {d : Declarations} → declarations x ≡ Done d → converted x >>= k ≡ (expand x d (lines x d) >>= ended x d) >>= k
-    unfolding converted
+    pub declarations-done : {d : Declarations} → declarations x ≡ Done d → specExpansion x >>= k ≡ (expand x d (lines x d) >>= ended x d) >>= k
+    unfolding specExpansion
     declarations-done e = ap (λ r. r >>= k) (bind-to _ _ (λ d. expand x d (lines x d) >>= ended x d) e)
 
     module _ (d : Declarations) where
@@ -56,7 +56,7 @@ module _ (k : Converted → Result Converted) where
         lines-done : (expand x d (lines x d) >>= ended x d) >>= k ≡ ended x d f >>= k
         lines-done = ap (λ r. r >>= k) (bind-to _ _ (ended x d) e)
 
-        abbrev rest : Result Converted
+        abbrev rest : Result NumberedFormula
         rest = fitted (adapted (x .semantics) (x .target) (signalList (inOrder d)) f) (signalList (inOrder d))
 
         pub too-many : {p : ℕ} → tooManySignals 0 (inOrder d) ≡ some p → (expand x d (lines x d) >>= ended x d) >>= k ≡ Refused 15 p

@@ -16,7 +16,7 @@ use Rattle.language.specs.Numbering.{inOrder, signalList}
 use Rattle.language.specs.Lines.{lines}
 use Rattle.language.specs.Expansion.{Sections, gather, atSignals, defineAll, expandSection, section, whole, expand}
 use Rattle.language.specs.Shifting.{adapted}
-use Rattle.language.specs.Reading.{Converted, delivered}
+use Rattle.language.specs.Reading.{NumberedFormula, delivered}
 use Rattle.language.specs.Laws.Values.SignalLaws.{signals-few}
 use Rattle.parser.specs.declared.Facts.{Facts}
 use Rattle.parser.specs.Outlines.{modelCode, factsOf}
@@ -75,7 +75,7 @@ sectioned x d {all} e = go (gather (expandSection (defineAll (atSignals d) (x .d
     go (Refused n p) q e = absurd (not-done e)
 
 module _ {f : Facts} {s : Signals} {words table list : List ℕ} {count at : ℕ} {x : Spec} {d : Declarations} (g : Complete f s words count table at list x d) (nodes signals : List ℕ) where
-  abbrev end : Converted → Result Converted
+  abbrev end : NumberedFormula → Result NumberedFormula
   end = delivered (length nodes) (length signals)
 
   made : Sectioned x d (g .all)
@@ -94,7 +94,7 @@ module _ {f : Facts} {s : Signals} {words table list : List ℕ} {count at : ℕ
       subst (λ a. Gathered a words count table at) (made .same) (subst (λ i. GatheredFrom (startOf i) (g .all) words count table at) q (g .gathered)) in
       let strict : f .strict ≡ x .strict = ap (λ (i : Facts). i .strict) (g .facts) in
       let formula : Bool → Formula = λ b. whole b (section (made .sections)) in
-      let ends : List ℕ → Formula → Result Converted = λ a h. fitted h a >>= end in
+      let ends : List ℕ → Formula → Result NumberedFormula = λ a h. fitted h a >>= end in
       hands-as (few-signals end x d (made .is) (l .0))
       (subst (λ h. Hands (ends (signalList (inOrder d)) h) nodes signals nodes′ signals′ r) (e (signalList (inOrder d)) (formula (x .strict)))
       (subst (λ b. Hands (ends (signalList (inOrder d)) (make (signalList (inOrder d)) (formula b))) nodes signals nodes′ signals′ r) strict

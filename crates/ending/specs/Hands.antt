@@ -8,17 +8,17 @@ use Rattle.node.specs.Result.{Result, Done, Refused, _>>=_}
 use Rattle.node.specs.Answer.{says}
 use Rattle.node.specs.declared.Answer.{Answer}
 use Rattle.node.specs.declared.Answer.the-variants.{Accepted}
-use Rattle.language.specs.Reading.{Converted, nodesAfter, signalsAfter}
+use Rattle.language.specs.Reading.{NumberedFormula, nodesAfter, signalsAfter}
 use Rattle.claim.specs.Yields.{told}
 
-pub record Hands (result : Result Converted) (nodes signals nodes′ signals′ : List ℕ) (r : Answer) : Type 0 where
+pub record Hands (result : Result NumberedFormula) (nodes signals nodes′ signals′ : List ℕ) (r : Answer) : Type 0 where
   pub answer : says r ≡ told result
   pub nodesLeft : nodes′ ≡ nodesAfter result nodes
   pub signalsLeft : signals′ ≡ signalsAfter result signals
 
-module _ {result : Result Converted} where
+module _ {result : Result NumberedFormula} where
   -- the same by another name
-  pub hands-as : {other : Result Converted} {nodes signals nodes′ signals′ : List ℕ} {r : Answer} → other ≡ result → Hands result nodes signals nodes′ signals′ r
+  pub hands-as : {other : Result NumberedFormula} {nodes signals nodes′ signals′ : List ℕ} {r : Answer} → other ≡ result → Hands result nodes signals nodes′ signals′ r
       → Hands other nodes signals nodes′ signals′ r
   hands-as {nodes = nodes} {signals} {nodes′} {signals′} {r} e h = subst (λ x. Hands x nodes signals nodes′ signals′ r) (sym e) h
 
@@ -27,7 +27,7 @@ module _ {result : Result Converted} where
   unfolding _>>=_
   hands-refused {n} {p} nodes signals e = subst (λ x. Hands x nodes signals nodes signals (Answer.Refused n p)) (sym e) (record { answer = refl; nodesLeft = refl; signalsLeft = refl })
 
-  pub hands-accepted : {c : Converted} (nodes signals : List ℕ) → result ≡ Done c
+  pub hands-accepted : {c : NumberedFormula} (nodes signals : List ℕ) → result ≡ Done c
       → Hands result nodes signals (nodesFrom 0 (c .formula) ++ drop (size (c .formula)) nodes) (c .signals ++ drop (length (c .signals)) signals) (Accepted (size (c .formula)) (length (c .signals)))
   unfolding _>>=_
   hands-accepted {c} nodes signals e =

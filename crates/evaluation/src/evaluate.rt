@@ -3,7 +3,7 @@
 use entries::kinds;
 use language::limits;
 use node::refusals;
-use values::sorts;
+use name_values::sorts;
 ghost use mathlib.Core.Path.{_≡_};
 ghost use mathlib.Core.Bool.{false};
 ghost use Prim.Native.Nat.{_≤_, _<_};

@@ -21,11 +21,11 @@ use Rattle.language.specs.Expansion.{Context, expansion, bitAt}
 use Rattle.sets.specs.declared.Worked.{Worked}
 use Rattle.entries.specs.Kinds as Kind
 use Rattle.entries.specs.Flat.{flat}
-use Rattle.values.specs.World.{World, Meaning, Defines, nameAt, meaningAt, meant}
-use Rattle.values.specs.Agrees.{Uses}
-use Rattle.values.specs.UsedLaws.{used-value, used-element, index-body}
-use Rattle.values.specs.Sorts as Sort
-use Rattle.values.specs.Facts.{Fact}
+use Rattle.name_values.specs.World.{World, Meaning, Defines, nameAt, meaningAt, nameValue}
+use Rattle.name_values.specs.Agrees.{Uses}
+use Rattle.name_values.specs.UsedLaws.{used-value, used-element, index-body}
+use Rattle.name_values.specs.Sorts as Sort
+use Rattle.name_values.specs.Facts.{Fact}
 use Rattle.operands.specs.Entries.{kindAt, placeAt}
 use Rattle.operands.specs.ClassLaws.{place-is}
 use Rattle.operands.specs.Telling.{Tells}
@@ -34,8 +34,8 @@ use Rattle.operands.specs.declared.Worth.the-variants.{Formula as AFormula, Ide
 use Rattle.operands.specs.Working.{Source, State, Fits, Ready, NumberAt, ValueAt}
 use Rattle.operands.specs.FitsLaws.{held-then, entries, within, Alike, roomed}
 use Rattle.operands.specs.TellingLaws.{number-done, number-no}
-use Rattle.shapes.specs.Shapes.{Shape, anIndex, shapeOf, View, view}
-use Rattle.shapes.specs.ShapeLaws.{expr-shape}
+use Rattle.operator_nodes.specs.Shapes.{Shape, anIndex, shapeOf, View, view}
+use Rattle.operator_nodes.specs.ShapeLaws.{expr-shape}
 use Rattle.expander.specs.NameSteps.{last-sort}
 use Rattle.expander.specs.Expanding.{Tables, Expands, Prepared, Writes}
 use Rattle.expander.specs.Answering.{refusedOf, Signalled}
@@ -141,8 +141,8 @@ named-by {s} {st} {base} {depth} {k} {W} {env} {c} {e} h f =
     }
 
 meaning-is : {s : Source} {k : ℕ} {W : World} {env : List ℕ} {c : Context} {e : Expr} {m : Meaning} (n : Name s k W env c e) → getD (s .refs) k 0 < maxNames → meaningAt W (getD (s .refs) k 0) ≡ m
-    → busOf c e ≡ (meant m (n .token) >>= bus)
-meaning-is n l q = n .same ∙ ap (λ v. v >>= bus) (used-value (n .uses) l ∙ ap (λ (m : Meaning). meant m (n .token)) q)
+    → busOf c e ≡ (nameValue m (n .token) >>= bus)
+meaning-is n l q = n .same ∙ ap (λ v. v >>= bus) (used-value (n .uses) l ∙ ap (λ (m : Meaning). nameValue m (n .token)) q)
 
 module _ {s : Source} {st : State} {base depth k : ℕ} (h : shapeOf (kindAt (s .work) k) ≡ anIndex) where
   stays : {r : Reached} → ((W : World) (env : List ℕ) (c : Context) (e : Expr) (f : Fits s st base depth false k W env c e) → Reaching W r (busOf c e)) → BusAt s st st base depth k r

@@ -9,7 +9,7 @@ use Rattle.language.specs.Tree.{Expr, Named, Numeral, Truth, Index, Paren, Pref
 use Rattle.language.specs.Values.{Sized, bus, misfit}
 use Rattle.language.specs.Declared.{BusOf}
 use Rattle.language.specs.Expansion.{Context}
-use Rattle.values.specs.World.{World, Stands, nameAt, meaningAt}
+use Rattle.name_values.specs.World.{World, Stands, nameAt, meaningAt}
 use Rattle.operands.specs.Working.{Source, State, Noted, Held, Fits}
 use Rattle.operands.specs.declared.Worth.{Worth}
 use Rattle.operands.specs.declared.Worth.the-variants.{Formula, Identifier}

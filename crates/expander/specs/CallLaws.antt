@@ -12,7 +12,7 @@ use Rattle.language.specs.Tree.{Expr}
 use Rattle.language.specs.Declared.{Port}
 use Rattle.language.specs.Values.{Value}
 use Rattle.language.specs.Expansion.{Context}
-use Rattle.values.specs.World.{World}
+use Rattle.name_values.specs.World.{World}
 use Rattle.operands.specs.Entries.{sizeAt}
 use Rattle.operands.specs.Working.{Source, State, Ready, Works, SetAt}
 use Rattle.operands.specs.TellingLaws.{set-small}

@@ -7,9 +7,9 @@ use native.Mathlib.Decide.{decLt}
 use Rattle.writing.specs.Writing.{Caps}
 use Rattle.operands.specs.Entries.{kindAt}
 use Rattle.operands.specs.Working.{Source, State}
-use Rattle.shapes.specs.Shapes.{shapeOf, UnaryIs}
-use Rattle.shapes.specs.ShapeLaws.{unary-shape}
-use Rattle.shapes.specs.Prefixes.{Prefix, parenthesis, operator, Operand, Run, Below}
+use Rattle.operator_nodes.specs.Shapes.{shapeOf, UnaryIs}
+use Rattle.operator_nodes.specs.ShapeLaws.{unary-shape}
+use Rattle.operator_nodes.specs.Prefixes.{Prefix, parenthesis, operator, Operand, Run, Below}
 use Rattle.expander.specs.Expanding.{Tables, Prepared, Writes}
 use Rattle.expander.specs.Operands.{paren-of, unary-of}
 use Rattle.expander.specs.StepLaws.{writes-paren, unary-no, unary-done}

@@ -22,8 +22,8 @@ use Rattle.entries.specs.Kinds as Kind
 use Rattle.sets.specs.Operators.{comparison}
 use Rattle.writing.specs.Writing as Writing
 use Rattle.writing.specs.Writing.{Wrote, Caps}
-use Rattle.values.specs.World.{World, Stands, nameAt, meaningAt}
-use Rattle.values.specs.Facts.{IsIdentifier}
+use Rattle.name_values.specs.World.{World, Stands, nameAt, meaningAt}
+use Rattle.name_values.specs.Facts.{IsIdentifier}
 use Rattle.choices.specs.Entries.{wordsEnd, Words}
 use Rattle.choices.specs.EntryLaws.{end-bound}
 use Rattle.choices.specs.Promises.{Readable, OneOf, WidthsAre}
@@ -34,7 +34,7 @@ use Rattle.operands.specs.FitsLaws.{held-then}
 use Rattle.operands.specs.Telling.{wordsOf, worth, Sound}
 use Rattle.operands.specs.declared.Worth.{Worth}
 use Rattle.operands.specs.declared.Worth.the-variants.{Formula as AFormula, Identifier}
-use Rattle.shapes.specs.Shapes.{aComparison, shapeOf}
+use Rattle.operator_nodes.specs.Shapes.{aComparison, shapeOf}
 use Rattle.expander.specs.Expanding.{Tables, tables, Expands, Prepared, Puts, Answered, Writes}
 use Rattle.expander.specs.ExpandLaws.{elsewhere, valued as valuedThen, put}
 use Rattle.expander.specs.Operands.{comparison-of}

@@ -14,7 +14,7 @@ use Rattle.language.specs.Expansion.{against, compared}
 use Rattle.spellings.specs.Interned.{Lexed}
 use Rattle.sets.specs.Operators.{comparison}
 use Rattle.writing.specs.Writing.{Wrote}
-use Rattle.values.specs.World.{World}
+use Rattle.name_values.specs.World.{World}
 use Rattle.choices.specs.Entries.{wordsEnd, Words}
 use Rattle.operands.specs.Telling.{Tells}
 use Rattle.operands.specs.declared.Worth.{Worth}

@@ -17,13 +17,13 @@ use Rattle.language.specs.Laws.Values.SetLaws.{Ascending}
 use Rattle.sets.specs.declared.Worked.{Worked}
 use Rattle.entries.specs.Kinds as Kind
 use Rattle.operands.specs.Entries.{kindAt, sizeAt}
-use Rattle.values.specs.World.{World}
+use Rattle.name_values.specs.World.{World}
 use Rattle.operands.specs.Working.{Source, State, Held, SetAt}
 use Rattle.operands.specs.FitsLaws.{held-then}
 use Rattle.operands.specs.TellingLaws.{set-done, set-no}
 use Rattle.choices.specs.Folds.{over}
-use Rattle.shapes.specs.Shapes.{aBig, shapeOf}
-use Rattle.shapes.specs.ShapeLaws.{operator-kind}
+use Rattle.operator_nodes.specs.Shapes.{aBig, shapeOf}
+use Rattle.operator_nodes.specs.ShapeLaws.{operator-kind}
 use Rattle.expander.specs.Expanding.{Tables, tables, Puts, Answered, Writes}
 use Rattle.expander.specs.Answering.{refusedOf}
 use Rattle.expander.specs.ExpandLaws.{valued}

@@ -12,13 +12,13 @@ use Rattle.language.specs.Expansion.{Context}
 use Rattle.writing.specs.Writing.{Wrote}
 use Rattle.writing.specs.WritingLaws.{ends}
 use Rattle.writing.specs.PartLaws.{length-stays}
-use Rattle.values.specs.World.{World}
-use Rattle.values.specs.Known.{Known}
+use Rattle.name_values.specs.World.{World}
+use Rattle.name_values.specs.Known.{Known}
 use Rattle.operands.specs.Entries.{kindAt}
 use Rattle.operands.specs.Working.{Source, State, Noted, Held, Room, Ready}
 use Rattle.operands.specs.FitsLaws.{along, later, entries}
-use Rattle.shapes.specs.Shapes.{Shape, shapeOf, View, view}
-use Rattle.shapes.specs.ShapeLaws.{expr-shape}
+use Rattle.operator_nodes.specs.Shapes.{Shape, shapeOf, View, view}
+use Rattle.operator_nodes.specs.ShapeLaws.{expr-shape}
 use Rattle.expander.specs.Expanding.{Tables, tables, Expands, Space, Prepared, Puts}
 use Rattle.expander.specs.LastingLaws.{wrote-stays, lasting-stays}
 

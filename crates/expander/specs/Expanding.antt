@@ -18,9 +18,9 @@ use Rattle.language.specs.Expansion.{Context, expansion}
 use Rattle.language.specs.Laws.Basics.Lists.{All}
 use Rattle.writing.specs.Writing.{Wrote}
 use Rattle.writing.specs.Parts.{Stands as StandsAt}
-use Rattle.values.specs.World.{World, Stands, Defines, nameAt, meaningAt}
-use Rattle.values.specs.Bodies.{Ported}
-use Rattle.values.specs.Facts.{IsIdentifier}
+use Rattle.name_values.specs.World.{World, Stands, Defines, nameAt, meaningAt}
+use Rattle.name_values.specs.Bodies.{Ported}
+use Rattle.name_values.specs.Facts.{IsIdentifier}
 use Rattle.choices.specs.StoredWords.{Short}
 use Rattle.operands.specs.Working.{Source, State, Noted, Fits, Room, Held}
 use Rattle.expander.specs.declared.Written.{Written}

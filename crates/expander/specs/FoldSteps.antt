@@ -19,7 +19,7 @@ use Rattle.language.specs.Expansion.{Context, at, expansion, gather}
 use Rattle.writing.specs.Writing.{Wrote}
 use Rattle.writing.specs.WritingLaws.{ends}
 use Rattle.writing.specs.PartLaws.{length-stays}
-use Rattle.values.specs.World.{World}
+use Rattle.name_values.specs.World.{World}
 use Rattle.operands.specs.Entries.{kindAt}
 use Rattle.operands.specs.Working.{Source, State, state, Fits}
 use Rattle.operands.specs.FitsLaws.{later, bound}

@@ -12,8 +12,8 @@ use Rattle.language.specs.Tokens.{Token, tokens}
 use Rattle.language.specs.Tree.{Expr}
 use Rattle.language.specs.Declared.{Port}
 use Rattle.language.specs.Expansion.{Context, at, expansion, gather}
-use Rattle.values.specs.World.{World}
-use Rattle.values.specs.Known.{Known}
+use Rattle.name_values.specs.World.{World}
+use Rattle.name_values.specs.Known.{Known}
 use Rattle.operands.specs.Entries.{kindAt}
 use Rattle.operands.specs.Working.{Source, State, Noted, Held}
 use Rattle.choices.specs.Folds.{over, Folded}

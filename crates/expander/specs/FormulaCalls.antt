@@ -17,13 +17,13 @@ use Rattle.language.specs.Values.{Value}
 use Rattle.language.specs.Expansion.{Context}
 use Rattle.sets.specs.declared.Worked.{Worked}
 use Rattle.writing.specs.WritingLaws.{ends}
-use Rattle.values.specs.World.{World}
-use Rattle.values.specs.Sorts as Sort
+use Rattle.name_values.specs.World.{World}
+use Rattle.name_values.specs.Sorts as Sort
 use Rattle.operands.specs.Entries.{kindAt, sizeAt}
 use Rattle.operands.specs.Working.{Source, State, Ready, Works, SetAt}
 use Rattle.operands.specs.FitsLaws.{Alike, roomed}
 use Rattle.operands.specs.TellingLaws.{set-small}
-use Rattle.shapes.specs.Shapes.{aName, aWindow, aBig, shapeOf}
+use Rattle.operator_nodes.specs.Shapes.{aName, aWindow, aBig, shapeOf}
 use Rattle.expander.specs.Expanding.{Tables, tables, Expands, Prepared, Writes}
 use Rattle.expander.specs.Answering.{answered-done}
 use Rattle.expander.specs.ExpandLaws.{elsewhere, valued, written, prepared, ready}

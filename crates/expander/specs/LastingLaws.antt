@@ -4,7 +4,7 @@ use mathlib.Core.List.{List}
 use mathlib.Core.Path.{_∙_}
 use native.Mathlib.Omega.{arith}
 use Rattle.node.specs.Postorder.{size}
-use Rattle.values.specs.World.{World}
+use Rattle.name_values.specs.World.{World}
 use Rattle.expander.specs.Expanding.{Lasts, Lasting}
 pub use Rattle.writing.specs.StayLaws.{Stays, stays-none, stays-then, wrote-stays, more-stays, part-same}
 

@@ -10,7 +10,7 @@ use Rattle.writing.specs.Writing.{Puts}
 use Rattle.writing.specs.WritingLaws.{wrote-none}
 use Rattle.writing.specs.Parts.{moves}
 use Rattle.writing.specs.PartLaws.{copied}
-use Rattle.values.specs.World.{World}
+use Rattle.name_values.specs.World.{World}
 use Rattle.expander.specs.Expanding.{packed, Lasts}
 use Rattle.expander.specs.Marks.{Copyable, Again}
 

@@ -21,15 +21,15 @@ use Rattle.language.specs.Expansion.{Context, expansion, signalOf}
 use Rattle.writing.specs.Writing.{Wrote}
 use Rattle.writing.specs.WritingLaws.{ends}
 use Rattle.writing.specs.PartLaws.{stands}
-use Rattle.values.specs.World.{Meaning, Stands, Defines, NoValue, World, meaningAt, meant, formed}
-use Rattle.values.specs.Sorts as Sort
-use Rattle.values.specs.Facts.{IsBus, Fact}
-use Rattle.values.specs.Agrees.{Uses}
-use Rattle.values.specs.UsedLaws.{used-formula, used-no-formula, named-body}
+use Rattle.name_values.specs.World.{Meaning, Stands, Defines, NoValue, World, meaningAt, nameValue, formed}
+use Rattle.name_values.specs.Sorts as Sort
+use Rattle.name_values.specs.Facts.{IsBus, Fact}
+use Rattle.name_values.specs.Agrees.{Uses}
+use Rattle.name_values.specs.UsedLaws.{used-formula, used-no-formula, named-body}
 use Rattle.operands.specs.Entries.{kindAt}
 use Rattle.operands.specs.Working.{Source, State}
 use Rattle.operands.specs.FitsLaws.{within}
-use Rattle.shapes.specs.Shapes.{aName, shapeOf}
+use Rattle.operator_nodes.specs.Shapes.{aName, shapeOf}
 use Rattle.expander.specs.Expanding.{Tables, packed, Plain, Lasts, Lasting, Expands, Writes}
 use Rattle.expander.specs.Answering.{Signalled, answered-done, answered-no}
 use Rattle.expander.specs.ExpandLaws.{viewed, become, put}
@@ -46,7 +46,7 @@ declared-no ps t (BusOf n) = ((λ n e. refl), λ s e. refl)
 declared-no ps t (Identifies v) = ((λ n e. refl), λ s e. refl)
 declared-no ps t WaitingBus = ((λ n e. refl), λ s e. refl)
 
-meaning-no : (ps : List Port) (t : Token) (m : Meaning) → ((n : ℕ) (c : Context) (e : Expr) → m ≡ Defines n c e → Plain c) → NoFormula {A = Formula} (meant m t) (formed ps m t)
+meaning-no : (ps : List Port) (t : Token) (m : Meaning) → ((n : ℕ) (c : Context) (e : Expr) → m ≡ Defines n c e → Plain c) → NoFormula {A = Formula} (nameValue m t) (formed ps m t)
 meaning-no ps t (Stands v) h = declared-no ps t v
 meaning-no ps t (Defines n c e) h = no-formula c (h n c e refl) e
 meaning-no ps t NoValue h = ((λ n e. let z : _≡_ {A = ℕ} 0 1 = cc in absurd (omega arith)), λ s e. let z : _≡_ {A = ℕ} 0 1 = cc in absurd (omega arith))
@@ -171,7 +171,7 @@ module _ {s : Source} {st : State} {b : Tables} {base depth k : ℕ} (h : shapeO
       where
         go : {ps : List Port} {W : World} {env : List ℕ} {c : Context} {e : Expr} (n : Name s k ps W env c e)
             → Fact (tokens (s .text)) (s .work) (st .kept) (reference s k) (meaningAt W (reference s k)) (getD (st .sorts) (reference s k) 0) (getD (st .numbers) (reference s k) 0)
-            → NoFormula {A = Formula} (meant (meaningAt W (reference s k)) (n .token)) (formed ps (meaningAt W (reference s k)) (n .token))
+            → NoFormula {A = Formula} (nameValue (meaningAt W (reference s k)) (n .token)) (formed ps (meaningAt W (reference s k)) (n .token))
             → (x : Bool) → eqb (getD (st .sorts) (reference s k) 0) Sort.number ≡ x → (y : Bool) → eqb (getD (st .sorts) (reference s k) 0) Sort.set ≡ y → (z : Bool)
             → eqb (getD (st .sorts) (reference s k) 0) Sort.bus ≡ z → expansion c e ≡ misfit
         go n f m true x y a z b = formula-of n l ∙ m .0 _ (f .number (eqb-true _ _ x) .stands (n .token))

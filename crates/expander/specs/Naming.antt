@@ -4,9 +4,9 @@ use mathlib.Core.List.{List}
 use mathlib.Core.Path.{_≡_}
 use lib.ListN.{getD}
 use Rattle.language.specs.Limits.{maxNames}
-use Rattle.values.specs.Sorts as Sort
+use Rattle.name_values.specs.Sorts as Sort
 use Rattle.operands.specs.Entries.{kindAt}
-use Rattle.shapes.specs.Shapes.{aName, shapeOf}
+use Rattle.operator_nodes.specs.Shapes.{aName, shapeOf}
 
 pub record Defined (work refs sorts : List ℕ) (k : ℕ) : Type 0 where
   pub name : shapeOf (kindAt work k) ≡ aName

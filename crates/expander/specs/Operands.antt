@@ -21,14 +21,14 @@ use Rattle.language.specs.Expansion.{Context, at, expansion, compared, truth, n
 use Rattle.entries.specs.Kinds as Kind
 use Rattle.entries.specs.Flat.{Entry, under, flat}
 use Rattle.entries.specs.Stored.{EndsAt}
-use Rattle.values.specs.World.{World}
-use Rattle.values.specs.Known.{Known}
-use Rattle.values.specs.KnownLaws.{own-more, known-index, known-paren, known-prefixed, known-joined, known-nexts, known-window, known-each}
+use Rattle.name_values.specs.World.{World}
+use Rattle.name_values.specs.Known.{Known}
+use Rattle.name_values.specs.KnownLaws.{own-more, known-index, known-paren, known-prefixed, known-joined, known-nexts, known-window, known-each}
 use Rattle.operands.specs.Entries.{kindAt, sizeAt, placeAt}
 use Rattle.operands.specs.ClassLaws.{has-entry, size-is, place-is}
 use Rattle.operands.specs.Working.{Source, State}
 use Rattle.operands.specs.FitsLaws.{own-size}
-use Rattle.shapes.specs.Shapes.{anIndex, aParen, aMembership, aNexts, aUnary, aComparison, aBinary, aWindow, aBig, shapeOf}
+use Rattle.operator_nodes.specs.Shapes.{anIndex, aParen, aMembership, aNexts, aUnary, aComparison, aBinary, aWindow, aBig, shapeOf}
 use Rattle.expander.specs.Expanding.{Tables, Expands}
 use Rattle.expander.specs.Buses.{busOf}
 use Rattle.expander.specs.ExpandLaws.{viewed, aside, elsewhere, become}

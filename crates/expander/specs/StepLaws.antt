@@ -13,7 +13,7 @@ use Rattle.writing.specs.Writing.{Wrote, Caps, Joins}
 use Rattle.operands.specs.Entries.{kindAt, sizeAt}
 use Rattle.operands.specs.Working.{Source, State}
 use Rattle.operands.specs.FitsLaws.{held-then}
-use Rattle.shapes.specs.Shapes.{aMisfit, aParen, aTruth, aUnary, aBinary, shapeOf}
+use Rattle.operator_nodes.specs.Shapes.{aMisfit, aParen, aTruth, aUnary, aBinary, shapeOf}
 use Rattle.expander.specs.Expanding.{Tables, tables, Puts, Answered, Writes}
 use Rattle.expander.specs.Answering.{answered-done, answered-no}
 use Rattle.expander.specs.LastingLaws.{lasting-stays}

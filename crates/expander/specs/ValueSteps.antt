@@ -26,12 +26,12 @@ use Rattle.writing.specs.Writing as Writing
 use Rattle.writing.specs.Writing.{Wrote, Nexts}
 use Rattle.writing.specs.WritingLaws.{ends, wrote-none}
 use Rattle.writing.specs.Windows.{Windowed}
-use Rattle.values.specs.World.{World}
+use Rattle.name_values.specs.World.{World}
 use Rattle.operands.specs.Entries.{kindAt, sizeAt, placeAt}
 use Rattle.operands.specs.Working.{Source, State, NumberAt, SetAt}
 use Rattle.operands.specs.FitsLaws.{held-then}
 use Rattle.operands.specs.TellingLaws.{number-done, number-no, set-done, set-no}
-use Rattle.shapes.specs.Shapes.{aMembership, aNexts, aWindow, shapeOf}
+use Rattle.operator_nodes.specs.Shapes.{aMembership, aNexts, aWindow, shapeOf}
 use Rattle.expander.specs.Expanding.{Tables, Expands, Writes}
 use Rattle.expander.specs.Answering.{refusedOf, answered-done, answered-no}
 use Rattle.expander.specs.LastingLaws.{stays-then, lasting-stays}

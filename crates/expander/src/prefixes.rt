@@ -5,10 +5,10 @@ ghost use Prim.Native.Nat.{_-_, _≤_, _<_};
 ghost use lib.ListN.{length};
 ghost use Rattle.language.specs.Limits.{maxTokens, workBytes};
 ghost use Rattle.operands.specs.Entries.{kindAt};
-ghost use Rattle.shapes.specs.Prefixes.{Prefix, Run, Below};
+ghost use Rattle.operator_nodes.specs.Prefixes.{Prefix, Run, Below};
 ghost use Rattle.expander.specs.Chains.{Capped};
 use operands::entry::kind_at;
-use shapes::unary_kind;
+use operator_nodes::unary_kind;
 use writing::cap;
 
 // The entry below the prefix operators and parentheses that end at entry k.

@@ -12,21 +12,21 @@ use Rattle.node.specs.Postorder.{size}
 use Rattle.node.specs.Result.{Result, Done, Refused, _>>=_, guard}
 use Rattle.node.specs.ResultLaws.{guard-pass}
 use Rattle.language.specs.Limits.{maxSignals, workBytes}
-use Rattle.language.specs.Reading.{Converted, meant, delivered, reading}
+use Rattle.language.specs.Reading.{NumberedFormula, textExpansion, delivered, reading}
 use Rattle.language.specs.Laws.Meaning.Acceptance.{accepts, list-limited}
 use Rattle.claim.specs.RefusalNumbers.{UpTo, reading-numbers}
 
-all-delivered : (text : List ℕ) → meant text >>= delivered maxNodes maxSignals ≡ meant text
+all-delivered : (text : List ℕ) → textExpansion text >>= delivered maxNodes maxSignals ≡ textExpansion text
 unfolding _>>=_
-all-delivered text = go (meant text) refl
+all-delivered text = go (textExpansion text) refl
   where
-    go : (r : Result Converted) → meant text ≡ r → r >>= delivered maxNodes maxSignals ≡ r
+    go : (r : Result NumberedFormula) → textExpansion text ≡ r → r >>= delivered maxNodes maxSignals ≡ r
     go (Done c) e = guard-pass 18 0 _ (ap₂ _&&_ (le-leb (size (c .formula)) maxNodes (accepts e .fewNodes)) (le-leb (length (c .signals)) maxSignals (list-limited text c e)))
     go (Refused n p) e = refl
 
 -- 17, then what the text is
-abbrev pub accepting : List ℕ → ℕ → Result Converted
-accepting text work = guard (leb workBytes work) 17 0 (meant text)
+abbrev pub accepting : List ℕ → ℕ → Result NumberedFormula
+accepting text work = guard (leb workBytes work) 17 0 (textExpansion text)
 
 pub reading-accepting : (text : List ℕ) (work : ℕ) → reading text work maxNodes maxSignals ≡ accepting text work
 unfolding reading

@@ -21,7 +21,7 @@ use Rattle.language.specs.Lines.{Line, Written, Implied, lines}
 use Rattle.language.specs.Expansion.{gather, atSignals, defineAll, expandSection, Sections, linesOf}
 use Rattle.language.specs.Shifting.{adapted}
 use Rattle.language.specs.Meaning.{Word, MatchesOne, Sense, Means, present, meaningAll, namesOf, readAs, SectionMeans}
-use Rattle.language.specs.Reading.{Converted, meant}
+use Rattle.language.specs.Reading.{NumberedFormula, textExpansion}
 use Rattle.claim.specs.Claim.{nodesOf}
 use Rattle.faults.specs.Naming.{Finding, NoFault, lineNamed}
 
@@ -54,15 +54,15 @@ finding text bs false = lined text >>= λ m. Done (lineNamed (m .strict) (λ q. 
 unfoldable pub diagnosing : (text recording : List ℕ) (work rows : ℕ) → Result Finding
 diagnosing text recording work rows =
     guard (leb workBytes work) 17 0
-    (meant text >>= λ c. verdictOf (nodesOf c) (length (c .signals)) recording rows >>= finding text recording)
+    (textExpansion text >>= λ c. verdictOf (nodesOf c) (length (c .signals)) recording rows >>= finding text recording)
 
 -- the rows after an answer: the evaluator's on the text's nodes; a refusal changes nothing
-abbrev pub rowsLeft : List ℕ → List ℕ → Result Converted → List ℕ
+abbrev pub rowsLeft : List ℕ → List ℕ → Result NumberedFormula → List ℕ
 rowsLeft bs rows (Done c) = left (nodesOf c) bs rows (evaluation (nodesOf c) (length (c .signals)) bs (length rows))
 rowsLeft bs rows (Refused number place) = rows
 
 abbrev pub rowsAfter : (text recording : List ℕ) (work : ℕ) → List ℕ → List ℕ
-rowsAfter text bs work rows = rowsLeft bs rows (guard (leb workBytes work) 17 0 (meant text))
+rowsAfter text bs work rows = rowsLeft bs rows (guard (leb workBytes work) 17 0 (textExpansion text))
 
 -- 'the assumptions that the semantics put before it hold': P says of each section where it holds; the line is one of q's, false at p
 abbrev pub Assumed : Bool → (Part → Property) → Part → ℕ → Type 0

@@ -32,7 +32,7 @@ use Rattle.language.specs.Expansion.{Sections, linesOf, section, conjunction, w
 use Rattle.language.specs.Shifting.{adapted}
 use Rattle.language.specs.Meaning.{Word, WholeMeans, OfSpec, TextMeans}
 use Rattle.language.specs.Numbered.{numbered}
-use Rattle.language.specs.Reading.{Converted, meant}
+use Rattle.language.specs.Reading.{NumberedFormula, textExpansion}
 use Rattle.language.specs.Laws.Basics.Lists.{All}
 use Rattle.language.specs.Laws.Meaning.TextAgreement.{LinesHold}
 use Rattle.language.specs.Laws.Meaning.ShiftedWords.{adapted-holds}
@@ -71,7 +71,7 @@ module _ {P Q : Part → Property} (h : (q : Part) (t : ℕ) → P q t → Q q t
   assumed-to true Assert p a = (h Initially 0 (a .0), h Preset 0 (a .1), λ j l. h Require j (a .2 j l))
   assumed-to strict Guarantee p a = (h Initially 0 (a .0), h Preset 0 (a .1), λ n l. h Require n (a .2 n l), h Assume 0 (a .3))
 
-module _ (text : List ℕ) (c : Converted) (e : meant text ≡ Done c) where
+module _ (text : List ℕ) (c : NumberedFormula) (e : textExpansion text ≡ Done c) where
   abbrev x : Spec
   x = accepts e .spec
 
@@ -216,13 +216,13 @@ module _ (text : List ℕ) (c : Converted) (e : meant text ≡ Done c) where
     unfolding diagnosing
     diagnosing-finds work f h =
         let a = guard-done (leb workBytes work) 17 0 _ h in
-        let m = bind-done (meant text) _ (a .1) in
+        let m = bind-done (textExpansion text) _ (a .1) in
         let same : m .0 ≡ c = done-same (sym (m .1) ∙ e) in
         let v = bind-done (verdictOf (nodesOf (m .0)) (length (m .0 .signals)) bs room) (finding text bs) (m .2) in
-        verdict-finds (v .0) (ap (λ (y : Converted). verdictOf (nodesOf y) (length (y .signals)) bs room) (sym same) ∙ v .1) f (v .2)
+        verdict-finds (v .0) (ap (λ (y : NumberedFormula). verdictOf (nodesOf y) (length (y .signals)) bs room) (sym same) ∙ v .1) f (v .2)
 
 -- a recording on which no fault is found holds, and a line that is named is at fault
-module _ (text : List ℕ) (c : Converted) (e : meant text ≡ Done c) (bs : List ℕ) (g : Gives text (c .signals) (recorded bs)) where
+module _ (text : List ℕ) (c : NumberedFormula) (e : textExpansion text ≡ Done c) (bs : List ℕ) (g : Gives text (c .signals) (recorded bs)) where
   pub diagnosed-holds : (work room : ℕ) → diagnosing text bs work room ≡ Done NoFault → TextMeans text (g .word) 0
   diagnosed-holds work room h = diagnosing-finds text c e bs room g work NoFault h
 

@@ -22,12 +22,12 @@ use Rattle.language.specs.Tree.{Expr}
 use Rattle.language.specs.Expansion.{expansion}
 use Rattle.entries.specs.Kinds as Kind
 use Rattle.entries.specs.Flat.{flat}
-use Rattle.values.specs.KnownLaws.{known-joined}
+use Rattle.name_values.specs.KnownLaws.{known-joined}
 use Rattle.operands.specs.Entries.{kindAt, sizeAt}
 use Rattle.operands.specs.ClassLaws.{kind-of, place-is}
 use Rattle.operands.specs.KindLaws.{from}
 use Rattle.operands.specs.Working.{Source}
-use Rattle.shapes.specs.Shapes.{aBinary, shapeOf, BinaryIs}
+use Rattle.operator_nodes.specs.Shapes.{aBinary, shapeOf, BinaryIs}
 use Rattle.machine.specs.Came.{Expand, nodes, works, asFormula}
 use Rattle.machine.specs.Frames.{LeftFormula, RightFormula, connected, apply}
 use Rattle.machine.specs.Realm.{Operand}
@@ -51,7 +51,7 @@ use Rattle.machine.specs.OperandLaws.{operand-as, two-operands}
 use Rattle.machine.specs.declared.Machine.{Machine}
 use Rattle.machine.specs.declared.Move.{Move}
 use Rattle.machine.specs.declared.Move.the-variants.{Next, Refused as Refuses}
-use Rattle.formula_steps.specs.Entering.{Expands, Waiting, works-formula, operand-shape}
+use Rattle.machine.specs.Entering.{Expands, Waiting, works-formula, operand-shape}
 
 -- the clause as its frames have it
 connective-same : (o : Binary) (a b : Result Formula) → ((a >>= λ f. b >>= λ g. Done (Two o f g)) >>= nodes) ≡ ((a >>= nodes) >>= λ v. asFormula v >>= λ f. (b >>= nodes) >>= connected o f)

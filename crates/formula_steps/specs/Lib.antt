@@ -1,3 +1,2 @@
-pub mod Entering
 pub mod ConnectiveLaws
 pub mod TruthLaws

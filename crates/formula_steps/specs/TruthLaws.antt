@@ -18,7 +18,7 @@ use Rattle.language.specs.Expansion.{expansion}
 use Rattle.language.specs.Expansion as Expansion
 use Rattle.operands.specs.Entries.{kindAt}
 use Rattle.operands.specs.Working.{Source}
-use Rattle.shapes.specs.ShapeLaws.{truth-kind}
+use Rattle.operator_nodes.specs.ShapeLaws.{truth-kind}
 use Rattle.machine.specs.Came.{nodes}
 use Rattle.machine.specs.TableLaws.{wrote-capped}
 use Rattle.machine.specs.States.{ReadyToWrite, Writes}
@@ -26,7 +26,7 @@ use Rattle.machine.specs.StateLaws.{entered}
 use Rattle.machine.specs.EnterLaws.{wrote, writes, entry-few}
 use Rattle.machine.specs.declared.Machine.{Machine}
 use Rattle.machine.specs.declared.Move.the-variants.{Next}
-use Rattle.formula_steps.specs.Entering.{Expands, works-formula, operand-shape}
+use Rattle.machine.specs.Entering.{Expands, works-formula, operand-shape}
 
 same-truth : (b : Bool) → Writing.truth b ≡ Expansion.truth b
 same-truth true = refl

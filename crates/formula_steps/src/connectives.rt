@@ -2,6 +2,7 @@
 use machine::Machine;
 use machine::Move;
 use machine::Words;
+use machine::capped;
 use machine::frame;
 use machine::modes;
 use machine::phases;
@@ -9,25 +10,11 @@ use node::MAX_NODES;
 use node::refusals;
 use operands::entry::kind_at;
 use operands::entry::size_at;
-use shapes::binary_kind;
-use writing::TOO_MANY;
+use operator_nodes::binary_kind;
 use writing::join;
-ghost use mathlib.Core.Path.{_≡_};
-ghost use Prim.Native.Nat.{suc, min};
-ghost use Rattle.node.specs.Limits.{maxNodes};
 ghost use Rattle.machine.specs.States.{Ready, Steps, Topped, Takes, ToppedToWrite, TakesToWrite};
 ghost use Rattle.operands.specs.Working.{source};
-ghost use Rattle.formula_steps.specs.Entering.{Expands, Waiting};
-
-// One index for all past the last node.
-pub fn capped(n: usize) -> usize
-    ensures { λ r. ⌜ r ≡ min n (suc maxNodes) ⌝ }
-{
-    if n < TOO_MANY {
-        return n;
-    }
-    TOO_MANY
-}
+ghost use Rattle.machine.specs.Entering.{Expands, Waiting};
 
 // The left operand is worked out first.
 pub fn connective(text: &[u8], work: &[u8], refs: &[u16], memory: &mut [u32], m: Machine) -> Move

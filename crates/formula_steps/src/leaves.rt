@@ -1,14 +1,14 @@
 // Formulas without operands.
-use crate::connectives::capped;
 use entries::kinds;
 use machine::Machine;
 use machine::Move;
+use machine::capped;
 use node::MAX_NODES;
 use operands::entry::kind_at;
 use writing::constant;
 ghost use Rattle.machine.specs.States.{ReadyToWrite, Writes};
 ghost use Rattle.operands.specs.Working.{source};
-ghost use Rattle.formula_steps.specs.Entering.{Expands};
+ghost use Rattle.machine.specs.Entering.{Expands};
 
 // true and false.
 pub fn truth(

@@ -22,7 +22,7 @@ use Rattle.evaluator.specs.EvaluationLaws.{bad-recording}
 use Rattle.recordings.specs.declared.Lasso.{Lasso}
 use Rattle.evaluator.specs.declared.Verdict.{Verdict}
 use Rattle.language.specs.Limits.{workBytes}
-use Rattle.language.specs.Reading.{Converted, meant}
+use Rattle.language.specs.Reading.{NumberedFormula, textExpansion}
 use Rattle.language.specs.Laws.Basics.Results.{refusal-of}
 use Rattle.language.specs.Laws.Meaning.Acceptance.{text-signals, list-limited}
 use Rattle.claim.specs.Claim.{nodesOf}
@@ -53,7 +53,7 @@ module _ (start whole : List ℕ) (h : headerBytes ≤ length start) (e : take (
       rw (n, l, k) refl
 
 -- a recording that is too long, on an accepted text
-module _ (text : List ℕ) (c : Converted) (e : meant text ≡ Done c) (bs : List ℕ) where
+module _ (text : List ℕ) (c : NumberedFormula) (e : textExpansion text ≡ Done c) (bs : List ℕ) where
   abbrev signals : ℕ
   signals = length (c .signals)
 
@@ -109,7 +109,7 @@ module _ (text start whole : List ℕ) {size : ℕ} (b : Begins start size whole
   longer : longest < length whole
   longer = let r = taken-room (length start) whole (ap length (b .front)) in omega arith
 
-  on-text : (c : Converted) → meant text ≡ Done c → verdictOn whole c ≡ moved size (verdictOn start c)
+  on-text : (c : NumberedFormula) → textExpansion text ≡ Done c → verdictOn whole c ≡ moved size (verdictOn start c)
   on-text c e = go (headerFits (length (c .signals)) (lassoOf start)) refl
     where
       header : headerFits (length (c .signals)) (lassoOf whole) ≡ headerFits (length (c .signals)) (lassoOf start)
@@ -126,8 +126,8 @@ module _ (text start whole : List ℕ) {size : ℕ} (b : Begins start size whole
   moved-verdict work =
       judging-accepting text whole work ∙ go (accepting text work) refl ∙ ap (moved size) (sym (judging-accepting text start work))
     where
-      go : (r : Result Converted) → accepting text work ≡ r → r >>= verdictOn whole ≡ moved size (r >>= verdictOn start)
-      go (Done c) e = on-text c (guard-done (leb workBytes work) 17 0 (meant text) e .1)
+      go : (r : Result NumberedFormula) → accepting text work ≡ r → r >>= verdictOn whole ≡ moved size (r >>= verdictOn start)
+      go (Done c) e = on-text c (guard-done (leb workBytes work) 17 0 (textExpansion text) e .1)
       go (Refused n p) e = let low = refusal-of e (accepting-numbers text work) in ap (Refused n) (place-other size n p (λ q. omega arith))
 
 -- the promise: of a recording that was judged whole, and of one that is too long

@@ -14,7 +14,7 @@ use Rattle.node.specs.declared.Answer.the-variants.{Accepted}
 use Rattle.evaluator.specs.Evaluation.{rowsSize, verdictOf, finds}
 use Rattle.evaluator.specs.declared.Verdict.{Verdict}
 use Rattle.language.specs.Limits.{maxSignals, workBytes}
-use Rattle.language.specs.Reading.{Converted, meant, reading, workAfter}
+use Rattle.language.specs.Reading.{NumberedFormula, textExpansion, reading, workAfter}
 use Rattle.claim.specs.Claim.{nodesOf}
 use Rattle.claim.specs.YieldsLaws.{accepted, refused}
 use Rattle.claim.specs.Reads.{Reads}
@@ -26,7 +26,7 @@ use Rattle.judging.specs.MeaningLaws.{played}
 -- the verdict is what the evaluator makes of the reader's answer
 pub judging-accepting : (text recording : List ℕ) (work : ℕ) → judging text recording work ≡ accepting text work >>= verdictOn recording
 unfolding judging
-judging-accepting text recording work = sym (guard-bind (leb workBytes work) 17 0 (meant text) (verdictOn recording))
+judging-accepting text recording work = sym (guard-bind (leb workBytes work) 17 0 (textExpansion text) (verdictOn recording))
 
 -- the promise follows from the answer
 module _ (text recording : List ℕ) {work work′ : List ℕ} {r : Verdict} where
@@ -37,18 +37,18 @@ module _ (text recording : List ℕ) {work work′ : List ℕ} {r : Verdict} whe
         answer = e;
         means = λ c m b d g.
             let a = guard-done _ 17 0 _ (sym e ∙ d) in
-            let s = bind-done (meant text) (verdictOn recording) (a .1) in
+            let s = bind-done (textExpansion text) (verdictOn recording) (a .1) in
             verdict-of-text text c m recording (rowsSize (nodesOf c) recording) g (ap (verdictOn recording) (same (sym m ∙ s .1)) ∙ s .2);
         played = λ c m. played text c m recording;
         workLeft = w;
       }
     where
-      same : {c d : Converted} → Done c ≡ Done d → c ≡ d
+      same : {c d : NumberedFormula} → Done c ≡ Done d → c ≡ d
       same q = cc
 
 -- what is at hand once the text is read: its nodes in the table, and how many signals it has
 pub record AtHand (text recording work work′ table : List ℕ) (n s : ℕ) : Type 0 where
-  pub source : Converted
+  pub source : NumberedFormula
   pub answer : judging text recording (length work) ≡ verdictOn recording source
   pub handed : take n table ≡ nodesOf source
   pub counted : s ≡ length (source .signals)
@@ -57,10 +57,10 @@ pub record AtHand (text recording work work′ table : List ℕ) (n s : ℕ) : T
 
 module _ (recording : List ℕ) {text work work′ table table′ list list′ : List ℕ} {a : Answer}
     (read : Reads text work table list work′ table′ list′ a) (large : length table ≡ maxNodes) (long : length list ≡ maxSignals) where
-  after-reading : (r : Result Converted) → reading text (length work) (length table) (length list) ≡ r → judging text recording (length work) ≡ r >>= verdictOn recording
+  after-reading : (r : Result NumberedFormula) → reading text (length work) (length table) (length list) ≡ r → judging text recording (length work) ≡ r >>= verdictOn recording
   after-reading r e =
       judging-accepting text recording (length work)
-      ∙ ap (λ (x : Result Converted). x >>= verdictOn recording) (sym (reading-accepting text (length work)) ∙ ap₂ (reading text (length work)) (sym large) (sym long) ∙ e)
+      ∙ ap (λ (x : Result NumberedFormula). x >>= verdictOn recording) (sym (reading-accepting text (length work)) ∙ ap₂ (reading text (length work)) (sym large) (sym long) ∙ e)
 
   -- a text that is refused
   pub read-refused : {n p : ℕ} → a ≡ Answer.Refused n p → JudgesText text recording work work′ (Verdict.Refused n p)

@@ -11,7 +11,7 @@ use Rattle.node.specs.Ltl.{Formula, True, False, Signal, One, Two, Not, G, And,
 use Rattle.node.specs.Postorder.{size}
 use Rattle.node.specs.Result.{Result, Done, _>>=_}
 use Rattle.language.specs.Bytes.{ascii}
-use Rattle.language.specs.Reading.{Converted, meant, reading}
+use Rattle.language.specs.Reading.{NumberedFormula, textExpansion, reading}
 
 -- the INFO section of document 01's file
 abbrev pub front : List ℕ
@@ -44,19 +44,19 @@ abbrev pub lettered : ℕ → List ℕ
 lettered n = letteredFrom 0 n
 
 -- how many nodes and signals an accepted text has
-abbrev pub counted : Result Converted → Result (ℕ × ℕ)
+abbrev pub counted : Result NumberedFormula → Result (ℕ × ℕ)
 counted r = r >>= λ c. Done (size (c .formula), length (c .signals))
 
 abbrev pub outcome : List ℕ → Result (ℕ × ℕ)
-outcome s = counted (meant s)
+outcome s = counted (textExpansion s)
 
 -- its formula
 abbrev pub formula : List ℕ → Result Formula
-formula s = meant s >>= λ c. Done (c .formula)
+formula s = textExpansion s >>= λ c. Done (c .formula)
 
 -- its signal list
 abbrev pub signals : List ℕ → Result (List ℕ)
-signals s = meant s >>= λ c. Done (c .signals)
+signals s = textExpansion s >>= λ c. Done (c .signals)
 
 -- a signal list entry: output flag, offset of the name, index, width
 abbrev pub entry : ℕ → ℕ → ℕ → ℕ → ℕ
@@ -89,7 +89,7 @@ second (Two o f h) = h
 
 -- what the lines of GUARANTEE give in I -> (P && ((G R && S) -> (G A && U)))
 abbrev pub guaranteed : List ℕ → Result Formula
-guaranteed s = meant s >>= λ c. Done (second (second (second (second (c .formula)))))
+guaranteed s = textExpansion s >>= λ c. Done (second (second (second (second (c .formula)))))
 
 -- the outcome on buffers of these lengths for work, nodes and signals
 abbrev pub lent : List ℕ → ℕ → ℕ → ℕ → Result (ℕ × ℕ)

@@ -32,7 +32,7 @@ use Rattle.language.specs.Tree.{
   OfType,
   Spec,
 }
-use Rattle.language.specs.Places.{first, firstIn, unless, Entry, ParameterLine, DefinitionLine, DeclarationLine, FormulaLine, allLines}
+use Rattle.language.specs.Places.{first, firstIn, unless, TextLine, ParameterLine, DefinitionLine, DeclarationLine, FormulaLine, allLines}
 
 abbrev pub Names : Type 0
 Names = List Token
@@ -73,7 +73,7 @@ identifierNames [] = []
 identifierNames (i ∷ is) = i .name ∷ identifierNames is
 
 -- the names that a line declares, in the text's order
-abbrev pub declares : Entry → Names
+abbrev pub declares : TextLine → Names
 declares (ParameterLine x e) = x ∷ []
 declares (DefinitionLine (Defined x e)) = x ∷ []
 declares (DefinitionLine (Enumerated x is)) = x ∷ identifierNames is
@@ -83,17 +83,17 @@ declares (DeclarationLine (OfType u x)) = x ∷ []
 declares (FormulaLine e) = []
 
 -- of these the ones of signals and buses, visible everywhere
-abbrev pub declaresSignal : Entry → Names
+abbrev pub declaresSignal : TextLine → Names
 declaresSignal (ParameterLine x e) = []
 declaresSignal (DefinitionLine d) = []
 declaresSignal (DeclarationLine d) = declares (DeclarationLine d)
 declaresSignal (FormulaLine e) = []
 
-abbrev pub over : (Entry → Names) → List Entry → Names
+abbrev pub over : (TextLine → Names) → List TextLine → Names
 over f [] = []
 over f (l ∷ ls) = f l ++ over f ls
 
-abbrev pub walkLine : (Names → Token → Option ℕ) → (Names → Token → Option ℕ) → Names → Entry → Option ℕ
+abbrev pub walkLine : (Names → Token → Option ℕ) → (Names → Token → Option ℕ) → Names → TextLine → Option ℕ
 walkLine used bound ns (ParameterLine x e) = walk used bound ns e
 walkLine used bound ns (DefinitionLine (Defined x e)) = walk used bound ns e
 walkLine used bound ns (DefinitionLine (Enumerated x is)) = none
@@ -103,7 +103,7 @@ walkLine used bound ns (DeclarationLine (OfType u x)) = used ns u
 walkLine used bound ns (FormulaLine e) = walk used bound ns e
 
 -- 'A parameter, enumeration or definition is visible after its line, signals and buses everywhere'
-abbrev pub walkLines : (Names → Token → Option ℕ) → (Names → Token → Option ℕ) → Names → List Entry → Option ℕ
+abbrev pub walkLines : (Names → Token → Option ℕ) → (Names → Token → Option ℕ) → Names → List TextLine → Option ℕ
 walkLines used bound ns [] = none
 walkLines used bound ns (l ∷ ls) = first (walkLine used bound ns l) (walkLines used bound (declares l ++ ns) ls)
 

@@ -97,42 +97,42 @@ refuseAt number none r = r
 refuseAt number (some p) r = Refused number p
 
 -- a line of a text that is worked out or declares a name, in the text's order
-pub data Entry : Type 0 where
-  ParameterLine : Token → Expr → Entry
-  DefinitionLine : Definition → Entry
-  DeclarationLine : Declaration → Entry
-  FormulaLine : Expr → Entry
+pub data TextLine : Type 0 where
+  ParameterLine : Token → Expr → TextLine
+  DefinitionLine : Definition → TextLine
+  DeclarationLine : Declaration → TextLine
+  FormulaLine : Expr → TextLine
 
-abbrev pub parameterLines : List Parameter → List Entry → List Entry
+abbrev pub parameterLines : List Parameter → List TextLine → List TextLine
 parameterLines [] rest = rest
 parameterLines (p ∷ ps) rest = ParameterLine (p .name) (p .value) ∷ parameterLines ps rest
 
-abbrev pub definitionLines : List Definition → List Entry → List Entry
+abbrev pub definitionLines : List Definition → List TextLine → List TextLine
 definitionLines [] rest = rest
 definitionLines (d ∷ ds) rest = DefinitionLine d ∷ definitionLines ds rest
 
-abbrev pub declarationLines : List Declaration → List Entry → List Entry
+abbrev pub declarationLines : List Declaration → List TextLine → List TextLine
 declarationLines [] rest = rest
 declarationLines (d ∷ ds) rest = DeclarationLine d ∷ declarationLines ds rest
 
-abbrev pub formulaLines : List Expr → List Entry → List Entry
+abbrev pub formulaLines : List Expr → List TextLine → List TextLine
 formulaLines [] rest = rest
 formulaLines (e ∷ es) rest = FormulaLine e ∷ formulaLines es rest
 
-abbrev pub mainLines : List Subsection → List Entry
+abbrev pub mainLines : List Subsection → List TextLine
 mainLines [] = []
 mainLines (Inputs ds ∷ ss) = declarationLines ds (mainLines ss)
 mainLines (Outputs ds ∷ ss) = declarationLines ds (mainLines ss)
 mainLines (Lines p es ∷ ss) = formulaLines es (mainLines ss)
 
-abbrev pub allLines : Spec → List Entry
+abbrev pub allLines : Spec → List TextLine
 allLines x = parameterLines (x .parameters) (definitionLines (x .definitions) (mainLines (x .main)))
 
 -- refusal 5: 'tree too deep', at the 'outermost expression's first token'
 abbrev pub deep : Expr → Option ℕ
 deep e = unless (leb (levels e) maxLevels) (start e)
 
-abbrev pub deepLine : Entry → Option ℕ
+abbrev pub deepLine : TextLine → Option ℕ
 deepLine (ParameterLine x e) = deep e
 deepLine (DefinitionLine (Defined x e)) = deep e
 deepLine (DefinitionLine (Enumerated x is)) = none

@@ -20,40 +20,40 @@ use Rattle.language.specs.Expansion.{expand}
 use Rattle.language.specs.Shifting.{adapted}
 
 -- what an accepted text gives: its formula and its signal list
-pub record Converted : Type 0 where
+pub record NumberedFormula : Type 0 where
   pub formula : Formula
   pub signals : List ℕ
 
 -- refusals 11 to 13 as evaluation meets them; then 15, and 16 by the converted formula's nodes
-unfoldable pub converted : Spec → Result Converted
-converted x =
+unfoldable pub specExpansion : Spec → Result NumberedFormula
+specExpansion x =
     declarations x >>= λ d. expand x d (lines x d) >>= λ f.
     let list = signalList (inOrder d) in
     let g = adapted (x .semantics) (x .target) list f in
     refuseAt 15 (tooManySignals 0 (inOrder d)) (guard (leb (size g) maxNodes) 16 0 (Done (record { formula = g; signals = list })))
 
 -- what the text alone decides
-unfoldable pub meant : List ℕ → Result Converted
-meant text = parsed text >>= converted
+unfoldable pub textExpansion : List ℕ → Result NumberedFormula
+textExpansion text = parsed text >>= specExpansion
 
 -- 18: 'result buffer short', either of them; the numbers are the buffers' lengths
-abbrev pub delivered : (nodes signals : ℕ) → Converted → Result Converted
+abbrev pub delivered : (nodes signals : ℕ) → NumberedFormula → Result NumberedFormula
 delivered nodes signals c = guard (leb (size (c .formula)) nodes && leb (length (c .signals)) signals) 18 0 (Done c)
 
 -- 'Reader order: 17, then 1 to 10 .. 16, 18'; the buffers' lengths are those of work, nodes and signals
-unfoldable pub reading : List ℕ → ℕ → ℕ → ℕ → Result Converted
-reading text work nodes signals = guard (leb workBytes work) 17 0 (meant text >>= delivered nodes signals)
+unfoldable pub reading : List ℕ → ℕ → ℕ → ℕ → Result NumberedFormula
+reading text work nodes signals = guard (leb workBytes work) 17 0 (textExpansion text >>= delivered nodes signals)
 
 -- 'accepted with its counts'
-abbrev pub counts : Converted → Counts
+abbrev pub counts : NumberedFormula → Counts
 counts c = record { nodes = size (c .formula); signals = length (c .signals) }
 
 -- the result buffers: 'entries past an accepted result are unchanged', and a refused call changes none
-abbrev pub nodesAfter : Result Converted → List ℕ → List ℕ
+abbrev pub nodesAfter : Result NumberedFormula → List ℕ → List ℕ
 nodesAfter (Done c) nodes = nodesFrom 0 (c .formula) ++ drop (size (c .formula)) nodes
 nodesAfter (Refused n p) nodes = nodes
 
-abbrev pub signalsAfter : Result Converted → List ℕ → List ℕ
+abbrev pub signalsAfter : Result NumberedFormula → List ℕ → List ℕ
 signalsAfter (Done c) signals = c .signals ++ drop (length (c .signals)) signals
 signalsAfter (Refused n p) signals = signals
 

@@ -57,55 +57,55 @@ use Rattle.language.specs.Tree.{
   OfType,
   Spec,
 }
-use Rattle.language.specs.Places.{start, first, unless, Entry, ParameterLine, DefinitionLine, DeclarationLine, FormulaLine, allLines}
+use Rattle.language.specs.Places.{start, first, unless, TextLine, ParameterLine, DefinitionLine, DeclarationLine, FormulaLine, allLines}
 
 -- a number, a set, a formula, a bus, an enumeration's identifier, an enumeration, no visible name
-pub data Kind : Type 0 where
-  ANumber ASet AFormula ABus AValue AType Unknown : Kind
+pub data ExprType : Type 0 where
+  ANumber ASet AFormula ABus AValue AType Unknown : ExprType
 
-abbrev pub kindCode : Kind → ℕ
-kindCode ANumber = 0
-kindCode ASet = 1
-kindCode AFormula = 2
-kindCode ABus = 3
-kindCode AValue = 4
-kindCode AType = 5
-kindCode Unknown = 6
+abbrev pub typeCode : ExprType → ℕ
+typeCode ANumber = 0
+typeCode ASet = 1
+typeCode AFormula = 2
+typeCode ABus = 3
+typeCode AValue = 4
+typeCode AType = 5
+typeCode Unknown = 6
 
-abbrev pub isKind : Kind → Kind → Bool
-isKind k l = eqb (kindCode k) (kindCode l)
+abbrev pub isType : ExprType → ExprType → Bool
+isType k l = eqb (typeCode k) (typeCode l)
 
 -- the visible names with their types
 pub record Typing : Type 0 where
   pub name : Token
-  pub kind : Kind
+  pub kind : ExprType
 
 abbrev pub Typings : Type 0
 Typings = List Typing
 
-abbrev pub kindIn : Typings → Token → Kind
-kindIn [] t = Unknown
-kindIn (y ∷ ys) t = elim (same (y .name .text) (t .text)) [ true ↦ y .kind | false ↦ kindIn ys t ]
+abbrev pub typeIn : Typings → Token → ExprType
+typeIn [] t = Unknown
+typeIn (y ∷ ys) t = elim (same (y .name .text) (t .text)) [ true ↦ y .kind | false ↦ typeIn ys t ]
 
 -- what an operator takes and gives
-abbrev pub prefixTakes : Prefix → Kind
+abbrev pub prefixTakes : Prefix → ExprType
 prefixTakes (Measures m) = ASet
 prefixTakes WidthOf = ABus
 prefixTakes (Applies o) = AFormula
 
-abbrev pub prefixGives : Prefix → Kind
+abbrev pub prefixGives : Prefix → ExprType
 prefixGives (Measures m) = ANumber
 prefixGives WidthOf = ANumber
 prefixGives (Applies o) = AFormula
 
-abbrev pub infixGives : Infix → Kind
+abbrev pub infixGives : Infix → ExprType
 infixGives (Calculates o) = ANumber
 infixGives (Combines o) = ASet
 infixGives (Compares o) = AFormula
 infixGives Membership = AFormula
 infixGives (Connects o) = AFormula
 
-abbrev pub bigGives : Big → Kind
+abbrev pub bigGives : Big → ExprType
 bigGives BigSum = ANumber
 bigGives BigProduct = ANumber
 bigGives BigCap = ASet
@@ -117,38 +117,38 @@ bigGives BigOr = AFormula
 abbrev pub withNumber : Token → Typings → Typings
 withNumber i ys = record { name = i; kind = ANumber } ∷ ys
 
-abbrev pub kindOf : Typings → Expr → Kind
-kindOf ys (Named t) = kindIn ys t
-kindOf ys (Numeral t) = ANumber
-kindOf ys (Truth t b) = AFormula
-kindOf ys (Index t e) = AFormula
-kindOf ys (Paren t e) = kindOf ys e
-kindOf ys (Prefixed t o e) = prefixGives o
-kindOf ys (Joined t o a b) = infixGives o
-kindOf ys (Nexts t n e) = AFormula
-kindOf ys (InWindow t o n m e) = AFormula
-kindOf ys (Each t o further i s e) = bigGives o
-kindOf ys (Between t l h a b) = ASet
-kindOf ys (Listed t es) = ASet
-kindOf ys Empty = ASet
-kindOf ys (Element e es) = ASet
-kindOf ys (Range t x y z) = ASet
+abbrev pub typeOf : Typings → Expr → ExprType
+typeOf ys (Named t) = typeIn ys t
+typeOf ys (Numeral t) = ANumber
+typeOf ys (Truth t b) = AFormula
+typeOf ys (Index t e) = AFormula
+typeOf ys (Paren t e) = typeOf ys e
+typeOf ys (Prefixed t o e) = prefixGives o
+typeOf ys (Joined t o a b) = infixGives o
+typeOf ys (Nexts t n e) = AFormula
+typeOf ys (InWindow t o n m e) = AFormula
+typeOf ys (Each t o further i s e) = bigGives o
+typeOf ys (Between t l h a b) = ASet
+typeOf ys (Listed t es) = ASet
+typeOf ys Empty = ASet
+typeOf ys (Element e es) = ASet
+typeOf ys (Range t x y z) = ASet
 
 -- 'its first token', unless the expression has the type
-abbrev pub wrong : Kind → Typings → Expr → Option ℕ
-wrong k ys e = unless (isKind k (kindOf ys e)) (start e)
+abbrev pub wrong : ExprType → Typings → Expr → Option ℕ
+wrong k ys e = unless (isType k (typeOf ys e)) (start e)
 
 -- `==` and `!=` take two numbers, or a bus and an identifier in either order ('the right operand's if two only clash')
-abbrev pub comparable : Kind → Bool
-comparable k = isKind ANumber k || isKind ABus k || isKind AValue k
+abbrev pub comparable : ExprType → Bool
+comparable k = isType ANumber k || isType ABus k || isType AValue k
 
-abbrev pub fitting : Kind → Kind → Bool
-fitting k l = isKind ANumber k && isKind ANumber l || isKind ABus k && isKind AValue l || isKind AValue k && isKind ABus l
+abbrev pub fitting : ExprType → ExprType → Bool
+fitting k l = isType ANumber k && isType ANumber l || isType ABus k && isType AValue l || isType AValue k && isType ABus l
 
 abbrev pub wrongSides : Typings → Expr → Expr → Option ℕ
-wrongSides ys a b = if comparable (kindOf ys a) then unless (fitting (kindOf ys a) (kindOf ys b)) (start b) else some (start a)
+wrongSides ys a b = if comparable (typeOf ys a) then unless (fitting (typeOf ys a) (typeOf ys b)) (start b) else some (start a)
 
-abbrev pub wrongBoth : Kind → Typings → Expr → Expr → Option ℕ
+abbrev pub wrongBoth : ExprType → Typings → Expr → Expr → Option ℕ
 wrongBoth k ys a b = first (wrong k ys a) (wrong k ys b)
 
 abbrev pub wrongOperands : Typings → Infix → Expr → Expr → Option ℕ
@@ -168,7 +168,7 @@ abbrev pub mistyped : Typings → Expr → Option ℕ
 mistyped ys (Named t) = none
 mistyped ys (Numeral t) = none
 mistyped ys (Truth t b) = none
-mistyped ys (Index t e) = first (unless (isKind ABus (kindIn ys t)) (t .at)) (first (wrong ANumber ys e) (mistyped ys e))
+mistyped ys (Index t e) = first (unless (isType ABus (typeIn ys t)) (t .at)) (first (wrong ANumber ys e) (mistyped ys e))
 mistyped ys (Paren t e) = mistyped ys e
 mistyped ys (Prefixed t o e) = first (wrong (prefixTakes o) ys e) (mistyped ys e)
 mistyped ys (Joined t o a b) = first (wrongOperands ys o a b) (first (mistyped ys a) (mistyped ys b))
@@ -186,20 +186,20 @@ mistyped ys (Range t x y z) =
     first (first (wrong ANumber ys x) (mistyped ys x)) (first (first (wrong ANumber ys y) (mistyped ys y)) (first (wrong ANumber ys z) (mistyped ys z)))
 
 -- an expression that must have the type
-abbrev pub demanded : Kind → Typings → Expr → Option ℕ
+abbrev pub demanded : ExprType → Typings → Expr → Option ℕ
 demanded k ys e = first (wrong k ys e) (mistyped ys e)
 
 -- 'a definition is a number, a set or a formula'
-abbrev pub definable : Kind → Bool
-definable k = isKind ANumber k || isKind ASet k || isKind AFormula k
+abbrev pub definable : ExprType → Bool
+definable k = isType ANumber k || isType ASet k || isType AFormula k
 
-abbrev pub mistypedLine : Typings → Entry → Option ℕ
+abbrev pub mistypedLine : Typings → TextLine → Option ℕ
 mistypedLine ys (ParameterLine x e) = demanded ANumber ys e
-mistypedLine ys (DefinitionLine (Defined x e)) = first (unless (definable (kindOf ys e)) (start e)) (mistyped ys e)
+mistypedLine ys (DefinitionLine (Defined x e)) = first (unless (definable (typeOf ys e)) (start e)) (mistyped ys e)
 mistypedLine ys (DefinitionLine (Enumerated x is)) = none
 mistypedLine ys (DeclarationLine (OneSignal x)) = none
 mistypedLine ys (DeclarationLine (OfWidth x e)) = demanded ANumber ys e
-mistypedLine ys (DeclarationLine (OfType u x)) = unless (isKind AType (kindIn ys u)) (u .at)
+mistypedLine ys (DeclarationLine (OfType u x)) = unless (isType AType (typeIn ys u)) (u .at)
 mistypedLine ys (FormulaLine e) = demanded AFormula ys e
 
 abbrev pub typedValues : List Identifier → Typings → Typings
@@ -207,15 +207,15 @@ typedValues [] ys = ys
 typedValues (i ∷ is) ys = record { name = i .name; kind = AValue } ∷ typedValues is ys
 
 -- what is visible after a line
-abbrev pub typedAfter : Typings → Entry → Typings
+abbrev pub typedAfter : Typings → TextLine → Typings
 typedAfter ys (ParameterLine x e) = record { name = x; kind = ANumber } ∷ ys
-typedAfter ys (DefinitionLine (Defined x e)) = record { name = x; kind = kindOf ys e } ∷ ys
+typedAfter ys (DefinitionLine (Defined x e)) = record { name = x; kind = typeOf ys e } ∷ ys
 typedAfter ys (DefinitionLine (Enumerated x is)) = record { name = x; kind = AType } ∷ typedValues is ys
 typedAfter ys (DeclarationLine d) = ys
 typedAfter ys (FormulaLine e) = ys
 
 -- signals and buses
-abbrev pub typedSignals : List Entry → Typings
+abbrev pub typedSignals : List TextLine → Typings
 typedSignals [] = []
 typedSignals (ParameterLine x e ∷ ls) = typedSignals ls
 typedSignals (DefinitionLine d ∷ ls) = typedSignals ls
@@ -224,7 +224,7 @@ typedSignals (DeclarationLine (OfWidth x e) ∷ ls) = record { name = x; kind = 
 typedSignals (DeclarationLine (OfType u x) ∷ ls) = record { name = x; kind = ABus } ∷ typedSignals ls
 typedSignals (FormulaLine e ∷ ls) = typedSignals ls
 
-abbrev pub mistypedLines : Typings → List Entry → Option ℕ
+abbrev pub mistypedLines : Typings → List TextLine → Option ℕ
 mistypedLines ys [] = none
 mistypedLines ys (l ∷ ls) = first (mistypedLine ys l) (mistypedLines (typedAfter ys l) ls)
 

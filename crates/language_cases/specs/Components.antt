@@ -9,7 +9,7 @@ use Rattle.node.specs.Result.{Done, Refused, _>>=_, guard, Result}
 use Rattle.language.specs.Bytes.{ascii}
 use Rattle.language.specs.Places.{refuseAt}
 use Rattle.language.specs.Parsing.{parsed}
-use Rattle.language.specs.Reading.{meant, converted}
+use Rattle.language.specs.Reading.{textExpansion, specExpansion}
 use Rattle.language.specs.Cases.{outcome, formula, allOf, standard}
 
 -- lines, with a line feed behind each
@@ -87,7 +87,7 @@ formulas =
     []
 
 formulas-met : map (λ c. formula (c .0)) formulas ≡ map (λ c. c .1) formulas
-unfolding meant parsed converted _>>=_ guard refuseAt size
+unfolding textExpansion parsed specExpansion _>>=_ guard refuseAt size
 formulas-met = refl
 
 -- TSingle; its line of ASSUME has no `;`
@@ -234,5 +234,5 @@ outcomes =
     []
 
 outcomes-met : map (λ c. outcome (c .0)) outcomes ≡ map (λ c. c .1) outcomes
-unfolding meant parsed converted _>>=_ guard refuseAt size
+unfolding textExpansion parsed specExpansion _>>=_ guard refuseAt size
 outcomes-met = refl

@@ -8,7 +8,7 @@ use Rattle.node.specs.Result.{Done, Refused, _>>=_, guard, Result}
 use Rattle.language.specs.Bytes.{ascii}
 use Rattle.language.specs.Places.{refuseAt}
 use Rattle.language.specs.Parsing.{parsed}
-use Rattle.language.specs.Reading.{meant, converted, nodesAfter, signalsAfter}
+use Rattle.language.specs.Reading.{textExpansion, specExpansion, nodesAfter, signalsAfter}
 use Rattle.language.specs.Cases.{text, line, typed, outcome, guaranteed, formula, signals, entry, allOf, standard, strict}
 use lib.ListN.{drop, replicate}
 use Rattle.node.specs.Fields.{pack}
@@ -16,12 +16,12 @@ use Rattle.node.specs.Fields.{pack}
 -- E8: the offset is that of the bus's own name
 listed : signals (typed (ascii "a")) ≡ Done (entry 0 140 0 0 ∷ entry 0 143 0 3 ∷ entry 0 143 1 3 ∷ entry 0 143 2 3 ∷ entry 0 149 0 2 ∷ entry 0 149 1 2 ∷ entry 1 169 0 3 ∷ entry 1 169 1 3 ∷ entry 1
     169 2 3 ∷ [])
-unfolding meant parsed converted _>>=_ guard refuseAt size
+unfolding textExpansion parsed specExpansion _>>=_ guard refuseAt size
 listed = refl
 
 -- inputs number first even if OUTPUTS stands first; a bus of width 1 has index 0 and width 1, a single signal 0 and 0
 inputsNumberFirst : signals (text (ascii "MAIN { OUTPUTS { o; } INPUTS { b[1]; c[2]; s; } }")) ≡ Done (entry 0 99 0 1 ∷ entry 0 105 0 2 ∷ entry 0 105 1 2 ∷ entry 0 111 0 0 ∷ entry 1 85 0 0 ∷ [])
-unfolding meant parsed converted _>>=_ guard refuseAt size
+unfolding textExpansion parsed specExpansion _>>=_ guard refuseAt size
 inputsNumberFirst = refl
 
 -- texts, and what each comes to: its nodes and signals, or its refusal
@@ -32,7 +32,7 @@ outcomes =
     []
 
 outcomes-met : map (λ c. outcome (c .0)) outcomes ≡ map (λ c. c .1) outcomes
-unfolding meant parsed converted _>>=_ guard refuseAt size
+unfolding textExpansion parsed specExpansion _>>=_ guard refuseAt size
 outcomes-met = refl
 
 -- texts, and the whole formula of each
@@ -78,7 +78,7 @@ formulas =
     []
 
 formulas-met : map (λ c. formula (c .0)) formulas ≡ map (λ c. c .1) formulas
-unfolding meant parsed converted _>>=_ guard refuseAt size
+unfolding textExpansion parsed specExpansion _>>=_ guard refuseAt size
 formulas-met = refl
 
 -- texts, and what each one's GUARANTEE comes to
@@ -120,14 +120,14 @@ guarantees =
     []
 
 guarantees-met : map (λ c. guaranteed (c .0)) guarantees ≡ map (λ c. c .1) guarantees
-unfolding meant parsed converted _>>=_ guard refuseAt size
+unfolding textExpansion parsed specExpansion _>>=_ guard refuseAt size
 guarantees-met = refl
 
 -- 'entries past an accepted result are unchanged', and a refused call changes none
-pastResult : drop 12 (nodesAfter (meant (text (ascii "MAIN { INPUTS { } OUTPUTS { } }"))) (replicate 15 7)) ≡ pack 6 0 11 ∷ 7 ∷ 7 ∷ []
-unfolding meant parsed converted _>>=_ guard refuseAt size nodesFrom
+pastResult : drop 12 (nodesAfter (textExpansion (text (ascii "MAIN { INPUTS { } OUTPUTS { } }"))) (replicate 15 7)) ≡ pack 6 0 11 ∷ 7 ∷ 7 ∷ []
+unfolding textExpansion parsed specExpansion _>>=_ guard refuseAt size nodesFrom
 pastResult = refl
 
-refusedResult : nodesAfter (meant []) (7 ∷ []) ++ signalsAfter (meant []) (8 ∷ []) ≡ 7 ∷ 8 ∷ []
-unfolding meant parsed converted _>>=_ guard refuseAt size
+refusedResult : nodesAfter (textExpansion []) (7 ∷ []) ++ signalsAfter (textExpansion []) (8 ∷ []) ≡ 7 ∷ 8 ∷ []
+unfolding textExpansion parsed specExpansion _>>=_ guard refuseAt size
 refusedResult = refl

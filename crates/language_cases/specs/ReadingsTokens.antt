@@ -7,7 +7,7 @@ use Rattle.node.specs.Result.{Result, Done, Refused, _>>=_, guard}
 use Rattle.language.specs.Bytes.{ascii}
 use Rattle.language.specs.Places.{refuseAt}
 use Rattle.language.specs.Parsing.{parsed}
-use Rattle.language.specs.Reading.{meant, converted}
+use Rattle.language.specs.Reading.{textExpansion, specExpansion}
 use Rattle.language.specs.Cases.{text, line, repeated, outcome, guaranteed}
 use Prim.Native.Nat.{ℕ}
 use Prim.Native.String.{String}
@@ -22,7 +22,7 @@ guarantees =
     []
 
 guarantees-met : map (λ c. guaranteed (c .0)) guarantees ≡ map (λ c. c .1) guarantees
-unfolding meant parsed converted _>>=_ guard refuseAt size
+unfolding textExpansion parsed specExpansion _>>=_ guard refuseAt size
 guarantees-met = refl
 
 -- T7: 'No name is a word of the format': section and line words, the v1.0 names, and every word of Table 1
@@ -41,7 +41,7 @@ abbrev asSignal : String → Result (ℕ × ℕ)
 asSignal w = outcome (text (ascii "MAIN { INPUTS { " ++ ascii w ++ ascii "; } OUTPUTS { } }"))
 
 noWordIsAName : map asSignal formatWords ≡ map (λ w. Refused 4 84) formatWords
-unfolding meant parsed converted _>>=_ guard refuseAt size
+unfolding textExpansion parsed specExpansion _>>=_ guard refuseAt size
 noWordIsAName = refl
 
 -- texts, and what each comes to: its nodes and signals, or its refusal
@@ -118,5 +118,5 @@ outcomes =
     []
 
 outcomes-met : map (λ c. outcome (c .0)) outcomes ≡ map (λ c. c .1) outcomes
-unfolding meant parsed converted _>>=_ guard refuseAt size
+unfolding textExpansion parsed specExpansion _>>=_ guard refuseAt size
 outcomes-met = refl

@@ -7,7 +7,7 @@ use Rattle.node.specs.Result.{Refused, _>>=_, guard, Result}
 use Rattle.language.specs.Bytes.{ascii}
 use Rattle.language.specs.Places.{refuseAt}
 use Rattle.language.specs.Parsing.{parsed}
-use Rattle.language.specs.Reading.{meant, converted}
+use Rattle.language.specs.Reading.{textExpansion, specExpansion}
 use Rattle.language.specs.Cases.{text, line, repeated, outcome, lettered}
 
 -- texts, and what each comes to: its nodes and signals, or its refusal
@@ -60,5 +60,5 @@ outcomes =
     []
 
 outcomes-met : map (λ c. outcome (c .0)) outcomes ≡ map (λ c. c .1) outcomes
-unfolding meant parsed converted _>>=_ guard refuseAt size
+unfolding textExpansion parsed specExpansion _>>=_ guard refuseAt size
 outcomes-met = refl

@@ -17,7 +17,7 @@ use Rattle.language.specs.Numbering.{inOrder, signalList, tooManySignals}
 use Rattle.language.specs.Lines.{lines}
 use Rattle.language.specs.Expansion.{expand}
 use Rattle.language.specs.Shifting.{adapted}
-use Rattle.language.specs.Reading.{Converted, converted}
+use Rattle.language.specs.Reading.{NumberedFormula, specExpansion}
 
 -- the same text, stating the model that it targets
 abbrev withTarget : Spec → Spec
@@ -32,18 +32,18 @@ withTarget x = record {
 }
 
 -- what is made of a formula, whatever it is converted to
-abbrev ended : Declarations → Formula → Result Converted
+abbrev ended : Declarations → Formula → Result NumberedFormula
 ended d g =
     let list = signalList (inOrder d) in
     refuseAt 15 (tooManySignals 0 (inOrder d)) (guard (leb (size g) maxNodes) 16 0 (Done (record { formula = g; signals = list })))
 
 module _ (n p : ℕ) (other : n ≡ 16 → ⊥) where
-  sized : (b c : Bool) (k l : Converted) → guard b 16 0 (Done k) ≡ Refused n p → guard c 16 0 (Done l) ≡ Refused n p
+  sized : (b c : Bool) (k l : NumberedFormula) → guard b 16 0 (Done k) ≡ Refused n p → guard c 16 0 (Done l) ≡ Refused n p
   unfolding guard
   sized true c k l e = absurd (not-done (sym e))
   sized false c k l e = absurd (other cc)
 
-  counted : (o : Option ℕ) (r s : Result Converted) → (r ≡ Refused n p → s ≡ Refused n p) → refuseAt 15 o r ≡ Refused n p → refuseAt 15 o s ≡ Refused n p
+  counted : (o : Option ℕ) (r s : Result NumberedFormula) → (r ≡ Refused n p → s ≡ Refused n p) → refuseAt 15 o r ≡ Refused n p → refuseAt 15 o s ≡ Refused n p
   unfolding refuseAt
   counted none r s h e = h e
   counted (some q) r s h e = e
@@ -51,13 +51,13 @@ module _ (n p : ℕ) (other : n ≡ 16 → ⊥) where
   alike : (d : Declarations) (f g : Formula) → ended d f ≡ Refused n p → ended d g ≡ Refused n p
   alike d f g = counted (tooManySignals 0 (inOrder d)) _ _ (sized (leb (size f) maxNodes) (leb (size g) maxNodes) _ _)
 
-  through : {A : Type 0} (r : Result A) (j k : A → Result Converted) → ((a : A) → j a ≡ Refused n p → k a ≡ Refused n p) → r >>= j ≡ Refused n p → r >>= k ≡ Refused n p
+  through : {A : Type 0} (r : Result A) (j k : A → Result NumberedFormula) → ((a : A) → j a ≡ Refused n p → k a ≡ Refused n p) → r >>= j ≡ Refused n p → r >>= k ≡ Refused n p
   unfolding _>>=_
   through (Done a) j k h e = h a e
   through (Refused m q) j k h e = e
 
-  pub same-fault : (x : Spec) → converted x ≡ Refused n p → converted (withTarget x) ≡ Refused n p
-  unfolding converted
+  pub same-fault : (x : Spec) → specExpansion x ≡ Refused n p → specExpansion (withTarget x) ≡ Refused n p
+  unfolding specExpansion
   same-fault x =
       through (declarations x) _ _ (λ d. through (expand x d (lines x d)) _ _ (λ f. alike d
       (adapted (x .semantics) (x .target) (signalList (inOrder d)) f) (adapted (x .target) (x .target) (signalList (inOrder d)) f)))

@@ -15,8 +15,8 @@ use Rattle.language.specs.Expansion.{Context, atSignals, defineAll, expansion}
 use Rattle.language.specs.Laws.Basics.Lists.{All}
 use Rattle.entries.specs.Stored.{EntriesFrom}
 use Rattle.names.specs.Resolved.{Stored}
-use Rattle.values.specs.World.{World}
-use Rattle.values.specs.Worked.{Worked, worldIn, TreeWorked}
+use Rattle.name_values.specs.World.{World}
+use Rattle.name_values.specs.Worked.{Worked, worldIn, TreeWorked}
 use Rattle.operands.specs.Working.{Source, State, Noted}
 use Rattle.expander.specs.Expanding.{Signals, Worldly, Lasting, Tables}
 use Rattle.assembly.specs.Gathered.{GatheredFrom}

@@ -8,7 +8,7 @@ use lib.ListN.{length, length-append}
 use Rattle.language.specs.Tree.{Expr, Part, Subsection, Inputs, Outputs, Lines, Spec}
 use Rattle.entries.specs.Kinds as Kind
 use Rattle.entries.specs.Flat.{Entry, flat, each, flatParameter, flatDefinition, flatDeclaration, flatLine, flatSubsection}
-use Rattle.values.specs.Worked.{Worked, EachFrom, Linewise, Subsectionwise, mainStart, TreeWorked}
+use Rattle.name_values.specs.Worked.{Worked, EachFrom, Linewise, Subsectionwise, mainStart, TreeWorked}
 use Rattle.lines.specs.Items.{Item, Passed, Heads, Line, itemsEach, lineItems, subsectionItems, items}
 
 -- Q of each line's expression and of the entry before the line's own

@@ -13,7 +13,7 @@ use Rattle.language.specs.Declared.{Declarations}
 use Rattle.language.specs.Numbering.{inOrder}
 use Rattle.language.specs.Expansion.{atSignals, expansion}
 use Rattle.language.specs.Laws.Values.NameLaws.{defined-ports}
-use Rattle.values.specs.BodiesLaws.{bodies}
+use Rattle.name_values.specs.BodiesLaws.{bodies}
 use Rattle.operands.specs.Working.{Source, State}
 use Rattle.expander.specs.Expanding.{Tables, tables, Expands, Prepared, Puts, Answered as Expanded, Writes}
 use Rattle.expander.specs.PlainLaws.{plain-context, plain-all}

@@ -20,7 +20,7 @@ use Rattle.language.specs.Laws.Values.RegularWords.{Regular, RegularDefinition,
 use Rattle.language.specs.Laws.Values.PortLaws.{PortFor, ports-for, pairs-right}
 use Rattle.entries.specs.Kinds as Kind
 use Rattle.spellings.specs.Interned.{Lexed}
-use Rattle.values.specs.Declaring.{EnumerationAt}
+use Rattle.name_values.specs.Declaring.{EnumerationAt}
 use Rattle.assembly.specs.Implied.{BusAt, BusesFrom, Buses}
 use Rattle.assembly.specs.ImpliedLaws.{bus-stored}
 

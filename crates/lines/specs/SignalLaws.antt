@@ -25,9 +25,9 @@ use Rattle.language.specs.Laws.Values.SignalLaws.{PortListed, ports-listed, sig
 use Rattle.names.specs.References.{numberIn}
 use Rattle.names.specs.Numbering.{number-same, number-other}
 use Rattle.names.specs.Resolved.{declaredNames}
-use Rattle.values.specs.World.{Meaning, Stands, Defines, NoValue, numbered, nameAt, meaningAt}
-use Rattle.values.specs.Worlds.{inTable, meaning}
-use Rattle.values.specs.Worked.{definitionsStart}
+use Rattle.name_values.specs.World.{Meaning, Stands, Defines, NoValue, numbered, nameAt, meaningAt}
+use Rattle.name_values.specs.Worlds.{inTable, meaning}
+use Rattle.name_values.specs.Worked.{definitionsStart}
 use Rattle.expander.specs.Expanding.{Signals}
 use Rattle.lines.specs.Gathering.{world}
 use Rattle.lines.specs.WorldLaws.{behind-keeps}

@@ -41,11 +41,11 @@ use Rattle.language.specs.Laws.Values.NameLaws.{Entries, find-within}
 use Rattle.language.specs.Laws.Values.RegularWords.{RegularDefinition}
 use Rattle.names.specs.Resolved.{Stored, Resolved}
 use Rattle.choices.specs.StoredWords.{Short}
-use Rattle.values.specs.World.{Meaning, Stands, Defines, NoValue, meaningAt}
-use Rattle.values.specs.Worlds.{inTable, behind}
-use Rattle.values.specs.Worked.{definitionsStart}
-use Rattle.values.specs.WorkedLaws.{tree-worked}
-use Rattle.values.specs.BodiesLaws.{world-all, ported}
+use Rattle.name_values.specs.World.{Meaning, Stands, Defines, NoValue, meaningAt}
+use Rattle.name_values.specs.Worlds.{inTable, behind}
+use Rattle.name_values.specs.Worked.{definitionsStart}
+use Rattle.name_values.specs.WorkedLaws.{tree-worked}
+use Rattle.name_values.specs.BodiesLaws.{world-all, ported}
 use Rattle.operands.specs.Working.{Source, State, Noted}
 use Rattle.expander.specs.Expanding.{Signals, Plain, Worldly, Tables}
 use Rattle.expander.specs.PlainLaws.{plain-context, plain-define}

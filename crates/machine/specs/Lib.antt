@@ -31,3 +31,4 @@ pub mod BindLaws
 pub mod ContractLaws
 pub mod FormulaLaws
 pub mod SetLaws
+pub mod Entering

@@ -8,8 +8,8 @@ use native.Mathlib.Nat.{add-zero}
 use native.Mathlib.Numerals.{unary-clauses}
 use lib.ListN.{length, getD, drop, take, set, length-set}
 use lib.Seq.{drop-drop, getD-drop, getD-set-other, drop-set-lt, sets, sets-eq, length-sets, drop-at, length-take-le}
-use Rattle.values.specs.World.{numbered}
-use Rattle.values.specs.AgreesLaws.{numbered-last, numbered-before}
+use Rattle.name_values.specs.World.{numbered}
+use Rattle.name_values.specs.AgreesLaws.{numbered-last, numbered-before}
 use Rattle.machine.specs.Memory.{Regions, firstKept, frameWords, freeOf, freeWord, Held, Slotted, Lies, nowhere, keptSet, value, Agree, Framed, spread}
 use Rattle.machine.specs.declared.Words.{Words}
 

@@ -5,7 +5,7 @@ use mathlib.Core.Path.{_≡_, sym, _∙_, subst}
 use native.Mathlib.Omega.{arith}
 use lib.ListN.{getD}
 use Rattle.language.specs.Limits.{maxNames}
-use Rattle.values.specs.World.{World, Meaning, meaningAt}
+use Rattle.name_values.specs.World.{World, Meaning, meaningAt}
 use Rattle.operands.specs.Working.{Source}
 use Rattle.machine.specs.Realm.{Realm}
 use Rattle.machine.specs.Memory.{Regions, noteWords, firstKept, freeWord, slotsWord, noteAt, freeOf}

@@ -15,9 +15,9 @@ use Rattle.language.specs.Declared.{Single, BusOf}
 use Rattle.language.specs.Numbering.{firstOf}
 use Rattle.language.specs.Expansion.{Context, expansion}
 use Rattle.writing.specs.Parts.{Stands as StandsAt}
-use Rattle.values.specs.World.{World, Meaning, Stands, Defines, NoValue, meant, nameAt, meaningAt}
-use Rattle.values.specs.Facts.{IsNumber, IsBody, IsBus, IsIdentifier}
-use Rattle.values.specs.Sorts as Sort
+use Rattle.name_values.specs.World.{World, Meaning, Stands, Defines, NoValue, nameValue, nameAt, meaningAt}
+use Rattle.name_values.specs.Facts.{IsNumber, IsBody, IsBus, IsIdentifier}
+use Rattle.name_values.specs.Sorts as Sort
 use Rattle.operands.specs.Working.{Source}
 use Rattle.machine.specs.Realm.{Realm}
 use Rattle.machine.specs.Memory.{Regions, firstKept, slotsWord, noteAt, freeOf, Held}
@@ -26,7 +26,7 @@ use Rattle.machine.specs.Telling.{Fine}
 -- a definition's set is kept: how many elements, and where
 pub record IsKeptSet (mem : List ℕ) (m : Meaning) (count address : ℕ) : Type 0 where
   pub set : List ℕ
-  pub stands : (t : Token) → meant m t ≡ Done (Set set)
+  pub stands : (t : Token) → nameValue m t ≡ Done (Set set)
   pub fine : Fine set
   pub size : count ≡ length set
   pub above : firstKept ≤ address

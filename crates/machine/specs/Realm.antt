@@ -12,8 +12,8 @@ use Rattle.language.specs.Declared.{Port, Identifies}
 use Rattle.language.specs.Expansion.{Context}
 use Rattle.language.specs.Laws.Basics.Lists.{All}
 use Rattle.spellings.specs.Interned.{Lexed}
-use Rattle.values.specs.World.{World, Stands, Defines, meaningAt}
-use Rattle.values.specs.Known.{Known}
+use Rattle.name_values.specs.World.{World, Stands, Defines, meaningAt}
+use Rattle.name_values.specs.Known.{Known}
 use Rattle.choices.specs.StoredWords.{Short}
 use Rattle.operands.specs.Working.{Source}
 

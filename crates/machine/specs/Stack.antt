@@ -11,8 +11,8 @@ use Rattle.language.specs.Tree.{Expr, Empty}
 use Rattle.language.specs.Expansion.{Context, at}
 use Rattle.language.specs.Laws.Basics.Lists.{All}
 use Rattle.entries.specs.Kinds as Kind
-use Rattle.values.specs.World.{World, Defines, meaningAt}
-use Rattle.values.specs.Agrees.{Uses}
+use Rattle.name_values.specs.World.{World, Defines, meaningAt}
+use Rattle.name_values.specs.Agrees.{Uses}
 use Rattle.operands.specs.Entries.{kindAt, sizeAt, placeAt}
 use Rattle.operands.specs.Working.{Source}
 use Rattle.machine.specs.Realm.{OperandIn, Operand, Realm}

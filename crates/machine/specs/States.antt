@@ -111,7 +111,7 @@ pub record Parted (mem mem' out out' : List ℕ) (m : Machine) : Type 0 where
   pub same : mem' ≡ mem
   pub same-table : out' ≡ out
   pub mode : m .mode ≤ 1
-  pub short : m .frames < m .top + (frameWords + reserve + spare + maxTokens)
+  pub short : m .frames < m .top + (frameWords + reserve + spare + m .value)
 
 abbrev pub After : {s : Source} → Realm s → (mem mem' out out' : List ℕ) → Machine → Result Came → Began → Move → Type 0
 After R mem mem' out out' m x o (Next n) = Went R mem mem' out' m n x o

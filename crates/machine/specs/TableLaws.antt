@@ -11,7 +11,7 @@ use Rattle.writing.specs.Writing.{Wrote}
 use Rattle.writing.specs.WritingLaws.{ends}
 use Rattle.writing.specs.Parts.{part}
 use Rattle.writing.specs.PartLaws.{below-stays}
-use Rattle.values.specs.World.{World}
+use Rattle.name_values.specs.World.{World}
 use Rattle.machine.specs.Notes.{Lasts, Lasting}
 use Rattle.machine.specs.Holding.{Laying}
 use Rattle.machine.specs.Table.{Began, Lays, Laid, endOf}

@@ -5,8 +5,9 @@ pub mod modes;
 pub mod phases;
 
 ghost use mathlib.Core.Path.{_≡_};
-ghost use Prim.Native.Nat.{_+_, _≤_, _<_, _^_};
+ghost use Prim.Native.Nat.{suc, min, _+_, _≤_, _<_, _^_};
 ghost use lib.ListN.{length};
+ghost use Rattle.node.specs.Limits.{maxNodes};
 ghost use Rattle.machine.specs.Memory.{frameWords, Framed};
 ghost use Rattle.machine.specs.EnterLaws.{came as came', wrote as wrote'};
 ghost use Rattle.machine.specs.FlatLaws.{popped as popped'};
@@ -15,6 +16,7 @@ ghost use Rattle.machine.specs.Openings.{Openable, Opened, Enclosed};
 ghost use Rattle.machine.specs.SetLaws.{above as above'};
 use language::limits;
 use sets::Worked;
+use writing::TOO_MANY;
 
 // What to do next: work out the entry `value`, as a value (mode 0) or as a formula (mode 1); or go on with what has come (specs/Telling). Slots from `scope` up to
 // `depth` hold the elements of the visible big operators' names; values lie below `top`, frames from `frames` on; `nodes` is the next index of the table.
@@ -69,6 +71,16 @@ pub fn frame(memory: &mut [u32], at: usize, w: Words)
     memory[at + 4] = w.count;
     memory[at + 5] = w.value;
     memory[at + 6] = w.other as u32;
+}
+
+// One index for all past the last node.
+pub fn capped(n: usize) -> usize
+    ensures { λ r. ⌜ r ≡ min n (suc maxNodes) ⌝ }
+{
+    if n < TOO_MANY {
+        return n;
+    }
+    TOO_MANY
 }
 
 impl Machine {

@@ -29,7 +29,7 @@ use Rattle.language.specs.Tree.{
   OfWidth,
   OfType,
 }
-use Rattle.language.specs.Places.{first, unless, Entry, ParameterLine, DefinitionLine, DeclarationLine, FormulaLine}
+use Rattle.language.specs.Places.{first, unless, TextLine, ParameterLine, DefinitionLine, DeclarationLine, FormulaLine}
 use Rattle.language.specs.Names.{Names, visible, hidden, again, walk, declares, walkLine, walkLines, nowhere}
 use Rattle.names.specs.ScanLaws.{first-swap, first-group}
 use Rattle.language.specs.Laws.Values.SetMembers.{or-swap}
@@ -110,7 +110,7 @@ module _ (used bound : Names → Token → Option ℕ) (steady-used : Steady use
   walk-alike ns ms (Element e es) a = ap₂ first (walk-alike ns ms e a) (walk-alike ns ms es a)
   walk-alike ns ms (Range t x y z) a = ap₂ first (walk-alike ns ms x a) (ap₂ first (walk-alike ns ms y a) (walk-alike ns ms z a))
 
-  walkLine-alike : (ns ms : Names) (l : Entry) → Alike ns ms → walkLine used bound ns l ≡ walkLine used bound ms l
+  walkLine-alike : (ns ms : Names) (l : TextLine) → Alike ns ms → walkLine used bound ns l ≡ walkLine used bound ms l
   walkLine-alike ns ms (ParameterLine x e) a = walk-alike ns ms e a
   walkLine-alike ns ms (DefinitionLine (Defined x e)) a = walk-alike ns ms e a
   walkLine-alike ns ms (DefinitionLine (Enumerated x is)) a = refl
@@ -123,7 +123,7 @@ module _ (used bound : Names → Token → Option ℕ) (steady-used : Steady use
   alike-append [] a = a
   alike-append (n ∷ l) a = alike-cons n (alike-append l a)
 
-  pub walkLines-alike : (ns ms : Names) (ls : List Entry) → Alike ns ms → walkLines used bound ns ls ≡ walkLines used bound ms ls
+  pub walkLines-alike : (ns ms : Names) (ls : List TextLine) → Alike ns ms → walkLines used bound ns ls ≡ walkLines used bound ms ls
   walkLines-alike ns ms [] a = refl
   walkLines-alike ns ms (l ∷ ls) a =
       ap₂ first (walkLine-alike ns ms l a) (walkLines-alike (declares l ++ ns) (declares l ++ ms) ls (alike-append (declares l) a))

@@ -5,7 +5,7 @@ use mathlib.Core.Option.{Option}
 use mathlib.Core.Path.{_≡_, refl, ap, _∙_}
 use Rattle.language.specs.Tokens.{Token}
 use Rattle.language.specs.Tree.{Expr, Identifier, Definition, Defined, Enumerated, Parameter, Declaration, OneSignal, OfWidth, OfType, Subsection, Inputs, Outputs, Lines, Spec}
-use Rattle.language.specs.Places.{first, Entry as Line, parameterLines, definitionLines, declarationLines, formulaLines, mainLines, allLines}
+use Rattle.language.specs.Places.{first, TextLine as Line, parameterLines, definitionLines, declarationLines, formulaLines, mainLines, allLines}
 use Rattle.language.specs.Names.{Names, walk, identifierNames, walkLines}
 use Rattle.entries.specs.Kinds as Kind
 use Rattle.entries.specs.Flat.{Entry, leaf, flat, each, flatParameter, flatIdentifier, flatDefinition, flatDeclaration, flatLine, flatSubsection, outline}

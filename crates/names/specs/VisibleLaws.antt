@@ -5,7 +5,7 @@ use mathlib.Core.Path.{_≡_, refl, sym, ap, ap₂, _∙_}
 use Rattle.language.specs.Bytes.{same}
 use Rattle.language.specs.Tokens.{Token}
 use Rattle.language.specs.Tree.{Spec}
-use Rattle.language.specs.Places.{Entry, ParameterLine, DefinitionLine, DeclarationLine, FormulaLine, allLines}
+use Rattle.language.specs.Places.{TextLine, ParameterLine, DefinitionLine, DeclarationLine, FormulaLine, allLines}
 use Rattle.language.specs.Names.{Names, visible, declares, declaresSignal, over}
 use Rattle.language.specs.Laws.Basics.Lists.{All, all-more, all-left, all-right, all-append}
 use Rattle.language.specs.Laws.Basics.Tests.{or-left, or-right, or-cases, same-equal, same-refl}
@@ -51,7 +51,7 @@ pub among-all : (ns names : Names) → All (In names) ns → Among ns names
 among-all ns names h t y = among-more ns [] names h (λ u z. absurd (false≢true z)) t (visible-left ns [] t y)
 
 -- signals are declared by lines
-pub of-signals : (P : Token → Type 0) (ls : List Entry) → All P (over declares ls) → All P (over declaresSignal ls)
+pub of-signals : (P : Token → Type 0) (ls : List TextLine) → All P (over declares ls) → All P (over declaresSignal ls)
 of-signals P [] h = tt
 of-signals P (ParameterLine x e ∷ ls) h = of-signals P ls (h .1)
 of-signals P (DefinitionLine d ∷ ls) h = of-signals P ls (all-right P (declares (DefinitionLine d)) (over declares ls) h)

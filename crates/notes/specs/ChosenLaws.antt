@@ -41,7 +41,7 @@ use Rattle.language.specs.Laws.Basics.Tests.{pick, leave}
 use Rattle.language.specs.Laws.Values.PortLaws.{Pairs}
 use Rattle.entries.specs.Kinds as Kind
 use Rattle.entries.specs.Flat.{Entry, under, leaf, flat, each, flatParameter, flatIdentifier, flatDefinition, flatDeclaration, flatLine, head, flatSubsection, outline}
-use Rattle.values.specs.Worked.{EachFrom, mainStart}
+use Rattle.name_values.specs.Worked.{EachFrom, mainStart}
 use Rattle.notes.specs.Inside.{flat-inside}
 use Rattle.notes.specs.Chosen.{noHeading, Choice, choice, takes, chosen}
 

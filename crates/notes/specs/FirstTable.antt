@@ -36,9 +36,9 @@ use Rattle.names.specs.Roles.{declares}
 use Rattle.names.specs.Scan.{tokenOf}
 use Rattle.names.specs.Walkable.{entryOf}
 use Rattle.names.specs.Declaring.{Inner, inner-flat}
-use Rattle.values.specs.ElsewhereLaws.{ownNames, behind-parameters, over-definitions, main-apart}
-use Rattle.values.specs.Entrywise.{Every, every-append, every-each, every-all, every-at}
-use Rattle.values.specs.DeclaringLaws.{words-inner}
+use Rattle.name_values.specs.ElsewhereLaws.{ownNames, behind-parameters, over-definitions, main-apart}
+use Rattle.name_values.specs.Entrywise.{Every, every-append, every-each, every-all, every-at}
+use Rattle.name_values.specs.DeclaringLaws.{words-inner}
 
 abbrev pub firstTable : Spec → Table
 firstTable x = waiting (inputs (x .main)) (waiting (outputs (x .main)) (identifiers (x .definitions)))

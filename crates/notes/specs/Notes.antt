@@ -15,10 +15,10 @@ use Rattle.language.specs.Declared.{Constant, Single, BusOf, Identifies, Waitin
 use Rattle.entries.specs.Kinds as Kind
 use Rattle.entries.specs.Flat.{leaf, each}
 use Rattle.entries.specs.Stored.{firstEntry, kindOf, EntriesFrom}
-use Rattle.values.specs.World.{Meaning, Stands, Defines, NoValue, World, meaningAt}
-use Rattle.values.specs.Sorts as Sort
-use Rattle.values.specs.Facts.{Fact, Facts}
-use Rattle.values.specs.FactsLaws.{number-noted, body-noted, bus-noted, signal-noted, identifier-noted, nothing-noted}
+use Rattle.name_values.specs.World.{Meaning, Stands, Defines, NoValue, World, meaningAt}
+use Rattle.name_values.specs.Sorts as Sort
+use Rattle.name_values.specs.Facts.{Fact, Facts}
+use Rattle.name_values.specs.FactsLaws.{number-noted, body-noted, bus-noted, signal-noted, identifier-noted, nothing-noted}
 
 -- the words behind entry n, up to an entry of another kind
 pub record WordsAt (ts : Tokens) (w : List ℕ) (n : ℕ) (words : List Token) : Type 0 where

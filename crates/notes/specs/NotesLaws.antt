@@ -23,10 +23,10 @@ use Rattle.language.specs.Laws.Values.DistinctNames.{Apart, Distinct, apart-sym
 use Rattle.entries.specs.Flat.{flat, flatDefinition}
 use Rattle.names.specs.References.{numberIn}
 use Rattle.names.specs.Resolved.{declaredNames}
-use Rattle.values.specs.World.{Meaning, Stands, Defines, NoValue, meaningAt}
-use Rattle.values.specs.Worlds.{inTable, behind, meaning}
-use Rattle.values.specs.WorldsLaws.{Elsewhere}
-use Rattle.values.specs.Worked.{definitionsStart, worldIn}
+use Rattle.name_values.specs.World.{Meaning, Stands, Defines, NoValue, meaningAt}
+use Rattle.name_values.specs.Worlds.{inTable, behind, meaning}
+use Rattle.name_values.specs.WorldsLaws.{Elsewhere}
+use Rattle.name_values.specs.Worked.{definitionsStart, worldIn}
 use Rattle.notes.specs.Notes.{Note, Notes}
 use Rattle.notes.specs.NumberedLaws.{numbered-moved, numbered-other, numbered-own, distinct-pushed}
 

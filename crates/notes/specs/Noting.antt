@@ -24,12 +24,12 @@ use Rattle.names.specs.Roles.{declares}
 use Rattle.names.specs.Scan.{tokenOf}
 use Rattle.names.specs.Walkable.{entryOf, stored-at}
 use Rattle.names.specs.Resolved.{Stored, Resolved}
-use Rattle.values.specs.World.{Meaning, NoValue, meaningAt}
-use Rattle.values.specs.Worlds.{inTable}
-use Rattle.values.specs.Worked.{worldIn}
-use Rattle.values.specs.Sorts as Sort
-use Rattle.values.specs.DeclaringLaws.{declared-by, undeclared}
-use Rattle.values.specs.IdentifierLaws.{identifier-at}
+use Rattle.name_values.specs.World.{Meaning, NoValue, meaningAt}
+use Rattle.name_values.specs.Worlds.{inTable}
+use Rattle.name_values.specs.Worked.{worldIn}
+use Rattle.name_values.specs.Sorts as Sort
+use Rattle.name_values.specs.DeclaringLaws.{declared-by, undeclared}
+use Rattle.name_values.specs.IdentifierLaws.{identifier-at}
 use Rattle.notes.specs.Notes.{WordsAt, Note}
 use Rattle.notes.specs.FirstTable.{firstTable, first-at}
 

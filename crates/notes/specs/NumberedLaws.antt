@@ -16,8 +16,8 @@ use Rattle.language.specs.Laws.Values.DistinctNames.{Apart, Distinct, Across, a
 use Rattle.names.specs.References.{numberIn}
 use Rattle.names.specs.Numbering.{number-same, number-other}
 use Rattle.names.specs.AlikeLaws.{pushed}
-use Rattle.values.specs.World.{numbered}
-use Rattle.values.specs.AgreesLaws.{numbered-last}
+use Rattle.name_values.specs.World.{numbered}
+use Rattle.name_values.specs.AgreesLaws.{numbered-last}
 use Rattle.names.specs.ResolvedLaws.{number-below}
 
 numbered-else : {A : Type 0} (other a : A) (l : List A) (r : ℕ) → (r ≡ length l → ⊥) → numbered other (a ∷ l) r ≡ numbered other l r

@@ -21,8 +21,8 @@ use Rattle.names.specs.WalkBinders.{reference-outside}
 use Rattle.names.specs.Refers.{run-one}
 use Rattle.names.specs.Resolved.{Stored, declaredNames, Resolved}
 use Rattle.names.specs.ResolvedLaws.{resolved-expr, resolved-entry}
-use Rattle.values.specs.Passing.{Left, left-same, left-all, pass-entry, pass-line}
-use Rattle.values.specs.Worked.{definitionsStart, mainStart, Worked, EachFrom, Parameterwise, Declarationwise, Subsectionwise, TreeWorked}
+use Rattle.name_values.specs.Passing.{Left, left-same, left-all, pass-entry, pass-line}
+use Rattle.name_values.specs.Worked.{definitionsStart, mainStart, Worked, EachFrom, Parameterwise, Declarationwise, Subsectionwise, TreeWorked}
 use Rattle.notes.specs.ChosenLaws.{InSubsection}
 
 -- entry k declares the name t

@@ -23,8 +23,8 @@ use Rattle.entries.specs.Flat.{flat}
 use Rattle.sets.specs.Answers.{SetIs}
 use Rattle.sets.specs.Listing.{Listing, Grows, Limits}
 use Rattle.sets.specs.declared.Worked.{Worked}
-use Rattle.values.specs.World.{World}
-use Rattle.values.specs.KnownLaws.{own-more, known-listed, known-element}
+use Rattle.name_values.specs.World.{World}
+use Rattle.name_values.specs.KnownLaws.{own-more, known-listed, known-element}
 use Rattle.operands.specs.declared.Worth.{Worth}
 use Rattle.operands.specs.Entries.{kindAt, sizeAt, placeAt}
 use Rattle.operands.specs.Classes.{aListing, classOf}

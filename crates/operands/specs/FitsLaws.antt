@@ -10,10 +10,10 @@ use Rattle.language.specs.Tokens.{Token, tokens}
 use Rattle.language.specs.Tree.{Expr}
 use Rattle.language.specs.Expansion.{Context, at}
 use Rattle.entries.specs.Flat.{flat}
-use Rattle.values.specs.World.{World, Defines, meaningAt}
-use Rattle.values.specs.Known.{Known}
-use Rattle.values.specs.Slots.{Slots}
-use Rattle.values.specs.SlotsLaws.{slots-kept, slots-more}
+use Rattle.name_values.specs.World.{World, Defines, meaningAt}
+use Rattle.name_values.specs.Known.{Known}
+use Rattle.name_values.specs.Slots.{Slots}
+use Rattle.name_values.specs.SlotsLaws.{slots-kept, slots-more}
 use Rattle.operands.specs.Entries.{kindAt, sizeAt}
 use Rattle.operands.specs.Classes.{Class, classOf, ofExpr, View, view}
 use Rattle.operands.specs.ClassLaws.{has-entry, expr-class, size-is}

@@ -16,7 +16,7 @@ use Rattle.language.specs.Expansion.{Context, at}
 use Rattle.language.specs.Laws.Basics.Lists.{All}
 use Rattle.language.specs.Laws.Values.SetLaws.{ascending-all}
 use Rattle.sets.specs.Combined.{Ordered}
-use Rattle.values.specs.World.{World}
+use Rattle.name_values.specs.World.{World}
 use Rattle.operands.specs.Working.{Source, State, Noted, Fits, Ready, Held, Works}
 use Rattle.operands.specs.FitsLaws.{later, bound, Alike, alike, roomed}
 use Rattle.operands.specs.Operands.{Under}

@@ -13,7 +13,7 @@ use Rattle.language.specs.Laws.Values.ValueLaws.{Ordered}
 use Rattle.sets.specs.Answers.{says, elements, count}
 use Rattle.sets.specs.Listing.{Listing}
 use Rattle.sets.specs.declared.Worked.{Worked}
-use Rattle.values.specs.World.{World}
+use Rattle.name_values.specs.World.{World}
 use Rattle.operands.specs.Working.{Source, State, Noted, Fits, Room, Held, small}
 
 -- the elements of a set in braces, listed in the array `out`

@@ -21,7 +21,7 @@ use Rattle.sets.specs.Operators.{combination}
 use Rattle.sets.specs.Answers.{SetIs}
 use Rattle.sets.specs.Combined.{Ordered as InOrder}
 use Rattle.sets.specs.declared.Worked.{Worked}
-use Rattle.values.specs.World.{World}
+use Rattle.name_values.specs.World.{World}
 use Rattle.operands.specs.declared.Worth.{Worth}
 use Rattle.operands.specs.Entries.{kindAt, sizeAt, placeAt}
 use Rattle.operands.specs.Keeping.{Moved}

@@ -7,14 +7,14 @@ use Rattle.node.specs.Result.{Result}
 use Rattle.language.specs.Tokens.{Token}
 use Rattle.language.specs.Grammar.{Tokens}
 use Rattle.language.specs.Values.{Value}
-use Rattle.values.specs.World.{World, meant, meaningAt}
-use Rattle.values.specs.Facts.{Facts}
+use Rattle.name_values.specs.World.{World, nameValue, meaningAt}
+use Rattle.name_values.specs.Facts.{Facts}
 use Rattle.operands.specs.Telling.{Tells}
 use Rattle.operands.specs.declared.Worth.{Worth}
 
 -- r is a name that stands for the value v, which the answer x tells
 pub record Keeps (r : ℕ) (x : Worth) (out sorts numbers kept sorts' numbers' kept' : List ℕ) : Type 0 where
-  pub noted : (ts : Tokens) (w : List ℕ) (W : World) (v : Result Value) → ((t : Token) → meant (meaningAt W r) t ≡ v) → Tells ts w W out x v → Facts ts w W sorts numbers kept
+  pub noted : (ts : Tokens) (w : List ℕ) (W : World) (v : Result Value) → ((t : Token) → nameValue (meaningAt W r) t ≡ v) → Tells ts w W out x v → Facts ts w W sorts numbers kept
       → Facts ts w W sorts' numbers' kept'
 
 -- n entries of an array, from a on, stand in another from b on; all others there are as before

@@ -10,9 +10,9 @@ use Rattle.node.specs.Result.{Done}
 use Rattle.language.specs.Limits.{maxNames, maxElements}
 use Rattle.language.specs.Values.{Value}
 use Rattle.language.specs.Laws.Values.ValueLaws.{Ordered}
-use Rattle.values.specs.Sorts as Sort
-use Rattle.values.specs.Facts.{room, keptAt}
-use Rattle.values.specs.FactsLaws.{number-noted, set-noted, kept-is, kept-elsewhere, facts-changed, facts-noted}
+use Rattle.name_values.specs.Sorts as Sort
+use Rattle.name_values.specs.Facts.{room, keptAt}
+use Rattle.name_values.specs.FactsLaws.{number-noted, set-noted, kept-is, kept-elsewhere, facts-changed, facts-noted}
 use Rattle.operands.specs.Keeping.{Moved, Keeps}
 use Rattle.operands.specs.declared.Worth.{Worth}
 

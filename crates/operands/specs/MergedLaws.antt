@@ -22,7 +22,7 @@ use Rattle.sets.specs.Operators.{combination}
 use Rattle.sets.specs.Answers.{elements, count, SetIs}
 use Rattle.sets.specs.Combined.{Ordered}
 use Rattle.sets.specs.declared.Worked.{Worked}
-use Rattle.values.specs.World.{World}
+use Rattle.name_values.specs.World.{World}
 use Rattle.operands.specs.Entries.{placeAt}
 use Rattle.operands.specs.Working.{Source, State, Fits, SetAt}
 use Rattle.operands.specs.Folding.{MergedAt}

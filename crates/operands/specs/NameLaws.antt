@@ -21,13 +21,13 @@ use Rattle.sets.specs.Answers.{says}
 use Rattle.sets.specs.Digits.{digitsAt}
 use Rattle.sets.specs.declared.Worked.{Worked}
 use Rattle.language.specs.Laws.Basics.Lists.{All}
-use Rattle.values.specs.World.{Meaning, World, meant, meaningAt}
-use Rattle.values.specs.Agrees.{Uses}
-use Rattle.values.specs.Known.{Known}
-use Rattle.values.specs.UsedLaws.{used-value, used-element, named-body}
-use Rattle.values.specs.Slots.{Slots}
-use Rattle.values.specs.Sorts as Sort
-use Rattle.values.specs.Facts.{room, IsBody, Fact}
+use Rattle.name_values.specs.World.{Meaning, World, nameValue, meaningAt}
+use Rattle.name_values.specs.Agrees.{Uses}
+use Rattle.name_values.specs.Known.{Known}
+use Rattle.name_values.specs.UsedLaws.{used-value, used-element, named-body}
+use Rattle.name_values.specs.Slots.{Slots}
+use Rattle.name_values.specs.Sorts as Sort
+use Rattle.name_values.specs.Facts.{room, IsBody, Fact}
 use Rattle.operands.specs.declared.Worth.{Worth}
 use Rattle.operands.specs.declared.Worth.the-variants.{Formula, Identifier}
 use Rattle.operands.specs.Telling.{wordsOf, Tells}
@@ -101,11 +101,11 @@ module _ {s : Source} {st : State} {base depth k : ℕ} (h : classOf (kindAt (s 
           → Fact (tokens (s .text)) (s .work) (st .kept) r (meaningAt W r) (getD (st .sorts) r 0) (getD (st .numbers) r 0)
       fact f = f .facts .noted r l
 
-      stands : {W : World} {env : List ℕ} {c : Context} {e : Expr} (f : Fits s st base depth false k W env c e) → value (c .values) e ≡ meant (meaningAt W r) (used f .token)
+      stands : {W : World} {env : List ℕ} {c : Context} {e : Expr} (f : Fits s st base depth false k W env c e) → value (c .values) e ≡ nameValue (meaningAt W r) (used f .token)
       stands f = used f .same ∙ used-value (uses f .1) l
 
-      is : {W : World} {env : List ℕ} {c : Context} {e : Expr} (f : Fits s st base depth false k W env c e) {m : Meaning} → meaningAt W r ≡ m → value (c .values) e ≡ meant m (used f .token)
-      is f p = stands f ∙ ap (λ m. meant m (used f .token)) p
+      is : {W : World} {env : List ℕ} {c : Context} {e : Expr} (f : Fits s st base depth false k W env c e) {m : Meaning} → meaningAt W r ≡ m → value (c .values) e ≡ nameValue m (used f .token)
+      is f p = stands f ∙ ap (λ m. nameValue m (used f .token)) p
 
       pub sort-few : Ready s st base depth false k → getD (st .sorts) r 0 ≤ Sort.nothing
       sort-few R = fact (R .fits) .sorted
@@ -180,6 +180,6 @@ module _ {s : Source} {st : State} {base depth k : ℕ} (h : classOf (kindAt (s 
             record {
               held = λ i m. v .held i (omega arith);
               says = λ W env c e f. let b = fact f .body z in subst (Tells (tokens (s .text)) (s .work) W _ x) (sym (is f (b .defines))) (v .says W [] (b .context) (b .expr) (body-fits f));
-              noted = λ W env c e f. let b = fact f .body z in g .noted _ _ W _ (λ t. ap (λ m. meant m t) (b .defines)) (v .says W [] (b .context) (b .expr) (body-fits f))
+              noted = λ W env c e f. let b = fact f .body z in g .noted _ _ W _ (λ t. ap (λ m. nameValue m t) (b .defines)) (v .says W [] (b .context) (b .expr) (body-fits f))
                   (v .noted W [] (b .context) (b .expr) (body-fits f));
             }

@@ -18,9 +18,9 @@ use Rattle.entries.specs.Kinds as Kind
 use Rattle.entries.specs.Flat.{Entry, under, flat}
 use Rattle.entries.specs.Stored.{EndsAt}
 use Rattle.language.specs.Grammar.{Tokens}
-use Rattle.values.specs.World.{World}
-use Rattle.values.specs.Known.{Known}
-use Rattle.values.specs.KnownLaws.{own-more, known-paren, known-prefixed, known-joined, known-between, known-range, known-each}
+use Rattle.name_values.specs.World.{World}
+use Rattle.name_values.specs.Known.{Known}
+use Rattle.name_values.specs.KnownLaws.{own-more, known-paren, known-prefixed, known-joined, known-between, known-range, known-each}
 use Rattle.operands.specs.Entries.{kindAt, sizeAt, placeAt}
 use Rattle.operands.specs.Classes.{aParen, aWidth, aRange, aMeasure, aCalculation, aCombination, aBig, aBetween, classOf}
 use Rattle.operands.specs.ClassLaws.{has-entry, size-is, place-is}

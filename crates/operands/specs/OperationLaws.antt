@@ -14,7 +14,7 @@ use Rattle.language.specs.Laws.Values.ValueLaws.{measure-sane, calculate-sane, 
 use Rattle.sets.specs.Operators.{arithmetic, measurement, combination}
 use Rattle.sets.specs.Answers.{says, SetIs}
 use Rattle.sets.specs.declared.Worked.{Worked}
-use Rattle.values.specs.World.{World}
+use Rattle.name_values.specs.World.{World}
 use Rattle.operands.specs.Telling.{Tells}
 use Rattle.operands.specs.Taking.{numbered, setted}
 use Rattle.operands.specs.Working.{TellsNumber, TellsSet}

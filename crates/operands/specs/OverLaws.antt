@@ -11,7 +11,7 @@ use Rattle.language.specs.Operators.{Big, BigSum, BigProduct, BigCap, BigCup, B
 use Rattle.language.specs.Values.{Value, Logic, set, big}
 use Rattle.language.specs.Expansion.{Context}
 use Rattle.sets.specs.declared.Worked.{Worked}
-use Rattle.values.specs.World.{World}
+use Rattle.name_values.specs.World.{World}
 use Rattle.operands.specs.declared.Worth.the-variants.{Formula}
 use Rattle.operands.specs.Telling.{Tells}
 use Rattle.operands.specs.Taking.{numbered, setted}

@@ -10,7 +10,7 @@ use Rattle.node.specs.Result.{Result}
 use Rattle.language.specs.Tree.{Expr, Element}
 use Rattle.language.specs.Values.{Value, value}
 use Rattle.language.specs.Expansion.{Context}
-use Rattle.values.specs.World.{World}
+use Rattle.name_values.specs.World.{World}
 use Rattle.operands.specs.declared.Worth.{Worth}
 use Rattle.operands.specs.declared.Worth.the-variants.{Formula}
 use Rattle.operands.specs.Entries.{kindAt, sizeAt, placeAt}

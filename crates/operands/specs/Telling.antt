@@ -10,8 +10,8 @@ use Rattle.language.specs.Grammar.{Tokens}
 use Rattle.language.specs.Values.{Value, Logic, Choice}
 use Rattle.language.specs.Declared.{Constant, Single, BusOf, Identifies, WaitingBus}
 use Rattle.language.specs.Laws.Values.ValueLaws.{Ordered}
-use Rattle.values.specs.World.{Meaning, Stands, Defines, NoValue, World, nameAt, meaningAt}
-use Rattle.values.specs.Facts.{IsIdentifier}
+use Rattle.name_values.specs.World.{Meaning, Stands, Defines, NoValue, World, nameAt, meaningAt}
+use Rattle.name_values.specs.Facts.{IsIdentifier}
 use Rattle.operands.specs.declared.Worth.{Worth}
 use Rattle.operands.specs.declared.Worth.the-variants.{Formula, Identifier}
 

@@ -14,7 +14,7 @@ use Rattle.language.specs.Laws.Values.ValueLaws.{SaneNumber, Ordered, SaneSet}
 use Rattle.sets.specs.Combined.{Ordered as InOrder}
 use Rattle.sets.specs.Answers.{says, elements, count, SetIs}
 use Rattle.sets.specs.declared.Worked.{Worked}
-use Rattle.values.specs.World.{World}
+use Rattle.name_values.specs.World.{World}
 use Rattle.operands.specs.declared.Worth.{Worth}
 use Rattle.operands.specs.declared.Worth.the-variants.{Formula, Identifier}
 use Rattle.operands.specs.Telling.{Tells}

@@ -16,7 +16,7 @@ use Rattle.sets.specs.Operators.{arithmetic}
 use Rattle.sets.specs.Answers.{says}
 use Rattle.sets.specs.Combined.{Ordered}
 use Rattle.sets.specs.declared.Worked.{Worked}
-use Rattle.values.specs.World.{World}
+use Rattle.name_values.specs.World.{World}
 use Rattle.operands.specs.Entries.{placeAt}
 use Rattle.operands.specs.Working.{Source, State, Fits, NumberAt, small}
 use Rattle.operands.specs.Folding.{TotalAt}

@@ -15,11 +15,11 @@ use Rattle.language.specs.Laws.Values.ValueLaws.{Ordered}
 use Rattle.spellings.specs.Interned.{Lexed}
 use Rattle.sets.specs.Answers.{says, count, SetIs}
 use Rattle.sets.specs.declared.Worked.{Worked}
-use Rattle.values.specs.World.{World}
-use Rattle.values.specs.Known.{Known}
-use Rattle.values.specs.Bodies.{Bodies}
-use Rattle.values.specs.Slots.{Slots}
-use Rattle.values.specs.Facts.{Facts}
+use Rattle.name_values.specs.World.{World}
+use Rattle.name_values.specs.Known.{Known}
+use Rattle.name_values.specs.Bodies.{Bodies}
+use Rattle.name_values.specs.Slots.{Slots}
+use Rattle.name_values.specs.Facts.{Facts}
 use Rattle.operands.specs.Telling.{Tells}
 use Rattle.operands.specs.declared.Worth.{Worth}
 

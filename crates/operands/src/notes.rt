@@ -1,6 +1,6 @@
 // What is noted of declared names: the sets that are kept, and a definition's value that is to be kept.
 use language::limits;
-use values::sorts;
+use name_values::sorts;
 ghost use Prim.Native.Nat.{_+_, _≤_, _<_};
 ghost use lib.ListN.{length};
 ghost use Rattle.language.specs.Limits.{maxNames, maxElements};

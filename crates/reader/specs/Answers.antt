@@ -11,7 +11,7 @@ use Rattle.node.specs.declared.Answer.{Answer}
 use Rattle.words.specs.Words.{past, cleared as zeroed}
 use Rattle.words.specs.ClearingLaws.{cleared-same, cleared-zeros}
 use Rattle.language.specs.Limits.{workBytes}
-use Rattle.language.specs.Reading.{meant, delivered, reading, cleared, workAfter}
+use Rattle.language.specs.Reading.{textExpansion, delivered, reading, cleared, workAfter}
 use Rattle.language.specs.Laws.Buffers.{work-short, short-refused}
 use Rattle.language.specs.Laws.Basics.Tests.{pick}
 use Rattle.claim.specs.Reads.{Reads}
@@ -25,7 +25,7 @@ cleared-is n w h = cleared-zeros n w h ∙ sym (pick (leb n (length w)) (replica
 
 -- the answer on a text, from the work buffer `work` to `used`: of it the bytes beyond the first 65,536 are as before
 pub record Answers (text work nodes signals used nodes′ signals′ : List ℕ) (r : Answer) : Type 0 where
-  pub hands : Hands (meant text >>= delivered (length nodes) (length signals)) nodes signals nodes′ signals′ r
+  pub hands : Hands (textExpansion text >>= delivered (length nodes) (length signals)) nodes signals nodes′ signals′ r
   pub size : length used ≡ length work
   pub beyond : past workBytes used ≡ past workBytes work
 
@@ -39,7 +39,7 @@ module _ (text : List ℕ) {work nodes signals : List ℕ} where
       → Reads text work nodes signals work′ nodes′ signals′ r
   unfolding reading workAfter
   reads-long {used} h a e =
-      let g = hands-as (guard-pass 17 0 (meant text >>= delivered (length nodes) (length signals)) (le-leb workBytes (length work) h)) (a .hands) in
+      let g = hands-as (guard-pass 17 0 (textExpansion text >>= delivered (length nodes) (length signals)) (le-leb workBytes (length work) h)) (a .hands) in
       reads text (record {
         answer = g .answer;
         nodesLeft = g .nodesLeft;

@@ -19,7 +19,7 @@ use Rattle.language.specs.Numbering.{inOrder, signalList}
 use Rattle.language.specs.Lines.{lines}
 use Rattle.language.specs.Expansion.{Sections, gather, atSignals, defineAll, expandSection, section, whole, expand}
 use Rattle.language.specs.Shifting.{adapted}
-use Rattle.language.specs.Reading.{Converted, delivered}
+use Rattle.language.specs.Reading.{NumberedFormula, delivered}
 use Rattle.language.specs.Laws.Meaning.ShiftLaws.{shifted-size}
 use Rattle.parser.specs.declared.Facts.{Facts}
 use Rattle.ports.specs.declared.Signals.{Signals}
@@ -57,10 +57,10 @@ adapted-size Moore Moore list f = omega arith
 
 module _ {f : Facts} {s : Signals} {words table list : List ℕ} {count at : ℕ} {x : Spec} {d : Declarations} (g : Complete f s words count table at list x d)
     {nodes signals nodes′ signals′ : List ℕ} {a : Answer} (h : Ending.Finishes x d nodes signals nodes′ signals′ a) where
-  abbrev end : Converted → Result Converted
+  abbrev end : NumberedFormula → Result NumberedFormula
   end = delivered (length nodes) (length signals)
 
-  abbrev result : Result Converted
+  abbrev result : Result NumberedFormula
   result = (expand x d (lines x d) >>= ended x d) >>= end
 
   module _ {n m : ℕ} (e : a ≡ Accepted n m) (ss : Sections) (made : gather (expandSection (defineAll (atSignals d) (x .definitions))) (lines x d) ≡ Done ss) where

@@ -12,7 +12,7 @@ use Rattle.language.specs.Limits.{maxTokens, maxNames, maxSignals, workBytes}
 use Rattle.language.specs.Tree.{Spec}
 use Rattle.language.specs.Declared.{Declarations, declarations}
 use Rattle.language.specs.Numbering.{inOrder, signalList}
-use Rattle.language.specs.Reading.{converted, delivered}
+use Rattle.language.specs.Reading.{specExpansion, delivered}
 use Rattle.language.specs.Laws.Values.SignalLaws.{signals-few}
 use Rattle.parser.specs.declared.Facts.{Facts}
 use Rattle.parser.specs.Outlines.{factsOf}
@@ -45,7 +45,7 @@ pub record SomeParsed (text w refs found : List ℕ) (entries names : ℕ) (f : 
 
 -- the answer on a tree, and the counts of one that is accepted
 pub record Converts (x : Spec) (nodes signals nodes′ signals′ : List ℕ) (r : Counted) : Type 0 where
-  pub hands : Hands (converted x >>= delivered (length nodes) (length signals)) nodes signals nodes′ signals′ (r .answer)
+  pub hands : Hands (specExpansion x >>= delivered (length nodes) (length signals)) nodes signals nodes′ signals′ (r .answer)
   pub lines : (n s : ℕ) → r .answer ≡ Accepted n s → (d : Declarations) → declarations x ≡ Done d → CountsOf x d (r .lines)
 
 module _ {text w refs found : List ℕ} {entries names : ℕ} {f : Facts} where
@@ -65,7 +65,7 @@ module _ {text w refs found : List ℕ} {entries names : ℕ} {f : Facts} {x : S
   names-refused nodes signals e q =
       let not = declarations-refused (delivered (length nodes) (length signals)) x (subst (Promise.Answer text w x sorts numbers kept order enumerations firsts list list′) e says) in
       record {
-        hands = subst (Hands (converted x >>= delivered (length nodes) (length signals)) nodes signals nodes signals) (sym q) (hands-refused nodes signals not);
+        hands = subst (Hands (specExpansion x >>= delivered (length nodes) (length signals)) nodes signals nodes signals) (sym q) (hands-refused nodes signals not);
         lines = λ n s e. absurd (not-accepted q e);
       }
 

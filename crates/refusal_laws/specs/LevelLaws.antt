@@ -31,7 +31,7 @@ use Rattle.language.specs.Tree.{
   OfWidth,
   OfType,
 }
-use Rattle.language.specs.Places.{start, levels, Entry, ParameterLine, DefinitionLine, DeclarationLine, FormulaLine, deep, deepLine}
+use Rattle.language.specs.Places.{start, levels, TextLine, ParameterLine, DefinitionLine, DeclarationLine, FormulaLine, deep, deepLine}
 use Rattle.language.specs.Laws.Basics.Lists.{All}
 use Rattle.refusal_laws.specs.Refusals.{Among, FirstPlace, expressions, operands, ownLevel, Nested, Deep}
 use Rattle.refusal_laws.specs.Places.{nowhere, same-places, unless-place}
@@ -132,7 +132,7 @@ one : (e : Expr) → FirstPlace (λ p. Among (λ f. Deep f × (p ≡ start f)) (
 one e = same-places (deep e) (λ p. (inl, λ s. ⊎-elim (λ h. h) (λ n. absurd n) s)) (deep-first e)
 
 -- 5 in a line
-pub deep-line : (l : Entry) → FirstPlace (λ p. Among (λ e. Deep e × (p ≡ start e)) (expressions l)) (deepLine l)
+pub deep-line : (l : TextLine) → FirstPlace (λ p. Among (λ e. Deep e × (p ≡ start e)) (expressions l)) (deepLine l)
 deep-line (ParameterLine x e) = one e
 deep-line (DefinitionLine (Defined x e)) = one e
 deep-line (DefinitionLine (Enumerated x is)) = nowhere (λ p h. h)

@@ -7,7 +7,7 @@ use Rattle.language.specs.Tree.{Expr, Identifier, Definition, Defined, Enumerat
 use Rattle.language.specs.Places.{
   start,
   firstIn,
-  Entry,
+  TextLine,
   ParameterLine,
   DefinitionLine,
   DeclarationLine,
@@ -27,19 +27,19 @@ use Rattle.refusal_laws.specs.Refusals.{Among, FirstPlace, joined, subse
 use Rattle.refusal_laws.specs.Places.{in-list}
 use Rattle.refusal_laws.specs.LevelLaws.{deep-line}
 
-parameters-are : (ps : List Parameter) (ls : List Entry) → parameterLines ps ls ≡ map (λ p. ParameterLine (p .name) (p .value)) ps ++ ls
+parameters-are : (ps : List Parameter) (ls : List TextLine) → parameterLines ps ls ≡ map (λ p. ParameterLine (p .name) (p .value)) ps ++ ls
 parameters-are [] ls = refl
 parameters-are (p ∷ ps) ls = ap (ParameterLine (p .name) (p .value) ∷_) (parameters-are ps ls)
 
-definitions-are : (ds : List Definition) (ls : List Entry) → definitionLines ds ls ≡ map DefinitionLine ds ++ ls
+definitions-are : (ds : List Definition) (ls : List TextLine) → definitionLines ds ls ≡ map DefinitionLine ds ++ ls
 definitions-are [] ls = refl
 definitions-are (d ∷ ds) ls = ap (DefinitionLine d ∷_) (definitions-are ds ls)
 
-declarations-are : (ds : List Declaration) (ls : List Entry) → declarationLines ds ls ≡ map DeclarationLine ds ++ ls
+declarations-are : (ds : List Declaration) (ls : List TextLine) → declarationLines ds ls ≡ map DeclarationLine ds ++ ls
 declarations-are [] ls = refl
 declarations-are (d ∷ ds) ls = ap (DeclarationLine d ∷_) (declarations-are ds ls)
 
-formulas-are : (es : List Expr) (ls : List Entry) → formulaLines es ls ≡ map FormulaLine es ++ ls
+formulas-are : (es : List Expr) (ls : List TextLine) → formulaLines es ls ≡ map FormulaLine es ++ ls
 formulas-are [] ls = refl
 formulas-are (e ∷ es) ls = ap (FormulaLine e ∷_) (formulas-are es ls)
 
@@ -60,7 +60,7 @@ identifiers-are : (is : List Identifier) → identifierNames is ≡ map (λ i. i
 identifiers-are [] = refl
 identifiers-are (i ∷ is) = ap (i .name ∷_) (identifiers-are is)
 
-pub declares-are : (l : Entry) → declares l ≡ brings l
+pub declares-are : (l : TextLine) → declares l ≡ brings l
 declares-are (ParameterLine x e) = refl
 declares-are (DefinitionLine (Defined x e)) = refl
 declares-are (DefinitionLine (Enumerated x is)) = ap (x ∷_) (identifiers-are is)
@@ -69,7 +69,7 @@ declares-are (DeclarationLine (OfWidth x e)) = refl
 declares-are (DeclarationLine (OfType u x)) = refl
 declares-are (FormulaLine e) = refl
 
-signals-are : (l : Entry) → declaresSignal l ≡ signalsOf l
+signals-are : (l : TextLine) → declaresSignal l ≡ signalsOf l
 signals-are (ParameterLine x e) = refl
 signals-are (DefinitionLine d) = refl
 signals-are (DeclarationLine (OneSignal x)) = refl
@@ -77,7 +77,7 @@ signals-are (DeclarationLine (OfWidth x e)) = refl
 signals-are (DeclarationLine (OfType u x)) = refl
 signals-are (FormulaLine e) = refl
 
-over-joined : (f g : Entry → List Token) → ((l : Entry) → f l ≡ g l) → (ls : List Entry) → over f ls ≡ joined g ls
+over-joined : (f g : TextLine → List Token) → ((l : TextLine) → f l ≡ g l) → (ls : List TextLine) → over f ls ≡ joined g ls
 over-joined f g e [] = refl
 over-joined f g e (l ∷ ls) = ap₂ _++_ (e l) (over-joined f g e ls)
 
@@ -90,5 +90,5 @@ signal-names-are x = over-joined declaresSignal signalsOf signals-are (allLines 
 -- 5
 pub deep-is-first : (x : Spec) → FirstPlace (DeepAt x) (tooDeep x)
 deep-is-first x =
-    subst (λ (ls : List Entry). FirstPlace (DeepAt x) (firstIn deepLine ls)) (sym (lines-are x))
+    subst (λ (ls : List TextLine). FirstPlace (DeepAt x) (firstIn deepLine ls)) (sym (lines-are x))
     (in-list Any (λ l p. Among (λ e. Deep e × (p ≡ start e)) (expressions l)) deepLine (λ l _. deep-line l) (textLines x) (all-any (textLines x)))

@@ -41,7 +41,7 @@ use Rattle.language.specs.Tree.{
   Spec,
 }
 use Rattle.language.specs.Sections.{specOf}
-use Rattle.language.specs.Places.{start, Entry, ParameterLine, DefinitionLine, DeclarationLine, FormulaLine}
+use Rattle.language.specs.Places.{start, TextLine, ParameterLine, DefinitionLine, DeclarationLine, FormulaLine}
 use Rattle.language.specs.Listed.{declaredName}
 use Rattle.language.specs.Meaning.{Word, Matches, MatchesOne}
 use Rattle.language.specs.Laws.Basics.Lists.{All}
@@ -74,16 +74,16 @@ pub record FirstPlace (Fault : ℕ → Type 0) (o : Option ℕ) : Type 0 where
   pub says : Earliest Fault o
 
 -- a text's lines in its own order: parameters, definitions, MAIN
-abbrev pub subsectionLines : Subsection → List Entry
+abbrev pub subsectionLines : Subsection → List TextLine
 subsectionLines (Inputs ds) = map DeclarationLine ds
 subsectionLines (Outputs ds) = map DeclarationLine ds
 subsectionLines (Lines p es) = map FormulaLine es
 
-abbrev pub textLines : Spec → List Entry
+abbrev pub textLines : Spec → List TextLine
 textLines x = map (λ p. ParameterLine (p .name) (p .value)) (x .parameters) ++ (map DefinitionLine (x .definitions) ++ joined subsectionLines (x .main))
 
 -- the expression that a line is about, whole
-abbrev pub expressions : Entry → List Expr
+abbrev pub expressions : TextLine → List Expr
 expressions (ParameterLine x e) = e ∷ []
 expressions (DefinitionLine (Defined x e)) = e ∷ []
 expressions (DefinitionLine (Enumerated x is)) = []
@@ -175,7 +175,7 @@ uses Empty = []
 uses (Element e es) = uses e ++ uses es
 uses (Range t x y z) = uses x ++ (uses y ++ uses z)
 
-abbrev pub usesIn : Entry → List Use
+abbrev pub usesIn : TextLine → List Use
 usesIn (ParameterLine x e) = uses e
 usesIn (DefinitionLine (Defined x e)) = uses e
 usesIn (DefinitionLine (Enumerated x is)) = []
@@ -185,14 +185,14 @@ usesIn (DeclarationLine (OfType u x)) = used u ∷ []
 usesIn (FormulaLine e) = uses e
 
 -- the names that a line declares: an enumeration's are its own and its identifiers'
-abbrev pub brings : Entry → List Token
+abbrev pub brings : TextLine → List Token
 brings (ParameterLine x e) = x ∷ []
 brings (DefinitionLine (Defined x e)) = x ∷ []
 brings (DefinitionLine (Enumerated x is)) = x ∷ map (λ i. i .name) is
 brings (DeclarationLine d) = declaredName d ∷ []
 brings (FormulaLine e) = []
 
-abbrev pub signalsOf : Entry → List Token
+abbrev pub signalsOf : TextLine → List Token
 signalsOf (ParameterLine x e) = []
 signalsOf (DefinitionLine d) = []
 signalsOf (DeclarationLine d) = declaredName d ∷ []
@@ -202,7 +202,7 @@ abbrev pub Called : Token → List Token → Type 0
 Called t ns = Among (λ n. n .text ≡ t .text) ns
 
 -- 'A parameter, enumeration or definition is visible after its line, signals and buses everywhere, a big operator's name in the rest of its operator'
-abbrev pub Visible : Spec → List Entry → Use → Type 0
+abbrev pub Visible : Spec → List TextLine → Use → Type 0
 Visible x before u = Called (u .name) (u .inside) ⊎ Called (u .name) (joined brings before) ⊎ Called (u .name) (joined signalsOf (textLines x))
 
 -- 'name not visible', at the 'name'

@@ -31,7 +31,7 @@ use Rattle.language.specs.Tree.{
   OfType,
   Spec,
 }
-use Rattle.language.specs.Places.{first, Entry, ParameterLine, DefinitionLine, DeclarationLine, FormulaLine, allLines}
+use Rattle.language.specs.Places.{first, TextLine, ParameterLine, DefinitionLine, DeclarationLine, FormulaLine, allLines}
 use Rattle.language.specs.Names.{Names, visible, hidden, walk, declares, declaresSignal, over, walkLine, walkLines, nowhere, notVisible}
 use Rattle.language.specs.Laws.Basics.Tests.{same-equal, same-refl, or-left, or-right, or-cases}
 use Rattle.refusal_laws.specs.Refusals.{Among, Following, FirstPlace, joined, textLines, Use, used, under, uses, usesIn, brings, signalsOf, Called, HiddenAt}
@@ -94,7 +94,7 @@ walk-first ns Empty = Place.nowhere (λ p h. h)
 walk-first ns (Element e es) = both ns (uses e) (uses es) (walk-first ns e) (walk-first ns es)
 walk-first ns (Range t x y z) = both ns (uses x) (uses y ++ uses z) (walk-first ns x) (both ns (uses y) (uses z) (walk-first ns y) (walk-first ns z))
 
-line-first : (ns : Names) (l : Entry) → FirstPlace (HiddenIn ns (usesIn l)) (walkLine hidden nowhere ns l)
+line-first : (ns : Names) (l : TextLine) → FirstPlace (HiddenIn ns (usesIn l)) (walkLine hidden nowhere ns l)
 line-first ns (ParameterLine x e) = walk-first ns e
 line-first ns (DefinitionLine (Defined x e)) = walk-first ns e
 line-first ns (DefinitionLine (Enumerated x is)) = Place.nowhere (λ p h. h)
@@ -105,13 +105,13 @@ line-first ns (FormulaLine e) = walk-first ns e
 
 -- ns are the names of the lines before, and the signals' S
 module _ (S : List Token) where
-  abbrev Known : List Entry → Names → Type 0
+  abbrev Known : List TextLine → Names → Type 0
   Known before ns = (t : Token) → Called t ns ↔ (Called t (joined brings before) ⊎ Called t S)
 
-  abbrev Unseen : ℕ → List Entry → Entry → Type 0
+  abbrev Unseen : ℕ → List TextLine → TextLine → Type 0
   Unseen p before l = Among (λ u. (¬ (Called (u .name) (u .inside) ⊎ Called (u .name) (joined brings before) ⊎ Called (u .name) S)) × (p ≡ u .name .at)) (usesIn l)
 
-  known-after : (before : List Entry) (ns : Names) (l : Entry) → Known before ns → Known (l ∷ before) (declares l ++ ns)
+  known-after : (before : List TextLine) (ns : Names) (l : TextLine) → Known before ns → Known (l ∷ before) (declares l ++ ns)
   known-after before ns l k t =
       let here = Place.among-append (λ (n : Token). n .text ≡ t .text) in
       Iff·trans (Iff·symm (here (declares l) ns)) (
@@ -122,14 +122,14 @@ module _ (S : List Token) where
             (λ c. inr (k t .1 (inr c))) s,
       )
 
-  unseen-same : (before : List Entry) (ns : Names) (l : Entry) → Known before ns → (p : ℕ) → HiddenIn ns (usesIn l) p ↔ Unseen p before l
+  unseen-same : (before : List TextLine) (ns : Names) (l : TextLine) → Known before ns → (p : ℕ) → HiddenIn ns (usesIn l) p ↔ Unseen p before l
   unseen-same before ns l k p =
       Place.among-same (λ u. (
         λ h. (λ s. h .0 (⊎-elim inl (λ c. inr (k (u .name) .1 c)) s), h .1),
         λ h. (λ s. h .0 (⊎-elim inl (λ c. inr (k (u .name) .0 c)) s), h .1),
       )) (usesIn l)
 
-  lines-first : (before ls : List Entry) (ns : Names) → Known before ns → FirstPlace (λ p. Following (Unseen p) before ls) (walkLines hidden nowhere ns ls)
+  lines-first : (before ls : List TextLine) (ns : Names) → Known before ns → FirstPlace (λ p. Following (Unseen p) before ls) (walkLines hidden nowhere ns ls)
   lines-first before [] ns k = Place.nowhere (λ p h. h)
   lines-first before (l ∷ ls) ns k =
       Place.either (walkLine hidden nowhere ns l) (walkLines hidden nowhere (declares l ++ ns) ls)
@@ -142,4 +142,4 @@ hidden-is-first x =
     let S = joined signalsOf (textLines x) in
     let ns = over declaresSignal (allLines x) in
     let begin : Known S [] ns = λ t. (λ c. inr (subst (Called t) (signal-names-are x) c), λ s. ⊎-elim (λ e. absurd e) (λ c. subst (Called t) (sym (signal-names-are x)) c) s) in
-    subst (λ (ls : List Entry). FirstPlace (HiddenAt x) (walkLines hidden nowhere ns ls)) (sym (lines-are x)) (lines-first S [] (textLines x) ns begin)
+    subst (λ (ls : List TextLine). FirstPlace (HiddenAt x) (walkLines hidden nowhere ns ls)) (sym (lines-are x)) (lines-first S [] (textLines x) ns begin)

@@ -17,7 +17,7 @@ use Rattle.node.specs.declared.Answer.{Answer}
 use Rattle.node.specs.declared.Answer.the-variants.{Accepted, Refused}
 use Rattle.rewriter.specs.Rewriting.{fitting, leaves}
 use Rattle.rewriter.specs.RewritingLaws.{fitting-many, fitting-short, fitting-good}
-use Rattle.trees.specs.Writing.{Stored, Puts, Ready}
+use Rattle.form_writers.specs.Writing.{Stored, Puts, Ready}
 
 -- the answer and the buffer are those of a formula
 pub record Fitted (f : Formula) (out out′ : List ℕ) (r : Answer) : Type 0 where

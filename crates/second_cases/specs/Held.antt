@@ -11,7 +11,7 @@ use Rattle.recordings.specs.Recording.{lassoOf}
 use Rattle.rows.specs.Row.{tableBytes}
 use Rattle.evaluator.specs.Evaluation.{evaluation}
 use Rattle.language.specs.Bytes.{same}
-use Rattle.language.specs.Reading.{Converted, meant}
+use Rattle.language.specs.Reading.{NumberedFormula, textExpansion}
 
 -- accepted with two results, or refused with number and place: for a text its nodes and signal list, for a table its form's nodes, for a recording the counts and
 -- the rows
@@ -32,13 +32,13 @@ pub record Text : Type 0 where
   pub bytes : List ℕ
   pub expected : Expected
 
-abbrev pub textAnswer : Result Converted → Expected → Bool
+abbrev pub textAnswer : Result NumberedFormula → Expected → Bool
 textAnswer (Done c) e = results e (nodesFrom 0 (c .formula)) (c .signals)
 textAnswer (Refused n p) e = rejects e n p
 
 abbrev pub textsHeld : List Text → Bool
 textsHeld [] = true
-textsHeld (x ∷ xs) = textAnswer (meant (x .bytes)) (x .expected) && textsHeld xs
+textsHeld (x ∷ xs) = textAnswer (textExpansion (x .bytes)) (x .expected) && textsHeld xs
 
 pub record Table : Type 0 where
   pub nodes : List ℕ

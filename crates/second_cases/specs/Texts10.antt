@@ -7,7 +7,7 @@ use Rattle.node.specs.Result.{_>>=_, guard}
 use Rattle.language.specs.Bytes.{ascii}
 use Rattle.language.specs.Places.{refuseAt}
 use Rattle.language.specs.Parsing.{parsed}
-use Rattle.language.specs.Reading.{meant, converted}
+use Rattle.language.specs.Reading.{textExpansion, specExpansion}
 use Rattle.second_cases.specs.Held.{Accepted, Rejected, Text, textsHeld}
 
 cases-0 : List Text
@@ -17,5 +17,5 @@ cases-0 =
     []
 
 held-0 : textsHeld cases-0 ≡ true
-unfolding cases-0 meant parsed converted _>>=_ guard refuseAt nodesFrom size
+unfolding cases-0 textExpansion parsed specExpansion _>>=_ guard refuseAt nodesFrom size
 held-0 = refl

@@ -14,7 +14,7 @@ use Rattle.language.specs.Values.{Value, Number, Set, number, between, value}
 use Rattle.language.specs.Laws.Values.ValueLaws.{between-sane}
 use Rattle.entries.specs.Kinds as Kind
 use Rattle.entries.specs.Flat.{flat}
-use Rattle.values.specs.KnownLaws.{known-between}
+use Rattle.name_values.specs.KnownLaws.{known-between}
 use Rattle.sets.specs.declared.Worked.{Worked}
 use Rattle.operands.specs.Entries.{kindAt, sizeAt, placeAt}
 use Rattle.operands.specs.ClassLaws.{kind-of, place-is}
@@ -41,7 +41,7 @@ use Rattle.machine.specs.OperandLaws.{operand-view, operand-as, two-operands}
 use Rattle.machine.specs.declared.Machine.{Machine}
 use Rattle.machine.specs.declared.Move.{Move}
 use Rattle.machine.specs.declared.Move.the-variants.{Next, Refused as Refuses}
-use Rattle.value_steps.specs.Entering.{Evaluates, Waiting, works-value}
+use Rattle.machine.specs.Entering.{Evaluates, Waiting, works-value}
 use Rattle.set_steps.specs.OperatorLaws.{op-bounds}
 use Rattle.set_steps.specs.MakingLaws.{made, makes}
 

@@ -25,8 +25,8 @@ use Rattle.language.specs.Laws.Grammar.Braces.{Proper}
 use Rattle.entries.specs.Kinds as Kind
 use Rattle.entries.specs.Flat.{flat}
 use Rattle.entries.specs.Stored.{At}
-use Rattle.values.specs.World.{World}
-use Rattle.values.specs.KnownLaws.{own-more, known-listed, known-element}
+use Rattle.name_values.specs.World.{World}
+use Rattle.name_values.specs.KnownLaws.{own-more, known-listed, known-element}
 use Rattle.sets.specs.declared.Worked.{Worked}
 use Rattle.operands.specs.Entries.{kindAt, sizeAt, placeAt}
 use Rattle.operands.specs.Classes.{classOf}
@@ -61,7 +61,7 @@ use Rattle.machine.specs.BindLaws.{take-number, set-last}
 use Rattle.machine.specs.OperandLaws.{topped-entry, operand-view, operand-as}
 use Rattle.machine.specs.declared.Machine.{Machine}
 use Rattle.machine.specs.declared.Move.the-variants.{Next, Short, Refused as Refuses}
-use Rattle.value_steps.specs.Entering.{Evaluates, Waiting, works-value}
+use Rattle.machine.specs.Entering.{Evaluates, Waiting, works-value}
 use Rattle.set_steps.specs.MakingLaws.{made, makes}
 
 -- where the expression of the element at entry j ends

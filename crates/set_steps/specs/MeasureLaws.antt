@@ -14,7 +14,7 @@ use Rattle.language.specs.Values.{Value, Number, set, measure, value}
 use Rattle.language.specs.Laws.Values.ValueLaws.{measure-sane}
 use Rattle.entries.specs.Kinds as Kind
 use Rattle.entries.specs.Flat.{flat}
-use Rattle.values.specs.KnownLaws.{known-prefixed}
+use Rattle.name_values.specs.KnownLaws.{known-prefixed}
 use Rattle.sets.specs.Answers.{says}
 use Rattle.sets.specs.Operators.{measurement}
 use Rattle.sets.specs.declared.Worked.{Worked}
@@ -46,7 +46,7 @@ use Rattle.machine.specs.OperandLaws.{operand-view, operand-as, alongside}
 use Rattle.machine.specs.declared.Machine.{Machine}
 use Rattle.machine.specs.declared.Move.{Move}
 use Rattle.machine.specs.declared.Move.the-variants.{Refused as Refuses}
-use Rattle.value_steps.specs.Entering.{Evaluates, Waiting, works-value}
+use Rattle.machine.specs.Entering.{Evaluates, Waiting, works-value}
 use Rattle.value_steps.specs.PlacedLaws.{elements-are, placed}
 use Rattle.set_steps.specs.OperatorLaws.{op-measure}
 

@@ -15,8 +15,8 @@ use Rattle.language.specs.Values.{Value, Number, Set, number, range, value}
 use Rattle.language.specs.Laws.Values.ValueLaws.{range-sane}
 use Rattle.entries.specs.Kinds as Kind
 use Rattle.entries.specs.Flat.{flat}
-use Rattle.values.specs.World.{World}
-use Rattle.values.specs.KnownLaws.{known-range}
+use Rattle.name_values.specs.World.{World}
+use Rattle.name_values.specs.KnownLaws.{known-range}
 use Rattle.sets.specs.declared.Worked.{Worked}
 use Rattle.operands.specs.Entries.{kindAt, sizeAt, placeAt}
 use Rattle.operands.specs.Classes.{classOf}
@@ -44,7 +44,7 @@ use Rattle.machine.specs.OperandLaws.{operand-view, operand-as, alongside}
 use Rattle.machine.specs.declared.Machine.{Machine}
 use Rattle.machine.specs.declared.Move.{Move}
 use Rattle.machine.specs.declared.Move.the-variants.{Next, Refused as Refuses}
-use Rattle.value_steps.specs.Entering.{Evaluates, Waiting, works-value}
+use Rattle.machine.specs.Entering.{Evaluates, Waiting, works-value}
 use Rattle.set_steps.specs.MakingLaws.{made, makes}
 
 -- the clause as its frames have it

@@ -13,7 +13,7 @@ use operands::entry::place_at;
 use operands::entry::size_at;
 ghost use Rattle.machine.specs.States.{Ready, Steps, Topped, Takes};
 ghost use Rattle.operands.specs.Working.{source};
-ghost use Rattle.value_steps.specs.Entering.{Evaluates, Waiting};
+ghost use Rattle.machine.specs.Entering.{Evaluates, Waiting};
 use crate::making::made;
 
 // The low bound is worked out first.

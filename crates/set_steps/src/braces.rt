@@ -16,7 +16,7 @@ use operands::entry::size_at;
 ghost use mathlib.Core.Path.{_≡_};
 ghost use Rattle.machine.specs.States.{Ready, Steps, Topped, Takes};
 ghost use Rattle.operands.specs.Working.{source};
-ghost use Rattle.value_steps.specs.Entering.{Evaluates, Waiting};
+ghost use Rattle.machine.specs.Entering.{Evaluates, Waiting};
 ghost use Rattle.set_steps.specs.BraceLaws.{elementAt, Elementary};
 use crate::making::made;
 

@@ -11,7 +11,7 @@ use operands::entry::kind_at;
 use operands::entry::place_at;
 ghost use Rattle.machine.specs.States.{Ready, Steps, Topped, Takes};
 ghost use Rattle.operands.specs.Working.{source};
-ghost use Rattle.value_steps.specs.Entering.{Evaluates, Waiting};
+ghost use Rattle.machine.specs.Entering.{Evaluates, Waiting};
 
 // The set is worked out first.
 pub fn measurement(text: &[u8], work: &[u8], refs: &[u16], memory: &mut [u32], m: Machine) -> Move

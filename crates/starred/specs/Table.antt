@@ -17,7 +17,7 @@ use Rattle.evaluator.specs.Starred.{file}
 use Rattle.language.specs.Bytes.{ascii}
 use Rattle.language.specs.Places.{refuseAt}
 use Rattle.language.specs.Parsing.{parsed}
-use Rattle.language.specs.Reading.{meant, converted}
+use Rattle.language.specs.Reading.{textExpansion, specExpansion}
 use Rattle.language.specs.Cases.{text}
 use Rattle.language.specs.Cases.Every.{every, every-each}
 use Rattle.language.specs.Cases.Starred.{Row, answer, answers, answers→eq, starred}
@@ -29,7 +29,7 @@ fileText = text (ascii "MAIN { INPUTS { r; } OUTPUTS { g; } GUARANTEE { G (r -> 
 -- the verdict of a recording on a text's nodes; a byte is lent for each of its rows
 abbrev pub verdictOn : List ℕ → List ℕ → Result Bool
 verdictOn bytes recording =
-    meant bytes >>= λ c. verdictOf (nodesFrom 0 (c .formula)) (length (c .signals)) recording (size (c .formula))
+    textExpansion bytes >>= λ c. verdictOf (nodesFrom 0 (c .formula)) (length (c .signals)) recording (size (c .formula))
 
 -- a starred case: of a text, or of a recording on the file
 pub data Case : Type 0 where
@@ -77,7 +77,7 @@ met (OfRecording recording holds) t = verdict→eq (verdictOn fileText recording
 
 -- the table, computed
 tested : So (every passes cases)
-unfolding meant parsed converted refuseAt size nodesFrom verdictOf evaluation _>>=_ guard checked scanned readable filled blank treeAt formulas number bitAt next sweepFrom around row
+unfolding textExpansion parsed specExpansion refuseAt size nodesFrom verdictOf evaluation _>>=_ guard checked scanned readable filled blank treeAt formulas number bitAt next sweepFrom around row
 tested = refl
 
 -- every starred case holds
@@ -85,6 +85,6 @@ pub all-met : (s : Case) → List·Mem s cases → Met s
 all-met s m = met s (every-each passes cases tested s m)
 
 -- the nodes that the evaluator's own cases are about are the file's
-pub file-nodes : (meant fileText >>= λ c. Done (nodesFrom 0 (c .formula))) ≡ Done file
-unfolding meant parsed converted refuseAt size nodesFrom _>>=_ guard
+pub file-nodes : (textExpansion fileText >>= λ c. Done (nodesFrom 0 (c .formula))) ≡ Done file
+unfolding textExpansion parsed specExpansion refuseAt size nodesFrom _>>=_ guard
 file-nodes = refl

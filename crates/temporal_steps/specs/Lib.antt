@@ -1,4 +1,3 @@
-pub mod Entering
 pub mod OperandLaws
 pub mod StayLaws
 pub mod SameLaws

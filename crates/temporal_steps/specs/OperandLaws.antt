@@ -12,8 +12,8 @@ use Rattle.language.specs.Declared.{Port}
 use Rattle.language.specs.Expansion.{Context}
 use Rattle.entries.specs.Flat.{under, flat}
 use Rattle.entries.specs.Stored.{EndsAt}
-use Rattle.values.specs.World.{World}
-use Rattle.values.specs.Known.{Known}
+use Rattle.name_values.specs.World.{World}
+use Rattle.name_values.specs.Known.{Known}
 use Rattle.operands.specs.Entries.{sizeAt}
 use Rattle.operands.specs.ClassLaws.{has-entry, size-is}
 use Rattle.operands.specs.Operands.{below}

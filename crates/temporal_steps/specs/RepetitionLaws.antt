@@ -14,10 +14,10 @@ use Rattle.language.specs.Tree.{Expr}
 use Rattle.language.specs.Values.{Value, number, value}
 use Rattle.language.specs.Expansion.{expansion, nexts}
 use Rattle.entries.specs.Kinds as Kind
-use Rattle.values.specs.KnownLaws.{known-nexts}
+use Rattle.name_values.specs.KnownLaws.{known-nexts}
 use Rattle.operands.specs.Entries.{kindAt, sizeAt}
 use Rattle.operands.specs.Working.{Source}
-use Rattle.shapes.specs.Shapes.{aNexts, shapeOf}
+use Rattle.operator_nodes.specs.Shapes.{aNexts, shapeOf}
 use Rattle.machine.specs.Came.{Evaluate, Expand, Nodes, nodes, worth, works, asNumber}
 use Rattle.machine.specs.Frames.{Repeat, Repeated, repeated, apply}
 use Rattle.machine.specs.Realm.{Operand}
@@ -39,7 +39,7 @@ use Rattle.machine.specs.OperandLaws.{operand-as, two-operands}
 use Rattle.machine.specs.declared.Machine.{Machine}
 use Rattle.machine.specs.declared.Move.{Move}
 use Rattle.machine.specs.declared.Move.the-variants.{Next, Refused as Refuses}
-use Rattle.temporal_steps.specs.Entering.{Expands, Waiting, works-formula, operand-shape}
+use Rattle.machine.specs.Entering.{Expands, Waiting, works-formula, operand-shape}
 use Rattle.temporal_steps.specs.StayLaws.{begins-stays, begins-nexts}
 use Rattle.temporal_steps.specs.SameLaws.{same-nexts}
 

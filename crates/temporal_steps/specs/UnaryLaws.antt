@@ -17,12 +17,12 @@ use Rattle.language.specs.Tree.{Expr}
 use Rattle.language.specs.Expansion.{expansion}
 use Rattle.entries.specs.Kinds as Kind
 use Rattle.entries.specs.Flat.{flat}
-use Rattle.values.specs.KnownLaws.{known-prefixed}
+use Rattle.name_values.specs.KnownLaws.{known-prefixed}
 use Rattle.operands.specs.Entries.{kindAt}
 use Rattle.operands.specs.ClassLaws.{kind-of, place-is}
 use Rattle.operands.specs.Working.{Source}
-use Rattle.shapes.specs.Shapes.{aUnary, shapeOf, UnaryIs}
-use Rattle.shapes.specs.ShapeLaws.{unary-shape}
+use Rattle.operator_nodes.specs.Shapes.{aUnary, shapeOf, UnaryIs}
+use Rattle.operator_nodes.specs.ShapeLaws.{unary-shape}
 use Rattle.machine.specs.Came.{Expand, nodes, asFormula}
 use Rattle.machine.specs.Frames.{Capping, apply}
 use Rattle.machine.specs.Realm.{Operand}
@@ -43,7 +43,7 @@ use Rattle.machine.specs.OperandLaws.{operand-as}
 use Rattle.machine.specs.declared.Machine.{Machine}
 use Rattle.machine.specs.declared.Move.{Move}
 use Rattle.machine.specs.declared.Move.the-variants.{Next, Refused as Refuses}
-use Rattle.temporal_steps.specs.Entering.{Expands, Waiting, works-formula, operand-shape}
+use Rattle.machine.specs.Entering.{Expands, Waiting, works-formula, operand-shape}
 use Rattle.temporal_steps.specs.OperandLaws.{one-operand}
 use Rattle.temporal_steps.specs.StayLaws.{begins-stays, begins-one}
 

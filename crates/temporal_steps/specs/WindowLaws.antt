@@ -21,12 +21,12 @@ use Rattle.language.specs.Values.{Value, number, value}
 use Rattle.language.specs.Expansion.{expansion, nexts, chain, windowOperator}
 use Rattle.entries.specs.Kinds as Kind
 use Rattle.entries.specs.Flat.{flat}
-use Rattle.values.specs.KnownLaws.{known-window}
+use Rattle.name_values.specs.KnownLaws.{known-window}
 use Rattle.operands.specs.Entries.{kindAt, sizeAt, placeAt}
 use Rattle.operands.specs.ClassLaws.{kind-of, place-is}
 use Rattle.operands.specs.Working.{Source}
-use Rattle.shapes.specs.Shapes.{aWindow, shapeOf, WindowIs}
-use Rattle.shapes.specs.ShapeLaws.{windowOf, window-shape, window-op}
+use Rattle.operator_nodes.specs.Shapes.{aWindow, shapeOf, WindowIs}
+use Rattle.operator_nodes.specs.ShapeLaws.{windowOf, window-shape, window-op}
 use Rattle.machine.specs.Came.{Evaluate, Expand, Came, Nodes, nodes, worth, works, asNumber}
 use Rattle.machine.specs.Frames.{WindowFrom, WindowTo, Windowed, windowing, windowed, apply}
 use Rattle.machine.specs.Realm.{Operand}
@@ -50,7 +50,7 @@ use Rattle.machine.specs.OperandLaws.{operand-as}
 use Rattle.machine.specs.declared.Machine.{Machine}
 use Rattle.machine.specs.declared.Move.{Move}
 use Rattle.machine.specs.declared.Move.the-variants.{Next, Refused as Refuses}
-use Rattle.temporal_steps.specs.Entering.{Expands, Waiting, works-formula, operand-shape}
+use Rattle.machine.specs.Entering.{Expands, Waiting, works-formula, operand-shape}
 use Rattle.temporal_steps.specs.OperandLaws.{three-operands}
 use Rattle.temporal_steps.specs.StayLaws.{begins-stays, begins-nexts, begins-chain, stays-then}
 use Rattle.temporal_steps.specs.SameLaws.{same-nexts, same-chain}

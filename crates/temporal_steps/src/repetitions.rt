@@ -1,8 +1,8 @@
 // X[n]: the number first, then the formula.
-use crate::capped;
 use machine::Machine;
 use machine::Move;
 use machine::Words;
+use machine::capped;
 use machine::frame;
 use machine::modes;
 use machine::phases;
@@ -12,7 +12,7 @@ use operands::entry::size_at;
 use writing::nexts;
 ghost use Rattle.machine.specs.States.{Ready, Steps, Topped, Takes, ToppedToWrite, TakesToWrite};
 ghost use Rattle.operands.specs.Working.{source};
-ghost use Rattle.temporal_steps.specs.Entering.{Expands, Waiting};
+ghost use Rattle.machine.specs.Entering.{Expands, Waiting};
 
 pub fn repetition(text: &[u8], work: &[u8], refs: &[u16], memory: &mut [u32], m: Machine) -> Move
     requires { ⌜ Ready (source (now text) (now work) (now refs)) (now memory) m ⌝ }

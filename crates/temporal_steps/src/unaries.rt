@@ -1,17 +1,17 @@
 // `!`, X, G and F.
-use crate::capped;
 use machine::Machine;
 use machine::Move;
+use machine::capped;
 use machine::modes;
 use machine::phases;
 use node::MAX_NODES;
 use node::refusals;
 use operands::entry::kind_at;
-use shapes::unary_kind;
+use operator_nodes::unary_kind;
 use writing::cap;
 ghost use Rattle.machine.specs.States.{Ready, Steps, ToppedToWrite, TakesToWrite};
 ghost use Rattle.operands.specs.Working.{source};
-ghost use Rattle.temporal_steps.specs.Entering.{Expands, Waiting};
+ghost use Rattle.machine.specs.Entering.{Expands, Waiting};
 
 // The operand is worked out first.
 pub fn unary(text: &[u8], work: &[u8], refs: &[u16], memory: &mut [u32], m: Machine) -> Move

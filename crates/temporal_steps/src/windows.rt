@@ -1,8 +1,8 @@
 // F[n:m] and G[n:m]: the two numbers first, then the formula.
-use crate::capped;
 use machine::Machine;
 use machine::Move;
 use machine::Words;
+use machine::capped;
 use machine::frame;
 use machine::modes;
 use machine::phases;
@@ -11,12 +11,12 @@ use node::refusals;
 use operands::entry::kind_at;
 use operands::entry::place_at;
 use operands::entry::size_at;
-use shapes::window_kind;
+use operator_nodes::window_kind;
 use writing::nexts;
 use writing::window::window;
 ghost use Rattle.machine.specs.States.{Ready, Steps, Topped, Takes, ToppedToWrite, TakesToWrite};
 ghost use Rattle.operands.specs.Working.{source};
-ghost use Rattle.temporal_steps.specs.Entering.{Expands, Waiting};
+ghost use Rattle.machine.specs.Entering.{Expands, Waiting};
 
 // The number where the window begins is worked out first.
 pub fn windowing(text: &[u8], work: &[u8], refs: &[u16], memory: &mut [u32], m: Machine) -> Move

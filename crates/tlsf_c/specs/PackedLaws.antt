@@ -16,7 +16,7 @@ use Rattle.recordings.specs.Recording.{filled, readable, lassoOf}
 use Rattle.evaluator.specs.Evaluation.{evaluation, verdictOf}
 use Rattle.recordings.specs.declared.Lasso.{Lasso}
 use Rattle.language.specs.Limits.{workBytes}
-use Rattle.language.specs.Reading.{Converted, meant, reading}
+use Rattle.language.specs.Reading.{NumberedFormula, textExpansion, reading}
 use Rattle.language.specs.Laws.Basics.Results.{refusal-of}
 use Rattle.claim.specs.Claim.{nodesOf}
 use Rattle.claim.specs.Yields.{told}
@@ -77,7 +77,7 @@ evaluation-fits nodes signals bs room =
     guard-fits _ 15 0 _ (omega arith)
     (bind-fits (checked signals nodes) _ (checked-fits signals nodes) (λ c. readable-fits signals bs _ (guard-fits _ 23 0 _ (omega arith) (guard-fits _ 18 0 (Done c) (omega arith) tt))))
 
-told-fits : (m : ℕ) → m < 2 ^ 31 → (r : Result Converted) → UpTo m r → Fits (told r)
+told-fits : (m : ℕ) → m < 2 ^ 31 → (r : Result NumberedFormula) → UpTo m r → Fits (told r)
 unfolding _>>=_
 told-fits m l (Done c) h = tt
 told-fits m l (Refused number place) h = let low = refusal-of refl h in omega arith
@@ -111,7 +111,7 @@ unfolding verdictOf
 verdict-fits nodes signals bs room = bind-fits (evaluation nodes signals bs room) _ (evaluation-fits nodes signals bs room) (λ c. tt)
 
 -- of an accepted text the lines are never refused
-finding-fits : (text : List ℕ) (c : Converted) → meant text ≡ Done c → (bs : List ℕ) (b : Bool) → Fits (finding text bs b)
+finding-fits : (text : List ℕ) (c : NumberedFormula) → textExpansion text ≡ Done c → (bs : List ℕ) (b : Bool) → Fits (finding text bs b)
 finding-fits text c e bs true = tt
 finding-fits text c e bs false = bind-fits (lined text) _ (subst Fits (sym (lines-of text c e .lining)) tt) (λ m. tt)
 
@@ -119,9 +119,9 @@ diagnosing-fits : (text bs : List ℕ) (work room : ℕ) → Fits (diagnosing te
 unfolding _>>=_
 diagnosing-fits text bs work room = subst Fits (sym (diagnosing-accepting text bs work room)) (go (accepting text work) refl)
   where
-    go : (r : Result Converted) → accepting text work ≡ r → Fits (r >>= λ c. verdictOf (nodesOf c) (length (c .signals)) bs room >>= finding text bs)
+    go : (r : Result NumberedFormula) → accepting text work ≡ r → Fits (r >>= λ c. verdictOf (nodesOf c) (length (c .signals)) bs room >>= finding text bs)
     go (Done c) e = bind-fits (verdictOf (nodesOf c) (length (c .signals)) bs room) (finding text bs) (verdict-fits (nodesOf c) (length (c .signals)) bs room)
-        (finding-fits text c (guard-done (leb workBytes work) 17 0 (meant text) e .1) bs)
+        (finding-fits text c (guard-done (leb workBytes work) 17 0 (textExpansion text) e .1) bs)
     go (Refused number place) e = let low = refusal-of e (accepting-numbers text work) in omega arith
 
 told-line : (d : Diagnosis) → Fits (tells d) → Fits (paired (lineOf d))

@@ -7,7 +7,7 @@ use Rattle.language.specs.Tokens.{Token}
 use Rattle.language.specs.Tree.{Identifier, partCode, Subsection, Inputs, Outputs, Lines, Spec}
 use Rattle.language.specs.Places.{
   first,
-  Entry as Line,
+  TextLine as Line,
   ParameterLine,
   DefinitionLine,
   DeclarationLine,

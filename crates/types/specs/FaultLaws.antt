@@ -10,7 +10,7 @@ use native.Mathlib.Omega.{arith}
 use Rattle.language.specs.Tree.{Expr, Named, Numeral, Truth, Index, Paren, Prefixed, Joined, Nexts, InWindow, Each, Between, Listed, Empty, Element, Range}
 use Rattle.language.specs.Places.{start, first, firstIn, unless}
 use Rattle.language.specs.Names.{Names}
-use Rattle.language.specs.Types.{ANumber, ASet, AFormula, ABus, kindCode, isKind, Typings, kindIn, prefixTakes, bigGives, withNumber, kindOf as typeOf, wrong, wrongBoth, wrongOperands, mistyped}
+use Rattle.language.specs.Types.{ANumber, ASet, AFormula, ABus, typeCode, isType, Typings, typeIn, prefixTakes, bigGives, withNumber, typeOf, wrong, wrongBoth, wrongOperands, mistyped}
 use Rattle.entries.specs.Kinds as EntryKind
 use Rattle.traversal.specs.declared.Cell.{Cell}
 use Rattle.traversal.specs.Arity.{firstLine}
@@ -42,7 +42,7 @@ range : Takes EntryKind.range 0 0
 range = record { others = refl; final = refl; plain = refl }
 
 abbrev code : Typings → Expr → ℕ
-code ys e = kindCode (typeOf ys e)
+code ys e = typeCode (typeOf ys e)
 
 both-places : (m n w : Option ℕ) → first (first m (first n none)) w ≡ first w (first m n)
 both-places m n w = ap (λ l. first (first m l) w) (first-none n) ∙ first-comm (first m n) w
@@ -68,7 +68,7 @@ module _ (declared : Names) (table : List ℕ) where
   part-fault bs (Whole ys (Numeral t)) x g h i = quiet x (free _ refl refl refl) (λ z. omega arith) (none-wrong (free _ refl refl refl) (λ z. omega arith))
   part-fault bs (Whole ys (Truth t b)) x g h i = quiet x (truth-takes b) (λ z. omega arith) (none-wrong (truth-takes b) (λ z. omega arith))
   part-fault bs (Whole ys (Index t e)) x g h i =
-      let b : Option ℕ = unless (isKind ABus (kindIn ys t)) (t .at) in
+      let b : Option ℕ = unless (isType ABus (typeIn ys t)) (t .at) in
       ap (first (first (mistyped ys e) none)) (ap₂ first (on-bus (nameKind x) (placeOf x) ∙ ap₂ (λ j p. unless (eqb 3 j) p) (name-known declared table ys h refl (g .0)) (h .place))
       (one-wrong ANumber (code ys e) (start e) index (λ z. omega arith)))
       ∙ one-place (mistyped ys e) (first b (wrong ANumber ys e)) ∙ first-assoc b (wrong ANumber ys e) (mistyped ys e)
@@ -92,7 +92,7 @@ module _ (declared : Names) (table : List ℕ) where
       let zs = withNumber j ys in
       let set : Option ℕ = bad (Binder ys further j s) in
       ap (first (first set (first (mistyped zs e) none))) (quiet x (big-takes o) (λ z. omega arith)
-      (second-wrong (bigGives o) (kindCode ASet) (code zs e) (EntryKind.binder further) (start e) (big-takes o)))
+      (second-wrong (bigGives o) (typeCode ASet) (code zs e) (EntryKind.binder further) (start e) (big-takes o)))
       ∙ ap (λ m. first (first set m) (wrong (bigGives o) zs e)) (first-none (mistyped zs e)) ∙ first-assoc set (mistyped zs e) (wrong (bigGives o) zs e) ∙ ap (first set)
       (first-comm (mistyped zs e) (wrong (bigGives o) zs e))
   part-fault bs (Whole ys (Between t l u a b)) x g h i =

@@ -6,7 +6,7 @@ use mathlib.Core.Path.{_≡_}
 use Rattle.language.specs.Tokens.{Token}
 use Rattle.language.specs.Tree.{Expr, Named, Numeral, Truth, Index, Paren, Prefixed, Joined, Nexts, InWindow, Each, Between, Listed, Empty, Element, Range}
 use Rattle.language.specs.Names.{Names}
-use Rattle.language.specs.Types.{kindCode, Typings, kindIn, withNumber}
+use Rattle.language.specs.Types.{typeCode, Typings, typeIn, withNumber}
 use Rattle.entries.specs.Flat.{Entry}
 use Rattle.names.specs.Scan.{tokenOf}
 use Rattle.names.specs.Walkable.{names}
@@ -21,7 +21,7 @@ pub record Resolved (declared bs : Names) (x : ℕ) (e : Entry) : Type 0 where
   pub refers : names (e .kind) ≡ true → referenceOf x ≡ reference declared bs (tokenOf e)
 
 abbrev pub KnownName : Names → Names → List ℕ → Typings → Token → Type 0
-KnownName declared bs table ys t = kindAt table (reference declared bs t) ≡ kindCode (kindIn ys t)
+KnownName declared bs table ys t = kindAt table (reference declared bs t) ≡ typeCode (typeIn ys t)
 
 -- 'a big operator's name in the rest of its operator'
 abbrev pub Known : Names → Names → List ℕ → Typings → Expr → Type 0

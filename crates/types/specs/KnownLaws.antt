@@ -35,9 +35,9 @@ use Rattle.language.specs.Tree.{
   OfWidth,
   OfType,
 }
-use Rattle.language.specs.Places.{first, Entry as Line, ParameterLine, DefinitionLine, DeclarationLine, FormulaLine}
+use Rattle.language.specs.Places.{first, TextLine as Line, ParameterLine, DefinitionLine, DeclarationLine, FormulaLine}
 use Rattle.language.specs.Names.{Names, visible, hidden, nowhere, walk, identifierNames, declares, declaresSignal, over}
-use Rattle.language.specs.Types.{Kind, AFormula, ABus, AValue, kindCode, Typings, withNumber, typedValues, typedSignals}
+use Rattle.language.specs.Types.{ExprType, AFormula, ABus, AValue, typeCode, Typings, withNumber, typedValues, typedSignals}
 use Rattle.language.specs.Laws.Basics.Lists.{All, all-more, all-right, all-append, all-both}
 use Rattle.language.specs.Laws.Basics.NoPlace.{first-left, first-right, unless-none}
 use Rattle.language.specs.Laws.Basics.Tests.{pick, leave, or-cases, same-equal}
@@ -100,8 +100,8 @@ module _ (declared : Names) (table : List ℕ) where
   fits-bound bs ns ys i f t y = go (same (i .text) (t .text)) refl y
     where
       go : (b : Bool) → same (i .text) (t .text) ≡ b → (b || visible ns t) ≡ true → KnownName declared (i ∷ bs) table (withNumber i ys) t
-      go true e v = kind-bound (reference declared (i ∷ bs) t) (length bs) (reference-same declared i bs t e) ∙ sym (ap kindCode (pick (same (i .text) (t .text)) _ _ e))
-      go false e v = ap (kindAt table) (reference-other declared i bs t e) ∙ f t v ∙ sym (ap kindCode (leave (same (i .text) (t .text)) _ _ e))
+      go true e v = kind-bound (reference declared (i ∷ bs) t) (length bs) (reference-same declared i bs t e) ∙ sym (ap typeCode (pick (same (i .text) (t .text)) _ _ e))
+      go false e v = ap (kindAt table) (reference-other declared i bs t e) ∙ f t v ∙ sym (ap typeCode (leave (same (i .text) (t .text)) _ _ e))
 
   pub known : (bs ns : Names) (ys : Typings) → Fits bs ns ys → (e : Expr) → walk hidden nowhere ns e ≡ none → Known declared bs table ys e
   known bs ns ys f (Named t) y = f t (unless-none (visible ns t) (t .at) y)
@@ -134,12 +134,12 @@ module _ (declared : Names) (table : List ℕ) where
       )
 
   -- one more declared name
-  pub fits-one : (ns : Names) (ys : Typings) (x : Token) (k : Kind) → Has declared table (record { name = x; kind = k }) → Fits [] ns ys → Fits [] (x ∷ ns) (record { name = x; kind = k } ∷ ys)
+  pub fits-one : (ns : Names) (ys : Typings) (x : Token) (k : ExprType) → Has declared table (record { name = x; kind = k }) → Fits [] ns ys → Fits [] (x ∷ ns) (record { name = x; kind = k } ∷ ys)
   fits-one ns ys x k h f t y = go (same (x .text) (t .text)) refl y
     where
       go : (b : Bool) → same (x .text) (t .text) ≡ b → (b || visible ns t) ≡ true → KnownName declared [] table (record { name = x; kind = k } ∷ ys) t
-      go true e v = ap (kindAt table) (reference-text declared [] t x (sym (same-equal (x .text) (t .text) e))) ∙ h ∙ sym (ap kindCode (pick (same (x .text) (t .text)) _ _ e))
-      go false e v = f t v ∙ sym (ap kindCode (leave (same (x .text) (t .text)) _ _ e))
+      go true e v = ap (kindAt table) (reference-text declared [] t x (sym (same-equal (x .text) (t .text) e))) ∙ h ∙ sym (ap typeCode (pick (same (x .text) (t .text)) _ _ e))
+      go false e v = f t v ∙ sym (ap typeCode (leave (same (x .text) (t .text)) _ _ e))
 
   pub fits-values : (is : List Identifier) (ns : Names) (ys zs : Typings) → All (Has declared table) (typedValues is zs) → Fits [] ns ys → Fits [] (identifierNames is ++ ns) (typedValues is ys)
   fits-values [] ns ys zs h f = f

@@ -3,9 +3,9 @@ use Prim.Native.Nat.{ℕ}
 use mathlib.Core.List.{List, []}
 use lib.ListN.{set}
 use Rattle.language.specs.Tree.{Defined, Enumerated, OneSignal, OfWidth, OfType, Spec}
-use Rattle.language.specs.Places.{Entry as Line, ParameterLine, DefinitionLine, DeclarationLine, FormulaLine, allLines}
+use Rattle.language.specs.Places.{TextLine as Line, ParameterLine, DefinitionLine, DeclarationLine, FormulaLine, allLines}
 use Rattle.language.specs.Names.{Names}
-use Rattle.language.specs.Types.{kindCode, Typings, kindOf, typedAfter, typedSignals}
+use Rattle.language.specs.Types.{typeCode, Typings, typeOf, typedAfter, typedSignals}
 use Rattle.names.specs.References.{reference}
 use Rattle.traversal.specs.LineLaws.{Each}
 use Rattle.types.specs.Known.{KnownName, Known}
@@ -18,7 +18,7 @@ pub record Context : Type 0 where
 -- a definition's type is known after its line
 abbrev pub tableNext : Names → Context → Line → List ℕ
 tableNext declared k (ParameterLine x e) = k .table
-tableNext declared k (DefinitionLine (Defined x e)) = set (k .table) (reference declared [] x) (kindCode (kindOf (k .names) e))
+tableNext declared k (DefinitionLine (Defined x e)) = set (k .table) (reference declared [] x) (typeCode (typeOf (k .names) e))
 tableNext declared k (DefinitionLine (Enumerated x is)) = k .table
 tableNext declared k (DeclarationLine d) = k .table
 tableNext declared k (FormulaLine e) = k .table

@@ -11,7 +11,7 @@ use borrow.Author.Tests.{ne-eqb}
 use Rattle.language.specs.Operators.{Infix, Calculates, Combines, Compares, Membership, Connects, Prefix, Measures, WidthOf, Applies, Big, BigSum, BigProduct, BigCap, BigCup, BigAnd, BigOr}
 use Rattle.language.specs.Tree.{Named, Numeral, Truth, Index, Paren, Prefixed, Joined, Nexts, InWindow, Each, Between, Listed, Empty, Element, Range}
 use Rattle.language.specs.Places.{start, first}
-use Rattle.language.specs.Types.{ASet, kindCode, Typings, kindIn, prefixGives, infixGives, bigGives, withNumber, kindOf as typeOf, wrong, mistyped}
+use Rattle.language.specs.Types.{ASet, typeCode, Typings, typeIn, prefixGives, infixGives, bigGives, withNumber, typeOf, wrong, mistyped}
 use Rattle.language.specs.Names.{Names}
 use Rattle.language.specs.Laws.Basics.Tests.{leave}
 use Rattle.entries.specs.Kinds as EntryKind
@@ -32,8 +32,8 @@ use Rattle.types.specs.Opened.{openPast}
 use Rattle.types.specs.OperatorLaws.{truth-gives, before-gives, joining-gives, window-gives, big-gives, binder-gives, between-gives}
 
 abbrev pub kindPart : Part Typings → ℕ
-kindPart (Whole ys e) = kindCode (typeOf ys e)
-kindPart (Binder ys further i s) = kindCode ASet
+kindPart (Whole ys e) = typeCode (typeOf ys e)
+kindPart (Binder ys further i s) = typeCode ASet
 
 abbrev pub value : Part Typings → Operand
 value q = record { kind = kindPart q; start = startPart q }
@@ -49,19 +49,19 @@ unfolding givesOf
 given k name operand n e h =
     leave (eqb (getD giving k 0) 6) _ _ (ne-eqb (getD giving k 0) 6 (λ z. omega arith)) ∙ leave (eqb (getD giving k 0) 7) _ _ (ne-eqb (getD giving k 0) 7 (λ z. omega arith)) ∙ e
 
-prefix-small : (o : Prefix) → kindCode (prefixGives o) ≤ 5
+prefix-small : (o : Prefix) → typeCode (prefixGives o) ≤ 5
 prefix-small (Measures m) = omega arith
 prefix-small WidthOf = omega arith
 prefix-small (Applies o) = omega arith
 
-infix-small : (o : Infix) → kindCode (infixGives o) ≤ 5
+infix-small : (o : Infix) → typeCode (infixGives o) ≤ 5
 infix-small (Calculates o) = omega arith
 infix-small (Combines o) = omega arith
 infix-small (Compares o) = omega arith
 infix-small Membership = omega arith
 infix-small (Connects o) = omega arith
 
-big-small : (o : Big) → kindCode (bigGives o) ≤ 5
+big-small : (o : Big) → typeCode (bigGives o) ≤ 5
 big-small BigSum = omega arith
 big-small BigProduct = omega arith
 big-small BigCap = omega arith
@@ -118,7 +118,7 @@ module _ (declared : Names) (table : List ℕ) where
   nameKind x = kindAt table (referenceOf x)
 
   pub name-known : {bs : Names} {x : ℕ} {e : Entry} (ys : Typings) → Resolved declared bs x e → names (e .kind) ≡ true → KnownName declared bs table ys (nameOf e)
-      → nameKind x ≡ kindCode (kindIn ys (nameOf e))
+      → nameKind x ≡ typeCode (typeIn ys (nameOf e))
   name-known ys r n g = ap (kindAt table) (r .refers n) ∙ g
 
   abbrev kindParts : List (Part Typings) → List ℕ

@@ -51,7 +51,7 @@ use Rattle.language.specs.Operators.{
 use Rattle.language.specs.Tree.{Expr}
 use Rattle.language.specs.Places.{start, unless}
 use Rattle.language.specs.Types.{
-  Kind,
+  ExprType,
   ANumber,
   ASet,
   AFormula,
@@ -59,13 +59,13 @@ use Rattle.language.specs.Types.{
   AValue,
   AType,
   Unknown,
-  kindCode,
+  typeCode,
   Typings,
   prefixTakes,
   prefixGives,
   infixGives,
   bigGives,
-  kindOf,
+  typeOf,
   comparable,
   fitting,
   wrongOperands,
@@ -76,8 +76,8 @@ use Rattle.types.specs.Kinds.{giving, otherTakes, fits, sidesOf}
 use Rattle.types.specs.Pass.{wrongAt}
 use Rattle.types.specs.TakeLaws.{Takes, two-wrong}
 
-abbrev Gives : ℕ → Kind → Type 0
-Gives k K = getD giving k 0 ≡ kindCode K
+abbrev Gives : ℕ → ExprType → Type 0
+Gives k K = getD giving k 0 ≡ typeCode K
 
 pub truth-gives : (b : Bool) → Gives (EntryKind.truth b) AFormula
 truth-gives true = refl
@@ -143,7 +143,7 @@ pub truth-takes : (b : Bool) → Takes (EntryKind.truth b) 8 8
 truth-takes true = record { others = refl; final = refl; plain = refl }
 truth-takes false = record { others = refl; final = refl; plain = refl }
 
-pub before-takes : (o : Prefix) → Takes (EntryKind.before o) 8 (kindCode (prefixTakes o))
+pub before-takes : (o : Prefix) → Takes (EntryKind.before o) 8 (typeCode (prefixTakes o))
 before-takes (Measures Size) = record { others = refl; final = refl; plain = refl }
 before-takes (Measures Min) = record { others = refl; final = refl; plain = refl }
 before-takes (Measures Max) = record { others = refl; final = refl; plain = refl }
@@ -157,7 +157,7 @@ pub window-takes : (o : Window) → Takes (EntryKind.window o) 0 2
 window-takes FinallyIn = record { others = refl; final = refl; plain = refl }
 window-takes GloballyIn = record { others = refl; final = refl; plain = refl }
 
-pub big-takes : (o : Big) → Takes (EntryKind.big o) 8 (kindCode (bigGives o))
+pub big-takes : (o : Big) → Takes (EntryKind.big o) 8 (typeCode (bigGives o))
 big-takes BigSum = record { others = refl; final = refl; plain = refl }
 big-takes BigProduct = record { others = refl; final = refl; plain = refl }
 big-takes BigCap = record { others = refl; final = refl; plain = refl }
@@ -176,7 +176,7 @@ between-takes false true = record { others = refl; final = refl; plain = refl }
 between-takes false false = record { others = refl; final = refl; plain = refl }
 
 -- `==` and `!=`
-sides : (k l : Kind) (s t : ℕ) → sidesOf (kindCode k) (kindCode l) s t ≡ elim (comparable k) [ true ↦ unless (fitting k l) t | false ↦ some s ]
+sides : (k l : ExprType) (s t : ℕ) → sidesOf (typeCode k) (typeCode l) s t ≡ elim (comparable k) [ true ↦ unless (fitting k l) t | false ↦ some s ]
 unfolding sidesOf fits
 sides ANumber ANumber s t = refl
 sides ANumber ASet s t = refl
@@ -234,7 +234,7 @@ equation k a b s t e = pick (eqb (getD otherTakes k 0) 10) _ _ (eq-eqb _ _ e)
 
 -- the operands of an operator between them
 pub joining-wrong : (ys : Typings) (o : Infix) (a b : Expr) →
-    wrongAt (EntryKind.joining o) (kindCode (kindOf ys a) ∷ kindCode (kindOf ys b) ∷ []) (start a ∷ start b ∷ []) ≡ wrongOperands ys o a b
+    wrongAt (EntryKind.joining o) (typeCode (typeOf ys a) ∷ typeCode (typeOf ys b) ∷ []) (start a ∷ start b ∷ []) ≡ wrongOperands ys o a b
 joining-wrong ys (Calculates Plus) a b = two-wrong ANumber ANumber _ _ _ _ (record { others = refl; final = refl; plain = refl })
 joining-wrong ys (Calculates Minus) a b = two-wrong ANumber ANumber _ _ _ _ (record { others = refl; final = refl; plain = refl })
 joining-wrong ys (Calculates Times) a b = two-wrong ANumber ANumber _ _ _ _ (record { others = refl; final = refl; plain = refl })
@@ -243,8 +243,8 @@ joining-wrong ys (Calculates Modulo) a b = two-wrong ANumber ANumber _ _ _ _ (re
 joining-wrong ys (Combines Cup) a b = two-wrong ASet ASet _ _ _ _ (record { others = refl; final = refl; plain = refl })
 joining-wrong ys (Combines Cap) a b = two-wrong ASet ASet _ _ _ _ (record { others = refl; final = refl; plain = refl })
 joining-wrong ys (Combines Without) a b = two-wrong ASet ASet _ _ _ _ (record { others = refl; final = refl; plain = refl })
-joining-wrong ys (Compares Equal) a b = equation (EntryKind.joining (Compares Equal)) _ _ _ _ refl ∙ sides (kindOf ys a) (kindOf ys b) (start a) (start b)
-joining-wrong ys (Compares Unequal) a b = equation (EntryKind.joining (Compares Unequal)) _ _ _ _ refl ∙ sides (kindOf ys a) (kindOf ys b) (start a) (start b)
+joining-wrong ys (Compares Equal) a b = equation (EntryKind.joining (Compares Equal)) _ _ _ _ refl ∙ sides (typeOf ys a) (typeOf ys b) (start a) (start b)
+joining-wrong ys (Compares Unequal) a b = equation (EntryKind.joining (Compares Unequal)) _ _ _ _ refl ∙ sides (typeOf ys a) (typeOf ys b) (start a) (start b)
 joining-wrong ys (Compares Less) a b = two-wrong ANumber ANumber _ _ _ _ (record { others = refl; final = refl; plain = refl })
 joining-wrong ys (Compares AtMost) a b = two-wrong ANumber ANumber _ _ _ _ (record { others = refl; final = refl; plain = refl })
 joining-wrong ys (Compares Greater) a b = two-wrong ANumber ANumber _ _ _ _ (record { others = refl; final = refl; plain = refl })

@@ -11,9 +11,9 @@ use borrow.Author.Tests.{ltb-true}
 use Rattle.language.specs.Tokens.{Token}
 use Rattle.language.specs.Tree.{Expr, Named, Identifier, Defined, Enumerated, OneSignal, OfWidth, OfType, Spec}
 use Rattle.language.specs.Grammar.{Tokens}
-use Rattle.language.specs.Places.{firstIn, Entry as Line, ParameterLine, DefinitionLine, DeclarationLine, FormulaLine, allLines}
+use Rattle.language.specs.Places.{firstIn, TextLine as Line, ParameterLine, DefinitionLine, DeclarationLine, FormulaLine, allLines}
 use Rattle.language.specs.Names.{Names}
-use Rattle.language.specs.Types.{ANumber, AFormula, ABus, AValue, AType, kindCode, Typings, typedValues}
+use Rattle.language.specs.Types.{ANumber, AFormula, ABus, AValue, AType, typeCode, Typings, typedValues}
 use Rattle.language.specs.Laws.Basics.Lists.{All}
 use Rattle.language.specs.Laws.Grammar.Braces.{Proper}
 use Rattle.language.specs.Limits.{maxNames}
@@ -53,7 +53,7 @@ allFixed (l ∷ ls) = fixed l (allFixed ls)
 -- types put into a table
 abbrev pub put : Names → List ℕ → Typings → List ℕ
 put declared table [] = table
-put declared table (y ∷ ys) = put declared (set table (reference declared [] (y .name)) (kindCode (y .kind))) ys
+put declared table (y ∷ ys) = put declared (set table (reference declared [] (y .name)) (typeCode (y .kind))) ys
 
 -- no entry of an expression declares a name
 inner-none : (k : ℕ) → ltb k firstLine ≡ true → getD declaring k 0 ≡ 8
@@ -143,8 +143,8 @@ module _ (declared : Names) (cell : ℕ → Cell) where
   over-identifiers (d ∷ is) table es i h =
       let W = each (leaf EntryKind.word) (d .words) in
       let E = each flatIdentifier is in
-      let named = set table (reference declared [] (d .name)) (kindCode AValue) in
-      let a = over-one _ (refl, refl) table named (λ c z. sets (kindCode AValue) table refl (λ q. omega arith) refl z) ((W ++ E) ++ es) i h in
+      let named = set table (reference declared [] (d .name)) (typeCode AValue) in
+      let a = over-one _ (refl, refl) table named (λ c z. sets (typeCode AValue) table refl (λ q. omega arith) refl z) ((W ++ E) ++ es) i h in
       let b = over-words (d .words) named (E ++ es) (a .place) (subst (Sight (a .place)) (append-assoc W E es) (a .seen)) in
       let c = over-identifiers is named es (b .place) (b .seen) in
       record { place = c .place; seen = c .seen; runs = a .runs ∙ ap (λ us. run declare cell us (a .place) named) (append-assoc W E es) ∙ b .runs ∙ c .runs }
@@ -166,16 +166,16 @@ module _ (declared : Names) (cell : ℕ → Cell) where
   LineTo table l = (es : List Entry) (i : ℕ) → Sight i (entriesOf l ++ es) → To (entriesOf l ++ es) i table es (behind table l)
 
   line-to : (table : List ℕ) (l : Line) → ProperLine l → LineTo table l
-  line-to table (ParameterLine x e) p = over-line EntryKind.parameter (some x) e (refl, refl) p table _ (λ c z. sets (kindCode ANumber) table refl (λ q. omega arith) refl z)
+  line-to table (ParameterLine x e) p = over-line EntryKind.parameter (some x) e (refl, refl) p table _ (λ c z. sets (typeCode ANumber) table refl (λ q. omega arith) refl z)
   line-to table (DefinitionLine (Defined x e)) p = over-line EntryKind.definition (some x) e (refl, refl) p table table (λ c z. skips table refl z)
   line-to table (DefinitionLine (Enumerated x is)) p =
       λ es i h.
-      let a = over-one _ (refl, refl) table (set table (reference declared [] x) (kindCode AType)) (λ c z. sets (kindCode AType) table refl (λ q. omega arith) refl z) (each flatIdentifier is ++ es) i
+      let a = over-one _ (refl, refl) table (set table (reference declared [] x) (typeCode AType)) (λ c z. sets (typeCode AType) table refl (λ q. omega arith) refl z) (each flatIdentifier is ++ es) i
       h in
       further a (over-identifiers is _ es (a .place) (a .seen))
-  line-to table (DeclarationLine (OneSignal x)) p = over-one _ (refl, refl) table _ (λ c z. sets (kindCode AFormula) table refl (λ q. omega arith) refl z)
-  line-to table (DeclarationLine (OfWidth x e)) p = over-line EntryKind.bus (some x) e (refl, refl) (p .1) table _ (λ c z. sets (kindCode ABus) table refl (λ q. omega arith) refl z)
-  line-to table (DeclarationLine (OfType u x)) p = over-line EntryKind.typed (some x) (Named u) (refl, refl) (refl, p .0) table _ (λ c z. sets (kindCode ABus) table refl (λ q. omega arith) refl z)
+  line-to table (DeclarationLine (OneSignal x)) p = over-one _ (refl, refl) table _ (λ c z. sets (typeCode AFormula) table refl (λ q. omega arith) refl z)
+  line-to table (DeclarationLine (OfWidth x e)) p = over-line EntryKind.bus (some x) e (refl, refl) (p .1) table _ (λ c z. sets (typeCode ABus) table refl (λ q. omega arith) refl z)
+  line-to table (DeclarationLine (OfType u x)) p = over-line EntryKind.typed (some x) (Named u) (refl, refl) (refl, p .0) table _ (λ c z. sets (typeCode ABus) table refl (λ q. omega arith) refl z)
   line-to table (FormulaLine e) p = over-line EntryKind.line none e (refl, refl) p table table (λ c z. skips table refl z)
 
   abbrev idle : List ℕ → ℕ → Option ℕ → List ℕ
@@ -202,12 +202,12 @@ module _ (declared : Names) (cell : ℕ → Cell) where
 module _ (declared : Names) where
   put-values : (is : List Identifier) (table : List ℕ) (ys : Typings) → put declared (put declared table (typedValues is [])) ys ≡ put declared table (typedValues is ys)
   put-values [] table ys = refl
-  put-values (i ∷ is) table ys = put-values is (set table (reference declared [] (i .name)) (kindCode AValue)) ys
+  put-values (i ∷ is) table ys = put-values is (set table (reference declared [] (i .name)) (typeCode AValue)) ys
 
   put-line : (l : Line) (table : List ℕ) (ys : Typings) → put declared (put declared table (fixed l [])) ys ≡ put declared table (fixed l ys)
   put-line (ParameterLine x e) table ys = refl
   put-line (DefinitionLine (Defined x e)) table ys = refl
-  put-line (DefinitionLine (Enumerated x is)) table ys = put-values is (set table (reference declared [] x) (kindCode AType)) ys
+  put-line (DefinitionLine (Enumerated x is)) table ys = put-values is (set table (reference declared [] x) (typeCode AType)) ys
   put-line (DeclarationLine (OneSignal x)) table ys = refl
   put-line (DeclarationLine (OfWidth x e)) table ys = refl
   put-line (DeclarationLine (OfType u x)) table ys = refl

@@ -9,7 +9,7 @@ use lib.ListN.{length, getD}
 use native.Mathlib.Omega.{arith}
 use borrow.Author.Tests.{ne-eqb}
 use Rattle.language.specs.Places.{first, unless}
-use Rattle.language.specs.Types.{Kind, ANumber, ASet, AFormula, ABus, AValue, AType, Unknown, kindCode}
+use Rattle.language.specs.Types.{ExprType, ANumber, ASet, AFormula, ABus, AValue, AType, Unknown, typeCode}
 use Rattle.language.specs.Laws.Basics.Tests.{leave}
 use Rattle.entries.specs.Kinds as EntryKind
 use Rattle.traversal.specs.Places.{first-none}
@@ -17,10 +17,10 @@ use Rattle.types.specs.Kinds.{lastTakes, otherTakes, fits, takesLast, mi
 use Rattle.types.specs.Pass.{wrongAt}
 
 -- an operand of type k that starts at s where K is wanted
-abbrev pub lack : Kind → ℕ → ℕ → Option ℕ
-lack K k s = unless (eqb (kindCode K) k) s
+abbrev pub lack : ExprType → ℕ → ℕ → Option ℕ
+lack K k s = unless (eqb (typeCode K) k) s
 
-pub code-small : (K : Kind) → kindCode K ≤ 6
+pub code-small : (K : ExprType) → typeCode K ≤ 6
 code-small ANumber = omega arith
 code-small ASet = omega arith
 code-small AFormula = omega arith
@@ -33,8 +33,8 @@ fits-code : (d k : ℕ) → d ≤ 6 → fits d k ≡ eqb d k
 unfolding fits
 fits-code d k h = leave (eqb d 8) _ _ (ne-eqb d 8 (λ e. omega arith)) ∙ leave (eqb d 9) _ _ (ne-eqb d 9 (λ e. omega arith))
 
-fits-kind : (d k : ℕ) (K : Kind) → d ≡ kindCode K → fits d k ≡ eqb (kindCode K) k
-fits-kind d k K e = ap (λ j. fits j k) e ∙ fits-code (kindCode K) k (code-small K)
+fits-kind : (d k : ℕ) (K : ExprType) → d ≡ typeCode K → fits d k ≡ eqb (typeCode K) k
+fits-kind d k K e = ap (λ j. fits j k) e ∙ fits-code (typeCode K) k (code-small K)
 
 any-fits : (k : ℕ) → fits 8 k ≡ true
 unfolding fits
@@ -63,26 +63,26 @@ pub any-wrong : {k other : ℕ} (a s : ℕ) → Takes k other 8 → (other ≡ 1
 any-wrong {k} {other} a s h o =
     by-misfits k other (a ∷ []) (s ∷ []) (h .others) o ∙ ap (λ l. misfits other l (a ∷ []) (s ∷ [])) (last-takes h 1) ∙ ap (λ b. first (unless b s) none) (any-fits a)
 
-pub one-wrong : {k other : ℕ} (L : Kind) (a s : ℕ) → Takes k other (kindCode L) → (other ≡ 10 → ⊥) → wrongAt k (a ∷ []) (s ∷ []) ≡ lack L a s
+pub one-wrong : {k other : ℕ} (L : ExprType) (a s : ℕ) → Takes k other (typeCode L) → (other ≡ 10 → ⊥) → wrongAt k (a ∷ []) (s ∷ []) ≡ lack L a s
 one-wrong {k} {other} L a s h o =
     by-misfits k other (a ∷ []) (s ∷ []) (h .others) o ∙ ap (λ l. misfits other l (a ∷ []) (s ∷ [])) (last-takes h 1)
     ∙ ap (λ b. first (unless b s) none) (fits-kind _ a L refl) ∙ first-none _
 
 -- two and three operands
-pub two-wrong : {k : ℕ} (K L : Kind) (a b s t : ℕ) → Takes k (kindCode K) (kindCode L) → wrongAt k (a ∷ b ∷ []) (s ∷ t ∷ []) ≡ first (lack K a s) (lack L b t)
+pub two-wrong : {k : ℕ} (K L : ExprType) (a b s t : ℕ) → Takes k (typeCode K) (typeCode L) → wrongAt k (a ∷ b ∷ []) (s ∷ t ∷ []) ≡ first (lack K a s) (lack L b t)
 two-wrong {k} K L a b s t h =
-    by-misfits k (kindCode K) (a ∷ b ∷ []) (s ∷ t ∷ []) (h .others) (λ e. omega (arith, code-small K)) ∙ ap (λ l. misfits (kindCode K) l (a ∷ b ∷ []) (s ∷ t ∷ [])) (last-takes h 2)
+    by-misfits k (typeCode K) (a ∷ b ∷ []) (s ∷ t ∷ []) (h .others) (λ e. omega (arith, code-small K)) ∙ ap (λ l. misfits (typeCode K) l (a ∷ b ∷ []) (s ∷ t ∷ [])) (last-takes h 2)
     ∙ ap₂ (λ x y. first (unless x s) (first (unless y t) none)) (fits-kind _ a K refl) (fits-kind _ b L refl) ∙ ap (first (lack K a s)) (first-none _)
 
-pub three-wrong : {k : ℕ} (K L : Kind) (a b c s t u : ℕ) → Takes k (kindCode K) (kindCode L) →
+pub three-wrong : {k : ℕ} (K L : ExprType) (a b c s t u : ℕ) → Takes k (typeCode K) (typeCode L) →
     wrongAt k (a ∷ b ∷ c ∷ []) (s ∷ t ∷ u ∷ []) ≡ first (lack K a s) (first (lack K b t) (lack L c u))
 three-wrong {k} K L a b c s t u h =
-    by-misfits k (kindCode K) (a ∷ b ∷ c ∷ []) (s ∷ t ∷ u ∷ []) (h .others) (λ e. omega (arith, code-small K)) ∙ ap (λ l. misfits (kindCode K) l (a ∷ b ∷ c ∷ []) (s ∷ t ∷ u ∷ [])) (last-takes h 3)
-    ∙ ap₂ (λ x y. first (unless x s) (first (unless y t) (first (unless (fits (kindCode L) c) u) none))) (fits-kind _ a K refl) (fits-kind _ b K refl)
+    by-misfits k (typeCode K) (a ∷ b ∷ c ∷ []) (s ∷ t ∷ u ∷ []) (h .others) (λ e. omega (arith, code-small K)) ∙ ap (λ l. misfits (typeCode K) l (a ∷ b ∷ c ∷ []) (s ∷ t ∷ u ∷ [])) (last-takes h 3)
+    ∙ ap₂ (λ x y. first (unless x s) (first (unless y t) (first (unless (fits (typeCode L) c) u) none))) (fits-kind _ a K refl) (fits-kind _ b K refl)
     ∙ ap (λ x. first (lack K a s) (first (lack K b t) (first (unless x u) none))) (fits-kind _ c L refl) ∙ ap (λ x. first (lack K a s) (first (lack K b t) x)) (first-none _)
 
 -- a big operator: its name is asked for its set by itself
-pub second-wrong : {k : ℕ} (L : Kind) (a b s t : ℕ) → Takes k 8 (kindCode L) → wrongAt k (a ∷ b ∷ []) (s ∷ t ∷ []) ≡ lack L b t
+pub second-wrong : {k : ℕ} (L : ExprType) (a b s t : ℕ) → Takes k 8 (typeCode L) → wrongAt k (a ∷ b ∷ []) (s ∷ t ∷ []) ≡ lack L b t
 second-wrong {k} L a b s t h =
     by-misfits k 8 (a ∷ b ∷ []) (s ∷ t ∷ []) (h .others) (λ e. omega arith) ∙ ap (λ l. misfits 8 l (a ∷ b ∷ []) (s ∷ t ∷ [])) (last-takes h 2)
     ∙ ap₂ (λ x y. first (unless x s) (first (unless y t) none)) (any-fits a) (fits-kind _ b L refl) ∙ first-none _

@@ -12,10 +12,10 @@ use borrow.Author.Tests.{ltb-true, eq-eqb, ne-eqb, eqb-false}
 use Rattle.language.specs.Tokens.{Token}
 use Rattle.language.specs.Tree.{Expr, Named, Identifier, Defined, Enumerated, OneSignal, OfWidth, OfType, Spec}
 use Rattle.language.specs.Grammar.{Tokens}
-use Rattle.language.specs.Places.{start, first, unless, Entry as Line, ParameterLine, DefinitionLine, DeclarationLine, FormulaLine, allLines}
+use Rattle.language.specs.Places.{start, first, unless, TextLine as Line, ParameterLine, DefinitionLine, DeclarationLine, FormulaLine, allLines}
 use Rattle.language.specs.Names.{Names}
 use Rattle.language.specs.Types.{
-  Kind,
+  ExprType,
   ANumber,
   ASet,
   AFormula,
@@ -23,10 +23,10 @@ use Rattle.language.specs.Types.{
   AValue,
   AType,
   Unknown,
-  kindCode,
+  typeCode,
   Typings,
   withNumber,
-  kindOf as typeOf,
+  typeOf,
   wrong,
   mistyped,
   demanded,
@@ -112,7 +112,7 @@ module _ (declared : Names) (table : List ℕ) where
   works = record { steps = part-steps table; inherits = inherits declared table; carries = carries withNumber; values = values declared table; faults = faults declared table }
 
 -- a definition 'is a number, a set or a formula'
-definable-fits : (k : Kind) → fits 9 (kindCode k) ≡ definable k
+definable-fits : (k : ExprType) → fits 9 (typeCode k) ≡ definable k
 unfolding fits
 definable-fits ANumber = refl
 definable-fits ASet = refl
@@ -125,9 +125,9 @@ definable-fits Unknown = refl
 definition-takes : Takes EntryKind.definition 8 9
 definition-takes = record { others = refl; final = refl; plain = refl }
 
-definition-wrong : (k : Kind) (s : ℕ) → wrongAt EntryKind.definition (kindCode k ∷ []) (s ∷ []) ≡ unless (definable k) s
+definition-wrong : (k : ExprType) (s : ℕ) → wrongAt EntryKind.definition (typeCode k ∷ []) (s ∷ []) ≡ unless (definable k) s
 definition-wrong k s =
-    by-misfits EntryKind.definition 8 (kindCode k ∷ []) (s ∷ []) refl (λ e. omega arith) ∙ ap (λ l. misfits 8 l (kindCode k ∷ []) (s ∷ [])) (last-takes definition-takes 1)
+    by-misfits EntryKind.definition 8 (typeCode k ∷ []) (s ∷ []) refl (λ e. omega arith) ∙ ap (λ l. misfits 8 l (typeCode k ∷ []) (s ∷ [])) (last-takes definition-takes 1)
     ∙ ap (λ b. first (unless b s) none) (definable-fits k) ∙ first-none (unless (definable k) s)
 
 module _ (declared : Names) (cell : ℕ → Cell) where
@@ -155,7 +155,7 @@ module _ (declared : Names) (cell : ℕ → Cell) where
   -- a line with an expression
   held : (k : ℕ) (t : Option Token) (x y : Context) (e : Expr) (w : Option ℕ) → Shut k → ltb k firstLine ≡ false → eqb k EntryKind.element ≡ false → eqb k EntryKind.listed ≡ false
       → getD arities k 0 ≡ 1 → getD otherTakes k 0 ≡ 8
-      → wrongAt k (kindCode (typeOf (x .names) e) ∷ []) (start e ∷ []) ≡ w
+      → wrongAt k (typeCode (typeOf (x .names) e) ∷ []) (start e ∷ []) ≡ w
       → ((c : Cell) → Sees (Resolved declared []) c (record { kind = k; token = t; size = suc (length (flat e)) }) → tableAfter (x .table) c (value (Whole (x .names) e) ∷ []) ≡ y .table)
       → Proper false e → Known declared [] (x .table) (x .names) e
       → (es : List Entry) (i before : ℕ) (f : Option ℕ) → Sight i (under k t (flat e) ++ es) → Comes (under k t (flat e) ++ es) i (idle x before f) es y (first f (first w (mistyped (x .names) e)))
@@ -223,8 +223,8 @@ module _ (declared : Names) (cell : ℕ → Cell) where
       (alone EntryKind.word (refl, refl) refl refl refl refl (free _ refl refl refl) refl) is
 
   -- a line whose expression must have the type K
-  demands : (k : ℕ) (t : Option Token) (x y : Context) (e : Expr) (K : Kind) → Shut k → ltb k firstLine ≡ false → eqb k EntryKind.element ≡ false → eqb k EntryKind.listed ≡ false
-      → getD arities k 0 ≡ 1 → Takes k 8 (kindCode K)
+  demands : (k : ℕ) (t : Option Token) (x y : Context) (e : Expr) (K : ExprType) → Shut k → ltb k firstLine ≡ false → eqb k EntryKind.element ≡ false → eqb k EntryKind.listed ≡ false
+      → getD arities k 0 ≡ 1 → Takes k 8 (typeCode K)
       → eqb k EntryKind.definition ≡ false → x .table ≡ y .table → Proper false e → Known declared [] (x .table) (x .names) e
       → (es : List Entry) (i before : ℕ) (f : Option ℕ) → Sight i (under k t (flat e) ++ es) → Comes (under k t (flat e) ++ es) i (idle x before f) es y (first f (demanded K (x .names) e))
   demands k t x y e K shut out other unlisted arity takes plain same p g =

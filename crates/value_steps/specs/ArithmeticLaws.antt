@@ -13,7 +13,7 @@ use Rattle.language.specs.Values.{Value, Number, number, calculate, value}
 use Rattle.language.specs.Laws.Values.ValueLaws.{calculate-sane}
 use Rattle.entries.specs.Kinds as Kind
 use Rattle.entries.specs.Flat.{flat}
-use Rattle.values.specs.KnownLaws.{known-joined}
+use Rattle.name_values.specs.KnownLaws.{known-joined}
 use Rattle.sets.specs.Answers.{says}
 use Rattle.sets.specs.Operators.{arithmetic}
 use Rattle.sets.specs.declared.Worked.{Worked}
@@ -44,7 +44,7 @@ use Rattle.machine.specs.OperandLaws.{operand-view, operand-as, two-operands}
 use Rattle.machine.specs.declared.Machine.{Machine}
 use Rattle.machine.specs.declared.Move.{Move}
 use Rattle.machine.specs.declared.Move.the-variants.{Next, Refused as Refuses}
-use Rattle.value_steps.specs.Entering.{Evaluates, Waiting, works-value}
+use Rattle.machine.specs.Entering.{Evaluates, Waiting, works-value}
 
 -- the clause as its frames have it
 calculation-same : (p : ℕ) (o : Arithmetic) (a b : Result Value) → ((a >>= number >>= λ m. b >>= number >>= calculate p o m >>= λ n. Done (Number n)) >>= worth)

@@ -18,7 +18,7 @@ use Rattle.language.specs.Values.{Value, Set, set, limited, value}
 use Rattle.language.specs.Laws.Basics.Results.{value-of}
 use Rattle.entries.specs.Kinds as Kind
 use Rattle.entries.specs.Flat.{flat}
-use Rattle.values.specs.KnownLaws.{known-joined}
+use Rattle.name_values.specs.KnownLaws.{known-joined}
 use Rattle.sets.specs.Operators.{combination}
 use Rattle.sets.specs.declared.Worked.{Worked}
 use Rattle.operands.specs.Entries.{kindAt, sizeAt, placeAt}
@@ -54,7 +54,7 @@ use Rattle.machine.specs.OperandLaws.{operand-view, operand-as, two-operands}
 use Rattle.machine.specs.declared.Machine.{Machine}
 use Rattle.machine.specs.declared.Move.{Move}
 use Rattle.machine.specs.declared.Move.the-variants.{Next, Refused as Refuses}
-use Rattle.value_steps.specs.Entering.{Evaluates, Waiting, works-value}
+use Rattle.machine.specs.Entering.{Evaluates, Waiting, works-value}
 use Rattle.value_steps.specs.PlacedLaws.{elements-are, placed}
 
 -- the clause as its frames have it

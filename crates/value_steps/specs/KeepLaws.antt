@@ -12,8 +12,8 @@ use Rattle.node.specs.ResultLaws.{not-done}
 use Rattle.language.specs.Limits.{maxNames, maxNumber}
 use Rattle.language.specs.Tokens.{Token}
 use Rattle.language.specs.Values.{Value, Number, Set, Logic, Bus, Unsized, Choice, value}
-use Rattle.values.specs.World.{Meaning, World, meant, meaningAt}
-use Rattle.values.specs.Sorts as Sort
+use Rattle.name_values.specs.World.{Meaning, World, nameValue, meaningAt}
+use Rattle.name_values.specs.Sorts as Sort
 use Rattle.operands.specs.Working.{Source}
 use Rattle.machine.specs.Came.{Came, Worth, Nodes, worth}
 use Rattle.machine.specs.Realm.{Realm}
@@ -31,7 +31,7 @@ use Rattle.machine.specs.FrameViews.{by-phase}
 use Rattle.machine.specs.TakeLaws.{words, value-word, other-word, room-under, pops, top-phase, top-as}
 use Rattle.machine.specs.declared.Machine.{Machine}
 use Rattle.machine.specs.declared.Move.the-variants.{Next}
-use Rattle.value_steps.specs.Entering.{Waiting}
+use Rattle.machine.specs.Entering.{Waiting}
 
 -- the value that has come of an expression
 worth-done : (r : Result Value) {v : Value} → (r >>= worth) ≡ Done (Worth v) → r ≡ Done v
@@ -94,7 +94,7 @@ module _ (mem : List ℕ) (r n : ℕ) (l : r < maxNames) (fits : firstKept ≤ l
         held = held-kept mem (numbering mem r n) a (k .set) (λ i p q. past-notes i (omega arith)) (k .held);
       }
 
-  pub numbering-noted : {s : Source} {R : Realm s} {z : Regions} {index : ℕ} → ((t : Token) → meant (meaningAt (R .W) r) t ≡ Done (Number n)) → n ≤ maxNumber → Noted R z index mem
+  pub numbering-noted : {s : Source} {R : Realm s} {z : Regions} {index : ℕ} → ((t : Token) → nameValue (meaningAt (R .W) r) t ≡ Done (Number n)) → n ≤ maxNumber → Noted R z index mem
       → Noted R z index (numbering mem r n)
   numbering-noted {s} {R} stands small h =
       let e = past-notes freeWord (omega arith) in
@@ -232,7 +232,7 @@ module _ {s : Source} {mem : List ℕ} {m : Machine} (w : Waiting mem m 17) wher
         let l : r < maxNames = omega arith in
         let fits : firstKept ≤ length mem = omega arith in
         let worked : value (c .values) d ≡ Done (Number (m .value)) = worth-done (value (c .values) d) (means-kept x _ (h .rest) (Done (h .came)) (h .same) ∙ ap Done (g .same)) in
-        let stands : (k : Token) → meant (meaningAt (R .W) r) k ≡ Done (Number (m .value)) = λ k. ap (λ (i : ℕ). meant (meaningAt (R .W) i) k) name ∙ ap (λ (y : Meaning). meant y k) (h .at .waits .means) ∙ worked in
+        let stands : (k : Token) → nameValue (meaningAt (R .W) r) k ≡ Done (Number (m .value)) = λ k. ap (λ (i : ℕ). nameValue (meaningAt (R .W) i) k) name ∙ ap (λ (y : Meaning). nameValue y k) (h .at .waits .means) ∙ worked in
         pops h {v = Worth (Number (m .value))} (record {
           same = ap Done (g .same);
           come = record { tells = record { mode-is = e; value-is = refl; small = g .small }; stands = tt };

@@ -1,4 +1,3 @@
-pub mod Entering
 pub mod NumeralLaws
 pub mod ArithmeticLaws
 pub mod PlacedLaws

@@ -15,11 +15,11 @@ use Rattle.language.specs.Expansion.{Context}
 use Rattle.language.specs.Values.{Value, Number, Set, Logic, Bus, Unsized, Choice, value}
 use Rattle.language.specs.Laws.Basics.Lists.{All}
 use Rattle.entries.specs.Kinds as Kind
-use Rattle.values.specs.World.{Meaning, Defines, numbered, meant, meaningAt}
-use Rattle.values.specs.Agrees.{Uses}
-use Rattle.values.specs.AgreesLaws.{numbered-last, numbered-before, denote-bound}
-use Rattle.values.specs.UsedLaws.{used-value, named-body}
-use Rattle.values.specs.Sorts as Sort
+use Rattle.name_values.specs.World.{Meaning, Defines, numbered, nameValue, meaningAt}
+use Rattle.name_values.specs.Agrees.{Uses}
+use Rattle.name_values.specs.AgreesLaws.{numbered-last, numbered-before, denote-bound}
+use Rattle.name_values.specs.UsedLaws.{used-value, named-body}
+use Rattle.name_values.specs.Sorts as Sort
 use Rattle.operands.specs.Entries.{kindAt, placeAt}
 use Rattle.operands.specs.Classes.{classOf}
 use Rattle.operands.specs.ClassLaws.{place-is}
@@ -42,7 +42,7 @@ use Rattle.machine.specs.OperandLaws.{operand-view, operand-as}
 use Rattle.machine.specs.declared.Machine.{Machine}
 use Rattle.machine.specs.declared.Move.{Move}
 use Rattle.machine.specs.declared.Move.the-variants.{Next, Refused as Refuses}
-use Rattle.value_steps.specs.Entering.{Evaluates, works-value}
+use Rattle.machine.specs.Entering.{Evaluates, works-value}
 
 -- an element of a list of small numbers
 small-at : (env : List ℕ) → All (λ v. v ≤ maxNumber) env → (d : ℕ) → d < length env → numbered 0 env d ≤ maxNumber
@@ -144,10 +144,10 @@ module _ {s : Source} {mem : List ℕ} {m : Machine} (k : Evaluates (s .work) m 
 
     -- of whatever it means
     meaning : {R : Realm s} {out : List ℕ} {x : Result Came} {o : Began} (h : Entered R mem out m x o) {v : Meaning} → meaningAt (R .W) r ≡ v
-        → works (h .aim) (h .context) (h .tree) ≡ (meant v (named-by h k er .token) >>= worth)
-    meaning h q = let u = named-by h k er in u .same ∙ ap (λ (y : Result Value). y >>= worth) (used-value (u .uses) l ∙ ap (λ (y : Meaning). meant y (u .token)) q)
+        → works (h .aim) (h .context) (h .tree) ≡ (nameValue v (named-by h k er .token) >>= worth)
+    meaning h q = let u = named-by h k er in u .same ∙ ap (λ (y : Result Value). y >>= worth) (used-value (u .uses) l ∙ ap (λ (y : Meaning). nameValue y (u .token)) q)
 
-    noted-value : {R : Realm s} {out : List ℕ} {x : Result Came} {o : Began} (h : Entered R mem out m x o) {v : Value} → meant (meaningAt (R .W) r) (named-by h k er .token) ≡ Done v
+    noted-value : {R : Realm s} {out : List ℕ} {x : Result Came} {o : Began} (h : Entered R mem out m x o) {v : Value} → nameValue (meaningAt (R .W) r) (named-by h k er .token) ≡ Done v
         → works (h .aim) (h .context) (h .tree) ≡ Done (Worth v)
     noted-value h q = let u = named-by h k er in u .same ∙ stands-for (used-value (u .uses) l ∙ q)
 

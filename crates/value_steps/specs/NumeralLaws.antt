@@ -28,7 +28,7 @@ use Rattle.machine.specs.StateLaws.{entered}
 use Rattle.machine.specs.NumberLaws.{numbered, comes-number}
 use Rattle.machine.specs.OperandLaws.{operand-view, operand-as}
 use Rattle.machine.specs.declared.Machine.{Machine}
-use Rattle.value_steps.specs.Entering.{Evaluates, works-value}
+use Rattle.machine.specs.Entering.{Evaluates, works-value}
 
 pub numeral-steps : {s : Source} {mem : List ℕ} {m : Machine} {p : ℕ} (w : Worked) → Evaluates (s .work) m Kind.numeral 2 → p ≡ placeAt (s .work) (m .value)
     → says w ≡ inRange p (decimal 0 (digitsAt (s .text) p)) → Steps s mem mem m (numbered m w)

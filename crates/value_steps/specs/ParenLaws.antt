@@ -9,7 +9,7 @@ use Rattle.language.specs.Tree.{Expr, Paren}
 use Rattle.language.specs.Expansion.{Context}
 use Rattle.entries.specs.Kinds as Kind
 use Rattle.entries.specs.Flat.{flat}
-use Rattle.values.specs.KnownLaws.{known-paren}
+use Rattle.name_values.specs.KnownLaws.{known-paren}
 use Rattle.operands.specs.Entries.{kindAt}
 use Rattle.operands.specs.Classes.{classOf}
 use Rattle.operands.specs.ClassLaws.{has-entry}

@@ -17,7 +17,7 @@ use operands::entry::size_at;
 use sets::Worked;
 ghost use Rattle.machine.specs.States.{Ready, Steps, Topped, Takes};
 ghost use Rattle.operands.specs.Working.{source};
-ghost use Rattle.value_steps.specs.Entering.{Evaluates, Waiting};
+ghost use Rattle.machine.specs.Entering.{Evaluates, Waiting};
 
 // The left operand is worked out first.
 pub fn combination(text: &[u8], work: &[u8], refs: &[u16], memory: &mut [u32], m: Machine) -> Move

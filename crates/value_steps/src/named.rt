@@ -8,13 +8,13 @@ use machine::modes;
 use machine::phases;
 use node::refusals;
 use operands::entry::place_at;
-use values::sorts;
+use name_values::sorts;
 ghost use mathlib.Core.Path.{_≡_};
 ghost use Prim.Native.Nat.{_+_, _<_, _^_};
 ghost use Rattle.machine.specs.Memory.{frameWords};
 ghost use Rattle.machine.specs.States.{Ready, Steps, Topped, Takes};
 ghost use Rattle.operands.specs.Working.{source};
-ghost use Rattle.value_steps.specs.Entering.{Evaluates, Waiting};
+ghost use Rattle.machine.specs.Entering.{Evaluates, Waiting};
 ghost use Rattle.value_steps.specs.KeepLaws.{released as released'};
 ghost use Rattle.value_steps.specs.NameLaws.{Refers};
 

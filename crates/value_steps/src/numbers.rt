@@ -13,7 +13,7 @@ use operands::entry::size_at;
 use sets::numbers;
 ghost use Rattle.machine.specs.States.{Ready, Steps, Topped, Takes};
 ghost use Rattle.operands.specs.Working.{source};
-ghost use Rattle.value_steps.specs.Entering.{Evaluates, Waiting};
+ghost use Rattle.machine.specs.Entering.{Evaluates, Waiting};
 
 pub fn numeral(text: &[u8], work: &[u8], refs: &[u16], memory: &[u32], m: Machine) -> Move
     requires { ⌜ Ready (source (now text) (now work) (now refs)) (now memory) m ⌝ }

@@ -10,7 +10,7 @@ use Rattle.node.specs.Result.{Result, Done, Refused, _>>=_, guard}
 use Rattle.node.specs.ResultLaws.{not-done}
 use Rattle.language.specs.Limits.{maxSignals}
 use Rattle.language.specs.Places.{refuseAt}
-use Rattle.language.specs.Reading.{Converted, reading}
+use Rattle.language.specs.Reading.{NumberedFormula, reading}
 use Rattle.language.specs.Laws.Basics.Results.{refusal-of}
 use Rattle.claim.specs.RefusalNumbers.{reading-numbers}
 use Rattle.basic.specs.Writing.{writing, fits}
@@ -31,7 +31,7 @@ late-number none s room e = room-number (fits room s) s e
 pub writing-number : (text : List ℕ) (work room : ℕ) {n p : ℕ} → writing text work room ≡ Refused n p → n ≤ 22
 writing-number text work room {n} {p} e = go (reading text work maxNodes maxSignals) refl
   where
-    go : (r : Result Converted) → reading text work maxNodes maxSignals ≡ r → n ≤ 22
+    go : (r : Result NumberedFormula) → reading text work maxNodes maxSignals ≡ r → n ≤ 22
     go (Refused m q) h =
         let first = refusal-of h (reading-numbers text work maxNodes maxSignals) in
         let same : m ≡ n = let g = writing-refused text work room h in cc in

@@ -21,7 +21,7 @@ use Rattle.language.specs.Limits.{maxSignals, workBytes}
 use Rattle.language.specs.Tree.{Model, Mealy, Moore, Spec}
 use Rattle.language.specs.Places.{refuseAt}
 use Rattle.language.specs.Parsing.{parsed}
-use Rattle.language.specs.Reading.{Converted, converted, meant, delivered, reading, workAfter}
+use Rattle.language.specs.Reading.{NumberedFormula, specExpansion, textExpansion, delivered, reading, workAfter}
 use Rattle.language.specs.Laws.Buffers.{accepted-meant}
 use Rattle.language.specs.Laws.Meaning.Acceptance.{accepts, text-signals, list-limited}
 use Rattle.parser.specs.Outlines.{modelCode}
@@ -39,7 +39,7 @@ use Rattle.layout.specs.Text.{modelOf, Delivers, handed, outcome}
 use Rattle.writer.specs.Writes.{unwritten, Writes, writes}
 
 -- no accepted text is too large for the largest table and list
-all-delivered : (text : List ℕ) (r : Result Converted) → meant text ≡ r → r >>= delivered maxNodes maxSignals ≡ r
+all-delivered : (text : List ℕ) (r : Result NumberedFormula) → textExpansion text ≡ r → r >>= delivered maxNodes maxSignals ≡ r
 unfolding _>>=_
 all-delivered text (Done c) e =
     guard-pass 18 0 _ (ap₂ _&&_ (le-leb (size (c .formula)) maxNodes (accepts e .fewNodes)) (le-leb (length (c .signals)) maxSignals (list-limited text c e)))
@@ -51,9 +51,9 @@ unfolding _>>=_
 behind-refused (Done x) f k e = bind-refused (f x) _ _ (k x) e
 behind-refused (Refused m q) f k e = cc
 
-written-refused : (text : List ℕ) {n p : ℕ} → meant text ≡ Refused n p → written text ≡ Refused n p
-unfolding meant written
-written-refused text e = behind-refused (parsed text) converted _ e
+written-refused : (text : List ℕ) {n p : ℕ} → textExpansion text ≡ Refused n p → written text ≡ Refused n p
+unfolding textExpansion written
+written-refused text e = behind-refused (parsed text) specExpansion _ e
 
 guard-both : {A B : Type 0} (b : Bool) (number place : ℕ) (r : Result A) (q : Result B) {n p : ℕ} → (r ≡ Refused n p → q ≡ Refused n p) → guard b number place r ≡ Refused n p
     → guard b number place q ≡ Refused n p
@@ -65,18 +65,18 @@ module _ (text : List ℕ) (work room : ℕ) where
   pub writing-refused : {n p : ℕ} → reading text work maxNodes maxSignals ≡ Refused n p → writing text work room ≡ Refused n p
   unfolding reading writing
   writing-refused {n} {p} e =
-      guard-both (leb workBytes work) 17 0 (meant text >>= delivered maxNodes maxSignals) (written text >>= handed room)
-      (λ h. bind-refused (written text) n p (handed room) (written-refused text (sym (all-delivered text (meant text) refl) ∙ h))) e
+      guard-both (leb workBytes work) 17 0 (textExpansion text >>= delivered maxNodes maxSignals) (written text >>= handed room)
+      (λ h. bind-refused (written text) n p (handed room) (written-refused text (sym (all-delivered text (textExpansion text) refl) ∙ h))) e
 
   -- and what it accepts is written
-  writing-text : {x : Spec} {c : Converted} → workBytes ≤ work → parsed text ≡ Done x → converted x ≡ Done c
+  writing-text : {x : Spec} {c : NumberedFormula} → workBytes ≤ work → parsed text ≡ Done x → specExpansion x ≡ Done c
       → writing text work room ≡ refuseAt 22 (faultFrom [] 0 (namesOf text (c .signals))) (Done (basicText (x .target) text c)) >>= handed room
   unfolding writing written
   writing-text {x} {c} h e d =
-      guard-pass 17 0 _ (le-leb workBytes work h) ∙ ap (λ (r : Result (List ℕ)). r >>= handed room) (bind-to (parsed text) x _ e ∙ bind-to (converted x) c _ d)
+      guard-pass 17 0 _ (le-leb workBytes work h) ∙ ap (λ (r : Result (List ℕ)). r >>= handed room) (bind-to (parsed text) x _ e ∙ bind-to (specExpansion x) c _ d)
 
 -- an accepted text had work buffer enough
-enough : (text : List ℕ) (work nodes signals : ℕ) {c : Converted} → reading text work nodes signals ≡ Done c → workBytes ≤ work
+enough : (text : List ℕ) (work nodes signals : ℕ) {c : NumberedFormula} → reading text work nodes signals ≡ Done c → workBytes ≤ work
 unfolding reading
 enough text work nodes signals e = leb-true workBytes work (guard-done (leb workBytes work) 17 0 _ e .0)
 
@@ -86,12 +86,12 @@ pub record Bytes (text : List ℕ) (work room : ℕ) : Type 0 where
   pub bytes : List ℕ
   pub is : writing text work room ≡ refuseAt 22 fault (Done bytes) >>= handed room
 
-pub writing-accepted : (text : List ℕ) (work room nodes signals : ℕ) {c : Converted} → reading text work nodes signals ≡ Done c → Bytes text work room
-unfolding meant reading
+pub writing-accepted : (text : List ℕ) (work room nodes signals : ℕ) {c : NumberedFormula} → reading text work nodes signals ≡ Done c → Bytes text work room
+unfolding textExpansion reading
 writing-accepted text work room nodes signals e =
     let passed = guard-done (leb workBytes work) 17 0 _ e in
-    let meaning = bind-done (meant text) _ (passed .1) in
-    let tree = bind-done (parsed text) converted (meaning .1) in
+    let meaning = bind-done (textExpansion text) _ (passed .1) in
+    let tree = bind-done (parsed text) specExpansion (meaning .1) in
     record { fault = _; bytes = _; is = writing-text text work room (leb-true workBytes work (passed .0)) (tree .1) (tree .2) }
 
 -- a model from its code
@@ -128,14 +128,14 @@ module _ {text work work′ table table′ list list′ : List ℕ} {told : Told
   -- a text that is accepted
   module _ {n s : ℕ} (e : told .answer ≡ Accepted n s) where
     pub read-accepted : AtHand text work work′ table′ list′ n s (told .facts .target)
-    unfolding meant
+    unfolding textExpansion
     read-accepted =
         let t = accepted (read .reads .yields) e in
         let c = t .value in
         let left = read .reads .leaves c (t .done) in
         let both = accepted-meant text (length work) table list c (t .done) in
         let meaning = both .0 in
-        let tree = bind-done (parsed text) converted meaning in
+        let tree = bind-done (parsed text) specExpansion meaning in
         let nodesTold : size (c .formula) ≡ n = ap (λ (k : Counts). k .nodes) (t .same) in
         let signalsTold : length (c .signals) ≡ s = ap (λ (k : Counts). k .signals) (t .same) in
         let handed-on : take n table′ ≡ nodesOf c = subst (λ (k : ℕ). take k table′ ≡ nodesOf c) nodesTold (left .handed) in

@@ -10,7 +10,7 @@ use Rattle.node.specs.Result.{Done, Refused, _>>=_, guard}
 use Rattle.language.specs.Bytes.{ascii}
 use Rattle.language.specs.Places.{refuseAt}
 use Rattle.language.specs.Parsing.{parsed}
-use Rattle.language.specs.Reading.{meant, converted, reading, counts, nodesAfter, signalsAfter, workAfter}
+use Rattle.language.specs.Reading.{textExpansion, specExpansion, reading, counts, nodesAfter, signalsAfter, workAfter}
 use Rattle.language.specs.Cases.{text, entry}
 use Rattle.language.specs.Laws.Buffers.{work-length, work-front, work-beyond, work-short, short-refused}
 
@@ -28,14 +28,14 @@ module _ (s work : List ℕ) (nodes signals : ℕ) where
 abbrev empty : List ℕ
 empty = text (ascii "MAIN { INPUTS { r; } OUTPUTS { g; } }")
 
-told : (meant empty >>= λ c. Done (counts c)) ≡ Done (record { nodes = 13; signals = 2 })
-unfolding meant parsed converted _>>=_ guard refuseAt size
+told : (textExpansion empty >>= λ c. Done (counts c)) ≡ Done (record { nodes = 13; signals = 2 })
+unfolding textExpansion parsed specExpansion _>>=_ guard refuseAt size
 told = refl
 
-nodes-left : drop 11 (nodesAfter (meant empty) (replicate 15 7)) ≡ pack 4 1 10 ∷ pack 6 0 11 ∷ 7 ∷ 7 ∷ []
-unfolding meant parsed converted _>>=_ guard refuseAt size nodesFrom
+nodes-left : drop 11 (nodesAfter (textExpansion empty) (replicate 15 7)) ≡ pack 4 1 10 ∷ pack 6 0 11 ∷ 7 ∷ 7 ∷ []
+unfolding textExpansion parsed specExpansion _>>=_ guard refuseAt size nodesFrom
 nodes-left = refl
 
-signals-left : signalsAfter (meant empty) (replicate 4 8) ≡ entry 0 84 0 0 ∷ entry 1 99 0 0 ∷ 8 ∷ 8 ∷ []
-unfolding meant parsed converted _>>=_ guard refuseAt size
+signals-left : signalsAfter (textExpansion empty) (replicate 4 8) ≡ entry 0 84 0 0 ∷ entry 1 99 0 0 ∷ 8 ∷ 8 ∷ []
+unfolding textExpansion parsed specExpansion _>>=_ guard refuseAt size
 signals-left = refl

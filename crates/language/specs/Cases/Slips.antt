@@ -7,15 +7,15 @@ use Rattle.node.specs.Result.{Done, _>>=_, guard}
 use Rattle.language.specs.Bytes.{ascii}
 use Rattle.language.specs.Places.{refuseAt}
 use Rattle.language.specs.Parsing.{parsed}
-use Rattle.language.specs.Reading.{meant, converted}
+use Rattle.language.specs.Reading.{textExpansion, specExpansion}
 use Rattle.language.specs.Cases.{line, guaranteed}
 
 -- 'LE read as "at most" (it is "smaller"; LEQ is "at most")'
 smaller : guaranteed (line (ascii "1 LE 1 || 1 LEQ 1")) ≡ Done (Two Or False True)
-unfolding meant parsed converted _>>=_ guard refuseAt size
+unfolding textExpansion parsed specExpansion _>>=_ guard refuseAt size
 smaller = refl
 
 -- bounds are not worked out by n - 1: 'none if n is 0'
 bounds : guaranteed (line (ascii "&&[0 <= i < 0] false")) ≡ Done True
-unfolding meant parsed converted _>>=_ guard refuseAt size
+unfolding textExpansion parsed specExpansion _>>=_ guard refuseAt size
 bounds = refl

@@ -18,7 +18,7 @@ use Rattle.language.specs.Sets.{memberOf}
 use Rattle.language.specs.Values.{Value, number, set, Scope, value}
 use Rattle.language.specs.Sections.{expression}
 use Rattle.language.specs.Parsing.{parsed}
-use Rattle.language.specs.Reading.{meant, converted}
+use Rattle.language.specs.Reading.{textExpansion, specExpansion}
 use Rattle.language.specs.Cases.Every.{every, every-each}
 use Rattle.language.specs.Cases.{text, line, repeated, outcome, guaranteed, entry}
 use Rattle.language.specs.Laws.Basics.Tests.{same-equal}
@@ -46,7 +46,7 @@ abbrev valueOf : String → Result Value
 valueOf s = expression (tokens (ascii s)) >>= λ (e, ts). expectOf End ts >>= λ _. value nothing e
 
 abbrev pub answer : Question → Result (List ℕ)
-answer (Listing s) = meant s >>= λ c. Done (nodesFrom 0 (c .formula) ++ c .signals)
+answer (Listing s) = textExpansion s >>= λ c. Done (nodesFrom 0 (c .formula) ++ c .signals)
 answer (LineOf s) = guaranteed (line (ascii s)) >>= λ f. Done (nodesFrom 0 f)
 answer (NodesIn s) = outcome s >>= λ n. Done (n .0 ∷ [])
 answer (NumberOf s) = valueOf s >>= number >>= λ n. Done (n ∷ [])
@@ -94,7 +94,7 @@ passes r = answers (answer (r .question)) (r .expected)
 
 -- the table, computed
 tested : So (every passes starred)
-unfolding meant parsed converted _>>=_ guard refuseAt size nodesFrom
+unfolding textExpansion parsed specExpansion _>>=_ guard refuseAt size nodesFrom
 tested = refl
 
 pub answers→eq : (r : Result (List ℕ)) (e : List ℕ) → So (answers r e) → r ≡ Done e
@@ -116,15 +116,15 @@ odd = range-member 1 3 8 (omega arith)
 
 -- 'Unmarked: 32,768 bytes .. pass': the file, and blanks
 longest : outcome (text (ascii "MAIN { INPUTS { r; } OUTPUTS { g; } GUARANTEE { G (r -> F g); } }" ++ repeated 32635 " ")) ≡ Done (17, 2)
-unfolding meant parsed converted _>>=_ guard refuseAt size
+unfolding textExpansion parsed specExpansion _>>=_ guard refuseAt size
 longest = refl
 
 -- 'width 255'
 widest : outcome (text (ascii "MAIN { INPUTS { b[255]; } OUTPUTS { } GUARANTEE { b[254]; } }")) ≡ Done (13, 255)
-unfolding meant parsed converted _>>=_ guard refuseAt size
+unfolding textExpansion parsed specExpansion _>>=_ guard refuseAt size
 widest = refl
 
 -- '256 elements'
 largest : guaranteed (line (ascii "|{0,1..255}| == 256 && |{0,1..254} (+) {255}| == 256 && +[0 <= i < 256] 1 == 256")) ≡ Done (Two And (Two And True True) True)
-unfolding meant parsed converted _>>=_ guard refuseAt size
+unfolding textExpansion parsed specExpansion _>>=_ guard refuseAt size
 largest = refl

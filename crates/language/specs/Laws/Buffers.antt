@@ -14,7 +14,7 @@ use Rattle.node.specs.PostorderLaws.{length-nodes}
 use Rattle.node.specs.Result.{Done, Refused, guard}
 use Rattle.node.specs.ResultLaws.{bind-done, guard-done, guard-pass, guard-stop}
 use Rattle.language.specs.Limits.{workBytes}
-use Rattle.language.specs.Reading.{Converted, counts, meant, delivered, reading, nodesAfter, signalsAfter, cleared, workAfter}
+use Rattle.language.specs.Reading.{NumberedFormula, counts, textExpansion, delivered, reading, nodesAfter, signalsAfter, cleared, workAfter}
 use Rattle.language.specs.Laws.Basics.Tests.{split, and-left, and-right}
 
 -- the work buffer, its first n bytes to be cleared
@@ -97,14 +97,14 @@ laid n result before e l =
     }
 
 -- what an accepted text leaves: its nodes and its signal list in front, and their numbers told
-pub record Delivers (c : Converted) (nodes signals : List ℕ) : Type 0 where
+pub record Delivers (c : NumberedFormula) (nodes signals : List ℕ) : Type 0 where
   pub nodesLaid : Laid (nodesFrom 0 (c .formula)) nodes (nodesAfter (Done c) nodes)
   pub signalsLaid : Laid (c .signals) signals (signalsAfter (Done c) signals)
   pub nodesTold : counts c .nodes ≡ length (nodesFrom 0 (c .formula))
   pub signalsTold : counts c .signals ≡ length (c .signals)
 
 -- what is delivered fits the buffers
-module _ (nodes signals : List ℕ) (c : Converted) {d : Converted} (e : delivered (length nodes) (length signals) c ≡ Done d) where
+module _ (nodes signals : List ℕ) (c : NumberedFormula) {d : NumberedFormula} (e : delivered (length nodes) (length signals) c ≡ Done d) where
   pub delivered-same : c ≡ d
   delivered-same = let g = guard-done _ 18 0 _ e .1 in cc
 
@@ -119,7 +119,7 @@ module _ (nodes signals : List ℕ) (c : Converted) {d : Converted} (e : deliver
   pub delivered-laid : Delivers d nodes signals
   delivered-laid =
       let told : length (nodesFrom 0 (c .formula)) ≡ size (c .formula) = length-nodes 0 (c .formula) in
-      subst (λ (x : Converted). Delivers x nodes signals) delivered-same
+      subst (λ (x : NumberedFormula). Delivers x nodes signals) delivered-same
       (record {
         nodesLaid = laid (size (c .formula)) (nodesFrom 0 (c .formula)) nodes told (delivered-fits .0);
         signalsLaid = laid (length (c .signals)) (c .signals) signals refl (delivered-fits .1);
@@ -129,15 +129,15 @@ module _ (nodes signals : List ℕ) (c : Converted) {d : Converted} (e : deliver
 
 module _ (text : List ℕ) (work : ℕ) (nodes signals : List ℕ) where
   -- an accepted text is one that is delivered
-  pub accepted-meant : (c : Converted) → reading text work (length nodes) (length signals) ≡ Done c → (meant text ≡ Done c) × (delivered (length nodes) (length signals) c ≡ Done c)
+  pub accepted-meant : (c : NumberedFormula) → reading text work (length nodes) (length signals) ≡ Done c → (textExpansion text ≡ Done c) × (delivered (length nodes) (length signals) c ≡ Done c)
   unfolding reading
   accepted-meant c e =
       let a = guard-done _ 17 0 _ e in
-      let b = bind-done (meant text) _ (a .1) in
+      let b = bind-done (textExpansion text) _ (a .1) in
       let x = delivered-same nodes signals (b .0) (b .2) in
-      (b .1 ∙ ap Done x, subst (λ (y : Converted). delivered (length nodes) (length signals) y ≡ Done c) x (b .2))
+      (b .1 ∙ ap Done x, subst (λ (y : NumberedFormula). delivered (length nodes) (length signals) y ≡ Done c) x (b .2))
 
-  pub accepted-delivers : (c : Converted) → reading text work (length nodes) (length signals) ≡ Done c → Delivers c nodes signals
+  pub accepted-delivers : (c : NumberedFormula) → reading text work (length nodes) (length signals) ≡ Done c → Delivers c nodes signals
   accepted-delivers c e = delivered-laid nodes signals c (accepted-meant c e .1)
 
   -- 'a refused call changes none'

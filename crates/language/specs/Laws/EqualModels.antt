@@ -13,22 +13,22 @@ use Rattle.language.specs.Numbering.{inOrder, signalList, tooManySignals
 use Rattle.language.specs.Lines.{lines}
 use Rattle.language.specs.Expansion.{expand}
 use Rattle.language.specs.Shifting.{adapted}
-use Rattle.language.specs.Reading.{Converted, converted}
+use Rattle.language.specs.Reading.{NumberedFormula, specExpansion}
 
 -- the answer without any conversion
-abbrev pub asExpanded : Spec → Result Converted
+abbrev pub asExpanded : Spec → Result NumberedFormula
 asExpanded x =
     declarations x >>= λ d. expand x d (lines x d) >>= λ f.
     refuseAt 15 (tooManySignals 0 (inOrder d)) (guard (leb (size f) maxNodes) 16 0 (Done (record { formula = f; signals = signalList (inOrder d) })))
 
-pub equal-models : (x : Spec) → x .semantics ≡ x .target → converted x ≡ asExpanded x
-unfolding converted
+pub equal-models : (x : Spec) → x .semantics ≡ x .target → specExpansion x ≡ asExpanded x
+unfolding specExpansion
 equal-models x e = go (x .semantics) (x .target) e
   where
     differ : Mealy ≡ Moore → ⊥
     differ e = let z : _≡_ {A = ℕ} 0 1 = cc in omega arith
 
-    given : Model → Model → Result Converted
+    given : Model → Model → Result NumberedFormula
     given m n =
         declarations x >>= λ d. expand x d (lines x d) >>= λ f.
         let list = signalList (inOrder d) in

@@ -9,7 +9,7 @@ use Rattle.language.specs.Tokens.{Token, tokens}
 use Rattle.lexer.specs.Stored.{longest, lengthIn}
 use Rattle.entries.specs.Stored.{kindOf}
 use Rattle.spellings.specs.Interned.{Lexed}
-use Rattle.values.specs.Declaring.{EnumerationAt}
+use Rattle.name_values.specs.Declaring.{EnumerationAt}
 use Rattle.declarations.specs.Enumerations.{Scanning, scanning-starts, scanning-word, scanning-more, scanning-other, scanning-past}
 use Rattle.declarations.proofs.enumeration.word_width.Statement.{statement}
 use Rattle.declarations.proofs.enumeration.word_width.Tie as tie

@@ -2,8 +2,8 @@
 use mathlib.Core.Path.{sym, ap, _∙_}
 use native.Mathlib.Omega.{arith}
 use borrow.Author.Needs.{needs}
-use Rattle.shapes.specs.Shapes.{shapeOf}
-use Rattle.shapes.specs.ShapeLaws.{misfit-numeral, misfit-operands, truth-kind}
+use Rattle.operator_nodes.specs.Shapes.{shapeOf}
+use Rattle.operator_nodes.specs.ShapeLaws.{misfit-numeral, misfit-operands, truth-kind}
 use Rattle.expander.specs.StepLaws.{writes-misfit, writes-truth}
 use Rattle.expander.proofs.atoms.atom_at.Statement.{statement}
 use Rattle.expander.proofs.atoms.atom_at.Tie as tie

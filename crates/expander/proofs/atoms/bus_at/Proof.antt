@@ -3,7 +3,7 @@ use borrow.Author.Needs.{needs}
 use native.Mathlib.Omega.{arith}
 use mathlib.Core.Path.{ap}
 use lib.ListN.{getD}
-use Rattle.shapes.specs.Shapes.{shapeOf}
+use Rattle.operator_nodes.specs.Shapes.{shapeOf}
 use Rattle.expander.specs.BusSteps.{bus-bound, bus-nothing, bus-waiting, bus-sized, bus-other, body-ready, bus-body}
 use Rattle.expander.proofs.atoms.bus_at.Statement.{statement}
 use Rattle.expander.proofs.atoms.bus_at.Tie as tie

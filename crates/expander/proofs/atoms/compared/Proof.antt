@@ -3,7 +3,7 @@ use native.Mathlib.Omega.{arith}
 use Prim.Native.Nat.{_-_}
 use mathlib.Core.Path.{sym, ap, _∙_}
 use Rattle.sets.specs.Operators.{comparison}
-use Rattle.shapes.specs.ShapeLaws.{comparison-kind}
+use Rattle.operator_nodes.specs.ShapeLaws.{comparison-kind}
 use Rattle.expander.specs.Operands.{comparison-of}
 use Rattle.expander.specs.CallLaws.{before-room, two-some, two-inside, left-ready, right-ready}
 use Rattle.expander.specs.CompareSteps.{comparable, compared-writes}

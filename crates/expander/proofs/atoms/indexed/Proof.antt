@@ -2,7 +2,7 @@
 use borrow.Author.Needs.{needs}
 use native.Mathlib.Omega.{arith}
 use mathlib.Core.Path.{ap, _∙_}
-use Rattle.shapes.specs.Shapes.{shapeOf}
+use Rattle.operator_nodes.specs.Shapes.{shapeOf}
 use Rattle.expander.specs.BusSteps.{index-some, index-ready, index-again, index-left, index-bus, index-large, index-done, index-name, index-fits}
 use Rattle.expander.proofs.atoms.indexed.Statement.{statement}
 use Rattle.expander.proofs.atoms.indexed.Tie as tie

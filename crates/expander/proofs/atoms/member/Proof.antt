@@ -2,7 +2,7 @@
 use borrow.Author.Needs.{needs}
 use native.Mathlib.Omega.{arith}
 use mathlib.Core.Path.{ap, _∙_}
-use Rattle.shapes.specs.Shapes.{shapeOf}
+use Rattle.operator_nodes.specs.Shapes.{shapeOf}
 use Rattle.expander.specs.Operands.{membership-of}
 use Rattle.expander.specs.CallLaws.{before-room, two-some, two-inside, left-ready, right-ready, right-few}
 use Rattle.expander.specs.ValueSteps.{member-left, member-right, member-done}

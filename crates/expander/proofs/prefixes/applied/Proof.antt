@@ -1,7 +1,7 @@
 -- `applied` meets its contract: a parenthesis adds nothing.
 use mathlib.Core.Path.{sym, _∙_}
 use native.Mathlib.Omega.{arith}
-use Rattle.shapes.specs.ShapeLaws.{unary-small}
+use Rattle.operator_nodes.specs.ShapeLaws.{unary-small}
 use Rattle.expander.specs.ChainLaws.{prefix-operator, capped-parenthesis, capped-operator}
 use Rattle.expander.proofs.prefixes.applied.Statement.{statement}
 use Rattle.expander.proofs.prefixes.applied.Tie as tie

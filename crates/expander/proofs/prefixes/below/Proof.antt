@@ -2,7 +2,7 @@
 use mathlib.Core.Logic.{⊎-elim}
 use mathlib.Core.Path.{sym, _∙_}
 use native.Mathlib.Omega.{arith}
-use Rattle.shapes.specs.Prefixes.{parenthesis, operator, Run}
+use Rattle.operator_nodes.specs.Prefixes.{parenthesis, operator, Run}
 use Rattle.expander.specs.ChainLaws.{run-none, run-more}
 use Rattle.expander.proofs.prefixes.below.Statement.{statement}
 use Rattle.expander.proofs.prefixes.below.Tie as tie

@@ -2,7 +2,7 @@ use native.Mathlib.Omega.{arith}
 use mathlib.Core.Path.{refl, ap, _∙_}
 use Prim.Native.Nat.{_+_}
 use Rattle.formula_steps.specs.ConnectiveLaws.{right-misfits, right-kind, right-steps}
-use Rattle.shapes.specs.ShapeLaws.{binary-small}
+use Rattle.operator_nodes.specs.ShapeLaws.{binary-small}
 use Rattle.machine.specs.declared.Move.the-variants.{Next}
 use Rattle.machine.specs.declared.Machine.{Machine}
 use Rattle.machine.specs.EnterLaws.{wrote}

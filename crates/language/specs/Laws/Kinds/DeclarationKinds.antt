@@ -6,8 +6,8 @@ use mathlib.Core.List.{List, [], _∷_}
 use native.Mathlib.Omega.{arith}
 use Rattle.language.specs.Tokens.{Token}
 use Rattle.language.specs.Tree.{Definition, Parameter, Declaration, OneSignal, OfWidth, OfType}
-use Rattle.language.specs.Places.{Entry, ParameterLine, parameterLines, definitionLines}
-use Rattle.language.specs.Types.{Kind, ANumber, ABus, Typings, typedAfter}
+use Rattle.language.specs.Places.{TextLine, ParameterLine, parameterLines, definitionLines}
+use Rattle.language.specs.Types.{ExprType, ANumber, ABus, Typings, typedAfter}
 use Rattle.language.specs.Values.{value}
 use Rattle.language.specs.Declared.{Constant, Table, declared, defining, identifiers, wordsOfType, wordWidth, Port, sized, portOf, asDeclared, turns, constants}
 use Rattle.language.specs.Laws.Basics.Lists.{All}
@@ -22,7 +22,7 @@ use Rattle.language.specs.Laws.Kinds.DefinitionKinds.{found, typedThroug
 use Rattle.language.specs.Laws.Kinds.TableKinds.{declaredKind, bus-kind, Standing, standing-typed, standing-turn, covers-table, standing-agree}
 use Rattle.language.specs.Laws.Kinds.LineKinds.{Passed, typedParameters, passed-parameter, parameter-taken, DeclarationFits}
 
-pub constants-reach : (g : Token → Kind) (I : Table) (ls : List Entry) (ps : List Parameter) (ys : Typings) (d : Table)
+pub constants-reach : (g : Token → ExprType) (I : Table) (ls : List TextLine) (ps : List Parameter) (ys : Typings) (d : Table)
     → All ProperParameter ps → Passed g ys (parameterLines ps ls) → Standing g I ys d → Reaches (Standing g I (typedParameters ys ps)) (constants ps d)
 constants-reach g I ls [] ys d s h k = done k
 constants-reach g I ls (p ∷ ps) ys d s h k =
@@ -32,15 +32,15 @@ constants-reach g I ls (p ∷ ps) ys d s h k =
     (passed-parameter g ys p (parameterLines ps ls) h) (standing-typed g I ys d (p .name) (Constant n) (h .known .0) k))
 
 -- a port's name is known as what it stands for after its turn
-abbrev PortKnown : (Token → Kind) → Port → Type 0
+abbrev PortKnown : (Token → ExprType) → Port → Type 0
 PortKnown g p = Knows g (record { name = p .name; kind = declaredKind (asDeclared (p .width)) })
 
 -- a width is at least 1
-sized-reaches : (g : Token → Kind) (x : Token) (n : ℕ) → Knows g (record { name = x; kind = ABus }) →
+sized-reaches : (g : Token → ExprType) (x : Token) (n : ℕ) → Knows g (record { name = x; kind = ABus }) →
     Reaches (λ m. Knows g (record { name = x; kind = declaredKind (asDeclared m) })) (sized x n)
-sized-reaches g x n k = sized-as x n (omega arith) (λ some _. subst (λ (l : Kind). Knows g (record { name = x; kind = l })) (sym (bus-kind n some)) k)
+sized-reaches g x n k = sized-as x n (omega arith) (λ some _. subst (λ (l : ExprType). Knows g (record { name = x; kind = l })) (sym (bus-kind n some)) k)
 
-module _ (g : Token → Kind) (defs : List Definition) (ls : List Entry) (ys : Typings) (proper : All ProperDefinition defs) (passed : Passed g ys (definitionLines defs ls)) where
+module _ (g : Token → ExprType) (defs : List Definition) (ls : List TextLine) (ys : Typings) (proper : All ProperDefinition defs) (passed : Passed g ys (definitionLines defs ls)) where
   definitions-agree : (d : Table) → Standing g (identifiers defs) ys d → Agree (typedThrough ys defs) (defining (declared d) defs)
   definitions-agree d k =
       agree-definitions g (λ t. found d (t .text)) ls defs ys (declared d) (standing-agree g (identifiers defs) ys d k) (covers-table g d (k .sound))

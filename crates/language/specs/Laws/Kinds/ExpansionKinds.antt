@@ -14,15 +14,15 @@ use Rattle.language.specs.Operators.{Comparison, Equal, Unequal, Less, A
 use Rattle.language.specs.Tree.{Expr, Named, Numeral, Truth, Index, Paren, Prefixed, Joined, Nexts, InWindow, Each, Between, Listed, Empty, Element, Range}
 use Rattle.language.specs.Places.{start, first, unless}
 use Rattle.language.specs.Types.{
-  Kind,
+  ExprType,
   ANumber,
   ASet,
   AFormula,
   ABus,
   Typings,
-  isKind,
-  kindIn,
-  kindOf,
+  isType,
+  typeIn,
+  typeOf,
   withNumber,
   bigGives,
   comparable,
@@ -49,19 +49,19 @@ use Rattle.language.specs.Laws.Kinds.TypeSoundness.{Agree, agree-number,
 
 -- the formulas of the visible names that stand for one
 abbrev pub Expands : Typings → (Token → Result Formula) → Type 0
-Expands ys fs = (t : Token) → kindIn ys t ≡ AFormula → Reaches Any (fs t)
+Expands ys fs = (t : Token) → typeIn ys t ≡ AFormula → Reaches Any (fs t)
 
 pub record Serves (ys : Typings) (c : Context) : Type 0 where
   pub values : Agree ys (c .values)
   pub formulas : Expands ys (c .formulas)
 
 -- a formula by the second kind, the first being another
-pub not-first : (b : Bool) (k l : Kind) → (k ≡ AFormula → ⊥) → elim b [ true ↦ k | false ↦ l ] ≡ AFormula → l ≡ AFormula
+pub not-first : (b : Bool) (k l : ExprType) → (k ≡ AFormula → ⊥) → elim b [ true ↦ k | false ↦ l ] ≡ AFormula → l ≡ AFormula
 not-first true k l h e = absurd (h e)
 not-first false k l h e = e
 
 -- a number's name is no formula
-number-formula : (b : Bool) (l : Kind) (r : Result Formula) → (l ≡ AFormula → Reaches Any r) → elim b [ true ↦ ANumber | false ↦ l ] ≡ AFormula
+number-formula : (b : Bool) (l : ExprType) (r : Result Formula) → (l ≡ AFormula → Reaches Any r) → elim b [ true ↦ ANumber | false ↦ l ] ≡ AFormula
     → Reaches {A = Formula} Any (elim b [ true ↦ misfit | false ↦ r ])
 number-formula true l r h e = apart ANumber AFormula refl e
 number-formula false l r h e = h e
@@ -70,19 +70,19 @@ serves-number : (ys : Typings) (c : Context) (i : Token) (n : ℕ) → Serves ys
 serves-number ys c i n h =
     record {
       values = agree-number ys (c .values) i n (h .values);
-      formulas = λ t. number-formula (same (i .text) (t .text)) (kindIn ys t) (c .formulas t) (h .formulas t);
+      formulas = λ t. number-formula (same (i .text) (t .text)) (typeIn ys t) (c .formulas t) (h .formulas t);
     }
 
-pub formula-operand : (ys : Typings) (e : Expr) (r : Result Formula) → Taken AFormula ys e → (mistyped ys e ≡ none → kindOf ys e ≡ AFormula → Reaches Any r) → Reaches Any r
+pub formula-operand : (ys : Typings) (e : Expr) (r : Result Formula) → Taken AFormula ys e → (mistyped ys e ≡ none → typeOf ys e ≡ AFormula → Reaches Any r) → Reaches Any r
 formula-operand ys e r t h =
-    h (t .inside) (sym (isKind-equal AFormula (kindOf ys e) (unless-none (isKind AFormula (kindOf ys e)) (start e) (t .fits))))
+    h (t .inside) (sym (isKind-equal AFormula (typeOf ys e) (unless-none (isType AFormula (typeOf ys e)) (start e) (t .fits))))
 
 -- `==` and `!=`
 sides-none : (b f : Bool) (p q : ℕ) → (if b then unless f p else some q) ≡ none → f ≡ true
 sides-none true f p q e = unless-none f p e
 sides-none false f p q e = absurd (some-none e)
 
-module _ (ps : List Port) (ys : Typings) (sc : Scope) (a b : Expr) (u : mistyped ys a ≡ none → Evaluates (kindOf ys a) (value sc a)) (v : mistyped ys b ≡ none → Evaluates (kindOf ys b) (value sc b))
+module _ (ps : List Port) (ys : Typings) (sc : Scope) (a b : Expr) (u : mistyped ys a ≡ none → Evaluates (typeOf ys a) (value sc a)) (v : mistyped ys b ≡ none → Evaluates (typeOf ys b) (value sc b))
   where
     numbers-compared : (o : Comparison) → first (first (wrong ANumber ys a) (wrong ANumber ys b)) (first (mistyped ys a) (mistyped ys b)) ≡ none
         → Reaches Any (value sc a >>= λ x. value sc b >>= compared ps o x)
@@ -95,8 +95,8 @@ module _ (ps : List Port) (ys : Typings) (sc : Scope) (a b : Expr) (u : mistyped
     sides-compared o f h =
         let w = first-left (wrongSides ys a b) (first (mistyped ys a) (mistyped ys b)) h in
         let m = first-right (wrongSides ys a b) (first (mistyped ys a) (mistyped ys b)) h in
-        fitting-reach ps o (value sc a) (value sc b) f (kindOf ys a) (kindOf ys b)
-        (sides-none (comparable (kindOf ys a)) (fitting (kindOf ys a) (kindOf ys b)) (start b) (start a) w)
+        fitting-reach ps o (value sc a) (value sc b) f (typeOf ys a) (typeOf ys b)
+        (sides-none (comparable (typeOf ys a)) (fitting (typeOf ys a) (typeOf ys b)) (start b) (start a) w)
         (u (first-left (mistyped ys a) (mistyped ys b) m)) (v (first-right (mistyped ys a) (mistyped ys b) m))
 
     compared-reaches : (o : Comparison) → first (wrongOperands ys (Compares o) a b) (first (mistyped ys a) (mistyped ys b)) ≡ none
@@ -116,16 +116,16 @@ window-reaches : (o : Window) (p : ℕ) (r s : Result ℕ) (q : Result Formula) 
     → Reaches Any (r >>= λ j. s >>= λ k. guard (leb j k) 11 p (q >>= λ f. Done (nexts j (chain (windowOperator o) (k - j) f))))
 window-reaches o p r s q h i l = next r _ h (λ j. next s _ i (λ k. guarded (leb j k) 11 p (λ _. omega arith) (λ _. next q _ l (λ f. done tt))))
 
-bus-named : (ys : Typings) (t : Token) (p : ℕ) (r : Result Value) → unless (isKind ABus (kindIn ys t)) p ≡ none → Evaluates (kindIn ys t) r → Evaluates ABus r
+bus-named : (ys : Typings) (t : Token) (p : ℕ) (r : Result Value) → unless (isType ABus (typeIn ys t)) p ≡ none → Evaluates (typeIn ys t) r → Evaluates ABus r
 bus-named ys t p r e h =
-    subst (λ (k : Kind). Evaluates k r) (sym (isKind-equal ABus (kindIn ys t) (unless-none (isKind ABus (kindIn ys t)) p e))) h
+    subst (λ (k : ExprType). Evaluates k r) (sym (isKind-equal ABus (typeIn ys t) (unless-none (isType ABus (typeIn ys t)) p e))) h
 
-pub expansion-reaches : (ys : Typings) (c : Context) → Serves ys c → (e : Expr) → Proper false e → mistyped ys e ≡ none → kindOf ys e ≡ AFormula → Reaches Any (expansion c e)
+pub expansion-reaches : (ys : Typings) (c : Context) → Serves ys c → (e : Expr) → Proper false e → mistyped ys e ≡ none → typeOf ys e ≡ AFormula → Reaches Any (expansion c e)
 expansion-reaches ys c v (Named t) s h k = v .formulas t k
 expansion-reaches ys c v (Numeral t) s h k = apart ANumber AFormula refl k
 expansion-reaches ys c v (Truth t b) s h k = done tt
 expansion-reaches ys c v (Index t e) s h k =
-    let p = unless (isKind ABus (kindIn ys t)) (t .at) in
+    let p = unless (isType ABus (typeIn ys t)) (t .at) in
     next _ _ (number-operand ys (c .values) (v .values) e (s .1) (taken ANumber ys e (first-right p (demanded ANumber ys e) h))) (λ i.
     next _ _ (bus-of _ (bus-named ys t (t .at) _ (first-left p (demanded ANumber ys e) h) (v .values t))) (bitAt-reaches (c .ports) i))
 expansion-reaches ys c v (Paren t e) s h k = expansion-reaches ys c v e (s .1) h k
@@ -156,7 +156,7 @@ expansion-reaches ys c v (InWindow t o n m e) s h k =
 expansion-reaches ys c v (Each t o further i m e) s h k =
     let w = taken-two ASet (bigGives o) ys (withNumber i ys) m e h in
     next _ _ (set-of _ (operand ASet ys m _ (w .0) (value-evaluates ys (c .values) (v .values) m false (s .1)))) (bigFormula-reaches o _ k (λ n.
-    formula-operand (withNumber i ys) e _ (subst (λ (l : Kind). Taken l (withNumber i ys) e) k (w .1))
+    formula-operand (withNumber i ys) e _ (subst (λ (l : ExprType). Taken l (withNumber i ys) e) k (w .1))
     (expansion-reaches (withNumber i ys) (at c i n) (serves-number ys c i n v) e (s .2))))
 expansion-reaches ys c v (Between t l u a b) s h k = apart ASet AFormula refl k
 expansion-reaches ys c v (Listed t es) s h k = apart ASet AFormula refl k

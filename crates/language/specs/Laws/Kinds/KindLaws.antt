@@ -5,7 +5,7 @@ use native.Mathlib.Omega.{arith}
 use Rattle.node.specs.Result.{Result, _>>=_}
 use Rattle.language.specs.Tree.{Expr}
 use Rattle.language.specs.Places.{start}
-use Rattle.language.specs.Types.{Kind, ANumber, ASet, AFormula, ABus, AValue, AType, Unknown, isKind, Typings, kindOf, wrong}
+use Rattle.language.specs.Types.{ExprType, ANumber, ASet, AFormula, ABus, AValue, AType, Unknown, isType, Typings, typeOf, wrong}
 use Rattle.language.specs.Values.{Value, number, set, bus, choice}
 use Rattle.language.specs.Laws.Basics.Lists.{Any}
 use Rattle.language.specs.Laws.Basics.NoPlace.{unless-none}
@@ -14,7 +14,7 @@ use Rattle.language.specs.Laws.Values.ValueKinds.{isKind-equal, IsOf, nu
 use Rattle.language.specs.Laws.Kinds.Reaching.{Reaches}
 
 -- an expression's answer is of its kind, where the kind is one of values; nothing is asked of an enumeration's name or of one that is not visible
-abbrev pub Evaluates : Kind → Result Value → Type 0
+abbrev pub Evaluates : ExprType → Result Value → Type 0
 Evaluates ANumber r = Reaches (IsOf ANumber) r
 Evaluates ASet r = Reaches (IsOf ASet) r
 Evaluates AFormula r = Reaches (IsOf AFormula) r
@@ -24,7 +24,7 @@ Evaluates AType r = Unit {0}
 Evaluates Unknown r = Unit {0}
 
 -- an answer of the kind
-pub reaches-evaluates : (k : Kind) (r : Result Value) → Reaches (IsOf k) r → Evaluates k r
+pub reaches-evaluates : (k : ExprType) (r : Result Value) → Reaches (IsOf k) r → Evaluates k r
 reaches-evaluates ANumber r h = h
 reaches-evaluates ASet r h = h
 reaches-evaluates AFormula r h = h
@@ -34,9 +34,9 @@ reaches-evaluates AType r h = tt
 reaches-evaluates Unknown r h = tt
 
 -- an operand of the kind that is demanded
-pub demanded-evaluates : (k : Kind) (ys : Typings) (e : Expr) (r : Result Value) → wrong k ys e ≡ none → Evaluates (kindOf ys e) r → Evaluates k r
+pub demanded-evaluates : (k : ExprType) (ys : Typings) (e : Expr) (r : Result Value) → wrong k ys e ≡ none → Evaluates (typeOf ys e) r → Evaluates k r
 demanded-evaluates k ys e r w h =
-    subst (λ (l : Kind). Evaluates l r) (sym (isKind-equal k (kindOf ys e) (unless-none (isKind k (kindOf ys e)) (start e) w))) h
+    subst (λ (l : ExprType). Evaluates l r) (sym (isKind-equal k (typeOf ys e) (unless-none (isType k (typeOf ys e)) (start e) w))) h
 
 -- what takes a value of a kind finds one there
 pub number-reaches : (v : Value) → IsOf ANumber v → Reaches Any (number v)

@@ -7,19 +7,19 @@ use mathlib.Core.Option.{none}
 use Rattle.language.specs.Bytes.{same}
 use Rattle.language.specs.Tokens.{Token}
 use Rattle.language.specs.Tree.{Identifier, Defined, Enumerated, OneSignal, OfWidth, OfType}
-use Rattle.language.specs.Places.{Entry, ParameterLine, DefinitionLine, DeclarationLine, FormulaLine}
+use Rattle.language.specs.Places.{TextLine, ParameterLine, DefinitionLine, DeclarationLine, FormulaLine}
 use Rattle.language.specs.Names.{Names, doubled, identifierNames, declares, over}
-use Rattle.language.specs.Types.{Kind, ANumber, AFormula, ABus, AType, Typing, Typings, kindIn, kindOf, typedValues, typedAfter}
+use Rattle.language.specs.Types.{ExprType, ANumber, AFormula, ABus, AType, Typing, Typings, typeIn, typeOf, typedValues, typedAfter}
 use Rattle.language.specs.Laws.Basics.Lists.{All}
 use Rattle.language.specs.Laws.Basics.Tests.{pick, leave, same-equal}
 use Rattle.language.specs.Laws.Values.DistinctNames.{Apart, Distinct, distinct}
 
 -- the declared names of some lines with their kinds, in the text's order
-abbrev pub typings : Typings → List Entry → Typings
+abbrev pub typings : Typings → List TextLine → Typings
 typings ys [] = []
 typings ys (ParameterLine x e ∷ ls) = record { name = x; kind = ANumber } ∷ typings (typedAfter ys (ParameterLine x e)) ls
 typings ys (DefinitionLine (Defined x e) ∷ ls) =
-    record { name = x; kind = kindOf ys e } ∷ typings (typedAfter ys (DefinitionLine (Defined x e))) ls
+    record { name = x; kind = typeOf ys e } ∷ typings (typedAfter ys (DefinitionLine (Defined x e))) ls
 typings ys (DefinitionLine (Enumerated x is) ∷ ls) =
     record { name = x; kind = AType } ∷ typedValues is (typings (typedAfter ys (DefinitionLine (Enumerated x is))) ls)
 typings ys (DeclarationLine (OneSignal x) ∷ ls) = record { name = x; kind = AFormula } ∷ typings ys ls
@@ -36,7 +36,7 @@ unfolding namesOf
 names-of-values [] ys = refl
 names-of-values (i ∷ is) ys = ap (i .name ∷_) (names-of-values is ys)
 
-names-declared : (ys : Typings) (ls : List Entry) → namesOf (typings ys ls) ≡ over declares ls
+names-declared : (ys : Typings) (ls : List TextLine) → namesOf (typings ys ls) ≡ over declares ls
 unfolding namesOf
 names-declared ys [] = refl
 names-declared ys (ParameterLine x e ∷ ls) = ap (x ∷_) (names-declared (typedAfter ys (ParameterLine x e)) ls)
@@ -50,26 +50,26 @@ names-declared ys (DeclarationLine (OfType u x) ∷ ls) = ap (x ∷_) (names-dec
 names-declared ys (FormulaLine e ∷ ls) = names-declared ys ls
 
 -- g gives the kind of every name with these bytes
-abbrev pub Knows : (Token → Kind) → Typing → Type 0
+abbrev pub Knows : (Token → ExprType) → Typing → Type 0
 Knows g y = (t : Token) → same (y .name .text) (t .text) ≡ true → g t ≡ y .kind
 
 -- a name that is another's is not a third that is apart from it
 third : (a b c : List ℕ) → same a b ≡ false → same b c ≡ true → same a c ≡ false
 third a b c d e = subst (λ (s : List ℕ). same a s ≡ false) (same-equal b c e) d
 
-known : (ys : Typings) → Distinct (namesOf ys) → All (Knows (kindIn ys)) ys
+known : (ys : Typings) → Distinct (namesOf ys) → All (Knows (typeIn ys)) ys
 unfolding namesOf
 known [] d = tt
 known (y ∷ ys) d =
-    (λ t e. pick (same (y .name .text) (t .text)) (y .kind) (kindIn ys t) e, later ys (d .0) (known ys (d .1)))
+    (λ t e. pick (same (y .name .text) (t .text)) (y .kind) (typeIn ys t) e, later ys (d .0) (known ys (d .1)))
   where
-    later : (zs : Typings) → All (Apart (y .name)) (namesOf zs) → All (Knows (kindIn ys)) zs → All (Knows (kindIn (y ∷ ys))) zs
+    later : (zs : Typings) → All (Apart (y .name)) (namesOf zs) → All (Knows (typeIn ys)) zs → All (Knows (typeIn (y ∷ ys))) zs
     later [] a k = tt
     later (z ∷ zs) a k = (
-      λ t e. leave (same (y .name .text) (t .text)) (y .kind) (kindIn ys t) (third (y .name .text) (z .name .text) (t .text) (a .0) e) ∙ k .0 t e,
+      λ t e. leave (same (y .name .text) (t .text)) (y .kind) (typeIn ys t) (third (y .name .text) (z .name .text) (t .text) (a .0) e) ∙ k .0 t e,
       later zs (a .1) (k .1),
     )
 
 -- without refusal 7 the declared kinds are known
-pub declared-known : (ys : Typings) (ls : List Entry) → doubled (over declares ls) ≡ none → All (Knows (kindIn (typings ys ls))) (typings ys ls)
+pub declared-known : (ys : Typings) (ls : List TextLine) → doubled (over declares ls) ≡ none → All (Knows (typeIn (typings ys ls))) (typings ys ls)
 declared-known ys ls e = known (typings ys ls) (distinct (namesOf (typings ys ls)) (subst (λ (ns : Names). doubled ns ≡ none) (sym (names-declared ys ls)) e))

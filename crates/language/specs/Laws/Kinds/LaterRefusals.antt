@@ -13,14 +13,14 @@ use Rattle.language.specs.Tokens.{Token}
 use Rattle.language.specs.Tree.{Part, Spec}
 use Rattle.language.specs.Places.{definitionLines, mainLines, allLines}
 use Rattle.language.specs.Names.{doubled, declares, declaresSignal, over, again, nowhere, walkLines, declaredAgain}
-use Rattle.language.specs.Types.{Kind, Typings, kindIn, typedSignals, wrongType}
+use Rattle.language.specs.Types.{ExprType, Typings, typeIn, typedSignals, wrongType}
 use Rattle.language.specs.Parsing.{parsed}
 use Rattle.language.specs.Declared.{identifiers, waiting, Port, inputs, outputs, Declarations, declarations}
 use Rattle.language.specs.Numbering.{inOrder, signalList}
 use Rattle.language.specs.Lines.{Line, Written, Implied, implied, lines}
 use Rattle.language.specs.Expansion.{Context, atSignals, defineAll, expandLine, expandSection, expand}
 use Rattle.language.specs.Shifting.{adapted}
-use Rattle.language.specs.Reading.{converted, meant}
+use Rattle.language.specs.Reading.{specExpansion, textExpansion}
 use Rattle.language.specs.Laws.Basics.Lists.{All, Any, all-any}
 use Rattle.language.specs.Laws.Basics.NoPlace.{first-left}
 use Rattle.language.specs.Laws.Basics.Results.{Answers, done, guarded, placed, bind, weaken, refusal-of, gathered}
@@ -51,8 +51,8 @@ module _ (x : Spec) (proper : ProperSpec x) (once : declaredAgain x ≡ none) (t
   before : Typings
   before = typedSignals (allLines x)
 
-  kinds : Token → Kind
-  kinds = kindIn (typings (typedSignals (allLines x)) (allLines x))
+  kinds : Token → ExprType
+  kinds = typeIn (typings (typedSignals (allLines x)) (allLines x))
 
   constantly : Typings
   constantly = typedParameters (typedSignals (allLines x)) (x .parameters)
@@ -116,27 +116,27 @@ Later n = (11 ≤ n) × (n ≤ 16) × (n ≡ 14 → ⊥)
 later : {A : Type 0} {Q : A → Type 0} (r : Result A) → Reaches Q r → Answers (λ n p. Later n) Q r
 later r h = weaken r (λ n p l. omega arith) (λ a q. q) h
 
-converted-later : (x : Spec) → ProperSpec x → declaredAgain x ≡ none → wrongType x ≡ none → Answers (λ n p. Later n) Any (converted x)
-unfolding converted
+converted-later : (x : Spec) → ProperSpec x → declaredAgain x ≡ none → wrongType x ≡ none → Answers (λ n p. Later n) Any (specExpansion x)
+unfolding specExpansion
 converted-later x s o w =
     bind (declarations x) _ (later _ (declarations-reach x s o w)) (λ d k. bind (expand x d (lines x d)) _ (later _ (expand-reaches x s o w d k)) (λ f u.
     placed 15 _ (λ p e. omega arith)
     (guarded (leb (size (adapted (x .semantics) (x .target) (signalList (inOrder d)) f)) maxNodes) 16 0 (λ _. omega arith) (λ _. done tt))))
 
-pub converted-refused : (x : Spec) → ProperSpec x → declaredAgain x ≡ none → wrongType x ≡ none → (n p : ℕ) → converted x ≡ Refused n p → Later n
+pub converted-refused : (x : Spec) → ProperSpec x → declaredAgain x ≡ none → wrongType x ≡ none → (n p : ℕ) → specExpansion x ≡ Refused n p → Later n
 converted-refused x s o w n p e = refusal-of e (converted-later x s o w)
 
 -- a parsed text is refused by 11 to 16 only, and never by 14
-pub parsed-refused : (text : List ℕ) (x : Spec) → parsed text ≡ Done x → (n p : ℕ) → converted x ≡ Refused n p → Later n
+pub parsed-refused : (text : List ℕ) (x : Spec) → parsed text ≡ Done x → (n p : ℕ) → specExpansion x ≡ Refused n p → Later n
 parsed-refused text x e = let w = parses e .formed in converted-refused x (parsed-proper text e) (w .distinct) (w .typed)
 
-refused-first : (n p : ℕ) → n ≤ 10 → (r : Result Spec) → ((x : Spec) → r ≡ Done x → converted x ≡ Refused n p → Later n) → r >>= converted ≡ Refused n p
+refused-first : (n p : ℕ) → n ≤ 10 → (r : Result Spec) → ((x : Spec) → r ≡ Done x → specExpansion x ≡ Refused n p → Later n) → r >>= specExpansion ≡ Refused n p
     → r ≡ Refused n p
 unfolding _>>=_
 refused-first n p l (Done x) f h = let late = f x refl h in absurd (omega arith)
 refused-first n p l (Refused m q) f h = cc
 
 -- so a refusal by 1 to 10 is one of the text's form, never met while working it out
-pub refused-while-parsing : (text : List ℕ) (n p : ℕ) → meant text ≡ Refused n p → n ≤ 10 → parsed text ≡ Refused n p
-unfolding meant
+pub refused-while-parsing : (text : List ℕ) (n p : ℕ) → textExpansion text ≡ Refused n p → n ≤ 10 → parsed text ≡ Refused n p
+unfolding textExpansion
 refused-while-parsing text n p e l = refused-first n p l (parsed text) (λ x h. parsed-refused text x h n p) e

@@ -5,8 +5,8 @@ use mathlib.Core.Option.{none}
 use mathlib.Core.Bool.{false}
 use Rattle.language.specs.Tokens.{Token}
 use Rattle.language.specs.Tree.{Expr, Definition, Defined, Enumerated, Parameter, Declaration, OneSignal, OfWidth, OfType, Part, Subsection, Inputs, Outputs, Lines}
-use Rattle.language.specs.Places.{Entry, ParameterLine, DefinitionLine, DeclarationLine, FormulaLine, parameterLines, definitionLines, declarationLines, formulaLines, mainLines}
-use Rattle.language.specs.Types.{Kind, ANumber, AFormula, ABus, Typings, mistypedLine, mistypedLines, typedAfter}
+use Rattle.language.specs.Places.{TextLine, ParameterLine, DefinitionLine, DeclarationLine, FormulaLine, parameterLines, definitionLines, declarationLines, formulaLines, mainLines}
+use Rattle.language.specs.Types.{ExprType, ANumber, AFormula, ABus, Typings, mistypedLine, mistypedLines, typedAfter}
 use Rattle.language.specs.Declared.{inputs, outputs}
 use Rattle.language.specs.Lines.{Line, Written, Implied, writtenLines}
 use Rattle.language.specs.Laws.Basics.Lists.{All, all-append}
@@ -17,14 +17,14 @@ use Rattle.language.specs.Laws.Kinds.KnownKinds.{typings, Knows}
 use Rattle.language.specs.Laws.Kinds.DefinitionKinds.{values-right, typedThrough}
 
 -- the two facts about the lines from here on
-pub record Passed (g : Token → Kind) (ys : Typings) (ls : List Entry) : Type 0 where
+pub record Passed (g : Token → ExprType) (ys : Typings) (ls : List TextLine) : Type 0 where
   pub known : All (Knows g) (typings ys ls)
   pub fitting : mistypedLines ys ls ≡ none
 
-after-line : (ys : Typings) (l : Entry) (ls : List Entry) → mistypedLines ys (l ∷ ls) ≡ none → mistypedLines (typedAfter ys l) ls ≡ none
+after-line : (ys : Typings) (l : TextLine) (ls : List TextLine) → mistypedLines ys (l ∷ ls) ≡ none → mistypedLines (typedAfter ys l) ls ≡ none
 after-line ys l ls m = first-right (mistypedLine ys l) (mistypedLines (typedAfter ys l) ls) m
 
-at-line : (ys : Typings) (l : Entry) (ls : List Entry) → mistypedLines ys (l ∷ ls) ≡ none → mistypedLine ys l ≡ none
+at-line : (ys : Typings) (l : TextLine) (ls : List TextLine) → mistypedLines ys (l ∷ ls) ≡ none → mistypedLine ys l ≡ none
 at-line ys l ls m = first-left (mistypedLine ys l) (mistypedLines (typedAfter ys l) ls) m
 
 abbrev pub typedParameters : Typings → List Parameter → Typings
@@ -39,20 +39,20 @@ LineFits ys (Implied p) = Unit {0}
 abbrev pub SectionFits : Typings → Part × List Line → Type 0
 SectionFits ys s = All (LineFits ys) (s .1)
 
-module _ (g : Token → Kind) where
-  pub passed-parameter : (ys : Typings) (p : Parameter) (ls : List Entry) → Passed g ys (ParameterLine (p .name) (p .value) ∷ ls)
+module _ (g : Token → ExprType) where
+  pub passed-parameter : (ys : Typings) (p : Parameter) (ls : List TextLine) → Passed g ys (ParameterLine (p .name) (p .value) ∷ ls)
       → Passed g (typedAfter ys (ParameterLine (p .name) (p .value))) ls
   passed-parameter ys p ls h = record { known = h .known .1; fitting = after-line ys (ParameterLine (p .name) (p .value)) ls (h .fitting) }
 
-  pub parameter-taken : (ys : Typings) (p : Parameter) (ls : List Entry) → Passed g ys (ParameterLine (p .name) (p .value) ∷ ls) → Taken ANumber ys (p .value)
+  pub parameter-taken : (ys : Typings) (p : Parameter) (ls : List TextLine) → Passed g ys (ParameterLine (p .name) (p .value) ∷ ls) → Taken ANumber ys (p .value)
   parameter-taken ys p ls h = taken ANumber ys (p .value) (at-line ys (ParameterLine (p .name) (p .value)) ls (h .fitting))
 
-  pub passed-parameters : (ps : List Parameter) (ys : Typings) (ls : List Entry) → Passed g ys (parameterLines ps ls) → Passed g (typedParameters ys ps) ls
+  pub passed-parameters : (ps : List Parameter) (ys : Typings) (ls : List TextLine) → Passed g ys (parameterLines ps ls) → Passed g (typedParameters ys ps) ls
   passed-parameters [] ys ls h = h
   passed-parameters (p ∷ ps) ys ls h =
       passed-parameters ps (typedAfter ys (ParameterLine (p .name) (p .value))) ls (passed-parameter ys p (parameterLines ps ls) h)
 
-  pub passed-definitions : (ds : List Definition) (ys : Typings) (ls : List Entry) → Passed g ys (definitionLines ds ls) → Passed g (typedThrough ys ds) ls
+  pub passed-definitions : (ds : List Definition) (ys : Typings) (ls : List TextLine) → Passed g ys (definitionLines ds ls) → Passed g (typedThrough ys ds) ls
   passed-definitions [] ys ls h = h
   passed-definitions (Defined x e ∷ ds) ys ls h =
       let l = DefinitionLine (Defined x e) in
@@ -68,11 +68,11 @@ module _ (g : Token → Kind) where
   DeclarationFits ys (OfWidth x e) = Knows g (record { name = x; kind = ABus }) × Taken ANumber ys e × Proper false e
   DeclarationFits ys (OfType u x) = Knows g (record { name = x; kind = ABus })
 
-  pub record Declares (ys : Typings) (ds : List Declaration) (ls : List Entry) : Type 0 where
+  pub record Declares (ys : Typings) (ds : List Declaration) (ls : List TextLine) : Type 0 where
     pub fits : All (DeclarationFits ys) ds
     pub passed : Passed g ys ls
 
-  pub passed-declarations : (ds : List Declaration) (ys : Typings) (ls : List Entry) → All ProperDeclaration ds → Passed g ys (declarationLines ds ls) → Declares ys ds ls
+  pub passed-declarations : (ds : List Declaration) (ys : Typings) (ls : List TextLine) → All ProperDeclaration ds → Passed g ys (declarationLines ds ls) → Declares ys ds ls
   passed-declarations [] ys ls s h = record { fits = tt; passed = h }
   passed-declarations (OneSignal x ∷ ds) ys ls s h =
       let r = passed-declarations ds ys ls (s .1)
@@ -87,11 +87,11 @@ module _ (g : Token → Kind) where
       (record { known = h .known .1; fitting = after-line ys (DeclarationLine (OfType u x)) (declarationLines ds ls) (h .fitting) }) in
       record { fits = (h .known .0, r .fits); passed = r .passed }
 
-  pub record Formulates (ys : Typings) (es : List Expr) (ls : List Entry) : Type 0 where
+  pub record Formulates (ys : Typings) (es : List Expr) (ls : List TextLine) : Type 0 where
     pub fits : All (LineFits ys) (map Written es)
     pub passed : Passed g ys ls
 
-  passed-formulas : (es : List Expr) (ys : Typings) (ls : List Entry) → All (Proper false) es → Passed g ys (formulaLines es ls) → Formulates ys es ls
+  passed-formulas : (es : List Expr) (ys : Typings) (ls : List TextLine) → All (Proper false) es → Passed g ys (formulaLines es ls) → Formulates ys es ls
   passed-formulas [] ys ls s h = record { fits = tt; passed = h }
   passed-formulas (e ∷ es) ys ls s h =
       let r = passed-formulas es ys ls (s .1) (record { known = h .known; fitting = after-line ys (FormulaLine e) (formulaLines es ls) (h .fitting) }) in

@@ -9,7 +9,7 @@ use Rattle.node.specs.Ltl.{Formula}
 use Rattle.node.specs.Result.{Result, Done, _>>=_}
 use Rattle.language.specs.Tokens.{Token}
 use Rattle.language.specs.Operators.{Arithmetic, Plus, Minus, Times, Divide, Modulo, Measure, Size, Min, Max, Comparison, Equal, Unequal, Big, BigSum, BigProduct, BigCap, BigCup, BigAnd, BigOr}
-use Rattle.language.specs.Types.{Kind, ANumber, ASet, AFormula, ABus, AValue, AType, Unknown, bigGives, fitting, isKind}
+use Rattle.language.specs.Types.{ExprType, ANumber, ASet, AFormula, ABus, AValue, AType, Unknown, bigGives, fitting, isType}
 use Rattle.language.specs.Sets.{union}
 use Rattle.language.specs.Values.{Value, Number, Set, Logic, Bus, Unsized, Choice, Sized, calculate, measure, limited, range, between, big}
 use Rattle.language.specs.Declared.{Port}
@@ -101,7 +101,7 @@ module _ (ps : List Port) (o : Comparison) where
   choice-compares f (Choice v) y h i = next _ _ (bus-reaches y i) (λ b. f b v)
 
   module _ (r q : Result Value) where
-    both-sides : (k l : Kind) → Reaches (IsOf k) r → Reaches (IsOf l) q → ((x y : Value) → IsOf k x → IsOf l y → Reaches Any (compared ps o x y))
+    both-sides : (k l : ExprType) → Reaches (IsOf k) r → Reaches (IsOf l) q → ((x y : Value) → IsOf k x → IsOf l y → Reaches Any (compared ps o x y))
         → Reaches Any (r >>= λ x. q >>= compared ps o x)
     both-sides k l h i f = bind r _ h (λ x a. bind q _ i (λ y b. f x y a b))
 
@@ -109,13 +109,13 @@ module _ (ps : List Port) (o : Comparison) where
     numbers-reach h i = both-sides ANumber ANumber h i numbers-compare
 
     -- the right operand's kind, from the left one's
-    beside : (k l : Kind) → isKind k l ≡ true → Evaluates l q → Evaluates k q
-    beside k l e i = subst (λ (m : Kind). Evaluates m q) (sym (isKind-equal k l e)) i
+    beside : (k l : ExprType) → isType k l ≡ true → Evaluates l q → Evaluates k q
+    beside k l e i = subst (λ (m : ExprType). Evaluates m q) (sym (isKind-equal k l e)) i
 
     only : (b : Bool) → (b || false) ≡ true → b ≡ true
     only b e = or-cases b false (λ z. z) (λ z. absurd (false≢true z)) e
 
-    pub fitting-reach : ((b : Sized) (v : List Token) → Reaches Any (against ps o b v)) → (k l : Kind) → fitting k l ≡ true → Evaluates k r → Evaluates l q
+    pub fitting-reach : ((b : Sized) (v : List Token) → Reaches Any (against ps o b v)) → (k l : ExprType) → fitting k l ≡ true → Evaluates k r → Evaluates l q
         → Reaches Any (r >>= λ x. q >>= compared ps o x)
     fitting-reach f ANumber l e h i = numbers-reach h (beside ANumber l (only _ (only _ e)) i)
     fitting-reach f ASet l e h i = absurd (false≢true e)

@@ -8,7 +8,7 @@ use Rattle.node.specs.Result.{Result, Done, _>>=_}
 use Rattle.language.specs.Bytes.{same}
 use Rattle.language.specs.Tokens.{Token}
 use Rattle.language.specs.Tree.{Declaration}
-use Rattle.language.specs.Types.{Kind, ANumber, ASet, AFormula, ABus, AValue, AType, Unknown, isKind, Typing, Typings, kindIn}
+use Rattle.language.specs.Types.{ExprType, ANumber, ASet, AFormula, ABus, AValue, AType, Unknown, isType, Typing, Typings, typeIn}
 use Rattle.language.specs.Values.{Value}
 use Rattle.language.specs.Declared.{Declared, Constant, Single, BusOf, Identifies, WaitingBus, Table, find, valueAt, declared, Port, asDeclared}
 use Rattle.language.specs.Expansion.{signalOf}
@@ -24,7 +24,7 @@ use Rattle.language.specs.Laws.Kinds.ExpansionKinds.{Expands}
 use Rattle.language.specs.Laws.Kinds.KnownKinds.{Knows}
 use Rattle.language.specs.Laws.Kinds.DefinitionKinds.{found, Covers}
 
-abbrev pub declaredKind : Declared → Kind
+abbrev pub declaredKind : Declared → ExprType
 declaredKind (Constant n) = ANumber
 declaredKind Single = AFormula
 declaredKind (BusOf n) = ABus
@@ -49,36 +49,36 @@ listed [] x = false
 listed (d ∷ ds) x = same (declaredName d .text) x || listed ds x
 
 -- is the kind that of a visible name?
-abbrev pub seen : Kind → Bool
-seen k = not (isKind Unknown k)
+abbrev pub seen : ExprType → Bool
+seen k = not (isType Unknown k)
 
-abbrev pub EntryKnown : (Token → Kind) → List ℕ × Declared → Type 0
+abbrev pub EntryKnown : (Token → ExprType) → List ℕ × Declared → Type 0
 EntryKnown g e = (t : Token) → same (e .0) (t .text) ≡ true → g t ≡ declaredKind (e .1)
 
-abbrev pub Respects : (Token → Kind) → Typings → Type 0
-Respects g ys = (t : Token) → seen (kindIn ys t) ≡ true → g t ≡ kindIn ys t
+abbrev pub Respects : (Token → ExprType) → Typings → Type 0
+Respects g ys = (t : Token) → seen (typeIn ys t) ≡ true → g t ≡ typeIn ys t
 
 -- g the declared kinds, I names that must stay in the table
-pub record Standing (g : Token → Kind) (I : Table) (ys : Typings) (d : Table) : Type 0 where
+pub record Standing (g : Token → ExprType) (I : Table) (ys : Typings) (d : Table) : Type 0 where
   pub sound : All (EntryKnown g) d
   pub respects : Respects g ys
-  pub present : (t : Token) → seen (kindIn ys t) ≡ true → found d (t .text) ≡ true
+  pub present : (t : Token) → seen (typeIn ys t) ≡ true → found d (t .text) ≡ true
   pub kept : (t : Token) → found I (t .text) ≡ true → found d (t .text) ≡ true
 
 -- one more entry
-respects-entry : (b : Bool) (k l m : Kind) → (b ≡ true → m ≡ k) → (seen l ≡ true → m ≡ l) → seen (elim b [ true ↦ k | false ↦ l ]) ≡ true
+respects-entry : (b : Bool) (k l m : ExprType) → (b ≡ true → m ≡ k) → (seen l ≡ true → m ≡ l) → seen (elim b [ true ↦ k | false ↦ l ]) ≡ true
     → m ≡ elim b [ true ↦ k | false ↦ l ]
 respects-entry true k l m h i e = h refl
 respects-entry false k l m h i e = i e
 
-pub respects-add : (g : Token → Kind) (ys : Typings) (y : Typing) → Knows g y → Respects g ys → Respects g (y ∷ ys)
-respects-add g ys y k r t = respects-entry (same (y .name .text) (t .text)) (y .kind) (kindIn ys t) (g t) (k t) (r t)
+pub respects-add : (g : Token → ExprType) (ys : Typings) (y : Typing) → Knows g y → Respects g ys → Respects g (y ∷ ys)
+respects-add g ys y k r t = respects-entry (same (y .name .text) (t .text)) (y .kind) (typeIn ys t) (g t) (k t) (r t)
 
-present-entry : (b : Bool) (k l : Kind) (f : Bool) → (seen l ≡ true → f ≡ true) → seen (elim b [ true ↦ k | false ↦ l ]) ≡ true → (b || f) ≡ true
+present-entry : (b : Bool) (k l : ExprType) (f : Bool) → (seen l ≡ true → f ≡ true) → seen (elim b [ true ↦ k | false ↦ l ]) ≡ true → (b || f) ≡ true
 present-entry true k l f h e = refl
 present-entry false k l f h e = h e
 
-module _ (g : Token → Kind) (I : Table) (ys : Typings) (d : Table) where
+module _ (g : Token → ExprType) (I : Table) (ys : Typings) (d : Table) where
   -- a parameter, with its type
   pub standing-typed : (x : Token) (v : Declared) → Knows g (record { name = x; kind = declaredKind v }) → Standing g I ys d
       → Standing g I (record { name = x; kind = declaredKind v } ∷ ys) ((x .text, v) ∷ d)
@@ -86,7 +86,7 @@ module _ (g : Token → Kind) (I : Table) (ys : Typings) (d : Table) where
       record {
         sound = (k, s .sound);
         respects = respects-add g ys (record { name = x; kind = declaredKind v }) k (s .respects);
-        present = λ t. present-entry (same (x .text) (t .text)) (declaredKind v) (kindIn ys t) (found d (t .text)) (s .present t);
+        present = λ t. present-entry (same (x .text) (t .text)) (declaredKind v) (typeIn ys t) (found d (t .text)) (s .present t);
         kept = λ t e. or-right (same (x .text) (t .text)) (found d (t .text)) (s .kept t e);
       }
 
@@ -101,22 +101,22 @@ module _ (g : Token → Kind) (I : Table) (ys : Typings) (d : Table) where
       }
 
 -- what is found is of its kind
-finds-entry : (b : Bool) (l : Kind) (w : Declared) (f : Bool) (r : Result Declared) → (b ≡ true → l ≡ declaredKind w)
+finds-entry : (b : Bool) (l : ExprType) (w : Declared) (f : Bool) (r : Result Declared) → (b ≡ true → l ≡ declaredKind w)
     → (f ≡ true → Reaches (λ v. l ≡ declaredKind v) r) → (b || f) ≡ true → Reaches {A = Declared} (λ v. l ≡ declaredKind v) (elim b [ true ↦ Done w | false ↦ r ])
 finds-entry true l w f r h i e = done (h refl)
 finds-entry false l w f r h i e = i e
 
-find-reaches : (g : Token → Kind) (d : Table) → All (EntryKnown g) d → (t : Token) → found d (t .text) ≡ true → Reaches (λ v. g t ≡ declaredKind v) (find d (t .text))
+find-reaches : (g : Token → ExprType) (d : Table) → All (EntryKnown g) d → (t : Token) → found d (t .text) ≡ true → Reaches (λ v. g t ≡ declaredKind v) (find d (t .text))
 find-reaches g [] s t f = absurd (false≢true f)
 find-reaches g (e ∷ d) s t f =
     finds-entry (same (e .0) (t .text)) (g t) (e .1) (found d (t .text)) (find d (t .text)) (s .0 t) (find-reaches g d (s .1) t) f
 
-pub covers-table : (g : Token → Kind) (d : Table) → All (EntryKnown g) d → Covers g (λ t. found d (t .text)) (declared d)
+pub covers-table : (g : Token → ExprType) (d : Table) → All (EntryKnown g) d → Covers g (λ t. found d (t .text)) (declared d)
 covers-table g d s t f =
     reaches-evaluates (g t) _ (bind (find d (t .text)) _ (find-reaches g d s t f)
     (λ v h. done (valueAt-kind t v ∙ sym h)))
 
-evaluates-seen : (k : Kind) (r : Result Value) → (seen k ≡ true → Evaluates k r) → Evaluates k r
+evaluates-seen : (k : ExprType) (r : Result Value) → (seen k ≡ true → Evaluates k r) → Evaluates k r
 evaluates-seen ANumber r h = h refl
 evaluates-seen ASet r h = h refl
 evaluates-seen AFormula r h = h refl
@@ -125,11 +125,11 @@ evaluates-seen AValue r h = h refl
 evaluates-seen AType r h = tt
 evaluates-seen Unknown r h = tt
 
-module _ (g : Token → Kind) (I : Table) (ys : Typings) (d : Table) where
+module _ (g : Token → ExprType) (I : Table) (ys : Typings) (d : Table) where
   pub standing-agree : Standing g I ys d → Agree ys (declared d)
   standing-agree s t =
-      evaluates-seen (kindIn ys t) (declared d t)
-      (λ e. subst (λ (k : Kind). Evaluates k (declared d t)) (s .respects t e) (covers-table g d (s .sound) t (s .present t e)))
+      evaluates-seen (typeIn ys t) (declared d t)
+      (λ e. subst (λ (k : ExprType). Evaluates k (declared d t)) (s .respects t e) (covers-table g d (s .sound) t (s .present t e)))
 
 signal-reaches : (ps : List Port) (t : Token) (v : Declared) → AFormula ≡ declaredKind v → Reaches Any (signalOf ps t v)
 signal-reaches ps t (Constant n) e = apart AFormula ANumber refl e
@@ -139,7 +139,7 @@ signal-reaches ps t (Identifies v) e = apart AFormula AValue refl e
 signal-reaches ps t WaitingBus e = apart AFormula ABus refl e
 
 -- a declared name that is a formula is a signal
-pub standing-expands : (ps : List Port) (g : Token → Kind) (I : Table) (ys : Typings) (d : Table) → Standing g I ys d → Expands ys (λ t. find d (t .text) >>= signalOf ps t)
+pub standing-expands : (ps : List Port) (g : Token → ExprType) (I : Table) (ys : Typings) (d : Table) → Standing g I ys d → Expands ys (λ t. find d (t .text) >>= signalOf ps t)
 standing-expands ps g I ys d s t e =
-    let n : seen (kindIn ys t) ≡ true = subst (λ (k : Kind). seen k ≡ true) (sym e) refl in
+    let n : seen (typeIn ys t) ≡ true = subst (λ (k : ExprType). seen k ≡ true) (sym e) refl in
     bind (find d (t .text)) (signalOf ps t) (find-reaches g d (s .sound) t (s .present t n)) (λ v h. signal-reaches ps t v (sym (s .respects t n ∙ e) ∙ h))

@@ -25,7 +25,7 @@ use Rattle.language.specs.Shifting.{adapted}
 use Rattle.language.specs.Meaning.{Word, readAs, SpecMeans, OfSpec, TextMeans}
 use Rattle.language.specs.Numbered.{numbered}
 use Rattle.language.specs.Listed.{Once, ListedAs}
-use Rattle.language.specs.Reading.{Converted, converted, meant}
+use Rattle.language.specs.Reading.{NumberedFormula, specExpansion, textExpansion}
 use Rattle.language.specs.Laws.Basics.Lists.{All}
 use Rattle.language.specs.Laws.Basics.NoPlace.{refuseAt-done}
 use Rattle.language.specs.Laws.Grammar.Parses.{WellFormed, parses, parsed-proper}
@@ -45,7 +45,7 @@ use Rattle.language.specs.Laws.Meaning.ShiftLaws.{adapted-below}
 use Rattle.language.specs.Laws.Meaning.ShiftedWords.{adapted-holds}
 
 -- an accepted text
-pub record Accepts (text : List ℕ) (c : Converted) : Type 0 where
+pub record Accepts (text : List ℕ) (c : NumberedFormula) : Type 0 where
   pub spec : Spec
   pub declared : Declarations
   pub parsing : parsed text ≡ Done spec
@@ -58,8 +58,8 @@ pub record Accepts (text : List ℕ) (c : Converted) : Type 0 where
   pub fewNodes : size (c .formula) ≤ maxNodes
   pub listing : c .signals ≡ signalList (inOrder declared)
 
-pub accepts : {text : List ℕ} {c : Converted} → meant text ≡ Done c → Accepts text c
-unfolding meant converted
+pub accepts : {text : List ℕ} {c : NumberedFormula} → textExpansion text ≡ Done c → Accepts text c
+unfolding textExpansion specExpansion
 accepts {text} {c} e =
     let a = bind-done (parsed text) _ e in
     let x : Spec = a .0 in
@@ -86,7 +86,7 @@ accepts {text} {c} e =
       listing = sym list;
     }
 
-module _ (text : List ℕ) (c : Converted) (e : meant text ≡ Done c) where
+module _ (text : List ℕ) (c : NumberedFormula) (e : textExpansion text ≡ Done c) where
   -- an accepted text's formula holds, in the word numbered by its signal list, at exactly the positions where the text does
   pub text-agrees : (w : Word) → Same (TextMeans text w) (Holds (c .formula) (numbered text (c .signals) w))
   text-agrees w t =

@@ -31,7 +31,7 @@ use Rattle.language.specs.Tree.{
   OfType,
   Spec,
 }
-use Rattle.language.specs.Places.{Entry, ParameterLine, DefinitionLine, DeclarationLine, FormulaLine, allLines}
+use Rattle.language.specs.Places.{TextLine, ParameterLine, DefinitionLine, DeclarationLine, FormulaLine, allLines}
 use Rattle.language.specs.Names.{Names, visible, hidden, again, walk, declares, declaresSignal, over, walkLine, walkLines, nowhere, notVisible, doubled, declaredAgain, placeOfFirst, tooMany}
 use Rattle.language.specs.Laws.Basics.Lists.{All, all-append}
 use Rattle.language.specs.Laws.Basics.Tests.{split}
@@ -72,7 +72,7 @@ module _ (n : ℕ) where
       low-walk ns (Element e es) g h = low-first n (low-walk ns e g (h .0)) (low-walk ns es g (h .1))
       low-walk ns (Range t x y z) g h = low-first n (low-walk ns x g (h .1)) (low-first n (low-walk ns y g (h .2)) (low-walk ns z g (h .3)))
 
-      low-walkLine : (ns : Names) (l : Entry) → All (At n) ns → InEntry (At n) l → Low n (walkLine used bound ns l)
+      low-walkLine : (ns : Names) (l : TextLine) → All (At n) ns → InEntry (At n) l → Low n (walkLine used bound ns l)
       low-walkLine ns (ParameterLine x e) g h = low-walk ns e g (h .1)
       low-walkLine ns (DefinitionLine (Defined x e)) g h = low-walk ns e g (h .1)
       low-walkLine ns (DefinitionLine (Enumerated x is)) g h = nowhere-low n
@@ -81,7 +81,7 @@ module _ (n : ℕ) where
       low-walkLine ns (DeclarationLine (OfType u x)) g h = low-used ns u g (h .0)
       low-walkLine ns (FormulaLine e) g h = low-walk ns e g h
 
-      low-walkLines : (ns : Names) (ls : List Entry) → All (At n) ns → All (InEntry (At n)) ls → Low n (walkLines used bound ns ls)
+      low-walkLines : (ns : Names) (ls : List TextLine) → All (At n) ns → All (InEntry (At n)) ls → Low n (walkLines used bound ns ls)
       low-walkLines ns [] g h = nowhere-low n
       low-walkLines ns (l ∷ ls) g h =
           low-first n (low-walkLine ns l g (h .0)) (low-walkLines (declares l ++ ns) ls (all-append (At n) (declares l) ns (in-declares (At n) l (h .0)) g) (h .1))

@@ -47,7 +47,7 @@ use Rattle.language.specs.Places.{
   first,
   firstIn,
   unless,
-  Entry,
+  TextLine,
   ParameterLine,
   DefinitionLine,
   DeclarationLine,
@@ -81,7 +81,7 @@ abbrev pub At : ℕ → Token → Type 0
 At n t = t .at ≤ n
 
 -- what holds of every token of a line
-abbrev pub InEntry : (Token → Type 0) → Entry → Type 0
+abbrev pub InEntry : (Token → Type 0) → TextLine → Type 0
 InEntry P (ParameterLine x e) = P x × InExpr P e
 InEntry P (DefinitionLine d) = InDefinition P d
 InEntry P (DeclarationLine d) = InDeclaration P d
@@ -130,7 +130,7 @@ module _ (n : ℕ) where
   low-deep : (e : Expr) → InExpr (At n) e → Low n (deep e)
   low-deep e h = low-unless (leb (levels e) maxLevels) (start e) (low-start e h)
 
-  low-deepLine : (l : Entry) → InEntry (At n) l → Low n (deepLine l)
+  low-deepLine : (l : TextLine) → InEntry (At n) l → Low n (deepLine l)
   low-deepLine (ParameterLine x e) h = low-deep e (h .1)
   low-deepLine (DefinitionLine (Defined x e)) h = low-deep e (h .1)
   low-deepLine (DefinitionLine (Enumerated x is)) h = nowhere-low
@@ -141,19 +141,19 @@ module _ (n : ℕ) where
 
 -- the lines of a tree hold its tokens
 module _ (P : Token → Type 0) where
-  in-parameterLines : (ps : List Parameter) (ls : List Entry) → All (InParameter P) ps → All (InEntry P) ls → All (InEntry P) (parameterLines ps ls)
+  in-parameterLines : (ps : List Parameter) (ls : List TextLine) → All (InParameter P) ps → All (InEntry P) ls → All (InEntry P) (parameterLines ps ls)
   in-parameterLines [] ls h g = g
   in-parameterLines (p ∷ ps) ls h g = (h .0, in-parameterLines ps ls (h .1) g)
 
-  in-definitionLines : (ds : List Definition) (ls : List Entry) → All (InDefinition P) ds → All (InEntry P) ls → All (InEntry P) (definitionLines ds ls)
+  in-definitionLines : (ds : List Definition) (ls : List TextLine) → All (InDefinition P) ds → All (InEntry P) ls → All (InEntry P) (definitionLines ds ls)
   in-definitionLines [] ls h g = g
   in-definitionLines (d ∷ ds) ls h g = (h .0, in-definitionLines ds ls (h .1) g)
 
-  in-declarationLines : (ds : List Declaration) (ls : List Entry) → All (InDeclaration P) ds → All (InEntry P) ls → All (InEntry P) (declarationLines ds ls)
+  in-declarationLines : (ds : List Declaration) (ls : List TextLine) → All (InDeclaration P) ds → All (InEntry P) ls → All (InEntry P) (declarationLines ds ls)
   in-declarationLines [] ls h g = g
   in-declarationLines (d ∷ ds) ls h g = (h .0, in-declarationLines ds ls (h .1) g)
 
-  in-formulaLines : (es : List Expr) (ls : List Entry) → All (InExpr P) es → All (InEntry P) ls → All (InEntry P) (formulaLines es ls)
+  in-formulaLines : (es : List Expr) (ls : List TextLine) → All (InExpr P) es → All (InEntry P) ls → All (InEntry P) (formulaLines es ls)
   in-formulaLines [] ls h g = g
   in-formulaLines (e ∷ es) ls h g = (h .0, in-formulaLines es ls (h .1) g)
 
@@ -172,7 +172,7 @@ module _ (P : Token → Type 0) where
   in-identifierNames [] h = tt
   in-identifierNames (i ∷ is) h = (h .0 .0, in-identifierNames is (h .1))
 
-  pub in-declares : (l : Entry) → InEntry P l → All P (declares l)
+  pub in-declares : (l : TextLine) → InEntry P l → All P (declares l)
   in-declares (ParameterLine x e) h = (h .0, tt)
   in-declares (DefinitionLine (Defined x e)) h = (h .0, tt)
   in-declares (DefinitionLine (Enumerated x is)) h = (h .0, in-identifierNames is (h .1))
@@ -181,13 +181,13 @@ module _ (P : Token → Type 0) where
   in-declares (DeclarationLine (OfType u x)) h = (h .1, tt)
   in-declares (FormulaLine e) h = tt
 
-  pub in-declaresSignal : (l : Entry) → InEntry P l → All P (declaresSignal l)
+  pub in-declaresSignal : (l : TextLine) → InEntry P l → All P (declaresSignal l)
   in-declaresSignal (ParameterLine x e) h = tt
   in-declaresSignal (DefinitionLine d) h = tt
   in-declaresSignal (DeclarationLine d) h = in-declares (DeclarationLine d) h
   in-declaresSignal (FormulaLine e) h = tt
 
-  pub in-over : (f : Entry → Names) (ls : List Entry) → ((l : Entry) → InEntry P l → All P (f l)) → All (InEntry P) ls → All P (over f ls)
+  pub in-over : (f : TextLine → Names) (ls : List TextLine) → ((l : TextLine) → InEntry P l → All P (f l)) → All (InEntry P) ls → All P (over f ls)
   in-over f [] g h = tt
   in-over f (l ∷ ls) g h = all-append P (f l) (over f ls) (g l (h .0)) (in-over f ls g (h .1))
 

@@ -44,7 +44,7 @@ use Rattle.language.specs.Numbering.{inOrder, signalsOf, tooManySignals,
 use Rattle.language.specs.Lines.{Line, Written, Implied, implied, lines}
 use Rattle.language.specs.Expansion.{widthIs, against, compared, bigFormula, Context, at, expansion, signalOf, atSignals, define, defineAll, expandLine, expandSection, expand}
 use Rattle.language.specs.Shifting.{adapted}
-use Rattle.language.specs.Reading.{converted, meant, reading}
+use Rattle.language.specs.Reading.{specExpansion, textExpansion, reading}
 use Rattle.language.specs.Laws.Basics.Lists.{All, Any, all-any, all-append}
 use Rattle.language.specs.Laws.Basics.Tests.{split}
 use Rattle.language.specs.Laws.Basics.Results.{done, refused, guarded, bind, refusal-of, gathered}
@@ -174,23 +174,23 @@ module _ (n : ℕ) where
   low-tooManySignals m (p ∷ ps) h =
       split (Low n) (leb (m + signalsOf p) maxSignals) (λ _. low-tooManySignals (m + signalsOf p) ps (h .1)) (λ _. here-low n (h .0))
 
-  converted-held : (x : Spec) → InSpec (At n) x → Held n Any (converted x)
-  unfolding converted
+  converted-held : (x : Spec) → InSpec (At n) x → Held n Any (specExpansion x)
+  unfolding specExpansion
   converted-held x h =
       bind _ _ (declarations-held n x h) λ d v.
       bind _ _ (expand-held x d h) λ f _.
       held-refuseAt 15 _ (low-tooManySignals 0 (inOrder d) (all-append (PortAt n) (d .inputs) (d .outputs) (v .inputs) (v .outputs)))
       (guarded (leb (size (adapted (x .semantics) (x .target) (signalList (inOrder d)) f)) maxNodes) 16 _ (λ _. omega arith) (λ _. done tt))
 
-meant-held : (text : List ℕ) → Held (length text) Any (meant text)
-unfolding meant
-meant-held text = bind (parsed text) converted (parsed-held text) (converted-held (length text))
+meant-held : (text : List ℕ) → Held (length text) Any (textExpansion text)
+unfolding textExpansion
+meant-held text = bind (parsed text) specExpansion (parsed-held text) (converted-held (length text))
 
 reading-held : (text : List ℕ) (work nodes signals : ℕ) → Held (length text) Any (reading text work nodes signals)
 unfolding reading
 reading-held text work nodes signals =
     guarded (leb workBytes work) 17 _ (λ _. omega arith)
-    (λ _. bind (meant text) _ (meant-held text) λ c _. guarded (leb (size (c .formula)) nodes && leb (length (c .signals)) signals) 18 _ (λ _. omega arith) (λ _. done tt))
+    (λ _. bind (textExpansion text) _ (meant-held text) λ c _. guarded (leb (size (c .formula)) nodes && leb (length (c .signals)) signals) 18 _ (λ _. omega arith) (λ _. done tt))
 
 -- every refused place lies in the text
 pub reading-place : (text : List ℕ) (work nodes signals number p : ℕ) → reading text work nodes signals ≡ Refused number p → p ≤ length text

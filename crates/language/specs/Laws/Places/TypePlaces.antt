@@ -33,18 +33,18 @@ use Rattle.language.specs.Tree.{
   OfType,
   Spec,
 }
-use Rattle.language.specs.Places.{start, firstIn, Entry, ParameterLine, DefinitionLine, DeclarationLine, FormulaLine, allLines}
+use Rattle.language.specs.Places.{start, firstIn, TextLine, ParameterLine, DefinitionLine, DeclarationLine, FormulaLine, allLines}
 use Rattle.language.specs.Types.{
-  Kind,
+  ExprType,
   ANumber,
   ASet,
   AFormula,
   ABus,
   AType,
-  isKind,
+  isType,
   Typings,
-  kindIn,
-  kindOf,
+  typeIn,
+  typeOf,
   bigGives,
   prefixTakes,
   withNumber,
@@ -74,15 +74,15 @@ module _ (n : ℕ) where
   abbrev OfText : Expr → Type 0
   OfText = InExpr (At n)
 
-  low-wrong : (k : Kind) (ys : Typings) (e : Expr) → OfText e → Low n (wrong k ys e)
-  low-wrong k ys e h = low-unless n (isKind k (kindOf ys e)) (start e) (low-start n e h)
+  low-wrong : (k : ExprType) (ys : Typings) (e : Expr) → OfText e → Low n (wrong k ys e)
+  low-wrong k ys e h = low-unless n (isType k (typeOf ys e)) (start e) (low-start n e h)
 
-  low-wrongBoth : (k : Kind) (ys : Typings) (a b : Expr) → OfText a → OfText b → Low n (wrongBoth k ys a b)
+  low-wrongBoth : (k : ExprType) (ys : Typings) (a b : Expr) → OfText a → OfText b → Low n (wrongBoth k ys a b)
   low-wrongBoth k ys a b h g = low-first n (low-wrong k ys a h) (low-wrong k ys b g)
 
   low-wrongSides : (ys : Typings) (a b : Expr) → OfText a → OfText b → Low n (wrongSides ys a b)
   low-wrongSides ys a b h g =
-      split (Low n) (comparable (kindOf ys a)) (λ _. low-unless n (fitting (kindOf ys a) (kindOf ys b)) (start b) (low-start n b g)) (λ _. here-low n (low-start n a h))
+      split (Low n) (comparable (typeOf ys a)) (λ _. low-unless n (fitting (typeOf ys a) (typeOf ys b)) (start b) (low-start n b g)) (λ _. here-low n (low-start n a h))
 
   low-wrongOperands : (ys : Typings) (o : Infix) (a b : Expr) → OfText a → OfText b → Low n (wrongOperands ys o a b)
   low-wrongOperands ys (Calculates o) a b h g = low-wrongBoth ANumber ys a b h g
@@ -100,7 +100,7 @@ module _ (n : ℕ) where
   low-mistyped ys (Named t) h = nowhere-low n
   low-mistyped ys (Numeral t) h = nowhere-low n
   low-mistyped ys (Truth t b) h = nowhere-low n
-  low-mistyped ys (Index t e) h = low-first n (low-unless n (isKind ABus (kindIn ys t)) (t .at) (h .0)) (low-first n (low-wrong ANumber ys e (h .1)) (low-mistyped ys e (h .1)))
+  low-mistyped ys (Index t e) h = low-first n (low-unless n (isType ABus (typeIn ys t)) (t .at) (h .0)) (low-first n (low-wrong ANumber ys e (h .1)) (low-mistyped ys e (h .1)))
   low-mistyped ys (Paren t e) h = low-mistyped ys e (h .1)
   low-mistyped ys (Prefixed t o e) h = low-first n (low-wrong (prefixTakes o) ys e (h .1)) (low-mistyped ys e (h .1))
   low-mistyped ys (Joined t o a b) h = low-first n (low-wrongOperands ys o a b (h .1) (h .2)) (low-first n (low-mistyped ys a (h .1)) (low-mistyped ys b (h .2)))
@@ -120,19 +120,19 @@ module _ (n : ℕ) where
       low-first n (low-first n (low-wrong ANumber ys x (h .1)) (low-mistyped ys x (h .1)))
       (low-first n (low-first n (low-wrong ANumber ys y (h .2)) (low-mistyped ys y (h .2))) (low-first n (low-wrong ANumber ys z (h .3)) (low-mistyped ys z (h .3))))
 
-  low-demanded : (k : Kind) (ys : Typings) (e : Expr) → OfText e → Low n (demanded k ys e)
+  low-demanded : (k : ExprType) (ys : Typings) (e : Expr) → OfText e → Low n (demanded k ys e)
   low-demanded k ys e h = low-first n (low-wrong k ys e h) (low-mistyped ys e h)
 
-  low-mistypedLine : (ys : Typings) (l : Entry) → InEntry (At n) l → Low n (mistypedLine ys l)
+  low-mistypedLine : (ys : Typings) (l : TextLine) → InEntry (At n) l → Low n (mistypedLine ys l)
   low-mistypedLine ys (ParameterLine x e) h = low-demanded ANumber ys e (h .1)
-  low-mistypedLine ys (DefinitionLine (Defined x e)) h = low-first n (low-unless n (definable (kindOf ys e)) (start e) (low-start n e (h .1))) (low-mistyped ys e (h .1))
+  low-mistypedLine ys (DefinitionLine (Defined x e)) h = low-first n (low-unless n (definable (typeOf ys e)) (start e) (low-start n e (h .1))) (low-mistyped ys e (h .1))
   low-mistypedLine ys (DefinitionLine (Enumerated x is)) h = nowhere-low n
   low-mistypedLine ys (DeclarationLine (OneSignal x)) h = nowhere-low n
   low-mistypedLine ys (DeclarationLine (OfWidth x e)) h = low-demanded ANumber ys e (h .1)
-  low-mistypedLine ys (DeclarationLine (OfType u x)) h = low-unless n (isKind AType (kindIn ys u)) (u .at) (h .0)
+  low-mistypedLine ys (DeclarationLine (OfType u x)) h = low-unless n (isType AType (typeIn ys u)) (u .at) (h .0)
   low-mistypedLine ys (FormulaLine e) h = low-demanded AFormula ys e h
 
-  low-mistypedLines : (ys : Typings) (ls : List Entry) → All (InEntry (At n)) ls → Low n (mistypedLines ys ls)
+  low-mistypedLines : (ys : Typings) (ls : List TextLine) → All (InEntry (At n)) ls → Low n (mistypedLines ys ls)
   low-mistypedLines ys [] h = nowhere-low n
   low-mistypedLines ys (l ∷ ls) h = low-first n (low-mistypedLine ys l (h .0)) (low-mistypedLines (typedAfter ys l) ls (h .1))
 

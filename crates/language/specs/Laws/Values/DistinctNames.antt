@@ -7,7 +7,7 @@ use mathlib.Core.Option.{Option, none, some}
 use Rattle.language.specs.Bytes.{same}
 use Rattle.language.specs.Tokens.{Token}
 use Rattle.language.specs.Tree.{Expr, Definition, Parameter, Declaration, OneSignal, OfWidth, OfType, Subsection, Inputs, Outputs, Lines, Spec}
-use Rattle.language.specs.Places.{Entry, DefinitionLine, parameterLines, definitionLines, declarationLines, formulaLines, mainLines, allLines}
+use Rattle.language.specs.Places.{TextLine, DefinitionLine, parameterLines, definitionLines, declarationLines, formulaLines, mainLines, allLines}
 use Rattle.language.specs.Names.{again, doubled, declares, declaresSignal, over, nowhere, walkLines, declaredAgain}
 use Rattle.language.specs.Declared.{inputs, outputs}
 use Rattle.language.specs.Listed.{declaredName}
@@ -67,13 +67,13 @@ distinct-before (n ∷ l) m h k f = (all-append (Apart n) l m (h .0) (f .0), dis
 abbrev pub declaredNames : List Declaration → List Token
 declaredNames ds = map declaredName ds
 
-over-declarations : (ds : List Declaration) (ls : List Entry) → over declares (declarationLines ds ls) ≡ declaredNames ds ++ over declares ls
+over-declarations : (ds : List Declaration) (ls : List TextLine) → over declares (declarationLines ds ls) ≡ declaredNames ds ++ over declares ls
 over-declarations [] ls = refl
 over-declarations (OneSignal x ∷ ds) ls = ap (x ∷_) (over-declarations ds ls)
 over-declarations (OfWidth x e ∷ ds) ls = ap (x ∷_) (over-declarations ds ls)
 over-declarations (OfType u x ∷ ds) ls = ap (x ∷_) (over-declarations ds ls)
 
-over-formulas : (es : List Expr) (ls : List Entry) → over declares (formulaLines es ls) ≡ over declares ls
+over-formulas : (es : List Expr) (ls : List TextLine) → over declares (formulaLines es ls) ≡ over declares ls
 over-formulas [] ls = refl
 over-formulas (e ∷ es) ls = over-formulas es ls
 
@@ -117,11 +117,11 @@ distinct-main (Outputs ds ∷ ss) h =
 distinct-main (Lines p es ∷ ss) h = distinct-main ss (subst Distinct (over-formulas es (mainLines ss)) h)
 
 -- the lines before MAIN
-after-parameters : (ps : List Parameter) (ls : List Entry) → Distinct (over declares (parameterLines ps ls)) → Distinct (over declares ls)
+after-parameters : (ps : List Parameter) (ls : List TextLine) → Distinct (over declares (parameterLines ps ls)) → Distinct (over declares ls)
 after-parameters [] ls h = h
 after-parameters (p ∷ ps) ls h = after-parameters ps ls (h .1)
 
-after-definitions : (ds : List Definition) (ls : List Entry) → Distinct (over declares (definitionLines ds ls)) → Distinct (over declares ls)
+after-definitions : (ds : List Definition) (ls : List TextLine) → Distinct (over declares (definitionLines ds ls)) → Distinct (over declares ls)
 after-definitions [] ls h = h
 after-definitions (d ∷ ds) ls h = after-definitions ds ls (distinct-right (declares (DefinitionLine d)) (over declares (definitionLines ds ls)) h)
 

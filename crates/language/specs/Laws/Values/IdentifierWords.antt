@@ -8,7 +8,7 @@ use Rattle.node.specs.Result.{Done}
 use Rattle.language.specs.Bytes.{same}
 use Rattle.language.specs.Tokens.{Token}
 use Rattle.language.specs.Tree.{Identifier, Definition, Defined, Enumerated, Parameter, Declaration, OneSignal, OfWidth, OfType, Spec}
-use Rattle.language.specs.Places.{Entry, parameterLines, definitionLines, mainLines}
+use Rattle.language.specs.Places.{TextLine, parameterLines, definitionLines, mainLines}
 use Rattle.language.specs.Names.{declaredAgain, identifierNames, declares, over}
 use Rattle.language.specs.Declared.{Constant, Identifies, Table, find, identified, identifiers, asDeclared, turns, waiting, constants, inputs, outputs, Declarations, declarations}
 use Rattle.language.specs.Laws.Basics.Lists.{All, all-more, all-append, all-left, all-right, all-both, all-swap}
@@ -87,7 +87,7 @@ identified-stand (i ∷ is) d = (pick (same (i .name .text) (i .name .text)) _ _
 
 -- the names of definitions: the identifiers' are among them
 module _ (P : Token → Type 0) where
-  identifiers-among : (ds : List Definition) (ls : List Entry) → All P (over declares (definitionLines ds ls)) → All P (identifierNames (allIdentifiers ds)) × All P (over declares ls)
+  identifiers-among : (ds : List Definition) (ls : List TextLine) → All P (over declares (definitionLines ds ls)) → All P (identifierNames (allIdentifiers ds)) × All P (over declares ls)
   identifiers-among [] ls h = (tt, h)
   identifiers-among (Defined x e ∷ ds) ls h = identifiers-among ds ls (h .1)
   identifiers-among (Enumerated x is ∷ ds) ls h =
@@ -95,7 +95,7 @@ module _ (P : Token → Type 0) where
       let r = identifiers-among ds ls (all-right P I _ (h .1)) in
       (subst (All P) (sym (names-append is (allIdentifiers ds))) (all-append P I _ (all-left P I _ (h .1)) (r .0)), r .1)
 
-distinct-identifiers : (ds : List Definition) (ls : List Entry) → Distinct (over declares (definitionLines ds ls)) →
+distinct-identifiers : (ds : List Definition) (ls : List TextLine) → Distinct (over declares (definitionLines ds ls)) →
     Distinct (identifierNames (allIdentifiers ds)) × Across (identifierNames (allIdentifiers ds)) (over declares ls)
 distinct-identifiers [] ls d = (tt, tt)
 distinct-identifiers (Defined x e ∷ ds) ls d = distinct-identifiers ds ls (d .1)
@@ -111,7 +111,7 @@ distinct-identifiers (Enumerated x is ∷ ds) ls d =
     )
 
 -- parameters are apart from all names after them
-parameters-apart : (ps : List Parameter) (ls : List Entry) → Distinct (over declares (parameterLines ps ls)) → All (λ p. All (Apart (p .name)) (over declares ls)) ps
+parameters-apart : (ps : List Parameter) (ls : List TextLine) → Distinct (over declares (parameterLines ps ls)) → All (λ p. All (Apart (p .name)) (over declares ls)) ps
 parameters-apart [] ls d = tt
 parameters-apart (p ∷ ps) ls d = (passed (Apart (p .name)) ps (d .0), parameters-apart ps ls (d .1))
   where

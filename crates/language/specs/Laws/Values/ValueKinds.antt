@@ -7,17 +7,17 @@ use lib.Dec.{eqb}
 use borrow.Author.Tests.{eqb-true, eq-eqb}
 use Rattle.language.specs.Bytes.{if_then_else_}
 use Rattle.language.specs.Tokens.{Token}
-use Rattle.language.specs.Types.{Kind, ANumber, ASet, AFormula, ABus, AValue, AType, Unknown, kindCode, isKind}
+use Rattle.language.specs.Types.{ExprType, ANumber, ASet, AFormula, ABus, AValue, AType, Unknown, typeCode, isType}
 use Rattle.language.specs.Values.{Value, Number, Set, Logic, Bus, Unsized, Choice, number, set, Sized, bus, choice}
 use Rattle.language.specs.Laws.Basics.Results.{Refusals, Answers, done, refused}
 
 -- kinds are told apart by their codes
-kindFrom : ℕ → Kind
+kindFrom : ℕ → ExprType
 kindFrom n =
     if eqb n 0 then ANumber else (if eqb n 1 then ASet else (if eqb n 2 then AFormula else (if eqb n 3 then ABus else
     (if eqb n 4 then AValue else (if eqb n 5 then AType else Unknown)))))
 
-kindFrom-code : (k : Kind) → kindFrom (kindCode k) ≡ k
+kindFrom-code : (k : ExprType) → kindFrom (typeCode k) ≡ k
 unfolding kindFrom
 kindFrom-code ANumber = refl
 kindFrom-code ASet = refl
@@ -27,12 +27,12 @@ kindFrom-code AValue = refl
 kindFrom-code AType = refl
 kindFrom-code Unknown = refl
 
-pub isKind-equal : (k l : Kind) → isKind k l ≡ true → k ≡ l
+pub isKind-equal : (k l : ExprType) → isType k l ≡ true → k ≡ l
 isKind-equal k l e =
-    sym (kindFrom-code k) ∙ ap kindFrom (eqb-true (kindCode k) (kindCode l) e) ∙ kindFrom-code l
+    sym (kindFrom-code k) ∙ ap kindFrom (eqb-true (typeCode k) (typeCode l) e) ∙ kindFrom-code l
 
 -- the kind of a value
-abbrev pub valueKind : Value → Kind
+abbrev pub valueKind : Value → ExprType
 valueKind (Number n) = ANumber
 valueKind (Set s) = ASet
 valueKind Logic = AFormula
@@ -40,12 +40,12 @@ valueKind (Bus p x n) = ABus
 valueKind (Unsized p) = ABus
 valueKind (Choice v) = AValue
 
-abbrev pub IsOf : Kind → Value → Type 0
+abbrev pub IsOf : ExprType → Value → Type 0
 IsOf k v = valueKind v ≡ k
 
 -- values of two kinds are not equal
-pub apart : {A : Type 0} (k l : Kind) → isKind k l ≡ false → k ≡ l → A
-apart k l d e = absurd (false≢true (sym d ∙ subst (λ (m : Kind). isKind k m ≡ true) e (eq-eqb (kindCode k) (kindCode k) refl)))
+pub apart : {A : Type 0} (k l : ExprType) → isType k l ≡ false → k ≡ l → A
+apart k l d e = absurd (false≢true (sym d ∙ subst (λ (m : ExprType). isType k m ≡ true) e (eq-eqb (typeCode k) (typeCode k) refl)))
 
 -- a value as what an operator takes
 pub number-as : {R : Refusals} {Q : ℕ → Type 0} (P : Value → Type 0) → ((n : ℕ) → P (Number n) → Q n) → ((v : Value) → ¬ IsOf ANumber v → P v → R 9 0) → (v : Value) → P v → Answers R Q (number v)

@@ -13,7 +13,7 @@ use Rattle.temporal_steps.proofs.repetitions.repeated.Reads as reads
 use Rattle.temporal_steps.proofs.repetitions.repeated.Lts as lts
 use Rattle.machine.proofs.Machine.popped.Reads as popped-reads
 use Rattle.machine.proofs.Machine.wrote.Reads as wrote-reads
-use Rattle.temporal_steps.proofs.capped.Reads as capped-reads
+use Rattle.machine.proofs.capped.Reads as capped-reads
 use Rattle.writing.proofs.nexts.Reads as nexts-reads
 
 -- src/repetitions.rt:68:9

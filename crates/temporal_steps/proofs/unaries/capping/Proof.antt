@@ -1,7 +1,7 @@
 use native.Mathlib.Omega.{arith}
 use mathlib.Core.Path.{refl, ap, _∙_}
 use Rattle.temporal_steps.specs.UnaryLaws.{capping-misfits, capping-kind, capping-steps}
-use Rattle.shapes.specs.ShapeLaws.{unary-small}
+use Rattle.operator_nodes.specs.ShapeLaws.{unary-small}
 use Rattle.machine.specs.declared.Move.the-variants.{Next}
 use Rattle.machine.specs.declared.Machine.{Machine}
 use Rattle.machine.specs.EnterLaws.{wrote}
@@ -15,8 +15,8 @@ use Rattle.temporal_steps.proofs.unaries.capping.Lts as lts
 use Rattle.machine.proofs.Machine.popped.Reads as popped-reads
 use Rattle.machine.proofs.Machine.wrote.Reads as wrote-reads
 use Rattle.operands.proofs.entry.kind_at.Reads as kind-at-reads
-use Rattle.shapes.proofs.unary_kind.Reads as unary-kind-reads
-use Rattle.temporal_steps.proofs.capped.Reads as capped-reads
+use Rattle.operator_nodes.proofs.unary_kind.Reads as unary-kind-reads
+use Rattle.machine.proofs.capped.Reads as capped-reads
 use Rattle.writing.proofs.cap.Reads as cap-reads
 
 -- src/unaries.rt:39:9

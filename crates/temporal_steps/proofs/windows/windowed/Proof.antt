@@ -3,7 +3,7 @@ use mathlib.Core.Path.{refl, ap, _∙_}
 use Prim.Native.Nat.{_+_}
 use Rattle.temporal_steps.specs.WindowLaws.{windowed-misfits, windowed-kind, windowed-order, windowed-steps}
 use Rattle.language.specs.Expansion.{windowOperator}
-use Rattle.shapes.specs.ShapeLaws.{binary-small}
+use Rattle.operator_nodes.specs.ShapeLaws.{binary-small}
 use Rattle.machine.specs.declared.Move.the-variants.{Next}
 use Rattle.machine.specs.declared.Machine.{Machine}
 use Rattle.machine.specs.EnterLaws.{wrote}
@@ -17,8 +17,8 @@ use Rattle.temporal_steps.proofs.windows.windowed.Lts as lts
 use Rattle.machine.proofs.Machine.popped.Reads as popped-reads
 use Rattle.machine.proofs.Machine.wrote.Reads as wrote-reads
 use Rattle.operands.proofs.entry.kind_at.Reads as kind-at-reads
-use Rattle.shapes.proofs.window_kind.Reads as window-kind-reads
-use Rattle.temporal_steps.proofs.capped.Reads as capped-reads
+use Rattle.operator_nodes.proofs.window_kind.Reads as window-kind-reads
+use Rattle.machine.proofs.capped.Reads as capped-reads
 use Rattle.writing.proofs.nexts.Reads as nexts-reads
 use Rattle.writing.proofs.window.window.Reads as window-reads
 

@@ -4,7 +4,7 @@ use mathlib.Core.Path.{_∙_}
 use native.Mathlib.Omega.{arith}
 use borrow.Author.Needs.{needs}
 use Rattle.language.specs.Expansion.{windowOperator}
-use Rattle.shapes.specs.ShapeLaws.{window-shape, window-op, binary-small}
+use Rattle.operator_nodes.specs.ShapeLaws.{window-shape, window-op, binary-small}
 use Rattle.expander.specs.CallLaws.{before-room}
 use Rattle.expander.specs.FormulaCalls.{entry-room, window-some, window-second, window-inside, first-ready, second-ready, third-prepared}
 use Rattle.expander.specs.ValueSteps as steps

@@ -3,8 +3,8 @@ use Prim.Native.Nat.{ℕ}
 use mathlib.Core.Path.{sym, ap, _∙_}
 use native.Mathlib.Omega.{arith}
 use borrow.Author.Needs.{needs}
-use Rattle.shapes.specs.Shapes.{shapeOf}
-use Rattle.shapes.specs.ShapeLaws.{binary-small}
+use Rattle.operator_nodes.specs.Shapes.{shapeOf}
+use Rattle.operator_nodes.specs.ShapeLaws.{binary-small}
 use Rattle.expander.specs.Operands.{binary-of}
 use Rattle.expander.specs.CallLaws.{before-room, two-some, two-inside}
 use Rattle.expander.specs.FormulaCalls.{entry-room, left-prepared, right-prepared}

@@ -34,7 +34,7 @@ use Rattle.expander.proofs.marks.again.Reads as again-reads
 use Rattle.expander.proofs.atoms.atom_at.Reads as atom-at-reads
 use Rattle.expander.proofs.prefixes.below.Reads as below-reads
 use Rattle.expander.proofs.prefixes.capped.Reads as capped-reads
-use Rattle.shapes.proofs.binary_kind.Reads as binary-kind-reads
+use Rattle.operator_nodes.proofs.binary_kind.Reads as binary-kind-reads
 use Rattle.choices.proofs.folds.finish.Reads as finish-reads
 use Rattle.choices.proofs.folds.further.Reads as further-reads
 use Rattle.expander.proofs.handed.Reads as handed-reads
@@ -48,7 +48,7 @@ use Rattle.evaluation.proofs.evaluate.set_at.Reads as set-at-reads
 use Rattle.expander.proofs.signals.signal_at.Reads as signal-at-reads
 use Rattle.operands.proofs.entry.size_at.Reads as size-at-reads
 use Rattle.writing.proofs.window.window.Reads as window-reads
-use Rattle.shapes.proofs.window_kind.Reads as window-kind-reads
+use Rattle.operator_nodes.proofs.window_kind.Reads as window-kind-reads
 
 abbrev pub μ-between : Measures 11 between-kinds.ps ℕ
 μ-between κs a = 4 * a .1 .1 .1 .1 .1 .1 .1 .1 .1 .1 .1 .1 .1 .0 + 1

@@ -3,7 +3,7 @@ use Prim.Native.Nat.{ℕ}
 use mathlib.Core.Path.{_∙_}
 use native.Mathlib.Omega.{arith}
 use borrow.Author.Needs.{needs}
-use Rattle.shapes.specs.ShapeLaws.{big-kind}
+use Rattle.operator_nodes.specs.ShapeLaws.{big-kind}
 use Rattle.expander.specs.CallLaws.{before-room}
 use Rattle.expander.specs.FormulaCalls.{entry-room, big-some, big-inside, set-ready, big-prepared, big-elements}
 use Rattle.expander.specs.EachSteps.{each-set, each-misfit, each-done}

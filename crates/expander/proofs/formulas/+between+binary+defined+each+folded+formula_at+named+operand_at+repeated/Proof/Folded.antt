@@ -6,7 +6,7 @@ use borrow.Author.Needs.{needs}
 use lib.ListN.{length, getD, length-set}
 use lib.Dec.{eqb}
 use Rattle.operands.specs.Working.{source, state}
-use Rattle.shapes.specs.ShapeLaws.{big-kind}
+use Rattle.operator_nodes.specs.ShapeLaws.{big-kind}
 use Rattle.expander.specs.Expanding.{tables}
 use Rattle.expander.specs.FoldSteps.{gathering-none, gathering-more, gathering-no, gathering-all}
 use Rattle.expander.specs.FormulaCalls.{entry-room, unchanged, Turn, turn-room, turn-prepared}

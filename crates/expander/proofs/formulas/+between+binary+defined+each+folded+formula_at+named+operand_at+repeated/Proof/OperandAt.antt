@@ -2,8 +2,8 @@
 use Prim.Native.Nat.{ℕ}
 use mathlib.Core.Path.{sym, ap, _∙_}
 use native.Mathlib.Omega.{arith}
-use Rattle.shapes.specs.Shapes.{shapeOf}
-use Rattle.shapes.specs.ShapeLaws.{misfit-sets}
+use Rattle.operator_nodes.specs.Shapes.{shapeOf}
+use Rattle.operator_nodes.specs.ShapeLaws.{misfit-sets}
 use Rattle.expander.specs.FormulaCalls.{entry-room}
 use Rattle.expander.specs.StepLaws.{writes-misfit}
 use Rattle.expander.proofs.formulas.operand_at.Reads as operand-at

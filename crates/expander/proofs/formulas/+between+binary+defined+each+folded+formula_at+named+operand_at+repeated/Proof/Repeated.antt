@@ -3,7 +3,7 @@ use Prim.Native.Nat.{ℕ}
 use mathlib.Core.Path.{ap, _∙_}
 use native.Mathlib.Omega.{arith}
 use borrow.Author.Needs.{needs}
-use Rattle.shapes.specs.Shapes.{shapeOf}
+use Rattle.operator_nodes.specs.Shapes.{shapeOf}
 use Rattle.expander.specs.Operands.{nexts-of}
 use Rattle.expander.specs.CallLaws.{before-room, two-some, two-inside, left-ready}
 use Rattle.expander.specs.FormulaCalls.{valued-prepared}
