@@ -27,7 +27,7 @@ file = text (ascii "MAIN { INPUTS { r; } OUTPUTS { g; } GUARANTEE { G (r -> F g)
 
 -- INFO and the word MAIN as they are written
 abbrev head : String → List ℕ
-head model = ascii "INFO { TITLE : \"specExpansion\" DESCRIPTION : \"specExpansion\" SEMANTICS : " ++ (ascii model ++ (ascii " TARGET : " ++ (ascii model ++ ascii " } MAIN { ")))
+head model = ascii "INFO { TITLE : \"converted\" DESCRIPTION : \"converted\" SEMANTICS : " ++ (ascii model ++ (ascii " TARGET : " ++ (ascii model ++ ascii " } MAIN { ")))
 
 -- a text for another model
 abbrev under : String → List ℕ → List ℕ
