@@ -34,7 +34,7 @@ use Rattle.name_values.specs.ElsewhereLaws.{ownNames, visible-elsewhere,
 use Rattle.name_values.specs.Worked.{worldIn, Worked, EachFrom, Parameterwise, Definitionwise, Linewise, Declarationwise, Subsectionwise, definitionsStart, mainStart, TreeWorked}
 
 -- at the lines ls, behind others, with the definitions `later` still to come: the names visible there
-pub record Seen (x : Spec) (ls : List Places.Entry) (later : List Definition) (ns : Names) : Type 0 where
+pub record Seen (x : Spec) (ls : List Places.TextLine) (later : List Definition) (ns : Names) : Type 0 where
   pub shown : walkLines hidden nowhere ns ls ≡ none
   pub distinct : Distinct (over declares ls)
   pub own : All (In (declaredNames x)) (over declares ls)
@@ -53,7 +53,7 @@ starts-next x before d start a = let z = each-more flatDefinition before d in om
 across-none : (ns : Names) → Across ns []
 across-none ns = all-more (λ n _. tt) ns (all-any ns)
 
-seen-next : {x : Spec} (l : Places.Entry) (ls : List Places.Entry) (later next : List Definition) (ns : Names) → Seen x (l ∷ ls) later ns → Across (declares l ++ ns) (ownNames next)
+seen-next : {x : Spec} (l : Places.TextLine) (ls : List Places.TextLine) (later next : List Definition) (ns : Names) → Seen x (l ∷ ls) later ns → Across (declares l ++ ns) (ownNames next)
     → Seen x ls next (declares l ++ ns)
 seen-next {x} l ls later next ns v a =
     record {
@@ -65,7 +65,7 @@ seen-next {x} l ls later next ns v a =
     }
 
 -- some lines are passed: Q of them, and what is left
-record Passed (x : Spec) (text w : List ℕ) (Q : Type 0) (start : ℕ) (es : List Entry) (ls : List Places.Entry) (later : List Definition) : Type 0 where
+record Passed (x : Spec) (text w : List ℕ) (Q : Type 0) (start : ℕ) (es : List Entry) (ls : List Places.TextLine) (later : List Definition) : Type 0 where
   pub done : Q
   pub names : Names
   pub left : Left x text w start es
@@ -83,7 +83,7 @@ plain-identifiers : (is : List Identifier) → All Plain (each flatIdentifier is
 plain-identifiers [] = tt
 plain-identifiers (i ∷ is) = ((refl, refl), all-append Plain (each (leaf Kind.word) (i .words)) (each flatIdentifier is) (plain-words (i .words)) (plain-identifiers is))
 
-later-definition : {x : Spec} (d : Definition) (ds : List Definition) (ls : List Places.Entry) (ns : Names) → Seen x (DefinitionLine d ∷ definitionLines ds ls) (d ∷ ds) ns
+later-definition : {x : Spec} (d : Definition) (ds : List Definition) (ls : List Places.TextLine) (ns : Names) → Seen x (DefinitionLine d ∷ definitionLines ds ls) (d ∷ ds) ns
     → Seen x (definitionLines ds ls) ds (declares (DefinitionLine d) ++ ns)
 later-definition d ds ls ns v =
     let own = declares (DefinitionLine d) in
@@ -122,9 +122,9 @@ module _ {x : Spec} {text w refs found : List ℕ} {count entries n : ℕ} (s : 
       }
 
   -- lines of one sort
-  module _ {A : Type 0} (flatten : A → List Entry) (line : A → Places.Entry) (lines : List A → List Places.Entry → List Places.Entry) (none-left : (ls : List Places.Entry) → lines [] ls ≡ ls)
-      (one-more : (a : A) (l : List A) (ls : List Places.Entry) → lines (a ∷ l) ls ≡ line a ∷ lines l ls)
-      (Q : A → Type 0) (P : ℕ → A → Type 0) (low : ℕ) (later : List Definition) (es : List Entry) (ls : List Places.Entry)
+  module _ {A : Type 0} (flatten : A → List Entry) (line : A → Places.TextLine) (lines : List A → List Places.TextLine → List Places.TextLine) (none-left : (ls : List Places.TextLine) → lines [] ls ≡ ls)
+      (one-more : (a : A) (l : List A) (ls : List Places.TextLine) → lines (a ∷ l) ls ≡ line a ∷ lines l ls)
+      (Q : A → Type 0) (P : ℕ → A → Type 0) (low : ℕ) (later : List Definition) (es : List Entry) (ls : List Places.TextLine)
       (step : (a : A) (l : List A) (start : ℕ) (rest : List Entry) (ns : Names) → Q a → low ≤ start → Left x text w start (flatten a ++ rest) → Seen x (line a ∷ lines l ls) later ns
       → P start a × Left x text w (start + length (flatten a)) rest × Across (declares (line a)) (ownNames later)) where
     pass-lines : (l : List A) (start : ℕ) (ns : Names) → All Q l → low ≤ start → Left x text w start (each flatten l ++ es) → Seen x (lines l ls) later ns
@@ -139,7 +139,7 @@ module _ {x : Spec} {text w refs found : List ℕ} {count entries n : ℕ} (s : 
         record { done = (p .0, q .done); names = q .names; left = left-at (omega arith) (q .left); seen = q .seen }
 
   -- the sections, each behind the one before
-  parameters-worked : (ds : List Definition) → x .definitions ≡ ds → (es : List Entry) (ls : List Places.Entry) (ps : List Parameter) (start : ℕ) (ns : Names) → All ProperParameter ps
+  parameters-worked : (ds : List Definition) → x .definitions ≡ ds → (es : List Entry) (ls : List Places.TextLine) (ps : List Parameter) (start : ℕ) (ns : Names) → All ProperParameter ps
       → Left x text w start (each flatParameter ps ++ es) → Seen x (parameterLines ps (definitionLines ds ls)) ds ns →
       Passed x text w (EachFrom flatParameter (Parameterwise x text w refs) start ps) (start + length (each flatParameter ps)) es (definitionLines ds ls) ds
   parameters-worked ds q es ls ps start ns f h v =
@@ -153,7 +153,7 @@ module _ {x : Spec} {text w refs found : List ℕ} {count entries n : ℕ} (s : 
       ))
       ps start ns f (omega arith) h v
 
-  definitions-worked : (es : List Entry) (ls : List Places.Entry) (before ds : List Definition) → x .definitions ≡ before ++ ds → (start : ℕ)
+  definitions-worked : (es : List Entry) (ls : List Places.TextLine) (before ds : List Definition) → x .definitions ≡ before ++ ds → (start : ℕ)
       → definitionsStart x + length (each flatDefinition before) ≡ start → (ns : Names) → All ProperDefinition ds → Left x text w start (each flatDefinition ds ++ es)
       → Seen x (definitionLines ds ls) ds ns →
       Passed x text w (Definitionwise x text w refs before start ds) (start + length (each flatDefinition ds)) es ls []
@@ -184,14 +184,14 @@ module _ {x : Spec} {text w refs found : List ℕ} {count entries n : ℕ} (s : 
       record { done = p .done; names = p .names; left = left-at (omega arith) (p .left); seen = p .seen }
 
   -- a line of MAIN
-  main-worked : (ns : Names) (ls : List Places.Entry) → Seen x ls [] ns → (k : ℕ) (e : Expr) → mainStart x + length (flat e) ≤ suc k → Proper false e → walk hidden nowhere ns e ≡ none
+  main-worked : (ns : Names) (ls : List Places.TextLine) → Seen x ls [] ns → (k : ℕ) (e : Expr) → mainStart x + length (flat e) ≤ suc k → Proper false e → walk hidden nowhere ns e ≡ none
       → Here x text w refs k e → Worked x text w refs (x .definitions) k e
   main-worked ns ls v k e b f y h =
       worked (x .definitions) [] (sym (append-nil (x .definitions))) (mainStart x)
       (λ ps d m. behind-before (x .definitions) (contextOf ps d) (definitionsStart x) m _ (table-before (definitionsStart x) (find d (m .text))))
       ns (v .among) (v .apart) k e b f y h
 
-  declarations-worked : (es : List Entry) (ls : List Places.Entry) (ds : List Declaration) (start : ℕ) (ns : Names) → All ProperDeclaration ds → mainStart x ≤ start
+  declarations-worked : (es : List Entry) (ls : List Places.TextLine) (ds : List Declaration) (start : ℕ) (ns : Names) → All ProperDeclaration ds → mainStart x ≤ start
       → Left x text w start (each flatDeclaration ds ++ es) → Seen x (declarationLines ds ls) [] ns →
       Passed x text w (EachFrom flatDeclaration (Declarationwise x text w refs) start ds) (start + length (each flatDeclaration ds)) es ls []
   declarations-worked es ls ds start ns f b h v =
@@ -208,7 +208,7 @@ module _ {x : Spec} {text w refs found : List ℕ} {count entries n : ℕ} (s : 
           let g = pass-line s r Kind.typed (some m) (Named t) refl refl at rest k in
           (main-worked ms _ u _ (Named t) (omega arith) (refl, f .0) (first-left (hidden ms t) _ (u .shown)) (g .0), g .1, across-none (m ∷ []))
 
-  formulas-worked : (es : List Entry) (ls : List Places.Entry) (fs : List Expr) (start : ℕ) (ns : Names) → All (Proper false) fs → mainStart x ≤ start → Left x text w start (each flatLine fs ++ es)
+  formulas-worked : (es : List Entry) (ls : List Places.TextLine) (fs : List Expr) (start : ℕ) (ns : Names) → All (Proper false) fs → mainStart x ≤ start → Left x text w start (each flatLine fs ++ es)
       → Seen x (formulaLines fs ls) [] ns →
       Passed x text w (EachFrom flatLine (Linewise x text w refs) start fs) (start + length (each flatLine fs)) es ls []
   formulas-worked es ls fs start ns f b h v =
