@@ -19,7 +19,7 @@ price (suc k) = steep * price k
 -- how many operands a frame may still work out, by its phase (specs/Holding) and count
 abbrev pub turns : ℕ → ℕ → ℕ
 turns phase n =
-    getD (0 ∷ 0 ∷ 1 ∷ 0 ∷ 1 ∷ 0 ∷ 1 ∷ 0 ∷ 0 ∷ 2 ∷ 1 ∷ 0 ∷ maxElements ∷ n ∷ n ∷ n ∷ n ∷ 0 ∷ 0 ∷ 1 ∷ 0 ∷ 1 ∷ 0 ∷ 1 ∷ 0 ∷ 0 ∷ 1 ∷ 0 ∷ 2 ∷ 1 ∷ 0 ∷ maxElements ∷ n ∷ n ∷ 0 ∷ []) phase 0
+    getD (0 ∷ 0 ∷ 1 ∷ 0 ∷ 1 ∷ 0 ∷ 1 ∷ 0 ∷ 0 ∷ 2 ∷ 1 ∷ 0 ∷ maxElements ∷ n ∷ n ∷ n ∷ n ∷ 0 ∷ 0 ∷ 1 ∷ 0 ∷ 1 ∷ 0 ∷ 1 ∷ 0 ∷ 1 ∷ 1 ∷ 0 ∷ 2 ∷ 1 ∷ 0 ∷ maxElements ∷ n ∷ n ∷ 0 ∷ 0 ∷ []) phase 0
 
 -- the price of n operands more, and of the frame itself
 unfoldable pub times : ℕ → ℕ → ℕ

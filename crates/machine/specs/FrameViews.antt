@@ -49,22 +49,23 @@ use Rattle.machine.specs.Frames.{
   FirstEach,
   NextEach,
   KeepFormula,
+  BitOf,
 }
 
 -- what a frame waits for, without its contents
 pub data Stage : Type 0 where
   atMeasured atWidth atLeft atRight atLeftSet atRightSet atLow atHigh atElements atRangeFirst atRangeSecond atRangeLast atOver atFirstNumber atNextNumber atFirstSet atNextSet atKeepValue : Stage
-  atCapping atLeftFormula atRightFormula atLeftCompared atRightCompared atMember atAmong atIndexed atRepeat atRepeated atWindowFrom atWindowTo atWindowed atOverEach atFirstEach atNextEach atKeepFormula : Stage
+  atCapping atLeftFormula atRightFormula atLeftCompared atRightCompared atMember atAmong atIndexed atRepeat atRepeated atWindowFrom atWindowTo atWindowed atOverEach atFirstEach atNextEach atKeepFormula atBitOf : Stage
 
 abbrev stages : List Stage
 stages =
     atMeasured ∷ atWidth ∷ atLeft ∷ atRight ∷ atLeftSet ∷ atRightSet ∷ atLow ∷ atHigh ∷ atElements ∷
     atRangeFirst ∷ atRangeSecond ∷ atRangeLast ∷ atOver ∷ atFirstNumber ∷ atNextNumber ∷ atFirstSet ∷ atNextSet ∷ atKeepValue ∷
     atCapping ∷ atLeftFormula ∷ atRightFormula ∷ atLeftCompared ∷ atRightCompared ∷ atMember ∷ atAmong ∷ atIndexed ∷ atRepeat ∷
-    atRepeated ∷ atWindowFrom ∷ atWindowTo ∷ atWindowed ∷ atOverEach ∷ atFirstEach ∷ atNextEach ∷ atKeepFormula ∷ []
+    atRepeated ∷ atWindowFrom ∷ atWindowTo ∷ atWindowed ∷ atOverEach ∷ atFirstEach ∷ atNextEach ∷ atKeepFormula ∷ atBitOf ∷ []
 
 abbrev stageAt : ℕ → Stage
-stageAt n = getD stages n atKeepFormula
+stageAt n = getD stages n atBitOf
 
 abbrev stageOf : Frame → Stage
 stageOf (Measured p m) = atMeasured
@@ -102,6 +103,7 @@ stageOf (OverEach o c i e) = atOverEach
 stageOf (FirstEach o c i e rest) = atFirstEach
 stageOf (NextEach o c i e f end rest) = atNextEach
 stageOf (KeepFormula r c e) = atKeepFormula
+stageOf (BitOf c i) = atBitOf
 
 abbrev pub View : Stage → Frame → Type 0
 View atMeasured F = (p : ℕ) × (m : Measure) × (F ≡ Measured p m)
@@ -139,6 +141,7 @@ View atOverEach F = (o : Big) × (c : Context) × (i : Token) × (e : Expr) × (
 View atFirstEach F = (o : Big) × (c : Context) × (i : Token) × (e : Expr) × (rest : List ℕ) × (F ≡ FirstEach o c i e rest)
 View atNextEach F = (o : Big) × (c : Context) × (i : Token) × (e : Expr) × (f : Formula) × (end : ℕ) × (rest : List ℕ) × (F ≡ NextEach o c i e f end rest)
 View atKeepFormula F = (r : ℕ) × (c : Context) × (e : Expr) × (F ≡ KeepFormula r c e)
+View atBitOf F = (c : Context) × (i : ℕ) × (F ≡ BitOf c i)
 
 view : (F : Frame) → View (stageOf F) F
 view (Measured p m) = (p, m, refl)
@@ -176,6 +179,7 @@ view (OverEach o c i e) = (o, c, i, e, refl)
 view (FirstEach o c i e rest) = (o, c, i, e, rest, refl)
 view (NextEach o c i e f end rest) = (o, c, i, e, f, end, rest, refl)
 view (KeepFormula r c e) = (r, c, e, refl)
+view (BitOf c i) = (c, i, refl)
 
 stage-phase : (F : Frame) → stageAt (phase F) ≡ stageOf F
 stage-phase (Measured p m) = refl
@@ -213,6 +217,7 @@ stage-phase (OverEach o c i e) = refl
 stage-phase (FirstEach o c i e rest) = refl
 stage-phase (NextEach o c i e f end rest) = refl
 stage-phase (KeepFormula r c e) = refl
+stage-phase (BitOf c i) = refl
 
 -- the frame of a phase
 pub by-phase : (F : Frame) (n : ℕ) → phase F ≡ n → View (stageAt n) F

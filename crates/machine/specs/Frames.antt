@@ -17,7 +17,8 @@ use Rattle.language.specs.Expansion.{Context, at, expansion, compared, truth, b
 use Rattle.machine.specs.Came.{Evaluate, Expand, Came, worth, nodes, works, asValue, asNumber, asSet, asFormula}
 
 -- place, operator, context and the operands that are left to be worked out; then what has come before. `Elements` waits for an element of braces, others are left
--- and some numbers have come; a formula that was written is kept with the index behind its nodes; `Keep` waits for the body of the definition numbered r.
+-- and some numbers have come; a formula that was written is kept with the index behind its nodes; `Keep` waits for the body of the definition numbered r, `BitOf`
+-- for that of a definition of which bit i is taken.
 pub data Frame : Type 0 where
   Measured : (place : ℕ) → Measure → Frame
   Width : Frame
@@ -54,6 +55,7 @@ pub data Frame : Type 0 where
   FirstEach : Big → Context → Token → Expr → List ℕ → Frame
   NextEach : Big → Context → Token → Expr → Formula → (end : ℕ) → List ℕ → Frame
   KeepFormula : (r : ℕ) → Context → Expr → Frame
+  BitOf : Context → ℕ → Frame
 
 -- what a big operator joins its operands with
 abbrev pub numeric : Big → Arithmetic
@@ -175,6 +177,7 @@ apply (OverEach o c i e) v = asSet v >>= λ s. bigFormula o (λ k. expansion (at
 apply (FirstEach o c i e rest) v = asFormula v >>= onwardFormulas o c i e rest
 apply (NextEach o c i e f end rest) v = asFormula v >>= λ g. onwardFormulas o c i e rest (Two (connective o) f g)
 apply (KeepFormula r c e) v = Done v
+apply (BitOf c i) v = asValue v >>= bus >>= bitAt (c .ports) i >>= nodes
 
 -- what is known of the part that is worked out above a frame: the body of a definition that is to be kept
 abbrev pub Kept : Frame → Result Came → Type 0
@@ -213,6 +216,7 @@ Kept (OverEach o c i e) r = Unit {0}
 Kept (FirstEach o c i e rest) r = Unit {0}
 Kept (NextEach o c i e f end rest) r = Unit {0}
 Kept (KeepFormula r c e) x = works Expand c e ≡ x
+Kept (BitOf c i) r = Unit {0}
 
 -- the frames, the last pushed first, make x of r
 unfoldable pub Means : Result Came → List Frame → Result Came → Type 0

@@ -40,6 +40,7 @@ use Rattle.machine.specs.Frames.{
   FirstEach,
   NextEach,
   KeepFormula,
+  BitOf,
 }
 
 -- a formula whose nodes are written, and the index behind them
@@ -117,6 +118,7 @@ holding (OverEach o c i e) = plain 31
 holding (FirstEach o c i e rest) = turning 32 rest [] []
 holding (NextEach o c i e f end rest) = turning 33 rest [] (record { formula = f; end = end } ∷ [])
 holding (KeepFormula r c e) = keeping 34
+holding (BitOf c i) = keeping 35
 
 abbrev pub phase : Frame → ℕ
 phase F = holding F .phase

@@ -59,6 +59,7 @@ use Rattle.machine.specs.Frames.{
   FirstEach,
   NextEach,
   KeepFormula,
+  BitOf,
 }
 
 -- what lies under a frame: its words, the slots of the names that its operator sees, the entries that could be worked out there, and the words reserved for it
@@ -127,6 +128,12 @@ pub record Returns (w : Words) (scope r : ℕ) : Type 0 where
   pub scope-is : w .value ≡ scope
   pub name-is : w .other ≡ r
 
+-- the scope to go back to, and the index of a bit
+pub record Locates (w : Words) (scope i : ℕ) : Type 0 where
+  pub scope-is : w .value ≡ scope
+  pub index-is : w .at ≡ i
+  pub small : i ≤ maxNumber
+
 -- numbers of braces, where the frame's values begin, and room for those that can still come
 pub record Gathers (g : Ground) (ns : List ℕ) : Type 0 where
   pub at-base : g .words .at ≡ g .words .base
@@ -170,6 +177,7 @@ Holds W n g (OverEach o c i e) = Unit {0}
 Holds W n g (FirstEach o c i e rest) = Fine rest
 Holds W n g (NextEach o c i e f end rest) = Fine rest × (g .words .value ≡ end)
 Holds W n g (KeepFormula r c e) = Returns (g .words) (g .scope) r × (g .words .at ≡ n)
+Holds W n g (BitOf c i) = Locates (g .words) (g .scope) i
 
 module _ {s : Source} (R : Realm s) (g : Ground) where
   abbrev k : ℕ
@@ -207,6 +215,7 @@ module _ {s : Source} (R : Realm s) (g : Ground) where
   -- the name at the entry itself
   pub record Naming (c : Context) (t : Token) : Type 0 where
     pub limit : ℕ
+    pub before : limit ≤ k
     pub uses : Uses (R .W) limit (g .env) (getD (s .refs) k 0) t c
     pub place : placeAt (s .work) k ≡ t .at
     pub ports : c .ports ≡ R .ports
@@ -248,6 +257,7 @@ module _ {s : Source} (R : Realm s) (g : Ground) where
   Waits (FirstEach o c i e rest) = Folding o × EachOf c i e × OfFormulas o
   Waits (NextEach o c i e f end rest) = Folding o × EachOf c i e × OfFormulas o
   Waits (KeepFormula r c e) = Defining r c e
+  Waits (BitOf c i) = c .ports ≡ R .ports
 
 -- the frame F at word `at`, above the ground g and the index n of the table; with it `scope`, `depth`, `top` as the machine has them, and entries below k
 pub record FrameAt {s : Source} (R : Realm s) (o : Began) (mem : List ℕ) (F : Frame) (g : Ground) (n scope depth top at k : ℕ) : Type 0 where

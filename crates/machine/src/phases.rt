@@ -68,3 +68,5 @@ pub const FIRST_EACH: u32 = 32;
 pub const NEXT_EACH: u32 = 33;
 
 pub const KEEP_FORMULA: u32 = 34;
+
+pub const BIT_OF: u32 = 35;
