@@ -10,7 +10,8 @@ use Rattle.node.specs.Ltl.{Formula, Word, Holds}
 use Rattle.node.specs.Fields.{pack}
 use Rattle.node.specs.Postorder.{size, nodesFrom, SignalsBelow}
 use Rattle.node.specs.PostorderLaws.{size-pos}
-use Rattle.writing.specs.Moving.{moved, moved-nodes}
+use Rattle.writing.specs.Moving.{moved}
+use Rattle.writing.specs.MovingLaws.{moved-nodes}
 use Rattle.basic.specs.Statements.{guaranteeing, front, behind}
 
 -- the nodes: those before GUARANTEE, the written ones moved by 8, and those behind

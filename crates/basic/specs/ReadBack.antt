@@ -33,6 +33,7 @@ use Rattle.language.specs.Laws.Grammar.Parses.{WellFormed}
 use Rattle.language.specs.Laws.Meaning.NumberedLaws.{PortPlaced}
 use Rattle.language.specs.Laws.Meaning.TextPorts.{ports-placed}
 use Rattle.language.specs.Laws.Meaning.Acceptance.{text-signals, list-limited}
+use Rattle.language.specs.Laws.Meaning.SignalOrder.{list-append}
 use Rattle.basic.specs.Spelling.{namesOf, sideOf, spelled}
 use Rattle.basic.specs.Basic.{basicText}
 use Rattle.basic.specs.Writing.{faultFrom, written}
@@ -41,7 +42,7 @@ use Rattle.basic.specs.Lexed.{sign, tokenAt, laid, ending, Alone, laid-l
 use Rattle.basic.specs.Lexemes.{basicLexemes, NamesAlone, basic-alone, basic-length}
 use Rattle.basic.specs.ParsedText.{wordFor, placesFor, specFor, spec-read, text-tokens, endAt, lastAt}
 use Rattle.basic.specs.Names.{name-alone}
-use Rattle.basic.specs.Source.{Listed, source-listed, Short, AllUnlike, faultless, list-append}
+use Rattle.basic.specs.Source.{Listed, source-listed, Short, AllUnlike, faultless}
 use Rattle.basic.specs.WellFormed.{formed}
 use Rattle.basic.specs.Expanded.{declaredFor, declared-for, converted-for, names-back, flags-back}
 use Rattle.basic.specs.Levels.{depth, shallow-for}

@@ -2,7 +2,7 @@
 use Prim.Native.Nat.{ℕ, zero, suc, _+_, _^_, _≤_, _<_}
 use mathlib.Core.Path.{_≡_, refl, ap, ap₂, _∙_, sym, subst}
 use mathlib.Core.Bool.{Bool, true, false, not, _&&_, _||_, false≢true}
-use mathlib.Core.List.{List, [], _∷_, _++_, map, map-append, append-assoc, append-nil}
+use mathlib.Core.List.{List, [], _∷_, _++_, map, map-append, append-nil}
 use mathlib.Core.Option.{Option, none, some}
 use lib.Dec.{leb, eqb}
 use lib.ListN.{length}
@@ -33,6 +33,7 @@ use Rattle.language.specs.Laws.Values.EntryLaws.{entry-flag}
 use Rattle.language.specs.Laws.Meaning.NumberedLaws.{atomAt, PortPlaced, entry-names}
 use Rattle.language.specs.Laws.Meaning.TextPorts.{ports-placed}
 use Rattle.language.specs.Laws.Meaning.Acceptance.{accepts}
+use Rattle.language.specs.Laws.Meaning.SignalOrder.{list-append}
 use Rattle.basic.specs.Spelling.{spelling, spelled, namesOf, sideOf}
 use Rattle.basic.specs.Writing.{taken, faultFrom}
 use Rattle.basic.specs.Names.{ProperName, NameToken, tokens-names, bit-name}
@@ -150,10 +151,6 @@ listed-by text A B a b =
           map-append flagOf A B ∙ ap₂ _++_ (flags-all text false A a) (flags-all text true B b)
           ∙ ap₂ (λ (l m : List (List ℕ)). map (λ _. 0) l ++ map (λ _. 1) m) (sym ins) (sym outs);
     }
-
-pub list-append : (ps qs : List Port) → signalList (ps ++ qs) ≡ signalList ps ++ signalList qs
-list-append [] qs = refl
-list-append (p ∷ ps) qs = ap (entries p (signalsOf p) 0 ++_) (list-append ps qs) ∙ sym (append-assoc (entries p (signalsOf p) 0) (signalList ps) (signalList qs))
 
 sided-right : (defs : List Definition) (output : Bool) (ds : List Declaration) (ps : List Port) → Pairs (PortFor defs output) ds ps → All (λ p. p .output ≡ output) ps
 sided-right defs output [] [] h = tt

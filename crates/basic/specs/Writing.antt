@@ -5,6 +5,7 @@ use mathlib.Core.List.{List, [], _∷_, _++_}
 use mathlib.Core.Option.{Option, none, some}
 use lib.Dec.{leb}
 use lib.ListN.{length, drop}
+use Rattle.basics.specs.Told.{maxTold}
 use Rattle.node.specs.Result.{Result, Done, Refused, _>>=_, guard}
 use Rattle.language.specs.Limits.{maxName, workBytes}
 use Rattle.language.specs.Bytes.{same}
@@ -30,10 +31,6 @@ unfoldable pub written : List ℕ → Result (List ℕ)
 written text =
     parsed text >>= λ x. specExpansion x >>= λ c.
     refuseAt 22 (faultFrom [] 0 (namesOf text (c .signals))) (Done (basicText (x .target) text c))
-
--- the largest count that an answer can tell
-abbrev pub maxTold : ℕ
-maxTold = 4_294_967_295
 
 -- 18: the bytes do not fit the lent buffer, or are more than an answer can tell
 abbrev pub fits : (room : ℕ) → List ℕ → Bool

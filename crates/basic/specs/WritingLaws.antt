@@ -1,5 +1,5 @@
 -- The writer's whole answer: the order of its refusals by computing, and that what it tells stands in the lent buffer and reads back.
-use Prim.Native.Nat.{ℕ, _≤_}
+use Prim.Native.Nat.{ℕ, suc, _≤_}
 use mathlib.Core.Path.{_≡_, refl, ap, ap₂, _∙_, subst}
 use mathlib.Core.Bool.{true, false, _&&_}
 use mathlib.Core.List.{List}
@@ -8,6 +8,7 @@ use lib.ListN.{length, take, drop}
 use lib.Seq.{take-at}
 use native.Mathlib.Omega.{arith}
 use borrow.Author.Tests.{leb-true, le-leb, lt-leb}
+use Rattle.basics.specs.Told.{maxTold}
 use Rattle.node.specs.Postorder.{size}
 use Rattle.node.specs.Result.{Result, Done, Refused, _>>=_, guard}
 use Rattle.node.specs.ResultLaws.{bind-done, guard-done}
@@ -20,7 +21,7 @@ use Rattle.language.specs.Cases.{repeated}
 use Rattle.language.specs.Laws.Basics.Tests.{and-left}
 use Rattle.basic.specs.Spelling.{digitsOf}
 use Rattle.basic.specs.Basic.{formulaTokens, infoTokens, lineTokens, basicTokens, parted}
-use Rattle.basic.specs.Writing.{written, maxTold, fits, writing, bytesTold, textAfter}
+use Rattle.basic.specs.Writing.{written, fits, writing, bytesTold, textAfter}
 use Rattle.basic.specs.Statements.{Kept, ReadsBack}
 use Rattle.basic.specs.Cases.{file, declaring}
 use Rattle.basic.specs.ReadBack.{read-back}
@@ -53,11 +54,11 @@ no-room = refl
 
 -- a count of 32 bits can be told, and one more not, whatever room there is
 module _ (s : List ℕ) (room : ℕ) (enough : length s ≤ room) where
-  largest-told : length s ≡ 4_294_967_295 → fits room s ≡ true
-  largest-told e = ap₂ _&&_ (le-leb (length s) room enough) (le-leb (length s) 4_294_967_295 (omega arith))
+  largest-told : length s ≡ maxTold → fits room s ≡ true
+  largest-told e = ap₂ _&&_ (le-leb (length s) room enough) (le-leb (length s) maxTold (omega arith))
 
-  one-more : length s ≡ 4_294_967_296 → fits room s ≡ false
-  one-more e = ap₂ _&&_ (le-leb (length s) room enough) (lt-leb (length s) 4_294_967_295 (omega arith))
+  one-more : length s ≡ suc maxTold → fits room s ≡ false
+  one-more e = ap₂ _&&_ (le-leb (length s) room enough) (lt-leb (length s) maxTold (omega arith))
 
 -- what was written and told stands in the lent buffer, and reads back
 pub writing-done : (text : List ℕ) (work room : ℕ) {s : List ℕ} → writing text work room ≡ Done s → (written text ≡ Done s) × (length s ≤ room)

@@ -1,4 +1,4 @@
-// Small helpers below all other crates: a number in a wider type, with what its own type says of it; the least of two; copying words.
+// Small helpers below all other crates: a number in a wider type, with what its own type says of it; the least of two; what an answer can tell; copying words.
 pub mod u16_usize;
 pub mod u8_u32;
 pub mod u8_usize;
@@ -7,11 +7,22 @@ ghost use mathlib.Core.Path.{_≡_};
 ghost use Prim.Native.Nat.{_≤_, min};
 ghost use lib.ListN.{length};
 ghost use lib.Seq.{paste};
+ghost use Rattle.basics.specs.Told.{maxTold};
+
+// The largest place or count that an answer can tell.
+pub const MAX_TOLD: usize = 4294967295;
 
 pub fn least(a: usize, b: usize) -> usize
     ensures { λ r. ⌜ r ≡ min a b ⌝ }
 {
     if a < b { a } else { b }
+}
+
+// A place or a count, as far as an answer can tell it.
+pub fn told(n: usize) -> u32
+    ensures { λ r. ⌜ r ≡ min maxTold n ⌝ }
+{
+    least(MAX_TOLD, n) as u32
 }
 
 // The first n words, to the front of `out`. It asks that both have as many, and its callers show it.

@@ -1,32 +1,22 @@
 -- The converter's answer by stages: what the reader answers on buffers of the largest result, then what the rewriter makes of it; and what it has accepted.
 use Prim.Native.Nat.{ℕ, _≤_}
-use mathlib.Core.Path.{_≡_, refl, sym, ap, ap₂, _∙_}
-use mathlib.Core.Bool.{_&&_}
+use mathlib.Core.Path.{_≡_, sym, ap, _∙_}
 use mathlib.Core.List.{List}
 use lib.Dec.{leb}
 use lib.ListN.{length}
-use borrow.Author.Tests.{le-leb, leb-true}
+use borrow.Author.Tests.{leb-true}
 use Rattle.node.specs.Limits.{maxNodes}
 use Rattle.node.specs.Postorder.{size}
-use Rattle.node.specs.Result.{Result, Done, Refused, _>>=_, guard}
-use Rattle.node.specs.ResultLaws.{guard-pass, guard-done, guard-bind}
+use Rattle.node.specs.Result.{Result, Done, _>>=_, guard}
+use Rattle.node.specs.ResultLaws.{guard-done, guard-bind}
 use Rattle.forms.specs.Forms.{form}
 use Rattle.language.specs.Limits.{maxSignals, workBytes}
-use Rattle.language.specs.Reading.{NumberedFormula, textExpansion, delivered, reading}
+use Rattle.language.specs.Reading.{NumberedFormula, reading}
 use Rattle.language.specs.Laws.Buffers.{delivered-same}
-use Rattle.language.specs.Laws.Meaning.Acceptance.{accepts, list-limited}
+use Rattle.claim.specs.DeliveredLaws.{all-delivered}
 use Rattle.claim.specs.Converting.{inForm, formed, converting}
 
--- no accepted text is too large for the largest buffers
-all-delivered : (text : List ℕ) → textExpansion text >>= delivered maxNodes maxSignals ≡ textExpansion text
-unfolding _>>=_
-all-delivered text = go (textExpansion text) refl
-  where
-    go : (r : Result NumberedFormula) → textExpansion text ≡ r → r >>= delivered maxNodes maxSignals ≡ r
-    go (Done c) e = guard-pass 18 0 _ (ap₂ _&&_ (le-leb (size (c .formula)) maxNodes (accepts e .fewNodes)) (le-leb (length (c .signals)) maxSignals (list-limited text c e)))
-    go (Refused n p) e = refl
-
--- so the text is read into them, and the rest is what the form makes of it
+-- the text is read into the largest buffers, and the rest is what the form makes of it
 pub converting-reads : (text : List ℕ) (number work nodes signals : ℕ)
     → converting text number work nodes signals ≡ reading text work maxNodes maxSignals >>= formed number nodes signals
 unfolding converting reading

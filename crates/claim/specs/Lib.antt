@@ -4,6 +4,7 @@ pub mod Yields
 pub mod YieldsLaws
 pub mod Reads
 pub mod ReadsLaws
+pub mod DeliveredLaws
 pub mod Converting
 pub mod ConvertingLaws
 pub mod Converts

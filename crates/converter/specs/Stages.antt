@@ -1,9 +1,8 @@
 -- `convert` by stages: the reader's answer into a table and a list of the largest size, then what is written out of them.
-use Prim.Native.Nat.{ℕ, _≤_, min}
+use Prim.Native.Nat.{ℕ, _≤_}
 use mathlib.Core.Path.{_≡_, ap, ap₂, _∙_, sym, subst}
 use mathlib.Core.List.{List, _++_}
-use lib.ListN.{length, take, drop, length-take}
-use native.Mathlib.Omega.{arith}
+use lib.ListN.{length, take, drop}
 use Rattle.node.specs.Limits.{maxNodes}
 use Rattle.node.specs.Ltl.{Formula}
 use Rattle.node.specs.Postorder.{size, nodesFrom}
@@ -23,6 +22,7 @@ use Rattle.claim.specs.Claim.{nodesOf}
 use Rattle.claim.specs.ClaimLaws.{text-few, text-small}
 use Rattle.claim.specs.Yields.{told}
 use Rattle.claim.specs.YieldsLaws.{accepted, refused, told-done, told-refused}
+use Rattle.claim.specs.DeliveredLaws.{taken-room}
 use Rattle.claim.specs.Reads.{Reads}
 use Rattle.claim.specs.Converting.{inForm, formed, conversion}
 use Rattle.claim.specs.ConvertingLaws.{converting-reads, formed-done}
@@ -42,10 +42,6 @@ pub record AtHand (text : List ℕ) (number : ℕ) (work nodes signals work′ t
   pub tableRoom : n ≤ length table
   pub listRoom : s ≤ length list
   pub workLeft : work′ ≡ workAfter work
-
--- as many entries as were taken are there
-taken-room : (n : ℕ) (l : List ℕ) → length (take n l) ≡ n → n ≤ length l
-taken-room n l e = let cut : length (take n l) ≡ min n (length l) = length-take n l in omega arith
 
 module _ (number : ℕ) (nodes signals : List ℕ) {text work work′ table table′ list list′ : List ℕ} {a : Answer}
     (read : Reads text work table list work′ table′ list′ a) (large : length table ≡ maxNodes) (long : length list ≡ maxSignals) where

@@ -24,7 +24,7 @@ use Rattle.traversal.specs.Cells.{nothing, OfToken, Seen, cellAt, TokensTell, e
 use Rattle.traversal.specs.Arity.{arities, operands, firstLine}
 use Rattle.traversal.specs.ArityLaws.{fixed-operands}
 use Rattle.traversal.specs.Parts.{Part, Whole, operandsOf, kindOf}
-use Rattle.traversal.specs.Places.{first-none}
+use Rattle.traversal.specs.Places.{first-none, firstIn-nowhere}
 use Rattle.traversal.specs.PassLaws.{run, Pass, Along, Works, expression-done}
 use Rattle.traversal.specs.LineLaws.{entriesOf, Each, firstBad, Lined, Alone, alone-done, identifiers-alone, text-holds}
 use Rattle.traversal.specs.Passed.{passed, passed-all}
@@ -66,10 +66,6 @@ any-all : (qs : List (Part (Unit {0}))) → Along nothing-past Any tt qs
 any-all [] = tt
 any-all (q ∷ qs) = (tt, any-all qs)
 
-none-bad : (qs : List (Part (Unit {0}))) → firstIn (λ _. none) qs ≡ none
-none-bad [] = refl
-none-bad (q ∷ qs) = none-bad qs
-
 abbrev whole : Expr → Part (Unit {0})
 whole e = Whole tt e
 
@@ -87,7 +83,7 @@ works =
       inherits = λ _ q _. any-all (operandsOf same q);
       carries = λ _ _. refl;
       values = λ _ q c _ z i. values same q c z i;
-      faults = λ _ q c _ z i. ap₂ first (none-bad (operandsOf same q)) (pick (ltb (c .kind) firstLine) _ _ (ap (λ k. ltb k firstLine) (z .kind) ∙ i));
+      faults = λ _ q c _ z i. ap₂ first (firstIn-nowhere (operandsOf same q)) (pick (ltb (c .kind) firstLine) _ _ (ap (λ k. ltb k firstLine) (z .kind) ∙ i));
     }
 
 -- the first operand of a line, counted up to the limit, is deep where the expression is

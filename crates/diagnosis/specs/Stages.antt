@@ -20,7 +20,8 @@ use Rattle.bits.specs.Bits.{Values}
 use Rattle.recordings.specs.Recording.{lassoOf, letterOf}
 use Rattle.recordings.specs.declared.Lasso.{Lasso}
 use Rattle.rows.specs.Agreement.{row-right}
-use Rattle.evaluator.specs.Evaluation.{RowsHold, verdictOf}
+use Rattle.evaluator.specs.Evaluation.{verdictOf}
+use Rattle.evaluator.specs.Promise.{RowsHold}
 use Rattle.evaluator.specs.EvaluationLaws.{Opens, so-same}
 use Rattle.language.specs.Limits.{maxSignals, workBytes}
 use Rattle.language.specs.Tree.{Part, Preset, Assert, Guarantee}
@@ -38,7 +39,8 @@ use Rattle.reader.specs.Telling.{ReadsTold}
 use Rattle.faults.specs.Naming.{lineNamed}
 use Rattle.faults.specs.Diagnosing.{Lined, lined, linedBy, lineRows, finding, diagnosing, rowsLeft, rowsAfter}
 use Rattle.faults.specs.TextLaws.{lines-of, diagnosed-holds, diagnosed-fault}
-use Rattle.faults.specs.Delivered.{accepting, reading-accepting, taken-room}
+use Rattle.claim.specs.DeliveredLaws.{taken-room}
+use Rattle.faults.specs.Delivered.{accepting, reading-accepting}
 use Rattle.line_counts.specs.declared.LineCounts.{LineCounts}
 use Rattle.line_counts.specs.Counting.{countsOf}
 use Rattle.diagnosis.specs.declared.Diagnosis.{Diagnosis}

@@ -10,7 +10,8 @@ use Rattle.node.specs.ResultLaws.{bind-done, bind-to, bind-refused, not-done}
 use Rattle.recordings.specs.Limits.{maxPositions}
 use Rattle.recordings.specs.Recording.{lassoOf}
 use Rattle.recordings.specs.declared.Lasso.{Lasso}
-use Rattle.evaluator.specs.Evaluation.{evaluation, left, RowsHold, finds, verdictOf, Judges}
+use Rattle.evaluator.specs.Evaluation.{evaluation, left, finds, verdictOf}
+use Rattle.evaluator.specs.Promise.{RowsHold, Judges}
 use Rattle.evaluator.specs.EvaluationLaws.{Opens, opens}
 use Rattle.evaluator.specs.declared.Verdict.{Verdict}
 use Rattle.faults.specs.Naming.{Finding, NoFault}

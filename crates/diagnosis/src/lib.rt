@@ -1,6 +1,7 @@
 // Which line of a text failed on a recording (document 02, F-7): the line is found from a table's root by operands, and the bits of its row tell where it is false.
 ghost use mathlib.Core.Path.{_≡_};
 ghost use Prim.Native.Nat.{_≤_, _<_};
+ghost use Rattle.recordings.specs.Limits.{maxPositions};
 ghost use Rattle.line_search.specs.Walking.{lineFound};
 ghost use Rattle.diagnosis.specs.Promise.{tells, Diagnoses};
 ghost use Rattle.diagnosis.specs.Tables.{DiagnosesTable};
@@ -30,7 +31,7 @@ pub enum Diagnosis {
 
 // The line that is named of a table that fails, from its root and its rows over n positions.
 fn name_line(nodes: &[u32], rows: &[u8], n: usize, strict: bool, lines: LineCounts) -> Diagnosis
-    requires { ⌜ (0 < length (now nodes)) × ((length (now nodes) ≤ maxNodes) × (n ≤ 2048)) ⌝ }
+    requires { ⌜ (0 < length (now nodes)) × ((length (now nodes) ≤ maxNodes) × (n ≤ maxPositions)) ⌝ }
     ensures { λ r. ⌜ tells r ≡ Done (lineFound (now (nodes .entry)) (now (rows .entry)) strict lines n) ⌝ }
 {
     let width = (n + 7) / 8;

@@ -17,7 +17,7 @@ use Rattle.bits.specs.Bits.{width}
 use Rattle.recordings.specs.Recording.{letterOf}
 use Rattle.rows.specs.Row.{row, nodeRow, shown}
 use Rattle.rows.specs.RowLaws.{Agree, Uses, uses-map, shape-ext, row-build, shown-in}
-use Rattle.recordings.specs.Letters.{Recorded}
+use Rattle.recordings.specs.Promise.{Recorded}
 use Rattle.rows.specs.Ready.{Ready, opRow}
 use Rattle.recordings.specs.declared.Lasso.{Lasso}
 use Rattle.rows.specs.declared.Op.{Op}

@@ -1,20 +1,16 @@
 -- The evaluator's answer, its buffer and its verdict (document 01, 'Recordings' and 'Refusals with their places'; document 02, F-5).
 -- Laws in EvaluationLaws.
-use Prim.Native.Nat.{ℕ, _+_, _*_, _-_, _<_}
-use mathlib.Core.Path.{_≡_}
-use mathlib.Core.Bool.{Bool, true, false, So}
-use mathlib.Core.Logic.{_↔_}
+use Prim.Native.Nat.{ℕ, _*_, _-_}
+use mathlib.Core.Bool.{Bool, true, false}
 use mathlib.Core.List.{List, _++_}
 use lib.Dec.{leb}
 use lib.ListN.{length, drop}
 use Rattle.node.specs.Result.{Result, Done, guard, _>>=_, Counts}
-use Rattle.node.specs.Answer.{says}
-use Rattle.node.specs.Table.{checked, NodeHolds}
+use Rattle.node.specs.Table.{checked}
 use Rattle.node.specs.declared.Answer.{Answer}
 use Rattle.recordings.specs.Limits.{maxSignals}
-use Rattle.bits.specs.Bits.{bitAt, width}
+use Rattle.bits.specs.Bits.{width}
 use Rattle.recordings.specs.Recording.{lassoOf, readable}
-use Rattle.recordings.specs.Lasso.{recorded}
 use Rattle.recordings.specs.declared.Lasso.{Lasso}
 use Rattle.rows.specs.Row.{nodeRow, tableBytes}
 use Rattle.evaluator.specs.declared.Verdict.{Verdict}
@@ -38,21 +34,6 @@ abbrev pub left : List ℕ → List ℕ → List ℕ → Result Counts → List 
 left nodes bs old (Done counts) = tableBytes bs (lassoOf bs) nodes (length nodes) ++ drop (rowsSize nodes bs) old
 left nodes bs old (Result.Refused number place) = old
 
--- where bit p of row i stands in the buffer
-abbrev pub bitOfRow : List ℕ → ℕ → ℕ → ℕ
-bitOfRow bs i p = 8 * (width (lassoOf bs .n) * i) + p
-
--- every bit of every row says whether its node holds at that position of the recording's infinite word
-abbrev pub RowsHold : List ℕ → List ℕ → List ℕ → Type 0
-RowsHold nodes bs rows =
-    (i p : ℕ) → i < length nodes → p < lassoOf bs .n → So (bitAt rows (bitOfRow bs i p)) ↔ NodeHolds nodes i (recorded bs) p
-
--- what `evaluate` promises
-pub record Evaluates (r : Answer) (nodes : List ℕ) (signals : ℕ) (bs old new : List ℕ) : Type 0 where
-  pub answer : says r ≡ evaluation nodes signals bs (length old)
-  pub buffer : new ≡ left nodes bs old (evaluation nodes signals bs (length old))
-  pub holds : (counts : Counts) → says r ≡ Done counts → RowsHold nodes bs new
-
 -- what a `Verdict` says: does the root hold at position 0, or a refusal
 abbrev pub finds : Verdict → Result Bool
 finds Verdict.Holds = Done true
@@ -67,10 +48,3 @@ unjudged (Answer.Accepted nodes signals) = Verdict.Refused 0 0
 -- 'The verdict is the root at position 0'
 unfoldable pub verdictOf : List ℕ → ℕ → List ℕ → ℕ → Result Bool
 verdictOf nodes signals bs room = evaluation nodes signals bs room >>= (λ counts. Done (nodeRow bs (lassoOf bs) nodes (length nodes - 1) 0))
-
--- what `judge` promises
-pub record Judges (r : Verdict) (nodes : List ℕ) (signals : ℕ) (bs old new : List ℕ) : Type 0 where
-  pub answer : finds r ≡ verdictOf nodes signals bs (length old)
-  pub buffer : new ≡ left nodes bs old (evaluation nodes signals bs (length old))
-  pub holds : (b : Bool) → finds r ≡ Done b → So b ↔ NodeHolds nodes (length nodes - 1) (recorded bs) 0
-  pub rows : (b : Bool) → finds r ≡ Done b → RowsHold nodes bs new

@@ -24,10 +24,11 @@ use Rattle.recordings.specs.Lasso.{recorded}
 use Rattle.rows.specs.Row.{nodeRow}
 use Rattle.rows.specs.RowLaws.{shown-in}
 use Rattle.rows.specs.Agreement.{row-right}
-use Rattle.recordings.specs.Letters.{Recorded}
+use Rattle.recordings.specs.Promise.{Recorded}
 use Rattle.evaluator.specs.Evaluated.{Evaluated, Table, trees-of, offset-fits, before-row}
 use Rattle.evaluator.specs.Listed.{listed}
-use Rattle.evaluator.specs.Evaluation.{rowsSize, whole, evaluation, left, bitOfRow, RowsHold, Evaluates, finds, unjudged, verdictOf, Judges}
+use Rattle.evaluator.specs.Evaluation.{rowsSize, whole, evaluation, left, finds, unjudged, verdictOf}
+use Rattle.evaluator.specs.Promise.{bitOfRow, RowsHold, Evaluates, Judges}
 use Rattle.recordings.specs.declared.Lasso.{Lasso}
 use Rattle.evaluator.specs.declared.Verdict.{Verdict}
 

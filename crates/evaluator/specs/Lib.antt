@@ -1,4 +1,5 @@
 pub mod Evaluation
+pub mod Promise
 pub mod Evaluated
 pub mod Copies
 pub mod Listed

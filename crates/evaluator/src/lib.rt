@@ -6,7 +6,8 @@ ghost use lib.ListN.{length};
 ghost use Rattle.node.specs.Answer.{says};
 ghost use Rattle.node.specs.Limits.{maxSignals};
 ghost use Rattle.evaluator.specs.Evaluated.{Evaluated, RowDone, Turn, Table};
-ghost use Rattle.evaluator.specs.Evaluation.{evaluation, Evaluates, unjudged as unjudged', Judges};
+ghost use Rattle.evaluator.specs.Evaluation.{evaluation, unjudged as unjudged'};
+ghost use Rattle.evaluator.specs.Promise.{Evaluates, Judges};
 use bits::get_bit;
 use node::Answer;
 use node::Node;
@@ -18,9 +19,6 @@ use recordings::read_lasso;
 use rows::Op;
 use rows::copy_row;
 use rows::fill_row;
-
-// A recording that lacks signals (document 02, 23).
-pub const UNRECORDED_SIGNALS: u32 = 23;
 
 // The root at position 0, or a refusal with number and place.
 pub enum Verdict {
@@ -110,7 +108,7 @@ fn examine(nodes: &[u32], signals: u32, recording: &[u8], room: usize) -> Answer
         return heading;
     };
     if k < signals {
-        return Answer::Refused(UNRECORDED_SIGNALS, 0);
+        return Answer::Refused(refusals::UNRECORDED_SIGNALS, 0);
     }
     let w = (n as usize + 7) / 8;
     if room < w * (count as usize) {

@@ -7,10 +7,6 @@ use mathlib.Core.Logic.{_⊎_}
 abbrev pub unreadable : ℕ
 unreadable = 2 ^ 64 - 1
 
--- the last place that 32 bits can tell
-abbrev pub lastPlace : ℕ
-lastPlace = 2 ^ 32 - 1
-
 -- from `low` to `high` bytes
 abbrev pub Counted : (low high : ℕ) → ℕ → Type 0
 Counted low high n = ((low ≤ n) × (n ≤ high)) ⊎ (n ≡ unreadable)

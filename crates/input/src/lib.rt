@@ -1,16 +1,14 @@
 // Files read to their end, for the programs: as many bytes as there is room for, and how many there are.
+use basics::MAX_TOLD;
 use basics::least;
-ghost use mathlib.Core.Path.{_≡_};
-ghost use Prim.Native.Nat.{_≤_, min, max};
+ghost use Prim.Native.Nat.{_≤_, max};
 ghost use lib.ListN.{length};
 ghost use Rattle.io.specs.Counts.{Counts};
-ghost use Rattle.input.specs.Counted.{lastPlace, Counted};
+ghost use Rattle.basics.specs.Told.{maxTold};
+ghost use Rattle.input.specs.Counted.{Counted};
 
 // Told in place of a number of bytes where a read fails.
 pub const UNREADABLE: usize = 18446744073709551615;
-
-// The last place that 32 bits can tell.
-const LAST_PLACE: usize = 4294967295;
 
 // As many of some bytes as the buffer has. It takes the buffer and not its length, so that a caller may lend that part of it without a proof.
 pub fn within(n: usize, buf: &[u8]) -> usize
@@ -48,12 +46,12 @@ pub fn fill(fd: i32, buf: &mut [u8]) -> usize
     done
 }
 
-// How many bytes there are, some of which have been read; counted up to the last place.
+// How many bytes there are, some of which have been read; counted up to what an answer can tell.
 pub fn size(fd: i32, first: usize, spare: &mut [u8]) -> usize
-    ensures { λ r. ⌜ Counted first (max first lastPlace) r ⌝ }
+    ensures { λ r. ⌜ Counted first (max first maxTold) r ⌝ }
 {
     let mut total = first;
-    while total < LAST_PLACE {
+    while total < MAX_TOLD {
         let got = fill(fd, spare);
         if got == UNREADABLE {
             return UNREADABLE;
@@ -61,14 +59,7 @@ pub fn size(fd: i32, first: usize, spare: &mut [u8]) -> usize
         if got == 0 {
             return total;
         }
-        total += least(got, LAST_PLACE - total);
+        total += least(got, MAX_TOLD - total);
     }
     total
-}
-
-// A number of bytes, as far as 32 bits can tell it.
-pub fn told(size: usize) -> u32
-    ensures { λ r. ⌜ r ≡ min size lastPlace ⌝ }
-{
-    least(size, LAST_PLACE) as u32
 }

@@ -1,7 +1,8 @@
 pub mod Judging
+pub mod Longer
+pub mod Promise
 pub mod MeaningLaws
 pub mod RoomLaws
 pub mod Stages
-pub mod Longer
 pub mod LongerLaws
 pub mod Cases

@@ -7,10 +7,7 @@ use mathlib.Core.List.{List}
 use lib.Dec.{eqb, leb, ltb}
 use lib.ListN.{length, take}
 use Rattle.node.specs.Result.{Result, Done, Refused}
-use Rattle.evaluator.specs.Evaluation.{finds}
 use Rattle.recordings.specs.Limits.{longest, pick, told}
-use Rattle.evaluator.specs.declared.Verdict.{Verdict}
-use Rattle.language.specs.Reading.{workAfter}
 use Rattle.judging.specs.Judging.{judging}
 
 -- a recording begins with some bytes, which are all of it unless they are more than the longest has; its length is told
@@ -30,9 +27,3 @@ moved size (Refused number place) = Refused number (placeTold size number place)
 -- the verdict on a beginning: that of a whole recording where it is no more than the longest has, else the same with the told length in it
 abbrev pub judgingStart : (text start : List ℕ) (size work : ℕ) → Result Bool
 judgingStart text start size work = pick (leb (length start) longest) (judging text start work) (moved size (judging text start work))
-
--- what `judge_start` promises, whatever size is told; and so the verdict of every recording that begins so, if its length is told
-pub record JudgesStart (text start : List ℕ) (size : ℕ) (work work′ : List ℕ) (r : Verdict) : Type 0 where
-  pub tells : finds r ≡ judgingStart text start size (length work)
-  pub answer : (whole : List ℕ) → Begins start size whole → finds r ≡ judging text whole (length work)
-  pub workLeft : work′ ≡ workAfter work

@@ -12,7 +12,7 @@ use borrow.Author.Tests.{ne-eqb, eq-eqb, le-leb, lt-leb, lt-ltb}
 use Rattle.node.specs.Result.{Result, Done, Refused, _>>=_}
 use Rattle.node.specs.ResultLaws.{guard-done}
 use Rattle.rewriter.specs.OwnNodes.{own-checked}
-use Rattle.recordings.specs.Limits.{maxPositions, maxSignals, positionBits, startBits, signalBits, headerBits, headerBytes, longest, lastPlace, pick, told}
+use Rattle.recordings.specs.Limits.{maxPositions, maxSignals, positionBits, startBits, signalBits, headerBits, headerBytes, longest, pick, told}
 use Rattle.bits.specs.Bits.{Values, digit, number}
 use Rattle.bits.specs.BitLaws.{same-byte}
 use Rattle.recordings.specs.Recording.{fieldAt, lassoOf, headerFits, readable, counted}
@@ -27,10 +27,12 @@ use Rattle.language.specs.Laws.Basics.Results.{refusal-of}
 use Rattle.language.specs.Laws.Meaning.Acceptance.{text-signals, list-limited}
 use Rattle.claim.specs.Claim.{nodesOf}
 use Rattle.claim.specs.ClaimLaws.{text-few}
-use Rattle.judging.specs.Judging.{verdictOn, judging, JudgesText}
-use Rattle.faults.specs.Delivered.{accepting, accepting-numbers, taken-room}
+use Rattle.judging.specs.Judging.{verdictOn, judging}
+use Rattle.judging.specs.Promise.{JudgesStart, JudgesText}
+use Rattle.claim.specs.DeliveredLaws.{taken-room}
+use Rattle.faults.specs.Delivered.{accepting, accepting-numbers}
 use Rattle.judging.specs.Stages.{judging-accepting}
-use Rattle.judging.specs.Longer.{Begins, placeTold, moved, JudgesStart}
+use Rattle.judging.specs.Longer.{Begins, placeTold, moved}
 
 number-same : (f g : Values) (n : ℕ) → ((i : ℕ) → i < n → f i ≡ g i) → number f n ≡ number g n
 unfolding number
@@ -80,11 +82,7 @@ module _ (text : List ℕ) (c : NumberedFormula) (e : textExpansion text ≡ Don
 -- a length that is told is one
 told-some : (place : ℕ) → 0 < place → 0 < told place
 unfolding told
-told-some place h = go (leb place lastPlace)
-  where
-    go : (b : Bool) → 0 < pick b place lastPlace
-    go true = h
-    go false = omega arith
+told-some place h = omega arith
 
 -- refusals that keep their place, and the one that does not
 module _ (size n p : ℕ) where

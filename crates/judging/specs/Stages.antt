@@ -19,8 +19,10 @@ use Rattle.claim.specs.Claim.{nodesOf}
 use Rattle.claim.specs.YieldsLaws.{accepted, refused}
 use Rattle.claim.specs.Reads.{Reads}
 use Rattle.faults.specs.TextLaws.{verdict-of-text}
-use Rattle.faults.specs.Delivered.{accepting, reading-accepting, taken-room}
-use Rattle.judging.specs.Judging.{verdictOn, judging, JudgesText}
+use Rattle.claim.specs.DeliveredLaws.{taken-room}
+use Rattle.faults.specs.Delivered.{accepting, reading-accepting}
+use Rattle.judging.specs.Judging.{verdictOn, judging}
+use Rattle.judging.specs.Promise.{JudgesText}
 use Rattle.judging.specs.MeaningLaws.{played}
 
 -- the verdict is what the evaluator makes of the reader's answer

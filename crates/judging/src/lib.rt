@@ -2,9 +2,9 @@
 ghost use mathlib.Core.Path.{_≡_};
 ghost use lib.ListN.{length};
 ghost use Rattle.evaluator.specs.Evaluation.{rowsSize, verdictOf, finds};
-ghost use Rattle.judging.specs.Judging.{JudgesText};
+ghost use Rattle.judging.specs.Promise.{JudgesStart, JudgesText};
 ghost use Rattle.judging.specs.RoomLaws.{rowsRoom};
-ghost use Rattle.judging.specs.Longer.{JudgesStart, placeTold, moved as moved'};
+ghost use Rattle.judging.specs.Longer.{placeTold, moved as moved'};
 use evaluator::Verdict;
 use evaluator::unjudged;
 use node::Answer;

@@ -1,12 +1,13 @@
 -- The expansion of a text to one formula (document 01, 'Expansion').
-use Prim.Native.Nat.{ℕ, zero, suc, _+_, _-_}
+use Prim.Native.Nat.{ℕ, suc, _+_, _-_}
 use mathlib.Core.Bool.{Bool, true, false, not, _&&_}
 use mathlib.Core.List.{List, [], _∷_, _++_, map}
 use lib.Dec.{eqb, leb, ltb}
 use lib.ListN.{length}
-use Rattle.node.specs.Operators.{Not, X, G, Binary, And, Or, Implies, W}
+use Rattle.node.specs.Operators.{Not, G, Binary, And, Or, Implies, W}
 use Rattle.node.specs.Ltl.{Formula, True, False, Signal, One, Two}
 use Rattle.node.specs.Result.{Result, Done, Refused, _>>=_, guard}
+pub use Rattle.node.specs.Derived.{truth, nexts, chain}
 use Rattle.language.specs.Tokens.{Token}
 use Rattle.language.specs.Operators.{
   Comparison,
@@ -84,21 +85,6 @@ conjunction (a ∷ bs) = joined And a bs
 abbrev pub disjunction : List Formula → Formula
 disjunction [] = False
 disjunction (a ∷ bs) = joined Or a bs
-
--- 'A comparison of numbers and IN become true or false'
-abbrev pub truth : Bool → Formula
-truth true = True
-truth false = False
-
--- '`X[n]` is n X nodes'
-abbrev pub nexts : ℕ → Formula → Formula
-nexts zero a = a
-nexts (suc n) a = One X (nexts n a)
-
--- `a || X(a || ..)` with n + 1 times a
-abbrev pub chain : Binary → ℕ → Formula → Formula
-chain o zero a = a
-chain o (suc n) a = Two o a (One X (chain o n a))
 
 -- '`F[n:m] a` is n X over `a || X(a || ..)`, `G[n:m]` with `&&`'; 'm below n' is 11
 abbrev pub windowOperator : Window → Binary

@@ -11,8 +11,9 @@ use Rattle.node.specs.Fields.{kindOf, firstOf, secondOf}
 use Rattle.node.specs.Kinds.{Shape, Truth, Falsehood, Atom, UnaryOf, BinaryOf, Unused, shapeOf}
 use Rattle.node.specs.Table.{treeAt, root}
 use Rattle.node.specs.TableLaws.{Below, NodeIs, node-is}
-use Rattle.basic.specs.Writing.{maxTold}
-use Rattle.signal_names.specs.Runs.{Puts, puts-nothing, puts-after, puts-length}
+use Rattle.basics.specs.Told.{maxTold}
+use Rattle.signal_names.specs.Runs.{puts-nothing, puts-after, puts-length}
+use Rattle.signal_names.specs.Promise.{Puts}
 use Rattle.layout.specs.Layout.{layout, left, sized, weight, nth}
 use Rattle.layout.specs.Table.{Measurable}
 use Rattle.layout.specs.SizeLaws.{sized-weight, sized-capped}

@@ -19,7 +19,7 @@ use Rattle.language.specs.Tree.{Model, Mealy, Moore}
 use Rattle.language.specs.Numbered.{flagOf}
 use Rattle.basic.specs.Spelling.{spelled, namesOf, sideOf}
 use Rattle.basic.specs.Basic.{unarySign, binarySign, formulaTokens, infoTokens, lineTokens, basicTokens, parted}
-use Rattle.signal_names.specs.Slots.{slot, Held, Spelt, Spells}
+use Rattle.signal_names.specs.Promise.{slot, Held, Spelt, Spells}
 use Rattle.signal_names.specs.Turns.{names-length, name-is}
 use Rattle.layout.specs.Layout.{layout}
 use Rattle.layout.specs.Text.{headText, outputsText, guaranteeText, endText, linesFrom, textOf, handed, outcome}

@@ -6,7 +6,7 @@ use mathlib.Core.List.{List}
 use lib.ListN.{length, getD}
 use native.Mathlib.Omega.{arith}
 use Rattle.node.specs.Fields.{kindOf, firstOf, secondOf}
-use Rattle.node.specs.Kinds.{shapeOf}
+use Rattle.node.specs.Kinds.{kindCount, shapeOf}
 use Rattle.node.specs.TableLaws.{Below}
 use Rattle.language.specs.Limits.{maxName}
 use Rattle.layout.specs.Layout.{piece, sized, nth}
@@ -17,7 +17,7 @@ module _ {sizes : List ℕ} {n word k a b : ℕ} (m : Measurable sizes n word) (
   below : Below (m .limit) (shapeOf k) n a b
   below = rw (ek, ea, eb) (m .below)
 
-  pub kind-told : k < 14
+  pub kind-told : k < kindCount
   kind-told = kind-below (m .limit) n a b k below
 
   pub name-told : k ≡ 2 → (a < length sizes) × (getD sizes a 0 ≤ maxName)

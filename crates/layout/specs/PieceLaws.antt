@@ -10,8 +10,8 @@ use borrow.Author.Tests.{eqb-true, eqb-false}
 use Rattle.node.specs.Kinds.{shapeOf}
 use Rattle.node.specs.KindLaws.{by-kind, no-shape}
 use Rattle.language.specs.Bytes.{ascii}
-use Rattle.signal_names.specs.Runs.{part, part-length, Puts, puts-after}
-use Rattle.signal_names.specs.Slots.{slotBytes, slot}
+use Rattle.signal_names.specs.Runs.{part-length, puts-after}
+use Rattle.signal_names.specs.Promise.{slotBytes, slot, part, Puts}
 use Rattle.layout.specs.Layout.{piece, pieceOf}
 use Rattle.layout.specs.Table.{Writable}
 

@@ -1,28 +1,28 @@
 -- The size of a node's text from its pieces', its name's and its operands'.
 use Prim.Native.Nat.{ℕ, _+_, _<_, _≤_, min}
 use mathlib.Core.Path.{_≡_, refl, ap, sym}
-use mathlib.Core.Bool.{Bool, true, false, false≢true}
+use mathlib.Core.Bool.{Bool, true, false≢true}
 use lib.Dec.{eqb}
 use lib.ListN.{length}
 use native.Mathlib.Decide.{decLt}
 use native.Mathlib.Omega.{arith}
 use borrow.Author.Tests.{eq-eqb, ne-eqb}
-use Rattle.node.specs.Kinds.{Shape, Truth, Falsehood, Atom, UnaryOf, BinaryOf, Unused, shapeOf, build}
+use Rattle.node.specs.Kinds.{Shape, Truth, Falsehood, Atom, UnaryOf, BinaryOf, Unused, kindCount, shapeOf, build}
 use Rattle.node.specs.KindLaws.{Each, each-below, no-shape}
 use Rattle.node.specs.Ltl.{Formula}
 use Rattle.node.specs.TableLaws.{Below}
 use Rattle.language.specs.Laws.Basics.Tests.{pick, leave}
-use Rattle.layout.specs.Layout.{piece, operands, sized, weight}
+use Rattle.layout.specs.Layout.{piece, sized, weight}
 use Rattle.layout.specs.Table.{following, ofSignal, ofOperand}
 
 module _ (limit n a b : ℕ) where
   -- a node that fits has one of the fourteen kinds
-  pub kind-below : (k : ℕ) → Below limit (shapeOf k) n a b → k < 14
-  kind-below k h = go (decLt k 14)
+  pub kind-below : (k : ℕ) → Below limit (shapeOf k) n a b → k < kindCount
+  kind-below k h = go (decLt k kindCount)
     where
-      go : Dec (k < 14) → k < 14
+      go : Dec (k < kindCount) → k < kindCount
       go (yes l) = l
-      go (no l) = let above : 14 ≤ k = omega arith in let e : shapeOf k ≡ Unused = no-shape above in let g : Below limit Unused n a b = rw e at h in absurd g
+      go (no l) = let above : kindCount ≤ k = omega arith in let e : shapeOf k ≡ Unused = no-shape above in let g : Below limit Unused n a b = rw e at h in absurd g
 
   -- a signal's number lies below the limit, operands before the node
   pub atom-below : (k : ℕ) → Below limit (shapeOf k) n a b → k ≡ 2 → a < limit
@@ -83,7 +83,7 @@ module _ (size operand : ℕ → ℕ) (a b : ℕ) where
   abbrev Sum : ℕ → Type 0
   Sum k = summed k ≡ sized (shapeOf k) size operand a b
 
-  sums : Each Sum 14
+  sums : Each Sum kindCount
   sums = (
     (
       ((((((((((((tt, omega arith), omega arith), omega arith), omega arith), omega arith), omega arith), omega arith), omega arith), omega arith), omega arith), omega arith), omega arith),
@@ -92,5 +92,5 @@ module _ (size operand : ℕ → ℕ) (a b : ℕ) where
     omega arith,
   )
 
-  pub summed-is : (k : ℕ) → k < 14 → summed k ≡ sized (shapeOf k) size operand a b
-  summed-is k h = each-below Sum 14 sums k h
+  pub summed-is : (k : ℕ) → k < kindCount → summed k ≡ sized (shapeOf k) size operand a b
+  summed-is k h = each-below Sum kindCount sums k h

@@ -8,8 +8,7 @@ use Rattle.node.specs.Fields.{kindOf}
 use Rattle.node.specs.Kinds.{Shape, shapeOf}
 use Rattle.node.specs.Table.{treeAt}
 use Rattle.node.specs.TableLaws.{Formed}
-use Rattle.signal_names.specs.Runs.{Puts}
-use Rattle.signal_names.specs.Slots.{Held}
+use Rattle.signal_names.specs.Promise.{Held, Puts}
 use Rattle.layout.specs.Layout.{operands, left}
 use Rattle.layout.specs.declared.formula.Turn.{Turn}
 

@@ -13,14 +13,13 @@ use borrow.Author.Tests.{ltb-true, ltb-false}
 use Rattle.node.specs.Limits.{maxNodes}
 use Rattle.node.specs.Fields.{kindOf, firstOf, secondOf}
 use Rattle.node.specs.Ltl.{Formula}
-use Rattle.node.specs.Kinds.{Shape, Truth, Falsehood, Atom, UnaryOf, BinaryOf, Unused, shapeOf, build}
+use Rattle.node.specs.Kinds.{Shape, Truth, Falsehood, Atom, UnaryOf, BinaryOf, Unused, kindCount, shapeOf, build}
 use Rattle.node.specs.Table.{treeAt}
 use Rattle.node.specs.TableLaws.{Below, NodeIs, node-is}
 use Rattle.language.specs.Bytes.{ascii}
 use Rattle.basic.specs.Basic.{binarySign}
-use Rattle.signal_names.specs.Runs.{Puts}
-use Rattle.signal_names.specs.Slots.{slot}
-use Rattle.layout.specs.Layout.{piece, operands, layout, left, pieceOf}
+use Rattle.signal_names.specs.Promise.{slot, Puts}
+use Rattle.layout.specs.Layout.{operands, layout, left, pieceOf}
 use Rattle.layout.specs.Table.{following, Writable}
 use Rattle.layout.specs.SizeLaws.{kind-below, atom-below}
 use Rattle.layout.specs.Stack.{owner, written, owed, todo, shapeAt, Entry, Stacked, Scene, Turns}
@@ -151,7 +150,7 @@ module _ {nodes names sizes stack : List ℕ} {h kind first : ℕ} (t : Top node
   is : NodeIs limit nodes i (shapeOf kind) first second
   is = node-is i kind first second (t .scene .formed) inside (t .kind-is) (t .first-is) refl
 
-  pub kind-small : kind < 14
+  pub kind-small : kind < kindCount
   kind-small = kind-below limit i first second kind (is .lower)
 
   few : done ≤ operands (shapeOf kind)

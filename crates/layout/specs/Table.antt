@@ -10,7 +10,7 @@ use Rattle.node.specs.Kinds.{Shape, shapes, shapeOf}
 use Rattle.node.specs.TableLaws.{Below}
 use Rattle.language.specs.Limits.{maxName}
 use Rattle.language.specs.Bytes.{if_then_else_}
-use Rattle.signal_names.specs.Slots.{slotBytes}
+use Rattle.signal_names.specs.Promise.{slotBytes}
 use Rattle.layout.specs.Layout.{piece, operands}
 
 -- does an operand follow the piece?

@@ -6,10 +6,10 @@ use mathlib.Core.List.{List}
 use lib.Dec.{eqb}
 use lib.ListN.{length, getD}
 use native.Mathlib.Omega.{arith}
-use Rattle.node.specs.Kinds.{shapeOf}
+use Rattle.node.specs.Kinds.{kindCount, shapeOf}
 use Rattle.node.specs.KindLaws.{Each, each-below}
 use Rattle.language.specs.Bytes.{if_then_else_}
-use Rattle.signal_names.specs.Runs.{part, Puts}
+use Rattle.signal_names.specs.Promise.{part, Puts}
 use Rattle.layout.specs.Layout.{piece}
 use Rattle.layout.specs.Table.{table, rowAt, following}
 
@@ -164,8 +164,8 @@ row-13 = (
   record { size = refl; more = refl; bytes = refl; inside = omega arith; short = omega arith },
 )
 
-pub table-row : (kind done : ℕ) → kind < 14 → done < 3 → Row kind done
-table-row kind done h l = each-below (Row kind) 3 (each-below Rows 14
+pub table-row : (kind done : ℕ) → kind < kindCount → done < 3 → Row kind done
+table-row kind done h l = each-below (Row kind) 3 (each-below Rows kindCount
     ((((((((((((((tt, row-0), row-1), row-2), row-3), row-4), row-5), row-6), row-7), row-8), row-9), row-10), row-11), row-12), row-13) kind h) done l
 
 pub table-length : length table ≡ 504
@@ -177,7 +177,7 @@ told-bool : (x : ℕ) (b : Bool) → x ≡ (if b then 1 else 0) → not (eqb x 0
 told-bool x true e = ap (λ (n : ℕ). not (eqb n 0)) e
 told-bool x false e = ap (λ (n : ℕ). not (eqb n 0)) e
 
-module _ {pieces : List ℕ} (kind done : ℕ) (is : pieces ≡ table) (h : kind < 14) (l : done < 3) where
+module _ {pieces : List ℕ} (kind done : ℕ) (is : pieces ≡ table) (h : kind < kindCount) (l : done < 3) where
   abbrev r : Row kind done
   r = table-row kind done h l
 

@@ -8,6 +8,7 @@ use lib.ListN.{length}
 use Rattle.node.specs.Ltl.{Formula}
 use Rattle.node.specs.Result.{Result, Done, guard, _>>=_}
 use Rattle.node.specs.Table.{root}
+use Rattle.language.specs.Limits.{maxName}
 use Rattle.language.specs.Bytes.{ascii}
 use Rattle.language.specs.Places.{refuseAt}
 use Rattle.language.specs.Tree.{Model, Mealy, Moore}
@@ -37,9 +38,13 @@ guaranteeText = ascii "} GUARANTEE { "
 abbrev pub endText : List ℕ
 endText = ascii "; } }"
 
+-- what stands behind a name
+abbrev pub lineEnd : List ℕ
+lineEnd = ascii " ; "
+
 -- an entry's line, in the list of its direction
 abbrev pub lineOf : (name : ℕ → List ℕ) (flag : ℕ) → ℕ → ℕ → List ℕ
-lineOf name flag k e = elim (eqb (flagOf e) flag) [ true ↦ name k ++ ascii " ; " | false ↦ [] ]
+lineOf name flag k e = elim (eqb (flagOf e) flag) [ true ↦ name k ++ lineEnd | false ↦ [] ]
 
 -- the lines of the entries from number k on
 unfoldable pub linesFrom : (name : ℕ → List ℕ) (flag : ℕ) → ℕ → List ℕ → List ℕ
@@ -47,7 +52,11 @@ linesFrom name flag k [] = []
 linesFrom name flag k (e ∷ es) = lineOf name flag k e ++ linesFrom name flag (suc k) es
 
 abbrev pub lineSize : (flag e size : ℕ) → ℕ
-lineSize flag e size = elim (eqb (flagOf e) flag) [ true ↦ size + 3 | false ↦ 0 ]
+lineSize flag e size = elim (eqb (flagOf e) flag) [ true ↦ size + length lineEnd | false ↦ 0 ]
+
+-- the longest line
+abbrev pub maxLine : ℕ
+maxLine = maxName + length lineEnd
 
 unfoldable pub linesSize : (size : ℕ → ℕ) (flag : ℕ) → ℕ → List ℕ → ℕ
 linesSize size flag k [] = 0
@@ -60,6 +69,10 @@ textOf m name list f =
 -- bytes of INFO and the words between the lists
 abbrev pub fixedSize : ℕ
 fixedSize = length (headText Mealy) + length outputsText + length guaranteeText + length endText
+
+-- what the code's constants stand for, in their order
+abbrev pub fixedSizes : List ℕ
+fixedSizes = length (headText Mealy) ∷ length outputsText ∷ length guaranteeText ∷ length endText ∷ length lineEnd ∷ fixedSize ∷ []
 
 -- an answer and the lent buffer after it, of what the definition gives
 pub record Delivers (r : Result (List ℕ)) (out out′ : List ℕ) (w : Written) : Type 0 where

@@ -9,15 +9,14 @@ use lib.Seq.{drop-cons, take-length}
 use native.Mathlib.Numerals.{add-one}
 use native.Mathlib.Omega.{arith}
 use borrow.Author.Tests.{eq-eqb, ne-eqb}
-use Rattle.language.specs.Bytes.{ascii}
 use Rattle.language.specs.Limits.{maxName}
 use Rattle.language.specs.Tree.{Mealy, Moore}
 use Rattle.language.specs.Numbered.{flagOf}
 use Rattle.language.specs.Laws.Basics.Tests.{pick, leave}
-use Rattle.signal_names.specs.Runs.{part, part-length, Puts, puts-nothing, puts-after, puts-length}
-use Rattle.signal_names.specs.Slots.{slot, slotBytes, Held}
+use Rattle.signal_names.specs.Runs.{part-length, puts-nothing, puts-after, puts-length}
+use Rattle.signal_names.specs.Promise.{slot, slotBytes, Held, part, Puts}
 use Rattle.layout.specs.Layout.{nth}
-use Rattle.layout.specs.Text.{modelOf, headText, lineOf, linesFrom, lineSize, linesSize}
+use Rattle.layout.specs.Text.{modelOf, headText, lineOf, linesFrom, lineEnd, lineSize, linesSize}
 
 -- a slice put as a whole
 pub put-whole : {from out out′ : List ℕ} {at r : ℕ} → Puts (part from 0 (length from)) out out′ at r → Puts from out out′ at r
@@ -51,24 +50,24 @@ module _ (name : ℕ → List ℕ) (flag k e : ℕ) {f : ℕ} (is : f ≡ flagOf
   pub line-not : (f ≡ flag → ⊥) → lineOf name flag k e ≡ []
   line-not h = leave (eqb (flagOf e) flag) _ _ (ne-eqb (flagOf e) flag (λ z. h (is ∙ z)))
 
-  pub line-is : f ≡ flag → lineOf name flag k e ≡ name k ++ ascii " ; "
+  pub line-is : f ≡ flag → lineOf name flag k e ≡ name k ++ lineEnd
   line-is h = pick (eqb (flagOf e) flag) _ _ (eq-eqb (flagOf e) flag (sym is ∙ h))
 
   module _ {out : List ℕ} {at : ℕ} where
     pub put-no-line : (f ≡ flag → ⊥) → Puts (lineOf name flag k e) out out at at
     put-no-line h = rw (line-not h) (puts-nothing out at)
 
-    pub put-line-is : {o1 o2 : List ℕ} {m r : ℕ} → f ≡ flag → Puts (name k) out o1 at m → Puts (ascii " ; ") o1 o2 m r → Puts (lineOf name flag k e) out o2 at r
+    pub put-line-is : {o1 o2 : List ℕ} {m r : ℕ} → f ≡ flag → Puts (name k) out o1 at m → Puts (lineEnd) o1 o2 m r → Puts (lineOf name flag k e) out o2 at r
     put-line-is h p q = rw (line-is h) (puts-after p q)
 
-  pub line-length : f ≡ flag → length (lineOf name flag k e) ≡ length (name k) + 3
-  line-length h = ap length (line-is h) ∙ length-append (name k) (ascii " ; ")
+  pub line-length : f ≡ flag → length (lineOf name flag k e) ≡ length (name k) + length lineEnd
+  line-length h = ap length (line-is h) ∙ length-append (name k) (lineEnd)
 
 module _ (flag e size : ℕ) {f : ℕ} (is : f ≡ flagOf e) where
   pub size-not : (f ≡ flag → ⊥) → lineSize flag e size ≡ 0
   size-not h = leave (eqb (flagOf e) flag) _ _ (ne-eqb (flagOf e) flag (λ z. h (is ∙ z)))
 
-  pub size-is : f ≡ flag → lineSize flag e size ≡ size + 3
+  pub size-is : f ≡ flag → lineSize flag e size ≡ size + length lineEnd
   size-is h = pick (eqb (flagOf e) flag) _ _ (eq-eqb (flagOf e) flag (sym is ∙ h))
 
 -- the next entry's line, and the rest
@@ -138,8 +137,8 @@ lines-length name size flag k (e ∷ es) h =
     ∙ ap₂ _+_ (go (eqb (flagOf e) flag) (let z : k + 0 ≡ k = omega arith in rw z at (h 0 (omega arith))))
     (lines-length name size flag (suc k) es (λ j l. let z : k + suc j ≡ suc k + j = omega arith in rw z at (h (suc j) (omega arith))))
   where
-    go : (b : Bool) → length (name k) ≡ size k → length {A = ℕ} (elim b [ true ↦ name k ++ ascii " ; " | false ↦ [] ]) ≡ elim b [ true ↦ size k + 3 | false ↦ 0 ]
-    go true z = length-append (name k) (ascii " ; ") ∙ ap (λ (n : ℕ). n + 3) z
+    go : (b : Bool) → length (name k) ≡ size k → length {A = ℕ} (elim b [ true ↦ name k ++ lineEnd | false ↦ [] ]) ≡ elim b [ true ↦ size k + length lineEnd | false ↦ 0 ]
+    go true z = length-append (name k) (lineEnd) ∙ ap (λ (n : ℕ). n + length lineEnd) z
     go false z = refl
 
 pub lines-sized : (names sizes : List ℕ) (flag : ℕ) (list : List ℕ) → Held names sizes (length list) → length (linesFrom (slot names sizes) flag 0 list) ≡ linesSize (nth sizes) flag 0 list

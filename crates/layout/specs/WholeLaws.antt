@@ -1,5 +1,5 @@
 -- The whole text: its size, whether it fits, and that it is the definition's.
-use Prim.Native.Nat.{ℕ, _+_, _-_, _<_, _≤_, min}
+use Prim.Native.Nat.{ℕ, _+_, _*_, _-_, _<_, _≤_, min}
 use mathlib.Core.Path.{_≡_, refl, ap, ap₂, _∙_}
 use mathlib.Core.Bool.{Bool, true, false, _&&_}
 use mathlib.Core.List.{List, _++_}
@@ -16,10 +16,11 @@ use Rattle.node.specs.Postorder.{SignalsBelow}
 use Rattle.node.specs.PostorderLaws.{tree-signals}
 use Rattle.node.specs.Table.{root}
 use Rattle.language.specs.Tree.{Model, Mealy, Moore}
-use Rattle.basic.specs.Writing.{maxTold, fits}
+use Rattle.basics.specs.Told.{maxTold}
+use Rattle.basic.specs.Writing.{fits}
 use Rattle.basic.specs.declared.Written.{Written}
-use Rattle.signal_names.specs.Runs.{Puts, puts-after, puts-length}
-use Rattle.signal_names.specs.Slots.{slot, Held}
+use Rattle.signal_names.specs.Runs.{puts-after, puts-length}
+use Rattle.signal_names.specs.Promise.{slot, Held, Puts}
 use Rattle.layout.specs.Layout.{layout, weight, nth}
 use Rattle.layout.specs.Stack.{Scene}
 use Rattle.layout.specs.Text.{headText, outputsText, guaranteeText, endText, linesFrom, linesSize, textOf, fixedSize, Delivers, handed}
@@ -28,7 +29,7 @@ use Rattle.layout.specs.TextLaws.{lines-sized, listed-length, held-liste
 -- the size that is told
 pub record Sizes (sizes list : List ℕ) (f : Formula) (r : ℕ) : Type 0 where
   pub is : r ≡ fixedSize + linesSize (nth sizes) 0 0 list + linesSize (nth sizes) 1 0 list + min maxTold (weight (nth sizes) f)
-  pub small : r ≤ 8_589_934_592
+  pub small : r ≤ 2 * maxTold
 
 -- a formula's size
 layout-length : (name : ℕ → List ℕ) (size : ℕ → ℕ) (limit : ℕ) → ((k : ℕ) → k < limit → length (name k) ≡ size k) → (f : Formula) → SignalsBelow limit f → length (layout name f) ≡ weight size f
@@ -41,14 +42,14 @@ layout-length name size limit h (Two o a b) s = simp length-append (omega (arith
 
 -- the lengths of the whole
 module _ (m : Model) (name : ℕ → List ℕ) (list : List ℕ) (f : Formula) where
-  head-length : length (headText m) ≡ 104
+  head-length : length (headText m) ≡ length (headText Mealy)
   head-length = go m
     where
-      go : (x : Model) → length (headText x) ≡ 104
+      go : (x : Model) → length (headText x) ≡ length (headText Mealy)
       go Mealy = refl
       go Moore = refl
 
-  pub text-length : length (textOf m name list f) ≡ 104 + (length (linesFrom name 0 0 list) + (12 + (length (linesFrom name 1 0 list) + (14 + (length (layout name f) + 5)))))
+  pub text-length : length (textOf m name list f) ≡ fixedSize + length (linesFrom name 0 0 list) + length (linesFrom name 1 0 list) + length (layout name f)
   text-length =
       let formula = layout name f ++ endText in
       let outputs = linesFrom name 1 0 list ++ (guaranteeText ++ formula) in
@@ -63,7 +64,7 @@ module _ (m : Model) (name : ℕ → List ℕ) (list : List ℕ) (f : Formula) w
 
 -- the parts, one behind the other, each with room for those behind it
 module _ (m : Model) (name : ℕ → List ℕ) (list : List ℕ) (f : Formula) (out : List ℕ) (fits : length (textOf m name list f) ≤ length out) where
-  whole : length (textOf m name list f) ≡ 104 + (length (linesFrom name 0 0 list) + (12 + (length (linesFrom name 1 0 list) + (14 + (length (layout name f) + 5)))))
+  whole : length (textOf m name list f) ≡ fixedSize + length (linesFrom name 0 0 list) + length (linesFrom name 1 0 list) + length (layout name f)
   whole = text-length m name list f
 
   pub room-1 : length (headText m) ≤ length out

@@ -3,14 +3,14 @@ ghost use mathlib.Core.Path.{_≡_};
 ghost use mathlib.Core.Bool.{true};
 ghost use Prim.Native.Nat.{_+_, _<_, _≤_, min};
 ghost use lib.ListN.{length, getD};
-ghost use Rattle.node.specs.Kinds.{shapeOf};
+ghost use Rattle.node.specs.Kinds.{kindCount, shapeOf};
 ghost use Rattle.node.specs.Fields.{kindOf, firstOf, secondOf};
 ghost use Rattle.language.specs.Limits.{maxName};
-ghost use Rattle.basic.specs.Writing.{maxTold};
-ghost use Rattle.signal_names.specs.Runs.{Puts};
-ghost use Rattle.signal_names.specs.Slots.{slot};
+ghost use Rattle.basics.specs.Told.{maxTold};
+ghost use Rattle.signal_names.specs.Promise.{slot, Puts};
 ghost use Rattle.layout.specs.Layout.{piece, pieceOf, sized, nth};
 ghost use Rattle.layout.specs.Table.{table, following, ofSignal, ofOperand, Measurable, Writable};
+use basics::told;
 use basics::u8_usize::wide;
 use language::limits::MAX_NAME;
 use node::Node;
@@ -45,21 +45,21 @@ pub fn pieces() -> [u8; 504]
 
 // Does an operand follow the piece?
 pub fn follows(pieces: &[u8], kind: usize, done: usize) -> bool
-    requires { ⌜ (now pieces ≡ table) × ((kind < 14) × (done < 3)) ⌝ }
+    requires { ⌜ (now pieces ≡ table) × ((kind < kindCount) × (done < 3)) ⌝ }
     ensures { λ r. ⌜ r ≡ following (shapeOf kind) done ⌝ }
 {
     pieces[ROWS * kind + ROW * done + 1] != 0
 }
 
 fn piece_size(pieces: &[u8], kind: usize, done: usize) -> usize
-    requires { ⌜ (now pieces ≡ table) × ((kind < 14) × (done < 3)) ⌝ }
+    requires { ⌜ (now pieces ≡ table) × ((kind < kindCount) × (done < 3)) ⌝ }
     ensures { λ r. ⌜ (r ≡ length (piece (shapeOf kind) done)) × (r ≤ 10) ⌝ }
 {
     wide(pieces[ROWS * kind + ROW * done])
 }
 
 fn put_row(pieces: &[u8], kind: usize, done: usize, out: &mut [u8], at: usize) -> usize
-    requires { ⌜ (now pieces ≡ table) × ((kind < 14) × (done < 3)) ⌝ }
+    requires { ⌜ (now pieces ≡ table) × ((kind < kindCount) × (done < 3)) ⌝ }
     requires { ⌜ at + length (piece (shapeOf kind) done) ≤ length (now out) ⌝ }
     ensures { λ r. ⌜ Puts (piece (shapeOf kind) done) (now (out .entry)) (now (out .exit)) at r ⌝ }
 {
@@ -78,7 +78,7 @@ pub fn put_piece(
     out: &mut [u8],
     at: usize,
 ) -> usize
-    requires { ⌜ (now pieces ≡ table) × ((kind < 14) × (done < 3)) ⌝ }
+    requires { ⌜ (now pieces ≡ table) × ((kind < kindCount) × (done < 3)) ⌝ }
     requires { ⌜ Writable (now names) (now sizes) kind first done × (at + length (pieceOf (slot (now names) (now sizes)) (shapeOf kind) done first) ≤ length (now out)) ⌝ }
     ensures { λ r. ⌜ Puts (pieceOf (slot (now (names .entry)) (now (sizes .entry))) (shapeOf kind) done first) (now (out .entry)) (now (out .exit)) at r ⌝ }
 {
@@ -112,16 +112,7 @@ fn operand_size(follows: bool, lens: &[u32], i: usize) -> usize
     lens[i] as usize
 }
 
-fn capped(size: usize) -> u32
-    ensures { λ r. ⌜ r ≡ min maxTold size ⌝ }
-{
-    if size < 4294967295 {
-        return size as u32;
-    }
-    4294967295
-}
-
-// The size of a node's text, of its operands' sizes; at most the largest 32-bit number.
+// The size of a node's text, of its operands' sizes; as far as an answer can tell it.
 pub fn node_size(word: u32, sizes: &[usize], lens: &[u32], pieces: &[u8]) -> u32
     requires { ⌜ (now pieces ≡ table) × Measurable (now sizes) (length (now lens)) word ⌝ }
     ensures { λ r. ⌜ r ≡ min maxTold (sized (shapeOf (kindOf word)) (nth (now (sizes .entry))) (nth (now (lens .entry))) (firstOf word) (secondOf word)) ⌝ }
@@ -137,5 +128,5 @@ pub fn node_size(word: u32, sizes: &[usize], lens: &[u32], pieces: &[u8]) -> u32
     let name = name_size(k, sizes, first);
     let left = operand_size(follows(pieces, kind, 0), lens, first);
     let right = operand_size(follows(pieces, kind, 1), lens, second);
-    capped(own + name + left + right)
+    told(own + name + left + right)
 }

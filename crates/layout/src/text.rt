@@ -6,41 +6,54 @@ ghost use lib.Seq.{sets};
 ghost use Rattle.node.specs.Table.{root};
 ghost use Rattle.node.specs.TableLaws.{Formed};
 ghost use Rattle.language.specs.Limits.{maxName, maxSignals};
-ghost use Rattle.signal_names.specs.Runs.{Puts};
-ghost use Rattle.signal_names.specs.Slots.{slot, Held};
+ghost use Rattle.signal_names.specs.Promise.{slot, Held, Puts};
 ghost use Rattle.layout.specs.Layout.{nth};
 ghost use Rattle.layout.specs.Table.{table as table'};
 ghost use Rattle.layout.specs.Stack.{Scene};
-ghost use Rattle.layout.specs.Text.{modelOf, headText, lineOf, linesFrom, lineSize, linesSize, textOf, Delivers, handed, outcome};
+ghost use Rattle.layout.specs.Text.{modelOf, headText, lineOf, linesFrom, lineSize, maxLine, linesSize, textOf, fixedSizes, Delivers, handed, outcome};
 ghost use Rattle.layout.specs.TextLaws.{Listed};
 ghost use Rattle.layout.specs.WholeLaws.{Sizes};
 use crate::formula::measure;
 use crate::formula::put_formula;
 use crate::pieces::pieces;
 use basic::Written;
+use basics::MAX_TOLD;
 use language::limits::MAX_NAME;
 use node::MAX_SIGNALS;
 use node::refusals::SHORT_RESULT;
+use node::refusals::UNWRITABLE_NAME;
 use signal_names::flag_of;
 use signal_names::put_bytes;
 use signal_names::spell;
 
-// A name that the basic format cannot carry (document 02, 22).
-const BAD_NAME: u32 = 22;
-
-// The largest count that an answer can tell.
-const MAX_TOLD: usize = 4294967295;
-
 // The bytes of all signals' slots, with room for a name that is too long.
 const NAMES: usize = MAX_SIGNALS * MAX_NAME + MAX_NAME + 4;
 
-// The bytes of INFO, and of the words between the lists.
-const FIXED: usize = 135;
+// The sizes of the fixed texts: INFO to the first input, between the lists, from the lists to the formula, behind it; and behind a name.
+const HEAD: usize = 104;
+
+const OUTPUTS: usize = 12;
+
+const GUARANTEE: usize = 14;
+
+const END: usize = 5;
+
+const LINE_END: usize = 3;
+
+// The bytes around the lists and the formula.
+const FIXED: usize = HEAD + OUTPUTS + GUARANTEE + END;
 
 // The directions of an entry.
 const INPUT: u32 = 0;
 
 const OUTPUT: u32 = 1;
+
+// The sizes in the order of specs/Text: what they stand for.
+pub fn fixed_sizes() -> [usize; 6]
+    ensures { λ r. ⌜ r ≡ fixedSizes ⌝ }
+{
+    [HEAD, OUTPUTS, GUARANTEE, END, LINE_END, FIXED]
+}
 
 fn put_all(from: &[u8], out: &mut [u8], at: usize) -> usize
     requires { ⌜ at + length (now from) ≤ length (now out) ⌝ }
@@ -110,17 +123,17 @@ fn put_lines(
 
 fn line_size(entry: u32, flag: u32, size: usize) -> usize
     requires { ⌜ size ≤ maxName ⌝ }
-    ensures { λ r. ⌜ (r ≡ lineSize flag entry size) × (r ≤ 67) ⌝ }
+    ensures { λ r. ⌜ (r ≡ lineSize flag entry size) × (r ≤ maxLine) ⌝ }
 {
     if flag_of(entry) != flag {
         return 0;
     }
-    size + 3
+    size + LINE_END
 }
 
 fn lines_size(list: &[u32], flag: u32, names: &[u8], sizes: &[usize]) -> usize
     requires { ⌜ Held (now names) (now sizes) (length (now list)) × (length (now list) ≤ maxSignals) ⌝ }
-    ensures { λ r. ⌜ (r ≡ linesSize (nth (now (sizes .entry))) flag 0 (now (list .entry))) × (r ≤ 67 * maxSignals) ⌝ }
+    ensures { λ r. ⌜ (r ≡ linesSize (nth (now (sizes .entry))) flag 0 (now (list .entry))) × (r ≤ maxLine * maxSignals) ⌝ }
 {
     let mut n: usize = 0;
     let mut k = 0;
@@ -131,7 +144,7 @@ fn lines_size(list: &[u32], flag: u32, names: &[u8], sizes: &[usize]) -> usize
     n
 }
 
-// The size of the whole text; a formula's beyond the largest 32-bit number counts as that number.
+// The size of the whole text; a formula's counts as far as an answer can tell it.
 fn text_size(nodes: &[u32], list: &[u32], names: &[u8], sizes: &[usize], table: &[u8]) -> usize
     requires { ⌜ (now table ≡ table') × (Scene (now nodes) (now names) (now sizes) × (Held (now names) (now sizes) (length (now list)) × (length (now list) ≤ maxSignals))) ⌝ }
     ensures { λ r. ⌜ Sizes (now (sizes .entry)) (now (list .entry)) (root (now (nodes .entry))) r ⌝ }
@@ -200,7 +213,7 @@ pub fn write_nodes(text: &[u8], target: u32, nodes: &[u32], list: &[u32], out: &
     let mut sizes = [0usize; MAX_SIGNALS];
     let fault = spell(text, list, &mut names, &mut sizes);
     if fault < list.len() {
-        return Written::Refused(BAD_NAME, fault as u32);
+        return Written::Refused(UNWRITABLE_NAME, fault as u32);
     }
     write_text(target, nodes, list, &names, &sizes, out)
 }

@@ -2,44 +2,31 @@
 use Prim.Native.Nat.{ℕ, zero, suc, _+_, _*_, _-_, _/_, _%_, _^_, _≤_, _<_}
 use mathlib.Core.Path.{_≡_, refl, sym, ap, _∙_}
 use mathlib.Core.Bool.{Bool, true, false, not, _&&_, _||_, false≢true}
-use mathlib.Core.List.{List, [], _∷_}
+use mathlib.Core.List.{List}
 use mathlib.Core.Option.{Option, none, some}
 use native.Mathlib.Nat.{zero-div, mul-le-mul}
 use native.Mathlib.Omega.{arith}
 use lib.Dec.{eqb}
-use lib.ListN.{getD, length}
+use lib.ListN.{length, List·getD-eq-default}
+use Rattle.basics.specs.Told.{maxTold}
 use Rattle.node.specs.Fields.{firstOf, secondOf}
 use Rattle.bits.specs.Bits.{Values, bitAt}
 use Rattle.language.specs.Bytes.{if_then_else_}
 use Rattle.faults.specs.Naming.{brokenFrom}
-use Rattle.line_search.specs.Walking.{operandOf, walked, seen}
-
--- a test and its contrary
-pub not-true : (b : Bool) → not b ≡ true → b ≡ false
-not-true true e = absurd (false≢true e)
-not-true false e = refl
-
-pub not-false : (b : Bool) → not b ≡ false → b ≡ true
-not-false true e = refl
-not-false false e = absurd (false≢true (sym e))
+use Rattle.line_search.specs.Walking.{operandOf, walked, maxRow, seen}
 
 -- past the end of a table, or of the rows
-pub past : (l : List ℕ) (i : ℕ) → length l ≤ i → getD l i 0 ≡ 0
-past [] i h = refl
-past (x ∷ l) zero h = absurd (omega arith)
-past (x ∷ l) (suc i) h = past l i (omega arith)
-
 pub bit-past : (bs : List ℕ) (i : ℕ) → length bs ≤ i / 8 → bitAt bs i ≡ false
 unfolding bitAt
-bit-past bs i h = ap (λ (x : ℕ). eqb (x / 2 ^ (7 - i % 8) % 2) 1) (past bs (i / 8) h) ∙ ap (λ (x : ℕ). eqb (x % 2) 1) (zero-div (2 ^ (7 - i % 8)))
+bit-past bs i h = ap (λ (x : ℕ). eqb (x / 2 ^ (7 - i % 8) % 2) 1) (List·getD-eq-default bs 0 h) ∙ ap (λ (x : ℕ). eqb (x % 2) 1) (zero-div (2 ^ (7 - i % 8)))
 
 pub operand-past : (ws : List ℕ) (i : ℕ) (second : Bool) → length ws ≤ i → operandOf ws i second ≡ 0
-operand-past ws i true h = ap secondOf (past ws i h)
-operand-past ws i false h = ap firstOf (past ws i h)
+operand-past ws i true h = ap secondOf (List·getD-eq-default ws 0 h)
+operand-past ws i false h = ap firstOf (List·getD-eq-default ws 0 h)
 
 -- a row's bit has a small number
-pub bit-small : (width i : ℕ) → width ≤ 256 → i < 4294967296 → width * i ≤ 1099511627776
-bit-small width i h l = let k : i ≤ 4294967296 = omega arith in mul-le-mul h k
+pub bit-small : (width i : ℕ) → width ≤ maxRow → i ≤ maxTold → width * i ≤ maxRow * maxTold
+bit-small width i h l = mul-le-mul h l
 
 -- a path
 module _ (ws : List ℕ) (path k i : ℕ) where

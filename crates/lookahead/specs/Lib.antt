@@ -1,5 +1,6 @@
 pub mod Span
 pub mod Reaching
+pub mod Promise
 pub mod SpanAgrees
 pub mod SpanLaws
 pub mod SpanForms

@@ -1,13 +1,9 @@
--- The reach of a table's root, the whole answer, and what `reach_of` promises: document 02, F-3. Laws in ReachingLaws.
-use Prim.Native.Nat.{ℕ, _≤_}
-use mathlib.Core.Path.{_≡_}
-use mathlib.Core.Logic.{_↔_}
+-- The reach of a table's root, and the whole answer: document 02, F-3. Laws in ReachingLaws.
+use Prim.Native.Nat.{ℕ}
 use mathlib.Core.List.{List}
 use Rattle.node.specs.Limits.{fieldLimit}
-use Rattle.node.specs.Ltl.{Word, Holds}
 use Rattle.node.specs.Result.{Result, Done, _>>=_, Counts}
 use Rattle.node.specs.Table.{root, checked}
-use Rattle.forms.specs.Forms.{form}
 use Rattle.lookahead.specs.Span.{Span, Silent, Ahead, Endless, span}
 use Rattle.lookahead.specs.declared.Reach.{Reach}
 
@@ -37,13 +33,3 @@ abbrev pub valued : Result Distance → Result Counts
 valued (Done (Letters n)) = Done (record { nodes = n; signals = 0 })
 valued (Done Unbounded) = Done (record { nodes = 0; signals = 1 })
 valued (Result.Refused number place) = Result.Refused number place
-
--- what `reach_of` promises
-pub record Reaches (r : Reach) (nodes : List ℕ) : Type 0 where
-  -- the reach, or the refusal, is the definition's
-  pub answer : looks r ≡ reaching nodes
-  -- 'Two words that agree on letters 0 to the reach give the same verdict, however they differ later'
-  pub agrees : (n : ℕ) → looks r ≡ Done (Letters n) → (u v : Word) → ((t : ℕ) → t ≤ n → (k : ℕ) → u t k ≡ v t k)
-      → Holds (root nodes) u 0 ↔ Holds (root nodes) v 0
-  -- 'The reach is the same number in all three forms'
-  pub forms : (d : Distance) → looks r ≡ Done d → (number : ℕ) → reported (span (form number (root nodes))) ≡ d

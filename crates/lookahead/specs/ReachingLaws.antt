@@ -24,7 +24,8 @@ use Rattle.rewriter.specs.Promise.{Rewrites}
 use Rattle.lookahead.specs.Span.{Span, Silent, Ahead, Endless, span}
 use Rattle.lookahead.specs.SpanAgrees.{Shared, span-agrees}
 use Rattle.lookahead.specs.SpanForms.{form-span}
-use Rattle.lookahead.specs.Reaching.{Distance, Letters, reported, reaching, looks, Reaches}
+use Rattle.lookahead.specs.Reaching.{Distance, Letters, reported, reaching, looks}
+use Rattle.lookahead.specs.Promise.{Reaches}
 use Rattle.lookahead.specs.declared.Reach.{Reach}
 
 -- the two ways to an answer

@@ -1,28 +1,19 @@
 -- The names visible at a line: no definition that is still to come defines one of them (refusal 7).
-use mathlib.Core.Bool.{true, false≢true}
+use mathlib.Core.Bool.{true}
 use mathlib.Core.List.{List, [], _∷_, _++_, append-assoc}
 use mathlib.Core.Path.{_≡_, refl, sym, ap, _∙_, subst}
-use Rattle.language.specs.Bytes.{same}
 use Rattle.language.specs.Tokens.{Token}
 use Rattle.language.specs.Tree.{Expr, Identifier, Definition, Defined, Enumerated, Parameter, Spec}
 use Rattle.language.specs.Places.{TextLine, DefinitionLine, parameterLines, definitionLines, mainLines, allLines}
 use Rattle.language.specs.Names.{Names, visible, declares, declaresSignal, over}
 use Rattle.language.specs.Laws.Basics.Lists.{All, all-more, all-left, all-right, all-append, all-both, all-swap}
-use Rattle.language.specs.Laws.Basics.Tests.{or-cases, same-equal}
 use Rattle.language.specs.Laws.Values.DistinctNames.{Apart, apart-sym, Distinct, distinct-right, Across, across}
-use Rattle.names.specs.VisibleLaws.{of-signals}
+use Rattle.names.specs.VisibleLaws.{of-signals, visible-apart}
 use Rattle.name_values.specs.WorldsLaws.{Elsewhere}
 
 -- the names of some definitions
 abbrev pub ownNames : List Definition → Names
 ownNames ds = over declares (definitionLines ds [])
-
-visible-apart : (ns ms : Names) → Across ns ms → (t : Token) → visible ns t ≡ true → All (Apart t) ms
-visible-apart [] ms h t y = absurd (false≢true y)
-visible-apart (n ∷ ns) ms h t y =
-    or-cases (same (n .text) (t .text)) (visible ns t)
-    (λ e. all-more (λ m a. ap (λ u. same u (m .text)) (sym (same-equal (n .text) (t .text) e)) ∙ a) ms (h .0))
-    (λ e. visible-apart ns ms (h .1) t e) y
 
 pub apart-elsewhere : (ds : List Definition) (t : Token) → All (Apart t) (ownNames ds) → All (Elsewhere t) ds
 apart-elsewhere [] t h = tt

@@ -9,6 +9,7 @@ use Rattle.language.specs.Places.{TextLine, ParameterLine, DefinitionLine, Decl
 use Rattle.language.specs.Names.{Names, visible, declares, declaresSignal, over}
 use Rattle.language.specs.Laws.Basics.Lists.{All, all-more, all-left, all-right, all-append}
 use Rattle.language.specs.Laws.Basics.Tests.{or-left, or-right, or-cases, same-equal, same-refl}
+use Rattle.language.specs.Laws.Values.DistinctNames.{Apart, Across}
 use Rattle.names.specs.AlikeLaws.{alike-pushed}
 use Rattle.names.specs.Resolved.{declaredNames}
 
@@ -49,6 +50,14 @@ among-more (m ∷ ms) ns names h g t y =
 
 pub among-all : (ns names : Names) → All (In names) ns → Among ns names
 among-all ns names h t y = among-more ns [] names h (λ u z. absurd (false≢true z)) t (visible-left ns [] t y)
+
+-- a visible name is apart from names that those visible are apart from
+pub visible-apart : (ns ms : Names) → Across ns ms → (t : Token) → visible ns t ≡ true → All (Apart t) ms
+visible-apart [] ms h t y = absurd (false≢true y)
+visible-apart (n ∷ ns) ms h t y =
+    or-cases (same (n .text) (t .text)) (visible ns t)
+    (λ e. all-more (λ m a. ap (λ u. same u (m .text)) (sym (same-equal (n .text) (t .text) e)) ∙ a) ms (h .0))
+    (λ e. visible-apart ns ms (h .1) t e) y
 
 -- signals are declared by lines
 pub of-signals : (P : Token → Type 0) (ls : List TextLine) → All P (over declares ls) → All P (over declaresSignal ls)

@@ -6,7 +6,7 @@ use lib.Dec.{ltb, eqb, eqb·suc-zero, leb·suc-zero, leb·suc-suc}
 use native.Mathlib.Omega.{arith}
 use borrow.Author.Tests.{le-ltb}
 use Rattle.node.specs.Fields.{kindOf, firstOf, secondOf}
-use Rattle.node.specs.Kinds.{shapeOf}
+use Rattle.node.specs.Kinds.{kindCount, shapeOf}
 use Rattle.node.specs.KindLaws.{by-kind, no-shape}
 use Rattle.node.specs.Table.{fits, nodeFits}
 
@@ -16,7 +16,7 @@ pick false a b = b
 
 -- 0 for a constant, a signal's number, an operand's; nothing lies below the bound of no kind
 abbrev pub firstEnd : ℕ → ℕ → ℕ → ℕ
-firstEnd limit n kind = pick (ltb kind 2) 1 (pick (ltb kind 3) limit (pick (ltb kind 14) n 0))
+firstEnd limit n kind = pick (ltb kind 2) 1 (pick (ltb kind 3) limit (pick (ltb kind kindCount) n 0))
 
 -- an operand's number for the kinds of two operands, otherwise 0
 abbrev pub secondEnd : ℕ → ℕ → ℕ
@@ -45,8 +45,8 @@ bounded-fits limit n kind a b =
     one : (ltb a n && ltb b 1) ≡ (ltb a n && eqb b 0)
     one = ap (λ (t : Bool). ltb a n && t) (sym (zero-test b))
 
-    above : (k : ℕ) → 14 ≤ k → bounded limit n k a b ≡ fits limit n (shapeOf k) a b
-    above k h = rw (no-shape h, le-ltb k 2 (omega arith), le-ltb k 3 (omega arith), le-ltb k 14 h, leb·suc-zero a)
+    above : (k : ℕ) → kindCount ≤ k → bounded limit n k a b ≡ fits limit n (shapeOf k) a b
+    above k h = rw (no-shape h, le-ltb k 2 (omega arith), le-ltb k 3 (omega arith), le-ltb k kindCount h, leb·suc-zero a)
 
 -- and of a word's kind of the word
 pub word-fits : (limit n w k a b : ℕ) → k ≡ kindOf w → a ≡ firstOf w → b ≡ secondOf w → bounded limit n k a b ≡ nodeFits limit n w

@@ -5,7 +5,7 @@ use native.Mathlib.Decide.{decLt}
 use native.Mathlib.Omega.{arith}
 use lib.ListN.{List·getD-eq-default}
 use Rattle.node.specs.Ltl.{Unary, Not, X, G, F, Binary, And, Or, Implies, Iff, U, R, W}
-use Rattle.node.specs.Kinds.{UnaryOf, BinaryOf, Unused, shapes, shapeOf, unaryKind, binaryKind}
+use Rattle.node.specs.Kinds.{UnaryOf, BinaryOf, Unused, shapes, kindCount, shapeOf, unaryKind, binaryKind}
 
 pub unary-shape : (o : Unary) → shapeOf (unaryKind o) ≡ UnaryOf o
 unary-shape Not = refl
@@ -22,7 +22,7 @@ binary-shape U = refl
 binary-shape R = refl
 binary-shape W = refl
 
-pub no-shape : {kind : ℕ} → 14 ≤ kind → shapeOf kind ≡ Unused
+pub no-shape : {kind : ℕ} → kindCount ≤ kind → shapeOf kind ≡ Unused
 no-shape h = List·getD-eq-default shapes Unused h
 
 -- the rule at 0, 1, .., n - 1
@@ -38,9 +38,9 @@ each-below P (suc n) e k h = go (decLt k n) (each-below P n (e .0) k)
     go (yes l) below = below l
     go (no l) below = let s : n ≡ k = omega arith in subst P s (e .1)
 
-pub by-kind : (P : ℕ → Type 0) → Each P 14 → ((k : ℕ) → 14 ≤ k → P k) → (k : ℕ) → P k
-by-kind P e above k = go (decLt k 14)
+pub by-kind : (P : ℕ → Type 0) → Each P kindCount → ((k : ℕ) → kindCount ≤ k → P k) → (k : ℕ) → P k
+by-kind P e above k = go (decLt k kindCount)
   where
-    go : Dec (k < 14) → P k
-    go (yes l) = each-below P 14 e k l
+    go : Dec (k < kindCount) → P k
+    go (yes l) = each-below P kindCount e k l
     go (no l) = above k (omega arith)

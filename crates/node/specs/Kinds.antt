@@ -1,7 +1,7 @@
 -- The kinds of nodes by their numbers, and what each says of its fields (document 01, 'Expansion').
 use Prim.Native.Nat.{ℕ}
 use mathlib.Core.List.{List, [], _∷_}
-use lib.ListN.{getD}
+use lib.ListN.{length, getD}
 use Rattle.node.specs.Ltl.{Unary, Not, X, G, F, Binary, And, Or, Implies, Iff, U, R, W, Formula, True, False, Signal, One, Two}
 
 -- what a kind makes of its fields: nothing, a signal's number, one operand, two; or no kind
@@ -18,6 +18,10 @@ shapes =
 
 abbrev pub shapeOf : ℕ → Shape
 shapeOf kind = getD shapes kind Unused
+
+-- how many kinds there are
+abbrev pub kindCount : ℕ
+kindCount = length shapes
 
 -- the kinds of the operators
 abbrev pub unaryKind : Unary → ℕ

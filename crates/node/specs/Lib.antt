@@ -4,6 +4,7 @@ pub mod Logic
 pub mod Temporal
 pub mod Operators
 pub mod Ltl
+pub mod Derived
 pub mod BitFields
 pub mod Fields
 pub mod Kinds
@@ -11,6 +12,7 @@ pub mod Result
 pub mod Answer
 pub mod Table
 pub mod Postorder
+pub mod Tests
 pub mod LogicLaws
 pub mod TemporalLaws
 pub mod LtlLaws

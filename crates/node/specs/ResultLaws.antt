@@ -1,6 +1,6 @@
 -- How answers by cases are taken apart.
 use Prim.Native.Nat.{ℕ}
-use mathlib.Core.Path.{_≡_, refl}
+use mathlib.Core.Path.{_≡_, refl, ap}
 use mathlib.Core.Bool.{Bool, true, false}
 use native.Mathlib.Omega.{arith}
 use Rattle.node.specs.Result.{Result, Done, Refused, guard, _>>=_}
@@ -23,6 +23,16 @@ pub guard-done : {A : Type 0} (b : Bool) (number place : ℕ) (r : Result A) {a 
 unfolding guard
 guard-done true number place r e = (refl, e)
 guard-done false number place r e = absurd (not-done e)
+
+-- a refusal with another number comes from behind the test
+numberOf : {A : Type 0} → Result A → ℕ
+numberOf (Done x) = 0
+numberOf (Refused number p) = number
+
+pub guard-other : {A : Type 0} (b : Bool) (m q : ℕ) (r : Result A) {number p : ℕ} → (m ≡ number → ⊥) → guard b m q r ≡ Refused number p → r ≡ Refused number p
+unfolding guard numberOf
+guard-other true m q r f e = e
+guard-other false m q r f e = absurd (f (ap numberOf e))
 
 pub bind-done : {A B : Type 0} (r : Result A) (k : A → Result B) {b : B} → r >>= k ≡ Done b → (a : A) × (r ≡ Done a) × (k a ≡ Done b)
 unfolding _>>=_

@@ -1,11 +1,11 @@
 -- Laws of a table's formulas and of its test: a node that fits has the formula that its kind says, of its operands' formulas.
 use Prim.Native.Nat.{ℕ, zero, suc, _+_, _<_, _≤_}
-use mathlib.Core.Path.{_≡_, refl, ap, ap₂, _∙_, sym, subst}
+use mathlib.Core.Path.{_≡_, refl, ap, ap₂, _∙_, sym}
 use mathlib.Core.List.{List, [], _∷_, _++_}
-use mathlib.Core.Bool.{Bool, true, false, _&&_}
+use mathlib.Core.Bool.{Bool, true, false, _&&_, false≢true}
 use lib.ListN.{length, getD, length-append, List·getD-append, drop, drop-of-length-le}
 use lib.Seq.{getD-append-seam, drop-cons}
-use lib.Dec.{ltb, leb, eqb, T}
+use lib.Dec.{ltb, leb, eqb}
 use native.Mathlib.Decide.{decLt}
 use native.Mathlib.Nat.{add-zero, zero-add}
 use native.Mathlib.Numerals.{add-one}
@@ -14,22 +14,12 @@ use borrow.Author.Tests.{ltb-true, leb-true, lt-ltb, le-ltb, le-leb, lt-leb}
 use Rattle.node.specs.Limits.{maxNodes}
 use Rattle.node.specs.Ltl.{Formula, True, One, Two}
 use Rattle.node.specs.Fields.{kindOf, firstOf, secondOf}
-use Rattle.node.specs.Kinds.{Shape, Truth, Falsehood, Atom, UnaryOf, BinaryOf, Unused, shapeOf, build}
+use Rattle.node.specs.Kinds.{Shape, Truth, Falsehood, Atom, UnaryOf, BinaryOf, Unused, kindCount, shapeOf, build}
 use Rattle.node.specs.KindLaws.{no-shape}
 use Rattle.node.specs.Result.{Result, Done, Refused, guard, Counts}
+use Rattle.node.specs.Tests.{and-left, and-right}
 use Rattle.node.specs.ResultLaws.{guard-pass, guard-stop, guard-done}
 use Rattle.node.specs.Table.{among, formulaOf, formulas, treeAt, fits, nodeFits, scanned, checked}
-
-false-true : false ≡ true → ⊥
-false-true e = subst (λ (b : Bool). T (elim b [ true ↦ false | false ↦ true ])) e tt
-
-and-left : (p q : Bool) → (p && q) ≡ true → p ≡ true
-and-left true q e = refl
-and-left false q e = e
-
-and-right : (p q : Bool) → (p && q) ≡ true → q ≡ true
-and-right true q e = e
-and-right false q e = absurd (false-true e)
 
 -- a node's formula depends on the formulas below its number only
 build-below : (limit n : ℕ) (s : Shape) (t u : ℕ → Formula) (a b : ℕ) → fits limit n s a b ≡ true → ((k : ℕ) → k < n → t k ≡ u k) → build s t a b ≡ build s u a b
@@ -90,7 +80,7 @@ fits-below limit n Falsehood a b ok = tt
 fits-below limit n Atom a b ok = ltb-true a limit (and-left (ltb a limit) (eqb b 0) ok)
 fits-below limit n (UnaryOf o) a b ok = ltb-true a n (and-left (ltb a n) (eqb b 0) ok)
 fits-below limit n (BinaryOf o) a b ok = (ltb-true a n (and-left (ltb a n) (ltb b n) ok), ltb-true b n (and-right (ltb a n) (ltb b n) ok))
-fits-below limit n Unused a b ok = false-true ok
+fits-below limit n Unused a b ok = false≢true ok
 
 -- what is known of node i: its formula, of its operands' formulas, and that these come before it
 pub record NodeIs (limit : ℕ) (ws : List ℕ) (i : ℕ) (s : Shape) (a b : ℕ) : Type 0 where
@@ -115,9 +105,9 @@ rest-above zero k r = omega arith
 rest-above (suc n) k r = let h = rest-above n k (r .0) in let g = r .1 in omega arith
 
 -- a node that fits has one of the fourteen kinds
-pub no-other : {limit : ℕ} {ws : List ℕ} {i a b : ℕ} (k : ℕ) → NodeIs limit ws i (shapeOf k) a b → Rest 14 k → ⊥
+pub no-other : {limit : ℕ} {ws : List ℕ} {i a b : ℕ} (k : ℕ) → NodeIs limit ws i (shapeOf k) a b → Rest kindCount k → ⊥
 no-other {limit} {ws} {i} {a} {b} k n r =
-    let e : shapeOf k ≡ Unused = no-shape (rest-above 14 k r) in
+    let e : shapeOf k ≡ Unused = no-shape (rest-above kindCount k r) in
     let m : NodeIs limit ws i Unused a b = rw e at n in m .lower
 
 -- the scan: one node more, the first that does not fit, and the end
@@ -216,7 +206,7 @@ module _ (limit : ℕ) (ws : List ℕ) (i : ℕ) where
     where
       go : Dec (i < length ws) → i < length ws
       go (yes h) = h
-      go (no h) = absurd (false-true (sym e ∙ all-end (omega arith)))
+      go (no h) = absurd (false≢true (sym e ∙ all-end (omega arith)))
 
   -- and after a node that fits
   pub misfit-after : {b : Bool} → b ≡ nodeFits limit i (getD ws i 0) → b ≡ true → allFit limit i (drop i ws) ≡ false → allFit limit (i + 1) (drop (i + 1) ws) ≡ false

@@ -1,4 +1,4 @@
-// The refusals of document 01 by their numbers.
+// The refusals of documents 01 and 02 by their numbers.
 ghost use mathlib.Core.Path.{_≡_};
 ghost use Rattle.node.specs.Refusals.{refusals as refusals'};
 
@@ -51,8 +51,14 @@ pub const BAD_RECORDING: u32 = 20;
 
 pub const BAD_FORM: u32 = 21;
 
-// The numbers in document 01's order: what the constants stand for.
-pub fn refusals() -> [u32; 21]
+// A name too long for the basic format, or equal to an earlier one.
+pub const UNWRITABLE_NAME: u32 = 22;
+
+// A recording of fewer signals than the table's.
+pub const UNRECORDED_SIGNALS: u32 = 23;
+
+// The numbers in the documents' order: what the constants stand for.
+pub fn refusals() -> [u32; 23]
     ensures { λ r. ⌜ r ≡ refusals' ⌝ }
 {
     [
@@ -77,5 +83,7 @@ pub fn refusals() -> [u32; 21]
         BAD_TABLE,
         BAD_RECORDING,
         BAD_FORM,
+        UNWRITABLE_NAME,
+        UNRECORDED_SIGNALS,
     ]
 }

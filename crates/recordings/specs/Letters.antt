@@ -7,13 +7,7 @@ use lib.ListN.{length}
 use lib.Arith.{digits-lt}
 use Rattle.recordings.specs.Limits.{maxPositions, maxSignals, headerBits}
 use Rattle.recordings.specs.declared.Lasso.{Lasso}
-
--- a recording's bytes and the lasso of its header
-pub record Recorded (bs : List ℕ) (w : Lasso) : Type 0 where
-  pub loop : w .l < w .n
-  pub few : w .n ≤ maxPositions
-  pub small : w .k ≤ maxSignals
-  pub room : headerBits + w .n * w .k ≤ 8 * length bs
+use Rattle.recordings.specs.Promise.{Recorded}
 
 pub bits-few : {n k : ℕ} → n ≤ maxPositions → k ≤ maxSignals → n * k ≤ maxPositions * maxSignals
 bits-few h l = mul-le-mul h l

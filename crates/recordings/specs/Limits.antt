@@ -1,8 +1,8 @@
 -- Limits of recordings (document 01, 'Recordings' and the table of refusals).
-use Prim.Native.Nat.{ℕ, _+_, _*_, _-_, _/_, _^_}
+use Prim.Native.Nat.{ℕ, _+_, _*_, _/_, min}
 use mathlib.Core.Bool.{Bool, true, false}
 use mathlib.Core.List.{List, [], _∷_}
-use lib.Dec.{leb}
+use Rattle.basics.specs.Told.{maxTold}
 use Rattle.bits.specs.Bits.{width}
 -- 'a signal count of at most 255'
 pub use Rattle.node.specs.Limits.{maxSignals}
@@ -35,14 +35,10 @@ abbrev pub pick : {A : Type 0} → Bool → A → A → A
 pick true a b = a
 pick false a b = b
 
--- a place has 32 bits in an answer
-abbrev pub lastPlace : ℕ
-lastPlace = 2 ^ 32 - 1
-
--- one beyond them, which only a recording of 4 GB can have, is told as the last
+-- a place has 32 bits in an answer: one beyond them, which only a recording of 4 GB can have, is told as the last
 unfoldable pub told : ℕ → ℕ
-told place = pick (leb place lastPlace) place lastPlace
+told place = min maxTold place
 
 -- what the code's constants stand for, in their order
 abbrev pub limits : List ℕ
-limits = maxPositions ∷ maxSignals ∷ positionBits ∷ startBits ∷ signalBits ∷ headerBits ∷ headerBytes ∷ longest ∷ lastPlace ∷ []
+limits = maxPositions ∷ maxSignals ∷ positionBits ∷ startBits ∷ signalBits ∷ headerBits ∷ headerBytes ∷ longest ∷ []

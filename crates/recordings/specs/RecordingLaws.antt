@@ -1,16 +1,18 @@
 -- Laws of recordings: the test for zero bits step by step, the ways through refusal 20, and what a recording of the format has.
-use Prim.Native.Nat.{ℕ, suc, _+_, _*_, _-_, _^_, _≤_, _<_}
+use Prim.Native.Nat.{ℕ, suc, _+_, _*_, _-_, _^_, _≤_, _<_, min}
 use mathlib.Core.Path.{_≡_, refl, sym, ap, _∙_}
-use mathlib.Core.Bool.{Bool, true, false, not, _&&_, false≢true}
+use mathlib.Core.Bool.{Bool, true, false, not, _&&_}
 use mathlib.Core.List.{List}
 use native.Mathlib.Numerals.{add-one}
 use native.Mathlib.Omega.{arith}
 use lib.Dec.{ltb, leb, eqb}
 use lib.ListN.{length}
 use borrow.Author.Tests.{ltb-true, leb-true, eqb-true, lt-leb, le-leb, eq-eqb, ne-eqb}
+use Rattle.basics.specs.Told.{maxTold}
 use Rattle.node.specs.Result.{Result, Done, Refused, _>>=_, guard}
+use Rattle.node.specs.Tests.{and-left, and-right}
 use Rattle.node.specs.ResultLaws.{guard-pass, guard-stop, guard-done, not-done}
-use Rattle.recordings.specs.Limits.{maxPositions, signalBits, headerBytes, headerBits, lastPlace, told}
+use Rattle.recordings.specs.Limits.{maxPositions, signalBits, headerBytes, headerBits, told}
 use Rattle.bits.specs.Bits.{bitAt, width}
 use Rattle.bits.specs.BitLaws.{number-lt}
 use Rattle.recordings.specs.Recording.{lassoOf, headerFits, blank, filled, readable, counted}
@@ -32,22 +34,10 @@ pub blank-end : (bs : List ℕ) (i to : ℕ) → to ≤ i → blank bs i (to - i
 unfolding blank
 blank-end bs i to h = let e : to - i ≡ 0 = omega arith in rw e
 
--- a place of 32 bits is told as it is
-pub told-here : (place : ℕ) → place < 2 ^ 32 → told place ≡ place
+-- a place is told as far as an answer can
+pub told-is : (place : ℕ) → min maxTold place ≡ told place
 unfolding told
-told-here place h = rw (le-leb place lastPlace (omega arith))
-
-pub told-last : (place : ℕ) → lastPlace < place → told place ≡ lastPlace
-unfolding told
-told-last place h = rw (lt-leb place lastPlace h)
-
-and-left : (p q : Bool) → (p && q) ≡ true → p ≡ true
-and-left true q e = refl
-and-left false q e = e
-
-and-right : (p q : Bool) → (p && q) ≡ true → q ≡ true
-and-right true q e = e
-and-right false q e = absurd (false≢true e)
+told-is place = refl
 
 -- what a header of the format says
 pub record Heads (signals : ℕ) (w : Lasso) : Type 0 where

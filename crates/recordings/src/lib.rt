@@ -3,10 +3,11 @@ ghost use mathlib.Core.Path.{_≡_};
 ghost use Prim.Native.Nat.{_+_, _*_, _-_, _≤_, _<_, _^_};
 ghost use lib.ListN.{length};
 ghost use Rattle.node.specs.Answer.{says};
-ghost use Rattle.recordings.specs.Limits.{maxPositions, signalBits, headerBytes, headerBits, limits as limits', told as told'};
+ghost use Rattle.recordings.specs.Limits.{maxPositions, signalBits, headerBytes, headerBits, limits as limits'};
 ghost use Rattle.recordings.specs.Recording.{fieldAt, lassoOf, letterOf, headerFits, blank as blank', filled, readable, counted};
 ghost use Rattle.recordings.specs.Lasso.{next};
-ghost use Rattle.recordings.specs.Letters.{Recorded};
+ghost use Rattle.recordings.specs.Promise.{Recorded};
+use basics::told;
 use bits::digit;
 use bits::get_bit;
 use node::Answer;
@@ -39,11 +40,8 @@ pub const HEADER_BYTES: usize = HEADER_BITS / 8;
 // The longest recording.
 pub const LONGEST: usize = HEADER_BYTES + (MAX_POSITIONS * node::MAX_SIGNALS + 7) / 8;
 
-// The last place that 32 bits can tell.
-const LAST_PLACE: usize = 4294967295;
-
 // The constants in the order of specs/Limits: what they stand for.
-pub fn limits() -> [usize; 9]
+pub fn limits() -> [usize; 8]
     ensures { λ r. ⌜ r ≡ limits' ⌝ }
 {
     [
@@ -55,7 +53,6 @@ pub fn limits() -> [usize; 9]
         HEADER_BITS,
         HEADER_BYTES,
         LONGEST,
-        LAST_PLACE,
     ]
 }
 
@@ -105,16 +102,6 @@ fn blank(bytes: &[u8], from: usize, to: usize) -> bool
         i += 1;
     }
     true
-}
-
-// A place, as far as 32 bits can tell it.
-fn told(place: usize) -> u32
-    ensures { λ r. ⌜ r ≡ told' place ⌝ }
-{
-    if LAST_PLACE < place {
-        return LAST_PLACE as u32;
-    }
-    place as u32
 }
 
 // Do the letters, and zero bits to a full byte, make up the rest of the recording?

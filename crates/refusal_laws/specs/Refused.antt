@@ -1,15 +1,14 @@
 -- From a text's bytes: what stands at the place of a text refused with 5, 6, 8 or 10, and what an accepted text has nowhere.
 use Prim.Native.Nat.{ℕ, _≤_}
 use mathlib.Core.Path.{_≡_, refl, sym, ap, subst}
-use mathlib.Core.Bool.{Bool, true, false}
 use mathlib.Core.List.{List, [], _∷_}
 use mathlib.Core.Logic.{_⊎_, inl, inr, ⊎-elim}
 use mathlib.Core.Option.{Option, none, some}
 use lib.Dec.{leb}
 use lib.ListN.{length}
 use native.Mathlib.Omega.{arith}
-use Rattle.node.specs.Result.{Result, Done, Refused, _>>=_, guard}
-use Rattle.node.specs.ResultLaws.{not-done}
+use Rattle.node.specs.Result.{Result, Done, Refused, _>>=_}
+use Rattle.node.specs.ResultLaws.{not-done, guard-other}
 use Rattle.language.specs.Limits.{maxBytes, maxNames}
 use Rattle.language.specs.Tokens.{Token, tokens}
 use Rattle.language.specs.Tree.{Identifier, Definition, Defined, Enumerated, Spec}
@@ -53,11 +52,6 @@ other m o r f e = ⊎-elim (λ h. absurd (f (h .0))) (λ h. h) (met m o r e .whi
 -- met, since those behind it have other numbers
 this : {A : Type 0} (m : ℕ) (o : Option ℕ) (r : Result A) {p : ℕ} → (r ≡ Refused m p → ⊥) → refuseAt m o r ≡ Refused m p → o ≡ some p
 this m o r f e = ⊎-elim (λ h. h .1) (λ h. absurd (f h)) (met m o r e .which)
-
-guard-other : {A : Type 0} (b : Bool) (m q : ℕ) (r : Result A) {number p : ℕ} → (m ≡ number → ⊥) → guard b m q r ≡ Refused number p → r ≡ Refused number p
-unfolding guard numberOf
-guard-other true m q r f e = e
-guard-other false m q r f e = absurd (f (ap numberOf e))
 
 record ReadAs (text : List ℕ) (number p : ℕ) : Type 0 where
   tree : Spec

@@ -13,7 +13,7 @@ use Rattle.recordings.specs.Limits.{maxPositions}
 use Rattle.rows.specs.Memory.{rowsLimit, bitsAt, Kept, kept-agree, Filled, Written, last-kept, written, written-as}
 use Rattle.bits.specs.Bits.{Values, width}
 use Rattle.recordings.specs.Recording.{letterOf}
-use Rattle.recordings.specs.Letters.{Recorded}
+use Rattle.recordings.specs.Promise.{Recorded}
 use Rattle.rows.specs.RowLaws.{Agree, Uses, uses-map, shapeRow, shape-ext}
 use Rattle.rows.specs.Steps.{stepOf, pairOf, loopOf}
 use Rattle.recordings.specs.declared.Lasso.{Lasso}

@@ -5,7 +5,7 @@ ghost use Rattle.bits.specs.Bits.{number};
 ghost use Rattle.bits.specs.Spans.{Span};
 ghost use Rattle.recordings.specs.Recording.{letterOf};
 ghost use Rattle.recordings.specs.Lasso.{next};
-ghost use Rattle.recordings.specs.Letters.{Recorded};
+ghost use Rattle.recordings.specs.Promise.{Recorded};
 ghost use Rattle.rows.specs.Memory.{bitsAt, Part, Filled};
 ghost use Rattle.rows.specs.Ready.{Ready, Inside, Operands, Plain, opRow};
 ghost use Rattle.rows.specs.Stretches.{endOf, Inner};

@@ -1,5 +1,5 @@
 -- Laws of numerals and of operators by number.
-use Prim.Native.Nat.{ℕ, zero, suc, _+_, _-_, _*_, _≤_, _<_}
+use Prim.Native.Nat.{ℕ, suc, _+_, _-_, _*_, _^_, _≤_, _<_}
 use mathlib.Core.Path.{_≡_, refl, sym, ap, ap₂, _∙_}
 use mathlib.Core.Bool.{Bool, true, false, false≢true, _&&_}
 use mathlib.Core.List.{List, [], _∷_}
@@ -13,6 +13,7 @@ use mir.Val.{Fits}
 use borrow.Author.Tests.{le-leb, lt-leb}
 use Rattle.node.specs.Result.{Done, Refused}
 use Rattle.node.specs.ResultLaws.{guard-pass, guard-stop}
+use Rattle.node.specs.TableLaws.{Rest, rest-above}
 use Rattle.language.specs.Limits.{maxNumber}
 use Rattle.language.specs.Bytes.{isDigit}
 use Rattle.language.specs.Tokens.{run}
@@ -86,17 +87,9 @@ pub product-fits : (a b : ℕ) → Fits w32 a → Fits w32 b → Fits w64 (a * b
 product-fits a b h g =
     let left = h .fits in
     let right = g .fits in
-    record { fits = omega (arith, mul-le-mul {n₁ = a} {m₁ = b} {n₂ = 4_294_967_295} {m₂ = 4_294_967_295} (omega arith) (omega arith)) }
+    record { fits = omega (arith, mul-le-mul {n₁ = a} {m₁ = b} {n₂ = 2 ^ 32 - 1} {m₂ = 2 ^ 32 - 1} (omega arith) (omega arith)) }
 
 -- the last operator stands for every further number
-abbrev pub Rest : ℕ → ℕ → Type 0
-Rest zero k = Unit {0}
-Rest (suc n) k = Rest n k × (k ≡ n → ⊥)
-
-rest-above : (n k : ℕ) → Rest n k → n ≤ k
-rest-above zero k r = omega arith
-rest-above (suc n) k r = let least = rest-above n k (r .0) in let other = r .1 in omega arith
-
 pub modulo : (k : ℕ) → Rest 4 k → arithmetic k ≡ Modulo
 modulo k r = List·getD-eq-default (Plus ∷ Minus ∷ Times ∷ Divide ∷ []) Modulo (rest-above 4 k r)
 

@@ -7,7 +7,8 @@ use lib.Dec.{ltb}
 use borrow.Author.Tests.{lt-ltb, le-ltb}
 use Rattle.language.specs.Laws.Basics.Tests.{pick, leave}
 use Rattle.basic.specs.Spelling.{digitsOf}
-use Rattle.signal_names.specs.Runs.{Puts, puts-after}
+use Rattle.signal_names.specs.Runs.{puts-after}
+use Rattle.signal_names.specs.Promise.{Puts}
 
 pub one-digit : (f n : ℕ) → n < 10 → digitsOf (suc f) n ≡ (48 + n) ∷ []
 unfolding digitsOf

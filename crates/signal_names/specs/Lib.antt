@@ -1,3 +1,4 @@
+pub mod Promise
 pub mod Runs
 pub mod Slots
 pub mod Digits

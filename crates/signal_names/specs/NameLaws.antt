@@ -16,7 +16,8 @@ use Rattle.language.specs.Meaning.{Atom}
 use Rattle.language.specs.Numbered.{widthOf, indexOf, offsetOf, nameAt}
 use Rattle.language.specs.Laws.Basics.Tests.{split, pick, leave}
 use Rattle.basic.specs.Spelling.{digitsOf, spelling, spelled}
-use Rattle.signal_names.specs.Runs.{part, part-length, Puts, puts-after, puts-length}
+use Rattle.signal_names.specs.Runs.{part-length, puts-after, puts-length}
+use Rattle.signal_names.specs.Promise.{part, Puts}
 use Rattle.signal_names.specs.Slots.{PutsName}
 
 pub run-within : (p : ℕ → Bool) (l : List ℕ) → run p l ≤ length l

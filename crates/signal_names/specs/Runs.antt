@@ -1,28 +1,16 @@
 -- Runs of bytes written into a lent slice, one behind the other.
-use Prim.Native.Nat.{ℕ, suc, _+_, _-_, _<_, _≤_}
+use Prim.Native.Nat.{ℕ, _+_, _-_, _<_, _≤_}
 use mathlib.Core.Path.{_≡_, refl, ap, ap₂, _∙_, sym}
 use mathlib.Core.List.{List, [], _∷_, _++_}
-use lib.ListN.{length, take, drop, set, getD, length-append, length-drop}
+use lib.ListN.{length, drop, set, getD, length-append, length-drop}
 use lib.Seq.{sets, length-sets, take-suc, getD-drop, length-take-le}
-use native.Mathlib.Nat.{add-zero}
 use native.Mathlib.Numerals.{add-one}
 use native.Mathlib.Omega.{arith}
-
--- n bytes from a place on
-abbrev pub part : List ℕ → ℕ → ℕ → List ℕ
-part l start n = take n (drop start l)
+use Rattle.basics.specs.Lists.{sets-append}
+use Rattle.signal_names.specs.Promise.{part, Puts}
 
 pub part-length : (l : List ℕ) (start n : ℕ) → n ≤ length l - start → length (part l start n) ≡ n
 part-length l start n h = length-take-le n (drop start l) (rw length-drop h)
-
--- the bytes `vs` stored from index `at` on; r is the place behind them
-pub record Puts (vs out out′ : List ℕ) (at r : ℕ) : Type 0 where
-  pub next : r ≡ at + length vs
-  pub bytes : out′ ≡ sets out at vs
-
-pub sets-append : (l : List ℕ) (i : ℕ) (us vs : List ℕ) → sets l i (us ++ vs) ≡ sets (sets l i us) (i + length us) vs
-sets-append l i [] vs = rw add-zero
-sets-append l i (u ∷ us) vs = sets-append (set l i u) (suc i) us vs ∙ ap (λ (k : ℕ). sets (sets (set l i u) (suc i) us) k vs) (omega arith)
 
 pub puts-length : {vs out out′ : List ℕ} {at r : ℕ} → Puts vs out out′ at r → length out′ ≡ length out
 puts-length {vs} {out} {at = at} p = ap length (p .bytes) ∙ length-sets out at vs

@@ -14,8 +14,9 @@ use borrow.Author.Tests.{eq-eqb, ne-eqb, le-leb, lt-leb}
 use Rattle.language.specs.Limits.{maxName}
 use Rattle.language.specs.Bytes.{same}
 use Rattle.basic.specs.Writing.{taken, faultFrom}
-use Rattle.signal_names.specs.Runs.{part, part-length}
-use Rattle.signal_names.specs.Slots.{slotBytes, slot, earlier, Held, PutsName}
+use Rattle.signal_names.specs.Runs.{part-length}
+use Rattle.signal_names.specs.Promise.{slotBytes, slot, Held, part}
+use Rattle.signal_names.specs.Slots.{earlier, PutsName}
 
 -- the first byte of a part and the rest of it
 part-cons : (l : List ℕ) (i m : ℕ) → i < length l → part l i (suc m) ≡ getD l i 0 ∷ part l (i + 1) m

@@ -8,7 +8,8 @@ use native.Mathlib.Omega.{arith}
 use Rattle.language.specs.Limits.{maxName}
 use Rattle.basic.specs.Spelling.{spelled, namesOf}
 use Rattle.basic.specs.Writing.{faultFrom}
-use Rattle.signal_names.specs.Slots.{slotBytes, earlier, PutsName, Spells}
+use Rattle.signal_names.specs.Slots.{earlier, PutsName}
+use Rattle.signal_names.specs.Promise.{slotBytes, Spells}
 use Rattle.signal_names.specs.SlotLaws.{Spelling, Turn}
 
 pub names-length : (text list : List ℕ) → length (namesOf text list) ≡ length list

@@ -5,8 +5,9 @@ use mathlib.Core.Path.{_≡_}
 use Rattle.node.specs.Answer.{says}
 use Rattle.node.specs.Result.{Result, Done, Refused, Counts}
 use Rattle.node.specs.declared.Answer.{Answer}
-use Rattle.evaluator.specs.Evaluation.{Evaluates}
-use Rattle.lookahead.specs.Reaching.{looks, valued, Reaches}
+use Rattle.evaluator.specs.Promise.{Evaluates}
+use Rattle.lookahead.specs.Reaching.{looks, valued}
+use Rattle.lookahead.specs.Promise.{Reaches}
 use Rattle.lookahead.specs.declared.Reach.{Reach}
 use Rattle.basic.specs.Answer.{tells}
 use Rattle.basic.specs.declared.Written.{Written}

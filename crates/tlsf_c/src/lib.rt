@@ -7,7 +7,7 @@ ghost use Rattle.claim.specs.Reads.{Reads};
 ghost use Rattle.claim.specs.Converts.{Converts};
 ghost use Rattle.tlsf_c.specs.Packed.{packed, Fits};
 ghost use Rattle.basic.specs.Answer.{tells};
-ghost use Rattle.writer.specs.Writes.{Writes};
+ghost use Rattle.writer.specs.Promise.{Writes};
 ghost use Rattle.diagnosis.specs.Promise.{valued, Diagnoses};
 ghost use Rattle.tlsf_c.specs.Promise.{Packs, EvaluatesTo, ReachesTo, counted as counted', PacksBytes, paired, PacksLine};
 use basic::Written;

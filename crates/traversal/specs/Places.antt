@@ -44,6 +44,10 @@ first-comm none (some q) = refl
 first-comm (some p) none = refl
 first-comm (some p) (some q) = ap some (omega arith)
 
+pub firstIn-nowhere : {A : Type 0} (xs : List A) → firstIn (λ _. none) xs ≡ none
+firstIn-nowhere [] = refl
+firstIn-nowhere (x ∷ xs) = firstIn-nowhere xs
+
 pub firstIn-append : {A : Type 0} (f : A → Option ℕ) (xs ys : List A) → firstIn f (xs ++ ys) ≡ first (firstIn f xs) (firstIn f ys)
 firstIn-append f [] ys = refl
 firstIn-append f (x ∷ xs) ys = ap (first (f x)) (firstIn-append f xs ys) ∙ sym (first-assoc (f x) (firstIn f xs) (firstIn f ys))

@@ -79,13 +79,6 @@ signals-apart (DeclarationLine d ∷ ls) h =
     (signals-apart ls (distinct-right own (over declares ls) h))
 signals-apart (FormulaLine e ∷ ls) h = signals-apart ls h
 
-pub visible-apart : (ns ms : Names) → Across ns ms → (t : Token) → visible ns t ≡ true → All (Apart t) ms
-visible-apart [] ms h t y = absurd (false≢true y)
-visible-apart (n ∷ ns) ms h t y =
-    or-cases (same (n .text) (t .text)) (visible ns t)
-    (λ e. all-more (λ m a. ap (λ u. same u (m .text)) (sym (same-equal (n .text) (t .text) e)) ∙ a) ms (h .0))
-    (λ e. visible-apart ns ms (h .1) t e) y
-
 -- the table has the type of every visible name
 module _ (declared : Names) (table : List ℕ) where
   abbrev pub Fits : Names → Names → Typings → Type 0

@@ -15,12 +15,12 @@ use Rattle.language.specs.Laws.Basics.NoPlace.{first-left, first-right, unless-
 use Rattle.language.specs.Laws.Values.DistinctNames.{Apart, Distinct, distinct-right, Across, across, distinct-names}
 use Rattle.names.specs.References.{reference}
 use Rattle.names.specs.Resolved.{declaredNames, Resolved}
-use Rattle.names.specs.VisibleLaws.{In, Among, visible-right, in-own, in-declared, among-more, among-all, of-signals}
+use Rattle.names.specs.VisibleLaws.{In, Among, visible-right, visible-apart, in-own, in-declared, among-more, among-all, of-signals}
 use Rattle.traversal.specs.LineLaws.{Each}
 use Rattle.types.specs.Lines.{Context, next, KnownLine, KindsKnown}
 use Rattle.types.specs.TableLaws.{allFixed, put}
 use Rattle.types.specs.PutLaws.{Has, kind-other, put-length, Beside, others, apart-references, has-kept, fixed-names, has-set, fixed-put}
-use Rattle.types.specs.KnownLaws.{defines, of-defined, signals-apart, visible-apart, Fits, known, fits-one, fits-values, behind-values, fits-signals, fits-again}
+use Rattle.types.specs.KnownLaws.{defines, of-defined, signals-apart, Fits, known, fits-one, fits-values, behind-values, fits-signals, fits-again}
 
 module _ (declared : Names) (few : length declared ≤ maxNames) where
   -- before the lines ls, where the names ns are visible

@@ -11,7 +11,7 @@ use borrow.Author.Tests.{ltb-true}
 use Rattle.language.specs.Tokens.{Token}
 use Rattle.language.specs.Tree.{Expr, Named, Identifier, Defined, Enumerated, OneSignal, OfWidth, OfType, Spec}
 use Rattle.language.specs.Grammar.{Tokens}
-use Rattle.language.specs.Places.{firstIn, TextLine as Line, ParameterLine, DefinitionLine, DeclarationLine, FormulaLine, allLines}
+use Rattle.language.specs.Places.{TextLine as Line, ParameterLine, DefinitionLine, DeclarationLine, FormulaLine, allLines}
 use Rattle.language.specs.Names.{Names}
 use Rattle.language.specs.Types.{ANumber, AFormula, ABus, AValue, AType, typeCode, Typings, typedValues}
 use Rattle.language.specs.Laws.Basics.Lists.{All}
@@ -26,7 +26,7 @@ use Rattle.traversal.specs.declared.Cell.{Cell}
 use Rattle.traversal.specs.Cells.{Sees, SeenAlong}
 use Rattle.traversal.specs.Arity.{firstLine}
 use Rattle.traversal.specs.Parts.{Part, operandsOf}
-use Rattle.traversal.specs.Places.{first-none}
+use Rattle.traversal.specs.Places.{first-none, firstIn-nowhere}
 use Rattle.traversal.specs.PassLaws.{run, Comes, Pass, Along, Works, expression-done}
 use Rattle.traversal.specs.LineLaws.{entriesOf, Each, lastly, text-holds}
 use Rattle.traversal.specs.Passed.{passed-all}
@@ -68,10 +68,6 @@ nothing-asked : (bs : Names) (qs : List (Part (Unit {0}))) → Along openPast (�
 nothing-asked bs [] = tt
 nothing-asked bs (q ∷ qs) = (tt, nothing-asked (openPast bs q) qs)
 
-nowhere-wrong : (qs : List (Part (Unit {0}))) → firstIn (λ _. none) qs ≡ none
-nowhere-wrong [] = refl
-nowhere-wrong (q ∷ qs) = nowhere-wrong qs
-
 module _ (declared : Names) (table : List ℕ) where
   abbrev pass : Pass (Unit {0}) Names (Unit {0}) (List ℕ) (Resolved declared)
   pass = record {
@@ -95,7 +91,7 @@ module _ (declared : Names) (table : List ℕ) where
         inherits = λ bs q _. nothing-asked bs (operandsOf kept q);
         carries = carries kept;
         values = λ _ _ _ _ _ _. refl;
-        faults = λ _ q _ _ _ _. first-none _ ∙ nowhere-wrong (operandsOf kept q);
+        faults = λ _ q _ _ _ _. first-none _ ∙ firstIn-nowhere (operandsOf kept q);
       }
 
 module _ (declared : Names) (cell : ℕ → Cell) where

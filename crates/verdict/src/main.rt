@@ -76,7 +76,7 @@ fn run(fd: i32, text: &mut [u8], start: &mut [u8], work: &mut [u8]) {
     }
     let t = input::within(n, text);
     let s = input::within(first, start);
-    print_verdict(&text[..t], &start[..s], input::told(size), work);
+    print_verdict(&text[..t], &start[..s], basics::told(size), work);
 }
 
 // A text of more than 32,768 bytes is refused by 1 wherever it ends, so that the first 65,536 tell enough; so does a recording's start, with its length.

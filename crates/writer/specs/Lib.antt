@@ -1,3 +1,4 @@
-pub mod Writes
+pub mod Promise
+pub mod PromiseLaws
 pub mod Stages
 pub mod Numbers

@@ -1,11 +1,11 @@
 -- `write_basic` by stages: the reader's answer into a table and a list of the largest size, then what is written out of them.
-use Prim.Native.Nat.{ℕ, _≤_, min}
+use Prim.Native.Nat.{ℕ, _≤_}
 use mathlib.Core.Path.{_≡_, refl, ap, ap₂, _∙_, sym, subst}
-use mathlib.Core.Bool.{Bool, true, false, _&&_}
+use mathlib.Core.Bool.{Bool, true, false}
 use mathlib.Core.List.{List, []}
 use mathlib.Core.Option.{Option}
 use lib.Dec.{leb}
-use lib.ListN.{length, take, length-take}
+use lib.ListN.{length, take}
 use native.Mathlib.Omega.{arith}
 use borrow.Author.Tests.{le-leb, leb-true}
 use Rattle.node.specs.Limits.{maxNodes}
@@ -23,11 +23,12 @@ use Rattle.language.specs.Places.{refuseAt}
 use Rattle.language.specs.Parsing.{parsed}
 use Rattle.language.specs.Reading.{NumberedFormula, specExpansion, textExpansion, delivered, reading, workAfter}
 use Rattle.language.specs.Laws.Buffers.{accepted-meant}
-use Rattle.language.specs.Laws.Meaning.Acceptance.{accepts, text-signals, list-limited}
+use Rattle.language.specs.Laws.Meaning.Acceptance.{text-signals, list-limited}
 use Rattle.parser.specs.Outlines.{modelCode}
 use Rattle.parser.specs.declared.Facts.{Facts}
 use Rattle.claim.specs.Claim.{nodesOf}
 use Rattle.claim.specs.ClaimLaws.{text-few, text-small}
+use Rattle.claim.specs.DeliveredLaws.{all-delivered, taken-room}
 use Rattle.claim.specs.YieldsLaws.{accepted, refused}
 use Rattle.reader.specs.declared.Told.{Told}
 use Rattle.reader.specs.Telling.{ReadsTold}
@@ -36,14 +37,8 @@ use Rattle.basic.specs.Basic.{basicText}
 use Rattle.basic.specs.Writing.{written, writing, faultFrom}
 use Rattle.basic.specs.declared.Written.{Written}
 use Rattle.layout.specs.Text.{modelOf, Delivers, handed, outcome}
-use Rattle.writer.specs.Writes.{unwritten, Writes, writes}
-
--- no accepted text is too large for the largest table and list
-all-delivered : (text : List ℕ) (r : Result NumberedFormula) → textExpansion text ≡ r → r >>= delivered maxNodes maxSignals ≡ r
-unfolding _>>=_
-all-delivered text (Done c) e =
-    guard-pass 18 0 _ (ap₂ _&&_ (le-leb (size (c .formula)) maxNodes (accepts e .fewNodes)) (le-leb (length (c .signals)) maxSignals (list-limited text c e)))
-all-delivered text (Refused n p) e = refl
+use Rattle.writer.specs.Promise.{unwritten, Writes}
+use Rattle.writer.specs.PromiseLaws.{writes}
 
 -- what the reader refuses the writer does
 behind-refused : {A B : Type 0} (r : Result Spec) (f : Spec → Result A) (k : Spec → A → Result B) {n p : ℕ} → r >>= f ≡ Refused n p → r >>= (λ x. f x >>= k x) ≡ Refused n p
@@ -66,7 +61,7 @@ module _ (text : List ℕ) (work room : ℕ) where
   unfolding reading writing
   writing-refused {n} {p} e =
       guard-both (leb workBytes work) 17 0 (textExpansion text >>= delivered maxNodes maxSignals) (written text >>= handed room)
-      (λ h. bind-refused (written text) n p (handed room) (written-refused text (sym (all-delivered text (textExpansion text) refl) ∙ h))) e
+      (λ h. bind-refused (written text) n p (handed room) (written-refused text (sym (all-delivered text) ∙ h))) e
 
   -- and what it accepts is written
   writing-text : {x : Spec} {c : NumberedFormula} → workBytes ≤ work → parsed text ≡ Done x → specExpansion x ≡ Done c
@@ -98,10 +93,6 @@ writing-accepted text work room nodes signals e =
 model-is : (t : ℕ) (m : Model) → t ≡ modelCode m → modelOf t ≡ m
 model-is t Mealy e = ap modelOf e
 model-is t Moore e = ap modelOf e
-
--- as many entries as were taken are there
-taken-room : (n : ℕ) (l : List ℕ) → length (take n l) ≡ n → n ≤ length l
-taken-room n l e = let cut : length (take n l) ≡ min n (length l) = length-take n l in omega arith
 
 -- what is at hand once the text is read: its nodes in the table, its signals in the list, the target's model
 pub record AtHand (text work work′ table list : List ℕ) (n s target : ℕ) : Type 0 where

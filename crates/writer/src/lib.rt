@@ -1,6 +1,6 @@
 // The writer: from a text to a basic text that reads back as the same nodes (document 02, F-1). It reads into a table and a list of its own.
 ghost use mathlib.Core.Path.{_≡_};
-ghost use Rattle.writer.specs.Writes.{unwritten as unwritten', Writes};
+ghost use Rattle.writer.specs.Promise.{unwritten as unwritten', Writes};
 use basic::Written;
 use layout::text::write_nodes;
 use node::Answer;

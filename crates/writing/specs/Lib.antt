@@ -2,6 +2,7 @@ pub mod Moving
 pub mod Parts
 pub mod Writing
 pub mod Windows
+pub mod MovingLaws
 pub mod WritingLaws
 pub mod StepLaws
 pub mod PartLaws

@@ -10,7 +10,8 @@ use Rattle.node.specs.Limits.{maxNodes}
 use Rattle.node.specs.Ltl.{Formula}
 use Rattle.node.specs.Postorder.{size, nodesFrom}
 use Rattle.node.specs.PostorderLaws.{length-nodes}
-use Rattle.writing.specs.Moving.{moved, moved-nodes}
+use Rattle.writing.specs.Moving.{moved}
+use Rattle.writing.specs.MovingLaws.{moved-nodes}
 use Rattle.writing.specs.Writing.{Stored, Puts, Wrote}
 use Rattle.writing.specs.Parts.{part, moves, Stands}
 use Rattle.basics.specs.Lists.{sets-append, getD-sets-below}

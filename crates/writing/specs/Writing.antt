@@ -1,14 +1,14 @@
 -- What the writing functions ensure: words stored from an index on, with the next index; or that they do not fit a table of 8,192.
-use Prim.Native.Nat.{ℕ, zero, suc, _+_, _<_, _≤_}
-use mathlib.Core.Bool.{Bool, true, false}
+use Prim.Native.Nat.{ℕ, _+_, _<_, _≤_}
 use mathlib.Core.Path.{_≡_}
 use mathlib.Core.List.{List}
 use lib.ListN.{length}
 use lib.Seq.{sets}
 use Rattle.node.specs.Limits.{maxNodes, fieldLimit}
-use Rattle.node.specs.Ltl.{Unary, X, Binary, Formula, True, False, One, Two}
+use Rattle.node.specs.Ltl.{Unary, Binary, Formula, One, Two}
 use Rattle.node.specs.Kinds.{unaryKind, binaryKind}
 use Rattle.node.specs.Postorder.{nodesFrom, SignalsBelow}
+pub use Rattle.node.specs.Derived.{truth, nexts, chain}
 
 -- the words vs from index `at` on, and r is the next index
 pub record Stored (vs out out′ : List ℕ) (at r : ℕ) : Type 0 where
@@ -37,20 +37,6 @@ Caps op out out′ m r = (o : Unary) → op ≡ unaryKind o → (at : ℕ) → B
 pub record Joins (op : ℕ) (out out′ : List ℕ) (m n r : ℕ) : Type 0 where
   pub wrote : (o : Binary) → op ≡ binaryKind o → {a b : Formula} {before between : List ℕ} {at : ℕ}
       → Wrote a before between at m → Wrote b between out m n → Wrote (Two o a b) before out′ at r
-
-abbrev pub truth : Bool → Formula
-truth true = True
-truth false = False
-
--- '`X[n]` is n X nodes'
-abbrev pub nexts : ℕ → Formula → Formula
-nexts zero a = a
-nexts (suc n) a = One X (nexts n a)
-
--- `a || X(a || ..)` with n + 1 times a
-abbrev pub chain : Binary → ℕ → Formula → Formula
-chain o zero a = a
-chain o (suc n) a = Two o a (One X (chain o n a))
 
 -- n times X over what was written up to m
 abbrev pub Nexts : ℕ → List ℕ → List ℕ → ℕ → ℕ → Type 0

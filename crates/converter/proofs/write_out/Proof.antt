@@ -31,16 +31,21 @@ same-length c = search needs
 
 returns : tie.Need-returns
 returns c =
-    let a = c .before .before .before .before .before .before .before .before .before .before .before .args in
-    out-refused (a .form) (a .table .now) (a .list .now) (a .nodes .now) (a .signals .now) (c .before .before .before .before .before .before .room .ensures)
-    (c .before .before .before .before .rewrite .ensures) refl (c .enum-told2 .given .1)
+    let at-rewrite = c .before .before .before .before in
+    let at-room = at-rewrite .before .before in
+    let start = at-room .before .before .before .before .before in
+    let a = start .args in
+    out-refused (a .form) (a .table .now) (a .list .now) (a .nodes .now) (a .signals .now) (at-room .room .ensures) (at-rewrite .rewrite .ensures) refl (c .enum-told2 .given .1)
 
 copy-words-requires : tie.Need-copy-words-requires
 copy-words-requires c κs =
-    let a = c .before .before .before .before .before .before .before .before .before .before .before .before .args in (
+    let at-rewrite = c .before .before .before .before .before in
+    let at-room = at-rewrite .before .before in
+    let start = at-room .before .before .before .before .before in
+    let a = start .args in (
       omega arith,
-      list-fits (a .form) (a .table .now) (a .list .now) (a .nodes .now) (a .signals .now) (c .before .before .before .before .before .before .before .room .ensures)
-          (c .before .before .before .before .before .rewrite .ensures) refl (c .before .enum-told .given .1),
+      list-fits (a .form) (a .table .now) (a .list .now) (a .nodes .now) (a .signals .now) (at-room .room .ensures)
+          (at-rewrite .rewrite .ensures) refl (c .before .enum-told .given .1),
     )
 
 same-length-2 : tie.Need-same-length-2
@@ -51,9 +56,14 @@ same-length-3 c = search needs
 
 returns-2 : tie.Need-returns-2
 returns-2 c =
-    let a = c .before .before .before .before .before .before .before .before .before .before .before .before .before .before .before .args in
-    out-accepted (a .form) (a .table .now) (a .list .now) (a .nodes .now) (a .signals .now) (c .before .before .before .before .before .before .before .before .before .before .room .ensures)
-    (c .before .before .before .before .before .before .before .before .rewrite .ensures) refl (c .before .before .before .before .enum-told .given .1) (c .before .before .copy-words .ensures)
+    let at-copy-words = c .before .before in
+    let at-enum-told = at-copy-words .before .before in
+    let at-rewrite = at-enum-told .before .before .before .before in
+    let at-room = at-rewrite .before .before in
+    let start = at-room .before .before .before .before .before in
+    let a = start .args in
+    out-accepted (a .form) (a .table .now) (a .list .now) (a .nodes .now) (a .signals .now) (at-room .room .ensures) (at-rewrite .rewrite .ensures) refl (at-enum-told .enum-told .given .1)
+    (at-copy-words .copy-words .ensures)
 
 pub write-out-spec : {M : Type 1} → statement M
 write-out-spec =

@@ -1,19 +1,19 @@
--- `size` meets its contract, and ends: each turn counts some bytes, up to the last place.
+-- `size` meets its contract, and ends: each turn counts some bytes, up to what an answer can tell.
 use Prim.Native.Nat.{_-_, _≤_, max}
 use mathlib.Core.Logic.{inl, inr}
 use mathlib.Core.Path.{_≡_, refl}
 use lib.ListN.{length}
 use native.Mathlib.Omega.{arith}
 use borrow.Author.Needs.{needs}
-use Rattle.input.specs.Counted.{lastPlace}
+use Rattle.basics.specs.Told.{maxTold}
 use Rattle.input.proofs.size.Statement.{statement}
 use Rattle.input.proofs.size.Tie as tie
 
 abbrev Inv-loop : tie.InvT-loop
-Inv-loop fd first spare₀ total₀ spare total = (length spare ≡ length spare₀) × (first ≤ total) × (total ≤ max first lastPlace)
+Inv-loop fd first spare₀ total₀ spare total = (length spare ≡ length spare₀) × (first ≤ total) × (total ≤ max first maxTold)
 
 abbrev μ-loop : tie.MeasureT-loop
-μ-loop fd first spare₀ total₀ spare total = lastPlace - total
+μ-loop fd first spare₀ total₀ spare total = maxTold - total
 
 loop-holds : tie.Need-loop-holds Inv-loop μ-loop
 loop-holds c = search needs

@@ -5,7 +5,7 @@ use mathlib.Core.List.{List}
 use lib.ListN.{length-replicate}
 use lib.Seq.{length-take-le}
 use Rattle.evaluator.specs.EvaluationLaws.{unjudged-refusal}
-use Rattle.judging.specs.Judging.{JudgesText}
+use Rattle.judging.specs.Promise.{JudgesText}
 use Rattle.judging.specs.Stages.{read-refused, read-accepted, read-judged}
 use borrow.Author.Needs.{needs}
 use Rattle.judging.proofs.judge_text.Statement.{statement}

@@ -3,8 +3,9 @@ use Prim.Native.Nat.{_-_}
 use mathlib.Core.Path.{_≡_, sym, ap, _∙_}
 use native.Mathlib.Omega.{arith}
 use Rattle.faults.specs.Naming.{brokenFrom}
+use borrow.Author.Tests.{not-true, not-false}
 use Rattle.line_search.specs.Walking.{valueOf, orEnd}
-use Rattle.line_search.specs.WalkingLaws.{broken-end, unrequired, broken-here, broken-on, not-true, not-false}
+use Rattle.line_search.specs.WalkingLaws.{broken-end, unrequired, broken-here, broken-on}
 use Rattle.line_search.proofs.broken.Statement.{statement}
 use Rattle.line_search.proofs.broken.Tie as tie
 

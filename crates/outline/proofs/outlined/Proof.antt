@@ -21,7 +21,9 @@ same-length : tie.Need-same-length
 same-length c = search needs
 
 returns : tie.Need-returns
-returns c = handed-up (c .before .before .before .before .before .lex .ensures) (c .before .enum-told .given .1) (c .unread .ensures)
+returns c =
+    let at-lex = c .before .before .before .before .before in
+    handed-up (at-lex .lex .ensures) (c .before .enum-told .given .1) (c .unread .ensures)
 
 cast-counted : tie.Need-cast-counted
 cast-counted c = search needs
@@ -31,8 +33,11 @@ cast-parse c = search needs
 
 parse-requires : tie.Need-parse-requires
 parse-requires c κs =
-    let l = (c .before .before .before .before .before .before .lex) .ensures in
-    lexed (tokenized l ((c .before .before .lexed) .given .1)) (omega (arith, l .size, (c .before .before .before .before .before .before .before .before .before .before) .pre))
+    let at-lexed = c .before .before in
+    let at-lex = at-lexed .before .before .before .before in
+    let start = at-lex .before .before .before .before in
+    let l = at-lex .lex .ensures in
+    lexed (tokenized l (at-lexed .lexed .given .1)) (omega (arith, l .size, start .pre))
 
 counted-requires : tie.Need-counted-requires
 counted-requires c κs = search needs
@@ -42,8 +47,11 @@ same-length-2 c = search needs
 
 returns-2 : tie.Need-returns-2
 returns-2 c =
-    let l = (c .before .before .before .before .before .before .before .before .before .before .lex) .ensures in
-    outlined (tokenized l ((c .before .before .before .before .before .before .lexed) .given .1)) (l .size) (l .kept) ((c .before .before .before .parse) .ensures) ((c .counted) .ensures)
+    let at-parse = c .before .before .before in
+    let at-lexed = at-parse .before .before .before in
+    let at-lex = at-lexed .before .before .before .before in
+    let l = at-lex .lex .ensures in
+    outlined (tokenized l (at-lexed .lexed .given .1)) (l .size) (l .kept) (at-parse .parse .ensures) (c .counted .ensures)
 
 pub outlined-spec : {M : Type 1} → statement M
 outlined-spec =

@@ -6,7 +6,7 @@ use borrow.Author.Tests.{not-true, not-false}
 use Rattle.node.specs.Result.{Refused}
 use Rattle.recordings.specs.Limits.{signalBits}
 use Rattle.recordings.specs.Letters.{bits-below}
-use Rattle.recordings.specs.RecordingLaws.{filled-long, filled-spare, filled-good}
+use Rattle.recordings.specs.RecordingLaws.{told-is, filled-long, filled-spare, filled-good}
 use borrow.Author.Needs.{needs}
 use Rattle.recordings.proofs.check_letters.Statement.{statement}
 use Rattle.recordings.proofs.check_letters.Tie as tie
@@ -32,7 +32,7 @@ told-requires c κs = search needs
 returns : tie.Need-returns
 returns c =
     let if1 = c .before .if1 in
-    ap (Refused 20) (c .told .ensures) ∙ sym (filled-long _ _ _ (if1 .taken))
+    ap (Refused 20) (c .told .ensures ∙ told-is _) ∙ sym (filled-long _ _ _ (if1 .taken))
 
 add-blank : tie.Need-add-blank
 add-blank c =

@@ -3,8 +3,7 @@ use Prim.Native.Nat.{_*_}
 use mathlib.Core.Path.{sym, ap, _∙_}
 use native.Mathlib.Omega.{arith}
 use Rattle.language.specs.Bytes.{same}
-use Rattle.signal_names.specs.Runs.{part}
-use Rattle.signal_names.specs.Slots.{slotBytes}
+use Rattle.signal_names.specs.Promise.{slotBytes, part}
 use Rattle.signal_names.specs.SlotLaws.{other-size}
 use borrow.Author.Needs.{needs}
 use Rattle.signal_names.proofs.in_slot.Statement.{statement}

@@ -5,7 +5,8 @@ use mathlib.Core.Path.{_≡_, refl, ap, _∙_}
 use native.Mathlib.Omega.{arith}
 use lib.ListN.{length, set, length-set, getD}
 use lib.Seq.{sets}
-use Rattle.signal_names.specs.Runs.{part, part-length, puts-more}
+use Rattle.signal_names.specs.Runs.{part-length, puts-more}
+use Rattle.signal_names.specs.Promise.{part}
 use Rattle.signal_names.proofs.put_bytes.Statement.{statement}
 use Rattle.signal_names.proofs.put_bytes.Tie as tie
 

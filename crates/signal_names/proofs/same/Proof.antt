@@ -3,7 +3,7 @@ use Prim.Native.Nat.{_+_, _-_, _≤_}
 use mathlib.Core.Path.{_≡_, sym, _∙_}
 use native.Mathlib.Omega.{arith}
 use Rattle.language.specs.Bytes.{same}
-use Rattle.signal_names.specs.Runs.{part}
+use Rattle.signal_names.specs.Promise.{part}
 use Rattle.signal_names.specs.SlotLaws.{same-from, same-on, same-stop, same-end}
 use Rattle.signal_names.proofs.same.Statement.{statement}
 use Rattle.signal_names.proofs.same.Tie as tie

@@ -3,8 +3,8 @@ use Prim.Native.Nat.{_*_, _≤_}
 use mathlib.Core.Path.{_≡_, refl, sym, ap, _∙_}
 use native.Mathlib.Omega.{arith}
 use Rattle.basic.specs.Writing.{taken}
-use Rattle.signal_names.specs.Runs.{part}
-use Rattle.signal_names.specs.Slots.{slotBytes, earlier}
+use Rattle.signal_names.specs.Promise.{slotBytes, part}
+use Rattle.signal_names.specs.Slots.{earlier}
 use Rattle.signal_names.specs.SlotLaws.{held-less, taken-on, taken-found}
 use Rattle.signal_names.proofs.taken.Statement.{statement}
 use Rattle.signal_names.proofs.taken.Tie as tie

@@ -1,7 +1,7 @@
 -- `unwritten` meets its contract, by the two cases of the answer.
 use mathlib.Core.Path.{sym, ap}
 use borrow.Author.Needs.{needs}
-use Rattle.writer.specs.Writes.{unwritten}
+use Rattle.writer.specs.Promise.{unwritten}
 use Rattle.writer.proofs.unwritten.Statement.{statement}
 use Rattle.writer.proofs.unwritten.Tie as tie
 

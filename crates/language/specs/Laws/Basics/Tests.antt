@@ -8,6 +8,7 @@ use mathlib.Core.Option.{some, none}
 use lib.Dec.{eqb, leb, ltb}
 use native.Mathlib.Omega.{arith}
 use borrow.Author.Tests.{eqb-true, leb-true, ltb-true, eq-eqb, le-leb, lt-ltb}
+pub use Rattle.node.specs.Tests.{and-left, and-right}
 use Rattle.language.specs.Bytes.{same}
 
 -- what holds of both branches, each under its test, holds of the choice
@@ -30,14 +31,6 @@ both true c x y = refl
 both false c x y = refl
 
 -- 'and', 'or'
-pub and-left : (a b : Bool) → (a && b) ≡ true → a ≡ true
-and-left true b e = refl
-and-left false b e = e
-
-pub and-right : (a b : Bool) → (a && b) ≡ true → b ≡ true
-and-right true b e = e
-and-right false b e = absurd (false≢true e)
-
 pub and-false : (a b : Bool) → a ≡ false → (a && b) ≡ false
 and-false true b e = absurd (false≢true (sym e))
 and-false false b e = refl

@@ -8,8 +8,8 @@ use mathlib.Core.Path.{_≡_, refl, sym, ap, _∙_, subst}
 use lib.Dec.{leb}
 use lib.ListN.{length}
 use native.Mathlib.Omega.{arith}
-use Rattle.node.specs.Result.{Result, Done, Refused, _>>=_, guard}
-use Rattle.node.specs.ResultLaws.{not-done}
+use Rattle.node.specs.Result.{Result, Done, Refused, _>>=_}
+use Rattle.node.specs.ResultLaws.{not-done, guard-other}
 use Rattle.language.specs.Limits.{maxBytes}
 use Rattle.language.specs.Tokens.{End, Wrong, Token, isOf, tokens}
 use Rattle.language.specs.Tree.{Spec}
@@ -101,11 +101,6 @@ refuse-other : {A : Type 0} (m : ℕ) (o : Option ℕ) (r : Result A) {number p 
 unfolding refuseAt numberOf
 refuse-other m none r f e = (refl, e)
 refuse-other m (some q) r f e = absurd (f (ap numberOf e))
-
-guard-other : {A : Type 0} (b : Bool) (m q : ℕ) (r : Result A) {number p : ℕ} → (m ≡ number → ⊥) → guard b m q r ≡ Refused number p → r ≡ Refused number p
-unfolding guard numberOf
-guard-other true m q r f e = e
-guard-other false m q r f e = absurd (f (ap numberOf e))
 
 -- the tree's own refusals are not 4
 wellFormed-other : (x : Spec) (p : ℕ) → wellFormed x ≡ Refused 4 p → ⊥

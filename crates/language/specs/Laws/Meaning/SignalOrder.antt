@@ -65,7 +65,7 @@ module _ (text list : List ℕ) (defs : List Definition) (output : Bool) where
         (numbered-from (k + signalsOf p) ds ps (f .1) (h .1) (λ i l. ap (λ (n : ℕ). getD list n 0) (omega arith) ∙ s (signalsOf p + i) (omega (arith, list-length p ps)) ∙ later-reads p ps i)),
   )
 
-list-append : (ps qs : List Port) → signalList (ps ++ qs) ≡ signalList ps ++ signalList qs
+pub list-append : (ps qs : List Port) → signalList (ps ++ qs) ≡ signalList ps ++ signalList qs
 list-append [] qs = refl
 list-append (p ∷ ps) qs = ap (entries p (signalsOf p) 0 ++_) (list-append ps qs) ∙ sym (append-assoc (entries p (signalsOf p) 0) (signalList ps) (signalList qs))
 

@@ -6,7 +6,7 @@ use mathlib.Core.Path.{_≡_, _∙_}
 use lib.ListN.{length}
 use Rattle.node.specs.Limits.{maxNodes}
 use Rattle.node.specs.Table.{root}
-use Rattle.signal_names.specs.Slots.{slot}
+use Rattle.signal_names.specs.Promise.{slot}
 use Rattle.layout.specs.Layout.{layout}
 use Rattle.layout.specs.Emitting.{Emits, emits-start, emits-room, emits-kept, emits-turn, emits-on, emits-end}
 use Rattle.layout.proofs.formula.put_formula.Statement.{statement}

@@ -2,7 +2,7 @@
 use mathlib.Core.Path.{_∙_, ap}
 use Prim.Native.Nat.{min}
 use native.Mathlib.Omega.{arith}
-use Rattle.basic.specs.Writing.{maxTold}
+use Rattle.basics.specs.Told.{maxTold}
 use Rattle.layout.specs.NodeLaws.{kind-told, name-told, left-told, right-told, size-told}
 use borrow.Author.Needs.{needs}
 use Rattle.layout.proofs.pieces.node_size.Statement.{statement}
@@ -95,17 +95,17 @@ operand-size-requires-2 c κs =
     let start = kind-at .before .before .before .before in
     right-told (start .pre .1) (kind-at .kind .ensures) (first-at .first .ensures) (second-at .second .ensures) (c .follows2 .ensures)
 
-add-capped : tie.Need-add-capped
-add-capped c = search needs
+add-told : tie.Need-add-told
+add-told c = search needs
 
-add-capped-2 : tie.Need-add-capped-2
-add-capped-2 c = search needs
+add-told-2 : tie.Need-add-told-2
+add-told-2 c = search needs
 
-add-capped-3 : tie.Need-add-capped-3
-add-capped-3 c = search needs
+add-told-3 : tie.Need-add-told-3
+add-told-3 c = search needs
 
-capped-requires : tie.Need-capped-requires
-capped-requires c κs = search needs
+told-requires : tie.Need-told-requires
+told-requires c κs = search needs
 
 returns : tie.Need-returns
 returns c =
@@ -125,7 +125,7 @@ returns c =
     (piece-size2-at .piece-size2 .ensures .0)
     (piece-size3-at .piece-size3 .ensures .0) (name-size-at .name-size .ensures .0) (follows-at .follows .ensures) (operand-size-at .operand-size .ensures .0) (follows2-at .follows2 .ensures)
     (operand-size2-at .operand-size2 .ensures .0) in
-    c .capped .ensures ∙ ap (min maxTold) all
+    c .told .ensures ∙ ap (min maxTold) all
 
 pub node-size-spec : {M : Type 1} → statement M
 node-size-spec =
@@ -147,8 +147,8 @@ node-size-spec =
     operand-size-requires
     follows-requires-2
     operand-size-requires-2
-    add-capped
-    add-capped-2
-    add-capped-3
-    capped-requires
+    add-told
+    add-told-2
+    add-told-3
+    told-requires
     returns)

@@ -3,15 +3,15 @@ use Prim.Native.Nat.{_+_, _*_, _-_, _≤_}
 use mathlib.Core.Path.{_≡_}
 use native.Mathlib.Omega.{arith}
 use lib.ListN.{length, drop}
-use Rattle.signal_names.specs.Slots.{slot}
+use Rattle.signal_names.specs.Promise.{slot}
 use Rattle.layout.specs.Layout.{nth}
-use Rattle.layout.specs.Text.{linesSize}
+use Rattle.layout.specs.Text.{maxLine, linesSize}
 use Rattle.layout.specs.TextLaws.{sizes-step, sizes-end}
 use Rattle.layout.proofs.text.lines_size.Statement.{statement}
 use Rattle.layout.proofs.text.lines_size.Tie as tie
 
 abbrev Inv-loop : tie.InvT-loop
-Inv-loop list flag names sizes n₀ k₀ n k = (k ≤ length list) × ((n ≤ 67 * k) × (n + linesSize (nth sizes) flag k (drop k list) ≡ linesSize (nth sizes) flag 0 list))
+Inv-loop list flag names sizes n₀ k₀ n k = (k ≤ length list) × ((n ≤ maxLine * k) × (n + linesSize (nth sizes) flag k (drop k list) ≡ linesSize (nth sizes) flag 0 list))
 
 abbrev μ-loop : tie.MeasureT-loop
 μ-loop list flag names sizes n₀ k₀ n k = length list - k

@@ -1,7 +1,7 @@
 -- `put_line` meets its contract: the name and the sign, or nothing.
 use native.Mathlib.Omega.{arith}
 use Rattle.signal_names.specs.Runs.{puts-length}
-use Rattle.signal_names.specs.Slots.{slot}
+use Rattle.signal_names.specs.Promise.{slot}
 use Rattle.layout.specs.TextLaws.{name-within, listed-length, line-length, put-no-line, put-line-is}
 use borrow.Author.Needs.{needs}
 use Rattle.layout.proofs.text.put_line.Statement.{statement}

@@ -2,7 +2,7 @@
 use Prim.Native.Nat.{_-_, _≤_}
 use native.Mathlib.Omega.{arith}
 use lib.ListN.{length}
-use Rattle.signal_names.specs.Slots.{slot}
+use Rattle.signal_names.specs.Promise.{slot}
 use Rattle.layout.specs.TextLaws.{held-listed, Lines, lines-start, lines-room, lines-kept, lines-more, lines-done}
 use Rattle.layout.proofs.text.put_lines.Statement.{statement}
 use Rattle.layout.proofs.text.put_lines.Tie as tie

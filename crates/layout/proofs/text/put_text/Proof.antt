@@ -2,7 +2,7 @@
 use mathlib.Core.Path.{_∙_}
 use Rattle.node.specs.Table.{root}
 use Rattle.signal_names.specs.Runs.{puts-length}
-use Rattle.signal_names.specs.Slots.{slot}
+use Rattle.signal_names.specs.Promise.{slot}
 use Rattle.layout.specs.Text.{modelOf}
 use Rattle.layout.specs.WholeLaws.{room-1, room-2, room-3, room-4, room-5, room-6, room-7, text-put}
 use borrow.Author.Needs.{needs}

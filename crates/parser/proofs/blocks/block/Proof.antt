@@ -8,37 +8,40 @@ use mathlib.Core.Path.{sym, _∙_}
 use native.Mathlib.Omega.{arith}
 
 kind-requires : tie.Need-kind-requires
-kind-requires c κs =
-    search needs
+kind-requires c κs = search needs
 
 refuse-requires : tie.Need-refuse-requires
-refuse-requires c κs =
-    search needs
+refuse-requires c κs = search needs
 
 same-length : tie.Need-same-length
-same-length c =
-    search needs
+same-length c = search needs
 
 returns : tie.Need-returns
 returns c =
-    λ ts ready. block-refused ((c .before .before .before .before .before .before) .args .which) ready (λ e. (c .before .before .if1) .taken ((c .before .before .before .kind) .ensures ∙ e))
-    ((c .refuse) .ensures)
+    let at-if1 = c .before .before in
+    let at-kind = at-if1 .before in
+    let start = at-kind .before .before .before in
+    λ ts ready. block-refused (start .args .which) ready (λ e. at-if1 .if1 .taken (at-kind .kind .ensures ∙ e)) (c .refuse .ensures)
 
 lines-requires : tie.Need-lines-requires
-lines-requires c κs = (
-  (c .before .before .before .before .before) .pre,
-  inside ((c .before .before .before .before .before) .pre .ready) (sym ((c .before .before .kind) .ensures) ∙ (c .before .if1) .left)
-      (omega arith),
-)
+lines-requires c κs =
+    let at-kind = c .before .before in
+    let start = at-kind .before .before .before in (
+      start .pre,
+      inside (start .pre .ready) (sym (at-kind .kind .ensures) ∙ c .before .if1 .left)
+          (omega arith),
+    )
 
 same-length-2 : tie.Need-same-length-2
-same-length-2 c =
-    search needs
+same-length-2 c = search needs
 
 returns-2 : tie.Need-returns-2
 returns-2 c =
-    λ ts ready. block-read ((c .before .before .before .before .before .before .before .before) .args .which) ready
-    (sym ((c .before .before .before .before .before .kind) .ensures) ∙ (c .before .before .before .before .if1) .left) ((c .before .before .lines) .ensures ts ready)
+    let at-lines = c .before .before in
+    let at-if1 = at-lines .before .before in
+    let at-kind = at-if1 .before in
+    let start = at-kind .before .before .before in
+    λ ts ready. block-read (start .args .which) ready (sym (at-kind .kind .ensures) ∙ at-if1 .if1 .left) (at-lines .lines .ensures ts ready)
 
 pub block-spec : {M : Type 1} → statement M
 block-spec =

@@ -24,127 +24,172 @@ abbrev μ-loop : tie.MeasureT-loop
 
 loop-holds : tie.Need-loop-holds Inv-loop μ-loop
 loop-holds c =
-    ((c .before) .pre .1, λ ts ready. lines-start ((c .before) .args .which) ready ((c .before) .pre .1))
+    let start = c .before in
+    (start .pre .1, λ ts ready. lines-start (start .args .which) ready (start .pre .1))
 
 next-requires : tie.Need-next-requires Inv-loop μ-loop
 next-requires c κs =
-    let z = (c .before .before) .pre .0 in let h = (c .loop) .inv .1 (z .tokens) (z .ready) in omega (arith, ((c .loop) .inv .0), h .going .took .ready .fits .few)
+    let start = c .before .before in
+    let z = start .pre .0 in let h = c .loop .inv .1 (z .tokens) (z .ready) in omega (arith, (c .loop .inv .0), h .going .took .ready .fits .few)
 
 kind-requires : tie.Need-kind-requires Inv-loop μ-loop
 kind-requires c κs =
-    let z = (c .before .before .before .before) .pre .0 in let h = (c .before .before .loop) .inv .1 (z .tokens) (z .ready) in
-    behind-ready ((c .before .before .before .before) .args .which) h ((c .before .before .loop) .inv .0) (next-of ((c .before .next) .ensures)) .fits
+    let at-loop = c .before .before in
+    let start = at-loop .before .before in
+    let z = start .pre .0 in let h = at-loop .loop .inv .1 (z .tokens) (z .ready) in
+    behind-ready (start .args .which) h (at-loop .loop .inv .0) (next-of (c .before .next .ensures)) .fits
 
 next-requires-2 : tie.Need-next-requires-2 Inv-loop μ-loop
 next-requires-2 c κs =
-    let z = (c .before .before .before .before .before .before) .pre .0 in let h = (c .before .before .before .before .loop) .inv .1 (z .tokens) (z .ready) in
-    next-fits (behind-ready ((c .before .before .before .before .before .before) .args .which) h ((c .before .before .before .before .loop) .inv .0)
-    (next-of ((c .before .before .before .next) .ensures))) (sym ((c .before .kind) .ensures) ∙ (c .if1) .taken) (omega arith)
+    let at-next = c .before .before .before in
+    let at-loop = at-next .before in
+    let start = at-loop .before .before in
+    let z = start .pre .0 in let h = at-loop .loop .inv .1 (z .tokens) (z .ready) in
+    next-fits (behind-ready (start .args .which) h (at-loop .loop .inv .0) (next-of (at-next .next .ensures))) (sym (c .before .kind .ensures) ∙ c .if1 .taken) (omega arith)
 
 same-length : tie.Need-same-length Inv-loop μ-loop
 same-length c =
-    let z = (c .before .before .before .before .before .before .before) .pre .0 in let h = (c .before .before .before .before .before .loop) .inv .1 (z .tokens) (z .ready) in h .going .kept .len
+    let at-loop = c .before .before .before .before .before in
+    let start = at-loop .before .before in
+    let z = start .pre .0 in let h = at-loop .loop .inv .1 (z .tokens) (z .ready) in h .going .kept .len
 
 returns : tie.Need-returns Inv-loop μ-loop
 returns c =
-    λ ts ready. let h = (c .before .before .before .before .before .loop) .inv .1 ts ready in
-    lines-close ((c .before .before .before .before .before .before .before) .args .which) h ((c .before .before .before .before .before .loop) .inv .0)
-    (next-of ((c .before .before .before .before .next) .ensures)) (sym ((c .before .before .kind) .ensures) ∙ (c .before .if1) .taken) (next-of ((c .next2) .ensures))
+    let at-kind = c .before .before in
+    let at-next = at-kind .before .before in
+    let at-loop = at-next .before in
+    let start = at-loop .before .before in
+    λ ts ready. let h = at-loop .loop .inv .1 ts ready in lines-close (start .args .which) h (at-loop .loop .inv .0) (next-of (at-next .next .ensures)) (sym (at-kind .kind .ensures) ∙ c .before
+    .if1 .taken) (next-of (c .next2 .ensures))
 
 line-requires : tie.Need-line-requires Inv-loop μ-loop
 line-requires c κs =
-    let z = (c .before .before .before .before .before .before .before) .pre .0 in let h = (c .before .before .before .before .before .loop) .inv .1 (z .tokens) (z .ready) in
-    (listing-readied z h, ((c .before .before .before .before .before .loop) .inv .0))
+    let at-loop = c .before .before .before .before .before in
+    let start = at-loop .before .before in
+    let z = start .pre .0 in let h = at-loop .loop .inv .1 (z .tokens) (z .ready) in
+    (listing-readied z h, (at-loop .loop .inv .0))
 
 enum-known-r : tie.Need-enum-known-r Inv-loop μ-loop
-enum-known-r c =
-    search needs
+enum-known-r c = search needs
 
 enum-told : tie.Need-enum-told Inv-loop μ-loop
-enum-told c =
-    search needs
+enum-told c = search needs
 
 same-length-2 : tie.Need-same-length-2 Inv-loop μ-loop
 same-length-2 c =
-    let z = (c .before .before .before .before .before .before .before .before .before .before .before .before) .pre .0 in
-    let h = (c .before .before .before .before .before .before .before .before .before .before .loop) .inv .1 (z .tokens) (z .ready) in
-    ((c .before .before .before .before .line) .ensures (z .tokens) (h .going .took .ready)) .kept .len ∙ h .going .kept .len
+    let at-line = c .before .before .before .before in
+    let at-loop = at-line .before .before .before .before .before .before in
+    let start = at-loop .before .before in
+    let z = start .pre .0 in
+    let h = at-loop .loop .inv .1 (z .tokens) (z .ready) in
+    (at-line .line .ensures (z .tokens) (h .going .took .ready)) .kept .len ∙ h .going .kept .len
 
 returns-2 : tie.Need-returns-2 Inv-loop μ-loop
 returns-2 c =
-    λ ts ready. let h = (c .before .before .before .before .before .before .before .before .before .before .loop) .inv .1 ts ready in
-    lines-stop ((c .before .before .before .before .before .before .before .before .before .before .before .before) .args .which) h
-    ((c .before .before .before .before .before .before .before .before .before .before .loop) .inv .0)
-    (next-of ((c .before .before .before .before .before .before .before .before .before .next) .ensures))
-    (λ e. (c .before .before .before .before .before .before .if1) .left ((c .before .before .before .before .before .before .before .kind) .ensures ∙ e))
-    ((c .before .before .before .before .line) .ensures ts (h .going .took .ready)) ((c .enum-told) .given .1)
+    let at-line = c .before .before .before .before in
+    let at-if1 = at-line .before .before in
+    let at-kind = at-if1 .before in
+    let at-next = at-kind .before .before in
+    let at-loop = at-next .before in
+    let start = at-loop .before .before in
+    λ ts ready. let h = at-loop .loop .inv .1 ts ready in lines-stop (start .args .which) h (at-loop .loop .inv .0) (next-of (at-next .next .ensures)) (λ e. at-if1 .if1 .left (at-kind .kind
+    .ensures ∙ e)) (at-line .line .ensures ts (h .going .took .ready)) (c .enum-told .given .1)
 
 kind-requires-2 : tie.Need-kind-requires-2 Inv-loop μ-loop
 kind-requires-2 c κs =
-    let z = (c .before .before .before .before .before .before .before .before .before .before .before .before .before .before) .pre .0 in
-    let h = (c .before .before .before .before .before .before .before .before .before .before .before .before .loop) .inv .1 (z .tokens) (z .ready) in
-    accepted ((c .before .before .r) .given .1) ((c .before .before .before .before .before .before .line) .ensures (z .tokens) (h .going .took .ready)) .took .ready .fits
+    let at-r = c .before .before in
+    let at-line = at-r .before .before .before .before in
+    let at-loop = at-line .before .before .before .before .before .before in
+    let start = at-loop .before .before in
+    let z = start .pre .0 in
+    let h = at-loop .loop .inv .1 (z .tokens) (z .ready) in
+    accepted (at-r .r .given .1) (at-line .line .ensures (z .tokens) (h .going .took .ready)) .took .ready .fits
 
 expect-requires : tie.Need-expect-requires Inv-loop μ-loop
 expect-requires c κs =
-    let z = (c .before .before .before .before .before .before .before .before .before .before .before .before .before .before .before .before .before) .pre .0 in
-    let h = (c .before .before .before .before .before .before .before .before .before .before .before .before .before .before .before .loop) .inv .1 (z .tokens) (z .ready) in (
-      accepted ((c .before .before .before .before .before .r) .given .1)
-          ((c .before .before .before .before .before .before .before .before .before .line) .ensures (z .tokens) (h .going .took .ready)) .took .ready .fits,
+    let at-r = c .before .before .before .before .before in
+    let at-line = at-r .before .before .before .before in
+    let at-loop = at-line .before .before .before .before .before .before in
+    let start = at-loop .before .before in
+    let z = start .pre .0 in
+    let h = at-loop .loop .inv .1 (z .tokens) (z .ready) in (
+      accepted (at-r .r .given .1)
+          (at-line .line .ensures (z .tokens) (h .going .took .ready)) .took .ready .fits,
       omega arith,
     )
 
 same-length-3 : tie.Need-same-length-3 Inv-loop μ-loop
 same-length-3 c =
-    let z = (c .before .before .before .before .before .before .before .before .before .before .before .before .before .before .before .before .before .before) .pre .0 in
-    let h = (c .before .before .before .before .before .before .before .before .before .before .before .before .before .before .before .before .loop) .inv .1 (z .tokens) (z .ready) in
-    ((c .before .before .before .before .before .before .before .before .before .before .line) .ensures (z .tokens) (h .going .took .ready)) .kept .len ∙ h .going .kept .len
+    let at-line = c .before .before .before .before .before .before .before .before .before .before in
+    let at-loop = at-line .before .before .before .before .before .before in
+    let start = at-loop .before .before in
+    let z = start .pre .0 in
+    let h = at-loop .loop .inv .1 (z .tokens) (z .ready) in
+    (at-line .line .ensures (z .tokens) (h .going .took .ready)) .kept .len ∙ h .going .kept .len
 
 returns-3 : tie.Need-returns-3 Inv-loop μ-loop
 returns-3 c =
-    λ ts ready. let h = (c .before .before .before .before .before .before .before .before .before .before .before .before .before .before .before .before .loop) .inv .1 ts ready in
-    lines-tail ((c .before .before .before .before .before .before .before .before .before .before .before .before .before .before .before .before .before .before) .args .which) h
-    ((c .before .before .before .before .before .before .before .before .before .before .before .before .before .before .before .before .loop) .inv .0)
-    (next-of ((c .before .before .before .before .before .before .before .before .before .before .before .before .before .before .before .next) .ensures))
-    (λ e. (c .before .before .before .before .before .before .before .before .before .before .before .before .if1) .left
-    ((c .before .before .before .before .before .before .before .before .before .before .before .before .before .kind) .ensures ∙ e))
-    ((c .before .before .before .before .before .before .before .before .before .before .line) .ensures ts (h .going .took .ready))
-    ((c .before .before .before .before .before .before .r) .given .1) (λ e. (c .before .before .if2) .taken ((c .before .before .before .kind2) .ensures ∙ e)) ((c .expect) .ensures)
+    let at-if2 = c .before .before in
+    let at-kind2 = at-if2 .before in
+    let at-r = at-kind2 .before .before .before in
+    let at-line = at-r .before .before .before .before in
+    let at-if1 = at-line .before .before in
+    let at-kind = at-if1 .before in
+    let at-next = at-kind .before .before in
+    let at-loop = at-next .before in
+    let start = at-loop .before .before in
+    λ ts ready. let h = at-loop .loop .inv .1 ts ready in lines-tail (start .args .which) h (at-loop .loop .inv .0) (next-of (at-next .next .ensures)) (λ e. at-if1 .if1 .left (at-kind .kind
+    .ensures ∙ e)) (at-line .line .ensures ts (h .going .took .ready)) (at-r .r .given .1) (λ e. at-if2 .if2 .taken (at-kind2 .kind2 .ensures ∙ e)) (c .expect .ensures)
 
 loop-less : tie.Need-loop-less Inv-loop μ-loop
 loop-less c =
-    let z = (c .before .before .before .before .before .before .before .before .before .before .before .before .before .before .before .before) .pre .0 in
-    let h = (c .before .before .before .before .before .before .before .before .before .before .before .before .before .before .loop) .inv .1 (z .tokens) (z .ready) in
-    let t = accepted ((c .before .before .before .before .r) .given .1)
-    ((c .before .before .before .before .before .before .before .before .line) .ensures (z .tokens) (h .going .took .ready)) .took in
+    let at-r = c .before .before .before .before in
+    let at-line = at-r .before .before .before .before in
+    let at-if1 = at-line .before .before in
+    let at-kind = at-if1 .before in
+    let at-next = at-kind .before .before in
+    let at-loop = at-next .before in
+    let start = at-loop .before .before in
+    let z = start .pre .0 in
+    let h = at-loop .loop .inv .1 (z .tokens) (z .ready) in
+    let t = accepted (at-r .r .given .1)
+    (at-line .line .ensures (z .tokens) (h .going .took .ready)) .took in
     omega (
       arith,
-      line-further ((c .before .before .before .before .before .before .before .before .before .before .before .before .before .before .before .before) .args .which) h
-          ((c .before .before .before .before .before .before .before .before .before .before .before .before .before .before .loop) .inv .0)
-          (next-of ((c .before .before .before .before .before .before .before .before .before .before .before .before .before .next) .ensures))
-          (λ e. (c .before .before .before .before .before .before .before .before .before .before .if1) .left
-          ((c .before .before .before .before .before .before .before .before .before .before .before .kind) .ensures ∙ e))
-          ((c .before .before .before .before .before .before .before .before .line) .ensures (z .tokens) (h .going .took .ready)) ((c .before .before .before .before .r) .given .1),
+      line-further (start .args .which) h
+          (at-loop .loop .inv .0)
+          (next-of (at-next .next .ensures))
+          (λ e. at-if1 .if1 .left
+          (at-kind .kind .ensures ∙ e))
+          (at-line .line .ensures (z .tokens) (h .going .took .ready)) (at-r .r .given .1),
       t .onward .count,
       t .ready .fits .inside,
     )
 
 loop-again : tie.Need-loop-again Inv-loop μ-loop
-loop-again c = (
-  let z = (c .before .before .before .before .before .before .before .before .before .before .before .before .before .before .before .before) .pre .0 in
-      let h = (c .before .before .before .before .before .before .before .before .before .before .before .before .before .before .loop) .inv .1 (z .tokens) (z .ready) in
-      inside (accepted ((c .before .before .before .before .r) .given .1)
-      ((c .before .before .before .before .before .before .before .before .line) .ensures (z .tokens) (h .going .took .ready)) .took .ready) (sym ((c .before .kind2) .ensures) ∙ (c .if2) .left)
-      (omega arith),
-  λ ts ready. let h = (c .before .before .before .before .before .before .before .before .before .before .before .before .before .before .loop) .inv .1 ts ready in
-      lines-again ((c .before .before .before .before .before .before .before .before .before .before .before .before .before .before .before .before) .args .which) h
-      ((c .before .before .before .before .before .before .before .before .before .before .before .before .before .before .loop) .inv .0)
-      (next-of ((c .before .before .before .before .before .before .before .before .before .before .before .before .before .next) .ensures))
-      (λ e. (c .before .before .before .before .before .before .before .before .before .before .if1) .left
-      ((c .before .before .before .before .before .before .before .before .before .before .before .kind) .ensures ∙ e))
-      ((c .before .before .before .before .before .before .before .before .line) .ensures ts (h .going .took .ready)) ((c .before .before .before .before .r) .given .1)
-      (sym ((c .before .kind2) .ensures) ∙ (c .if2) .left),
-)
+loop-again c =
+    let at-kind2 = c .before in
+    let at-r = at-kind2 .before .before .before in
+    let at-line = at-r .before .before .before .before in
+    let at-if1 = at-line .before .before in
+    let at-kind = at-if1 .before in
+    let at-next = at-kind .before .before in
+    let at-loop = at-next .before in
+    let start = at-loop .before .before in (
+      let z = start .pre .0 in
+          let h = at-loop .loop .inv .1 (z .tokens) (z .ready) in
+          inside (accepted (at-r .r .given .1)
+          (at-line .line .ensures (z .tokens) (h .going .took .ready)) .took .ready) (sym (at-kind2 .kind2 .ensures) ∙ c .if2 .left)
+          (omega arith),
+      λ ts ready. let h = at-loop .loop .inv .1 ts ready in
+          lines-again (start .args .which) h
+          (at-loop .loop .inv .0)
+          (next-of (at-next .next .ensures))
+          (λ e. at-if1 .if1 .left
+          (at-kind .kind .ensures ∙ e))
+          (at-line .line .ensures ts (h .going .took .ready)) (at-r .r .given .1)
+          (sym (at-kind2 .kind2 .ensures) ∙ c .if2 .left),
+    )
 
 pub lines-spec : {M : Type 1} → statement M
 lines-spec =

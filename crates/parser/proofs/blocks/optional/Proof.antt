@@ -7,42 +7,45 @@ use borrow.Author.Needs.{needs}
 use mathlib.Core.Path.{sym, _∙_}
 
 kind-requires : tie.Need-kind-requires
-kind-requires c κs =
-    search needs
+kind-requires c κs = search needs
 
 same-length : tie.Need-same-length
-same-length c =
-    search needs
+same-length c = search needs
 
 returns : tie.Need-returns
 returns c =
-    λ s spells ts ready. optional-missing ((c .before .before .before .before) .args .which) ready s spells (λ e. (c .if1) .taken ((c .before .kind) .ensures ∙ e))
+    let start = c .before .before .before .before in
+    λ s spells ts ready. optional-missing (start .args .which) ready s spells (λ e. c .if1 .taken (c .before .kind .ensures ∙ e))
 
 next-requires : tie.Need-next-requires
 next-requires c κs =
-    next-fits ((c .before .before .before .before) .pre .0 .ready) (sym ((c .before .kind) .ensures) ∙ (c .if1) .left) ((c .before .before .before .before) .pre .1)
+    let start = c .before .before .before .before in
+    next-fits (start .pre .0 .ready) (sym (c .before .kind .ensures) ∙ c .if1 .left) (start .pre .1)
 
 block-requires : tie.Need-block-requires
 block-requires c κs =
+    let at-if1 = c .before .before in
+    let at-kind = at-if1 .before in
+    let start = at-kind .before .before .before in
     record {
-      tokens = (c .before .before .before .before .before .before) .pre .0 .tokens;
-      ready = past-ready ((c .before .before .before .before .before .before) .pre .0 .ready)
-          (next-of ((c .before .next) .ensures)) (inside ((c .before .before .before .before .before .before) .pre .0 .ready)
-          (sym ((c .before .before .before .kind) .ensures) ∙ (c .before .before .if1) .left) ((c .before .before .before .before .before .before) .pre .1));
+      tokens = start .pre .0 .tokens;
+      ready = past-ready (start .pre .0 .ready)
+          (next-of (c .before .next .ensures)) (inside (start .pre .0 .ready)
+          (sym (at-kind .kind .ensures) ∙ at-if1 .if1 .left) (start .pre .1));
     }
 
 same-length-2 : tie.Need-same-length-2
-same-length-2 c =
-    search needs
+same-length-2 c = search needs
 
 returns-2 : tie.Need-returns-2
 returns-2 c =
-    λ s spells ts ready. optional-read ((c .before .before .before .before .before .before .before .before .before) .args .which) ready s spells
-    (sym ((c .before .before .before .before .before .before .kind) .ensures) ∙ (c .before .before .before .before .before .if1) .left)
-    ((c .before .before .before .before .before .before .before .before .before) .pre .1) (next-of ((c .before .before .before .before .next) .ensures))
-    ((c .before .before .block) .ensures ts (past-ready ready (next-of ((c .before .before .before .before .next) .ensures))
-    (inside ready (sym ((c .before .before .before .before .before .before .kind) .ensures) ∙ (c .before .before .before .before .before .if1) .left)
-    ((c .before .before .before .before .before .before .before .before .before) .pre .1))))
+    let at-block = c .before .before in
+    let at-next = at-block .before .before in
+    let at-if1 = at-next .before in
+    let at-kind = at-if1 .before in
+    let start = at-kind .before .before .before in
+    λ s spells ts ready. optional-read (start .args .which) ready s spells (sym (at-kind .kind .ensures) ∙ at-if1 .if1 .left) (start .pre .1) (next-of (at-next .next .ensures)) (at-block .block
+    .ensures ts (past-ready ready (next-of (at-next .next .ensures)) (inside ready (sym (at-kind .kind .ensures) ∙ at-if1 .if1 .left) (start .pre .1))))
 
 pub optional-spec : {M : Type 1} → statement M
 optional-spec =

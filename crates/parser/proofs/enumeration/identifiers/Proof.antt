@@ -22,61 +22,78 @@ abbrev μ-loop : tie.MeasureT-loop
 
 loop-holds : tie.Need-loop-holds Inv-loop μ-loop
 loop-holds c =
-    λ ts ready. listing-start (length (drop ((c .before) .args .c .at) ts)) ready refl (omega arith) (left-some ready)
+    λ ts ready. listing-start (length (drop (c .before .args .c .at) ts)) ready refl (omega arith) (left-some ready)
 
 identifier-requires : tie.Need-identifier-requires Inv-loop μ-loop
 identifier-requires c κs =
-    let p = (c .before .before .before) .pre in let h = (c .before .loop) .inv (p .tokens) (p .ready) in listing-readied p h
+    let start = c .before .before .before in
+    let p = start .pre in let h = c .before .loop .inv (p .tokens) (p .ready) in listing-readied p h
 
 enum-known-r : tie.Need-enum-known-r Inv-loop μ-loop
-enum-known-r c =
-    search needs
+enum-known-r c = search needs
 
 enum-told : tie.Need-enum-told Inv-loop μ-loop
-enum-told c =
-    search needs
+enum-told c = search needs
 
 same-length : tie.Need-same-length Inv-loop μ-loop
 same-length c =
-    let p = (c .before .before .before .before .before .before .before .before) .pre in let h = (c .before .before .before .before .before .before .loop) .inv (p .tokens) (p .ready) in
-    let r = (c .before .before .before .before .identifier) .ensures (p .tokens) (h .going .took .ready) in r .kept .len ∙ h .going .kept .len
+    let at-identifier = c .before .before .before .before in
+    let at-loop = at-identifier .before .before in
+    let start = at-loop .before .before in
+    let p = start .pre in let h = at-loop .loop .inv (p .tokens) (p .ready) in
+    let r = at-identifier .identifier .ensures (p .tokens) (h .going .took .ready) in r .kept .len ∙ h .going .kept .len
 
 returns : tie.Need-returns Inv-loop μ-loop
 returns c =
-    λ ts ready. let h = (c .before .before .before .before .before .before .loop) .inv ts ready in let r = (c .before .before .before .before .identifier) .ensures ts (h .going .took .ready) in
-    identifiers-stop h r ((c .enum-told) .given .1)
+    let at-identifier = c .before .before .before .before in
+    let at-loop = at-identifier .before .before in
+    λ ts ready. let h = at-loop .loop .inv ts ready in let r = at-identifier .identifier .ensures ts (h .going .took .ready) in identifiers-stop h r (c .enum-told .given .1)
 
 kind-requires : tie.Need-kind-requires Inv-loop μ-loop
 kind-requires c κs =
-    let p = (c .before .before .before .before .before .before .before .before .before .before) .pre in
-    let h = (c .before .before .before .before .before .before .before .before .loop) .inv (p .tokens) (p .ready) in
-    let r = (c .before .before .before .before .before .before .identifier) .ensures (p .tokens) (h .going .took .ready) in accepted ((c .before .before .r) .given .1) r .took .ready .fits
+    let at-r = c .before .before in
+    let at-identifier = at-r .before .before .before .before in
+    let at-loop = at-identifier .before .before in
+    let start = at-loop .before .before in
+    let p = start .pre in
+    let h = at-loop .loop .inv (p .tokens) (p .ready) in
+    let r = at-identifier .identifier .ensures (p .tokens) (h .going .took .ready) in accepted (at-r .r .given .1) r .took .ready .fits
 
 same-length-2 : tie.Need-same-length-2 Inv-loop μ-loop
 same-length-2 c =
-    let p = (c .before .before .before .before .before .before .before .before .before .before .before .before) .pre in
-    let h = (c .before .before .before .before .before .before .before .before .before .before .loop) .inv (p .tokens) (p .ready) in
-    let r = (c .before .before .before .before .before .before .before .before .identifier) .ensures (p .tokens) (h .going .took .ready) in r .kept .len ∙ h .going .kept .len
+    let at-identifier = c .before .before .before .before .before .before .before .before in
+    let at-loop = at-identifier .before .before in
+    let start = at-loop .before .before in
+    let p = start .pre in
+    let h = at-loop .loop .inv (p .tokens) (p .ready) in
+    let r = at-identifier .identifier .ensures (p .tokens) (h .going .took .ready) in r .kept .len ∙ h .going .kept .len
 
 returns-2 : tie.Need-returns-2 Inv-loop μ-loop
 returns-2 c =
-    λ ts ready. let h = (c .before .before .before .before .before .before .before .before .before .before .loop) .inv ts ready in
-    let r = (c .before .before .before .before .before .before .before .before .identifier) .ensures ts (h .going .took .ready) in
-    identifiers-end h r ((c .before .before .before .before .r) .given .1) (λ e. (c .if1) .taken ((c .before .kind) .ensures ∙ e))
+    let at-r = c .before .before .before .before in
+    let at-identifier = at-r .before .before .before .before in
+    let at-loop = at-identifier .before .before in
+    λ ts ready. let h = at-loop .loop .inv ts ready in let r = at-identifier .identifier .ensures ts (h .going .took .ready) in identifiers-end h r (at-r .r .given .1) (λ e. c .if1 .taken (c
+    .before .kind .ensures ∙ e))
 
 loop-less : tie.Need-loop-less Inv-loop μ-loop
 loop-less c =
-    let p = (c .before .before .before .before .before .before .before .before .before .before .before .before) .pre in
-    let h = (c .before .before .before .before .before .before .before .before .before .before .loop) .inv (p .tokens) (p .ready) in
-    let r = (c .before .before .before .before .before .before .before .before .identifier) .ensures (p .tokens) (h .going .took .ready) in
-    let t = accepted ((c .before .before .before .before .r) .given .1) r .took in omega (arith, took-some t, t .onward .count, t .ready .fits .inside)
+    let at-r = c .before .before .before .before in
+    let at-identifier = at-r .before .before .before .before in
+    let at-loop = at-identifier .before .before in
+    let start = at-loop .before .before in
+    let p = start .pre in
+    let h = at-loop .loop .inv (p .tokens) (p .ready) in
+    let r = at-identifier .identifier .ensures (p .tokens) (h .going .took .ready) in
+    let t = accepted (at-r .r .given .1) r .took in omega (arith, took-some t, t .onward .count, t .ready .fits .inside)
 
 loop-again : tie.Need-loop-again Inv-loop μ-loop
 loop-again c =
-    λ ts ready. let h = (c .before .before .before .before .before .before .before .before .before .before .loop) .inv ts ready in
-    let r = (c .before .before .before .before .before .before .before .before .identifier) .ensures ts (h .going .took .ready) in
-    identifiers-again h r ((c .before .before .before .before .r) .given .1) (sym ((c .before .kind) .ensures) ∙ (c .if1) .left)
-    (took-some (accepted ((c .before .before .before .before .r) .given .1) r .took))
+    let at-r = c .before .before .before .before in
+    let at-identifier = at-r .before .before .before .before in
+    let at-loop = at-identifier .before .before in
+    λ ts ready. let h = at-loop .loop .inv ts ready in let r = at-identifier .identifier .ensures ts (h .going .took .ready) in identifiers-again h r (at-r .r .given .1) (sym (c .before .kind
+    .ensures) ∙ c .if1 .left) (took-some (accepted (at-r .r .given .1) r .took))
 
 pub identifiers-spec : {M : Type 1} → statement M
 identifiers-spec =

@@ -24,70 +24,94 @@ abbrev μ-loop : tie.MeasureT-loop
 
 loop-holds : tie.Need-loop-holds Inv-loop μ-loop
 loop-holds c =
-    λ ts ready. listing-start (length (drop ((c .before) .args .c .at) ts)) ready refl (omega arith) (left-some ready)
+    λ ts ready. listing-start (length (drop (c .before .args .c .at) ts)) ready refl (omega arith) (left-some ready)
 
 leaf-requires : tie.Need-leaf-requires Inv-loop μ-loop
 leaf-requires c κs =
-    let p = (c .before .before .before) .pre in let h = (c .before .loop) .inv (p .tokens) (p .ready) in (listing-readied p h, omega arith, omega arith)
+    let start = c .before .before .before in
+    let p = start .pre in let h = c .before .loop .inv (p .tokens) (p .ready) in (listing-readied p h, omega arith, omega arith)
 
 enum-known-r : tie.Need-enum-known-r Inv-loop μ-loop
-enum-known-r c =
-    search needs
+enum-known-r c = search needs
 
 enum-told : tie.Need-enum-told Inv-loop μ-loop
-enum-told c =
-    search needs
+enum-told c = search needs
 
 same-length : tie.Need-same-length Inv-loop μ-loop
 same-length c =
-    let p = (c .before .before .before .before .before .before .before .before) .pre in let h = (c .before .before .before .before .before .before .loop) .inv (p .tokens) (p .ready) in
-    let r = (c .before .before .before .before .leaf) .ensures Marks (record { plain = refl; same = refl }) (p .tokens) (h .going .took .ready) in r .kept .len ∙ h .going .kept .len
+    let at-leaf = c .before .before .before .before in
+    let at-loop = at-leaf .before .before in
+    let start = at-loop .before .before in
+    let p = start .pre in let h = at-loop .loop .inv (p .tokens) (p .ready) in
+    let r = at-leaf .leaf .ensures Marks (record { plain = refl; same = refl }) (p .tokens) (h .going .took .ready) in r .kept .len ∙ h .going .kept .len
 
 returns : tie.Need-returns Inv-loop μ-loop
 returns c =
-    λ ts ready. let h = (c .before .before .before .before .before .before .loop) .inv ts ready in
-    let r = (c .before .before .before .before .leaf) .ensures Marks (record { plain = refl; same = refl }) ts (h .going .took .ready) in words-stop h r ((c .enum-told) .given .1)
+    let at-leaf = c .before .before .before .before in
+    let at-loop = at-leaf .before .before in
+    λ ts ready. let h = at-loop .loop .inv ts ready in let r = at-leaf .leaf .ensures Marks (record { plain = refl; same = refl }) ts (h .going .took .ready) in words-stop h r (c .enum-told .given .1)
 
 kind-requires : tie.Need-kind-requires Inv-loop μ-loop
 kind-requires c κs =
-    let p = (c .before .before .before .before .before .before .before .before .before .before) .pre in
-    let h = (c .before .before .before .before .before .before .before .before .loop) .inv (p .tokens) (p .ready) in
-    let r = (c .before .before .before .before .before .before .leaf) .ensures Marks (record { plain = refl; same = refl }) (p .tokens) (h .going .took .ready) in
-    accepted ((c .before .before .r) .given .1) r .took .ready .fits
+    let at-r = c .before .before in
+    let at-leaf = at-r .before .before .before .before in
+    let at-loop = at-leaf .before .before in
+    let start = at-loop .before .before in
+    let p = start .pre in
+    let h = at-loop .loop .inv (p .tokens) (p .ready) in
+    let r = at-leaf .leaf .ensures Marks (record { plain = refl; same = refl }) (p .tokens) (h .going .took .ready) in
+    accepted (at-r .r .given .1) r .took .ready .fits
 
 same-length-2 : tie.Need-same-length-2 Inv-loop μ-loop
 same-length-2 c =
-    let p = (c .before .before .before .before .before .before .before .before .before .before .before .before) .pre in
-    let h = (c .before .before .before .before .before .before .before .before .before .before .loop) .inv (p .tokens) (p .ready) in
-    let r = (c .before .before .before .before .before .before .before .before .leaf) .ensures Marks (record { plain = refl; same = refl }) (p .tokens) (h .going .took .ready) in
+    let at-leaf = c .before .before .before .before .before .before .before .before in
+    let at-loop = at-leaf .before .before in
+    let start = at-loop .before .before in
+    let p = start .pre in
+    let h = at-loop .loop .inv (p .tokens) (p .ready) in
+    let r = at-leaf .leaf .ensures Marks (record { plain = refl; same = refl }) (p .tokens) (h .going .took .ready) in
     r .kept .len ∙ h .going .kept .len
 
 returns-2 : tie.Need-returns-2 Inv-loop μ-loop
 returns-2 c =
-    λ ts ready. let h = (c .before .before .before .before .before .before .before .before .before .before .loop) .inv ts ready in
-    let r = (c .before .before .before .before .before .before .before .before .leaf) .ensures Marks (record { plain = refl; same = refl }) ts (h .going .took .ready) in
-    words-end h r ((c .before .before .before .before .r) .given .1) (λ e. (c .if1) .taken ((c .before .kind) .ensures ∙ e))
+    let at-r = c .before .before .before .before in
+    let at-leaf = at-r .before .before .before .before in
+    let at-loop = at-leaf .before .before in
+    λ ts ready. let h = at-loop .loop .inv ts ready in let r = at-leaf .leaf .ensures Marks (record { plain = refl; same = refl }) ts (h .going .took .ready) in words-end h r (at-r .r .given .1)
+    (λ e. c .if1 .taken (c .before .kind .ensures ∙ e))
 
 next-requires : tie.Need-next-requires Inv-loop μ-loop
 next-requires c κs =
-    let p = (c .before .before .before .before .before .before .before .before .before .before .before .before) .pre in
-    let h = (c .before .before .before .before .before .before .before .before .before .before .loop) .inv (p .tokens) (p .ready) in
-    let r = (c .before .before .before .before .before .before .before .before .leaf) .ensures Marks (record { plain = refl; same = refl }) (p .tokens) (h .going .took .ready) in
-    next-fits (accepted ((c .before .before .before .before .r) .given .1) r .took .ready) (sym ((c .before .kind) .ensures) ∙ (c .if1) .left) (omega arith)
+    let at-r = c .before .before .before .before in
+    let at-leaf = at-r .before .before .before .before in
+    let at-loop = at-leaf .before .before in
+    let start = at-loop .before .before in
+    let p = start .pre in
+    let h = at-loop .loop .inv (p .tokens) (p .ready) in
+    let r = at-leaf .leaf .ensures Marks (record { plain = refl; same = refl }) (p .tokens) (h .going .took .ready) in
+    next-fits (accepted (at-r .r .given .1) r .took .ready) (sym (c .before .kind .ensures) ∙ c .if1 .left) (omega arith)
 
 loop-less : tie.Need-loop-less Inv-loop μ-loop
 loop-less c =
-    let p = (c .before .before .before .before .before .before .before .before .before .before .before .before .before) .pre in
-    let h = (c .before .before .before .before .before .before .before .before .before .before .before .loop) .inv (p .tokens) (p .ready) in
-    let r = (c .before .before .before .before .before .before .before .before .before .leaf) .ensures Marks (record { plain = refl; same = refl }) (p .tokens) (h .going .took .ready) in
-    let t = accepted ((c .before .before .before .before .before .r) .given .1) r .took in
-    turn-falls (t .ready) (t .onward) (sym ((c .before .before .kind) .ensures) ∙ (c .before .if1) .left) (omega arith) ((c .next) .ensures)
+    let at-kind = c .before .before in
+    let at-r = at-kind .before .before .before in
+    let at-leaf = at-r .before .before .before .before in
+    let at-loop = at-leaf .before .before in
+    let start = at-loop .before .before in
+    let p = start .pre in
+    let h = at-loop .loop .inv (p .tokens) (p .ready) in
+    let r = at-leaf .leaf .ensures Marks (record { plain = refl; same = refl }) (p .tokens) (h .going .took .ready) in
+    let t = accepted (at-r .r .given .1) r .took in
+    turn-falls (t .ready) (t .onward) (sym (at-kind .kind .ensures) ∙ c .before .if1 .left) (omega arith) (c .next .ensures)
 
 loop-again : tie.Need-loop-again Inv-loop μ-loop
 loop-again c =
-    λ ts ready. let h = (c .before .before .before .before .before .before .before .before .before .before .before .loop) .inv ts ready in
-    let r = (c .before .before .before .before .before .before .before .before .before .leaf) .ensures Marks (record { plain = refl; same = refl }) ts (h .going .took .ready) in
-    words-again h r ((c .before .before .before .before .before .r) .given .1) (sym ((c .before .before .kind) .ensures) ∙ (c .before .if1) .left) ((c .next) .ensures)
+    let at-kind = c .before .before in
+    let at-r = at-kind .before .before .before in
+    let at-leaf = at-r .before .before .before .before in
+    let at-loop = at-leaf .before .before in
+    λ ts ready. let h = at-loop .loop .inv ts ready in let r = at-leaf .leaf .ensures Marks (record { plain = refl; same = refl }) ts (h .going .took .ready) in words-again h r (at-r .r .given .1)
+    (sym (at-kind .kind .ensures) ∙ c .before .if1 .left) (c .next .ensures)
 
 pub words-spec : {M : Type 1} → statement M
 words-spec =

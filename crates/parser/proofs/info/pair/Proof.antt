@@ -7,30 +7,32 @@ use Rattle.parser.proofs.info.pair.Tie as tie
 use borrow.Author.Needs.{needs}
 
 expect-requires : tie.Need-expect-requires
-expect-requires c κs =
-    search needs
+expect-requires c κs = search needs
 
 enum-known-r : tie.Need-enum-known-r
-enum-known-r c =
-    search needs
+enum-known-r c = search needs
 
 enum-told : tie.Need-enum-told
-enum-told c =
-    search needs
+enum-told c = search needs
 
 returns : tie.Need-returns
 returns c =
-    λ s u first second ts ready. skim-refused (expect-spelt ready s first ((c .before .before .expect) .ensures)) _ ((c .enum-told) .given .1)
+    let at-expect = c .before .before in
+    λ s u first second ts ready. skim-refused (expect-spelt ready s first (at-expect .expect .ensures)) _ (c .enum-told .given .1)
 
 expect-requires-2 : tie.Need-expect-requires-2
 expect-requires-2 c κs =
-    let z = (c .before .before .before .before .before) .pre in (passed-ready (z .0 .ready) (passed _ _ _ ((c .before .before .before .expect) .ensures) ((c .before .r) .given .1)) (z .1) .fits, z .2)
+    let at-expect = c .before .before .before in
+    let start = at-expect .before .before in
+    let z = start .pre in (passed-ready (z .0 .ready) (passed _ _ _ (at-expect .expect .ensures) (c .before .r .given .1)) (z .1) .fits, z .2)
 
 returns-2 : tie.Need-returns-2
 returns-2 c =
-    λ s u first second ts ready. skim-then (expect-spelt ready s first ((c .before .before .before .before .expect) .ensures)) _ ((c .before .before .r) .given .1)
-    (λ a. expect-spelt (passed-ready ready (passed _ _ _ ((c .before .before .before .before .expect) .ensures) ((c .before .before .r) .given .1))
-    ((c .before .before .before .before .before .before) .pre .1)) u second ((c .expect2) .ensures))
+    let at-r = c .before .before in
+    let at-expect = at-r .before .before in
+    let start = at-expect .before .before in
+    λ s u first second ts ready. skim-then (expect-spelt ready s first (at-expect .expect .ensures)) _ (at-r .r .given .1) (λ a. expect-spelt (passed-ready ready (passed _ _ _ (at-expect .expect
+    .ensures) (at-r .r .given .1)) (start .pre .1)) u second (c .expect2 .ensures))
 
 pub pair-spec : {M : Type 1} → statement M
 pair-spec =

@@ -26,48 +26,66 @@ loop-holds c =
 
 tag-requires : tie.Need-tag-requires Inv-loop μ-loop
 tag-requires c κs =
-    let z = (c .before .before) .pre in let h = (c .loop) .inv (z .tokens) (z .ready) in record { tokens = z .tokens; ready = h .took .ready }
+    let start = c .before .before in
+    let z = start .pre in let h = c .loop .inv (z .tokens) (z .ready) in record { tokens = z .tokens; ready = h .took .ready }
 
 enum-known-r : tie.Need-enum-known-r Inv-loop μ-loop
-enum-known-r c =
-    search needs
+enum-known-r c = search needs
 
 enum-told : tie.Need-enum-told Inv-loop μ-loop
-enum-told c =
-    search needs
+enum-told c = search needs
 
 returns : tie.Need-returns Inv-loop μ-loop
 returns c =
-    λ ts ready. let h = (c .before .before .before .loop) .inv ts ready in let r = (c .before .before .tag) .ensures ts (h .took .ready) in tags-stop h r ((c .enum-told) .given .1)
+    let at-tag = c .before .before in
+    let at-loop = at-tag .before in
+    λ ts ready. let h = at-loop .loop .inv ts ready in let r = at-tag .tag .ensures ts (h .took .ready) in tags-stop h r (c .enum-told .given .1)
 
 kind-requires : tie.Need-kind-requires Inv-loop μ-loop
 kind-requires c κs =
-    let z = (c .before .before .before .before .before .before) .pre in let h = (c .before .before .before .before .loop) .inv (z .tokens) (z .ready) in
-    let r = (c .before .before .before .tag) .ensures (z .tokens) (h .took .ready) in accepted ((c .before .r) .given .1) r .took .ready .fits
+    let at-tag = c .before .before .before in
+    let at-loop = at-tag .before in
+    let start = at-loop .before .before in
+    let z = start .pre in let h = at-loop .loop .inv (z .tokens) (z .ready) in
+    let r = at-tag .tag .ensures (z .tokens) (h .took .ready) in accepted (c .before .r .given .1) r .took .ready .fits
 
 returns-2 : tie.Need-returns-2 Inv-loop μ-loop
 returns-2 c =
-    λ ts ready. let h = (c .before .before .before .before .before .before .loop) .inv ts ready in let r = (c .before .before .before .before .before .tag) .ensures ts (h .took .ready) in
-    tags-end h r ((c .before .before .before .r) .given .1) (λ e. (c .if1) .taken ((c .before .kind) .ensures ∙ e))
+    let at-r = c .before .before .before in
+    let at-tag = at-r .before .before in
+    let at-loop = at-tag .before in
+    λ ts ready. let h = at-loop .loop .inv ts ready in let r = at-tag .tag .ensures ts (h .took .ready) in tags-end h r (at-r .r .given .1) (λ e. c .if1 .taken (c .before .kind .ensures ∙ e))
 
 next-requires : tie.Need-next-requires Inv-loop μ-loop
 next-requires c κs =
-    let z = (c .before .before .before .before .before .before .before .before) .pre in let h = (c .before .before .before .before .before .before .loop) .inv (z .tokens) (z .ready) in
-    let r = (c .before .before .before .before .before .tag) .ensures (z .tokens) (h .took .ready) in
-    next-fits (accepted ((c .before .before .before .r) .given .1) r .took .ready) (sym ((c .before .kind) .ensures) ∙ (c .if1) .left) (omega arith)
+    let at-r = c .before .before .before in
+    let at-tag = at-r .before .before in
+    let at-loop = at-tag .before in
+    let start = at-loop .before .before in
+    let z = start .pre in let h = at-loop .loop .inv (z .tokens) (z .ready) in
+    let r = at-tag .tag .ensures (z .tokens) (h .took .ready) in
+    next-fits (accepted (at-r .r .given .1) r .took .ready) (sym (c .before .kind .ensures) ∙ c .if1 .left) (omega arith)
 
 loop-less : tie.Need-loop-less Inv-loop μ-loop
 loop-less c =
-    let z = (c .before .before .before .before .before .before .before .before .before) .pre in
-    let h = (c .before .before .before .before .before .before .before .loop) .inv (z .tokens) (z .ready) in
-    let r = (c .before .before .before .before .before .before .tag) .ensures (z .tokens) (h .took .ready) in let t = accepted ((c .before .before .before .before .r) .given .1) r .took in
-    turn-falls (t .ready) (t .onward) (sym ((c .before .before .kind) .ensures) ∙ (c .before .if1) .left) (omega arith) ((c .next) .ensures)
+    let at-kind = c .before .before in
+    let at-r = at-kind .before .before in
+    let at-tag = at-r .before .before in
+    let at-loop = at-tag .before in
+    let start = at-loop .before .before in
+    let z = start .pre in
+    let h = at-loop .loop .inv (z .tokens) (z .ready) in
+    let r = at-tag .tag .ensures (z .tokens) (h .took .ready) in let t = accepted (at-r .r .given .1) r .took in
+    turn-falls (t .ready) (t .onward) (sym (at-kind .kind .ensures) ∙ c .before .if1 .left) (omega arith) (c .next .ensures)
 
 loop-again : tie.Need-loop-again Inv-loop μ-loop
 loop-again c =
-    λ ts ready. let h = (c .before .before .before .before .before .before .before .loop) .inv ts ready in
-    let r = (c .before .before .before .before .before .before .tag) .ensures ts (h .took .ready) in
-    tags-again h r ((c .before .before .before .before .r) .given .1) (sym ((c .before .before .kind) .ensures) ∙ (c .before .if1) .left) (next-of ((c .next) .ensures))
+    let at-kind = c .before .before in
+    let at-r = at-kind .before .before in
+    let at-tag = at-r .before .before in
+    let at-loop = at-tag .before in
+    λ ts ready. let h = at-loop .loop .inv ts ready in let r = at-tag .tag .ensures ts (h .took .ready) in tags-again h r (at-r .r .given .1) (sym (at-kind .kind .ensures) ∙ c .before .if1 .left)
+    (next-of (c .next .ensures))
 
 pub tags-spec : {M : Type 1} → statement M
 tags-spec =

@@ -8,35 +8,36 @@ use mathlib.Core.Path.{refl}
 use native.Mathlib.Omega.{arith}
 
 strict-requires : tie.Need-strict-requires
-strict-requires c κs =
-    search needs
+strict-requires c κs = search needs
 
 enum-known-r : tie.Need-enum-known-r
-enum-known-r c =
-    search needs
+enum-known-r c = search needs
 
 enum-told : tie.Need-enum-told
-enum-told c =
-    search needs
+enum-told c = search needs
 
 returns : tie.Need-returns
 returns c =
-    λ ts ready. skim-refused ((c .before .before .strict) .ensures ts ready) _ ((c .enum-told) .given .1)
+    let at-strict = c .before .before in
+    λ ts ready. skim-refused (at-strict .strict .ensures ts ready) _ (c .enum-told .given .1)
 
 pair-requires : tie.Need-pair-requires
 pair-requires c κs =
-    let z = (c .before .before .before .before .before) .pre in (
+    let at-strict = c .before .before .before in
+    let start = at-strict .before .before in
+    let z = start .pre in (
       record
-          { tokens = z .tokens; ready = accepted ((c .before .r) .given .1) ((c .before .before .before .strict) .ensures (z .tokens) (z .ready)) .took .ready },
+          { tokens = z .tokens; ready = accepted (c .before .r .given .1) (at-strict .strict .ensures (z .tokens) (z .ready)) .took .ready },
       omega arith,
       omega arith,
     )
 
 returns-2 : tie.Need-returns-2
 returns-2 c =
-    λ ts ready. let later = accepted ((c .before .before .r) .given .1) ((c .before .before .before .before .strict) .ensures ts ready) .took .ready in
-    skim-then ((c .before .before .before .before .strict) .ensures ts ready) _ ((c .before .before .r) .given .1)
-    (λ s. skim-map later (λ t. s) ((c .pair) .ensures "TARGET" ":" (record { known = refl; same = refl }) (record { known = refl; same = refl }) ts later))
+    let at-r = c .before .before in
+    let at-strict = at-r .before .before in
+    λ ts ready. let later = accepted (at-r .r .given .1) (at-strict .strict .ensures ts ready) .took .ready in skim-then (at-strict .strict .ensures ts ready) _ (at-r .r .given .1) (λ s. skim-map
+    later (λ t. s) (c .pair .ensures "TARGET" ":" (record { known = refl; same = refl }) (record { known = refl; same = refl }) ts later))
 
 pub to-target-spec : {M : Type 1} → statement M
 to-target-spec =

@@ -6,40 +6,39 @@ use Rattle.parser.proofs.leaves.leaf.Tie as tie
 use borrow.Author.Needs.{needs}
 
 expect-requires : tie.Need-expect-requires
-expect-requires c κs =
-    search needs
+expect-requires c κs = search needs
 
 enum-known-r : tie.Need-enum-known-r
-enum-known-r c =
-    search needs
+enum-known-r c = search needs
 
 enum-told : tie.Need-enum-told
-enum-told c =
-    search needs
+enum-told c = search needs
 
 same-length : tie.Need-same-length
-same-length c =
-    search needs
+same-length c = search needs
 
 returns : tie.Need-returns
 returns c =
-    λ k names ts ready. leaf-refused ready names ((c .before .before .expect) .ensures) ((c .enum-told) .given .1)
+    let at-expect = c .before .before in
+    λ k names ts ready. leaf-refused ready names (at-expect .expect .ensures) (c .enum-told .given .1)
 
 emit-requires : tie.Need-emit-requires
 emit-requires c κs =
-    leaf-writes ((c .before .before .before .before .before .before .before) .pre .0 .ready) ((c .before .before .before .before .before .before .before) .pre .2)
-    ((c .before .before .before .before .before .before .before) .pre .1) (passed _ _ _ ((c .before .before .before .before .expect) .ensures) ((c .before .before .r) .given .1))
+    let at-r = c .before .before in
+    let at-expect = at-r .before .before in
+    let start = at-expect .before .before .before in
+    leaf-writes (start .pre .0 .ready) (start .pre .2) (start .pre .1) (passed _ _ _ (at-expect .expect .ensures) (at-r .r .given .1))
 
 same-length-2 : tie.Need-same-length-2
-same-length-2 c =
-    search needs
+same-length-2 c = search needs
 
 returns-2 : tie.Need-returns-2
 returns-2 c =
-    λ k names ts ready. leaf-read ready names _ ((c .before .before .before .before .before .before .before .before .before .before) .pre .2)
-    ((c .before .before .before .before .before .before .before .before .before .before) .pre .1)
-    (passed _ _ _ ((c .before .before .before .before .before .before .before .expect) .ensures) ((c .before .before .before .before .before .r) .given .1))
-    ((c .before .before .emit) .ensures .1) ((c .before .before .emit) .ensures .0)
+    let at-emit = c .before .before in
+    let at-r = at-emit .before .before .before in
+    let at-expect = at-r .before .before in
+    let start = at-expect .before .before .before in
+    λ k names ts ready. leaf-read ready names _ (start .pre .2) (start .pre .1) (passed _ _ _ (at-expect .expect .ensures) (at-r .r .given .1)) (at-emit .emit .ensures .1) (at-emit .emit .ensures .0)
 
 pub leaf-spec : {M : Type 1} → statement M
 leaf-spec =

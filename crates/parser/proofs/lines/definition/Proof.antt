@@ -8,45 +8,49 @@ use mathlib.Core.Path.{sym, _∙_}
 use native.Mathlib.Omega.{arith}
 
 kind-requires : tie.Need-kind-requires
-kind-requires c κs =
-    search needs
+kind-requires c κs = search needs
 
 next-requires : tie.Need-next-requires
 next-requires c κs =
-    let z = (c .before .before .before .before) .pre in next-fits (z .ready) (sym ((c .before .kind) .ensures) ∙ (c .if1) .taken) (omega arith)
+    let start = c .before .before .before .before in
+    let z = start .pre in next-fits (z .ready) (sym (c .before .kind .ensures) ∙ c .if1 .taken) (omega arith)
 
 enumeration-requires : tie.Need-enumeration-requires
 enumeration-requires c κs =
-    let z = (c .before .before .before .before .before .before) .pre in
+    let at-if1 = c .before .before in
+    let at-kind = at-if1 .before in
+    let start = at-kind .before .before .before in
+    let z = start .pre in
     record {
       tokens = z .tokens;
-      ready = past-ready (z .ready) (next-of ((c .before .next) .ensures))
-          (inside (z .ready) (sym ((c .before .before .before .kind) .ensures) ∙ (c .before .before .if1) .taken) (omega arith));
+      ready = past-ready (z .ready) (next-of (c .before .next .ensures))
+          (inside (z .ready) (sym (at-kind .kind .ensures) ∙ at-if1 .if1 .taken) (omega arith));
     }
 
 same-length : tie.Need-same-length
-same-length c =
-    search needs
+same-length c = search needs
 
 returns : tie.Need-returns
 returns c =
-    λ ts ready. definition-enum ready (sym ((c .before .before .before .before .before .before .kind) .ensures) ∙ (c .before .before .before .before .before .if1) .taken)
-    (next-of ((c .before .before .before .before .next) .ensures))
-    ((c .before .before .enumeration) .ensures ts (past-ready ready (next-of ((c .before .before .before .before .next) .ensures))
-    (inside ready (sym ((c .before .before .before .before .before .before .kind) .ensures) ∙ (c .before .before .before .before .before .if1) .taken) (omega arith))))
+    let at-enumeration = c .before .before in
+    let at-next = at-enumeration .before .before in
+    let at-if1 = at-next .before in
+    let at-kind = at-if1 .before in
+    λ ts ready. definition-enum ready (sym (at-kind .kind .ensures) ∙ at-if1 .if1 .taken) (next-of (at-next .next .ensures)) (at-enumeration .enumeration .ensures ts (past-ready ready (next-of
+    (at-next .next .ensures)) (inside ready (sym (at-kind .kind .ensures) ∙ at-if1 .if1 .taken) (omega arith))))
 
 valued-requires : tie.Need-valued-requires
-valued-requires c κs =
-    search needs
+valued-requires c κs = search needs
 
 same-length-2 : tie.Need-same-length-2
-same-length-2 c =
-    search needs
+same-length-2 c = search needs
 
 returns-2 : tie.Need-returns-2
 returns-2 c =
-    λ ts ready. definition-valued ready (λ e. (c .before .before .before .before .if1) .left ((c .before .before .before .before .before .kind) .ensures ∙ e))
-    ((c .before .before .valued) .ensures ts ready)
+    let at-valued = c .before .before in
+    let at-if1 = at-valued .before .before in
+    let at-kind = at-if1 .before in
+    λ ts ready. definition-valued ready (λ e. at-if1 .if1 .left (at-kind .kind .ensures ∙ e)) (at-valued .valued .ensures ts ready)
 
 pub definition-spec : {M : Type 1} → statement M
 definition-spec =

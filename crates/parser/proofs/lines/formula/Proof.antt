@@ -6,52 +6,52 @@ use Rattle.parser.proofs.lines.formula.Tie as tie
 use borrow.Author.Needs.{needs}
 
 next-requires : tie.Need-next-requires
-next-requires c κs =
-    search needs
+next-requires c κs = search needs
 
 expression-requires : tie.Need-expression-requires
 expression-requires c κs =
-    let z = (c .before .before .before) .pre .0 in record { tokens = z .tokens; ready = past-ready (z .ready) (next-of ((c .before .next) .ensures)) ((c .before .before .before) .pre .1) }
+    let start = c .before .before .before in
+    let z = start .pre .0 in record { tokens = z .tokens; ready = past-ready (z .ready) (next-of (c .before .next .ensures)) (start .pre .1) }
 
 enum-known-r : tie.Need-enum-known-r
-enum-known-r c =
-    search needs
+enum-known-r c = search needs
 
 enum-told : tie.Need-enum-told
-enum-told c =
-    search needs
+enum-told c = search needs
 
 same-length : tie.Need-same-length
-same-length c =
-    search needs
+same-length c = search needs
 
 returns : tie.Need-returns
 returns c =
-    λ ts ready. formula-refused ready ((c .before .before .before .before .before .before .before .before) .pre .1) (next-of ((c .before .before .before .before .before .before .next) .ensures))
-    ((c .before .before .before .before .expression) .ensures ts (past-ready ready (next-of ((c .before .before .before .before .before .before .next) .ensures))
-    ((c .before .before .before .before .before .before .before .before) .pre .1))) ((c .enum-told) .given .1)
+    let at-expression = c .before .before .before .before in
+    let at-next = at-expression .before .before in
+    let start = at-next .before .before in
+    λ ts ready. formula-refused ready (start .pre .1) (next-of (at-next .next .ensures)) (at-expression .expression .ensures ts (past-ready ready (next-of (at-next .next .ensures)) (start .pre
+    .1))) (c .enum-told .given .1)
 
 close-requires : tie.Need-close-requires
 close-requires c κs =
-    let z = (c .before .before .before .before .before .before .before .before .before .before) .pre .0 in
-    formula-writes (z .ready) ((c .before .before .before .before .before .before .before .before .before .before) .pre .1)
-    (next-of ((c .before .before .before .before .before .before .before .before .next) .ensures))
-    ((c .before .before .before .before .before .before .expression) .ensures (z .tokens)
-    (past-ready (z .ready) (next-of ((c .before .before .before .before .before .before .before .before .next) .ensures))
-    ((c .before .before .before .before .before .before .before .before .before .before) .pre .1))) ((c .before .before .r) .given .1)
+    let at-r = c .before .before in
+    let at-expression = at-r .before .before .before .before in
+    let at-next = at-expression .before .before in
+    let start = at-next .before .before in
+    let z = start .pre .0 in
+    formula-writes (z .ready) (start .pre .1) (next-of (at-next .next .ensures)) (at-expression .expression .ensures (z .tokens) (past-ready (z .ready) (next-of (at-next .next .ensures)) (start
+    .pre .1))) (at-r .r .given .1)
 
 same-length-2 : tie.Need-same-length-2
-same-length-2 c =
-    search needs
+same-length-2 c = search needs
 
 returns-2 : tie.Need-returns-2
 returns-2 c =
-    λ ts ready. formula-read ready ((c .before .before .before .before .before .before .before .before .before .before .before .before .before) .pre .1)
-    (next-of ((c .before .before .before .before .before .before .before .before .before .before .before .next) .ensures))
-    ((c .before .before .before .before .before .before .before .before .before .expression) .ensures ts
-    (past-ready ready (next-of ((c .before .before .before .before .before .before .before .before .before .before .before .next) .ensures))
-    ((c .before .before .before .before .before .before .before .before .before .before .before .before .before) .pre .1))) ((c .before .before .before .before .before .r) .given .1)
-    ((c .before .before .close) .ensures .0) ((c .before .before .close) .ensures .1)
+    let at-close = c .before .before in
+    let at-r = at-close .before .before .before in
+    let at-expression = at-r .before .before .before .before in
+    let at-next = at-expression .before .before in
+    let start = at-next .before .before in
+    λ ts ready. formula-read ready (start .pre .1) (next-of (at-next .next .ensures)) (at-expression .expression .ensures ts (past-ready ready (next-of (at-next .next .ensures)) (start .pre .1)))
+    (at-r .r .given .1) (at-close .close .ensures .0) (at-close .close .ensures .1)
 
 pub formula-spec : {M : Type 1} → statement M
 formula-spec =

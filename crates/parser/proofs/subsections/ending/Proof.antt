@@ -8,28 +8,28 @@ use mathlib.Core.Bool.{_&&_}
 use mathlib.Core.Path.{ap₂}
 
 refuse-requires : tie.Need-refuse-requires
-refuse-requires c κs =
-    search needs
+refuse-requires c κs = search needs
 
 returns : tie.Need-returns
 returns c =
-    λ ts ready. ending-refused ready (left-false (marked ((c .before .before .before) .args .outputs)) (marked-none _ ((c .before .if1) .taken))) ((c .refuse) .ensures)
+    let start = c .before .before .before in
+    λ ts ready. ending-refused ready (left-false (marked (start .args .outputs)) (marked-none _ (c .before .if1 .taken))) (c .refuse .ensures)
 
 refuse-requires-2 : tie.Need-refuse-requires-2
-refuse-requires-2 c κs =
-    search needs
+refuse-requires-2 c κs = search needs
 
 returns-2 : tie.Need-returns-2
 returns-2 c =
-    λ ts ready. ending-refused ready (right-false (marked ((c .before .before .before .before) .args .inputs)) (marked-none _ ((c .before .if2) .taken))) ((c .refuse2) .ensures)
+    let start = c .before .before .before .before in
+    λ ts ready. ending-refused ready (right-false (marked (start .args .inputs)) (marked-none _ (c .before .if2 .taken))) (c .refuse2 .ensures)
 
 expect-requires : tie.Need-expect-requires
-expect-requires c κs =
-    search needs
+expect-requires c κs = search needs
 
 returns-3 : tie.Need-returns-3
 returns-3 c =
-    λ ts ready. ending-closed ready (ap₂ _&&_ (marked-some _ ((c .before .before .if1) .left)) (marked-some _ ((c .before .if2) .left))) ((c .expect) .ensures)
+    let at-if1 = c .before .before in
+    λ ts ready. ending-closed ready (ap₂ _&&_ (marked-some _ (at-if1 .if1 .left)) (marked-some _ (c .before .if2 .left))) (c .expect .ensures)
 
 pub ending-spec : {M : Type 1} → statement M
 ending-spec =

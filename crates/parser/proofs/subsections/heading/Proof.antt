@@ -10,27 +10,26 @@ use native.Mathlib.Omega.{arith}
 
 returns : tie.Need-returns
 returns c =
-    heading-out ((c .before) .args .kind) (λ n l h e. omega (arith, (c .if1) .taken))
+    heading-out (c .before .args .kind) (λ n l h e. omega (arith, c .if1 .taken))
 
 cast-i : tie.Need-cast-i
-cast-i c =
-    search needs
+cast-i c = search needs
 
 mul-result : tie.Need-mul-result
-mul-result c =
-    search needs
+mul-result c = search needs
 
 array-read-result : tie.Need-array-read-result
-array-read-result c =
-    search needs
+array-read-result c = search needs
 
 returns-2 : tie.Need-returns-2
 returns-2 c =
-    heading-in ((c .before .before) .args .kind - 55) ((c .if2) .taken) ∙ ap headingNumber (omega (arith, (c .before .if1) .left))
+    let start = c .before .before in
+    heading-in (start .args .kind - 55) (c .if2 .taken) ∙ ap headingNumber (omega (arith, c .before .if1 .left))
 
 returns-3 : tie.Need-returns-3
 returns-3 c =
-    heading-out ((c .before .before) .args .kind) (λ n l h e. omega (arith, (c .before .if1) .left, (c .if2) .left))
+    let start = c .before .before in
+    heading-out (start .args .kind) (λ n l h e. omega (arith, c .before .if1 .left, c .if2 .left))
 
 pub heading-spec : {M : Type 1} → statement M
 heading-spec = tie.close (tie.spec returns cast-i mul-result array-read-result returns-2 returns-3)

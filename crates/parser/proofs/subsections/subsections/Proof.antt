@@ -43,173 +43,200 @@ loop-holds c =
 
 kind-requires : tie.Need-kind-requires Inv-loop μ-loop
 kind-requires c κs =
-    let z = (c .before .before .before) .pre in let h = (c .before .loop) .inv .1 (z .tokens) (z .ready) in h .going .took .ready .fits
+    let start = c .before .before .before in
+    let z = start .pre in let h = c .before .loop .inv .1 (z .tokens) (z .ready) in h .going .took .ready .fits
 
 heading-requires : tie.Need-heading-requires Inv-loop μ-loop
-heading-requires c κs =
-    search needs
+heading-requires c κs = search needs
 
 array-read-ending : tie.Need-array-read-ending Inv-loop μ-loop
-array-read-ending c =
-    omega arith
+array-read-ending c = omega arith
 
 array-read-ending-2 : tie.Need-array-read-ending-2 Inv-loop μ-loop
-array-read-ending-2 c =
-    omega arith
+array-read-ending-2 c = omega arith
 
 ending-requires : tie.Need-ending-requires Inv-loop μ-loop
 ending-requires c κs =
-    let z = (c .before .before .before .before .before .before .before) .pre in let h = (c .before .before .before .before .before .loop) .inv .1 (z .tokens) (z .ready) in
+    let at-loop = c .before .before .before .before .before in
+    let start = at-loop .before .before in
+    let z = start .pre in let h = at-loop .loop .inv .1 (z .tokens) (z .ready) in
     record { tokens = z .tokens; ready = h .going .took .ready }
 
 same-length : tie.Need-same-length Inv-loop μ-loop
 same-length c =
-    let z = (c .before .before .before .before .before .before .before .before) .pre in let h = (c .before .before .before .before .before .before .loop) .inv .1 (z .tokens) (z .ready) in
+    let at-loop = c .before .before .before .before .before .before in
+    let start = at-loop .before .before in
+    let z = start .pre in let h = at-loop .loop .inv .1 (z .tokens) (z .ready) in
     h .going .kept .len
 
 returns : tie.Need-returns Inv-loop μ-loop
 returns c =
-    λ ts ready. let h = (c .before .before .before .before .before .before .loop) .inv .1 ts ready in
-    subsections-end h (word-none h ((c .before .before .before .heading) .ensures ∙ ap headingNumber ((c .before .before .before .before .kind) .ensures)) ((c .before .before .if1) .taken))
-    ((c .ending) .ensures ts (h .going .took .ready))
+    let at-if1 = c .before .before in
+    let at-heading = at-if1 .before in
+    let at-kind = at-heading .before in
+    let at-loop = at-kind .before .before in
+    λ ts ready. let h = at-loop .loop .inv .1 ts ready in subsections-end h (word-none h (at-heading .heading .ensures ∙ ap headingNumber (at-kind .kind .ensures)) (at-if1 .if1 .taken)) (c .ending
+    .ensures ts (h .going .took .ready))
 
 array-read-if2 : tie.Need-array-read-if2 Inv-loop μ-loop
 array-read-if2 c =
-    (below-eight _ ((c .before .heading) .ensures) ((c .if1) .left))
+    (below-eight _ (c .before .heading .ensures) (c .if1 .left))
 
 array-read-ending-3 : tie.Need-array-read-ending-3 Inv-loop μ-loop
-array-read-ending-3 c =
-    omega arith
+array-read-ending-3 c = omega arith
 
 array-read-ending-4 : tie.Need-array-read-ending-4 Inv-loop μ-loop
-array-read-ending-4 c =
-    omega arith
+array-read-ending-4 c = omega arith
 
 ending-requires-2 : tie.Need-ending-requires-2 Inv-loop μ-loop
 ending-requires-2 c κs =
-    let z = (c .before .before .before .before .before .before .before .before) .pre in let h = (c .before .before .before .before .before .before .loop) .inv .1 (z .tokens) (z .ready) in
+    let at-loop = c .before .before .before .before .before .before in
+    let start = at-loop .before .before in
+    let z = start .pre in let h = at-loop .loop .inv .1 (z .tokens) (z .ready) in
     record { tokens = z .tokens; ready = h .going .took .ready }
 
 same-length-2 : tie.Need-same-length-2 Inv-loop μ-loop
 same-length-2 c =
-    let z = (c .before .before .before .before .before .before .before .before .before) .pre in
-    let h = (c .before .before .before .before .before .before .before .loop) .inv .1 (z .tokens) (z .ready) in h .going .kept .len
+    let at-loop = c .before .before .before .before .before .before .before in
+    let start = at-loop .before .before in
+    let z = start .pre in
+    let h = at-loop .loop .inv .1 (z .tokens) (z .ready) in h .going .kept .len
 
 returns-2 : tie.Need-returns-2 Inv-loop μ-loop
 returns-2 c =
-    λ ts ready. let h = (c .before .before .before .before .before .before .before .loop) .inv .1 ts ready in
-    subsections-end h (word-seen h ((c .before .before .before .before .heading) .ensures ∙ ap headingNumber ((c .before .before .before .before .before .kind) .ensures))
-    (below-eight _ ((c .before .before .before .before .heading) .ensures) ((c .before .before .before .if1) .left)) (marked-some _ ((c .before .before .if2) .taken)))
-    ((c .ending2) .ensures ts (h .going .took .ready))
+    let at-if2 = c .before .before in
+    let at-if1 = at-if2 .before in
+    let at-heading = at-if1 .before in
+    let at-kind = at-heading .before in
+    let at-loop = at-kind .before .before in
+    λ ts ready. let h = at-loop .loop .inv .1 ts ready in subsections-end h (word-seen h (at-heading .heading .ensures ∙ ap headingNumber (at-kind .kind .ensures)) (below-eight _ (at-heading
+    .heading .ensures) (at-if1 .if1 .left)) (marked-some _ (at-if2 .if2 .taken))) (c .ending2 .ensures ts (h .going .took .ready))
 
 subsection-requires : tie.Need-subsection-requires Inv-loop μ-loop
 subsection-requires c κs =
-    let z = (c .before .before .before .before .before .before .before .before) .pre in let h = (c .before .before .before .before .before .before .loop) .inv .1 (z .tokens) (z .ready) in (
+    let at-if1 = c .before .before in
+    let at-heading = at-if1 .before in
+    let at-kind = at-heading .before in
+    let at-loop = at-kind .before .before in
+    let start = at-loop .before .before in
+    let z = start .pre in let h = at-loop .loop .inv .1 (z .tokens) (z .ready) in (
       record { tokens = z .tokens; ready = h .going .took .ready },
       word-inside h
-          ((c .before .before .before .heading) .ensures ∙ ap headingNumber ((c .before .before .before .before .kind) .ensures))
-          (below-eight _ ((c .before .before .before .heading) .ensures) ((c .before .before .if1) .left)),
-      (below-eight _ ((c .before .before .before .heading) .ensures) ((c .before .before .if1) .left)),
+          (at-heading .heading .ensures ∙ ap headingNumber (at-kind .kind .ensures))
+          (below-eight _ (at-heading .heading .ensures) (at-if1 .if1 .left)),
+      (below-eight _ (at-heading .heading .ensures) (at-if1 .if1 .left)),
     )
 
 enum-known-r : tie.Need-enum-known-r Inv-loop μ-loop
-enum-known-r c =
-    search needs
+enum-known-r c = search needs
 
 enum-told : tie.Need-enum-told Inv-loop μ-loop
-enum-told c =
-    search needs
+enum-told c = search needs
 
 same-length-3 : tie.Need-same-length-3 Inv-loop μ-loop
 same-length-3 c =
-    let z = (c .before .before .before .before .before .before .before .before .before .before .before .before .before) .pre in
-    let h = (c .before .before .before .before .before .before .before .before .before .before .before .loop) .inv .1 (z .tokens) (z .ready) in
-    ((c .before .before .before .before .subsection) .ensures (row h
-    ((c .before .before .before .before .before .before .before .before .heading) .ensures ∙ ap headingNumber
-    ((c .before .before .before .before .before .before .before .before .before .kind) .ensures))
-    (below-eight _ ((c .before .before .before .before .before .before .before .before .heading) .ensures) ((c .before .before .before .before .before .before .before .if1) .left)) .row .heading)
-    (row-code h ((c .before .before .before .before .before .before .before .before .heading) .ensures ∙ ap headingNumber
-    ((c .before .before .before .before .before .before .before .before .before .kind) .ensures))
-    (below-eight _ ((c .before .before .before .before .before .before .before .before .heading) .ensures) ((c .before .before .before .before .before .before .before .if1) .left))) (z .tokens)
-    (h .going .took .ready)) .kept .len ∙ h .going .kept .len
+    let at-subsection = c .before .before .before .before in
+    let at-if1 = at-subsection .before .before .before in
+    let at-heading = at-if1 .before in
+    let at-kind = at-heading .before in
+    let at-loop = at-kind .before .before in
+    let start = at-loop .before .before in
+    let z = start .pre in
+    let h = at-loop .loop .inv .1 (z .tokens) (z .ready) in
+    (at-subsection .subsection .ensures (row h (at-heading .heading .ensures ∙ ap headingNumber (at-kind .kind .ensures)) (below-eight _ (at-heading .heading .ensures) (at-if1 .if1 .left)) .row
+    .heading) (row-code h (at-heading .heading .ensures ∙ ap headingNumber (at-kind .kind .ensures)) (below-eight _ (at-heading .heading .ensures) (at-if1 .if1 .left))) (z .tokens) (h .going .took
+    .ready)) .kept .len ∙ h .going .kept .len
 
 returns-3 : tie.Need-returns-3 Inv-loop μ-loop
 returns-3 c =
-    λ ts ready. let h = (c .before .before .before .before .before .before .before .before .before .before .before .loop) .inv .1 ts ready in
-    subsections-stop h ((c .before .before .before .before .before .before .before .before .heading) .ensures ∙ ap headingNumber
-    ((c .before .before .before .before .before .before .before .before .before .kind) .ensures))
-    (below-eight _ ((c .before .before .before .before .before .before .before .before .heading) .ensures) ((c .before .before .before .before .before .before .before .if1) .left))
-    (marked-none _ ((c .before .before .before .before .before .before .if2) .left))
-    ((c .before .before .before .before .subsection) .ensures (row h
-    ((c .before .before .before .before .before .before .before .before .heading) .ensures ∙ ap headingNumber
-    ((c .before .before .before .before .before .before .before .before .before .kind) .ensures))
-    (below-eight _ ((c .before .before .before .before .before .before .before .before .heading) .ensures) ((c .before .before .before .before .before .before .before .if1) .left)) .row .heading)
-    (row-code h ((c .before .before .before .before .before .before .before .before .heading) .ensures ∙ ap headingNumber
-    ((c .before .before .before .before .before .before .before .before .before .kind) .ensures))
-    (below-eight _ ((c .before .before .before .before .before .before .before .before .heading) .ensures) ((c .before .before .before .before .before .before .before .if1) .left))) ts
-    (h .going .took .ready)) ((c .enum-told) .given .1)
+    let at-subsection = c .before .before .before .before in
+    let at-if2 = at-subsection .before .before in
+    let at-if1 = at-if2 .before in
+    let at-heading = at-if1 .before in
+    let at-kind = at-heading .before in
+    let at-loop = at-kind .before .before in
+    λ ts ready. let h = at-loop .loop .inv .1 ts ready in subsections-stop h (at-heading .heading .ensures ∙ ap headingNumber (at-kind .kind .ensures)) (below-eight _ (at-heading .heading
+    .ensures) (at-if1 .if1 .left)) (marked-none _ (at-if2 .if2 .left)) (at-subsection .subsection .ensures (row h (at-heading .heading .ensures ∙ ap headingNumber (at-kind .kind .ensures))
+    (below-eight _ (at-heading .heading .ensures) (at-if1 .if1 .left)) .row .heading) (row-code h (at-heading .heading .ensures ∙ ap headingNumber (at-kind .kind .ensures)) (below-eight _
+    (at-heading .heading .ensures) (at-if1 .if1 .left))) ts (h .going .took .ready)) (c .enum-told .given .1)
 
 array-write-before : tie.Need-array-write-before Inv-loop μ-loop
 array-write-before c =
-    (below-eight _ ((c .before .before .before .before .before .before .before .before .before .heading) .ensures) ((c .before .before .before .before .before .before .before .before .if1) .left))
+    let at-if1 = c .before .before .before .before .before .before .before .before in
+    let at-heading = at-if1 .before in
+    (below-eight _ (at-heading .heading .ensures) (at-if1 .if1 .left))
 
 loop-less : tie.Need-loop-less Inv-loop μ-loop
 loop-less c =
-    let z = (c .before .before .before .before .before .before .before .before .before .before .before .before .before .before) .pre in
-    let h = (c .before .before .before .before .before .before .before .before .before .before .before .before .loop) .inv .1 (z .tokens) (z .ready) in
-    let t = accepted ((c .before .r) .given .1) ((c .before .before .before .before .before .subsection) .ensures
-    (row h ((c .before .before .before .before .before .before .before .before .before .heading) .ensures ∙ ap headingNumber
-    ((c .before .before .before .before .before .before .before .before .before .before .kind) .ensures))
-    (below-eight _ ((c .before .before .before .before .before .before .before .before .before .heading) .ensures)
-    ((c .before .before .before .before .before .before .before .before .if1) .left)) .row .heading)
-    (row-code h ((c .before .before .before .before .before .before .before .before .before .heading) .ensures ∙ ap headingNumber
-    ((c .before .before .before .before .before .before .before .before .before .before .kind) .ensures))
-    (below-eight _ ((c .before .before .before .before .before .before .before .before .before .heading) .ensures)
-    ((c .before .before .before .before .before .before .before .before .if1) .left))) (z .tokens) (h .going .took .ready)) .took in
+    let at-r = c .before in
+    let at-subsection = at-r .before .before .before .before in
+    let at-if2 = at-subsection .before .before in
+    let at-if1 = at-if2 .before in
+    let at-heading = at-if1 .before in
+    let at-kind = at-heading .before in
+    let at-loop = at-kind .before .before in
+    let start = at-loop .before .before in
+    let z = start .pre in
+    let h = at-loop .loop .inv .1 (z .tokens) (z .ready) in
+    let t = accepted (at-r .r .given .1) (at-subsection .subsection .ensures
+    (row h (at-heading .heading .ensures ∙ ap headingNumber
+    (at-kind .kind .ensures))
+    (below-eight _ (at-heading .heading .ensures)
+    (at-if1 .if1 .left)) .row .heading)
+    (row-code h (at-heading .heading .ensures ∙ ap headingNumber
+    (at-kind .kind .ensures))
+    (below-eight _ (at-heading .heading .ensures)
+    (at-if1 .if1 .left))) (z .tokens) (h .going .took .ready)) .took in
     omega (
       arith,
-      subsection-further h ((c .before .before .before .before .before .before .before .before .before .heading) .ensures ∙ ap headingNumber
-          ((c .before .before .before .before .before .before .before .before .before .before .kind) .ensures))
-          (below-eight _ ((c .before .before .before .before .before .before .before .before .before .heading) .ensures)
-          ((c .before .before .before .before .before .before .before .before .if1) .left)) (marked-none _ ((c .before .before .before .before .before .before .before .if2) .left))
-          ((c .before .before .before .before .before .subsection) .ensures
-          (row h ((c .before .before .before .before .before .before .before .before .before .heading) .ensures ∙ ap headingNumber
-          ((c .before .before .before .before .before .before .before .before .before .before .kind) .ensures))
-          (below-eight _ ((c .before .before .before .before .before .before .before .before .before .heading) .ensures)
-          ((c .before .before .before .before .before .before .before .before .if1) .left)) .row .heading)
-          (row-code h ((c .before .before .before .before .before .before .before .before .before .heading) .ensures ∙ ap headingNumber
-          ((c .before .before .before .before .before .before .before .before .before .before .kind) .ensures))
-          (below-eight _ ((c .before .before .before .before .before .before .before .before .before .heading) .ensures)
-          ((c .before .before .before .before .before .before .before .before .if1) .left))) (z .tokens) (h .going .took .ready)) ((c .before .r) .given .1),
+      subsection-further h (at-heading .heading .ensures ∙ ap headingNumber
+          (at-kind .kind .ensures))
+          (below-eight _ (at-heading .heading .ensures)
+          (at-if1 .if1 .left)) (marked-none _ (at-if2 .if2 .left))
+          (at-subsection .subsection .ensures
+          (row h (at-heading .heading .ensures ∙ ap headingNumber
+          (at-kind .kind .ensures))
+          (below-eight _ (at-heading .heading .ensures)
+          (at-if1 .if1 .left)) .row .heading)
+          (row-code h (at-heading .heading .ensures ∙ ap headingNumber
+          (at-kind .kind .ensures))
+          (below-eight _ (at-heading .heading .ensures)
+          (at-if1 .if1 .left))) (z .tokens) (h .going .took .ready)) (at-r .r .given .1),
       t .onward .count,
       t .ready .fits .inside,
     )
 
 loop-again : tie.Need-loop-again Inv-loop μ-loop
-loop-again c = (
-  simp length-set ((c .before .before .before .before .before .before .before .before .before .before .before .before .loop) .inv .0),
-  λ ts ready. let h =
-      (c .before .before .before .before .before .before .before .before .before .before .before .before .loop) .inv .1 ts ready in
-      subsections-again h ((c .before .before .before .before .before .before .before .before .before .heading) .ensures ∙ ap headingNumber
-      ((c .before .before .before .before .before .before .before .before .before .before .kind) .ensures))
-      (below-eight _ ((c .before .before .before .before .before .before .before .before .before .heading) .ensures)
-      ((c .before .before .before .before .before .before .before .before .if1) .left)) (marked-none _ ((c .before .before .before .before .before .before .before .if2) .left))
-      ((c .before .before .before .before .before .subsection) .ensures
-      (row h ((c .before .before .before .before .before .before .before .before .before .heading) .ensures ∙ ap headingNumber
-      ((c .before .before .before .before .before .before .before .before .before .before .kind) .ensures))
-      (below-eight _ ((c .before .before .before .before .before .before .before .before .before .heading) .ensures)
-      ((c .before .before .before .before .before .before .before .before .if1) .left)) .row .heading)
-      (row-code h ((c .before .before .before .before .before .before .before .before .before .heading) .ensures ∙ ap headingNumber
-      ((c .before .before .before .before .before .before .before .before .before .before .kind) .ensures))
-      (below-eight _ ((c .before .before .before .before .before .before .before .before .before .heading) .ensures)
-      ((c .before .before .before .before .before .before .before .before .if1) .left))) ts (h .going .took .ready))
-      (omega (
-        arith,
-        (below-eight _ ((c .before .before .before .before .before .before .before .before .before .heading) .ensures)
-            ((c .before .before .before .before .before .before .before .before .if1) .left)),
-        (c .before .before .before .before .before .before .before .before .before .before .before .before .loop) .inv .0,
-      )) ((c .before .r) .given .1),
-)
+loop-again c =
+    let at-subsection = c .before .before .before .before .before in
+    let at-if2 = at-subsection .before .before in
+    let at-if1 = at-if2 .before in
+    let at-heading = at-if1 .before in
+    let at-kind = at-heading .before in
+    let at-loop = at-kind .before .before in (
+      simp length-set (at-loop .loop .inv .0),
+      λ ts ready. let h =
+          at-loop .loop .inv .1 ts ready in
+          subsections-again h (at-heading .heading .ensures ∙ ap headingNumber
+          (at-kind .kind .ensures))
+          (below-eight _ (at-heading .heading .ensures)
+          (at-if1 .if1 .left)) (marked-none _ (at-if2 .if2 .left))
+          (at-subsection .subsection .ensures
+          (row h (at-heading .heading .ensures ∙ ap headingNumber
+          (at-kind .kind .ensures))
+          (below-eight _ (at-heading .heading .ensures)
+          (at-if1 .if1 .left)) .row .heading)
+          (row-code h (at-heading .heading .ensures ∙ ap headingNumber
+          (at-kind .kind .ensures))
+          (below-eight _ (at-heading .heading .ensures)
+          (at-if1 .if1 .left))) ts (h .going .took .ready))
+          (omega (
+            arith,
+            (below-eight _ (at-heading .heading .ensures)
+                (at-if1 .if1 .left)),
+            at-loop .loop .inv .0,
+          )) (c .before .r .given .1),
+    )
 
 pub subsections-spec : {M : Type 1} → statement M
 subsections-spec =

@@ -9,7 +9,6 @@ use Rattle.language.specs.Reading.{workAfter}
 use Rattle.basic.specs.Answer.{tells}
 use Rattle.basic.specs.Writing.{writing, bytesTold, textAfter}
 use Rattle.basic.specs.Statements.{Kept, ReadsBack}
-use Rattle.basic.specs.WritingLaws.{stands-back}
 use Rattle.basic.specs.declared.Written.{Written}
 
 -- a refusal of the reader, 'handed up unchanged': 0 where there is none, which no caller asks
@@ -22,8 +21,3 @@ pub record Writes (text work out work′ out′ : List ℕ) (r : Written) : Type
   pub textLeft : out′ ≡ textAfter (writing text (length work) (length out)) out
   pub workLeft : work′ ≡ workAfter work
   pub back : (s : List ℕ) → writing text (length work) (length out) ≡ Done s → (take (length s) out′ ≡ s) × (Kept s → ReadsBack text s)
-
--- the last follows from the second
-pub writes : {text work out work′ out′ : List ℕ} {r : Written} → tells r ≡ bytesTold (writing text (length work) (length out)) → out′ ≡ textAfter (writing text (length work) (length out)) out
-    → work′ ≡ workAfter work → Writes text work out work′ out′ r
-writes {text} {work} {out} a t w = record { answer = a; textLeft = t; workLeft = w; back = λ s e. rw t (stands-back text out (length work) (length out) e) }
