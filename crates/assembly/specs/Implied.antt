@@ -6,7 +6,7 @@ use mathlib.Core.List.{List, [], _∷_, _++_, map}
 use lib.ListN.{length, getD}
 use Rattle.node.specs.Limits.{maxNodes}
 use Rattle.node.specs.Ltl.{Formula}
-use Rattle.language.specs.Limits.{workBytes, maxTokens, maxSignals}
+use Rattle.language.specs.Limits.{workBytes, maxTokens, maxNames, maxSignals}
 use Rattle.language.specs.Tree.{Part, partCode}
 use Rattle.language.specs.Declared.{Port}
 use Rattle.language.specs.Numbering.{firstOf}
@@ -15,6 +15,8 @@ use Rattle.language.specs.Expansion.{oneOf}
 use Rattle.language.specs.Laws.Values.RegularWords.{Regular}
 use Rattle.choices.specs.Entries.{identifiersEnd, Words}
 use Rattle.assembly.specs.declared.implied.Ends.{Ends}
+use Rattle.assembly.specs.declared.implied.Ports.{Ports}
+use Rattle.assembly.specs.declared.implied.Span.{Span}
 use Rattle.assembly.specs.Gathered.{GatheredFrom}
 
 -- the formulas of the implied lines, of buses in signal order
@@ -29,22 +31,21 @@ pub record Bus (text w : List ℕ) (enumeration first m : ℕ) (ps : List Port) 
   pub first-is : m ≤ maxNodes → first ≡ firstOf ps (q .name .text)
   pub small : m ≤ maxNodes → first ≤ maxSignals
 
--- the port at position j of the slices: the entry of its enumeration, if it has one, and the number of its first signal by that of its name
-pub record BusAt (text w enumerations order firsts : List ℕ) (ps : List Port) (m j : ℕ) (q : Port) : Type 0 where
-  pub typed : getD enumerations j 0 < maxTokens → Bus text w (getD enumerations j 0) (getD firsts (getD order j 0) 0) m ps q
-  pub untyped : maxTokens ≤ getD enumerations j 0 → q .words ≡ []
-  pub named : getD order j 0 < length firsts
+-- the port at position j: the entry of its enumeration, if it has one, and the number of its first signal by that of its name
+pub record BusAt (text w : List ℕ) (a : Ports) (ps : List Port) (m j : ℕ) (q : Port) : Type 0 where
+  pub typed : getD (a .enumerations) j 0 < maxTokens → Bus text w (getD (a .enumerations) j 0) (getD (a .firsts) (getD (a .order) j 0) 0) m ps q
+  pub untyped : maxTokens ≤ getD (a .enumerations) j 0 → q .words ≡ []
+  pub named : getD (a .order) j 0 < maxNames
 
-abbrev pub BusesFrom : (text w enumerations order firsts : List ℕ) → List Port → (m j : ℕ) → List Port → Type 0
-BusesFrom text w enumerations order firsts ps m j [] = Unit {0}
-BusesFrom text w enumerations order firsts ps m j (q ∷ qs) = BusAt text w enumerations order firsts ps m j q × BusesFrom text w enumerations order firsts ps m (suc j) qs
+abbrev pub BusesFrom : (text w : List ℕ) → Ports → List Port → (m j : ℕ) → List Port → Type 0
+BusesFrom text w a ps m j [] = Unit {0}
+BusesFrom text w a ps m j (q ∷ qs) = BusAt text w a ps m j q × BusesFrom text w a ps m (suc j) qs
 
 -- the ports at the positions [from, to)
-pub record Buses (text w enumerations order firsts : List ℕ) (ps : List Port) (m from to : ℕ) (qs : List Port) : Type 0 where
-  pub buses : BusesFrom text w enumerations order firsts ps m from qs
+pub record Buses (text w : List ℕ) (a : Ports) (ps : List Port) (m from to : ℕ) (qs : List Port) : Type 0 where
+  pub buses : BusesFrom text w a ps m from qs
   pub total : from + length qs ≡ to
-  pub enumerations-room : to ≤ length enumerations
-  pub order-room : to ≤ length order
+  pub few : to ≤ maxNames
 
 -- whatever lines were gathered: now those of these formulas are too
 pub record AddsAll (part : ℕ) (e : Ends) (table words table′ words′ : List ℕ) (r : Ends) (fs : List Formula) : Type 0 where
@@ -69,8 +70,8 @@ pub record BusReady (part : ℕ) (text w : List ℕ) (enumeration first : ℕ) (
   pub port : Port
   pub bus : Bus text w enumeration first (e .at) ports port
 
-pub record Ready (part : ℕ) (text w enumerations order firsts : List ℕ) (from to : ℕ) (e : Ends) (table words : List ℕ) : Type 0 where
-  pub room : Room part w e table words
+pub record Ready (text w : List ℕ) (a : Ports) (span : Span) (e : Ends) (table words : List ℕ) : Type 0 where
+  pub room : Room (span .part) w e table words
   pub ports : List Port
   pub some : List Port
-  pub buses : Buses text w enumerations order firsts ports (e .at) from to some
+  pub buses : Buses text w a ports (e .at) (span .from) (span .to) some

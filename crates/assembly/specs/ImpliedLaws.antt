@@ -30,6 +30,7 @@ use Rattle.choices.specs.Promises.{Readable, Tabled, Unnamed, OneOf}
 use Rattle.choices.specs.PromiseLaws.{tabled}
 use Rattle.choices.specs.StoredWords.{enumeration-words}
 use Rattle.assembly.specs.declared.implied.Ends.{Ends}
+use Rattle.assembly.specs.declared.implied.Ports.{Ports}
 use Rattle.assembly.specs.Gathered.{extent, Adds, LineRoom}
 use Rattle.assembly.specs.GatheredLaws.{line-room}
 use Rattle.assembly.specs.Implied.{impliedFormulas, Bus, BusAt, BusesFrom, Buses, AddsAll, Room, BusReady}
@@ -136,16 +137,16 @@ bus-later : {text w : List ℕ} {enumeration first m n : ℕ} {ps : List Port} {
 bus-later h b = record { words = b .words; regular = b .regular; first-is = λ l. b .first-is (h l); small = λ l. b .small (h l) }
 
 -- the ports up to position j are passed, and their lines added
-module _ (part : ℕ) (text w enumerations order firsts : List ℕ) (to : ℕ) (e : Ends) (table words : List ℕ) (ps qs : List Port) where
+module _ (part : ℕ) (text w : List ℕ) (a : Ports) (to : ℕ) (e : Ends) (table words : List ℕ) (ps qs : List Port) where
   pub record Going (j : ℕ) (r : Ends) (table′ words′ : List ℕ) : Type 0 where
     pub done : List Port
     pub rest : List Port
     pub split : qs ≡ done ++ rest
-    pub buses : BusesFrom text w enumerations order firsts ps (e .at) j rest
+    pub buses : BusesFrom text w a ps (e .at) j rest
     pub total : j + length rest ≡ to
     pub adds : AddsAll part e table words table′ words′ r (impliedFormulas ps done)
 
-  pub going-none : {from : ℕ} → Buses text w enumerations order firsts ps (e .at) from to qs → Going from e table words
+  pub going-none : {from : ℕ} → Buses text w a ps (e .at) from to qs → Going from e table words
   going-none b = record { done = []; rest = qs; split = refl; buses = b .buses; total = b .total; adds = adds-nothing part e table words }
 
   -- the next port
@@ -154,15 +155,15 @@ module _ (part : ℕ) (text w enumerations order firsts : List ℕ) (to : ℕ) (
     pub port : Port
     pub rest : List Port
     pub split : qs ≡ done ++ (port ∷ rest)
-    pub bus : BusAt text w enumerations order firsts ps (e .at) j port
-    pub buses : BusesFrom text w enumerations order firsts ps (e .at) (suc j) rest
+    pub bus : BusAt text w a ps (e .at) j port
+    pub buses : BusesFrom text w a ps (e .at) (suc j) rest
     pub total : suc j + length rest ≡ to
     pub adds : AddsAll part e table words table′ words′ r (impliedFormulas ps done)
 
   pub next-port : {j : ℕ} {r : Ends} {table′ words′ : List ℕ} → Going j r table′ words′ → j < to → Next j r table′ words′
   next-port {j} {r} {table′} {words′} g h = go (g .rest) (g .split) (g .buses) (g .total)
     where
-      go : (rest : List Port) → qs ≡ g .done ++ rest → BusesFrom text w enumerations order firsts ps (e .at) j rest → j + length rest ≡ to → Next j r table′ words′
+      go : (rest : List Port) → qs ≡ g .done ++ rest → BusesFrom text w a ps (e .at) j rest → j + length rest ≡ to → Next j r table′ words′
       go [] s b t = absurd (omega arith)
       go (q ∷ rest) s b t = record { done = g .done; port = q; rest = rest; split = s; bus = b .0; buses = b .1; total = omega arith; adds = g .adds }
 
@@ -177,21 +178,21 @@ module _ (part : ℕ) (text w enumerations order firsts : List ℕ) (to : ℕ) (
     adds = rw (implied-last ps (n .done) (n .port)) (adds-then (n .adds) a);
   }
 
-  pub going-untyped : {j t : ℕ} {r : Ends} {table′ words′ : List ℕ} → Next j r table′ words′ → t ≡ getD enumerations j 0 → maxTokens ≤ t → Going (suc j) r table′ words′
+  pub going-untyped : {j t : ℕ} {r : Ends} {table′ words′ : List ℕ} → Next j r table′ words′ → t ≡ getD (a .enumerations) j 0 → maxTokens ≤ t → Going (suc j) r table′ words′
   going-untyped {r = r} {table′ = table′} {words′ = words′} n c h =
       let none : impliedFormulas ps (n .port ∷ []) ≡ [] = one-formula ps (n .port) (ap leavesUnnamed (n .bus .untyped (omega arith))) in
       going-on n (rw none (adds-nothing part r table′ words′))
 
-  module _ {j t k : ℕ} {r : Ends} {table′ words′ : List ℕ} (m : Room part w e table words) (n : Next j r table′ words′) (c : t ≡ getD enumerations j 0) (d : k ≡ getD order j 0) (h : t < maxTokens)
+  module _ {j t k : ℕ} {r : Ends} {table′ words′ : List ℕ} (m : Room part w e table words) (n : Next j r table′ words′) (c : t ≡ getD (a .enumerations) j 0) (d : k ≡ getD (a .order) j 0) (h : t < maxTokens)
     where
-      bus-here : Bus text w t (getD firsts k 0) (r .at) ps (n .port)
+      bus-here : Bus text w t (getD (a .firsts) k 0) (r .at) ps (n .port)
       bus-here = rw (c, d) (bus-later (room-before m (n .adds)) (n .bus .typed (omega arith)))
 
-      pub going-ready : length words′ ≡ length words → BusReady part text w t (getD firsts k 0) r table′ words′
+      pub going-ready : length words′ ≡ length words → BusReady part text w t (getD (a .firsts) k 0) r table′ words′
       going-ready l = record { room = room-after m (n .adds) l; entry = h; ports = ps; port = n .port; bus = bus-here }
 
       pub going-typed : {d : Ends} {table″ words″ : List ℕ}
-          → ((ps : List Port) (q : Port) → Bus text w t (getD firsts k 0) (r .at) ps q → AddsAll part r table′ words′ table″ words″ d (impliedFormulas ps (q ∷ []))) → Going (suc j) d table″ words″
+          → ((ps : List Port) (q : Port) → Bus text w t (getD (a .firsts) k 0) (r .at) ps q → AddsAll part r table′ words′ table″ words″ d (impliedFormulas ps (q ∷ []))) → Going (suc j) d table″ words″
       going-typed f = going-on n (f ps (n .port) bus-here)
 
   pub going-all : {j : ℕ} {r : Ends} {table′ words′ : List ℕ} → Going j r table′ words′ → to ≤ j → AddsAll part e table words table′ words′ r (impliedFormulas ps qs)

@@ -14,6 +14,7 @@ use Rattle.language.specs.Tree.{Part, Initially, Preset, Require, Assert, Assum
 use Rattle.language.specs.Expansion.{Sections, joined, conjunction, linesOf, section, whole}
 use Rattle.writing.specs.Writing.{Wrote}
 use Rattle.writing.specs.WritingLaws.{ends, wrote-none}
+use Rattle.writing.specs.OperandLaws.{size-one, size-two}
 use Rattle.writing.specs.Parts.{moves}
 use Rattle.writing.specs.PartLaws.{stands, lent}
 use Rattle.assembly.specs.Gathered.{inTurn, extent, Gathered}
@@ -26,9 +27,9 @@ sum [] = 0
 sum (f ∷ fs) = size f + sum fs
 
 joined-size : (a : Formula) (bs : List Formula) → size a + sum bs ≤ size (joined And a bs)
-unfolding sum size
+unfolding sum
 joined-size a [] = omega arith
-joined-size a (b ∷ bs) = omega (arith, joined-size (Two And a b) bs)
+joined-size a (b ∷ bs) = omega (arith, size-two And a b, joined-size (Two And a b) bs)
 
 conjunction-size : (fs : List Formula) → sum fs ≤ size (conjunction fs)
 unfolding sum
@@ -56,13 +57,12 @@ part-size p ss = rw (lines-of p ss) (conjunction-size (linesOf p ss))
 
 -- no line is left out of the whole formula
 pub whole-size : (strict : Bool) (ss : Sections) → extent (inTurn ss) ≤ size (whole strict (section ss))
-unfolding size
 whole-size strict ss = go strict (parts-size (inTurn ss)) (part-size Initially ss) (part-size Preset ss) (part-size Require ss) (part-size Assert ss) (part-size Assume ss) (part-size Guarantee ss)
   where
     go : {n a b c d e g : ℕ} (strict : Bool) → n ≤ a + b + c + d + e + g → a ≤ size (section ss Initially) → b ≤ size (section ss Preset) → c ≤ size (section ss Require) → d ≤ size (section ss Assert)
         → e ≤ size (section ss Assume) → g ≤ size (section ss Guarantee) → n ≤ size (whole strict (section ss))
-    go false h i j k l m n = omega arith
-    go true h i j k l m n = omega arith
+    go false h i j k l m n = simp (size-one, size-two) (omega arith)
+    go true h i j k l m n = simp (size-one, size-two) (omega arith)
 
 -- lines that do not fit the table
 pub assembled-many : (strict : Bool) (ss : Sections) {words table out out′ : List ℕ} {count at r : ℕ} → Gathered (inTurn ss) words count table at → maxNodes < at → maxNodes < r

@@ -42,32 +42,43 @@ fn imply(
     Ends { at: next, count }
 }
 
-// The lines of the ports at the positions [from, to) in signal order: the entry of a port's enumeration is no entry where it has none; by the number of its name stands
-// that of its first signal.
+// The ports by their positions in signal order: the numbers of their names, and the entries of their enumerations, no entry for a port that has none. By the number of
+// a name, that of its first signal.
+pub struct Ports {
+    pub order: [u16; limits::MAX_NAMES],
+    pub enumerations: [u16; limits::MAX_NAMES],
+    pub firsts: [u32; limits::MAX_NAMES],
+}
+
+// The ports at the positions [from, to), whose lines go to one part.
+pub struct Span {
+    pub part: u32,
+    pub from: usize,
+    pub to: usize,
+}
+
+// The lines of the ports of a span.
 pub fn implied(
-    part: u32,
     text: &[u8],
     work: &[u8],
-    enumerations: &[u16],
-    order: &[u16],
-    firsts: &[u32],
-    from: usize,
-    to: usize,
+    ports: Ports,
+    span: Span,
     e: Ends,
     table: &mut [u32; MAX_NODES],
     lines: &mut [u32],
 ) -> Ends
-    requires { ⌜ Ready part (now text) (now work) (now enumerations) (now order) (now firsts) from to e (now table) (now lines) ⌝ }
-    ensures { λ r. ⌜ ((ps qs : List Port) → Buses (now (text .entry)) (now (work .entry)) (now (enumerations .entry)) (now (order .entry)) (now (firsts .entry)) ps (e .at) from to qs
-        → AddsAll part e (now (table .entry)) (now (lines .entry)) (now (table .exit)) (now (lines .exit)) r (impliedFormulas ps qs)) ⌝ }
+    requires { ⌜ Ready (now text) (now work) ports span e (now table) (now lines) ⌝ }
+    ensures { λ r. ⌜ ((ps qs : List Port) → Buses (now (text .entry)) (now (work .entry)) ports ps (e .at) (span .from) (span .to) qs
+        → AddsAll (span .part) e (now (table .entry)) (now (lines .entry)) (now (table .exit)) (now (lines .exit)) r (impliedFormulas ps qs)) ⌝ }
 {
     let mut r = e;
-    let mut j = from;
-    while j < to {
-        let enumeration = wide(enumerations[j]);
+    let mut j = span.from;
+    while j < span.to {
+        let enumeration = wide(ports.enumerations[j]);
         if enumeration < limits::MAX_TOKENS {
-            let name = wide(order[j]);
-            r = imply(part, text, work, enumeration, firsts[name], r, table, lines);
+            let name = wide(ports.order[j]);
+            let first = ports.firsts[name];
+            r = imply(span.part, text, work, enumeration, first, r, table, lines);
         }
         j += 1;
     }

@@ -15,7 +15,7 @@ use Rattle.language.specs.Reading.{textExpansion, specExpansion}
 use Rattle.language.specs.Cases.{text, repeated, outcome, formula}
 use Rattle.basic.specs.Spelling.{digitsOf}
 use Rattle.basic.specs.Basic.{formulaTokens, infoTokens, lineTokens, basicTokens, parted, tokensOf}
-use Rattle.basic.specs.Writing.{written, bytesTold, textAfter}
+use Rattle.basic.specs.Writing.{written, writing, bytesTold, textAfter}
 use Rattle.basic.specs.Answer.{tells}
 use Rattle.basic.specs.declared.Written.{Written}
 use Rattle.basic.specs.declared.Written.the-variants.{Bytes}
@@ -38,10 +38,10 @@ abbrev around : String → List ℕ
 around s =
     ascii "( ( true ) -> ( ( true ) && ( ( ( G ( true ) ) && ( true ) ) -> ( ( G ( true ) ) && " ++ (ascii s ++ ascii " ) ) ) )")
 
-abbrev fileWritten : List ℕ
+abbrev pub fileWritten : List ℕ
 fileWritten = head "Mealy" ++ (ascii "INPUTS { r ; } OUTPUTS { g ; } GUARANTEE { " ++ (around "( G ( ( r ) -> ( F ( g ) ) ) )" ++ ascii " ; } }"))
 
-in-full : written file ≡ Done fileWritten
+pub in-full : written file ≡ Done fileWritten
 unfolding written parsed specExpansion _>>=_ guard refuseAt size formulaTokens infoTokens lineTokens basicTokens parted digitsOf
 in-full = refl
 
@@ -73,7 +73,7 @@ unfolding written parsed specExpansion _>>=_ guard refuseAt size formulaTokens i
 enumerated = refl
 
 -- a text with these inputs and outputs
-abbrev pub declaring : List ℕ → List ℕ
+abbrev declaring : List ℕ → List ℕ
 declaring s = text (ascii "MAIN { INPUTS { " ++ (s ++ ascii " } OUTPUTS { } }"))
 
 -- 22: equal names, at the later number, whichever stands first
@@ -111,6 +111,11 @@ long-first = refl
 pair-first : written (declaring (ascii "b[1]; b@0; " ++ (repeated 63 "a" ++ ascii "[1]; "))) ≡ Refused 22 1
 unfolding written parsed specExpansion _>>=_ guard refuseAt size digitsOf
 pair-first = refl
+
+-- 22 before 18
+names-before-room : writing (declaring (ascii "b@0; b[1];")) 65536 0 ≡ Refused 22 1
+unfolding writing written parsed specExpansion _>>=_ guard refuseAt size digitsOf formulaTokens infoTokens lineTokens basicTokens parted
+names-before-room = refl
 
 -- bytes past the text stay, and a refused call changes none
 buffer-after : textAfter (Done (ascii "INFO")) (ascii "abcdefg") ≡ ascii "INFOefg"

@@ -11,6 +11,7 @@ use Rattle.language.specs.Bytes.{ascii}
 use Rattle.language.specs.Tokens.{Name, Quoted}
 use Rattle.language.specs.Tree.{Model, Mealy, Moore}
 use Rattle.language.specs.Laws.Basics.Lists.{All, all-append}
+use Rattle.writing.specs.OperandLaws.{size-true, size-false, size-signal, size-one, size-two}
 use Rattle.basic.specs.Basic.{unarySign, binarySign, modelWord, formulaTokens, infoTokens, lineTokens, basicTokens, parted}
 use Rattle.basic.specs.Lexed.{Lexeme, sign, bytes, each, Alone, parted-each, bytes-append}
 
@@ -198,14 +199,13 @@ basic-alone m inputs outputs names f hi ho hn s =
 
 -- how many they are: 3 for a node, 2 for a signal, and 28 with the last one
 body-length : (names : List (List ℕ)) (f : Formula) → length (bodyLexemes names f) + 1 ≡ 3 * size f
-unfolding size
-body-length names True = refl
-body-length names False = refl
-body-length names (Signal k) = refl
-body-length names (One o a) = omega (arith, body-length names a, length-append (bodyLexemes names a) (sign ")" ∷ []))
+body-length names True = ap (λ (n : ℕ). 3 * n) (sym size-true)
+body-length names False = ap (λ (n : ℕ). 3 * n) (sym size-false)
+body-length names (Signal k) = ap (λ (n : ℕ). 3 * n) (sym (size-signal k))
+body-length names (One o a) = omega (arith, size-one o a, body-length names a, length-append (bodyLexemes names a) (sign ")" ∷ []))
 body-length names (Two o a b) =
     let second = sign (binarySign o) ∷ sign "(" ∷ (bodyLexemes names b ++ (sign ")" ∷ [])) in
-    omega (arith, body-length names a, body-length names b, length-append (bodyLexemes names a) second, length-append (bodyLexemes names b) (sign ")" ∷ []))
+    omega (arith, size-two o a b, body-length names a, body-length names b, length-append (bodyLexemes names a) second, length-append (bodyLexemes names b) (sign ")" ∷ []))
 
 pub line-length : (ns : List (List ℕ)) → length (lineLexemes ns) ≡ 2 * length ns
 line-length [] = refl

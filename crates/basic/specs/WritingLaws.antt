@@ -1,4 +1,4 @@
--- The writer's whole answer: the order of its refusals by computing, and that what it tells stands in the lent buffer and reads back.
+-- The writer's whole answer: the order of its refusals, and that what it tells stands in the lent buffer and reads back.
 use Prim.Native.Nat.{ℕ, suc, _≤_}
 use mathlib.Core.Path.{_≡_, refl, ap, ap₂, _∙_, subst}
 use mathlib.Core.Bool.{true, false, _&&_}
@@ -9,48 +9,45 @@ use lib.Seq.{take-at}
 use native.Mathlib.Omega.{arith}
 use borrow.Author.Tests.{leb-true, le-leb, lt-leb}
 use Rattle.basics.specs.Told.{maxTold}
-use Rattle.node.specs.Postorder.{size}
 use Rattle.node.specs.Result.{Result, Done, Refused, _>>=_, guard}
-use Rattle.node.specs.ResultLaws.{bind-done, guard-done}
+use Rattle.node.specs.ResultLaws.{guard-pass, guard-stop, guard-done, bind-done, bind-to}
 use Rattle.language.specs.Limits.{workBytes}
-use Rattle.language.specs.Bytes.{ascii}
 use Rattle.language.specs.Places.{refuseAt}
 use Rattle.language.specs.Parsing.{parsed}
-use Rattle.language.specs.Reading.{specExpansion}
 use Rattle.language.specs.Cases.{repeated}
 use Rattle.language.specs.Laws.Basics.Tests.{and-left}
-use Rattle.basic.specs.Spelling.{digitsOf}
-use Rattle.basic.specs.Basic.{formulaTokens, infoTokens, lineTokens, basicTokens, parted}
 use Rattle.basic.specs.Writing.{written, fits, writing, bytesTold, textAfter}
 use Rattle.basic.specs.Statements.{Kept, ReadsBack}
-use Rattle.basic.specs.Cases.{file, declaring}
+use Rattle.basic.specs.Cases.{file, fileWritten, in-full}
 use Rattle.basic.specs.ReadBack.{read-back}
 
--- 17 before 1, the reader's refusals before 22, 22 before 18
+-- 17 before 1; that 22 comes before 18 is among the cases
 work-first : writing (repeated 32769 " ") 65535 0 ≡ Refused 17 0
-unfolding writing written parsed specExpansion _>>=_ guard refuseAt size
+unfolding writing guard
 work-first = refl
 
 text-next : writing (repeated 32769 " ") 65536 0 ≡ Refused 1 32768
-unfolding writing written parsed specExpansion _>>=_ guard refuseAt size
+unfolding writing written parsed _>>=_ guard refuseAt
 text-next = refl
 
-names-before-room : writing (declaring (ascii "b@0; b[1];")) 65536 0 ≡ Refused 22 1
-unfolding writing written parsed specExpansion _>>=_ guard refuseAt size digitsOf formulaTokens infoTokens lineTokens basicTokens parted
-names-before-room = refl
+-- what the text alone decides, and then the room
+writing-room : (text : List ℕ) (work room : ℕ) {s : List ℕ} → leb workBytes work ≡ true → written text ≡ Done s → writing text work room ≡ guard (fits room s) 18 0 (Done s)
+unfolding writing
+writing-room text work room {s} lent e = guard-pass 17 0 _ lent ∙ bind-to (written text) s _ e
 
--- room: just enough, one more, one short, none
-room : bytesTold (writing file 65536 266) ≡ Done 266
-unfolding writing written parsed specExpansion _>>=_ guard refuseAt size formulaTokens infoTokens lineTokens basicTokens parted digitsOf
-room = refl
+-- room: just enough, one short, none with a longer work buffer
+room : writing file 65536 266 ≡ Done fileWritten
+room = writing-room file 65536 266 refl in-full ∙ guard-pass 18 0 _ refl
+
+room-told : bytesTold (writing file 65536 266) ≡ Done 266
+unfolding _>>=_
+room-told = ap bytesTold room
 
 room-short : writing file 65536 265 ≡ Refused 18 0
-unfolding writing written parsed specExpansion _>>=_ guard refuseAt size formulaTokens infoTokens lineTokens basicTokens parted digitsOf
-room-short = refl
+room-short = writing-room file 65536 265 refl in-full ∙ guard-stop 18 0 _ refl
 
 no-room : writing file 65537 0 ≡ Refused 18 0
-unfolding writing written parsed specExpansion _>>=_ guard refuseAt size formulaTokens infoTokens lineTokens basicTokens parted digitsOf
-no-room = refl
+no-room = writing-room file 65537 0 refl in-full ∙ guard-stop 18 0 _ refl
 
 -- a count of 32 bits can be told, and one more not, whatever room there is
 module _ (s : List ℕ) (room : ℕ) (enough : length s ≤ room) where

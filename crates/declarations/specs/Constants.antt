@@ -9,45 +9,42 @@ use Rattle.node.specs.Result.{Result, Done, Refused, _>>=_}
 use Rattle.node.specs.ResultLaws.{bind-refused}
 use Rattle.language.specs.Limits.{maxNames, maxTokens}
 use Rattle.language.specs.Tokens.{tokens}
-use Rattle.language.specs.Tree.{Expr, Parameter, Spec}
+use Rattle.language.specs.Tree.{Parameter, Spec}
 use Rattle.language.specs.Values.{Value, number, value}
 use Rattle.language.specs.Declared.{Constant, Table, declared, constants}
-use Rattle.language.specs.Expansion.{Context, contextOf}
+use Rattle.language.specs.Expansion.{contextOf}
 use Rattle.names.specs.References.{numberIn}
 use Rattle.names.specs.Resolved.{declaredNames}
 use Rattle.sets.specs.Answers.{says}
 use Rattle.sets.specs.declared.Worked.{Worked}
-use Rattle.name_values.specs.World.{World}
 use Rattle.name_values.specs.Sorts as Sort
 use Rattle.name_values.specs.Worked.{worldIn}
 use Rattle.operands.specs.Working.{TellsNumber}
 use Rattle.notes.specs.Notes.{Notes}
 use Rattle.notes.specs.NotesLaws.{names-distinct, notes-turn}
 use Rattle.notes.specs.Owned.{ParameterAt}
+use Rattle.memory_notes.specs.ShortTables.{ShortTable}
 use Rattle.declarations.specs.Along.{Along}
 use Rattle.declarations.specs.Turnable.{Turnable}
-use Rattle.declarations.specs.Trees.{Tree, tree-expression, tree-inside, number-small}
-use Rattle.declarations.specs.Expressions.{Expression, Workable}
+use Rattle.declarations.specs.Trees.{Tree, tree-realm, tree-expression, tree-inside, tree-before, number-small}
+use Rattle.declarations.specs.Expressions.{Room, Expression, Workable, Numbered}
 
 -- the parameters of x in order, their entries in `order`, and the table d before them
 pub record Parameters (text w refs found : List ℕ) (entries names : ℕ) (order : List ℕ) (count : ℕ) (sorts numbers : List ℕ) (x : Spec) (d : Table) : Type 0 where
   pub tree : Tree text w refs found entries names x
   pub places : Along (λ p k. ParameterAt x text w refs p k × Turnable x (p .name)) order 0 (x .parameters)
   pub total : length (x .parameters) ≡ count
+  pub short : ShortTable d
   pub notes : Notes (tokens text) w (worldIn x [] d) sorts numbers
 
-pub record Room (refs sorts numbers slots : List ℕ) : Type 0 where
-  pub refs-room : maxTokens ≤ length refs
-  pub sorts-room : maxNames ≤ length sorts
-  pub numbers-room : maxNames ≤ length numbers
-  pub slots-room : maxTokens ≤ length slots
-
-pub record ParametersGiven (text w refs found : List ℕ) (entries names : ℕ) (order : List ℕ) (count : ℕ) (sorts numbers slots : List ℕ) : Type 0 where
+pub record ParametersGiven (text w refs order : List ℕ) (count : ℕ) (sorts numbers mem table : List ℕ) (entries : ℕ) : Type 0 where
+  pub found : List ℕ
+  pub names : ℕ
   pub x : Spec
   pub d : Table
   pub parameters : Parameters text w refs found entries names order count sorts numbers x d
-  pub room : Room refs sorts numbers slots
-  pub order-room : count ≤ length order
+  pub room : Room refs sorts numbers mem table entries
+  pub few : count ≤ maxNames
 
 -- the answer
 abbrev pub Constants : List ℕ → List ℕ → Spec → Table → (sorts numbers : List ℕ) → Worked → Type 0
@@ -70,10 +67,11 @@ module _ (text w refs found : List ℕ) (entries names : ℕ) (order : List ℕ)
     pub same : constants (x .parameters) d ≡ constants left table
     pub places : Along (λ p k. ParameterAt x text w refs p k × Turnable x (p .name)) order j left
     pub total : j + length left ≡ count
+    pub short : ShortTable table
     pub notes : Notes (tokens text) w (worldIn x [] table) sorts numbers
 
   pub turning-starts : (sorts numbers : List ℕ) → Parameters text w refs found entries names order count sorts numbers x d → Turning 0 sorts numbers
-  turning-starts sorts numbers h = record { tree = h .tree; left = x .parameters; table = d; same = refl; places = h .places; total = (let t = h .total in omega arith); notes = h .notes }
+  turning-starts sorts numbers h = record { tree = h .tree; left = x .parameters; table = d; same = refl; places = h .places; total = (let t = h .total in omega arith); short = h .short; notes = h .notes }
 
   module _ (j : ℕ) (sorts numbers : List ℕ) (inside : j < count) (g : Turning j sorts numbers) where
     -- the next parameter
@@ -101,23 +99,20 @@ module _ (text w refs found : List ℕ) (entries names : ℕ) (order : List ℕ)
     pub next-small : getD refs (getD order j 0) 0 < maxNames
     next-small = subst (λ i. i < maxNames) (sym next-number) (number-small (g .tree) (next .own .name) (next .turnable .shown))
 
-    pub next-expression : Expression text w refs sorts numbers (getD order j 0 - 1) (worldIn x [] (g .table)) (contextOf [] (g .table)) (next .own .value)
-    next-expression = tree-expression (g .tree) [] (getD order j 0 - 1) (next .own .value) (next .there .worked) (g .table) sorts numbers (g .notes)
+    pub next-expression : Expression text w refs sorts numbers (getD order j 0 - 1) (tree-realm (g .tree) (g .table) (g .short)) (contextOf [] (g .table)) (next .own .value)
+    next-expression = tree-expression (g .tree) [] (getD order j 0 - 1) (next .own .value) (next .there .worked) (g .table) (g .short) sorts numbers (g .notes)
 
-    pub next-workable : (slots : List ℕ) → Room refs sorts numbers slots → Workable text w refs sorts numbers slots (getD order j 0 - 1)
-    next-workable slots r =
-        record {
-          W = worldIn x [] (g .table);
+    pub next-workable : {mem table : List ℕ} (k : ℕ) → k ≡ getD order j 0 - 1 → Room refs sorts numbers mem table entries → Workable text w refs sorts numbers mem table entries k
+    next-workable {mem} {table} k q r =
+        subst (λ (i : ℕ). Workable text w refs sorts numbers mem table entries i) (sym q) (record {
+          R = tree-realm (g .tree) (g .table) (g .short);
           c = contextOf [] (g .table);
           e = next .own .value;
           expression = next-expression;
-          refs-room = r .refs-room;
-          sorts-room = r .sorts-room;
-          numbers-room =
-              r .numbers-room;
-          slots-room = r .slots-room;
-          inside = (let l = next-inside in omega arith);
-        }
+          room = r;
+          few = g .tree .stored .few;
+          inside = tree-before (g .tree) (getD order j 0) (next .there .own .inside);
+        })
 
     -- its value
     unrolled : constants (x .parameters) d ≡ (value (declared (g .table)) (next .own .value) >>= number >>= λ n. constants (next .later) ((next .own .name .text, Constant n) ∷ g .table))
@@ -127,10 +122,11 @@ module _ (text w refs found : List ℕ) (entries names : ℕ) (order : List ℕ)
     Tells r = TellsNumber r (value (declared (g .table)) (next .own .value))
 
     -- as it is worked out, at entry k
-    pub next-told : (k : ℕ) (r : Worked) → k ≡ getD order j 0 - 1 → ((W : World) (c : Context) (e : Expr) → Expression text w refs sorts numbers k W c e → TellsNumber r (value (c .values) e))
-        → Tells r
-    next-told k r q f = f (worldIn x [] (g .table)) (contextOf [] (g .table)) (next .own .value)
-        (subst (λ i. Expression text w refs sorts numbers i (worldIn x [] (g .table)) (contextOf [] (g .table)) (next .own .value)) (sym q) next-expression)
+    pub next-told : {table table′ : List ℕ} (k : ℕ) (r : Worked) → k ≡ getD order j 0 - 1 → Numbered text w refs sorts numbers table table′ k r → Tells r
+    next-told k r q f =
+        let R = tree-realm (g .tree) (g .table) (g .short) in
+        let c = contextOf [] (g .table) in
+        f .tells R c (next .own .value) (subst (λ (i : ℕ). Expression text w refs sorts numbers i R c (next .own .value)) (sym q) next-expression)
 
     turning-refused : (n p : ℕ) → TellsNumber (Worked.Refused n p) (value (declared (g .table)) (next .own .value)) → ConstantsTold text w x d sorts numbers (Worked.Refused n p)
     turning-refused n p h = record { told = unrolled ∙ bind-refused (value (declared (g .table)) (next .own .value) >>= number) n p _ (sym (h .says)) }
@@ -153,6 +149,7 @@ module _ (text w refs found : List ℕ) (entries names : ℕ) (order : List ℕ)
           same = unrolled ∙ bind-done (value (declared (g .table)) (next .own .value) >>= number) _ n (h .says);
           places = next .after;
           total = (let i = g .total in let l = ap length (next .is) in omega arith);
+          short = (tt, g .short);
           notes = subst (λ i. Notes (tokens text) w (worldIn x [] ((next .own .name .text, Constant n) ∷ g .table)) (set sorts i Sort.number) (set numbers i n)) (sym q)
               (notes-turn x (tokens text) w (next .own .name) (names-distinct x (g .tree .resolved .distinct)) (next .turnable .shown) (next .turnable .undefined) [] (g .table) (Constant n) sorts
               numbers Sort.number n (omega arith) (omega arith) (refl, (refl, h .small)) (g .notes));

@@ -1,76 +1,117 @@
--- An expression that is worked out on copies of the notes, so that nothing kept for it outlives a change of the table.
-use Prim.Native.Nat.{ℕ, _+_, _≤_, _<_}
-use mathlib.Core.Bool.{Bool, true, false}
+-- An expression that is worked out with what is noted of the names at that time. The notes are laid anew for each, so that nothing kept for it outlives a change of
+-- the table.
+use Prim.Native.Nat.{ℕ, suc, _+_, _≤_, _<_}
 use mathlib.Core.List.{List, []}
-use mathlib.Core.Path.{_≡_, refl, sym, _∙_, subst}
+use mathlib.Core.Path.{_≡_, refl, ap, _∙_}
 use native.Mathlib.Omega.{arith}
-use lib.Dec.{ltb}
-use lib.ListN.{length, getD, set}
-use lib.Seq.{getD-set-same, getD-set-other}
-use borrow.Author.Tests.{ltb-true, ltb-false}
+use lib.ListN.{length}
+use Rattle.node.specs.Limits.{maxNodes}
 use Rattle.language.specs.Limits.{maxNames, maxTokens}
 use Rattle.language.specs.Tokens.{tokens}
 use Rattle.language.specs.Tree.{Expr}
+use Rattle.language.specs.Values.{value}
 use Rattle.language.specs.Expansion.{Context}
-use Rattle.spellings.specs.Interned.{Lexed}
-use Rattle.name_values.specs.World.{World, meaningAt}
-use Rattle.name_values.specs.Known.{Known}
-use Rattle.name_values.specs.Bodies.{Bodies}
-use Rattle.operands.specs.Working.{source, state, Fits, Ready}
-use Rattle.notes.specs.Notes.{Note, Notes, notes-facts}
+use Rattle.sets.specs.declared.Worked.{Worked}
+use Rattle.operands.specs.Working.{source, TellsNumber}
+use Rattle.notes.specs.Notes.{Notes}
+use Rattle.machine.specs.Memory.{frameWords, reserve, spare, firstKept}
+use Rattle.machine.specs.Realm.{Operand, Realm}
+use Rattle.machine_run.specs.Running.{maxMemory, regionsOf, Given, Runnable, NumberTold}
+use Rattle.memory_notes.specs.Laid.{slotsFrom, Laid}
+use Rattle.memory_notes.specs.LaidLaws.{laid-noted, laid-lasting}
+
+-- the memory and the table of nodes, with room for a text of so many entries
+pub record MemoryRoom (mem table : List ℕ) (entries : ℕ) : Type 0 where
+  pub sized : length table ≡ maxNodes
+  pub kept : firstKept ≤ slotsFrom (length mem)
+  pub room : slotsFrom (length mem) + entries + (frameWords + reserve + spare + entries) ≤ length mem
+  pub most : length mem ≤ maxMemory
+
+pub record Room (refs sorts numbers mem table : List ℕ) (entries : ℕ) : Type 0 where
+  pub refs-room : maxTokens ≤ length refs
+  pub sorts-full : length sorts ≡ maxNames
+  pub numbers-full : length numbers ≡ maxNames
+  pub memory : MemoryRoom mem table entries
 
 -- the expression e at entry k, outside every big operator
-pub record Expression (text w refs sorts numbers : List ℕ) (k : ℕ) (W : World) (c : Context) (e : Expr) : Type 0 where
-  pub count : ℕ
-  pub lexed : Lexed text w count
-  pub known : Known (tokens text) w refs W [] c false k e
-  pub bodies : Bodies (tokens text) w refs W
-  pub notes : Notes (tokens text) w W sorts numbers
+pub record Expression (text w refs sorts numbers : List ℕ) (k : ℕ) (R : Realm (source text w refs)) (c : Context) (e : Expr) : Type 0 where
+  pub operand : Operand (source text w refs) (R .W) (R .ports) [] c k e
+  pub notes : Notes (tokens text) w (R .W) sorts numbers
 
 -- there is one, and room to work it out
-pub record Workable (text w refs sorts numbers slots : List ℕ) (k : ℕ) : Type 0 where
-  pub W : World
+pub record Workable (text w refs sorts numbers mem table : List ℕ) (entries k : ℕ) : Type 0 where
+  pub R : Realm (source text w refs)
   pub c : Context
   pub e : Expr
-  pub expression : Expression text w refs sorts numbers k W c e
-  pub refs-room : maxTokens ≤ length refs
-  pub sorts-room : maxNames ≤ length sorts
-  pub numbers-room : maxNames ≤ length numbers
-  pub slots-room : maxTokens ≤ length slots
-  pub inside : k < maxTokens
+  pub expression : Expression text w refs sorts numbers k R c e
+  pub room : Room refs sorts numbers mem table entries
+  pub few : entries ≤ maxTokens
+  pub inside : k < entries
 
--- the notes of all names, copied
-abbrev pub Copied : List ℕ → List ℕ → Type 0
-Copied from to = (r : ℕ) → r < maxNames → getD to r 0 ≡ getD from r 0
+-- the table has its length where a value is answered
+abbrev pub LengthKept : List ℕ → List ℕ → Worked → Type 0
+LengthKept table table′ r = (n : ℕ) → r ≡ Worked.Value n → length table′ ≡ length table
 
--- the first i of them
-abbrev pub CopiedTo : List ℕ → List ℕ → ℕ → Type 0
-CopiedTo from to i = (r : ℕ) → r < i → getD to r 0 ≡ getD from r 0
+-- and the notes have theirs
+pub record Lengths (table table′ sorts numbers : List ℕ) (r : Worked) : Type 0 where
+  pub table-kept : LengthKept table table′ r
+  pub sorts-full : length sorts ≡ maxNames
+  pub numbers-full : length numbers ≡ maxNames
 
-pub copied-more : (from to : List ℕ) (i : ℕ) → i < length to → CopiedTo from to i → CopiedTo from (set to i (getD from i 0)) (i + 1)
-copied-more from to i l h r m = go (ltb r i) refl
-  where
-    go : (b : Bool) → ltb r i ≡ b → getD (set to i (getD from i 0)) r 0 ≡ getD from r 0
-    go true e = getD-set-other to i r (getD from i 0) 0 (λ d. omega (arith, ltb-true r i e)) ∙ h r (ltb-true r i e)
-    go false e = let q : r ≡ i = omega (arith, ltb-false r i e) in subst (λ j. getD (set to i (getD from i 0)) j 0 ≡ getD from j 0) (sym q) (getD-set-same to i (getD from i 0) 0 l)
+-- of whatever expression stands there, the number that it is
+pub record Numbered (text w refs sorts numbers table table′ : List ℕ) (k : ℕ) (r : Worked) : Type 0 where
+  pub same : LengthKept table table′ r
+  pub tells : (R : Realm (source text w refs)) (c : Context) (e : Expr) → Expression text w refs sorts numbers k R c e → TellsNumber r (value (c .values) e)
 
-module _ {text w refs sorts numbers : List ℕ} {k : ℕ} (s n : List ℕ) (kept slots : List ℕ) (a : Copied sorts s) (b : Copied numbers n) where
-  pub expression-fits : (W : World) (c : Context) (e : Expr) → Expression text w refs sorts numbers k W c e → Fits (source text w refs) (state s n kept slots) 0 0 false k W [] c e
-  expression-fits W c e h =
-      let copied : Notes (tokens text) w W s n = record {
-        noted = λ r l.
-            subst (λ i. Note (tokens text) w i (getD n r 0) (meaningAt W r)) (sym (a r l))
-            (subst (λ i. Note (tokens text) w (getD sorts r 0) i (meaningAt W r)) (sym (b r l)) (h .notes .noted r l));
-      } in
-      record { count = h .count; lexed = h .lexed; known = h .known; bodies = h .bodies; facts = notes-facts kept copied; deep = refl; slots = tt; small = tt }
+-- the room stays where lengths do
+pub room-kept : {mem table : List ℕ} {entries : ℕ} (mem′ table′ : List ℕ) → length mem′ ≡ length mem → length table′ ≡ length table → MemoryRoom mem table entries → MemoryRoom mem′ table′ entries
+room-kept {mem} mem′ table′ l t r =
+    let same : slotsFrom (length mem′) ≡ slotsFrom (length mem) = ap slotsFrom l in
+    let k = r .kept in
+    let m = r .room in
+    let n = r .most in
+    record { sized = t ∙ r .sized; kept = omega arith; room = omega arith; most = omega arith }
 
-  pub workable-ready : Workable text w refs sorts numbers slots k → maxNames ≤ length s → maxNames ≤ length n → Ready (source text w refs) (state s n kept slots) 0 0 false k
-  workable-ready h p q =
+pub room-still : {refs sorts₀ numbers₀ mem₀ table₀ : List ℕ} {entries : ℕ} (sorts numbers mem table : List ℕ) → length sorts ≡ length sorts₀ → length numbers ≡ length numbers₀
+    → length mem ≡ length mem₀ → length table ≡ length table₀ → Room refs sorts₀ numbers₀ mem₀ table₀ entries → Room refs sorts numbers mem table entries
+room-still sorts numbers mem table a b m t r =
+    record { refs-room = r .refs-room; sorts-full = a ∙ r .sorts-full; numbers-full = b ∙ r .numbers-full; memory = room-kept mem table m t (r .memory) }
+
+-- the notes are laid
+module _ {text w refs sorts numbers mem mem′ table firsts : List ℕ} {entries : ℕ} (room : MemoryRoom mem table entries) (len : length mem′ ≡ length mem) (laid : Laid mem′ sorts numbers firsts) where
+  expression-given : {k : ℕ} (R : Realm (source text w refs)) (c : Context) (e : Expr) → Expression text w refs sorts numbers k R c e
+      → Given (source text w refs) R mem′ table entries k (suc maxNodes) c e
+  expression-given R c e x =
+      let s = laid .slots in
+      let k = room-kept mem′ table len refl room .kept in
       record {
-        room = record { work = h .expression .lexed .room; refs = h .refs-room; sorts = p; numbers = q; inside = h .inside; slots = (let i = h .inside in let j = h .slots-room in omega arith) };
-        W = h .W;
-        env = [];
-        c = h .c;
-        e = h .e;
-        fits = expression-fits (h .W) (h .c) (h .e) (h .expression);
+        operand = x .operand;
+        noted = laid-noted laid R (regionsOf mem′ entries) (suc maxNodes) (x .notes) (λ l. absurd (omega arith)) (omega arith) (omega arith) (omega arith);
+        lasting = laid-lasting laid (R .W) table (suc maxNodes);
       }
+
+  pub workable-runnable : {k : ℕ} → Workable text w refs sorts numbers mem table entries k → Runnable (source text w refs) mem′ table entries k (suc maxNodes)
+  workable-runnable h =
+      let r = room-kept mem′ table len refl room in
+      let s = laid .slots in
+      let m = r .most in
+      let n = r .room in
+      record {
+        room = record {
+          lent = record { work = h .R .lexed .room; refs = h .room .refs-room; small = omega arith };
+          below = h .inside;
+          few = h .few;
+          index = omega arith;
+          sized = room .sized;
+          room = omega arith;
+          most = r .most;
+        };
+        realm = h .R;
+        context = h .c;
+        expr = h .e;
+        given = expression-given (h .R) (h .c) (h .e) (h .expression);
+      }
+
+  pub told-numbered : {k : ℕ} {mem″ table″ : List ℕ} {r : Worked} → NumberTold (source text w refs) mem′ mem″ table table″ entries k (suc maxNodes) r
+      → Numbered text w refs sorts numbers table table″ k r
+  told-numbered t = record { same = λ n e. ap length (t .same n e); tells = λ R c e x. t .tells R c e (expression-given R c e x) }

@@ -25,6 +25,7 @@ use Rattle.names.specs.Resolved.{declaredNames}
 use Rattle.name_values.specs.Worked.{worldIn}
 use Rattle.notes.specs.Notes.{Notes}
 use Rattle.notes.specs.Owned.{DeclarationAt}
+use Rattle.memory_notes.specs.ShortTables.{ShortTable}
 use Rattle.declarations.specs.Trees.{Tree}
 use Rattle.declarations.specs.Describing.{Described, placed-from}
 use Rattle.declarations.specs.Placing.{PortsPlaced}
@@ -64,9 +65,9 @@ module _ {text w refs found : List ℕ} {entries names : ℕ} {x : Spec} (t : Tr
 
   -- the turns' hypotheses
   pub sizings : (places enumerations order offsets : List ℕ) (ins count : ℕ) (sorts numbers : List ℕ) (d : Table) → All RegularDefinition (x .definitions)
-      → Notes (tokens text) w (worldIn x [] d) sorts numbers → PortsPlaced t places ins count → Described w refs found places count order enumerations offsets
+      → ShortTable d → Notes (tokens text) w (worldIn x [] d) sorts numbers → PortsPlaced t places ins count → Described w refs found places count order enumerations offsets
       → Sizings text w refs found entries names places enumerations ins count sorts numbers x d
-  sizings places enumerations order offsets ins count sorts numbers d regular notes p h =
+  sizings places enumerations order offsets ins count sorts numbers d regular short notes p h =
       let a = p .ins-total in
       let b = p .outs-total in
       record {
@@ -76,6 +77,7 @@ module _ {text w refs found : List ℕ} {entries names : ℕ} {x : Spec} (t : Tr
         outs-placed = placed-from t places enumerations count ins (outputs (x .main)) (omega arith) (h .enumerated) (p .outs-along);
         ins-total = p .ins-total;
         outs-total = p .outs-total;
+        short = short;
         notes = notes;
       }
 

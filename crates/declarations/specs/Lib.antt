@@ -3,9 +3,11 @@ pub mod Along
 pub mod Trees
 pub mod Expressions
 pub mod Constants
+pub mod ConstantsLoop
 pub mod Enumerations
 pub mod Widths
 pub mod Turns
+pub mod TurnsLoop
 pub mod Describing
 pub mod DescribingRoom
 pub mod Placing

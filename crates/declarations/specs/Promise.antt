@@ -18,13 +18,16 @@ use Rattle.language.specs.Laws.Basics.Lists.{All}
 use Rattle.language.specs.Laws.Values.RegularWords.{RegularDefinition}
 use Rattle.names.specs.References.{numberIn}
 use Rattle.names.specs.Resolved.{declaredNames}
-use Rattle.name_values.specs.Facts.{Facts}
 use Rattle.name_values.specs.Worked.{worldIn}
+use Rattle.notes.specs.Notes.{Notes}
+use Rattle.memory_notes.specs.Laid.{Laid}
 use Rattle.ports.specs.declared.Signals.{Signals}
 use Rattle.ports.specs.declared.Signals.the-variants.{Listed, TooMany}
+use Rattle.declarations.specs.declared.Declarations.{Declarations as Answered}
 use Rattle.declarations.specs.declared.Declared.{Declared}
 use Rattle.declarations.specs.declared.Declared.the-variants.{Ports}
 use Rattle.declarations.specs.Trees.{Tree}
+use Rattle.declarations.specs.Expressions.{MemoryRoom}
 use Rattle.declarations.specs.Enumerations.{Enumerates}
 
 -- what refusals 1 to 10 leave: the tree is stored, its names are resolved, its enumerations' words are regular
@@ -55,19 +58,25 @@ SignalsAre x ps firsts list list′ (Listed n) =
     ((list′ ≡ sets list 0 (signalList ps)) × All (λ p. getD firsts (numberIn (declaredNames x) (p .name)) 0 ≡ firstOf ps (p .name .text)) ps))
 SignalsAre x ps firsts list list′ (TooMany place) = tooManySignals 0 ps ≡ some place
 
-pub record WorkedOut (text w : List ℕ) (x : Spec) (sorts numbers kept order enumerations firsts list list′ : List ℕ) (count ins : ℕ) (signals : Signals) : Type 0 where
+-- the notes are laid, for the signals' order that the text has
+pub record WorkedOut (text w : List ℕ) (entries : ℕ) (x : Spec) (mem table order enumerations firsts list list′ : List ℕ) (count ins : ℕ) (signals : Signals) : Type 0 where
   pub result : Declarations
   pub is : declarations x ≡ Done result
-  pub facts : Facts (tokens text) w (worldIn x (inOrder result) (result .table)) sorts numbers kept
+  pub sorts : List ℕ
+  pub numbers : List ℕ
+  pub notes : Notes (tokens text) w (worldIn x (inOrder result) (result .table)) sorts numbers
+  pub laid : Laid mem sorts numbers firsts
+  pub room : MemoryRoom mem table entries
   pub inputs : length (result .inputs) ≡ ins
   pub ports : length (inOrder result) ≡ count
   pub few : count ≤ maxNames
   pub noted : PortsNoted x (tokens text) w order enumerations 0 (inOrder result)
   pub listed : SignalsAre x (inOrder result) firsts list list′ signals
 
-abbrev pub Answer : List ℕ → List ℕ → Spec → (sorts numbers kept order enumerations firsts list list′ : List ℕ) → Declared → Type 0
-Answer text w x sorts numbers kept order enumerations firsts list list′ (Ports count ins signals) = WorkedOut text w x sorts numbers kept order enumerations firsts list list′ count ins signals
-Answer text w x sorts numbers kept order enumerations firsts list list′ (Declared.Refused n p) = declarations x ≡ Result.Refused n p
+abbrev pub Answer : List ℕ → List ℕ → ℕ → Spec → (mem table order enumerations firsts list list′ : List ℕ) → Declared → Type 0
+Answer text w entries x mem table order enumerations firsts list list′ (Ports count ins signals) =
+    WorkedOut text w entries x mem table order enumerations firsts list list′ count ins signals
+Answer text w entries x mem table order enumerations firsts list list′ (Declared.Refused n p) = declarations x ≡ Result.Refused n p
 
-pub record Declares (text w : List ℕ) (x : Spec) (sorts numbers kept order enumerations firsts list list′ : List ℕ) (r : Declared) : Type 0 where
-  pub answer : Answer text w x sorts numbers kept order enumerations firsts list list′ r
+pub record Declares (text w : List ℕ) (entries : ℕ) (x : Spec) (mem table list list′ : List ℕ) (r : Answered) : Type 0 where
+  pub answer : Answer text w entries x mem table (r .order) (r .enumerations) (r .firsts) list list′ (r .answer)

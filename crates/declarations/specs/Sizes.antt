@@ -16,8 +16,9 @@ use Rattle.language.specs.Laws.Values.RegularWords.{RegularDefinition}
 use Rattle.sets.specs.declared.Worked.{Worked}
 use Rattle.name_values.specs.Worked.{worldIn}
 use Rattle.notes.specs.Notes.{Notes}
+use Rattle.memory_notes.specs.ShortTables.{ShortTable, short-turns}
 use Rattle.declarations.specs.Trees.{Tree}
-use Rattle.declarations.specs.Constants.{Room}
+use Rattle.declarations.specs.Expressions.{Room}
 use Rattle.declarations.specs.Turns.{PlacedFrom, WidthsFrom, Declared, TurnsGiven, TurnsTold, Before}
 
 -- the ports of x, in `places`, and the table d before any of them is sized
@@ -28,20 +29,17 @@ pub record Sizings (text w refs found : List ℕ) (entries names : ℕ) (places 
   pub outs-placed : PlacedFrom x text w refs places enumerations ins (outputs (x .main))
   pub ins-total : length (inputs (x .main)) ≡ ins
   pub outs-total : ins + length (outputs (x .main)) ≡ count
+  pub short : ShortTable d
   pub notes : Notes (tokens text) w (worldIn x [] d) sorts numbers
 
-pub record SizesGiven (text w refs places enumerations : List ℕ) (ins count : ℕ) (sorts numbers slots widths : List ℕ) : Type 0 where
+pub record SizesGiven (text w refs places enumerations : List ℕ) (ins count : ℕ) (sorts numbers mem table : List ℕ) (entries : ℕ) : Type 0 where
   pub found : List ℕ
-  pub entries : ℕ
   pub names : ℕ
   pub x : Spec
   pub d : Table
   pub sizings : Sizings text w refs found entries names places enumerations ins count sorts numbers x d
-  pub room : Room refs sorts numbers slots
+  pub room : Room refs sorts numbers mem table entries
   pub few : count ≤ maxNames
-  pub places-room : maxNames ≤ length places
-  pub enumerations-room : maxNames ≤ length enumerations
-  pub widths-room : maxNames ≤ length widths
 
 -- what is left of `declarations` behind the parameters
 abbrev pub sizedAll : Spec → Table → Result Declarations
@@ -77,110 +75,101 @@ turns-length defs output ds d s e = value-of e (within ds d)
     within [] d = done refl
     within (m ∷ ds) d = bind-any _ _ (λ p. bind _ _ (within ds ((p .name .text, asDeclared (p .width)) ∷ d)) (λ s h. done (ap suc h)))
 
-module _ (text w refs found : List ℕ) (entries names : ℕ) (places enumerations : List ℕ) (ins count : ℕ) (x : Spec) (d : Table) where
-  pub ins-declared : (sorts numbers : List ℕ) → Sizings text w refs found entries names places enumerations ins count sorts numbers x d
-      → Declared text w refs found entries names places enumerations 0 ins sorts numbers x (inputs (x .main)) d
-  ins-declared sorts numbers h = record { tree = h .tree; regular = h .regular; placed = h .ins-placed; total = (let t = h .ins-total in omega arith); notes = h .notes }
+module _ {text w refs found : List ℕ} {entries names : ℕ} {places enumerations : List ℕ} {ins count : ℕ} {sorts numbers : List ℕ} {x : Spec} {d : Table}
+    (h : Sizings text w refs found entries names places enumerations ins count sorts numbers x d) where
+  ins-declared : Declared text w refs found entries names places enumerations 0 ins sorts numbers x (inputs (x .main)) d
+  ins-declared = record { tree = h .tree; regular = h .regular; placed = h .ins-placed; total = (let t = h .ins-total in omega arith); short = h .short; notes = h .notes }
 
-  -- after the inputs' turns
-  module _ (sorts numbers sorts′ numbers′ widths′ : List ℕ) (h : Sizings text w refs found entries names places enumerations ins count sorts numbers x d) (n : ℕ) (v : Worked) (q : v ≡ Worked.Value n)
-      (f : TurnsTold text w x false (inputs (x .main)) d 0 sorts′ numbers′ widths′ v) where
-    pub first : TurnsTold text w x false (inputs (x .main)) d 0 sorts′ numbers′ widths′ (Worked.Value n)
-    first = subst (TurnsTold text w x false (inputs (x .main)) d 0 sorts′ numbers′ widths′) q f
+  -- the inputs' turns
+  module _ {sorts′ numbers′ widths′ : List ℕ} {v : Worked} (f : (ds : List Declaration) (d : Table) → Declared text w refs found entries names places enumerations 0 ins sorts numbers x ds d
+      → TurnsTold text w x false ds d 0 sorts′ numbers′ widths′ v) where
+    told : TurnsTold text w x false (inputs (x .main)) d 0 sorts′ numbers′ widths′ v
+    told = f (inputs (x .main)) d ins-declared
 
-    unfoldable pub afterInputs : Turns
-    afterInputs = first .told .0
+    pub sizes-stopped : {n p : ℕ} → v ≡ Worked.Refused n p → SizesTold text w x d ins sorts′ numbers′ widths′ v
+    sizes-stopped {n} {p} q =
+        let g : TurnsTold text w x false (inputs (x .main)) d 0 sorts′ numbers′ widths′ (Worked.Refused n p) = subst (TurnsTold text w x false (inputs (x .main)) d 0 sorts′ numbers′ widths′) q told in
+        subst (SizesTold text w x d ins sorts′ numbers′ widths′) (sym q)
+        (record {
+          told = over (turns (x .definitions) false (inputs (x .main)) d)
+              (λ i. turns (x .definitions) true (outputs (x .main)) (i .table) >>= λ o. Done (record { table = o .table; inputs = i .ports; outputs = o .ports })) n p (g .told);
+        })
 
-    pub outs-declared : Declared text w refs found entries names places enumerations ins count sorts′ numbers′ x (outputs (x .main)) (afterInputs .table)
-    unfolding afterInputs
-    outs-declared = record { tree = h .tree; regular = h .regular; placed = h .outs-placed; total = h .outs-total; notes = first .told .2 }
+    -- behind them
+    module _ {n : ℕ} (q : v ≡ Worked.Value n) where
+      pub first : TurnsTold text w x false (inputs (x .main)) d 0 sorts′ numbers′ widths′ (Worked.Value n)
+      first = subst (TurnsTold text w x false (inputs (x .main)) d 0 sorts′ numbers′ widths′) q told
 
-    unrolled : sizedAll x d ≡ (turns (x .definitions) true (outputs (x .main)) (afterInputs .table) >>= λ o. Done (record { table = o .table; inputs = afterInputs .ports; outputs = o .ports }))
-    unfolding afterInputs
-    unrolled = after (turns (x .definitions) false (inputs (x .main)) d)
-        (λ i. turns (x .definitions) true (outputs (x .main)) (i .table) >>= λ o. Done (record { table = o .table; inputs = i .ports; outputs = o .ports })) (first .told .0) (first .told .1)
+      unfoldable pub afterInputs : Turns
+      afterInputs = first .told .0
 
-    pub sizes-told : (sorts″ numbers″ widths″ : List ℕ) (r : Worked) → Before ins widths′ widths″ → TurnsTold text w x true (outputs (x .main)) (afterInputs .table) ins sorts″ numbers″ widths″ r
-        → SizesTold text w x d ins sorts″ numbers″ widths″ r
-    unfolding afterInputs
-    sizes-told sorts″ numbers″ widths″ (Worked.Value m) b g =
-        let o = g .told .0 in
-        let c = portsLength in
-        record {
-          told = (
-            record { table = o .table; inputs = afterInputs .ports; outputs = o .ports },
-            unrolled ∙ after (turns (x .definitions) true (outputs (x .main)) (afterInputs .table)) (λ o. Done (record { table = o .table; inputs = afterInputs .ports; outputs = o .ports })) o
-                (g .told .1),
-            g .told .2,
-            widths-kept widths′ widths″ ins 0 (afterInputs .ports) (let t = h .ins-total in omega arith) b (first .told .3),
-            g .told .3,
-          );
-        }
-      where
-        portsLength : length (inputs (x .main)) ≡ length (first .told .0 .ports)
-        portsLength = turns-length (x .definitions) false (inputs (x .main)) d (first .told .0) (first .told .1)
-    sizes-told sorts″ numbers″ widths″ (Worked.Refused m p) b g =
-        record {
-          told = unrolled ∙ over (turns (x .definitions) true (outputs (x .main)) (afterInputs .table))
-              (λ o. Done (record { table = o .table; inputs = afterInputs .ports; outputs = o .ports })) m p (g .told);
-        }
+      pub outs-declared : Declared text w refs found entries names places enumerations ins count sorts′ numbers′ x (outputs (x .main)) (afterInputs .table)
+      unfolding afterInputs
+      outs-declared = record {
+        tree = h .tree;
+        regular = h .regular;
+        placed = h .outs-placed;
+        total = h .outs-total;
+        short = value-of (first .told .1) (short-turns (x .definitions) false (inputs (x .main)) d (h .short));
+        notes = first .told .2;
+      }
 
-  pub sizes-stopped : (sorts′ numbers′ widths′ : List ℕ) (v : Worked) (n p : ℕ) → v ≡ Worked.Refused n p → TurnsTold text w x false (inputs (x .main)) d 0 sorts′ numbers′ widths′ v
-      → SizesTold text w x d ins sorts′ numbers′ widths′ v
-  sizes-stopped sorts′ numbers′ widths′ v n p q f =
-      let g : TurnsTold text w x false (inputs (x .main)) d 0 sorts′ numbers′ widths′ (Worked.Refused n p) = subst (TurnsTold text w x false (inputs (x .main)) d 0 sorts′ numbers′ widths′) q f in
-      subst (SizesTold text w x d ins sorts′ numbers′ widths′) (sym q)
-      (record {
-        told = over (turns (x .definitions) false (inputs (x .main)) d)
-            (λ i. turns (x .definitions) true (outputs (x .main)) (i .table) >>= λ o. Done (record { table = o .table; inputs = i .ports; outputs = o .ports })) n p (g .told);
-      })
+      unrolled : sizedAll x d ≡ (turns (x .definitions) true (outputs (x .main)) (afterInputs .table) >>= λ o. Done (record { table = o .table; inputs = afterInputs .ports; outputs = o .ports }))
+      unfolding afterInputs
+      unrolled = after (turns (x .definitions) false (inputs (x .main)) d)
+          (λ i. turns (x .definitions) true (outputs (x .main)) (i .table) >>= λ o. Done (record { table = o .table; inputs = i .ports; outputs = o .ports })) (first .told .0) (first .told .1)
 
--- the functions that are called ask for
-pub ins-given : {text w refs places enumerations : List ℕ} {ins count : ℕ} {sorts numbers slots widths : List ℕ} (g : SizesGiven text w refs places enumerations ins count sorts numbers slots widths)
-    → TurnsGiven text w refs places enumerations 0 ins sorts numbers slots widths
-ins-given {text} {w} {refs} {places} {enumerations} {ins} {count} {sorts} {numbers} g =
-    let t = g .sizings .outs-total in
-    let few = g .few in
-    let a = g .places-room in
-    let b = g .enumerations-room in
-    let c = g .widths-room in
-    record {
-      found = g .found;
-      entries = g .entries;
-      names = g .names;
-      x = g .x;
-      ds = inputs (g .x .main);
-      d = g .d;
-      declared = ins-declared text w refs (g .found) (g .entries) (g .names) places
-          enumerations ins count (g .x) (g .d) sorts numbers (g .sizings);
-      room = g .room;
-      few = omega arith;
-      places-room = omega arith;
-      enumerations-room = omega arith;
-      widths-room = omega arith;
-    }
+      sized-outputs : (sorts″ numbers″ widths″ : List ℕ) (r : Worked) → Before ins widths′ widths″ → TurnsTold text w x true (outputs (x .main)) (afterInputs .table) ins sorts″ numbers″ widths″ r
+          → SizesTold text w x d ins sorts″ numbers″ widths″ r
+      unfolding afterInputs
+      sized-outputs sorts″ numbers″ widths″ (Worked.Value m) b g =
+          let o = g .told .0 in
+          let c = portsLength in
+          record {
+            told = (
+              record { table = o .table; inputs = afterInputs .ports; outputs = o .ports },
+              unrolled ∙ after (turns (x .definitions) true (outputs (x .main)) (afterInputs .table)) (λ o. Done (record { table = o .table; inputs = afterInputs .ports; outputs = o .ports })) o
+                  (g .told .1),
+              g .told .2,
+              widths-kept widths′ widths″ ins 0 (afterInputs .ports) (let t = h .ins-total in omega arith) b (first .told .3),
+              g .told .3,
+            );
+          }
+        where
+          portsLength : length (inputs (x .main)) ≡ length (first .told .0 .ports)
+          portsLength = turns-length (x .definitions) false (inputs (x .main)) d (first .told .0) (first .told .1)
+      sized-outputs sorts″ numbers″ widths″ (Worked.Refused m p) b g =
+          record {
+            told = unrolled ∙ over (turns (x .definitions) true (outputs (x .main)) (afterInputs .table))
+                (λ o. Done (record { table = o .table; inputs = afterInputs .ports; outputs = o .ports })) m p (g .told);
+          }
 
-pub outs-given : {text w refs places enumerations : List ℕ} {ins count : ℕ} {sorts numbers slots widths : List ℕ} (g : SizesGiven text w refs places enumerations ins count sorts numbers slots widths)
-    (sorts′ numbers′ slots′ widths′ : List ℕ) (t : Table) → Room refs sorts′ numbers′ slots′ → length widths′ ≡ length widths
-    → Declared text w refs (g .found) (g .entries) (g .names) places enumerations ins count sorts′ numbers′ (g .x) (outputs (g .x .main)) t
-    → TurnsGiven text w refs places enumerations ins count sorts′ numbers′ slots′ widths′
-outs-given g sorts′ numbers′ slots′ widths′ t room size h =
-    let few = g .few in
-    let a = g .places-room in
-    let b = g .enumerations-room in
-    let c = g .widths-room in
-    record {
-      found = g .found;
-      entries = g .entries;
-      names = g .names;
-      x = g .x;
-      ds = outputs (g .x .main);
-      d = t;
-      declared = h;
-      room = room;
-      few = few;
-      places-room = omega arith;
-      enumerations-room =
-          omega arith;
-      widths-room = omega arith;
-    }
+      pub sizes-told : {sorts″ numbers″ widths″ : List ℕ} {r : Worked} → Before ins widths′ widths″
+          → ((ds : List Declaration) (d : Table) → Declared text w refs found entries names places enumerations ins count sorts′ numbers′ x ds d
+          → TurnsTold text w x true ds d ins sorts″ numbers″ widths″ r) → SizesTold text w x d ins sorts″ numbers″ widths″ r
+      sizes-told {sorts″} {numbers″} {widths″} {r} b g = sized-outputs sorts″ numbers″ widths″ r b (g (outputs (x .main)) (afterInputs .table) outs-declared)
+
+-- what the turns of each heading ask for
+module _ {text w refs places enumerations : List ℕ} {ins count : ℕ} {sorts numbers mem table : List ℕ} {entries : ℕ}
+    (g : SizesGiven text w refs places enumerations ins count sorts numbers mem table entries) where
+  pub ins-given : (widths : List ℕ) → length widths ≡ maxNames → TurnsGiven text w refs places enumerations 0 ins sorts numbers widths mem table entries
+  ins-given widths c =
+      let t = g .sizings .outs-total in
+      let few = g .few in
+      record {
+        found = g .found;
+        names = g .names;
+        x = g .x;
+        ds = inputs (g .x .main);
+        d = g .d;
+        declared = ins-declared (g .sizings);
+        room = g .room;
+        few = omega arith;
+        widths-full = c;
+      }
+
+  pub outs-given : {sorts′ numbers′ widths′ mem′ table′ : List ℕ} {t : Table}
+      → Declared text w refs (g .found) entries (g .names) places enumerations ins count sorts′ numbers′ (g .x) (outputs (g .x .main)) t → Room refs sorts′ numbers′ mem′ table′ entries
+      → length widths′ ≡ maxNames → TurnsGiven text w refs places enumerations ins count sorts′ numbers′ widths′ mem′ table′ entries
+  outs-given {t = t} h room c =
+      record { found = g .found; names = g .names; x = g .x; ds = outputs (g .x .main); d = t; declared = h; room = room; few = g .few; widths-full = c }

@@ -19,23 +19,18 @@ use Rattle.names.specs.Resolved.{Stored, Resolved}
 use Rattle.name_values.specs.Worked.{worldIn}
 use Rattle.notes.specs.Notes.{Notes}
 use Rattle.notes.specs.FirstTable.{firstTable}
-use Rattle.notes.specs.Noting.{NotesGiven}
 use Rattle.notes.specs.Chosen.{Choice}
 use Rattle.notes.specs.Choosing.{Chooses}
 use Rattle.notes.specs.ChosenLaws.{parameterChoice, portChoice}
 use Rattle.notes.specs.Owned.{DeclarationAt}
 use Rattle.declarations.specs.Turnable.{Turnable}
+use Rattle.memory_notes.specs.ShortTables.{short-first}
 use Rattle.declarations.specs.Trees.{Tree, tree-inside}
+use Rattle.declarations.specs.Expressions.{MemoryRoom}
+use Rattle.declarations.specs.Promise.{Checked, Given}
 use Rattle.declarations.specs.Constants.{Parameters, ParametersGiven}
 use Rattle.declarations.specs.DescribingRoom.{DescribeRoom}
 use Rattle.declarations.specs.Placing.{PortsPlaced, parameters-few, parameters-placed, ins-few, ports-placed, along-each}
-
--- some tree is stored, and its names are resolved
-pub record Given (text w refs found : List ℕ) (entries names : ℕ) : Type 0 where
-  pub x : Spec
-  pub tree : Tree text w refs found entries names x
-  pub refs-room : maxTokens ≤ length refs
-  pub found-room : maxNames ≤ length found
 
 -- what `choose` and `note_names` answer
 abbrev pub Choosing : List ℕ → ℕ → Choice → List ℕ → ℕ → List ℕ → ℕ → Type 0
@@ -46,31 +41,30 @@ Noting w found names sorts numbers = (text refs : List ℕ) (count entries : ℕ
     → Notes (tokens text) w (worldIn x [] (firstTable x)) sorts numbers
 
 module _ {text w refs found : List ℕ} {entries names : ℕ} where
-  pub given-notes : Given text w refs found entries names → NotesGiven w found names
-  given-notes g = record { text = text; refs = refs; count = g .tree .count; entries = entries; tree = g .x; stored = g .tree .stored; resolved = g .tree .resolved; room = g .found-room }
-
   pub parameters-fit : (old new : List ℕ) (count : ℕ) (sorts numbers : List ℕ) → maxNames ≤ length old → Choosing w entries parameterChoice old 0 new count → Noting w found names sorts numbers
-      → (x : Spec) → Tree text w refs found entries names x → Parameters text w refs found entries names new count sorts numbers x (firstTable x)
-  parameters-fit old new count sorts numbers room f n x t =
+      → (x : Spec) → Checked text w refs found entries names x → Parameters text w refs found entries names new count sorts numbers x (firstTable x)
+  parameters-fit old new count sorts numbers room f n x k =
+      let t = k .tree in
       let p = parameters-placed t old new count room (f (tokens text) (outline x) (t .stored .stored) (t .stored .total)) in
-      record { tree = t; places = p .0; total = p .1; notes = n text refs (t .count) entries x (t .stored) (t .resolved) }
+      record { tree = t; places = p .0; total = p .1; short = short-first x (k .regular); notes = n text refs (t .count) entries x (t .stored) (t .resolved) }
 
-  pub parameters-given : (old new : List ℕ) (count : ℕ) (sorts numbers slots : List ℕ) → maxNames ≤ length old → length new ≡ length old → Choosing w entries parameterChoice old 0 new count
-      → Noting w found names sorts numbers → maxNames ≤ length sorts → maxNames ≤ length numbers → maxTokens ≤ length slots → (g : Given text w refs found entries names)
-      → ParametersGiven text w refs found entries names new count sorts numbers slots
-  parameters-given old new count sorts numbers slots room size f n a b c g =
-      let p = parameters-fit old new count sorts numbers room f n (g .x) (g .tree) in
+  pub parameters-given : (old new : List ℕ) (count : ℕ) (sorts numbers mem table : List ℕ) → maxNames ≤ length old → length new ≡ length old → Choosing w entries parameterChoice old 0 new count
+      → Noting w found names sorts numbers → length sorts ≡ maxNames → length numbers ≡ maxNames → MemoryRoom mem table entries → Given text w refs found entries names
+      → ParametersGiven text w refs new count sorts numbers mem table entries
+  parameters-given old new count sorts numbers mem table room size f n a b c g =
+      let p = parameters-fit old new count sorts numbers room f n (g .x) (g .checked) in
       record {
+        found = found;
+        names = names;
         x = g .x;
         d = firstTable (g .x);
         parameters = p;
-        room = record { refs-room = g .refs-room; sorts-room = a; numbers-room = b; slots-room = c };
-        order-room =
-            (let q = p .total in let few = parameters-few (g .tree) in omega arith);
+        room = record { refs-room = g .refs-room; sorts-full = a; numbers-full = b; memory = c };
+        few = (let q = p .total in let few = parameters-few (g .checked .tree) in omega arith);
       }
 
   pub ins-small : (old new : List ℕ) (ins : ℕ) → Choosing w entries (portChoice 0) old 0 new ins → Given text w refs found entries names → ins ≤ maxNames
-  ins-small old new ins f g = ins-few (g .tree) old new ins (f (tokens text) (outline (g .x)) (g .tree .stored .stored) (g .tree .stored .total))
+  ins-small old new ins f g = ins-few (g .checked .tree) old new ins (f (tokens text) (outline (g .x)) (g .checked .tree .stored .stored) (g .checked .tree .stored .total))
 
   pub ports-found : (old mid new : List ℕ) (ins count : ℕ) → maxNames ≤ length old → length mid ≡ length old → Choosing w entries (portChoice 0) old 0 mid ins
       → Choosing w entries (portChoice 1) mid ins new count → (x : Spec) (t : Tree text w refs found entries names x) → PortsPlaced t new ins count
@@ -86,12 +80,12 @@ module _ {text w refs found : List ℕ} {entries names : ℕ} where
       go false e = along-each (λ m k. DeclarationAt x text w refs m k × Turnable x (declaredName m)) (λ k. k < maxTokens) (λ m k h. tree-inside t k (h .0 .own .inside)) places ins (outputs (x .main))
           (p .outs-along) i (ltb-false i ins e) (let q = p .outs-total in omega arith)
 
-  pub describe-room : (places : List ℕ) (ins count : ℕ) (order enumerations offsets : List ℕ) (g : Given text w refs found entries names) → PortsPlaced (g .tree) places ins count
+  pub describe-room : (places : List ℕ) (ins count : ℕ) (order enumerations offsets : List ℕ) (g : Given text w refs found entries names) → PortsPlaced (g .checked .tree) places ins count
       → maxNames ≤ length places → maxNames ≤ length order → maxNames ≤ length enumerations → maxNames ≤ length offsets → DescribeRoom w refs found places count order enumerations offsets
   describe-room places ins count order enumerations offsets g p a b c d =
       let few = p .few in
       record {
-        work = g .tree .stored .lexed .room;
+        work = g .checked .tree .stored .lexed .room;
         refs-room = g .refs-room;
         found-room = g .found-room;
         few = few;
@@ -100,5 +94,5 @@ module _ {text w refs found : List ℕ} {entries names : ℕ} where
         enumerations-room = omega
             arith;
         offsets-room = omega arith;
-        inside = ports-inside places ins count (g .x) (g .tree) p;
+        inside = ports-inside places ins count (g .x) (g .checked .tree) p;
       }

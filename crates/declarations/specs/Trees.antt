@@ -1,5 +1,5 @@
 -- A text's tree as the stages before leave it: stored, and its names resolved.
-use Prim.Native.Nat.{ℕ, _<_}
+use Prim.Native.Nat.{ℕ, _-_, _<_}
 use mathlib.Core.Bool.{true}
 use mathlib.Core.List.{List, []}
 use mathlib.Core.Path.{_≡_}
@@ -16,8 +16,10 @@ use Rattle.names.specs.References.{numberIn}
 use Rattle.names.specs.ResolvedLaws.{number-below}
 use Rattle.names.specs.Resolved.{Stored, declaredNames, Resolved}
 use Rattle.name_values.specs.Worked.{worldIn, Worked}
-use Rattle.name_values.specs.WorkedLaws.{tree-worked}
-use Rattle.name_values.specs.BodiesLaws.{bodies}
+use Rattle.operands.specs.Working.{source}
+use Rattle.machine.specs.Realm.{Realm}
+use Rattle.memory_notes.specs.ShortTables.{ShortTable}
+use Rattle.memory_notes.specs.RealmLaws.{realm, operand}
 use Rattle.notes.specs.Notes.{Notes}
 use Rattle.declarations.specs.Expressions.{Expression}
 
@@ -27,14 +29,21 @@ pub record Tree (text w refs found : List ℕ) (entries names : ℕ) (x : Spec) 
   pub resolved : Resolved x refs found names
 
 module _ {text w refs found : List ℕ} {entries names : ℕ} {x : Spec} (t : Tree text w refs found entries names x) where
+  -- what the machine works in, by the table
+  abbrev pub tree-realm : (d : Table) → ShortTable d → Realm (source text w refs)
+  tree-realm d short = realm x [] d (t .stored) (t .resolved) short
+
   -- an expression that is worked behind some definitions
-  pub tree-expression : (before : List Definition) (k : ℕ) (e : Expr) → Worked x text w refs before k e → (d : Table) (sorts numbers : List ℕ) → Notes (tokens text) w (worldIn x [] d) sorts numbers
-      → Expression text w refs sorts numbers k (worldIn x [] d) (defineAll (contextOf [] d) before) e
-  tree-expression before k e h d sorts numbers n =
-      record { count = t .count; lexed = t .stored .lexed; known = h .known [] d; bodies = bodies x text w refs [] d (tree-worked (t .stored) (t .resolved)); notes = n }
+  pub tree-expression : (before : List Definition) (k : ℕ) (e : Expr) → Worked x text w refs before k e → (d : Table) (short : ShortTable d) (sorts numbers : List ℕ)
+      → Notes (tokens text) w (worldIn x [] d) sorts numbers → Expression text w refs sorts numbers k (tree-realm d short) (defineAll (contextOf [] d) before) e
+  tree-expression before k e h d short sorts numbers n = record { operand = operand x [] d h; notes = n }
 
   pub tree-inside : (k : ℕ) → k < length (outline x) → k < maxTokens
   tree-inside k l = let a = t .stored .total in let b = t .stored .few in omega arith
+
+  -- the entry before one of the tree's
+  pub tree-before : (k : ℕ) → k < length (outline x) → k - 1 < entries
+  tree-before k l = let a = t .stored .total in omega arith
 
   pub number-small : (n : Token) → visible (declaredNames x) n ≡ true → numberIn (declaredNames x) n < maxNames
   number-small n v = let a = t .resolved .count in let b = t .resolved .few in let c = number-below (declaredNames x) n v in omega arith

@@ -22,9 +22,10 @@ use Rattle.name_values.specs.Worked.{worldIn}
 use Rattle.notes.specs.Notes.{Notes}
 use Rattle.notes.specs.NotesLaws.{names-distinct, notes-turn}
 use Rattle.notes.specs.Owned.{DeclarationAt}
+use Rattle.memory_notes.specs.ShortTables.{ShortTable, short-declared}
 use Rattle.declarations.specs.Turnable.{Turnable}
 use Rattle.declarations.specs.Trees.{Tree, tree-inside, number-small}
-use Rattle.declarations.specs.Constants.{Room}
+use Rattle.declarations.specs.Expressions.{Room}
 use Rattle.declarations.specs.Widths.{EnumeratedBy, portFor, Sizing, Sizable, Sizes, sortOf, sized-note}
 
 -- the declaration m at a position: its own entry k, its enumeration's entry e
@@ -49,21 +50,19 @@ pub record Declared (text w refs found : List ℕ) (entries names : ℕ) (places
   pub regular : All RegularDefinition (x .definitions)
   pub placed : PlacedFrom x text w refs places enumerations from ds
   pub total : from + length ds ≡ to
+  pub short : ShortTable d
   pub notes : Notes (tokens text) w (worldIn x [] d) sorts numbers
 
-pub record TurnsGiven (text w refs places enumerations : List ℕ) (from to : ℕ) (sorts numbers slots widths : List ℕ) : Type 0 where
+pub record TurnsGiven (text w refs places enumerations : List ℕ) (from to : ℕ) (sorts numbers widths mem table : List ℕ) (entries : ℕ) : Type 0 where
   pub found : List ℕ
-  pub entries : ℕ
   pub names : ℕ
   pub x : Spec
   pub ds : List Declaration
   pub d : Table
   pub declared : Declared text w refs found entries names places enumerations from to sorts numbers x ds d
-  pub room : Room refs sorts numbers slots
+  pub room : Room refs sorts numbers mem table entries
   pub few : to ≤ maxNames
-  pub places-room : to ≤ length places
-  pub enumerations-room : to ≤ length enumerations
-  pub widths-room : to ≤ length widths
+  pub widths-full : length widths ≡ maxNames
 
 -- the widths below a position are as before
 abbrev pub Before : ℕ → List ℕ → List ℕ → Type 0
@@ -131,6 +130,7 @@ module _ (text w refs found : List ℕ) (entries names : ℕ) (places enumeratio
     pub placed : PlacedFrom x text w refs places enumerations j left
     pub total : j + length left ≡ to
     pub reached : from + length done ≡ j
+    pub short : ShortTable table
     pub notes : Notes (tokens text) w (worldIn x [] table) sorts numbers
     pub sized : WidthsFrom widths from done
 
@@ -145,8 +145,8 @@ module _ (text w refs found : List ℕ) (entries names : ℕ) (places enumeratio
         same = onward-none (turns (x .definitions) output ds d);
         placed = h .placed;
         total = h .total;
-        reached = omega
-            arith;
+        reached = omega arith;
+        short = h .short;
         notes = h .notes;
         sized = tt;
       }
@@ -175,11 +175,17 @@ module _ (text w refs found : List ℕ) (entries names : ℕ) (places enumeratio
     pub next-small : getD refs (getD places j 0) 0 < maxNames
     next-small = subst (λ i. i < maxNames) (sym next-number) (number-small (g .tree) (declaredName (next .own)) (next .placed .turnable .shown))
 
-    pub next-sizing : Sizing text w refs found entries names sorts numbers (getD places j 0) (getD enumerations j 0) x (g .table) (next .own)
-    next-sizing = record { tree = g .tree; regular = g .regular; there = next .placed .there; enumerated = next .placed .enumerated; notes = g .notes }
+    next-sizing : Sizing text w refs found entries names sorts numbers (getD places j 0) (getD enumerations j 0) x (g .table) (next .own)
+    next-sizing = record { tree = g .tree; regular = g .regular; there = next .placed .there; enumerated = next .placed .enumerated; short = g .short; notes = g .notes }
 
-    pub next-sizable : (slots : List ℕ) → Room refs sorts numbers slots → Sizable text w refs sorts numbers slots (getD places j 0) (getD enumerations j 0)
-    next-sizable slots r = record { found = found; entries = entries; names = names; x = x; d = g .table; m = next .own; sizing = next-sizing; room = r }
+    sizing-at : (k e : ℕ) → k ≡ getD places j 0 → e ≡ getD enumerations j 0 → Sizing text w refs found entries names sorts numbers k e x (g .table) (next .own)
+    sizing-at k e hk he =
+        subst (λ (i : ℕ). Sizing text w refs found entries names sorts numbers i e x (g .table) (next .own)) (sym hk)
+        (subst (λ (i : ℕ). Sizing text w refs found entries names sorts numbers (getD places j 0) i x (g .table) (next .own)) (sym he) next-sizing)
+
+    pub next-sizable : {mem table : List ℕ} (k e : ℕ) → k ≡ getD places j 0 → e ≡ getD enumerations j 0 → Room refs sorts numbers mem table entries
+        → Sizable text w refs sorts numbers mem table entries k e
+    next-sizable k e hk he r = record { found = found; names = names; x = x; d = g .table; m = next .own; sizing = sizing-at k e hk he; room = r }
 
     unrolled : turns (x .definitions) output ds d ≡ onward (x .definitions) output (g .done) (next .own ∷ next .later) (g .table)
     unrolled = g .same ∙ ap (λ l. onward (x .definitions) output (g .done) l (g .table)) (next .is)
@@ -188,8 +194,7 @@ module _ (text w refs found : List ℕ) (entries names : ℕ) (places enumeratio
     module _ (k e : ℕ) (hk : k ≡ getD places j 0) (he : e ≡ getD enumerations j 0) (v : Worked)
         (f : (found : List ℕ) (entries names : ℕ) (x : Spec) (d : Table) (m : Declaration) → Sizing text w refs found entries names sorts numbers k e x d m → Sizes (x .definitions) d m v) where
       told : Sizes (x .definitions) (g .table) (next .own) v
-      told = f found entries names x (g .table) (next .own) (subst (λ i. Sizing text w refs found entries names sorts numbers i e x (g .table) (next .own)) (sym hk)
-          (subst (λ i. Sizing text w refs found entries names sorts numbers (getD places j 0) i x (g .table) (next .own)) (sym he) next-sizing))
+      told = f found entries names x (g .table) (next .own) (sizing-at k e hk he)
 
       pub turning-stopped : (n p : ℕ) → v ≡ Worked.Refused n p → TurnsTold text w x output ds d from sorts numbers widths v
       turning-stopped n p q =
@@ -217,6 +222,7 @@ module _ (text w refs found : List ℕ) (entries names : ℕ) (places enumeratio
             placed = next .after;
             total = (let i = g .total in let l = ap length (next .is) in omega arith);
             reached = (let l = length-append (g .done) (p ∷ []) in omega arith);
+            short = (short-declared n, g .short);
             notes = subst (λ i. Notes (tokens text) w (worldIn x [] ((t .text, asDeclared n) ∷ g .table)) (set sorts i sort) (set numbers i n)) at
                 (subst (λ s. Notes (tokens text) w (worldIn x [] ((t .text, asDeclared n) ∷ g .table)) (set sorts (numberIn (declaredNames x) t) s) (set numbers (numberIn (declaredNames x) t) n))
                 (sym hs)

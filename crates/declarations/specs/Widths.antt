@@ -26,17 +26,16 @@ use Rattle.entries.specs.StoredLaws.{entry-kind}
 use Rattle.spellings.specs.Interned.{Lexed}
 use Rattle.sets.specs.Answers.{says}
 use Rattle.sets.specs.declared.Worked.{Worked}
-use Rattle.name_values.specs.World.{World, Stands}
+use Rattle.name_values.specs.World.{Stands}
 use Rattle.name_values.specs.Sorts as Sort
 use Rattle.name_values.specs.Declaring.{EnumerationAt}
 use Rattle.name_values.specs.Worked.{worldIn}
-use Rattle.operands.specs.Working.{TellsNumber}
 use Rattle.notes.specs.Notes.{Note, Notes}
 use Rattle.notes.specs.Owned.{DeclarationAt, kindOf as kindOfDeclaration}
-use Rattle.declarations.specs.Trees.{Tree, tree-expression, tree-inside}
-use Rattle.declarations.specs.Expressions.{Expression, Workable}
+use Rattle.memory_notes.specs.ShortTables.{ShortTable}
+use Rattle.declarations.specs.Trees.{Tree, tree-realm, tree-expression, tree-before}
+use Rattle.declarations.specs.Expressions.{Room, Expression, Workable, Numbered}
 use Rattle.declarations.specs.Enumerations.{noEntry, Enumerates, entry-offset}
-use Rattle.declarations.specs.Constants.{Room}
 use Rattle.language.specs.Laws.Values.NameLaws.{defined-values}
 
 -- the words of a declaration's enumeration
@@ -59,17 +58,17 @@ pub record Sizing (text w refs found : List ℕ) (entries names : ℕ) (sorts nu
   pub regular : All RegularDefinition (x .definitions)
   pub there : DeclarationAt x text w refs m k
   pub enumerated : EnumeratedBy (tokens text) w (x .definitions) m e
+  pub short : ShortTable d
   pub notes : Notes (tokens text) w (worldIn x [] d) sorts numbers
 
-pub record Sizable (text w refs sorts numbers slots : List ℕ) (k e : ℕ) : Type 0 where
+pub record Sizable (text w refs sorts numbers mem table : List ℕ) (entries k e : ℕ) : Type 0 where
   pub found : List ℕ
-  pub entries : ℕ
   pub names : ℕ
   pub x : Spec
   pub d : Table
   pub m : Declaration
   pub sizing : Sizing text w refs found entries names sorts numbers k e x d m
-  pub room : Room refs sorts numbers slots
+  pub room : Room refs sorts numbers mem table entries
 
 -- the answer
 abbrev pub SizedBy : List Definition → Table → Declaration → Worked → Type 0
@@ -135,9 +134,6 @@ module _ {text w refs found : List ℕ} {entries names : ℕ} {sorts numbers : L
   pub sizing-place : offsetIn (wordAt w (indexOf (wordAt w (firstEntry + k)))) ≡ declaredName m .at
   sizing-place = entry-offset (s .tree .stored .lexed) (s .there .own .entry)
 
-  pub sizing-inside : k < maxTokens
-  sizing-inside = tree-inside (s .tree) k (s .there .own .inside)
-
 by-declaration : (P : Declaration → Type 0) → ((n : Token) → P (OneSignal n)) → ((n : Token) (b : Expr) → P (OfWidth n b)) → ((u n : Token) → P (OfType u n)) → (m : Declaration) → P m
 by-declaration P f g h (OneSignal n) = f n
 by-declaration P f g h (OfWidth n b) = g n b
@@ -179,31 +175,29 @@ module _ (text w refs found : List ℕ) (entries names : ℕ) (sorts numbers : L
       record { told = sized-port (x .definitions) d (OfType u t) t 0 r (λ output. ap (λ i. sized t i >>= λ j. Done (portFor (x .definitions) output (OfType u t) j)) (ap wordWidth none)) h }
 
   -- a bus by its width
-  pub sizing-workable : (slots : List ℕ) → Room refs sorts numbers slots → (m : Declaration) → Sized m → (kindOf (wordAt w (firstEntry + k)) ≡ Kind.signal → ⊥)
-      → (kindOf (wordAt w (firstEntry + k)) ≡ Kind.typed → ⊥) → Workable text w refs sorts numbers slots (k - 1)
-  sizing-workable slots r (OneSignal n) s a b = absurd (a (sizing-kind s))
-  sizing-workable slots r (OfWidth n v) s a b =
-      record {
-        W = worldIn x [] d;
+  pub sizing-workable : {mem table : List ℕ} (i : ℕ) → i ≡ k - 1 → Room refs sorts numbers mem table entries → (m : Declaration) → Sized m → (kindOf (wordAt w (firstEntry + k)) ≡ Kind.signal → ⊥)
+      → (kindOf (wordAt w (firstEntry + k)) ≡ Kind.typed → ⊥) → Workable text w refs sorts numbers mem table entries i
+  sizing-workable i q r (OneSignal n) s a b = absurd (a (sizing-kind s))
+  sizing-workable {mem} {table} i q r (OfWidth n v) s a b =
+      subst (λ (j : ℕ). Workable text w refs sorts numbers mem table entries j) (sym q) (record {
+        R = tree-realm (s .tree) d (s .short);
         c = defineAll (contextOf [] d) (x .definitions);
         e = v;
-        expression = tree-expression (s .tree) (x .definitions) (k - 1) v (s .there .width) d sorts numbers
-            (s .notes);
-        refs-room = r .refs-room;
-        sorts-room = r .sorts-room;
-        numbers-room = r .numbers-room;
-        slots-room = r .slots-room;
-        inside = (let i = sizing-inside s in omega arith);
-      }
-  sizing-workable slots r (OfType u n) s a b = absurd (b (sizing-kind s))
+        expression = tree-expression (s .tree) (x .definitions) (k - 1) v (s .there .width) d (s .short) sorts numbers (s .notes);
+        room = r;
+        few = s .tree .stored .few;
+        inside = tree-before (s .tree) k (s .there .own .inside);
+      })
+  sizing-workable i q r (OfType u n) s a b = absurd (b (sizing-kind s))
 
   module _ (m : Declaration) (s : Sized m) (a : kindOf (wordAt w (firstEntry + k)) ≡ Kind.signal → ⊥) (b : kindOf (wordAt w (firstEntry + k)) ≡ Kind.typed → ⊥) (i : ℕ) (at : i ≡ k - 1) (v : Worked)
-      (f : (W : World) (c : Context) (e : Expr) → Expression text w refs sorts numbers i W c e → TellsNumber v (value (c .values) e)) where
+      {table table′ : List ℕ} (f : Numbered text w refs sorts numbers table table′ i v) where
     told : (n : Token) (y : Expr) → Sized (OfWidth n y) → says v ≡ (value (defining (declared d) (x .definitions)) y >>= number)
     told n y s =
         let c : Context = defineAll (contextOf [] d) (x .definitions) in
-        let g = f (worldIn x [] d) c y (subst (λ j. Expression text w refs sorts numbers j (worldIn x [] d) c y) (sym at)
-        (tree-expression (s .tree) (x .definitions) (k - 1) y (s .there .width) d sorts numbers (s .notes))) in
+        let R = tree-realm (s .tree) d (s .short) in
+        let g = f .tells R c y (subst (λ (j : ℕ). Expression text w refs sorts numbers j R c y) (sym at)
+        (tree-expression (s .tree) (x .definitions) (k - 1) y (s .there .width) d (s .short) sorts numbers (s .notes))) in
         g .says ∙ ap (λ sc. value sc y >>= number) (defined-values (x .definitions) (contextOf [] d))
 
     pub sizes-refused : (n p : ℕ) → v ≡ Worked.Refused n p → Sizes (x .definitions) d m v

@@ -1,31 +1,41 @@
 // The stages before any bus is sized: notes and parameters, then the ports' entries.
+use crate::Counts;
+use crate::constants::Chosen;
+use crate::constants::Settled;
 use crate::constants::parameters;
 use crate::describe::describe;
+use crate::evaluate::Names;
 use entries::kinds;
+use language::limits;
+use node::MAX_NODES;
 use notes::choose::NO_HEADING;
 use notes::choose::choose;
 use notes::first::note_names;
-use sets::Worked;
-ghost use Prim.Native.Nat.{_≤_};
+ghost use mathlib.Core.Path.{_≡_};
 ghost use lib.ListN.{length};
-ghost use Rattle.language.specs.Limits.{maxTokens, maxNames};
+ghost use Rattle.language.specs.Limits.{maxNames};
 ghost use Rattle.language.specs.Tree.{Spec};
 ghost use Rattle.notes.specs.FirstTable.{firstTable};
 ghost use Rattle.declarations.specs.Trees.{Tree};
+ghost use Rattle.declarations.specs.Expressions.{MemoryRoom, Lengths};
 ghost use Rattle.declarations.specs.Constants.{ConstantsTold};
 ghost use Rattle.declarations.specs.Describing.{Described};
 ghost use Rattle.declarations.specs.Placing.{PortsPlaced};
-ghost use Rattle.declarations.specs.Stages.{Given};
+ghost use Rattle.declarations.specs.Promise.{Checked, Given};
 
 // The headings of INPUTS and OUTPUTS.
 const INPUTS: u32 = 0;
 
 const OUTPUTS: u32 = 1;
 
-// How many ports there are, and how many of them are inputs.
+// How many ports there are, and how many of them are inputs; by port, the own entry, the number of the name, the enumeration's entry, the name's offset.
 pub struct Ports {
     pub ins: usize,
     pub count: usize,
+    pub places: [u16; limits::MAX_NAMES],
+    pub order: [u16; limits::MAX_NAMES],
+    pub enumerations: [u16; limits::MAX_NAMES],
+    pub offsets: [u32; limits::MAX_NAMES],
 }
 
 // Every declared name is noted, then parameters are worked out in order.
@@ -34,70 +44,58 @@ pub fn globals(
     work: &[u8],
     refs: &[u16],
     found: &[u16],
-    entries: usize,
-    names: usize,
-    places: &mut [u16],
-    sorts: &mut [u8],
-    numbers: &mut [u32],
-    kept: &mut [u32],
-    slots: &mut [u32],
-) -> Worked
-    requires { ⌜ Given (now text) (now work) (now refs) (now found) entries names ×
-        ((maxNames ≤ length (now places)) × ((maxNames ≤ length (now sorts)) × ((maxNames ≤ length (now numbers)) × (maxTokens ≤ length (now slots))))) ⌝ }
-    ensures { λ r. ⌜ ((x : Spec) → Tree (now (text .entry)) (now (work .entry)) (now (refs .entry)) (now (found .entry)) entries names x
-        → ConstantsTold (now (text .entry)) (now (work .entry)) x (firstTable x) (now (sorts .exit)) (now (numbers .exit)) r) ⌝ }
+    counts: Counts,
+    memory: &mut [u32],
+    table: &mut [u32; MAX_NODES],
+) -> Settled
+    requires { ⌜ Given (now text) (now work) (now refs) (now found) (counts .entries) (counts .names) × MemoryRoom (now memory) (now table) (counts .entries) ⌝ }
+    ensures { λ r. ⌜ ((x : Spec) → Checked (now (text .entry)) (now (work .entry)) (now (refs .entry)) (now (found .entry)) (counts .entries) (counts .names) x
+        → ConstantsTold (now (text .entry)) (now (work .entry)) x (firstTable x) (r .names .sorts) (r .names .numbers) (r .answer))
+        × Lengths (now (table .entry)) (now (table .exit)) (r .names .sorts) (r .names .numbers) (r .answer) ⌝ }
 {
-    note_names(work, found, names, sorts, numbers);
+    let entries = counts.entries;
+    let mut sorts = [0u8; limits::MAX_NAMES];
+    let mut numbers = [0u32; limits::MAX_NAMES];
+    note_names(work, found, counts.names, &mut sorts, &mut numbers);
+    let mut places = [0u16; limits::MAX_NAMES];
     let count = choose(
         work,
         entries,
         NO_HEADING,
         kinds::PARAMETER,
         kinds::PARAMETER,
-        places,
+        &mut places,
         0,
     );
     parameters(
         text,
         work,
         refs,
-        found,
+        Chosen { places, count },
+        Names { sorts, numbers },
+        memory,
+        table,
         entries,
-        names,
-        places,
-        count,
-        sorts,
-        numbers,
-        kept,
-        slots,
     )
 }
 
 // The ports: inputs, then outputs, and what is known of each before any is sized.
-pub fn find_ports(
-    text: &[u8],
-    work: &[u8],
-    refs: &[u16],
-    found: &[u16],
-    entries: usize,
-    names: usize,
-    places: &mut [u16],
-    order: &mut [u16],
-    enumerations: &mut [u16],
-    offsets: &mut [u32],
-) -> Ports
-    requires { ⌜ Given (now text) (now work) (now refs) (now found) entries names ×
-        ((maxNames ≤ length (now places)) × ((maxNames ≤ length (now order)) × ((maxNames ≤ length (now enumerations)) × (maxNames ≤ length (now offsets))))) ⌝ }
-    ensures { λ r. ⌜ ((x : Spec) (t : Tree (now (text .entry)) (now (work .entry)) (now (refs .entry)) (now (found .entry)) entries names x) → PortsPlaced t (now (places .exit)) (r .ins) (r .count))
-        × Described (now (work .entry)) (now (refs .entry)) (now (found .entry)) (now (places .exit)) (r .count) (now (order .exit)) (now (enumerations .exit)) (now (offsets .exit)) ⌝ }
+pub fn find_ports(text: &[u8], work: &[u8], refs: &[u16], found: &[u16], counts: Counts) -> Ports
+    requires { ⌜ Given (now text) (now work) (now refs) (now found) (counts .entries) (counts .names) ⌝ }
+    ensures { λ r. ⌜ ((x : Spec) (t : Tree (now (text .entry)) (now (work .entry)) (now (refs .entry)) (now (found .entry)) (counts .entries) (counts .names) x)
+        → PortsPlaced t (r .places) (r .ins) (r .count))
+        × (Described (now (work .entry)) (now (refs .entry)) (now (found .entry)) (r .places) (r .count) (r .order) (r .enumerations) (r .offsets)
+        × ((length (r .order) ≡ maxNames) × (length (r .offsets) ≡ maxNames))) ⌝ }
 {
+    let entries = counts.entries;
+    let mut places = [0u16; limits::MAX_NAMES];
     let ins = choose(
         work,
         entries,
         INPUTS,
         kinds::SIGNAL,
         kinds::TYPED,
-        places,
+        &mut places,
         0,
     );
     let count = choose(
@@ -106,18 +104,28 @@ pub fn find_ports(
         OUTPUTS,
         kinds::SIGNAL,
         kinds::TYPED,
-        places,
+        &mut places,
         ins,
     );
+    let mut order = [0u16; limits::MAX_NAMES];
+    let mut enumerations = [0u16; limits::MAX_NAMES];
+    let mut offsets = [0u32; limits::MAX_NAMES];
     describe(
         work,
         refs,
         found,
-        places,
+        &places,
         count,
+        &mut order,
+        &mut enumerations,
+        &mut offsets,
+    );
+    Ports {
+        ins,
+        count,
+        places,
         order,
         enumerations,
         offsets,
-    );
-    Ports { ins, count }
+    }
 }

@@ -3,6 +3,7 @@ use crate::constants::before;
 use crate::enumeration::NO_ENTRY;
 use crate::enumeration::token_word;
 use crate::enumeration::word_width;
+use crate::evaluate::Names;
 use crate::evaluate::number_of;
 use entries::fields::SIZES;
 use entries::fields::TOKENS;
@@ -10,15 +11,17 @@ use entries::kinds;
 use language::limits;
 use lexer::fields::LENGTHS;
 use lexer::fields::OFFSETS;
+use name_values::sorts;
+use node::MAX_NODES;
 use node::refusals;
 use notes::choose::entry_word;
 use sets::Worked;
-use name_values::sorts;
 ghost use mathlib.Core.List.{List};
 ghost use mathlib.Core.Path.{_≡_};
 ghost use Prim.Native.Nat.{ℕ};
 ghost use Rattle.language.specs.Tree.{Spec, Declaration};
 ghost use Rattle.language.specs.Declared.{Table};
+ghost use Rattle.declarations.specs.Expressions.{LengthKept};
 ghost use Rattle.declarations.specs.Widths.{Sizing, Sizable, Sizes, IsSized, sortOf};
 
 pub fn sort_of(width: u32) -> u8
@@ -43,36 +46,43 @@ fn sized(n: u32, place: u32) -> Worked
     Worked::Value(n)
 }
 
-// The width of the signal or bus whose own entry is entry k, 0 for a single signal; e is the entry of the enumeration that it is declared by.
+// A port's own entry, and that of the enumeration that it is declared by.
+pub struct Place {
+    pub own: usize,
+    pub enumeration: usize,
+}
+
+// The width of the signal or bus there, 0 for a single signal.
 pub fn width_of(
     text: &[u8],
     work: &[u8],
     refs: &[u16],
-    sorts: &[u8],
-    numbers: &[u32],
-    kept: &mut [u32],
-    slots: &mut [u32],
-    k: usize,
-    e: usize,
+    names: Names,
+    memory: &mut [u32],
+    table: &mut [u32; MAX_NODES],
+    entries: usize,
+    place: Place,
 ) -> Worked
-    requires { ⌜ Sizable (now text) (now work) (now refs) (now sorts) (now numbers) (now slots) k e ⌝ }
-    ensures { λ r. ⌜ ((found : List ℕ) (entries names : ℕ) (x : Spec) (d : Table) (m : Declaration)
-        → Sizing (now (text .entry)) (now (work .entry)) (now (refs .entry)) found entries names (now (sorts .entry)) (now (numbers .entry)) k e x d m → Sizes (x .definitions) d m r) ⌝ }
+    requires { ⌜ Sizable (now text) (now work) (now refs) (names .sorts) (names .numbers) (now memory) (now table) entries (place .own) (place .enumeration) ⌝ }
+    ensures { λ r. ⌜ ((found : List ℕ) (n m : ℕ) (x : Spec) (d : Table) (y : Declaration) → Sizing (now (text .entry)) (now (work .entry)) (now (refs .entry)) found n m (names .sorts)
+        (names .numbers) (place .own) (place .enumeration) x d y → Sizes (x .definitions) d y r) × LengthKept (now (table .entry)) (now (table .exit)) r ⌝ }
 {
+    let k = place.own;
     let kind = entry_word(work, k) / SIZES / TOKENS;
     if kind == kinds::SIGNAL {
         return Worked::Value(0);
     }
-    let place = token_word(work, k) / LENGTHS % OFFSETS;
+    let at = token_word(work, k) / LENGTHS % OFFSETS;
     if kind == kinds::TYPED {
+        let e = place.enumeration;
         if e == NO_ENTRY {
-            return sized(0, place);
+            return sized(0, at);
         }
-        return sized(word_width(work, e), place);
+        return sized(word_width(work, e), at);
     }
-    let worked = number_of(text, work, refs, sorts, numbers, kept, slots, before(k));
+    let worked = number_of(text, work, refs, names, memory, table, entries, before(k));
     let Worked::Value(n) = worked else {
         return worked;
     };
-    sized(n, place)
+    sized(n, at)
 }

@@ -1,10 +1,11 @@
 -- 15 behind all lines, then what is handed over: the formula, or the formula converted where the models differ.
-use Prim.Native.Nat.{ℕ}
+use Prim.Native.Nat.{ℕ, _≤_}
 use mathlib.Core.Bool.{Bool}
 use mathlib.Core.List.{List}
 use mathlib.Core.Path.{_≡_, refl, ap, _∙_, subst}
 use lib.Dec.{eqb}
-use lib.ListN.{length}
+use lib.ListN.{length, take}
+use lib.Seq.{length-take-le}
 use native.Mathlib.Omega.{arith}
 use Rattle.node.specs.Ltl.{Formula}
 use Rattle.node.specs.Result.{Result, Done, Refused, _>>=_}
@@ -86,7 +87,7 @@ module _ {f : Facts} {s : Signals} {words table list : List ℕ} {count at : ℕ
 
   -- what is made of the formula is its conversion from the stated model to the targeted one
   finish-as : (make : List ℕ → Formula → Formula) → ((l : List ℕ) (h : Formula) → make l h ≡ adapted (x .semantics) (x .target) l h)
-      → {n : ℕ} {nodes′ signals′ : List ℕ} {r : Answer} → s ≡ Listed n → HandsOver make (f .strict) words count table at list n nodes signals nodes′ signals′ r
+      → {n : ℕ} {nodes′ signals′ : List ℕ} {r : Answer} → s ≡ Listed n → HandsOver make (f .strict) words count table at (take n list) nodes signals nodes′ signals′ r
       → Finishes x d nodes signals nodes′ signals′ r
   finish-as make e {n} {nodes′} {signals′} {r} q o =
       let l : Listing (Listed n) d list = subst (λ i. Listing i d list) q (g .listing) in
@@ -101,23 +102,28 @@ module _ {f : Facts} {s : Signals} {words table list : List ℕ} {count at : ℕ
       (subst (λ a. Hands (ends a (make a (formula (f .strict)))) nodes signals nodes′ signals′ r) (l .1 .1 .0) (o .hands (made .sections) t))))
 
   module _ {n : ℕ} {nodes′ signals′ : List ℕ} {r : Answer} (q : s ≡ Listed n) where
-    pub finish-few : f .semantics ≡ f .target → HandsOver asExpanded (f .strict) words count table at list n nodes signals nodes′ signals′ r → Finishes x d nodes signals nodes′ signals′ r
+    pub finish-few : f .semantics ≡ f .target → HandsOver asExpanded (f .strict) words count table at (take n list) nodes signals nodes′ signals′ r → Finishes x d nodes signals nodes′ signals′ r
     finish-few h o = finish-as asExpanded (λ l k. alike (x .semantics) (x .target) l k (subst (λ (i : Facts). i .semantics ≡ i .target) (g .facts) h)) q o
 
     pub finish-shifted : {outputs : Bool} → (f .semantics ≡ f .target → ⊥) → outputs ≡ eqb (f .target) 1
-        → HandsOver (asShifted outputs) (f .strict) words count table at list n nodes signals nodes′ signals′ r → Finishes x d nodes signals nodes′ signals′ r
+        → HandsOver (asShifted outputs) (f .strict) words count table at (take n list) nodes signals nodes′ signals′ r → Finishes x d nodes signals nodes′ signals′ r
     finish-shifted {outputs} h e o =
         let target : outputs ≡ eqb (modelCode (x .target)) 1 = e ∙ ap (λ (i : Facts). eqb (i .target) 1) (g .facts) in
         finish-as (asShifted outputs) (λ l k. ap (λ (b : Bool). asShifted b l k) target ∙ unlike (x .semantics) (x .target) l k (subst (λ (i : Facts). i .semantics ≡ i .target → ⊥) (g .facts) h)) q o
 
 -- what the handing over asks for
-pub finish-gathering : {f : Facts} {s : Signals} {words table list : List ℕ} {count at n : ℕ} → SomeComplete f s words count table at list → s ≡ Listed n → Assemblable words count table at list n
+pub finish-gathering : {f : Facts} {s : Signals} {words table list : List ℕ} {count at n : ℕ} → SomeComplete f s words count table at list → s ≡ Listed n → Assemblable words count table at (take n list)
 finish-gathering {f} {s} {words} {table} {list} {count} {at} {n} h q =
     let g = h .gathers in
     let l : Listing (Listed n) (h .d) list = subst (λ i. Listing i (h .d) list) q (g .listing) in
     let few = signals-few 0 (inOrder (h .d)) (omega arith) (l .0) in
     record {
       gathered = record { some = g .all; gathered = subst (λ i. GatheredFrom (startOf i) (g .all) words count table at) q (g .gathered) };
-      few = omega (arith, l .1 .0);
-      listed = l .1 .1 .1;
+      few = omega (arith, l .1 .0, length-take-le n list (l .1 .1 .1));
     }
+
+-- .. and that the list has so many signals
+pub finish-listed : {f : Facts} {s : Signals} {words table list : List ℕ} {count at n : ℕ} → SomeComplete f s words count table at list → s ≡ Listed n → n ≤ length list
+finish-listed {list = list} {n = n} h q =
+    let l : Listing (Listed n) (h .d) list = subst (λ i. Listing i (h .d) list) q (h .gathers .listing) in
+    l .1 .1 .1

@@ -4,8 +4,8 @@ use mathlib.Core.Bool.{Bool, true, false, _&&_}
 use mathlib.Core.List.{List, _++_}
 use mathlib.Core.Path.{_≡_, refl, sym, ap, ap₂, _∙_, subst}
 use lib.Dec.{leb}
-use lib.ListN.{length, take, drop}
-use lib.Seq.{sets, paste, length-take-le}
+use lib.ListN.{length, drop}
+use lib.Seq.{sets, paste, take-length}
 use native.Mathlib.Nat.{zero-add}
 use native.Mathlib.Omega.{arith}
 use borrow.Author.Tests.{le-leb, lt-leb}
@@ -30,16 +30,15 @@ use Rattle.shifting.specs.Passing.{lateBy, Shifts}
 use Rattle.ending.specs.Endings.{fitted, too-large, not-too-large}
 use Rattle.ending.specs.Hands.{Hands, hands-refused, hands-accepted}
 
--- the lines are gathered in a whole table, and the list has n signals at least
-pub record Assemblable (words : List ℕ) (count : ℕ) (table : List ℕ) (at : ℕ) (list : List ℕ) (n : ℕ) : Type 0 where
+-- the lines are gathered in a whole table, and the list has signals as a text may have
+pub record Assemblable (words : List ℕ) (count : ℕ) (table : List ℕ) (at : ℕ) (list : List ℕ) : Type 0 where
   pub gathered : SomeGathered words count table at
-  pub few : n ≤ maxSignals
-  pub listed : n ≤ length list
+  pub few : length list ≤ maxSignals
 
--- 16, 18, or a formula that was written to a table up to m and the list's first n words
-pub record Delivers (whole : List ℕ) (m : ℕ) (list : List ℕ) (n : ℕ) (nodes signals nodes′ signals′ : List ℕ) (r : Answer) : Type 0 where
+-- 16, 18, or a formula that was written to a table up to m and the list
+pub record Delivers (whole : List ℕ) (m : ℕ) (list : List ℕ) (nodes signals nodes′ signals′ : List ℕ) (r : Answer) : Type 0 where
   pub delivers : {f : Formula} {before : List ℕ} → length before ≡ maxNodes → Wrote f before whole 0 m
-      → Hands (fitted f (take n list) >>= delivered (length nodes) (length signals)) nodes signals nodes′ signals′ r
+      → Hands (fitted f list >>= delivered (length nodes) (length signals)) nodes signals nodes′ signals′ r
 
 -- what is made of the formula, by the signal list: nothing; an X above each output, or above each input
 abbrev pub asExpanded : List ℕ → Formula → Formula
@@ -48,11 +47,11 @@ asExpanded list f = f
 abbrev pub asShifted : Bool → List ℕ → Formula → Formula
 asShifted outputs list f = shifted (lateBy outputs list) f
 
--- of whatever sections the lines are: what is made of their formula, with the list's first n words
-pub record HandsOver (make : List ℕ → Formula → Formula) (strict : Bool) (words : List ℕ) (count : ℕ) (table : List ℕ) (at : ℕ) (list : List ℕ) (n : ℕ)
+-- of whatever sections the lines are: what is made of their formula, with the list
+pub record HandsOver (make : List ℕ → Formula → Formula) (strict : Bool) (words : List ℕ) (count : ℕ) (table : List ℕ) (at : ℕ) (list : List ℕ)
     (nodes signals nodes′ signals′ : List ℕ) (r : Answer) : Type 0 where
   pub hands : (ss : Sections) → Gathered (inTurn ss) words count table at
-      → Hands (fitted (make (take n list) (whole strict (section ss))) (take n list) >>= delivered (length nodes) (length signals)) nodes signals nodes′ signals′ r
+      → Hands (fitted (make list (whole strict (section ss))) list >>= delivered (length nodes) (length signals)) nodes signals nodes′ signals′ r
 
 and-stop : (a b : Bool) → b ≡ false → (a && b) ≡ false
 and-stop true b e = e
@@ -91,38 +90,34 @@ module _ {f : Formula} {out out′ : List ℕ} {m : ℕ} (w : Wrote f out out′
         (subst (λ k. Hands R nodes signals (nodesFrom 0 f ++ drop (size f) nodes) S (Accepted k (length list))) (sym n) (hands-accepted nodes signals done))
 
 -- the same of whatever formula was written
-module _ {whole : List ℕ} {m : ℕ} (list : List ℕ) (n : ℕ) (nodes signals : List ℕ) where
-  pub deliver-large : maxNodes < m → Delivers whole m list n nodes signals nodes signals (Answer.Refused 16 0)
-  deliver-large h = record { delivers = λ l w. formula-large w (take n list) nodes signals h }
+module _ {whole : List ℕ} {m : ℕ} (list : List ℕ) (nodes signals : List ℕ) where
+  pub deliver-large : maxNodes < m → Delivers whole m list nodes signals nodes signals (Answer.Refused 16 0)
+  deliver-large h = record { delivers = λ l w. formula-large w list nodes signals h }
 
   module _ (h : m ≤ maxNodes) where
-    pub deliver-nodes : length nodes < m → Delivers whole m list n nodes signals nodes signals (Answer.Refused 18 0)
-    deliver-nodes s = record { delivers = λ l w. nodes-short w (take n list) nodes signals h s }
+    pub deliver-nodes : length nodes < m → Delivers whole m list nodes signals nodes signals (Answer.Refused 18 0)
+    deliver-nodes s = record { delivers = λ l w. nodes-short w list nodes signals h s }
 
-    module _ (k : n ≤ length list) where
-      pub deliver-signals : length signals < n → Delivers whole m list n nodes signals nodes signals (Answer.Refused 18 0)
-      deliver-signals s = record { delivers = λ l w. let t = length-take-le n list k in signals-short w (take n list) nodes signals h (omega arith) }
+    pub deliver-signals : length signals < length list → Delivers whole m list nodes signals nodes signals (Answer.Refused 18 0)
+    deliver-signals s = record { delivers = λ l w. signals-short w list nodes signals h s }
 
-      pub deliver-all : {nodes′ signals′ : List ℕ} → m ≤ length nodes → n ≤ length signals → nodes′ ≡ sets nodes 0 (moves 0 0 m whole) → signals′ ≡ paste signals 0 list n
-          → Delivers whole m list n nodes signals nodes′ signals′ (Accepted m n)
-      deliver-all {nodes′} {signals′} p q c d = record {
-        delivers = λ {f} l w.
-            let t = length-take-le n list k in
-            let copied : paste signals 0 list n ≡ take n list ++ drop n signals = ap (λ i. take n list ++ drop i signals) (zero-add n) in
-            let R = fitted f (take n list) >>= delivered (length nodes) (length signals) in
-            let here = formula-handed w (take n list) nodes signals h l p (omega arith) in
-            subst (λ N. Hands R nodes signals N signals′ (Accepted m n)) (sym c)
-            (subst (λ S. Hands R nodes signals (sets nodes 0 (moves 0 0 m whole)) S (Accepted m n)) (sym (d ∙ copied))
-            (subst (λ i. Hands R nodes signals (sets nodes 0 (moves 0 0 m whole)) (take n list ++ drop i signals) (Accepted m i)) t here));
-      }
+    pub deliver-all : {nodes′ signals′ : List ℕ} → m ≤ length nodes → length list ≤ length signals → nodes′ ≡ sets nodes 0 (moves 0 0 m whole) → signals′ ≡ paste signals 0 list (length list)
+        → Delivers whole m list nodes signals nodes′ signals′ (Accepted m (length list))
+    deliver-all {nodes′} {signals′} p q c d = record {
+      delivers = λ {f} l w.
+          let R = fitted f list >>= delivered (length nodes) (length signals) in
+          let copied : paste signals 0 list (length list) ≡ list ++ drop (length list) signals = ap₂ (λ a i. a ++ drop i signals) (take-length list) (zero-add (length list)) in
+          subst (λ N. Hands R nodes signals N signals′ (Accepted m (length list))) (sym c)
+          (subst (λ S. Hands R nodes signals (sets nodes 0 (moves 0 0 m whole)) S (Accepted m (length list))) (sym (d ∙ copied)) (formula-handed w list nodes signals h l p q));
+    }
 
 -- .. and of the sections, as they are assembled, or with the X
 module _ {strict : Bool} {words : List ℕ} {count : ℕ} {table : List ℕ} {at : ℕ} {out whole′ : List ℕ} {m : ℕ} (a : Assembles strict words count table at out whole′ m) (l : length out ≡ maxNodes)
-    {list : List ℕ} {n : ℕ} {nodes signals nodes′ signals′ : List ℕ} {r : Answer} where
-  pub hands-expanded : Delivers whole′ m list n nodes signals nodes′ signals′ r → HandsOver asExpanded strict words count table at list n nodes signals nodes′ signals′ r
+    {list nodes signals nodes′ signals′ : List ℕ} {r : Answer} where
+  pub hands-expanded : Delivers whole′ m list nodes signals nodes′ signals′ r → HandsOver asExpanded strict words count table at list nodes signals nodes′ signals′ r
   hands-expanded d = record { hands = λ ss g. d .delivers l (a ss g) }
 
-  pub hands-shifted : (outputs : Bool) {before out′ : List ℕ} {k : ℕ} → length before ≡ maxNodes → Shifts (lateBy outputs (take n list)) whole′ m before out′ k
-      → Delivers out′ k list n nodes signals nodes′ signals′ r
-      → HandsOver (asShifted outputs) strict words count table at list n nodes signals nodes′ signals′ r
+  pub hands-shifted : (outputs : Bool) {before out′ : List ℕ} {k : ℕ} → length before ≡ maxNodes → Shifts (lateBy outputs list) whole′ m before out′ k
+      → Delivers out′ k list nodes signals nodes′ signals′ r
+      → HandsOver (asShifted outputs) strict words count table at list nodes signals nodes′ signals′ r
   hands-shifted outputs e s d = record { hands = λ ss g. d .delivers e (s .shifts l (a ss g)) }

@@ -1,6 +1,7 @@
 // The end of the reading: the conversion of a text that targets the other model, 15, 16, 18, and what is handed over.
 // `finish` asks for the lines of a text with their nodes in the table and for the signal list, which `read`, its only caller, has at hand.
 use assembly::assemble;
+use assembly::implied::Ends;
 use basics::copy_words;
 use node::Answer;
 use node::MAX_NODES;
@@ -20,18 +21,18 @@ ghost use Rattle.ending.specs.Finishing.{Complete, SomeComplete, Finishe
 // The model Moore in what INFO says.
 const MOORE: u32 = 1;
 
-// 16 and 18, or a formula's nodes, which were written to a table up to m, and the first n words of the list. It asks for so many words.
+// 16 and 18, or a formula's nodes, which were written to a table up to m, and the signal list.
 fn deliver(
     whole: &[u32; MAX_NODES],
     m: usize,
     list: &[u32],
-    n: usize,
     nodes: &mut [u32],
     signals: &mut [u32],
 ) -> Answer
-    requires { ⌜ (n ≤ maxSignals) × (n ≤ length (now list)) ⌝ }
-    ensures { λ r. ⌜ Delivers (now (whole .entry)) m (now (list .entry)) n (now (nodes .entry)) (now (signals .entry)) (now (nodes .exit)) (now (signals .exit)) r ⌝ }
+    requires { ⌜ length (now list) ≤ maxSignals ⌝ }
+    ensures { λ r. ⌜ Delivers (now (whole .entry)) m (now (list .entry)) (now (nodes .entry)) (now (signals .entry)) (now (nodes .exit)) (now (signals .exit)) r ⌝ }
 {
+    let n = list.len();
     if MAX_NODES < m {
         return Answer::Refused(refusals::TOO_MANY_NODES, 0);
     }
@@ -46,25 +47,23 @@ fn deliver(
     Answer::Accepted(m as u32, n as u32)
 }
 
-// The whole formula of the lines, handed over. Lines that fit their table may make a formula that does not.
+// The whole formula of the lines, handed over with the signal list. Lines that fit their table may make a formula that does not.
 fn hand_over(
     strict: bool,
     lines: &[u32],
-    count: usize,
+    ends: Ends,
     table: &[u32; MAX_NODES],
-    at: usize,
     list: &[u32],
-    n: usize,
     nodes: &mut [u32],
     signals: &mut [u32],
 ) -> Answer
-    requires { ⌜ Assemblable (now lines) count (now table) at (now list) n ⌝ }
-    ensures { λ r. ⌜ HandsOver asExpanded strict (now (lines .entry)) count (now (table .entry)) at (now (list .entry)) n (now (nodes .entry)) (now (signals .entry)) (now (nodes .exit))
-        (now (signals .exit)) r ⌝ }
+    requires { ⌜ Assemblable (now lines) (ends .count) (now table) (ends .at) (now list) ⌝ }
+    ensures { λ r. ⌜ HandsOver asExpanded strict (now (lines .entry)) (ends .count) (now (table .entry)) (ends .at) (now (list .entry)) (now (nodes .entry)) (now (signals .entry))
+        (now (nodes .exit)) (now (signals .exit)) r ⌝ }
 {
     let mut whole = [0u32; MAX_NODES];
-    let m = assemble(strict, lines, count, table, at, &mut whole);
-    deliver(&whole, m, list, n, nodes, signals)
+    let m = assemble(strict, lines, ends.count, table, ends.at, &mut whole);
+    deliver(&whole, m, list, nodes, signals)
 }
 
 // The same with an X above each output, or above each input.
@@ -72,23 +71,21 @@ fn hand_over_shifted(
     outputs: bool,
     strict: bool,
     lines: &[u32],
-    count: usize,
+    ends: Ends,
     table: &[u32; MAX_NODES],
-    at: usize,
     list: &[u32],
-    n: usize,
     nodes: &mut [u32],
     signals: &mut [u32],
 ) -> Answer
-    requires { ⌜ Assemblable (now lines) count (now table) at (now list) n ⌝ }
-    ensures { λ r. ⌜ HandsOver (asShifted outputs) strict (now (lines .entry)) count (now (table .entry)) at (now (list .entry)) n (now (nodes .entry)) (now (signals .entry)) (now (nodes .exit))
-        (now (signals .exit)) r ⌝ }
+    requires { ⌜ Assemblable (now lines) (ends .count) (now table) (ends .at) (now list) ⌝ }
+    ensures { λ r. ⌜ HandsOver (asShifted outputs) strict (now (lines .entry)) (ends .count) (now (table .entry)) (ends .at) (now (list .entry)) (now (nodes .entry)) (now (signals .entry))
+        (now (nodes .exit)) (now (signals .exit)) r ⌝ }
 {
     let mut whole = [0u32; MAX_NODES];
-    let m = assemble(strict, lines, count, table, at, &mut whole);
+    let m = assemble(strict, lines, ends.count, table, ends.at, &mut whole);
     let mut shifted = [0u32; MAX_NODES];
-    let k = shift(&whole, m, &list[..n], outputs, &mut shifted);
-    deliver(&shifted, k, list, n, nodes, signals)
+    let k = shift(&whole, m, list, outputs, &mut shifted);
+    deliver(&shifted, k, list, nodes, signals)
 }
 
 // 15, which comes behind the refusals of all lines, and what follows it.
@@ -96,41 +93,28 @@ pub fn finish(
     facts: Facts,
     listed: Signals,
     lines: &[u32],
-    count: usize,
+    ends: Ends,
     table: &[u32; MAX_NODES],
-    at: usize,
     list: &[u32],
     nodes: &mut [u32],
     signals: &mut [u32],
 ) -> Answer
-    requires { ⌜ SomeComplete facts listed (now lines) count (now table) at (now list) ⌝ }
-    ensures { λ r. ⌜ ((x : Spec) (d : Declarations) → Complete facts listed (now (lines .entry)) count (now (table .entry)) at (now (list .entry)) x d
+    requires { ⌜ SomeComplete facts listed (now lines) (ends .count) (now table) (ends .at) (now list) ⌝ }
+    ensures { λ r. ⌜ ((x : Spec) (d : Declarations) → Complete facts listed (now (lines .entry)) (ends .count) (now (table .entry)) (ends .at) (now (list .entry)) x d
         → Finishes x d (now (nodes .entry)) (now (signals .entry)) (now (nodes .exit)) (now (signals .exit)) r) ⌝ }
 {
     match listed {
         Signals::Listed(n) => {
             if facts.semantics == facts.target {
-                return hand_over(
-                    facts.strict,
-                    lines,
-                    count,
-                    table,
-                    at,
-                    list,
-                    n,
-                    nodes,
-                    signals,
-                );
+                return hand_over(facts.strict, lines, ends, table, &list[..n], nodes, signals);
             }
             hand_over_shifted(
                 facts.target == MOORE,
                 facts.strict,
                 lines,
-                count,
+                ends,
                 table,
-                at,
-                list,
-                n,
+                &list[..n],
                 nodes,
                 signals,
             )

@@ -1,22 +1,18 @@
 -- A connective: its left operand, its right operand.
 use Prim.Native.Nat.{ℕ, zero, suc, _+_, _-_, _≤_, _<_, min}
-use mathlib.Core.List.{List, [], _∷_, _++_, append-assoc}
+use mathlib.Core.List.{List, _++_}
 use mathlib.Core.Option.{some}
 use mathlib.Core.Path.{_≡_, refl, sym, ap, _∙_, subst}
 use native.Mathlib.Omega.{arith}
-use native.Mathlib.Decide.{decLt}
-use lib.ListN.{getD, length-append}
+use lib.ListN.{getD}
 use Rattle.node.specs.Limits.{maxNodes}
 use Rattle.node.specs.Operators.{Binary, And, Or, Implies, Iff, U, R, W}
 use Rattle.node.specs.Ltl.{Formula, Two}
-use Rattle.node.specs.Fields.{pack}
 use Rattle.node.specs.Kinds.{binaryKind}
-use Rattle.node.specs.Postorder.{size, nodesFrom}
-use Rattle.node.specs.PostorderLaws.{length-nodes}
 use Rattle.node.specs.Result.{Result, Done, _>>=_}
 use Rattle.node.specs.ResultLaws.{bind-at}
 use Rattle.writing.specs.Writing.{Wrote, Joins}
-use Rattle.writing.specs.WritingLaws.{after, puts-as, ends, past}
+use Rattle.writing.specs.StayLaws.{two-stays}
 use Rattle.language.specs.Operators.{Connects}
 use Rattle.language.specs.Tree.{Expr}
 use Rattle.language.specs.Expansion.{expansion}
@@ -35,7 +31,7 @@ use Rattle.machine.specs.Operators.{Between, OpAt}
 use Rattle.machine.specs.OperatorLaws.{op-binary}
 use Rattle.machine.specs.Memory.{Framed}
 use Rattle.machine.specs.Telling.{isNodes}
-use Rattle.machine.specs.TableLaws.{Stays, laid-last, laid-end, wrote-capped}
+use Rattle.machine.specs.TableLaws.{laid-last, laid-end, wrote-capped}
 use Rattle.machine.specs.States.{modeOf, Ready, Steps, Takes, ToppedToWrite, TakesToWrite}
 use Rattle.machine.specs.StateLaws.{entered}
 use Rattle.machine.specs.EnterLaws.{came, wrote}
@@ -45,7 +41,7 @@ use Rattle.machine.specs.TakeLaws.{words, entry-word, value-word, refuses, top-
 use Rattle.machine.specs.Openings.{Opened}
 use Rattle.machine.specs.OpenLaws.{opens}
 use Rattle.machine.specs.FlatLaws.{popped}
-use Rattle.machine.specs.FormulaLaws.{more-stays, formula-laid, retains, finishes}
+use Rattle.machine.specs.FormulaLaws.{formula-laid, retains, finishes}
 use Rattle.machine.specs.BindLaws.{take-formula, then-nodes}
 use Rattle.machine.specs.OperandLaws.{operand-as, two-operands}
 use Rattle.machine.specs.declared.Machine.{Machine}
@@ -172,29 +168,6 @@ module _ {s : Source} {mem : List ℕ} {m : Machine} (w : Waiting mem m 19) wher
           same = ap (apply (LeftFormula op c b)) (g .same) ∙ bind-at (g .formula) (λ y. works Expand c b >>= connected op y);
         });
   }
-
--- the operator is put behind its operands' nodes
-two-stays : (o : Binary) {f g : Formula} {table middle out out′ : List ℕ} {at m n r : ℕ} → Wrote f table middle at m → Wrote g middle out m n → Wrote (Two o f g) table out′ at r → Stays out out′ n r
-unfolding nodesFrom size
-two-stays o {f} {g} {table} {middle} {out} {out′} {at} {m} {n} {r} u v w =
-    let last : List ℕ = pack (binaryKind o) (at + size f - 1) (at + size f + size g - 1) ∷ [] in
-    let a = length-nodes (at + size f) g in
-    let b = length-nodes m g in
-    more-stays last (after (u .puts) (v .puts))
-    (puts-as
-    (let j = length-append (nodesFrom at f) (nodesFrom (at + size f) g ++ last) in
-    let k = length-append (nodesFrom (at + size f) g) last in
-    let x = length-append (nodesFrom at f ++ nodesFrom m g) last in
-    let y = length-append (nodesFrom at f) (nodesFrom m g) in
-    omega arith)
-    (λ h.
-    let z : m ≡ at + size f = whole h (decLt maxNodes m) in
-    sym (append-assoc (nodesFrom at f) (nodesFrom (at + size f) g) last) ∙ ap (λ (j : ℕ). (nodesFrom at f ++ nodesFrom j g) ++ last) (sym z))
-    (w .puts))
-  where
-    whole : r ≤ maxNodes → Dec (maxNodes < m) → m ≡ at + size f
-    whole h (yes l) = absurd (let e = ends w h in let p = past u l in omega arith)
-    whole h (no l) = ends u (omega arith)
 
 -- the right operand has come
 module _ {s : Source} {mem out : List ℕ} {m : Machine} (w : Waiting mem m 20) where

@@ -1,8 +1,8 @@
 -- true and false.
 use Prim.Native.Nat.{ℕ, suc, _≤_, _<_, min}
-use mathlib.Core.Bool.{Bool, true, false}
+use mathlib.Core.Bool.{Bool}
 use mathlib.Core.List.{List}
-use mathlib.Core.Path.{_≡_, refl, ap, _∙_, subst}
+use mathlib.Core.Path.{_≡_, ap, _∙_, subst}
 use native.Mathlib.Omega.{arith}
 use lib.Dec.{eqb}
 use lib.ListN.{length}
@@ -27,10 +27,7 @@ use Rattle.machine.specs.EnterLaws.{wrote, writes, entry-few}
 use Rattle.machine.specs.declared.Machine.{Machine}
 use Rattle.machine.specs.declared.Move.the-variants.{Next}
 use Rattle.machine.specs.Entering.{Expands, works-formula, operand-shape}
-
-same-truth : (b : Bool) → Writing.truth b ≡ Expansion.truth b
-same-truth true = refl
-same-truth false = refl
+use Rattle.machine.specs.SameLaws.{same-truth}
 
 -- the entry's words can be read
 pub written-entry : {s : Source} {mem out : List ℕ} {m : Machine} → ReadyToWrite s mem out m → m .mode ≤ 1 → (m .value < maxTokens) × (workBytes ≤ length (s .work))

@@ -9,13 +9,14 @@ use Rattle.language.specs.Tree.{Part, Spec}
 use Rattle.language.specs.Declared.{Declarations}
 use Rattle.language.specs.Lines.{Line, lines}
 use Rattle.language.specs.Expansion.{gather, defineAll, atSignals, expandSection, section, whole, expand}
-use Rattle.operands.specs.Working.{Source, State}
-use Rattle.expander.specs.Expanding.{Tables}
+use Rattle.operands.specs.Working.{Source}
 use Rattle.assembly.specs.Gathered.{inTurn, GatheredFrom, SomeGathered}
 use Rattle.assembly.specs.Layout.{Assembles}
 use Rattle.assembly.specs.ExpandLaws.{linesInTurn, Expands, expands, expand-refused}
-use Rattle.lines.specs.Gathering.{Answered}
+use Rattle.assembly.specs.declared.implied.Ports.{Ports}
+use Rattle.lines.specs.Gathering.{Buffers, Answered}
 use Rattle.lines.specs.Whole.{Given, SomeGiven, Gathers}
+use Rattle.lines.specs.declared.Plan.{Plan}
 use Rattle.lines.specs.declared.Gathering.{Gathering}
 use Rattle.lines.specs.declared.Gathering.the-variants.{Lines}
 
@@ -25,28 +26,25 @@ expansion-of x d ls e =
     let b = bind-done (gather (expandSection (defineAll (atSignals d) (x .definitions))) ls) (λ ss. Done (inTurn ss)) e in
     (whole (x .strict) (section (b .0)), bind-to _ _ (λ ss. Done (whole (x .strict) (section ss))) (b .1))
 
-module _ {s : Source} {st : State} {b : Tables} {table′ words words′ enumerations order : List ℕ} {entries ins ports : ℕ} {r : Gathering}
-    (g : Gathers s st b table′ words words′ enumerations order entries ins ports r) where
-  answer-is : {a : Gathering} → r ≡ a → {x : Spec} {d : Declarations} → Given s st b words enumerations order entries ins ports x d
-      → Answered (λ n m all. GatheredFrom (b .at) all words′ n table′ m) a (linesInTurn x d (lines x d))
-  answer-is e {x} {d} h = subst (λ a. Answered (λ n m all. GatheredFrom (b .at) all words′ n table′ m) a (linesInTurn x d (lines x d))) e (g .says h)
+module _ {s : Source} {b : Buffers} {table′ words′ : List ℕ} {ports : Ports} {plan : Plan} {r : Gathering} (g : Gathers s b table′ words′ ports plan r) where
+  answer-is : {a : Gathering} → r ≡ a → {x : Spec} {d : Declarations} → Given s b ports plan x d → Answered (λ n m all. GatheredFrom (plan .start) all words′ n table′ m) a (linesInTurn x d (lines x d))
+  answer-is e {x} {d} h = subst (λ a. Answered (λ n m all. GatheredFrom (plan .start) all words′ n table′ m) a (linesInTurn x d (lines x d))) e (g .says h)
 
   -- a refusal is that of the expansion
-  pub expansion-refused : {n p : ℕ} → r ≡ Gathering.Refused n p → {x : Spec} {d : Declarations} → Given s st b words enumerations order entries ins ports x d → expand x d (lines x d) ≡ Refused n p
+  pub expansion-refused : {n p : ℕ} → r ≡ Gathering.Refused n p → {x : Spec} {d : Declarations} → Given s b ports plan x d → expand x d (lines x d) ≡ Refused n p
   expansion-refused e {x} {d} h = expand-refused x d (lines x d) (answer-is e h .says)
 
   module _ {n m : ℕ} (e : r ≡ Lines n m) where
     -- otherwise there is an expansion
-    pub expansion-is : {x : Spec} {d : Declarations} → Given s st b words enumerations order entries ins ports x d → (f : Formula) × (expand x d (lines x d) ≡ Done f)
+    pub expansion-is : {x : Spec} {d : Declarations} → Given s b ports plan x d → (f : Formula) × (expand x d (lines x d) ≡ Done f)
     expansion-is {x} {d} h = expansion-of x d (lines x d) (answer-is e h .says .are)
 
     -- and where the lines stand from the table's start, they may be put together to it
-    module _ (start : b .at ≡ 0) where
-      pub some-gathered : SomeGiven s st b words enumerations order entries ins ports → SomeGathered words′ n table′ m
+    module _ (start : plan .start ≡ 0) where
+      pub some-gathered : SomeGiven s b ports plan → SomeGathered words′ n table′ m
       some-gathered t = let f = answer-is e (t .given) .says in record { some = f .all; gathered = subst (λ k. GatheredFrom k (f .all) words′ n table′ m) start (f .told) }
 
-      pub expansion-assembled : {x : Spec} {d : Declarations} → Given s st b words enumerations order entries ins ports x d → {out out′ : List ℕ} {k : ℕ}
-          → Assembles (x .strict) words′ n table′ m out out′ k
+      pub expansion-assembled : {x : Spec} {d : Declarations} → Given s b ports plan x d → {out out′ : List ℕ} {k : ℕ} → Assembles (x .strict) words′ n table′ m out out′ k
           → Expands (expand x d (lines x d)) out out′ k
       expansion-assembled {x} {d} h a =
           let f = answer-is e h .says in

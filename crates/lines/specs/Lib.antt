@@ -8,7 +8,6 @@ pub mod LineLaws
 pub mod WalkLaws
 pub mod Whole
 pub mod WholeLaws
-pub mod WorldLaws
+pub mod BeginLaws
 pub mod PortLaws
-pub mod SignalLaws
 pub mod ExpandedLaws

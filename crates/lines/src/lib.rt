@@ -4,16 +4,23 @@ use assembly::ASSERT;
 use assembly::REQUIRE;
 use assembly::add_line;
 use assembly::implied::Ends;
+use assembly::implied::Ports;
+use assembly::implied::Span;
 use assembly::implied::implied;
 use entries::kinds;
-use expander::Written;
-use expander::formulas::formula_at;
+use machine_run::Written;
+use machine_run::formula_of;
 use node::MAX_NODES;
 use traversal::cell_at;
-ghost use Rattle.operands.specs.Working.{source, state};
-ghost use Rattle.expander.specs.Expanding.{tables};
-ghost use Rattle.lines.specs.Gathering.{Sizes, SomeLine, WritesLine, SomeTree, WritesLines};
+ghost use Prim.Native.Nat.{ℕ};
+ghost use mathlib.Core.Path.{_≡_};
+ghost use lib.ListN.{length};
+ghost use Rattle.node.specs.Limits.{maxNodes};
+ghost use Rattle.operands.specs.Working.{source};
+ghost use Rattle.lines.specs.Gathering.{buffers, Sizes, SomeLine, WritesLine, SomeTree, WritesLines};
 ghost use Rattle.lines.specs.Whole.{SomeGiven, Gathers};
+ghost use Rattle.lines.specs.declared.Gathering.{Gathering as Result};
+ghost use Rattle.machine_run.specs.declared.Written.{Written as Answered};
 
 // The number of the first part's heading.
 const FIRST_PART: u32 = 2;
@@ -24,57 +31,60 @@ pub enum Gathering {
     Refused(u32, u32),
 }
 
-// The line whose expression's own entry is entry k, behind `count` lines that end at `at`.
+// A refusal handed up.
+fn refused(written: Written) -> Gathering
+    ensures { λ r. ⌜ ((n p : ℕ) → written ≡ Answered.Refused n p → r ≡ Result.Refused n p) ⌝ }
+{
+    let Written::Refused(number, place) = written else {
+        return Gathering::Refused(0, 0);
+    };
+    Gathering::Refused(number, place)
+}
+
+fn len(words: &[u32]) -> usize
+    ensures { λ r. ⌜ r ≡ length (now (words .entry)) ⌝ }
+{
+    words.len()
+}
+
+// A table has 8,192 words, by its type. The machine asks for that, and it is known of a table once it is lent as a slice.
+fn whole(table: &[u32; MAX_NODES])
+    ensures { λ _. ⌜ length (now (table .entry)) ≡ maxNodes ⌝ }
+{
+    len(table);
+}
+
+// Where a line is: in a text of so many entries, under the heading of that number, with its expression's own entry at k.
+struct Place {
+    entries: usize,
+    heading: u32,
+    k: usize,
+}
+
+// One line behind others.
 fn line(
     text: &[u8],
     work: &[u8],
     refs: &[u16],
-    sorts: &mut [u8],
-    numbers: &mut [u32],
-    kept: &mut [u32],
-    slots: &mut [u32],
-    firsts: &[u32],
-    written: &mut [u32],
-    out: &mut [u32],
+    memory: &mut [u32],
     table: &mut [u32; MAX_NODES],
     lines: &mut [u32],
-    entries: usize,
-    part: u32,
-    k: usize,
-    count: usize,
-    at: usize,
+    here: Place,
+    e: Ends,
 ) -> Gathering
-    requires { ⌜ Sizes (source (now text) (now work) (now refs)) (state (now sorts) (now numbers) (now kept) (now slots)) (tables (now firsts) (now written) (now table) at) (now out) (now lines) ⌝ }
-    requires { ⌜ SomeLine (source (now text) (now work) (now refs)) (state (now sorts) (now numbers) (now kept) (now slots)) (tables (now firsts) (now written) (now table) at) (now lines) count
-        entries part k ⌝ }
-    ensures { λ r. ⌜ WritesLine (source (now (text .entry)) (now (work .entry)) (now (refs .entry))) (state (now (sorts .entry)) (now (numbers .entry)) (now (kept .entry)) (now (slots .entry)))
-        (state (now (sorts .exit)) (now (numbers .exit)) (now (kept .exit)) (now (slots .exit))) (tables (now (firsts .entry)) (now (written .entry)) (now (table .entry)) at) (now (written .exit))
-        (now (table .exit)) (now (lines .entry)) (now (lines .exit)) count entries part k r ⌝ }
+    requires { ⌜ Sizes (source (now text) (now work) (now refs)) (now memory) (now lines) (here .entries) ⌝ }
+    requires { ⌜ SomeLine (source (now text) (now work) (now refs)) (buffers (now memory) (now table) (now lines)) here e ⌝ }
+    ensures { λ r. ⌜ WritesLine (source (now (text .entry)) (now (work .entry)) (now (refs .entry))) (buffers (now (memory .entry)) (now (table .entry)) (now (lines .entry)))
+        (buffers (now (memory .exit)) (now (table .exit)) (now (lines .exit))) here e r ⌝ }
 {
-    let w = formula_at(
-        text,
-        work,
-        refs,
-        sorts,
-        numbers,
-        kept,
-        slots,
-        firsts,
-        written,
-        out,
-        table,
-        0,
-        0,
-        k,
-        at,
-    );
-    match w {
-        Written::At(next) => {
-            let more = add_line(part - FIRST_PART, at, next, lines, count);
-            Gathering::Lines(more, next)
-        }
-        Written::Refused(number, place) => Gathering::Refused(number, place),
-    }
+    whole(table);
+    let at = e.at;
+    let w = formula_of(text, work, refs, memory, table, here.entries, here.k, at);
+    let Written::At(next) = w else {
+        return refused(w);
+    };
+    let more = add_line(here.heading - FIRST_PART, at, next, lines, e.count);
+    Gathering::Lines(more, next)
 }
 
 // The written lines, in one walk over the entries.
@@ -82,143 +92,104 @@ fn written_lines(
     text: &[u8],
     work: &[u8],
     refs: &[u16],
-    sorts: &mut [u8],
-    numbers: &mut [u32],
-    kept: &mut [u32],
-    slots: &mut [u32],
-    firsts: &[u32],
-    written: &mut [u32],
-    out: &mut [u32],
+    memory: &mut [u32],
     table: &mut [u32; MAX_NODES],
     lines: &mut [u32],
     entries: usize,
     start: usize,
 ) -> Gathering
-    requires { ⌜ Sizes (source (now text) (now work) (now refs)) (state (now sorts) (now numbers) (now kept) (now slots)) (tables (now firsts) (now written) (now table) start) (now out) (now lines) ⌝ }
-    requires { ⌜ SomeTree (source (now text) (now work) (now refs)) (state (now sorts) (now numbers) (now kept) (now slots)) (tables (now firsts) (now written) (now table) start) (now lines) entries
-        ⌝ }
-    ensures { λ r. ⌜ WritesLines (source (now (text .entry)) (now (work .entry)) (now (refs .entry))) (state (now (sorts .entry)) (now (numbers .entry)) (now (kept .entry)) (now (slots .entry)))
-        (state (now (sorts .exit)) (now (numbers .exit)) (now (kept .exit)) (now (slots .exit))) (tables (now (firsts .entry)) (now (written .entry)) (now (table .entry)) start) (now (written .exit))
-        (now (table .exit)) (now (lines .entry)) (now (lines .exit)) entries r ⌝ }
+    requires { ⌜ Sizes (source (now text) (now work) (now refs)) (now memory) (now lines) entries ⌝ }
+    requires { ⌜ SomeTree (source (now text) (now work) (now refs)) (buffers (now memory) (now table) (now lines)) entries start ⌝ }
+    ensures { λ r. ⌜ WritesLines (source (now (text .entry)) (now (work .entry)) (now (refs .entry))) (buffers (now (memory .entry)) (now (table .entry)) (now (lines .entry)))
+        (buffers (now (memory .exit)) (now (table .exit)) (now (lines .exit))) entries start r ⌝ }
 {
-    let mut part: u32 = 0;
-    let mut count: usize = 0;
-    let mut at = start;
+    whole(table);
+    let mut heading: u32 = 0;
+    let mut e = Ends {
+        at: start,
+        count: 0,
+    };
     let mut i: usize = 0;
     while i < entries {
         let c = cell_at(work, i);
         if c.kind == kinds::HEADING {
-            part = c.size;
+            heading = c.size;
             i += 1;
             continue;
         }
         if c.kind == kinds::LINE {
-            let r = line(
-                text,
-                work,
-                refs,
-                sorts,
-                numbers,
-                kept,
-                slots,
-                firsts,
-                written,
-                out,
-                table,
-                lines,
+            let k = i - 1;
+            let here = Place {
                 entries,
-                part,
-                i - 1,
-                count,
-                at,
-            );
+                heading,
+                k,
+            };
+            let r = line(text, work, refs, memory, table, lines, here, e);
             let Gathering::Lines(more, next) = r else {
                 return r;
             };
-            count = more;
-            at = next;
+            e = Ends {
+                at: next,
+                count: more,
+            };
             i += 1;
             continue;
         }
         i += 1;
     }
-    Gathering::Lines(count, at)
+    Gathering::Lines(e.count, e.at)
 }
 
-// All lines: the written ones, then the implied ones of the inputs and of the outputs. The ports stand in `order` and `enumerations`, the first `ins` of them inputs;
-// formulas go into the table from `start` on, 0, or 8,193 where they are worked through for their refusals alone.
+// How many entries the text has and how many ports, the first `ins` of them inputs. Formulas go into the table from `start` on, 0, or 8,193 where they are worked through
+// for their refusals alone.
+pub struct Plan {
+    pub entries: usize,
+    pub ins: usize,
+    pub count: usize,
+    pub start: usize,
+}
+
+// All lines: the written ones, then the implied ones of the inputs and of the outputs.
 pub fn gather(
     text: &[u8],
     work: &[u8],
     refs: &[u16],
-    sorts: &mut [u8],
-    numbers: &mut [u32],
-    kept: &mut [u32],
-    slots: &mut [u32],
-    enumerations: &[u16],
-    order: &[u16],
-    firsts: &[u32],
-    written: &mut [u32],
-    out: &mut [u32],
+    memory: &mut [u32],
     table: &mut [u32; MAX_NODES],
     lines: &mut [u32],
-    entries: usize,
-    ins: usize,
-    ports: usize,
-    start: usize,
+    ports: Ports,
+    plan: Plan,
 ) -> Gathering
-    requires { ⌜ Sizes (source (now text) (now work) (now refs)) (state (now sorts) (now numbers) (now kept) (now slots)) (tables (now firsts) (now written) (now table) start) (now out) (now lines) ⌝ }
-    requires { ⌜ SomeGiven (source (now text) (now work) (now refs)) (state (now sorts) (now numbers) (now kept) (now slots)) (tables (now firsts) (now written) (now table) start) (now lines)
-        (now enumerations) (now order) entries ins ports ⌝ }
-    ensures { λ r. ⌜ Gathers (source (now (text .entry)) (now (work .entry)) (now (refs .entry))) (state (now (sorts .entry)) (now (numbers .entry)) (now (kept .entry)) (now (slots .entry)))
-        (tables (now (firsts .entry)) (now (written .entry)) (now (table .entry)) start) (now (table .exit)) (now (lines .entry)) (now (lines .exit)) (now (enumerations .entry)) (now (order .entry))
-        entries ins ports r ⌝ }
+    requires { ⌜ Sizes (source (now text) (now work) (now refs)) (now memory) (now lines) (plan .entries) ⌝ }
+    requires { ⌜ SomeGiven (source (now text) (now work) (now refs)) (buffers (now memory) (now table) (now lines)) ports plan ⌝ }
+    ensures { λ r. ⌜ Gathers (source (now (text .entry)) (now (work .entry)) (now (refs .entry))) (buffers (now (memory .entry)) (now (table .entry)) (now (lines .entry))) (now (table .exit))
+        (now (lines .exit)) ports plan r ⌝ }
 {
     let r = written_lines(
         text,
         work,
         refs,
-        sorts,
-        numbers,
-        kept,
-        slots,
-        firsts,
-        written,
-        out,
+        memory,
         table,
         lines,
-        entries,
-        start,
+        plan.entries,
+        plan.start,
     );
     let Gathering::Lines(count, at) = r else {
         return r;
     };
+    let inputs = Span {
+        part: REQUIRE,
+        from: 0,
+        to: plan.ins,
+    };
+    let outputs = Span {
+        part: ASSERT,
+        from: plan.ins,
+        to: plan.count,
+    };
     let e = Ends { at, count };
-    let i = implied(
-        REQUIRE,
-        text,
-        work,
-        enumerations,
-        order,
-        firsts,
-        0,
-        ins,
-        e,
-        table,
-        lines,
-    );
-    let o = implied(
-        ASSERT,
-        text,
-        work,
-        enumerations,
-        order,
-        firsts,
-        ins,
-        ports,
-        i,
-        table,
-        lines,
-    );
+    let i = implied(text, work, ports, inputs, e, table, lines);
+    let o = implied(text, work, ports, outputs, i, table, lines);
     Gathering::Lines(o.count, o.at)
 }

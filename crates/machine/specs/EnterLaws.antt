@@ -10,6 +10,7 @@ use Rattle.node.specs.Limits.{maxNodes}
 use Rattle.node.specs.Ltl.{Formula}
 use Rattle.node.specs.Result.{Result, Done, Refused, _>>=_}
 use Rattle.writing.specs.Writing.{Wrote}
+use Rattle.writing.specs.StayLaws.{wrote-stays}
 use Rattle.language.specs.Limits.{maxTokens, maxElements}
 use Rattle.language.specs.Tree.{Expr}
 use Rattle.language.specs.Values.{Value}
@@ -20,13 +21,13 @@ use Rattle.machine.specs.Frames.{Frame, apply, Kept}
 use Rattle.machine.specs.MeansLaws.{means-as, means-refused, means-push}
 use Rattle.machine.specs.Realm.{Operand, Realm}
 use Rattle.machine.specs.Memory.{frameWords, spare, reserve, Held, Slotted, nowhere, Agree, Framed, spread}
-use Rattle.machine.specs.MemoryLaws.{held-none, slotted-kept, framed-words, framed-agree}
+use Rattle.machine.specs.MemoryLaws.{held-none, slotted-kept, keeps-same, agree-keeps, framed-words, framed-agree}
 use Rattle.machine.specs.Holding.{Holding, Laying, holding, vacant, empty, elements, folded, slotsOf, formsOf}
 use Rattle.machine.specs.Telling.{isNodes, Tells}
 use Rattle.machine.specs.Notes.{Lasting}
 use Rattle.machine.specs.NoteLaws.{noted-kept, lasting-kept}
 use Rattle.machine.specs.Table.{Began, Laid, endOf}
-use Rattle.machine.specs.TableLaws.{laid-more, laid-as, wrote-stays, lasting-stays}
+use Rattle.machine.specs.TableLaws.{laid-more, laid-as, lasting-stays}
 use Rattle.machine.specs.Cost.{price, price-some, price-suc, price-less, times, times-most, turns, weight, effort-none, effort-some, costs}
 use Rattle.machine.specs.Stack.{Ground, scopeAbove, Holds, Waits, Stack, above}
 use Rattle.machine.specs.StackLaws.{Room, stack-kept, stack-room}
@@ -86,6 +87,7 @@ module _ {s : Source} {R : Realm s} {mem out : List ℕ} {m : Machine} {x : Resu
             same = means-as x (h .frames) e (h .same);
           };
           less = omega arith;
+          keeps = keeps-same mem;
         };
       }
 
@@ -111,6 +113,7 @@ module _ {s : Source} {R : Realm s} {mem out : List ℕ} {m : Machine} {x : Resu
             same = means-as x (h .frames) e (h .same);
           };
           less = omega arith;
+          keeps = keeps-same mem;
         };
       }
 
@@ -146,6 +149,7 @@ module _ {s : Source} {R : Realm s} {mem out : List ℕ} {m : Machine} {x : Resu
             same = means-as x (h .frames) e (h .same);
           };
           less = omega arith;
+          keeps = keeps-same mem;
         };
       }
 
@@ -275,6 +279,7 @@ module _ {s : Source} {R : Realm s} {mem out : List ℕ} {m : Machine} {x : Resu
             same = means-push x F (h .frames) (works a c e) (p .same) (p .kept) (h .same);
           };
           less = omega arith;
+          keeps = agree-keeps ag;
         };
       }
 

@@ -2,17 +2,15 @@
 use Prim.Native.Nat.{ℕ, suc, _+_, _≤_, _<_}
 use mathlib.Core.Bool.{true, false}
 use mathlib.Core.List.{List, [], _∷_, _++_}
-use mathlib.Core.Path.{_≡_, refl, sym, ap, ap₂, _∙_, subst}
+use mathlib.Core.Path.{_≡_, refl, sym, ap, _∙_, subst}
 use native.Mathlib.Omega.{arith}
 use native.Mathlib.Nat.{add-zero}
-use lib.ListN.{length, getD, length-append}
-use lib.Seq.{sets}
-use Rattle.basics.specs.Lists.{sets-append, getD-sets-below}
+use lib.ListN.{length}
 use Rattle.node.specs.Limits.{maxNodes}
 use Rattle.node.specs.Ltl.{Formula}
 use Rattle.node.specs.Result.{Result, Done, _>>=_}
-use Rattle.writing.specs.Writing.{Puts, Wrote}
-use Rattle.writing.specs.PartLaws.{fitting}
+use Rattle.writing.specs.Writing.{Wrote}
+use Rattle.writing.specs.StayLaws.{Stays}
 use Rattle.language.specs.Tree.{Expr}
 use Rattle.language.specs.Expansion.{Context}
 use Rattle.operands.specs.Working.{Source}
@@ -23,7 +21,7 @@ use Rattle.machine.specs.Memory.{Held, Slotted, nowhere, Framed}
 use Rattle.machine.specs.MemoryLaws.{held-none, agree-same}
 use Rattle.machine.specs.Holding.{Holding, Laying, holding, empty, elements, folded, slotsOf, formsOf, writing}
 use Rattle.machine.specs.Table.{Began, Laid, endOf}
-use Rattle.machine.specs.TableLaws.{Stays, laid-as, laid-more, lasting-stays}
+use Rattle.machine.specs.TableLaws.{laid-as, laid-more, lasting-stays}
 use Rattle.machine.specs.Cost.{turns}
 use Rattle.machine.specs.Stack.{scopeAbove, Holds, Waits}
 use Rattle.machine.specs.States.{modeOf, written, Turned, TopOf}
@@ -33,19 +31,6 @@ use Rattle.machine.specs.FlatLaws.{popped, flat-top, flat-scope, flat-de
 use Rattle.machine.specs.declared.Words.{Words}
 use Rattle.machine.specs.declared.Machine.{Machine}
 use Rattle.machine.specs.declared.Move.the-variants.{Next}
-
--- words, and the same words with more behind them
-pub more-stays : {us table out out′ : List ℕ} (vs : List ℕ) {at n r : ℕ} → Puts us table out at n → Puts (us ++ vs) table out′ at r → Stays out out′ n r
-more-stays {us} {table} {out} {out′} vs {at} {n} {r} p q =
-    let l = length-append us vs in
-    record {
-      further = λ h. let e = q .stored h .next in let d = fitting p (omega arith) .next in omega arith;
-      same = λ h i j.
-          let e = q .stored h .next in
-          let d = fitting p (omega arith) in
-          let z : at + length us ≡ n = sym (d .next) in
-          ap (λ (l : List ℕ). getD l i 0) (q .stored h .words ∙ sets-append table at us vs ∙ ap₂ (λ (t : List ℕ) (k : ℕ). sets t k vs) (sym (d .words)) z) ∙ getD-sets-below out n vs i j;
-    }
 
 module _ {s : Source} {R : Realm s} {mem out : List ℕ} {m : Machine} {x : Result Came} {o : Began} {F : Frame} (h : TopOf R mem out m x o F) where
   -- the formula that has come stands behind those that the frame keeps

@@ -72,7 +72,8 @@ plain p = empty p false
 abbrev listing : ℕ → List ℕ → Holding
 listing p s = record { phase = p; elements = s; folded = []; forms = []; binds = false; inside = false; flat = false }
 
-abbrev turning : ℕ → (rest folded : List ℕ) → List Laying → Holding
+-- a frame that binds a name: elements that are left, a set that is folded, formulas
+abbrev pub turning : ℕ → (rest folded : List ℕ) → List Laying → Holding
 turning p s a fs = record { phase = p; elements = s; folded = a; forms = fs; binds = true; inside = false; flat = false }
 
 abbrev pub writing : ℕ → Formula → ℕ → Holding

@@ -15,6 +15,10 @@ pub mod StackLaws
 pub mod MeansLaws
 pub mod TableLaws
 pub mod NoteLaws
+pub mod FactLaws
+pub mod TellLaws
+pub mod PlainLaws
+pub mod SameLaws
 pub mod StateLaws
 pub mod EnterLaws
 pub mod FrameViews

@@ -68,6 +68,11 @@ pub record Regions : Type 0 where
   pub slots : ℕ
   pub floor : ℕ
 
+-- kept sets stay, and others may be kept
+pub record Keeps (mem mem' : List ℕ) : Type 0 where
+  pub more : freeOf mem ≤ freeOf mem'
+  pub kept : (i : ℕ) → firstKept ≤ i → i < freeOf mem → getD mem' i 0 ≡ getD mem i 0
+
 -- two memories that agree in all that a stack uses
 pub record Agree (z : Regions) (mem mem' : List ℕ) (depth top at : ℕ) : Type 0 where
   pub len : length mem' ≡ length mem

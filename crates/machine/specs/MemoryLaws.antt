@@ -10,7 +10,7 @@ use lib.ListN.{length, getD, drop, take, set, length-set}
 use lib.Seq.{drop-drop, getD-drop, getD-set-other, drop-set-lt, sets, sets-eq, length-sets, drop-at, length-take-le}
 use Rattle.name_values.specs.World.{numbered}
 use Rattle.name_values.specs.AgreesLaws.{numbered-last, numbered-before}
-use Rattle.machine.specs.Memory.{Regions, firstKept, frameWords, freeOf, freeWord, Held, Slotted, Lies, nowhere, keptSet, value, Agree, Framed, spread}
+use Rattle.machine.specs.Memory.{Regions, firstKept, frameWords, freeOf, freeWord, Held, Slotted, Lies, nowhere, keptSet, value, Keeps, Agree, Framed, spread}
 use Rattle.machine.specs.declared.Words.{Words}
 
 -- numbers that stand somewhere
@@ -71,11 +71,6 @@ lies-more h (nowhere e) = nowhere e
 lies-more h (keptSet a b) = keptSet a (omega arith)
 lies-more h (value a b) = value a b
 
-pub lies-wider : {free base top base' top' at n : ℕ} → base' ≤ base → top ≤ top' → Lies free base top at n → Lies free base' top' at n
-lies-wider h k (nowhere e) = nowhere e
-lies-wider h k (keptSet a b) = keptSet a b
-lies-wider h k (value a b) = value (omega arith) (omega arith)
-
 -- the rest of what lies somewhere
 pub lies-tail : {free base top at n : ℕ} → Lies free base top at (suc n) → Lies free base top (suc at) n
 lies-tail (nowhere e) = absurd (omega arith)
@@ -114,6 +109,16 @@ agree-then a b = let m = a .more in let n = b .more in record {
 
 pub agree-same : {z : Regions} {mem : List ℕ} {d top at : ℕ} → Agree z mem mem d top at
 agree-same = record { len = refl; more = omega arith; kept = λ i l u. refl; slots = λ i l u. refl; values = λ i l u. refl; frames = refl }
+
+-- kept sets
+pub keeps-same : (mem : List ℕ) → Keeps mem mem
+keeps-same mem = record { more = omega arith; kept = λ i l u. refl }
+
+pub keeps-then : {mem mem1 mem2 : List ℕ} → Keeps mem mem1 → Keeps mem1 mem2 → Keeps mem mem2
+keeps-then a b = let m = a .more in let n = b .more in record { more = omega arith; kept = λ i l u. b .kept i l (omega arith) ∙ a .kept i l u }
+
+pub agree-keeps : {z : Regions} {mem mem' : List ℕ} {d top at : ℕ} → Agree z mem mem' d top at → Keeps mem mem'
+agree-keeps a = record { more = a .more; kept = a .kept }
 
 -- all words from `low` on up to `at` may change, where no slot in use and no value stands
 pub agree-from : {z : Regions} (mem mem' : List ℕ) (low d top at : ℕ) → length mem' ≡ length mem → ((i : ℕ) → i < low → getD mem' i 0 ≡ getD mem i 0) → drop at mem' ≡ drop at mem

@@ -5,12 +5,12 @@ use mathlib.Core.Path.{_≡_, sym, _∙_, subst}
 use native.Mathlib.Omega.{arith}
 use lib.ListN.{getD}
 use Rattle.language.specs.Limits.{maxNames}
-use Rattle.name_values.specs.World.{World, Meaning, meaningAt}
+use Rattle.name_values.specs.World.{World, meaningAt}
 use Rattle.operands.specs.Working.{Source}
 use Rattle.machine.specs.Realm.{Realm}
-use Rattle.machine.specs.Memory.{Regions, noteWords, firstKept, freeWord, slotsWord, noteAt, freeOf}
-use Rattle.machine.specs.MemoryLaws.{held-kept}
-use Rattle.machine.specs.Notes.{IsKeptSet, Fact, Signals, Noted, Lasts, Lasting}
+use Rattle.machine.specs.Memory.{Regions, noteWords, firstKept, freeWord, slotsWord, noteAt, freeOf, Keeps}
+use Rattle.machine.specs.Notes.{Fact, Signals, Noted, Lasts, Lasting}
+use Rattle.machine.specs.FactLaws.{fact-keeps}
 
 -- all words below `low` stay
 module _ (mem mem' : List ℕ) (low : ℕ) (h : (i : ℕ) → i < low → getD mem' i 0 ≡ getD mem i 0) (f : firstKept ≤ low) (g : freeOf mem ≤ low) where
@@ -20,32 +20,8 @@ module _ (mem mem' : List ℕ) (low : ℕ) (h : (i : ℕ) → i < low → getD m
   free-same : freeOf mem' ≡ freeOf mem
   free-same = h freeWord (omega arith)
 
-  set-kept : {m : Meaning} {n a : ℕ} → IsKeptSet mem m n a → IsKeptSet mem' m n a
-  set-kept {n = n} {a} k =
-      let e = free-same in
-      let b = k .below in
-      let z = k .size in
-      record {
-        set = k .set;
-        stands = k .stands;
-        fine = k .fine;
-        size = k .size;
-        above = k .above;
-        below = omega arith;
-        held = held-kept mem mem' a (k .set) (λ i p q. h i (omega arith)) (k .held);
-      }
-
-  fact-kept : {s : Source} {m : Meaning} {sort n a : ℕ} → Fact s mem m sort n a → Fact s mem' m sort n a
-  fact-kept x = record {
-    sorted = x .sorted;
-    number = x .number;
-    body = x .body;
-    bus = x .bus;
-    signal = x .signal;
-    set = λ e. set-kept (x .set e);
-    identifier = x .identifier;
-    nothing = x .nothing;
-  }
+  keeps : Keeps mem mem'
+  keeps = let e = free-same in record { more = omega arith; kept = λ i p q. h i (omega arith) }
 
   signals-kept : {s : Source} {R : Realm s} → Signals R mem → Signals R mem'
   signals-kept x = record {
@@ -65,7 +41,7 @@ module _ (mem mem' : List ℕ) (low : ℕ) (h : (i : ℕ) → i < low → getD m
             let e2 = note-same r 2 l (omega arith) in
             subst (λ (i : ℕ). Fact s mem' (meaningAt (R .W) r) i (noteAt mem' r 1) (noteAt mem' r 2)) (sym e0)
             (subst (λ (i : ℕ). Fact s mem' (meaningAt (R .W) r) (noteAt mem r 0) i (noteAt mem' r 2)) (sym e1)
-            (subst (λ (i : ℕ). Fact s mem' (meaningAt (R .W) r) (noteAt mem r 0) (noteAt mem r 1) i) (sym e2) (fact-kept (n .facts r l))));
+            (subst (λ (i : ℕ). Fact s mem' (meaningAt (R .W) r) (noteAt mem r 0) (noteAt mem r 1) i) (sym e2) (fact-keeps keeps (n .facts r l))));
         signals = λ l. signals-kept (n .signals l);
         first = omega arith;
         within = omega arith;

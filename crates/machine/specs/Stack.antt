@@ -117,6 +117,11 @@ pub record HoldsSet (w : Words) (l : List ℕ) : Type 0 where
   pub fine : Fine l
   pub near : w .at ≤ w .base
 
+-- the elements that are left, whose end is near the frame's base: a set that is folded has room above them
+pub record HoldsRest (w : Words) (l : List ℕ) : Type 0 where
+  pub fine : Fine l
+  pub near : w .at + length l ≤ w .base + setWords
+
 -- a set that is folded, by the frame's last two words
 pub record HoldsFold (w : Words) (l : List ℕ) : Type 0 where
   pub fine : Fine l
@@ -157,8 +162,8 @@ Holds W n g (RangeLast p x y) = Holds₂ (g .words) x y
 Holds W n g (Over p o c i e) = Unit {0}
 Holds W n g (FirstNumber p o c i e rest) = Fine rest
 Holds W n g (NextNumber p o c i e a rest) = Fine rest × Holds₁ (g .words) a
-Holds W n g (FirstSet p o c i e rest) = Fine rest
-Holds W n g (NextSet p o c i e a rest) = Fine rest × HoldsFold (g .words) a
+Holds W n g (FirstSet p o c i e rest) = HoldsRest (g .words) rest
+Holds W n g (NextSet p o c i e a rest) = HoldsRest (g .words) rest × HoldsFold (g .words) a
 Holds W n g (KeepValue r c e) = Returns (g .words) (g .scope) r
 Holds W n g (Capping o) = Unit {0}
 Holds W n g (LeftFormula o c b) = Unit {0}

@@ -2,7 +2,7 @@
 use Prim.Native.Nat.{ℕ, _+_, _≤_}
 use mathlib.Core.Bool.{Bool, true, false}
 use mathlib.Core.List.{List}
-use mathlib.Core.Path.{_≡_, sym, ap, _∙_}
+use mathlib.Core.Path.{sym, ap, _∙_}
 use native.Mathlib.Omega.{arith}
 use lib.ListN.{length}
 use Rattle.language.specs.Limits.{maxTokens}
@@ -13,12 +13,7 @@ use Rattle.machine.specs.MemoryLaws.{held-safe, slotted-kept, lies-more,
 use Rattle.machine.specs.Frames.{Frame}
 use Rattle.machine.specs.Holding.{holding, elements, folded, slotsOf}
 use Rattle.machine.specs.Table.{Began}
-use Rattle.machine.specs.Stack.{Ground, scopeAbove, FrameAt, Stack, bottom, above}
-
--- a frame's scope lies below the next free slot
-pub scope-deep : (b : Bool) (g : Ground) → g .depth ≡ g .scope + length (g .env) → g .scope ≤ scopeAbove b g
-scope-deep true g e = omega arith
-scope-deep false g e = omega arith
+use Rattle.machine.specs.Stack.{Ground, FrameAt, Stack, bottom, above}
 
 pub frame-kept : {s : Source} {R : Realm s} {o : Began} {mem mem' : List ℕ} {F : Frame} {g : Ground} {n scope depth top at k : ℕ} → FrameAt R o mem F g n scope depth top at k
     → Agree (o .regions) mem mem' depth top at → FrameAt R o mem' F g n scope depth top at k

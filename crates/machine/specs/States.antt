@@ -13,7 +13,7 @@ use Rattle.operands.specs.Working.{Source}
 use Rattle.machine.specs.Came.{Aim, Evaluate, Expand, Came, Worth, Nodes, works}
 use Rattle.machine.specs.Frames.{Frame, Means}
 use Rattle.machine.specs.Realm.{Operand, Realm}
-use Rattle.machine.specs.Memory.{frameWords, spare, reserve, freeOf, Held, Slotted, Sits}
+use Rattle.machine.specs.Memory.{frameWords, spare, reserve, freeOf, Held, Slotted, Sits, Keeps}
 use Rattle.machine.specs.Holding.{Laying, holding, formsOf}
 use Rattle.machine.specs.Telling.{isNodes, Tells}
 use Rattle.machine.specs.Notes.{Noted, Lasting}
@@ -105,6 +105,7 @@ cost mem m = effort (m .mode) (m .value) + costs (drop (m .frames) mem)
 pub record Went {s : Source} (R : Realm s) (mem mem' out' : List ℕ) (m n : Machine) (x : Result Came) (o : Began) : Type 0 where
   pub state : State R mem' out' n x o
   pub less : cost mem' n < cost mem m
+  pub keeps : Keeps mem mem'
 
 -- an entry finds no room for its frame: nothing was done
 pub record Parted (mem mem' out out' : List ℕ) (m : Machine) : Type 0 where

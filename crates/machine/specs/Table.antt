@@ -1,5 +1,5 @@
 -- The table of nodes: formulas written one behind another.
-use Prim.Native.Nat.{ℕ}
+use Prim.Native.Nat.{ℕ, _≤_}
 use mathlib.Core.List.{List, [], _∷_}
 use mathlib.Core.Path.{_≡_}
 use lib.ListN.{length}
@@ -8,12 +8,12 @@ use Rattle.writing.specs.Writing.{Wrote}
 use Rattle.machine.specs.Memory.{Regions}
 use Rattle.machine.specs.Holding.{Laying}
 
--- how a run began: where slots and values begin, the table and its next index
+-- how a run began: where slots and values begin, the table and its next index. The table's length is known as long as it has room.
 pub record Began : Type 0 where
   pub regions : Regions
   pub table : List ℕ
   pub index : ℕ
-  pub sized : length table ≡ maxNodes
+  pub sized : index ≤ maxNodes → length table ≡ maxNodes
 
 -- the last formula stands behind the others, which were written into `before` up to `at`
 pub record Last (L : List ℕ → ℕ → Type 0) (l : Laying) (out : List ℕ) (n : ℕ) : Type 0 where

@@ -1,16 +1,16 @@
 -- Formulas in the table: one more, the last one, what stays of those before.
-use Prim.Native.Nat.{ℕ, zero, suc, _+_, _≤_, _<_, min}
-use mathlib.Core.List.{List, [], _∷_, _++_}
-use mathlib.Core.Path.{_≡_, refl, sym, ap₂, _∙_, subst}
+use Prim.Native.Nat.{ℕ, suc, _≤_, min}
+use mathlib.Core.List.{List, [], _∷_}
+use mathlib.Core.Path.{_≡_, refl, sym, ap, _∙_, subst}
 use native.Mathlib.Omega.{arith}
-use lib.ListN.{getD}
+use lib.ListN.{length}
 use Rattle.node.specs.Limits.{maxNodes}
 use Rattle.node.specs.Ltl.{Formula}
 use Rattle.node.specs.Postorder.{size}
 use Rattle.writing.specs.Writing.{Wrote}
 use Rattle.writing.specs.WritingLaws.{ends}
-use Rattle.writing.specs.Parts.{part}
-use Rattle.writing.specs.PartLaws.{below-stays}
+use Rattle.writing.specs.PartLaws.{length-stays}
+use Rattle.writing.specs.StayLaws.{Stays, part-same}
 use Rattle.name_values.specs.World.{World}
 use Rattle.machine.specs.Notes.{Lasts, Lasting}
 use Rattle.machine.specs.Holding.{Laying}
@@ -40,6 +40,21 @@ unfolding Lays
 laid-end [] h = h .lays .1
 laid-end (l ∷ ls) h = sym (h .lays .ends)
 
+-- as long as the table has room: its length, and that it begins where the run began
+lays-sized : (o : Began) (ls : List Laying) (out : List ℕ) (n : ℕ) → Lays o ls out n → n ≤ maxNodes → (length out ≡ maxNodes) × (o .index ≤ n)
+unfolding Lays
+lays-sized o [] out n h l = (ap length (h .0) ∙ o .sized (let e = h .1 in omega arith), (let e = h .1 in omega arith))
+lays-sized o (x ∷ xs) out n h l =
+    let e = ends (h .wrote) l in
+    let i = lays-sized o xs (h .before) (h .at) (h .others) (omega arith) in
+    (length-stays (h .wrote .puts) l ∙ i .0, (let j = i .1 in omega arith))
+
+pub laid-sized : {o : Began} {ls : List Laying} {out : List ℕ} {n : ℕ} → Laid o ls out n → n ≤ maxNodes → length out ≡ maxNodes
+laid-sized {o} {ls} {out} {n} h l = lays-sized o ls out n (h .lays) l .0
+
+pub laid-from : {o : Began} {ls : List Laying} {out : List ℕ} {n : ℕ} → Laid o ls out n → n ≤ maxNodes → o .index ≤ n
+laid-from {o} {ls} {out} {n} h l = lays-sized o ls out n (h .lays) l .1
+
 pub laid-as : {o : Began} {ls ks : List Laying} {out : List ℕ} {n : ℕ} → ls ≡ ks → Laid o ls out n → Laid o ks out n
 laid-as {o} {out = out} {n} e h = subst (λ (l : List Laying). Laid o l out n) e h
 
@@ -49,22 +64,6 @@ wrote-capped {f} {out} {out′} {at} {n} {r} e w = record {
   puts = record { stored = λ l. let q : n ≡ r = omega arith in let p = w .puts .stored (omega arith) in record { next = sym q ∙ p .next; words = p .words }; many = λ l. w .puts .many (omega arith) };
   signals = λ l. w .signals (omega arith);
 }
-
--- as long as the table has room: it is written behind n only, up to r
-pub record Stays (table table′ : List ℕ) (n r : ℕ) : Type 0 where
-  pub further : r ≤ maxNodes → n ≤ r
-  pub same : r ≤ maxNodes → (i : ℕ) → i < n → getD table′ i 0 ≡ getD table i 0
-
-pub stays-none : (table : List ℕ) (n : ℕ) → Stays table table n n
-stays-none table n = record { further = λ h. omega arith; same = λ h i l. refl }
-
-pub wrote-stays : {f : Formula} {table table′ : List ℕ} {at r : ℕ} → Wrote f table table′ at r → Stays table table′ at r
-wrote-stays w = record { further = λ h. let e = ends w h in omega arith; same = λ h i l. below-stays (w .puts) h i l }
-
-part-same : (from n : ℕ) (l l′ : List ℕ) → ((i : ℕ) → i < from + n → getD l′ i 0 ≡ getD l i 0) → part from n l′ ≡ part from n l
-unfolding part
-part-same from zero l l′ h = refl
-part-same from (suc n) l l′ h = ap₂ (λ (x : List ℕ) (y : ℕ). x ++ (y ∷ [])) (part-same from n l l′ (λ i j. h i (omega arith))) (h (from + n) (omega arith))
 
 -- what is marked stays
 lasts-stays : {W : World} {table table′ : List ℕ} {n r q v : ℕ} → Stays table table′ n r → Lasts W table n q v → Lasts W table′ r q v

@@ -1,5 +1,5 @@
 -- A frame takes what has come: it is popped, or written anew while another operand is worked out. All steps go by these two laws.
-use Prim.Native.Nat.{ℕ, suc, _+_, _≤_, _<_}
+use Prim.Native.Nat.{ℕ, suc, _+_, _≤_, _<_, _*_}
 use mathlib.Core.Bool.{true}
 use mathlib.Core.List.{List, _∷_, _++_}
 use mathlib.Core.Path.{_≡_, refl, sym, ap, _∙_, subst}
@@ -10,13 +10,14 @@ use Rattle.node.specs.Limits.{maxNodes}
 use Rattle.node.specs.Result.{Result, Done, Refused, _>>=_}
 use Rattle.language.specs.Tree.{Expr}
 use Rattle.language.specs.Expansion.{Context}
+use Rattle.language.specs.Limits.{maxNames}
 use Rattle.operands.specs.Working.{Source}
 use Rattle.machine.specs.Came.{Aim, Came, works}
 use Rattle.machine.specs.Frames.{Frame, apply, Kept, Means}
 use Rattle.machine.specs.MeansLaws.{means-as, means-refused, means-push, means-take}
 use Rattle.machine.specs.Realm.{Operand, Realm}
-use Rattle.machine.specs.Memory.{frameWords, freeOf, Held, Slotted, Lies, Agree, Framed}
-use Rattle.machine.specs.MemoryLaws.{held-safe, slotted-kept, lies-more, agree-then, framed-words, framed-agree, word-of}
+use Rattle.machine.specs.Memory.{frameWords, freeOf, Held, Slotted, Lies, Agree, Framed, noteWords}
+use Rattle.machine.specs.MemoryLaws.{held-safe, slotted-kept, lies-more, agree-then, agree-keeps, framed-words, framed-agree, word-of}
 use Rattle.machine.specs.Holding.{holding, phase, elements, folded, bound, formsOf}
 use Rattle.machine.specs.Notes.{Noted, Lasting}
 use Rattle.machine.specs.NoteLaws.{noted-kept, lasting-kept}
@@ -63,6 +64,18 @@ module _ {s : Source} {R : Realm s} {mem out : List ℕ} {m : Machine} {x : Resu
   -- the room under the frame
   pub room-under : Room o mem (h .ground .depth) (words .base) (m .frames + frameWords) (h .ground .limit)
   room-under = stack-room (h .stack)
+
+  -- the notes lie in the memory
+  pub note-under : {r : ℕ} → r < maxNames → noteWords * r + 3 < length mem
+  note-under l =
+      let u = room-under in
+      let u1 = u .values in
+      let u2 = u .words in
+      let u3 = u .inside in
+      let n1 = h .noted .first in
+      let n2 = h .noted .within in
+      let n3 = h .noted .ascending in
+      omega arith
 
   taken : Means x (h .rest) (apply F (h .came))
   taken = means-take x F (h .rest) (h .came) (h .same)
@@ -113,6 +126,7 @@ module _ {s : Source} {R : Realm s} {mem out : List ℕ} {m : Machine} {x : Resu
             same = means-as x (h .rest) (p .same) taken;
           };
           less = omega arith;
+          keeps = agree-keeps (p .agree);
         };
       }
 
@@ -244,6 +258,7 @@ module _ {s : Source} {R : Realm s} {mem out : List ℕ} {m : Machine} {x : Resu
             same = means-push x G (h .rest) (works a c e) (r .same) (r .kept) taken;
           };
           less = omega arith;
+          keeps = agree-keeps (agree-then ag ac);
         };
       }
 

@@ -5,12 +5,9 @@ pub mod Known
 pub mod KnownLaws
 pub mod Bodies
 pub mod BodiesLaws
-pub mod Slots
-pub mod SlotsLaws
 pub mod UsedLaws
 pub mod Sorts
 pub mod Facts
-pub mod FactsLaws
 pub mod Worlds
 pub mod WorldsLaws
 pub mod Passing

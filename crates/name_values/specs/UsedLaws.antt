@@ -1,27 +1,20 @@
 -- A name that an expression uses, by its reference: its value, its formula, and the body of a definition, which stands before the use.
-use Prim.Native.Nat.{ℕ, _+_, _-_, _≤_, _<_}
+use Prim.Native.Nat.{ℕ, _≤_, _<_}
 use mathlib.Core.Bool.{Bool}
 use mathlib.Core.List.{List}
-use mathlib.Core.Option.{some}
-use mathlib.Core.Path.{_≡_, ap, _∙_, subst}
+use mathlib.Core.Path.{_≡_, _∙_, subst}
 use native.Mathlib.Omega.{arith}
 use lib.ListN.{getD}
-use Rattle.node.specs.Result.{Done}
 use Rattle.language.specs.Limits.{maxNames}
 use Rattle.language.specs.Tokens.{Token}
-use Rattle.language.specs.Tree.{Expr, Named, Index}
+use Rattle.language.specs.Tree.{Expr, Named}
 use Rattle.language.specs.Grammar.{Tokens}
-use Rattle.language.specs.Values.{Number, misfit}
+use Rattle.language.specs.Values.{misfit}
 use Rattle.language.specs.Expansion.{Context}
-use Rattle.entries.specs.Kinds as Kind
-use Rattle.entries.specs.Flat.{flat}
 use Rattle.name_values.specs.World.{Defines, Before, nameValue, formed, World, meaningAt}
 use Rattle.name_values.specs.Agrees.{Uses}
-use Rattle.name_values.specs.AgreesLaws.{denote-declared, denote-bound, formula-declared, formula-bound}
+use Rattle.name_values.specs.AgreesLaws.{denote-declared, formula-declared, formula-bound}
 use Rattle.name_values.specs.Known.{Known}
-use Rattle.name_values.specs.KnownLaws.{own-more}
-use Rattle.name_values.specs.Slots.{Slots}
-use Rattle.name_values.specs.SlotsLaws.{slot-numbered}
 
 module _ {W : World} {limit : ℕ} {env : List ℕ} {r : ℕ} {t : Token} {c : Context} (u : Uses W limit env r t c) where
   -- a declared name
@@ -32,11 +25,6 @@ module _ {W : World} {limit : ℕ} {env : List ℕ} {r : ℕ} {t : Token} {c : C
   used-formula l = u .forms ∙ formula-declared (c .ports) W r t l
 
   -- a big operator's
-  pub used-element : (slots : List ℕ) (base : ℕ) → Slots slots base env → maxNames ≤ r → c .values t ≡ Done (Number (getD slots (base + (r - maxNames)) 0))
-  used-element slots base s l =
-      let i = u .inside in
-      u .stands ∙ denote-bound W env (r - maxNames) r t (omega arith) ∙ ap (λ v. Done (Number v)) (slot-numbered slots base env s (r - maxNames) (omega arith))
-
   pub used-no-formula : maxNames ≤ r → c .formulas t ≡ misfit
   used-no-formula l = u .forms ∙ formula-bound (c .ports) W r t l
 
@@ -47,7 +35,3 @@ module _ {W : World} {limit : ℕ} {env : List ℕ} {r : ℕ} {t : Token} {c : C
 module _ {ts : Tokens} {w refs : List ℕ} {W : World} {env : List ℕ} {c : Context} {braces : Bool} {k : ℕ} where
   pub named-body : (t : Token) → Known ts w refs W env c braces k (Named t) → (n : ℕ) (d : Context) (e : Expr) → getD refs k 0 < maxNames → meaningAt W (getD refs k 0) ≡ Defines n d e → n < k
   named-body t h n d e l m = let b = used-before (h .agrees) n d e l m in let s = h .within in omega arith
-
-  pub index-body : (t : Token) (i : Expr) → Known ts w refs W env c braces k (Index t i) → (n : ℕ) (d : Context) (e : Expr) → getD refs k 0 < maxNames → meaningAt W (getD refs k 0) ≡ Defines n d e
-      → n < k
-  index-body t i h n d e l m = let b = used-before (h .agrees .0) n d e l m in let s = h .within in let z = own-more Kind.index (some t) (flat i) in omega arith

@@ -1,24 +1,8 @@
-pub mod Telling
+-- Stored expressions as the machine reads them: what is lent, entries by index, expressions by the class of their kind.
 pub mod Working
 pub mod Entries
-pub mod Taking
-pub mod Keeping
-pub mod KeepingLaws
-pub mod Folding
 pub mod NumeralTokens
 pub mod Classes
 pub mod ClassLaws
-pub mod FitsLaws
-pub mod TellingLaws
 pub mod Operands
-pub mod StepLaws
 pub mod KindLaws
-pub mod OperationLaws
-pub mod NameLaws
-pub mod OverLaws
-pub mod FoldLaws
-pub mod TotalLaws
-pub mod MergedLaws
-pub mod Joining
-pub mod JoiningLaws
-pub mod ElementLaws

@@ -2,16 +2,14 @@
 use Prim.Native.Nat.{ℕ, suc, _-_, _≤_, _<_}
 use mathlib.Core.Bool.{Bool, true, false}
 use mathlib.Core.List.{List, [], _++_}
-use mathlib.Core.Option.{Option, none, some}
+use mathlib.Core.Option.{none, some}
 use mathlib.Core.Path.{_≡_, refl, sym, ap, _∙_, subst}
 use native.Mathlib.Omega.{arith}
-use native.Mathlib.Decide.{decLt}
 use lib.Dec.{eqb}
 use lib.ListN.{length, List·getD-eq-default}
 use borrow.Author.Tests.{eqb-true, eqb-false}
 use Rattle.node.specs.Operators.{Unary, Not, X, G, F, Binary, And, Or, Implies, Iff, U, R, W}
 use Rattle.node.specs.Kinds.{unaryKind, binaryKind}
-use Rattle.language.specs.Tokens.{Token}
 use Rattle.language.specs.Operators.{
   Plus,
   Minus,
@@ -55,12 +53,11 @@ use Rattle.language.specs.Expansion.{windowOperator}
 use Rattle.language.specs.Tree.{Expr, Named, Numeral, Truth, Index, Paren, Prefixed, Joined, Nexts, InWindow, Each, Between, Listed, Empty, Element, Range}
 use Rattle.language.specs.Grammar.{Tokens}
 use Rattle.entries.specs.Kinds as Kind
-use Rattle.entries.specs.Flat.{Entry, under, flat}
-use Rattle.entries.specs.Stored.{EndsAt, At}
-use Rattle.entries.specs.StoredLaws.{entry-kind, ends-own}
+use Rattle.entries.specs.Flat.{under, flat}
+use Rattle.entries.specs.Stored.{At}
 use Rattle.sets.specs.Operators.{comparison}
 use Rattle.operands.specs.Entries.{kindAt}
-use Rattle.operator_nodes.specs.Prefixes.{Operand}
+use Rattle.operands.specs.ClassLaws.{kind-of}
 use Rattle.operator_nodes.specs.Shapes.{aMisfit, aTruth, aUnary, aComparison, aWindow, aBig, shapes, shapeOf, ofPrefix, ofInfix, ofExpr, WindowIs}
 
 of-truth : (b : Bool) → shapeOf (Kind.truth b) ≡ aTruth b
@@ -120,10 +117,6 @@ of-between true false = refl
 of-between true true = refl
 
 module _ {w : List ℕ} {ts : Tokens} {k : ℕ} where
-  kind-of : (n : ℕ) (t : Option Token) (es : List Entry) → EndsAt w ts k (under n t es) → kindAt w k ≡ n
-  unfolding kindAt
-  kind-of n t es h = entry-kind (ends-own n t es h)
-
   pub expr-shape : (e : Expr) → 0 < length (flat e) → At w ts k e → shapeOf (kindAt w k) ≡ ofExpr e
   expr-shape (Named t) l h = ap shapeOf (kind-of Kind.named (some t) [] h)
   expr-shape (Numeral t) l h = ap shapeOf (kind-of Kind.numeral (some t) [] h)
@@ -152,9 +145,6 @@ from P a k p q h = go (eqb k a) refl
 abbrev Misfit : ℕ → Type 0
 Misfit k = shapeOf k ≡ aMisfit
 
-pub misfit-numeral : (k : ℕ) → (k ≡ 0 → ⊥) → k < 2 → shapeOf k ≡ aMisfit
-misfit-numeral k d h = let e : k ≡ 1 = omega arith in ap shapeOf e
-
 pub misfit-measures : (k : ℕ) → 6 ≤ k → k < 10 → shapeOf k ≡ aMisfit
 misfit-measures k h l = from Misfit 6 k refl (from Misfit 7 k refl (from Misfit 8 k refl (from Misfit 9 k refl (λ g. absurd (omega arith))))) h
 
@@ -162,19 +152,6 @@ pub misfit-values : (k : ℕ) → 14 ≤ k → k < 22 → shapeOf k ≡ aMisfit
 misfit-values k h l =
     from Misfit 14 k refl (from Misfit 15 k refl (from Misfit 16 k refl
     (from Misfit 17 k refl (from Misfit 18 k refl (from Misfit 19 k refl (from Misfit 20 k refl (from Misfit 21 k refl (λ g. absurd (omega arith))))))))) h
-
--- a value's kind before the comparisons: no parenthesis, no prefix operator of formulas
-pub misfit-operands : (k : ℕ) → Operand k → 5 ≤ k → k < 22 → shapeOf k ≡ aMisfit
-misfit-operands k h l m = go (decLt k 10) (decLt k 14)
-  where
-    beyond : Dec (5 < k) → 6 ≤ k
-    beyond (yes b) = omega arith
-    beyond (no b) = absurd (h .no-parenthesis (omega arith))
-
-    go : Dec (k < 10) → Dec (k < 14) → shapeOf k ≡ aMisfit
-    go (yes a) d = misfit-measures k (beyond (decLt 5 k)) a
-    go (no a) (yes b) = absurd (h .no-operator (omega arith) b)
-    go (no a) (no b) = misfit-values k (omega arith) m
 
 pub misfit-sets : (k : ℕ) → 45 ≤ k → shapeOf k ≡ aMisfit
 misfit-sets k h = List·getD-eq-default shapes aMisfit {n = k} (omega arith)
@@ -188,18 +165,6 @@ Compared k = shapeOf k ≡ aComparison (comparison (k - 22))
 pub comparison-kind : (k : ℕ) → 22 ≤ k → k < 28 → shapeOf k ≡ aComparison (comparison (k - 22))
 comparison-kind k h l =
     from Compared 22 k refl (from Compared 23 k refl (from Compared 24 k refl (from Compared 25 k refl (from Compared 26 k refl (from Compared 27 k refl (λ g. absurd (omega arith))))))) h
-
--- a big operator's kind: of numbers or sets, `&&`, `||`
-pub record BigIs (kind : ℕ) : Type 0 where
-  pub operator : Big
-  pub shape : shapeOf kind ≡ aBig operator
-
-pub big-kind : (k : ℕ) → 39 ≤ k → k < 45 → BigIs k
-big-kind k h l =
-    let P : ℕ → Type 0 = BigIs in
-    from P 39 k (record { operator = BigSum; shape = refl }) (from P 40 k (record { operator = BigProduct; shape = refl })
-    (from P 41 k (record { operator = BigCap; shape = refl }) (from P 42 k (record { operator = BigCup; shape = refl })
-    (from P 43 k (record { operator = BigAnd; shape = refl }) (from P 44 k (record { operator = BigOr; shape = refl }) (λ g. absurd (omega arith))))))) h
 
 -- a prefix operator's shape
 pub unary-shape : (k : ℕ) → 10 ≤ k → k < 14 → (o : Unary) × (shapeOf k ≡ aUnary o)
@@ -221,17 +186,6 @@ binary-small Iff = omega arith
 binary-small U = omega arith
 binary-small R = omega arith
 binary-small W = omega arith
-
--- the kind of a big operator's shape
-big-is : {o p : Big} → aBig o ≡ aBig p → o ≡ p
-big-is e = cc
-
-pub operator-kind : (k : ℕ) → 39 ≤ k → k < 45 → (o : Big) → shapeOf k ≡ aBig o → k ≡ Kind.big o
-operator-kind k h l o e =
-    let P : ℕ → Type 0 = λ i. shapeOf i ≡ aBig o → i ≡ Kind.big o in
-    from P 39 k (λ q. ap Kind.big (big-is q)) (from P 40 k (λ q. ap Kind.big (big-is q))
-    (from P 41 k (λ q. ap Kind.big (big-is q)) (from P 42 k (λ q. ap Kind.big (big-is q))
-    (from P 43 k (λ q. ap Kind.big (big-is q)) (from P 44 k (λ q. ap Kind.big (big-is q)) (λ g. absurd (omega arith))))))) h e
 
 -- F[n:m] and G[n:m] by their kind
 abbrev pub windowOf : ℕ → Window

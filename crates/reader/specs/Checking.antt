@@ -24,6 +24,7 @@ use Rattle.ending.specs.Hands.{hands-as, hands-refused}
 use Rattle.reader.specs.Answers.{Answers}
 use Rattle.checked.specs.AnswerLaws.{accepted, refused, tree-parsed as only-tree}
 use Rattle.line_counts.specs.Counting.{CountsOf}
+use Rattle.reader.specs.declared.CheckedTree.{CheckedTree}
 use Rattle.reader.specs.declared.Counted.{Counted}
 use Rattle.reader.specs.Naming.{Parsed, SomeParsed, Converts}
 
@@ -34,10 +35,13 @@ module _ {text work used refs found : List ℕ} {r : Answered} (c : Checks text 
       record { hands = hands-refused nodes signals (text-refused (delivered (length nodes) (length signals)) text (refused c e)); size = c .size; beyond = c .beyond }
 
   module _ {k : Counts} {f : Facts} (e : r ≡ Passed k f) where
+    abbrev counted : CheckedTree
+    counted = record { entries = k .entries; names = k .names; facts = f }
+
     tree : Tree text used refs found k f
     tree = accepted c e
 
-    tree-parsed : Parsed text used refs found (k .entries) (k .names) f (tree .tree)
+    tree-parsed : Parsed text used refs found counted (tree .tree)
     tree-parsed = record {
       checked = record {
         tree = record { count = k .tokens; stored = tree .stored; resolved = tree .resolved };
@@ -47,10 +51,10 @@ module _ {text work used refs found : List ℕ} {r : Answered} (c : Checks text 
       facts = tree .facts;
     }
 
-    pub some-parsed : workBytes ≤ length work → maxTokens ≤ length refs → maxNames ≤ length found → SomeParsed text used refs found (k .entries) (k .names) f
+    pub some-parsed : workBytes ≤ length work → maxTokens ≤ length refs → maxNames ≤ length found → SomeParsed text used refs found counted
     some-parsed a b d = let z = c .size in record { x = tree .tree; parsed = tree-parsed; work-room = omega arith; refs-room = b; found-room = d }
 
-    module _ {nodes signals nodes′ signals′ : List ℕ} {a : Counted} (g : (x : Spec) → Parsed text used refs found (k .entries) (k .names) f x → Converts x nodes signals nodes′ signals′ a) where
+    module _ {nodes signals nodes′ signals′ : List ℕ} {a : Counted} (g : (x : Spec) → Parsed text used refs found counted x → Converts x nodes signals nodes′ signals′ a) where
       pub tree-answers : Answers text work nodes signals used nodes′ signals′ (a .answer)
       tree-answers =
           record { hands = hands-as (text-parsed (delivered (length nodes) (length signals)) text (tree .read)) (g (tree .tree) tree-parsed .hands); size = c .size; beyond = c .beyond }

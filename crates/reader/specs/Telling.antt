@@ -64,7 +64,7 @@ module _ {text work used refs found : List ℕ} {r : Checked} (c : Checks text w
       }
 
   pub tree-tells : {k : Counts} {f : Facts} {nodes signals nodes′ signals′ : List ℕ} {a : Counted} → r ≡ Passed k f
-      → ((x : Spec) → Parsed text used refs found (k .entries) (k .names) f x → Converts x nodes signals nodes′ signals′ a)
+      → ((x : Spec) → Parsed text used refs found (record { entries = k .entries; names = k .names; facts = f }) x → Converts x nodes signals nodes′ signals′ a)
       → Tells text work nodes signals used nodes′ signals′ (record { answer = a .answer; facts = f; lines = a .lines })
   tree-tells e g = let t = accepted c e in record { answers = tree-answers c e g; facts = λ x d. t .facts ∙ ap factsOf (tree-parsed t d); lines = tree-counts c e g }
 

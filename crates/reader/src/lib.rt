@@ -1,6 +1,9 @@
 // The reader: from a text's bytes to its nodes and its signal list in the lent buffers (document 01, 'Reader order').
+use assembly::implied::Ends;
+use assembly::implied::Ports;
 use checked::Checked;
 use checked::check;
+use declarations::Counts;
 use declarations::Declared;
 use declarations::declare::declare;
 use ending::finish;
@@ -9,6 +12,7 @@ use line_counts::LineCounts;
 use line_counts::count_lines;
 use line_counts::no_lines;
 use lines::Gathering;
+use lines::Plan;
 use lines::gather;
 use node::Answer;
 use node::MAX_NODES;
@@ -19,24 +23,33 @@ use ports::Signals;
 use words::clear;
 use writing::TOO_MANY;
 ghost use mathlib.Core.Path.{_≡_};
-ghost use Prim.Native.Nat.{_≤_};
+ghost use Prim.Native.Nat.{ℕ, _≤_};
 ghost use lib.ListN.{length};
 ghost use Rattle.language.specs.Limits.{workBytes};
 ghost use Rattle.language.specs.Tree.{Spec};
 ghost use Rattle.language.specs.Declared.{Declarations};
 ghost use Rattle.claim.specs.Reads.{Reads};
 ghost use Rattle.ending.specs.Listing.{startOf};
+ghost use Rattle.lines.specs.declared.Gathering.{Gathering as NotGathered};
+ghost use Rattle.declarations.specs.declared.Declared.{Declared as NotDeclared};
 ghost use Rattle.reader.specs.Telling.{Tells, ReadsTold};
 ghost use Rattle.reader.specs.Counting.{Finishes};
 ghost use Rattle.reader.specs.Lining.{Ready, SomeReady, Sized};
-ghost use Rattle.reader.specs.Naming.{Parsed, SomeParsed, Converts};
+ghost use Rattle.reader.specs.Naming.{fewEntries, Roomy, Parsed, SomeParsed, Converts};
 
-// The words for a set of each declared name, and of each where there are few names.
-const SETS: usize = limits::MAX_NAMES * limits::SET_ROOM;
+// The words of the machine's memory: enough for any text, for one of some names, for one of few names and entries. Half of it holds the notes and the sets of definitions, so
+// that none is worked out twice; clearing more than that would take more time than a short text.
+const MEMORY: usize = 131_072;
 
-const FEW_NAMES: usize = 32;
+const SOME_MEMORY: usize = 65_536;
 
-const FEW_SETS: usize = FEW_NAMES * limits::SET_ROOM;
+const SOME_NAMES: usize = 123;
+
+const LITTLE_MEMORY: usize = 16_384;
+
+const FEW_NAMES: usize = 27;
+
+const FEW_ENTRIES: usize = 2_048;
 
 // Where the lines' nodes start: with too many signals nothing is written, and lines are worked through for their refusals alone.
 fn start(listed: Signals) -> usize
@@ -63,190 +76,229 @@ fn uncounted(number: u32, place: u32) -> Counted
     }
 }
 
-// The lines of a text whose names are worked out, and what follows them.
-fn expand(
-    text: &[u8],
-    work: &[u8],
-    refs: &[u16],
+// Refusals handed up.
+fn undeclared(declared: Declared) -> Counted
+    ensures { λ r. ⌜ ((n p : ℕ) → declared ≡ NotDeclared.Refused n p → r .answer ≡ Answer.Refused n p) ⌝ }
+{
+    let Declared::Refused(number, place) = declared else {
+        return uncounted(0, 0);
+    };
+    uncounted(number, place)
+}
+
+fn ungathered(gathering: Gathering) -> Counted
+    ensures { λ r. ⌜ ((n p : ℕ) → gathering ≡ NotGathered.Refused n p → r .answer ≡ Answer.Refused n p) ⌝ }
+{
+    let Gathering::Refused(number, place) = gathering else {
+        return uncounted(0, 0);
+    };
+    uncounted(number, place)
+}
+
+// A text whose names are worked out: how many entries it has, what INFO says, its ports, how many they are and how many of them inputs, and its signals, in a list
+// unless there are too many.
+struct Named {
     entries: usize,
     facts: Facts,
-    sorts: &mut [u8],
-    numbers: &mut [u32],
-    kept: &mut [u32],
-    slots: &mut [u32],
-    order: &[u16],
-    enumerations: &[u16],
-    firsts: &[u32],
-    list: &[u32],
-    ports: usize,
+    ports: Ports,
+    count: usize,
     ins: usize,
     listed: Signals,
+    list: [u32; MAX_SIGNALS],
+}
+
+// The lines of a text whose names are worked out, and what follows them.
+fn expand_declared(
+    text: &[u8],
+    work: &[u8],
+    refs: &[u16],
+    memory: &mut [u32],
+    table: &mut [u32; MAX_NODES],
+    named: Named,
     nodes: &mut [u32],
     signals: &mut [u32],
 ) -> Counted
-    requires { ⌜ SomeReady (now text) (now work) (now refs) entries facts (now sorts) (now numbers) (now kept) (now order) (now enumerations) (now firsts) (now list) ports ins listed ⌝ }
-    requires { ⌜ Sized (now work) (now refs) (now sorts) (now numbers) (now slots) (now firsts) ⌝ }
-    ensures { λ r. ⌜ ((x : Spec) (d : Declarations) → Ready (now (text .entry)) (now (work .entry)) (now (refs .entry)) entries facts (now (sorts .entry)) (now (numbers .entry)) (now (kept .entry))
-        (now (order .entry)) (now (enumerations .entry)) (now (firsts .entry)) (now (list .entry)) ports ins listed x d
+    requires { ⌜ SomeReady (now text) (now work) (now refs) (now memory) (now table) named ⌝ }
+    requires { ⌜ Sized (now work) (now refs) (now memory) named ⌝ }
+    ensures { λ r. ⌜ ((x : Spec) (d : Declarations) → Ready (now (text .entry)) (now (work .entry)) (now (refs .entry)) (now (memory .entry)) (now (table .entry)) named x d
         → Finishes x d (now (nodes .entry)) (now (signals .entry)) (now (nodes .exit)) (now (signals .exit)) r) ⌝ }
 {
-    let mut written = [0u32; limits::MAX_NAMES];
-    let mut out = [0u32; limits::SET_ROOM];
-    let mut table = [0u32; MAX_NODES];
     let mut lines = [0u32; MAX_NODES];
+    let listed = named.listed;
     let from = start(listed);
-    let gathering = gather(
-        text,
-        work,
-        refs,
-        sorts,
-        numbers,
-        kept,
-        slots,
-        enumerations,
-        order,
-        firsts,
-        &mut written,
-        &mut out,
-        &mut table,
-        &mut lines,
-        entries,
-        ins,
-        ports,
-        from,
-    );
-    match gathering {
-        Gathering::Lines(count, at) => {
-            let counts = count_lines(&lines, count);
-            let a = finish(
-                facts,
-                listed,
-                &lines,
-                count,
-                &table,
-                at,
-                list,
-                nodes,
-                signals,
-            );
-            Counted {
-                answer: a,
-                lines: counts,
-            }
-        }
-        Gathering::Refused(number, place) => uncounted(number, place),
-    }
-}
-
-// The declarations of a checked tree, and what follows them: refusals 11 to 18. Sets of definitions are kept as far as there is room.
-fn convert_in(
-    text: &[u8],
-    work: &[u8],
-    refs: &[u16],
-    found: &[u16],
-    entries: usize,
-    names: usize,
-    facts: Facts,
-    kept: &mut [u32],
-    nodes: &mut [u32],
-    signals: &mut [u32],
-) -> Counted
-    requires { ⌜ SomeParsed (now text) (now work) (now refs) (now found) entries names facts ⌝ }
-    ensures { λ r. ⌜ ((x : Spec) → Parsed (now (text .entry)) (now (work .entry)) (now (refs .entry)) (now (found .entry)) entries names facts x
-        → Converts x (now (nodes .entry)) (now (signals .entry)) (now (nodes .exit)) (now (signals .exit)) r) ⌝ }
-{
-    let mut sorts = [0u8; limits::MAX_NAMES];
-    let mut numbers = [0u32; limits::MAX_NAMES];
-    let mut slots = [0u32; limits::MAX_TOKENS];
-    let mut order = [0u16; limits::MAX_NAMES];
-    let mut enumerations = [0u16; limits::MAX_NAMES];
-    let mut firsts = [0u32; limits::MAX_NAMES];
-    let mut list = [0u32; MAX_SIGNALS];
-    let declared = declare(
-        text,
-        work,
-        refs,
-        found,
-        entries,
-        names,
-        &mut sorts,
-        &mut numbers,
-        kept,
-        &mut slots,
-        &mut order,
-        &mut enumerations,
-        &mut firsts,
-        &mut list,
-    );
-    match declared {
-        Declared::Ports(ports, ins, listed) => expand(
-            text,
-            work,
-            refs,
-            entries,
-            facts,
-            &mut sorts,
-            &mut numbers,
-            kept,
-            &mut slots,
-            &order,
-            &enumerations,
-            &firsts,
-            &list,
-            ports,
-            ins,
-            listed,
-            nodes,
-            signals,
-        ),
-        Declared::Refused(number, place) => uncounted(number, place),
-    }
-}
-
-// `convert_in` with room for all sets: little of it where there are few names, since clearing it would take more time than the text.
-fn convert(
-    text: &[u8],
-    work: &[u8],
-    refs: &[u16],
-    found: &[u16],
-    entries: usize,
-    names: usize,
-    facts: Facts,
-    nodes: &mut [u32],
-    signals: &mut [u32],
-) -> Counted
-    requires { ⌜ SomeParsed (now text) (now work) (now refs) (now found) entries names facts ⌝ }
-    ensures { λ r. ⌜ ((x : Spec) → Parsed (now (text .entry)) (now (work .entry)) (now (refs .entry)) (now (found .entry)) entries names facts x
-        → Converts x (now (nodes .entry)) (now (signals .entry)) (now (nodes .exit)) (now (signals .exit)) r) ⌝ }
-{
-    if names <= FEW_NAMES {
-        let mut kept = [0u32; FEW_SETS];
-        return convert_in(
-            text,
-            work,
-            refs,
-            found,
-            entries,
-            names,
-            facts,
-            &mut kept,
-            nodes,
-            signals,
-        );
-    }
-    let mut kept = [0u32; SETS];
-    convert_in(
-        text,
-        work,
-        refs,
-        found,
-        entries,
-        names,
-        facts,
-        &mut kept,
+    let plan = Plan {
+        entries: named.entries,
+        ins: named.ins,
+        count: named.count,
+        start: from,
+    };
+    let ports = named.ports;
+    let gathering = gather(text, work, refs, memory, table, &mut lines, ports, plan);
+    let Gathering::Lines(count, at) = gathering else {
+        return ungathered(gathering);
+    };
+    let counts = count_lines(&lines, count);
+    let list = named.list;
+    let ends = Ends { at, count };
+    let a = finish(
+        named.facts,
+        listed,
+        &lines,
+        ends,
+        table,
+        &list,
         nodes,
         signals,
-    )
+    );
+    Counted {
+        answer: a,
+        lines: counts,
+    }
+}
+
+// A checked tree: how many entries and names it has, and what INFO says.
+struct CheckedTree {
+    entries: usize,
+    names: usize,
+    facts: Facts,
+}
+
+// The declarations of a checked tree, and what follows them: refusals 11 to 18.
+fn expand_checked_in(
+    text: &[u8],
+    work: &[u8],
+    refs: &[u16],
+    found: &[u16],
+    memory: &mut [u32],
+    tree: CheckedTree,
+    nodes: &mut [u32],
+    signals: &mut [u32],
+) -> Counted
+    requires { ⌜ SomeParsed (now text) (now work) (now refs) (now found) tree ⌝ }
+    requires { ⌜ Roomy (now memory) (tree .entries) ⌝ }
+    ensures { λ r. ⌜ ((x : Spec) → Parsed (now (text .entry)) (now (work .entry)) (now (refs .entry)) (now (found .entry)) tree x
+        → Converts x (now (nodes .entry)) (now (signals .entry)) (now (nodes .exit)) (now (signals .exit)) r) ⌝ }
+{
+    let mut table = [0u32; MAX_NODES];
+    let mut list = [0u32; MAX_SIGNALS];
+    let counts = Counts {
+        entries: tree.entries,
+        names: tree.names,
+    };
+    let d = declare(
+        text,
+        work,
+        refs,
+        found,
+        counts,
+        memory,
+        &mut table,
+        &mut list,
+    );
+    let declared = d.answer;
+    let Declared::Ports(count, ins, listed) = declared else {
+        return undeclared(declared);
+    };
+    let order = d.order;
+    let enumerations = d.enumerations;
+    let firsts = d.firsts;
+    let ports = Ports {
+        order,
+        enumerations,
+        firsts,
+    };
+    let facts = tree.facts;
+    let named = Named {
+        entries: tree.entries,
+        facts,
+        ports,
+        count,
+        ins,
+        listed,
+        list,
+    };
+    expand_declared(text, work, refs, memory, &mut table, named, nodes, signals)
+}
+
+// `expand_checked_in` of a text of few names and entries.
+fn expand_checked_short(
+    text: &[u8],
+    work: &[u8],
+    refs: &[u16],
+    found: &[u16],
+    tree: CheckedTree,
+    nodes: &mut [u32],
+    signals: &mut [u32],
+) -> Counted
+    requires { ⌜ SomeParsed (now text) (now work) (now refs) (now found) tree ⌝ }
+    requires { ⌜ tree .entries ≤ fewEntries ⌝ }
+    ensures { λ r. ⌜ ((x : Spec) → Parsed (now (text .entry)) (now (work .entry)) (now (refs .entry)) (now (found .entry)) tree x
+        → Converts x (now (nodes .entry)) (now (signals .entry)) (now (nodes .exit)) (now (signals .exit)) r) ⌝ }
+{
+    let mut memory = [0u32; LITTLE_MEMORY];
+    expand_checked_in(text, work, refs, found, &mut memory, tree, nodes, signals)
+}
+
+// `expand_checked_in` of a text of some names.
+fn expand_checked_middle(
+    text: &[u8],
+    work: &[u8],
+    refs: &[u16],
+    found: &[u16],
+    tree: CheckedTree,
+    nodes: &mut [u32],
+    signals: &mut [u32],
+) -> Counted
+    requires { ⌜ SomeParsed (now text) (now work) (now refs) (now found) tree ⌝ }
+    ensures { λ r. ⌜ ((x : Spec) → Parsed (now (text .entry)) (now (work .entry)) (now (refs .entry)) (now (found .entry)) tree x
+        → Converts x (now (nodes .entry)) (now (signals .entry)) (now (nodes .exit)) (now (signals .exit)) r) ⌝ }
+{
+    let mut memory = [0u32; SOME_MEMORY];
+    expand_checked_in(text, work, refs, found, &mut memory, tree, nodes, signals)
+}
+
+// `expand_checked_in` of any text.
+fn expand_checked_long(
+    text: &[u8],
+    work: &[u8],
+    refs: &[u16],
+    found: &[u16],
+    tree: CheckedTree,
+    nodes: &mut [u32],
+    signals: &mut [u32],
+) -> Counted
+    requires { ⌜ SomeParsed (now text) (now work) (now refs) (now found) tree ⌝ }
+    ensures { λ r. ⌜ ((x : Spec) → Parsed (now (text .entry)) (now (work .entry)) (now (refs .entry)) (now (found .entry)) tree x
+        → Converts x (now (nodes .entry)) (now (signals .entry)) (now (nodes .exit)) (now (signals .exit)) r) ⌝ }
+{
+    let mut memory = [0u32; MEMORY];
+    expand_checked_in(text, work, refs, found, &mut memory, tree, nodes, signals)
+}
+
+// `expand_checked_in` with a memory for the text.
+fn expand_checked(
+    text: &[u8],
+    work: &[u8],
+    refs: &[u16],
+    found: &[u16],
+    tree: CheckedTree,
+    nodes: &mut [u32],
+    signals: &mut [u32],
+) -> Counted
+    requires { ⌜ SomeParsed (now text) (now work) (now refs) (now found) tree ⌝ }
+    ensures { λ r. ⌜ ((x : Spec) → Parsed (now (text .entry)) (now (work .entry)) (now (refs .entry)) (now (found .entry)) tree x
+        → Converts x (now (nodes .entry)) (now (signals .entry)) (now (nodes .exit)) (now (signals .exit)) r) ⌝ }
+{
+    if tree.names > SOME_NAMES {
+        return expand_checked_long(text, work, refs, found, tree, nodes, signals);
+    }
+    if tree.names > FEW_NAMES {
+        return expand_checked_middle(text, work, refs, found, tree, nodes, signals);
+    }
+    if tree.entries > FEW_ENTRIES {
+        return expand_checked_middle(text, work, refs, found, tree, nodes, signals);
+    }
+    expand_checked_short(text, work, refs, found, tree, nodes, signals)
 }
 
 // A text's answer, what its INFO says, and how many lines the sections have that promise something.
@@ -282,17 +334,12 @@ fn answer(text: &[u8], work: &mut [u8], nodes: &mut [u32], signals: &mut [u32]) 
     let checked = check(text, work, &mut refs, &mut found);
     match checked {
         Checked::Accepted(counts, facts) => {
-            let counted = convert(
-                text,
-                work,
-                &refs,
-                &found,
-                counts.entries,
-                counts.names,
+            let tree = CheckedTree {
+                entries: counts.entries,
+                names: counts.names,
                 facts,
-                nodes,
-                signals,
-            );
+            };
+            let counted = expand_checked(text, work, &refs, &found, tree, nodes, signals);
             let a = counted.answer;
             let lines = counted.lines;
             Told {

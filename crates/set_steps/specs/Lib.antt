@@ -4,3 +4,4 @@ pub mod MeasureLaws
 pub mod BoundLaws
 pub mod RangeLaws
 pub mod BraceLaws
+pub mod WidthLaws

@@ -4,10 +4,9 @@ use mathlib.Core.List.{List}
 use mathlib.Core.Option.{some}
 use mathlib.Core.Path.{_≡_, refl, sym, ap, ap₂, _∙_, subst}
 use native.Mathlib.Omega.{arith}
-use lib.ListN.{length, getD}
+use lib.ListN.{getD}
 use Rattle.node.specs.Result.{Result, Done, _>>=_}
 use Rattle.node.specs.ResultLaws.{bind-again, bind-at}
-use Rattle.language.specs.Limits.{maxElements}
 use Rattle.language.specs.Operators.{Measure, Measures}
 use Rattle.language.specs.Tree.{Expr}
 use Rattle.language.specs.Values.{Value, Number, set, measure, value}
@@ -24,19 +23,15 @@ use Rattle.operands.specs.KindLaws.{measure-class}
 use Rattle.operands.specs.Operands.{below}
 use Rattle.operands.specs.Working.{Source}
 use Rattle.memory_sets.specs.Places.{elementsAt, Placed}
-use Rattle.memory_sets.specs.declared.Span.{Span}
-use Rattle.machine.specs.Came.{Evaluate, Came, worth, asSet}
+use Rattle.machine.specs.Came.{Evaluate, worth, asSet}
 use Rattle.machine.specs.Frames.{Measured, apply}
-use Rattle.machine.specs.Realm.{Realm}
 use Rattle.machine.specs.Operators.{Before, OpAt}
-use Rattle.machine.specs.SetLaws.{sits-low}
 use Rattle.machine.specs.Telling.{isSet}
-use Rattle.machine.specs.Table.{Began}
-use Rattle.machine.specs.States.{modeOf, Ready, Steps, TopOf, Topped, Takes}
+use Rattle.machine.specs.States.{modeOf, Ready, Steps, Topped, Takes}
 use Rattle.machine.specs.StateLaws.{entered}
 use Rattle.machine.specs.ComeLaws.{came-set, not-set, misfit-then}
 use Rattle.machine.specs.FrameViews.{by-phase}
-use Rattle.machine.specs.TakeLaws.{entry-word, room-under, refuses, top-phase, top-as}
+use Rattle.machine.specs.TakeLaws.{entry-word, refuses, top-phase, top-as}
 use Rattle.machine.specs.Openings.{Opened}
 use Rattle.machine.specs.OpenLaws.{opens}
 use Rattle.machine.specs.FlatLaws.{popped}
@@ -47,7 +42,7 @@ use Rattle.machine.specs.declared.Machine.{Machine}
 use Rattle.machine.specs.declared.Move.{Move}
 use Rattle.machine.specs.declared.Move.the-variants.{Refused as Refuses}
 use Rattle.machine.specs.Entering.{Evaluates, Waiting, works-value}
-use Rattle.value_steps.specs.PlacedLaws.{elements-are, placed}
+use Rattle.value_steps.specs.PlacedLaws.{elements-are, placed, spanOf, set-under}
 use Rattle.set_steps.specs.OperatorLaws.{op-measure}
 
 -- the clause as its frame has it
@@ -97,10 +92,6 @@ measurement-steps {s} {mem} {mem'} {m} {r} y k q = record {
       }) r q;
 }
 
--- where a set that has come stands
-abbrev spanOf : Machine → Span
-spanOf m = record { at = m .from; count = m .value }
-
 -- the set has come
 module _ {s : Source} {mem : List ℕ} {m : Machine} (w : Waiting mem m 0) where
   pub measured-misfits : (m .mode ≡ isSet → ⊥) → Takes s mem mem m (Refuses 9 0)
@@ -118,26 +109,12 @@ module _ {s : Source} {mem : List ℕ} {m : Machine} (w : Waiting mem m 0) where
       subst (λ (j : ℕ). 6 ≤ kindAt (s .work) j) (sym (entry-word h)) (op-measure (h .at .waits) .0)
 
   module _ (e : m .mode ≡ isSet) where
-    -- it stands below the frames
-    under : {R : Realm s} {out : List ℕ} {x : Result Came} {o : Began} {p : ℕ} {op : Measure} (h : TopOf R mem out m x o (Measured p op)) → m .from + maxElements < length mem
-    under {R} {o = o} h =
-        let g = came-set R o mem m (h .came) (h .come) e in
-        let u = room-under h .values in
-        let n1 = h .noted .within in
-        let n2 = h .noted .ascending in
-        let lo = h .at .lower in
-        let hi = h .at .high in
-        let ro = h .at .room in
-        let ins = h .at .inside in
-        let lw = sits-low m (omega arith) (g .sits) in
-        omega arith
-
     pub measured-placed : Topped s mem m → Placed mem (spanOf m)
     measured-placed t =
         let v = by-phase (t .top .frame) 0 (top-phase (t .top) ∙ w .phase) in
         let h = top-as (t .top) (v .2) in
         let g = came-set (t .realm) (t .began) mem m (h .came) (h .come) e in
-        placed mem (spanOf m) (g .set) (g .held) (g .count) (g .fine) (under h)
+        placed mem (spanOf m) (g .set) (g .held) (g .count) (g .fine) (set-under h e)
 
     pub measured-steps : {k i p : ℕ} (r : Worked) → k ≡ getD mem (m .frames + 1) 0 → i ≡ kindAt (s .work) k - 6 → p ≡ placeAt (s .work) k
         → says r ≡ measure p (measurement i) (elementsAt mem (spanOf m)) → Takes s mem mem m (numbered (popped m) r)
@@ -151,7 +128,7 @@ module _ {s : Source} {mem : List ℕ} {m : Machine} (w : Waiting mem m 0) where
           let at : OpAt s k (Before (Measures op)) (v .0) = subst (λ (j : ℕ). OpAt s j (Before (Measures op)) (v .0)) (sym (ek ∙ entry-word h)) (h .at .waits) in
           let same-op : measurement i ≡ op = ap measurement ei ∙ op-measure at .1 in
           let same-place : p ≡ v .0 = ep ∙ at .place in
-          let same-set : elementsAt mem (spanOf m) ≡ l = elements-are mem (spanOf m) l (g .held) (g .count) (g .fine) (under h) in
+          let same-set : elementsAt mem (spanOf m) ≡ l = elements-are mem (spanOf m) l (g .held) (g .count) (g .fine) (set-under h e) in
           let q' : says r ≡ measure (v .0) op l = q ∙ ap (λ (j : ℕ). measure j (measurement i) (elementsAt mem (spanOf m))) same-place
           ∙ ap₂ (λ (y : Measure) (j : List ℕ). measure (v .0) y j) same-op same-set in
           yields-number h {phase = 0} refl (g .same) r q' (measure-sane (v .0) op l (g .fine .ordered, g .fine .few))

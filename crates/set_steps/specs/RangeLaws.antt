@@ -4,7 +4,7 @@ use mathlib.Core.List.{List, _++_}
 use mathlib.Core.Option.{some}
 use mathlib.Core.Path.{_≡_, refl, sym, ap, ap₂, _∙_, subst}
 use native.Mathlib.Omega.{arith}
-use lib.ListN.{length, getD, length-append}
+use lib.ListN.{getD}
 use Rattle.node.specs.Result.{Result, Done, _>>=_}
 use Rattle.node.specs.ResultLaws.{bind-again, bind-at}
 use Rattle.language.specs.Tokens.{Token}
@@ -20,8 +20,7 @@ use Rattle.name_values.specs.KnownLaws.{known-range}
 use Rattle.sets.specs.declared.Worked.{Worked}
 use Rattle.operands.specs.Entries.{kindAt, sizeAt, placeAt}
 use Rattle.operands.specs.Classes.{classOf}
-use Rattle.operands.specs.ClassLaws.{has-entry, kind-of, place-is, size-is}
-use Rattle.operands.specs.Operands.{below}
+use Rattle.operands.specs.ClassLaws.{kind-of, place-is}
 use Rattle.operands.specs.Working.{Source}
 use Rattle.memory_sets.specs.Places.{SetAt}
 use Rattle.machine.specs.Came.{Evaluate, worth, works, asNumber}
@@ -40,7 +39,7 @@ use Rattle.machine.specs.Openings.{Opened}
 use Rattle.machine.specs.OpenLaws.{opens}
 use Rattle.machine.specs.FlatLaws.{flat-top, renews}
 use Rattle.machine.specs.BindLaws.{take-number, then-worth, set-last}
-use Rattle.machine.specs.OperandLaws.{operand-view, operand-as, alongside}
+use Rattle.machine.specs.OperandLaws.{operand-view, operand-as, Three, three-operands}
 use Rattle.machine.specs.declared.Machine.{Machine}
 use Rattle.machine.specs.declared.Move.{Move}
 use Rattle.machine.specs.declared.Move.the-variants.{Next, Refused as Refuses}
@@ -56,38 +55,8 @@ range-same p x y z =
     ∙ sym (take-number z (λ i. range p a b i >>= λ s. worth (Set s)))) ∙ sym (take-number y (λ b. (z >>= worth) >>= ranged p a b)))
     ∙ sym (take-number x (λ a. (y >>= worth) >>= λ u. asNumber u >>= λ b. (z >>= worth) >>= ranged p a b))
 
--- three operands, the last at the entry before
-abbrev secondAt : List ℕ → ℕ → ℕ
-secondAt work k = k - 1 - sizeAt work (k - 1)
-
-abbrev firstAt : List ℕ → ℕ → ℕ
-firstAt work k = secondAt work k - sizeAt work (secondAt work k)
-
-pub record Three (s : Source) (W : World) (ps : List Port) (env : List ℕ) (c : Context) (k : ℕ) (x y z : Expr) : Type 0 where
-  pub first : Operand s W ps env c (firstAt (s .work) k) x
-  pub second : Operand s W ps env c (secondAt (s .work) k) y
-  pub third : Operand s W ps env c (k - 1) z
-  pub inside : 1 + sizeAt (s .work) (k - 1) + sizeAt (s .work) (secondAt (s .work) k) ≤ k
-
-three-operands : {s : Source} {W : World} {ps : List Port} {env : List ℕ} {c : Context} {k : ℕ} (t : Token) (x y z : Expr) → Operand s W ps env c k (Range t x y z) → Three s W ps env c k x y z
-three-operands {s} {W} {ps} {env} {c} {k} t x y z p =
-    let d = known-range t x y z (p .known) in
-    let l = below Kind.range (some t) (flat x ++ (flat y ++ flat z)) (p .known .at) in
-    let mx = has-entry x (d .0 .proper) in
-    let my = has-entry y (d .1 .proper) in
-    let mz = has-entry z (d .2 .proper) in
-    let a1 = length-append (flat x) (flat y ++ flat z) in
-    let a2 = length-append (flat y) (flat z) in
-    let sz = size-is z mz (d .2 .at) in
-    let second : Operand s W ps env c (secondAt (s .work) k) y = subst (λ (i : ℕ). Operand s W ps env c i y) (ap (λ (i : ℕ). k - 1 - i) (sym sz)) (alongside p (d .1)) in
-    let sy = size-is y my (second .known .at) in
-    let at-x : k - 1 - length (flat z) - length (flat y) ≡ firstAt (s .work) k = omega arith in
-    record {
-      first = subst (λ (i : ℕ). Operand s W ps env c i x) at-x (alongside p (d .0));
-      second = second;
-      third = alongside p (d .2);
-      inside = omega arith;
-    }
+range-operands : {s : Source} {W : World} {ps : List Port} {env : List ℕ} {c : Context} {k : ℕ} (t : Token) (x y z : Expr) (p : Operand s W ps env c k (Range t x y z)) → Three p x y z
+range-operands t x y z p = three-operands p Kind.range t x y z (p .known .at) (known-range t x y z (p .known))
 
 -- all stand before the entry
 pub stepping-inside : {s : Source} {mem : List ℕ} {m : Machine} {i : ℕ} → Ready s mem m → Evaluates (s .work) m Kind.range 54 → i ≡ sizeAt (s .work) (m .value - 1)
@@ -99,7 +68,7 @@ stepping-inside {s} {m = m} r k e =
     let n = entered (r .state) (omega arith) in
     let kind : kindAt (s .work) (m .value) ≡ Kind.range = omega arith in
     let v = operand-view (n .at .operand) (ap classOf kind) in
-    subst (λ (i : ℕ). 1 + i + sizeAt (s .work) (m .value - 1 - i) ≤ m .value) (sym e) (three-operands (v .0) (v .1) (v .2) (v .3) (operand-as (n .at .operand) (v .4)) .inside)
+    subst (λ (i : ℕ). 1 + i + sizeAt (s .work) (m .value - 1 - i) ≤ m .value) (sym e) (range-operands (v .0) (v .1) (v .2) (v .3) (operand-as (n .at .operand) (v .4)) .inside)
 
 -- the entry: its first number is worked out first
 pub stepping-steps : {s : Source} {mem mem' : List ℕ} {m : Machine} {i j : ℕ} {r : Move} → Evaluates (s .work) m Kind.range 54 → i ≡ sizeAt (s .work) (m .value - 1)
@@ -117,9 +86,9 @@ stepping-steps {s} {mem} {mem'} {m} {i} {j} {r} k ei ej q = record {
       let b = v .2 in
       let d = v .3 in
       let p = operand-as (n .at .operand) (v .4) in
-      let three = three-operands t a b d p in
+      let three = range-operands t a b d p in
       let ins = three .inside in
-      let same : m .value - 1 - i - j ≡ firstAt (s .work) (m .value) =
+      let same : m .value - 1 - i - j ≡ m .value - 1 - sizeAt (s .work) (m .value - 1) - sizeAt (s .work) (m .value - 1 - sizeAt (s .work) (m .value - 1)) =
       ap₂ (λ (y z : ℕ). m .value - 1 - y - z) ei (ej ∙ ap (λ (y : ℕ). sizeAt (s .work) (m .value - 1 - y)) ei) in
       opens n {F = RangeFirst (t .at) (n .context) b d} {phase = 9} {a = Evaluate} {e = a} {j = m .value - 1 - i - j} (record {
         holds-nothing = refl;
@@ -132,8 +101,8 @@ stepping-steps {s} {mem} {mem'} {m} {i} {j} {r} k ei ej q = record {
             kind = kind-of Kind.range (some t) (flat a ++ (flat b ++ flat d)) (p .known .at);
             place = place-is (R .lexed) Kind.range t (flat a ++ (flat b ++ flat d)) (p .known .at);
           },
-          (omega arith, three .second),
-          three .third,
+          (omega arith, three .middle),
+          three .last,
         );
         kept = tt;
         same = works-value n e0 ∙ ap (λ (y : Expr). value (n .context .values) y >>= worth) (v .4)
@@ -179,7 +148,7 @@ module _ {s : Source} {mem : List ℕ} {m : Machine} (w : Waiting mem m 9) where
           count-is = refl;
           fewer = omega arith;
           below = omega arith;
-          operand = subst (λ (i : ℕ). Operand s (R .W) (R .ports) (h .ground .env) c i b) (sym (ap (λ (i : ℕ). k - 1 - i) ej ∙ ap (secondAt (s .work)) same-entry)) (h .at .waits .1 .1);
+          operand = subst (λ (i : ℕ). Operand s (R .W) (R .ports) (h .ground .env) c i b) (sym (ap (λ (i : ℕ). k - 1 - i) ej ∙ ap (λ (i : ℕ). i - 1 - sizeAt (s .work) (i - 1)) same-entry)) (h .at .waits .1 .1);
           holds = record { here = refl; small = n .small };
           waits = (
             subst (λ (i : ℕ). OpAt s i Stepping p) (sym same-entry) (h .at .waits .0),

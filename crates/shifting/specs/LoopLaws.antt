@@ -15,8 +15,10 @@ use Rattle.language.specs.Shifting.{shifted}
 use Rattle.language.specs.Laws.Meaning.ShiftLaws.{shifted-below, shifted-size}
 use Rattle.writing.specs.Writing.{Puts, Wrote}
 use Rattle.writing.specs.WritingLaws.{after, ends, past, wrote-none}
+use Rattle.writing.specs.PartLaws.{stands}
+use Rattle.writing.specs.PassLaws.{passes-all}
 use Rattle.shifting.specs.Passing.{renumbered, isLate, written, Pass, passed, Numbers, Shifts}
-use Rattle.shifting.specs.PassingLaws.{passed-next, passed-numbers, passed-grows, grown, wrote-at}
+use Rattle.shifting.specs.PassingLaws.{passed-next, passed-numbers, passed-grows, passed-passes}
 use Rattle.shifting.specs.NodeLaws.{renumbered-same}
 
 -- after i nodes: what the pass has written stands in the table up to `at`, and `numbers` has the new number of each
@@ -98,8 +100,8 @@ module _ (late : ℕ → Bool) (table : List ℕ) (m : ℕ) where
   written-all : {f : Formula} {before : List ℕ} → length before ≡ maxNodes → Wrote f before table 0 m → m ≤ maxNodes → passed late table m .words ≡ nodesFrom 0 (shifted late f)
   unfolding passed
   written-all {f} l w h =
-      let e : m ≡ 0 + size f = ends w h in
-      ap (λ (n : ℕ). passed late table n .words) e ∙ grown late table 0 f (omega arith) (w .signals h) (wrote-at w l h)
+      let e : m ≡ size f = let z = ends w h in omega arith in
+      ap (λ (n : ℕ). passed late table n .words) e ∙ passes-all (passed-passes late table) (stands w l h) refl
 
   -- a formula that was too large before
   pub shift-many : {out out′ : List ℕ} {r : ℕ} → maxNodes < m → maxNodes < r → Shifts late table m out out′ r

@@ -10,6 +10,7 @@ use Rattle.node.specs.Result.{Result, Done, _>>=_}
 use Rattle.node.specs.ResultLaws.{bind-at}
 use Rattle.writing.specs.Writing as Writing
 use Rattle.writing.specs.Writing.{Wrote, Nexts}
+use Rattle.writing.specs.StayLaws.{begins-stays, begins-nexts}
 use Rattle.language.specs.Tree.{Expr}
 use Rattle.language.specs.Values.{Value, number, value}
 use Rattle.language.specs.Expansion.{expansion, nexts}
@@ -40,8 +41,7 @@ use Rattle.machine.specs.declared.Machine.{Machine}
 use Rattle.machine.specs.declared.Move.{Move}
 use Rattle.machine.specs.declared.Move.the-variants.{Next, Refused as Refuses}
 use Rattle.machine.specs.Entering.{Expands, Waiting, works-formula, operand-shape}
-use Rattle.temporal_steps.specs.StayLaws.{begins-stays, begins-nexts}
-use Rattle.temporal_steps.specs.SameLaws.{same-nexts}
+use Rattle.machine.specs.SameLaws.{same-nexts}
 
 -- the clause as its frames have it
 repetition-same : (n : Result Value) (a : Result Formula) → ((n >>= number >>= λ k. a >>= λ f. Done (nexts k f)) >>= nodes) ≡ ((n >>= worth) >>= λ v. asNumber v >>= λ k. (a >>= nodes) >>= repeated k)

@@ -12,6 +12,7 @@ use Rattle.node.specs.Ltl.{Formula, One}
 use Rattle.node.specs.Result.{Result, Done, _>>=_}
 use Rattle.node.specs.ResultLaws.{bind-at}
 use Rattle.writing.specs.Writing.{Caps}
+use Rattle.writing.specs.StayLaws.{one-stays}
 use Rattle.language.specs.Operators.{Applies}
 use Rattle.language.specs.Tree.{Expr}
 use Rattle.language.specs.Expansion.{expansion}
@@ -39,13 +40,11 @@ use Rattle.machine.specs.OpenLaws.{opens}
 use Rattle.machine.specs.FlatLaws.{popped}
 use Rattle.machine.specs.FormulaLaws.{formula-laid, finishes}
 use Rattle.machine.specs.BindLaws.{take-formula, then-nodes}
-use Rattle.machine.specs.OperandLaws.{operand-as}
+use Rattle.machine.specs.OperandLaws.{operand-as, one-operand}
 use Rattle.machine.specs.declared.Machine.{Machine}
 use Rattle.machine.specs.declared.Move.{Move}
 use Rattle.machine.specs.declared.Move.the-variants.{Next, Refused as Refuses}
 use Rattle.machine.specs.Entering.{Expands, Waiting, works-formula, operand-shape}
-use Rattle.temporal_steps.specs.OperandLaws.{one-operand}
-use Rattle.temporal_steps.specs.StayLaws.{begins-stays, begins-one}
 
 -- the clause as its frame has it
 unary-same : (o : Unary) (a : Result Formula) → ((a >>= λ f. Done (One o f)) >>= nodes) ≡ ((a >>= nodes) >>= λ v. asFormula v >>= λ f. nodes (One o f))
@@ -135,5 +134,5 @@ module _ {s : Source} {mem out : List ℕ} {m : Machine} (w : Waiting mem m 18) 
         let whole = wrote-capped en (j (v .0) (bi .node ∙ ap unaryKind same-op) (l .at) .wrote (l .wrote)) in
         finishes h (One (v .0) (g .formula)) refl refl refl
         (ap (apply (Capping (v .0))) (g .same) ∙ bind-at (g .formula) (λ y. nodes (One (v .0) y)))
-        (l .others) whole (omega arith) (begins-stays (begins-one (v .0) (g .formula) (l .at)) (l .wrote) whole);
+        (l .others) whole (omega arith) (one-stays (v .0) (l .wrote) whole);
   }

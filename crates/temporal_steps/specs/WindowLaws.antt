@@ -15,6 +15,7 @@ use Rattle.node.specs.ResultLaws.{bind-at, guard-pass, guard-stop, guard-bind}
 use Rattle.writing.specs.Writing as Writing
 use Rattle.writing.specs.Writing.{Wrote, Nexts}
 use Rattle.writing.specs.Windows as Windows
+use Rattle.writing.specs.StayLaws.{begins-stays, begins-nexts, begins-chain, stays-then}
 use Rattle.language.specs.Operators.{Window, FinallyIn, GloballyIn}
 use Rattle.language.specs.Tree.{Expr}
 use Rattle.language.specs.Values.{Value, number, value}
@@ -34,7 +35,7 @@ use Rattle.machine.specs.Operators.{Within, OpAt}
 use Rattle.machine.specs.Memory.{Framed}
 use Rattle.machine.specs.Holding.{formsOf}
 use Rattle.machine.specs.Telling.{isNumber, isNodes}
-use Rattle.machine.specs.TableLaws.{laid-last, laid-end, wrote-capped}
+use Rattle.machine.specs.TableLaws.{laid-last, laid-end, wrote-capped, laid-sized}
 use Rattle.machine.specs.States.{modeOf, Ready, Steps, Topped, Takes, ToppedToWrite, TakesToWrite}
 use Rattle.machine.specs.StateLaws.{entered}
 use Rattle.machine.specs.EnterLaws.{came, wrote}
@@ -46,15 +47,13 @@ use Rattle.machine.specs.OpenLaws.{opens}
 use Rattle.machine.specs.FlatLaws.{popped, flat-laid, renews}
 use Rattle.machine.specs.FormulaLaws.{formula-laid, finishes}
 use Rattle.machine.specs.BindLaws.{take-number, take-formula, then-nodes}
-use Rattle.machine.specs.OperandLaws.{operand-as}
+use Rattle.machine.specs.OperandLaws.{operand-as, three-operands}
 use Rattle.machine.specs.declared.Machine.{Machine}
 use Rattle.machine.specs.declared.Move.{Move}
 use Rattle.machine.specs.declared.Move.the-variants.{Next, Refused as Refuses}
 use Rattle.machine.specs.Entering.{Expands, Waiting, works-formula, operand-shape}
-use Rattle.temporal_steps.specs.OperandLaws.{three-operands}
-use Rattle.temporal_steps.specs.StayLaws.{begins-stays, begins-nexts, begins-chain, stays-then}
-use Rattle.temporal_steps.specs.SameLaws.{same-nexts, same-chain}
-use Rattle.temporal_steps.specs.TableLaws.{laid-sized, wrote-chain}
+use Rattle.machine.specs.SameLaws.{same-nexts, same-chain}
+use Rattle.temporal_steps.specs.TableLaws.{wrote-chain}
 
 -- the clause as its frames have it
 formula-same : (o : Window) (j k : ℕ) (a : Result Formula) → ((a >>= λ f. Done (nexts j (chain (windowOperator o) (k - j) f))) >>= nodes) ≡ ((a >>= nodes) >>= windowed o j k)
@@ -299,7 +298,7 @@ module _ {s : Source} {mem out : List ℕ} {m : Machine} (w : Waiting mem m 30) 
         let l = laid-last (formula-laid h (g .same)) in
         let same-start : l .at ≡ start = laid-end (formsOf (h .rest)) (l .others) ∙ sym (es ∙ at-word h ∙ h .at .holds .2) in
         let chained : Wrote (Writing.chain bo (b - a) (g .formula)) (l .before) out₁ (l .at) mid =
-        wrote-chain o bo same-op (laid-sized (l .others)) (l .wrote) (subst (λ (i : ℕ). Windows.Windowed op (b - a) out out₁ i (m .nodes) mid) (sym same-start) q) in
+        wrote-chain bo same-op (laid-sized (l .others)) (l .wrote) (subst (λ (i : ℕ). Windows.Windowed op (b - a) out out₁ i (m .nodes) mid) (sym same-start) q) in
         let made : Formula = Writing.nexts a (Writing.chain bo (b - a) (g .formula)) in
         let whole : Wrote made (l .before) out' (l .at) n = wrote-capped en (y (l .at) .wrote chained) in
         let same-made : nexts (v .1) (chain bo (v .2 - v .1) (g .formula)) ≡ made =

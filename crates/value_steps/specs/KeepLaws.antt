@@ -1,37 +1,41 @@
--- What a definition's body has come to: a number is noted in place of the body.
-use Prim.Native.Nat.{ℕ, _+_, _*_, _≤_, _<_}
-use mathlib.Core.List.{List, _++_}
+-- What a definition's body has come to is noted in place of the body: a number; or a set, which is copied behind the kept ones if there is room for it.
+use Prim.Native.Nat.{ℕ, _+_, _≤_, _<_}
+use mathlib.Core.List.{List}
 use mathlib.Core.Path.{_≡_, refl, sym, ap, _∙_, subst}
 use native.Mathlib.Omega.{arith}
-use native.Mathlib.Decide.{ℕ-discrete}
-use native.Mathlib.Nat.{add-zero}
-use lib.ListN.{length, getD, set, length-set}
-use lib.Seq.{getD-set-same, getD-set-other, drop-set-lt}
+use lib.ListN.{length, getD, set}
 use Rattle.node.specs.Result.{Result, Done, Refused, _>>=_}
 use Rattle.node.specs.ResultLaws.{not-done}
-use Rattle.language.specs.Limits.{maxNames, maxNumber}
+use Rattle.language.specs.Limits.{maxNames}
 use Rattle.language.specs.Tokens.{Token}
-use Rattle.language.specs.Values.{Value, Number, Set, Logic, Bus, Unsized, Choice, value}
-use Rattle.name_values.specs.World.{Meaning, World, nameValue, meaningAt}
+use Rattle.language.specs.Tree.{Expr}
+use Rattle.language.specs.Values.{Value, Number, Set, value}
+use Rattle.language.specs.Expansion.{Context}
+use Rattle.memory_sets.specs.Places.{Copied}
+use Rattle.name_values.specs.World.{Meaning, nameValue, meaningAt}
 use Rattle.name_values.specs.Sorts as Sort
 use Rattle.operands.specs.Working.{Source}
-use Rattle.machine.specs.Came.{Came, Worth, Nodes, worth}
+use Rattle.machine.specs.Came.{Came, Worth, worth}
+use Rattle.machine.specs.Frames.{KeepValue}
 use Rattle.machine.specs.Realm.{Realm}
-use Rattle.machine.specs.Memory.{Regions, noteWords, firstKept, freeWord, slotsWord, frameWords, noteAt, Agree}
-use Rattle.machine.specs.MemoryLaws.{held-kept, agree-same}
+use Rattle.machine.specs.Memory.{firstKept, freeWord, slotsWord, frameWords, noteAt, freeOf, Sits, inKept, onTop}
+use Rattle.machine.specs.MemoryLaws.{held-kept}
 use Rattle.machine.specs.MeansLaws.{means-kept}
-use Rattle.machine.specs.Holding.{formsOf}
-use Rattle.machine.specs.Notes.{IsKeptSet, Fact, Noted, Lasts, Lasting}
-use Rattle.machine.specs.Telling.{isNumber}
+use Rattle.machine.specs.Notes.{Fact}
+use Rattle.machine.specs.SetLaws.{held-word, held-words}
+use Rattle.machine.specs.Telling.{isNumber, isSet}
 use Rattle.machine.specs.Table.{Began}
-use Rattle.machine.specs.TableLaws.{laid-as}
-use Rattle.machine.specs.States.{Standing, Come, written, Topped, Takes}
-use Rattle.machine.specs.ComeLaws.{came-number}
+use Rattle.machine.specs.States.{Arrived, Come, Turned, TopOf, Topped, Takes}
+use Rattle.machine.specs.ComeLaws.{came-number, came-set}
 use Rattle.machine.specs.FrameViews.{by-phase}
-use Rattle.machine.specs.TakeLaws.{words, value-word, other-word, room-under, pops, top-phase, top-as}
+use Rattle.machine.specs.EnterLaws.{came}
+use Rattle.machine.specs.TakeLaws.{top-phase, top-as}
 use Rattle.machine.specs.declared.Machine.{Machine}
 use Rattle.machine.specs.declared.Move.the-variants.{Next}
 use Rattle.machine.specs.Entering.{Waiting}
+use Rattle.machine.specs.FactLaws.{fact-of}
+use Rattle.value_steps.specs.ReleaseLaws.{released, below, Releasing, declared, defined, releases, lets-go}
+use Rattle.value_steps.specs.NotingLaws.{Renoted, renoted-noted, renoted-lasting, noting, noting-renoted, past-notes, grown-fits, grown-free, grown-word, grown-renoted}
 
 -- the value that has come of an expression
 worth-done : (r : Result Value) {v : Value} → (r >>= worth) ≡ Done (Worth v) → r ≡ Done v
@@ -39,134 +43,37 @@ unfolding _>>=_
 worth-done (Done u) e = cc
 worth-done (Refused n p) e = absurd (not-done e)
 
--- the definition r is noted by a number
-abbrev pub numbering : List ℕ → (r n : ℕ) → List ℕ
-numbering mem r n = set (set mem (noteWords * r) Sort.number) (noteWords * r + 1) n
+module _ {s : Source} {R : Realm s} {mem out : List ℕ} {m : Machine} {x : Result Came} {o : Began} {q : ℕ} {c : Context} {d : Expr} (h : TopOf R mem out m x o (KeepValue q c d)) where
+  waiting : Releasing h q c d
+  waiting = record { holds-nothing = refl; same = refl; returns = h .at .holds; defining = h .at .waits }
 
-module _ (mem : List ℕ) (r n : ℕ) (l : r < maxNames) (fits : firstKept ≤ length mem) where
-  other-word-kept : (i : ℕ) → (i ≡ noteWords * r → ⊥) → (i ≡ noteWords * r + 1 → ⊥) → getD (numbering mem r n) i 0 ≡ getD mem i 0
-  other-word-kept i a b =
-      getD-set-other (set mem (noteWords * r) Sort.number) (noteWords * r + 1) i n 0 (λ e. b e) ∙ getD-set-other mem (noteWords * r) i Sort.number 0 (λ e. a e)
+  module _ {r : ℕ} (er : r ≡ getD mem (m .frames + 6) 0) where
+    -- the body's value is the name's
+    body-value : {v : Value} → h .came ≡ Worth v → (t : Token) → nameValue (meaningAt (R .W) r) t ≡ Done v
+    body-value e t =
+        ap (λ (y : Meaning). nameValue y t) (defined h waiting er) ∙ worth-done (value (c .values) d) (means-kept x _ (h .rest) (Done (h .came)) (h .same) ∙ ap Done e)
 
-  past-notes : (i : ℕ) → freeWord ≤ i → getD (numbering mem r n) i 0 ≡ getD mem i 0
-  past-notes i h = other-word-kept i (λ e. omega arith) (λ e. omega arith)
+    -- it is noted, and goes on
+    keeps : {v : Value} {mem' : List ℕ} {scope sort k a from : ℕ} → h .came ≡ Worth v → scope ≡ getD mem (m .frames + 5) 0 → Renoted (o .regions) mem mem' r sort k a (noteAt mem r 3)
+        → Fact s mem' (meaningAt (R .W) r) sort k a → Arrived R o mem' (released (came m (m .mode) (m .value) from) scope) v
+        → Turned R mem mem' out out m x o (Next (released (came m (m .mode) (m .value) from) scope))
+    keeps {mem' = mem'} {scope} {from = from} e es w f ar =
+        let b = below h in
+        let b1 = b .ascending in
+        let b2 = b .frames in
+        releases h waiting es (w .agree _ _ _ (omega arith)) (renoted-noted w (defined h waiting er) f (h .noted)) (renoted-lasting w (h .lasting .lasts r (declared h waiting er)) (h .lasting))
+        (subst (Come R o mem' (released (came m (m .mode) (m .value) from) scope)) (sym e) ar)
 
-  other-note : (q j : ℕ) → (q ≡ r → ⊥) → j < noteWords → noteAt (numbering mem r n) q j ≡ noteAt mem q j
-  other-note q j h k = other-word-kept (noteWords * q + j) (λ e. h (omega arith)) (λ e. h (omega arith))
+-- a set that has come stands in the memory, and lies in the kept ones if it begins below their end
+sits-inside : {free top at n length : ℕ} → free ≤ top → top + n ≤ length → Sits free top at n → at + n ≤ length
+sits-inside f l (inKept p q) = omega arith
+sits-inside f l (onTop p) = omega arith
 
-  late-note : (q j : ℕ) → 1 < j → j < noteWords → noteAt (numbering mem r n) q j ≡ noteAt mem q j
-  late-note q j h k = other-word-kept (noteWords * q + j) (λ e. omega arith) (λ e. omega arith)
+sits-kept : {free top at n : ℕ} → free ≤ top → at < free → Sits free top at n → (firstKept ≤ at) × (at + n ≤ free)
+sits-kept f l (inKept p q) = (p, q)
+sits-kept f l (onTop p) = absurd (omega arith)
 
-  sort-here : noteAt (numbering mem r n) r 0 ≡ Sort.number
-  sort-here =
-      let e : noteWords * r + 0 ≡ noteWords * r = add-zero (noteWords * r) in
-      ap (λ (i : ℕ). getD (numbering mem r n) i 0) e ∙ getD-set-other (set mem (noteWords * r) Sort.number) (noteWords * r + 1) (noteWords * r) n 0 (λ z. omega arith)
-      ∙ getD-set-same mem (noteWords * r) Sort.number 0 (omega arith)
-
-  number-here : noteAt (numbering mem r n) r 1 ≡ n
-  number-here = let z = length-set mem (noteWords * r) Sort.number in getD-set-same (set mem (noteWords * r) Sort.number) (noteWords * r + 1) n 0 (omega arith)
-
-  pub numbering-length : length (numbering mem r n) ≡ length mem
-  numbering-length = length-set (set mem (noteWords * r) Sort.number) (noteWords * r + 1) n ∙ length-set mem (noteWords * r) Sort.number
-
-  pub numbering-agrees : {z : Regions} {d top at : ℕ} → firstKept ≤ z .slots → z .slots ≤ z .floor → firstKept ≤ at → Agree z mem (numbering mem r n) d top at
-  numbering-agrees {at = at} a b c = record {
-    len = numbering-length;
-    more = let e = past-notes freeWord (omega arith) in omega arith;
-    kept = λ i p q. past-notes i (omega arith);
-    slots = λ i p q. past-notes i (omega arith);
-    values = λ i p q. past-notes i (omega arith);
-    frames = drop-set-lt at (set mem (noteWords * r) Sort.number) (noteWords * r + 1) n (omega arith) ∙ drop-set-lt at mem (noteWords * r) Sort.number (omega arith);
-  }
-
-  set-kept : {m : Meaning} {c a : ℕ} → IsKeptSet mem m c a → IsKeptSet (numbering mem r n) m c a
-  set-kept {a = a} k =
-      let ab = k .above in
-      let e = past-notes freeWord (omega arith) in
-      let be = k .below in
-      record {
-        set = k .set;
-        stands = k .stands;
-        fine = k .fine;
-        size = k .size;
-        above = k .above;
-        below = omega arith;
-        held = held-kept mem (numbering mem r n) a (k .set) (λ i p q. past-notes i (omega arith)) (k .held);
-      }
-
-  pub numbering-noted : {s : Source} {R : Realm s} {z : Regions} {index : ℕ} → ((t : Token) → nameValue (meaningAt (R .W) r) t ≡ Done (Number n)) → n ≤ maxNumber → Noted R z index mem
-      → Noted R z index (numbering mem r n)
-  numbering-noted {s} {R} stands small h =
-      let e = past-notes freeWord (omega arith) in
-      let a = h .first in
-      let b = h .within in
-      record {
-        facts = λ q k. go q k (ℕ-discrete q r);
-        signals = λ y. let g = h .signals y in record {
-          single = λ q k d. let w = late-note q 2 (omega arith) (omega arith) in let u = g .single q k d in (w ∙ u .0, (let v = u .1 in omega arith));
-          bus = λ q c k d. let w = late-note q 2 (omega arith) (omega arith) in let u = g .bus q c k d in (w ∙ u .0, (let v = u .1 in omega arith));
-        };
-        first = omega arith;
-        within = omega arith;
-        slots-word = past-notes slotsWord (omega arith) ∙ h .slots-word;
-        ascending = h .ascending;
-      }
-    where
-      here : Fact s (numbering mem r n) (meaningAt (R .W) r) Sort.number n (noteAt (numbering mem r n) r 2)
-      here = record {
-        sorted = omega arith;
-        number = λ z. record { stands = stands; small = small };
-        body = λ z. absurd (omega arith);
-        bus = λ z. absurd (omega arith);
-        signal = λ z. absurd (omega arith);
-        set = λ z. absurd (omega arith);
-        identifier = λ z. absurd (omega arith);
-        nothing = λ z. absurd (omega arith);
-      }
-
-      go : (q : ℕ) → q < maxNames → Dec (q ≡ r) → Fact s (numbering mem r n) (meaningAt (R .W) q) (noteAt (numbering mem r n) q 0) (noteAt (numbering mem r n) q 1) (noteAt (numbering mem r n) q 2)
-      go q k (yes e) = subst (λ (i : ℕ). Fact s (numbering mem r n) (meaningAt (R .W) i) (noteAt (numbering mem r n) i 0) (noteAt (numbering mem r n) i 1) (noteAt (numbering mem r n) i 2)) (sym e)
-          (subst (λ (i : ℕ). Fact s (numbering mem r n) (meaningAt (R .W) r) i (noteAt (numbering mem r n) r 1) (noteAt (numbering mem r n) r 2)) (sym sort-here)
-          (subst (λ (i : ℕ). Fact s (numbering mem r n) (meaningAt (R .W) r) Sort.number i (noteAt (numbering mem r n) r 2)) (sym number-here) here))
-      go q k (no e) =
-          let f = h .facts q k in
-          subst (λ (i : ℕ). Fact s (numbering mem r n) (meaningAt (R .W) q) i (noteAt (numbering mem r n) q 1) (noteAt (numbering mem r n) q 2)) (sym (other-note q 0 e (omega arith)))
-          (subst (λ (i : ℕ). Fact s (numbering mem r n) (meaningAt (R .W) q) (noteAt mem q 0) i (noteAt (numbering mem r n) q 2)) (sym (other-note q 1 e (omega arith)))
-          (subst (λ (i : ℕ). Fact s (numbering mem r n) (meaningAt (R .W) q) (noteAt mem q 0) (noteAt mem q 1) i) (sym (other-note q 2 e (omega arith))) (record {
-            sorted = f .sorted;
-            number = f .number;
-            body = f .body;
-            bus = f .bus;
-            signal = f .signal;
-            set = λ z. set-kept (f .set z);
-            identifier = f .identifier;
-            nothing = f .nothing;
-          })))
-
-  pub numbering-lasting : {W : World} {table : List ℕ} {at : ℕ} → Lasting W mem table at → Lasting W (numbering mem r n) table at
-  numbering-lasting {W} {table} {at} x = record {
-    lasts = λ q k d. let e = late-note q 3 (omega arith) (omega arith) in subst (λ (v : ℕ). Lasts W table at q v) (sym e) (x .lasts q k (λ y. d (e ∙ y)));
-  }
-
--- the frame of a definition is gone
-abbrev pub released : Machine → ℕ → Machine
-released m scope =
-    record { mode = m .mode; value = m .value; from = m .from; scope = scope; depth = m .depth; top = m .top; frames = m .frames + frameWords; nodes = m .nodes }
-
-module _ {s : Source} (R : Realm s) (o : Began) (mem : List ℕ) (m : Machine) (scope : ℕ) where
-  same-standing : (v : Value) → Standing R o mem m v → Standing R o mem (released m scope) v
-  same-standing (Number n) h = tt
-  same-standing (Set l) h = h
-  same-standing Logic h = tt
-  same-standing (Bus p x n) h = tt
-  same-standing (Unsized p) h = tt
-  same-standing (Choice ws) h = tt
-
-  same-come : (v : Came) → Come R o mem m v → Come R o mem (released m scope) v
-  same-come (Worth v) c = record { tells = c .tells; stands = same-standing v (c .stands) }
-  same-come (Nodes f) c = c
-
--- the notes lie in the memory
+-- the notes and the two words behind them lie in the memory
 pub record Keeping (mem : List ℕ) (m : Machine) (r : ℕ) : Type 0 where
   pub declared : r < maxNames
   pub inside : firstKept ≤ length mem
@@ -178,72 +85,94 @@ module _ {s : Source} {mem : List ℕ} {m : Machine} (w : Waiting mem m 17) wher
   keep-name t er =
       let v = by-phase (t .top .frame) 17 (top-phase (t .top) ∙ w .phase) in
       let h = top-as (t .top) (v .3) in
-      let n = h .at .holds .name-is in
-      let d = h .at .waits .declared in
-      let o = other-word h in
-      let u = room-under h in
-      let u1 = u .values in
-      let u2 = u .words in
-      let u3 = u .inside in
-      let n1 = h .noted .first in
-      let n2 = h .noted .within in
-      let n3 = h .noted .ascending in
-      record { declared = omega arith; inside = omega arith; frames = h .at .inside }
+      record { declared = declared h (waiting h) er; inside = below h .inside; frames = h .at .inside }
 
-  -- whatever else it is, it goes on
-  pub keep-passes : {scope : ℕ} → scope ≡ getD mem (m .frames + 5) 0 → Takes s mem mem m (Next (released m scope))
-  keep-passes {scope} es = record {
-    turns = λ R x o out t.
-        let v = by-phase (t .frame) 17 (top-phase t ∙ w .phase) in
-        let h = top-as t (v .3) in
-        pops h {v = h .came} (record {
-          same = refl;
-          come = same-come R o mem m scope (h .came) (h .come);
-          scope-is = es ∙ value-word h ∙ h .at .holds .scope-is;
-          depth-is = h .at .deep ∙ add-zero (h .ground .depth);
-          top-is = h .at .level refl;
-          frames-is = refl;
-          agree = agree-same;
-          laid = h .laid;
-          few = h .few;
-          noted = h .noted;
-          lasting = h .lasting;
-        });
-  }
+  -- the set that has come can be copied
+  pub keep-inside : Topped s mem m → m .mode ≡ isSet → m .from + m .value ≤ length mem
+  keep-inside t e =
+      let v = by-phase (t .top .frame) 17 (top-phase (t .top) ∙ w .phase) in
+      let h = top-as (t .top) (v .3) in
+      let g = came-set (t .realm) (t .began) mem m (h .came) (h .come) e in
+      let b = below h in
+      let b1 = b .within in
+      let b2 = b .ascending in
+      let fe = g .fine .few in
+      let co = g .count in
+      let le = h .at .level refl in
+      let lo = h .at .low in
+      let ro = h .at .room in
+      let fr = h .at .inside in
+      let i = sits-inside {length = length mem} (omega arith) (omega arith) (g .sits) in
+      omega arith
 
-  pub keep-number : m .mode ≡ isNumber → {scope r : ℕ} → scope ≡ getD mem (m .frames + 5) 0 → r ≡ getD mem (m .frames + 6) 0
-      → Takes s mem (numbering mem r (m .value)) m (Next (released m scope))
-  keep-number e {scope} {r} es er = record {
-    turns = λ R x o out t.
-        let v = by-phase (t .frame) 17 (top-phase t ∙ w .phase) in
-        let c = v .1 in
-        let d = v .2 in
-        let h = top-as t (v .3) in
-        let g = came-number R o mem m (h .came) (h .come) e in
-        let name : r ≡ v .0 = er ∙ other-word h ∙ h .at .holds .name-is in
-        let u = room-under h in
-        let u1 = u .values in
-        let u2 = u .words in
-        let u3 = u .inside in
-        let n1 = h .noted .first in
-        let n2 = h .noted .within in
-        let n3 = h .noted .ascending in
-        let de = h .at .waits .declared in
-        let l : r < maxNames = omega arith in
-        let fits : firstKept ≤ length mem = omega arith in
-        let worked : value (c .values) d ≡ Done (Number (m .value)) = worth-done (value (c .values) d) (means-kept x _ (h .rest) (Done (h .came)) (h .same) ∙ ap Done (g .same)) in
-        let stands : (k : Token) → nameValue (meaningAt (R .W) r) k ≡ Done (Number (m .value)) = λ k. ap (λ (i : ℕ). nameValue (meaningAt (R .W) i) k) name ∙ ap (λ (y : Meaning). nameValue y k) (h .at .waits .means) ∙ worked in
-        pops h {v = Worth (Number (m .value))} (record {
-          same = ap Done (g .same);
-          come = record { tells = record { mode-is = e; value-is = refl; small = g .small }; stands = tt };
-          scope-is = es ∙ value-word h ∙ h .at .holds .scope-is;
-          depth-is = h .at .deep ∙ add-zero (h .ground .depth);
-          top-is = h .at .level refl;
-          frames-is = refl;
-          agree = numbering-agrees mem r (m .value) l fits (omega arith) n3 (omega arith);
-          laid = laid-as (ap (λ (y : Came). written (m .nodes) y ++ formsOf (h .rest)) (g .same)) (h .laid);
-          few = h .few;
-          noted = numbering-noted mem r (m .value) l fits stands (g .small) (h .noted);
-          lasting = numbering-lasting mem r (m .value) l fits (h .lasting);
-        });
-  }
+  module _ {scope : ℕ} (es : scope ≡ getD mem (m .frames + 5) 0) where
+    -- whatever else it is, it goes on
+    pub keep-passes : Takes s mem mem m (Next (released m scope))
+    keep-passes = record { turns = λ R x o out t. let v = by-phase (t .frame) 17 (top-phase t ∙ w .phase) in let h = top-as t (v .3) in lets-go h (waiting h) es }
+
+    module _ {r : ℕ} (er : r ≡ getD mem (m .frames + 6) 0) where
+      pub keep-number : m .mode ≡ isNumber → Takes s mem (noting mem r Sort.number (m .value) 0) m (Next (released m scope))
+      keep-number e = record {
+        turns = λ R x o out t.
+            let v = by-phase (t .frame) 17 (top-phase t ∙ w .phase) in
+            let h = top-as t (v .3) in
+            let g = came-number R o mem m (h .came) (h .come) e in
+            let b = below h in
+            let b1 = b .first in
+            let b2 = b .within in
+            keeps h er {v = Number (m .value)} (g .same) es (noting-renoted mem r Sort.number (m .value) 0 (declared h (waiting h) er) (b .inside) (omega arith) (b .ascending) b2)
+            (fact-of Sort.number (omega arith) refl (record { stands = body-value h er (g .same); small = g .small }))
+            (record { tells = record { mode-is = e; value-is = refl; small = g .small }; stands = tt });
+      }
+
+      -- a set that is a kept one
+      pub keep-kept : m .mode ≡ isSet → m .from < freeOf mem → Takes s mem (noting mem r Sort.set (m .value) (m .from)) m (Next (released m scope))
+      keep-kept e lo = record {
+        turns = λ R x o out t.
+            let v = by-phase (t .frame) 17 (top-phase t ∙ w .phase) in
+            let h = top-as t (v .3) in
+            let g = came-set R o mem m (h .came) (h .come) e in
+            let b = below h in
+            let b1 = b .first in
+            let b2 = b .within in
+            let b3 = b .ascending in
+            let le = h .at .level refl in
+            let fl = h .at .low in
+            let co = g .count in
+            let u = noting-renoted mem r Sort.set (m .value) (m .from) (declared h (waiting h) er) (b .inside) {z = o .regions} (omega arith) (b .ascending) b2 in
+            let ag = u .agree 0 0 (o .regions .slots) (omega arith) in
+            let mo = ag .more in
+            let p = sits-kept (omega arith) lo (g .sits) in
+            let p1 = p .0 in
+            let p2 = p .1 in
+            let held = held-kept mem (noting mem r Sort.set (m .value) (m .from)) (m .from) (g .set) (λ i j k. ag .kept i (omega arith) (omega arith)) (g .held) in
+            keeps h er {v = Set (g .set)} (g .same) es u
+            (fact-of Sort.set (omega arith) refl (record { set = g .set; stands = body-value h er (g .same); fine = g .fine; size = co; above = p1; below = omega arith; held = held }))
+            (record { tells = record { mode-is = e; count = co; fine = g .fine }; stands = (held, inKept p1 (omega arith)) });
+      }
+
+      -- one for which there is room behind the kept ones
+      pub keep-copied : {mem₁ : List ℕ} → m .mode ≡ isSet → freeOf mem + m .value ≤ getD mem slotsWord 0 → Copied mem (m .from) mem mem₁ (freeOf mem) (m .value)
+          → Takes s mem (noting (set mem₁ freeWord (freeOf mem + m .value)) r Sort.set (m .value) (freeOf mem)) m (Next (released (came m (m .mode) (m .value) (freeOf mem)) scope))
+      keep-copied {mem₁} e room cp = record {
+        turns = λ R x o out t.
+            let v = by-phase (t .frame) 17 (top-phase t ∙ w .phase) in
+            let h = top-as t (v .3) in
+            let g = came-set R o mem m (h .came) (h .come) e in
+            let b = below h in
+            let b1 = b .first in
+            let b2 = b .ascending in
+            let sl = h .noted .slots-word in
+            let co = g .count in
+            let fits : freeOf mem + m .value ≤ o .regions .slots = omega arith in
+            let l = declared h (waiting h) er in
+            let mem₂ : List ℕ = set mem₁ freeWord (freeOf mem + m .value) in
+            let mem₃ : List ℕ = noting mem₂ r Sort.set (m .value) (freeOf mem) in
+            let f = grown-free cp {z = o .regions} b1 fits b2 (b .inside) in
+            let n = past-notes mem₂ r Sort.set (m .value) (freeOf mem) l (grown-fits cp {z = o .regions} b1 fits b2 (b .inside)) in
+            let u = grown-renoted cp {z = o .regions} b1 fits b2 (b .inside) r Sort.set (m .value) (freeOf mem) l in
+            let held = held-words mem₃ (freeOf mem) (g .set) (λ i j. n (freeOf mem + i) (omega arith) ∙ grown-word cp {z = o .regions} b1 fits b2 (b .inside) i (omega arith) ∙ held-word mem (m .from) (g .set) (g .held) i j) in
+            keeps h er {v = Set (g .set)} (g .same) es u
+            (fact-of Sort.set (omega arith) refl (record { set = g .set; stands = body-value h er (g .same); fine = g .fine; size = co; above = b1; below = (let y = n freeWord (omega arith) in omega arith); held = held }))
+            (record { tells = record { mode-is = e; count = co; fine = g .fine }; stands = (held, inKept b1 (let y = n freeWord (omega arith) in omega arith)) });
+      }

@@ -3,5 +3,7 @@ pub mod ArithmeticLaws
 pub mod PlacedLaws
 pub mod CombinationLaws
 pub mod NameLaws
+pub mod NotingLaws
+pub mod ReleaseLaws
 pub mod KeepLaws
 pub mod ParenLaws

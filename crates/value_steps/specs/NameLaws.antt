@@ -10,7 +10,7 @@ use Rattle.node.specs.Result.{Result, Done, _>>=_}
 use Rattle.node.specs.ResultLaws.{bind-to, bind-refused, bind-value}
 use Rattle.language.specs.Limits.{maxNames, maxNumber}
 use Rattle.language.specs.Tokens.{Token}
-use Rattle.language.specs.Tree.{Expr}
+use Rattle.language.specs.Tree.{Expr, Named}
 use Rattle.language.specs.Expansion.{Context}
 use Rattle.language.specs.Values.{Value, Number, Set, Logic, Bus, Unsized, Choice, value}
 use Rattle.language.specs.Laws.Basics.Lists.{All}
@@ -53,31 +53,35 @@ small-at (v ∷ env) a d l = go (decLt d (length env)) (small-at env (a .1) d)
     go (yes m) ih = subst (λ (n : ℕ). n ≤ maxNumber) (sym (numbered-before 0 v env d m)) (ih m)
     go (no m) ih = let e : d ≡ length env = omega arith in subst (λ (n : ℕ). n ≤ maxNumber) (sym (numbered-last 0 v env d e)) (a .0)
 
--- the name of the entry, by its reference r
-record Using {s : Source} {R : Realm s} {mem out : List ℕ} {m : Machine} {x : Result Came} {o : Began} (h : Entered R mem out m x o) (r : ℕ) : Type 0 where
-  token : Token
-  same : works (h .aim) (h .context) (h .tree) ≡ (h .context .values token >>= worth)
-  limit : ℕ
-  uses : Uses (R .W) limit (h .at .env) r token (h .context)
-  place : placeAt (s .work) (m .value) ≡ token .at
-  before : (n : ℕ) (c : Context) (e : Expr) → r < maxNames → meaningAt (R .W) r ≡ Defines n c e → n < m .value
+-- the name of the entry, by its reference r, whatever it is worked out for
+pub record Using {s : Source} {R : Realm s} {mem out : List ℕ} {m : Machine} {x : Result Came} {o : Began} (h : Entered R mem out m x o) (r : ℕ) : Type 0 where
+  pub token : Token
+  pub named : h .tree ≡ Named token
+  pub limit : ℕ
+  pub uses : Uses (R .W) limit (h .at .env) r token (h .context)
+  pub place : placeAt (s .work) (m .value) ≡ token .at
+  pub before : (n : ℕ) (c : Context) (e : Expr) → r < maxNames → meaningAt (R .W) r ≡ Defines n c e → n < m .value
 
-named-by : {s : Source} {R : Realm s} {mem out : List ℕ} {m : Machine} {x : Result Came} {o : Began} (h : Entered R mem out m x o) {r : ℕ} → Evaluates (s .work) m Kind.named 1
+pub named-by : {s : Source} {R : Realm s} {mem out : List ℕ} {m : Machine} {x : Result Came} {o : Began} (h : Entered R mem out m x o) {r : ℕ} → kindAt (s .work) (m .value) < 1
     → r ≡ getD (s .refs) (m .value) 0 → Using h r
 named-by {s} {R} {m = m} h {r} k er =
-    let u = k .until in
     let kind : kindAt (s .work) (m .value) ≡ Kind.named = omega arith in
     let v = operand-view (h .at .operand) (ap classOf kind) in
     let t = v .0 in
     let p = operand-as (h .at .operand) (v .1) in
     record {
       token = t;
-      same = works-value h (k .mode) ∙ ap (λ (e : Expr). value (h .context .values) e >>= worth) (v .1);
+      named = v .1;
       limit = p .known .limit;
       uses = subst (λ (i : ℕ). Uses (R .W) (p .known .limit) (h .at .env) i t (h .context)) (sym er) (p .known .agrees);
       place = place-is (R .lexed) Kind.named t [] (p .known .at);
       before = λ n c e l d. named-body t (p .known) n c e (omega arith) (ap (meaningAt (R .W)) (sym er) ∙ d);
     }
+
+-- its value
+name-value : {s : Source} {R : Realm s} {mem out : List ℕ} {m : Machine} {x : Result Came} {o : Began} {h : Entered R mem out m x o} {r : ℕ} (u : Using h r) → m .mode ≡ modeOf Evaluate
+    → works (h .aim) (h .context) (h .tree) ≡ (h .context .values (u .token) >>= worth)
+name-value {h = h} u e = works-value h e ∙ ap (λ (t : Expr). value (h .context .values) t >>= worth) (u .named)
 
 -- what a value that is noted comes to
 stands-for : {r : Result Value} {v : Value} → r ≡ Done v → (r >>= worth) ≡ Done (Worth v)
@@ -96,6 +100,10 @@ note-inside h l =
     let n3 = n .ascending in
     omega arith
 
+-- the entry's reference can be read
+pub reference-inside : {s : Source} {mem : List ℕ} {m : Machine} → Ready s mem m → m .mode ≤ 1 → m .value < length (s .refs)
+reference-inside h l = let e = entry-few (entered (h .state) l) in let f = h .lent .refs in omega arith
+
 pub note-first : (mem : List ℕ) (r : ℕ) → getD mem (noteWords * r) 0 ≡ noteAt mem r 0
 note-first mem r = ap (λ (i : ℕ). getD mem i 0) (sym (add-zero (noteWords * r)))
 
@@ -107,15 +115,12 @@ pub record Refers (work refs mem : List ℕ) (m : Machine) (r : ℕ) : Type 0 wh
   pub no-body : noteAt mem r 0 ≡ Sort.body → ⊥
 
 module _ {s : Source} {mem : List ℕ} {m : Machine} (k : Evaluates (s .work) m Kind.named 1) {r : ℕ} (er : r ≡ getD (s .refs) (m .value) 0) where
-  pub reference-inside : Ready s mem m → m .value < length (s .refs)
-  reference-inside h = let e = k .mode in let l = entry-few (entered (h .state) (omega arith)) in let f = h .lent .refs in omega arith
-
   -- a big operator's name: its element stands in a slot
   pub element-inside : Ready s mem m → maxNames ≤ r → m .scope + (r - maxNames) < length mem
   element-inside h l =
       let e = k .mode in
       let n = entered (h .state) (omega arith) in
-      let i = named-by n k er .uses .inside in
+      let i = named-by n (k .until) er .uses .inside in
       let d = n .at .deep in
       let u = stack-room (n .stack) in
       let u1 = u .slots in
@@ -129,12 +134,12 @@ module _ {s : Source} {mem : List ℕ} {m : Machine} (k : Evaluates (s .work) m 
     turns = λ R x o out h.
         let e = k .mode in
         let n = entered h (omega arith) in
-        let u = named-by n k er in
+        let u = named-by n (k .until) er in
         let ins = u .uses .inside in
         let d = r - maxNames in
         let at : numbered 0 (n .at .env) d ≡ getD mem i 0 = slotted-at mem (m .scope) (n .at .env) (n .at .slotted) d (omega arith) ∙ ap (λ (j : ℕ). getD mem j 0) (sym ei) in
         let is : n .context .values (u .token) ≡ Done (Number (numbered 0 (n .at .env) d)) = u .uses .stands ∙ denote-bound (R .W) (n .at .env) d r (u .token) (omega arith) in
-        comes n (Number (numbered 0 (n .at .env) d)) (u .same ∙ stands-for is) (record { mode-is = refl; value-is = sym at; small = small-at (n .at .env) (n .at .operand .small) d (omega arith) }) tt;
+        comes n (Number (numbered 0 (n .at .env) d)) (name-value u e ∙ stands-for is) (record { mode-is = refl; value-is = sym at; small = small-at (n .at .env) (n .at .operand .small) d (omega arith) }) tt;
   }
 
   -- a declared name: by its sort and its number
@@ -144,12 +149,12 @@ module _ {s : Source} {mem : List ℕ} {m : Machine} (k : Evaluates (s .work) m 
 
     -- of whatever it means
     meaning : {R : Realm s} {out : List ℕ} {x : Result Came} {o : Began} (h : Entered R mem out m x o) {v : Meaning} → meaningAt (R .W) r ≡ v
-        → works (h .aim) (h .context) (h .tree) ≡ (nameValue v (named-by h k er .token) >>= worth)
-    meaning h q = let u = named-by h k er in u .same ∙ ap (λ (y : Result Value). y >>= worth) (used-value (u .uses) l ∙ ap (λ (y : Meaning). nameValue y (u .token)) q)
+        → works (h .aim) (h .context) (h .tree) ≡ (nameValue v (named-by h (k .until) er .token) >>= worth)
+    meaning h q = let u = named-by h (k .until) er in name-value u (k .mode) ∙ ap (λ (y : Result Value). y >>= worth) (used-value (u .uses) l ∙ ap (λ (y : Meaning). nameValue y (u .token)) q)
 
-    noted-value : {R : Realm s} {out : List ℕ} {x : Result Came} {o : Began} (h : Entered R mem out m x o) {v : Value} → nameValue (meaningAt (R .W) r) (named-by h k er .token) ≡ Done v
+    noted-value : {R : Realm s} {out : List ℕ} {x : Result Came} {o : Began} (h : Entered R mem out m x o) {v : Value} → nameValue (meaningAt (R .W) r) (named-by h (k .until) er .token) ≡ Done v
         → works (h .aim) (h .context) (h .tree) ≡ Done (Worth v)
-    noted-value h q = let u = named-by h k er in u .same ∙ stands-for (used-value (u .uses) l ∙ q)
+    noted-value h q = let u = named-by h (k .until) er in name-value u (k .mode) ∙ stands-for (used-value (u .uses) l ∙ q)
 
     pub sort-few : Ready s mem m → sort ≤ Sort.nothing
     sort-few h = let e = k .mode in fact (entered (h .state) (omega arith)) .sorted
@@ -160,7 +165,7 @@ module _ {s : Source} {mem : List ℕ} {m : Machine} (k : Evaluates (s .work) m 
           let e = k .mode in
           let q = entered h (omega arith) in
           let i = fact q .number z in
-          comes q (Number n) (noted-value q (i .stands (named-by q k er .token))) (record { mode-is = refl; value-is = refl; small = i .small }) tt;
+          comes q (Number n) (noted-value q (i .stands (named-by q (k .until) er .token))) (record { mode-is = refl; value-is = refl; small = i .small }) tt;
     }
 
     pub signal-steps : sort ≡ Sort.signal → Steps s mem mem m (Next (came m isLogic 0 0))
@@ -177,7 +182,7 @@ module _ {s : Source} {mem : List ℕ} {m : Machine} (k : Evaluates (s .work) m 
           let ab = i .above in
           let be = i .below in
           let sz = i .size in
-          comes q (Set (i .set)) (noted-value q (i .stands (named-by q k er .token))) (record { mode-is = refl; count = i .size; fine = i .fine })
+          comes q (Set (i .set)) (noted-value q (i .stands (named-by q (k .until) er .token))) (record { mode-is = refl; count = i .size; fine = i .fine })
           (subst (λ (j : ℕ). Held mem j (i .set)) (sym ea) (i .held), inKept (omega arith) (omega arith));
     }
 
@@ -186,7 +191,7 @@ module _ {s : Source} {mem : List ℕ} {m : Machine} (k : Evaluates (s .work) m 
       turns = λ R x o out h.
           let e = k .mode in
           let q = entered h (omega arith) in
-          let u = named-by q k er in
+          let u = named-by q (k .until) er in
           comes q (Unsized (u .token .at)) (meaning q (fact q .bus z .waiting zero-wide) ∙ stands-for refl) (record { mode-is = refl; place-is = ep ∙ u .place }) tt;
     }
 
@@ -195,7 +200,7 @@ module _ {s : Source} {mem : List ℕ} {m : Machine} (k : Evaluates (s .work) m 
       turns = λ R x o out h.
           let e = k .mode in
           let q = entered h (omega arith) in
-          let u = named-by q k er in
+          let u = named-by q (k .until) er in
           let b = fact q .bus z in
           let d = b .sized (omega arith) in
           comes q (Bus (u .token .at) (u .token .text) n) (meaning q d ∙ stands-for refl)
@@ -228,7 +233,7 @@ module _ {s : Source} {mem : List ℕ} {m : Machine} (k : Evaluates (s .work) m 
           encloses q {F = KeepValue r c d} {phase = 17} {at = 0} {r = r} {a = Evaluate} {c = c} {e = d} {j = n} (record {
             holds-nothing = refl;
             few-turns = omega arith;
-            below = named-by q k er .before n c d l (b .defines);
+            below = named-by q (k .until) er .before n c d l (b .defines);
             operand = R .bodies r n c d (b .defines);
             holds = record { scope-is = refl; name-is = refl };
             waits = record { declared = l; entry = n; means = b .defines };

@@ -1,22 +1,29 @@
 // Names: a big operator's element, or what is noted of a declared name. A definition's body is worked out, unless its value is kept.
 use language::limits;
 use machine::FRAME;
+use machine::FREE_WORD;
 use machine::Machine;
 use machine::Move;
 use machine::NOTE;
+use machine::SLOTS_WORD;
 use machine::modes;
 use machine::phases;
+use memory_sets::moving::lower;
+use name_values::sorts;
 use node::refusals;
 use operands::entry::place_at;
-use name_values::sorts;
 ghost use mathlib.Core.Path.{_≡_};
-ghost use Prim.Native.Nat.{_+_, _<_, _^_};
-ghost use Rattle.machine.specs.Memory.{frameWords};
+ghost use Prim.Native.Nat.{_+_, _≤_, _<_, _^_};
+ghost use lib.ListN.{length};
+ghost use Rattle.language.specs.Limits.{maxNames};
+ghost use Rattle.machine.specs.Memory.{firstKept, frameWords};
 ghost use Rattle.machine.specs.States.{Ready, Steps, Topped, Takes};
+ghost use Rattle.machine.specs.Telling.{isSet};
 ghost use Rattle.operands.specs.Working.{source};
 ghost use Rattle.machine.specs.Entering.{Evaluates, Waiting};
-ghost use Rattle.value_steps.specs.KeepLaws.{released as released'};
+ghost use Rattle.value_steps.specs.ReleaseLaws.{released as released'};
 ghost use Rattle.value_steps.specs.NameLaws.{Refers};
+ghost use Rattle.value_steps.specs.NotingLaws.{noting};
 
 pub fn name(text: &[u8], work: &[u8], refs: &[u16], memory: &mut [u32], m: Machine) -> Move
     requires { ⌜ Ready (source (now text) (now work) (now refs)) (now memory) m ⌝ }
@@ -70,7 +77,7 @@ fn noted(text: &[u8], work: &[u8], refs: &[u16], memory: &[u32], m: Machine, r: 
 }
 
 // The frame of a definition is gone, and the names of its use are visible again.
-fn released(m: Machine, scope: usize) -> Machine
+pub fn released(m: Machine, scope: usize) -> Machine
     requires { ⌜ m .frames + frameWords < 2 ^ 32 ⌝ }
     ensures { λ r. ⌜ r ≡ released' m scope ⌝ }
 {
@@ -86,20 +93,57 @@ fn released(m: Machine, scope: usize) -> Machine
     }
 }
 
-// A definition's body has come to a value: a number is noted in its place.
+// What is noted of definition r in place of its body: the sort of its value, a number, an address.
+fn note(memory: &mut [u32], r: usize, sort: u32, n: u32, address: usize)
+    requires { ⌜ (r < maxNames) × (firstKept ≤ length (now memory)) × (address < 2 ^ 32) ⌝ }
+    ensures { λ _. ⌜ now (memory .exit) ≡ noting (now (memory .entry)) r sort n address ⌝ }
+{
+    let i = NOTE * r;
+    memory[i] = sort;
+    memory[i + 1] = n;
+    memory[i + 2] = address as u32;
+}
+
+// A definition's body has come to a value: a number or a set is kept.
 pub fn keep(text: &[u8], work: &[u8], refs: &[u16], memory: &mut [u32], m: Machine) -> Move
     requires { ⌜ Topped (source (now text) (now work) (now refs)) (now memory) m ⌝ }
     requires { ⌜ Waiting (now memory) m 17 ⌝ }
     ensures { λ r. ⌜ Takes (source (now (text .entry)) (now (work .entry)) (now (refs .entry))) (now (memory .entry)) (now (memory .exit)) m r ⌝ }
 {
+    if m.mode == modes::SET {
+        return keep_set(text, work, refs, memory, m);
+    }
     let at = m.frames;
     let scope = memory[at + 5] as usize;
     if m.mode != modes::NUMBER {
         return Move::Next(released(m, scope));
     }
     let r = memory[at + 6] as usize;
-    let i = NOTE * r;
-    memory[i] = sorts::NUMBER as u32;
-    memory[i + 1] = m.value;
+    note(memory, r, sorts::NUMBER as u32, m.value, 0);
     Move::Next(released(m, scope))
+}
+
+// A set is copied behind the kept ones, unless it is one of them; where there is no room for it nothing is kept.
+fn keep_set(text: &[u8], work: &[u8], refs: &[u16], memory: &mut [u32], m: Machine) -> Move
+    requires { ⌜ Topped (source (now text) (now work) (now refs)) (now memory) m ⌝ }
+    requires { ⌜ Waiting (now memory) m 17 ⌝ }
+    requires { ⌜ m .mode ≡ isSet ⌝ }
+    ensures { λ r. ⌜ Takes (source (now (text .entry)) (now (work .entry)) (now (refs .entry))) (now (memory .entry)) (now (memory .exit)) m r ⌝ }
+{
+    let at = m.frames;
+    let scope = memory[at + 5] as usize;
+    let r = memory[at + 6] as usize;
+    let free = memory[FREE_WORD] as usize;
+    if m.from < free {
+        note(memory, r, sorts::SET as u32, m.value, m.from);
+        return Move::Next(released(m, scope));
+    }
+    let end = free + m.value as usize;
+    if (memory[SLOTS_WORD] as usize) < end {
+        return Move::Next(released(m, scope));
+    }
+    lower(memory, m.from, free, m.value as usize);
+    memory[FREE_WORD] = end as u32;
+    note(memory, r, sorts::SET as u32, m.value, free);
+    Move::Next(released(m.came(m.mode, m.value, free), scope))
 }

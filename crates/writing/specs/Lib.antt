@@ -8,3 +8,5 @@ pub mod StepLaws
 pub mod PartLaws
 pub mod WindowLaws
 pub mod StayLaws
+pub mod OperandLaws
+pub mod PassLaws

@@ -43,7 +43,7 @@ stored-at l i (v ∷ vs) (suc k) h g =
     let e = length-set l i v in
     ap (λ (j : ℕ). getD (sets (set l i v) (suc i) vs) j 0) (omega arith) ∙ stored-at (set l i v) (suc i) vs k (omega arith) (omega arith)
 
-getD-part : (from n : ℕ) (l : List ℕ) (k : ℕ) → k < n → getD (part from n l) k 0 ≡ getD l (from + k) 0
+pub getD-part : (from n : ℕ) (l : List ℕ) (k : ℕ) → k < n → getD (part from n l) k 0 ≡ getD l (from + k) 0
 unfolding part
 getD-part from zero l k h = absurd (omega arith)
 getD-part from (suc n) l k h = go (getD-part from n l k) (decLt k n)

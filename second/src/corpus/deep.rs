@@ -1,7 +1,7 @@
 //! The deepest texts that the limits allow: every shape nested by way of definitions, each of which
 //! uses the one before.
 
-use super::shapes::{Shape, Sort, SHAPES};
+use super::shapes::{Shape, Sort, FULL, HELD, SHAPES};
 use super::Stored;
 use crate::limits;
 use crate::token;
@@ -57,18 +57,20 @@ fn largest(most: usize, fitting: impl Fn(usize) -> bool) -> usize {
     fits
 }
 
-fn chained(shape: &Shape, depths: &[usize], used: Use) -> String {
+fn chained(given: &str, shape: &Shape, depths: &[usize], used: Use) -> String {
     let last = format!("d{}", depths.len() - 1);
-    text(shape.sort, &chain(shape, depths), &last, used)
+    let definitions = format!("{given}{}", chain(shape, depths));
+    text(shape.sort, &definitions, &last, used)
 }
 
-/// As many levels in each definition as a tree may have, then the most that still fit.
-fn full_trees(shape: &Shape, used: Use) -> Stored {
+/// As many levels in each definition as a tree may have, then the most that still fit, behind the
+/// definitions `given`.
+fn full_trees(given: &str, shape: &Shape, used: Use) -> Stored {
     let depth = (limits::TREE_LEVELS - 2) / shape.levels;
     let with = |count: usize, rest: usize| {
         let mut depths = vec![depth; count];
         depths.push(rest);
-        chained(shape, &depths, used)
+        chained(given, shape, &depths, used)
     };
     let count = largest(40, |count| fits(&with(count, 1)));
     let rest = largest(depth, |rest| fits(&with(count, rest)));
@@ -82,7 +84,7 @@ fn full_trees(shape: &Shape, used: Use) -> Stored {
 
 /// As many definitions as there may be, each with the most levels that fit.
 fn full_chain(shape: &Shape) -> Stored {
-    let with = |depth: usize| chained(shape, &[depth; DEFINITIONS], Use::Line);
+    let with = |depth: usize| chained("", shape, &[depth; DEFINITIONS], Use::Line);
     let depth = largest(32, |depth| fits(&with(depth)));
     let name = format!("deep {}: {DEFINITIONS} times {depth}", shape.name);
     Stored::new(name, with(depth))
@@ -104,12 +106,16 @@ const IN_WIDTHS: [&str; 2] = ["divisions", "MIN {"];
 
 /// All of them.
 pub fn texts() -> Vec<Stored> {
-    let mut texts: Vec<Stored> = SHAPES.iter().map(|s| full_trees(s, Use::Line)).collect();
+    let lines = |given: &str, shapes: &[Shape]| -> Vec<Stored> {
+        let shapes = shapes.iter();
+        shapes.map(|s| full_trees(given, s, Use::Line)).collect()
+    };
+    let mut texts = lines("", &SHAPES);
     texts.extend(SHAPES.iter().map(full_chain));
     let widths = SHAPES
         .iter()
         .filter(|shape| IN_WIDTHS.contains(&shape.name));
-    texts.extend(widths.map(|shape| full_trees(shape, Use::Width)));
+    texts.extend(widths.map(|shape| full_trees("", shape, Use::Width)));
     let signs = [
         (Sort::Formula, "&&"),
         (Sort::Formula, "||"),
@@ -119,5 +125,6 @@ pub fn texts() -> Vec<Stored> {
         (Sort::Set, "(*)"),
     ];
     texts.extend(signs.map(|(sort, sign)| bound_names(sort, sign)));
+    texts.extend(lines(FULL, &HELD));
     texts
 }

@@ -94,6 +94,16 @@ pub const SHAPES: [Shape; 36] = [
     shape(Sort::Set, "big intersections", "(*)[i# IN s]", "", 1),
 ];
 
+/// The definition of t, the set of all numbers below 256.
+pub const FULL: &str = "t={0,1..255};";
+
+/// Left operands that are sets of 256 elements, each worked out and held while the right one is: in
+/// parentheses, and as many as tokens allow.
+pub const HELD: [Shape; 2] = [
+    shape(Sort::Set, "held sets in parentheses", "(t(*)t)(+)(", ")", 2),
+    shape(Sort::Set, "held sets", "t(*)t(\\)", "", 1),
+];
+
 impl Shape {
     /// The innermost operand under so many of the shape.
     pub fn nest(&self, depth: usize, innermost: &str) -> String {

@@ -6,16 +6,15 @@ use Rattle.ending.proofs.deliver.Statement.{statement}
 use Rattle.ending.proofs.deliver.Tie as tie
 
 returns : tie.Need-returns
-returns c = deliver-large _ _ _ _ (omega (arith, c .if1 .taken))
+returns c = deliver-large _ _ _ (omega (arith, c .if1 .taken))
 
 returns-2 : tie.Need-returns-2
-returns-2 c = deliver-nodes _ _ _ _ (omega (arith, c .before .if1 .left)) (omega (arith, c .if2 .taken))
+returns-2 c = deliver-nodes _ _ _ (omega (arith, c .before .if1 .left)) (omega (arith, c .if2 .taken))
 
 returns-3 : tie.Need-returns-3
 returns-3 c =
     let at-if1 = c .before .before in
-    let start = at-if1 .before .before .before .before in
-    deliver-signals _ _ _ _ (omega (arith, at-if1 .if1 .left)) (start .pre .1) (omega (arith, c .if3 .taken))
+    deliver-signals _ _ _ (omega (arith, at-if1 .if1 .left)) (omega (arith, c .if3 .taken))
 
 copy-out-requires : tie.Need-copy-out-requires
 copy-out-requires c κs = search needs
@@ -42,8 +41,7 @@ returns-4 c =
     let at-if3 = at-copy-out .before .before in
     let at-if2 = at-if3 .before in
     let at-if1 = at-if2 .before in
-    let start = at-if1 .before .before .before .before in
-    deliver-all _ _ _ _ (omega (arith, at-if1 .if1 .left)) (start .pre .1) (omega (arith, at-if2 .if2 .left)) (omega (arith, at-if3 .if3 .left))
+    deliver-all _ _ _ (omega (arith, at-if1 .if1 .left)) (omega (arith, at-if2 .if2 .left)) (omega (arith, at-if3 .if3 .left))
     (at-copy-out .copy-out .ensures) (at-copy-words .copy-words .ensures)
 
 pub deliver-spec : {M : Type 1} → statement M

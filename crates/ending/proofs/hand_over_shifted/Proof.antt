@@ -1,8 +1,6 @@
 -- `hand_over_shifted` meets its contract: the whole formula is assembled, converted and delivered.
 use Prim.Native.Nat.{ℕ}
-use mathlib.Core.Path.{sym}
 use lib.ListN.{length-replicate}
-use lib.Seq.{length-take-le}
 use borrow.Author.Needs.{needs}
 use Rattle.node.specs.Limits.{maxNodes}
 use Rattle.ending.specs.Handing.{hands-shifted}
@@ -11,9 +9,6 @@ use Rattle.ending.proofs.hand_over_shifted.Tie as tie
 
 assemble-requires : tie.Need-assemble-requires
 assemble-requires c κs = search needs
-
-slice-aggregate-shift : tie.Need-slice-aggregate-shift
-slice-aggregate-shift c = sym (length-take-le _ _ (c .before .before .before .before .before .before .before .before .pre .listed))
 
 shift-requires : tie.Need-shift-requires
 shift-requires c κs = search needs
@@ -31,10 +26,10 @@ returns : tie.Need-returns
 returns c =
     let at-deliver = c .before .before .before .before in
     let at-shift = at-deliver .before .before .before .before in
-    let at-assemble = at-shift .before .before .before .before in
+    let at-assemble = at-shift .before .before .before in
     let start = at-assemble .before .before .before .before .before .before in
     let zeros = length-replicate {A = ℕ} maxNodes 0 in
     hands-shifted (at-assemble .assemble .ensures) zeros (start .args .outputs) zeros (at-shift .shift .ensures) (at-deliver .deliver .ensures)
 
 pub hand-over-shifted-spec : {M : Type 1} → statement M
-hand-over-shifted-spec = tie.close (tie.spec assemble-requires slice-aggregate-shift shift-requires deliver-requires same-length same-length-2 returns)
+hand-over-shifted-spec = tie.close (tie.spec assemble-requires shift-requires deliver-requires same-length same-length-2 returns)

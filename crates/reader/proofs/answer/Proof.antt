@@ -1,8 +1,8 @@
 -- `answer` meets its contract: refused by 1 to 10, or the answer on the checked tree, with what INFO says and how many lines the sections have.
 use native.Mathlib.Omega.{arith}
+use borrow.Author.Needs.{needs}
 use Rattle.reader.specs.Checking.{some-parsed}
 use Rattle.reader.specs.Telling.{refused-tells, tree-tells}
-use borrow.Author.Needs.{needs}
 use Rattle.reader.proofs.answer.Statement.{statement}
 use Rattle.reader.proofs.answer.Tie as tie
 
@@ -20,14 +20,14 @@ check-requires c κs =
 enum-known-checked : tie.Need-enum-known-checked
 enum-known-checked c = search needs
 
-slice-aggregate-convert : tie.Need-slice-aggregate-convert
-slice-aggregate-convert c = search needs
+slice-aggregate-expand-checked : tie.Need-slice-aggregate-expand-checked
+slice-aggregate-expand-checked c = search needs
 
-slice-aggregate-convert-2 : tie.Need-slice-aggregate-convert-2
-slice-aggregate-convert-2 c = search needs
+slice-aggregate-expand-checked-2 : tie.Need-slice-aggregate-expand-checked-2
+slice-aggregate-expand-checked-2 c = search needs
 
-convert-requires : tie.Need-convert-requires
-convert-requires c κs =
+expand-checked-requires : tie.Need-expand-checked-requires
+expand-checked-requires c κs =
     let checked-at = c .before .before .before .before .before .before in
     let check-at = checked-at .before .before .before .before .before .before in
     let start = check-at .before .before .before .before .before .before .before .before in
@@ -50,10 +50,10 @@ same-length-3 c = search needs
 
 returns : tie.Need-returns
 returns c =
-    let convert-at = c .before .before .before .before .before in
-    let checked-at = convert-at .before .before .before .before .before .before .before in
+    let expand-checked-at = c .before .before .before .before .before in
+    let checked-at = expand-checked-at .before .before .before .before .before .before .before in
     let check-at = checked-at .before .before .before .before .before .before in
-    tree-tells (check-at .check .ensures) (checked-at .checked .given .1) (convert-at .convert .ensures)
+    tree-tells (check-at .check .ensures) (checked-at .checked .given .1) (expand-checked-at .expand-checked .ensures)
 
 same-length-4 : tie.Need-same-length-4
 same-length-4 c = search needs
@@ -72,9 +72,9 @@ answer-spec =
     slice-aggregate-check-2
     check-requires
     enum-known-checked
-    slice-aggregate-convert
-    slice-aggregate-convert-2
-    convert-requires
+    slice-aggregate-expand-checked
+    slice-aggregate-expand-checked-2
+    expand-checked-requires
     enum-known-checked-2
     untold-requires
     same-length

@@ -1,90 +1,57 @@
 -- `parameters` meets its contract: those from position j on are still to be worked out.
-use Prim.Native.Nat.{_-_, _≤_, _<_}
-use mathlib.Core.Path.{_≡_, refl, sym, ap, _∙_, subst}
+use Prim.Native.Nat.{_-_, _≤_}
+use mathlib.Core.Path.{_≡_, refl, _∙_}
 use native.Mathlib.Omega.{arith}
 use borrow.Author.Needs.{needs}
-use lib.ListN.{length, getD, length-set}
-use Rattle.language.specs.Limits.{maxNames, maxTokens}
-use Rattle.language.specs.Tree.{Spec}
-use Rattle.language.specs.Declared.{Table}
-use Rattle.declarations.specs.Constants.{Parameters, Turning, turning-starts, next-inside, next-small, next-workable, next-told, turning-stopped, turning-more, turning-all}
+use lib.ListN.{length, length-set}
+use Rattle.declarations.specs.Expressions.{room-still}
+use Rattle.declarations.specs.ConstantsLoop.{Looping, looping-starts, looping-inside, looping-small, looping-workable, looping-stopped, looping-more, looping-all}
 use Rattle.declarations.proofs.constants.parameters.Statement.{statement}
 use Rattle.declarations.proofs.constants.parameters.Tie as tie
 
 abbrev Inv-loop : tie.InvT-loop
-Inv-loop text work refs found entries names order count sorts₀ numbers₀ kept₀ slots₀ j₀ sorts numbers kept slots j = (j ≤ count) ×
-    ((length sorts ≡ length sorts₀) × ((length numbers ≡ length numbers₀) ×
-    ((length kept ≡ length kept₀) × ((length slots ≡ length slots₀) ×
-    ((x : Spec) (d : Table) → Parameters text work refs found entries names order count sorts₀ numbers₀ x d → Turning text work refs found entries names order count x d j sorts numbers)))))
+Inv-loop text work refs memory₀ table₀ entries places count sorts₀ numbers₀ j₀ memory table sorts numbers j =
+    ((j ≤ count) × ((length memory ≡ length memory₀) × ((length table ≡ length table₀) × ((length sorts ≡ length sorts₀) × (length numbers ≡ length numbers₀))))) ×
+    Looping text work refs places count entries sorts₀ numbers₀ j sorts numbers
 
 abbrev μ-loop : tie.MeasureT-loop
-μ-loop text work refs found entries names order count sorts₀ numbers₀ kept₀ slots₀ j₀ sorts numbers kept slots j = count - j
+μ-loop text work refs memory₀ table₀ entries places count sorts₀ numbers₀ j₀ memory table sorts numbers j = count - j
 
 loop-holds : tie.Need-loop-holds Inv-loop μ-loop
-loop-holds c = (
-  omega arith,
-  (
-    refl,
-    (
-      refl,
-      (
-        refl,
-        (
-          refl,
-          λ x d h. turning-starts ((c .before .before .before .before .before .before .before .before .before) .args .text .now)
-              ((c .before .before .before .before .before .before .before .before .before) .args .work .now) ((c .before .before .before .before .before .before .before .before .before) .args .refs .now)
-              ((c .before .before .before .before .before .before .before .before .before) .args .found .now) ((c .before .before .before .before .before .before .before .before .before) .args .entries)
-              ((c .before .before .before .before .before .before .before .before .before) .args .names) ((c .before .before .before .before .before .before .before .before .before) .args .order .now)
-              ((c .before .before .before .before .before .before .before .before .before) .args .count) x d _ _ h,
-        ),
-      ),
-    ),
-  ),
-)
+loop-holds c = ((omega arith, (refl, (refl, (refl, refl)))), looping-starts)
 
 mul-wide : tie.Need-mul-wide Inv-loop μ-loop
-mul-wide c = omega (arith, (c .loop-test) .taken, (c .before .before .before .before .before .before .before .before .before .before .before) .pre .order-room)
+mul-wide c =
+    let start = c .before .before .before .before .before .before .before .before .before in
+    let test = c .loop-test in
+    omega (arith, test .taken, start .pre .few)
 
-shared-slice-read-wide : tie.Need-shared-slice-read-wide Inv-loop μ-loop
-shared-slice-read-wide c = omega (arith, (c .before .loop-test) .taken, (c .before .before .before .before .before .before .before .before .before .before .before .before) .pre .order-room)
+array-read-wide : tie.Need-array-read-wide Inv-loop μ-loop
+array-read-wide c =
+    let start = c .before .before .before .before .before .before .before .before .before in
+    let test = c .loop-test in
+    omega (arith, test .taken, start .pre .few)
 
 wide-requires : tie.Need-wide-requires Inv-loop μ-loop
 wide-requires c κs = search needs
 
 mul-wide-2 : tie.Need-mul-wide-2 Inv-loop μ-loop
-mul-wide-2 c = let i : (c .wide) .result < maxTokens = subst (λ n. n < maxTokens) (sym ((c .wide) .ensures .0))
-    (next-inside ((c .before .before .before .before .before .before .before .before .before .before .before .before .before) .args .text .now)
-    ((c .before .before .before .before .before .before .before .before .before .before .before .before .before) .args .work .now)
-    ((c .before .before .before .before .before .before .before .before .before .before .before .before .before) .args .refs .now)
-    ((c .before .before .before .before .before .before .before .before .before .before .before .before .before) .args .found .now)
-    ((c .before .before .before .before .before .before .before .before .before .before .before .before .before) .args .entries)
-    ((c .before .before .before .before .before .before .before .before .before .before .before .before .before) .args .names)
-    ((c .before .before .before .before .before .before .before .before .before .before .before .before .before) .args .order .now)
-    ((c .before .before .before .before .before .before .before .before .before .before .before .before .before) .args .count)
-    ((c .before .before .before .before .before .before .before .before .before .before .before .before .before) .pre .x)
-    ((c .before .before .before .before .before .before .before .before .before .before .before .before .before) .pre .d) ((c .before .before .before .loop) .j)
-    ((c .before .before .before .loop) .sorts) ((c .before .before .before .loop) .numbers) ((c .before .before .loop-test) .taken)
-    ((c .before .before .before .loop) .inv .1 .1 .1 .1 .1 ((c .before .before .before .before .before .before .before .before .before .before .before .before .before) .pre .x)
-    ((c .before .before .before .before .before .before .before .before .before .before .before .before .before) .pre .d)
-    ((c .before .before .before .before .before .before .before .before .before .before .before .before .before) .pre .parameters))) in omega arith
+mul-wide-2 c =
+    let start = c .before .before .before .before .before .before .before .before .before .before in
+    let loop = c .before .before .loop in
+    let test = c .before .loop-test in
+    let own = c .wide in
+    let k = looping-inside (loop .inv .1) (start .pre) (test .taken) (own .ensures .0) in
+    omega (arith, start .pre .room .refs-room)
 
-shared-slice-read-wide-2 : tie.Need-shared-slice-read-wide-2 Inv-loop μ-loop
-shared-slice-read-wide-2 c = let i : (c .before .wide) .result < maxTokens = subst (λ n. n < maxTokens) (sym ((c .before .wide) .ensures .0))
-    (next-inside ((c .before .before .before .before .before .before .before .before .before .before .before .before .before .before) .args .text .now)
-    ((c .before .before .before .before .before .before .before .before .before .before .before .before .before .before) .args .work .now)
-    ((c .before .before .before .before .before .before .before .before .before .before .before .before .before .before) .args .refs .now)
-    ((c .before .before .before .before .before .before .before .before .before .before .before .before .before .before) .args .found .now)
-    ((c .before .before .before .before .before .before .before .before .before .before .before .before .before .before) .args .entries)
-    ((c .before .before .before .before .before .before .before .before .before .before .before .before .before .before) .args .names)
-    ((c .before .before .before .before .before .before .before .before .before .before .before .before .before .before) .args .order .now)
-    ((c .before .before .before .before .before .before .before .before .before .before .before .before .before .before) .args .count)
-    ((c .before .before .before .before .before .before .before .before .before .before .before .before .before .before) .pre .x)
-    ((c .before .before .before .before .before .before .before .before .before .before .before .before .before .before) .pre .d) ((c .before .before .before .before .loop) .j)
-    ((c .before .before .before .before .loop) .sorts) ((c .before .before .before .before .loop) .numbers) ((c .before .before .before .loop-test) .taken)
-    ((c .before .before .before .before .loop) .inv .1 .1 .1 .1 .1 ((c .before .before .before .before .before .before .before .before .before .before .before .before .before .before) .pre .x)
-    ((c .before .before .before .before .before .before .before .before .before .before .before .before .before .before) .pre .d)
-    ((c .before .before .before .before .before .before .before .before .before .before .before .before .before .before) .pre .parameters))) in
-    omega (arith, (c .before .before .before .before .before .before .before .before .before .before .before .before .before .before) .pre .room .refs-room)
+shared-slice-read-wide : tie.Need-shared-slice-read-wide Inv-loop μ-loop
+shared-slice-read-wide c =
+    let start = c .before .before .before .before .before .before .before .before .before .before .before in
+    let loop = c .before .before .before .loop in
+    let test = c .before .before .loop-test in
+    let own = c .before .wide in
+    let k = looping-inside (loop .inv .1) (start .pre) (test .taken) (own .ensures .0) in
+    omega (arith, start .pre .room .refs-room)
 
 wide-requires-2 : tie.Need-wide-requires-2 Inv-loop μ-loop
 wide-requires-2 c κs = search needs
@@ -93,44 +60,15 @@ before-requires : tie.Need-before-requires Inv-loop μ-loop
 before-requires c κs = search needs
 
 number-of-requires : tie.Need-number-of-requires Inv-loop μ-loop
-number-of-requires c κs = rw ((c .before2) .ensures, (c .before .before .before .before .before .before .before .wide) .ensures .0)
-    (next-workable ((c .before .before .before .before .before .before .before .before .before .before .before .before .before .before .before .before .before .before
-    .before .before) .args .text .now) ((c .before .before .before .before .before .before .before .before .before .before .before .before .before .before .before .before .before .before
-    .before .before) .args .work .now) ((c .before .before .before .before .before .before .before .before .before .before .before .before .before .before .before .before .before .before
-    .before .before) .args .refs .now) ((c .before .before .before .before .before .before .before .before .before .before .before .before .before .before .before .before .before .before
-    .before .before) .args .found .now) ((c .before .before .before .before .before .before .before .before .before .before .before .before .before .before .before .before .before .before
-    .before .before) .args .entries) ((c .before .before .before .before .before .before .before .before .before .before .before .before .before .before .before .before .before .before
-    .before .before) .args .names) ((c .before .before .before .before .before .before .before .before .before .before .before .before .before .before .before .before .before .before
-    .before .before) .args .order .now) ((c .before .before .before .before .before .before .before .before .before .before .before .before .before .before .before .before .before .before
-    .before .before) .args .count) ((c .before .before .before .before .before .before .before .before .before .before .before .before .before .before .before .before .before .before
-    .before .before) .pre .x) ((c .before .before .before .before .before .before .before .before .before .before .before .before .before .before .before .before .before .before
-    .before .before) .pre .d) ((c .before .before .before .before .before .before .before .before .before .before .loop) .j)
-    ((c .before .before .before .before .before .before .before .before .before .before .loop) .sorts)
-    ((c .before .before .before .before .before .before .before .before .before .before .loop) .numbers)
-    ((c .before .before .before .before .before .before .before .before .before .loop-test) .taken)
-    ((c .before .before .before .before .before .before .before .before .before .before .loop) .inv .1 .1 .1 .1 .1
-    ((c .before .before .before .before .before .before .before .before .before .before .before .before .before .before .before .before .before .before .before .before) .pre .x)
-    ((c .before .before .before .before .before .before .before .before .before .before .before .before .before .before .before .before .before .before .before .before) .pre .d)
-    ((c .before .before .before .before .before .before .before .before .before .before .before .before .before .before .before .before .before .before .before .before) .pre .parameters)) _
-    (record {
-      refs-room = (c .before .before .before .before .before .before .before .before .before .before .before .before .before .before .before .before .before .before
-          .before .before) .pre .room .refs-room;
-      sorts-room = omega (
-        arith,
-        (c .before .before .before .before .before .before .before .before .before .before .loop) .inv .1 .0,
-        (c .before .before .before .before .before .before .before .before .before .before .before .before .before .before .before .before .before .before .before .before) .pre .room .sorts-room,
-      );
-      numbers-room = omega (
-        arith,
-        (c .before .before .before .before .before .before .before .before .before .before .loop) .inv .1 .1 .0,
-        (c .before .before .before .before .before .before .before .before .before .before .before .before .before .before .before .before .before .before .before .before) .pre .room .numbers-room,
-      );
-      slots-room = omega (
-        arith,
-        (c .before .before .before .before .before .before .before .before .before .before .loop) .inv .1 .1 .1 .1 .0,
-        (c .before .before .before .before .before .before .before .before .before .before .before .before .before .before .before .before .before .before .before .before) .pre .room .slots-room,
-      );
-    }))
+number-of-requires c κs =
+    let start = c .before .before .before .before .before .before .before .before .before .before .before .before .before .before .before in
+    let loop = c .before .before .before .before .before .before .before .loop in
+    let test = c .before .before .before .before .before .before .loop-test in
+    let own = c .before .before .before .before .before .wide in
+    let entry = c .before2 in
+    let kept = loop .inv .0 .1 in
+    looping-workable (loop .inv .1) (start .pre) (test .taken) (own .ensures .0) (entry .ensures)
+    (room-still _ _ _ _ (kept .1 .1 .0) (kept .1 .1 .1) (kept .0) (kept .1 .0) (start .pre .room))
 
 enum-known-worked : tie.Need-enum-known-worked Inv-loop μ-loop
 enum-known-worked c = search needs
@@ -139,269 +77,102 @@ enum-told : tie.Need-enum-told Inv-loop μ-loop
 enum-told c = search needs
 
 same-length : tie.Need-same-length Inv-loop μ-loop
-same-length c = (c .before .before .before .before .before .before .before .before .before .before .before .before .before .before .before .before .before .loop) .inv .1 .0
-
-same-length-2 : tie.Need-same-length-2 Inv-loop μ-loop
-same-length-2 c = (c .before .before .before .before .before .before .before .before .before .before .before .before .before .before .before .before .before .loop) .inv .1 .1 .0
-
-same-length-3 : tie.Need-same-length-3 Inv-loop μ-loop
-same-length-3 c = (c .before .before .before .before .before .kept) .given ∙
-    (c .before .before .before .before .before .before .before .before .before .before .before .before .before .before .before .before .before .loop) .inv .1 .1 .1 .0
-
-same-length-4 : tie.Need-same-length-4 Inv-loop μ-loop
-same-length-4 c = (c .before .before .before .slots) .given ∙
-    (c .before .before .before .before .before .before .before .before .before .before .before .before .before .before .before .before .before .loop) .inv .1 .1 .1 .1 .0
+same-length c =
+    let memory = c .before .before .before .memory in
+    let loop = c .before .before .before .before .before .before .before .before .before .before .before .before .loop in
+    memory .given ∙ loop .inv .0 .1 .0
 
 returns : tie.Need-returns Inv-loop μ-loop
-returns c = λ x d h. turning-stopped ((c .before .before .before .before .before .before .before .before .before .before .before .before .before .before .before .before .before .before .before
-    .before .before .before .before .before .before .before .before) .args .text .now)
-    ((c .before .before .before .before .before .before .before .before .before .before .before .before .before .before .before .before .before .before .before .before .before .before .before .before
-    .before .before .before) .args .work .now) ((c .before .before .before .before .before .before .before .before .before .before .before .before .before .before .before .before .before .before
-    .before .before .before .before .before .before .before .before .before) .args .refs .now)
-    ((c .before .before .before .before .before .before .before .before .before .before .before .before .before .before .before .before .before .before .before .before .before .before .before .before
-    .before .before .before) .args .found .now) ((c .before .before .before .before .before .before .before .before .before .before .before .before .before .before .before .before .before .before
-    .before .before .before .before .before .before .before .before .before) .args .entries)
-    ((c .before .before .before .before .before .before .before .before .before .before .before .before .before .before .before .before .before .before .before .before .before .before .before .before
-    .before .before .before) .args .names) ((c .before .before .before .before .before .before .before .before .before .before .before .before .before .before .before .before .before .before .before
-    .before .before .before .before .before .before .before .before) .args .order .now)
-    ((c .before .before .before .before .before .before .before .before .before .before .before .before .before .before .before .before .before .before .before .before .before .before .before .before
-    .before .before .before) .args .count) x d ((c .before .before .before .before .before .before .before .before .before .before .before .before .before .before .before .before .before .loop) .j)
-    ((c .before .before .before .before .before .before .before .before .before .before .before .before .before .before .before .before .before .loop) .sorts)
-    ((c .before .before .before .before .before .before .before .before .before .before .before .before .before .before .before .before .before .loop) .numbers)
-    ((c .before .before .before .before .before .before .before .before .before .before .before .before .before .before .before .before .loop-test) .taken)
-    ((c .before .before .before .before .before .before .before .before .before .before .before .before .before .before .before .before .before .loop) .inv .1 .1 .1 .1 .1 x d h)
-    ((c .before .before .before .before .before .before .number-of) .result) _ _ ((c .enum-told) .given .1)
-    (next-told ((c .before .before .before .before .before .before .before .before .before .before .before .before .before .before .before .before .before .before .before .before .before .before
-    .before .before .before .before .before) .args .text .now) ((c .before .before .before .before .before .before .before .before .before .before .before .before .before .before .before .before
-    .before .before .before .before .before .before .before .before .before .before .before) .args .work .now)
-    ((c .before .before .before .before .before .before .before .before .before .before .before .before .before .before .before .before .before .before .before .before .before .before .before .before
-    .before .before .before) .args .refs .now) ((c .before .before .before .before .before .before .before .before .before .before .before .before .before .before .before .before .before .before
-    .before .before .before .before .before .before .before .before .before) .args .found .now)
-    ((c .before .before .before .before .before .before .before .before .before .before .before .before .before .before .before .before .before .before .before .before .before .before .before .before
-    .before .before .before) .args .entries) ((c .before .before .before .before .before .before .before .before .before .before .before .before .before .before .before .before .before .before
-    .before .before .before .before .before .before .before .before .before) .args .names)
-    ((c .before .before .before .before .before .before .before .before .before .before .before .before .before .before .before .before .before .before .before .before .before .before .before .before
-    .before .before .before) .args .order .now) ((c .before .before .before .before .before .before .before .before .before .before .before .before .before .before .before .before .before .before
-    .before .before .before .before .before .before .before .before .before) .args .count) x d
-    ((c .before .before .before .before .before .before .before .before .before .before .before .before .before .before .before .before .before .loop) .j)
-    ((c .before .before .before .before .before .before .before .before .before .before .before .before .before .before .before .before .before .loop) .sorts)
-    ((c .before .before .before .before .before .before .before .before .before .before .before .before .before .before .before .before .before .loop) .numbers)
-    ((c .before .before .before .before .before .before .before .before .before .before .before .before .before .before .before .before .loop-test) .taken)
-    ((c .before .before .before .before .before .before .before .before .before .before .before .before .before .before .before .before .before .loop) .inv .1 .1 .1 .1 .1 x d h) _
-    ((c .before .before .before .before .before .before .number-of) .result)
-    ((c .before .before .before .before .before .before .before .before2) .ensures ∙ ap (λ k. k - 1)
-    ((c .before .before .before .before .before .before .before .before .before .before .before .before .before .before .wide) .ensures .0))
-    ((c .before .before .before .before .before .before .number-of) .ensures))
-
-slice-write-sorts : tie.Need-slice-write-sorts Inv-loop μ-loop
-slice-write-sorts c = let i : (c .before .before .before .before .before .before .before .before .before .before .before .before .before .wide2) .result < maxNames = subst (λ n. n < maxNames)
-    (sym ((c .before .before .before .before .before .before .before .before .before .before .before .before .before .wide2) .ensures .0 ∙ ap
-    (λ k. getD ((c .before .before .before .before .before .before .before .before .before .before .before .before .before .before .before .before .before .before .before .before .before .before
-    .before .before .before .before .before .before) .args .refs .now) k 0)
-    ((c .before .before .before .before .before .before .before .before .before .before .before .before .before .before .before .wide) .ensures .0)))
-    (next-small ((c .before .before .before .before .before .before .before .before .before .before .before .before .before .before .before .before .before .before .before .before .before .before
-    .before .before .before .before .before .before) .args .text .now)
-    ((c .before .before .before .before .before .before .before .before .before .before .before .before .before .before .before .before .before .before .before .before .before .before .before .before
-    .before .before .before .before) .args .work .now) ((c .before .before .before .before .before .before .before .before .before .before .before .before .before .before .before .before .before
-    .before .before .before .before .before .before .before .before .before .before .before) .args .refs .now)
-    ((c .before .before .before .before .before .before .before .before .before .before .before .before .before .before .before .before .before .before .before .before .before .before .before .before
-    .before .before .before .before) .args .found .now) ((c .before .before .before .before .before .before .before .before .before .before .before .before .before .before .before .before .before
-    .before .before .before .before .before .before .before .before .before .before .before) .args .entries)
-    ((c .before .before .before .before .before .before .before .before .before .before .before .before .before .before .before .before .before .before .before .before .before .before .before .before
-    .before .before .before .before) .args .names) ((c .before .before .before .before .before .before .before .before .before .before .before .before .before .before .before .before .before .before
-    .before .before .before .before .before .before .before .before .before .before) .args .order .now)
-    ((c .before .before .before .before .before .before .before .before .before .before .before .before .before .before .before .before .before .before .before .before .before .before .before .before
-    .before .before .before .before) .args .count) ((c .before .before .before .before .before .before .before .before .before .before .before .before .before .before .before .before .before .before
-    .before .before .before .before .before .before .before .before .before .before) .pre .x)
-    ((c .before .before .before .before .before .before .before .before .before .before .before .before .before .before .before .before .before .before .before .before .before .before .before .before
-    .before .before .before .before) .pre .d) ((c .before .before .before .before .before .before .before .before .before .before .before .before .before .before .before .before
-    .before .before .loop) .j) ((c .before .before .before .before .before .before .before .before .before .before .before .before .before .before .before .before .before .before .loop) .sorts)
-    ((c .before .before .before .before .before .before .before .before .before .before .before .before .before .before .before .before .before .before .loop) .numbers)
-    ((c .before .before .before .before .before .before .before .before .before .before .before .before .before .before .before .before .before .loop-test) .taken)
-    ((c .before .before .before .before .before .before .before .before .before .before .before .before .before .before .before .before .before .before .loop) .inv .1 .1 .1 .1 .1
-    ((c .before .before .before .before .before .before .before .before .before .before .before .before .before .before .before .before .before .before .before .before .before .before .before .before
-    .before .before .before .before) .pre .x) ((c .before .before .before .before .before .before .before .before .before .before .before .before .before .before .before .before .before .before
-    .before .before .before .before .before .before .before .before .before .before) .pre .d)
-    ((c .before .before .before .before .before .before .before .before .before .before .before .before .before .before .before .before .before .before .before .before .before .before .before .before
-    .before .before .before .before) .pre .parameters))) in omega (
-      arith,
-      (c .before .before .before .before .before .before .before .before .before .before .before .before .before .before .before .before .before .before .loop) .inv .1 .0,
-      (c .before .before .before .before .before .before .before .before .before .before .before .before .before .before .before .before .before .before .before .before .before .before .before .before
-          .before .before .before .before) .pre .room .sorts-room,
+returns c =
+    let start = c .before .before .before .before .before .before .before .before .before .before .before .before .before .before .before .before .before .before .before .before in
+    let loop = c .before .before .before .before .before .before .before .before .before .before .before .before .loop in
+    let test = c .before .before .before .before .before .before .before .before .before .before .before .loop-test in
+    let own = c .before .before .before .before .before .before .before .before .before .before .wide in
+    let entry = c .before .before .before .before .before .before2 in
+    let worked = c .before .before .before .before .number-of in
+    let told = c .enum-told in
+    let kept = loop .inv .0 .1 in
+    let room = start .pre .room in (
+      looping-stopped (loop .inv .1) (test .taken) (own .ensures .0) (entry .ensures) (worked .ensures) (told .given .1),
+      record { table-kept = λ n e. worked .ensures .same n e ∙ kept .1 .0; sorts-full = kept .1 .1 .0 ∙ room .sorts-full; numbers-full = kept .1 .1 .1 ∙ room .numbers-full },
     )
+
+array-write-sorts : tie.Need-array-write-sorts Inv-loop μ-loop
+array-write-sorts c =
+    let start = c .before .before .before .before .before .before .before .before .before .before .before .before .before .before .before .before .before .before .before .before .before in
+    let loop = c .before .before .before .before .before .before .before .before .before .before .before .before .before .loop in
+    let test = c .before .before .before .before .before .before .before .before .before .before .before .before .loop-test in
+    let own = c .before .before .before .before .before .before .before .before .before .before .before .wide in
+    let number = c .before .before .before .before .before .before .before .before .before .wide2 in
+    let r = looping-small (loop .inv .1) (start .pre) (test .taken) (own .ensures .0) (number .ensures .0) in
+    omega arith
 
 mul-numbers : tie.Need-mul-numbers Inv-loop μ-loop
-mul-numbers c = let i : (c .before .before .before .before .before .before .before .before .before .before .before .before .before .wide2) .result < maxNames = subst (λ n. n < maxNames)
-    (sym ((c .before .before .before .before .before .before .before .before .before .before .before .before .before .wide2) .ensures .0 ∙ ap
-    (λ k. getD ((c .before .before .before .before .before .before .before .before .before .before .before .before .before .before .before .before .before .before .before .before .before .before
-    .before .before .before .before .before .before) .args .refs .now) k 0)
-    ((c .before .before .before .before .before .before .before .before .before .before .before .before .before .before .before .wide) .ensures .0)))
-    (next-small ((c .before .before .before .before .before .before .before .before .before .before .before .before .before .before .before .before .before .before .before .before .before .before
-    .before .before .before .before .before .before) .args .text .now)
-    ((c .before .before .before .before .before .before .before .before .before .before .before .before .before .before .before .before .before .before .before .before .before .before .before .before
-    .before .before .before .before) .args .work .now) ((c .before .before .before .before .before .before .before .before .before .before .before .before .before .before .before .before .before
-    .before .before .before .before .before .before .before .before .before .before .before) .args .refs .now)
-    ((c .before .before .before .before .before .before .before .before .before .before .before .before .before .before .before .before .before .before .before .before .before .before .before .before
-    .before .before .before .before) .args .found .now) ((c .before .before .before .before .before .before .before .before .before .before .before .before .before .before .before .before .before
-    .before .before .before .before .before .before .before .before .before .before .before) .args .entries)
-    ((c .before .before .before .before .before .before .before .before .before .before .before .before .before .before .before .before .before .before .before .before .before .before .before .before
-    .before .before .before .before) .args .names) ((c .before .before .before .before .before .before .before .before .before .before .before .before .before .before .before .before .before .before
-    .before .before .before .before .before .before .before .before .before .before) .args .order .now)
-    ((c .before .before .before .before .before .before .before .before .before .before .before .before .before .before .before .before .before .before .before .before .before .before .before .before
-    .before .before .before .before) .args .count) ((c .before .before .before .before .before .before .before .before .before .before .before .before .before .before .before .before .before .before
-    .before .before .before .before .before .before .before .before .before .before) .pre .x)
-    ((c .before .before .before .before .before .before .before .before .before .before .before .before .before .before .before .before .before .before .before .before .before .before .before .before
-    .before .before .before .before) .pre .d) ((c .before .before .before .before .before .before .before .before .before .before .before .before .before .before .before .before
-    .before .before .loop) .j) ((c .before .before .before .before .before .before .before .before .before .before .before .before .before .before .before .before .before .before .loop) .sorts)
-    ((c .before .before .before .before .before .before .before .before .before .before .before .before .before .before .before .before .before .before .loop) .numbers)
-    ((c .before .before .before .before .before .before .before .before .before .before .before .before .before .before .before .before .before .loop-test) .taken)
-    ((c .before .before .before .before .before .before .before .before .before .before .before .before .before .before .before .before .before .before .loop) .inv .1 .1 .1 .1 .1
-    ((c .before .before .before .before .before .before .before .before .before .before .before .before .before .before .before .before .before .before .before .before .before .before .before .before
-    .before .before .before .before) .pre .x) ((c .before .before .before .before .before .before .before .before .before .before .before .before .before .before .before .before .before .before
-    .before .before .before .before .before .before .before .before .before .before) .pre .d)
-    ((c .before .before .before .before .before .before .before .before .before .before .before .before .before .before .before .before .before .before .before .before .before .before .before .before
-    .before .before .before .before) .pre .parameters))) in omega arith
+mul-numbers c =
+    let start = c .before .before .before .before .before .before .before .before .before .before .before .before .before .before .before .before .before .before .before .before .before in
+    let loop = c .before .before .before .before .before .before .before .before .before .before .before .before .before .loop in
+    let test = c .before .before .before .before .before .before .before .before .before .before .before .before .loop-test in
+    let own = c .before .before .before .before .before .before .before .before .before .before .before .wide in
+    let number = c .before .before .before .before .before .before .before .before .before .wide2 in
+    let r = looping-small (loop .inv .1) (start .pre) (test .taken) (own .ensures .0) (number .ensures .0) in
+    omega arith
 
-slice-write-numbers : tie.Need-slice-write-numbers Inv-loop μ-loop
-slice-write-numbers c = let i : (c .before .before .before .before .before .before .before .before .before .before .before .before .before .wide2) .result < maxNames = subst (λ n. n < maxNames)
-    (sym ((c .before .before .before .before .before .before .before .before .before .before .before .before .before .wide2) .ensures .0 ∙ ap
-    (λ k. getD ((c .before .before .before .before .before .before .before .before .before .before .before .before .before .before .before .before .before .before .before .before .before .before
-    .before .before .before .before .before .before) .args .refs .now) k 0)
-    ((c .before .before .before .before .before .before .before .before .before .before .before .before .before .before .before .wide) .ensures .0)))
-    (next-small ((c .before .before .before .before .before .before .before .before .before .before .before .before .before .before .before .before .before .before .before .before .before .before
-    .before .before .before .before .before .before) .args .text .now)
-    ((c .before .before .before .before .before .before .before .before .before .before .before .before .before .before .before .before .before .before .before .before .before .before .before .before
-    .before .before .before .before) .args .work .now) ((c .before .before .before .before .before .before .before .before .before .before .before .before .before .before .before .before .before
-    .before .before .before .before .before .before .before .before .before .before .before) .args .refs .now)
-    ((c .before .before .before .before .before .before .before .before .before .before .before .before .before .before .before .before .before .before .before .before .before .before .before .before
-    .before .before .before .before) .args .found .now) ((c .before .before .before .before .before .before .before .before .before .before .before .before .before .before .before .before .before
-    .before .before .before .before .before .before .before .before .before .before .before) .args .entries)
-    ((c .before .before .before .before .before .before .before .before .before .before .before .before .before .before .before .before .before .before .before .before .before .before .before .before
-    .before .before .before .before) .args .names) ((c .before .before .before .before .before .before .before .before .before .before .before .before .before .before .before .before .before .before
-    .before .before .before .before .before .before .before .before .before .before) .args .order .now)
-    ((c .before .before .before .before .before .before .before .before .before .before .before .before .before .before .before .before .before .before .before .before .before .before .before .before
-    .before .before .before .before) .args .count) ((c .before .before .before .before .before .before .before .before .before .before .before .before .before .before .before .before .before .before
-    .before .before .before .before .before .before .before .before .before .before) .pre .x)
-    ((c .before .before .before .before .before .before .before .before .before .before .before .before .before .before .before .before .before .before .before .before .before .before .before .before
-    .before .before .before .before) .pre .d) ((c .before .before .before .before .before .before .before .before .before .before .before .before .before .before .before .before
-    .before .before .loop) .j) ((c .before .before .before .before .before .before .before .before .before .before .before .before .before .before .before .before .before .before .loop) .sorts)
-    ((c .before .before .before .before .before .before .before .before .before .before .before .before .before .before .before .before .before .before .loop) .numbers)
-    ((c .before .before .before .before .before .before .before .before .before .before .before .before .before .before .before .before .before .loop-test) .taken)
-    ((c .before .before .before .before .before .before .before .before .before .before .before .before .before .before .before .before .before .before .loop) .inv .1 .1 .1 .1 .1
-    ((c .before .before .before .before .before .before .before .before .before .before .before .before .before .before .before .before .before .before .before .before .before .before .before .before
-    .before .before .before .before) .pre .x) ((c .before .before .before .before .before .before .before .before .before .before .before .before .before .before .before .before .before .before
-    .before .before .before .before .before .before .before .before .before .before) .pre .d)
-    ((c .before .before .before .before .before .before .before .before .before .before .before .before .before .before .before .before .before .before .before .before .before .before .before .before
-    .before .before .before .before) .pre .parameters))) in omega (
-      arith,
-      (c .before .before .before .before .before .before .before .before .before .before .before .before .before .before .before .before .before .before .loop) .inv .1 .1 .0,
-      (c .before .before .before .before .before .before .before .before .before .before .before .before .before .before .before .before .before .before .before .before .before .before .before .before
-          .before .before .before .before) .pre .room .numbers-room,
-    )
+array-write-numbers : tie.Need-array-write-numbers Inv-loop μ-loop
+array-write-numbers c =
+    let start = c .before .before .before .before .before .before .before .before .before .before .before .before .before .before .before .before .before .before .before .before .before in
+    let loop = c .before .before .before .before .before .before .before .before .before .before .before .before .before .loop in
+    let test = c .before .before .before .before .before .before .before .before .before .before .before .before .loop-test in
+    let own = c .before .before .before .before .before .before .before .before .before .before .before .wide in
+    let number = c .before .before .before .before .before .before .before .before .before .wide2 in
+    let r = looping-small (loop .inv .1) (start .pre) (test .taken) (own .ensures .0) (number .ensures .0) in
+    omega arith
 
 add-j : tie.Need-add-j Inv-loop μ-loop
-add-j c = omega (arith, (c .before .before .before .before .before .before .before .before .before .before .before .before .before .before .before .before .before .loop-test) .taken)
+add-j c =
+    let test = c .before .before .before .before .before .before .before .before .before .before .before .before .loop-test in
+    omega (arith, test .taken)
 
 loop-less : tie.Need-loop-less Inv-loop μ-loop
-loop-less c = omega (arith, (c .before .before .before .before .before .before .before .before .before .before .before .before .before .before .before .before .before .loop-test) .taken)
+loop-less c =
+    let test = c .before .before .before .before .before .before .before .before .before .before .before .before .loop-test in
+    omega (arith, test .taken)
 
 loop-again : tie.Need-loop-again Inv-loop μ-loop
-loop-again c = (
-  omega (arith, (c .before .before .before .before .before .before .before .before .before .before .before .before .before .before .before .before .before .loop-test) .taken),
-  (
-    simp length-set ((c .before .before .before .before .before .before .before .before .before .before .before .before .before .before .before .before .before .before .loop) .inv .1 .0),
-    (
-      simp length-set ((c .before .before .before .before .before .before .before .before .before .before .before .before .before .before .before .before .before .before .loop) .inv .1 .1 .0),
+loop-again c =
+    let start = c .before .before .before .before .before .before .before .before .before .before .before .before .before .before .before .before .before .before .before .before .before in
+    let loop = c .before .before .before .before .before .before .before .before .before .before .before .before .before .loop in
+    let test = c .before .before .before .before .before .before .before .before .before .before .before .before .loop-test in
+    let own = c .before .before .before .before .before .before .before .before .before .before .before .wide in
+    let number = c .before .before .before .before .before .before .before .before .before .wide2 in
+    let entry = c .before .before .before .before .before .before .before2 in
+    let told = c .before .before .before .before .before .number-of in
+    let value = c .before .worked in
+    let memory = c .before .before .before .before .memory in
+    let kept = loop .inv .0 .1 in
+    let room = start .pre .room in (
       (
-        (c .before .before .before .before .before .before .kept) .given ∙
-            (c .before .before .before .before .before .before .before .before .before .before .before .before .before .before .before .before .before .before .loop) .inv .1 .1 .1 .0,
-        (
-          (c .before .before .before .before .slots) .given ∙ (c .before .before .before .before .before .before .before .before .before .before .before .before .before .before .before .before
-              .before .before .loop) .inv .1 .1 .1 .1 .0,
-          λ x d h. turning-more
-              ((c .before .before .before .before .before .before .before .before .before .before .before .before .before .before .before .before .before .before .before .before .before .before .before .before
-              .before .before .before .before) .args .text .now) ((c .before .before .before .before .before .before .before .before .before .before .before .before .before .before .before .before .before
-              .before .before .before .before .before .before .before .before .before .before .before) .args .work .now)
-              ((c .before .before .before .before .before .before .before .before .before .before .before .before .before .before .before .before .before .before .before .before .before .before .before .before
-              .before .before .before .before) .args .refs .now) ((c .before .before .before .before .before .before .before .before .before .before .before .before .before .before .before .before .before
-              .before .before .before .before .before .before .before .before .before .before .before) .args .found .now)
-              ((c .before .before .before .before .before .before .before .before .before .before .before .before .before .before .before .before .before .before .before .before .before .before .before .before
-              .before .before .before .before) .args .entries) ((c .before .before .before .before .before .before .before .before .before .before .before .before .before .before .before .before .before
-              .before .before .before .before .before .before .before .before .before .before .before) .args .names)
-              ((c .before .before .before .before .before .before .before .before .before .before .before .before .before .before .before .before .before .before .before .before .before .before .before .before
-              .before .before .before .before) .args .order .now) ((c .before .before .before .before .before .before .before .before .before .before .before .before .before .before .before .before .before
-              .before .before .before .before .before .before .before .before .before .before .before) .args .count) x d
-              ((c .before .before .before .before .before .before .before .before .before .before .before .before .before .before .before .before .before .before .loop) .j)
-              ((c .before .before .before .before .before .before .before .before .before .before .before .before .before .before .before .before .before .before .loop) .sorts)
-              ((c .before .before .before .before .before .before .before .before .before .before .before .before .before .before .before .before .before .before .loop) .numbers)
-              ((c .before .before .before .before .before .before .before .before .before .before .before .before .before .before .before .before .before .loop-test) .taken)
-              ((c .before .before .before .before .before .before .before .before .before .before .before .before .before .before .before .before .before .before .loop) .inv .1 .1 .1 .1 .1 x d h)
-              ((c .before .before .before .before .before .before .before .number-of) .result)
-              ((c .before .before .before .before .before .before .before .before .before .before .before .before .before .wide2) .result) _ ((c .before .worked) .given .1)
-              ((c .before .before .before .before .before .before .before .before .before .before .before .before .before .wide2) .ensures .0 ∙ ap
-              (λ k. getD ((c .before .before .before .before .before .before .before .before .before .before .before .before .before .before .before .before .before .before .before .before .before .before
-              .before .before .before .before .before .before) .args .refs .now) k 0)
-              ((c .before .before .before .before .before .before .before .before .before .before .before .before .before .before .before .wide) .ensures .0))
-              (omega (
-                arith,
-                (c .before .before .before .before .before .before .before .before .before .before .before .before .before .before .before .before .before .before .loop) .inv .1 .0,
-                (c .before .before .before .before .before .before .before .before .before .before .before .before .before .before .before .before .before .before .before .before .before .before .before .before
-                    .before .before .before .before) .pre .room .sorts-room,
-              )) (omega (
-                arith,
-                (c .before .before .before .before .before .before .before .before .before .before .before .before .before .before .before .before .before .before .loop) .inv .1 .1 .0,
-                (c .before .before .before .before .before .before .before .before .before .before .before .before .before .before .before .before .before .before .before .before .before .before .before .before
-                    .before .before .before .before) .pre .room .numbers-room,
-              )) (next-told
-              ((c .before .before .before .before .before .before .before .before .before .before .before .before .before .before .before .before .before .before .before .before .before .before .before .before
-              .before .before .before .before) .args .text .now) ((c .before .before .before .before .before .before .before .before .before .before .before .before .before .before .before .before .before
-              .before .before .before .before .before .before .before .before .before .before .before) .args .work .now)
-              ((c .before .before .before .before .before .before .before .before .before .before .before .before .before .before .before .before .before .before .before .before .before .before .before .before
-              .before .before .before .before) .args .refs .now) ((c .before .before .before .before .before .before .before .before .before .before .before .before .before .before .before .before .before
-              .before .before .before .before .before .before .before .before .before .before .before) .args .found .now)
-              ((c .before .before .before .before .before .before .before .before .before .before .before .before .before .before .before .before .before .before .before .before .before .before .before .before
-              .before .before .before .before) .args .entries) ((c .before .before .before .before .before .before .before .before .before .before .before .before .before .before .before .before .before
-              .before .before .before .before .before .before .before .before .before .before .before) .args .names)
-              ((c .before .before .before .before .before .before .before .before .before .before .before .before .before .before .before .before .before .before .before .before .before .before .before .before
-              .before .before .before .before) .args .order .now) ((c .before .before .before .before .before .before .before .before .before .before .before .before .before .before .before .before .before
-              .before .before .before .before .before .before .before .before .before .before .before) .args .count) x d
-              ((c .before .before .before .before .before .before .before .before .before .before .before .before .before .before .before .before .before .before .loop) .j)
-              ((c .before .before .before .before .before .before .before .before .before .before .before .before .before .before .before .before .before .before .loop) .sorts)
-              ((c .before .before .before .before .before .before .before .before .before .before .before .before .before .before .before .before .before .before .loop) .numbers)
-              ((c .before .before .before .before .before .before .before .before .before .before .before .before .before .before .before .before .before .loop-test) .taken)
-              ((c .before .before .before .before .before .before .before .before .before .before .before .before .before .before .before .before .before .before .loop) .inv .1 .1 .1 .1 .1 x d h) _
-              ((c .before .before .before .before .before .before .before .number-of) .result)
-              ((c .before .before .before .before .before .before .before .before .before2) .ensures ∙ ap (λ k. k - 1)
-              ((c .before .before .before .before .before .before .before .before .before .before .before .before .before .before .before .wide) .ensures .0))
-              ((c .before .before .before .before .before .before .before .number-of) .ensures)),
-        ),
+        omega (arith, test .taken),
+        (memory .given ∙ kept .0, (told .ensures .same _ (value .given .1) ∙ kept .1 .0, (simp length-set (kept .1 .1 .0), simp length-set (kept .1 .1 .1)))),
       ),
-    ),
-  ),
-)
+      looping-more (loop .inv .1) (test .taken) (own .ensures .0) (entry .ensures) (told .ensures) (value .given .1) (number .ensures .0)
+          (omega (arith, kept .1 .1 .0, room .sorts-full)) (omega (arith, kept .1 .1 .1, room .numbers-full)),
+    )
 
-same-length-5 : tie.Need-same-length-5 Inv-loop μ-loop
-same-length-5 c = (c .before .loop) .inv .1 .0
-
-same-length-6 : tie.Need-same-length-6 Inv-loop μ-loop
-same-length-6 c = (c .before .loop) .inv .1 .1 .0
-
-same-length-7 : tie.Need-same-length-7 Inv-loop μ-loop
-same-length-7 c = (c .before .loop) .inv .1 .1 .1 .0
-
-same-length-8 : tie.Need-same-length-8 Inv-loop μ-loop
-same-length-8 c = (c .before .loop) .inv .1 .1 .1 .1 .0
+same-length-2 : tie.Need-same-length-2 Inv-loop μ-loop
+same-length-2 c =
+    let loop = c .before .loop in
+    loop .inv .0 .1 .0
 
 returns-2 : tie.Need-returns-2 Inv-loop μ-loop
-returns-2 c = λ x d h. turning-all ((c .before .before .before .before .before .before .before .before .before .before .before) .args .text .now)
-    ((c .before .before .before .before .before .before .before .before .before .before .before) .args .work .now)
-    ((c .before .before .before .before .before .before .before .before .before .before .before) .args .refs .now)
-    ((c .before .before .before .before .before .before .before .before .before .before .before) .args .found .now)
-    ((c .before .before .before .before .before .before .before .before .before .before .before) .args .entries)
-    ((c .before .before .before .before .before .before .before .before .before .before .before) .args .names)
-    ((c .before .before .before .before .before .before .before .before .before .before .before) .args .order .now)
-    ((c .before .before .before .before .before .before .before .before .before .before .before) .args .count) x d ((c .before .loop) .j) _ _ 0 ((c .loop-test) .left)
-    ((c .before .loop) .inv .1 .1 .1 .1 .1 x d h)
+returns-2 c =
+    let start = c .before .before .before .before .before .before .before .before .before in
+    let loop = c .before .loop in
+    let test = c .loop-test in
+    let kept = loop .inv .0 .1 in
+    let room = start .pre .room in (
+      looping-all (loop .inv .1) (test .left) 0,
+      record { table-kept = λ n e. kept .1 .0; sorts-full = kept .1 .1 .0 ∙ room .sorts-full; numbers-full = kept .1 .1 .1 ∙ room .numbers-full },
+    )
 
 pub parameters-spec : {M : Type 1} → statement M
 parameters-spec =
@@ -411,28 +182,22 @@ parameters-spec =
     μ-loop
     loop-holds
     mul-wide
-    shared-slice-read-wide
+    array-read-wide
     wide-requires
     mul-wide-2
-    shared-slice-read-wide-2
+    shared-slice-read-wide
     wide-requires-2
     before-requires
     number-of-requires
     enum-known-worked
     enum-told
     same-length
-    same-length-2
-    same-length-3
-    same-length-4
     returns
-    slice-write-sorts
+    array-write-sorts
     mul-numbers
-    slice-write-numbers
+    array-write-numbers
     add-j
     loop-less
     loop-again
-    same-length-5
-    same-length-6
-    same-length-7
-    same-length-8
+    same-length-2
     returns-2)

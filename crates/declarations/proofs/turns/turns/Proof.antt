@@ -1,193 +1,88 @@
 -- `turns` meets its contract: the declarations from position j on wait for their turn.
-use Prim.Native.Nat.{ℕ, _-_, _≤_, _<_}
-use mathlib.Core.Bool.{Bool, true}
-use mathlib.Core.List.{List}
-use mathlib.Core.Path.{_≡_, refl, sym, ap, _∙_, subst}
+use Prim.Native.Nat.{_-_, _≤_}
+use mathlib.Core.Path.{_≡_, refl, _∙_}
 use native.Mathlib.Omega.{arith}
 use borrow.Author.Needs.{needs}
-use lib.ListN.{length, getD, length-set}
-use Rattle.language.specs.Limits.{maxNames, maxTokens}
-use Rattle.language.specs.Tree.{Spec, Declaration}
-use Rattle.language.specs.Declared.{Table}
-use Rattle.declarations.specs.Turns.{Declared, Before, before-set, Turning, turning-starts, next-inside, next-small, next-sizable, turning-stopped, turning-more, turning-all}
+use lib.ListN.{length, length-set}
+use Rattle.declarations.specs.Expressions.{room-still}
+use Rattle.declarations.specs.Turns.{Before, before-set}
+use Rattle.declarations.specs.TurnsLoop.{Looping, looping-starts, looping-inside, looping-small, looping-sizable, looping-stopped, looping-more, looping-all}
 use Rattle.declarations.proofs.turns.turns.Statement.{statement}
 use Rattle.declarations.proofs.turns.turns.Tie as tie
 
 abbrev Inv-loop : tie.InvT-loop
-Inv-loop text work refs places enumerations from to sorts₀ numbers₀ kept₀ slots₀ widths₀ j₀ sorts numbers kept slots widths j = (length sorts ≡ length sorts₀) ×
-    ((length numbers ≡ length numbers₀) × ((length kept ≡ length kept₀) ×
-    ((length slots ≡ length slots₀) × ((length widths ≡ length widths₀) ×
-    ((from ≤ j) × (Before from widths₀ widths × ((found : List ℕ) (entries names : ℕ) (x : Spec) (output : Bool) (ds : List Declaration) (d : Table)
-    → Declared text work refs found entries names places enumerations from to sorts₀ numbers₀ x ds d
-    → Turning text work refs found entries names places enumerations from to x output ds d j sorts numbers widths)))))))
+Inv-loop text work refs memory₀ table₀ entries places enumerations to widths₀ sorts₀ numbers₀ j₀ memory table widths sorts numbers j =
+    (((length memory ≡ length memory₀) ×
+    ((length table ≡ length table₀) × ((length sorts ≡ length sorts₀) × ((length numbers ≡ length numbers₀) × (length widths ≡ length widths₀))))) × ((j₀ ≤ j) × Before j₀ widths₀ widths)) ×
+    Looping text work refs places enumerations j₀ to entries sorts₀ numbers₀ j sorts numbers widths
 
 abbrev μ-loop : tie.MeasureT-loop
-μ-loop text work refs places enumerations from to sorts₀ numbers₀ kept₀ slots₀ widths₀ j₀ sorts numbers kept slots widths j = to - j
+μ-loop text work refs memory₀ table₀ entries places enumerations to widths₀ sorts₀ numbers₀ j₀ memory table widths sorts numbers j = to - j
 
 loop-holds : tie.Need-loop-holds Inv-loop μ-loop
-loop-holds c = (
-  refl,
-  (
-    refl,
-    (
-      refl,
-      (
-        refl,
-        (
-          refl,
-          (
-            omega arith,
-            (
-              (λ i l. refl),
-              λ f n m x o ds d h. turning-starts ((c .before .before .before .before .before .before .before .before .before .before) .args .text .now)
-                  ((c .before .before .before .before .before .before .before .before .before .before) .args .work .now)
-                  ((c .before .before .before .before .before .before .before .before .before .before) .args .refs .now) f n m
-                  ((c .before .before .before .before .before .before .before .before .before .before) .args .places .now)
-                  ((c .before .before .before .before .before .before .before .before .before .before) .args .enumerations .now)
-                  ((c .before .before .before .before .before .before .before .before .before .before) .args .from) ((c .before .before .before .before .before .before .before .before .before .before) .args .to) x
-                  o ds d _ _ _ h,
-            ),
-          ),
-        ),
-      ),
-    ),
-  ),
-)
+loop-holds c = (((refl, (refl, (refl, (refl, refl)))), (omega arith, λ i l. refl)), looping-starts _)
 
 mul-wide : tie.Need-mul-wide Inv-loop μ-loop
-mul-wide c = omega (arith, (c .loop-test) .taken, (c .before .before .before .before .before .before .before .before .before .before .before .before) .pre .places-room)
+mul-wide c =
+    let start = c .before .before .before .before .before .before .before .before .before .before .before in
+    let test = c .loop-test in
+    omega (arith, test .taken, start .pre .few)
 
-shared-slice-read-wide : tie.Need-shared-slice-read-wide Inv-loop μ-loop
-shared-slice-read-wide c = omega (arith, (c .before .loop-test) .taken, (c .before .before .before .before .before .before .before .before .before .before .before .before .before) .pre .places-room)
+array-read-wide : tie.Need-array-read-wide Inv-loop μ-loop
+array-read-wide c =
+    let start = c .before .before .before .before .before .before .before .before .before .before .before in
+    let test = c .loop-test in
+    omega (arith, test .taken, start .pre .few)
 
 wide-requires : tie.Need-wide-requires Inv-loop μ-loop
 wide-requires c κs = search needs
 
 mul-wide-2 : tie.Need-mul-wide-2 Inv-loop μ-loop
-mul-wide-2 c = omega (
-  arith,
-  (c .before .before .loop-test) .taken,
-  (c .before .before .before .before .before .before .before .before .before .before .before .before .before .before) .pre .places-room,
-)
+mul-wide-2 c =
+    let start = c .before .before .before .before .before .before .before .before .before .before .before .before in
+    let test = c .before .loop-test in
+    omega (arith, test .taken, start .pre .few)
 
-shared-slice-read-wide-2 : tie.Need-shared-slice-read-wide-2 Inv-loop μ-loop
-shared-slice-read-wide-2 c = omega (
-  arith,
-  (c .before .before .before .loop-test) .taken,
-  (c .before .before .before .before .before .before .before .before .before .before .before .before .before .before .before) .pre .enumerations-room,
-)
+array-read-wide-2 : tie.Need-array-read-wide-2 Inv-loop μ-loop
+array-read-wide-2 c =
+    let start = c .before .before .before .before .before .before .before .before .before .before .before .before in
+    let test = c .before .loop-test in
+    omega (arith, test .taken, start .pre .few)
 
 wide-requires-2 : tie.Need-wide-requires-2 Inv-loop μ-loop
 wide-requires-2 c κs = search needs
 
 mul-wide-3 : tie.Need-mul-wide-3 Inv-loop μ-loop
-mul-wide-3 c = let i : (c .before .before .wide) .result < maxTokens = subst (λ n. n < maxTokens) (sym ((c .before .before .wide) .ensures .0))
-    (next-inside ((c .before .before .before .before .before .before .before .before .before .before .before .before .before .before .before .before) .args .text .now)
-    ((c .before .before .before .before .before .before .before .before .before .before .before .before .before .before .before .before) .args .work .now)
-    ((c .before .before .before .before .before .before .before .before .before .before .before .before .before .before .before .before) .args .refs .now)
-    ((c .before .before .before .before .before .before .before .before .before .before .before .before .before .before .before .before) .pre .found)
-    ((c .before .before .before .before .before .before .before .before .before .before .before .before .before .before .before .before) .pre .entries)
-    ((c .before .before .before .before .before .before .before .before .before .before .before .before .before .before .before .before) .pre .names)
-    ((c .before .before .before .before .before .before .before .before .before .before .before .before .before .before .before .before) .args .places .now)
-    ((c .before .before .before .before .before .before .before .before .before .before .before .before .before .before .before .before) .args .enumerations .now)
-    ((c .before .before .before .before .before .before .before .before .before .before .before .before .before .before .before .before) .args .from)
-    ((c .before .before .before .before .before .before .before .before .before .before .before .before .before .before .before .before) .args .to)
-    ((c .before .before .before .before .before .before .before .before .before .before .before .before .before .before .before .before) .pre .x) true
-    ((c .before .before .before .before .before .before .before .before .before .before .before .before .before .before .before .before) .pre .ds)
-    ((c .before .before .before .before .before .before .before .before .before .before .before .before .before .before .before .before) .pre .d)
-    ((c .before .before .before .before .before .loop) .j) ((c .before .before .before .before .before .loop) .sorts) ((c .before .before .before .before .before .loop) .numbers)
-    ((c .before .before .before .before .before .loop) .widths) ((c .before .before .before .before .loop-test) .taken)
-    ((c .before .before .before .before .before .loop) .inv .1 .1 .1 .1 .1 .1 .1
-    ((c .before .before .before .before .before .before .before .before .before .before .before .before .before .before .before .before) .pre .found)
-    ((c .before .before .before .before .before .before .before .before .before .before .before .before .before .before .before .before) .pre .entries)
-    ((c .before .before .before .before .before .before .before .before .before .before .before .before .before .before .before .before) .pre .names)
-    ((c .before .before .before .before .before .before .before .before .before .before .before .before .before .before .before .before) .pre .x) true
-    ((c .before .before .before .before .before .before .before .before .before .before .before .before .before .before .before .before) .pre .ds)
-    ((c .before .before .before .before .before .before .before .before .before .before .before .before .before .before .before .before) .pre .d)
-    ((c .before .before .before .before .before .before .before .before .before .before .before .before .before .before .before .before) .pre .declared))) in omega arith
+mul-wide-3 c =
+    let start = c .before .before .before .before .before .before .before .before .before .before .before .before .before in
+    let loop = c .before .before .before .loop in
+    let test = c .before .before .loop-test in
+    let own = c .before .wide in
+    let k = looping-inside (loop .inv .1) (start .pre) (test .taken) (own .ensures .0) in
+    omega (arith, start .pre .room .refs-room)
 
-shared-slice-read-wide-3 : tie.Need-shared-slice-read-wide-3 Inv-loop μ-loop
-shared-slice-read-wide-3 c = let i : (c .before .before .before .wide) .result < maxTokens = subst (λ n. n < maxTokens) (sym ((c .before .before .before .wide) .ensures .0))
-    (next-inside ((c .before .before .before .before .before .before .before .before .before .before .before .before .before .before .before .before .before) .args .text .now)
-    ((c .before .before .before .before .before .before .before .before .before .before .before .before .before .before .before .before .before) .args .work .now)
-    ((c .before .before .before .before .before .before .before .before .before .before .before .before .before .before .before .before .before) .args .refs .now)
-    ((c .before .before .before .before .before .before .before .before .before .before .before .before .before .before .before .before .before) .pre .found)
-    ((c .before .before .before .before .before .before .before .before .before .before .before .before .before .before .before .before .before) .pre .entries)
-    ((c .before .before .before .before .before .before .before .before .before .before .before .before .before .before .before .before .before) .pre .names)
-    ((c .before .before .before .before .before .before .before .before .before .before .before .before .before .before .before .before .before) .args .places .now)
-    ((c .before .before .before .before .before .before .before .before .before .before .before .before .before .before .before .before .before) .args .enumerations .now)
-    ((c .before .before .before .before .before .before .before .before .before .before .before .before .before .before .before .before .before) .args .from)
-    ((c .before .before .before .before .before .before .before .before .before .before .before .before .before .before .before .before .before) .args .to)
-    ((c .before .before .before .before .before .before .before .before .before .before .before .before .before .before .before .before .before) .pre .x) true
-    ((c .before .before .before .before .before .before .before .before .before .before .before .before .before .before .before .before .before) .pre .ds)
-    ((c .before .before .before .before .before .before .before .before .before .before .before .before .before .before .before .before .before) .pre .d)
-    ((c .before .before .before .before .before .before .loop) .j) ((c .before .before .before .before .before .before .loop) .sorts)
-    ((c .before .before .before .before .before .before .loop) .numbers) ((c .before .before .before .before .before .before .loop) .widths)
-    ((c .before .before .before .before .before .loop-test) .taken)
-    ((c .before .before .before .before .before .before .loop) .inv .1 .1 .1 .1 .1 .1 .1
-    ((c .before .before .before .before .before .before .before .before .before .before .before .before .before .before .before .before .before) .pre .found)
-    ((c .before .before .before .before .before .before .before .before .before .before .before .before .before .before .before .before .before) .pre .entries)
-    ((c .before .before .before .before .before .before .before .before .before .before .before .before .before .before .before .before .before) .pre .names)
-    ((c .before .before .before .before .before .before .before .before .before .before .before .before .before .before .before .before .before) .pre .x) true
-    ((c .before .before .before .before .before .before .before .before .before .before .before .before .before .before .before .before .before) .pre .ds)
-    ((c .before .before .before .before .before .before .before .before .before .before .before .before .before .before .before .before .before) .pre .d)
-    ((c .before .before .before .before .before .before .before .before .before .before .before .before .before .before .before .before .before) .pre .declared))) in
-    omega (arith, (c .before .before .before .before .before .before .before .before .before .before .before .before .before .before .before .before .before) .pre .room .refs-room)
+shared-slice-read-wide : tie.Need-shared-slice-read-wide Inv-loop μ-loop
+shared-slice-read-wide c =
+    let start = c .before .before .before .before .before .before .before .before .before .before .before .before .before .before in
+    let loop = c .before .before .before .before .loop in
+    let test = c .before .before .before .loop-test in
+    let own = c .before .before .wide in
+    let k = looping-inside (loop .inv .1) (start .pre) (test .taken) (own .ensures .0) in
+    omega (arith, start .pre .room .refs-room)
 
 wide-requires-3 : tie.Need-wide-requires-3 Inv-loop μ-loop
 wide-requires-3 c κs = search needs
 
 width-of-requires : tie.Need-width-of-requires Inv-loop μ-loop
-width-of-requires c κs = rw ((c .before .before .before .before .before .before .before .before .wide) .ensures .0, (c .before .before .before .before .before .before .wide2) .ensures .0)
-    (next-sizable ((c .before .before .before .before .before .before .before .before .before .before .before .before .before .before .before .before .before .before .before .before
-    .before .before) .args .text .now) ((c .before .before .before .before .before .before .before .before .before .before .before .before .before .before .before .before .before .before .before
-    .before .before .before) .args .work .now) ((c .before .before .before .before .before .before .before .before .before .before .before .before .before .before .before .before .before .before
-    .before .before .before .before) .args .refs .now) ((c .before .before .before .before .before .before .before .before .before .before .before .before .before .before .before .before .before
-    .before .before .before .before .before) .pre .found) ((c .before .before .before .before .before .before .before .before .before .before .before .before .before .before .before .before .before
-    .before .before .before .before .before) .pre .entries) ((c .before .before .before .before .before .before .before .before .before .before .before .before .before .before .before .before .before
-    .before .before .before .before .before) .pre .names) ((c .before .before .before .before .before .before .before .before .before .before .before .before .before .before .before .before .before
-    .before .before .before .before .before) .args .places .now) ((c .before .before .before .before .before .before .before .before .before .before .before .before .before .before .before .before
-    .before .before .before .before .before .before) .args .enumerations .now)
-    ((c .before .before .before .before .before .before .before .before .before .before .before .before .before .before .before .before .before .before .before .before .before .before) .args .from)
-    ((c .before .before .before .before .before .before .before .before .before .before .before .before .before .before .before .before .before .before .before .before .before .before) .args .to)
-    ((c .before .before .before .before .before .before .before .before .before .before .before .before .before .before .before .before .before .before .before .before .before .before) .pre .x) true
-    ((c .before .before .before .before .before .before .before .before .before .before .before .before .before .before .before .before .before .before .before .before .before .before) .pre .ds)
-    ((c .before .before .before .before .before .before .before .before .before .before .before .before .before .before .before .before .before .before .before .before .before .before) .pre .d)
-    ((c .before .before .before .before .before .before .before .before .before .before .before .loop) .j)
-    ((c .before .before .before .before .before .before .before .before .before .before .before .loop) .sorts)
-    ((c .before .before .before .before .before .before .before .before .before .before .before .loop) .numbers)
-    ((c .before .before .before .before .before .before .before .before .before .before .before .loop) .widths)
-    ((c .before .before .before .before .before .before .before .before .before .before .loop-test) .taken)
-    ((c .before .before .before .before .before .before .before .before .before .before .before .loop) .inv .1 .1 .1 .1 .1 .1 .1
-    ((c .before .before .before .before .before .before .before .before .before .before .before .before .before .before .before .before .before .before .before .before .before .before) .pre .found)
-    ((c .before .before .before .before .before .before .before .before .before .before .before .before .before .before .before .before .before .before .before .before .before .before) .pre .entries)
-    ((c .before .before .before .before .before .before .before .before .before .before .before .before .before .before .before .before .before .before .before .before .before .before) .pre .names)
-    ((c .before .before .before .before .before .before .before .before .before .before .before .before .before .before .before .before .before .before .before .before .before .before) .pre .x) true
-    ((c .before .before .before .before .before .before .before .before .before .before .before .before .before .before .before .before .before .before .before .before .before .before) .pre .ds)
-    ((c .before .before .before .before .before .before .before .before .before .before .before .before .before .before .before .before .before .before .before .before .before .before) .pre .d)
-    ((c .before .before .before .before .before .before .before .before .before .before .before .before .before .before .before .before .before .before .before .before
-    .before .before) .pre .declared)) _ (record {
-      refs-room = (c .before .before .before .before .before .before .before .before .before .before .before .before .before .before .before .before
-          .before .before .before .before .before .before) .pre .room .refs-room;
-      sorts-room = omega (
-        arith,
-        (c .before .before .before .before .before .before .before .before .before .before .before .loop) .inv .0,
-        (c .before .before .before .before .before .before .before .before .before .before .before .before .before .before .before .before .before .before .before .before
-            .before .before) .pre .room .sorts-room,
-      );
-      numbers-room = omega (
-        arith,
-        (c .before .before .before .before .before .before .before .before .before .before .before .loop) .inv .1 .0,
-        (c .before .before .before .before .before .before .before .before .before .before .before .before .before .before .before .before .before .before .before .before
-            .before .before) .pre .room .numbers-room,
-      );
-      slots-room = omega (
-        arith,
-        (c .before .before .before .before .before .before .before .before .before .before .before .loop) .inv .1 .1 .1 .0,
-        (c .before .before .before .before .before .before .before .before .before .before .before .before .before .before .before .before .before .before .before .before
-            .before .before) .pre .room .slots-room,
-      );
-    }))
+width-of-requires c κs =
+    let start = c .before .before .before .before .before .before .before .before .before .before .before .before .before .before .before .before .before in
+    let loop = c .before .before .before .before .before .before .before .loop in
+    let test = c .before .before .before .before .before .before .loop-test in
+    let own = c .before .before .before .before .before .wide in
+    let enumeration = c .before .before .before .before .wide2 in
+    let kept = loop .inv .0 .0 in
+    looping-sizable (loop .inv .1) (start .pre) (test .taken) (own .ensures .0) (enumeration .ensures .0)
+    (room-still _ _ _ _ (kept .1 .1 .0) (kept .1 .1 .1 .0) (kept .0) (kept .1 .0) (start .pre .room))
 
 enum-known-worked : tie.Need-enum-known-worked Inv-loop μ-loop
 enum-known-worked c = search needs
@@ -196,374 +91,136 @@ enum-told : tie.Need-enum-told Inv-loop μ-loop
 enum-told c = search needs
 
 same-length : tie.Need-same-length Inv-loop μ-loop
-same-length c = (c .before .before .before .before .before .before .before .before .before .before .before .before .before .before .before .before .before .before .loop) .inv .0
-
-same-length-2 : tie.Need-same-length-2 Inv-loop μ-loop
-same-length-2 c = (c .before .before .before .before .before .before .before .before .before .before .before .before .before .before .before .before .before .before .loop) .inv .1 .0
-
-same-length-3 : tie.Need-same-length-3 Inv-loop μ-loop
-same-length-3 c = (c .before .before .before .before .before .kept) .given ∙
-    (c .before .before .before .before .before .before .before .before .before .before .before .before .before .before .before .before .before .before .loop) .inv .1 .1 .0
-
-same-length-4 : tie.Need-same-length-4 Inv-loop μ-loop
-same-length-4 c = (c .before .before .before .slots) .given ∙
-    (c .before .before .before .before .before .before .before .before .before .before .before .before .before .before .before .before .before .before .loop) .inv .1 .1 .1 .0
-
-same-length-5 : tie.Need-same-length-5 Inv-loop μ-loop
-same-length-5 c = (c .before .before .before .before .before .before .before .before .before .before .before .before .before .before .before .before .before .before .loop) .inv .1 .1 .1 .1 .0
+same-length c =
+    let memory = c .before .before .before .memory in
+    let loop = c .before .before .before .before .before .before .before .before .before .before .before .before .loop in
+    memory .given ∙ loop .inv .0 .0 .0
 
 returns : tie.Need-returns Inv-loop μ-loop
-returns c = (
-  (λ f n m x o ds d h. turning-stopped ((c .before .before .before .before .before .before .before .before .before .before .before .before .before .before .before .before .before .before
-      .before .before .before .before .before .before .before .before .before .before .before) .args .text .now)
-      ((c .before .before .before .before .before .before .before .before .before .before .before .before .before .before .before .before .before .before .before .before .before .before .before .before
-      .before .before .before .before .before) .args .work .now) ((c .before .before .before .before .before .before .before .before .before .before .before .before .before .before .before .before
-      .before .before .before .before .before .before .before .before .before .before .before .before .before) .args .refs .now) f n m
-      ((c .before .before .before .before .before .before .before .before .before .before .before .before .before .before .before .before .before .before .before .before .before .before .before .before
-      .before .before .before .before .before) .args .places .now) ((c .before .before .before .before .before .before .before .before .before .before .before .before .before .before .before .before
-      .before .before .before .before .before .before .before .before .before .before .before .before .before) .args .enumerations .now)
-      ((c .before .before .before .before .before .before .before .before .before .before .before .before .before .before .before .before .before .before .before .before .before .before .before .before
-      .before .before .before .before .before) .args .from) ((c .before .before .before .before .before .before .before .before .before .before .before .before .before .before .before .before .before
-      .before .before .before .before .before .before .before .before .before .before .before .before) .args .to) x o ds d
-      ((c .before .before .before .before .before .before .before .before .before .before .before .before .before .before .before .before .before .before .loop) .j)
-      ((c .before .before .before .before .before .before .before .before .before .before .before .before .before .before .before .before .before .before .loop) .sorts)
-      ((c .before .before .before .before .before .before .before .before .before .before .before .before .before .before .before .before .before .before .loop) .numbers)
-      ((c .before .before .before .before .before .before .before .before .before .before .before .before .before .before .before .before .before .before .loop) .widths)
-      ((c .before .before .before .before .before .before .before .before .before .before .before .before .before .before .before .before .before .loop-test) .taken)
-      ((c .before .before .before .before .before .before .before .before .before .before .before .before .before .before .before .before .before .before .loop) .inv .1 .1 .1 .1 .1 .1 .1 f n m x o ds d
-      h) ((c .before .before .before .before .before .before .before .before .before .before .before .before .before .before .before .wide) .result)
-      ((c .before .before .before .before .before .before .before .before .before .before .before .before .before .wide2) .result)
-      ((c .before .before .before .before .before .before .before .before .before .before .before .before .before .before .before .wide) .ensures .0)
-      ((c .before .before .before .before .before .before .before .before .before .before .before .before .before .wide2) .ensures .0)
-      ((c .before .before .before .before .before .before .width-of) .result) ((c .before .before .before .before .before .before .width-of) .ensures) _ _ ((c .enum-told) .given .1)),
-  (c .before .before .before .before .before .before .before .before .before .before .before .before .before .before .before .before .before .before .loop) .inv .1 .1 .1 .1 .1 .1 .0,
-)
+returns c =
+    let start = c .before .before .before .before .before .before .before .before .before .before .before .before .before .before .before .before .before .before .before .before .before .before in
+    let loop = c .before .before .before .before .before .before .before .before .before .before .before .before .loop in
+    let test = c .before .before .before .before .before .before .before .before .before .before .before .loop-test in
+    let own = c .before .before .before .before .before .before .before .before .before .before .wide in
+    let enumeration = c .before .before .before .before .before .before .before .before .before .wide2 in
+    let width = c .before .before .before .before .width-of in
+    let told = c .enum-told in
+    let kept = loop .inv .0 .0 in
+    let room = start .pre .room in (
+      looping-stopped (loop .inv .1) (test .taken) (own .ensures .0) (enumeration .ensures .0) (width .ensures .0) (told .given .1),
+      (
+        loop .inv .0 .1 .1,
+        (
+          record { table-kept = λ n e. width .ensures .1 n e ∙ kept .1 .0; sorts-full = kept .1 .1 .0 ∙ room .sorts-full; numbers-full = kept .1 .1 .1 .0 ∙ room .numbers-full },
+          kept .1 .1 .1 .1 ∙ start .pre .widths-full,
+        ),
+      ),
+    )
 
 sort-of-requires : tie.Need-sort-of-requires Inv-loop μ-loop
 sort-of-requires c κs = search needs
 
-slice-write-sorts : tie.Need-slice-write-sorts Inv-loop μ-loop
-slice-write-sorts c = let i : (c .before .before .before .before .before .before .before .before .before .before .before .before .before .wide3) .result < maxNames = subst (λ n. n < maxNames)
-    (sym ((c .before .before .before .before .before .before .before .before .before .before .before .before .before .wide3) .ensures .0 ∙ ap
-    (λ k. getD ((c .before .before .before .before .before .before .before .before .before .before .before .before .before .before .before .before .before .before .before .before .before .before
-    .before .before .before .before .before .before .before .before .before) .args .refs .now) k 0)
-    ((c .before .before .before .before .before .before .before .before .before .before .before .before .before .before .before .before .before .wide) .ensures .0)))
-    (next-small ((c .before .before .before .before .before .before .before .before .before .before .before .before .before .before .before .before .before .before .before .before .before .before
-    .before .before .before .before .before .before .before .before .before) .args .text .now)
-    ((c .before .before .before .before .before .before .before .before .before .before .before .before .before .before .before .before .before .before .before .before .before .before .before .before
-    .before .before .before .before .before .before .before) .args .work .now)
-    ((c .before .before .before .before .before .before .before .before .before .before .before .before .before .before .before .before .before .before .before .before .before .before .before .before
-    .before .before .before .before .before .before .before) .args .refs .now)
-    ((c .before .before .before .before .before .before .before .before .before .before .before .before .before .before .before .before .before .before .before .before .before .before .before .before
-    .before .before .before .before .before .before .before) .pre .found)
-    ((c .before .before .before .before .before .before .before .before .before .before .before .before .before .before .before .before .before .before .before .before .before .before .before .before
-    .before .before .before .before .before .before .before) .pre .entries)
-    ((c .before .before .before .before .before .before .before .before .before .before .before .before .before .before .before .before .before .before .before .before .before .before .before .before
-    .before .before .before .before .before .before .before) .pre .names)
-    ((c .before .before .before .before .before .before .before .before .before .before .before .before .before .before .before .before .before .before .before .before .before .before .before .before
-    .before .before .before .before .before .before .before) .args .places .now)
-    ((c .before .before .before .before .before .before .before .before .before .before .before .before .before .before .before .before .before .before .before .before .before .before .before .before
-    .before .before .before .before .before .before .before) .args .enumerations .now)
-    ((c .before .before .before .before .before .before .before .before .before .before .before .before .before .before .before .before .before .before .before .before .before .before .before .before
-    .before .before .before .before .before .before .before) .args .from)
-    ((c .before .before .before .before .before .before .before .before .before .before .before .before .before .before .before .before .before .before .before .before .before .before .before .before
-    .before .before .before .before .before .before .before) .args .to)
-    ((c .before .before .before .before .before .before .before .before .before .before .before .before .before .before .before .before .before .before .before .before .before .before .before .before
-    .before .before .before .before .before .before .before) .pre .x) true
-    ((c .before .before .before .before .before .before .before .before .before .before .before .before .before .before .before .before .before .before .before .before .before .before .before .before
-    .before .before .before .before .before .before .before) .pre .ds)
-    ((c .before .before .before .before .before .before .before .before .before .before .before .before .before .before .before .before .before .before .before .before .before .before .before .before
-    .before .before .before .before .before .before .before) .pre .d)
-    ((c .before .before .before .before .before .before .before .before .before .before .before .before .before .before .before .before .before .before .before .before .loop) .j)
-    ((c .before .before .before .before .before .before .before .before .before .before .before .before .before .before .before .before .before .before .before .before .loop) .sorts)
-    ((c .before .before .before .before .before .before .before .before .before .before .before .before .before .before .before .before .before .before .before .before .loop) .numbers)
-    ((c .before .before .before .before .before .before .before .before .before .before .before .before .before .before .before .before .before .before .before .before .loop) .widths)
-    ((c .before .before .before .before .before .before .before .before .before .before .before .before .before .before .before .before .before .before .before .loop-test) .taken)
-    ((c .before .before .before .before .before .before .before .before .before .before .before .before .before .before .before .before .before .before
-    .before .before .loop) .inv .1 .1 .1 .1 .1 .1 .1 ((c .before .before .before .before .before .before .before .before .before .before .before .before .before .before .before .before .before
-    .before .before .before .before .before .before .before .before .before .before .before .before .before .before) .pre .found)
-    ((c .before .before .before .before .before .before .before .before .before .before .before .before .before .before .before .before .before .before .before .before .before .before .before .before
-    .before .before .before .before .before .before .before) .pre .entries)
-    ((c .before .before .before .before .before .before .before .before .before .before .before .before .before .before .before .before .before .before .before .before .before .before .before .before
-    .before .before .before .before .before .before .before) .pre .names)
-    ((c .before .before .before .before .before .before .before .before .before .before .before .before .before .before .before .before .before .before .before .before .before .before .before .before
-    .before .before .before .before .before .before .before) .pre .x) true
-    ((c .before .before .before .before .before .before .before .before .before .before .before .before .before .before .before .before .before .before .before .before .before .before .before .before
-    .before .before .before .before .before .before .before) .pre .ds)
-    ((c .before .before .before .before .before .before .before .before .before .before .before .before .before .before .before .before .before .before .before .before .before .before .before .before
-    .before .before .before .before .before .before .before) .pre .d)
-    ((c .before .before .before .before .before .before .before .before .before .before .before .before .before .before .before .before .before .before .before .before .before .before .before .before
-    .before .before .before .before .before .before .before) .pre .declared))) in
-    omega (
-      arith,
-      (c .before .before .before .before .before .before .before .before .before .before .before .before .before .before .before .before .before .before .before .before .loop) .inv .0,
-      (c .before .before .before .before .before .before .before .before .before .before .before .before .before .before .before .before .before .before .before .before .before .before .before .before
-          .before .before .before .before .before .before .before) .pre .room .sorts-room,
-    )
+array-write-sorts : tie.Need-array-write-sorts Inv-loop μ-loop
+array-write-sorts c =
+    let start = c .before .before .before .before .before .before .before .before .before .before .before .before .before .before .before .before .before .before .before .before .before .before .before .before in
+    let loop = c .before .before .before .before .before .before .before .before .before .before .before .before .before .before .loop in
+    let test = c .before .before .before .before .before .before .before .before .before .before .before .before .before .loop-test in
+    let own = c .before .before .before .before .before .before .before .before .before .before .before .before .wide in
+    let number = c .before .before .before .before .before .before .before .before .before .wide3 in
+    let r = looping-small (loop .inv .1) (start .pre) (test .taken) (own .ensures .0) (number .ensures .0) in
+    omega arith
 
 mul-numbers : tie.Need-mul-numbers Inv-loop μ-loop
-mul-numbers c = let i : (c .before .before .before .before .before .before .before .before .before .before .before .before .before .wide3) .result < maxNames = subst (λ n. n < maxNames)
-    (sym ((c .before .before .before .before .before .before .before .before .before .before .before .before .before .wide3) .ensures .0 ∙ ap
-    (λ k. getD ((c .before .before .before .before .before .before .before .before .before .before .before .before .before .before .before .before .before .before .before .before .before .before
-    .before .before .before .before .before .before .before .before .before) .args .refs .now) k 0)
-    ((c .before .before .before .before .before .before .before .before .before .before .before .before .before .before .before .before .before .wide) .ensures .0)))
-    (next-small ((c .before .before .before .before .before .before .before .before .before .before .before .before .before .before .before .before .before .before .before .before .before .before
-    .before .before .before .before .before .before .before .before .before) .args .text .now)
-    ((c .before .before .before .before .before .before .before .before .before .before .before .before .before .before .before .before .before .before .before .before .before .before .before .before
-    .before .before .before .before .before .before .before) .args .work .now)
-    ((c .before .before .before .before .before .before .before .before .before .before .before .before .before .before .before .before .before .before .before .before .before .before .before .before
-    .before .before .before .before .before .before .before) .args .refs .now)
-    ((c .before .before .before .before .before .before .before .before .before .before .before .before .before .before .before .before .before .before .before .before .before .before .before .before
-    .before .before .before .before .before .before .before) .pre .found)
-    ((c .before .before .before .before .before .before .before .before .before .before .before .before .before .before .before .before .before .before .before .before .before .before .before .before
-    .before .before .before .before .before .before .before) .pre .entries)
-    ((c .before .before .before .before .before .before .before .before .before .before .before .before .before .before .before .before .before .before .before .before .before .before .before .before
-    .before .before .before .before .before .before .before) .pre .names)
-    ((c .before .before .before .before .before .before .before .before .before .before .before .before .before .before .before .before .before .before .before .before .before .before .before .before
-    .before .before .before .before .before .before .before) .args .places .now)
-    ((c .before .before .before .before .before .before .before .before .before .before .before .before .before .before .before .before .before .before .before .before .before .before .before .before
-    .before .before .before .before .before .before .before) .args .enumerations .now)
-    ((c .before .before .before .before .before .before .before .before .before .before .before .before .before .before .before .before .before .before .before .before .before .before .before .before
-    .before .before .before .before .before .before .before) .args .from)
-    ((c .before .before .before .before .before .before .before .before .before .before .before .before .before .before .before .before .before .before .before .before .before .before .before .before
-    .before .before .before .before .before .before .before) .args .to)
-    ((c .before .before .before .before .before .before .before .before .before .before .before .before .before .before .before .before .before .before .before .before .before .before .before .before
-    .before .before .before .before .before .before .before) .pre .x) true
-    ((c .before .before .before .before .before .before .before .before .before .before .before .before .before .before .before .before .before .before .before .before .before .before .before .before
-    .before .before .before .before .before .before .before) .pre .ds)
-    ((c .before .before .before .before .before .before .before .before .before .before .before .before .before .before .before .before .before .before .before .before .before .before .before .before
-    .before .before .before .before .before .before .before) .pre .d)
-    ((c .before .before .before .before .before .before .before .before .before .before .before .before .before .before .before .before .before .before .before .before .loop) .j)
-    ((c .before .before .before .before .before .before .before .before .before .before .before .before .before .before .before .before .before .before .before .before .loop) .sorts)
-    ((c .before .before .before .before .before .before .before .before .before .before .before .before .before .before .before .before .before .before .before .before .loop) .numbers)
-    ((c .before .before .before .before .before .before .before .before .before .before .before .before .before .before .before .before .before .before .before .before .loop) .widths)
-    ((c .before .before .before .before .before .before .before .before .before .before .before .before .before .before .before .before .before .before .before .loop-test) .taken)
-    ((c .before .before .before .before .before .before .before .before .before .before .before .before .before .before .before .before .before .before
-    .before .before .loop) .inv .1 .1 .1 .1 .1 .1 .1 ((c .before .before .before .before .before .before .before .before .before .before .before .before .before .before .before .before .before
-    .before .before .before .before .before .before .before .before .before .before .before .before .before .before) .pre .found)
-    ((c .before .before .before .before .before .before .before .before .before .before .before .before .before .before .before .before .before .before .before .before .before .before .before .before
-    .before .before .before .before .before .before .before) .pre .entries)
-    ((c .before .before .before .before .before .before .before .before .before .before .before .before .before .before .before .before .before .before .before .before .before .before .before .before
-    .before .before .before .before .before .before .before) .pre .names)
-    ((c .before .before .before .before .before .before .before .before .before .before .before .before .before .before .before .before .before .before .before .before .before .before .before .before
-    .before .before .before .before .before .before .before) .pre .x) true
-    ((c .before .before .before .before .before .before .before .before .before .before .before .before .before .before .before .before .before .before .before .before .before .before .before .before
-    .before .before .before .before .before .before .before) .pre .ds)
-    ((c .before .before .before .before .before .before .before .before .before .before .before .before .before .before .before .before .before .before .before .before .before .before .before .before
-    .before .before .before .before .before .before .before) .pre .d)
-    ((c .before .before .before .before .before .before .before .before .before .before .before .before .before .before .before .before .before .before .before .before .before .before .before .before
-    .before .before .before .before .before .before .before) .pre .declared))) in omega arith
+mul-numbers c =
+    let start = c .before .before .before .before .before .before .before .before .before .before .before .before .before .before .before .before .before .before .before .before .before .before .before .before in
+    let loop = c .before .before .before .before .before .before .before .before .before .before .before .before .before .before .loop in
+    let test = c .before .before .before .before .before .before .before .before .before .before .before .before .before .loop-test in
+    let own = c .before .before .before .before .before .before .before .before .before .before .before .before .wide in
+    let number = c .before .before .before .before .before .before .before .before .before .wide3 in
+    let r = looping-small (loop .inv .1) (start .pre) (test .taken) (own .ensures .0) (number .ensures .0) in
+    omega arith
 
-slice-write-numbers : tie.Need-slice-write-numbers Inv-loop μ-loop
-slice-write-numbers c = let i : (c .before .before .before .before .before .before .before .before .before .before .before .before .before .wide3) .result < maxNames = subst (λ n. n < maxNames)
-    (sym ((c .before .before .before .before .before .before .before .before .before .before .before .before .before .wide3) .ensures .0 ∙ ap
-    (λ k. getD ((c .before .before .before .before .before .before .before .before .before .before .before .before .before .before .before .before .before .before .before .before .before .before
-    .before .before .before .before .before .before .before .before .before) .args .refs .now) k 0)
-    ((c .before .before .before .before .before .before .before .before .before .before .before .before .before .before .before .before .before .wide) .ensures .0)))
-    (next-small ((c .before .before .before .before .before .before .before .before .before .before .before .before .before .before .before .before .before .before .before .before .before .before
-    .before .before .before .before .before .before .before .before .before) .args .text .now)
-    ((c .before .before .before .before .before .before .before .before .before .before .before .before .before .before .before .before .before .before .before .before .before .before .before .before
-    .before .before .before .before .before .before .before) .args .work .now)
-    ((c .before .before .before .before .before .before .before .before .before .before .before .before .before .before .before .before .before .before .before .before .before .before .before .before
-    .before .before .before .before .before .before .before) .args .refs .now)
-    ((c .before .before .before .before .before .before .before .before .before .before .before .before .before .before .before .before .before .before .before .before .before .before .before .before
-    .before .before .before .before .before .before .before) .pre .found)
-    ((c .before .before .before .before .before .before .before .before .before .before .before .before .before .before .before .before .before .before .before .before .before .before .before .before
-    .before .before .before .before .before .before .before) .pre .entries)
-    ((c .before .before .before .before .before .before .before .before .before .before .before .before .before .before .before .before .before .before .before .before .before .before .before .before
-    .before .before .before .before .before .before .before) .pre .names)
-    ((c .before .before .before .before .before .before .before .before .before .before .before .before .before .before .before .before .before .before .before .before .before .before .before .before
-    .before .before .before .before .before .before .before) .args .places .now)
-    ((c .before .before .before .before .before .before .before .before .before .before .before .before .before .before .before .before .before .before .before .before .before .before .before .before
-    .before .before .before .before .before .before .before) .args .enumerations .now)
-    ((c .before .before .before .before .before .before .before .before .before .before .before .before .before .before .before .before .before .before .before .before .before .before .before .before
-    .before .before .before .before .before .before .before) .args .from)
-    ((c .before .before .before .before .before .before .before .before .before .before .before .before .before .before .before .before .before .before .before .before .before .before .before .before
-    .before .before .before .before .before .before .before) .args .to)
-    ((c .before .before .before .before .before .before .before .before .before .before .before .before .before .before .before .before .before .before .before .before .before .before .before .before
-    .before .before .before .before .before .before .before) .pre .x) true
-    ((c .before .before .before .before .before .before .before .before .before .before .before .before .before .before .before .before .before .before .before .before .before .before .before .before
-    .before .before .before .before .before .before .before) .pre .ds)
-    ((c .before .before .before .before .before .before .before .before .before .before .before .before .before .before .before .before .before .before .before .before .before .before .before .before
-    .before .before .before .before .before .before .before) .pre .d)
-    ((c .before .before .before .before .before .before .before .before .before .before .before .before .before .before .before .before .before .before .before .before .loop) .j)
-    ((c .before .before .before .before .before .before .before .before .before .before .before .before .before .before .before .before .before .before .before .before .loop) .sorts)
-    ((c .before .before .before .before .before .before .before .before .before .before .before .before .before .before .before .before .before .before .before .before .loop) .numbers)
-    ((c .before .before .before .before .before .before .before .before .before .before .before .before .before .before .before .before .before .before .before .before .loop) .widths)
-    ((c .before .before .before .before .before .before .before .before .before .before .before .before .before .before .before .before .before .before .before .loop-test) .taken)
-    ((c .before .before .before .before .before .before .before .before .before .before .before .before .before .before .before .before .before .before
-    .before .before .loop) .inv .1 .1 .1 .1 .1 .1 .1 ((c .before .before .before .before .before .before .before .before .before .before .before .before .before .before .before .before .before
-    .before .before .before .before .before .before .before .before .before .before .before .before .before .before) .pre .found)
-    ((c .before .before .before .before .before .before .before .before .before .before .before .before .before .before .before .before .before .before .before .before .before .before .before .before
-    .before .before .before .before .before .before .before) .pre .entries)
-    ((c .before .before .before .before .before .before .before .before .before .before .before .before .before .before .before .before .before .before .before .before .before .before .before .before
-    .before .before .before .before .before .before .before) .pre .names)
-    ((c .before .before .before .before .before .before .before .before .before .before .before .before .before .before .before .before .before .before .before .before .before .before .before .before
-    .before .before .before .before .before .before .before) .pre .x) true
-    ((c .before .before .before .before .before .before .before .before .before .before .before .before .before .before .before .before .before .before .before .before .before .before .before .before
-    .before .before .before .before .before .before .before) .pre .ds)
-    ((c .before .before .before .before .before .before .before .before .before .before .before .before .before .before .before .before .before .before .before .before .before .before .before .before
-    .before .before .before .before .before .before .before) .pre .d)
-    ((c .before .before .before .before .before .before .before .before .before .before .before .before .before .before .before .before .before .before .before .before .before .before .before .before
-    .before .before .before .before .before .before .before) .pre .declared))) in
-    omega (
-      arith,
-      (c .before .before .before .before .before .before .before .before .before .before .before .before .before .before .before .before .before .before .before .before .loop) .inv .1 .0,
-      (c .before .before .before .before .before .before .before .before .before .before .before .before .before .before .before .before .before .before .before .before .before .before .before .before
-          .before .before .before .before .before .before .before) .pre .room .numbers-room,
-    )
+array-write-numbers : tie.Need-array-write-numbers Inv-loop μ-loop
+array-write-numbers c =
+    let start = c .before .before .before .before .before .before .before .before .before .before .before .before .before .before .before .before .before .before .before .before .before .before .before .before in
+    let loop = c .before .before .before .before .before .before .before .before .before .before .before .before .before .before .loop in
+    let test = c .before .before .before .before .before .before .before .before .before .before .before .before .before .loop-test in
+    let own = c .before .before .before .before .before .before .before .before .before .before .before .before .wide in
+    let number = c .before .before .before .before .before .before .before .before .before .wide3 in
+    let r = looping-small (loop .inv .1) (start .pre) (test .taken) (own .ensures .0) (number .ensures .0) in
+    omega arith
 
 mul-widths : tie.Need-mul-widths Inv-loop μ-loop
-mul-widths c = omega (
-  arith,
-  (c .before .before .before .before .before .before .before .before .before .before .before .before .before .before .before .before .before
-      .before .before .loop-test) .taken,
-  (c .before .before .before .before .before .before .before .before .before .before .before .before .before .before .before .before .before .before .before
-      .before .before .before .before .before .before .before .before .before .before .before .before) .pre .few,
-)
+mul-widths c =
+    let start = c .before .before .before .before .before .before .before .before .before .before .before .before .before .before .before .before .before .before .before .before .before .before .before .before in
+    let test = c .before .before .before .before .before .before .before .before .before .before .before .before .before .loop-test in
+    omega (arith, test .taken, start .pre .few)
 
-slice-write-widths : tie.Need-slice-write-widths Inv-loop μ-loop
-slice-write-widths c = omega (
-  arith,
-  (c .before .before .before .before .before .before .before .before .before .before .before .before .before .before .before .before .before .before
-      .before .before .loop) .inv .1 .1 .1 .1 .0,
-  (c .before .before .before .before .before .before .before .before .before .before .before .before .before .before .before .before .before .before
-      .before .before .before .before .before .before .before .before .before .before .before .before .before) .pre .widths-room,
-  (c .before .before .before .before .before .before .before .before .before .before .before .before .before .before .before .before .before .before .before .loop-test) .taken,
-)
+array-write-widths : tie.Need-array-write-widths Inv-loop μ-loop
+array-write-widths c =
+    let start = c .before .before .before .before .before .before .before .before .before .before .before .before .before .before .before .before .before .before .before .before .before .before .before .before in
+    let test = c .before .before .before .before .before .before .before .before .before .before .before .before .before .loop-test in
+    omega (arith, test .taken, start .pre .few)
 
 add-j : tie.Need-add-j Inv-loop μ-loop
-add-j c = omega (
-  arith,
-  (c .before .before .before .before .before .before .before .before .before .before .before .before .before .before .before .before .before .before .before .loop-test) .taken,
-  (c .before .before .before .before .before .before .before .before .before .before .before .before .before .before .before .before .before .before .before .before .before .before .before .before
-      .before .before .before .before .before .before .before) .pre .few,
-)
+add-j c =
+    let start = c .before .before .before .before .before .before .before .before .before .before .before .before .before .before .before .before .before .before .before .before .before .before .before .before in
+    let test = c .before .before .before .before .before .before .before .before .before .before .before .before .before .loop-test in
+    omega (arith, test .taken, start .pre .few)
 
 loop-less : tie.Need-loop-less Inv-loop μ-loop
-loop-less c = omega (
-  arith,
-  (c .before .before .before .before .before .before .before .before .before .before .before .before .before .before .before .before .before
-      .before .before .loop-test) .taken,
-)
+loop-less c =
+    let test = c .before .before .before .before .before .before .before .before .before .before .before .before .before .loop-test in
+    omega (arith, test .taken)
 
 loop-again : tie.Need-loop-again Inv-loop μ-loop
-loop-again c = (
-  simp length-set ((c .before .before .before .before .before .before .before .before .before .before .before .before .before .before .before .before .before .before
-      .before .before .loop) .inv .0),
-  (
-    simp length-set ((c .before .before .before .before .before .before .before .before .before .before .before .before .before .before .before .before .before
-        .before .before .before .loop) .inv .1 .0),
-    (
-      (c .before .before .before .before .before .before .before .kept) .given ∙
-          (c .before .before .before .before .before .before .before .before .before .before .before .before .before .before .before .before .before .before .before .before .loop) .inv .1 .1 .0,
+loop-again c =
+    let start = c .before .before .before .before .before .before .before .before .before .before .before .before .before .before .before .before .before .before .before .before .before .before .before .before in
+    let loop = c .before .before .before .before .before .before .before .before .before .before .before .before .before .before .loop in
+    let test = c .before .before .before .before .before .before .before .before .before .before .before .before .before .loop-test in
+    let own = c .before .before .before .before .before .before .before .before .before .before .before .before .wide in
+    let enumeration = c .before .before .before .before .before .before .before .before .before .before .before .wide2 in
+    let number = c .before .before .before .before .before .before .before .before .before .wide3 in
+    let width = c .before .before .before .before .before .before .width-of in
+    let value = c .before .before .worked in
+    let sort = c .sort-of in
+    let memory = c .before .before .before .before .before .memory in
+    let kept = loop .inv .0 .0 in
+    let room = start .pre .room in
+    let from = loop .inv .0 .1 in (
       (
-        (c .before .before .before .before .before .slots) .given ∙ (c .before .before .before .before .before .before .before .before .before .before .before .before .before .before .before .before
-            .before .before .before .before .loop) .inv .1 .1 .1 .0,
         (
-          simp length-set
-              ((c .before .before .before .before .before .before .before .before .before .before .before .before .before .before .before .before .before .before .before .before .loop) .inv .1 .1 .1 .1 .0),
-          (
-            omega (
-              arith,
-              (c .before .before .before .before .before .before .before .before .before .before .before .before .before .before .before .before .before .before
-                  .before .before .loop) .inv .1 .1 .1 .1 .1 .0,
-            ),
-            (
-              before-set ((c .before .before .before .before .before .before .before .before .before .before .before .before .before .before .before .before
-                  .before .before .before .before .before .before .before .before .before .before .before .before .before .before .before) .args .from)
-                  ((c .before .before .before .before .before .before .before .before .before .before .before .before .before .before .before .before .before .before .before .before .loop) .j)
-                  ((c .before .before .worked) .given .0 .0) ((c .before .before .before .before .before .before .before .before .before .before .before .before .before .before .before .before .before .before
-                  .before .before .before .before .before .before .before .before .before .before .before .before .before) .args .widths .now)
-                  ((c .before .before .before .before .before .before .before .before .before .before .before .before .before .before .before .before .before .before .before .before .loop) .widths)
-                  ((c .before .before .before .before .before .before .before .before .before .before .before .before .before .before .before .before .before .before .before .before .loop) .inv .1 .1 .1 .1 .1 .0)
-                  ((c .before .before .before .before .before .before .before .before .before .before .before .before .before .before .before .before .before .before
-                  .before .before .loop) .inv .1 .1 .1 .1 .1 .1 .0),
-              λ f n m x o ds d h. turning-more
-                  ((c .before .before .before .before .before .before .before .before .before .before .before .before .before .before .before .before .before .before .before .before .before .before .before .before
-                  .before .before .before .before .before .before .before) .args .text .now)
-                  ((c .before .before .before .before .before .before .before .before .before .before .before .before .before .before .before .before .before .before .before .before .before .before .before .before
-                  .before .before .before .before .before .before .before) .args .work .now)
-                  ((c .before .before .before .before .before .before .before .before .before .before .before .before .before .before .before .before .before .before .before .before .before .before .before .before
-                  .before .before .before .before .before .before .before) .args .refs .now) f n m
-                  ((c .before .before .before .before .before .before .before .before .before .before .before .before .before .before .before .before .before .before .before .before .before .before .before .before
-                  .before .before .before .before .before .before .before) .args .places .now)
-                  ((c .before .before .before .before .before .before .before .before .before .before .before .before .before .before .before .before .before .before .before .before .before .before .before .before
-                  .before .before .before .before .before .before .before) .args .enumerations .now)
-                  ((c .before .before .before .before .before .before .before .before .before .before .before .before .before .before .before .before .before .before .before .before .before .before .before .before
-                  .before .before .before .before .before .before .before) .args .from)
-                  ((c .before .before .before .before .before .before .before .before .before .before .before .before .before .before .before .before .before .before .before .before .before .before .before .before
-                  .before .before .before .before .before .before .before) .args .to) x o ds d
-                  ((c .before .before .before .before .before .before .before .before .before .before .before .before .before .before .before .before .before .before .before .before .loop) .j)
-                  ((c .before .before .before .before .before .before .before .before .before .before .before .before .before .before .before .before .before .before .before .before .loop) .sorts)
-                  ((c .before .before .before .before .before .before .before .before .before .before .before .before .before .before .before .before .before .before .before .before .loop) .numbers)
-                  ((c .before .before .before .before .before .before .before .before .before .before .before .before .before .before .before .before .before .before .before .before .loop) .widths)
-                  ((c .before .before .before .before .before .before .before .before .before .before .before .before .before .before .before .before .before .before .before .loop-test) .taken)
-                  ((c .before .before .before .before .before .before .before .before .before .before .before .before .before .before .before .before .before .before
-                  .before .before .loop) .inv .1 .1 .1 .1 .1 .1 .1 f n m x o ds d h)
-                  ((c .before .before .before .before .before .before .before .before .before .before .before .before .before .before .before .before .before .wide) .result)
-                  ((c .before .before .before .before .before .before .before .before .before .before .before .before .before .before .before .wide2) .result)
-                  ((c .before .before .before .before .before .before .before .before .before .before .before .before .before .before .before .before .before .wide) .ensures .0)
-                  ((c .before .before .before .before .before .before .before .before .before .before .before .before .before .before .before .wide2) .ensures .0)
-                  ((c .before .before .before .before .before .before .before .before .width-of) .result) ((c .before .before .before .before .before .before .before .before .width-of) .ensures) _
-                  ((c .before .before .before .before .before .before .before .before .before .before .before .before .before .wide3) .result) ((c .sort-of) .result) ((c .before .before .worked) .given .1)
-                  ((c .before .before .before .before .before .before .before .before .before .before .before .before .before .wide3) .ensures .0) ((c .sort-of) .ensures)
-                  (omega (
-                    arith,
-                    (c .before .before .before .before .before .before .before .before .before .before .before .before .before .before .before .before .before .before .before .before .loop) .inv .0,
-                    (c .before .before .before .before .before .before .before .before .before .before .before .before .before .before .before .before .before .before .before .before .before .before .before .before
-                        .before .before .before .before .before .before .before) .pre .room .sorts-room,
-                  ))
-                  (omega (
-                    arith,
-                    (c .before .before .before .before .before .before .before .before .before .before .before .before .before .before .before .before .before .before
-                        .before .before .loop) .inv .1 .0,
-                    (c .before .before .before .before .before .before .before .before .before .before .before .before .before .before .before .before .before .before .before
-                        .before .before .before .before .before .before .before .before .before .before .before .before) .pre .room .numbers-room,
-                  ))
-                  (omega (
-                    arith,
-                    (c .before .before .before .before .before .before .before .before .before .before .before .before .before .before .before .before .before .before
-                        .before .before .loop) .inv .1 .1 .1 .1 .0,
-                    (c .before .before .before .before .before .before .before .before .before .before .before .before .before .before .before .before .before .before
-                        .before .before .before .before .before .before .before .before .before .before .before .before .before) .pre .widths-room,
-                    (c .before .before .before .before .before .before .before .before .before .before .before .before .before .before .before .before .before .before .before .loop-test) .taken,
-                  )),
-            ),
-          ),
+          memory .given ∙ kept .0,
+          (width .ensures .1 _ (value .given .1) ∙ kept .1 .0, (simp length-set (kept .1 .1 .0), (simp length-set (kept .1 .1 .1 .0), simp length-set (kept .1 .1 .1 .1)))),
         ),
+        (omega (arith, from .0), before-set (start .args .heading .from) (loop .j) (value .given .0 .0) (start .args .heading .widths) (loop .widths) (from .0) (from .1)),
       ),
-    ),
-  ),
-)
+      looping-more (loop .inv .1) (test .taken) (own .ensures .0) (enumeration .ensures .0) (width .ensures .0) (value .given .1) (number .ensures .0) (sort .ensures)
+          (omega (arith, kept .1 .1 .0, room .sorts-full)) (omega (arith, kept .1 .1 .1 .0, room .numbers-full))
+          (omega (arith, kept .1 .1 .1 .1, start .pre .widths-full, start .pre .few, test .taken)),
+    )
 
-same-length-6 : tie.Need-same-length-6 Inv-loop μ-loop
-same-length-6 c = (c .before .loop) .inv .0
-
-same-length-7 : tie.Need-same-length-7 Inv-loop μ-loop
-same-length-7 c = (c .before .loop) .inv .1 .0
-
-same-length-8 : tie.Need-same-length-8 Inv-loop μ-loop
-same-length-8 c = (c .before .loop) .inv .1 .1 .0
-
-same-length-9 : tie.Need-same-length-9 Inv-loop μ-loop
-same-length-9 c = (c .before .loop) .inv .1 .1 .1 .0
-
-same-length-10 : tie.Need-same-length-10 Inv-loop μ-loop
-same-length-10 c = (c .before .loop) .inv .1 .1 .1 .1 .0
+same-length-2 : tie.Need-same-length-2 Inv-loop μ-loop
+same-length-2 c =
+    let loop = c .before .loop in
+    loop .inv .0 .0 .0
 
 returns-2 : tie.Need-returns-2 Inv-loop μ-loop
-returns-2 c = (
-  (λ f n m x o ds d h. turning-all ((c .before .before .before .before .before .before .before .before .before .before .before .before) .args .text .now)
-      ((c .before .before .before .before .before .before .before .before .before .before .before .before) .args .work .now)
-      ((c .before .before .before .before .before .before .before .before .before .before .before .before) .args .refs .now) f n m
-      ((c .before .before .before .before .before .before .before .before .before .before .before .before) .args .places .now)
-      ((c .before .before .before .before .before .before .before .before .before .before .before .before) .args .enumerations .now)
-      ((c .before .before .before .before .before .before .before .before .before .before .before .before) .args .from)
-      ((c .before .before .before .before .before .before .before .before .before .before .before .before) .args .to) x o ds d ((c .before .loop) .j) _ _ _ 0 ((c .loop-test) .left)
-      ((c .before .loop) .inv .1 .1 .1 .1 .1 .1 .1 f n m x o ds d h)),
-  (c .before .loop) .inv .1 .1 .1 .1 .1 .1 .0,
-)
+returns-2 c =
+    let start = c .before .before .before .before .before .before .before .before .before .before .before in
+    let loop = c .before .loop in
+    let test = c .loop-test in
+    let kept = loop .inv .0 .0 in
+    let room = start .pre .room in (
+      looping-all (loop .inv .1) (test .left) 0,
+      (
+        loop .inv .0 .1 .1,
+        (
+          record { table-kept = λ n e. kept .1 .0; sorts-full = kept .1 .1 .0 ∙ room .sorts-full; numbers-full = kept .1 .1 .1 .0 ∙ room .numbers-full },
+          kept .1 .1 .1 .1 ∙ start .pre .widths-full,
+        ),
+      ),
+    )
 
 pub turns-spec : {M : Type 1} → statement M
 turns-spec =
@@ -573,35 +230,27 @@ turns-spec =
     μ-loop
     loop-holds
     mul-wide
-    shared-slice-read-wide
+    array-read-wide
     wide-requires
     mul-wide-2
-    shared-slice-read-wide-2
+    array-read-wide-2
     wide-requires-2
     mul-wide-3
-    shared-slice-read-wide-3
+    shared-slice-read-wide
     wide-requires-3
     width-of-requires
     enum-known-worked
     enum-told
     same-length
-    same-length-2
-    same-length-3
-    same-length-4
-    same-length-5
     returns
     sort-of-requires
-    slice-write-sorts
+    array-write-sorts
     mul-numbers
-    slice-write-numbers
+    array-write-numbers
     mul-widths
-    slice-write-widths
+    array-write-widths
     add-j
     loop-less
     loop-again
-    same-length-6
-    same-length-7
-    same-length-8
-    same-length-9
-    same-length-10
+    same-length-2
     returns-2)

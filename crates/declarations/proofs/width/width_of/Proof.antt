@@ -1,5 +1,5 @@
 -- `width_of` meets its contract, kind by kind.
-use mathlib.Core.Path.{sym, ap, _∙_, subst}
+use mathlib.Core.Path.{refl, sym, ap, _∙_, subst}
 use borrow.Author.Needs.{needs}
 use Rattle.lexer.specs.Stored.{offsetIn}
 use Rattle.entries.specs.Stored.{kindOf}
@@ -11,11 +11,15 @@ entry-word-requires : tie.Need-entry-word-requires
 entry-word-requires c κs = search needs
 
 returns : tie.Need-returns
-returns c = λ f n m x d y s. sizes-signal ((c .before .before .before .before .before .before .before .before .before) .args .text .now)
-    ((c .before .before .before .before .before .before .before .before .before) .args .work .now) ((c .before .before .before .before .before .before .before .before .before) .args .refs .now) f n m
-    ((c .before .before .before .before .before .before .before .before .before) .args .sorts .now) ((c .before .before .before .before .before .before .before .before .before) .args .numbers .now)
-    ((c .before .before .before .before .before .before .before .before .before) .args .k) ((c .before .before .before .before .before .before .before .before .before) .args .e) x d y s
-    (ap kindOf (sym ((c .before .entry-word) .ensures)) ∙ (c .if1) .taken)
+returns c =
+    let start = c .before .before .before .before .before .before in
+    let word = c .before .entry-word in
+    let is = c .if1 in
+    let a = start .args in (
+      (λ f n m x d y s. sizes-signal (a .text .now) (a .work .now) (a .refs .now) f n m (a .names .sorts) (a .names .numbers) (a .place .own) (a .place .enumeration) x d y s
+          (ap kindOf (sym (word .ensures)) ∙ is .taken)),
+      λ n e. refl,
+    )
 
 token-word-requires : tie.Need-token-word-requires
 token-word-requires c κs = search needs
@@ -24,74 +28,65 @@ sized-requires : tie.Need-sized-requires
 sized-requires c κs = search needs
 
 returns-2 : tie.Need-returns-2
-returns-2 c = λ f n m x d y s. sizes-untyped ((c .before .before .before .before .before .before .before .before .before .before .before .before .before) .args .text .now)
-    ((c .before .before .before .before .before .before .before .before .before .before .before .before .before) .args .work .now)
-    ((c .before .before .before .before .before .before .before .before .before .before .before .before .before) .args .refs .now) f n m
-    ((c .before .before .before .before .before .before .before .before .before .before .before .before .before) .args .sorts .now)
-    ((c .before .before .before .before .before .before .before .before .before .before .before .before .before) .args .numbers .now)
-    ((c .before .before .before .before .before .before .before .before .before .before .before .before .before) .args .k)
-    ((c .before .before .before .before .before .before .before .before .before .before .before .before .before) .args .e) x d y s
-    (ap kindOf (sym ((c .before .before .before .before .before .entry-word) .ensures)) ∙ (c .before .before .if2) .taken) ((c .before .if3) .taken) _
-    (subst (λ p. IsSized 0 p ((c .sized) .result)) (ap offsetIn ((c .before .before .before .token-word) .ensures) ∙ sizing-place s) ((c .sized) .ensures))
+returns-2 c =
+    let start = c .before .before .before .before .before .before .before .before .before .before in
+    let word = c .before .before .before .before .before .entry-word in
+    let is = c .before .before .if2 in
+    let none = c .before .if3 in
+    let token = c .before .before .before .token-word in
+    let size = c .sized in
+    let a = start .args in (
+      (λ f n m x d y s. sizes-untyped (a .text .now) (a .work .now) (a .refs .now) f n m (a .names .sorts) (a .names .numbers) (a .place .own) (a .place .enumeration) x d y s
+          (ap kindOf (sym (word .ensures)) ∙ is .taken) (none .taken) _ (subst (λ p. IsSized 0 p (size .result)) (ap offsetIn (token .ensures) ∙ sizing-place s) (size .ensures))),
+      λ n e. refl,
+    )
 
 word-width-requires : tie.Need-word-width-requires
-word-width-requires c κs = (
-  (c .before .before .before .before .before .before .before .before .before .before .before .before) .pre .sizing .tree .stored .lexed .room,
-  typed-there
-      ((c .before .before .before .before .before .before .before .before .before .before .before .before) .args .text .now)
-      ((c .before .before .before .before .before .before .before .before .before .before .before .before) .args .work .now)
-      ((c .before .before .before .before .before .before .before .before .before .before .before .before) .args .refs .now)
-      ((c .before .before .before .before .before .before .before .before .before .before .before .before) .pre .found)
-      ((c .before .before .before .before .before .before .before .before .before .before .before .before) .pre .entries)
-      ((c .before .before .before .before .before .before .before .before .before .before .before .before) .pre .names)
-      ((c .before .before .before .before .before .before .before .before .before .before .before .before) .args .sorts .now)
-      ((c .before .before .before .before .before .before .before .before .before .before .before .before) .args .numbers .now)
-      ((c .before .before .before .before .before .before .before .before .before .before .before .before) .args .k)
-      ((c .before .before .before .before .before .before .before .before .before .before .before .before) .args .e)
-      ((c .before .before .before .before .before .before .before .before .before .before .before .before) .pre .x)
-      ((c .before .before .before .before .before .before .before .before .before .before .before .before) .pre .d)
-      ((c .before .before .before .before .before .before .before .before .before .before .before .before) .pre .m)
-      ((c .before .before .before .before .before .before .before .before .before .before .before .before) .pre .sizing)
-      (ap kindOf (sym ((c .before .before .before .before .entry-word) .ensures)) ∙ (c .before .if2) .taken) ((c .if3) .left),
-)
+word-width-requires c κs =
+    let start = c .before .before .before .before .before .before .before .before .before in
+    let word = c .before .before .before .before .entry-word in
+    let is = c .before .if2 in
+    let some = c .if3 in
+    let a = start .args in
+    let g = start .pre in (
+      g .sizing .tree .stored .lexed .room,
+      typed-there (a .text .now) (a .work .now) (a .refs .now) (g .found) (a .entries) (g .names) (a .names .sorts) (a .names .numbers) (a .place .own) (a .place .enumeration) (g .x) (g .d) (g .m)
+          (g .sizing) (ap kindOf (sym (word .ensures)) ∙ is .taken) (some .left),
+    )
 
 sized-requires-2 : tie.Need-sized-requires-2
 sized-requires-2 c κs = search needs
 
 returns-3 : tie.Need-returns-3
-returns-3 c = λ f n m x d y s. sizes-typed ((c .before .before .before .before .before .before .before .before .before .before .before .before .before .before) .args .text .now)
-    ((c .before .before .before .before .before .before .before .before .before .before .before .before .before .before) .args .work .now)
-    ((c .before .before .before .before .before .before .before .before .before .before .before .before .before .before) .args .refs .now) f n m
-    ((c .before .before .before .before .before .before .before .before .before .before .before .before .before .before) .args .sorts .now)
-    ((c .before .before .before .before .before .before .before .before .before .before .before .before .before .before) .args .numbers .now)
-    ((c .before .before .before .before .before .before .before .before .before .before .before .before .before .before) .args .k)
-    ((c .before .before .before .before .before .before .before .before .before .before .before .before .before .before) .args .e) x d y s
-    (ap kindOf (sym ((c .before .before .before .before .before .before .entry-word) .ensures)) ∙ (c .before .before .before .if2) .taken) ((c .before .before .if3) .left) _
-    ((c .before .word-width) .ensures) _ (subst (λ p. IsSized ((c .before .word-width) .result) p ((c .sized2) .result))
-    (ap offsetIn ((c .before .before .before .before .token-word) .ensures) ∙ sizing-place s) ((c .sized2) .ensures))
+returns-3 c =
+    let start = c .before .before .before .before .before .before .before .before .before .before .before in
+    let word = c .before .before .before .before .before .before .entry-word in
+    let is = c .before .before .before .if2 in
+    let some = c .before .before .if3 in
+    let token = c .before .before .before .before .token-word in
+    let width = c .before .word-width in
+    let size = c .sized2 in
+    let a = start .args in (
+      (λ f n m x d y s. sizes-typed (a .text .now) (a .work .now) (a .refs .now) f n m (a .names .sorts) (a .names .numbers) (a .place .own) (a .place .enumeration) x d y s
+          (ap kindOf (sym (word .ensures)) ∙ is .taken) (some .left) _ (width .ensures) _
+          (subst (λ p. IsSized (width .result) p (size .result)) (ap offsetIn (token .ensures) ∙ sizing-place s) (size .ensures))),
+      λ n e. refl,
+    )
 
 before-requires : tie.Need-before-requires
 before-requires c κs = search needs
 
 number-of-requires : tie.Need-number-of-requires
-number-of-requires c κs = rw ((c .before2) .ensures) (sizing-workable
-    ((c .before .before .before .before .before .before .before .before .before .before .before .before .before .before) .args .text .now)
-    ((c .before .before .before .before .before .before .before .before .before .before .before .before .before .before) .args .work .now)
-    ((c .before .before .before .before .before .before .before .before .before .before .before .before .before .before) .args .refs .now)
-    ((c .before .before .before .before .before .before .before .before .before .before .before .before .before .before) .pre .found)
-    ((c .before .before .before .before .before .before .before .before .before .before .before .before .before .before) .pre .entries)
-    ((c .before .before .before .before .before .before .before .before .before .before .before .before .before .before) .pre .names)
-    ((c .before .before .before .before .before .before .before .before .before .before .before .before .before .before) .args .sorts .now)
-    ((c .before .before .before .before .before .before .before .before .before .before .before .before .before .before) .args .numbers .now)
-    ((c .before .before .before .before .before .before .before .before .before .before .before .before .before .before) .args .k)
-    ((c .before .before .before .before .before .before .before .before .before .before .before .before .before .before) .args .e)
-    ((c .before .before .before .before .before .before .before .before .before .before .before .before .before .before) .pre .x)
-    ((c .before .before .before .before .before .before .before .before .before .before .before .before .before .before) .pre .d) _
-    ((c .before .before .before .before .before .before .before .before .before .before .before .before .before .before) .pre .room)
-    ((c .before .before .before .before .before .before .before .before .before .before .before .before .before .before) .pre .m)
-    ((c .before .before .before .before .before .before .before .before .before .before .before .before .before .before) .pre .sizing)
-    (λ q. (c .before .before .before .before .before .if1) .left (ap kindOf ((c .before .before .before .before .before .before .entry-word) .ensures) ∙ q))
-    (λ q. (c .before .before .before .if2) .left (ap kindOf ((c .before .before .before .before .before .before .entry-word) .ensures) ∙ q)))
+number-of-requires c κs =
+    let start = c .before .before .before .before .before .before .before .before .before .before .before in
+    let word = c .before .before .before .before .before .before .entry-word in
+    let other = c .before .before .before .before .before .if1 in
+    let wide = c .before .before .before .if2 in
+    let entry = c .before2 in
+    let a = start .args in
+    let g = start .pre in
+    sizing-workable (a .text .now) (a .work .now) (a .refs .now) (g .found) (a .entries) (g .names) (a .names .sorts) (a .names .numbers) (a .place .own) (a .place .enumeration) (g .x) (g .d) _
+    (entry .ensures) (g .room) (g .m) (g .sizing) (λ q. other .left (ap kindOf (word .ensures) ∙ q)) (λ q. wide .left (ap kindOf (word .ensures) ∙ q))
 
 enum-known-worked : tie.Need-enum-known-worked
 enum-known-worked c = search needs
@@ -102,51 +97,44 @@ enum-told c = search needs
 same-length : tie.Need-same-length
 same-length c = search needs
 
-same-length-2 : tie.Need-same-length-2
-same-length-2 c = search needs
-
 returns-4 : tie.Need-returns-4
-returns-4 c = λ f n m x d y s. sizes-refused ((c .before .before .before .before .before .before .before .before .before .before .before .before .before .before .before .before .before .before
-    .before .before .before) .args .text .now) ((c .before .before .before .before .before .before .before .before .before .before .before .before .before .before .before .before .before .before
-    .before .before .before) .args .work .now) ((c .before .before .before .before .before .before .before .before .before .before .before .before .before .before .before .before .before .before
-    .before .before .before) .args .refs .now) f n m ((c .before .before .before .before .before .before .before .before .before .before .before .before .before .before .before .before .before
-    .before .before .before .before) .args .sorts .now) ((c .before .before .before .before .before .before .before .before .before .before .before .before .before .before .before .before .before
-    .before .before .before .before) .args .numbers .now) ((c .before .before .before .before .before .before .before .before .before .before .before .before .before .before .before .before .before
-    .before .before .before .before) .args .k) ((c .before .before .before .before .before .before .before .before .before .before .before .before .before .before .before .before .before .before
-    .before .before .before) .args .e) x d y s (λ q. (c .before .before .before .before .before .before .before .before .before .before .before .before .if1) .left
-    (ap kindOf ((c .before .before .before .before .before .before .before .before .before .before .before .before .before .entry-word) .ensures) ∙ q))
-    (λ q. (c .before .before .before .before .before .before .before .before .before .before .if2) .left
-    (ap kindOf ((c .before .before .before .before .before .before .before .before .before .before .before .before .before .entry-word) .ensures) ∙ q)) _
-    ((c .before .before .before .before .before .before .before .before2) .ensures) ((c .before .before .before .before .before .before .number-of) .result)
-    ((c .before .before .before .before .before .before .number-of) .ensures) _ _ ((c .enum-told) .given .1)
+returns-4 c =
+    let start = c .before .before .before .before .before .before .before .before .before .before .before .before .before .before .before .before in
+    let word = c .before .before .before .before .before .before .before .before .before .before .before .entry-word in
+    let other = c .before .before .before .before .before .before .before .before .before .before .if1 in
+    let wide = c .before .before .before .before .before .before .before .before .if2 in
+    let entry = c .before .before .before .before .before .before2 in
+    let worked = c .before .before .before .before .number-of in
+    let told = c .enum-told in
+    let a = start .args in (
+      (λ f n m x d y s. sizes-refused (a .text .now) (a .work .now) (a .refs .now) f n m (a .names .sorts) (a .names .numbers) (a .place .own) (a .place .enumeration) x d y s
+          (λ q. other .left (ap kindOf (word .ensures) ∙ q)) (λ q. wide .left (ap kindOf (word .ensures) ∙ q)) _ (entry .ensures) (worked .result) (worked .ensures) _ _ (told .given .1)),
+      worked .ensures .same,
+    )
 
 sized-requires-3 : tie.Need-sized-requires-3
 sized-requires-3 c κs = search needs
 
-same-length-3 : tie.Need-same-length-3
-same-length-3 c = search needs
-
-same-length-4 : tie.Need-same-length-4
-same-length-4 c = search needs
+same-length-2 : tie.Need-same-length-2
+same-length-2 c = search needs
 
 returns-5 : tie.Need-returns-5
-returns-5 c = λ f n m x d y s. sizes-bus ((c .before .before .before .before .before .before .before .before .before .before .before .before .before .before .before .before .before .before .before
-    .before .before .before .before) .args .text .now) ((c .before .before .before .before .before .before .before .before .before .before .before .before .before .before .before .before .before
-    .before .before .before .before .before .before) .args .work .now)
-    ((c .before .before .before .before .before .before .before .before .before .before .before .before .before .before .before .before .before .before .before .before .before
-    .before .before) .args .refs .now) f n m ((c .before .before .before .before .before .before .before .before .before .before .before .before .before .before .before .before .before .before
-    .before .before .before .before .before) .args .sorts .now) ((c .before .before .before .before .before .before .before .before .before .before .before .before .before .before .before .before
-    .before .before .before .before .before .before .before) .args .numbers .now)
-    ((c .before .before .before .before .before .before .before .before .before .before .before .before .before .before .before .before .before .before .before .before .before
-    .before .before) .args .k) ((c .before .before .before .before .before .before .before .before .before .before .before .before .before .before .before .before .before .before .before .before
-    .before .before .before) .args .e) x d y s (λ q. (c .before .before .before .before .before .before .before .before .before .before .before .before .before .before .if1) .left
-    (ap kindOf ((c .before .before .before .before .before .before .before .before .before .before .before .before .before .before .before .entry-word) .ensures) ∙ q))
-    (λ q. (c .before .before .before .before .before .before .before .before .before .before .before .before .if2) .left
-    (ap kindOf ((c .before .before .before .before .before .before .before .before .before .before .before .before .before .before .before .entry-word) .ensures) ∙ q)) _
-    ((c .before .before .before .before .before .before .before .before .before .before2) .ensures) ((c .before .before .before .before .before .before .before .before .number-of) .result)
-    ((c .before .before .before .before .before .before .before .before .number-of) .ensures) _ ((c .before .before .worked) .given .1) _
-    (subst (λ p. IsSized ((c .before .before .worked) .given .0 .0) p ((c .sized3) .result))
-    (ap offsetIn ((c .before .before .before .before .before .before .before .before .before .before .before .before .before .token-word) .ensures) ∙ sizing-place s) ((c .sized3) .ensures))
+returns-5 c =
+    let start = c .before .before .before .before .before .before .before .before .before .before .before .before .before .before .before .before .before .before in
+    let word = c .before .before .before .before .before .before .before .before .before .before .before .before .before .entry-word in
+    let other = c .before .before .before .before .before .before .before .before .before .before .before .before .if1 in
+    let wide = c .before .before .before .before .before .before .before .before .before .before .if2 in
+    let entry = c .before .before .before .before .before .before .before .before2 in
+    let worked = c .before .before .before .before .before .before .number-of in
+    let value = c .before .before .worked in
+    let token = c .before .before .before .before .before .before .before .before .before .before .before .token-word in
+    let size = c .sized3 in
+    let a = start .args in (
+      (λ f n m x d y s. sizes-bus (a .text .now) (a .work .now) (a .refs .now) f n m (a .names .sorts) (a .names .numbers) (a .place .own) (a .place .enumeration) x d y s
+          (λ q. other .left (ap kindOf (word .ensures) ∙ q)) (λ q. wide .left (ap kindOf (word .ensures) ∙ q)) _ (entry .ensures) (worked .result) (worked .ensures) _ (value .given .1) _
+          (subst (λ p. IsSized (value .given .0 .0) p (size .result)) (ap offsetIn (token .ensures) ∙ sizing-place s) (size .ensures))),
+      λ n e. worked .ensures .same _ (value .given .1),
+    )
 
 pub width-of-spec : {M : Type 1} → statement M
 width-of-spec =
@@ -165,9 +153,7 @@ width-of-spec =
     enum-known-worked
     enum-told
     same-length
-    same-length-2
     returns-4
     sized-requires-3
-    same-length-3
-    same-length-4
+    same-length-2
     returns-5)

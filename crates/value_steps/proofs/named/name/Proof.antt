@@ -17,7 +17,7 @@ mul-r c = search needs
 shared-slice-read-r : tie.Need-shared-slice-read-r
 shared-slice-read-r c =
     let start = c .before .before .before .before .before .before in
-    reference-inside (start .pre .1) refl (start .pre .0)
+    reference-inside (start .pre .0) (let e = start .pre .1 .mode in omega arith)
 
 cast-r : tie.Need-cast-r
 cast-r c =

@@ -1,0 +1,9 @@
+pub mod JoinedLaws
+pub mod WriteLaws
+pub mod NoteLaws
+pub mod MembershipLaws
+pub mod ComparisonLaws
+pub mod AgainstLaws
+pub mod SignalLaws
+pub mod BitLaws
+pub mod BitOfLaws

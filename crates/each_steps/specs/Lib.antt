@@ -1,0 +1,6 @@
+pub mod Onward
+pub mod GatherLaws
+pub mod OnwardLaws
+pub mod MisfitLaws
+pub mod OverLaws
+pub mod EachLaws

@@ -1,0 +1,10 @@
+pub mod TurningLaws
+pub mod BigLaws
+pub mod ElementLaws
+pub mod ContinueLaws
+pub mod OverLaws
+pub mod NumberLaws
+pub mod SetFolds
+pub mod FoldPlaces
+pub mod FoldedLaws
+pub mod SetLaws

@@ -1,0 +1,96 @@
+// Big operators of numbers: `+[..]` and `*[..]`.
+use entries::kinds;
+use machine::FRAME;
+use machine::Machine;
+use machine::Move;
+use machine::modes;
+use machine::phases;
+use node::refusals;
+use operands::entry::kind_at;
+use operands::entry::place_at;
+use sets::Worked;
+use sets::numbers;
+ghost use mathlib.Core.Path.{_≡_};
+ghost use Prim.Native.Nat.{_-_};
+ghost use Rattle.machine.specs.Frames.{numeric};
+ghost use Rattle.machine.specs.States.{Topped, Takes};
+ghost use Rattle.operands.specs.Working.{source};
+ghost use Rattle.machine.specs.Entering.{Waiting};
+ghost use Rattle.sets.specs.Operators.{arithmetic};
+ghost use Rattle.fold_steps.specs.BigLaws.{bigOperator};
+ghost use Rattle.fold_steps.specs.NumberLaws.{Foldable, Onward};
+use crate::turning::again;
+
+// The operators between two numbers that they fold with, by number.
+const PLUS: u32 = kinds::PLUS - kinds::ARITHMETIC;
+
+const TIMES: u32 = kinds::TIMES - kinds::ARITHMETIC;
+
+fn between(kind: u32) -> u32
+    ensures { λ r. ⌜ arithmetic r ≡ numeric (bigOperator (kind - 39)) ⌝ }
+{
+    if kind == kinds::BIG_PRODUCT {
+        return TIMES;
+    }
+    PLUS
+}
+
+// A number is folded: the answer where no element is left.
+fn onward(memory: &mut [u32], m: Machine, folded: u32) -> Move
+    requires { ⌜ Foldable (now memory) m ⌝ }
+    ensures { λ r. ⌜ Onward (now (memory .entry)) (now (memory .exit)) m folded r ⌝ }
+{
+    let at = m.frames;
+    if memory[at + 4] == 0 {
+        return Move::Next(Machine {
+            mode: modes::NUMBER,
+            value: folded,
+            from: 0,
+            scope: m.scope,
+            depth: m.depth - 1,
+            top: memory[at + 2] as usize,
+            frames: at + FRAME,
+            nodes: m.nodes,
+        });
+    }
+    Move::Next(again(
+        memory,
+        m,
+        phases::NEXT_NUMBER,
+        folded,
+        0,
+        modes::EVALUATE,
+        m.top,
+    ))
+}
+
+// The operand at the first element has come.
+pub fn first(text: &[u8], work: &[u8], refs: &[u16], memory: &mut [u32], m: Machine) -> Move
+    requires { ⌜ Topped (source (now text) (now work) (now refs)) (now memory) m ⌝ }
+    requires { ⌜ Waiting (now memory) m 13 ⌝ }
+    ensures { λ r. ⌜ Takes (source (now (text .entry)) (now (work .entry)) (now (refs .entry))) (now (memory .entry)) (now (memory .exit)) m r ⌝ }
+{
+    if m.mode != modes::NUMBER {
+        return Move::Refused(refusals::WRONG_TYPE, 0);
+    }
+    onward(memory, m, m.value)
+}
+
+// The operand at a further element has come.
+pub fn next(text: &[u8], work: &[u8], refs: &[u16], memory: &mut [u32], m: Machine) -> Move
+    requires { ⌜ Topped (source (now text) (now work) (now refs)) (now memory) m ⌝ }
+    requires { ⌜ Waiting (now memory) m 14 ⌝ }
+    ensures { λ r. ⌜ Takes (source (now (text .entry)) (now (work .entry)) (now (refs .entry))) (now (memory .entry)) (now (memory .exit)) m r ⌝ }
+{
+    if m.mode != modes::NUMBER {
+        return Move::Refused(refusals::WRONG_TYPE, 0);
+    }
+    let at = m.frames;
+    let k = memory[at + 1] as usize;
+    let a = memory[at + 5];
+    let r = numbers::calculate(place_at(work, k), between(kind_at(work, k)), a, m.value);
+    match r {
+        Worked::Value(n) => onward(memory, m, n),
+        Worked::Refused(n, p) => Move::Refused(n, p),
+    }
+}

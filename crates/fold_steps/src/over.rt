@@ -1,0 +1,70 @@
+// A big operator of numbers or sets, and one of formulas where a value is asked for: its set.
+use entries::kinds;
+use machine::Machine;
+use machine::Move;
+use machine::modes;
+use machine::phases;
+use node::refusals;
+use operands::entry::kind_at;
+use operands::entry::place_at;
+use operands::entry::size_at;
+ghost use mathlib.Core.Path.{_≡_};
+ghost use Prim.Native.Nat.{_-_, _≤_, _<_};
+ghost use Rattle.machine.specs.States.{Ready, Steps, Topped, Takes};
+ghost use Rattle.operands.specs.Working.{source};
+ghost use Rattle.machine.specs.Entering.{Evaluates, Waiting};
+ghost use Rattle.fold_steps.specs.BigLaws.{bigOperator};
+ghost use Rattle.fold_steps.specs.OverLaws.{overNothing};
+use crate::turning::begin;
+
+// The set is worked out first: its expression ends before the entry of the operator's name, which stands before the operand.
+pub fn over(text: &[u8], work: &[u8], refs: &[u16], memory: &mut [u32], m: Machine) -> Move
+    requires { ⌜ Ready (source (now text) (now work) (now refs)) (now memory) m ⌝ }
+    requires { ⌜ Evaluates (now work) m 39 45 ⌝ }
+    ensures { λ r. ⌜ Steps (source (now (text .entry)) (now (work .entry)) (now (refs .entry))) (now (memory .entry)) (now (memory .exit)) m r ⌝ }
+{
+    let k = m.value as usize;
+    let j = k - 2 - size_at(work, k - 1);
+    m.push(memory, phases::OVER, modes::EVALUATE, j as u32)
+}
+
+// Over nothing `+` is 0, `*` 1, `(+)` empty; `(*)` is refused.
+fn nothing(m: Machine, kind: u32, place: u32) -> Move
+    requires { ⌜ (39 ≤ kind) × (kind < 43) ⌝ }
+    ensures { λ r. ⌜ r ≡ overNothing m (bigOperator (kind - 39)) place ⌝ }
+{
+    if kind == kinds::BIG_SUM {
+        return Move::Next(m.came(modes::NUMBER, 0, 0));
+    }
+    if kind == kinds::BIG_PRODUCT {
+        return Move::Next(m.came(modes::NUMBER, 1, 0));
+    }
+    if kind == kinds::BIG_CUP {
+        return Move::Next(m.came(modes::SET, 0, m.top));
+    }
+    Move::Refused(refusals::OUT_OF_RANGE, place)
+}
+
+// The set has come: the operand is worked out at its first element.
+pub fn elements(text: &[u8], work: &[u8], refs: &[u16], memory: &mut [u32], m: Machine) -> Move
+    requires { ⌜ Topped (source (now text) (now work) (now refs)) (now memory) m ⌝ }
+    requires { ⌜ Waiting (now memory) m 12 ⌝ }
+    ensures { λ r. ⌜ Takes (source (now (text .entry)) (now (work .entry)) (now (refs .entry))) (now (memory .entry)) (now (memory .exit)) m r ⌝ }
+{
+    if m.mode != modes::SET {
+        return Move::Refused(refusals::WRONG_TYPE, 0);
+    }
+    let at = m.frames;
+    let k = memory[at + 1] as usize;
+    let kind = kind_at(work, k);
+    if kind >= kinds::BIG_FORMULAS {
+        return Move::Next(m.popped().came(modes::LOGIC, 0, 0));
+    }
+    if m.value == 0 {
+        return nothing(m.popped(), kind, place_at(work, k));
+    }
+    if kind < kinds::BIG_SETS {
+        return Move::Next(begin(memory, m, phases::FIRST_NUMBER, modes::EVALUATE));
+    }
+    Move::Next(begin(memory, m, phases::FIRST_SET, modes::EVALUATE))
+}

@@ -1,0 +1,41 @@
+// The notes of declared names laid into the machine's memory.
+// `lay` is called with what crate notes and crate ports make, and a memory that has room for the notes: `declarations` has both.
+use basics::u8_u32::wide;
+use language::limits;
+use machine::NOTE;
+ghost use mathlib.Core.Path.{_≡_};
+ghost use Prim.Native.Nat.{_≤_, _<_, _^_};
+ghost use lib.ListN.{length};
+ghost use Rattle.language.specs.Limits.{maxNames};
+ghost use Rattle.machine.specs.Memory.{firstKept};
+ghost use Rattle.memory_notes.specs.Laid.{Laid};
+
+// The words that say where the next kept set goes and where slots begin, and the first word of kept sets.
+const FREE: usize = NOTE * limits::MAX_NAMES;
+
+const SLOTS: usize = FREE + 1;
+
+const FIRST_KEPT: usize = SLOTS + 1;
+
+// Kept sets have what lies before this part of the memory, slots begin there.
+const SHARE: usize = 2;
+
+// By number, each name's sort, number and first signal; nothing is kept and no formula marked.
+pub fn lay(sorts: &[u8], numbers: &[u32], firsts: &[u32], memory: &mut [u32])
+    requires { ⌜ (maxNames ≤ length (now sorts)) × ((maxNames ≤ length (now numbers)) × (maxNames ≤ length (now firsts))) ⌝ }
+    requires { ⌜ (firstKept ≤ length (now memory)) × (length (now memory) < 2 ^ 32) ⌝ }
+    ensures { λ _. ⌜ (length (now (memory .exit)) ≡ length (now (memory .entry))) × Laid (now (memory .exit)) (now (sorts .entry)) (now (numbers .entry)) (now (firsts .entry)) ⌝ }
+{
+    let mut r: usize = 0;
+    while r < limits::MAX_NAMES {
+        let at = NOTE * r;
+        memory[at] = wide(sorts[r]);
+        memory[at + 1] = numbers[r];
+        memory[at + 2] = firsts[r];
+        memory[at + 3] = 0;
+        r += 1;
+    }
+    let slots = memory.len() / SHARE;
+    memory[FREE] = FIRST_KEPT as u32;
+    memory[SLOTS] = slots as u32;
+}
