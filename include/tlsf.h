@@ -7,9 +7,10 @@
    answered. A result is written to the front of its buffer, and the elements after it are left as they were. A refused call changes no result buffer.
 
    Memory and threads. The library has no variables of its own, allocates nothing and calls nothing but memcpy and memset: any number of threads may call it at once,
-   each with buffers of its own. The stack is not checked: the deepest tables take tlsf_rewrite 1.5 MB of it, and the deepest texts that were made take tlsf_read and
-   tlsf_convert 7.4 MB, tlsf_write_basic 84 KB and tlsf_diagnose 32 KB more, so that a thread that calls them wants the usual 8 MB (README.md, 'Stack and time'). The
-   shortest text takes them 0.75 MB: a thread of 128 KB, as musl makes them, is never enough, and one of 1 MB is for short texts alone. */
+   each with buffers of its own. The stack is not checked: the deepest tables take tlsf_rewrite 1.5 MB of it, any text takes tlsf_read and tlsf_convert 1.7 MB, and one
+   that holds hundreds of sets of 256 elements at once 0.5 MB more for every two hundred of them, 3.5 MB for the most that were made; tlsf_write_basic takes 84 KB and
+   tlsf_diagnose 32 KB more. So a thread that calls them wants 2 MB for texts of its own and 4 MB for those of strangers (README.md, 'Stack and time'); one of 1 MB is
+   never enough. */
 #ifndef TLSF_H
 #define TLSF_H
 
