@@ -214,9 +214,9 @@ use Rattle.node.specs.Result.{_>>=_, guard}
 use Rattle.language.specs.Bytes.{ascii}
 use Rattle.language.specs.Places.{refuseAt}
 use Rattle.language.specs.Parsing.{parsed}
-use Rattle.language.specs.Reading.{meant, converted}
+use Rattle.language.specs.Reading.{textExpansion, specExpansion}
 ",
-    unfolding: "meant parsed converted _>>=_ guard refuseAt nodesFrom size",
+    unfolding: "textExpansion parsed specExpansion _>>=_ guard refuseAt nodesFrom size",
 };
 
 const FORMS: Kind = Kind {
