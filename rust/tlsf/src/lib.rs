@@ -42,9 +42,9 @@
 //! assert_eq!(answer.result().unwrap_err().to_string(), "refused 2 at 0: What begins here is no token");
 //! ```
 //!
-//! The library has no variables of its own: any number of threads may call it at once. The stack is not checked: the deepest tables take [`rewrite`] 1.5 MB of it, any
-//! text takes [`read`] and [`convert`] 1.7 MB, and one that holds hundreds of sets of 256 elements at once up to 3.5 MB. So a thread of 2 MB, as Rust makes them, is
-//! enough for texts of one's own, and one for texts of strangers wants 4 MB (README.md, 'Stack and time'); one of 1 MB is never enough.
+//! The library has no variables of its own: any number of threads may call it at once. The stack is not checked: the deepest tables take [`rewrite`] 1.5 MB of it, the
+//! shortest text takes [`convert`] 1.7 to 1.8 MB, and one that nests some thousand levels deep or holds hundreds of sets at once more: of the 82 deepest texts that were
+//! made 25 do not pass with 2 MB, all pass with 3.5 MB. So a thread that calls them wants 4 MB (README.md, 'Stack and time'); Rust's own 2 MB are for short texts alone.
 
 #![no_std]
 #![warn(missing_docs)]
