@@ -1,5 +1,5 @@
 -- A bus against an identifier: by the widths of the identifier's words, and the signals of the bus.
-use Prim.Native.Nat.{ℕ, zero, suc, _+_, _-_, _*_, _≤_, _<_, min}
+use Prim.Native.Nat.{ℕ, zero, suc, _+_, _*_, _≤_, _<_, min}
 use mathlib.Core.Bool.{Bool, true, false}
 use mathlib.Core.List.{List}
 use mathlib.Core.Path.{_≡_, refl, sym, ap, _∙_, subst}
@@ -14,7 +14,7 @@ use Rattle.node.specs.ResultLaws.{guard-pass, guard-stop, bind-to, bind-refused
 use Rattle.writing.specs.Writing.{Wrote, Caps}
 use Rattle.language.specs.Limits.{maxNames, maxTokens, maxSignals}
 use Rattle.language.specs.Tokens.{Token}
-use Rattle.language.specs.Operators.{Comparison, Equal, Unequal, Less, AtMost, Greater, AtLeast}
+use Rattle.language.specs.Operators.{Comparison}
 use Rattle.language.specs.Values.{Value, Sized, misfit}
 use Rattle.language.specs.Declared.{Port, BusOf, Identifies}
 use Rattle.language.specs.Expansion.{against, oneOf, widthIs}
@@ -24,11 +24,15 @@ use Rattle.choices.specs.Entries.{wordsEnd, Words}
 use Rattle.choices.specs.EntryLaws.{end-bound}
 use Rattle.choices.specs.Promises.{Readable, OneOf, WidthsAre}
 use Rattle.name_values.specs.World.{Stands, nameAt, meaningAt}
-use Rattle.operands.specs.Entries.{kindAt}
+use Rattle.operators.specs.Codes.{comparisonCode}
+use Rattle.operators.specs.Tables.{infixCodeAt}
+use Rattle.operands.specs.Entries.{numberAt}
 use Rattle.operands.specs.Working.{Source}
+use Rattle.machine.specs.Phases as Phase
 use Rattle.machine.specs.Came.{Came, Worth, nodes}
 use Rattle.machine.specs.Frames.{Frame, apply}
 use Rattle.machine.specs.Realm.{Realm}
+use Rattle.machine.specs.OperatorLaws.{comparison-of}
 use Rattle.machine.specs.Memory.{noteWords, noteAt}
 use Rattle.machine.specs.Holding.{holding, empty}
 use Rattle.machine.specs.Table.{Began}
@@ -41,23 +45,6 @@ use Rattle.machine.specs.declared.Move.the-variants.{Next, Refused as Refuses}
 use Rattle.machine.specs.FactLaws.{noted-width, noted-identifier}
 use Rattle.atom_steps.specs.WriteLaws.{writes-after}
 use Rattle.atom_steps.specs.NoteLaws.{words-behind, signals-here}
-
--- a comparison by its kind, from the first on
-pub comparison-of : (o : Comparison) → comparison (Kind.comparison o - 22) ≡ o
-comparison-of Equal = refl
-comparison-of Unequal = refl
-comparison-of Less = refl
-comparison-of AtMost = refl
-comparison-of Greater = refl
-comparison-of AtLeast = refl
-
-pub comparison-from : (o : Comparison) → 22 ≤ Kind.comparison o
-comparison-from Equal = omega arith
-comparison-from Unequal = omega arith
-comparison-from Less = omega arith
-comparison-from AtMost = omega arith
-comparison-from Greater = omega arith
-comparison-from AtLeast = omega arith
 
 -- equal and unequal are the first two
 order-misfit : (op : ℕ) → 1 < op → (ps : List Port) (b : Sized) (ws : List Token) → against ps (comparison op) b ws ≡ misfit
@@ -82,11 +69,11 @@ by-width (suc (suc k)) l ps b ws = absurd (omega arith)
 pub record Faced {s : Source} (R : Realm s) (mem out : List ℕ) (m : Machine) (x : Result Came) (o : Began) (place b i : ℕ) : Type 0 where
   pub frame : Frame
   pub top : TopOf R mem out m x o frame
-  pub flat : holding frame ≡ empty 22 false
+  pub flat : holding frame ≡ empty Phase.rightCompared false
   pub value : Value
   pub came : top .came ≡ Worth value
   pub operator : Comparison
-  pub kind : kindAt (s .work) (getD mem (m .frames + 1) 0) ≡ Kind.comparison operator
+  pub code : infixCodeAt (numberAt (s .work) (getD mem (m .frames + 1) 0)) ≡ comparisonCode operator
   pub width : ℕ
   pub words : List Token
   pub bus : b < maxNames
@@ -108,9 +95,6 @@ pub record Reads (s : Source) (mem : List ℕ) (b i width first entry end : ℕ)
 module _ {s : Source} {mem out : List ℕ} {m : Machine} {place b i : ℕ} (q : Faces s mem out m place b i) where
   faced-in : (t : ToppedToWrite s mem out m) → Faced (t .realm) mem out m (t .answer) (t .began) place b i
   faced-in t = q .faced (t .realm) (t .answer) (t .began) (t .top)
-
-  pub against-kind : ToppedToWrite s mem out m → 22 ≤ kindAt (s .work) (getD mem (m .frames + 1) 0)
-  against-kind t = let z = faced-in t in let e = z .kind in let l = comparison-from (z .operator) in omega arith
 
   -- both notes can be read
   pub record Noting : Type 0 where
@@ -142,7 +126,7 @@ module _ {s : Source} {mem out : List ℕ} {m : Machine} {place b i : ℕ} (q : 
   pub against-first : ToppedToWrite s mem out m → {first : ℕ} → first ≡ noteAt mem b 2 → m .nodes ≤ maxNodes → first ≤ maxSignals
   against-first t e l = let z = faced-in t in let g = signals-here (z .top) l .bus b (z .width) (z .bus) (z .bus-means) .1 in omega arith
 
-  module _ {op : ℕ} (eo : op ≡ kindAt (s .work) (getD mem (m .frames + 1) 0) - 22) where
+  module _ {op : ℕ} (eo : op ≡ infixCodeAt (numberAt (s .work) (getD mem (m .frames + 1) 0))) where
     module _ {R : Realm s} {x : Result Came} {o : Began} (t : Top R mem out m x o) where
       faced : Faced R mem out m x o place b i
       faced = q .faced R x o t
@@ -154,7 +138,7 @@ module _ {s : Source} {mem out : List ℕ} {m : Machine} {place b i : ℕ} (q : 
       as-compared : apply (faced .frame) (faced .top .came) ≡ (against (R .ports) (comparison op) sized (faced .words) >>= nodes)
       as-compared =
           let z = faced in
-          let e : comparison op ≡ z .operator = ap comparison (eo ∙ ap (λ (n : ℕ). n - 22) (z .kind)) ∙ comparison-of (z .operator) in
+          let e : comparison op ≡ z .operator = ap comparison (eo ∙ z .code) ∙ comparison-of (z .operator) in
           z .same ∙ ap (λ (c : Comparison). against (R .ports) c sized (z .words) >>= nodes) (sym e)
 
       stops : {number at : ℕ} → against (R .ports) (comparison op) sized (faced .words) ≡ Refused number at → Turned R mem mem out out m x o (Refuses number at)
@@ -186,7 +170,7 @@ module _ {s : Source} {mem out : List ℕ} {m : Machine} {place b i : ℕ} (q : 
         writes l w e {out'} g en =
             let z = faced t in
             let f : Formula = chosen op (oneOf (R .ports) (sized t .name) (z .words)) in
-            writes-after (z .top) {phase = 22} (z .flat) (z .came) f
+            writes-after (z .top) {phase = Phase.rightCompared} (z .flat) (z .came) f
             (as-compared t ∙ bind-to _ f nodes (by-width op l (R .ports) (sized t) (z .words) ∙ guard-pass 13 place (Done f) (sym (right-width w) ∙ e))) g en
 
       module _ (l : op ≤ 1) {v : Bool} (w : WidthsAre (s .work) (entry + 1) end width v) where

@@ -29,7 +29,8 @@ use Rattle.operands.specs.Entries.{kindAt, placeAt}
 use Rattle.operands.specs.ClassLaws.{has-entry, place-is}
 use Rattle.operands.specs.Operands.{below}
 use Rattle.operands.specs.Working.{Source}
-use Rattle.operator_nodes.specs.Shapes.{shapeOf}
+use Rattle.operands.specs.Shapes.{shapeOf}
+use Rattle.machine.specs.Phases as Phase
 use Rattle.machine.specs.Came.{Evaluate, Came, worth, nodes, works, asNumber, asValue}
 use Rattle.machine.specs.Frames.{Indexed, BitOf, apply}
 use Rattle.machine.specs.Realm.{Realm}
@@ -62,7 +63,7 @@ index-same : (ps : List Port) (a v : Result Value) → ((a >>= number >>= λ i. 
 index-same ps a v = then-nodes (a >>= number) _ (λ i. v >>= bus >>= bitAt ps i >>= nodes) (λ i. refl) ∙ sym (take-number a (λ i. v >>= bus >>= bitAt ps i >>= nodes))
 
 -- the index stands before the entry
-pub index-inside : {s : Source} {mem : List ℕ} {m : Machine} → Ready s mem m → Expands (s .work) m 4 5 → 0 < m .value
+pub index-inside : {s : Source} {mem : List ℕ} {m : Machine} → Ready s mem m → Expands (s .work) m Kind.index Kind.paren → 0 < m .value
 index-inside {s} {m = m} r k =
     let e0 = k .mode in
     let k0 = k .from in
@@ -76,7 +77,7 @@ index-inside {s} {m = m} r k =
     omega arith
 
 -- the entry: the index is worked out first
-pub index-steps : {s : Source} {mem mem' : List ℕ} {m : Machine} {r : Move} → Ready s mem m → Expands (s .work) m 4 5 → Opened mem mem' m 25 (modeOf Evaluate) (m .value - 1) r → Steps s mem mem' m r
+pub index-steps : {s : Source} {mem mem' : List ℕ} {m : Machine} {r : Move} → Ready s mem m → Expands (s .work) m Kind.index Kind.paren → Opened mem mem' m Phase.indexed (modeOf Evaluate) (m .value - 1) r → Steps s mem mem' m r
 index-steps {s} {mem} {mem'} {m} {r} y k q = record {
   turns = λ R x o out h.
       let e0 = k .mode in
@@ -90,7 +91,7 @@ index-steps {s} {mem} {mem'} {m} {r} y k q = record {
       let a = v .1 in
       let p = operand-as (n .at .operand) {d = Index t a} (v .2) in
       let ins = index-inside y k in
-      opens n {F = Indexed c t} {phase = 25} {a = Evaluate} {e = a} {j = m .value - 1} (record {
+      opens n {F = Indexed c t} {phase = Phase.indexed} {a = Evaluate} {e = a} {j = m .value - 1} (record {
         holds-nothing = refl;
         few-turns = omega arith;
         below = omega arith;
@@ -120,11 +121,11 @@ within-body m n =
     record { mode = modeOf Evaluate; value = n; from = 0; scope = m .depth; depth = m .depth; top = m .top; frames = m .frames; nodes = m .nodes }
 
 -- the index has come
-module _ {s : Source} {mem out : List ℕ} {m : Machine} (w : Waiting mem m 25) where
+module _ {s : Source} {mem out : List ℕ} {m : Machine} (w : Waiting mem m Phase.indexed) where
   pub indexed-misfits : (m .mode ≡ isNumber → ⊥) → TakesToWrite s mem mem out out m (Refuses 9 0)
   indexed-misfits e = record {
     turns = λ R x o t.
-        let v = by-phase (t .frame) 25 (top-phase t ∙ w .phase) in
+        let v = by-phase (t .frame) Phase.indexed (top-phase t ∙ w .phase) in
         let h = top-as t (v .2) in
         refuses h (misfit-then _ (not-number R o mem m (h .came) (h .come) e));
   }
@@ -132,7 +133,7 @@ module _ {s : Source} {mem out : List ℕ} {m : Machine} (w : Waiting mem m 25) 
   -- the scope can be noted in a word
   pub indexed-scope : ToppedToWrite s mem out m → m .scope < 2 ^ 32
   indexed-scope t =
-      let v = by-phase (t .top .frame) 25 (top-phase (t .top) ∙ w .phase) in
+      let v = by-phase (t .top .frame) Phase.indexed (top-phase (t .top) ∙ w .phase) in
       let h = top-as (t .top) (v .2) in
       let e = flat-scope h refl in
       let d = h .at .width in
@@ -175,7 +176,7 @@ module _ {s : Source} {mem out : List ℕ} {m : Machine} (w : Waiting mem m 25) 
     pub element-misfits : maxNames ≤ r → TakesToWrite s mem mem out out m (Refuses 9 0)
     element-misfits l = record {
       turns = λ R x o t.
-          let v = by-phase (t .frame) 25 (top-phase t ∙ w .phase) in
+          let v = by-phase (t .frame) Phase.indexed (top-phase t ∙ w .phase) in
           let h = top-as t (v .2) in
           let u = uses h in
           stops h (stands-for h (u .stands ∙ denote-bound (R .W) (h .ground .env) (r - maxNames) r (v .1) (omega arith)));
@@ -195,7 +196,7 @@ module _ {s : Source} {mem out : List ℕ} {m : Machine} (w : Waiting mem m 25) 
       pub nothing-refuses : sort ≡ Sort.nothing → TakesToWrite s mem mem out out m (Refuses 6 0)
       nothing-refuses z = record {
         turns = λ R x o t.
-            let v = by-phase (t .frame) 25 (top-phase t ∙ w .phase) in
+            let v = by-phase (t .frame) Phase.indexed (top-phase t ∙ w .phase) in
             let h = top-as t (v .2) in
             stops h (bind-refused _ 6 0 bus (named h (fact h .nothing z)));
       }
@@ -204,7 +205,7 @@ module _ {s : Source} {mem out : List ℕ} {m : Machine} (w : Waiting mem m 25) 
       pub others-misfit : (sort ≡ Sort.body → ⊥) → (sort ≡ Sort.nothing → ⊥) → (sort ≡ Sort.bus → ⊥) → TakesToWrite s mem mem out out m (Refuses 9 0)
       others-misfit a b d = record {
         turns = λ R x o t.
-            let v = by-phase (t .frame) 25 (top-phase t ∙ w .phase) in
+            let v = by-phase (t .frame) Phase.indexed (top-phase t ∙ w .phase) in
             let h = top-as t (v .2) in
             stops h (go h sort refl);
       }
@@ -224,7 +225,7 @@ module _ {s : Source} {mem out : List ℕ} {m : Machine} (w : Waiting mem m 25) 
         pub bit-refuses : n ≤ m .value → {p : ℕ} → p ≡ placeAt (s .work) k → TakesToWrite s mem mem out out m (Refuses 13 p)
         bit-refuses d {p} ep = record {
           turns = λ R x o t.
-              let v = by-phase (t .frame) 25 (top-phase t ∙ w .phase) in
+              let v = by-phase (t .frame) Phase.indexed (top-phase t ∙ w .phase) in
               let h = top-as t (v .2) in
               refuses h (looks-up h ∙ bind-refused _ 13 p nodes (go R h n refl));
         }
@@ -238,14 +239,14 @@ module _ {s : Source} {mem out : List ℕ} {m : Machine} (w : Waiting mem m 25) 
         module _ (d : m .value < n) where
           pub bit-fits : ToppedToWrite s mem out m → m .nodes ≤ maxNodes → noteAt mem r 2 + m .value < fieldLimit
           bit-fits t =
-              let v = by-phase (t .top .frame) 25 (top-phase (t .top) ∙ w .phase) in
+              let v = by-phase (t .top .frame) Phase.indexed (top-phase (t .top) ∙ w .phase) in
               let h = top-as (t .top) (v .2) in
               signal-fits h r (m .value) n l (fact h .bus z .sized (omega arith)) d
 
           pub bit-steps : {out' : List ℕ} {i q : ℕ} → Signalled (noteAt mem r 2) (m .value) out out' (m .nodes) i → q ≡ min i (suc maxNodes) → TakesToWrite s mem mem out out' m (Next (wrote (popped m) q))
           bit-steps {out'} {i} g eq = record {
             turns = λ R x o t.
-                let v = by-phase (t .frame) 25 (top-phase t ∙ w .phase) in
+                let v = by-phase (t .frame) Phase.indexed (top-phase t ∙ w .phase) in
                 let c = v .0 in
                 let y = v .1 in
                 let h = top-as t (v .2) in
@@ -254,15 +255,15 @@ module _ {s : Source} {mem out : List ℕ} {m : Machine} (w : Waiting mem m 25) 
                 let f : Formula = signalNode (R .ports) (y .text) (m .value) in
                 let done : (c .values y >>= bus >>= bitAt (R .ports) (m .value)) ≡ Done f = bind-to _ b _ (stands-for h (named h wide)) ∙ bit-in (R .ports) (m .value) b d in
                 let q = subst (λ (j : List ℕ). Wrote (signalNode (R .ports) j (m .value)) out out' (m .nodes) i) (uses h .spelt l) (signal-wrote h r (m .value) n l wide g) in
-                writes-after h {phase = 25} refl (index h .same) f (looks-up h ∙ bind-to _ f nodes done) q eq;
+                writes-after h {phase = Phase.indexed} refl (index h .same) f (looks-up h ∙ bind-to _ f nodes done) q eq;
           }
 
       -- a definition: its body is worked out, and a frame waits to take the bit
       pub body-steps : sort ≡ Sort.body → {mem' : List ℕ} {scope i : ℕ} → scope ≡ m .scope → i ≡ m .value
-          → Framed mem mem' (m .frames) (record { phase = 35; entry = k; base = m .top; at = i; count = 0; value = scope; other = 0 }) → TakesToWrite s mem mem' out out m (Next (within-body m n))
+          → Framed mem mem' (m .frames) (record { phase = Phase.bitOf; entry = k; base = m .top; at = i; count = 0; value = scope; other = 0 }) → TakesToWrite s mem mem' out out m (Next (within-body m n))
       body-steps z {mem'} {scope} {i} ec ei f = record {
         turns = λ R x o t.
-            let v = by-phase (t .frame) 25 (top-phase t ∙ w .phase) in
+            let v = by-phase (t .frame) Phase.indexed (top-phase t ∙ w .phase) in
             let c = v .0 in
             let y = v .1 in
             let h = top-as t (v .2) in
@@ -281,7 +282,7 @@ module _ {s : Source} {mem out : List ℕ} {m : Machine} (w : Waiting mem m 25) 
             let fi = h .at .first in
             let wd = h .at .width in
             goes h {G = BitOf c (m .value)} {a = Evaluate} {c = bc} {e = be} {mem₁ = mem} (record {
-              new = record { phase = 35; entry = k; base = m .top; at = i; count = 0; value = scope; other = 0 };
+              new = record { phase = Phase.bitOf; entry = k; base = m .top; at = i; count = 0; value = scope; other = 0 };
               framed = f;
               phased = refl;
               base-is = ft;
@@ -322,7 +323,7 @@ module _ {s : Source} {mem out : List ℕ} {m : Machine} (w : Waiting mem m 25) 
 
 -- the index has come, and the name is a declared one that is no definition
 pub record Points (refs mem : List ℕ) (m : Machine) (k r : ℕ) : Type 0 where
-  pub waiting : Waiting mem m 25
+  pub waiting : Waiting mem m Phase.indexed
   pub number : m .mode ≡ isNumber
   pub entry : k ≡ getD mem (m .frames + 1) 0
   pub reference : r ≡ getD refs k 0

@@ -15,6 +15,7 @@ use Rattle.language.specs.Values.{Sized, misfit, bus}
 use Rattle.language.specs.Expansion.{Context, bitAt, signalNode}
 use Rattle.name_values.specs.World.{nameAt}
 use Rattle.operands.specs.Working.{Source}
+use Rattle.machine.specs.Phases as Phase
 use Rattle.machine.specs.Came.{Came, Worth, Nodes, nodes, asValue}
 use Rattle.machine.specs.Frames.{BitOf, apply}
 use Rattle.machine.specs.Realm.{Realm}
@@ -43,7 +44,7 @@ no-bus : {s : Source} (R : Realm s) (o : Began) (mem : List ℕ) (m : Machine) (
 no-bus R o mem m (Worth v) c a b = bind-at v bus ∙ tells-no-bus (R .W) (m .mode) (m .value) (m .from) v (c .tells) b a
 no-bus R o mem m (Nodes f) c a b = bind-refused _ 9 0 bus refl
 
-module _ {s : Source} {mem out : List ℕ} {m : Machine} (w : Waiting mem m 35) where
+module _ {s : Source} {mem out : List ℕ} {m : Machine} (w : Waiting mem m Phase.bitOf) where
   module _ {R : Realm s} {x : Result Came} {o : Began} {c : Context} {i : ℕ} (h : TopOf R mem out m x o (BitOf c i)) where
     takes : apply (BitOf c i) (h .came) ≡ (asValue (h .came) >>= bus >>= bitAt (R .ports) i >>= nodes)
     takes = ap (λ (ps : List Port). asValue (h .came) >>= bus >>= bitAt ps i >>= nodes) (h .at .waits)
@@ -54,7 +55,7 @@ module _ {s : Source} {mem out : List ℕ} {m : Machine} (w : Waiting mem m 35) 
   pub bit-misfits : (m .mode ≡ isUnsized → ⊥) → (m .mode ≡ isBus → ⊥) → TakesToWrite s mem mem out out m (Refuses 9 0)
   bit-misfits a b = record {
     turns = λ R x o t.
-        let v = by-phase (t .frame) 35 (top-phase t ∙ w .phase) in
+        let v = by-phase (t .frame) Phase.bitOf (top-phase t ∙ w .phase) in
         let h = top-as t (v .2) in
         stops h (no-bus R o mem m (h .came) (h .come) a b);
   }
@@ -62,7 +63,7 @@ module _ {s : Source} {mem out : List ℕ} {m : Machine} (w : Waiting mem m 35) 
   pub bit-unsized : m .mode ≡ isUnsized → TakesToWrite s mem mem out out m (Refuses 13 (m .value))
   bit-unsized e = record {
     turns = λ R x o t.
-        let v = by-phase (t .frame) 35 (top-phase t ∙ w .phase) in
+        let v = by-phase (t .frame) Phase.bitOf (top-phase t ∙ w .phase) in
         let h = top-as t (v .2) in
         let g = came-value R o mem m (h .came) (h .come) (λ z. absurd (omega arith)) in
         stops h (ap (λ (y : Came). asValue y >>= bus) (g .same) ∙ bind-at (g .value) bus ∙ ap bus (tells-unsized (R .W) (m .mode) (m .value) (m .from) (g .value) (g .tells) e));
@@ -94,14 +95,14 @@ module _ {s : Source} {mem out : List ℕ} {m : Machine} (w : Waiting mem m 35) 
 
     pub bit-name : ToppedToWrite s mem out m → m .from < maxNames
     bit-name t =
-        let v = by-phase (t .top .frame) 35 (top-phase (t .top) ∙ w .phase) in
+        let v = by-phase (t .top .frame) Phase.bitOf (top-phase (t .top) ∙ w .phase) in
         is-bus (top-as (t .top) (v .2)) .declared
 
     module _ {j n : ℕ} (ej : j ≡ getD mem (m .frames + 3) 0) (en : n ≡ noteAt mem (m .from) 1) where
       pub bit-refuses : n ≤ j → TakesToWrite s mem mem out out m (Refuses 13 (m .value))
       bit-refuses l = record {
         turns = λ R x o t.
-            let v = by-phase (t .frame) 35 (top-phase t ∙ w .phase) in
+            let v = by-phase (t .frame) Phase.bitOf (top-phase t ∙ w .phase) in
             let h = top-as t (v .2) in
             let a = width-noted h en in
             let b = index-noted h ej in
@@ -111,7 +112,7 @@ module _ {s : Source} {mem out : List ℕ} {m : Machine} (w : Waiting mem m 35) 
       module _ (l : j < n) where
         pub bit-fits : ToppedToWrite s mem out m → m .nodes ≤ maxNodes → noteAt mem (m .from) 2 + j < fieldLimit
         bit-fits t =
-            let v = by-phase (t .top .frame) 35 (top-phase (t .top) ∙ w .phase) in
+            let v = by-phase (t .top .frame) Phase.bitOf (top-phase (t .top) ∙ w .phase) in
             let h = top-as (t .top) (v .2) in
             let a = width-noted h en in
             signal-fits h (m .from) j (is-bus h .width) (is-bus h .declared) (is-bus h .means) (omega arith)
@@ -120,7 +121,7 @@ module _ {s : Source} {mem out : List ℕ} {m : Machine} (w : Waiting mem m 35) 
             → TakesToWrite s mem mem out out' m (Next (wrote-back m scope r))
         bit-steps {out'} {q} {r} {scope} es g er = record {
           turns = λ R x o t.
-              let v = by-phase (t .frame) 35 (top-phase t ∙ w .phase) in
+              let v = by-phase (t .frame) Phase.bitOf (top-phase t ∙ w .phase) in
               let h = top-as t (v .2) in
               let i = v .1 in
               let a = width-noted h en in

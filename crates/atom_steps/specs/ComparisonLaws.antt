@@ -17,19 +17,23 @@ use Rattle.language.specs.Tree.{Expr}
 use Rattle.language.specs.Values.{Value, number, bus, choice, value}
 use Rattle.language.specs.Declared.{Port}
 use Rattle.language.specs.Expansion.{Context, truth, test, against, compared, expansion}
+use Rattle.entries.specs.Kinds as Kind
 use Rattle.sets.specs.Operators.{comparison}
 use Rattle.name_values.specs.World.{nameAt}
-use Rattle.operands.specs.Entries.{kindAt, sizeAt}
+use Rattle.operators.specs.Tables.{infixCodeAt}
+use Rattle.operands.specs.Entries.{kindAt, sizeAt, numberAt}
+use Rattle.operands.specs.ShapeLaws.{comparison-shape}
 use Rattle.operands.specs.Working.{Source}
-use Rattle.operator_nodes.specs.ShapeLaws.{comparison-kind}
+use Rattle.machine.specs.Phases as Phase
 use Rattle.machine.specs.Came.{Evaluate, Came, worth, nodes, works, asValue}
 use Rattle.machine.specs.Frames.{LeftCompared, RightCompared, comparing, apply}
 use Rattle.machine.specs.Realm.{Operand, Realm}
 use Rattle.machine.specs.Operators.{Between, OpAt}
+use Rattle.machine.specs.OperatorLaws.{op-comparison}
 use Rattle.machine.specs.Memory.{Framed}
 use Rattle.machine.specs.Telling.{isNumber, isBus, isUnsized, isChoice, isNodes, Tells}
 use Rattle.machine.specs.Table.{Began}
-use Rattle.machine.specs.States.{modeOf, Ready, Steps, TopOf, Topped, Takes, ToppedToWrite, TakesToWrite}
+use Rattle.machine.specs.States.{modeOf, Ready, Steps, TopOf, Topped, Takes, TakesToWrite}
 use Rattle.machine.specs.StateLaws.{entered}
 use Rattle.machine.specs.EnterLaws.{came, wrote}
 use Rattle.machine.specs.ComeLaws.{misfit-then}
@@ -44,7 +48,7 @@ use Rattle.machine.specs.declared.Move.{Move}
 use Rattle.machine.specs.declared.Move.the-variants.{Next, Refused as Refuses}
 use Rattle.machine.specs.Entering.{Expands, Waiting, works-formula, operand-shape}
 use Rattle.machine.specs.SameLaws.{same-truth}
-use Rattle.atom_steps.specs.JoinedLaws.{joined-two, joined-at}
+use Rattle.atom_steps.specs.JoinedLaws.{joined-two, joined-op}
 use Rattle.atom_steps.specs.WriteLaws.{writes-after}
 use Rattle.machine.specs.TellLaws.{
   tells-number,
@@ -60,7 +64,7 @@ use Rattle.machine.specs.TellLaws.{
   came-value,
   not-value,
 }
-use Rattle.atom_steps.specs.AgainstLaws.{comparison-of, comparison-from, Faces}
+use Rattle.atom_steps.specs.AgainstLaws.{Faces}
 
 -- the clause as its frames have it
 comparison-same : (c : Context) (o : Comparison) (a b : Result Value) → ((a >>= λ x. b >>= compared (c .ports) o x) >>= nodes) ≡ ((a >>= worth) >>= λ v. asValue v >>= λ x. (b >>= worth) >>= comparing o c x)
@@ -70,36 +74,36 @@ comparison-same c o a b =
     ∙ sym (take-value a (λ x. (b >>= worth) >>= comparing o c x))
 
 -- both operands stand before the entry
-pub comparison-inside : {s : Source} {mem : List ℕ} {m : Machine} → Ready s mem m → Expands (s .work) m 22 28 → 1 + sizeAt (s .work) (m .value - 1) ≤ m .value
+pub comparison-inside : {s : Source} {mem : List ℕ} {m : Machine} → Ready s mem m → Expands (s .work) m Kind.equality Kind.membership → 1 + sizeAt (s .work) (m .value - 1) ≤ m .value
 comparison-inside {s} {m = m} r k =
     let e0 = k .mode in
     let n = entered (r .state) (omega arith) in
-    let v = operand-shape (n .at .operand) (comparison-kind (kindAt (s .work) (m .value)) (k .from) (k .until)) in
-    joined-two (r .realm) (n .at .operand) (v .3) .inside
+    let v = operand-shape (n .at .operand) (comparison-shape (kindAt (s .work) (m .value)) (k .from) (k .until)) in
+    joined-two (r .realm) (n .at .operand) (v .4) .inside
 
 -- the entry: its left operand is worked out first
-pub comparison-steps : {s : Source} {mem mem' : List ℕ} {m : Machine} {j : ℕ} {r : Move} → Expands (s .work) m 22 28 → j ≡ m .value - 1 - sizeAt (s .work) (m .value - 1)
-    → Opened mem mem' m 21 (modeOf Evaluate) j r → Steps s mem mem' m r
+pub comparison-steps : {s : Source} {mem mem' : List ℕ} {m : Machine} {j : ℕ} {r : Move} → Expands (s .work) m Kind.equality Kind.membership → j ≡ m .value - 1 - sizeAt (s .work) (m .value - 1)
+    → Opened mem mem' m Phase.leftCompared (modeOf Evaluate) j r → Steps s mem mem' m r
 comparison-steps {s} {mem} {mem'} {m} {j} {r} k ej w = record {
   turns = λ R x o out h.
       let e0 = k .mode in
       let n = entered h (omega arith) in
-      let op = comparison (kindAt (s .work) (m .value) - 22) in
-      let v = operand-shape (n .at .operand) (comparison-kind (kindAt (s .work) (m .value)) (k .from) (k .until)) in
+      let v = operand-shape (n .at .operand) (comparison-shape (kindAt (s .work) (m .value)) (k .from) (k .until)) in
       let t = v .0 in
-      let a = v .1 in
-      let b = v .2 in
-      let two = joined-two R (n .at .operand) (v .3) in
+      let op = v .1 in
+      let a = v .2 in
+      let b = v .3 in
+      let two = joined-two R (n .at .operand) (v .4) in
       let ins = two .inside in
-      opens n {F = LeftCompared op (n .context) b} {phase = 21} {a = Evaluate} {e = a} {j = j} (record {
+      opens n {F = LeftCompared op (n .context) b} {phase = Phase.leftCompared} {a = Evaluate} {e = a} {j = j} (record {
         holds-nothing = refl;
         few-turns = omega arith;
         below = omega arith;
         operand = subst (λ (i : ℕ). Operand s (R .W) (R .ports) (n .at .env) (n .context) i a) (sym ej) (two .left);
         holds = tt;
-        waits = (t .at, joined-at R (n .at .operand) (v .3), two .right);
+        waits = (t .at, joined-op R (n .at .operand) (v .4), two .right);
         kept = tt;
-        same = works-formula n e0 ∙ ap (λ (d : Expr). expansion (n .context) d >>= nodes) (v .3) ∙ comparison-same (n .context) op (value (n .context .values) a) (value (n .context .values) b);
+        same = works-formula n e0 ∙ ap (λ (d : Expr). expansion (n .context) d >>= nodes) (v .4) ∙ comparison-same (n .context) op (value (n .context .values) a) (value (n .context .values) b);
       }) r w;
 }
 
@@ -114,11 +118,11 @@ pub record NameOf (m : Machine) (r : ℕ) : Type 0 where
   pub small : r < maxNames
 
 -- the left operand has come
-module _ {s : Source} {mem : List ℕ} {m : Machine} (w : Waiting mem m 21) where
+module _ {s : Source} {mem : List ℕ} {m : Machine} (w : Waiting mem m Phase.leftCompared) where
   pub left-misfits : m .mode ≡ isNodes → Takes s mem mem m (Refuses 9 0)
   left-misfits e = record {
     turns = λ R x o out t.
-        let v = by-phase (t .frame) 21 (top-phase t ∙ w .phase) in
+        let v = by-phase (t .frame) Phase.leftCompared (top-phase t ∙ w .phase) in
         let h = top-as t (v .3) in
         refuses h (misfit-then _ (not-value R o mem m (h .came) (h .come) e));
   }
@@ -135,11 +139,11 @@ module _ {s : Source} {mem : List ℕ} {m : Machine} (w : Waiting mem m 21) wher
         }
 
     pub left-steps : {mem' : List ℕ} {k mode r : ℕ} → k ≡ getD mem (m .frames + 1) 0 → mode ≡ m .mode → NameOf m r
-        → Framed mem mem' (m .frames) (record { phase = 22; entry = k; base = m .top; at = mode; count = 0; value = m .value; other = r })
+        → Framed mem mem' (m .frames) (record { phase = Phase.rightCompared; entry = k; base = m .top; at = mode; count = 0; value = m .value; other = r })
         → Takes s mem mem' m (Next (came m (modeOf Evaluate) (k - 1) 0))
     left-steps {mem'} {k} {mode} {r} ek em q f = record {
       turns = λ R x o out t.
-          let v = by-phase (t .frame) 21 (top-phase t ∙ w .phase) in
+          let v = by-phase (t .frame) Phase.leftCompared (top-phase t ∙ w .phase) in
           let op = v .0 in
           let c = v .1 in
           let b = v .2 in
@@ -149,7 +153,7 @@ module _ {s : Source} {mem : List ℕ} {m : Machine} (w : Waiting mem m 21) wher
           let same-entry : k ≡ words h .entry = ek ∙ entry-word h in
           let some = h .at .some in
           let at = h .at .entry in
-          renews h {phase = 21} refl {G = RightCompared op c (g .value)} {a = Evaluate} {c = c} {e = b} (g .same) (record {
+          renews h {phase = Phase.leftCompared} refl {G = RightCompared op c (g .value)} {a = Evaluate} {c = c} {e = b} (g .same) (record {
             holds-nothing = refl;
             framed = f;
             entry-is = same-entry;
@@ -167,27 +171,18 @@ module _ {s : Source} {mem : List ℕ} {m : Machine} (w : Waiting mem m 21) wher
 
 -- the right operand has come, a value; the left one is of this mode
 pub record Comparing (mem : List ℕ) (m : Machine) (mode : ℕ) : Type 0 where
-  pub waiting : Waiting mem m 22
+  pub waiting : Waiting mem m Phase.rightCompared
   pub value : m .mode ≡ isNodes → ⊥
   pub left : getD mem (m .frames + 3) 0 ≡ mode
 
-module _ {s : Source} {mem out : List ℕ} {m : Machine} (w : Waiting mem m 22) where
+module _ {s : Source} {mem out : List ℕ} {m : Machine} (w : Waiting mem m Phase.rightCompared) where
   pub right-misfits : m .mode ≡ isNodes → TakesToWrite s mem mem out out m (Refuses 9 0)
   right-misfits e = record {
     turns = λ R x o t.
-        let v = by-phase (t .frame) 22 (top-phase t ∙ w .phase) in
+        let v = by-phase (t .frame) Phase.rightCompared (top-phase t ∙ w .phase) in
         let h = top-as t (v .3) in
         refuses h (misfit-then _ (not-value R o mem m (h .came) (h .come) e));
   }
-
-  pub right-kind : ToppedToWrite s mem out m → 22 ≤ kindAt (s .work) (getD mem (m .frames + 1) 0)
-  right-kind t =
-      let v = by-phase (t .top .frame) 22 (top-phase (t .top) ∙ w .phase) in
-      let h = top-as (t .top) (v .3) in
-      let e = ap (kindAt (s .work)) (entry-word h) in
-      let k = h .at .waits .1 .kind in
-      let l = comparison-from (v .0) in
-      omega arith
 
   module _ (e : m .mode ≡ isNodes → ⊥) where
     module _ {R : Realm s} {x : Result Came} {o : Began} {op : Comparison} {c : Context} {u : Value} (h : TopOf R mem out m x o (RightCompared op c u)) where
@@ -206,13 +201,13 @@ module _ {s : Source} {mem out : List ℕ} {m : Machine} (w : Waiting mem m 22) 
           subst (λ (i : ℕ). Tells (R .W) i value other u) (sym (at-word h) ∙ e3)
           (subst (λ (i : ℕ). Tells (R .W) (words h .at) i other u) (sym (e5 ∙ value-word h)) (subst (λ (i : ℕ). Tells (R .W) (words h .at) (words h .value) i u) (sym (e6 ∙ other-word h)) (h .at .holds)))
 
-      op-is : {i : ℕ} → i ≡ kindAt (s .work) (getD mem (m .frames + 1) 0) - 22 → comparison i ≡ op
-      op-is ei = ap comparison (ei ∙ ap (λ (j : ℕ). kindAt (s .work) j - 22) (entry-word h) ∙ ap (λ (j : ℕ). j - 22) (h .at .waits .1 .kind)) ∙ comparison-of op
+      op-is : {i : ℕ} → i ≡ infixCodeAt (numberAt (s .work) (getD mem (m .frames + 1) 0)) → comparison i ≡ op
+      op-is ei = ap comparison (ei ∙ ap (λ (j : ℕ). infixCodeAt (numberAt (s .work) j)) (entry-word h)) ∙ op-comparison (h .at .waits .1)
 
     pub right-unsized : {p : ℕ} → getD mem (m .frames + 3) 0 ≡ isUnsized → p ≡ getD mem (m .frames + 5) 0 → TakesToWrite s mem mem out out m (Refuses 13 p)
     right-unsized {p} z ep = record {
       turns = λ R x o t.
-          let v = by-phase (t .frame) 22 (top-phase t ∙ w .phase) in
+          let v = by-phase (t .frame) Phase.rightCompared (top-phase t ∙ w .phase) in
           let h = top-as t (v .3) in
           let l = tells-unsized (R .W) isUnsized p _ (v .2) (left-tells h z ep refl) refl in
           refuses h (made h ∙ ap (λ (y : Value). compared (R .ports) (v .0) y (right h .value) >>= nodes) l ∙ bind-refused _ 13 p nodes refl);
@@ -222,7 +217,7 @@ module _ {s : Source} {mem out : List ℕ} {m : Machine} (w : Waiting mem m 22) 
         → TakesToWrite s mem mem out out m (Refuses 9 0)
     right-uncompared a b c d = record {
       turns = λ R x o t.
-          let v = by-phase (t .frame) 22 (top-phase t ∙ w .phase) in
+          let v = by-phase (t .frame) Phase.rightCompared (top-phase t ∙ w .phase) in
           let h = top-as t (v .3) in
           refuses h (made h ∙ bind-refused _ 9 0 nodes (tells-uncompared (R .W) (getD mem (m .frames + 3) 0) _ _ (v .2) (left-tells h refl refl refl) a b c d (R .ports) (v .0) (right h .value)));
     }
@@ -232,7 +227,7 @@ module _ {s : Source} {mem out : List ℕ} {m : Machine} (w : Comparing mem m is
   pub number-misfits : (m .mode ≡ isNumber → ⊥) → TakesToWrite s mem mem out out m (Refuses 9 0)
   number-misfits z = record {
     turns = λ R x o t.
-        let v = by-phase (t .frame) 22 (top-phase t ∙ w .waiting .phase) in
+        let v = by-phase (t .frame) Phase.rightCompared (top-phase t ∙ w .waiting .phase) in
         let h = top-as t (v .3) in
         let y = right (w .waiting) (w .value) h in
         let l = tells-number (R .W) isNumber _ _ (v .2) (left-tells (w .waiting) (w .value) h (w .left) refl refl) refl in
@@ -240,11 +235,11 @@ module _ {s : Source} {mem out : List ℕ} {m : Machine} (w : Comparing mem m is
         ∙ bind-refused _ 9 0 nodes (bind-refused _ 9 0 _ (tells-no-number (R .W) (m .mode) (m .value) (m .from) (y .value) (y .tells) z)));
   }
 
-  pub number-steps : m .mode ≡ isNumber → {i a r n : ℕ} {b : Bool} {out' : List ℕ} → i ≡ kindAt (s .work) (getD mem (m .frames + 1) 0) - 22 → a ≡ getD mem (m .frames + 5) 0
+  pub number-steps : m .mode ≡ isNumber → {i a r n : ℕ} {b : Bool} {out' : List ℕ} → i ≡ infixCodeAt (numberAt (s .work) (getD mem (m .frames + 1) 0)) → a ≡ getD mem (m .frames + 5) 0
       → b ≡ test (comparison i) a (m .value) → Wrote (Writing.truth b) out out' (m .nodes) r → n ≡ min r (suc maxNodes) → TakesToWrite s mem mem out out' m (Next (wrote (popped m) n))
   number-steps z {i} {a} {r} {n} {b} {out'} ei ea eb q en = record {
     turns = λ R x o t.
-        let v = by-phase (t .frame) 22 (top-phase t ∙ w .waiting .phase) in
+        let v = by-phase (t .frame) Phase.rightCompared (top-phase t ∙ w .waiting .phase) in
         let h = top-as t (v .3) in
         let op = v .0 in
         let y = right (w .waiting) (w .value) h in
@@ -253,7 +248,7 @@ module _ {s : Source} {mem out : List ℕ} {m : Machine} (w : Comparing mem m is
         let f : Formula = truth (test op a (m .value)) in
         let same : Writing.truth b ≡ f = same-truth b ∙ ap truth (eb ∙ ap (λ (j : Comparison). test j a (m .value)) (op-is (w .waiting) (w .value) h ei)) in
         let done : compared (R .ports) op (v .2) (y .value) ≡ Done f = ap₂ (λ (j g : Value). compared (R .ports) op j g) l k ∙ bind-at (m .value) (λ j. Done (truth (test op a j))) in
-        writes-after h {phase = 22} refl (y .same) f (made (w .waiting) (w .value) h ∙ bind-to _ f nodes done) (subst (λ (g : Formula). Wrote g out out' (m .nodes) r) same q) en;
+        writes-after h {phase = Phase.rightCompared} refl (y .same) f (made (w .waiting) (w .value) h ∙ bind-to _ f nodes done) (subst (λ (g : Formula). Wrote g out out' (m .nodes) r) same q) en;
   }
 
 -- a bus on the left
@@ -261,7 +256,7 @@ module _ {s : Source} {mem out : List ℕ} {m : Machine} (w : Comparing mem m is
   pub bus-misfits : (m .mode ≡ isChoice → ⊥) → TakesToWrite s mem mem out out m (Refuses 9 0)
   bus-misfits z = record {
     turns = λ R x o t.
-        let v = by-phase (t .frame) 22 (top-phase t ∙ w .waiting .phase) in
+        let v = by-phase (t .frame) Phase.rightCompared (top-phase t ∙ w .waiting .phase) in
         let h = top-as t (v .3) in
         let y = right (w .waiting) (w .value) h in
         let l = tells-bus (R .W) isBus _ _ (v .2) (left-tells (w .waiting) (w .value) h (w .left) refl refl) refl in
@@ -272,7 +267,7 @@ module _ {s : Source} {mem out : List ℕ} {m : Machine} (w : Comparing mem m is
   pub bus-faces : m .mode ≡ isChoice → {p b : ℕ} → p ≡ getD mem (m .frames + 5) 0 → b ≡ getD mem (m .frames + 6) 0 → Faces s mem out m p b (m .from)
   bus-faces z {p} {b} ep eb = record {
     faced = λ R x o t.
-        let v = by-phase (t .frame) 22 (top-phase t ∙ w .waiting .phase) in
+        let v = by-phase (t .frame) Phase.rightCompared (top-phase t ∙ w .waiting .phase) in
         let op = v .0 in
         let h = top-as t (v .3) in
         let y = right (w .waiting) (w .value) h in
@@ -285,7 +280,7 @@ module _ {s : Source} {mem out : List ℕ} {m : Machine} (w : Comparing mem m is
           value = y .value;
           came = y .same;
           operator = op;
-          kind = ap (kindAt (s .work)) (entry-word h) ∙ h .at .waits .1 .kind;
+          code = ap (λ (j : ℕ). infixCodeAt (numberAt (s .work) j)) (entry-word h) ∙ h .at .waits .1 .spelt;
           width = l .width;
           words = k .words;
           bus = l .declared;
@@ -302,7 +297,7 @@ module _ {s : Source} {mem out : List ℕ} {m : Machine} (w : Comparing mem m is
   pub identifier-refuses : {number place : ℕ} → ((R : Realm s) (y : Value) → Tells (R .W) (m .mode) (m .value) (m .from) y → bus y ≡ Refused number place) → TakesToWrite s mem mem out out m (Refuses number place)
   identifier-refuses {number} {place} q = record {
     turns = λ R x o t.
-        let v = by-phase (t .frame) 22 (top-phase t ∙ w .waiting .phase) in
+        let v = by-phase (t .frame) Phase.rightCompared (top-phase t ∙ w .waiting .phase) in
         let h = top-as t (v .3) in
         let y = right (w .waiting) (w .value) h in
         let l = tells-choice (R .W) isChoice _ _ (v .2) (left-tells (w .waiting) (w .value) h (w .left) refl refl) refl in
@@ -319,7 +314,7 @@ module _ {s : Source} {mem out : List ℕ} {m : Machine} (w : Comparing mem m is
   pub identifier-faces : m .mode ≡ isBus → {i : ℕ} → i ≡ getD mem (m .frames + 6) 0 → Faces s mem out m (m .value) (m .from) i
   identifier-faces z {i} ei = record {
     faced = λ R x o t.
-        let v = by-phase (t .frame) 22 (top-phase t ∙ w .waiting .phase) in
+        let v = by-phase (t .frame) Phase.rightCompared (top-phase t ∙ w .waiting .phase) in
         let op = v .0 in
         let h = top-as t (v .3) in
         let y = right (w .waiting) (w .value) h in
@@ -332,7 +327,7 @@ module _ {s : Source} {mem out : List ℕ} {m : Machine} (w : Comparing mem m is
           value = y .value;
           came = y .same;
           operator = op;
-          kind = ap (kindAt (s .work)) (entry-word h) ∙ h .at .waits .1 .kind;
+          code = ap (λ (j : ℕ). infixCodeAt (numberAt (s .work) j)) (entry-word h) ∙ h .at .waits .1 .spelt;
           width = k .width;
           words = l .words;
           bus = k .declared;

@@ -15,11 +15,13 @@ use Rattle.language.specs.Tree.{Expr}
 use Rattle.language.specs.Sets.{memberOf}
 use Rattle.language.specs.Values.{Value, number, set, value}
 use Rattle.language.specs.Expansion.{truth, expansion}
+use Rattle.entries.specs.Kinds as Kind
 use Rattle.operands.specs.Entries.{kindAt, sizeAt}
 use Rattle.operands.specs.Working.{Source}
-use Rattle.operator_nodes.specs.Shapes.{shapeOf}
+use Rattle.operands.specs.Shapes.{shapeOf}
 use Rattle.memory_sets.specs.Places.{elementsAt, Placed}
 use Rattle.value_steps.specs.PlacedLaws.{elements-are, placed, spanOf, set-under}
+use Rattle.machine.specs.Phases as Phase
 use Rattle.machine.specs.Came.{Evaluate, worth, nodes, works, asNumber}
 use Rattle.machine.specs.Frames.{Member, Among, among, apply}
 use Rattle.machine.specs.Realm.{Operand}
@@ -51,7 +53,7 @@ membership-same a b =
     ∙ sym (take-number a (λ n. (b >>= worth) >>= among n))
 
 -- both operands stand before the entry
-pub membership-inside : {s : Source} {mem : List ℕ} {m : Machine} → Ready s mem m → Expands (s .work) m 28 29 → 1 + sizeAt (s .work) (m .value - 1) ≤ m .value
+pub membership-inside : {s : Source} {mem : List ℕ} {m : Machine} → Ready s mem m → Expands (s .work) m Kind.membership Kind.binary → 1 + sizeAt (s .work) (m .value - 1) ≤ m .value
 membership-inside {s} {m = m} r k =
     let e0 = k .mode in
     let k0 = k .from in
@@ -62,8 +64,8 @@ membership-inside {s} {m = m} r k =
     joined-two (r .realm) (n .at .operand) (v .3) .inside
 
 -- the entry: the number is worked out first
-pub membership-steps : {s : Source} {mem mem' : List ℕ} {m : Machine} {j : ℕ} {r : Move} → Expands (s .work) m 28 29 → j ≡ m .value - 1 - sizeAt (s .work) (m .value - 1)
-    → Opened mem mem' m 23 (modeOf Evaluate) j r → Steps s mem mem' m r
+pub membership-steps : {s : Source} {mem mem' : List ℕ} {m : Machine} {j : ℕ} {r : Move} → Expands (s .work) m Kind.membership Kind.binary → j ≡ m .value - 1 - sizeAt (s .work) (m .value - 1)
+    → Opened mem mem' m Phase.member (modeOf Evaluate) j r → Steps s mem mem' m r
 membership-steps {s} {mem} {mem'} {m} {j} {r} k ej w = record {
   turns = λ R x o out h.
       let e0 = k .mode in
@@ -76,7 +78,7 @@ membership-steps {s} {mem} {mem'} {m} {j} {r} k ej w = record {
       let b = v .2 in
       let two = joined-two R (n .at .operand) (v .3) in
       let ins = two .inside in
-      opens n {F = Member (n .context) b} {phase = 23} {a = Evaluate} {e = a} {j = j} (record {
+      opens n {F = Member (n .context) b} {phase = Phase.member} {a = Evaluate} {e = a} {j = j} (record {
         holds-nothing = refl;
         few-turns = omega arith;
         below = omega arith;
@@ -89,20 +91,20 @@ membership-steps {s} {mem} {mem'} {m} {j} {r} k ej w = record {
 }
 
 -- the number has come
-module _ {s : Source} {mem : List ℕ} {m : Machine} (w : Waiting mem m 23) where
+module _ {s : Source} {mem : List ℕ} {m : Machine} (w : Waiting mem m Phase.member) where
   pub number-misfits : (m .mode ≡ isNumber → ⊥) → Takes s mem mem m (Refuses 9 0)
   number-misfits e = record {
     turns = λ R x o out t.
-        let v = by-phase (t .frame) 23 (top-phase t ∙ w .phase) in
+        let v = by-phase (t .frame) Phase.member (top-phase t ∙ w .phase) in
         let h = top-as t (v .2) in
         refuses h (misfit-then _ (not-number R o mem m (h .came) (h .come) e));
   }
 
   pub number-steps : m .mode ≡ isNumber → {mem' : List ℕ} {k : ℕ} → k ≡ getD mem (m .frames + 1) 0
-      → Framed mem mem' (m .frames) (record { phase = 24; entry = k; base = m .top; at = 0; count = 0; value = m .value; other = 0 }) → Takes s mem mem' m (Next (came m (modeOf Evaluate) (k - 1) 0))
+      → Framed mem mem' (m .frames) (record { phase = Phase.among; entry = k; base = m .top; at = 0; count = 0; value = m .value; other = 0 }) → Takes s mem mem' m (Next (came m (modeOf Evaluate) (k - 1) 0))
   number-steps e {mem'} {k} ek f = record {
     turns = λ R x o out t.
-        let v = by-phase (t .frame) 23 (top-phase t ∙ w .phase) in
+        let v = by-phase (t .frame) Phase.member (top-phase t ∙ w .phase) in
         let c = v .0 in
         let b = v .1 in
         let h = top-as t (v .2) in
@@ -110,7 +112,7 @@ module _ {s : Source} {mem : List ℕ} {m : Machine} (w : Waiting mem m 23) wher
         let same-entry : k ≡ words h .entry = ek ∙ entry-word h in
         let some = h .at .some in
         let at = h .at .entry in
-        renews h {phase = 23} refl {G = Among (m .value)} {a = Evaluate} {c = c} {e = b} (n .same) (record {
+        renews h {phase = Phase.member} refl {G = Among (m .value)} {a = Evaluate} {c = c} {e = b} (n .same) (record {
           holds-nothing = refl;
           framed = f;
           entry-is = same-entry;
@@ -127,11 +129,11 @@ module _ {s : Source} {mem : List ℕ} {m : Machine} (w : Waiting mem m 23) wher
   }
 
 -- the set has come
-module _ {s : Source} {mem out : List ℕ} {m : Machine} (w : Waiting mem m 24) where
+module _ {s : Source} {mem out : List ℕ} {m : Machine} (w : Waiting mem m Phase.among) where
   pub among-misfits : (m .mode ≡ isSet → ⊥) → TakesToWrite s mem mem out out m (Refuses 9 0)
   among-misfits e = record {
     turns = λ R x o t.
-        let v = by-phase (t .frame) 24 (top-phase t ∙ w .phase) in
+        let v = by-phase (t .frame) Phase.among (top-phase t ∙ w .phase) in
         let h = top-as t (v .1) in
         refuses h (misfit-then _ (not-set R o mem m (h .came) (h .come) e));
   }
@@ -139,7 +141,7 @@ module _ {s : Source} {mem out : List ℕ} {m : Machine} (w : Waiting mem m 24) 
   module _ (e : m .mode ≡ isSet) where
     pub among-placed : ToppedToWrite s mem out m → Placed mem (spanOf m)
     among-placed t =
-        let v = by-phase (t .top .frame) 24 (top-phase (t .top) ∙ w .phase) in
+        let v = by-phase (t .top .frame) Phase.among (top-phase (t .top) ∙ w .phase) in
         let h = top-as (t .top) (v .1) in
         let g = came-set (t .realm) (t .began) mem m (h .came) (h .come) e in
         placed mem (spanOf m) (g .set) (g .held) (g .count) (g .fine) (set-under h e)
@@ -148,13 +150,13 @@ module _ {s : Source} {mem out : List ℕ} {m : Machine} (w : Waiting mem m 24) 
         → n ≡ min r (suc maxNodes) → TakesToWrite s mem mem out out' m (Next (wrote (popped m) n))
     among-steps {i} {r} {n} {b} {out'} ei eb q en = record {
       turns = λ R x o t.
-          let v = by-phase (t .frame) 24 (top-phase t ∙ w .phase) in
+          let v = by-phase (t .frame) Phase.among (top-phase t ∙ w .phase) in
           let h = top-as t (v .1) in
           let g = came-set R o mem m (h .came) (h .come) e in
           let same-number : i ≡ v .0 = ei ∙ value-word h ∙ h .at .holds .here in
           let same-set : elementsAt mem (spanOf m) ≡ g .set = elements-are mem (spanOf m) (g .set) (g .held) (g .count) (g .fine) (set-under h e) in
           let f : Formula = truth (memberOf (g .set) (v .0)) in
           let same : Writing.truth b ≡ f = same-truth b ∙ ap truth (eb ∙ ap₂ memberOf same-set same-number) in
-          writes-after h {phase = 24} refl (g .same) f (ap (apply (Among (v .0))) (g .same) ∙ bind-at (g .set) (λ y. nodes (truth (memberOf y (v .0)))))
+          writes-after h {phase = Phase.among} refl (g .same) f (ap (apply (Among (v .0))) (g .same) ∙ bind-at (g .set) (λ y. nodes (truth (memberOf y (v .0)))))
           (subst (λ (y : Formula). Wrote y out out' (m .nodes) r) same q) en;
     }

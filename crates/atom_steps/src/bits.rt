@@ -13,6 +13,8 @@ use name_values::sorts;
 use node::MAX_NODES;
 use node::refusals;
 use operands::entry::place_at;
+ghost use Rattle.entries.specs.Kinds as Kind;
+ghost use Rattle.machine.specs.Phases as Phase;
 ghost use Rattle.machine.specs.States.{Ready, Steps, ToppedToWrite, TakesToWrite};
 ghost use Rattle.operands.specs.Working.{source};
 ghost use Rattle.machine.specs.Entering.{Expands, Waiting};
@@ -22,7 +24,7 @@ use crate::signals::signal_at;
 // The index is worked out first.
 pub fn index(text: &[u8], work: &[u8], refs: &[u16], memory: &mut [u32], m: Machine) -> Move
     requires { ⌜ Ready (source (now text) (now work) (now refs)) (now memory) m ⌝ }
-    requires { ⌜ Expands (now work) m 4 5 ⌝ }
+    requires { ⌜ Expands (now work) m Kind.index Kind.paren ⌝ }
     ensures { λ r. ⌜ Steps (source (now (text .entry)) (now (work .entry)) (now (refs .entry))) (now (memory .entry)) (now (memory .exit)) m r ⌝ }
 {
     m.push(memory, phases::INDEXED, modes::EVALUATE, m.value - 1)
@@ -38,7 +40,7 @@ pub fn indexed(
     m: Machine,
 ) -> Move
     requires { ⌜ ToppedToWrite (source (now text) (now work) (now refs)) (now memory) (now table) m ⌝ }
-    requires { ⌜ Waiting (now memory) m 25 ⌝ }
+    requires { ⌜ Waiting (now memory) m Phase.indexed ⌝ }
     ensures { λ r. ⌜ TakesToWrite (source (now (text .entry)) (now (work .entry)) (now (refs .entry))) (now (memory .entry)) (now (memory .exit)) (now (table .entry)) (now (table .exit)) m r ⌝ }
 {
     if m.mode != modes::NUMBER {
@@ -120,7 +122,7 @@ pub fn bit(
     m: Machine,
 ) -> Move
     requires { ⌜ ToppedToWrite (source (now text) (now work) (now refs)) (now memory) (now table) m ⌝ }
-    requires { ⌜ Waiting (now memory) m 35 ⌝ }
+    requires { ⌜ Waiting (now memory) m Phase.bitOf ⌝ }
     ensures { λ r. ⌜ TakesToWrite (source (now (text .entry)) (now (work .entry)) (now (refs .entry))) (now (memory .entry)) (now (memory .entry)) (now (table .entry)) (now (table .exit)) m r ⌝ }
 {
     if m.mode == modes::UNSIZED {

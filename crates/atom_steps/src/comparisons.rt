@@ -2,7 +2,6 @@
 use choices::one_of;
 use choices::widths_are;
 use choices::words_end;
-use entries::kinds;
 use machine::Machine;
 use machine::Move;
 use machine::NOTE;
@@ -14,26 +13,24 @@ use machine::phases;
 use node::MAX_NODES;
 use node::Node;
 use node::refusals;
-use operands::entry::kind_at;
+use operands::entry::infix_at;
 use operands::entry::size_at;
+use operators::codes;
 use sets::numbers::compare;
 use writing::cap;
 use writing::constant;
+ghost use Rattle.entries.specs.Kinds as Kind;
+ghost use Rattle.machine.specs.Phases as Phase;
 ghost use Rattle.machine.specs.States.{Ready, Steps, Topped, Takes, ToppedToWrite, TakesToWrite};
 ghost use Rattle.operands.specs.Working.{source};
 ghost use Rattle.machine.specs.Entering.{Expands, Waiting};
 ghost use Rattle.atom_steps.specs.ComparisonLaws.{Nameable, NameOf, Comparing};
 ghost use Rattle.atom_steps.specs.AgainstLaws.{Faces};
 
-// The comparisons by number: 0 is ==, 1 !=.
-const EQUAL: u32 = 0;
-
-const UNEQUAL: u32 = 1;
-
 // The left operand is worked out first.
 pub fn comparison(text: &[u8], work: &[u8], refs: &[u16], memory: &mut [u32], m: Machine) -> Move
     requires { ⌜ Ready (source (now text) (now work) (now refs)) (now memory) m ⌝ }
-    requires { ⌜ Expands (now work) m 22 28 ⌝ }
+    requires { ⌜ Expands (now work) m Kind.equality Kind.membership ⌝ }
     ensures { λ r. ⌜ Steps (source (now (text .entry)) (now (work .entry)) (now (refs .entry))) (now (memory .entry)) (now (memory .exit)) m r ⌝ }
 {
     let k = m.value as usize;
@@ -58,7 +55,7 @@ fn name_of(m: Machine) -> usize
 // The left operand has come: the right one is worked out. A set is compared with nothing, so its elements are not held.
 pub fn left(text: &[u8], work: &[u8], refs: &[u16], memory: &mut [u32], m: Machine) -> Move
     requires { ⌜ Topped (source (now text) (now work) (now refs)) (now memory) m ⌝ }
-    requires { ⌜ Waiting (now memory) m 21 ⌝ }
+    requires { ⌜ Waiting (now memory) m Phase.leftCompared ⌝ }
     ensures { λ r. ⌜ Takes (source (now (text .entry)) (now (work .entry)) (now (refs .entry))) (now (memory .entry)) (now (memory .exit)) m r ⌝ }
 {
     if m.mode == modes::NODES {
@@ -93,7 +90,7 @@ pub fn right(
     m: Machine,
 ) -> Move
     requires { ⌜ ToppedToWrite (source (now text) (now work) (now refs)) (now memory) (now table) m ⌝ }
-    requires { ⌜ Waiting (now memory) m 22 ⌝ }
+    requires { ⌜ Waiting (now memory) m Phase.rightCompared ⌝ }
     ensures { λ r. ⌜ TakesToWrite (source (now (text .entry)) (now (work .entry)) (now (refs .entry))) (now (memory .entry)) (now (memory .entry)) (now (table .entry)) (now (table .exit)) m r ⌝ }
 {
     if m.mode == modes::NODES {
@@ -135,7 +132,7 @@ fn with_number(
     let at = m.frames;
     let k = memory[at + 1] as usize;
     let a = memory[at + 5];
-    let operator = kind_at(work, k) - kinds::COMPARISONS;
+    let operator = infix_at(work, k);
     let n = constant(compare(operator, a, m.value), table, m.nodes);
     Move::Next(m.popped().wrote(capped(n)))
 }
@@ -204,8 +201,8 @@ fn against(
 {
     let at = m.frames;
     let k = memory[at + 1] as usize;
-    let operator = kind_at(work, k) - kinds::COMPARISONS;
-    if UNEQUAL < operator {
+    let operator = infix_at(work, k);
+    if codes::UNEQUAL < operator {
         return Move::Refused(refusals::WRONG_TYPE, 0);
     }
     let width = memory[NOTE * b + 1];
@@ -214,7 +211,7 @@ fn against(
     let end = words_end(work, entry);
     if widths_are(work, entry + 1, end, width) {
         let n = one_of(text, work, entry + 1, end, first, table, m.nodes);
-        if operator == EQUAL {
+        if operator == codes::EQUAL {
             return Move::Next(m.popped().wrote(capped(n)));
         }
         let r = cap(Node::NOT, n, table);

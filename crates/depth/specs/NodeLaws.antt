@@ -7,47 +7,8 @@ use mathlib.Core.Path.{_≡_, refl, ap, ap₂, _∙_}
 use lib.Dec.{ltb}
 use lib.ListN.{getD}
 use native.Mathlib.Omega.{arith}
-use Rattle.node.specs.Operators.{Not, X, G, F, And, Or, Implies, Iff, U, R, W}
 use Rattle.language.specs.Tokens.{Token}
-use Rattle.language.specs.Operators.{
-  Plus,
-  Minus,
-  Times,
-  Divide,
-  Modulo,
-  Size,
-  Min,
-  Max,
-  Cup,
-  Cap,
-  Without,
-  Equal,
-  Unequal,
-  Less,
-  AtMost,
-  Greater,
-  AtLeast,
-  Big,
-  BigSum,
-  BigProduct,
-  BigCap,
-  BigCup,
-  BigAnd,
-  BigOr,
-  Window,
-  FinallyIn,
-  GloballyIn,
-  Infix,
-  Calculates,
-  Combines,
-  Compares,
-  Membership,
-  Connects,
-  Prefix,
-  Measures,
-  WidthOf,
-  Applies,
-}
+use Rattle.language.specs.Operators.{Equal, Unequal, Less, AtMost, Greater, AtLeast, Big, BigSum, BigProduct, BigCap, BigCup, BigAnd, BigOr, Infix, Calculates, Combines, Compares, Membership, Connects, Prefix, Measures, WidthOf, Applies}
 use Rattle.language.specs.Tree.{Expr, Named, Numeral, Truth, Index, Paren, Prefixed, Joined, Nexts, InWindow, Each, Between, Listed, Empty, Element, Range}
 use Rattle.language.specs.Places.{levels}
 use Rattle.lexer.specs.Stored.{offsetIn}
@@ -66,29 +27,17 @@ use Rattle.depth.specs.Depth.{Operand, capped, ownLevels, highest, level
 abbrev Own : ℕ → ℕ → Type 0
 Own k l = getD ownLevels k 0 ≡ l
 
-truth-level : (b : Bool) → Own (Kind.truth b) 1
-truth-level true = refl
-truth-level false = refl
+truth-level : Own Kind.truth 1
+truth-level = refl
 
 before-level : (o : Prefix) → Own (Kind.before o) 1
-before-level (Measures Size) = refl
-before-level (Measures Min) = refl
-before-level (Measures Max) = refl
+before-level (Measures m) = refl
 before-level WidthOf = refl
-before-level (Applies Not) = refl
-before-level (Applies X) = refl
-before-level (Applies G) = refl
-before-level (Applies F) = refl
+before-level (Applies o) = refl
 
 joining-level : (o : Infix) → Own (Kind.joining o) 1
-joining-level (Calculates Plus) = refl
-joining-level (Calculates Minus) = refl
-joining-level (Calculates Times) = refl
-joining-level (Calculates Divide) = refl
-joining-level (Calculates Modulo) = refl
-joining-level (Combines Cup) = refl
-joining-level (Combines Cap) = refl
-joining-level (Combines Without) = refl
+joining-level (Calculates o) = refl
+joining-level (Combines o) = refl
 joining-level (Compares Equal) = refl
 joining-level (Compares Unequal) = refl
 joining-level (Compares Less) = refl
@@ -96,17 +45,10 @@ joining-level (Compares AtMost) = refl
 joining-level (Compares Greater) = refl
 joining-level (Compares AtLeast) = refl
 joining-level Membership = refl
-joining-level (Connects And) = refl
-joining-level (Connects Or) = refl
-joining-level (Connects Implies) = refl
-joining-level (Connects Iff) = refl
-joining-level (Connects U) = refl
-joining-level (Connects R) = refl
-joining-level (Connects W) = refl
+joining-level (Connects o) = refl
 
-window-level : (o : Window) → Own (Kind.window o) 1
-window-level FinallyIn = refl
-window-level GloballyIn = refl
+window-level : Own Kind.window 1
+window-level = refl
 
 big-level : (o : Big) → Own (Kind.big o) 2
 big-level BigSum = refl
@@ -120,11 +62,9 @@ binder-level : (further : Bool) → Own (Kind.binder further) 0
 binder-level true = refl
 binder-level false = refl
 
-between-level : (l h : Bool) → Own (Kind.between l h) 0
-between-level true true = refl
-between-level true false = refl
-between-level false true = refl
-between-level false false = refl
+between-level : (h : Bool) → Own (Kind.between h) 0
+between-level true = refl
+between-level false = refl
 
 -- counting up to a limit
 cap-max : (a b : ℕ) → max (capped a) (capped b) ≡ capped (max a b)
@@ -170,15 +110,15 @@ module _ {N : Type 0} (bind : Token → N → N) where
   part-level : (q : Part N) → ltb (kindOf q) firstLine ≡ true → levelOf (kindOf q) (highestOf (operandsOf bind q)) (firstOf (map startPart (operandsOf bind q))) ≡ capped (levelPart q)
   part-level (Whole y (Named t)) i = raised Kind.named 0 _ [] refl refl
   part-level (Whole y (Numeral t)) i = raised Kind.numeral 0 _ [] refl refl
-  part-level (Whole y (Truth t b)) i = raised (Kind.truth b) 0 _ [] (truth-level b) refl
+  part-level (Whole y (Truth t b)) i = raised Kind.truth 0 _ [] truth-level refl
   part-level (Whole y (Index t e)) i = raised Kind.index (levels e) _ (Whole y e ∷ []) refl (cap-none (levels e))
   part-level (Whole y (Paren t e)) i = raised Kind.paren (levels e) _ (Whole y e ∷ []) refl (cap-none (levels e))
   part-level (Whole y (Prefixed t o e)) i = raised (Kind.before o) (levels e) _ (Whole y e ∷ []) (before-level o) (cap-none (levels e))
   part-level (Whole y (Joined t o a b)) i = raised (Kind.joining o) _ _ (Whole y a ∷ Whole y b ∷ []) (joining-level o) (cap-two (levels a) (levels b))
   part-level (Whole y (Nexts t n e)) i = raised Kind.nexts _ _ (Whole y n ∷ Whole y e ∷ []) refl (cap-two (levels n) (levels e))
-  part-level (Whole y (InWindow t o n m e)) i = raised (Kind.window o) _ _ (Whole y n ∷ Whole y m ∷ Whole y e ∷ []) (window-level o) (cap-three (levels n) (levels m) (levels e))
+  part-level (Whole y (InWindow t o n m e)) i = raised Kind.window _ _ (Whole y n ∷ Whole y m ∷ Whole y e ∷ []) window-level (cap-three (levels n) (levels m) (levels e))
   part-level (Whole y (Each t o further j s e)) i = each-level t o further j s e
-  part-level (Whole y (Between t l u a b)) i = no-level (Kind.between l u) _ _ (λ z. omega (arith, between-level l u)) (λ z. omega (arith, between-level l u)) ∙ cap-two (levels a) (levels b)
+  part-level (Whole y (Between t l u a b)) i = no-level (Kind.between u) _ _ (λ z. omega (arith, between-level u)) (λ z. omega (arith, between-level u)) ∙ cap-two (levels a) (levels b)
   part-level (Whole y (Listed t es)) i = raised Kind.listed (levels es) _ (unlessEmpty es (Whole y es)) refl (rest-levels y es)
   part-level (Whole y Empty) i = absurd (false≢true i)
   part-level (Whole y (Element e es)) i = no-level Kind.element _ _ (λ z. omega arith) (λ z. omega arith) ∙ ap (max (capped (levels e))) (rest-levels y es) ∙ cap-max (levels e) (levels es)

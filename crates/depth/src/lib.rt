@@ -74,7 +74,7 @@ fn level_of(kind: u32, most: u32, start: u32) -> u32
         return raised(most);
     }
     if own == 2 {
-        if start == kinds::BINDERS {
+        if start == kinds::BINDER {
             return raised(most);
         }
         return most;

@@ -1,5 +1,5 @@
 -- `&&[..]` and `||[..]`: the set has come; the operand at an element was written, and the fold goes on.
-use Prim.Native.Nat.{ℕ, suc, _+_, _-_, _≤_, _<_, min}
+use Prim.Native.Nat.{ℕ, suc, _+_, _≤_, _<_, min}
 use mathlib.Core.Bool.{Bool}
 use mathlib.Core.List.{List, [], _∷_}
 use mathlib.Core.Path.{_≡_, refl, sym, ap, _∙_, subst}
@@ -7,6 +7,7 @@ use native.Mathlib.Omega.{arith}
 use lib.Dec.{eqb}
 use lib.ListN.{getD}
 use Rattle.node.specs.Limits.{maxNodes}
+use Rattle.node.specs.Operators.{And}
 use Rattle.node.specs.Kinds.{binaryKind}
 use Rattle.node.specs.Ltl.{Formula, Two}
 use Rattle.node.specs.Result.{Result, _>>=_}
@@ -20,11 +21,15 @@ use Rattle.language.specs.Tree.{Expr}
 use Rattle.language.specs.Expansion.{Context, bigFormula}
 use Rattle.language.specs.Expansion as Expansion
 use Rattle.entries.specs.Kinds as Kind
-use Rattle.operands.specs.Entries.{kindAt}
+use Rattle.operators.specs.Codes.{bigCode}
+use Rattle.operators.specs.Tables.{prefixCodeAt}
+use Rattle.operands.specs.Entries.{kindAt, numberAt}
 use Rattle.operands.specs.Working.{Source}
+use Rattle.machine.specs.Phases as Phase
 use Rattle.machine.specs.Came.{Expand, Came, nodes}
 use Rattle.machine.specs.Frames.{OverEach, FirstEach, NextEach, connective, formulaAt, onwardFormulas, apply}
 use Rattle.machine.specs.Realm.{Realm}
+use Rattle.machine.specs.OperatorLaws.{binary-small}
 use Rattle.machine.specs.SetLaws.{above}
 use Rattle.machine.specs.Telling.{isSet, isNodes}
 use Rattle.machine.specs.Table.{Began}
@@ -33,7 +38,7 @@ use Rattle.machine.specs.States.{modeOf, TopOf, Topped, Takes, ToppedToWrite, T
 use Rattle.machine.specs.ComeLaws.{came-set, not-set, came-formula, not-formula, misfit-then}
 use Rattle.machine.specs.FrameViews.{by-phase}
 use Rattle.machine.specs.EnterLaws.{wrote}
-use Rattle.machine.specs.TakeLaws.{words, entry-word, value-word, refuses, top-phase, top-as}
+use Rattle.machine.specs.TakeLaws.{entry-word, value-word, refuses, top-phase, top-as}
 use Rattle.machine.specs.FlatLaws.{popped, flat-laid}
 use Rattle.machine.specs.FormulaLaws.{formula-laid, finishes}
 use Rattle.machine.specs.declared.Machine.{Machine}
@@ -41,33 +46,33 @@ use Rattle.machine.specs.declared.Move.{Move}
 use Rattle.machine.specs.declared.Move.the-variants.{Next, Refused as Refuses}
 use Rattle.machine.specs.Entering.{Waiting}
 use Rattle.machine.specs.SameLaws.{same-truth}
-use Rattle.fold_steps.specs.BigLaws.{bigOperator, op-big, of-formulas}
+use Rattle.fold_steps.specs.BigLaws.{of-formulas}
 use Rattle.fold_steps.specs.TurningLaws.{Turns}
 use Rattle.fold_steps.specs.ElementLaws.{split, begun, Beginning, beginning, begins, no-element}
 use Rattle.each_steps.specs.Onward.{Turnable, Onward}
 use Rattle.each_steps.specs.OnwardLaws.{turnable, goes-on}
-use Rattle.each_steps.specs.GatherLaws.{formulas-kind, no-formulas, over-nothing, first-same}
+use Rattle.each_steps.specs.GatherLaws.{connective-code, no-formulas, over-nothing, first-same}
 
 -- the operand at the first element was written
-module _ {s : Source} {mem : List ℕ} {m : Machine} (w : Waiting mem m 32) where
+module _ {s : Source} {mem : List ℕ} {m : Machine} (w : Waiting mem m Phase.firstEach) where
   pub first-misfits : (m .mode ≡ isNodes → ⊥) → Takes s mem mem m (Refuses 9 0)
   first-misfits e = record {
     turns = λ R x o out t.
-        let v = by-phase (t .frame) 32 (top-phase t ∙ w .phase) in
+        let v = by-phase (t .frame) Phase.firstEach (top-phase t ∙ w .phase) in
         let h = top-as t (v .5) in
         refuses h (misfit-then _ (not-formula R o mem m (h .came) (h .come) e));
   }
 
   pub first-turnable : Topped s mem m → Turnable mem m (m .nodes)
   first-turnable t =
-      let v = by-phase (t .top .frame) 32 (top-phase (t .top) ∙ w .phase) in
+      let v = by-phase (t .top .frame) Phase.firstEach (top-phase (t .top) ∙ w .phase) in
       let h = top-as (t .top) (v .5) in
-      turnable h {phase = 32} {rest = v .4} {forms = []} refl (t .lent .small) (h .few)
+      turnable h {phase = Phase.firstEach} {rest = v .4} {forms = []} refl (t .lent .small) (h .few)
 
   pub first-steps : m .mode ≡ isNodes → {mem' : List ℕ} {r : Move} → Onward mem mem' m (m .nodes) r → Takes s mem mem' m r
   first-steps e {mem'} {r} u = record {
     turns = λ R x o out t.
-        let v = by-phase (t .frame) 32 (top-phase t ∙ w .phase) in
+        let v = by-phase (t .frame) Phase.firstEach (top-phase t ∙ w .phase) in
         let op = v .0 in
         let c = v .1 in
         let i = v .2 in
@@ -75,7 +80,7 @@ module _ {s : Source} {mem : List ℕ} {m : Machine} (w : Waiting mem m 32) wher
         let rest = v .4 in
         let h = top-as t (v .5) in
         let g = came-formula R o mem m (h .came) (h .come) e in
-        goes-on h {phase = 32} {rest = rest} {forms = []} refl {op = op} {c = c} {i = i} {e = a} {a = g .formula} {out' = out} {n = m .nodes} (record {
+        goes-on h {phase = Phase.firstEach} {rest = rest} {forms = []} refl {op = op} {c = c} {i = i} {e = a} {a = g .formula} {out' = out} {n = m .nodes} (record {
           fewer = λ y. omega arith;
           fine = h .at .holds;
           folding = h .at .waits .0;
@@ -89,38 +94,33 @@ module _ {s : Source} {mem : List ℕ} {m : Machine} (w : Waiting mem m 32) wher
   }
 
 -- the operand at a further element was written
-module _ {s : Source} {mem out : List ℕ} {m : Machine} (w : Waiting mem m 33) where
+module _ {s : Source} {mem out : List ℕ} {m : Machine} (w : Waiting mem m Phase.nextEach) where
   pub next-misfits : (m .mode ≡ isNodes → ⊥) → TakesToWrite s mem mem out out m (Refuses 9 0)
   next-misfits e = record {
     turns = λ R x o t.
-        let v = by-phase (t .frame) 33 (top-phase t ∙ w .phase) in
+        let v = by-phase (t .frame) Phase.nextEach (top-phase t ∙ w .phase) in
         let h = top-as t (v .7) in
         refuses h (misfit-then _ (not-formula R o mem m (h .came) (h .come) e));
   }
 
   pub next-turnable : ToppedToWrite s mem out m → {n : ℕ} → n ≤ suc maxNodes → Turnable mem m n
   next-turnable t few =
-      let v = by-phase (t .top .frame) 33 (top-phase (t .top) ∙ w .phase) in
+      let v = by-phase (t .top .frame) Phase.nextEach (top-phase (t .top) ∙ w .phase) in
       let h = top-as (t .top) (v .7) in
-      turnable h {phase = 33} {rest = v .6} {forms = record { formula = v .4; end = v .5 } ∷ []} refl (t .lent .small) few
+      turnable h {phase = Phase.nextEach} {rest = v .6} {forms = record { formula = v .4; end = v .5 } ∷ []} refl (t .lent .small) few
 
-  pub next-kind : ToppedToWrite s mem out m → (43 ≤ kindAt (s .work) (getD mem (m .frames + 1) 0)) × (kindAt (s .work) (getD mem (m .frames + 1) 0) < 45)
-  next-kind t =
-      let v = by-phase (t .top .frame) 33 (top-phase (t .top) ∙ w .phase) in
+  pub next-small : ToppedToWrite s mem out m → prefixCodeAt (numberAt (s .work) (getD mem (m .frames + 1) 0)) < 16
+  next-small t =
+      let v = by-phase (t .top .frame) Phase.nextEach (top-phase (t .top) ∙ w .phase) in
       let h = top-as (t .top) (v .7) in
-      let k = formulas-kind (v .0) (h .at .waits .2) in
-      let l = k .0 in
-      let u = k .1 in
-      let e = h .at .waits .0 .here .kind in
-      let q = ap (kindAt (s .work)) (entry-word h) in
-      (omega arith, omega arith)
+      let e = ap (λ (j : ℕ). prefixCodeAt (numberAt (s .work) j)) (entry-word h) ∙ h .at .waits .0 .here .spelt ∙ connective-code (v .0) (h .at .waits .2) in
+      subst (λ (j : ℕ). j < 16) (sym e) (binary-small (connective (v .0)))
 
-  pub next-steps : m .mode ≡ isNodes → {k kind op folded r n : ℕ} {mem' out' : List ℕ} {u : Move} → k ≡ getD mem (m .frames + 1) 0 → kind ≡ kindAt (s .work) k
-      → op ≡ binaryKind (connective (bigOperator (kind - 39))) → folded ≡ getD mem (m .frames + 5) 0 → Joins op out out' folded (m .nodes) r → n ≡ min r (suc maxNodes) → Onward mem mem' m n u
-      → TakesToWrite s mem mem' out out' m u
-  next-steps e {k} {kind} {op} {folded} {r} {n} {mem'} {out'} {u} ek ei eo ef j en on = record {
+  pub next-steps : m .mode ≡ isNodes → {k op folded r n : ℕ} {mem' out' : List ℕ} {u : Move} → k ≡ getD mem (m .frames + 1) 0 → op ≡ prefixCodeAt (numberAt (s .work) k)
+      → folded ≡ getD mem (m .frames + 5) 0 → Joins op out out' folded (m .nodes) r → n ≡ min r (suc maxNodes) → Onward mem mem' m n u → TakesToWrite s mem mem' out out' m u
+  next-steps e {k} {op} {folded} {r} {n} {mem'} {out'} {u} ek eo ef j en on = record {
     turns = λ R x o t.
-        let v = by-phase (t .frame) 33 (top-phase t ∙ w .phase) in
+        let v = by-phase (t .frame) Phase.nextEach (top-phase t ∙ w .phase) in
         let big = v .0 in
         let c = v .1 in
         let i = v .2 in
@@ -129,8 +129,8 @@ module _ {s : Source} {mem out : List ℕ} {m : Machine} (w : Waiting mem m 33) 
         let rest = v .6 in
         let h = top-as t (v .7) in
         let g = came-formula R o mem m (h .came) (h .come) e in
-        let same-kind : kind ≡ kindAt (s .work) (words h .entry) = ei ∙ ap (kindAt (s .work)) (ek ∙ entry-word h) in
-        let same-op : op ≡ binaryKind (connective big) = eo ∙ ap (λ (y : ℕ). binaryKind (connective (bigOperator (y - 39)))) same-kind ∙ ap (λ (y : Big). binaryKind (connective y)) (op-big (h .at .waits .0 .here) .operator) in
+        let same-op : op ≡ binaryKind (connective big) =
+        eo ∙ ap (λ (y : ℕ). prefixCodeAt (numberAt (s .work) y)) (ek ∙ entry-word h) ∙ h .at .waits .0 .here .spelt ∙ connective-code big (h .at .waits .2) in
         let l1 = laid-last (formula-laid h (g .same)) in
         let l2 = laid-last (l1 .others) in
         let same-end : l1 .at ≡ folded = laid-end _ (l1 .others) ∙ sym (ef ∙ value-word h ∙ h .at .holds .1) in
@@ -138,7 +138,7 @@ module _ {s : Source} {mem out : List ℕ} {m : Machine} (w : Waiting mem m 33) 
         let second : Wrote (g .formula) (l1 .before) out folded (m .nodes) = subst (λ (y : ℕ). Wrote (g .formula) (l1 .before) out y (m .nodes)) same-end (l1 .wrote) in
         let both = wrote-capped en (j .wrote (connective big) same-op first second) in
         let st = two-stays (connective big) first second both in
-        goes-on h {phase = 33} {rest = rest} {forms = record { formula = f; end = v .5 } ∷ []} refl {op = big} {c = c} {i = i} {e = a} {a = Two (connective big) f (g .formula)} {out' = out'} {n = n} (record {
+        goes-on h {phase = Phase.nextEach} {rest = rest} {forms = record { formula = f; end = v .5 } ∷ []} refl {op = big} {c = c} {i = i} {e = a} {a = Two (connective big) f (g .formula)} {out' = out'} {n = n} (record {
           fewer = λ y. omega arith;
           fine = h .at .holds .0;
           folding = h .at .waits .0;
@@ -152,11 +152,11 @@ module _ {s : Source} {mem out : List ℕ} {m : Machine} (w : Waiting mem m 33) 
   }
 
 -- the set has come
-module _ {s : Source} {mem out : List ℕ} {m : Machine} (w : Waiting mem m 31) where
+module _ {s : Source} {mem out : List ℕ} {m : Machine} (w : Waiting mem m Phase.overEach) where
   pub elements-misfits : (m .mode ≡ isSet → ⊥) → TakesToWrite s mem mem out out m (Refuses 9 0)
   elements-misfits e = record {
     turns = λ R x o t.
-        let v = by-phase (t .frame) 31 (top-phase t ∙ w .phase) in
+        let v = by-phase (t .frame) Phase.overEach (top-phase t ∙ w .phase) in
         let h = top-as t (v .4) in
         refuses h (misfit-then _ (not-set R o mem m (h .came) (h .come) e));
   }
@@ -164,18 +164,18 @@ module _ {s : Source} {mem out : List ℕ} {m : Machine} (w : Waiting mem m 31) 
   module _ (e : m .mode ≡ isSet) where
     pub elements-beginning : ToppedToWrite s mem out m → (m .value ≡ 0 → ⊥) → Beginning mem m
     elements-beginning t some' =
-        let v = by-phase (t .top .frame) 31 (top-phase (t .top) ∙ w .phase) in
+        let v = by-phase (t .top .frame) Phase.overEach (top-phase (t .top) ∙ w .phase) in
         let h = top-as (t .top) (v .4) in
-        beginning h {phase = 31} refl (came-set (t .realm) (t .began) mem m (h .came) (h .come) e) (t .lent .small) (omega arith)
+        beginning h {phase = Phase.overEach} refl (came-set (t .realm) (t .began) mem m (h .came) (h .come) e) (t .lent .small) (omega arith)
 
     module _ {k kind : ℕ} (ek : k ≡ getD mem (m .frames + 1) 0) (ei : kind ≡ kindAt (s .work) k) where
       kind-is : {R : Realm s} {x : Result Came} {o : Began} {op : Big} {c : Context} {i : Token} {a : Expr} (h : TopOf R mem out m x o (OverEach op c i a)) → kind ≡ Kind.big op
       kind-is h = ei ∙ ap (kindAt (s .work)) (ek ∙ entry-word h) ∙ h .at .waits .0 .here .kind
 
-      pub elements-formless : kind < 43 → TakesToWrite s mem mem out out m (Refuses 9 0)
+      pub elements-formless : kind < Kind.bigFormulas → TakesToWrite s mem mem out out m (Refuses 9 0)
       elements-formless l = record {
         turns = λ R x o t.
-            let v = by-phase (t .frame) 31 (top-phase t ∙ w .phase) in
+            let v = by-phase (t .frame) Phase.overEach (top-phase t ∙ w .phase) in
             let op = v .0 in
             let h = top-as t (v .4) in
             let g = came-set R o mem m (h .came) (h .come) e in
@@ -185,11 +185,12 @@ module _ {s : Source} {mem out : List ℕ} {m : Machine} (w : Waiting mem m 31) 
       }
 
       -- over nothing
-      pub elements-none : 43 ≤ kind → m .value ≡ 0 → {b : Bool} {out' : List ℕ} {r n : ℕ} → b ≡ eqb kind 43 → Wrote (Writing.truth b) out out' (m .nodes) r → n ≡ min r (suc maxNodes)
+      pub elements-none : Kind.bigFormulas ≤ kind → m .value ≡ 0 → {b : Bool} {out' : List ℕ} {code r n : ℕ} → code ≡ prefixCodeAt (numberAt (s .work) k) → b ≡ eqb code (binaryKind And)
+          → Wrote (Writing.truth b) out out' (m .nodes) r → n ≡ min r (suc maxNodes)
           → TakesToWrite s mem mem out out' m (Next (wrote (popped m) n))
-      elements-none l z {b} {out'} {r} {n} eb wr en = record {
+      elements-none l z {b} {out'} {code} {r} {n} ec eb wr en = record {
         turns = λ R x o t.
-            let v = by-phase (t .frame) 31 (top-phase t ∙ w .phase) in
+            let v = by-phase (t .frame) Phase.overEach (top-phase t ∙ w .phase) in
             let op = v .0 in
             let h = top-as t (v .4) in
             let g = came-set R o mem m (h .came) (h .come) e in
@@ -197,20 +198,22 @@ module _ {s : Source} {mem out : List ℕ} {m : Machine} (w : Waiting mem m 31) 
             let ki = kind-is h in
             let sz = g .count in
             let empty : g .set ≡ [] = no-element (g .set) (omega arith) in
-            let t' : Writing.truth b ≡ Expansion.truth (eqb (Kind.big op) 43) = same-truth b ∙ ap Expansion.truth (eb ∙ ap (λ (y : ℕ). eqb y 43) ki) in
+            let same-code : code ≡ bigCode op = ec ∙ ap (λ (y : ℕ). prefixCodeAt (numberAt (s .work) y)) (ek ∙ entry-word h) ∙ h .at .waits .0 .here .spelt in
+            let isAll = eqb (bigCode op) (binaryKind And) in
+            let t' : Writing.truth b ≡ Expansion.truth isAll = same-truth b ∙ ap Expansion.truth (eb ∙ ap (λ (y : ℕ). eqb y (binaryKind And)) same-code) in
             let wt = wrote-capped en (subst (λ (y : Formula). Wrote y out out' (m .nodes) r) t' wr) in
-            finishes h (Expansion.truth (eqb (Kind.big op) 43)) refl refl refl
+            finishes h (Expansion.truth isAll) refl refl refl
             (ap (apply (OverEach op (v .1) (v .2) (v .3))) (g .same) ∙ bind-at (g .set) (λ y. bigFormula op f y >>= nodes) ∙ ap (λ (y : List ℕ). bigFormula op f y >>= nodes) empty
             ∙ over-nothing op (of-formulas op (omega arith)) f)
             (flat-laid h refl (g .same)) wt (omega arith) (wrote-stays wt);
       }
 
       -- over a first element and others
-      pub elements-steps : 43 ≤ kind → (m .value ≡ 0 → ⊥) → {mem' : List ℕ} {n : Machine}
-          → Turns mem mem' m (begun mem m 32) (m .depth) (getD mem (m .from) 0) (modeOf Expand) (above m) n → TakesToWrite s mem mem' out out m (Next n)
+      pub elements-steps : Kind.bigFormulas ≤ kind → (m .value ≡ 0 → ⊥) → {mem' : List ℕ} {n : Machine}
+          → Turns mem mem' m (begun mem m Phase.firstEach) (m .depth) (getD mem (m .from) 0) (modeOf Expand) (above m) n → TakesToWrite s mem mem' out out m (Next n)
       elements-steps l some' {mem'} {n} q = record {
         turns = λ R x o t.
-            let v = by-phase (t .frame) 31 (top-phase t ∙ w .phase) in
+            let v = by-phase (t .frame) Phase.overEach (top-phase t ∙ w .phase) in
             let op = v .0 in
             let c = v .1 in
             let i = v .2 in
@@ -222,7 +225,7 @@ module _ {s : Source} {mem out : List ℕ} {m : Machine} (w : Waiting mem m 31) 
             let ki = kind-is h in
             let of = of-formulas op (omega arith) in
             let f = formulaAt c i a in
-            begins h {phase = 31} refl g p {G = FirstEach op c i a (p .rest)} {new = 32} {a = Expand} {c = c} {i = i} {e = a} (record {
+            begins h {phase = Phase.overEach} refl g p {G = FirstEach op c i a (p .rest)} {new = Phase.firstEach} {a = Expand} {c = c} {i = i} {e = a} (record {
               turns = q;
               is-turning = refl;
               fewer = λ y u. omega arith;

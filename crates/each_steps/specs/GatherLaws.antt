@@ -1,7 +1,7 @@
 -- `&&[..]` and `||[..]` element by element: what is gathered and then joined is folded as it comes.
-use Prim.Native.Nat.{ℕ, _-_, _≤_, _<_}
+use Prim.Native.Nat.{ℕ, _<_}
 use mathlib.Core.List.{List, [], _∷_}
-use mathlib.Core.Path.{_≡_, refl, sym, ap}
+use mathlib.Core.Path.{_≡_, refl}
 use native.Mathlib.Omega.{arith}
 use lib.Dec.{eqb}
 use Rattle.node.specs.Operators.{Binary, And, Or}
@@ -12,23 +12,22 @@ use Rattle.language.specs.Operators.{Big, BigSum, BigProduct, BigCap, BigCup, B
 use Rattle.language.specs.Values.{misfit}
 use Rattle.language.specs.Expansion.{truth, joined, conjunction, disjunction, gather, bigFormula}
 use Rattle.entries.specs.Kinds as Kind
-use Rattle.operator_nodes.specs.ShapeLaws.{binary-small}
+use Rattle.operators.specs.Codes.{bigCode}
 use Rattle.machine.specs.Came.{Came, nodes, asFormula}
 use Rattle.machine.specs.Frames.{connective}
 use Rattle.machine.specs.Stack.{OfFormulas}
-use Rattle.fold_steps.specs.BigLaws.{bigOperator}
 
--- operators of formulas by their kinds
-pub formulas-kind : (o : Big) → OfFormulas o → (43 ≤ Kind.big o) × (Kind.big o < 45)
-formulas-kind BigSum w = absurd w
-formulas-kind BigProduct w = absurd w
-formulas-kind BigCap w = absurd w
-formulas-kind BigCup w = absurd w
-formulas-kind BigAnd w = (omega arith, omega arith)
-formulas-kind BigOr w = (omega arith, omega arith)
+-- the code of the operator that is folded with is its nodes' kind
+pub connective-code : (o : Big) → OfFormulas o → bigCode o ≡ binaryKind (connective o)
+connective-code BigSum w = absurd w
+connective-code BigProduct w = absurd w
+connective-code BigCap w = absurd w
+connective-code BigCup w = absurd w
+connective-code BigAnd w = refl
+connective-code BigOr w = refl
 
 -- numbers and sets make no formula
-pub no-formulas : (o : Big) → Kind.big o < 43 → (f : ℕ → Result Formula) (s : List ℕ) → bigFormula o f s ≡ misfit
+pub no-formulas : (o : Big) → Kind.big o < Kind.bigFormulas → (f : ℕ → Result Formula) (s : List ℕ) → bigFormula o f s ≡ misfit
 no-formulas BigSum l f s = refl
 no-formulas BigProduct l f s = refl
 no-formulas BigCap l f s = refl
@@ -37,7 +36,7 @@ no-formulas BigAnd l f s = absurd (omega arith)
 no-formulas BigOr l f s = absurd (omega arith)
 
 -- over nothing
-pub over-nothing : (o : Big) → OfFormulas o → (f : ℕ → Result Formula) → (bigFormula o f [] >>= nodes) ≡ nodes (truth (eqb (Kind.big o) 43))
+pub over-nothing : (o : Big) → OfFormulas o → (f : ℕ → Result Formula) → (bigFormula o f [] >>= nodes) ≡ nodes (truth (eqb (bigCode o) (binaryKind And)))
 unfolding _>>=_
 over-nothing BigSum w f = absurd w
 over-nothing BigProduct w f = absurd w
@@ -83,13 +82,3 @@ next-same o f v rest a = go (f v) (gather f rest)
     go (Refused n p) y = refl
     go (Done g) (Refused n p) = refl
     go (Done g) (Done fs) = refl
-
--- the connective in nodes, by an entry's kind
-pub joins-all : (kind : ℕ) → kind ≡ 43 → binaryKind And ≡ binaryKind (connective (bigOperator (kind - 39)))
-joins-all kind e = sym (ap (λ (n : ℕ). binaryKind (connective (bigOperator (n - 39)))) e)
-
-pub joins-any : (kind : ℕ) → kind ≡ 44 → binaryKind Or ≡ binaryKind (connective (bigOperator (kind - 39)))
-joins-any kind e = sym (ap (λ (n : ℕ). binaryKind (connective (bigOperator (n - 39)))) e)
-
-pub joins-small : (kind : ℕ) {r : ℕ} → r ≡ binaryKind (connective (bigOperator (kind - 39))) → r < 16
-joins-small kind e = let l = binary-small (connective (bigOperator (kind - 39))) in omega arith

@@ -7,8 +7,8 @@ use Rattle.node.specs.ResultLaws.{bind-to}
 use Rattle.language.specs.Values.{Logic}
 use Rattle.operands.specs.Entries.{kindAt}
 use Rattle.operands.specs.Classes.{aFormula, classOf}
+use Rattle.operands.specs.Shapes.{aMisfit, shapeOf}
 use Rattle.operands.specs.Working.{Source}
-use Rattle.operator_nodes.specs.Shapes.{aMisfit, shapeOf}
 use Rattle.machine.specs.Came.{Evaluate, Expand, worth, nodes}
 use Rattle.machine.specs.Telling.{isLogic}
 use Rattle.machine.specs.States.{modeOf, Steps}

@@ -4,6 +4,7 @@ use mathlib.Core.List.{List}
 use mathlib.Core.Path.{_≡_}
 use lib.ListN.{length, getD}
 use Rattle.node.specs.Limits.{maxNodes}
+use Rattle.machine.specs.Phases as Phase
 use Rattle.machine.specs.Came.{Expand}
 use Rattle.machine.specs.Memory.{frameWords}
 use Rattle.machine.specs.Telling.{isNodes}
@@ -38,4 +39,4 @@ pub record Turnable (mem : List ℕ) (m : Machine) (nodes : ℕ) : Type 0 where
 pub record Onward (mem mem' : List ℕ) (m : Machine) (nodes : ℕ) (r : Move) : Type 0 where
   pub last : leftOf mem m ≡ 0 → (mem' ≡ mem) × (r ≡ Next (closed m (baseOf mem m) nodes))
   pub more : 0 < leftOf mem m → (n : Machine) × (r ≡ Next n)
-      × Turns mem mem' (wrote m nodes) (nextAt (wordsAt mem (m .frames)) 33 nodes 0) (m .depth - 1) (getD mem (getD mem (m .frames + 3) 0) 0) (modeOf Expand) (m .top) n
+      × Turns mem mem' (wrote m nodes) (nextAt (wordsAt mem (m .frames)) Phase.nextEach nodes 0) (m .depth - 1) (getD mem (getD mem (m .frames + 3) 0) 0) (modeOf Expand) (m .top) n

@@ -13,6 +13,7 @@ use Rattle.language.specs.Operators.{Big}
 use Rattle.language.specs.Tree.{Expr}
 use Rattle.language.specs.Expansion.{Context, joined}
 use Rattle.operands.specs.Working.{Source}
+use Rattle.machine.specs.Phases as Phase
 use Rattle.machine.specs.Came.{Expand, Came, Nodes, nodes}
 use Rattle.machine.specs.Frames.{Frame, NextEach, connective, formulaAt, onwardFormulas, apply}
 use Rattle.machine.specs.Realm.{Realm}
@@ -56,7 +57,7 @@ module _ {s : Source} {R : Realm s} {mem out : List ℕ} {m : Machine} {x : Resu
 
   -- they are folded into the formula a, which stands in `out'` up to n
   pub record FoldsTo (op : Big) (c : Context) (i : Token) (e : Expr) (a : Formula) (out' : List ℕ) (n : ℕ) : Type 0 where
-    pub fewer : (count : ℕ) → turns 33 count < turns phase (suc count)
+    pub fewer : (count : ℕ) → turns Phase.nextEach count < turns phase (suc count)
     pub fine : Fine rest
     pub folding : Folding R (h .ground) op
     pub each : EachOf R (h .ground) c i e
@@ -97,7 +98,7 @@ module _ {s : Source} {R : Realm s} {mem out : List ℕ} {m : Machine} {x : Resu
         let q = w .more (omega arith) in
         let p = split mem (words h .at) rest (turning-held h f) (t .fine) some in
         subst (λ (y : Move). Turned R mem mem' out out' m x o y) (sym (q .1))
-        (continues h f {G = NextEach op c i e a n (p .rest)} {new = 33} {value = n} {other = 0} {fold' = []} {forms' = record { formula = a; end = n } ∷ []} {a = Expand} {c = c} {i = i} {e = e} {mem₀ = mem}
+        (continues h f {G = NextEach op c i e a n (p .rest)} {new = Phase.nextEach} {value = n} {other = 0} {fold' = []} {forms' = record { formula = a; end = n } ∷ []} {a = Expand} {c = c} {i = i} {e = e} {mem₀ = mem}
         {mem' = mem'} {out' = out'} {top = m .top} {nodes = n} {n = q .0} (record {
           words-kept = refl;
           agree = agree-same;
@@ -138,12 +139,12 @@ module _ {mem : List ℕ} {m w : Machine} {nodes : ℕ} (some : leftOf mem m ≡
   onward-asks t = subst (λ (y : Machine). Continuing mem y 0) (sym e) (t .next (omega arith))
 
   pub onward-more : {mem' : List ℕ} {n : Machine}
-      → Turns mem mem' w (nextAt (wordsAt mem (w .frames)) 33 nodes 0) (w .depth - 1) (getD mem (getD mem (w .frames + 3) 0) 0) (modeOf Expand) (m .top) n → Onward mem mem' m nodes (Next n)
+      → Turns mem mem' w (nextAt (wordsAt mem (w .frames)) Phase.nextEach nodes 0) (w .depth - 1) (getD mem (getD mem (w .frames + 3) 0) 0) (modeOf Expand) (m .top) n → Onward mem mem' m nodes (Next n)
   onward-more {mem'} {n} t = record {
     last = λ l. absurd (some l);
     more = λ l. (
       n,
       refl,
-      subst (λ (y : Machine). Turns mem mem' y (nextAt (wordsAt mem (y .frames)) 33 nodes 0) (y .depth - 1) (getD mem (getD mem (y .frames + 3) 0) 0) (modeOf Expand) (m .top) n) e t,
+      subst (λ (y : Machine). Turns mem mem' y (nextAt (wordsAt mem (y .frames)) Phase.nextEach nodes 0) (y .depth - 1) (getD mem (getD mem (y .frames + 3) 0) 0) (modeOf Expand) (m .top) n) e t,
     );
   }

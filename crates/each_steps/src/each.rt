@@ -12,24 +12,25 @@ use node::MAX_NODES;
 use node::Node;
 use node::refusals;
 use operands::entry::kind_at;
+use operands::entry::prefix_at;
 use operands::entry::size_at;
 use writing::constant;
 use writing::join;
+ghost use mathlib.Core.Bool.{false};
 ghost use mathlib.Core.Path.{_≡_};
-ghost use Prim.Native.Nat.{_+_, _-_, _≤_, _<_, _^_};
-ghost use Rattle.node.specs.Kinds.{binaryKind};
-ghost use Rattle.machine.specs.Frames.{connective};
+ghost use Prim.Native.Nat.{_+_, _<_, _^_};
+ghost use Rattle.entries.specs.Kinds as Kind;
+ghost use Rattle.machine.specs.Phases as Phase;
 ghost use Rattle.machine.specs.Memory.{frameWords};
 ghost use Rattle.machine.specs.States.{Ready, Steps, Topped, Takes, ToppedToWrite, TakesToWrite};
 ghost use Rattle.operands.specs.Working.{source};
 ghost use Rattle.machine.specs.Entering.{Expands, Waiting};
-ghost use Rattle.fold_steps.specs.BigLaws.{bigOperator};
 ghost use Rattle.each_steps.specs.Onward.{closed as closed', Turnable, Onward};
 
 // The set is worked out first.
 pub fn over_each(text: &[u8], work: &[u8], refs: &[u16], memory: &mut [u32], m: Machine) -> Move
     requires { ⌜ Ready (source (now text) (now work) (now refs)) (now memory) m ⌝ }
-    requires { ⌜ Expands (now work) m 39 45 ⌝ }
+    requires { ⌜ Expands (now work) m Kind.bigNumbers (Kind.binder false) ⌝ }
     ensures { λ r. ⌜ Steps (source (now (text .entry)) (now (work .entry)) (now (refs .entry))) (now (memory .entry)) (now (memory .exit)) m r ⌝ }
 {
     let k = m.value as usize;
@@ -47,19 +48,18 @@ pub fn elements(
     m: Machine,
 ) -> Move
     requires { ⌜ ToppedToWrite (source (now text) (now work) (now refs)) (now memory) (now table) m ⌝ }
-    requires { ⌜ Waiting (now memory) m 31 ⌝ }
+    requires { ⌜ Waiting (now memory) m Phase.overEach ⌝ }
     ensures { λ r. ⌜ TakesToWrite (source (now (text .entry)) (now (work .entry)) (now (refs .entry))) (now (memory .entry)) (now (memory .exit)) (now (table .entry)) (now (table .exit)) m r ⌝ }
 {
     if m.mode != modes::SET {
         return Move::Refused(refusals::WRONG_TYPE, 0);
     }
-    let k = memory[m.frames + 1];
-    let kind = kind_at(work, k as usize);
-    if kind < kinds::BIG_FORMULAS {
+    let k = memory[m.frames + 1] as usize;
+    if kind_at(work, k) < kinds::BIG_FORMULAS {
         return Move::Refused(refusals::WRONG_TYPE, 0);
     }
     if m.value == 0 {
-        let n = constant(kind == kinds::BIG_AND, table, m.nodes);
+        let n = constant(prefix_at(work, k) == Node::AND, table, m.nodes);
         return Move::Next(m.popped().wrote(capped(n)));
     }
     Move::Next(begin(memory, m, phases::FIRST_EACH, modes::EXPAND))
@@ -68,7 +68,7 @@ pub fn elements(
 // The operand at the first element is written.
 pub fn first(text: &[u8], work: &[u8], refs: &[u16], memory: &mut [u32], m: Machine) -> Move
     requires { ⌜ Topped (source (now text) (now work) (now refs)) (now memory) m ⌝ }
-    requires { ⌜ Waiting (now memory) m 32 ⌝ }
+    requires { ⌜ Waiting (now memory) m Phase.firstEach ⌝ }
     ensures { λ r. ⌜ Takes (source (now (text .entry)) (now (work .entry)) (now (refs .entry))) (now (memory .entry)) (now (memory .exit)) m r ⌝ }
 {
     if m.mode != modes::NODES {
@@ -87,7 +87,7 @@ pub fn next(
     m: Machine,
 ) -> Move
     requires { ⌜ ToppedToWrite (source (now text) (now work) (now refs)) (now memory) (now table) m ⌝ }
-    requires { ⌜ Waiting (now memory) m 33 ⌝ }
+    requires { ⌜ Waiting (now memory) m Phase.nextEach ⌝ }
     ensures { λ r. ⌜ TakesToWrite (source (now (text .entry)) (now (work .entry)) (now (refs .entry))) (now (memory .entry)) (now (memory .exit)) (now (table .entry)) (now (table .exit)) m r ⌝ }
 {
     if m.mode != modes::NODES {
@@ -96,19 +96,8 @@ pub fn next(
     let at = m.frames;
     let k = memory[at + 1] as usize;
     let folded = memory[at + 5] as usize;
-    let n = join(joining(kind_at(work, k)), folded, m.nodes, table);
+    let n = join(prefix_at(work, k), folded, m.nodes, table);
     onward(memory, m, capped(n))
-}
-
-// What a big operator of formulas folds with, by the kind of its entry.
-fn joining(kind: u32) -> u32
-    requires { ⌜ (43 ≤ kind) × (kind < 45) ⌝ }
-    ensures { λ r. ⌜ r ≡ binaryKind (connective (bigOperator (kind - 39))) ⌝ }
-{
-    if kind == kinds::BIG_AND {
-        return Node::AND;
-    }
-    Node::OR
 }
 
 // The operands so far are folded into a formula that ends before `nodes`: the operand at the next element is worked out, or it is the answer.

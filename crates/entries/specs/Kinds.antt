@@ -1,22 +1,9 @@
--- The kinds of the entries that hold a text's tree: numbers of six bits, the code's own. An operator's kind says which operator it is.
+-- The kinds of the entries that hold a text's tree: numbers of six bits, the code's own. Operators of one group have one kind; which of them stands there is told by
+-- the entry's token (crate operators). Numbers that are not named here are free.
 use Prim.Native.Nat.{ℕ}
 use mathlib.Core.Bool.{Bool, true, false}
 use mathlib.Core.List.{List, [], _∷_}
-use Rattle.node.specs.Operators.{Unary, Not, X, G, F, Binary, And, Or, Implies, Iff, U, R, W}
 use Rattle.language.specs.Operators.{
-  Arithmetic,
-  Plus,
-  Minus,
-  Times,
-  Divide,
-  Modulo,
-  Size,
-  Min,
-  Max,
-  Combination,
-  Cup,
-  Cap,
-  Without,
   Comparison,
   Equal,
   Unequal,
@@ -31,9 +18,6 @@ use Rattle.language.specs.Operators.{
   BigCup,
   BigAnd,
   BigOr,
-  Window,
-  FinallyIn,
-  GloballyIn,
   Infix,
   Calculates,
   Combines,
@@ -53,9 +37,8 @@ named = 0
 abbrev pub numeral : ℕ
 numeral = 1
 
-abbrev pub truth : Bool → ℕ
-truth false = 2
-truth true = 3
+abbrev pub truth : ℕ
+truth = 2
 
 abbrev pub index : ℕ
 index = 4
@@ -63,84 +46,88 @@ index = 4
 abbrev pub paren : ℕ
 paren = 5
 
--- operators before their operand
-abbrev pub unary : Unary → ℕ
-unary Not = 10
-unary X = 11
-unary G = 12
-unary F = 13
+-- operators before their operand: of sets, of a bus, of formulas
+abbrev pub measure : ℕ
+measure = 6
+
+abbrev pub width : ℕ
+width = 9
+
+abbrev pub unary : ℕ
+unary = 10
 
 abbrev pub before : Prefix → ℕ
-before (Measures Size) = 6
-before (Measures Min) = 7
-before (Measures Max) = 8
-before WidthOf = 9
-before (Applies o) = unary o
+before (Measures m) = measure
+before WidthOf = width
+before (Applies o) = unary
 
--- operators between two operands
-abbrev pub arithmetic : Arithmetic → ℕ
-arithmetic Plus = 14
-arithmetic Minus = 15
-arithmetic Times = 16
-arithmetic Divide = 17
-arithmetic Modulo = 18
+-- operators between two operands: of numbers, of sets, comparisons of anything and of numbers alone, IN, of formulas
+abbrev pub arithmetic : ℕ
+arithmetic = 14
 
-abbrev pub combination : Combination → ℕ
-combination Cup = 19
-combination Cap = 20
-combination Without = 21
+abbrev pub combination : ℕ
+combination = 19
+
+abbrev pub equality : ℕ
+equality = 22
+
+abbrev pub order : ℕ
+order = 24
 
 abbrev pub comparison : Comparison → ℕ
-comparison Equal = 22
-comparison Unequal = 23
-comparison Less = 24
-comparison AtMost = 25
-comparison Greater = 26
-comparison AtLeast = 27
+comparison Equal = equality
+comparison Unequal = equality
+comparison Less = order
+comparison AtMost = order
+comparison Greater = order
+comparison AtLeast = order
 
-abbrev pub binary : Binary → ℕ
-binary And = 29
-binary Or = 30
-binary Implies = 31
-binary Iff = 32
-binary U = 33
-binary R = 34
-binary W = 35
+abbrev pub membership : ℕ
+membership = 28
+
+abbrev pub binary : ℕ
+binary = 29
 
 abbrev pub joining : Infix → ℕ
-joining (Calculates o) = arithmetic o
-joining (Combines o) = combination o
+joining (Calculates o) = arithmetic
+joining (Combines o) = combination
 joining (Compares o) = comparison o
-joining Membership = 28
-joining (Connects o) = binary o
+joining Membership = membership
+joining (Connects o) = binary
 
 -- `X[n]`; `F[n:m]` and `G[n:m]`
 abbrev pub nexts : ℕ
 nexts = 36
 
-abbrev pub window : Window → ℕ
-window FinallyIn = 37
-window GloballyIn = 38
+abbrev pub window : ℕ
+window = 37
 
--- big operators; the names that they bind, the first one and further ones
+-- big operators of numbers, of sets, of formulas; the names that they bind, the first one and further ones
+abbrev pub bigNumbers : ℕ
+bigNumbers = 39
+
+abbrev pub bigSets : ℕ
+bigSets = 41
+
+abbrev pub bigFormulas : ℕ
+bigFormulas = 43
+
 abbrev pub big : Big → ℕ
-big BigSum = 39
-big BigProduct = 40
-big BigCap = 41
-big BigCup = 42
-big BigAnd = 43
-big BigOr = 44
+big BigSum = bigNumbers
+big BigProduct = bigNumbers
+big BigCap = bigSets
+big BigCup = bigSets
+big BigAnd = bigFormulas
+big BigOr = bigFormulas
 
 abbrev pub binder : Bool → ℕ
 binder false = 45
 binder true = 46
 
--- bounds, by whether the low and the high end are left out
-abbrev pub between : Bool → Bool → ℕ
-between false false = 47
-between false true = 48
-between true false = 49
-between true true = 50
+-- bounds, by whether the high end is left out; the low end's sign is the entry's token
+abbrev pub between : Bool → ℕ
+between false = 47
+between true = 48
 
 -- sets
 abbrev pub listed : ℕ
@@ -187,10 +174,6 @@ heading = 63
 -- all kinds in their order
 abbrev pub kinds : List ℕ
 kinds =
-    named ∷ numeral ∷ truth false ∷ truth true ∷ index ∷ paren ∷ before (Measures Size) ∷ before (Measures Min) ∷ before (Measures Max) ∷
-    before WidthOf ∷ unary Not ∷ unary X ∷ unary G ∷ unary F ∷ arithmetic Plus ∷ arithmetic Minus ∷ arithmetic Times ∷ arithmetic Divide ∷
-    arithmetic Modulo ∷ combination Cup ∷ combination Cap ∷ combination Without ∷ comparison Equal ∷ comparison Unequal ∷ comparison Less ∷
-    comparison AtMost ∷ comparison Greater ∷ comparison AtLeast ∷ joining Membership ∷ binary And ∷ binary Or ∷ binary Implies ∷ binary Iff ∷
-    binary U ∷ binary R ∷ binary W ∷ nexts ∷ window FinallyIn ∷ window GloballyIn ∷ big BigSum ∷ big BigProduct ∷ big BigCap ∷ big BigCup ∷
-    big BigAnd ∷ big BigOr ∷ binder false ∷ binder true ∷ between false false ∷ between false true ∷ between true false ∷ between true true ∷
+    named ∷ numeral ∷ truth ∷ index ∷ paren ∷ measure ∷ width ∷ unary ∷ arithmetic ∷ combination ∷ equality ∷ order ∷ membership ∷ binary ∷ nexts ∷ window ∷
+    bigNumbers ∷ bigSets ∷ bigFormulas ∷ binder false ∷ binder true ∷ between false ∷ between true ∷
     listed ∷ element ∷ range ∷ parameter ∷ definition ∷ enumeration ∷ identifier ∷ word ∷ signal ∷ bus ∷ typed ∷ line ∷ heading ∷ []

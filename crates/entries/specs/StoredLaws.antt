@@ -89,15 +89,15 @@ module _ {w : List ℕ} {ts : Tokens} {k : ℕ} (xs ys : List Entry) (h : EndsAt
 pub expr-size : {w : List ℕ} {ts : Tokens} {k : ℕ} (e : Expr) → 0 < length (flat e) → At w ts k e → sizeOf (wordAt w (firstEntry + k)) ≡ length (flat e)
 expr-size (Named t) l h = under-size Kind.named (some t) [] h
 expr-size (Numeral t) l h = under-size Kind.numeral (some t) [] h
-expr-size (Truth t b) l h = under-size (Kind.truth b) (some t) [] h
+expr-size (Truth t b) l h = under-size Kind.truth (some t) [] h
 expr-size (Index t e) l h = under-size Kind.index (some t) (flat e) h
 expr-size (Paren t e) l h = under-size Kind.paren (some t) (flat e) h
 expr-size (Prefixed t o e) l h = under-size (Kind.before o) (some t) (flat e) h
 expr-size (Joined t o a b) l h = under-size (Kind.joining o) (some t) (flat a ++ flat b) h
 expr-size (Nexts t n e) l h = under-size Kind.nexts (some t) (flat n ++ flat e) h
-expr-size (InWindow t o n m e) l h = under-size (Kind.window o) (some t) (flat n ++ (flat m ++ flat e)) h
+expr-size (InWindow t o n m e) l h = under-size Kind.window (some t) (flat n ++ (flat m ++ flat e)) h
 expr-size (Each t o further i s e) l h = under-size (Kind.big o) (some t) (under (Kind.binder further) (some i) (flat s) ++ flat e) h
-expr-size (Between t x y a b) l h = under-size (Kind.between x y) (some t) (flat a ++ flat b) h
+expr-size (Between t x y a b) l h = under-size (Kind.between y) (some t) (flat a ++ flat b) h
 expr-size (Listed t es) l h = under-size Kind.listed (some t) (flat es) h
 expr-size Empty l h = absurd (omega arith)
 expr-size (Element e es) l h = under-size Kind.element none (flat e ++ flat es) h

@@ -97,20 +97,20 @@ module _ (text : List ℕ) where
   quiet-flat : (e : Expr) → All Quiet (flat e)
   quiet-flat (Named t) = (low Kind.named refl, tt)
   quiet-flat (Numeral t) = (low Kind.numeral refl, tt)
-  quiet-flat (Truth t b) = (low (Kind.truth b) (truth-plain b .part), tt)
+  quiet-flat (Truth t b) = (low Kind.truth (truth-plain .part), tt)
   quiet-flat (Index t e) = quiet-under Kind.index (some t) (flat e) (low Kind.index refl) (quiet-flat e)
   quiet-flat (Paren t e) = quiet-under Kind.paren (some t) (flat e) (low Kind.paren refl) (quiet-flat e)
   quiet-flat (Prefixed t o e) = quiet-under (Kind.before o) (some t) (flat e) (low (Kind.before o) (before-plain o .part)) (quiet-flat e)
   quiet-flat (Joined t o a b) = quiet-under (Kind.joining o) (some t) (flat a ++ flat b) (low (Kind.joining o) (joining-plain o .part)) (join (flat a) (flat b) (quiet-flat a) (quiet-flat b))
   quiet-flat (Nexts t n e) = quiet-under Kind.nexts (some t) (flat n ++ flat e) (low Kind.nexts refl) (join (flat n) (flat e) (quiet-flat n) (quiet-flat e))
   quiet-flat (InWindow t o n m e) =
-      quiet-under (Kind.window o) (some t) (flat n ++ (flat m ++ flat e)) (low (Kind.window o) (window-plain o .part))
+      quiet-under Kind.window (some t) (flat n ++ (flat m ++ flat e)) (low Kind.window (window-plain .part))
       (join (flat n) _ (quiet-flat n) (join (flat m) (flat e) (quiet-flat m) (quiet-flat e)))
   quiet-flat (Each t o further i s e) =
       quiet-under (Kind.big o) (some t) (under (Kind.binder further) (some i) (flat s) ++ flat e) (low (Kind.big o) (big-plain o .part))
       (join (under (Kind.binder further) (some i) (flat s)) (flat e) (quiet-under (Kind.binder further) (some i) (flat s) (low (Kind.binder further) (binder-plain further .part)) (quiet-flat s))
       (quiet-flat e))
-  quiet-flat (Between t l h a b) = quiet-under (Kind.between l h) (some t) (flat a ++ flat b) (low (Kind.between l h) (between-plain l h .part)) (join (flat a) (flat b) (quiet-flat a) (quiet-flat b))
+  quiet-flat (Between t l h a b) = quiet-under (Kind.between h) (some t) (flat a ++ flat b) (low (Kind.between h) (between-plain h .part)) (join (flat a) (flat b) (quiet-flat a) (quiet-flat b))
   quiet-flat (Listed t es) = quiet-under Kind.listed (some t) (flat es) (low Kind.listed refl) (quiet-flat es)
   quiet-flat Empty = tt
   quiet-flat (Element e es) = quiet-under Kind.element none (flat e ++ flat es) (low Kind.element refl) (join (flat e) (flat es) (quiet-flat e) (quiet-flat es))

@@ -23,7 +23,7 @@ use Rattle.expressions.specs.declared.stack.Turn.the-variants.{Next}
 use Rattle.operators.specs.Readers.{reads, climbs, infixRow, operatorAt}
 use Rattle.expressions.specs.ReaderLaws.{climbs-stop, climbs-on}
 use Rattle.operators.specs.Tables.{infixAt}
-use Rattle.expressions.specs.OperatorLaws.{InfixFound, infix-none, infix-some}
+use Rattle.operators.specs.RowLaws.{InfixFound, infix-none, infix-some}
 use Rattle.expressions.specs.Frames.{Right, Frame, plug}
 use Rattle.expressions.specs.Stack.{putSlot, Stacked}
 use Rattle.expressions.specs.StackLaws.{stacked-less, stacked-next, stacked-push}

@@ -8,7 +8,6 @@ pub mod Stack
 pub mod StackLaws
 pub mod Machines
 pub mod States
-pub mod OperatorLaws
 pub mod Starts
 pub mod StateLaws
 pub mod StartStates

@@ -4,7 +4,7 @@ use native.Mathlib.Omega.{arith}
 use mathlib.Core.List.{List, [], _∷_, _++_}
 use mathlib.Core.Bool.{Bool, true, false}
 use mathlib.Core.Option.{some}
-use mathlib.Core.Path.{_≡_, refl, sym, ap, ap₂, _∙_, subst}
+use mathlib.Core.Path.{_≡_, refl, sym, ap, _∙_, subst}
 use lib.Dec.{lit<}
 use Rattle.words.specs.Words.{wordAt}
 use Rattle.language.specs.Tree.{Expr, Between}
@@ -32,15 +32,13 @@ use Rattle.expressions.specs.Grown.{Grows, grownIn, grows, kept-grown, g
 use Rattle.expressions.specs.Signs.{strictAt, strict-number}
 use Rattle.expressions.specs.NameStates.{Ranged, NameBound}
 
--- the kind of bounds by the numbers of their signs
-abbrev pub betweenAt : ℕ → ℕ → ℕ
-betweenAt low high = Kind.between (strictAt low) (strictAt high)
+-- the kind of bounds by the number of the high one's sign
+abbrev pub betweenAt : ℕ → ℕ
+betweenAt high = Kind.between (strictAt high)
 
-between-small : (a b : Bool) → Kind.between a b < 64
-between-small true true = lit< tt
-between-small true false = lit< tt
-between-small false true = lit< tt
-between-small false false = lit< tt
+between-small : (b : Bool) → Kind.between b < 64
+between-small true = lit< tt
+between-small false = lit< tt
 
 -- a step counted from another machine of the same weight
 as-light : {ts : Tokens} {s : Cursor} {x : Read Expr} {w v : List ℕ} (m n : Machine) → weight n ≡ weight m → (r : Turn) → Turned ts s x w v n r → Turned ts s x w v m r
@@ -80,7 +78,7 @@ module _ {ts : Tokens} {s : Cursor} {x : Read Expr} {w : List ℕ} {m : Machine}
     index = slotIndex top
 
     abbrev kind : ℕ
-    kind = betweenAt (numberIn (wordAt w index)) (numberIn (wordAt w (index + 2)))
+    kind = betweenAt (numberIn (wordAt w (index + 2)))
 
     pub upper-index : index + 2 < maxTokens
     upper-index =
@@ -95,7 +93,7 @@ module _ {ts : Tokens} {s : Cursor} {x : Read Expr} {w : List ℕ} {m : Machine}
         let F = turned Upper (q .0) in
         let p = q .2 in
         grows (credits (q .1)) (base (q .1)) (flat (F .first) ∷ []) (flat (p .tree)) (p .firm-top .0) (p .rooted) (stacked-less (p .stacked) (suc (credits (q .1))) (omega arith)) kind index
-        (between-small (strictAt (numberIn (wordAt w index))) (strictAt (numberIn (wordAt w (index + 2))))) (omega (arith, upper-index))
+        (between-small (strictAt (numberIn (wordAt w (index + 2))))) (omega (arith, upper-index))
 
     pub names-upper : Ranged ts s x (grownIn w (m .c) kind index 2) (poppedOf m 0) (emittedOf (m .c)) (index + 1)
     names-upper =
@@ -110,11 +108,10 @@ module _ {ts : Tokens} {s : Cursor} {x : Read Expr} {w : List ℕ} {m : Machine}
         let keeps-high : Keeps ts (index + 2) (some (F .high)) = subst (λ i. Keeps ts i (some (F .high))) (let z : suc (suc (at-top .index)) ≡ index + 2 = omega arith in z) (at-top .tokens .1 .1 .0)
         in
         let ready = h .stacked .ready in
-        let kind-is : kind ≡ Kind.between (isStrict (F .low)) (isStrict (F .high)) =
-        ap₂ Kind.between (ap strictAt (stored-number index (F .low) ready keeps-low) ∙ sym (strict-number (F .low)))
-        (ap strictAt (stored-number (index + 2) (F .high) ready keeps-high) ∙ sym (strict-number (F .high))) in
+        let kind-is : kind ≡ Kind.between (isStrict (F .high)) =
+        ap Kind.between (ap strictAt (stored-number (index + 2) (F .high) ready keeps-high) ∙ sym (strict-number (F .high))) in
         let g = grown (credits (q .1)) (base (q .1)) (flat (F .first) ∷ []) (flat (p .tree)) (p .firm-top .0) (p .rooted) st kind index
-        (between-small (strictAt (numberIn (wordAt w index))) (strictAt (numberIn (wordAt w (index + 2))))) (omega (arith, upper-index)) (some (F .low)) keeps-low in
+        (between-small (strictAt (numberIn (wordAt w (index + 2))))) (omega (arith, upper-index)) (some (F .low)) keeps-low in
         let r = Between (F .low) (isStrict (F .low)) (isStrict (F .high)) (F .first) (p .tree) in
         let g′ : Stacked ts s (grownIn w (m .c) kind index 2) (emittedOf (m .c)) (m .depth) (slot 19 0 (F .low) (F .name ∷ F .high ∷ []) ∷ slot 6 (F .level) (F .token) [] ∷ slotsOf (q .1))
         (base (q .1) ++ flat r) (credits (q .1)) =
@@ -124,7 +121,7 @@ module _ {ts : Tokens} {s : Cursor} {x : Read Expr} {w : List ℕ} {m : Machine}
           frame = F;
           frames = q .1;
           binder = record { name = F .name; range = r };
-          rooted = (Kind.between (isStrict (F .low)) (isStrict (F .high)), some (F .low), flat (F .first) ++ flat (p .tree), refl);
+          rooted = (Kind.between (isStrict (F .high)), some (F .low), flat (F .first) ++ flat (p .tree), refl);
           firm = p .firm;
           marked = p .firm-top .1;
           keeps = keeps-name;
@@ -139,7 +136,7 @@ module _ {ts : Tokens} {s : Cursor} {x : Read Expr} {w : List ℕ} {m : Machine}
         let F = turned Upper (q .0) in
         let p = q .2 in
         kept-grown (credits (q .1)) (base (q .1)) (flat (F .first) ∷ []) (flat (p .tree)) (p .firm-top .0) (p .rooted) (stacked-less (p .stacked) (suc (credits (q .1))) (omega arith)) kind index
-        (between-small (strictAt (numberIn (wordAt w index))) (strictAt (numberIn (wordAt w (index + 2))))) (omega (arith, upper-index))
+        (between-small (strictAt (numberIn (wordAt w (index + 2))))) (omega (arith, upper-index))
 
     pub turn-upper : {v : List ℕ} (r : Turn) → NameBound ts s x (grownIn w (m .c) kind index 2) v (poppedOf m 0) (emittedOf (m .c)) r → Turned ts s x w v m r
     turn-upper (Next n) b = let t = b .step in turned-after kept-upper

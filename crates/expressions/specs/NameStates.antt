@@ -32,7 +32,7 @@ use Rattle.operators.specs.Readers.{reads, levelAt, folds}
 use Rattle.expressions.specs.BinderLaws.{afterBinder}
 use Rattle.expressions.specs.Frames.{Over, Frame, bound, resume, plug}
 use Rattle.operators.specs.Tables.{prefixAt}
-use Rattle.expressions.specs.OperatorLaws.{prefix-some}
+use Rattle.operators.specs.RowLaws.{prefix-some}
 use Rattle.expressions.specs.Stack.{slotIndex, slotLevel, topSlot, Stacked, Rooted}
 use Rattle.expressions.specs.StackLaws.{slot-level, slot-index, stacked-apart, stacked-few, stacked-less, stacked-next}
 use Rattle.expressions.specs.Machines.{Tops}

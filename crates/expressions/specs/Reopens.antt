@@ -26,7 +26,7 @@ use Rattle.expressions.specs.declared.stack.Turn.the-variants.{Next, End
 use Rattle.operators.specs.Readers.{reads, levelAt}
 use Rattle.expressions.specs.Frames.{Stepped, Within, Last, Count, Low, High, One, Two, Frame, turned, withFirst, withSecond, resume, plug}
 use Rattle.operators.specs.Tables.{prefixAt}
-use Rattle.expressions.specs.OperatorLaws.{prefix-some}
+use Rattle.operators.specs.RowLaws.{prefix-some}
 use Rattle.expressions.specs.Stack.{slotWord, slotIndex, slotLevel, slotClass, topSlot, putSlot, Stacked}
 use Rattle.expressions.specs.StackLaws.{slot-level, slot-index, stacked-apart, stacked-few, stacked-less, stacked-next, stacked-pop, stacked-push}
 use Rattle.expressions.specs.States.{classNumber, slot, slotsBy, slotsOf, treesBy, behind, base, Firm, creditBy, credits, Turned}

@@ -17,10 +17,10 @@ use Rattle.entries.specs.Cursors.{kindAt, refusedAt, nextOf}
 use Rattle.entries.specs.CursorLaws.{ready-kind}
 use Rattle.expressions.specs.declared.stack.Machine.{Machine}
 use Rattle.expressions.specs.declared.stack.Turn.the-variants.{Next, Ended}
-use Rattle.operators.specs.Readers.{levelAt, roleAt, soleOf, windowOf}
+use Rattle.operators.specs.Readers.{levelAt, roleAt, soleOf}
 use Rattle.expressions.specs.Frames.{Sole, Count, Low}
 use Rattle.operators.specs.Tables.{roleNumber, soleKind, windowKind, prefixAt}
-use Rattle.expressions.specs.OperatorLaws.{PrefixFound, prefix-some}
+use Rattle.operators.specs.RowLaws.{PrefixFound, prefix-some}
 use Rattle.expressions.specs.StartLaws.{reads-loose}
 use Rattle.expressions.specs.RoleLaws.{takesOne, starts-sole, starts-count, starts-window}
 use Rattle.expressions.specs.Stack.{putSlot}
@@ -123,6 +123,6 @@ module _ {ts : Tokens} {s : Cursor} {x : Read Expr} {w : List ℕ} {m : Machine}
           go (Folding q) e = absurd (a (found .role ∙ ap roleNumber e))
           go (Windowed q) e =
               let f = found in
-              enter-second h Low 17 (record { slots = λ l t. refl; trees = λ l t. refl; credit = refl; class = lit< tt }) (marked, ap windowKind e ∙ ap (λ o. Kind.window (windowOf o)) (sym e))
+              enter-second h Low 17 (record { slots = λ l t. refl; trees = λ l t. refl; credit = refl; class = lit< tt }) (marked, ap windowKind e)
               not-end (omega arith) (lit< tt) (lit< tt)
               (starts-window (m .level) (drop (m .c .at) ts) (f .row) (f .here) tight q e bracket-here)

@@ -26,7 +26,7 @@ use Rattle.expressions.specs.declared.stack.Turn.the-variants.{Next, End
 use Rattle.operators.specs.Readers.{reads, climbs, prefixRow}
 use Rattle.expressions.specs.Frames.{Class, Round, Bars, Square, One, frame, resume}
 use Rattle.operators.specs.Tables.{prefixAt}
-use Rattle.expressions.specs.OperatorLaws.{prefix-none}
+use Rattle.operators.specs.RowLaws.{prefix-none}
 use Rattle.expressions.specs.StartLaws.{starter, starts-numeral, starts-true, starts-false, starts-round, starts-bars, starts-name, starts-index, starts-empty, starts-set, starts-not}
 use Rattle.expressions.specs.Stack.{putSlot}
 use Rattle.expressions.specs.StackLaws.{stacked-less, stacked-next}
@@ -96,8 +96,8 @@ module _ {ts : Tokens} {s : Cursor} {x : Read Expr} {w : List ℕ} {m : Machine}
     pub turn-numeral : kindAt w (m .c) ≡ 2 → Turned ts s x w (leafWritten w m 1) m (leafOf m)
     turn-numeral e = leaf-turn (Numeral (here h)) 1 refl (lit< tt) (omega arith) (starts-numeral (m .level) us (no-row none-here) (number-here 2 e))
 
-    pub turn-true : kindAt w (m .c) ≡ fixed "true" → Turned ts s x w (leafWritten w m 3) m (leafOf m)
-    turn-true e = leaf-turn (Truth (here h) true) 3 refl (lit< tt) (omega arith) (starts-true (m .level) us (no-row none-here) (number-here 66 e))
+    pub turn-true : kindAt w (m .c) ≡ fixed "true" → Turned ts s x w (leafWritten w m 2) m (leafOf m)
+    turn-true e = leaf-turn (Truth (here h) true) 2 refl (lit< tt) (omega arith) (starts-true (m .level) us (no-row none-here) (number-here 66 e))
 
     pub turn-false : kindAt w (m .c) ≡ fixed "false" → Turned ts s x w (leafWritten w m 2) m (leafOf m)
     turn-false e = leaf-turn (Truth (here h) false) 2 refl (lit< tt) (omega arith) (starts-false (m .level) us (no-row none-here) (number-here 67 e))

@@ -20,7 +20,7 @@ use Rattle.entries.specs.Reads.{Kept, Outcome}
 use Rattle.expressions.specs.declared.stack.Machine.{Machine}
 use Rattle.expressions.specs.declared.stack.Turn.{Turn}
 use Rattle.expressions.specs.declared.stack.Turn.the-variants.{Next, Ended}
-use Rattle.operators.specs.Readers.{reads, climbs, roleAt, soleOf, windowOf, bigOf}
+use Rattle.operators.specs.Readers.{reads, climbs, roleAt, soleOf, bigOf}
 use Rattle.expressions.specs.Frames.{Class, Right, Sole, Stepped, Within, Cons, Over, Round, Bars, Square, Last, All, Count, Low, High, One, Two, More, Bound, Upper, Member, Frame, frame, plug}
 use Rattle.operators.specs.Tables.{soleKind, windowKind, infixAt, prefixAt}
 use Rattle.expressions.specs.Stack.{Slot, Stacked, Rooted}
@@ -124,7 +124,7 @@ abbrev pub Suits : Class → Role → Type 0
 Suits Right o = Unit {0}
 Suits Sole o = soleKind o ≡ Kind.before (soleOf o)
 Suits Stepped o = Unit {0}
-Suits Within o = windowKind o ≡ Kind.window (windowOf o)
+Suits Within o = windowKind o ≡ Kind.window
 Suits Cons o = Unit {0}
 Suits Over o = soleKind o ≡ Kind.big (bigOf o)
 Suits Round o = Unit {0}
@@ -133,8 +133,8 @@ Suits Square o = Unit {0}
 Suits Last o = Unit {0}
 Suits All o = Unit {0}
 Suits Count o = Unit {0}
-Suits Low o = windowKind o ≡ Kind.window (windowOf o)
-Suits High o = windowKind o ≡ Kind.window (windowOf o)
+Suits Low o = windowKind o ≡ Kind.window
+Suits High o = windowKind o ≡ Kind.window
 Suits One o = Unit {0}
 Suits Two o = Unit {0}
 Suits More o = Unit {0}

@@ -20,10 +20,10 @@ use Rattle.entries.specs.declared.Cursor.{Cursor}
 use Rattle.entries.specs.Cursors.{Ready}
 use Rattle.expressions.specs.declared.stack.Machine.{Machine}
 use Rattle.expressions.specs.declared.stack.Turn.the-variants.{Next}
-use Rattle.operators.specs.Readers.{climbs, roleAt, windowOf}
+use Rattle.operators.specs.Readers.{climbs}
 use Rattle.expressions.specs.Frames.{Class, Right, Sole, Stepped, Within, Cons, Over, Frame, turned, builtBy, plug}
 use Rattle.operators.specs.Tables.{infixAt, prefixAt}
-use Rattle.expressions.specs.OperatorLaws.{PrefixFound, infix-some, prefix-some}
+use Rattle.operators.specs.RowLaws.{PrefixFound, infix-some, prefix-some}
 use Rattle.expressions.specs.Stack.{slotIndex, slotClass, topSlot, Stacked}
 use Rattle.expressions.specs.StackLaws.{slot-index}
 use Rattle.expressions.specs.States.{classNumber, slot, slotsOf, treesBy, behind, base, credits, Turned}
@@ -81,13 +81,13 @@ module _ {ts : Tokens} {s : Cursor} {x : Read Expr} {w : List ℕ} {m : Machine}
         let at-top = st .slots-at .0 in
         ap (λ j. numberIn (wordAt w j)) (slot-index at-top) ∙ stored-number (at-top .index) (F .token) (st .ready) (at-top .tokens .0)
 
-    pub built-right : slotClass top ≡ 1 → Built ts s x w m (m .c) (infixAt (operatorIn w top) / 1024) 2
+    pub built-right : slotClass top ≡ 1 → Built ts s x w m (m .c) (infixAt (operatorIn w top) / 1024 % 64) 2
     built-right e =
         let q = popping h Right deep e in
         let F = turned Right (q .0) in
         let number-is = number-top Right (q .0) (q .1) (q .2) (q .2 .stacked) in
         let row = infix-some (F .token) (q .2 .firm-top .1 .0) in
-        let is : infixAt (operatorIn w top) / 1024 ≡ infixAt (number (F .token)) / 1024 = ap (λ n. infixAt n / 1024) number-is in
+        let is : infixAt (operatorIn w top) / 1024 % 64 ≡ infixAt (number (F .token)) / 1024 % 64 = ap (λ n. infixAt n / 1024 % 64) number-is in
         built F (q .1) (q .2) (m .c) (0 + credits (q .1)) (q .2 .stacked) (builtBy Right F (q .2 .tree)) _ _ (is ∙ row .kind) (subst (λ k. k < 64) (sym is) (row .kind-fits)) (some (F .token)) refl
         (λ j k. k) (omega arith) (omega arith) (q .2 .same)
 
@@ -111,11 +111,11 @@ module _ {ts : Tokens} {s : Cursor} {x : Read Expr} {w : List ℕ} {m : Machine}
         built F (q .1) (q .2) (m .c) (0 + credits (q .1)) (q .2 .stacked) (builtBy Over F (q .2 .tree)) _ _ (row .sole ∙ q .2 .firm-top .1 .1) (omega arith) (some (F .token)) refl (λ j k. k)
         (omega arith) (omega arith) (q .2 .same)
 
-    pub built-within : slotClass top ≡ 4 → Built ts s x w m (m .c) (prefixAt (operatorIn w top) / 16_384) 3
+    pub built-within : slotClass top ≡ 4 → Built ts s x w m (m .c) (prefixAt (operatorIn w top) / 16_384 % 64) 3
     built-within e =
         let q = popping h Within deep e in
         let F = turned Within (q .0) in
         let row = prefix-top Within F (number-top Within (q .0) (q .1) (q .2) (q .2 .stacked)) (q .2 .firm-top .1 .0) in
         built F (q .1) (q .2) (m .c) (0 + credits (q .1)) (q .2 .stacked) (builtBy Within F (q .2 .tree)) _ _ (row .window ∙ q .2 .firm-top .1 .1) (row .window-fits) (some (F .token))
-        (ap (λ es. under (Kind.window (windowOf (roleAt (F .token)))) (some (F .token)) es) (sym (append-assoc (flat (F .first)) (flat (F .second)) (flat (q .2 .tree))))) (λ j k. k) (omega arith)
+        (ap (λ es. under Kind.window (some (F .token)) es) (sym (append-assoc (flat (F .first)) (flat (F .second)) (flat (q .2 .tree))))) (λ j k. k) (omega arith)
         (omega arith) (q .2 .same)

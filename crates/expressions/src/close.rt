@@ -65,13 +65,13 @@ pub fn whole(m: Machine, work: &mut [u8]) -> Turn
     }
     let k = operator(work, f);
     if class == RIGHT {
-        return build(m, work, c, infix(k) / 1024, 2);
+        return build(m, work, c, infix(k) / 1024 % 64, 2);
     }
     if class == SOLE {
         return build(m, work, c, prefix(k) / 256 % 64, 1);
     }
     if class == WITHIN {
-        return build(m, work, c, prefix(k) / 16384, 3);
+        return build(m, work, c, prefix(k) / 16384 % 64, 3);
     }
     build(m, work, c, prefix(k) / 256 % 64, 2)
 }
@@ -93,7 +93,7 @@ pub fn close(m: Machine, work: &mut [u8]) -> Turn
     }
     if class == BARS {
         if k == numbers::BAR {
-            return build(m, work, c.next(), kinds::SIZE, 1);
+            return build(m, work, c.next(), kinds::MEASURE, 1);
         }
         return Turn::Ended(c.refuse(work));
     }

@@ -52,20 +52,14 @@ fn sign(number: u32) -> bool
     number == numbers::LEQ
 }
 
-// The kind of the entry of bounds, by the numbers of their signs.
-fn between(low: u32, high: u32) -> u32
-    ensures { λ r. ⌜ r ≡ betweenAt low high ⌝ }
+// The kind of the entry of bounds, by the number of the high one's sign.
+fn between(high: u32) -> u32
+    ensures { λ r. ⌜ r ≡ betweenAt high ⌝ }
 {
-    if strict(low) {
-        if strict(high) {
-            return kinds::BETWEEN_NO_ENDS;
-        }
-        return kinds::BETWEEN_NO_LOW;
-    }
     if strict(high) {
         return kinds::BETWEEN_NO_HIGH;
     }
-    kinds::BETWEEN_ENDS
+    kinds::BETWEEN
 }
 
 // The kind of the entry of a name, which is the first where the operator's level is not 0.
@@ -154,7 +148,7 @@ pub fn names(m: Machine, work: &mut [u8]) -> Turn
     }
     let at = (f % TOKENS) as usize;
     if class == UPPER {
-        let kind = between(number(work, at), number(work, at + 2));
+        let kind = between(number(work, at + 2));
         let d = grow(c, work, kind, at, 2);
         return named(m.popped(0), work, d, at + 1);
     }

@@ -71,10 +71,10 @@ pub fn atom(m: Machine, work: &mut [u8]) -> Turn
         return leaf(m, work, kinds::NUMERAL);
     }
     if k == numbers::TRUE {
-        return leaf(m, work, kinds::TRUE);
+        return leaf(m, work, kinds::TRUTH);
     }
     if k == numbers::FALSE {
-        return leaf(m, work, kinds::FALSE);
+        return leaf(m, work, kinds::TRUTH);
     }
     if k == numbers::OPEN_PAREN {
         return Turn::Next(m.push(work, ROUND, at, c.next(), LOOSEST));

@@ -8,6 +8,7 @@ use lib.Seq.{getD-drop}
 use Rattle.language.specs.Limits.{maxElements}
 use Rattle.language.specs.Expansion.{at}
 use Rattle.memory_sets.specs.Places.{Copied}
+use Rattle.machine.specs.Phases as Phase
 use Rattle.machine.specs.Came.{Evaluate}
 use Rattle.machine.specs.Memory.{firstKept, frameWords, setWords, Lies, nowhere, keptSet, value as placed, Sits, inKept, onTop}
 use Rattle.machine.specs.MemoryLaws.{word-of}
@@ -109,7 +110,7 @@ pub data Onward (mem mem' : List ℕ) (m : Machine) (from n : ℕ) (r : Move) : 
   lowEnd : getD mem (m .frames + 4) 0 ≡ 0 → getD mem (m .frames + 2) 0 ≤ from → Copied mem from mem mem' (getD mem (m .frames + 2) 0) n
       → r ≡ Next (unbound m isSet n (getD mem (m .frames + 2) 0) (getD mem (m .frames + 2) 0)) → Onward mem mem' m from n r
   keptOn : {low : ℕ} {y : Machine} → 0 < getD mem (m .frames + 4) 0 → Behind (getD mem (m .frames + 2) 0) (getD mem (m .frames + 3) 0) (getD mem (m .frames + 4) 0) low → from < getD mem (m .frames + 2) 0
-      → r ≡ Next y → Turns mem mem' m (nextAt (wordsAt mem (m .frames)) 16 n from) (m .depth - 1) (getD mem (getD mem (m .frames + 3) 0) 0) (modeOf Evaluate) low y → Onward mem mem' m from n r
+      → r ≡ Next y → Turns mem mem' m (nextAt (wordsAt mem (m .frames)) Phase.nextSet n from) (m .depth - 1) (getD mem (getD mem (m .frames + 3) 0) 0) (modeOf Evaluate) low y → Onward mem mem' m from n r
   lowOn : {low : ℕ} {y : Machine} {mem₁ : List ℕ} → 0 < getD mem (m .frames + 4) 0 → Behind (getD mem (m .frames + 2) 0) (getD mem (m .frames + 3) 0) (getD mem (m .frames + 4) 0) low
       → getD mem (m .frames + 2) 0 ≤ from → Copied mem from mem mem₁ low n → r ≡ Next y
-      → Turns mem₁ mem' m (nextAt (wordsAt mem₁ (m .frames)) 16 n low) (m .depth - 1) (getD mem₁ (getD mem₁ (m .frames + 3) 0) 0) (modeOf Evaluate) (low + n) y → Onward mem mem' m from n r
+      → Turns mem₁ mem' m (nextAt (wordsAt mem₁ (m .frames)) Phase.nextSet n low) (m .depth - 1) (getD mem₁ (getD mem₁ (m .frames + 3) 0) 0) (modeOf Evaluate) (low + n) y → Onward mem mem' m from n r

@@ -13,6 +13,7 @@ use Rattle.language.specs.Expansion.{Context, at}
 use Rattle.operands.specs.Working.{Source}
 use Rattle.memory_sets.specs.Places.{Outside}
 use Rattle.memory_sets.specs.PlaceLaws.{outside-both, outside-within}
+use Rattle.machine.specs.Phases as Phase
 use Rattle.machine.specs.Came.{Evaluate, Came, Worth}
 use Rattle.machine.specs.Frames.{Frame, NextSet, onwardSets, apply}
 use Rattle.machine.specs.Realm.{Realm}
@@ -111,7 +112,7 @@ module _ {s : Source} {R : Realm s} {mem out : List ℕ} {m : Machine} {x : Resu
     pub here : OpAt s (words h .entry) (Folds op) p
     pub each : EachOf R (h .ground) c i e
     pub sets : OfSets op
-    pub fewer : (count : ℕ) → turns 16 count < turns phase (suc count)
+    pub fewer : (count : ℕ) → turns Phase.nextSet count < turns phase (suc count)
 
   module _ {p : ℕ} {op : Big} {c : Context} {i : Token} {e : Expr} {a mem₀ : List ℕ} {from n : ℕ} (b : Folding p op c i e a mem₀ from n) where
     -- the frame's words in mem₀
@@ -204,7 +205,7 @@ module _ {s : Source} {R : Realm s} {mem out : List ℕ} {m : Machine} {x : Resu
       near : other ≤ words h .base + setWords
 
     holds-on : {low other top : ℕ} {mem₂ mem' : List ℕ} {y : Machine} → Holding₂ low other top mem₂
-        → Turns mem₂ mem' m (nextAt (wordsAt mem₂ (m .frames)) 16 n other) (m .depth - 1) (getD mem₂ (getD mem₂ (m .frames + 3) 0) 0) (modeOf Evaluate) top y → Turned R mem mem' out out m x o (Next y)
+        → Turns mem₂ mem' m (nextAt (wordsAt mem₂ (m .frames)) Phase.nextSet n other) (m .depth - 1) (getD mem₂ (getD mem₂ (m .frames + 3) 0) 0) (modeOf Evaluate) top y → Turned R mem mem' out out m x o (Next y)
     holds-on {low} {other} {top} {mem₂} {mem'} {y} g t =
         let k = keeps (g .outside) in
         let r = g .room in
@@ -222,7 +223,7 @@ module _ {s : Source} {R : Realm s} {mem out : List ℕ} {m : Machine} {x : Resu
         let v = getD mem₂ (words h .at) 0 in
         let qs : length l ≡ suc (length (q .rest)) = ap length (q .same) in
         let nr = b .rest .near in
-        continues h f {G = NextSet p op c i e a (q .rest)} {new = 16} {value = n} {other = other} {fold' = a} {forms' = []} {a = Evaluate} {c = c} {i = i} {e = e} {mem₀ = mem₂} {out' = out} (record {
+        continues h f {G = NextSet p op c i e a (q .rest)} {new = Phase.nextSet} {value = n} {other = other} {fold' = a} {forms' = []} {a = Evaluate} {c = c} {i = i} {e = e} {mem₀ = mem₂} {out' = out} (record {
           words-kept = k .words-kept;
           agree = k .agree;
           some = q;

@@ -1,4 +1,5 @@
 pub mod TurningLaws
+pub mod Bigs
 pub mod BigLaws
 pub mod ElementLaws
 pub mod ContinueLaws

@@ -1,5 +1,5 @@
 -- A big operator of numbers: what its operands have come to is folded to the left.
-use Prim.Native.Nat.{ℕ, zero, suc, _+_, _-_, _≤_, _<_, _^_}
+use Prim.Native.Nat.{ℕ, suc, _+_, _-_, _≤_, _<_, _^_}
 use mathlib.Core.List.{List, [], _∷_}
 use mathlib.Core.Path.{_≡_, refl, sym, ap, ap₂, _∙_, subst}
 use native.Mathlib.Omega.{arith}
@@ -8,7 +8,7 @@ use Rattle.node.specs.Result.{Result, _>>=_}
 use Rattle.node.specs.ResultLaws.{bind-again, bind-at, bind-same, bind-refused}
 use Rattle.language.specs.Limits.{maxNumber}
 use Rattle.language.specs.Tokens.{Token}
-use Rattle.language.specs.Operators.{Arithmetic, Big}
+use Rattle.language.specs.Operators.{Arithmetic, Big, BigSum, BigProduct, BigCap, BigCup, BigAnd, BigOr}
 use Rattle.language.specs.Tree.{Expr}
 use Rattle.language.specs.Values.{Number, number, calculate, onward, value}
 use Rattle.language.specs.Expansion.{Context, at}
@@ -17,8 +17,11 @@ use Rattle.language.specs.Laws.Values.ValueLaws.{calculate-sane}
 use Rattle.sets.specs.Answers.{says}
 use Rattle.sets.specs.Operators.{arithmetic}
 use Rattle.sets.specs.declared.Worked.{Worked}
-use Rattle.operands.specs.Entries.{kindAt, placeAt}
+use Rattle.operators.specs.Codes.{bigCode}
+use Rattle.operators.specs.Tables.{prefixCodeAt}
+use Rattle.operands.specs.Entries.{placeAt, numberAt as tokenNumber}
 use Rattle.operands.specs.Working.{Source}
+use Rattle.machine.specs.Phases as Phase
 use Rattle.machine.specs.Came.{Evaluate, Came, worth, works, asNumber}
 use Rattle.machine.specs.Frames.{Frame, FirstNumber, NextNumber, numeric, numberAt, onwardNumbers, apply}
 use Rattle.machine.specs.Realm.{Realm}
@@ -40,7 +43,6 @@ use Rattle.machine.specs.declared.Move.{Move}
 use Rattle.machine.specs.declared.Move.the-variants.{Next, Refused as Refuses}
 use Rattle.machine.specs.Entering.{Waiting}
 use Rattle.fold_steps.specs.TurningLaws.{Turns}
-use Rattle.fold_steps.specs.BigLaws.{bigOperator, op-big}
 use Rattle.fold_steps.specs.ElementLaws.{split, no-element}
 use Rattle.fold_steps.specs.ContinueLaws.{wordsAt, nextAt, unbound, Continuing, continuing, continues, ends, turning-depth, turning-held, turning-lies, turning-count, turning-laid}
 
@@ -57,20 +59,14 @@ fold-more p o c i e v rest a =
     ∙ bind-same (r >>= number) _ _ (λ b. bind-again (step a b) (λ d. onward step f d rest) (λ n. worth (Number n)))
     ∙ sym (take-number r (λ b. step a b >>= onwardNumbers p o c i e rest))
 
--- the operator between two numbers that a big one folds with, by number
-pub numeric-is : (k : ℕ) → k - 39 ≡ 1 → arithmetic 2 ≡ numeric (bigOperator (k - 39))
-numeric-is k e = rw e
-
-pub numeric-not : (k : ℕ) → (k ≡ 40 → ⊥) → arithmetic 0 ≡ numeric (bigOperator (k - 39))
-numeric-not k n = go (k - 39) (λ e. n (omega arith))
-  where
-    go : (j : ℕ) → (j ≡ 1 → ⊥) → arithmetic 0 ≡ numeric (bigOperator j)
-    go zero f = refl
-    go (suc zero) f = absurd (f refl)
-    go (suc (suc zero)) f = refl
-    go (suc (suc (suc zero))) f = refl
-    go (suc (suc (suc (suc zero)))) f = refl
-    go (suc (suc (suc (suc (suc j))))) f = refl
+-- the operator between two numbers that a big one folds with
+numeric-code : (o : Big) → OfNumbers o → arithmetic (bigCode o) ≡ numeric o
+numeric-code BigSum h = refl
+numeric-code BigProduct h = refl
+numeric-code BigCap h = absurd h
+numeric-code BigCup h = absurd h
+numeric-code BigAnd h = absurd h
+numeric-code BigOr h = absurd h
 
 -- a number is folded: it is the answer where no element is left; else the operand is worked out at the next one
 pub record Foldable (mem : List ℕ) (m : Machine) : Type 0 where
@@ -82,7 +78,7 @@ pub record Foldable (mem : List ℕ) (m : Machine) : Type 0 where
 pub data Onward (mem mem' : List ℕ) (m : Machine) (n : ℕ) (r : Move) : Type 0 where
   ended : getD mem (m .frames + 4) 0 ≡ 0 → mem' ≡ mem → r ≡ Next (unbound m isNumber n 0 (getD mem (m .frames + 2) 0)) → Onward mem mem' m n r
   going : {y : Machine} → 0 < getD mem (m .frames + 4) 0 → r ≡ Next y
-      → Turns mem mem' m (nextAt (wordsAt mem (m .frames)) 14 n 0) (m .depth - 1) (getD mem (getD mem (m .frames + 3) 0) 0) (modeOf Evaluate) (m .top) y → Onward mem mem' m n r
+      → Turns mem mem' m (nextAt (wordsAt mem (m .frames)) Phase.nextNumber n 0) (m .depth - 1) (getD mem (getD mem (m .frames + 3) 0) 0) (modeOf Evaluate) (m .top) y → Onward mem mem' m n r
 
 module _ {s : Source} {R : Realm s} {mem out : List ℕ} {m : Machine} {x : Result Came} {o : Began} {F : Frame} (h : TopOf R mem out m x o F) {phase : ℕ} {l : List ℕ} (f : holding F ≡ turning phase l [] []) where
   pub foldable : length mem < 2 ^ 32 → Foldable mem m
@@ -101,7 +97,7 @@ module _ {s : Source} {R : Realm s} {mem out : List ℕ} {m : Machine} {x : Resu
     pub here : OpAt s (words h .entry) (Folds op) p
     pub each : EachOf R (h .ground) c i e
     pub numbers : OfNumbers op
-    pub fewer : (count : ℕ) → turns 14 count < turns phase (suc count)
+    pub fewer : (count : ℕ) → turns Phase.nextNumber count < turns phase (suc count)
 
   pub folds-on : {p : ℕ} {op : Big} {c : Context} {i : Token} {e : Expr} {n : ℕ} → Folding p op c i e n → {mem' : List ℕ} (r : Move) → Onward mem mem' m n r → Turned R mem mem' out out m x o r
   folds-on {p} {op} {c} {i} {e} {n} b {mem'} r (ended z em er) =
@@ -123,7 +119,7 @@ module _ {s : Source} {R : Realm s} {mem out : List ℕ} {m : Machine} {x : Resu
       let q = split mem (words h .at) l (turning-held h f) (b .fine) (omega arith) in
       let v = getD mem (words h .at) 0 in
       subst (λ (y : Move). Turned R mem mem' out out m x o y) (sym er)
-      (continues h f {G = NextNumber p op c i e n (q .rest)} {new = 14} {value = n} {other = 0} {fold' = []} {forms' = []} {a = Evaluate} {c = c} {i = i} {e = e} {mem₀ = mem} {out' = out} (record {
+      (continues h f {G = NextNumber p op c i e n (q .rest)} {new = Phase.nextNumber} {value = n} {other = 0} {fold' = []} {forms' = []} {a = Evaluate} {c = c} {i = i} {e = e} {mem₀ = mem} {out' = out} (record {
         words-kept = refl;
         agree = agree-same;
         some = q;
@@ -168,14 +164,14 @@ record AtNext {s : Source} (R : Realm s) (mem out : List ℕ) (m : Machine) (x :
   top : TopOf R mem out m x o (NextNumber place op context name operand sum rest)
 
 module _ {s : Source} {R : Realm s} {mem out : List ℕ} {m : Machine} {x : Result Came} {o : Began} (t : Top R mem out m x o) where
-  at-first : Waiting mem m 13 → AtFirst R mem out m x o
+  at-first : Waiting mem m Phase.firstNumber → AtFirst R mem out m x o
   at-first w =
-      let v = by-phase (t .frame) 13 (top-phase t ∙ w .phase) in
+      let v = by-phase (t .frame) Phase.firstNumber (top-phase t ∙ w .phase) in
       record { place = v .0; op = v .1; context = v .2; name = v .3; operand = v .4; rest = v .5; top = top-as t {F = FirstNumber (v .0) (v .1) (v .2) (v .3) (v .4) (v .5)} (v .6) }
 
-  at-next : Waiting mem m 14 → AtNext R mem out m x o
+  at-next : Waiting mem m Phase.nextNumber → AtNext R mem out m x o
   at-next w =
-      let v = by-phase (t .frame) 14 (top-phase t ∙ w .phase) in
+      let v = by-phase (t .frame) Phase.nextNumber (top-phase t ∙ w .phase) in
       record {
         place = v .0;
         op = v .1;
@@ -188,7 +184,7 @@ module _ {s : Source} {R : Realm s} {mem out : List ℕ} {m : Machine} {x : Resu
       }
 
 -- the operand at the first element has come
-module _ {s : Source} {mem : List ℕ} {m : Machine} (w : Waiting mem m 13) where
+module _ {s : Source} {mem : List ℕ} {m : Machine} (w : Waiting mem m Phase.firstNumber) where
   pub first-misfits : (m .mode ≡ isNumber → ⊥) → Takes s mem mem m (Refuses 9 0)
   first-misfits e = record {
     turns = λ R x o out t.
@@ -198,7 +194,7 @@ module _ {s : Source} {mem : List ℕ} {m : Machine} (w : Waiting mem m 13) wher
   }
 
   pub first-foldable : Topped s mem m → Foldable mem m
-  first-foldable t = let y = at-first (t .top) w in foldable (y .top) {phase = 13} {l = y .rest} refl (t .lent .small)
+  first-foldable t = let y = at-first (t .top) w in foldable (y .top) {phase = Phase.firstNumber} {l = y .rest} refl (t .lent .small)
 
   pub first-steps : m .mode ≡ isNumber → {mem' : List ℕ} (r : Move) → Onward mem mem' m (m .value) r → Takes s mem mem' m r
   first-steps e r g = record {
@@ -207,7 +203,7 @@ module _ {s : Source} {mem : List ℕ} {m : Machine} (w : Waiting mem m 13) wher
         let h = y .top in
         let k = onwardNumbers (y .place) (y .op) (y .context) (y .name) (y .operand) (y .rest) in
         let n = came-number R o mem m (h .came) (h .come) e in
-        folds-on h {phase = 13} {l = y .rest} refl {p = y .place} {op = y .op} {c = y .context} {i = y .name} {e = y .operand} {n = m .value} (record {
+        folds-on h {phase = Phase.firstNumber} {l = y .rest} refl {p = y .place} {op = y .op} {c = y .context} {i = y .name} {e = y .operand} {n = m .value} (record {
           came = n;
           same = ap (λ (u : Came). asNumber u >>= k) (n .same) ∙ bind-at (m .value) k;
           fine = h .at .holds;
@@ -222,7 +218,7 @@ module _ {s : Source} {mem : List ℕ} {m : Machine} (w : Waiting mem m 13) wher
 -- the frame's words as the code reads them, and what it makes of them
 pub record Adds (s : Source) (mem : List ℕ) (m : Machine) (k i p a : ℕ) (r : Worked) : Type 0 where
   pub entry : k ≡ getD mem (m .frames + 1) 0
-  pub operator : arithmetic i ≡ numeric (bigOperator (kindAt (s .work) k - 39))
+  pub operator : i ≡ prefixCodeAt (tokenNumber (s .work) k)
   pub place : p ≡ placeAt (s .work) k
   pub folded : a ≡ getD mem (m .frames + 5) 0
   pub answer : says r ≡ calculate p (arithmetic i) a (m .value)
@@ -235,7 +231,7 @@ record Added {s : Source} {R : Realm s} {mem out : List ℕ} {m : Machine} {x : 
       ≡ (says r >>= onwardNumbers (y .place) (y .op) (y .context) (y .name) (y .operand) (y .rest))
 
 -- the operand at a further element has come
-module _ {s : Source} {mem : List ℕ} {m : Machine} (w : Waiting mem m 14) where
+module _ {s : Source} {mem : List ℕ} {m : Machine} (w : Waiting mem m Phase.nextNumber) where
   pub next-misfits : (m .mode ≡ isNumber → ⊥) → Takes s mem mem m (Refuses 9 0)
   next-misfits e = record {
     turns = λ R x o out t.
@@ -246,7 +242,7 @@ module _ {s : Source} {mem : List ℕ} {m : Machine} (w : Waiting mem m 14) wher
   }
 
   pub next-foldable : Topped s mem m → Foldable mem m
-  next-foldable t = let y = at-next (t .top) w in foldable (y .top) {phase = 14} {l = y .rest} refl (t .lent .small)
+  next-foldable t = let y = at-next (t .top) w in foldable (y .top) {phase = Phase.nextNumber} {l = y .rest} refl (t .lent .small)
 
   module _ (e : m .mode ≡ isNumber) {k i p a : ℕ} where
     added : {R : Realm s} {out : List ℕ} {x : Result Came} {o : Began} (y : AtNext R mem out m x o) (r : Worked) → Adds s mem m k i p a r → Added y r
@@ -257,7 +253,7 @@ module _ {s : Source} {mem : List ℕ} {m : Machine} (w : Waiting mem m 14) wher
         let op = y .op in
         let onto = onwardNumbers pl op (y .context) (y .name) (y .operand) (y .rest) in
         let here : OpAt s k (Folds op) pl = subst (λ (j : ℕ). OpAt s j (Folds op) pl) (sym (q .entry ∙ entry-word h)) (h .at .waits .0) in
-        let same-op : arithmetic i ≡ numeric op = q .operator ∙ ap numeric (op-big here .operator) in
+        let same-op : arithmetic i ≡ numeric op = ap arithmetic (q .operator ∙ here .spelt) ∙ numeric-code op (h .at .waits .2) in
         let same-place : p ≡ pl = q .place ∙ here .place in
         let same-number : a ≡ y .sum = q .folded ∙ value-word h ∙ h .at .holds .1 .here in
         let z : says r ≡ calculate pl (numeric op) (y .sum) (m .value) = q .answer ∙ ap (λ (j : ℕ). calculate j (arithmetic i) a (m .value)) same-place
@@ -283,7 +279,7 @@ module _ {s : Source} {mem : List ℕ} {m : Machine} (w : Waiting mem m 14) wher
           let y = at-next t w in
           let h = y .top in
           let z = added y (Worked.Value n) q in
-          folds-on h {phase = 14} {l = y .rest} refl {p = y .place} {op = y .op} {c = y .context} {i = y .name} {e = y .operand} {n = n} (record {
+          folds-on h {phase = Phase.nextNumber} {l = y .rest} refl {p = y .place} {op = y .op} {c = y .context} {i = y .name} {e = y .operand} {n = n} (record {
             came = z .came;
             same = z .same ∙ bind-at n (onwardNumbers (y .place) (y .op) (y .context) (y .name) (y .operand) (y .rest));
             fine = h .at .holds .0;

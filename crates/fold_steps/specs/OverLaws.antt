@@ -1,7 +1,8 @@
 -- A big operator: its set is worked out; then its operand at the first element.
 use Prim.Native.Nat.{ℕ, suc, _+_, _-_, _≤_, _<_}
+use mathlib.Core.Bool.{false}
 use mathlib.Core.List.{List, [], _∷_}
-use mathlib.Core.Path.{_≡_, refl, sym, ap, _∙_, subst}
+use mathlib.Core.Path.{_≡_, refl, sym, ap, ap₂, _∙_, subst}
 use native.Mathlib.Omega.{arith}
 use lib.ListN.{length, getD}
 use Rattle.node.specs.Result.{Result, Done, _>>=_}
@@ -11,8 +12,12 @@ use Rattle.language.specs.Operators.{Arithmetic, Plus, Times, Big, BigSum, BigP
 use Rattle.language.specs.Tree.{Expr, Each}
 use Rattle.language.specs.Values.{Value, Number, Set, Logic, number, set, calculate, onward, big, value}
 use Rattle.language.specs.Expansion.{Context, at}
-use Rattle.operands.specs.Entries.{kindAt, sizeAt, placeAt}
+use Rattle.entries.specs.Kinds as Kind
+use Rattle.operators.specs.Tables.{prefixCodeAt}
+use Rattle.operands.specs.Entries.{kindAt, sizeAt, placeAt, numberAt as tokenNumber}
+use Rattle.operands.specs.KindLaws.{big-class}
 use Rattle.operands.specs.Working.{Source}
+use Rattle.machine.specs.Phases as Phase
 use Rattle.machine.specs.Came.{Evaluate, Came, Worth, worth, works, asNumber, asSet}
 use Rattle.machine.specs.Frames.{Over, FirstNumber, FirstSet, merging, numberAt, setAt, apply}
 use Rattle.machine.specs.Realm.{Operand, Realm}
@@ -39,7 +44,8 @@ use Rattle.machine.specs.declared.Move.{Move}
 use Rattle.machine.specs.declared.Move.the-variants.{Next, Refused as Refuses}
 use Rattle.machine.specs.Entering.{Evaluates, Waiting, works-value}
 use Rattle.fold_steps.specs.TurningLaws.{Turns}
-use Rattle.fold_steps.specs.BigLaws.{bigOperator, big-class, op-big, of-numbers, of-sets, of-formulas, parts-of}
+use Rattle.fold_steps.specs.Bigs.{bigBy}
+use Rattle.fold_steps.specs.BigLaws.{big-by, of-numbers, of-sets, of-formulas, parts-of}
 use Rattle.fold_steps.specs.ElementLaws.{split, no-element, begun, Beginning, beginning, begins}
 
 -- the clause as its frame has it
@@ -47,41 +53,40 @@ over-same : (r : Result Value) (k : List ℕ → Result Value) → ((r >>= set >
 over-same r k = then-worth (r >>= set) k (λ l. k l >>= worth) (λ l. refl) ∙ sym (take-set r (λ l. k l >>= worth))
 
 -- the set stands before the entry
-pub over-inside : {s : Source} {mem : List ℕ} {m : Machine} → Ready s mem m → Evaluates (s .work) m 39 45 → 2 + sizeAt (s .work) (m .value - 1) ≤ m .value
+pub over-inside : {s : Source} {mem : List ℕ} {m : Machine} → Ready s mem m → Evaluates (s .work) m Kind.bigNumbers (Kind.binder false) → 2 + sizeAt (s .work) (m .value - 1) ≤ m .value
 over-inside {s} {m = m} r k =
     let e0 = k .mode in
     let n = entered (r .state) (omega arith) in
     let kind = kindAt (s .work) (m .value) in
     let v = operand-view (n .at .operand) (big-class kind (k .from) (k .until)) in
-    let op = bigOperator (kind - 39) in
-    parts-of (v .0) op (v .1) (v .2) (v .3) (v .4) (operand-as (n .at .operand) {d = Each (v .0) op (v .1) (v .2) (v .3) (v .4)} (v .5)) .inside
+    parts-of (v .0) (v .1) (v .2) (v .3) (v .4) (v .5) (operand-as (n .at .operand) {d = Each (v .0) (v .1) (v .2) (v .3) (v .4) (v .5)} (v .6)) .inside
 
 -- the entry: its set is worked out first
-pub over-steps : {s : Source} {mem mem' : List ℕ} {m : Machine} {j : ℕ} {r : Move} → Evaluates (s .work) m 39 45 → j ≡ m .value - 2 - sizeAt (s .work) (m .value - 1)
-    → Opened mem mem' m 12 (modeOf Evaluate) j r → Steps s mem mem' m r
+pub over-steps : {s : Source} {mem mem' : List ℕ} {m : Machine} {j : ℕ} {r : Move} → Evaluates (s .work) m Kind.bigNumbers (Kind.binder false) → j ≡ m .value - 2 - sizeAt (s .work) (m .value - 1)
+    → Opened mem mem' m Phase.over (modeOf Evaluate) j r → Steps s mem mem' m r
 over-steps {s} {mem} {mem'} {m} {j} {r} k ej q = record {
   turns = λ R x o out h.
       let e0 = k .mode in
       let n = entered h (omega arith) in
       let kind = kindAt (s .work) (m .value) in
-      let op = bigOperator (kind - 39) in
       let v = operand-view (n .at .operand) (big-class kind (k .from) (k .until)) in
       let t = v .0 in
-      let i = v .2 in
-      let y = v .3 in
-      let a = v .4 in
+      let op = v .1 in
+      let i = v .3 in
+      let y = v .4 in
+      let a = v .5 in
       let c = n .context in
-      let p = parts-of t op (v .1) i y a (operand-as (n .at .operand) {d = Each t op (v .1) i y a} (v .5)) in
+      let p = parts-of t op (v .2) i y a (operand-as (n .at .operand) {d = Each t op (v .2) i y a} (v .6)) in
       let ins = p .inside in
-      opens n {F = Over (t .at) op c i a} {phase = 12} {a = Evaluate} {e = y} {j = j} (record {
+      opens n {F = Over (t .at) op c i a} {phase = Phase.over} {a = Evaluate} {e = y} {j = j} (record {
         holds-nothing = refl;
         few-turns = omega arith;
         below = omega arith;
         operand = subst (λ (z : ℕ). Operand s (R .W) (R .ports) (n .at .env) c z y) (sym ej) (p .set);
         holds = tt;
-        waits = (record { kind = p .kind; place = p .place (R .count) (R .lexed) }, p .each);
+        waits = (p .here (R .count) (R .lexed), p .each);
         kept = tt;
-        same = works-value n e0 ∙ ap (λ (d : Expr). value (c .values) d >>= worth) (v .5) ∙ over-same (value (c .values) y) (big (t .at) op (λ z. value (at c i z .values) a));
+        same = works-value n e0 ∙ ap (λ (d : Expr). value (c .values) d >>= worth) (v .6) ∙ over-same (value (c .values) y) (big (t .at) op (λ z. value (at c i z .values) a));
       }) r q;
 }
 
@@ -94,9 +99,9 @@ record AtOver {s : Source} (R : Realm s) (mem out : List ℕ) (m : Machine) (x :
   operand : Expr
   top : TopOf R mem out m x o (Over place op context name operand)
 
-at-over : {s : Source} {R : Realm s} {mem out : List ℕ} {m : Machine} {x : Result Came} {o : Began} → Top R mem out m x o → Waiting mem m 12 → AtOver R mem out m x o
+at-over : {s : Source} {R : Realm s} {mem out : List ℕ} {m : Machine} {x : Result Came} {o : Began} → Top R mem out m x o → Waiting mem m Phase.over → AtOver R mem out m x o
 at-over t w =
-    let v = by-phase (t .frame) 12 (top-phase t ∙ w .phase) in
+    let v = by-phase (t .frame) Phase.over (top-phase t ∙ w .phase) in
     record { place = v .0; op = v .1; context = v .2; name = v .3; operand = v .4; top = top-as t {F = Over (v .0) (v .1) (v .2) (v .3) (v .4)} (v .5) }
 
 -- over nothing
@@ -108,8 +113,8 @@ overNothing m BigCup p = Next (came m isSet 0 (m .top))
 overNothing m BigAnd p = Next (came m isLogic 0 0)
 overNothing m BigOr p = Next (came m isLogic 0 0)
 
-pub nothing-as : (m : Machine) (p : ℕ) {j k : ℕ} → k ≡ j → overNothing m (bigOperator (j - 39)) p ≡ overNothing m (bigOperator (k - 39)) p
-nothing-as m p e = ap (λ (i : ℕ). overNothing m (bigOperator (i - 39)) p) (sym e)
+pub nothing-as : (m : Machine) (p : ℕ) {o u : Big} → u ≡ o → overNothing m o p ≡ overNothing m u p
+nothing-as m p e = ap (λ (y : Big). overNothing m y p) (sym e)
 
 -- the first operand and the rest of the fold, as the frames have it
 numbers-same : (p : ℕ) (o : Arithmetic) (f : ℕ → Result ℕ) (r : Result Value) (rest : List ℕ) → ((((r >>= number) >>= λ a. onward (calculate p o) f a rest) >>= λ n. Done (Number n)) >>= worth)
@@ -161,15 +166,15 @@ nothing-turns : {s : Source} {R : Realm s} {mem out : List ℕ} {m : Machine} {x
     (h : TopOf R mem out m x o (Over p op c i e)) → h .came ≡ Worth (Set []) → apply (Over p op c i e) (h .came) ≡ (big p op (λ k. value (at c i k .values) e) [] >>= worth)
     → Turned R mem mem out out m x o (overNothing (popped m) op p)
 unfolding _>>=_
-nothing-turns BigSum h g q = yields h {phase = 12} refl g (Number 0) q (record { mode-is = refl; value-is = refl; small = omega arith }) tt
-nothing-turns BigProduct h g q = yields h {phase = 12} refl g (Number 1) q (record { mode-is = refl; value-is = refl; small = omega arith }) tt
+nothing-turns BigSum h g q = yields h {phase = Phase.over} refl g (Number 0) q (record { mode-is = refl; value-is = refl; small = omega arith }) tt
+nothing-turns BigProduct h g q = yields h {phase = Phase.over} refl g (Number 1) q (record { mode-is = refl; value-is = refl; small = omega arith }) tt
 nothing-turns BigCap h g q = refuses h q
 nothing-turns {mem = mem} {m = m} BigCup h g q =
-    yields h {phase = 12} refl g (Set []) q (record { mode-is = refl; count = refl; fine = record { few = omega arith; ordered = tt } }) (held-none mem (m .top), onTop refl)
-nothing-turns BigAnd h g q = yields h {phase = 12} refl g Logic q refl tt
-nothing-turns BigOr h g q = yields h {phase = 12} refl g Logic q refl tt
+    yields h {phase = Phase.over} refl g (Set []) q (record { mode-is = refl; count = refl; fine = record { few = omega arith; ordered = tt } }) (held-none mem (m .top), onTop refl)
+nothing-turns BigAnd h g q = yields h {phase = Phase.over} refl g Logic q refl tt
+nothing-turns BigOr h g q = yields h {phase = Phase.over} refl g Logic q refl tt
 
-module _ {s : Source} {mem : List ℕ} {m : Machine} (w : Waiting mem m 12) where
+module _ {s : Source} {mem : List ℕ} {m : Machine} (w : Waiting mem m Phase.over) where
   pub over-misfits : (m .mode ≡ isSet → ⊥) → Takes s mem mem m (Refuses 9 0)
   over-misfits e = record {
     turns = λ R x o out t.
@@ -178,45 +183,43 @@ module _ {s : Source} {mem : List ℕ} {m : Machine} (w : Waiting mem m 12) wher
         refuses h (misfit-then (λ l. big (y .place) (y .op) (λ k. value (at (y .context) (y .name) k .values) (y .operand)) l >>= worth) (not-set R o mem m (h .came) (h .come) e));
   }
 
-  pub over-from : Topped s mem m → 39 ≤ kindAt (s .work) (getD mem (m .frames + 1) 0)
-  over-from t =
-      let y = at-over (t .top) w in
-      subst (λ (j : ℕ). 39 ≤ kindAt (s .work) j) (sym (entry-word (y .top))) (op-big (y .top .at .waits .0) .from)
-
   module _ (e : m .mode ≡ isSet) where
     pub over-beginning : Topped s mem m → (m .value ≡ 0 → ⊥) → Beginning mem m
     over-beginning t n =
         let h = at-over (t .top) w .top in
-        beginning h {phase = 12} refl (came-set (t .realm) (t .began) mem m (h .came) (h .come) e) (t .lent .small) (omega arith)
+        beginning h {phase = Phase.over} refl (came-set (t .realm) (t .began) mem m (h .came) (h .come) e) (t .lent .small) (omega arith)
 
     module _ {k : ℕ} (ek : k ≡ getD mem (m .frames + 1) 0) where
       here : {R : Realm s} {out : List ℕ} {x : Result Came} {o : Began} (y : AtOver R mem out m x o) → OpAt s k (Folds (y .op)) (y .place)
       here y = subst (λ (j : ℕ). OpAt s j (Folds (y .op)) (y .place)) (sym (ek ∙ entry-word (y .top))) (y .top .at .waits .0)
 
-      pub over-logic : 43 ≤ kindAt (s .work) k → Takes s mem mem m (Next (came (popped m) isLogic 0 0))
+      pub over-logic : Kind.bigFormulas ≤ kindAt (s .work) k → Takes s mem mem m (Next (came (popped m) isLogic 0 0))
       over-logic l = record {
         turns = λ R x o out t.
             let y = at-over t w in
             let h = y .top in
             let g = came-set R o mem m (h .came) (h .come) e in
             let q = here y .kind in
-            yields h {phase = 12} refl (g .same) Logic (over-comes y (g .set) (g .same) ∙ logic-same (y .place) (y .context) (y .name) (y .operand) (y .op) (of-formulas (y .op) (omega arith)) (g .set)) refl tt;
+            yields h {phase = Phase.over} refl (g .same) Logic (over-comes y (g .set) (g .same) ∙ logic-same (y .place) (y .context) (y .name) (y .operand) (y .op) (of-formulas (y .op) (omega arith)) (g .set)) refl tt;
       }
 
-      pub over-nothing : m .value ≡ 0 → {p : ℕ} → p ≡ placeAt (s .work) k → Takes s mem mem m (overNothing (popped m) (bigOperator (kindAt (s .work) k - 39)) p)
-      over-nothing z {p} ep = record {
+      pub over-nothing : kindAt (s .work) k < Kind.bigFormulas → m .value ≡ 0 → {kind code p : ℕ} → kind ≡ kindAt (s .work) k → code ≡ prefixCodeAt (tokenNumber (s .work) k)
+          → p ≡ placeAt (s .work) k → Takes s mem mem m (overNothing (popped m) (bigBy kind code) p)
+      over-nothing l z {kind} {code} {p} ei ec ep = record {
         turns = λ R x o out t.
             let y = at-over t w in
             let h = y .top in
             let g = came-set R o mem m (h .came) (h .come) e in
             let none : g .set ≡ [] = no-element (g .set) (sym (g .count) ∙ z) in
             let q : h .came ≡ Worth (Set []) = g .same ∙ ap (λ (l : List ℕ). Worth (Set l)) none in
-            subst (λ (j : ℕ). Turned R mem mem out out m x o (overNothing (popped m) (bigOperator (kindAt (s .work) k - 39)) j)) (sym (ep ∙ here y .place))
-            (subst (λ (u : Big). Turned R mem mem out out m x o (overNothing (popped m) u (y .place))) (sym (op-big (here y) .operator)) (nothing-turns (y .op) h q (over-comes y [] q)));
+            let same-kind = here y .kind in
+            let same-op : bigBy kind code ≡ y .op = ap₂ bigBy (ei ∙ here y .kind) (ec ∙ here y .spelt) ∙ big-by (y .op) (omega arith) in
+            subst (λ (j : ℕ). Turned R mem mem out out m x o (overNothing (popped m) (bigBy kind code) j)) (sym (ep ∙ here y .place))
+            (subst (λ (u : Big). Turned R mem mem out out m x o (overNothing (popped m) u (y .place))) (sym same-op) (nothing-turns (y .op) h q (over-comes y [] q)));
       }
 
       module _ {mem' : List ℕ} {n : Machine} (z : m .value ≡ 0 → ⊥) where
-        pub over-numbers : kindAt (s .work) k < 41 → Turns mem mem' m (begun mem m 13) (m .depth) (getD mem (m .from) 0) (modeOf Evaluate) (above m) n → Takes s mem mem' m (Next n)
+        pub over-numbers : kindAt (s .work) k < Kind.bigSets → Turns mem mem' m (begun mem m Phase.firstNumber) (m .depth) (getD mem (m .from) 0) (modeOf Evaluate) (above m) n → Takes s mem mem' m (Next n)
         over-numbers l b = record {
           turns = λ R x o out t.
               let y = at-over t w in
@@ -227,7 +230,7 @@ module _ {s : Source} {mem : List ℕ} {m : Machine} (w : Waiting mem m 12) wher
               let v = getD mem (m .from) 0 in
               let u = here y .kind in
               let of = of-numbers (y .op) (omega arith) in
-              begins h {phase = 12} refl g q {G = FirstNumber (y .place) (y .op) (y .context) (y .name) (y .operand) (q .rest)} {new = 13} {a = Evaluate} {c = y .context} {i = y .name} {e = y .operand} (record {
+              begins h {phase = Phase.over} refl g q {G = FirstNumber (y .place) (y .op) (y .context) (y .name) (y .operand) (q .rest)} {new = Phase.firstNumber} {a = Evaluate} {c = y .context} {i = y .name} {e = y .operand} (record {
                 turns = b;
                 is-turning = refl;
                 fewer = λ j u. u;
@@ -239,7 +242,7 @@ module _ {s : Source} {mem : List ℕ} {m : Machine} (w : Waiting mem m 12) wher
               });
         }
 
-        pub over-sets : 41 ≤ kindAt (s .work) k → kindAt (s .work) k < 43 → Turns mem mem' m (begun mem m 15) (m .depth) (getD mem (m .from) 0) (modeOf Evaluate) (above m) n → Takes s mem mem' m (Next n)
+        pub over-sets : Kind.bigSets ≤ kindAt (s .work) k → kindAt (s .work) k < Kind.bigFormulas → Turns mem mem' m (begun mem m Phase.firstSet) (m .depth) (getD mem (m .from) 0) (modeOf Evaluate) (above m) n → Takes s mem mem' m (Next n)
         over-sets l1 l2 b = record {
           turns = λ R x o out t.
               let y = at-over t w in
@@ -255,9 +258,9 @@ module _ {s : Source} {mem : List ℕ} {m : Machine} (w : Waiting mem m 12) wher
               let r1 = room-under h .values in
               let n1 = h .noted .within in
               let n2 = h .noted .ascending in
-              let ft = flat-top h {phase = 12} refl in
+              let ft = flat-top h {phase = Phase.over} refl in
               let lw = sits-low m (omega arith) (g .sits) in
-              begins h {phase = 12} refl g q {G = FirstSet (y .place) (y .op) (y .context) (y .name) (y .operand) (q .rest)} {new = 15} {a = Evaluate} {c = y .context} {i = y .name} {e = y .operand} (record {
+              begins h {phase = Phase.over} refl g q {G = FirstSet (y .place) (y .op) (y .context) (y .name) (y .operand) (q .rest)} {new = Phase.firstSet} {a = Evaluate} {c = y .context} {i = y .name} {e = y .operand} (record {
                 turns = b;
                 is-turning = refl;
                 fewer = λ j u. u;

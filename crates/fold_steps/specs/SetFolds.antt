@@ -1,8 +1,7 @@
 -- A big operator of sets: its fold, and the operator between two sets that it folds with.
-use Prim.Native.Nat.{ℕ, zero, suc, _-_, _≤_}
+use Prim.Native.Nat.{ℕ, _≤_}
 use mathlib.Core.List.{List, [], _∷_}
 use mathlib.Core.Path.{_≡_, refl, sym, _∙_}
-use native.Mathlib.Omega.{arith}
 use lib.ListN.{length}
 use Rattle.node.specs.Result.{Result, _>>=_}
 use Rattle.node.specs.ResultLaws.{bind-again, bind-at, bind-same}
@@ -14,12 +13,12 @@ use Rattle.language.specs.Sets.{combine}
 use Rattle.language.specs.Values.{Set, set, limited, onward, value}
 use Rattle.language.specs.Expansion.{Context, at}
 use Rattle.sets.specs.Operators.{combination}
+use Rattle.operators.specs.Codes.{bigCode}
 use Rattle.memory_sets.specs.PlacedLaws.{cap-limited}
 use Rattle.machine.specs.Came.{Evaluate, worth, works}
 use Rattle.machine.specs.Frames.{NextSet, merging, setAt, onwardSets, apply}
 use Rattle.machine.specs.Stack.{OfSets}
 use Rattle.machine.specs.BindLaws.{take-set}
-use Rattle.fold_steps.specs.BigLaws.{bigOperator}
 
 -- the fold over no element, and over one more
 pub fold-end : (p : ℕ) (o : Big) (c : Context) (i : Token) (e : Expr) (a : List ℕ) → onwardSets p o c i e [] a ≡ worth (Set a)
@@ -34,7 +33,7 @@ fold-more p o c i e v rest a =
     ∙ bind-same (r >>= set) _ _ (λ b. bind-again (step a b) (λ d. onward step f d rest) (λ l. worth (Set l)))
     ∙ sym (take-set r (λ b. step a b >>= onwardSets p o c i e rest))
 
--- the operator between two sets that a big one folds with, by number
+-- the operator between two sets that a big one folds with
 abbrev pub setwise : Big → Combination
 setwise BigSum = Cap
 setwise BigProduct = Cap
@@ -43,19 +42,13 @@ setwise BigCup = Cup
 setwise BigAnd = Cap
 setwise BigOr = Cap
 
-pub setwise-is : (k : ℕ) → k - 39 ≡ 3 → combination 0 ≡ setwise (bigOperator (k - 39))
-setwise-is k e = rw e
-
-pub setwise-not : (k : ℕ) → (k ≡ 42 → ⊥) → combination 1 ≡ setwise (bigOperator (k - 39))
-setwise-not k n = go (k - 39) (λ e. n (omega arith))
-  where
-    go : (j : ℕ) → (j ≡ 3 → ⊥) → combination 1 ≡ setwise (bigOperator j)
-    go zero f = refl
-    go (suc zero) f = refl
-    go (suc (suc zero)) f = refl
-    go (suc (suc (suc zero))) f = absurd (f refl)
-    go (suc (suc (suc (suc zero)))) f = refl
-    go (suc (suc (suc (suc (suc j))))) f = refl
+pub setwise-code : (o : Big) → OfSets o → combination (bigCode o) ≡ setwise o
+setwise-code BigSum h = absurd h
+setwise-code BigProduct h = absurd h
+setwise-code BigCap h = refl
+setwise-code BigCup h = refl
+setwise-code BigAnd h = absurd h
+setwise-code BigOr h = absurd h
 
 -- an intersection is within the limit
 pub merge-same : (p : ℕ) (o : Big) → OfSets o → (a b : List ℕ) → length a ≤ maxElements → limited p (combine (setwise o) a b) ≡ merging p o a b

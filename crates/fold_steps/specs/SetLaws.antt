@@ -17,11 +17,13 @@ use Rattle.language.specs.Expansion.{Context, at}
 use Rattle.language.specs.Laws.Basics.Results.{value-of}
 use Rattle.sets.specs.Operators.{combination}
 use Rattle.sets.specs.declared.Worked.{Worked}
-use Rattle.operands.specs.Entries.{kindAt, placeAt}
+use Rattle.operators.specs.Tables.{prefixCodeAt}
+use Rattle.operands.specs.Entries.{placeAt, numberAt}
 use Rattle.operands.specs.Working.{Source}
 use Rattle.memory_sets.specs.Places.{elementsAt, Two, SetAt}
 use Rattle.memory_sets.specs.PlacedLaws.{words-of, combine-sane}
 use Rattle.memory_sets.specs.PlaceLaws.{outside-none, outside-within}
+use Rattle.machine.specs.Phases as Phase
 use Rattle.machine.specs.Came.{Came, asSet}
 use Rattle.machine.specs.Frames.{FirstSet, NextSet, merging, onwardSets, apply}
 use Rattle.machine.specs.Realm.{Realm}
@@ -40,8 +42,7 @@ use Rattle.machine.specs.declared.Move.{Move}
 use Rattle.machine.specs.declared.Move.the-variants.{Refused as Refuses}
 use Rattle.machine.specs.Entering.{Waiting}
 use Rattle.value_steps.specs.PlacedLaws.{elements-are, placed as set-placed}
-use Rattle.fold_steps.specs.BigLaws.{bigOperator, op-big}
-use Rattle.fold_steps.specs.SetFolds.{setwise, merge-same}
+use Rattle.fold_steps.specs.SetFolds.{setwise, setwise-code, merge-same}
 use Rattle.fold_steps.specs.FoldPlaces.{high, sits-rests, Foldable, Onward}
 use Rattle.fold_steps.specs.FoldedLaws.{limits, Folding, foldable, folds-on}
 
@@ -66,14 +67,14 @@ record AtNext {s : Source} (R : Realm s) (mem out : List ℕ) (m : Machine) (x :
   top : TopOf R mem out m x o (NextSet place op context name operand sum rest)
 
 module _ {s : Source} {R : Realm s} {mem out : List ℕ} {m : Machine} {x : Result Came} {o : Began} (t : Top R mem out m x o) where
-  at-first : Waiting mem m 15 → AtFirst R mem out m x o
+  at-first : Waiting mem m Phase.firstSet → AtFirst R mem out m x o
   at-first w =
-      let v = by-phase (t .frame) 15 (top-phase t ∙ w .phase) in
+      let v = by-phase (t .frame) Phase.firstSet (top-phase t ∙ w .phase) in
       record { place = v .0; op = v .1; context = v .2; name = v .3; operand = v .4; rest = v .5; top = top-as t {F = FirstSet (v .0) (v .1) (v .2) (v .3) (v .4) (v .5)} (v .6) }
 
-  at-next : Waiting mem m 16 → AtNext R mem out m x o
+  at-next : Waiting mem m Phase.nextSet → AtNext R mem out m x o
   at-next w =
-      let v = by-phase (t .frame) 16 (top-phase t ∙ w .phase) in
+      let v = by-phase (t .frame) Phase.nextSet (top-phase t ∙ w .phase) in
       record {
         place = v .0;
         op = v .1;
@@ -86,7 +87,7 @@ module _ {s : Source} {R : Realm s} {mem out : List ℕ} {m : Machine} {x : Resu
       }
 
 -- the operand at the first element has come
-module _ {s : Source} {mem : List ℕ} {m : Machine} (w : Waiting mem m 15) where
+module _ {s : Source} {mem : List ℕ} {m : Machine} (w : Waiting mem m Phase.firstSet) where
   pub first-misfits : (m .mode ≡ isSet → ⊥) → Takes s mem mem m (Refuses 9 0)
   first-misfits e = record {
     turns = λ R x o out t.
@@ -97,11 +98,11 @@ module _ {s : Source} {mem : List ℕ} {m : Machine} (w : Waiting mem m 15) wher
 
   module _ (e : m .mode ≡ isSet) where
     folded-first : {R : Realm s} {out : List ℕ} {x : Result Came} {o : Began} (y : AtFirst R mem out m x o) (g : IsSet mem m (y .top .came))
-        → Folding (y .top) {phase = 15} {l = y .rest} {fold = []} refl (y .place) (y .op) (y .context) (y .name) (y .operand) (g .set) mem (m .from) (m .value)
+        → Folding (y .top) {phase = Phase.firstSet} {l = y .rest} {fold = []} refl (y .place) (y .op) (y .context) (y .name) (y .operand) (g .set) mem (m .from) (m .value)
     folded-first y g =
         let h = y .top in
         let k = onwardSets (y .place) (y .op) (y .context) (y .name) (y .operand) (y .rest) in
-        let z = limits h {phase = 15} {l = y .rest} {fold = []} refl in
+        let z = limits h {phase = Phase.firstSet} {l = y .rest} {fold = []} refl in
         let z1 = z .top-high in
         let gc = g .count in
         let fw = g .fine .few in
@@ -125,20 +126,20 @@ module _ {s : Source} {mem : List ℕ} {m : Machine} (w : Waiting mem m 15) wher
     first-foldable t =
         let y = at-first (t .top) w in
         let g = came-set (t .realm) (t .began) mem m (y .top .came) (y .top .come) e in
-        foldable (y .top) {phase = 15} refl (folded-first y g) (t .lent .small)
+        foldable (y .top) {phase = Phase.firstSet} refl (folded-first y g) (t .lent .small)
 
     pub first-steps : {mem' : List ℕ} (r : Move) → Onward mem mem' m (m .from) (m .value) r → Takes s mem mem' m r
     first-steps r q = record {
       turns = λ R x o out t.
           let y = at-first t w in
           let g = came-set R o mem m (y .top .came) (y .top .come) e in
-          folds-on (y .top) {phase = 15} refl (folded-first y g) r q;
+          folds-on (y .top) {phase = Phase.firstSet} refl (folded-first y g) r q;
     }
 
 -- the frame's words as the code reads them
 pub record Reads (s : Source) (mem : List ℕ) (m : Machine) (k i p la lc to : ℕ) : Type 0 where
   pub entry : k ≡ getD mem (m .frames + 1) 0
-  pub operator : combination i ≡ setwise (bigOperator (kindAt (s .work) k - 39))
+  pub operator : i ≡ prefixCodeAt (numberAt (s .work) k)
   pub place : p ≡ placeAt (s .work) k
   pub folded-at : la ≡ getD mem (m .frames + 6) 0
   pub folded-count : lc ≡ getD mem (m .frames + 5) 0
@@ -148,7 +149,7 @@ abbrev answer : List ℕ → Machine → (la lc i p : ℕ) → Result (List ℕ)
 answer mem m la lc i p = limited p (combine (combination i) (elementsAt mem (record { at = la; count = lc })) (elementsAt mem (record { at = m .from; count = m .value })))
 
 -- the operand at a further element has come
-module _ {s : Source} {mem : List ℕ} {m : Machine} (w : Waiting mem m 16) where
+module _ {s : Source} {mem : List ℕ} {m : Machine} (w : Waiting mem m Phase.nextSet) where
   pub next-misfits : (m .mode ≡ isSet → ⊥) → Takes s mem mem m (Refuses 9 0)
   next-misfits e = record {
     turns = λ R x o out t.
@@ -169,7 +170,7 @@ module _ {s : Source} {mem : List ℕ} {m : Machine} (w : Waiting mem m 16) wher
     both : {R : Realm s} {out : List ℕ} {x : Result Came} {o : Began} (y : AtNext R mem out m x o) (g : IsSet mem m (y .top .came)) → Both y g
     both y g =
         let h = y .top in
-        let z = limits h {phase = 16} refl in
+        let z = limits h {phase = Phase.nextSet} refl in
         let z1 = z .base-low in
         let z2 = z .top-high in
         let z3 = z .wide in
@@ -215,7 +216,7 @@ module _ {s : Source} {mem : List ℕ} {m : Machine} (w : Waiting mem m 16) wher
           let b = both e (q .folded-at) (q .folded-count) (q .to-is) y g in
           let here : OpAt s k (Folds (y .op)) (y .place) = subst (λ (j : ℕ). OpAt s j (Folds (y .op)) (y .place)) (sym (q .entry ∙ entry-word h)) (h .at .waits .0) in
           ap₂ (λ (j : ℕ) (u : Combination). limited j (combine u (elementsAt mem (record { at = la; count = lc })) (elementsAt mem (record { at = m .from; count = m .value }))))
-          (q .place ∙ here .place) (q .operator ∙ ap setwise (op-big here .operator))
+          (q .place ∙ here .place) (ap combination (q .operator ∙ here .spelt) ∙ setwise-code (y .op) (h .at .waits .2))
           ∙ ap₂ (λ (c d : List ℕ). limited (y .place) (combine (setwise (y .op)) c d)) (b .folded) (b .operand)
           ∙ merge-same (y .place) (y .op) (h .at .waits .2) (y .sum) (g .set) (h .at .holds .1 .fine .few)
 
@@ -226,14 +227,14 @@ module _ {s : Source} {mem : List ℕ} {m : Machine} (w : Waiting mem m 16) wher
 
       -- the set that was made
       folded-next : {mem₁ : List ℕ} {n : ℕ} → SetAt mem mem₁ to (Worked.Value n) (answer mem m la lc i p)
-          → Folding (y .top) {phase = 16} {l = y .rest} {fold = y .sum} refl (y .place) (y .op) (y .context) (y .name) (y .operand) (take n (drop to mem₁)) mem₁ to n
+          → Folding (y .top) {phase = Phase.nextSet} {l = y .rest} {fold = y .sum} refl (y .place) (y .op) (y .context) (y .name) (y .operand) (take n (drop to mem₁)) mem₁ to n
       folded-next {mem₁} {n} z =
           let h = y .top in
           let b = both e (q .folded-at) (q .folded-count) (q .to-is) y g in
           let b1 = b .above in
           let b2 = b .below in
           let few = z .set .few in
-          let li = limits h {phase = 16} refl .fits in
+          let li = limits h {phase = Phase.nextSet} refl .fits in
           let made = take n (drop to mem₁) in
           let sane = value-of (sym (z .set .says)) (combine-sane p (combination i) (b .two)) in
           let len : length made ≡ n = length-take-le n (drop to mem₁) (let d = length-drop to mem₁ in let u = z .kept .len in omega arith) in
@@ -266,12 +267,12 @@ module _ {s : Source} {mem : List ℕ} {m : Machine} (w : Waiting mem m 16) wher
       next-foldable t =
           let y = at-next (t .top) w in
           let g = came-set (t .realm) (t .began) mem m (y .top .came) (y .top .come) e in
-          foldable (y .top) {phase = 16} refl (folded-next y g z) (t .lent .small)
+          foldable (y .top) {phase = Phase.nextSet} refl (folded-next y g z) (t .lent .small)
 
       pub next-steps : {mem' : List ℕ} (r : Move) → Onward mem₁ mem' m to n r → Takes s mem mem' m r
       next-steps r u = record {
         turns = λ R x o out t.
             let y = at-next t w in
             let g = came-set R o mem m (y .top .came) (y .top .come) e in
-            folds-on (y .top) {phase = 16} refl (folded-next y g z) r u;
+            folds-on (y .top) {phase = Phase.nextSet} refl (folded-next y g z) r u;
       }

@@ -1,39 +1,20 @@
 // Big operators of numbers: `+[..]` and `*[..]`.
-use entries::kinds;
 use machine::FRAME;
 use machine::Machine;
 use machine::Move;
 use machine::modes;
 use machine::phases;
 use node::refusals;
-use operands::entry::kind_at;
 use operands::entry::place_at;
+use operands::entry::prefix_at;
 use sets::Worked;
 use sets::numbers;
-ghost use mathlib.Core.Path.{_≡_};
-ghost use Prim.Native.Nat.{_-_};
-ghost use Rattle.machine.specs.Frames.{numeric};
+ghost use Rattle.machine.specs.Phases as Phase;
 ghost use Rattle.machine.specs.States.{Topped, Takes};
 ghost use Rattle.operands.specs.Working.{source};
 ghost use Rattle.machine.specs.Entering.{Waiting};
-ghost use Rattle.sets.specs.Operators.{arithmetic};
-ghost use Rattle.fold_steps.specs.BigLaws.{bigOperator};
 ghost use Rattle.fold_steps.specs.NumberLaws.{Foldable, Onward};
 use crate::turning::again;
-
-// The operators between two numbers that they fold with, by number.
-const PLUS: u32 = kinds::PLUS - kinds::ARITHMETIC;
-
-const TIMES: u32 = kinds::TIMES - kinds::ARITHMETIC;
-
-fn between(kind: u32) -> u32
-    ensures { λ r. ⌜ arithmetic r ≡ numeric (bigOperator (kind - 39)) ⌝ }
-{
-    if kind == kinds::BIG_PRODUCT {
-        return TIMES;
-    }
-    PLUS
-}
 
 // A number is folded: the answer where no element is left.
 fn onward(memory: &mut [u32], m: Machine, folded: u32) -> Move
@@ -67,7 +48,7 @@ fn onward(memory: &mut [u32], m: Machine, folded: u32) -> Move
 // The operand at the first element has come.
 pub fn first(text: &[u8], work: &[u8], refs: &[u16], memory: &mut [u32], m: Machine) -> Move
     requires { ⌜ Topped (source (now text) (now work) (now refs)) (now memory) m ⌝ }
-    requires { ⌜ Waiting (now memory) m 13 ⌝ }
+    requires { ⌜ Waiting (now memory) m Phase.firstNumber ⌝ }
     ensures { λ r. ⌜ Takes (source (now (text .entry)) (now (work .entry)) (now (refs .entry))) (now (memory .entry)) (now (memory .exit)) m r ⌝ }
 {
     if m.mode != modes::NUMBER {
@@ -79,7 +60,7 @@ pub fn first(text: &[u8], work: &[u8], refs: &[u16], memory: &mut [u32], m: Mach
 // The operand at a further element has come.
 pub fn next(text: &[u8], work: &[u8], refs: &[u16], memory: &mut [u32], m: Machine) -> Move
     requires { ⌜ Topped (source (now text) (now work) (now refs)) (now memory) m ⌝ }
-    requires { ⌜ Waiting (now memory) m 14 ⌝ }
+    requires { ⌜ Waiting (now memory) m Phase.nextNumber ⌝ }
     ensures { λ r. ⌜ Takes (source (now (text .entry)) (now (work .entry)) (now (refs .entry))) (now (memory .entry)) (now (memory .exit)) m r ⌝ }
 {
     if m.mode != modes::NUMBER {
@@ -88,7 +69,7 @@ pub fn next(text: &[u8], work: &[u8], refs: &[u16], memory: &mut [u32], m: Machi
     let at = m.frames;
     let k = memory[at + 1] as usize;
     let a = memory[at + 5];
-    let r = numbers::calculate(place_at(work, k), between(kind_at(work, k)), a, m.value);
+    let r = numbers::calculate(place_at(work, k), prefix_at(work, k), a, m.value);
     match r {
         Worked::Value(n) => onward(memory, m, n),
         Worked::Refused(n, p) => Move::Refused(n, p),

@@ -7,20 +7,24 @@ use machine::phases;
 use node::refusals;
 use operands::entry::kind_at;
 use operands::entry::place_at;
+use operands::entry::prefix_at;
 use operands::entry::size_at;
+use operators::codes;
+ghost use mathlib.Core.Bool.{false};
 ghost use mathlib.Core.Path.{_≡_};
-ghost use Prim.Native.Nat.{_-_, _≤_, _<_};
+ghost use Rattle.entries.specs.Kinds as Kind;
+ghost use Rattle.machine.specs.Phases as Phase;
 ghost use Rattle.machine.specs.States.{Ready, Steps, Topped, Takes};
 ghost use Rattle.operands.specs.Working.{source};
 ghost use Rattle.machine.specs.Entering.{Evaluates, Waiting};
-ghost use Rattle.fold_steps.specs.BigLaws.{bigOperator};
+ghost use Rattle.fold_steps.specs.Bigs.{bigBy};
 ghost use Rattle.fold_steps.specs.OverLaws.{overNothing};
 use crate::turning::begin;
 
 // The set is worked out first: its expression ends before the entry of the operator's name, which stands before the operand.
 pub fn over(text: &[u8], work: &[u8], refs: &[u16], memory: &mut [u32], m: Machine) -> Move
     requires { ⌜ Ready (source (now text) (now work) (now refs)) (now memory) m ⌝ }
-    requires { ⌜ Evaluates (now work) m 39 45 ⌝ }
+    requires { ⌜ Evaluates (now work) m Kind.bigNumbers (Kind.binder false) ⌝ }
     ensures { λ r. ⌜ Steps (source (now (text .entry)) (now (work .entry)) (now (refs .entry))) (now (memory .entry)) (now (memory .exit)) m r ⌝ }
 {
     let k = m.value as usize;
@@ -29,17 +33,16 @@ pub fn over(text: &[u8], work: &[u8], refs: &[u16], memory: &mut [u32], m: Machi
 }
 
 // Over nothing `+` is 0, `*` 1, `(+)` empty; `(*)` is refused.
-fn nothing(m: Machine, kind: u32, place: u32) -> Move
-    requires { ⌜ (39 ≤ kind) × (kind < 43) ⌝ }
-    ensures { λ r. ⌜ r ≡ overNothing m (bigOperator (kind - 39)) place ⌝ }
+fn nothing(m: Machine, kind: u32, code: u32, place: u32) -> Move
+    ensures { λ r. ⌜ r ≡ overNothing m (bigBy kind code) place ⌝ }
 {
-    if kind == kinds::BIG_SUM {
+    if kind < kinds::BIG_SETS {
+        if code == codes::TIMES {
+            return Move::Next(m.came(modes::NUMBER, 1, 0));
+        }
         return Move::Next(m.came(modes::NUMBER, 0, 0));
     }
-    if kind == kinds::BIG_PRODUCT {
-        return Move::Next(m.came(modes::NUMBER, 1, 0));
-    }
-    if kind == kinds::BIG_CUP {
+    if code == codes::CUP {
         return Move::Next(m.came(modes::SET, 0, m.top));
     }
     Move::Refused(refusals::OUT_OF_RANGE, place)
@@ -48,7 +51,7 @@ fn nothing(m: Machine, kind: u32, place: u32) -> Move
 // The set has come: the operand is worked out at its first element.
 pub fn elements(text: &[u8], work: &[u8], refs: &[u16], memory: &mut [u32], m: Machine) -> Move
     requires { ⌜ Topped (source (now text) (now work) (now refs)) (now memory) m ⌝ }
-    requires { ⌜ Waiting (now memory) m 12 ⌝ }
+    requires { ⌜ Waiting (now memory) m Phase.over ⌝ }
     ensures { λ r. ⌜ Takes (source (now (text .entry)) (now (work .entry)) (now (refs .entry))) (now (memory .entry)) (now (memory .exit)) m r ⌝ }
 {
     if m.mode != modes::SET {
@@ -61,7 +64,7 @@ pub fn elements(text: &[u8], work: &[u8], refs: &[u16], memory: &mut [u32], m: M
         return Move::Next(m.popped().came(modes::LOGIC, 0, 0));
     }
     if m.value == 0 {
-        return nothing(m.popped(), kind, place_at(work, k));
+        return nothing(m.popped(), kind, prefix_at(work, k), place_at(work, k));
     }
     if kind < kinds::BIG_SETS {
         return Move::Next(begin(memory, m, phases::FIRST_NUMBER, modes::EVALUATE));

@@ -1,5 +1,4 @@
 // Big operators of sets: `(*)[..]` and `(+)[..]`. The set that was folded is a kept one, or stands behind the elements that are left.
-use entries::kinds;
 use language::limits;
 use machine::FRAME;
 use machine::Machine;
@@ -10,37 +9,21 @@ use memory_sets::Span;
 use memory_sets::moving::lower;
 use memory_sets::two::combine;
 use node::refusals;
-use operands::entry::kind_at;
 use operands::entry::place_at;
+use operands::entry::prefix_at;
 use sets::Worked;
 ghost use mathlib.Core.Path.{_≡_};
 ghost use Prim.Native.Nat.{_+_, _-_, _<_, _^_};
+ghost use Rattle.machine.specs.Phases as Phase;
 ghost use Rattle.machine.specs.States.{Topped, Takes};
 ghost use Rattle.machine.specs.Telling.{isSet};
 ghost use Rattle.machine.specs.declared.Move.the-variants.{Next};
 ghost use Rattle.machine.specs.Memory.{frameWords};
 ghost use Rattle.operands.specs.Working.{source};
 ghost use Rattle.machine.specs.Entering.{Waiting};
-ghost use Rattle.sets.specs.Operators.{combination};
-ghost use Rattle.fold_steps.specs.BigLaws.{bigOperator};
 ghost use Rattle.fold_steps.specs.ContinueLaws.{unbound};
-ghost use Rattle.fold_steps.specs.SetFolds.{setwise};
 ghost use Rattle.fold_steps.specs.FoldPlaces.{Behind, Foldable, Onward};
 use crate::turning::again;
-
-// The operators between two sets that they fold with, by number.
-const CUP: u32 = kinds::CUP - kinds::COMBINATIONS;
-
-const CAP: u32 = kinds::CAP - kinds::COMBINATIONS;
-
-fn between(kind: u32) -> u32
-    ensures { λ r. ⌜ combination r ≡ setwise (bigOperator (kind - 39)) ⌝ }
-{
-    if kind == kinds::BIG_CUP {
-        return CUP;
-    }
-    CAP
-}
 
 // Where the elements that are left end, if they stand among the frame's values; the values' beginning if they are those of a kept set.
 fn behind(base: usize, rest: usize, count: usize) -> usize
@@ -105,7 +88,7 @@ fn onward(memory: &mut [u32], m: Machine, from: usize, n: u32) -> Move
 // The operand at the first element has come.
 pub fn first(text: &[u8], work: &[u8], refs: &[u16], memory: &mut [u32], m: Machine) -> Move
     requires { ⌜ Topped (source (now text) (now work) (now refs)) (now memory) m ⌝ }
-    requires { ⌜ Waiting (now memory) m 15 ⌝ }
+    requires { ⌜ Waiting (now memory) m Phase.firstSet ⌝ }
     ensures { λ r. ⌜ Takes (source (now (text .entry)) (now (work .entry)) (now (refs .entry))) (now (memory .entry)) (now (memory .exit)) m r ⌝ }
 {
     if m.mode != modes::SET {
@@ -117,7 +100,7 @@ pub fn first(text: &[u8], work: &[u8], refs: &[u16], memory: &mut [u32], m: Mach
 // The operand at a further element has come: the result is made below the frames.
 pub fn next(text: &[u8], work: &[u8], refs: &[u16], memory: &mut [u32], m: Machine) -> Move
     requires { ⌜ Topped (source (now text) (now work) (now refs)) (now memory) m ⌝ }
-    requires { ⌜ Waiting (now memory) m 16 ⌝ }
+    requires { ⌜ Waiting (now memory) m Phase.nextSet ⌝ }
     ensures { λ r. ⌜ Takes (source (now (text .entry)) (now (work .entry)) (now (refs .entry))) (now (memory .entry)) (now (memory .exit)) m r ⌝ }
 {
     if m.mode != modes::SET {
@@ -134,7 +117,7 @@ pub fn next(text: &[u8], work: &[u8], refs: &[u16], memory: &mut [u32], m: Machi
         count: m.value as usize,
     };
     let to = at - limits::SET_ROOM;
-    let operator = between(kind_at(work, k));
+    let operator = prefix_at(work, k);
     let place = place_at(work, k);
     let r = combine(place, operator, memory, folded, operand, to);
     match r {

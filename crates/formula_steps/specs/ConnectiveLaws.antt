@@ -1,12 +1,11 @@
 -- A connective: its left operand, its right operand.
-use Prim.Native.Nat.{ℕ, zero, suc, _+_, _-_, _≤_, _<_, min}
-use mathlib.Core.List.{List, _++_}
-use mathlib.Core.Option.{some}
+use Prim.Native.Nat.{ℕ, suc, _+_, _-_, _≤_, _<_, min}
+use mathlib.Core.List.{List}
 use mathlib.Core.Path.{_≡_, refl, sym, ap, _∙_, subst}
 use native.Mathlib.Omega.{arith}
 use lib.ListN.{getD}
 use Rattle.node.specs.Limits.{maxNodes}
-use Rattle.node.specs.Operators.{Binary, And, Or, Implies, Iff, U, R, W}
+use Rattle.node.specs.Operators.{Binary}
 use Rattle.node.specs.Ltl.{Formula, Two}
 use Rattle.node.specs.Kinds.{binaryKind}
 use Rattle.node.specs.Result.{Result, Done, _>>=_}
@@ -17,18 +16,17 @@ use Rattle.language.specs.Operators.{Connects}
 use Rattle.language.specs.Tree.{Expr}
 use Rattle.language.specs.Expansion.{expansion}
 use Rattle.entries.specs.Kinds as Kind
-use Rattle.entries.specs.Flat.{flat}
 use Rattle.name_values.specs.KnownLaws.{known-joined}
-use Rattle.operands.specs.Entries.{kindAt, sizeAt}
-use Rattle.operands.specs.ClassLaws.{kind-of, place-is}
-use Rattle.operands.specs.KindLaws.{from}
+use Rattle.operators.specs.Tables.{infixCodeAt}
+use Rattle.operands.specs.Entries.{kindAt, sizeAt, numberAt}
+use Rattle.operands.specs.ShapeLaws.{connective-shape}
 use Rattle.operands.specs.Working.{Source}
-use Rattle.operator_nodes.specs.Shapes.{aBinary, shapeOf, BinaryIs}
+use Rattle.machine.specs.Phases as Phase
 use Rattle.machine.specs.Came.{Expand, nodes, works, asFormula}
 use Rattle.machine.specs.Frames.{LeftFormula, RightFormula, connected, apply}
 use Rattle.machine.specs.Realm.{Operand}
 use Rattle.machine.specs.Operators.{Between, OpAt}
-use Rattle.machine.specs.OperatorLaws.{op-binary}
+use Rattle.machine.specs.OperatorLaws.{joined-at, binary-small}
 use Rattle.machine.specs.Memory.{Framed}
 use Rattle.machine.specs.Telling.{isNodes}
 use Rattle.machine.specs.TableLaws.{laid-last, laid-end, wrote-capped}
@@ -55,95 +53,57 @@ connective-same o a b =
     then-nodes a _ (λ f. (b >>= nodes) >>= connected o f) (λ f. then-nodes b _ (λ g. nodes (Two o f g)) (λ g. bind-at (Two o f g) nodes) ∙ sym (take-formula b (λ g. nodes (Two o f g))))
     ∙ sym (take-formula a (λ f. (b >>= nodes) >>= connected o f))
 
--- the connective of a kind
-pub record Connective (kind : ℕ) : Type 0 where
-  pub operator : Binary
-  pub shape : shapeOf kind ≡ aBinary operator
-
-connective-of : (k : ℕ) → 29 ≤ k → k < 36 → Connective k
-connective-of = from Connective 29 7 go
-  where
-    go : (j : ℕ) → j < 7 → Connective (29 + j)
-    go zero l = record { operator = And; shape = refl }
-    go (suc zero) l = record { operator = Or; shape = refl }
-    go (suc (suc zero)) l = record { operator = Implies; shape = refl }
-    go (suc (suc (suc zero))) l = record { operator = Iff; shape = refl }
-    go (suc (suc (suc (suc zero)))) l = record { operator = U; shape = refl }
-    go (suc (suc (suc (suc (suc zero))))) l = record { operator = R; shape = refl }
-    go (suc (suc (suc (suc (suc (suc zero)))))) l = record { operator = W; shape = refl }
-    go (suc (suc (suc (suc (suc (suc (suc j))))))) l = absurd (omega arith)
-
-shape-binary : (o : Binary) → shapeOf (Kind.binary o) ≡ aBinary o
-shape-binary And = refl
-shape-binary Or = refl
-shape-binary Implies = refl
-shape-binary Iff = refl
-shape-binary U = refl
-shape-binary R = refl
-shape-binary W = refl
-
-same-binary : {o p : Binary} → aBinary o ≡ aBinary p → o ≡ p
-same-binary e = cc
-
 -- the entry: its left operand is worked out first
-pub connective-inside : {s : Source} {mem : List ℕ} {m : Machine} → Ready s mem m → Expands (s .work) m 29 36 → 1 + sizeAt (s .work) (m .value - 1) ≤ m .value
+pub connective-inside : {s : Source} {mem : List ℕ} {m : Machine} → Ready s mem m → Expands (s .work) m Kind.binary Kind.nexts → 1 + sizeAt (s .work) (m .value - 1) ≤ m .value
 connective-inside {s} {m = m} r k =
     let e0 = k .mode in
     let n = entered (r .state) (omega arith) in
-    let q = connective-of (kindAt (s .work) (m .value)) (k .from) (k .until) in
-    let v = operand-shape (n .at .operand) (q .shape) in
-    let p = operand-as (n .at .operand) (v .3) in
-    two-operands p (Kind.joining (Connects (q .operator))) (v .0) (v .1) (v .2) (p .known .at) (known-joined (v .0) (Connects (q .operator)) (v .1) (v .2) (p .known)) .inside
+    let v = operand-shape (n .at .operand) (connective-shape (kindAt (s .work) (m .value)) (k .from) (k .until)) in
+    let op = v .1 in
+    let p = operand-as (n .at .operand) (v .4) in
+    two-operands p (Kind.joining (Connects op)) (v .0) (v .2) (v .3) (p .known .at) (known-joined (v .0) (Connects op) (v .2) (v .3) (p .known)) .inside
 
-pub connective-steps : {s : Source} {mem mem' : List ℕ} {m : Machine} {j : ℕ} {r : Move} → Expands (s .work) m 29 36 → j ≡ m .value - 1 - sizeAt (s .work) (m .value - 1)
-    → Opened mem mem' m 19 (modeOf Expand) j r → Steps s mem mem' m r
+pub connective-steps : {s : Source} {mem mem' : List ℕ} {m : Machine} {j : ℕ} {r : Move} → Expands (s .work) m Kind.binary Kind.nexts → j ≡ m .value - 1 - sizeAt (s .work) (m .value - 1)
+    → Opened mem mem' m Phase.leftFormula (modeOf Expand) j r → Steps s mem mem' m r
 connective-steps {s} {mem} {mem'} {m} {j} {r} k ej w = record {
   turns = λ R x o out h.
       let e0 = k .mode in
       let n = entered h (omega arith) in
-      let q = connective-of (kindAt (s .work) (m .value)) (k .from) (k .until) in
-      let op = q .operator in
-      let v = operand-shape (n .at .operand) (q .shape) in
+      let v = operand-shape (n .at .operand) (connective-shape (kindAt (s .work) (m .value)) (k .from) (k .until)) in
       let t = v .0 in
-      let a = v .1 in
-      let b = v .2 in
-      let p = operand-as (n .at .operand) (v .3) in
+      let op = v .1 in
+      let a = v .2 in
+      let b = v .3 in
+      let p = operand-as (n .at .operand) (v .4) in
       let two = two-operands p (Kind.joining (Connects op)) t a b (p .known .at) (known-joined t (Connects op) a b (p .known)) in
       let ins = two .inside in
-      opens n {F = LeftFormula op (n .context) b} {phase = 19} {a = Expand} {e = a} {j = j} (record {
+      opens n {F = LeftFormula op (n .context) b} {phase = Phase.leftFormula} {a = Expand} {e = a} {j = j} (record {
         holds-nothing = refl;
         few-turns = omega arith;
         below = omega arith;
         operand = subst (λ (i : ℕ). Operand s (R .W) (R .ports) (n .at .env) (n .context) i a) (sym ej) (two .left);
         holds = tt;
-        waits = (
-          t .at,
-          record {
-            kind = kind-of (Kind.joining (Connects op)) (some t) (flat a ++ flat b) (p .known .at);
-            place = place-is (R .lexed) (Kind.joining (Connects op)) t (flat a ++ flat b) (p .known .at);
-          },
-          two .right,
-        );
+        waits = (t .at, joined-at (R .lexed) t (Connects op) a b p, two .right);
         kept = tt;
-        same = works-formula n e0 ∙ ap (λ (d : Expr). expansion (n .context) d >>= nodes) (v .3) ∙ connective-same op (expansion (n .context) a) (expansion (n .context) b);
+        same = works-formula n e0 ∙ ap (λ (d : Expr). expansion (n .context) d >>= nodes) (v .4) ∙ connective-same op (expansion (n .context) a) (expansion (n .context) b);
       }) r w;
 }
 
 -- the left operand has come
-module _ {s : Source} {mem : List ℕ} {m : Machine} (w : Waiting mem m 19) where
+module _ {s : Source} {mem : List ℕ} {m : Machine} (w : Waiting mem m Phase.leftFormula) where
   pub left-misfits : (m .mode ≡ isNodes → ⊥) → Takes s mem mem m (Refuses 9 0)
   left-misfits e = record {
     turns = λ R x o out t.
-        let v = by-phase (t .frame) 19 (top-phase t ∙ w .phase) in
+        let v = by-phase (t .frame) Phase.leftFormula (top-phase t ∙ w .phase) in
         let h = top-as t (v .3) in
         refuses h (misfit-then _ (not-formula R o mem m (h .came) (h .come) e));
   }
 
   pub left-steps : m .mode ≡ isNodes → {mem' : List ℕ} {k n : ℕ} → k ≡ getD mem (m .frames + 1) 0 → n ≡ m .nodes
-      → Framed mem mem' (m .frames) (record { phase = 20; entry = k; base = m .top; at = 0; count = 0; value = n; other = 0 }) → Takes s mem mem' m (Next (came m (modeOf Expand) (k - 1) 0))
+      → Framed mem mem' (m .frames) (record { phase = Phase.rightFormula; entry = k; base = m .top; at = 0; count = 0; value = n; other = 0 }) → Takes s mem mem' m (Next (came m (modeOf Expand) (k - 1) 0))
   left-steps e {mem'} {k} {n} ek en f = record {
     turns = λ R x o out t.
-        let v = by-phase (t .frame) 19 (top-phase t ∙ w .phase) in
+        let v = by-phase (t .frame) Phase.leftFormula (top-phase t ∙ w .phase) in
         let op = v .0 in
         let c = v .1 in
         let b = v .2 in
@@ -152,7 +112,7 @@ module _ {s : Source} {mem : List ℕ} {m : Machine} (w : Waiting mem m 19) wher
         let same-entry : k ≡ words h .entry = ek ∙ entry-word h in
         let some' = h .at .some in
         let at = h .at .entry in
-        retains h {G = RightFormula op (g .formula) (m .nodes)} {phase = 19} {c = c} {e = b} (g .same) (record {
+        retains h {G = RightFormula op (g .formula) (m .nodes)} {phase = Phase.leftFormula} {c = c} {e = b} (g .same) (record {
           nothing = refl;
           holds-one = refl;
           framed = f;
@@ -170,40 +130,36 @@ module _ {s : Source} {mem : List ℕ} {m : Machine} (w : Waiting mem m 19) wher
   }
 
 -- the right operand has come
-module _ {s : Source} {mem out : List ℕ} {m : Machine} (w : Waiting mem m 20) where
+module _ {s : Source} {mem out : List ℕ} {m : Machine} (w : Waiting mem m Phase.rightFormula) where
   pub right-misfits : (m .mode ≡ isNodes → ⊥) → TakesToWrite s mem mem out out m (Refuses 9 0)
   right-misfits e = record {
     turns = λ R x o t.
-        let v = by-phase (t .frame) 20 (top-phase t ∙ w .phase) in
+        let v = by-phase (t .frame) Phase.rightFormula (top-phase t ∙ w .phase) in
         let h = top-as t (v .3) in
         refuses h (misfit-then _ (not-formula R o mem m (h .came) (h .come) e));
   }
 
-  pub right-kind : ToppedToWrite s mem out m → (29 ≤ kindAt (s .work) (getD mem (m .frames + 1) 0)) × (kindAt (s .work) (getD mem (m .frames + 1) 0) < 36)
-  right-kind t =
-      let v = by-phase (t .top .frame) 20 (top-phase (t .top) ∙ w .phase) in
+  pub right-small : ToppedToWrite s mem out m → infixCodeAt (numberAt (s .work) (getD mem (m .frames + 1) 0)) < 16
+  right-small t =
+      let v = by-phase (t .top .frame) Phase.rightFormula (top-phase (t .top) ∙ w .phase) in
       let h = top-as (t .top) (v .3) in
-      let b = op-binary (h .at .waits .1) in
-      let e = ap (kindAt (s .work)) (entry-word h) in
-      let l = b .1 in
-      let u = b .2 in
-      (omega arith, omega arith)
+      let e = ap (λ (j : ℕ). infixCodeAt (numberAt (s .work) j)) (entry-word h) ∙ h .at .waits .1 .spelt in
+      subst (λ (j : ℕ). j < 16) (sym e) (binary-small (v .0))
 
-  pub right-steps : m .mode ≡ isNodes → {k kind op a r n : ℕ} {out' : List ℕ} → k ≡ getD mem (m .frames + 1) 0 → kind ≡ kindAt (s .work) k → BinaryIs kind op → a ≡ getD mem (m .frames + 5) 0
+  pub right-steps : m .mode ≡ isNodes → {k op a r n : ℕ} {out' : List ℕ} → k ≡ getD mem (m .frames + 1) 0 → op ≡ infixCodeAt (numberAt (s .work) k) → a ≡ getD mem (m .frames + 5) 0
       → Joins op out out' a (m .nodes) r → n ≡ min r (suc maxNodes) → TakesToWrite s mem mem out out' m (Next (wrote (popped m) n))
-  right-steps e {k} {kind} {op} {a} {r} {n} {out'} ek ei bi ea j en = record {
+  right-steps e {k} {op} {a} {r} {n} {out'} ek eo ea j en = record {
     turns = λ R x o t.
-        let v = by-phase (t .frame) 20 (top-phase t ∙ w .phase) in
+        let v = by-phase (t .frame) Phase.rightFormula (top-phase t ∙ w .phase) in
         let h = top-as t (v .3) in
         let g = came-formula R o mem m (h .came) (h .come) e in
-        let same-kind : kind ≡ Kind.binary (v .0) = ei ∙ ap (kindAt (s .work)) (ek ∙ entry-word h) ∙ op-binary (h .at .waits .1) .0 in
-        let same-op : bi .operator ≡ v .0 = same-binary (sym (bi .shape) ∙ ap shapeOf same-kind ∙ shape-binary (v .0)) in
+        let same-op : op ≡ binaryKind (v .0) = eo ∙ ap (λ (i : ℕ). infixCodeAt (numberAt (s .work) i)) (ek ∙ entry-word h) ∙ h .at .waits .1 .spelt in
         let l1 = laid-last (formula-laid h (g .same)) in
         let l2 = laid-last (l1 .others) in
         let same-end : l1 .at ≡ a = laid-end _ (l1 .others) ∙ sym (ea ∙ value-word h ∙ h .at .holds) in
         let first : Wrote (v .1) (l2 .before) (l1 .before) (l2 .at) a = subst (λ (i : ℕ). Wrote (v .1) (l2 .before) (l1 .before) (l2 .at) i) same-end (l2 .wrote) in
         let second : Wrote (g .formula) (l1 .before) out a (m .nodes) = subst (λ (i : ℕ). Wrote (g .formula) (l1 .before) out i (m .nodes)) same-end (l1 .wrote) in
-        let both = wrote-capped en (j .wrote (v .0) (bi .node ∙ ap binaryKind same-op) first second) in
+        let both = wrote-capped en (j .wrote (v .0) same-op first second) in
         finishes h (Two (v .0) (v .1) (g .formula)) refl refl refl
         (ap (apply (RightFormula (v .0) (v .1) (v .2))) (g .same) ∙ bind-at (g .formula) (λ y. nodes (Two (v .0) (v .1) y)))
         (l2 .others) both (omega arith) (two-stays (v .0) first second both);

@@ -1,8 +1,8 @@
 -- true and false.
 use Prim.Native.Nat.{ℕ, suc, _≤_, _<_, min}
 use mathlib.Core.Bool.{Bool}
-use mathlib.Core.List.{List}
-use mathlib.Core.Path.{_≡_, ap, _∙_, subst}
+use mathlib.Core.List.{List, []}
+use mathlib.Core.Path.{_≡_, sym, ap, _∙_, subst}
 use native.Mathlib.Omega.{arith}
 use lib.Dec.{eqb}
 use lib.ListN.{length}
@@ -16,14 +16,18 @@ use Rattle.language.specs.Limits.{maxTokens, workBytes}
 use Rattle.language.specs.Tree.{Expr}
 use Rattle.language.specs.Expansion.{expansion}
 use Rattle.language.specs.Expansion as Expansion
-use Rattle.operands.specs.Entries.{kindAt}
+use Rattle.lexer.specs.Numbers.{fixed}
+use Rattle.entries.specs.Kinds as Kind
+use Rattle.operands.specs.Entries.{kindAt, numberAt}
+use Rattle.operands.specs.SpellingLaws.{truth-is}
+use Rattle.operands.specs.ShapeLaws.{truth-shape}
 use Rattle.operands.specs.Working.{Source}
-use Rattle.operator_nodes.specs.ShapeLaws.{truth-kind}
 use Rattle.machine.specs.Came.{nodes}
 use Rattle.machine.specs.TableLaws.{wrote-capped}
 use Rattle.machine.specs.States.{ReadyToWrite, Writes}
 use Rattle.machine.specs.StateLaws.{entered}
 use Rattle.machine.specs.EnterLaws.{wrote, writes, entry-few}
+use Rattle.machine.specs.OperandLaws.{operand-as}
 use Rattle.machine.specs.declared.Machine.{Machine}
 use Rattle.machine.specs.declared.Move.the-variants.{Next}
 use Rattle.machine.specs.Entering.{Expands, works-formula, operand-shape}
@@ -33,15 +37,15 @@ use Rattle.machine.specs.SameLaws.{same-truth}
 pub written-entry : {s : Source} {mem out : List ℕ} {m : Machine} → ReadyToWrite s mem out m → m .mode ≤ 1 → (m .value < maxTokens) × (workBytes ≤ length (s .work))
 written-entry h l = (entry-few (entered (h .state) l), h .lent .work)
 
-pub truth-steps : {s : Source} {mem out out' : List ℕ} {m : Machine} {kind r n : ℕ} {b : Bool} → Expands (s .work) m 2 4 → kind ≡ kindAt (s .work) (m .value) → b ≡ eqb kind 3
-    → Wrote (Writing.truth b) out out' (m .nodes) r → n ≡ min r (suc maxNodes) → Writes s mem mem out out' m (Next (wrote m n))
-truth-steps {s} {out = out} {out'} {m} {kind} {r} {n} {b} k ek eb w en = record {
+pub truth-steps : {s : Source} {mem out out' : List ℕ} {m : Machine} {number r n : ℕ} {b : Bool} → Expands (s .work) m Kind.truth Kind.index → number ≡ numberAt (s .work) (m .value)
+    → b ≡ eqb number (fixed "true") → Wrote (Writing.truth b) out out' (m .nodes) r → n ≡ min r (suc maxNodes) → Writes s mem mem out out' m (Next (wrote m n))
+truth-steps {s} {out = out} {out'} {m} {number} {r} {n} {b} k ek eb w en = record {
   turns = λ R x o h.
       let e = k .mode in
       let q = entered h (omega arith) in
-      let v = operand-shape (q .at .operand) (truth-kind (kindAt (s .work) (m .value)) (k .from) (k .until)) in
-      let same : Writing.truth b ≡ Expansion.truth (eqb (kindAt (s .work) (m .value)) 3) = same-truth b ∙ ap Expansion.truth (eb ∙ ap (λ (i : ℕ). eqb i 3) ek) in
-      writes q (Expansion.truth (eqb (kindAt (s .work) (m .value)) 3))
-      (works-formula q e ∙ ap (λ (d : Expr). expansion (q .context) d >>= nodes) (v .1) ∙ bind-at (Expansion.truth (eqb (kindAt (s .work) (m .value)) 3)) nodes)
-      (subst (λ (f : Formula). Wrote f out out' (m .nodes) n) same (wrote-capped en w)) (omega arith);
+      let v = operand-shape (q .at .operand) (truth-shape (kindAt (s .work) (m .value)) (k .from) (k .until)) in
+      let p = operand-as (q .at .operand) (v .2) in
+      let same : b ≡ v .1 = eb ∙ ap (λ (i : ℕ). eqb i (fixed "true")) ek ∙ sym (truth-is (R .lexed) Kind.truth (v .0) [] (p .known .at) (p .known .proper .1)) in
+      writes q (Expansion.truth (v .1)) (works-formula q e ∙ ap (λ (d : Expr). expansion (q .context) d >>= nodes) (v .2) ∙ bind-at (Expansion.truth (v .1)) nodes)
+      (subst (λ (f : Formula). Wrote f out out' (m .nodes) n) (same-truth b ∙ ap Expansion.truth same) (wrote-capped en w)) (omega arith);
 }

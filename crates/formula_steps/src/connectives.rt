@@ -8,10 +8,11 @@ use machine::modes;
 use machine::phases;
 use node::MAX_NODES;
 use node::refusals;
-use operands::entry::kind_at;
+use operands::entry::infix_at;
 use operands::entry::size_at;
-use operator_nodes::binary_kind;
 use writing::join;
+ghost use Rattle.entries.specs.Kinds as Kind;
+ghost use Rattle.machine.specs.Phases as Phase;
 ghost use Rattle.machine.specs.States.{Ready, Steps, Topped, Takes, ToppedToWrite, TakesToWrite};
 ghost use Rattle.operands.specs.Working.{source};
 ghost use Rattle.machine.specs.Entering.{Expands, Waiting};
@@ -19,7 +20,7 @@ ghost use Rattle.machine.specs.Entering.{Expands, Waiting};
 // The left operand is worked out first.
 pub fn connective(text: &[u8], work: &[u8], refs: &[u16], memory: &mut [u32], m: Machine) -> Move
     requires { ⌜ Ready (source (now text) (now work) (now refs)) (now memory) m ⌝ }
-    requires { ⌜ Expands (now work) m 29 36 ⌝ }
+    requires { ⌜ Expands (now work) m Kind.binary Kind.nexts ⌝ }
     ensures { λ r. ⌜ Steps (source (now (text .entry)) (now (work .entry)) (now (refs .entry))) (now (memory .entry)) (now (memory .exit)) m r ⌝ }
 {
     let k = m.value as usize;
@@ -30,7 +31,7 @@ pub fn connective(text: &[u8], work: &[u8], refs: &[u16], memory: &mut [u32], m:
 // The left operand is written: the right one is worked out.
 pub fn left(text: &[u8], work: &[u8], refs: &[u16], memory: &mut [u32], m: Machine) -> Move
     requires { ⌜ Topped (source (now text) (now work) (now refs)) (now memory) m ⌝ }
-    requires { ⌜ Waiting (now memory) m 19 ⌝ }
+    requires { ⌜ Waiting (now memory) m Phase.leftFormula ⌝ }
     ensures { λ r. ⌜ Takes (source (now (text .entry)) (now (work .entry)) (now (refs .entry))) (now (memory .entry)) (now (memory .exit)) m r ⌝ }
 {
     if m.mode != modes::NODES {
@@ -64,7 +65,7 @@ pub fn right(
     m: Machine,
 ) -> Move
     requires { ⌜ ToppedToWrite (source (now text) (now work) (now refs)) (now memory) (now table) m ⌝ }
-    requires { ⌜ Waiting (now memory) m 20 ⌝ }
+    requires { ⌜ Waiting (now memory) m Phase.rightFormula ⌝ }
     ensures { λ r. ⌜ TakesToWrite (source (now (text .entry)) (now (work .entry)) (now (refs .entry))) (now (memory .entry)) (now (memory .entry)) (now (table .entry)) (now (table .exit)) m r ⌝ }
 {
     if m.mode != modes::NODES {
@@ -73,6 +74,6 @@ pub fn right(
     let at = m.frames;
     let k = memory[at + 1] as usize;
     let first = memory[at + 5] as usize;
-    let n = join(binary_kind(kind_at(work, k)), first, m.nodes, table);
+    let n = join(infix_at(work, k), first, m.nodes, table);
     Move::Next(m.popped().wrote(capped(n)))
 }

@@ -1,11 +1,12 @@
 // Formulas without operands.
-use entries::kinds;
+use lexer::numbers;
 use machine::Machine;
 use machine::Move;
 use machine::capped;
 use node::MAX_NODES;
-use operands::entry::kind_at;
+use operands::entry::number_at;
 use writing::constant;
+ghost use Rattle.entries.specs.Kinds as Kind;
 ghost use Rattle.machine.specs.States.{ReadyToWrite, Writes};
 ghost use Rattle.operands.specs.Working.{source};
 ghost use Rattle.machine.specs.Entering.{Expands};
@@ -20,11 +21,10 @@ pub fn truth(
     m: Machine,
 ) -> Move
     requires { ⌜ ReadyToWrite (source (now text) (now work) (now refs)) (now memory) (now table) m ⌝ }
-    requires { ⌜ Expands (now work) m 2 4 ⌝ }
+    requires { ⌜ Expands (now work) m Kind.truth Kind.index ⌝ }
     ensures { λ r. ⌜ Writes (source (now (text .entry)) (now (work .entry)) (now (refs .entry))) (now (memory .entry)) (now (memory .entry)) (now (table .entry)) (now (table .exit)) m r ⌝ }
 {
     let k = m.value as usize;
-    let kind = kind_at(work, k);
-    let n = constant(kind == kinds::TRUE, table, m.nodes);
+    let n = constant(number_at(work, k) == numbers::TRUE, table, m.nodes);
     Move::Next(m.wrote(capped(n)))
 }

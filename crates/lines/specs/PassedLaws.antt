@@ -45,7 +45,7 @@ use Rattle.language.specs.Laws.Basics.Lists.{All, all-append}
 use Rattle.entries.specs.Kinds as Kind
 use Rattle.entries.specs.Flat.{Entry, under, leaf, flat, each, flatParameter, flatIdentifier, flatDefinition, flatDeclaration}
 use Rattle.traversal.specs.Arity.{firstLine}
-use Rattle.traversal.specs.ArityLaws.{truth-plain, before-plain, joining-plain, window-plain, big-plain, binder-plain, between-plain}
+use Rattle.traversal.specs.ArityLaws.{before-plain, joining-plain, big-plain, binder-plain, between-plain}
 use Rattle.lines.specs.Items.{Item, Passed, Heads, Line, itemsEach, lineItems, subsectionItems, items}
 
 abbrev pub Other : Entry → Type 0
@@ -63,18 +63,18 @@ other-under k t es q h = join es _ h (q, tt)
 other-flat : (e : Expr) → All Other (flat e)
 other-flat (Named t) = (omega arith, tt)
 other-flat (Numeral t) = (omega arith, tt)
-other-flat (Truth t b) = (low (truth-plain b .part), tt)
+other-flat (Truth t b) = (omega arith, tt)
 other-flat (Index t e) = other-under Kind.index (some t) (flat e) (omega arith) (other-flat e)
 other-flat (Paren t e) = other-under Kind.paren (some t) (flat e) (omega arith) (other-flat e)
 other-flat (Prefixed t o e) = other-under (Kind.before o) (some t) (flat e) (low (before-plain o .part)) (other-flat e)
 other-flat (Joined t o a b) = other-under (Kind.joining o) (some t) (flat a ++ flat b) (low (joining-plain o .part)) (join (flat a) (flat b) (other-flat a) (other-flat b))
 other-flat (Nexts t n e) = other-under Kind.nexts (some t) (flat n ++ flat e) (omega arith) (join (flat n) (flat e) (other-flat n) (other-flat e))
 other-flat (InWindow t o n m e) =
-    other-under (Kind.window o) (some t) (flat n ++ (flat m ++ flat e)) (low (window-plain o .part)) (join (flat n) _ (other-flat n) (join (flat m) (flat e) (other-flat m) (other-flat e)))
+    other-under Kind.window (some t) (flat n ++ (flat m ++ flat e)) (omega arith) (join (flat n) _ (other-flat n) (join (flat m) (flat e) (other-flat m) (other-flat e)))
 other-flat (Each t o further i s e) =
     other-under (Kind.big o) (some t) (under (Kind.binder further) (some i) (flat s) ++ flat e) (low (big-plain o .part))
     (join (under (Kind.binder further) (some i) (flat s)) (flat e) (other-under (Kind.binder further) (some i) (flat s) (low (binder-plain further .part)) (other-flat s)) (other-flat e))
-other-flat (Between t l h a b) = other-under (Kind.between l h) (some t) (flat a ++ flat b) (low (between-plain l h .part)) (join (flat a) (flat b) (other-flat a) (other-flat b))
+other-flat (Between t l h a b) = other-under (Kind.between h) (some t) (flat a ++ flat b) (low (between-plain h .part)) (join (flat a) (flat b) (other-flat a) (other-flat b))
 other-flat (Listed t es) = other-under Kind.listed (some t) (flat es) (omega arith) (other-flat es)
 other-flat Empty = tt
 other-flat (Element e es) = other-under Kind.element none (flat e ++ flat es) (omega arith) (join (flat e) (flat es) (other-flat e) (other-flat es))

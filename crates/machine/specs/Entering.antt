@@ -13,8 +13,8 @@ use Rattle.name_values.specs.World.{World}
 use Rattle.operands.specs.Entries.{kindAt}
 use Rattle.operands.specs.ClassLaws.{has-entry}
 use Rattle.operands.specs.Working.{Source}
-use Rattle.operator_nodes.specs.Shapes.{Shape, shapeOf, View, view}
-use Rattle.operator_nodes.specs.ShapeLaws.{expr-shape}
+use Rattle.operands.specs.Shapes.{Shape, shapeOf, View, view}
+use Rattle.operands.specs.ShapeLaws.{expr-shape}
 use Rattle.machine.specs.Came.{Aim, Evaluate, Expand, Came, worth, nodes, works}
 use Rattle.machine.specs.Realm.{Operand, Realm}
 use Rattle.machine.specs.Table.{Began}

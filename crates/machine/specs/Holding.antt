@@ -3,6 +3,7 @@ use Prim.Native.Nat.{ℕ}
 use mathlib.Core.Bool.{Bool, true, false}
 use mathlib.Core.List.{List, [], _∷_, _++_}
 use Rattle.node.specs.Ltl.{Formula}
+use Rattle.machine.specs.Phases as Phase
 use Rattle.machine.specs.Frames.{
   Frame,
   Measured,
@@ -82,44 +83,43 @@ writing p f n = record { phase = p; elements = []; folded = []; forms = record {
 abbrev keeping : ℕ → Holding
 keeping p = empty p true
 
--- phases in the order of the constructors
 abbrev pub holding : Frame → Holding
-holding (Measured p m) = plain 0
-holding Width = plain 1
-holding (Left p o c b) = plain 2
-holding (Right p o m) = plain 3
-holding (LeftSet p o c b) = plain 4
-holding (RightSet p o m) = listing 5 m
-holding (Low p l h c b) = plain 6
-holding (High p l h m) = plain 7
-holding (Elements p c es ns) = listing 8 ns
-holding (RangeFirst p c y z) = plain 9
-holding (RangeSecond p c z x) = plain 10
-holding (RangeLast p x y) = plain 11
-holding (Over p o c i e) = plain 12
-holding (FirstNumber p o c i e rest) = turning 13 rest [] []
-holding (NextNumber p o c i e a rest) = turning 14 rest [] []
-holding (FirstSet p o c i e rest) = turning 15 rest [] []
-holding (NextSet p o c i e a rest) = turning 16 rest a []
-holding (KeepValue r c e) = keeping 17
-holding (Capping o) = plain 18
-holding (LeftFormula o c b) = plain 19
-holding (RightFormula o f end) = writing 20 f end
-holding (LeftCompared o c b) = plain 21
-holding (RightCompared o c x) = plain 22
-holding (Member c b) = plain 23
-holding (Among n) = plain 24
-holding (Indexed c t) = plain 25
-holding (Repeat c e) = plain 26
-holding (Repeated n) = plain 27
-holding (WindowFrom p o c m e) = plain 28
-holding (WindowTo p o c e j) = plain 29
-holding (Windowed o j k) = plain 30
-holding (OverEach o c i e) = plain 31
-holding (FirstEach o c i e rest) = turning 32 rest [] []
-holding (NextEach o c i e f end rest) = turning 33 rest [] (record { formula = f; end = end } ∷ [])
-holding (KeepFormula r c e) = keeping 34
-holding (BitOf c i) = keeping 35
+holding (Measured p m) = plain Phase.measured
+holding Width = plain Phase.width
+holding (Left p o c b) = plain Phase.left
+holding (Right p o m) = plain Phase.right
+holding (LeftSet p o c b) = plain Phase.leftSet
+holding (RightSet p o m) = listing Phase.rightSet m
+holding (Low p l h c b) = plain Phase.low
+holding (High p l h m) = plain Phase.high
+holding (Elements p c es ns) = listing Phase.elements ns
+holding (RangeFirst p c y z) = plain Phase.rangeFirst
+holding (RangeSecond p c z x) = plain Phase.rangeSecond
+holding (RangeLast p x y) = plain Phase.rangeLast
+holding (Over p o c i e) = plain Phase.over
+holding (FirstNumber p o c i e rest) = turning Phase.firstNumber rest [] []
+holding (NextNumber p o c i e a rest) = turning Phase.nextNumber rest [] []
+holding (FirstSet p o c i e rest) = turning Phase.firstSet rest [] []
+holding (NextSet p o c i e a rest) = turning Phase.nextSet rest a []
+holding (KeepValue r c e) = keeping Phase.keepValue
+holding (Capping o) = plain Phase.capping
+holding (LeftFormula o c b) = plain Phase.leftFormula
+holding (RightFormula o f end) = writing Phase.rightFormula f end
+holding (LeftCompared o c b) = plain Phase.leftCompared
+holding (RightCompared o c x) = plain Phase.rightCompared
+holding (Member c b) = plain Phase.member
+holding (Among n) = plain Phase.among
+holding (Indexed c t) = plain Phase.indexed
+holding (Repeat c e) = plain Phase.repeat
+holding (Repeated n) = plain Phase.repeated
+holding (WindowFrom p o c m e) = plain Phase.windowFrom
+holding (WindowTo p o c e j) = plain Phase.windowTo
+holding (Windowed o j k) = plain Phase.windowed
+holding (OverEach o c i e) = plain Phase.overEach
+holding (FirstEach o c i e rest) = turning Phase.firstEach rest [] []
+holding (NextEach o c i e f end rest) = turning Phase.nextEach rest [] (record { formula = f; end = end } ∷ [])
+holding (KeepFormula r c e) = keeping Phase.keepFormula
+holding (BitOf c i) = keeping Phase.bitOf
 
 abbrev pub phase : Frame → ℕ
 phase F = holding F .phase

@@ -2,6 +2,7 @@ pub mod Came
 pub mod Frames
 pub mod Realm
 pub mod Operators
+pub mod Phases
 pub mod Holding
 pub mod Memory
 pub mod Cost

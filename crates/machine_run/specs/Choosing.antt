@@ -2,6 +2,7 @@
 use Prim.Native.Nat.{ℕ, _≤_, _<_}
 use mathlib.Core.List.{List}
 use mathlib.Core.Path.{_≡_}
+use Rattle.entries.specs.Kinds as Kind
 use Rattle.operands.specs.Entries.{kindAt}
 use Rattle.machine.specs.Came.{Evaluate}
 use Rattle.machine.specs.States.{modeOf, phaseAt}
@@ -18,7 +19,7 @@ pub record Kinded (work : List ℕ) (m : Machine) (aim k low high : ℕ) : Type 
 pub record Collected (work : List ℕ) (m : Machine) (k : ℕ) : Type 0 where
   pub mode : m .mode ≡ modeOf Evaluate
   pub same : k ≡ kindAt work (m .value)
-  pub from : 39 ≤ k
+  pub from : Kind.bigNumbers ≤ k
 
 -- the last frame's phase p lies from `low` up to `high`
 pub record Phased (mem : List ℕ) (m : Machine) (p low high : ℕ) : Type 0 where

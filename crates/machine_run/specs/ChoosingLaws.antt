@@ -1,14 +1,17 @@
 -- An entry or a frame meets what the step of its kind or phase asks for; steps that write no nodes, beside a table.
 use Prim.Native.Nat.{ℕ, suc, _≤_, _<_}
+use mathlib.Core.Bool.{false}
 use mathlib.Core.List.{List}
 use mathlib.Core.Path.{_≡_, sym, ap, _∙_}
 use native.Mathlib.Omega.{arith}
+use Rattle.entries.specs.Kinds as Kind
 use Rattle.operands.specs.Entries.{kindAt}
 use Rattle.operands.specs.Classes.{classOf, aFormula}
 use Rattle.operands.specs.KindLaws.{binary-class}
 use Rattle.operands.specs.Working.{Source}
-use Rattle.operator_nodes.specs.Shapes.{shapeOf, aMisfit}
-use Rattle.operator_nodes.specs.ShapeLaws.{misfit-sets}
+use Rattle.operands.specs.Shapes.{shapeOf, aMisfit}
+use Rattle.operands.specs.ShapeLaws.{misfit-sets}
+use Rattle.machine.specs.Phases as Phase
 use Rattle.machine.specs.Came.{Evaluate, Expand}
 use Rattle.machine.specs.Frames.{
   Frame,
@@ -73,10 +76,10 @@ module _ {work : List ℕ} {m : Machine} {k : ℕ} where
   pub collects : {a b : ℕ} → Collected work m k → a ≤ k → k < b → Evaluates work m a b
   collects h l u = let e = h .same in record { mode = h .mode; from = omega arith; until = omega arith }
 
-  pub logical-in : m .mode ≡ modeOf Evaluate → k ≡ kindAt work (m .value) → 22 ≤ k → k < 39 → Logical work m
+  pub logical-in : m .mode ≡ modeOf Evaluate → k ≡ kindAt work (m .value) → Kind.equality ≤ k → k < Kind.bigNumbers → Logical work m
   logical-in h e l u = record { mode = h; class = ap classOf (sym e) ∙ binary-class k l u }
 
-  pub formless-in : m .mode ≡ modeOf Expand → k ≡ kindAt work (m .value) → 45 ≤ k → Formless work m
+  pub formless-in : m .mode ≡ modeOf Expand → k ≡ kindAt work (m .value) → Kind.binder false ≤ k → Formless work m
   formless-in h e l = record { mode = h; shape = ap shapeOf (sym e) ∙ misfit-sets k l }
 
 -- beside a table
@@ -92,7 +95,7 @@ module _ {s : Source} {mem out : List ℕ} {m : Machine} where
   ready h = record { lent = h .lent; realm = h .realm; answer = h .answer; began = h .began; table = out; state = h .state }
 
 -- phases are numbered from 0 on
-phase-few : (F : Frame) → phase F < 36
+phase-few : (F : Frame) → phase F < Phase.count
 phase-few (Measured p m) = omega arith
 phase-few Width = omega arith
 phase-few (Left p o c b) = omega arith
@@ -131,5 +134,5 @@ phase-few (KeepFormula r c e) = omega arith
 phase-few (BitOf c i) = omega arith
 
 module _ {s : Source} {mem out : List ℕ} {m : Machine} (h : ToppedToWrite s mem out m) where
-  pub phases-few : phaseAt mem m < 36
+  pub phases-few : phaseAt mem m < Phase.count
   phases-few = let e = top-phase (h .top) in let l = phase-few (h .top .frame) in omega arith

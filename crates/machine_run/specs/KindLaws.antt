@@ -1,12 +1,11 @@
 -- Kinds that no expression has.
-use Prim.Native.Nat.{ℕ, _%_, _≤_, _<_}
+use Prim.Native.Nat.{ℕ, _≤_, _<_}
 use mathlib.Core.Bool.{Bool, true, false, false≢true}
 use mathlib.Core.List.{List, _++_}
 use mathlib.Core.Option.{some}
 use mathlib.Core.Path.{_≡_, sym, ap, _∙_}
 use native.Mathlib.Omega.{arith}
 use native.Mathlib.Decide.{decLt}
-use lib.Dec.{leb, eqb}
 use lib.ListN.{List·getD-eq-default}
 use Rattle.entries.specs.Kinds as Kind
 use Rattle.entries.specs.Flat.{flat}
@@ -21,14 +20,12 @@ use Rattle.machine.specs.OperandLaws.{operand-view, operand-as}
 use Rattle.machine.specs.declared.Machine.{Machine}
 use Rattle.machine_run.specs.Choosing.{Collected}
 
-range-class : (k : ℕ) → 53 ≤ k → classOf k ≡ aRange
+range-class : (k : ℕ) → Kind.range ≤ k → classOf k ≡ aRange
 range-class k l = List·getD-eq-default classes aRange {n = k} l
 
-between-some : (l h : Bool) → 47 ≤ Kind.between l h
-between-some false false = omega arith
-between-some false true = omega arith
-between-some true false = omega arith
-between-some true true = omega arith
+between-some : (h : Bool) → Kind.between false ≤ Kind.between h
+between-some false = omega arith
+between-some true = omega arith
 
 -- no expression has the kind of a big operator's name, of an element in braces, of a line
 module _ {s : Source} {mem : List ℕ} {m : Machine} {k : ℕ} (r : Ready s mem m) (h : Collected (s .work) m k) where
@@ -38,25 +35,25 @@ module _ {s : Source} {mem : List ℕ} {m : Machine} {k : ℕ} (r : Ready s mem 
   class-here : {z : Class} → classOf k ≡ z → classOf (kindAt (s .work) (m .value)) ≡ z
   class-here e = ap classOf (sym (h .same)) ∙ e
 
-  pub bounds-some : 45 ≤ k → k < 51 → 47 ≤ k
+  pub bounds-some : Kind.binder false ≤ k → k < Kind.listed → Kind.between false ≤ k
   bounds-some l u =
       let v = operand-view (here .at .operand) (class-here (between-class k l u)) in
-      let p = operand-as (here .at .operand) (v .3) in
-      let q = kind-of (Kind.between (leb 49 k) (eqb (k % 2) 0)) (some (v .0)) (flat (v .1) ++ flat (v .2)) (p .known .at) in
-      let b = between-some (leb 49 k) (eqb (k % 2) 0) in
+      let p = operand-as (here .at .operand) (v .5) in
+      let q = kind-of (Kind.between (v .2)) (some (v .0)) (flat (v .3) ++ flat (v .4)) (p .known .at) in
+      let b = between-some (v .2) in
       let e = h .same in
       omega arith
 
-  no-element : k ≡ 52 → ⊥
+  no-element : k ≡ Kind.element → ⊥
   no-element q =
       let v = operand-view (here .at .operand) {z = anElement} (class-here (ap classOf q)) in
       let p = operand-as (here .at .operand) (v .2) in
       false≢true (p .known .proper .0)
 
-  pub range-alone : 52 ≤ k → k ≡ 53
-  range-alone l = go (decLt 52 k)
+  pub range-alone : Kind.element ≤ k → k ≡ Kind.range
+  range-alone l = go (decLt Kind.element k)
     where
-      go : Dec (52 < k) → k ≡ 53
+      go : Dec (Kind.element < k) → k ≡ Kind.range
       go (no n) = absurd (no-element (omega arith))
       go (yes n) =
           let v = operand-view (here .at .operand) (class-here (range-class k n)) in

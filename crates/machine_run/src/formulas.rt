@@ -16,7 +16,9 @@ use temporal_steps::repetitions::repetition;
 use temporal_steps::unaries::unary;
 use temporal_steps::windows::windowing;
 use value_steps::parens::paren;
+ghost use mathlib.Core.Bool.{false};
 ghost use mathlib.Core.Path.{_≡_};
+ghost use Rattle.entries.specs.Kinds as Kind;
 ghost use Rattle.machine.specs.Came.{Expand};
 ghost use Rattle.machine.specs.States.{modeOf, Ready, ReadyToWrite, Steps, Writes};
 ghost use Rattle.operands.specs.Working.{source};
@@ -33,7 +35,7 @@ fn atom(
     kind: u32,
 ) -> Move
     requires { ⌜ ReadyToWrite (source (now text) (now work) (now refs)) (now memory) (now table) m ⌝ }
-    requires { ⌜ Kinded (now work) m (modeOf Expand) kind 0 6 ⌝ }
+    requires { ⌜ Kinded (now work) m (modeOf Expand) kind Kind.named Kind.measure ⌝ }
     ensures { λ r. ⌜ Writes (source (now (text .entry)) (now (work .entry)) (now (refs .entry))) (now (memory .entry)) (now (memory .exit)) (now (table .entry)) (now (table .exit)) m r ⌝ }
 {
     if kind == kinds::NAMED {
@@ -61,16 +63,16 @@ fn operator(
     kind: u32,
 ) -> Move
     requires { ⌜ Ready (source (now text) (now work) (now refs)) (now memory) m ⌝ }
-    requires { ⌜ Kinded (now work) m (modeOf Expand) kind 6 29 ⌝ }
+    requires { ⌜ Kinded (now work) m (modeOf Expand) kind Kind.measure Kind.binary ⌝ }
     ensures { λ r. ⌜ Steps (source (now (text .entry)) (now (work .entry)) (now (refs .entry))) (now (memory .entry)) (now (memory .exit)) m r ⌝ }
 {
-    if kind < kinds::UNARIES {
+    if kind < kinds::UNARY {
         return misfit(text, work, refs, memory, m);
     }
     if kind < kinds::ARITHMETIC {
         return unary(text, work, refs, memory, m);
     }
-    if kind < kinds::COMPARISONS {
+    if kind < kinds::EQUALITY {
         return misfit(text, work, refs, memory, m);
     }
     if kind < kinds::MEMBERSHIP {
@@ -82,7 +84,7 @@ fn operator(
 // A connective, `X[n]`, a window, a big operator.
 fn joined(text: &[u8], work: &[u8], refs: &[u16], memory: &mut [u32], m: Machine, kind: u32) -> Move
     requires { ⌜ Ready (source (now text) (now work) (now refs)) (now memory) m ⌝ }
-    requires { ⌜ Kinded (now work) m (modeOf Expand) kind 29 45 ⌝ }
+    requires { ⌜ Kinded (now work) m (modeOf Expand) kind Kind.binary (Kind.binder false) ⌝ }
     ensures { λ r. ⌜ Steps (source (now (text .entry)) (now (work .entry)) (now (refs .entry))) (now (memory .entry)) (now (memory .exit)) m r ⌝ }
 {
     if kind < kinds::NEXTS {
@@ -91,7 +93,7 @@ fn joined(text: &[u8], work: &[u8], refs: &[u16], memory: &mut [u32], m: Machine
     if kind == kinds::NEXTS {
         return repetition(text, work, refs, memory, m);
     }
-    if kind < kinds::BIGS {
+    if kind < kinds::BIG_NUMBERS {
         return windowing(text, work, refs, memory, m);
     }
     over_each(text, work, refs, memory, m)
@@ -111,13 +113,13 @@ pub fn formula(
     ensures { λ r. ⌜ Writes (source (now (text .entry)) (now (work .entry)) (now (refs .entry))) (now (memory .entry)) (now (memory .exit)) (now (table .entry)) (now (table .exit)) m r ⌝ }
 {
     let kind = kind_at(work, m.value as usize);
-    if kind < kinds::MEASURES {
+    if kind < kinds::MEASURE {
         return atom(text, work, refs, memory, table, m, kind);
     }
-    if kind < kinds::CONNECTIVES {
+    if kind < kinds::BINARY {
         return operator(text, work, refs, memory, m, kind);
     }
-    if kind < kinds::BINDERS {
+    if kind < kinds::BINDER {
         return joined(text, work, refs, memory, m, kind);
     }
     misfit(text, work, refs, memory, m)

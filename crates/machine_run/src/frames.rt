@@ -23,6 +23,7 @@ use temporal_steps::windows;
 use value_steps::combinations;
 use value_steps::named;
 use value_steps::numbers;
+ghost use Rattle.machine.specs.Phases as Phase;
 ghost use Rattle.machine.specs.States.{Topped, ToppedToWrite, Takes, TakesToWrite};
 ghost use Rattle.operands.specs.Working.{source};
 ghost use Rattle.machine_run.specs.Choosing.{Phased};
@@ -37,7 +38,7 @@ fn operation(
     phase: u32,
 ) -> Move
     requires { ⌜ Topped (source (now text) (now work) (now refs)) (now memory) m ⌝ }
-    requires { ⌜ Phased (now memory) m phase 0 6 ⌝ }
+    requires { ⌜ Phased (now memory) m phase Phase.measured Phase.low ⌝ }
     ensures { λ r. ⌜ Takes (source (now (text .entry)) (now (work .entry)) (now (refs .entry))) (now (memory .entry)) (now (memory .exit)) m r ⌝ }
 {
     if phase == phases::MEASURED {
@@ -68,7 +69,7 @@ fn collection(
     phase: u32,
 ) -> Move
     requires { ⌜ Topped (source (now text) (now work) (now refs)) (now memory) m ⌝ }
-    requires { ⌜ Phased (now memory) m phase 6 12 ⌝ }
+    requires { ⌜ Phased (now memory) m phase Phase.low Phase.over ⌝ }
     ensures { λ r. ⌜ Takes (source (now (text .entry)) (now (work .entry)) (now (refs .entry))) (now (memory .entry)) (now (memory .exit)) m r ⌝ }
 {
     if phase == phases::LOW {
@@ -92,7 +93,7 @@ fn collection(
 // The set of a big operator, a number or a set that it folds; the value of a definition.
 fn fold(text: &[u8], work: &[u8], refs: &[u16], memory: &mut [u32], m: Machine, phase: u32) -> Move
     requires { ⌜ Topped (source (now text) (now work) (now refs)) (now memory) m ⌝ }
-    requires { ⌜ Phased (now memory) m phase 12 18 ⌝ }
+    requires { ⌜ Phased (now memory) m phase Phase.over Phase.capping ⌝ }
     ensures { λ r. ⌜ Takes (source (now (text .entry)) (now (work .entry)) (now (refs .entry))) (now (memory .entry)) (now (memory .exit)) m r ⌝ }
 {
     if phase == phases::OVER {
@@ -124,7 +125,7 @@ fn connective(
     phase: u32,
 ) -> Move
     requires { ⌜ ToppedToWrite (source (now text) (now work) (now refs)) (now memory) (now table) m ⌝ }
-    requires { ⌜ Phased (now memory) m phase 18 25 ⌝ }
+    requires { ⌜ Phased (now memory) m phase Phase.capping Phase.indexed ⌝ }
     ensures { λ r. ⌜ TakesToWrite (source (now (text .entry)) (now (work .entry)) (now (refs .entry))) (now (memory .entry)) (now (memory .exit)) (now (table .entry)) (now (table .exit)) m r ⌝ }
 {
     if phase == phases::CAPPING {
@@ -159,7 +160,7 @@ fn window(
     phase: u32,
 ) -> Move
     requires { ⌜ ToppedToWrite (source (now text) (now work) (now refs)) (now memory) (now table) m ⌝ }
-    requires { ⌜ Phased (now memory) m phase 25 31 ⌝ }
+    requires { ⌜ Phased (now memory) m phase Phase.indexed Phase.overEach ⌝ }
     ensures { λ r. ⌜ TakesToWrite (source (now (text .entry)) (now (work .entry)) (now (refs .entry))) (now (memory .entry)) (now (memory .exit)) (now (table .entry)) (now (table .exit)) m r ⌝ }
 {
     if phase == phases::INDEXED {
@@ -191,7 +192,7 @@ fn every(
     phase: u32,
 ) -> Move
     requires { ⌜ ToppedToWrite (source (now text) (now work) (now refs)) (now memory) (now table) m ⌝ }
-    requires { ⌜ Phased (now memory) m phase 31 36 ⌝ }
+    requires { ⌜ Phased (now memory) m phase Phase.overEach Phase.count ⌝ }
     ensures { λ r. ⌜ TakesToWrite (source (now (text .entry)) (now (work .entry)) (now (refs .entry))) (now (memory .entry)) (now (memory .exit)) (now (table .entry)) (now (table .exit)) m r ⌝ }
 {
     if phase == phases::OVER_EACH {

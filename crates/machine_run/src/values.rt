@@ -17,6 +17,7 @@ use value_steps::numbers::calculation;
 use value_steps::numbers::numeral;
 use value_steps::parens::paren;
 ghost use mathlib.Core.Path.{_≡_};
+ghost use Rattle.entries.specs.Kinds as Kind;
 ghost use Rattle.machine.specs.Came.{Evaluate};
 ghost use Rattle.machine.specs.States.{modeOf, Ready, Steps};
 ghost use Rattle.operands.specs.Working.{source};
@@ -25,7 +26,7 @@ ghost use Rattle.machine_run.specs.Choosing.{Kinded, Collected};
 // A name, a numeral, a parenthesis; a constant or a bit of a bus, which is a formula.
 fn leaf(text: &[u8], work: &[u8], refs: &[u16], memory: &mut [u32], m: Machine, kind: u32) -> Move
     requires { ⌜ Ready (source (now text) (now work) (now refs)) (now memory) m ⌝ }
-    requires { ⌜ Kinded (now work) m (modeOf Evaluate) kind 0 6 ⌝ }
+    requires { ⌜ Kinded (now work) m (modeOf Evaluate) kind Kind.named Kind.measure ⌝ }
     ensures { λ r. ⌜ Steps (source (now (text .entry)) (now (work .entry)) (now (refs .entry))) (now (memory .entry)) (now (memory .exit)) m r ⌝ }
 {
     if kind == kinds::NAMED {
@@ -50,7 +51,7 @@ fn operation(
     kind: u32,
 ) -> Move
     requires { ⌜ Ready (source (now text) (now work) (now refs)) (now memory) m ⌝ }
-    requires { ⌜ Kinded (now work) m (modeOf Evaluate) kind 6 22 ⌝ }
+    requires { ⌜ Kinded (now work) m (modeOf Evaluate) kind Kind.measure Kind.equality ⌝ }
     ensures { λ r. ⌜ Steps (source (now (text .entry)) (now (work .entry)) (now (refs .entry))) (now (memory .entry)) (now (memory .exit)) m r ⌝ }
 {
     if kind < kinds::WIDTH {
@@ -62,7 +63,7 @@ fn operation(
     if kind < kinds::ARITHMETIC {
         return logic(text, work, refs, memory, m);
     }
-    if kind < kinds::COMBINATIONS {
+    if kind < kinds::COMBINATION {
         return calculation(text, work, refs, memory, m);
     }
     combination(text, work, refs, memory, m)
@@ -81,7 +82,7 @@ fn collection(
     requires { ⌜ Collected (now work) m kind ⌝ }
     ensures { λ r. ⌜ Steps (source (now (text .entry)) (now (work .entry)) (now (refs .entry))) (now (memory .entry)) (now (memory .exit)) m r ⌝ }
 {
-    if kind < kinds::BINDERS {
+    if kind < kinds::BINDER {
         return over(text, work, refs, memory, m);
     }
     if kind < kinds::LISTED {
@@ -100,13 +101,13 @@ pub fn value(text: &[u8], work: &[u8], refs: &[u16], memory: &mut [u32], m: Mach
     ensures { λ r. ⌜ Steps (source (now (text .entry)) (now (work .entry)) (now (refs .entry))) (now (memory .entry)) (now (memory .exit)) m r ⌝ }
 {
     let kind = kind_at(work, m.value as usize);
-    if kind < kinds::MEASURES {
+    if kind < kinds::MEASURE {
         return leaf(text, work, refs, memory, m, kind);
     }
-    if kind < kinds::COMPARISONS {
+    if kind < kinds::EQUALITY {
         return operation(text, work, refs, memory, m, kind);
     }
-    if kind < kinds::BIGS {
+    if kind < kinds::BIG_NUMBERS {
         return logic(text, work, refs, memory, m);
     }
     collection(text, work, refs, memory, m, kind)

@@ -17,6 +17,7 @@ use Rattle.language.specs.Tree.{Expr}
 use Rattle.language.specs.Expansion.{Context, expansion}
 use Rattle.name_values.specs.World.{Meaning, Defines}
 use Rattle.operands.specs.Working.{Source}
+use Rattle.machine.specs.Phases as Phase
 use Rattle.machine.specs.Came.{Came, Nodes, nodes}
 use Rattle.machine.specs.Frames.{KeepFormula}
 use Rattle.machine.specs.Realm.{Realm}
@@ -69,16 +70,16 @@ pub record Keeping (mem : List ℕ) (m : Machine) (from r : ℕ) : Type 0 where
   pub frames : m .frames + frameWords ≤ length mem
   pub some : m .nodes ≤ maxNodes → from < m .nodes
 
-module _ {s : Source} {mem : List ℕ} {m : Machine} (w : Waiting mem m 34) where
+module _ {s : Source} {mem : List ℕ} {m : Machine} (w : Waiting mem m Phase.keepFormula) where
   -- whatever else it is, it goes on
   pub keep-passes : {scope : ℕ} → scope ≡ getD mem (m .frames + 5) 0 → Takes s mem mem m (Next (released m scope))
-  keep-passes es = record { turns = λ R x o out t. let v = by-phase (t .frame) 34 (top-phase t ∙ w .phase) in let h = top-as t (v .3) in lets-go h (waiting h) es }
+  keep-passes es = record { turns = λ R x o out t. let v = by-phase (t .frame) Phase.keepFormula (top-phase t ∙ w .phase) in let h = top-as t (v .3) in lets-go h (waiting h) es }
 
   module _ (e : m .mode ≡ isNodes) {from r : ℕ} (ef : from ≡ getD mem (m .frames + 3) 0) (er : r ≡ getD mem (m .frames + 6) 0) where
     -- the definition that is kept
     pub keep-name : Topped s mem m → Keeping mem m from r
     keep-name t =
-        let v = by-phase (t .top .frame) 34 (top-phase (t .top) ∙ w .phase) in
+        let v = by-phase (t .top .frame) Phase.keepFormula (top-phase (t .top) ∙ w .phase) in
         let h = top-as (t .top) (v .3) in
         let g = came-formula (t .realm) (t .began) mem m (h .came) (h .come) e in
         let b = laid-last (formula-laid h (g .same)) in
@@ -92,7 +93,7 @@ module _ {s : Source} {mem : List ℕ} {m : Machine} (w : Waiting mem m 34) wher
     pub keep-formula : {scope mark : ℕ} → scope ≡ getD mem (m .frames + 5) 0 → Marked from (m .nodes) mark → Takes s mem (marking mem r mark) m (Next (released m scope))
     keep-formula {scope} {mark} es k = record {
       turns = λ R x o out t.
-          let v = by-phase (t .frame) 34 (top-phase t ∙ w .phase) in
+          let v = by-phase (t .frame) Phase.keepFormula (top-phase t ∙ w .phase) in
           let c = v .1 in
           let d = v .2 in
           let h = top-as t (v .3) in

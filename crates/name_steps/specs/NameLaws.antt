@@ -25,6 +25,7 @@ use Rattle.name_values.specs.Facts.{IsBus}
 use Rattle.name_values.specs.UsedLaws.{used-formula, used-no-formula}
 use Rattle.name_values.specs.Sorts as Sort
 use Rattle.operands.specs.Working.{Source}
+use Rattle.machine.specs.Phases as Phase
 use Rattle.machine.specs.Came.{Expand, Came, nodes, works}
 use Rattle.machine.specs.Frames.{KeepFormula}
 use Rattle.machine.specs.Realm.{Realm}
@@ -77,12 +78,12 @@ other-sort v l a b c d e f = upper (lower a b c)
 
 -- the reference of the entry's name is that of a definition
 pub record Defined (work refs mem : List ℕ) (m : Machine) (r : ℕ) : Type 0 where
-  pub named : Expands work m Kind.named 1
+  pub named : Expands work m Kind.named Kind.numeral
   pub same : r ≡ getD refs (m .value) 0
   pub declared : r < maxNames
   pub body : noteAt mem r 0 ≡ Sort.body
 
-module _ {s : Source} {mem out : List ℕ} {m : Machine} (k : Expands (s .work) m Kind.named 1) {r : ℕ} (er : r ≡ getD (s .refs) (m .value) 0) where
+module _ {s : Source} {mem out : List ℕ} {m : Machine} (k : Expands (s .work) m Kind.named Kind.numeral) {r : ℕ} (er : r ≡ getD (s .refs) (m .value) 0) where
   -- a big operator's name
   pub element-refused : maxNames ≤ r → Writes s mem mem out out m (Refuses 9 0)
   element-refused l = record {
@@ -174,7 +175,7 @@ module _ {s : Source} {mem out : List ℕ} {m : Machine} (k : Expands (s .work) 
       }
 
       -- its body is worked out, and a frame waits to mark what is written
-      pub body-writes : {mem' : List ℕ} {u : Move} → Enclosed mem mem' m 34 (m .nodes) r (modeOf Expand) (noteAt mem r 1) u → Writes s mem mem' out out m u
+      pub body-writes : {mem' : List ℕ} {u : Move} → Enclosed mem mem' m Phase.keepFormula (m .nodes) r (modeOf Expand) (noteAt mem r 1) u → Writes s mem mem' out out m u
       body-writes {mem'} {u} w = record {
         turns = λ R x o h.
             let e = k .mode in
@@ -182,7 +183,7 @@ module _ {s : Source} {mem out : List ℕ} {m : Machine} (k : Expands (s .work) 
             let d = fact q .body b in
             let c = d .context in
             let t = d .expr in
-            encloses q {F = KeepFormula r c t} {phase = 34} {at = m .nodes} {r = r} {a = Expand} {c = c} {e = t} {j = noteAt mem r 1} (record {
+            encloses q {F = KeepFormula r c t} {phase = Phase.keepFormula} {at = m .nodes} {r = r} {a = Expand} {c = c} {e = t} {j = noteAt mem r 1} (record {
               holds-nothing = refl;
               few-turns = omega arith;
               below = named-by q (k .until) er .before (noteAt mem r 1) c t l (d .defines);

@@ -13,6 +13,8 @@ use name_values::sorts;
 use node::MAX_NODES;
 use node::refusals;
 use value_steps::named::released;
+ghost use Rattle.entries.specs.Kinds as Kind;
+ghost use Rattle.machine.specs.Phases as Phase;
 ghost use Rattle.machine.specs.Entering.{Expands, Waiting};
 ghost use Rattle.machine.specs.States.{ReadyToWrite, Writes, Topped, Takes};
 ghost use Rattle.operands.specs.Working.{source};
@@ -27,7 +29,7 @@ pub fn name(
     m: Machine,
 ) -> Move
     requires { ⌜ ReadyToWrite (source (now text) (now work) (now refs)) (now memory) (now table) m ⌝ }
-    requires { ⌜ Expands (now work) m 0 1 ⌝ }
+    requires { ⌜ Expands (now work) m Kind.named Kind.numeral ⌝ }
     ensures { λ r. ⌜ Writes (source (now (text .entry)) (now (work .entry)) (now (refs .entry))) (now (memory .entry)) (now (memory .exit)) (now (table .entry)) (now (table .exit)) m r ⌝ }
 {
     let k = m.value as usize;
@@ -77,7 +79,7 @@ fn defined(
 // A definition's body has come to a formula: it is marked where its nodes stand.
 pub fn keep(text: &[u8], work: &[u8], refs: &[u16], memory: &mut [u32], m: Machine) -> Move
     requires { ⌜ Topped (source (now text) (now work) (now refs)) (now memory) m ⌝ }
-    requires { ⌜ Waiting (now memory) m 34 ⌝ }
+    requires { ⌜ Waiting (now memory) m Phase.keepFormula ⌝ }
     ensures { λ r. ⌜ Takes (source (now (text .entry)) (now (work .entry)) (now (refs .entry))) (now (memory .entry)) (now (memory .exit)) m r ⌝ }
 {
     let at = m.frames;

@@ -96,14 +96,14 @@ module _ {ts : Tokens} {w refs : List ℕ} {W : World} {env : List ℕ} {c : Con
 
     pub known-between : (t : Token) (l m : Bool) (x y : Expr) → Known ts w refs W env c braces k (Between t l m x y)
         → Known ts w refs W env c false (k - 1 - length (flat y)) x × Known ts w refs W env c false (k - 1) y
-    known-between t l m x y h = two false false (h .limit) (Kind.between l m) (some t) x y (h .at) (h .within) (h .agrees) (h .proper .1, h .proper .2)
+    known-between t l m x y h = two false false (h .limit) (Kind.between m) (some t) x y (h .at) (h .within) (h .agrees) (h .proper .1, h .proper .2)
 
     pub known-element : (x y : Expr) → Known ts w refs W env c braces k (Element x y) → Known ts w refs W env c false (k - 1 - length (flat y)) x × Known ts w refs W env c true (k - 1) y
     known-element x y h = two false true (h .limit) Kind.element none x y (h .at) (h .within) (h .agrees) (h .proper .1, h .proper .2)
 
     pub known-window : (t : Token) (o : Window) (x y z : Expr) → Known ts w refs W env c braces k (InWindow t o x y z)
         → Known ts w refs W env c false (k - 1 - length (flat z) - length (flat y)) x × Known ts w refs W env c false (k - 1 - length (flat z)) y × Known ts w refs W env c false (k - 1) z
-    known-window t o x y z h = all-three (h .limit) (Kind.window o) (some t) x y z (h .at) (h .within) (h .agrees) (h .proper .1, h .proper .2, h .proper .3)
+    known-window t o x y z h = all-three (h .limit) Kind.window (some t) x y z (h .at) (h .within) (h .agrees) (h .proper .1, h .proper .2, h .proper .3)
 
     pub known-range : (t : Token) (x y z : Expr) → Known ts w refs W env c braces k (Range t x y z)
         → Known ts w refs W env c false (k - 1 - length (flat z) - length (flat y)) x × Known ts w refs W env c false (k - 1 - length (flat z)) y × Known ts w refs W env c false (k - 1) z

@@ -92,11 +92,11 @@ lead b (Paren t e) p more h = leads-under Kind.paren (some t) (flat e) more (λ 
 lead b (Prefixed t o e) p more h = leads-under (Kind.before o) (some t) (flat e) more (λ m. lead false e (p .1) m never)
 lead b (Joined t o x y) p more h = leads-under (Kind.joining o) (some t) (flat x ++ flat y) more (leads-first (flat x) (flat y) (λ m. lead false x (p .1) m never))
 lead b (Nexts t x y) p more h = leads-under Kind.nexts (some t) (flat x ++ flat y) more (leads-first (flat x) (flat y) (λ m. lead false x (p .1) m never))
-lead b (InWindow t o x y z) p more h = leads-under (Kind.window o) (some t) (flat x ++ (flat y ++ flat z)) more (leads-first (flat x) (flat y ++ flat z) (λ m. lead false x (p .1) m never))
+lead b (InWindow t o x y z) p more h = leads-under Kind.window (some t) (flat x ++ (flat y ++ flat z)) more (leads-first (flat x) (flat y ++ flat z) (λ m. lead false x (p .1) m never))
 lead b (Each t o further i s e) p more h =
     let f = under (Kind.binder further) (some i) (flat s) in
     leads-under (Kind.big o) (some t) (f ++ flat e) more (leads-first f (flat e) (λ l. leads-under (Kind.binder further) (some i) (flat s) l (λ m. lead false s (p .1) m never)))
-lead b (Between t l g x y) p more h = leads-under (Kind.between l g) (some t) (flat x ++ flat y) more (leads-first (flat x) (flat y) (λ m. lead false x (p .1) m never))
+lead b (Between t l g x y) p more h = leads-under (Kind.between g) (some t) (flat x ++ flat y) more (leads-first (flat x) (flat y) (λ m. lead false x (p .1) m never))
 lead b (Listed t es) p more h = subst Leads (sym (append-assoc (flat es) _ more)) (lead true es (p .1) _ (λ _. ((λ q. omega arith), (λ q. omega arith))))
 lead b Empty p more h = h p
 lead b (Element e es) p more h = leads-under Kind.element none (flat e ++ flat es) more (leads-first (flat e) (flat es) (λ m. lead false e (p .1) m never))

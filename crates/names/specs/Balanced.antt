@@ -131,17 +131,17 @@ closed-each t o further i s e f g d es h =
 closed-flat : (e : Expr) → Closed (flat e)
 closed-flat (Named t) = closed-under Kind.named (some t) [] refl refl refl (λ d es h. h)
 closed-flat (Numeral t) = closed-under Kind.numeral (some t) [] refl refl refl (λ d es h. h)
-closed-flat (Truth t b) = quiet-under (Kind.truth b) (some t) [] (quiet-truth b) (λ d es h. h)
+closed-flat (Truth t b) = quiet-under Kind.truth (some t) [] quiet-truth (λ d es h. h)
 closed-flat (Index t e) = closed-under Kind.index (some t) (flat e) refl refl refl (closed-flat e)
 closed-flat (Paren t e) = closed-under Kind.paren (some t) (flat e) refl refl refl (closed-flat e)
 closed-flat (Prefixed t o e) = quiet-under (Kind.before o) (some t) (flat e) (quiet-before o) (closed-flat e)
 closed-flat (Joined t o a b) = quiet-under (Kind.joining o) (some t) (flat a ++ flat b) (quiet-joining o) (both (flat a) (flat b) (closed-flat a) (closed-flat b))
 closed-flat (Nexts t n e) = closed-under Kind.nexts (some t) (flat n ++ flat e) refl refl refl (both (flat n) (flat e) (closed-flat n) (closed-flat e))
 closed-flat (InWindow t o n m e) =
-    quiet-under (Kind.window o) (some t) (flat n ++ (flat m ++ flat e)) (quiet-window o)
+    quiet-under Kind.window (some t) (flat n ++ (flat m ++ flat e)) quiet-window
     (both (flat n) (flat m ++ flat e) (closed-flat n) (both (flat m) (flat e) (closed-flat m) (closed-flat e)))
 closed-flat (Each t o further i s e) = closed-each t o further i s e (closed-flat s) (closed-flat e)
-closed-flat (Between t l h a b) = quiet-under (Kind.between l h) (some t) (flat a ++ flat b) (quiet-between l h) (both (flat a) (flat b) (closed-flat a) (closed-flat b))
+closed-flat (Between t l h a b) = quiet-under (Kind.between h) (some t) (flat a ++ flat b) (quiet-between h) (both (flat a) (flat b) (closed-flat a) (closed-flat b))
 closed-flat (Listed t es) = closed-under Kind.listed (some t) (flat es) refl refl refl (closed-flat es)
 closed-flat Empty = λ d es h. h
 closed-flat (Element e es) = closed-under Kind.element none (flat e ++ flat es) refl refl refl (both (flat e) (flat es) (closed-flat e) (closed-flat es))

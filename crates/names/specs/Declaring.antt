@@ -40,14 +40,14 @@ inner-under k t es e h = all-append Inner es _ h (e, tt)
 pub inner-flat : (e : Expr) → All Inner (flat e)
 inner-flat (Named t) = (refl, tt)
 inner-flat (Numeral t) = (refl, tt)
-inner-flat (Truth t b) = (quiet-truth b .no-declared, tt)
+inner-flat (Truth t b) = (quiet-truth .no-declared, tt)
 inner-flat (Index t e) = inner-under Kind.index (some t) (flat e) refl (inner-flat e)
 inner-flat (Paren t e) = inner-under Kind.paren (some t) (flat e) refl (inner-flat e)
 inner-flat (Prefixed t o e) = inner-under (Kind.before o) (some t) (flat e) (quiet-before o .no-declared) (inner-flat e)
 inner-flat (Joined t o a b) = inner-under (Kind.joining o) (some t) (flat a ++ flat b) (quiet-joining o .no-declared) (all-append Inner (flat a) (flat b) (inner-flat a) (inner-flat b))
 inner-flat (Nexts t n e) = inner-under Kind.nexts (some t) (flat n ++ flat e) refl (all-append Inner (flat n) (flat e) (inner-flat n) (inner-flat e))
 inner-flat (InWindow t o n m e) =
-    inner-under (Kind.window o) (some t) (flat n ++ (flat m ++ flat e)) (quiet-window o .no-declared)
+    inner-under Kind.window (some t) (flat n ++ (flat m ++ flat e)) (quiet-window .no-declared)
     (all-append Inner (flat n) (flat m ++ flat e) (inner-flat n) (all-append Inner (flat m) (flat e) (inner-flat m) (inner-flat e)))
 inner-flat (Each t o further i s e) = inner-each t o further i s e (inner-flat s) (inner-flat e)
   where
@@ -59,7 +59,7 @@ inner-flat (Each t o further i s e) = inner-each t o further i s e (inner-flat s
     inner-each t o further i s e f g =
         inner-under (Kind.big o) (some t) (under (Kind.binder further) (some i) (flat s) ++ flat e) (ending-big o .no-declared)
         (all-append Inner (under (Kind.binder further) (some i) (flat s)) (flat e) (inner-under (Kind.binder further) (some i) (flat s) (binder further) f) g)
-inner-flat (Between t l h a b) = inner-under (Kind.between l h) (some t) (flat a ++ flat b) (quiet-between l h .no-declared) (all-append Inner (flat a) (flat b) (inner-flat a) (inner-flat b))
+inner-flat (Between t l h a b) = inner-under (Kind.between h) (some t) (flat a ++ flat b) (quiet-between h .no-declared) (all-append Inner (flat a) (flat b) (inner-flat a) (inner-flat b))
 inner-flat (Listed t es) = inner-under Kind.listed (some t) (flat es) refl (inner-flat es)
 inner-flat Empty = tt
 inner-flat (Element e es) = inner-under Kind.element none (flat e ++ flat es) refl (all-append Inner (flat e) (flat es) (inner-flat e) (inner-flat es))

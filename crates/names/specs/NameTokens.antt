@@ -84,19 +84,19 @@ two a b h k = all-append NamesName a b h k
 names-flat : (e : Expr) → NameExpr e → All NamesName (flat e)
 names-flat (Named t) y = with-name Kind.named t [] y tt
 names-flat (Numeral t) y = without Kind.numeral (some t) [] refl refl refl tt
-names-flat (Truth t b) y = quietly (Kind.truth b) (some t) [] (quiet-truth b) tt
+names-flat (Truth t b) y = quietly Kind.truth (some t) [] quiet-truth tt
 names-flat (Index t e) y = with-name Kind.index t (flat e) (y .0) (names-flat e (y .1))
 names-flat (Paren t e) y = without Kind.paren (some t) (flat e) refl refl refl (names-flat e y)
 names-flat (Prefixed t o e) y = quietly (Kind.before o) (some t) (flat e) (quiet-before o) (names-flat e y)
 names-flat (Joined t o a b) y = quietly (Kind.joining o) (some t) (flat a ++ flat b) (quiet-joining o) (two (flat a) (flat b) (names-flat a (y .0)) (names-flat b (y .1)))
 names-flat (Nexts t n e) y = without Kind.nexts (some t) (flat n ++ flat e) refl refl refl (two (flat n) (flat e) (names-flat n (y .0)) (names-flat e (y .1)))
 names-flat (InWindow t o n m e) y =
-    quietly (Kind.window o) (some t) (flat n ++ (flat m ++ flat e)) (quiet-window o)
+    quietly Kind.window (some t) (flat n ++ (flat m ++ flat e)) quiet-window
     (two (flat n) (flat m ++ flat e) (names-flat n (y .0)) (two (flat m) (flat e) (names-flat m (y .1)) (names-flat e (y .2))))
 names-flat (Each t o further i s e) y =
     without (Kind.big o) (some t) (under (Kind.binder further) (some i) (flat s) ++ flat e) (ending-big o .no-use) (ending-big o .no-binder) (ending-big o .no-declared)
     (two (under (Kind.binder further) (some i) (flat s)) (flat e) (with-name (Kind.binder further) i (flat s) (y .0) (names-flat s (y .1))) (names-flat e (y .2)))
-names-flat (Between t l h a b) y = quietly (Kind.between l h) (some t) (flat a ++ flat b) (quiet-between l h) (two (flat a) (flat b) (names-flat a (y .0)) (names-flat b (y .1)))
+names-flat (Between t l h a b) y = quietly (Kind.between h) (some t) (flat a ++ flat b) (quiet-between h) (two (flat a) (flat b) (names-flat a (y .0)) (names-flat b (y .1)))
 names-flat (Listed t es) y = without Kind.listed (some t) (flat es) refl refl refl (names-flat es y)
 names-flat Empty y = tt
 names-flat (Element e es) y = without Kind.element none (flat e ++ flat es) refl refl refl (two (flat e) (flat es) (names-flat e (y .0)) (names-flat es (y .1)))

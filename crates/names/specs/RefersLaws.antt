@@ -181,7 +181,7 @@ module _ (es : List Entry) (refs : List ℕ) (declared : Names) (all : (i : ℕ)
       let l = leaf-goes Kind.named t refl refl start bs post r in
       record { after = l .1; refers = own-value Kind.named t [] refl refl refl start bs post (l .0) }
   expr-goes (Numeral t) start bs post r = record { after = leaf-goes Kind.numeral t refl refl start bs post r .1; refers = tt }
-  expr-goes (Truth t b) start bs post r = record { after = leaf-goes (Kind.truth b) t (quiet-truth b .no-binder) (quiet-truth b .no-end) start bs post r .1; refers = tt }
+  expr-goes (Truth t b) start bs post r = record { after = leaf-goes Kind.truth t (quiet-truth .no-binder) (quiet-truth .no-end) start bs post r .1; refers = tt }
   expr-goes (Index t e) start bs post r =
       let n = own Kind.index (some t) (flat e) start bs post in
       let g = expr-goes e start bs (n ∷ post) (operands Kind.index (some t) (flat e) start bs post r) in
@@ -195,11 +195,11 @@ module _ (es : List Entry) (refs : List ℕ) (declared : Names) (all : (i : ℕ)
   expr-goes (Nexts t n e) start bs post r =
       let p = two-go n e Kind.nexts (some t) (expr-goes n) (expr-goes e) refl refl start bs post r in record { after = p .0; refers = (p .1, p .2) }
   expr-goes (InWindow t o n m e) start bs post r =
-      let p = three-go n m e (Kind.window o) (some t) (expr-goes n) (expr-goes m) (expr-goes e) (quiet-window o .no-binder) (quiet-window o .no-end) start bs post r in
+      let p = three-go n m e Kind.window (some t) (expr-goes n) (expr-goes m) (expr-goes e) (quiet-window .no-binder) (quiet-window .no-end) start bs post r in
       record { after = p .0; refers = (p .1, p .2, p .3) }
   expr-goes (Each t o further i s e) start bs post r = each-goes t o further i s e (expr-goes s) (expr-goes e) start bs post r
   expr-goes (Between t l h a b) start bs post r =
-      let p = two-go a b (Kind.between l h) (some t) (expr-goes a) (expr-goes b) (quiet-between l h .no-binder) (quiet-between l h .no-end) start bs post r in
+      let p = two-go a b (Kind.between h) (some t) (expr-goes a) (expr-goes b) (quiet-between h .no-binder) (quiet-between h .no-end) start bs post r in
       record { after = p .0; refers = (p .1, p .2) }
   expr-goes (Listed t e) start bs post r = let p = one-goes e Kind.listed (some t) (expr-goes e) refl refl start bs post r in record { after = p .0; refers = p .1 }
   expr-goes Empty start bs post r = record { after = (let z : start ≡ start + 0 = omega arith in subst (λ d. Run es d bs [] post) z r); refers = tt }

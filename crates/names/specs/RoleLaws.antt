@@ -40,8 +40,8 @@ binds-only k y =
 
 pub ends-only : (k : ℕ) → ends k ≡ true → Role k false false true false
 ends-only k y =
-    let low = leb-true 39 k (and-left (leb 39 k) (leb k 44) y) in
-    let high = leb-true k 44 (and-right (leb 39 k) (leb k 44) y) in
+    let low = leb-true 39 k (and-left (leb 39 k) (leb k 43) y) in
+    let high = leb-true k 43 (and-right (leb 39 k) (leb k 43) y) in
     role (neither (eqb k 0) (eqb k 4) (ne-eqb k 0 (λ e. omega arith)) (ne-eqb k 4 (λ e. omega arith)))
     (neither (eqb k 45) (eqb k 46) (ne-eqb k 45 (λ e. omega arith)) (ne-eqb k 46 (λ e. omega arith))) y
     (and-false (leb 54 k && not (eqb k 58)) (leb k 61) (and-false (leb 54 k) (not (eqb k 58)) (lt-leb 54 k (omega arith))))
@@ -51,7 +51,7 @@ declares-only k y =
     let low = leb-true 54 k (and-left (leb 54 k) (not (eqb k 58)) (and-left (leb 54 k && not (eqb k 58)) (leb k 61) y)) in
     role (neither (eqb k 0) (eqb k 4) (ne-eqb k 0 (λ e. omega arith)) (ne-eqb k 4 (λ e. omega arith)))
     (neither (eqb k 45) (eqb k 46) (ne-eqb k 45 (λ e. omega arith)) (ne-eqb k 46 (λ e. omega arith)))
-    (last-false (leb 39 k) (leb k 44) (lt-leb k 44 (omega arith))) y
+    (last-false (leb 39 k) (leb k 43) (lt-leb k 43 (omega arith))) y
   where
     last-false : (a b : Bool) → b ≡ false → (a && b) ≡ false
     last-false true b e = e

@@ -111,7 +111,7 @@ module _ (used bound : Names → Token → Option ℕ) where
   unfolding scan here after
   walk-flat ns (Named t) es = refl
   walk-flat ns (Numeral t) es = refl
-  walk-flat ns (Truth t b) es = scan-quiet ns (record { kind = Kind.truth b; token = some t; size = 1 }) es (quiet-truth b)
+  walk-flat ns (Truth t b) es = scan-quiet ns (record { kind = Kind.truth; token = some t; size = 1 }) es quiet-truth
   walk-flat ns (Index t e) es =
       ap (places ns) (append-assoc (flat e) _ es) ∙ walk-flat ns e _
       ∙ sym (first-group (walk used bound ns e) (used ns t) (places ns es))
@@ -120,10 +120,10 @@ module _ (used bound : Names → Token → Option ℕ) where
   walk-flat ns (Prefixed t o e) es = wrapped ns (Prefixed t o e) (Kind.before o) (some t) (flat e) (quiet-before o) (walk-flat ns e) es
   walk-flat ns (Joined t o a b) es = wrapped ns (Joined t o a b) (Kind.joining o) (some t) (flat a ++ flat b) (quiet-joining o) (then ns a b (walk-flat ns a) (walk-flat ns b)) es
   walk-flat ns (Nexts t n e) es = wrapped ns (Nexts t n e) Kind.nexts (some t) (flat n ++ flat e) (silent refl refl refl refl) (then ns n e (walk-flat ns n) (walk-flat ns e)) es
-  walk-flat ns (InWindow t o n m e) es = wrapped ns (InWindow t o n m e) (Kind.window o) (some t) (flat n ++ (flat m ++ flat e)) (quiet-window o)
+  walk-flat ns (InWindow t o n m e) es = wrapped ns (InWindow t o n m e) Kind.window (some t) (flat n ++ (flat m ++ flat e)) quiet-window
       (three ns n m e (walk-flat ns n) (walk-flat ns m) (walk-flat ns e)) es
   walk-flat ns (Each t o further i s e) es = each ns t o further i s e (walk-flat ns s) (walk-flat (i ∷ ns) e) es
-  walk-flat ns (Between t l h a b) es = wrapped ns (Between t l h a b) (Kind.between l h) (some t) (flat a ++ flat b) (quiet-between l h) (then ns a b (walk-flat ns a) (walk-flat ns b)) es
+  walk-flat ns (Between t l h a b) es = wrapped ns (Between t l h a b) (Kind.between h) (some t) (flat a ++ flat b) (quiet-between h) (then ns a b (walk-flat ns a) (walk-flat ns b)) es
   walk-flat ns (Listed t e) es = wrapped ns (Listed t e) Kind.listed (some t) (flat e) (silent refl refl refl refl) (walk-flat ns e) es
   walk-flat ns Empty es = refl
   walk-flat ns (Element e d) es = wrapped ns (Element e d) Kind.element none (flat e ++ flat d) (silent refl refl refl refl) (then ns e d (walk-flat ns e) (walk-flat ns d)) es

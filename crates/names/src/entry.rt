@@ -54,7 +54,7 @@ pub fn binds(kind: u32) -> bool
 pub fn ends(kind: u32) -> bool
     ensures { λ r. ⌜ r ≡ Roles.ends kind ⌝ }
 {
-    kind >= kinds::BIGS && kind <= kinds::BIG_OR
+    kind >= kinds::BIG_NUMBERS && kind <= kinds::BIG_FORMULAS
 }
 
 pub fn declares(low: u32, kind: u32) -> bool

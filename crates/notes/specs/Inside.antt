@@ -53,7 +53,7 @@ use Rattle.entries.specs.Flat.{Entry, under, flat}
 abbrev Low : ℕ → Type 0
 Low k = k < Kind.parameter
 
-truth-low : (b : Bool) → Low (Kind.truth b)
+truth-low : (b : Bool) → Low Kind.truth
 truth-low false = omega arith
 truth-low true = omega arith
 
@@ -91,7 +91,7 @@ joining-low (Connects U) = omega arith
 joining-low (Connects R) = omega arith
 joining-low (Connects W) = omega arith
 
-window-low : (o : Window) → Low (Kind.window o)
+window-low : (o : Window) → Low Kind.window
 window-low FinallyIn = omega arith
 window-low GloballyIn = omega arith
 
@@ -107,7 +107,7 @@ binder-low : (further : Bool) → Low (Kind.binder further)
 binder-low false = omega arith
 binder-low true = omega arith
 
-between-low : (l h : Bool) → Low (Kind.between l h)
+between-low : (l h : Bool) → Low (Kind.between h)
 between-low false false = omega arith
 between-low false true = omega arith
 between-low true false = omega arith
@@ -131,12 +131,12 @@ flat-inside (Paren t e) = over Kind.paren _ (flat e) (omega arith) (flat-inside 
 flat-inside (Prefixed t o e) = over (Kind.before o) _ (flat e) (before-low o) (flat-inside e)
 flat-inside (Joined t o a b) = over (Kind.joining o) _ (flat a ++ flat b) (joining-low o) (two (flat a) (flat b) (flat-inside a) (flat-inside b))
 flat-inside (Nexts t n e) = over Kind.nexts _ (flat n ++ flat e) (omega arith) (two (flat n) (flat e) (flat-inside n) (flat-inside e))
-flat-inside (InWindow t o n m e) = over (Kind.window o) _ (flat n ++ (flat m ++ flat e)) (window-low o)
+flat-inside (InWindow t o n m e) = over Kind.window _ (flat n ++ (flat m ++ flat e)) (window-low o)
     (two (flat n) (flat m ++ flat e) (flat-inside n) (two (flat m) (flat e) (flat-inside m) (flat-inside e)))
 flat-inside (Each t o further i s e) =
     let b = under (Kind.binder further) (some i) (flat s) in
     over (Kind.big o) _ (b ++ flat e) (big-low o) (two b (flat e) (over (Kind.binder further) _ (flat s) (binder-low further) (flat-inside s)) (flat-inside e))
-flat-inside (Between t l h a b) = over (Kind.between l h) _ (flat a ++ flat b) (between-low l h) (two (flat a) (flat b) (flat-inside a) (flat-inside b))
+flat-inside (Between t l h a b) = over (Kind.between h) _ (flat a ++ flat b) (between-low l h) (two (flat a) (flat b) (flat-inside a) (flat-inside b))
 flat-inside (Listed t es) = over Kind.listed _ (flat es) (omega arith) (flat-inside es)
 flat-inside Empty = tt
 flat-inside (Element e es) = over Kind.element _ (flat e ++ flat es) (omega arith) (two (flat e) (flat es) (flat-inside e) (flat-inside es))

@@ -1,75 +1,37 @@
 -- What an entry's kind says of how its expression is worked out, and what each such class says of the expression.
 use Prim.Native.Nat.{ℕ}
-use mathlib.Core.Bool.{Bool, true, false}
+use mathlib.Core.Bool.{Bool}
 use mathlib.Core.List.{List, [], _∷_}
 use mathlib.Core.Path.{_≡_, refl}
 use lib.ListN.{getD}
 use Rattle.node.specs.Result.{Done}
 use Rattle.language.specs.Tokens.{Token}
-use Rattle.language.specs.Operators.{
-  Arithmetic,
-  Plus,
-  Minus,
-  Times,
-  Divide,
-  Modulo,
-  Measure,
-  Size,
-  Min,
-  Max,
-  Combination,
-  Cup,
-  Cap,
-  Without,
-  Big,
-  BigSum,
-  BigProduct,
-  BigCap,
-  BigCup,
-  BigAnd,
-  BigOr,
-  Infix,
-  Calculates,
-  Combines,
-  Compares,
-  Membership,
-  Connects,
-  Prefix,
-  Measures,
-  WidthOf,
-  Applies,
-}
+use Rattle.language.specs.Operators.{Arithmetic, Measure, Combination, Big, Infix, Calculates, Combines, Compares, Membership, Connects, Prefix, Measures, WidthOf, Applies}
 use Rattle.language.specs.Tree.{Expr, Named, Numeral, Truth, Index, Paren, Prefixed, Joined, Nexts, InWindow, Each, Between, Listed, Empty, Element, Range}
 use Rattle.language.specs.Values.{Logic, Scope, value}
 
 pub data Class : Type 0 where
-  aName aNumeral aFormula aParen aWidth aListing anElement aRange aNothing : Class
-  aMeasure : Measure → Class
-  aCalculation : Arithmetic → Class
-  aCombination : Combination → Class
-  aBig : Big → Class
-  aBetween : (afterLow beforeHigh : Bool) → Class
+  aName aNumeral aFormula aParen aMeasure aWidth aCalculation aCombination aBig aBetween aListing anElement aRange aNothing : Class
 
--- by kind (crate entries, specs/Kinds); no expression has the kinds 45 and 46 of big operators' names
+-- by kind (crate entries, specs/Kinds), group by group; no expression has the kinds of big operators' names, nor the free ones
 abbrev pub classes : List Class
 classes =
-    aName ∷ aNumeral ∷ aFormula ∷ aFormula ∷ aFormula ∷ aParen ∷ aMeasure Size ∷ aMeasure Min ∷ aMeasure Max ∷ aWidth ∷ aFormula ∷ aFormula ∷ aFormula ∷ aFormula ∷
-    aCalculation Plus ∷ aCalculation Minus ∷ aCalculation Times ∷ aCalculation Divide ∷ aCalculation Modulo ∷ aCombination Cup ∷ aCombination Cap ∷ aCombination Without ∷
+    aName ∷ aNumeral ∷ aFormula ∷ aFormula ∷ aFormula ∷ aParen ∷ aMeasure ∷ aMeasure ∷ aMeasure ∷ aWidth ∷ aFormula ∷ aFormula ∷ aFormula ∷ aFormula ∷
+    aCalculation ∷ aCalculation ∷ aCalculation ∷ aCalculation ∷ aCalculation ∷ aCombination ∷ aCombination ∷ aCombination ∷
     aFormula ∷ aFormula ∷ aFormula ∷ aFormula ∷ aFormula ∷ aFormula ∷ aFormula ∷ aFormula ∷ aFormula ∷ aFormula ∷ aFormula ∷ aFormula ∷ aFormula ∷ aFormula ∷ aFormula ∷ aFormula ∷ aFormula ∷
-    aBig BigSum ∷ aBig BigProduct ∷ aBig BigCap ∷ aBig BigCup ∷ aBig BigAnd ∷ aBig BigOr ∷ aBetween false false ∷ aBetween false true ∷
-    aBetween false false ∷ aBetween false true ∷ aBetween true false ∷ aBetween true true ∷ aListing ∷ anElement ∷ []
+    aBig ∷ aBig ∷ aBig ∷ aBig ∷ aBig ∷ aBig ∷ aBetween ∷ aBetween ∷ aBetween ∷ aBetween ∷ aBetween ∷ aBetween ∷ aListing ∷ anElement ∷ []
 
 abbrev pub classOf : ℕ → Class
 classOf k = getD classes k aRange
 
 abbrev pub ofPrefix : Prefix → Class
-ofPrefix (Measures m) = aMeasure m
+ofPrefix (Measures m) = aMeasure
 ofPrefix WidthOf = aWidth
 ofPrefix (Applies o) = aFormula
 
 abbrev pub ofInfix : Infix → Class
-ofInfix (Calculates o) = aCalculation o
-ofInfix (Combines o) = aCombination o
+ofInfix (Calculates o) = aCalculation
+ofInfix (Combines o) = aCombination
 ofInfix (Compares o) = aFormula
 ofInfix Membership = aFormula
 ofInfix (Connects o) = aFormula
@@ -84,8 +46,8 @@ ofExpr (Prefixed t o e) = ofPrefix o
 ofExpr (Joined t o a b) = ofInfix o
 ofExpr (Nexts t n e) = aFormula
 ofExpr (InWindow t o n m e) = aFormula
-ofExpr (Each t o further i s e) = aBig o
-ofExpr (Between t l h a b) = aBetween l h
+ofExpr (Each t o further i s e) = aBig
+ofExpr (Between t l h a b) = aBetween
 ofExpr (Listed t es) = aListing
 ofExpr Empty = aNothing
 ofExpr (Element e es) = anElement
@@ -101,11 +63,11 @@ View aListing e = (t : Token) × (a : Expr) × (e ≡ Listed t a)
 View anElement e = (a : Expr) × (b : Expr) × (e ≡ Element a b)
 View aRange e = (t : Token) × (x : Expr) × (y : Expr) × (z : Expr) × (e ≡ Range t x y z)
 View aNothing e = Unit {0}
-View (aMeasure m) e = (t : Token) × (a : Expr) × (e ≡ Prefixed t (Measures m) a)
-View (aCalculation o) e = (t : Token) × (a : Expr) × (b : Expr) × (e ≡ Joined t (Calculates o) a b)
-View (aCombination o) e = (t : Token) × (a : Expr) × (b : Expr) × (e ≡ Joined t (Combines o) a b)
-View (aBig o) e = (t : Token) × (further : Bool) × (i : Token) × (s : Expr) × (a : Expr) × (e ≡ Each t o further i s a)
-View (aBetween l h) e = (t : Token) × (a : Expr) × (b : Expr) × (e ≡ Between t l h a b)
+View aMeasure e = (t : Token) × (m : Measure) × (a : Expr) × (e ≡ Prefixed t (Measures m) a)
+View aCalculation e = (t : Token) × (o : Arithmetic) × (a : Expr) × (b : Expr) × (e ≡ Joined t (Calculates o) a b)
+View aCombination e = (t : Token) × (o : Combination) × (a : Expr) × (b : Expr) × (e ≡ Joined t (Combines o) a b)
+View aBig e = (t : Token) × (o : Big) × (further : Bool) × (i : Token) × (s : Expr) × (a : Expr) × (e ≡ Each t o further i s a)
+View aBetween e = (t : Token) × (l : Bool) × (h : Bool) × (a : Expr) × (b : Expr) × (e ≡ Between t l h a b)
 
 pub view : (e : Expr) → View (ofExpr e) e
 view (Named t) = (t, refl)
@@ -113,18 +75,18 @@ view (Numeral t) = (t, refl)
 view (Truth t b) = λ sc. refl
 view (Index t e) = λ sc. refl
 view (Paren t e) = (t, e, refl)
-view (Prefixed t (Measures m) e) = (t, e, refl)
+view (Prefixed t (Measures m) e) = (t, m, e, refl)
 view (Prefixed t WidthOf e) = (t, e, refl)
 view (Prefixed t (Applies o) e) = λ sc. refl
-view (Joined t (Calculates o) a b) = (t, a, b, refl)
-view (Joined t (Combines o) a b) = (t, a, b, refl)
+view (Joined t (Calculates o) a b) = (t, o, a, b, refl)
+view (Joined t (Combines o) a b) = (t, o, a, b, refl)
 view (Joined t (Compares o) a b) = λ sc. refl
 view (Joined t Membership a b) = λ sc. refl
 view (Joined t (Connects o) a b) = λ sc. refl
 view (Nexts t n e) = λ sc. refl
 view (InWindow t o n m e) = λ sc. refl
-view (Each t o further i s e) = (t, further, i, s, e, refl)
-view (Between t l h a b) = (t, a, b, refl)
+view (Each t o further i s e) = (t, o, further, i, s, e, refl)
+view (Between t l h a b) = (t, l, h, a, b, refl)
 view (Listed t es) = (t, es, refl)
 view Empty = tt
 view (Element e es) = (e, es, refl)

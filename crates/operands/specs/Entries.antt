@@ -1,8 +1,8 @@
--- What the word of entry k says: its kind, how many entries its expression takes, the place of its token.
+-- What the word of entry k says: its kind, how many entries its expression takes, the place and the number of its token.
 use Prim.Native.Nat.{ℕ, _+_}
 use mathlib.Core.List.{List}
 use Rattle.words.specs.Words.{wordAt}
-use Rattle.lexer.specs.Stored.{offsetIn}
+use Rattle.lexer.specs.Stored.{numberIn, offsetIn}
 use Rattle.entries.specs.Stored.{firstEntry, kindOf, indexOf, sizeOf}
 
 unfoldable pub kindAt : List ℕ → ℕ → ℕ
@@ -13,3 +13,6 @@ sizeAt w k = sizeOf (wordAt w (firstEntry + k))
 
 unfoldable pub placeAt : List ℕ → ℕ → ℕ
 placeAt w k = offsetIn (wordAt w (indexOf (wordAt w (firstEntry + k))))
+
+unfoldable pub numberAt : List ℕ → ℕ → ℕ
+numberAt w k = numberIn (wordAt w (indexOf (wordAt w (firstEntry + k))))

@@ -1,99 +1,43 @@
 -- The class of a kind by the range that it lies in.
-use Prim.Native.Nat.{ℕ, zero, suc, _+_, _-_, _%_, _≤_, _<_}
-use mathlib.Core.Path.{_≡_, refl, subst}
+use Prim.Native.Nat.{ℕ, _+_, _-_, _≤_, _<_}
+use mathlib.Core.Bool.{false}
+use mathlib.Core.List.{List}
+use mathlib.Core.Path.{_≡_, refl, sym, ap, _∙_}
 use native.Mathlib.Omega.{arith}
-use lib.Dec.{leb, eqb}
-use Rattle.sets.specs.Operators.{arithmetic, measurement, combination}
-use Rattle.operands.specs.Classes.{aFormula, aMeasure, aCalculation, aCombination, aBetween, classOf}
+use lib.ListN.{getD, take, drop, replicate, getD-replicate}
+use lib.Seq.{getD-take, getD-drop}
+use Rattle.entries.specs.Kinds as Kind
+use Rattle.operands.specs.Classes.{aFormula, aMeasure, aCalculation, aCombination, aBig, aBetween, aRange, classes, classOf}
 
--- what holds of the n numbers from a on
-pub from : (P : ℕ → Type 0) (a n : ℕ) → ((j : ℕ) → j < n → P (a + j)) → (k : ℕ) → a ≤ k → k < a + n → P k
-from P a n h k l u = let e : a + (k - a) ≡ k = omega arith in subst P e (h (k - a) (omega arith))
+-- n entries of a list that are the same, from the one at a on
+pub alike : {A : Type 0} (l : List A) (d z : A) (a n : ℕ) → take n (drop a l) ≡ replicate n z → (k : ℕ) → a ≤ k → k < a + n → getD l k d ≡ z
+alike l d z a n e k h u =
+    let j = k - a in
+    let c : j < n = omega arith in
+    let i : k ≡ a + j = omega arith in
+    ap (λ (y : ℕ). getD l y d) i ∙ sym (getD-drop a l j d) ∙ sym (getD-take n (drop a l) j d c) ∙ ap (λ m. getD m j d) e ∙ getD-replicate n j z d c
 
-pub measure-class : (k : ℕ) → 6 ≤ k → k < 9 → classOf k ≡ aMeasure (measurement (k - 6))
-measure-class = from (λ k. classOf k ≡ aMeasure (measurement (k - 6))) 6 3 go
-  where
-    go : (j : ℕ) → j < 3 → classOf (6 + j) ≡ aMeasure (measurement (6 + j - 6))
-    go zero l = refl
-    go (suc zero) l = refl
-    go (suc (suc zero)) l = refl
-    go (suc (suc (suc j))) l = absurd (omega arith)
+pub measure-class : (k : ℕ) → Kind.measure ≤ k → k < Kind.width → classOf k ≡ aMeasure
+measure-class = alike classes aRange aMeasure Kind.measure 3 refl
 
-pub calculation-class : (k : ℕ) → 14 ≤ k → k < 19 → classOf k ≡ aCalculation (arithmetic (k - 14))
-calculation-class = from (λ k. classOf k ≡ aCalculation (arithmetic (k - 14))) 14 5 go
-  where
-    go : (j : ℕ) → j < 5 → classOf (14 + j) ≡ aCalculation (arithmetic (14 + j - 14))
-    go zero l = refl
-    go (suc zero) l = refl
-    go (suc (suc zero)) l = refl
-    go (suc (suc (suc zero))) l = refl
-    go (suc (suc (suc (suc zero)))) l = refl
-    go (suc (suc (suc (suc (suc j))))) l = absurd (omega arith)
+pub calculation-class : (k : ℕ) → Kind.arithmetic ≤ k → k < Kind.combination → classOf k ≡ aCalculation
+calculation-class = alike classes aRange aCalculation Kind.arithmetic 5 refl
 
-pub combination-class : (k : ℕ) → 19 ≤ k → k < 22 → classOf k ≡ aCombination (combination (k - 19))
-combination-class = from (λ k. classOf k ≡ aCombination (combination (k - 19))) 19 3 go
-  where
-    go : (j : ℕ) → j < 3 → classOf (19 + j) ≡ aCombination (combination (19 + j - 19))
-    go zero l = refl
-    go (suc zero) l = refl
-    go (suc (suc zero)) l = refl
-    go (suc (suc (suc j))) l = absurd (omega arith)
+pub combination-class : (k : ℕ) → Kind.combination ≤ k → k < Kind.equality → classOf k ≡ aCombination
+combination-class = alike classes aRange aCombination Kind.combination 3 refl
 
-pub between-class : (k : ℕ) → 45 ≤ k → k < 51 → classOf k ≡ aBetween (leb 49 k) (eqb (k % 2) 0)
-between-class = from (λ k. classOf k ≡ aBetween (leb 49 k) (eqb (k % 2) 0)) 45 6 go
-  where
-    go : (j : ℕ) → j < 6 → classOf (45 + j) ≡ aBetween (leb 49 (45 + j)) (eqb ((45 + j) % 2) 0)
-    go zero l = refl
-    go (suc zero) l = refl
-    go (suc (suc zero)) l = refl
-    go (suc (suc (suc zero))) l = refl
-    go (suc (suc (suc (suc zero)))) l = refl
-    go (suc (suc (suc (suc (suc zero))))) l = refl
-    go (suc (suc (suc (suc (suc (suc j)))))) l = absurd (omega arith)
+pub big-class : (k : ℕ) → Kind.bigNumbers ≤ k → k < Kind.binder false → classOf k ≡ aBig
+big-class = alike classes aRange aBig Kind.bigNumbers 6 refl
+
+pub between-class : (k : ℕ) → Kind.binder false ≤ k → k < Kind.listed → classOf k ≡ aBetween
+between-class = alike classes aRange aBetween (Kind.binder false) 6 refl
 
 -- formulas: constants and indices, operators of formulas, comparisons and connectives
-pub leaf-class : (k : ℕ) → 2 ≤ k → k < 5 → classOf k ≡ aFormula
-leaf-class = from (λ k. classOf k ≡ aFormula) 2 3 go
-  where
-    go : (j : ℕ) → j < 3 → classOf (2 + j) ≡ aFormula
-    go zero l = refl
-    go (suc zero) l = refl
-    go (suc (suc zero)) l = refl
-    go (suc (suc (suc j))) l = absurd (omega arith)
+pub leaf-class : (k : ℕ) → Kind.truth ≤ k → k < Kind.paren → classOf k ≡ aFormula
+leaf-class = alike classes aRange aFormula Kind.truth 3 refl
 
-pub unary-class : (k : ℕ) → 10 ≤ k → k < 14 → classOf k ≡ aFormula
-unary-class = from (λ k. classOf k ≡ aFormula) 10 4 go
-  where
-    go : (j : ℕ) → j < 4 → classOf (10 + j) ≡ aFormula
-    go zero l = refl
-    go (suc zero) l = refl
-    go (suc (suc zero)) l = refl
-    go (suc (suc (suc zero))) l = refl
-    go (suc (suc (suc (suc j)))) l = absurd (omega arith)
+pub unary-class : (k : ℕ) → Kind.unary ≤ k → k < Kind.arithmetic → classOf k ≡ aFormula
+unary-class = alike classes aRange aFormula Kind.unary 4 refl
 
-pub binary-class : (k : ℕ) → 22 ≤ k → k < 39 → classOf k ≡ aFormula
-binary-class = from (λ k. classOf k ≡ aFormula) 22 17 go
-  where
-    more : (j : ℕ) → j < 8 → classOf (31 + j) ≡ aFormula
-    more zero l = refl
-    more (suc zero) l = refl
-    more (suc (suc zero)) l = refl
-    more (suc (suc (suc zero))) l = refl
-    more (suc (suc (suc (suc zero)))) l = refl
-    more (suc (suc (suc (suc (suc zero))))) l = refl
-    more (suc (suc (suc (suc (suc (suc zero)))))) l = refl
-    more (suc (suc (suc (suc (suc (suc (suc zero))))))) l = refl
-    more (suc (suc (suc (suc (suc (suc (suc (suc j)))))))) l = absurd (omega arith)
-
-    go : (j : ℕ) → j < 17 → classOf (22 + j) ≡ aFormula
-    go zero l = refl
-    go (suc zero) l = refl
-    go (suc (suc zero)) l = refl
-    go (suc (suc (suc zero))) l = refl
-    go (suc (suc (suc (suc zero)))) l = refl
-    go (suc (suc (suc (suc (suc zero))))) l = refl
-    go (suc (suc (suc (suc (suc (suc zero)))))) l = refl
-    go (suc (suc (suc (suc (suc (suc (suc zero))))))) l = refl
-    go (suc (suc (suc (suc (suc (suc (suc (suc zero)))))))) l = refl
-    go (suc (suc (suc (suc (suc (suc (suc (suc (suc j))))))))) l = let e : 31 + j ≡ 22 + suc (suc (suc (suc (suc (suc (suc (suc (suc j)))))))) = omega arith in
-        subst (λ n. classOf n ≡ aFormula) e (more j (omega arith))
+pub binary-class : (k : ℕ) → Kind.equality ≤ k → k < Kind.bigNumbers → classOf k ≡ aFormula
+binary-class = alike classes aRange aFormula Kind.equality 17 refl

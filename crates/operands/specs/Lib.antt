@@ -6,3 +6,6 @@ pub mod Classes
 pub mod ClassLaws
 pub mod Operands
 pub mod KindLaws
+pub mod SpellingLaws
+pub mod Shapes
+pub mod ShapeLaws

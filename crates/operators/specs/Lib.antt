@@ -1,3 +1,5 @@
 pub mod Readers
+pub mod Codes
 pub mod Tables
 pub mod TableLaws
+pub mod RowLaws

@@ -1,5 +1,5 @@
 -- Table 1's rows by the numbers of tokens, packed into words as the code has them.
-use Prim.Native.Nat.{ℕ}
+use Prim.Native.Nat.{ℕ, _/_}
 use Prim.Native.String.{String}
 use mathlib.Core.List.{List, [], _∷_}
 use mathlib.Core.Bool.{true, false}
@@ -10,6 +10,7 @@ use Rattle.language.specs.Grammar.{rightLevel}
 use Rattle.lexer.specs.Numbers.{numbered}
 use Rattle.entries.specs.Kinds as Kind
 use Rattle.operators.specs.Readers.{soleOf}
+use Rattle.operators.specs.Codes.{infixCode, roleCode}
 
 -- the first row that has a token of this number among its names
 abbrev pub rowBy : {R : Type 0} → (R → List String) → List R → ℕ → Option R
@@ -22,10 +23,10 @@ infixBy n = rowBy (λ (r : InfixRow). r .names) infixes n
 abbrev pub prefixBy : ℕ → Option PrefixRow
 prefixBy n = rowBy (λ (r : PrefixRow). r .names) prefixes n
 
--- the entry's kind, the right operand's level, the level
+-- the code, the entry's kind, the right operand's level, the level
 abbrev pub infixWord : Option InfixRow → ℕ
 infixWord none = 0
-infixWord (some r) = join 5 (join 5 (Kind.joining (r .operator)) (rightLevel r)) (r .level)
+infixWord (some r) = join 5 (join 5 (join 6 (infixCode (r .operator)) (Kind.joining (r .operator))) (rightLevel r)) (r .level)
 
 abbrev pub roleNumber : Role → ℕ
 roleNumber (Plain p) = 1
@@ -33,11 +34,11 @@ roleNumber Counted = 2
 roleNumber (Windowed o) = 3
 roleNumber (Folding o) = 4
 
--- the kind of the entry with a count or a window; without, or of the big operator
+-- the kind of the entry with a count or a window; without, or of the big operator; before both the code
 abbrev pub windowKind : Role → ℕ
 windowKind (Plain p) = 0
 windowKind Counted = Kind.nexts
-windowKind (Windowed o) = Kind.window o
+windowKind (Windowed o) = Kind.window
 windowKind (Folding o) = 0
 
 abbrev pub soleKind : Role → ℕ
@@ -48,10 +49,17 @@ soleKind (Folding o) = Kind.big o
 
 abbrev pub prefixWord : Option PrefixRow → ℕ
 prefixWord none = 0
-prefixWord (some r) = join 5 (join 3 (join 6 (windowKind (r .role)) (soleKind (r .role))) (roleNumber (r .role))) (r .level)
+prefixWord (some r) = join 5 (join 3 (join 6 (join 6 (roleCode (r .role)) (windowKind (r .role))) (soleKind (r .role))) (roleNumber (r .role))) (r .level)
 
 unfoldable pub infixAt : ℕ → ℕ
 infixAt n = infixWord (infixBy n)
 
 unfoldable pub prefixAt : ℕ → ℕ
 prefixAt n = prefixWord (prefixBy n)
+
+-- the codes alone
+abbrev pub infixCodeAt : ℕ → ℕ
+infixCodeAt n = infixAt n / 65_536
+
+abbrev pub prefixCodeAt : ℕ → ℕ
+prefixCodeAt n = prefixAt n / 1_048_576

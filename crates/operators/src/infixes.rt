@@ -1,57 +1,61 @@
 // Table 1 of document 001 by the numbers of tokens, operators between operands: a new one is a new row here.
+use crate::codes;
 use entries::kinds;
 use lexer::numbers;
+use node::Node;
 ghost use mathlib.Core.Path.{_≡_};
-ghost use Rattle.operators.specs.Tables.{infixAt};
+ghost use Rattle.operators.specs.Tables.{infixAt, infixCodeAt};
 
-// An operator between operands: its entry's kind, the loosest level of its right operand, its level.
+// An operator between operands: its code, its entry's kind, the loosest level of its right operand, its level.
+const CODE: u32 = 65536;
+
 const KIND: u32 = 1024;
 
 const RIGHT: u32 = 32;
 
-const TIMES: u32 = kinds::TIMES * KIND + 1 * RIGHT + 2;
+const TIMES: u32 = codes::TIMES * CODE + kinds::ARITHMETIC * KIND + 1 * RIGHT + 2;
 
-const DIVIDE: u32 = kinds::DIVIDE * KIND + 3 * RIGHT + 3;
+const DIVIDE: u32 = codes::DIVIDE * CODE + kinds::ARITHMETIC * KIND + 3 * RIGHT + 3;
 
-const MODULO: u32 = kinds::MODULO * KIND + 3 * RIGHT + 3;
+const MODULO: u32 = codes::MODULO * CODE + kinds::ARITHMETIC * KIND + 3 * RIGHT + 3;
 
-const PLUS: u32 = kinds::PLUS * KIND + 3 * RIGHT + 4;
+const PLUS: u32 = codes::PLUS * CODE + kinds::ARITHMETIC * KIND + 3 * RIGHT + 4;
 
-const MINUS: u32 = kinds::MINUS * KIND + 3 * RIGHT + 4;
+const MINUS: u32 = codes::MINUS * CODE + kinds::ARITHMETIC * KIND + 3 * RIGHT + 4;
 
-const WITHOUT: u32 = kinds::WITHOUT * KIND + 6 * RIGHT + 6;
+const WITHOUT: u32 = codes::WITHOUT * CODE + kinds::COMBINATION * KIND + 6 * RIGHT + 6;
 
-const CAP: u32 = kinds::CAP * KIND + 6 * RIGHT + 7;
+const CAP: u32 = codes::CAP * CODE + kinds::COMBINATION * KIND + 6 * RIGHT + 7;
 
-const CUP: u32 = kinds::CUP * KIND + 7 * RIGHT + 8;
+const CUP: u32 = codes::CUP * CODE + kinds::COMBINATION * KIND + 7 * RIGHT + 8;
 
-const EQUAL: u32 = kinds::EQUAL * KIND + 8 * RIGHT + 9;
+const EQUAL: u32 = codes::EQUAL * CODE + kinds::EQUALITY * KIND + 8 * RIGHT + 9;
 
-const UNEQUAL: u32 = kinds::UNEQUAL * KIND + 8 * RIGHT + 9;
+const UNEQUAL: u32 = codes::UNEQUAL * CODE + kinds::EQUALITY * KIND + 8 * RIGHT + 9;
 
-const LESS: u32 = kinds::LESS * KIND + 8 * RIGHT + 9;
+const LESS: u32 = codes::LESS * CODE + kinds::ORDER * KIND + 8 * RIGHT + 9;
 
-const AT_MOST: u32 = kinds::AT_MOST * KIND + 8 * RIGHT + 9;
+const AT_MOST: u32 = codes::AT_MOST * CODE + kinds::ORDER * KIND + 8 * RIGHT + 9;
 
-const GREATER: u32 = kinds::GREATER * KIND + 8 * RIGHT + 9;
+const GREATER: u32 = codes::GREATER * CODE + kinds::ORDER * KIND + 8 * RIGHT + 9;
 
-const AT_LEAST: u32 = kinds::AT_LEAST * KIND + 8 * RIGHT + 9;
+const AT_LEAST: u32 = codes::AT_LEAST * CODE + kinds::ORDER * KIND + 8 * RIGHT + 9;
 
 const AMONG: u32 = kinds::MEMBERSHIP * KIND + 9 * RIGHT + 10;
 
-const AND: u32 = kinds::AND * KIND + 11 * RIGHT + 12;
+const AND: u32 = Node::AND * CODE + kinds::BINARY * KIND + 11 * RIGHT + 12;
 
-const OR: u32 = kinds::OR * KIND + 12 * RIGHT + 13;
+const OR: u32 = Node::OR * CODE + kinds::BINARY * KIND + 12 * RIGHT + 13;
 
-const IMPLIES: u32 = kinds::IMPLIES * KIND + 14 * RIGHT + 14;
+const IMPLIES: u32 = Node::IMPLIES * CODE + kinds::BINARY * KIND + 14 * RIGHT + 14;
 
-const IFF: u32 = kinds::IFF * KIND + 14 * RIGHT + 14;
+const IFF: u32 = Node::IFF * CODE + kinds::BINARY * KIND + 14 * RIGHT + 14;
 
-const WEAK: u32 = kinds::WEAK_UNTIL * KIND + 15 * RIGHT + 15;
+const WEAK: u32 = Node::WEAK_UNTIL * CODE + kinds::BINARY * KIND + 15 * RIGHT + 15;
 
-const UNTIL: u32 = kinds::UNTIL * KIND + 16 * RIGHT + 16;
+const UNTIL: u32 = Node::UNTIL * CODE + kinds::BINARY * KIND + 16 * RIGHT + 16;
 
-const RELEASE: u32 = kinds::RELEASE * KIND + 16 * RIGHT + 17;
+const RELEASE: u32 = Node::RELEASE * CODE + kinds::BINARY * KIND + 16 * RIGHT + 17;
 
 // By the number of a token.
 const INFIX: [u32; 104] = [
@@ -170,4 +174,11 @@ pub fn infix(number: u32) -> u32
         return INFIX[n];
     }
     0
+}
+
+// The code of the operator between operands that a token of this number is.
+pub fn infix_code(number: u32) -> u32
+    ensures { λ r. ⌜ r ≡ infixCodeAt number ⌝ }
+{
+    infix(number) / CODE
 }

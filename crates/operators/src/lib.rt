@@ -1,3 +1,4 @@
-// Table 1 of document 001 in the code: the operators by the numbers of their tokens, with levels, associativity and the kinds of their entries.
+// Table 1 of document 001 in the code: the operators by the numbers of their tokens, with levels, associativity, the kinds of their entries and their codes.
+pub mod codes;
 pub mod infixes;
 pub mod prefixes;

@@ -1,10 +1,14 @@
 // Table 1 of document 001 by the numbers of tokens, operators before their operand: a new one is a new row here.
+use crate::codes;
 use entries::kinds;
 use lexer::numbers;
+use node::Node;
 ghost use mathlib.Core.Path.{_≡_};
-ghost use Rattle.operators.specs.Tables.{prefixAt};
+ghost use Rattle.operators.specs.Tables.{prefixAt, prefixCodeAt};
 
-// An operator before its operand: the kind of its entry with a window or a count, without, its role, its level.
+// An operator before its operand: its code, the kind of its entry with a window or a count, without, its role, its level.
+const CODE: u32 = 1048576;
+
 const WINDOW: u32 = 16384;
 
 const SOLE: u32 = 256;
@@ -19,33 +23,41 @@ const WINDOWED: u32 = 3 * ROLE;
 
 const FOLDING: u32 = 4 * ROLE;
 
-const SUM: u32 = kinds::BIG_SUM * SOLE + FOLDING + 1;
+const SUM: u32 = codes::PLUS * CODE + kinds::BIG_NUMBERS * SOLE + FOLDING + 1;
 
-const PRODUCT: u32 = kinds::BIG_PRODUCT * SOLE + FOLDING + 1;
+const PRODUCT: u32 = codes::TIMES * CODE + kinds::BIG_NUMBERS * SOLE + FOLDING + 1;
 
-const SIZE: u32 = kinds::SIZE * SOLE + PLAIN + 1;
+const SIZE: u32 = codes::SIZE * CODE + kinds::MEASURE * SOLE + PLAIN + 1;
 
-const MIN: u32 = kinds::MIN * SOLE + PLAIN + 1;
+const MIN: u32 = codes::MIN * CODE + kinds::MEASURE * SOLE + PLAIN + 1;
 
-const MAX: u32 = kinds::MAX * SOLE + PLAIN + 1;
+const MAX: u32 = codes::MAX * CODE + kinds::MEASURE * SOLE + PLAIN + 1;
 
 const SIZEOF: u32 = kinds::WIDTH * SOLE + PLAIN + 1;
 
-const BIG_CAP: u32 = kinds::BIG_CAP * SOLE + FOLDING + 5;
+const BIG_CAP: u32 = codes::CAP * CODE + kinds::BIG_SETS * SOLE + FOLDING + 5;
 
-const BIG_CUP: u32 = kinds::BIG_CUP * SOLE + FOLDING + 5;
+const BIG_CUP: u32 = codes::CUP * CODE + kinds::BIG_SETS * SOLE + FOLDING + 5;
 
-const NOT: u32 = kinds::NOT * SOLE + PLAIN + 11;
+const NOT: u32 = Node::NOT * CODE + kinds::UNARY * SOLE + PLAIN + 11;
 
-const NEXT: u32 = kinds::NEXTS * WINDOW + kinds::NEXT * SOLE + COUNTED + 11;
+const NEXT: u32 = Node::NEXT * CODE + kinds::NEXTS * WINDOW + kinds::UNARY * SOLE + COUNTED + 11;
 
-const FINALLY: u32 = kinds::FINALLY_IN * WINDOW + kinds::FINALLY * SOLE + WINDOWED + 11;
+const FINALLY: u32 = Node::FINALLY * CODE
+    + kinds::WINDOW * WINDOW
+    + kinds::UNARY * SOLE
+    + WINDOWED
+    + 11;
 
-const GLOBALLY: u32 = kinds::GLOBALLY_IN * WINDOW + kinds::GLOBALLY * SOLE + WINDOWED + 11;
+const GLOBALLY: u32 = Node::GLOBALLY * CODE
+    + kinds::WINDOW * WINDOW
+    + kinds::UNARY * SOLE
+    + WINDOWED
+    + 11;
 
-const BIG_AND: u32 = kinds::BIG_AND * SOLE + FOLDING + 11;
+const BIG_AND: u32 = Node::AND * CODE + kinds::BIG_FORMULAS * SOLE + FOLDING + 11;
 
-const BIG_OR: u32 = kinds::BIG_OR * SOLE + FOLDING + 11;
+const BIG_OR: u32 = Node::OR * CODE + kinds::BIG_FORMULAS * SOLE + FOLDING + 11;
 
 // By the number of a token.
 const PREFIX: [u32; 104] = [
@@ -164,4 +176,11 @@ pub fn prefix(number: u32) -> u32
         return PREFIX[n];
     }
     0
+}
+
+// The code of the operator before its operand that a token of this number is; 0, SIZE, for a bar.
+pub fn prefix_code(number: u32) -> u32
+    ensures { λ r. ⌜ r ≡ prefixCodeAt number ⌝ }
+{
+    prefix(number) / CODE
 }

@@ -1,30 +1,31 @@
 -- The numbers between two bounds: the low bound, then the high one.
-use Prim.Native.Nat.{ℕ, _+_, _-_, _%_, _≤_}
-use mathlib.Core.Bool.{Bool}
-use mathlib.Core.List.{List, _++_}
-use mathlib.Core.Option.{some}
+use Prim.Native.Nat.{ℕ, _+_, _-_, _≤_}
+use mathlib.Core.Bool.{Bool, true, false, _||_}
+use mathlib.Core.List.{List, [], _∷_}
 use mathlib.Core.Path.{_≡_, refl, sym, ap, ap₂, _∙_, subst}
 use native.Mathlib.Omega.{arith}
-use lib.Dec.{leb, eqb}
+use lib.Dec.{eqb}
 use lib.ListN.{getD}
+use borrow.Author.Tests.{eq-eqb, ne-eqb}
 use Rattle.node.specs.Result.{Result, Done, _>>=_}
 use Rattle.node.specs.ResultLaws.{bind-again, bind-at}
 use Rattle.language.specs.Tree.{Expr}
 use Rattle.language.specs.Values.{Value, Number, Set, number, between, value}
 use Rattle.language.specs.Laws.Values.ValueLaws.{between-sane}
+use Rattle.lexer.specs.Numbers.{fixed, numbered}
 use Rattle.entries.specs.Kinds as Kind
-use Rattle.entries.specs.Flat.{flat}
 use Rattle.name_values.specs.KnownLaws.{known-between}
 use Rattle.sets.specs.declared.Worked.{Worked}
-use Rattle.operands.specs.Entries.{kindAt, sizeAt, placeAt}
-use Rattle.operands.specs.ClassLaws.{kind-of, place-is}
+use Rattle.operands.specs.Entries.{kindAt, sizeAt, placeAt, numberAt}
 use Rattle.operands.specs.KindLaws.{between-class}
 use Rattle.operands.specs.Working.{Source}
 use Rattle.memory_sets.specs.Places.{SetAt}
+use Rattle.machine.specs.Phases as Phase
 use Rattle.machine.specs.Came.{Evaluate, worth, works, asNumber}
 use Rattle.machine.specs.Frames.{Low, High, bounded, apply}
 use Rattle.machine.specs.Realm.{Operand}
 use Rattle.machine.specs.Operators.{Bounds, OpAt}
+use Rattle.machine.specs.OperatorLaws.{bounds-at}
 use Rattle.machine.specs.Memory.{Framed}
 use Rattle.machine.specs.Telling.{isNumber}
 use Rattle.machine.specs.States.{modeOf, Ready, Steps, Takes}
@@ -42,7 +43,6 @@ use Rattle.machine.specs.declared.Machine.{Machine}
 use Rattle.machine.specs.declared.Move.{Move}
 use Rattle.machine.specs.declared.Move.the-variants.{Next, Refused as Refuses}
 use Rattle.machine.specs.Entering.{Evaluates, Waiting, works-value}
-use Rattle.set_steps.specs.OperatorLaws.{op-bounds}
 use Rattle.set_steps.specs.MakingLaws.{made, makes}
 
 -- the clause as its frames have it
@@ -52,77 +52,83 @@ bounds-same p l h a b =
     then-worth (a >>= number) _ (λ m. (b >>= worth) >>= bounded p l h m) (λ m. set-last (b >>= number >>= between p l h m) ∙ bind-again (b >>= number) (between p l h m) _
     ∙ sym (take-number b (λ n. between p l h m n >>= λ s. worth (Set s)))) ∙ sym (take-number a (λ m. (b >>= worth) >>= bounded p l h m))
 
--- the signs of a kind
+-- is the low bound left out, by the number of the entry's token? the high one, by the entry's kind?
 abbrev without-low : ℕ → Bool
-without-low i = leb 49 i
+without-low n = numbered ("<" ∷ "LE" ∷ []) n
 
 abbrev without-high : ℕ → Bool
-without-high i = eqb (i % 2) 0
+without-high i = eqb i (Kind.between true)
+
+pub strict-sign : (n : ℕ) → n ≡ fixed "<" → true ≡ without-low n
+strict-sign n e = ap (λ (b : Bool). b || (eqb n (fixed "LE") || false)) (sym (eq-eqb n (fixed "<") e))
+
+pub other-sign : (n : ℕ) → (n ≡ fixed "<" → ⊥) → eqb n (fixed "LE") ≡ without-low n
+other-sign n e = sym (or-false (eqb n (fixed "LE"))) ∙ ap (λ (b : Bool). b || (eqb n (fixed "LE") || false)) (sym (ne-eqb n (fixed "<") e))
+  where
+    or-false : (b : Bool) → (b || false) ≡ b
+    or-false true = refl
+    or-false false = refl
+
+high-of : (h : Bool) → without-high (Kind.between h) ≡ h
+high-of true = refl
+high-of false = refl
 
 -- both bounds stand before the entry
-pub bounds-inside : {s : Source} {mem : List ℕ} {m : Machine} → Ready s mem m → Evaluates (s .work) m 47 51 → 1 + sizeAt (s .work) (m .value - 1) ≤ m .value
+pub bounds-inside : {s : Source} {mem : List ℕ} {m : Machine} → Ready s mem m → Evaluates (s .work) m (Kind.between false) Kind.listed → 1 + sizeAt (s .work) (m .value - 1) ≤ m .value
 bounds-inside {s} {m = m} r k =
     let e0 = k .mode in
     let e1 = k .from in
     let n = entered (r .state) (omega arith) in
     let kind = kindAt (s .work) (m .value) in
-    let l = without-low kind in
-    let h = without-high kind in
     let v = operand-view (n .at .operand) (between-class kind (omega arith) (k .until)) in
-    let p = operand-as (n .at .operand) (v .3) in
-    two-operands p (Kind.between l h) (v .0) (v .1) (v .2) (p .known .at) (known-between (v .0) l h (v .1) (v .2) (p .known)) .inside
+    let p = operand-as (n .at .operand) (v .5) in
+    two-operands p (Kind.between (v .2)) (v .0) (v .3) (v .4) (p .known .at) (known-between (v .0) (v .1) (v .2) (v .3) (v .4) (p .known)) .inside
 
 -- the entry: its low bound is worked out first
-pub bounds-steps : {s : Source} {mem mem' : List ℕ} {m : Machine} {j : ℕ} {r : Move} → Evaluates (s .work) m 47 51 → j ≡ m .value - 1 - sizeAt (s .work) (m .value - 1)
-    → Opened mem mem' m 6 (modeOf Evaluate) j r → Steps s mem mem' m r
+pub bounds-steps : {s : Source} {mem mem' : List ℕ} {m : Machine} {j : ℕ} {r : Move} → Evaluates (s .work) m (Kind.between false) Kind.listed → j ≡ m .value - 1 - sizeAt (s .work) (m .value - 1)
+    → Opened mem mem' m Phase.low (modeOf Evaluate) j r → Steps s mem mem' m r
 bounds-steps {s} {mem} {mem'} {m} {j} {r} k ej q = record {
   turns = λ R x o out y.
       let e0 = k .mode in
       let e1 = k .from in
       let n = entered y (omega arith) in
       let kind = kindAt (s .work) (m .value) in
-      let l = without-low kind in
-      let h = without-high kind in
       let v = operand-view (n .at .operand) (between-class kind (omega arith) (k .until)) in
       let t = v .0 in
-      let a = v .1 in
-      let b = v .2 in
-      let p = operand-as (n .at .operand) (v .3) in
-      let two = two-operands p (Kind.between l h) t a b (p .known .at) (known-between t l h a b (p .known)) in
+      let l = v .1 in
+      let h = v .2 in
+      let a = v .3 in
+      let b = v .4 in
+      let p = operand-as (n .at .operand) (v .5) in
+      let two = two-operands p (Kind.between h) t a b (p .known .at) (known-between t l h a b (p .known)) in
       let ins = two .inside in
-      opens n {F = Low (t .at) l h (n .context) b} {phase = 6} {a = Evaluate} {e = a} {j = j} (record {
+      opens n {F = Low (t .at) l h (n .context) b} {phase = Phase.low} {a = Evaluate} {e = a} {j = j} (record {
         holds-nothing = refl;
         few-turns = omega arith;
         below = omega arith;
         operand = subst (λ (i : ℕ). Operand s (R .W) (R .ports) (n .at .env) (n .context) i a) (sym ej) (two .left);
         holds = tt;
-        waits = (
-          record {
-            kind = kind-of (Kind.between l h) (some t) (flat a ++ flat b) (p .known .at);
-            place = place-is (R .lexed) (Kind.between l h) t (flat a ++ flat b) (p .known .at);
-          },
-          two .right,
-        );
+        waits = (bounds-at (R .lexed) t l h a b p, two .right);
         kept = tt;
-        same = works-value n e0 ∙ ap (λ (d : Expr). value (n .context .values) d >>= worth) (v .3) ∙ bounds-same (t .at) l h (value (n .context .values) a) (value (n .context .values) b);
+        same = works-value n e0 ∙ ap (λ (d : Expr). value (n .context .values) d >>= worth) (v .5) ∙ bounds-same (t .at) l h (value (n .context .values) a) (value (n .context .values) b);
       }) r q;
 }
 
 -- the low bound has come
-module _ {s : Source} {mem : List ℕ} {m : Machine} (w : Waiting mem m 6) where
+module _ {s : Source} {mem : List ℕ} {m : Machine} (w : Waiting mem m Phase.low) where
   pub low-misfits : (m .mode ≡ isNumber → ⊥) → Takes s mem mem m (Refuses 9 0)
   low-misfits e = record {
     turns = λ R x o out t.
-        let v = by-phase (t .frame) 6 (top-phase t ∙ w .phase) in
+        let v = by-phase (t .frame) Phase.low (top-phase t ∙ w .phase) in
         let h = top-as t (v .5) in
         refuses h (misfit-then _ (not-number R o mem m (h .came) (h .come) e));
   }
 
   pub low-steps : m .mode ≡ isNumber → {mem' : List ℕ} {k : ℕ} → k ≡ getD mem (m .frames + 1) 0
-      → Framed mem mem' (m .frames) (record { phase = 7; entry = k; base = m .top; at = 0; count = 0; value = m .value; other = 0 }) → Takes s mem mem' m (Next (came m (modeOf Evaluate) (k - 1) 0))
+      → Framed mem mem' (m .frames) (record { phase = Phase.high; entry = k; base = m .top; at = 0; count = 0; value = m .value; other = 0 }) → Takes s mem mem' m (Next (came m (modeOf Evaluate) (k - 1) 0))
   low-steps e {mem'} {k} ek f = record {
     turns = λ R x o out t.
-        let v = by-phase (t .frame) 6 (top-phase t ∙ w .phase) in
+        let v = by-phase (t .frame) Phase.low (top-phase t ∙ w .phase) in
         let p = v .0 in
         let l = v .1 in
         let u = v .2 in
@@ -133,7 +139,7 @@ module _ {s : Source} {mem : List ℕ} {m : Machine} (w : Waiting mem m 6) where
         let same-entry : k ≡ words h .entry = ek ∙ entry-word h in
         let some = h .at .some in
         let at = h .at .entry in
-        renews h {phase = 6} refl {G = High p l u (m .value)} {a = Evaluate} {c = c} {e = b} (n .same) (record {
+        renews h {phase = Phase.low} refl {G = High p l u (m .value)} {a = Evaluate} {c = c} {e = b} (n .same) (record {
           holds-nothing = refl;
           framed = f;
           entry-is = same-entry;
@@ -150,20 +156,20 @@ module _ {s : Source} {mem : List ℕ} {m : Machine} (w : Waiting mem m 6) where
   }
 
 -- the high bound has come
-module _ {s : Source} {mem : List ℕ} {m : Machine} (w : Waiting mem m 7) where
+module _ {s : Source} {mem : List ℕ} {m : Machine} (w : Waiting mem m Phase.high) where
   pub high-misfits : (m .mode ≡ isNumber → ⊥) → Takes s mem mem m (Refuses 9 0)
   high-misfits e = record {
     turns = λ R x o out t.
-        let v = by-phase (t .frame) 7 (top-phase t ∙ w .phase) in
+        let v = by-phase (t .frame) Phase.high (top-phase t ∙ w .phase) in
         let h = top-as t (v .4) in
         refuses h (misfit-then _ (not-number R o mem m (h .came) (h .come) e));
   }
 
-  pub high-steps : m .mode ≡ isNumber → {mem' : List ℕ} {k i p a : ℕ} (r : Worked) → k ≡ getD mem (m .frames + 1) 0 → i ≡ kindAt (s .work) k → p ≡ placeAt (s .work) k → a ≡ getD mem (m .frames + 5) 0
-      → SetAt mem mem' (m .top) r (between p (leb 49 i) (eqb (i % 2) 0) a (m .value)) → Takes s mem mem' m (made m (m .top) r)
-  high-steps e {mem'} {k} {i} {p} {a} r ek ei ep ea g = record {
+  pub high-steps : m .mode ≡ isNumber → {mem' : List ℕ} {k j i p a : ℕ} {low : Bool} (r : Worked) → k ≡ getD mem (m .frames + 1) 0 → j ≡ numberAt (s .work) k → low ≡ without-low j
+      → i ≡ kindAt (s .work) k → p ≡ placeAt (s .work) k → a ≡ getD mem (m .frames + 5) 0 → SetAt mem mem' (m .top) r (between p low (without-high i) a (m .value)) → Takes s mem mem' m (made m (m .top) r)
+  high-steps e {mem'} {k} {j} {i} {p} {a} {low} r ek ej el ei ep ea g = record {
     turns = λ R x o out t.
-        let v = by-phase (t .frame) 7 (top-phase t ∙ w .phase) in
+        let v = by-phase (t .frame) Phase.high (top-phase t ∙ w .phase) in
         let l = v .1 in
         let u = v .2 in
         let h = top-as t (v .4) in
@@ -171,11 +177,11 @@ module _ {s : Source} {mem : List ℕ} {m : Machine} (w : Waiting mem m 7) where
         let at : OpAt s k (Bounds l u) (v .0) = subst (λ (j : ℕ). OpAt s j (Bounds l u) (v .0)) (sym (ek ∙ entry-word h)) (h .at .waits) in
         let same-place : p ≡ v .0 = ep ∙ at .place in
         let same-number : a ≡ v .3 = ea ∙ value-word h ∙ h .at .holds .here in
-        let same-low : without-low i ≡ l = ap without-low ei ∙ op-bounds at .0 in
-        let same-high : without-high i ≡ u = ap without-high ei ∙ op-bounds at .1 in
+        let same-low : low ≡ l = el ∙ ap without-low ej ∙ sym (at .spelt) in
+        let same-high : without-high i ≡ u = ap without-high (ei ∙ at .kind) ∙ high-of u in
         let hi = h .at .high in
         let ro = h .at .room in
-        let same-set : between p (without-low i) (without-high i) a (m .value) ≡ between (v .0) l u (v .3) (m .value) = ap₂ (λ (j y : ℕ). between j (without-low i) (without-high i) y (m .value)) same-place same-number
+        let same-set : between p low (without-high i) a (m .value) ≡ between (v .0) l u (v .3) (m .value) = ap₂ (λ (j y : ℕ). between j low (without-high i) y (m .value)) same-place same-number
         ∙ ap₂ (λ (y z : Bool). between (v .0) y z (v .3) (m .value)) same-low same-high in
         makes h r (record {
           no-forms = refl;
@@ -183,11 +189,11 @@ module _ {s : Source} {mem : List ℕ} {m : Machine} (w : Waiting mem m 7) where
           no-body = refl;
           value = Number (m .value);
           came-is = n .same;
-          base-is = flat-top h {phase = 7} refl;
+          base-is = flat-top h {phase = Phase.high} refl;
           set = g .set;
           kept = g .kept;
           room = omega arith;
-          sane = between-sane p (without-low i) (without-high i) a (m .value) (n .small);
+          sane = between-sane p low (without-high i) a (m .value) (n .small);
           same = ap (apply (High (v .0) l u (v .3))) (n .same) ∙ bind-at (m .value) (λ j. between (v .0) l u (v .3) j >>= λ y. worth (Set y)) ∙ ap (λ y. y >>= λ y. worth (Set y)) (sym same-set);
         });
   }

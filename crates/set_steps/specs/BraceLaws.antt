@@ -37,6 +37,7 @@ use Rattle.memory_sets.specs.Places.{Outside}
 use Rattle.memory_sets.specs.PlaceLaws.{outside-both}
 use Rattle.memory_sets.specs.PlacedLaws.{elements-of, setOf-sane}
 use Rattle.memory_sets.specs.Sorting.{setOf, Numbers, SortedAt}
+use Rattle.machine.specs.Phases as Phase
 use Rattle.machine.specs.Came.{Evaluate, Came, Worth, worth, works, asNumber}
 use Rattle.machine.specs.Frames.{Elements, apply, inserts}
 use Rattle.machine.specs.Realm.{OperandIn, Operand, Realm}
@@ -103,15 +104,15 @@ data Further : Expr → Type 0 where
 further : (e : Expr) → Proper true e → Further e
 further (Named t) p = absurd (false≢true (sym (p .0)))
 further (Numeral t) p = absurd (false≢true (sym (p .0)))
-further (Truth t b) p = absurd (false≢true (sym p))
+further (Truth t b) p = absurd (false≢true (sym (p .0)))
 further (Index t e) p = absurd (false≢true (sym (p .0)))
 further (Paren t e) p = absurd (false≢true (sym (p .0)))
-further (Prefixed t o e) p = absurd (false≢true (sym (p .0)))
-further (Joined t o a b) p = absurd (false≢true (sym (p .0)))
+further (Prefixed t o e) p = absurd (false≢true (sym (p .0 .0)))
+further (Joined t o a b) p = absurd (false≢true (sym (p .0 .0)))
 further (Nexts t n e) p = absurd (false≢true (sym (p .0)))
-further (InWindow t o n m e) p = absurd (false≢true (sym (p .0)))
-further (Each t o x i s e) p = absurd (false≢true (sym (p .0)))
-further (Between t l h a b) p = absurd (false≢true (sym (p .0)))
+further (InWindow t o n m e) p = absurd (false≢true (sym (p .0 .0)))
+further (Each t o x i s e) p = absurd (false≢true (sym (p .0 .0)))
+further (Between t l h a b) p = absurd (false≢true (sym (p .0 .0)))
 further (Listed t es) p = absurd (false≢true (sym (p .0)))
 further Empty p = nothing
 further (Element a b) p = another a b
@@ -241,10 +242,10 @@ first-of {s} {R} {m = m} n b f =
     inner (f .head) (f .others) (subst (OperandIn s (R .W) (R .ports) true (n .at .env) (n .context) (m .value - 1)) (f .same)
     (record { known = known-listed (b .token) (b .es) (p .known); small = p .small; ports = p .ports; plain = p .plain }))
 
-listed-kind : {work : List ℕ} {m : Machine} → Evaluates work m Kind.listed 52 → kindAt work (m .value) ≡ Kind.listed
+listed-kind : {work : List ℕ} {m : Machine} → Evaluates work m Kind.listed Kind.element → kindAt work (m .value) ≡ Kind.listed
 listed-kind k = let e1 = k .from in let e2 = k .until in omega arith
 
-module _ {s : Source} {mem : List ℕ} {m : Machine} (k : Evaluates (s .work) m Kind.listed 52) where
+module _ {s : Source} {mem : List ℕ} {m : Machine} (k : Evaluates (s .work) m Kind.listed Kind.element) where
   -- no element
   pub listing-empty : sizeAt (s .work) (m .value) ≡ 1 → Steps s mem mem m (Next (came m isSet 0 (m .top)))
   listing-empty z = record {
@@ -283,7 +284,7 @@ module _ {s : Source} {mem : List ℕ} {m : Machine} (k : Evaluates (s .work) m 
 
     -- the first element is worked out
     pub listing-steps : {mem' : List ℕ} → m .top + (frameWords + reserve + spare + m .value) ≤ m .frames
-        → Framed mem mem' (m .frames - frameWords) (record { phase = 8; entry = m .value - 1; base = m .top; at = m .top; count = 0; value = m .value; other = 0 })
+        → Framed mem mem' (m .frames - frameWords) (record { phase = Phase.elements; entry = m .value - 1; base = m .top; at = m .top; count = 0; value = m .value; other = 0 })
         → Steps s mem mem' m (Next (opened m (modeOf Evaluate) (elementAt (s .work) (m .value - 1))))
     listing-steps ro fr = record {
       turns = λ R x o out h.
@@ -296,7 +297,7 @@ module _ {s : Source} {mem : List ℕ} {m : Machine} (k : Evaluates (s .work) m 
           let u = i .under in
           let ctx = n .context in
           pushes-in n {reserved = reserve + m .value} {F = Elements (t .at) ctx (f .others) []} {inside = false} {flat = false} {a = Evaluate} {c = ctx} {e = f .head} (record {
-            words = record { phase = 8; entry = m .value - 1; base = m .top; at = m .top; count = 0; value = m .value; other = 0 };
+            words = record { phase = Phase.elements; entry = m .value - 1; base = m .top; at = m .top; count = 0; value = m .value; other = 0 };
             framed = fr;
             holds-nothing = refl;
             down = omega arith;
@@ -352,18 +353,18 @@ pub element-few : {s : Source} {mem : List ℕ} {m : Machine} → Topped s mem m
 element-few {s} t {j} ej ei = let f = topped-entry t .few in let l = element-small (s .work) (j - 1) in omega arith
 
 -- an element has come
-module _ {s : Source} {mem : List ℕ} {m : Machine} (w : Waiting mem m 8) where
+module _ {s : Source} {mem : List ℕ} {m : Machine} (w : Waiting mem m Phase.elements) where
   pub element-misfits : (m .mode ≡ isNumber → ⊥) → Takes s mem mem m (Refuses 9 0)
   element-misfits e = record {
     turns = λ R x o out t.
-        let v = by-phase (t .frame) 8 (top-phase t ∙ w .phase) in
+        let v = by-phase (t .frame) Phase.elements (top-phase t ∙ w .phase) in
         let h = top-as t (v .4) in
         refuses h (misfit-then _ (not-number R o mem m (h .came) (h .come) e));
   }
 
   pub element-fits : Topped s mem m → Fitting mem m (getD mem (m .frames + 2) 0) (getD mem (m .frames + 4) 0) (getD mem (m .frames + 5) 0)
   element-fits t =
-      let v = by-phase (t .top .frame) 8 (top-phase (t .top) ∙ w .phase) in
+      let v = by-phase (t .top .frame) Phase.elements (top-phase (t .top) ∙ w .phase) in
       let h = top-as (t .top) (v .4) in
       let b = base-word h in
       let c = count-word h in
@@ -378,7 +379,7 @@ module _ {s : Source} {mem : List ℕ} {m : Machine} (w : Waiting mem m 8) where
 
   pub element-elementary : Topped s mem m → {j : ℕ} → j ≡ getD mem (m .frames + 1) 0 → kindAt (s .work) (j - 1) ≡ Kind.element → Elementary (s .work) (j - 1)
   element-elementary t {j} ej q =
-      let v = by-phase (t .top .frame) 8 (top-phase (t .top) ∙ w .phase) in
+      let v = by-phase (t .top .frame) Phase.elements (top-phase (t .top) ∙ w .phase) in
       let h = top-as (t .top) (v .4) in
       let r = h .at .waits in
       let e : j ≡ words h .entry = ej ∙ entry-word h in
@@ -481,11 +482,11 @@ module _ {s : Source} {R : Realm s} {mem out : List ℕ} {m : Machine} {x : Resu
 abbrev pub gathering : Machine → (j top : ℕ) → Machine
 gathering m j top = record { mode = modeOf Evaluate; value = j; from = 0; scope = m .scope; depth = m .depth; top = top; frames = m .frames; nodes = m .nodes }
 
-module _ {s : Source} {mem : List ℕ} {m : Machine} (w : Waiting mem m 8) (e : m .mode ≡ isNumber) {j base count k : ℕ} (ej : j ≡ getD mem (m .frames + 1) 0) (eb : base ≡ getD mem (m .frames + 2) 0)
+module _ {s : Source} {mem : List ℕ} {m : Machine} (w : Waiting mem m Phase.elements) (e : m .mode ≡ isNumber) {j base count k : ℕ} (ej : j ≡ getD mem (m .frames + 1) 0) (eb : base ≡ getD mem (m .frames + 2) 0)
     (ec : count ≡ getD mem (m .frames + 4) 0) (ek : k ≡ getD mem (m .frames + 5) 0) where
   pub element-numbers : Topped s mem m → Numbers (store mem (base + count) (m .value)) base (count + 1)
   element-numbers t =
-      let v = by-phase (t .top .frame) 8 (top-phase (t .top) ∙ w .phase) in
+      let v = by-phase (t .top .frame) Phase.elements (top-phase (t .top) ∙ w .phase) in
       let h = top-as (t .top) (v .4) in
       let n = came-number (t .realm) (t .began) mem m (h .came) (h .come) e in
       put-numbers h (eb ∙ base-word h) (ec ∙ count-word h ∙ h .at .counted) (n .small)
@@ -496,7 +497,7 @@ module _ {s : Source} {mem : List ℕ} {m : Machine} (w : Waiting mem m 8) (e : 
       → Takes s mem mem' m (made m base r)
   element-ends {mem'} {place} r q ep g = record {
     turns = λ R x o out t.
-        let v = by-phase (t .frame) 8 (top-phase t ∙ w .phase) in
+        let v = by-phase (t .frame) Phase.elements (top-phase t ∙ w .phase) in
         let p = v .0 in
         let c = v .1 in
         let es = v .2 in
@@ -531,11 +532,11 @@ module _ {s : Source} {mem : List ℕ} {m : Machine} (w : Waiting mem m 8) (e : 
 
   -- the next is worked out
   pub element-goes : {mem' : List ℕ} {d : ℕ} → kindAt (s .work) (j - 1) ≡ Kind.element → d ≡ elementAt (s .work) (j - 1)
-      → Framed (store mem (base + count) (m .value)) mem' (m .frames) (record { phase = 8; entry = j - 1; base = base; at = base; count = count + 1; value = k; other = 0 })
+      → Framed (store mem (base + count) (m .value)) mem' (m .frames) (record { phase = Phase.elements; entry = j - 1; base = base; at = base; count = count + 1; value = k; other = 0 })
       → Takes s mem mem' m (Next (gathering m d (base + count + 1)))
   element-goes {mem'} q ed f = takes-next (ap (λ (y : ℕ). gathering m y (base + count + 1)) ed) (record {
     turns = λ R x o out t.
-        let v = by-phase (t .frame) 8 (top-phase t ∙ w .phase) in
+        let v = by-phase (t .frame) Phase.elements (top-phase t ∙ w .phase) in
         let p = v .0 in
         let c = v .1 in
         let es = v .2 in
@@ -568,7 +569,7 @@ module _ {s : Source} {mem : List ℕ} {m : Machine} (w : Waiting mem m 8) (e : 
         let fs = h .at .scoped in
         let om = one-more h hb hc (n .small) in
         goes h {G = Elements p c b (ns ++ (m .value ∷ []))} {a = Evaluate} {c = c} {e = a} {mem₁ = mem₁} (record {
-          new = record { phase = 8; entry = j - 1; base = base; at = base; count = count + 1; value = k; other = 0 };
+          new = record { phase = Phase.elements; entry = j - 1; base = base; at = base; count = count + 1; value = k; other = 0 };
           framed = f;
           phased = refl;
           base-is = hb;

@@ -1,4 +1,3 @@
-pub mod OperatorLaws
 pub mod MakingLaws
 pub mod MeasureLaws
 pub mod BoundLaws

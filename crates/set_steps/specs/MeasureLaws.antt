@@ -1,5 +1,5 @@
 -- A measure of a set: the set, then the number.
-use Prim.Native.Nat.{ℕ, _+_, _-_, _≤_, _<_}
+use Prim.Native.Nat.{ℕ, _+_, _-_, _<_}
 use mathlib.Core.List.{List}
 use mathlib.Core.Option.{some}
 use mathlib.Core.Path.{_≡_, refl, sym, ap, ap₂, _∙_, subst}
@@ -17,15 +17,18 @@ use Rattle.name_values.specs.KnownLaws.{known-prefixed}
 use Rattle.sets.specs.Answers.{says}
 use Rattle.sets.specs.Operators.{measurement}
 use Rattle.sets.specs.declared.Worked.{Worked}
-use Rattle.operands.specs.Entries.{kindAt, placeAt}
-use Rattle.operands.specs.ClassLaws.{has-entry, kind-of, place-is}
+use Rattle.operators.specs.Tables.{prefixCodeAt}
+use Rattle.operands.specs.Entries.{kindAt, placeAt, numberAt}
+use Rattle.operands.specs.ClassLaws.{has-entry}
 use Rattle.operands.specs.KindLaws.{measure-class}
 use Rattle.operands.specs.Operands.{below}
 use Rattle.operands.specs.Working.{Source}
 use Rattle.memory_sets.specs.Places.{elementsAt, Placed}
+use Rattle.machine.specs.Phases as Phase
 use Rattle.machine.specs.Came.{Evaluate, worth, asSet}
 use Rattle.machine.specs.Frames.{Measured, apply}
 use Rattle.machine.specs.Operators.{Before, OpAt}
+use Rattle.machine.specs.OperatorLaws.{prefixed-at, op-measure}
 use Rattle.machine.specs.Telling.{isSet}
 use Rattle.machine.specs.States.{modeOf, Ready, Steps, Topped, Takes}
 use Rattle.machine.specs.StateLaws.{entered}
@@ -43,7 +46,6 @@ use Rattle.machine.specs.declared.Move.{Move}
 use Rattle.machine.specs.declared.Move.the-variants.{Refused as Refuses}
 use Rattle.machine.specs.Entering.{Evaluates, Waiting, works-value}
 use Rattle.value_steps.specs.PlacedLaws.{elements-are, placed, spanOf, set-under}
-use Rattle.set_steps.specs.OperatorLaws.{op-measure}
 
 -- the clause as its frame has it
 measure-same : (p : ℕ) (o : Measure) (a : Result Value) → ((a >>= set >>= measure p o >>= λ n. Done (Number n)) >>= worth)
@@ -51,86 +53,76 @@ measure-same : (p : ℕ) (o : Measure) (a : Result Value) → ((a >>= set >>= me
 measure-same p o a = number-last (a >>= set >>= measure p o) ∙ bind-again (a >>= set) (measure p o) _ ∙ sym (take-set a (λ s. measure p o s >>= λ n. worth (Number n)))
 
 -- the operand stands before the entry
-pub measurement-inside : {s : Source} {mem : List ℕ} {m : Machine} → Ready s mem m → Evaluates (s .work) m 6 9 → 0 < m .value
+pub measurement-inside : {s : Source} {mem : List ℕ} {m : Machine} → Ready s mem m → Evaluates (s .work) m Kind.measure Kind.width → 0 < m .value
 measurement-inside {s} {m = m} r k =
     let e0 = k .mode in
     let n = entered (r .state) (omega arith) in
     let kind = kindAt (s .work) (m .value) in
-    let o = measurement (kind - 6) in
     let v = operand-view (n .at .operand) (measure-class kind (k .from) (k .until)) in
-    let p = operand-as (n .at .operand) (v .2) in
-    let l = below (Kind.before (Measures o)) (some (v .0)) (flat (v .1)) (p .known .at) in
-    let y = has-entry (v .1) (known-prefixed (v .0) (Measures o) (v .1) (p .known) .proper) in
+    let p = operand-as (n .at .operand) (v .3) in
+    let l = below (Kind.before (Measures (v .1))) (some (v .0)) (flat (v .2)) (p .known .at) in
+    let y = has-entry (v .2) (known-prefixed (v .0) (Measures (v .1)) (v .2) (p .known) .proper) in
     omega arith
 
 -- the entry: the set is worked out first
-pub measurement-steps : {s : Source} {mem mem' : List ℕ} {m : Machine} {r : Move} → Ready s mem m → Evaluates (s .work) m 6 9
-    → Opened mem mem' m 0 (modeOf Evaluate) (m .value - 1) r → Steps s mem mem' m r
+pub measurement-steps : {s : Source} {mem mem' : List ℕ} {m : Machine} {r : Move} → Ready s mem m → Evaluates (s .work) m Kind.measure Kind.width
+    → Opened mem mem' m Phase.measured (modeOf Evaluate) (m .value - 1) r → Steps s mem mem' m r
 measurement-steps {s} {mem} {mem'} {m} {r} y k q = record {
   turns = λ R x o out h.
       let e0 = k .mode in
       let n = entered h (omega arith) in
       let kind = kindAt (s .work) (m .value) in
-      let op = measurement (kind - 6) in
       let v = operand-view (n .at .operand) (measure-class kind (k .from) (k .until)) in
       let t = v .0 in
-      let a = v .1 in
-      let p = operand-as (n .at .operand) (v .2) in
+      let op = v .1 in
+      let a = v .2 in
+      let p = operand-as (n .at .operand) (v .3) in
       let ins = measurement-inside y k in
-      opens n {F = Measured (t .at) op} {phase = 0} {a = Evaluate} {e = a} {j = m .value - 1} (record {
+      opens n {F = Measured (t .at) op} {phase = Phase.measured} {a = Evaluate} {e = a} {j = m .value - 1} (record {
         holds-nothing = refl;
         few-turns = omega arith;
         below = omega arith;
         operand = alongside p (known-prefixed t (Measures op) a (p .known));
         holds = tt;
-        waits = record {
-          kind = kind-of (Kind.before (Measures op)) (some t) (flat a) (p .known .at);
-          place = place-is (R .lexed) (Kind.before (Measures op)) t (flat a) (p .known .at);
-        };
+        waits = prefixed-at (R .lexed) t (Measures op) a p;
         kept = tt;
-        same = works-value n e0 ∙ ap (λ (d : Expr). value (n .context .values) d >>= worth) (v .2) ∙ measure-same (t .at) op (value (n .context .values) a);
+        same = works-value n e0 ∙ ap (λ (d : Expr). value (n .context .values) d >>= worth) (v .3) ∙ measure-same (t .at) op (value (n .context .values) a);
       }) r q;
 }
 
 -- the set has come
-module _ {s : Source} {mem : List ℕ} {m : Machine} (w : Waiting mem m 0) where
+module _ {s : Source} {mem : List ℕ} {m : Machine} (w : Waiting mem m Phase.measured) where
   pub measured-misfits : (m .mode ≡ isSet → ⊥) → Takes s mem mem m (Refuses 9 0)
   measured-misfits e = record {
     turns = λ R x o out t.
-        let v = by-phase (t .frame) 0 (top-phase t ∙ w .phase) in
+        let v = by-phase (t .frame) Phase.measured (top-phase t ∙ w .phase) in
         let h = top-as t (v .2) in
         refuses h (misfit-then _ (not-set R o mem m (h .came) (h .come) e));
   }
 
-  pub measured-kind : Topped s mem m → 6 ≤ kindAt (s .work) (getD mem (m .frames + 1) 0)
-  measured-kind t =
-      let v = by-phase (t .top .frame) 0 (top-phase (t .top) ∙ w .phase) in
-      let h = top-as (t .top) (v .2) in
-      subst (λ (j : ℕ). 6 ≤ kindAt (s .work) j) (sym (entry-word h)) (op-measure (h .at .waits) .0)
-
   module _ (e : m .mode ≡ isSet) where
     pub measured-placed : Topped s mem m → Placed mem (spanOf m)
     measured-placed t =
-        let v = by-phase (t .top .frame) 0 (top-phase (t .top) ∙ w .phase) in
+        let v = by-phase (t .top .frame) Phase.measured (top-phase (t .top) ∙ w .phase) in
         let h = top-as (t .top) (v .2) in
         let g = came-set (t .realm) (t .began) mem m (h .came) (h .come) e in
         placed mem (spanOf m) (g .set) (g .held) (g .count) (g .fine) (set-under h e)
 
-    pub measured-steps : {k i p : ℕ} (r : Worked) → k ≡ getD mem (m .frames + 1) 0 → i ≡ kindAt (s .work) k - 6 → p ≡ placeAt (s .work) k
+    pub measured-steps : {k i p : ℕ} (r : Worked) → k ≡ getD mem (m .frames + 1) 0 → i ≡ prefixCodeAt (numberAt (s .work) k) → p ≡ placeAt (s .work) k
         → says r ≡ measure p (measurement i) (elementsAt mem (spanOf m)) → Takes s mem mem m (numbered (popped m) r)
     measured-steps {k} {i} {p} r ek ei ep q = record {
       turns = λ R x o out t.
-          let v = by-phase (t .frame) 0 (top-phase t ∙ w .phase) in
+          let v = by-phase (t .frame) Phase.measured (top-phase t ∙ w .phase) in
           let op = v .1 in
           let h = top-as t (v .2) in
           let g = came-set R o mem m (h .came) (h .come) e in
           let l = g .set in
           let at : OpAt s k (Before (Measures op)) (v .0) = subst (λ (j : ℕ). OpAt s j (Before (Measures op)) (v .0)) (sym (ek ∙ entry-word h)) (h .at .waits) in
-          let same-op : measurement i ≡ op = ap measurement ei ∙ op-measure at .1 in
+          let same-op : measurement i ≡ op = ap measurement ei ∙ op-measure at in
           let same-place : p ≡ v .0 = ep ∙ at .place in
           let same-set : elementsAt mem (spanOf m) ≡ l = elements-are mem (spanOf m) l (g .held) (g .count) (g .fine) (set-under h e) in
           let q' : says r ≡ measure (v .0) op l = q ∙ ap (λ (j : ℕ). measure j (measurement i) (elementsAt mem (spanOf m))) same-place
           ∙ ap₂ (λ (y : Measure) (j : List ℕ). measure (v .0) y j) same-op same-set in
-          yields-number h {phase = 0} refl (g .same) r q' (measure-sane (v .0) op l (g .fine .ordered, g .fine .few))
+          yields-number h {phase = Phase.measured} refl (g .same) r q' (measure-sane (v .0) op l (g .fine .ordered, g .fine .few))
           (ap (apply (Measured (v .0) op)) (g .same) ∙ bind-at l (λ j. measure (v .0) op j >>= λ y. worth (Number y)));
     }

@@ -1,7 +1,6 @@
 -- {x, y .. z}: the first number, the second, the last.
 use Prim.Native.Nat.{ℕ, _+_, _-_, _≤_, _<_}
-use mathlib.Core.List.{List, _++_}
-use mathlib.Core.Option.{some}
+use mathlib.Core.List.{List}
 use mathlib.Core.Path.{_≡_, refl, sym, ap, ap₂, _∙_, subst}
 use native.Mathlib.Omega.{arith}
 use lib.ListN.{getD}
@@ -14,19 +13,19 @@ use Rattle.language.specs.Declared.{Port}
 use Rattle.language.specs.Values.{Value, Number, Set, number, range, value}
 use Rattle.language.specs.Laws.Values.ValueLaws.{range-sane}
 use Rattle.entries.specs.Kinds as Kind
-use Rattle.entries.specs.Flat.{flat}
 use Rattle.name_values.specs.World.{World}
 use Rattle.name_values.specs.KnownLaws.{known-range}
 use Rattle.sets.specs.declared.Worked.{Worked}
 use Rattle.operands.specs.Entries.{kindAt, sizeAt, placeAt}
 use Rattle.operands.specs.Classes.{classOf}
-use Rattle.operands.specs.ClassLaws.{kind-of, place-is}
 use Rattle.operands.specs.Working.{Source}
 use Rattle.memory_sets.specs.Places.{SetAt}
+use Rattle.machine.specs.Phases as Phase
 use Rattle.machine.specs.Came.{Evaluate, worth, works, asNumber}
 use Rattle.machine.specs.Frames.{RangeFirst, RangeSecond, RangeLast, ranged, ranging, apply}
 use Rattle.machine.specs.Realm.{Operand}
 use Rattle.machine.specs.Operators.{Stepping, OpAt}
+use Rattle.machine.specs.OperatorLaws.{range-at}
 use Rattle.machine.specs.Memory.{Framed}
 use Rattle.machine.specs.Telling.{isNumber}
 use Rattle.machine.specs.States.{modeOf, Ready, Steps, Topped, Takes}
@@ -59,7 +58,7 @@ range-operands : {s : Source} {W : World} {ps : List Port} {env : List ℕ} {c :
 range-operands t x y z p = three-operands p Kind.range t x y z (p .known .at) (known-range t x y z (p .known))
 
 -- all stand before the entry
-pub stepping-inside : {s : Source} {mem : List ℕ} {m : Machine} {i : ℕ} → Ready s mem m → Evaluates (s .work) m Kind.range 54 → i ≡ sizeAt (s .work) (m .value - 1)
+pub stepping-inside : {s : Source} {mem : List ℕ} {m : Machine} {i : ℕ} → Ready s mem m → Evaluates (s .work) m Kind.range Kind.parameter → i ≡ sizeAt (s .work) (m .value - 1)
     → 1 + i + sizeAt (s .work) (m .value - 1 - i) ≤ m .value
 stepping-inside {s} {m = m} r k e =
     let e0 = k .mode in
@@ -71,8 +70,8 @@ stepping-inside {s} {m = m} r k e =
     subst (λ (i : ℕ). 1 + i + sizeAt (s .work) (m .value - 1 - i) ≤ m .value) (sym e) (range-operands (v .0) (v .1) (v .2) (v .3) (operand-as (n .at .operand) (v .4)) .inside)
 
 -- the entry: its first number is worked out first
-pub stepping-steps : {s : Source} {mem mem' : List ℕ} {m : Machine} {i j : ℕ} {r : Move} → Evaluates (s .work) m Kind.range 54 → i ≡ sizeAt (s .work) (m .value - 1)
-    → j ≡ sizeAt (s .work) (m .value - 1 - i) → Opened mem mem' m 9 (modeOf Evaluate) (m .value - 1 - i - j) r → Steps s mem mem' m r
+pub stepping-steps : {s : Source} {mem mem' : List ℕ} {m : Machine} {i j : ℕ} {r : Move} → Evaluates (s .work) m Kind.range Kind.parameter → i ≡ sizeAt (s .work) (m .value - 1)
+    → j ≡ sizeAt (s .work) (m .value - 1 - i) → Opened mem mem' m Phase.rangeFirst (modeOf Evaluate) (m .value - 1 - i - j) r → Steps s mem mem' m r
 stepping-steps {s} {mem} {mem'} {m} {i} {j} {r} k ei ej q = record {
   turns = λ R x o out h.
       let e0 = k .mode in
@@ -90,20 +89,13 @@ stepping-steps {s} {mem} {mem'} {m} {i} {j} {r} k ei ej q = record {
       let ins = three .inside in
       let same : m .value - 1 - i - j ≡ m .value - 1 - sizeAt (s .work) (m .value - 1) - sizeAt (s .work) (m .value - 1 - sizeAt (s .work) (m .value - 1)) =
       ap₂ (λ (y z : ℕ). m .value - 1 - y - z) ei (ej ∙ ap (λ (y : ℕ). sizeAt (s .work) (m .value - 1 - y)) ei) in
-      opens n {F = RangeFirst (t .at) (n .context) b d} {phase = 9} {a = Evaluate} {e = a} {j = m .value - 1 - i - j} (record {
+      opens n {F = RangeFirst (t .at) (n .context) b d} {phase = Phase.rangeFirst} {a = Evaluate} {e = a} {j = m .value - 1 - i - j} (record {
         holds-nothing = refl;
         few-turns = omega arith;
         below = omega arith;
         operand = subst (λ (i : ℕ). Operand s (R .W) (R .ports) (n .at .env) (n .context) i a) (sym same) (three .first);
         holds = tt;
-        waits = (
-          record {
-            kind = kind-of Kind.range (some t) (flat a ++ (flat b ++ flat d)) (p .known .at);
-            place = place-is (R .lexed) Kind.range t (flat a ++ (flat b ++ flat d)) (p .known .at);
-          },
-          (omega arith, three .middle),
-          three .last,
-        );
+        waits = (range-at (R .lexed) t a b d p, (omega arith, three .middle), three .last);
         kept = tt;
         same = works-value n e0 ∙ ap (λ (y : Expr). value (n .context .values) y >>= worth) (v .4)
             ∙ range-same (t .at) (value (n .context .values) a) (value (n .context .values) b) (value (n .context .values) d);
@@ -111,26 +103,26 @@ stepping-steps {s} {mem} {mem'} {m} {i} {j} {r} k ei ej q = record {
 }
 
 -- the first number has come
-module _ {s : Source} {mem : List ℕ} {m : Machine} (w : Waiting mem m 9) where
+module _ {s : Source} {mem : List ℕ} {m : Machine} (w : Waiting mem m Phase.rangeFirst) where
   pub first-misfits : (m .mode ≡ isNumber → ⊥) → Takes s mem mem m (Refuses 9 0)
   first-misfits e = record {
     turns = λ R x o out t.
-        let v = by-phase (t .frame) 9 (top-phase t ∙ w .phase) in
+        let v = by-phase (t .frame) Phase.rangeFirst (top-phase t ∙ w .phase) in
         let h = top-as t (v .4) in
         refuses h (misfit-then _ (not-number R o mem m (h .came) (h .come) e));
   }
 
   pub first-inside : Topped s mem m → sizeAt (s .work) (getD mem (m .frames + 1) 0 - 1) < getD mem (m .frames + 1) 0
   first-inside t =
-      let v = by-phase (t .top .frame) 9 (top-phase (t .top) ∙ w .phase) in
+      let v = by-phase (t .top .frame) Phase.rangeFirst (top-phase (t .top) ∙ w .phase) in
       let h = top-as (t .top) (v .4) in
       subst (λ (j : ℕ). sizeAt (s .work) (j - 1) < j) (sym (entry-word h)) (h .at .waits .1 .0)
 
   pub first-steps : m .mode ≡ isNumber → {mem' : List ℕ} {k j : ℕ} → k ≡ getD mem (m .frames + 1) 0 → j ≡ sizeAt (s .work) (k - 1)
-      → Framed mem mem' (m .frames) (record { phase = 10; entry = k; base = m .top; at = 0; count = 0; value = m .value; other = 0 }) → Takes s mem mem' m (Next (came m (modeOf Evaluate) (k - 1 - j) 0))
+      → Framed mem mem' (m .frames) (record { phase = Phase.rangeSecond; entry = k; base = m .top; at = 0; count = 0; value = m .value; other = 0 }) → Takes s mem mem' m (Next (came m (modeOf Evaluate) (k - 1 - j) 0))
   first-steps e {mem'} {k} {j} ek ej f = record {
     turns = λ R x o out t.
-        let v = by-phase (t .frame) 9 (top-phase t ∙ w .phase) in
+        let v = by-phase (t .frame) Phase.rangeFirst (top-phase t ∙ w .phase) in
         let p = v .0 in
         let c = v .1 in
         let b = v .2 in
@@ -140,7 +132,7 @@ module _ {s : Source} {mem : List ℕ} {m : Machine} (w : Waiting mem m 9) where
         let same-entry : k ≡ words h .entry = ek ∙ entry-word h in
         let some = h .at .some in
         let at = h .at .entry in
-        renews h {phase = 9} refl {G = RangeSecond p c d (m .value)} {a = Evaluate} {c = c} {e = b} (n .same) (record {
+        renews h {phase = Phase.rangeFirst} refl {G = RangeSecond p c d (m .value)} {a = Evaluate} {c = c} {e = b} (n .same) (record {
           holds-nothing = refl;
           framed = f;
           entry-is = same-entry;
@@ -160,20 +152,20 @@ module _ {s : Source} {mem : List ℕ} {m : Machine} (w : Waiting mem m 9) where
   }
 
 -- the second number has come
-module _ {s : Source} {mem : List ℕ} {m : Machine} (w : Waiting mem m 10) where
+module _ {s : Source} {mem : List ℕ} {m : Machine} (w : Waiting mem m Phase.rangeSecond) where
   pub second-misfits : (m .mode ≡ isNumber → ⊥) → Takes s mem mem m (Refuses 9 0)
   second-misfits e = record {
     turns = λ R x o out t.
-        let v = by-phase (t .frame) 10 (top-phase t ∙ w .phase) in
+        let v = by-phase (t .frame) Phase.rangeSecond (top-phase t ∙ w .phase) in
         let h = top-as t (v .4) in
         refuses h (misfit-then _ (not-number R o mem m (h .came) (h .come) e));
   }
 
   pub second-steps : m .mode ≡ isNumber → {mem' : List ℕ} {k a : ℕ} → k ≡ getD mem (m .frames + 1) 0 → a ≡ getD mem (m .frames + 5) 0
-      → Framed mem mem' (m .frames) (record { phase = 11; entry = k; base = m .top; at = 0; count = 0; value = a; other = m .value }) → Takes s mem mem' m (Next (came m (modeOf Evaluate) (k - 1) 0))
+      → Framed mem mem' (m .frames) (record { phase = Phase.rangeLast; entry = k; base = m .top; at = 0; count = 0; value = a; other = m .value }) → Takes s mem mem' m (Next (came m (modeOf Evaluate) (k - 1) 0))
   second-steps e {mem'} {k} {a} ek ea f = record {
     turns = λ R x o out t.
-        let v = by-phase (t .frame) 10 (top-phase t ∙ w .phase) in
+        let v = by-phase (t .frame) Phase.rangeSecond (top-phase t ∙ w .phase) in
         let p = v .0 in
         let c = v .1 in
         let d = v .2 in
@@ -183,7 +175,7 @@ module _ {s : Source} {mem : List ℕ} {m : Machine} (w : Waiting mem m 10) wher
         let same-entry : k ≡ words h .entry = ek ∙ entry-word h in
         let some = h .at .some in
         let at = h .at .entry in
-        renews h {phase = 10} refl {G = RangeLast p i (m .value)} {a = Evaluate} {c = c} {e = d} (n .same) (record {
+        renews h {phase = Phase.rangeSecond} refl {G = RangeLast p i (m .value)} {a = Evaluate} {c = c} {e = d} (n .same) (record {
           holds-nothing = refl;
           framed = f;
           entry-is = same-entry;
@@ -200,11 +192,11 @@ module _ {s : Source} {mem : List ℕ} {m : Machine} (w : Waiting mem m 10) wher
   }
 
 -- the last number has come
-module _ {s : Source} {mem : List ℕ} {m : Machine} (w : Waiting mem m 11) where
+module _ {s : Source} {mem : List ℕ} {m : Machine} (w : Waiting mem m Phase.rangeLast) where
   pub last-misfits : (m .mode ≡ isNumber → ⊥) → Takes s mem mem m (Refuses 9 0)
   last-misfits e = record {
     turns = λ R x o out t.
-        let v = by-phase (t .frame) 11 (top-phase t ∙ w .phase) in
+        let v = by-phase (t .frame) Phase.rangeLast (top-phase t ∙ w .phase) in
         let h = top-as t (v .3) in
         refuses h (misfit-then _ (not-number R o mem m (h .came) (h .come) e));
   }
@@ -213,7 +205,7 @@ module _ {s : Source} {mem : List ℕ} {m : Machine} (w : Waiting mem m 11) wher
       → b ≡ getD mem (m .frames + 6) 0 → SetAt mem mem' (m .top) r (range p a b (m .value)) → Takes s mem mem' m (made m (m .top) r)
   last-steps e {mem'} {k} {p} {a} {b} r ek ep ea eb g = record {
     turns = λ R x o out t.
-        let v = by-phase (t .frame) 11 (top-phase t ∙ w .phase) in
+        let v = by-phase (t .frame) Phase.rangeLast (top-phase t ∙ w .phase) in
         let h = top-as t (v .3) in
         let n = came-number R o mem m (h .came) (h .come) e in
         let at : OpAt s k Stepping (v .0) = subst (λ (j : ℕ). OpAt s j Stepping (v .0)) (sym (ek ∙ entry-word h)) (h .at .waits) in
@@ -230,7 +222,7 @@ module _ {s : Source} {mem : List ℕ} {m : Machine} (w : Waiting mem m 11) wher
           no-body = refl;
           value = Number (m .value);
           came-is = n .same;
-          base-is = flat-top h {phase = 11} refl;
+          base-is = flat-top h {phase = Phase.rangeLast} refl;
           set = g .set;
           kept = g .kept;
           room = omega arith;

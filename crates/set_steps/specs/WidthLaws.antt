@@ -18,6 +18,7 @@ use Rattle.operands.specs.Classes.{classOf}
 use Rattle.operands.specs.ClassLaws.{has-entry}
 use Rattle.operands.specs.Operands.{below}
 use Rattle.operands.specs.Working.{Source}
+use Rattle.machine.specs.Phases as Phase
 use Rattle.machine.specs.Came.{Evaluate, Came, Worth, Nodes, worth, asValue}
 use Rattle.machine.specs.Frames.{Width, apply}
 use Rattle.machine.specs.Realm.{Realm}
@@ -52,7 +53,7 @@ width-same (Done v) = go (bus v)
 width-same (Refused n p) = refl
 
 -- the bus stands before the entry
-pub width-inside : {s : Source} {mem : List ℕ} {m : Machine} → Ready s mem m → Evaluates (s .work) m 9 10 → 0 < m .value
+pub width-inside : {s : Source} {mem : List ℕ} {m : Machine} → Ready s mem m → Evaluates (s .work) m Kind.width Kind.unary → 0 < m .value
 width-inside {s} {m = m} r k =
     let e0 = k .mode in
     let l0 = k .from in
@@ -66,7 +67,7 @@ width-inside {s} {m = m} r k =
     omega arith
 
 -- the entry: the bus is worked out first
-pub width-steps : {s : Source} {mem mem' : List ℕ} {m : Machine} {r : Move} → Ready s mem m → Evaluates (s .work) m 9 10 → Opened mem mem' m 1 (modeOf Evaluate) (m .value - 1) r
+pub width-steps : {s : Source} {mem mem' : List ℕ} {m : Machine} {r : Move} → Ready s mem m → Evaluates (s .work) m Kind.width Kind.unary → Opened mem mem' m Phase.width (modeOf Evaluate) (m .value - 1) r
     → Steps s mem mem' m r
 width-steps {s} {mem} {mem'} {m} {r} y k q = record {
   turns = λ R x o out h.
@@ -80,7 +81,7 @@ width-steps {s} {mem} {mem'} {m} {r} y k q = record {
       let a = v .1 in
       let p = operand-as (n .at .operand) {d = Prefixed (v .0) WidthOf (v .1)} (v .2) in
       let ins = width-inside y k in
-      opens n {F = Width} {phase = 1} {a = Evaluate} {e = a} {j = m .value - 1} (record {
+      opens n {F = Width} {phase = Phase.width} {a = Evaluate} {e = a} {j = m .value - 1} (record {
         holds-nothing = refl;
         few-turns = omega arith;
         below = omega arith;
@@ -109,11 +110,11 @@ unfolding _>>=_
 bus-width v e = rw e
 
 -- the bus has come
-module _ {s : Source} {mem : List ℕ} {m : Machine} (w : Waiting mem m 1) where
+module _ {s : Source} {mem : List ℕ} {m : Machine} (w : Waiting mem m Phase.width) where
   pub sized-unsized : m .mode ≡ isUnsized → Takes s mem mem m (Refuses 13 (m .value))
   sized-unsized e = record {
     turns = λ R x o out t.
-        let v = by-phase (t .frame) 1 (top-phase t ∙ w .phase) in
+        let v = by-phase (t .frame) Phase.width (top-phase t ∙ w .phase) in
         let h = top-as t v in
         refuses h (not-sized R o mem m (h .came) (h .come) e);
   }
@@ -121,7 +122,7 @@ module _ {s : Source} {mem : List ℕ} {m : Machine} (w : Waiting mem m 1) where
   pub sized-misfits : (m .mode ≡ isBus → ⊥) → (m .mode ≡ isUnsized → ⊥) → Takes s mem mem m (Refuses 9 0)
   sized-misfits e d = record {
     turns = λ R x o out t.
-        let v = by-phase (t .frame) 1 (top-phase t ∙ w .phase) in
+        let v = by-phase (t .frame) Phase.width (top-phase t ∙ w .phase) in
         let h = top-as t v in
         refuses h (no-bus R o mem m (h .came) (h .come) e d);
   }
@@ -138,13 +139,13 @@ module _ {s : Source} {mem : List ℕ} {m : Machine} (w : Waiting mem m 1) where
     pub sized-steps : {n : ℕ} {k r : Machine} → k ≡ popped m → r ≡ came k isNumber n 0 → n ≡ noteAt mem (m .from) 1 → Takes s mem mem m (Next r)
     sized-steps {n} ek er en = takes-next (er ∙ ap (λ (y : Machine). came y isNumber n 0) ek) (record {
       turns = λ R x o out t.
-          let v = by-phase (t .frame) 1 (top-phase t ∙ w .phase) in
+          let v = by-phase (t .frame) Phase.width (top-phase t ∙ w .phase) in
           let h = top-as t v in
           let u = came-value R o mem m (h .came) (h .come) (λ z. omega arith) in
           let g = tells-bus (R .W) (m .mode) (m .value) (m .from) (u .value) (u .tells) e in
           let same = u .same ∙ ap Worth (g .same) in
           let same-width : n ≡ g .width = en ∙ noted-width (h .noted .facts (m .from) (g .declared)) (g .means) in
           let small = g .small in
-          yields h {phase = 1} refl same (Number n) (bus-width (h .came) same ∙ ap (λ (i : ℕ). worth (Number i)) (sym same-width))
+          yields h {phase = Phase.width} refl same (Number n) (bus-width (h .came) same ∙ ap (λ (i : ℕ). worth (Number i)) (sym same-width))
           (record { mode-is = refl; value-is = refl; small = omega arith }) tt;
     })

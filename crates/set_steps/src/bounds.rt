@@ -1,5 +1,6 @@
 // The numbers between two bounds.
 use entries::kinds;
+use lexer::numbers;
 use machine::Machine;
 use machine::Move;
 use machine::Words;
@@ -9,8 +10,15 @@ use machine::phases;
 use memory_sets::one::between;
 use node::refusals;
 use operands::entry::kind_at;
+use operands::entry::number_at;
 use operands::entry::place_at;
 use operands::entry::size_at;
+ghost use mathlib.Core.Bool.{false};
+ghost use mathlib.Core.List.{[], _∷_};
+ghost use mathlib.Core.Path.{_≡_};
+ghost use Rattle.lexer.specs.Numbers.{numbered};
+ghost use Rattle.entries.specs.Kinds as Kind;
+ghost use Rattle.machine.specs.Phases as Phase;
 ghost use Rattle.machine.specs.States.{Ready, Steps, Topped, Takes};
 ghost use Rattle.operands.specs.Working.{source};
 ghost use Rattle.machine.specs.Entering.{Evaluates, Waiting};
@@ -19,7 +27,7 @@ use crate::making::made;
 // The low bound is worked out first.
 pub fn bounds(text: &[u8], work: &[u8], refs: &[u16], memory: &mut [u32], m: Machine) -> Move
     requires { ⌜ Ready (source (now text) (now work) (now refs)) (now memory) m ⌝ }
-    requires { ⌜ Evaluates (now work) m 47 51 ⌝ }
+    requires { ⌜ Evaluates (now work) m (Kind.between false) Kind.listed ⌝ }
     ensures { λ r. ⌜ Steps (source (now (text .entry)) (now (work .entry)) (now (refs .entry))) (now (memory .entry)) (now (memory .exit)) m r ⌝ }
 {
     let k = m.value as usize;
@@ -30,7 +38,7 @@ pub fn bounds(text: &[u8], work: &[u8], refs: &[u16], memory: &mut [u32], m: Mac
 // The low bound has come: the high one is worked out.
 pub fn low(text: &[u8], work: &[u8], refs: &[u16], memory: &mut [u32], m: Machine) -> Move
     requires { ⌜ Topped (source (now text) (now work) (now refs)) (now memory) m ⌝ }
-    requires { ⌜ Waiting (now memory) m 6 ⌝ }
+    requires { ⌜ Waiting (now memory) m Phase.low ⌝ }
     ensures { λ r. ⌜ Takes (source (now (text .entry)) (now (work .entry)) (now (refs .entry))) (now (memory .entry)) (now (memory .exit)) m r ⌝ }
 {
     if m.mode != modes::NUMBER {
@@ -54,10 +62,20 @@ pub fn low(text: &[u8], work: &[u8], refs: &[u16], memory: &mut [u32], m: Machin
     Move::Next(m.came(modes::EVALUATE, k - 1, 0))
 }
 
+// Does the sign of the low bound leave it out?
+fn strict(number: u32) -> bool
+    ensures { λ r. ⌜ r ≡ numbered ("<" ∷ "LE" ∷ []) number ⌝ }
+{
+    if number == numbers::LESS {
+        return true;
+    }
+    number == numbers::LE
+}
+
 // The high bound has come.
 pub fn high(text: &[u8], work: &[u8], refs: &[u16], memory: &mut [u32], m: Machine) -> Move
     requires { ⌜ Topped (source (now text) (now work) (now refs)) (now memory) m ⌝ }
-    requires { ⌜ Waiting (now memory) m 7 ⌝ }
+    requires { ⌜ Waiting (now memory) m Phase.high ⌝ }
     ensures { λ r. ⌜ Takes (source (now (text .entry)) (now (work .entry)) (now (refs .entry))) (now (memory .entry)) (now (memory .exit)) m r ⌝ }
 {
     if m.mode != modes::NUMBER {
@@ -66,15 +84,8 @@ pub fn high(text: &[u8], work: &[u8], refs: &[u16], memory: &mut [u32], m: Machi
     let at = m.frames;
     let k = memory[at + 1] as usize;
     let a = memory[at + 5];
-    let kind = kind_at(work, k);
-    let r = between(
-        place_at(work, k),
-        kind >= kinds::BETWEEN_NO_LOW,
-        kind % 2 == 0,
-        a,
-        m.value,
-        memory,
-        m.top,
-    );
+    let above = strict(number_at(work, k));
+    let under = kind_at(work, k) == kinds::BETWEEN_NO_HIGH;
+    let r = between(place_at(work, k), above, under, a, m.value, memory, m.top);
     made(m, m.top, r)
 }

@@ -14,6 +14,8 @@ use operands::entry::kind_at;
 use operands::entry::place_at;
 use operands::entry::size_at;
 ghost use mathlib.Core.Path.{_≡_};
+ghost use Rattle.entries.specs.Kinds as Kind;
+ghost use Rattle.machine.specs.Phases as Phase;
 ghost use Rattle.machine.specs.States.{Ready, Steps, Topped, Takes};
 ghost use Rattle.operands.specs.Working.{source};
 ghost use Rattle.machine.specs.Entering.{Evaluates, Waiting};
@@ -34,7 +36,7 @@ fn expression(work: &[u8], j: usize) -> usize
 // No element: the empty set. Else the first is worked out.
 pub fn listing(text: &[u8], work: &[u8], refs: &[u16], memory: &mut [u32], m: Machine) -> Move
     requires { ⌜ Ready (source (now text) (now work) (now refs)) (now memory) m ⌝ }
-    requires { ⌜ Evaluates (now work) m 51 52 ⌝ }
+    requires { ⌜ Evaluates (now work) m Kind.listed Kind.element ⌝ }
     ensures { λ r. ⌜ Steps (source (now (text .entry)) (now (work .entry)) (now (refs .entry))) (now (memory .entry)) (now (memory .exit)) m r ⌝ }
 {
     let k = m.value;
@@ -76,7 +78,7 @@ pub fn listing(text: &[u8], work: &[u8], refs: &[u16], memory: &mut [u32], m: Ma
 // An element has come: it is put behind the others, and the next is worked out, if there is one.
 pub fn element(text: &[u8], work: &[u8], refs: &[u16], memory: &mut [u32], m: Machine) -> Move
     requires { ⌜ Topped (source (now text) (now work) (now refs)) (now memory) m ⌝ }
-    requires { ⌜ Waiting (now memory) m 8 ⌝ }
+    requires { ⌜ Waiting (now memory) m Phase.elements ⌝ }
     ensures { λ r. ⌜ Takes (source (now (text .entry)) (now (work .entry)) (now (refs .entry))) (now (memory .entry)) (now (memory .exit)) m r ⌝ }
 {
     if m.mode != modes::NUMBER {

@@ -9,6 +9,8 @@ use memory_sets::one::range;
 use node::refusals;
 use operands::entry::place_at;
 use operands::entry::size_at;
+ghost use Rattle.entries.specs.Kinds as Kind;
+ghost use Rattle.machine.specs.Phases as Phase;
 ghost use Rattle.machine.specs.States.{Ready, Steps, Topped, Takes};
 ghost use Rattle.operands.specs.Working.{source};
 ghost use Rattle.machine.specs.Entering.{Evaluates, Waiting};
@@ -17,7 +19,7 @@ use crate::making::made;
 // The first number is worked out first.
 pub fn stepping(text: &[u8], work: &[u8], refs: &[u16], memory: &mut [u32], m: Machine) -> Move
     requires { ⌜ Ready (source (now text) (now work) (now refs)) (now memory) m ⌝ }
-    requires { ⌜ Evaluates (now work) m 53 54 ⌝ }
+    requires { ⌜ Evaluates (now work) m Kind.range Kind.parameter ⌝ }
     ensures { λ r. ⌜ Steps (source (now (text .entry)) (now (work .entry)) (now (refs .entry))) (now (memory .entry)) (now (memory .exit)) m r ⌝ }
 {
     let k = m.value as usize;
@@ -29,7 +31,7 @@ pub fn stepping(text: &[u8], work: &[u8], refs: &[u16], memory: &mut [u32], m: M
 // The first number has come: the second is worked out.
 pub fn first(text: &[u8], work: &[u8], refs: &[u16], memory: &mut [u32], m: Machine) -> Move
     requires { ⌜ Topped (source (now text) (now work) (now refs)) (now memory) m ⌝ }
-    requires { ⌜ Waiting (now memory) m 9 ⌝ }
+    requires { ⌜ Waiting (now memory) m Phase.rangeFirst ⌝ }
     ensures { λ r. ⌜ Takes (source (now (text .entry)) (now (work .entry)) (now (refs .entry))) (now (memory .entry)) (now (memory .exit)) m r ⌝ }
 {
     if m.mode != modes::NUMBER {
@@ -57,7 +59,7 @@ pub fn first(text: &[u8], work: &[u8], refs: &[u16], memory: &mut [u32], m: Mach
 // The second number has come: the last is worked out.
 pub fn second(text: &[u8], work: &[u8], refs: &[u16], memory: &mut [u32], m: Machine) -> Move
     requires { ⌜ Topped (source (now text) (now work) (now refs)) (now memory) m ⌝ }
-    requires { ⌜ Waiting (now memory) m 10 ⌝ }
+    requires { ⌜ Waiting (now memory) m Phase.rangeSecond ⌝ }
     ensures { λ r. ⌜ Takes (source (now (text .entry)) (now (work .entry)) (now (refs .entry))) (now (memory .entry)) (now (memory .exit)) m r ⌝ }
 {
     if m.mode != modes::NUMBER {
@@ -85,7 +87,7 @@ pub fn second(text: &[u8], work: &[u8], refs: &[u16], memory: &mut [u32], m: Mac
 // The last number has come.
 pub fn last(text: &[u8], work: &[u8], refs: &[u16], memory: &mut [u32], m: Machine) -> Move
     requires { ⌜ Topped (source (now text) (now work) (now refs)) (now memory) m ⌝ }
-    requires { ⌜ Waiting (now memory) m 11 ⌝ }
+    requires { ⌜ Waiting (now memory) m Phase.rangeLast ⌝ }
     ensures { λ r. ⌜ Takes (source (now (text .entry)) (now (work .entry)) (now (refs .entry))) (now (memory .entry)) (now (memory .exit)) m r ⌝ }
 {
     if m.mode != modes::NUMBER {

@@ -5,6 +5,8 @@ use machine::NOTE;
 use machine::modes;
 use machine::phases;
 use node::refusals;
+ghost use Rattle.entries.specs.Kinds as Kind;
+ghost use Rattle.machine.specs.Phases as Phase;
 ghost use Rattle.machine.specs.States.{Ready, Steps, Topped, Takes};
 ghost use Rattle.operands.specs.Working.{source};
 ghost use Rattle.machine.specs.Entering.{Evaluates, Waiting};
@@ -12,7 +14,7 @@ ghost use Rattle.machine.specs.Entering.{Evaluates, Waiting};
 // The bus is worked out first.
 pub fn width(text: &[u8], work: &[u8], refs: &[u16], memory: &mut [u32], m: Machine) -> Move
     requires { ⌜ Ready (source (now text) (now work) (now refs)) (now memory) m ⌝ }
-    requires { ⌜ Evaluates (now work) m 9 10 ⌝ }
+    requires { ⌜ Evaluates (now work) m Kind.width Kind.unary ⌝ }
     ensures { λ r. ⌜ Steps (source (now (text .entry)) (now (work .entry)) (now (refs .entry))) (now (memory .entry)) (now (memory .exit)) m r ⌝ }
 {
     m.push(memory, phases::WIDTH, modes::EVALUATE, m.value - 1)
@@ -21,7 +23,7 @@ pub fn width(text: &[u8], work: &[u8], refs: &[u16], memory: &mut [u32], m: Mach
 // The bus has come: its width is noted with its name.
 pub fn sized(text: &[u8], work: &[u8], refs: &[u16], memory: &[u32], m: Machine) -> Move
     requires { ⌜ Topped (source (now text) (now work) (now refs)) (now memory) m ⌝ }
-    requires { ⌜ Waiting (now memory) m 1 ⌝ }
+    requires { ⌜ Waiting (now memory) m Phase.width ⌝ }
     ensures { λ r. ⌜ Takes (source (now (text .entry)) (now (work .entry)) (now (refs .entry))) (now (memory .entry)) (now (memory .entry)) m r ⌝ }
 {
     if m.mode == modes::UNSIZED {

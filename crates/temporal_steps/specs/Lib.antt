@@ -1,3 +1,4 @@
+pub mod Windows
 pub mod TableLaws
 pub mod UnaryLaws
 pub mod RepetitionLaws

@@ -17,8 +17,9 @@ use Rattle.language.specs.Expansion.{expansion, nexts}
 use Rattle.entries.specs.Kinds as Kind
 use Rattle.name_values.specs.KnownLaws.{known-nexts}
 use Rattle.operands.specs.Entries.{kindAt, sizeAt}
+use Rattle.operands.specs.Shapes.{aRepetition, shapeOf}
 use Rattle.operands.specs.Working.{Source}
-use Rattle.operator_nodes.specs.Shapes.{aNexts, shapeOf}
+use Rattle.machine.specs.Phases as Phase
 use Rattle.machine.specs.Came.{Evaluate, Expand, Nodes, nodes, worth, works, asNumber}
 use Rattle.machine.specs.Frames.{Repeat, Repeated, repeated, apply}
 use Rattle.machine.specs.Realm.{Operand}
@@ -50,11 +51,11 @@ repetition-same n a =
     ∙ sym (take-number n (λ k. (a >>= nodes) >>= repeated k))
 
 -- there is one kind of it
-shape-nexts : {work : List ℕ} {m : Machine} → Expands work m 36 37 → shapeOf (kindAt work (m .value)) ≡ aNexts
+shape-nexts : {work : List ℕ} {m : Machine} → Expands work m Kind.nexts Kind.window → shapeOf (kindAt work (m .value)) ≡ aRepetition
 shape-nexts {work} {m} k = let l = k .from in let u = k .until in let e : kindAt work (m .value) ≡ Kind.nexts = omega arith in ap shapeOf e
 
 -- the entry: its number is worked out first
-pub repetition-inside : {s : Source} {mem : List ℕ} {m : Machine} → Ready s mem m → Expands (s .work) m 36 37 → 1 + sizeAt (s .work) (m .value - 1) ≤ m .value
+pub repetition-inside : {s : Source} {mem : List ℕ} {m : Machine} → Ready s mem m → Expands (s .work) m Kind.nexts Kind.window → 1 + sizeAt (s .work) (m .value - 1) ≤ m .value
 repetition-inside r k =
     let e0 = k .mode in
     let n = entered (r .state) (omega arith) in
@@ -62,8 +63,8 @@ repetition-inside r k =
     let p = operand-as (n .at .operand) (v .3) in
     two-operands p Kind.nexts (v .0) (v .1) (v .2) (p .known .at) (known-nexts (v .0) (v .1) (v .2) (p .known)) .inside
 
-pub repetition-steps : {s : Source} {mem mem' : List ℕ} {m : Machine} {j : ℕ} {r : Move} → Expands (s .work) m 36 37 → j ≡ m .value - 1 - sizeAt (s .work) (m .value - 1)
-    → Opened mem mem' m 26 (modeOf Evaluate) j r → Steps s mem mem' m r
+pub repetition-steps : {s : Source} {mem mem' : List ℕ} {m : Machine} {j : ℕ} {r : Move} → Expands (s .work) m Kind.nexts Kind.window → j ≡ m .value - 1 - sizeAt (s .work) (m .value - 1)
+    → Opened mem mem' m Phase.repeat (modeOf Evaluate) j r → Steps s mem mem' m r
 repetition-steps {s} {mem} {mem'} {m} {j} {r} k ej w = record {
   turns = λ R x o out h.
       let e0 = k .mode in
@@ -75,7 +76,7 @@ repetition-steps {s} {mem} {mem'} {m} {j} {r} k ej w = record {
       let p = operand-as (n .at .operand) (v .3) in
       let two = two-operands p Kind.nexts t a b (p .known .at) (known-nexts t a b (p .known)) in
       let ins = two .inside in
-      opens n {F = Repeat (n .context) b} {phase = 26} {a = Evaluate} {e = a} {j = j} (record {
+      opens n {F = Repeat (n .context) b} {phase = Phase.repeat} {a = Evaluate} {e = a} {j = j} (record {
         holds-nothing = refl;
         few-turns = omega arith;
         below = omega arith;
@@ -88,20 +89,20 @@ repetition-steps {s} {mem} {mem'} {m} {j} {r} k ej w = record {
 }
 
 -- the number has come
-module _ {s : Source} {mem : List ℕ} {m : Machine} (w : Waiting mem m 26) where
+module _ {s : Source} {mem : List ℕ} {m : Machine} (w : Waiting mem m Phase.repeat) where
   pub number-misfits : (m .mode ≡ isNumber → ⊥) → Takes s mem mem m (Refuses 9 0)
   number-misfits e = record {
     turns = λ R x o out t.
-        let v = by-phase (t .frame) 26 (top-phase t ∙ w .phase) in
+        let v = by-phase (t .frame) Phase.repeat (top-phase t ∙ w .phase) in
         let h = top-as t (v .2) in
         refuses h (misfit-then _ (not-number R o mem m (h .came) (h .come) e));
   }
 
   pub number-steps : m .mode ≡ isNumber → {mem' : List ℕ} {k : ℕ} → k ≡ getD mem (m .frames + 1) 0
-      → Framed mem mem' (m .frames) (record { phase = 27; entry = k; base = m .top; at = 0; count = 0; value = m .value; other = 0 }) → Takes s mem mem' m (Next (came m (modeOf Expand) (k - 1) 0))
+      → Framed mem mem' (m .frames) (record { phase = Phase.repeated; entry = k; base = m .top; at = 0; count = 0; value = m .value; other = 0 }) → Takes s mem mem' m (Next (came m (modeOf Expand) (k - 1) 0))
   number-steps e {mem'} {k} ek f = record {
     turns = λ R x o out t.
-        let v = by-phase (t .frame) 26 (top-phase t ∙ w .phase) in
+        let v = by-phase (t .frame) Phase.repeat (top-phase t ∙ w .phase) in
         let c = v .0 in
         let b = v .1 in
         let h = top-as t (v .2) in
@@ -109,7 +110,7 @@ module _ {s : Source} {mem : List ℕ} {m : Machine} (w : Waiting mem m 26) wher
         let same-entry : k ≡ words h .entry = ek ∙ entry-word h in
         let some = h .at .some in
         let at = h .at .entry in
-        renews h {phase = 26} refl {G = Repeated (m .value)} {a = Expand} {c = c} {e = b} (n .same) (record {
+        renews h {phase = Phase.repeat} refl {G = Repeated (m .value)} {a = Expand} {c = c} {e = b} (n .same) (record {
           holds-nothing = refl;
           framed = f;
           entry-is = same-entry;
@@ -126,11 +127,11 @@ module _ {s : Source} {mem : List ℕ} {m : Machine} (w : Waiting mem m 26) wher
   }
 
 -- the formula has come
-module _ {s : Source} {mem out : List ℕ} {m : Machine} (w : Waiting mem m 27) where
+module _ {s : Source} {mem out : List ℕ} {m : Machine} (w : Waiting mem m Phase.repeated) where
   pub repeated-misfits : (m .mode ≡ isNodes → ⊥) → TakesToWrite s mem mem out out m (Refuses 9 0)
   repeated-misfits e = record {
     turns = λ R x o t.
-        let v = by-phase (t .frame) 27 (top-phase t ∙ w .phase) in
+        let v = by-phase (t .frame) Phase.repeated (top-phase t ∙ w .phase) in
         let h = top-as t (v .1) in
         refuses h (misfit-then _ (not-formula R o mem m (h .came) (h .come) e));
   }
@@ -139,7 +140,7 @@ module _ {s : Source} {mem out : List ℕ} {m : Machine} (w : Waiting mem m 27) 
       → TakesToWrite s mem mem out out' m (Next (wrote (popped m) n))
   repeated-steps e {a} {r} {n} {out'} ea j en = record {
     turns = λ R x o t.
-        let v = by-phase (t .frame) 27 (top-phase t ∙ w .phase) in
+        let v = by-phase (t .frame) Phase.repeated (top-phase t ∙ w .phase) in
         let h = top-as t (v .1) in
         let g = came-formula R o mem m (h .came) (h .come) e in
         let same-number : a ≡ v .0 = ea ∙ value-word h ∙ h .at .holds .here in

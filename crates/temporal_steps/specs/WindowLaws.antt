@@ -1,14 +1,15 @@
 -- F[n:m] and G[n:m]: the two numbers, the formula, then its chain and the nodes of X.
 use Prim.Native.Nat.{ℕ, suc, _+_, _-_, _≤_, _<_, min}
-use mathlib.Core.List.{List, _++_}
-use mathlib.Core.Option.{some}
+use mathlib.Core.Bool.{Bool, true, false}
+use mathlib.Core.List.{List}
 use mathlib.Core.Path.{_≡_, refl, sym, ap, ap₂, _∙_, subst}
 use native.Mathlib.Omega.{arith}
 use lib.Dec.{leb}
 use lib.ListN.{getD}
-use borrow.Author.Tests.{le-leb, lt-leb}
+use borrow.Author.Tests.{le-leb, lt-leb, ne-eqb}
 use Rattle.node.specs.Limits.{maxNodes}
-use Rattle.node.specs.Kinds.{binaryKind}
+use Rattle.node.specs.Operators.{F, And, Or}
+use Rattle.node.specs.Kinds.{unaryKind, binaryKind}
 use Rattle.node.specs.Ltl.{Formula}
 use Rattle.node.specs.Result.{Result, Done, Refused, _>>=_, guard}
 use Rattle.node.specs.ResultLaws.{bind-at, guard-pass, guard-stop, guard-bind}
@@ -16,22 +17,23 @@ use Rattle.writing.specs.Writing as Writing
 use Rattle.writing.specs.Writing.{Wrote, Nexts}
 use Rattle.writing.specs.Windows as Windows
 use Rattle.writing.specs.StayLaws.{begins-stays, begins-nexts, begins-chain, stays-then}
-use Rattle.language.specs.Operators.{Window, FinallyIn, GloballyIn}
+use Rattle.language.specs.Operators.{Window, FinallyIn, GloballyIn, Windowed as InBrackets}
 use Rattle.language.specs.Tree.{Expr}
 use Rattle.language.specs.Values.{Value, number, value}
 use Rattle.language.specs.Expansion.{expansion, nexts, chain, windowOperator}
 use Rattle.entries.specs.Kinds as Kind
-use Rattle.entries.specs.Flat.{flat}
 use Rattle.name_values.specs.KnownLaws.{known-window}
-use Rattle.operands.specs.Entries.{kindAt, sizeAt, placeAt}
-use Rattle.operands.specs.ClassLaws.{kind-of, place-is}
+use Rattle.operators.specs.Codes.{roleCode}
+use Rattle.operators.specs.Tables.{prefixCodeAt}
+use Rattle.operands.specs.Entries.{kindAt, sizeAt, placeAt, numberAt}
+use Rattle.operands.specs.ShapeLaws.{window-shape}
 use Rattle.operands.specs.Working.{Source}
-use Rattle.operator_nodes.specs.Shapes.{aWindow, shapeOf, WindowIs}
-use Rattle.operator_nodes.specs.ShapeLaws.{windowOf, window-shape, window-op}
+use Rattle.machine.specs.Phases as Phase
 use Rattle.machine.specs.Came.{Evaluate, Expand, Came, Nodes, nodes, worth, works, asNumber}
 use Rattle.machine.specs.Frames.{WindowFrom, WindowTo, Windowed, windowing, windowed, apply}
 use Rattle.machine.specs.Realm.{Operand}
 use Rattle.machine.specs.Operators.{Within, OpAt}
+use Rattle.machine.specs.OperatorLaws.{window-at}
 use Rattle.machine.specs.Memory.{Framed}
 use Rattle.machine.specs.Holding.{formsOf}
 use Rattle.machine.specs.Telling.{isNumber, isNodes}
@@ -54,6 +56,7 @@ use Rattle.machine.specs.declared.Move.the-variants.{Next, Refused as Refuses}
 use Rattle.machine.specs.Entering.{Expands, Waiting, works-formula, operand-shape}
 use Rattle.machine.specs.SameLaws.{same-nexts, same-chain}
 use Rattle.temporal_steps.specs.TableLaws.{wrote-chain}
+use Rattle.temporal_steps.specs.Windows.{windowBy}
 
 -- the clause as its frames have it
 formula-same : (o : Window) (j k : ℕ) (a : Result Formula) → ((a >>= λ f. Done (nexts j (chain (windowOperator o) (k - j) f))) >>= nodes) ≡ ((a >>= nodes) >>= windowed o j k)
@@ -77,87 +80,89 @@ window-same : (p : ℕ) (o : Window) (x y : Result Value) (a : Result Formula)
 window-same p o x y a =
     then-nodes (x >>= number) _ (λ j. (y >>= worth) >>= last p o j a) (λ j. to-same p o j y a) ∙ sym (take-number x (λ j. (y >>= worth) >>= last p o j a))
 
--- the two operators keep their order
-window-range : (o : Window) → (37 ≤ Kind.window o) × (Kind.window o < 39) × (shapeOf (Kind.window o) ≡ aWindow o)
-window-range FinallyIn = (omega arith, omega arith, refl)
-window-range GloballyIn = (omega arith, omega arith, refl)
+-- what the copies are joined with, by the operator's code
+abbrev chained : ℕ → ℕ
+chained code = binaryKind (windowOperator (windowBy code))
+
+pub chains-finally : (code : ℕ) → code ≡ unaryKind F → binaryKind Or ≡ chained code
+chains-finally code e = ap chained (sym e)
+
+pub chains-globally : (code : ℕ) → (code ≡ unaryKind F → ⊥) → binaryKind And ≡ chained code
+chains-globally code e = ap (λ (b : Bool). binaryKind (windowOperator (elim b [ true ↦ FinallyIn | false ↦ GloballyIn ]))) (sym (ne-eqb code (unaryKind F) e))
+
+window-code : (o : Window) → windowBy (roleCode (InBrackets o)) ≡ o
+window-code FinallyIn = refl
+window-code GloballyIn = refl
 
 -- the operands stand before the entry: the last one and the one before it take x and y entries
-pub windowing-inside : {s : Source} {mem : List ℕ} {m : Machine} → Ready s mem m → Expands (s .work) m 37 39 → {x y : ℕ} → x ≡ sizeAt (s .work) (m .value - 1)
+pub windowing-inside : {s : Source} {mem : List ℕ} {m : Machine} → Ready s mem m → Expands (s .work) m Kind.window Kind.bigNumbers → {x y : ℕ} → x ≡ sizeAt (s .work) (m .value - 1)
     → y ≡ sizeAt (s .work) (m .value - 1 - x) → 1 + x + y ≤ m .value
 windowing-inside {s} {m = m} r k ex ey =
     let e0 = k .mode in
     let n = entered (r .state) (omega arith) in
     let kind = kindAt (s .work) (m .value) in
     let v = operand-shape (n .at .operand) (window-shape kind (k .from) (k .until)) in
-    let p = operand-as (n .at .operand) (v .4) in
-    let i = three-operands p (Kind.window (windowOf kind)) (v .0) (v .1) (v .2) (v .3) (p .known .at) (known-window (v .0) (windowOf kind) (v .1) (v .2) (v .3) (p .known)) .inside in
+    let p = operand-as (n .at .operand) (v .5) in
+    let i = three-operands p Kind.window (v .0) (v .2) (v .3) (v .4) (p .known .at) (known-window (v .0) (v .1) (v .2) (v .3) (v .4) (p .known)) .inside in
     let same = ey ∙ ap (λ (j : ℕ). sizeAt (s .work) (m .value - 1 - j)) ex in
     omega arith
 
-pub last-inside : {s : Source} {mem : List ℕ} {m : Machine} → Ready s mem m → Expands (s .work) m 37 39 → 1 + sizeAt (s .work) (m .value - 1) ≤ m .value
+pub last-inside : {s : Source} {mem : List ℕ} {m : Machine} → Ready s mem m → Expands (s .work) m Kind.window Kind.bigNumbers → 1 + sizeAt (s .work) (m .value - 1) ≤ m .value
 last-inside r k = let i = windowing-inside r k refl refl in omega arith
 
 -- the entry: the first number is worked out first
-pub windowing-steps : {s : Source} {mem mem' : List ℕ} {m : Machine} {j x y : ℕ} {r : Move} → Expands (s .work) m 37 39 → x ≡ sizeAt (s .work) (m .value - 1)
-    → y ≡ sizeAt (s .work) (m .value - 1 - x) → j ≡ m .value - 1 - x - y → Opened mem mem' m 28 (modeOf Evaluate) j r → Steps s mem mem' m r
+pub windowing-steps : {s : Source} {mem mem' : List ℕ} {m : Machine} {j x y : ℕ} {r : Move} → Expands (s .work) m Kind.window Kind.bigNumbers → x ≡ sizeAt (s .work) (m .value - 1)
+    → y ≡ sizeAt (s .work) (m .value - 1 - x) → j ≡ m .value - 1 - x - y → Opened mem mem' m Phase.windowFrom (modeOf Evaluate) j r → Steps s mem mem' m r
 windowing-steps {s} {mem} {mem'} {m} {j} {x} {y} {r} k ex ey ej w = record {
   turns = λ R u o out h.
       let e0 = k .mode in
       let n = entered h (omega arith) in
       let kind = kindAt (s .work) (m .value) in
-      let op = windowOf kind in
       let v = operand-shape (n .at .operand) (window-shape kind (k .from) (k .until)) in
       let t = v .0 in
-      let a = v .1 in
-      let b = v .2 in
-      let d = v .3 in
-      let p = operand-as (n .at .operand) (v .4) in
-      let three = three-operands p (Kind.window op) t a b d (p .known .at) (known-window t op a b d (p .known)) in
+      let op = v .1 in
+      let a = v .2 in
+      let b = v .3 in
+      let d = v .4 in
+      let p = operand-as (n .at .operand) (v .5) in
+      let three = three-operands p Kind.window t a b d (p .known .at) (known-window t op a b d (p .known)) in
       let ins = three .inside in
       let c = n .context in
       let same-size = ey ∙ ap (λ (i : ℕ). sizeAt (s .work) (m .value - 1 - i)) ex in
       let same-entry : m .value - 1 - sizeAt (s .work) (m .value - 1) - sizeAt (s .work) (m .value - 1 - sizeAt (s .work) (m .value - 1)) ≡ j = omega arith in
-      opens n {F = WindowFrom (t .at) op c b d} {phase = 28} {a = Evaluate} {e = a} {j = j} (record {
+      opens n {F = WindowFrom (t .at) op c b d} {phase = Phase.windowFrom} {a = Evaluate} {e = a} {j = j} (record {
         holds-nothing = refl;
         few-turns = omega arith;
         below = omega arith;
         operand = subst (λ (i : ℕ). Operand s (R .W) (R .ports) (n .at .env) c i a) same-entry (three .first);
         holds = tt;
-        waits = (
-          record {
-            kind = kind-of (Kind.window op) (some t) (flat a ++ (flat b ++ flat d)) (p .known .at);
-            place = place-is (R .lexed) (Kind.window op) t (flat a ++ (flat b ++ flat d)) (p .known .at);
-          },
-          (omega arith, three .middle),
-          three .last,
-        );
+        waits = (window-at (R .lexed) t op a b d p, (omega arith, three .middle), three .last);
         kept = tt;
-        same = works-formula n e0 ∙ ap (λ (z : Expr). expansion c z >>= nodes) (v .4) ∙ window-same (t .at) op (value (c .values) a) (value (c .values) b) (expansion c d);
+        same = works-formula n e0 ∙ ap (λ (z : Expr). expansion c z >>= nodes) (v .5) ∙ window-same (t .at) op (value (c .values) a) (value (c .values) b) (expansion c d);
       }) r w;
 }
 
 -- the first number has come
-module _ {s : Source} {mem : List ℕ} {m : Machine} (w : Waiting mem m 28) where
+module _ {s : Source} {mem : List ℕ} {m : Machine} (w : Waiting mem m Phase.windowFrom) where
   pub from-misfits : (m .mode ≡ isNumber → ⊥) → Takes s mem mem m (Refuses 9 0)
   from-misfits e = record {
     turns = λ R x o out t.
-        let v = by-phase (t .frame) 28 (top-phase t ∙ w .phase) in
+        let v = by-phase (t .frame) Phase.windowFrom (top-phase t ∙ w .phase) in
         let h = top-as t (v .5) in
         refuses h (misfit-then _ (not-number R o mem m (h .came) (h .come) e));
   }
 
   pub from-inside : Topped s mem m → sizeAt (s .work) (getD mem (m .frames + 1) 0 - 1) < getD mem (m .frames + 1) 0
   from-inside t =
-      let v = by-phase (t .top .frame) 28 (top-phase (t .top) ∙ w .phase) in
+      let v = by-phase (t .top .frame) Phase.windowFrom (top-phase (t .top) ∙ w .phase) in
       let h = top-as (t .top) (v .5) in
       subst (λ (j : ℕ). sizeAt (s .work) (j - 1) < j) (sym (entry-word h)) (h .at .waits .1 .0)
 
   pub from-steps : m .mode ≡ isNumber → {mem' : List ℕ} {k j y : ℕ} → k ≡ getD mem (m .frames + 1) 0 → y ≡ sizeAt (s .work) (k - 1) → j ≡ k - 1 - y
-      → Framed mem mem' (m .frames) (record { phase = 29; entry = k; base = m .top; at = 0; count = 0; value = m .value; other = 0 }) → Takes s mem mem' m (Next (came m (modeOf Evaluate) j 0))
+      → Framed mem mem' (m .frames) (record { phase = Phase.windowTo; entry = k; base = m .top; at = 0; count = 0; value = m .value; other = 0 }) → Takes s mem mem' m (Next (came m (modeOf Evaluate) j 0))
   from-steps e {mem'} {k} {j} {y} ek ey ej f = record {
     turns = λ R x o out t.
-        let v = by-phase (t .frame) 28 (top-phase t ∙ w .phase) in
+        let v = by-phase (t .frame) Phase.windowFrom (top-phase t ∙ w .phase) in
         let p = v .0 in
         let op = v .1 in
         let c = v .2 in
@@ -169,7 +174,7 @@ module _ {s : Source} {mem : List ℕ} {m : Machine} (w : Waiting mem m 28) wher
         let same-operand : words h .entry - 1 - sizeAt (s .work) (words h .entry - 1) ≡ j = ap (λ (i : ℕ). i - 1 - sizeAt (s .work) (i - 1)) (sym same-entry) ∙ ap (λ (i : ℕ). k - 1 - i) (sym ey) ∙ sym ej in
         let some' = h .at .some in
         let at = h .at .entry in
-        renews h {phase = 28} refl {G = WindowTo p op c d (m .value)} {a = Evaluate} {c = c} {e = b} (n .same) (record {
+        renews h {phase = Phase.windowFrom} refl {G = WindowTo p op c d (m .value)} {a = Evaluate} {c = c} {e = b} (n .same) (record {
           holds-nothing = refl;
           framed = f;
           entry-is = same-entry;
@@ -189,11 +194,11 @@ module _ {s : Source} {mem : List ℕ} {m : Machine} (w : Waiting mem m 28) wher
   }
 
 -- the second number has come
-module _ {s : Source} {mem : List ℕ} {m : Machine} (w : Waiting mem m 29) where
+module _ {s : Source} {mem : List ℕ} {m : Machine} (w : Waiting mem m Phase.windowTo) where
   pub to-misfits : (m .mode ≡ isNumber → ⊥) → Takes s mem mem m (Refuses 9 0)
   to-misfits e = record {
     turns = λ R x o out t.
-        let v = by-phase (t .frame) 29 (top-phase t ∙ w .phase) in
+        let v = by-phase (t .frame) Phase.windowTo (top-phase t ∙ w .phase) in
         let h = top-as t (v .5) in
         refuses h (misfit-then _ (not-number R o mem m (h .came) (h .come) e));
   }
@@ -202,7 +207,7 @@ module _ {s : Source} {mem : List ℕ} {m : Machine} (w : Waiting mem m 29) wher
   pub to-refuses : m .mode ≡ isNumber → {k p a : ℕ} → k ≡ getD mem (m .frames + 1) 0 → p ≡ placeAt (s .work) k → a ≡ getD mem (m .frames + 5) 0 → m .value < a → Takes s mem mem m (Refuses 11 p)
   to-refuses e {k} {p} {a} ek ep ea l = record {
     turns = λ R x o out t.
-        let v = by-phase (t .frame) 29 (top-phase t ∙ w .phase) in
+        let v = by-phase (t .frame) Phase.windowTo (top-phase t ∙ w .phase) in
         let op = v .1 in
         let c = v .2 in
         let d = v .3 in
@@ -217,10 +222,10 @@ module _ {s : Source} {mem : List ℕ} {m : Machine} (w : Waiting mem m 29) wher
   }
 
   pub to-steps : m .mode ≡ isNumber → {mem' : List ℕ} {k a n end : ℕ} → k ≡ getD mem (m .frames + 1) 0 → a ≡ getD mem (m .frames + 5) 0 → a ≤ m .value → n ≡ m .nodes → end ≡ m .value
-      → Framed mem mem' (m .frames) (record { phase = 30; entry = k; base = m .top; at = n; count = 0; value = a; other = end }) → Takes s mem mem' m (Next (came m (modeOf Expand) (k - 1) 0))
+      → Framed mem mem' (m .frames) (record { phase = Phase.windowed; entry = k; base = m .top; at = n; count = 0; value = a; other = end }) → Takes s mem mem' m (Next (came m (modeOf Expand) (k - 1) 0))
   to-steps e {mem'} {k} {a} {n} {end} ek ea l en ee f = record {
     turns = λ R x o out t.
-        let v = by-phase (t .frame) 29 (top-phase t ∙ w .phase) in
+        let v = by-phase (t .frame) Phase.windowTo (top-phase t ∙ w .phase) in
         let p = v .0 in
         let op = v .1 in
         let c = v .2 in
@@ -232,7 +237,7 @@ module _ {s : Source} {mem : List ℕ} {m : Machine} (w : Waiting mem m 29) wher
         let same-number : a ≡ j = ea ∙ value-word h ∙ h .at .holds .here in
         let some' = h .at .some in
         let at = h .at .entry in
-        renews h {phase = 29} refl {G = Windowed op j (m .value)} {a = Expand} {c = c} {e = d} (z .same) (record {
+        renews h {phase = Phase.windowTo} refl {G = Windowed op j (m .value)} {a = Expand} {c = c} {e = d} (z .same) (record {
           holds-nothing = refl;
           framed = f;
           entry-is = same-entry;
@@ -244,7 +249,7 @@ module _ {s : Source} {mem : List ℕ} {m : Machine} (w : Waiting mem m 29) wher
           holds = (
             record { first = record { here = same-number; small = h .at .holds .small }; here = ee; small = z .small },
             omega arith,
-            en ∙ laid-end (formsOf (h .rest)) (flat-laid h {phase = 29} refl (z .same)),
+            en ∙ laid-end (formsOf (h .rest)) (flat-laid h {phase = Phase.windowTo} refl (z .same)),
           );
           waits = (p, subst (λ (i : ℕ). OpAt s i (Within op) p) (sym same-entry) (h .at .waits .0));
           kept = tt;
@@ -254,57 +259,47 @@ module _ {s : Source} {mem : List ℕ} {m : Machine} (w : Waiting mem m 29) wher
   }
 
 -- the formula has come
-module _ {s : Source} {mem out : List ℕ} {m : Machine} (w : Waiting mem m 30) where
+module _ {s : Source} {mem out : List ℕ} {m : Machine} (w : Waiting mem m Phase.windowed) where
   pub windowed-misfits : (m .mode ≡ isNodes → ⊥) → TakesToWrite s mem mem out out m (Refuses 9 0)
   windowed-misfits e = record {
     turns = λ R x o t.
-        let v = by-phase (t .frame) 30 (top-phase t ∙ w .phase) in
+        let v = by-phase (t .frame) Phase.windowed (top-phase t ∙ w .phase) in
         let h = top-as t (v .3) in
         refuses h (misfit-then _ (not-formula R o mem m (h .came) (h .come) e));
   }
 
-  pub windowed-kind : ToppedToWrite s mem out m → (37 ≤ kindAt (s .work) (getD mem (m .frames + 1) 0)) × (kindAt (s .work) (getD mem (m .frames + 1) 0) < 39)
-  windowed-kind t =
-      let v = by-phase (t .top .frame) 30 (top-phase (t .top) ∙ w .phase) in
-      let h = top-as (t .top) (v .3) in
-      let e = ap (kindAt (s .work)) (entry-word h) ∙ h .at .waits .1 .kind in
-      let b = window-range (v .0) in
-      let l = b .0 in
-      let u = b .1 in
-      (omega arith, omega arith)
-
   pub windowed-order : ToppedToWrite s mem out m → getD mem (m .frames + 5) 0 ≤ getD mem (m .frames + 6) 0
   windowed-order t =
-      let v = by-phase (t .top .frame) 30 (top-phase (t .top) ∙ w .phase) in
+      let v = by-phase (t .top .frame) Phase.windowed (top-phase (t .top) ∙ w .phase) in
       let h = top-as (t .top) (v .3) in
       let a = value-word h ∙ h .at .holds .0 .first .here in
       let b = other-word h ∙ h .at .holds .0 .here in
       let l = h .at .holds .1 in
       omega arith
 
-  pub windowed-steps : m .mode ≡ isNodes → {k kind op start a b mid r n : ℕ} {out₁ out' : List ℕ} → k ≡ getD mem (m .frames + 1) 0 → kind ≡ kindAt (s .work) k → WindowIs kind op
+  pub windowed-steps : m .mode ≡ isNodes → {k code op start a b mid r n : ℕ} {out₁ out' : List ℕ} → k ≡ getD mem (m .frames + 1) 0 → code ≡ prefixCodeAt (numberAt (s .work) k) → op ≡ chained code
       → start ≡ getD mem (m .frames + 3) 0 → a ≡ getD mem (m .frames + 5) 0 → b ≡ getD mem (m .frames + 6) 0 → Windows.Windowed op (b - a) out out₁ start (m .nodes) mid → Nexts a out₁ out' mid r
       → n ≡ min r (suc maxNodes) → TakesToWrite s mem mem out out' m (Next (wrote (popped m) n))
-  windowed-steps e {k} {kind} {op} {start} {a} {b} {mid} {r} {n} {out₁} {out'} ek ei wi es ea eb q y en = record {
+  windowed-steps e {k} {code} {op} {start} {a} {b} {mid} {r} {n} {out₁} {out'} ek ei eo es ea eb q y en = record {
     turns = λ R x o t.
-        let v = by-phase (t .frame) 30 (top-phase t ∙ w .phase) in
+        let v = by-phase (t .frame) Phase.windowed (top-phase t ∙ w .phase) in
         let h = top-as t (v .3) in
         let g = came-formula R o mem m (h .came) (h .come) e in
         let bo = windowOperator (v .0) in
-        let same-kind : kind ≡ Kind.window (v .0) = ei ∙ ap (kindAt (s .work)) (ek ∙ entry-word h) ∙ h .at .waits .1 .kind in
-        let same-op : op ≡ binaryKind bo = window-op (ap shapeOf same-kind ∙ window-range (v .0) .2) wi in
+        let same-code : code ≡ roleCode (InBrackets (v .0)) = ei ∙ ap (λ (i : ℕ). prefixCodeAt (numberAt (s .work) i)) (ek ∙ entry-word h) ∙ h .at .waits .1 .spelt in
+        let same-op : op ≡ binaryKind bo = eo ∙ ap chained same-code ∙ ap (λ (y : Window). binaryKind (windowOperator y)) (window-code (v .0)) in
         let same-first : a ≡ v .1 = ea ∙ value-word h ∙ h .at .holds .0 .first .here in
         let same-last : b ≡ v .2 = eb ∙ other-word h ∙ h .at .holds .0 .here in
         let l = laid-last (formula-laid h (g .same)) in
         let same-start : l .at ≡ start = laid-end (formsOf (h .rest)) (l .others) ∙ sym (es ∙ at-word h ∙ h .at .holds .2) in
-        let chained : Wrote (Writing.chain bo (b - a) (g .formula)) (l .before) out₁ (l .at) mid =
+        let links : Wrote (Writing.chain bo (b - a) (g .formula)) (l .before) out₁ (l .at) mid =
         wrote-chain bo same-op (laid-sized (l .others)) (l .wrote) (subst (λ (i : ℕ). Windows.Windowed op (b - a) out out₁ i (m .nodes) mid) (sym same-start) q) in
         let made : Formula = Writing.nexts a (Writing.chain bo (b - a) (g .formula)) in
-        let whole : Wrote made (l .before) out' (l .at) n = wrote-capped en (y (l .at) .wrote chained) in
+        let whole : Wrote made (l .before) out' (l .at) n = wrote-capped en (y (l .at) .wrote links) in
         let same-made : nexts (v .1) (chain bo (v .2 - v .1) (g .formula)) ≡ made =
         ap₂ (λ (i z : ℕ). nexts i (chain bo (z - i) (g .formula))) (sym same-first) (sym same-last) ∙ same-nexts a (chain bo (b - a) (g .formula)) ∙ ap (Writing.nexts a) (same-chain bo (b - a) (g .formula)) in
         finishes h made refl refl refl
         (ap (apply (Windowed (v .0) (v .1) (v .2))) (g .same) ∙ bind-at (g .formula) (λ i. nodes (nexts (v .1) (chain bo (v .2 - v .1) i))) ∙ ap (λ (i : Formula). Done (Nodes i)) same-made)
         (l .others) whole (omega arith)
-        (stays-then (begins-stays (begins-chain bo (b - a) (g .formula) (l .at)) (l .wrote) chained) (begins-stays (begins-nexts a (Writing.chain bo (b - a) (g .formula)) (l .at)) chained whole));
+        (stays-then (begins-stays (begins-chain bo (b - a) (g .formula) (l .at)) (l .wrote) links) (begins-stays (begins-nexts a (Writing.chain bo (b - a) (g .formula)) (l .at)) links whole));
   }

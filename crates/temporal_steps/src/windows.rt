@@ -7,21 +7,27 @@ use machine::frame;
 use machine::modes;
 use machine::phases;
 use node::MAX_NODES;
+use node::Node;
 use node::refusals;
-use operands::entry::kind_at;
 use operands::entry::place_at;
+use operands::entry::prefix_at;
 use operands::entry::size_at;
-use operator_nodes::window_kind;
 use writing::nexts;
 use writing::window::window;
+ghost use mathlib.Core.Path.{_≡_};
+ghost use Rattle.node.specs.Kinds.{binaryKind};
+ghost use Rattle.language.specs.Expansion.{windowOperator};
+ghost use Rattle.entries.specs.Kinds as Kind;
+ghost use Rattle.machine.specs.Phases as Phase;
 ghost use Rattle.machine.specs.States.{Ready, Steps, Topped, Takes, ToppedToWrite, TakesToWrite};
 ghost use Rattle.operands.specs.Working.{source};
 ghost use Rattle.machine.specs.Entering.{Expands, Waiting};
+ghost use Rattle.temporal_steps.specs.Windows.{windowBy};
 
 // The number where the window begins is worked out first.
 pub fn windowing(text: &[u8], work: &[u8], refs: &[u16], memory: &mut [u32], m: Machine) -> Move
     requires { ⌜ Ready (source (now text) (now work) (now refs)) (now memory) m ⌝ }
-    requires { ⌜ Expands (now work) m 37 39 ⌝ }
+    requires { ⌜ Expands (now work) m Kind.window Kind.bigNumbers ⌝ }
     ensures { λ r. ⌜ Steps (source (now (text .entry)) (now (work .entry)) (now (refs .entry))) (now (memory .entry)) (now (memory .exit)) m r ⌝ }
 {
     let k = m.value as usize;
@@ -33,7 +39,7 @@ pub fn windowing(text: &[u8], work: &[u8], refs: &[u16], memory: &mut [u32], m: 
 // It has come: the number where the window ends is worked out.
 pub fn from(text: &[u8], work: &[u8], refs: &[u16], memory: &mut [u32], m: Machine) -> Move
     requires { ⌜ Topped (source (now text) (now work) (now refs)) (now memory) m ⌝ }
-    requires { ⌜ Waiting (now memory) m 28 ⌝ }
+    requires { ⌜ Waiting (now memory) m Phase.windowFrom ⌝ }
     ensures { λ r. ⌜ Takes (source (now (text .entry)) (now (work .entry)) (now (refs .entry))) (now (memory .entry)) (now (memory .exit)) m r ⌝ }
 {
     if m.mode != modes::NUMBER {
@@ -61,7 +67,7 @@ pub fn from(text: &[u8], work: &[u8], refs: &[u16], memory: &mut [u32], m: Machi
 // It has come: a window that ends before it begins is refused, else the formula is worked out.
 pub fn to(text: &[u8], work: &[u8], refs: &[u16], memory: &mut [u32], m: Machine) -> Move
     requires { ⌜ Topped (source (now text) (now work) (now refs)) (now memory) m ⌝ }
-    requires { ⌜ Waiting (now memory) m 29 ⌝ }
+    requires { ⌜ Waiting (now memory) m Phase.windowTo ⌝ }
     ensures { λ r. ⌜ Takes (source (now (text .entry)) (now (work .entry)) (now (refs .entry))) (now (memory .entry)) (now (memory .exit)) m r ⌝ }
 {
     if m.mode != modes::NUMBER {
@@ -89,6 +95,16 @@ pub fn to(text: &[u8], work: &[u8], refs: &[u16], memory: &mut [u32], m: Machine
     Move::Next(m.came(modes::EXPAND, k - 1, 0))
 }
 
+// F[n:m] is a chain of `||`, G[n:m] of `&&`: by the code of F and G, their nodes' kind.
+fn chaining(code: u32) -> u32
+    ensures { λ r. ⌜ r ≡ binaryKind (windowOperator (windowBy code)) ⌝ }
+{
+    if code == Node::FINALLY {
+        return Node::OR;
+    }
+    Node::AND
+}
+
 // The formula is written: its copies and their chain go behind it, then X as often as the window's first number says.
 pub fn windowed(
     text: &[u8],
@@ -99,7 +115,7 @@ pub fn windowed(
     m: Machine,
 ) -> Move
     requires { ⌜ ToppedToWrite (source (now text) (now work) (now refs)) (now memory) (now table) m ⌝ }
-    requires { ⌜ Waiting (now memory) m 30 ⌝ }
+    requires { ⌜ Waiting (now memory) m Phase.windowed ⌝ }
     ensures { λ r. ⌜ TakesToWrite (source (now (text .entry)) (now (work .entry)) (now (refs .entry))) (now (memory .entry)) (now (memory .entry)) (now (table .entry)) (now (table .exit)) m r ⌝ }
 {
     if m.mode != modes::NODES {
@@ -110,7 +126,7 @@ pub fn windowed(
     let start = memory[at + 3] as usize;
     let begin = memory[at + 5] as usize;
     let end = memory[at + 6] as usize;
-    let operator = window_kind(kind_at(work, k));
+    let operator = chaining(prefix_at(work, k));
     let chained = window(operator, end - begin, start, m.nodes, table);
     let n = nexts(begin, chained, table);
     Move::Next(m.popped().wrote(capped(n)))

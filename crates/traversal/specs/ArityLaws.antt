@@ -5,47 +5,8 @@ use mathlib.Core.Path.{_≡_, refl, sym, ap, _∙_}
 use lib.Dec.{eqb, ltb}
 use lib.ListN.{getD}
 use borrow.Author.Tests.{eqb-true, eqb-false, eq-eqb, ne-eqb, not-true}
-use Rattle.node.specs.Operators.{Not, X, G, F, And, Or, Implies, Iff, U, R, W}
 use Rattle.language.specs.Bytes.{if_then_else_}
-use Rattle.language.specs.Operators.{
-  Plus,
-  Minus,
-  Times,
-  Divide,
-  Modulo,
-  Size,
-  Min,
-  Max,
-  Cup,
-  Cap,
-  Without,
-  Equal,
-  Unequal,
-  Less,
-  AtMost,
-  Greater,
-  AtLeast,
-  Big,
-  BigSum,
-  BigProduct,
-  BigCap,
-  BigCup,
-  BigAnd,
-  BigOr,
-  Window,
-  FinallyIn,
-  GloballyIn,
-  Infix,
-  Calculates,
-  Combines,
-  Compares,
-  Membership,
-  Connects,
-  Prefix,
-  Measures,
-  WidthOf,
-  Applies,
-}
+use Rattle.language.specs.Operators.{Equal, Unequal, Less, AtMost, Greater, AtLeast, Big, BigSum, BigProduct, BigCap, BigCup, BigAnd, BigOr, Infix, Calculates, Combines, Compares, Membership, Connects, Prefix, Measures, WidthOf, Applies}
 use Rattle.language.specs.Laws.Basics.Tests.{and-left, and-right, pick, leave}
 use Rattle.entries.specs.Kinds as Kind
 use Rattle.traversal.specs.declared.Cell.{Cell}
@@ -72,29 +33,17 @@ plain n k h =
       arity = eqb-true _ _ (and-right (ltb k firstLine) _ f);
     }
 
-pub truth-plain : (b : Bool) → Plain 0 (Kind.truth b)
-truth-plain true = plain _ _ refl
-truth-plain false = plain _ _ refl
+pub truth-plain : Plain 0 Kind.truth
+truth-plain = plain _ _ refl
 
 pub before-plain : (o : Prefix) → Plain 1 (Kind.before o)
-before-plain (Measures Size) = plain _ _ refl
-before-plain (Measures Min) = plain _ _ refl
-before-plain (Measures Max) = plain _ _ refl
+before-plain (Measures m) = plain _ _ refl
 before-plain WidthOf = plain _ _ refl
-before-plain (Applies Not) = plain _ _ refl
-before-plain (Applies X) = plain _ _ refl
-before-plain (Applies G) = plain _ _ refl
-before-plain (Applies F) = plain _ _ refl
+before-plain (Applies o) = plain _ _ refl
 
 pub joining-plain : (o : Infix) → Plain 2 (Kind.joining o)
-joining-plain (Calculates Plus) = plain _ _ refl
-joining-plain (Calculates Minus) = plain _ _ refl
-joining-plain (Calculates Times) = plain _ _ refl
-joining-plain (Calculates Divide) = plain _ _ refl
-joining-plain (Calculates Modulo) = plain _ _ refl
-joining-plain (Combines Cup) = plain _ _ refl
-joining-plain (Combines Cap) = plain _ _ refl
-joining-plain (Combines Without) = plain _ _ refl
+joining-plain (Calculates o) = plain _ _ refl
+joining-plain (Combines o) = plain _ _ refl
 joining-plain (Compares Equal) = plain _ _ refl
 joining-plain (Compares Unequal) = plain _ _ refl
 joining-plain (Compares Less) = plain _ _ refl
@@ -102,17 +51,10 @@ joining-plain (Compares AtMost) = plain _ _ refl
 joining-plain (Compares Greater) = plain _ _ refl
 joining-plain (Compares AtLeast) = plain _ _ refl
 joining-plain Membership = plain _ _ refl
-joining-plain (Connects And) = plain _ _ refl
-joining-plain (Connects Or) = plain _ _ refl
-joining-plain (Connects Implies) = plain _ _ refl
-joining-plain (Connects Iff) = plain _ _ refl
-joining-plain (Connects U) = plain _ _ refl
-joining-plain (Connects R) = plain _ _ refl
-joining-plain (Connects W) = plain _ _ refl
+joining-plain (Connects o) = plain _ _ refl
 
-pub window-plain : (o : Window) → Plain 3 (Kind.window o)
-window-plain FinallyIn = plain _ _ refl
-window-plain GloballyIn = plain _ _ refl
+pub window-plain : Plain 3 Kind.window
+window-plain = plain _ _ refl
 
 pub big-plain : (o : Big) → Plain 2 (Kind.big o)
 big-plain BigSum = plain _ _ refl
@@ -126,11 +68,9 @@ pub binder-plain : (further : Bool) → Plain 1 (Kind.binder further)
 binder-plain true = plain _ _ refl
 binder-plain false = plain _ _ refl
 
-pub between-plain : (l h : Bool) → Plain 2 (Kind.between l h)
-between-plain true true = plain _ _ refl
-between-plain true false = plain _ _ refl
-between-plain false true = plain _ _ refl
-between-plain false false = plain _ _ refl
+pub between-plain : (h : Bool) → Plain 2 (Kind.between h)
+between-plain true = plain _ _ refl
+between-plain false = plain _ _ refl
 
 -- as the code tests
 module _ (before : ℕ) (c : Cell) where

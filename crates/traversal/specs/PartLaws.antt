@@ -98,15 +98,15 @@ module _ {N : Type 0} (bind : Token → N → N) where
   not-element : (y : N) (e : Expr) → Proper false e → eqb (kindOf (Whole y e)) Kind.element ≡ false
   not-element y (Named t) p = refl
   not-element y (Numeral t) p = refl
-  not-element y (Truth t v) p = truth-plain v .other
+  not-element y (Truth t v) p = truth-plain .other
   not-element y (Index t e) p = refl
   not-element y (Paren t e) p = refl
   not-element y (Prefixed t o e) p = before-plain o .other
   not-element y (Joined t o a b) p = joining-plain o .other
   not-element y (Nexts t n e) p = refl
-  not-element y (InWindow t o n m e) p = window-plain o .other
+  not-element y (InWindow t o n m e) p = window-plain .other
   not-element y (Each t o further i s e) p = big-plain o .other
-  not-element y (Between t l u a b) p = between-plain l u .other
+  not-element y (Between t l u a b) p = between-plain u .other
   not-element y (Listed t es) p = refl
   not-element y Empty p = refl
   not-element y (Element e es) p = absurd (false≢true (p .0))
@@ -116,15 +116,15 @@ module _ {N : Type 0} (bind : Token → N → N) where
   in-braces : (Q : Expr → Type 0) → Q Empty → ((e es : Expr) → Proper false e → Proper true es → Q (Element e es)) → (es : Expr) → Proper true es → Q es
   in-braces Q base step (Named u) p = absurd (false≢true (sym (p .0)))
   in-braces Q base step (Numeral u) p = absurd (false≢true (sym (p .0)))
-  in-braces Q base step (Truth u v) p = absurd (false≢true (sym p))
+  in-braces Q base step (Truth u v) p = absurd (false≢true (sym (p .0)))
   in-braces Q base step (Index u e) p = absurd (false≢true (sym (p .0)))
   in-braces Q base step (Paren u e) p = absurd (false≢true (sym (p .0)))
-  in-braces Q base step (Prefixed u o e) p = absurd (false≢true (sym (p .0)))
-  in-braces Q base step (Joined u o a b) p = absurd (false≢true (sym (p .0)))
+  in-braces Q base step (Prefixed u o e) p = absurd (false≢true (sym (p .0 .0)))
+  in-braces Q base step (Joined u o a b) p = absurd (false≢true (sym (p .0 .0)))
   in-braces Q base step (Nexts u n e) p = absurd (false≢true (sym (p .0)))
-  in-braces Q base step (InWindow u o n m e) p = absurd (false≢true (sym (p .0)))
-  in-braces Q base step (Each u o further i s e) p = absurd (false≢true (sym (p .0)))
-  in-braces Q base step (Between u l h a b) p = absurd (false≢true (sym (p .0)))
+  in-braces Q base step (InWindow u o n m e) p = absurd (false≢true (sym (p .0 .0)))
+  in-braces Q base step (Each u o further i s e) p = absurd (false≢true (sym (p .0 .0)))
+  in-braces Q base step (Between u l h a b) p = absurd (false≢true (sym (p .0 .0)))
   in-braces Q base step (Listed u es) p = absurd (false≢true (sym (p .0)))
   in-braces Q base step Empty p = base
   in-braces Q base step (Element e es) p = step e es (p .1) (p .2)
@@ -148,15 +148,15 @@ module _ {N : Type 0} (bind : Token → N → N) where
   pub regular : (b : Bool) (y : N) (e : Expr) → Proper b e → All (Regular bind) (unlessEmpty e (Whole y e))
   regular b y (Named t) p = (plainly _ (plain _ _ refl) refl, tt)
   regular b y (Numeral t) p = (plainly _ (plain _ _ refl) refl, tt)
-  regular b y (Truth t v) p = (plainly _ (truth-plain v) refl, tt)
+  regular b y (Truth t v) p = (plainly _ (truth-plain) refl, tt)
   regular b y (Index t e) p = (plainly _ (plain _ _ refl) (simp append-nil), tt)
   regular b y (Paren t e) p = (plainly _ (plain _ _ refl) (simp append-nil), tt)
   regular b y (Prefixed t o e) p = (plainly _ (before-plain o) (simp append-nil), tt)
   regular b y (Joined t o a e) p = (plainly _ (joining-plain o) (simp append-nil), tt)
   regular b y (Nexts t n e) p = (plainly _ (plain _ _ refl) (simp append-nil), tt)
-  regular b y (InWindow t o n m e) p = (plainly _ (window-plain o) (simp append-nil), tt)
+  regular b y (InWindow t o n m e) p = (plainly _ window-plain (simp append-nil), tt)
   regular b y (Each t o further i s e) p = (plainly _ (big-plain o) (simp append-nil), tt)
-  regular b y (Between t l u a e) p = (plainly _ (between-plain l u) (simp append-nil), tt)
+  regular b y (Between t l u a e) p = (plainly _ (between-plain u) (simp append-nil), tt)
   regular b y (Listed t es) p =
       (record { entries = ap (under Kind.listed (some t)) (sym (rest-entries y es)); inner = refl; count = listed-counted y t es (p .1) }, tt)
   regular b y Empty p = tt

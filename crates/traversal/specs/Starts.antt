@@ -7,48 +7,9 @@ use lib.Dec.{eqb, ltb}
 use lib.ListN.{getD}
 use native.Mathlib.Omega.{arith}
 use borrow.Author.Tests.{eq-eqb, ne-eqb}
-use Rattle.node.specs.Operators.{Not, X, G, F, And, Or, Implies, Iff, U, R, W}
 use Rattle.language.specs.Bytes.{if_then_else_}
 use Rattle.language.specs.Tokens.{Token}
-use Rattle.language.specs.Operators.{
-  Plus,
-  Minus,
-  Times,
-  Divide,
-  Modulo,
-  Size,
-  Min,
-  Max,
-  Cup,
-  Cap,
-  Without,
-  Equal,
-  Unequal,
-  Less,
-  AtMost,
-  Greater,
-  AtLeast,
-  Big,
-  BigSum,
-  BigProduct,
-  BigCap,
-  BigCup,
-  BigAnd,
-  BigOr,
-  Window,
-  FinallyIn,
-  GloballyIn,
-  Infix,
-  Calculates,
-  Combines,
-  Compares,
-  Membership,
-  Connects,
-  Prefix,
-  Measures,
-  WidthOf,
-  Applies,
-}
+use Rattle.language.specs.Operators.{Equal, Unequal, Less, AtMost, Greater, AtLeast, Big, BigSum, BigProduct, BigCap, BigCup, BigAnd, BigOr, Infix, Calculates, Combines, Compares, Membership, Connects, Prefix, Measures, WidthOf, Applies}
 use Rattle.language.specs.Tree.{Named, Numeral, Truth, Index, Paren, Prefixed, Joined, Nexts, InWindow, Each, Between, Listed, Empty, Element, Range}
 use Rattle.language.specs.Places.{start}
 use Rattle.language.specs.Laws.Basics.Tests.{pick, leave}
@@ -92,29 +53,17 @@ module _ (k x s : ℕ) where
   own : {p : ℕ} → getD starting k 0 ≡ 0 → x ≡ p → startOf k x s ≡ p
   own e h = by-token (λ z. omega arith) (λ z. omega arith) ∙ h
 
-truth-starts : (b : Bool) → getD starting (Kind.truth b) 0 ≡ 0
-truth-starts true = refl
-truth-starts false = refl
+truth-starts : getD starting Kind.truth 0 ≡ 0
+truth-starts = refl
 
 before-starts : (o : Prefix) → getD starting (Kind.before o) 0 ≡ 0
-before-starts (Measures Size) = refl
-before-starts (Measures Min) = refl
-before-starts (Measures Max) = refl
+before-starts (Measures m) = refl
 before-starts WidthOf = refl
-before-starts (Applies Not) = refl
-before-starts (Applies X) = refl
-before-starts (Applies G) = refl
-before-starts (Applies F) = refl
+before-starts (Applies o) = refl
 
 joining-starts : (o : Infix) → getD starting (Kind.joining o) 0 ≡ 1
-joining-starts (Calculates Plus) = refl
-joining-starts (Calculates Minus) = refl
-joining-starts (Calculates Times) = refl
-joining-starts (Calculates Divide) = refl
-joining-starts (Calculates Modulo) = refl
-joining-starts (Combines Cup) = refl
-joining-starts (Combines Cap) = refl
-joining-starts (Combines Without) = refl
+joining-starts (Calculates o) = refl
+joining-starts (Combines o) = refl
 joining-starts (Compares Equal) = refl
 joining-starts (Compares Unequal) = refl
 joining-starts (Compares Less) = refl
@@ -122,17 +71,10 @@ joining-starts (Compares AtMost) = refl
 joining-starts (Compares Greater) = refl
 joining-starts (Compares AtLeast) = refl
 joining-starts Membership = refl
-joining-starts (Connects And) = refl
-joining-starts (Connects Or) = refl
-joining-starts (Connects Implies) = refl
-joining-starts (Connects Iff) = refl
-joining-starts (Connects U) = refl
-joining-starts (Connects R) = refl
-joining-starts (Connects W) = refl
+joining-starts (Connects o) = refl
 
-window-starts : (o : Window) → getD starting (Kind.window o) 0 ≡ 0
-window-starts FinallyIn = refl
-window-starts GloballyIn = refl
+window-starts : getD starting Kind.window 0 ≡ 0
+window-starts = refl
 
 big-starts : (o : Big) → getD starting (Kind.big o) 0 ≡ 0
 big-starts BigSum = refl
@@ -146,11 +88,9 @@ binder-starts : (further : Bool) → getD starting (Kind.binder further) 0 ≡ 2
 binder-starts true = refl
 binder-starts false = refl
 
-between-starts : (l h : Bool) → getD starting (Kind.between l h) 0 ≡ 1
-between-starts true true = refl
-between-starts true false = refl
-between-starts false true = refl
-between-starts false false = refl
+between-starts : (h : Bool) → getD starting (Kind.between h) 0 ≡ 1
+between-starts true = refl
+between-starts false = refl
 
 abbrev pub startPart : {N : Type 0} → Part N → ℕ
 startPart (Whole y e) = start e
@@ -163,15 +103,15 @@ module _ {N : Type 0} (bind : Token → N → N) where
   pub starts : (q : Part N) (x : ℕ) → Told AtPlace x (tokenOf q) → ltb (kindOf q) firstLine ≡ true → startOf (kindOf q) x (firstOf (map startPart (operandsOf bind q))) ≡ startPart q
   starts (Whole y (Named t)) x h i = own _ x _ refl h
   starts (Whole y (Numeral t)) x h i = own _ x _ refl h
-  starts (Whole y (Truth t b)) x h i = own _ x _ (truth-starts b) h
+  starts (Whole y (Truth t b)) x h i = own _ x _ truth-starts h
   starts (Whole y (Index t e)) x h i = own _ x _ refl h
   starts (Whole y (Paren t e)) x h i = own _ x _ refl h
   starts (Whole y (Prefixed t o e)) x h i = own _ x _ (before-starts o) h
   starts (Whole y (Joined t o a b)) x h i = by-operand _ x _ (joining-starts o)
   starts (Whole y (Nexts t n e)) x h i = own _ x _ refl h
-  starts (Whole y (InWindow t o n m e)) x h i = own _ x _ (window-starts o) h
+  starts (Whole y (InWindow t o n m e)) x h i = own _ x _ window-starts h
   starts (Whole y (Each t o further j s e)) x h i = own _ x _ (big-starts o) h
-  starts (Whole y (Between t l u a b)) x h i = by-operand _ x _ (between-starts l u)
+  starts (Whole y (Between t l u a b)) x h i = by-operand _ x _ (between-starts u)
   starts (Whole y (Listed t es)) x h i = own _ x _ refl h
   starts (Whole y Empty) x h i = absurd (false≢true i)
   starts (Whole y (Element e es)) x h i = by-operand _ x _ refl

@@ -66,7 +66,7 @@ module _ (declared : Names) (table : List ℕ) where
       → finds (kindOf q) x (operandsOf withNumber q) ≡ bad q
   part-fault bs (Whole ys (Named t)) x g h i = quiet x (free _ refl refl refl) (λ z. omega arith) (none-wrong (free _ refl refl refl) (λ z. omega arith))
   part-fault bs (Whole ys (Numeral t)) x g h i = quiet x (free _ refl refl refl) (λ z. omega arith) (none-wrong (free _ refl refl refl) (λ z. omega arith))
-  part-fault bs (Whole ys (Truth t b)) x g h i = quiet x (truth-takes b) (λ z. omega arith) (none-wrong (truth-takes b) (λ z. omega arith))
+  part-fault bs (Whole ys (Truth t b)) x g h i = quiet x truth-takes (λ z. omega arith) (none-wrong truth-takes (λ z. omega arith))
   part-fault bs (Whole ys (Index t e)) x g h i =
       let b : Option ℕ = unless (isType ABus (typeIn ys t)) (t .at) in
       ap (first (first (mistyped ys e) none)) (ap₂ first (on-bus (nameKind x) (placeOf x) ∙ ap₂ (λ j p. unless (eqb 3 j) p) (name-known declared table ys h refl (g .0)) (h .place))
@@ -86,7 +86,7 @@ module _ (declared : Names) (table : List ℕ) where
       ∙ two-places (mistyped ys n) (mistyped ys e) (wrong ANumber ys n) (wrong AFormula ys e)
   part-fault bs (Whole ys (InWindow t o n m e)) x g h i =
       ap (first (first (mistyped ys n) (first (mistyped ys m) (first (mistyped ys e) none))))
-      (quiet x (window-takes o) (λ z. omega arith) (three-wrong ANumber AFormula (code ys n) (code ys m) (code ys e) (start n) (start m) (start e) (window-takes o)))
+      (quiet x window-takes (λ z. omega arith) (three-wrong ANumber AFormula (code ys n) (code ys m) (code ys e) (start n) (start m) (start e) window-takes))
       ∙ three-places (mistyped ys n) (mistyped ys m) (mistyped ys e) (wrong ANumber ys n) (wrong ANumber ys m) (wrong AFormula ys e)
   part-fault bs (Whole ys (Each t o further j s e)) x g h i =
       let zs = withNumber j ys in
@@ -97,7 +97,7 @@ module _ (declared : Names) (table : List ℕ) where
       (first-comm (mistyped zs e) (wrong (bigGives o) zs e))
   part-fault bs (Whole ys (Between t l u a b)) x g h i =
       ap (first (first (mistyped ys a) (first (mistyped ys b) none)))
-      (quiet x (between-takes l u) (λ z. omega arith) (two-wrong ANumber ANumber (code ys a) (code ys b) (start a) (start b) (between-takes l u)))
+      (quiet x (between-takes u) (λ z. omega arith) (two-wrong ANumber ANumber (code ys a) (code ys b) (start a) (start b) (between-takes u)))
       ∙ both-places (mistyped ys a) (mistyped ys b) (wrongBoth ANumber ys a b)
   part-fault bs (Whole ys (Listed t es)) x g h i =
       unless-cases (Whole ys) (λ e qs. finds EntryKind.listed x qs ≡ mistyped ys e) (quiet x (free _ refl refl refl) (λ z. omega arith) (none-wrong (free _ refl refl refl) (λ z. omega arith)))

@@ -131,15 +131,15 @@ module _ (declared : Names) (table : List ℕ) where
       → givesOf (kindOf q) (nameKind x) (firstOf (kindParts (operandsOf withNumber q))) ≡ kindPart q
   part-kind bs (Whole ys (Named t)) x g h i = by-name _ _ ∙ name-known ys h refl g
   part-kind bs (Whole ys (Numeral t)) x g h i = given EntryKind.numeral _ _ 0 refl (omega arith)
-  part-kind bs (Whole ys (Truth t b)) x g h i = given (EntryKind.truth b) _ _ 2 (truth-gives b) (omega arith)
+  part-kind bs (Whole ys (Truth t b)) x g h i = given EntryKind.truth _ _ 2 truth-gives (omega arith)
   part-kind bs (Whole ys (Index t e)) x g h i = given EntryKind.index _ _ 2 refl (omega arith)
   part-kind bs (Whole ys (Paren t e)) x g h i = by-operand _ _
   part-kind bs (Whole ys (Prefixed t o e)) x g h i = given (EntryKind.before o) _ _ _ (before-gives o) (prefix-small o)
   part-kind bs (Whole ys (Joined t o a b)) x g h i = given (EntryKind.joining o) _ _ _ (joining-gives o) (infix-small o)
   part-kind bs (Whole ys (Nexts t n e)) x g h i = given EntryKind.nexts _ _ 2 refl (omega arith)
-  part-kind bs (Whole ys (InWindow t o n m e)) x g h i = given (EntryKind.window o) _ _ 2 (window-gives o) (omega arith)
+  part-kind bs (Whole ys (InWindow t o n m e)) x g h i = given EntryKind.window _ _ 2 window-gives (omega arith)
   part-kind bs (Whole ys (Each t o further j s e)) x g h i = given (EntryKind.big o) _ _ _ (big-gives o) (big-small o)
-  part-kind bs (Whole ys (Between t l u a b)) x g h i = given (EntryKind.between l u) _ _ 1 (between-gives l u) (omega arith)
+  part-kind bs (Whole ys (Between t l u a b)) x g h i = given (EntryKind.between u) _ _ 1 (between-gives u) (omega arith)
   part-kind bs (Whole ys (Listed t es)) x g h i = given EntryKind.listed _ _ 1 refl (omega arith)
   part-kind bs (Whole ys Empty) x g h i = absurd (false≢true i)
   part-kind bs (Whole ys (Element e es)) x g h i = given EntryKind.element _ _ 1 refl (omega arith)

@@ -36,15 +36,15 @@ module _ {N : Type 0} (bind : Token → N → N) where
   pub carries : (bs : Names) (q : Part N) → Carries bs q
   carries bs (Whole y (Named t)) = open-kept bs _ refl refl
   carries bs (Whole y (Numeral t)) = open-kept bs _ refl refl
-  carries bs (Whole y (Truth t b)) = open-kept bs _ (quiet-truth b .no-binder) (quiet-truth b .no-end)
+  carries bs (Whole y (Truth t b)) = open-kept bs _ (quiet-truth .no-binder) (quiet-truth .no-end)
   carries bs (Whole y (Index t e)) = open-kept bs _ refl refl
   carries bs (Whole y (Paren t e)) = open-kept bs _ refl refl
   carries bs (Whole y (Prefixed t o e)) = open-kept bs _ (quiet-before o .no-binder) (quiet-before o .no-end)
   carries bs (Whole y (Joined t o a b)) = open-kept bs _ (quiet-joining o .no-binder) (quiet-joining o .no-end)
   carries bs (Whole y (Nexts t n e)) = open-kept bs _ refl refl
-  carries bs (Whole y (InWindow t o n m e)) = open-kept bs _ (quiet-window o .no-binder) (quiet-window o .no-end)
+  carries bs (Whole y (InWindow t o n m e)) = open-kept bs _ (quiet-window .no-binder) (quiet-window .no-end)
   carries bs (Whole y (Each t o further i s e)) = open-less i bs _ (ending-big o .no-binder) (ending-big o .is-end)
-  carries bs (Whole y (Between t l u a b)) = open-kept bs _ (quiet-between l u .no-binder) (quiet-between l u .no-end)
+  carries bs (Whole y (Between t l u a b)) = open-kept bs _ (quiet-between u .no-binder) (quiet-between u .no-end)
   carries bs (Whole y (Listed t es)) = ap (λ us. openAfter us (ownEntry bind (Whole y (Listed t es)))) (past-rest bs y es) ∙ open-kept bs _ refl refl
   carries bs (Whole y Empty) = open-kept bs _ refl refl
   carries bs (Whole y (Element e es)) = ap (λ us. openAfter us (ownEntry bind (Whole y (Element e es)))) (past-rest bs y es) ∙ open-kept bs _ refl refl

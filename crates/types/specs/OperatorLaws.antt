@@ -8,46 +8,7 @@ use lib.Dec.{eqb}
 use lib.ListN.{getD}
 use native.Mathlib.Omega.{arith}
 use borrow.Author.Tests.{eq-eqb}
-use Rattle.node.specs.Operators.{Not, X, G, F, And, Or, Implies, Iff, U, R, W}
-use Rattle.language.specs.Operators.{
-  Plus,
-  Minus,
-  Times,
-  Divide,
-  Modulo,
-  Size,
-  Min,
-  Max,
-  Cup,
-  Cap,
-  Without,
-  Equal,
-  Unequal,
-  Less,
-  AtMost,
-  Greater,
-  AtLeast,
-  Big,
-  BigSum,
-  BigProduct,
-  BigCap,
-  BigCup,
-  BigAnd,
-  BigOr,
-  Window,
-  FinallyIn,
-  GloballyIn,
-  Infix,
-  Calculates,
-  Combines,
-  Compares,
-  Membership,
-  Connects,
-  Prefix,
-  Measures,
-  WidthOf,
-  Applies,
-}
+use Rattle.language.specs.Operators.{Equal, Unequal, Less, AtMost, Greater, AtLeast, Big, BigSum, BigProduct, BigCap, BigCup, BigAnd, BigOr, Infix, Calculates, Combines, Compares, Membership, Connects, Prefix, Measures, WidthOf, Applies}
 use Rattle.language.specs.Tree.{Expr}
 use Rattle.language.specs.Places.{start, unless}
 use Rattle.language.specs.Types.{
@@ -79,29 +40,17 @@ use Rattle.types.specs.TakeLaws.{Takes, two-wrong}
 abbrev Gives : ℕ → ExprType → Type 0
 Gives k K = getD giving k 0 ≡ typeCode K
 
-pub truth-gives : (b : Bool) → Gives (EntryKind.truth b) AFormula
-truth-gives true = refl
-truth-gives false = refl
+pub truth-gives : Gives EntryKind.truth AFormula
+truth-gives = refl
 
 pub before-gives : (o : Prefix) → Gives (EntryKind.before o) (prefixGives o)
-before-gives (Measures Size) = refl
-before-gives (Measures Min) = refl
-before-gives (Measures Max) = refl
+before-gives (Measures m) = refl
 before-gives WidthOf = refl
-before-gives (Applies Not) = refl
-before-gives (Applies X) = refl
-before-gives (Applies G) = refl
-before-gives (Applies F) = refl
+before-gives (Applies o) = refl
 
 pub joining-gives : (o : Infix) → Gives (EntryKind.joining o) (infixGives o)
-joining-gives (Calculates Plus) = refl
-joining-gives (Calculates Minus) = refl
-joining-gives (Calculates Times) = refl
-joining-gives (Calculates Divide) = refl
-joining-gives (Calculates Modulo) = refl
-joining-gives (Combines Cup) = refl
-joining-gives (Combines Cap) = refl
-joining-gives (Combines Without) = refl
+joining-gives (Calculates o) = refl
+joining-gives (Combines o) = refl
 joining-gives (Compares Equal) = refl
 joining-gives (Compares Unequal) = refl
 joining-gives (Compares Less) = refl
@@ -109,17 +58,10 @@ joining-gives (Compares AtMost) = refl
 joining-gives (Compares Greater) = refl
 joining-gives (Compares AtLeast) = refl
 joining-gives Membership = refl
-joining-gives (Connects And) = refl
-joining-gives (Connects Or) = refl
-joining-gives (Connects Implies) = refl
-joining-gives (Connects Iff) = refl
-joining-gives (Connects U) = refl
-joining-gives (Connects R) = refl
-joining-gives (Connects W) = refl
+joining-gives (Connects o) = refl
 
-pub window-gives : (o : Window) → Gives (EntryKind.window o) AFormula
-window-gives FinallyIn = refl
-window-gives GloballyIn = refl
+pub window-gives : Gives EntryKind.window AFormula
+window-gives = refl
 
 pub big-gives : (o : Big) → Gives (EntryKind.big o) (bigGives o)
 big-gives BigSum = refl
@@ -133,29 +75,20 @@ pub binder-gives : (further : Bool) → Gives (EntryKind.binder further) ASet
 binder-gives true = refl
 binder-gives false = refl
 
-pub between-gives : (l h : Bool) → Gives (EntryKind.between l h) ASet
-between-gives true true = refl
-between-gives true false = refl
-between-gives false true = refl
-between-gives false false = refl
+pub between-gives : (h : Bool) → Gives (EntryKind.between h) ASet
+between-gives true = refl
+between-gives false = refl
 
-pub truth-takes : (b : Bool) → Takes (EntryKind.truth b) 8 8
-truth-takes true = record { others = refl; final = refl; plain = refl }
-truth-takes false = record { others = refl; final = refl; plain = refl }
+pub truth-takes : Takes EntryKind.truth 8 8
+truth-takes = record { others = refl; final = refl; plain = refl }
 
 pub before-takes : (o : Prefix) → Takes (EntryKind.before o) 8 (typeCode (prefixTakes o))
-before-takes (Measures Size) = record { others = refl; final = refl; plain = refl }
-before-takes (Measures Min) = record { others = refl; final = refl; plain = refl }
-before-takes (Measures Max) = record { others = refl; final = refl; plain = refl }
+before-takes (Measures m) = record { others = refl; final = refl; plain = refl }
 before-takes WidthOf = record { others = refl; final = refl; plain = refl }
-before-takes (Applies Not) = record { others = refl; final = refl; plain = refl }
-before-takes (Applies X) = record { others = refl; final = refl; plain = refl }
-before-takes (Applies G) = record { others = refl; final = refl; plain = refl }
-before-takes (Applies F) = record { others = refl; final = refl; plain = refl }
+before-takes (Applies o) = record { others = refl; final = refl; plain = refl }
 
-pub window-takes : (o : Window) → Takes (EntryKind.window o) 0 2
-window-takes FinallyIn = record { others = refl; final = refl; plain = refl }
-window-takes GloballyIn = record { others = refl; final = refl; plain = refl }
+pub window-takes : Takes EntryKind.window 0 2
+window-takes = record { others = refl; final = refl; plain = refl }
 
 pub big-takes : (o : Big) → Takes (EntryKind.big o) 8 (typeCode (bigGives o))
 big-takes BigSum = record { others = refl; final = refl; plain = refl }
@@ -169,11 +102,9 @@ pub binder-takes : (further : Bool) → Takes (EntryKind.binder further) 8 1
 binder-takes true = record { others = refl; final = refl; plain = refl }
 binder-takes false = record { others = refl; final = refl; plain = refl }
 
-pub between-takes : (l h : Bool) → Takes (EntryKind.between l h) 0 0
-between-takes true true = record { others = refl; final = refl; plain = refl }
-between-takes true false = record { others = refl; final = refl; plain = refl }
-between-takes false true = record { others = refl; final = refl; plain = refl }
-between-takes false false = record { others = refl; final = refl; plain = refl }
+pub between-takes : (h : Bool) → Takes (EntryKind.between h) 0 0
+between-takes true = record { others = refl; final = refl; plain = refl }
+between-takes false = record { others = refl; final = refl; plain = refl }
 
 -- `==` and `!=`
 sides : (k l : ExprType) (s t : ℕ) → sidesOf (typeCode k) (typeCode l) s t ≡ elim (comparable k) [ true ↦ unless (fitting k l) t | false ↦ some s ]
@@ -235,14 +166,8 @@ equation k a b s t e = pick (eqb (getD otherTakes k 0) 10) _ _ (eq-eqb _ _ e)
 -- the operands of an operator between them
 pub joining-wrong : (ys : Typings) (o : Infix) (a b : Expr) →
     wrongAt (EntryKind.joining o) (typeCode (typeOf ys a) ∷ typeCode (typeOf ys b) ∷ []) (start a ∷ start b ∷ []) ≡ wrongOperands ys o a b
-joining-wrong ys (Calculates Plus) a b = two-wrong ANumber ANumber _ _ _ _ (record { others = refl; final = refl; plain = refl })
-joining-wrong ys (Calculates Minus) a b = two-wrong ANumber ANumber _ _ _ _ (record { others = refl; final = refl; plain = refl })
-joining-wrong ys (Calculates Times) a b = two-wrong ANumber ANumber _ _ _ _ (record { others = refl; final = refl; plain = refl })
-joining-wrong ys (Calculates Divide) a b = two-wrong ANumber ANumber _ _ _ _ (record { others = refl; final = refl; plain = refl })
-joining-wrong ys (Calculates Modulo) a b = two-wrong ANumber ANumber _ _ _ _ (record { others = refl; final = refl; plain = refl })
-joining-wrong ys (Combines Cup) a b = two-wrong ASet ASet _ _ _ _ (record { others = refl; final = refl; plain = refl })
-joining-wrong ys (Combines Cap) a b = two-wrong ASet ASet _ _ _ _ (record { others = refl; final = refl; plain = refl })
-joining-wrong ys (Combines Without) a b = two-wrong ASet ASet _ _ _ _ (record { others = refl; final = refl; plain = refl })
+joining-wrong ys (Calculates o) a b = two-wrong ANumber ANumber _ _ _ _ (record { others = refl; final = refl; plain = refl })
+joining-wrong ys (Combines o) a b = two-wrong ASet ASet _ _ _ _ (record { others = refl; final = refl; plain = refl })
 joining-wrong ys (Compares Equal) a b = equation (EntryKind.joining (Compares Equal)) _ _ _ _ refl ∙ sides (typeOf ys a) (typeOf ys b) (start a) (start b)
 joining-wrong ys (Compares Unequal) a b = equation (EntryKind.joining (Compares Unequal)) _ _ _ _ refl ∙ sides (typeOf ys a) (typeOf ys b) (start a) (start b)
 joining-wrong ys (Compares Less) a b = two-wrong ANumber ANumber _ _ _ _ (record { others = refl; final = refl; plain = refl })
@@ -250,23 +175,11 @@ joining-wrong ys (Compares AtMost) a b = two-wrong ANumber ANumber _ _ _ _ (reco
 joining-wrong ys (Compares Greater) a b = two-wrong ANumber ANumber _ _ _ _ (record { others = refl; final = refl; plain = refl })
 joining-wrong ys (Compares AtLeast) a b = two-wrong ANumber ANumber _ _ _ _ (record { others = refl; final = refl; plain = refl })
 joining-wrong ys Membership a b = two-wrong ANumber ASet _ _ _ _ (record { others = refl; final = refl; plain = refl })
-joining-wrong ys (Connects And) a b = two-wrong AFormula AFormula _ _ _ _ (record { others = refl; final = refl; plain = refl })
-joining-wrong ys (Connects Or) a b = two-wrong AFormula AFormula _ _ _ _ (record { others = refl; final = refl; plain = refl })
-joining-wrong ys (Connects Implies) a b = two-wrong AFormula AFormula _ _ _ _ (record { others = refl; final = refl; plain = refl })
-joining-wrong ys (Connects Iff) a b = two-wrong AFormula AFormula _ _ _ _ (record { others = refl; final = refl; plain = refl })
-joining-wrong ys (Connects U) a b = two-wrong AFormula AFormula _ _ _ _ (record { others = refl; final = refl; plain = refl })
-joining-wrong ys (Connects R) a b = two-wrong AFormula AFormula _ _ _ _ (record { others = refl; final = refl; plain = refl })
-joining-wrong ys (Connects W) a b = two-wrong AFormula AFormula _ _ _ _ (record { others = refl; final = refl; plain = refl })
+joining-wrong ys (Connects o) a b = two-wrong AFormula AFormula _ _ _ _ (record { others = refl; final = refl; plain = refl })
 
 pub joining-unindexed : (o : Infix) → getD otherTakes (EntryKind.joining o) 0 ≡ 11 → ⊥
-joining-unindexed (Calculates Plus) e = omega arith
-joining-unindexed (Calculates Minus) e = omega arith
-joining-unindexed (Calculates Times) e = omega arith
-joining-unindexed (Calculates Divide) e = omega arith
-joining-unindexed (Calculates Modulo) e = omega arith
-joining-unindexed (Combines Cup) e = omega arith
-joining-unindexed (Combines Cap) e = omega arith
-joining-unindexed (Combines Without) e = omega arith
+joining-unindexed (Calculates o) e = omega arith
+joining-unindexed (Combines o) e = omega arith
 joining-unindexed (Compares Equal) e = omega arith
 joining-unindexed (Compares Unequal) e = omega arith
 joining-unindexed (Compares Less) e = omega arith
@@ -274,10 +187,4 @@ joining-unindexed (Compares AtMost) e = omega arith
 joining-unindexed (Compares Greater) e = omega arith
 joining-unindexed (Compares AtLeast) e = omega arith
 joining-unindexed Membership e = omega arith
-joining-unindexed (Connects And) e = omega arith
-joining-unindexed (Connects Or) e = omega arith
-joining-unindexed (Connects Implies) e = omega arith
-joining-unindexed (Connects Iff) e = omega arith
-joining-unindexed (Connects U) e = omega arith
-joining-unindexed (Connects R) e = omega arith
-joining-unindexed (Connects W) e = omega arith
+joining-unindexed (Connects o) e = omega arith

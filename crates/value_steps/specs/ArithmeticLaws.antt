@@ -1,7 +1,6 @@
 -- An operator between two numbers: its left operand, its right operand.
 use Prim.Native.Nat.{ℕ, _+_, _-_, _≤_}
-use mathlib.Core.List.{List, _++_}
-use mathlib.Core.Option.{some}
+use mathlib.Core.List.{List}
 use mathlib.Core.Path.{_≡_, refl, sym, ap, ap₂, _∙_, subst}
 use native.Mathlib.Omega.{arith}
 use lib.ListN.{getD}
@@ -12,24 +11,24 @@ use Rattle.language.specs.Tree.{Expr}
 use Rattle.language.specs.Values.{Value, Number, number, calculate, value}
 use Rattle.language.specs.Laws.Values.ValueLaws.{calculate-sane}
 use Rattle.entries.specs.Kinds as Kind
-use Rattle.entries.specs.Flat.{flat}
 use Rattle.name_values.specs.KnownLaws.{known-joined}
 use Rattle.sets.specs.Answers.{says}
 use Rattle.sets.specs.Operators.{arithmetic}
 use Rattle.sets.specs.declared.Worked.{Worked}
-use Rattle.operands.specs.Entries.{kindAt, sizeAt, placeAt}
-use Rattle.operands.specs.ClassLaws.{kind-of, place-is}
+use Rattle.operators.specs.Tables.{infixCodeAt}
+use Rattle.operands.specs.Entries.{kindAt, sizeAt, placeAt, numberAt}
 use Rattle.operands.specs.KindLaws.{calculation-class}
 use Rattle.operands.specs.Working.{Source}
+use Rattle.machine.specs.Phases as Phase
 use Rattle.machine.specs.Came.{Evaluate, worth, works, asNumber}
 use Rattle.machine.specs.Frames.{Left, Right, calculated, apply}
 use Rattle.machine.specs.Realm.{Operand}
 use Rattle.machine.specs.Operators.{Between, OpAt}
-use Rattle.machine.specs.OperatorLaws.{op-arithmetic}
+use Rattle.machine.specs.OperatorLaws.{joined-at, op-arithmetic}
 use Rattle.machine.specs.Memory.{Framed}
 use Rattle.machine.specs.Holding.{phase}
 use Rattle.machine.specs.Telling.{isNumber}
-use Rattle.machine.specs.States.{modeOf, Ready, Steps, Topped, Takes}
+use Rattle.machine.specs.States.{modeOf, Ready, Steps, Takes}
 use Rattle.machine.specs.StateLaws.{entered}
 use Rattle.machine.specs.EnterLaws.{came}
 use Rattle.machine.specs.ComeLaws.{came-number, not-number, misfit-then}
@@ -54,65 +53,59 @@ calculation-same p o a b =
     ∙ sym (take-number b (λ n. calculate p o m n >>= λ i. worth (Number i)))) ∙ sym (take-number a (λ m. (b >>= worth) >>= calculated p o m))
 
 -- both operands stand before the entry
-pub calculation-inside : {s : Source} {mem : List ℕ} {m : Machine} → Ready s mem m → Evaluates (s .work) m 14 19 → 1 + sizeAt (s .work) (m .value - 1) ≤ m .value
+pub calculation-inside : {s : Source} {mem : List ℕ} {m : Machine} → Ready s mem m → Evaluates (s .work) m Kind.arithmetic Kind.combination → 1 + sizeAt (s .work) (m .value - 1) ≤ m .value
 calculation-inside {s} {m = m} r k =
     let e0 = k .mode in
     let n = entered (r .state) (omega arith) in
     let kind = kindAt (s .work) (m .value) in
-    let o = arithmetic (kind - 14) in
     let v = operand-view (n .at .operand) (calculation-class kind (k .from) (k .until)) in
-    let p = operand-as (n .at .operand) (v .3) in
-    two-operands p (Kind.joining (Calculates o)) (v .0) (v .1) (v .2) (p .known .at) (known-joined (v .0) (Calculates o) (v .1) (v .2) (p .known)) .inside
+    let o = v .1 in
+    let p = operand-as (n .at .operand) (v .4) in
+    two-operands p (Kind.joining (Calculates o)) (v .0) (v .2) (v .3) (p .known .at) (known-joined (v .0) (Calculates o) (v .2) (v .3) (p .known)) .inside
 
 -- the entry: its left operand is worked out first
-pub calculation-steps : {s : Source} {mem mem' : List ℕ} {m : Machine} {j : ℕ} {r : Move} → Evaluates (s .work) m 14 19 → j ≡ m .value - 1 - sizeAt (s .work) (m .value - 1)
-    → Opened mem mem' m 2 (modeOf Evaluate) j r → Steps s mem mem' m r
+pub calculation-steps : {s : Source} {mem mem' : List ℕ} {m : Machine} {j : ℕ} {r : Move} → Evaluates (s .work) m Kind.arithmetic Kind.combination → j ≡ m .value - 1 - sizeAt (s .work) (m .value - 1)
+    → Opened mem mem' m Phase.left (modeOf Evaluate) j r → Steps s mem mem' m r
 calculation-steps {s} {mem} {mem'} {m} {j} {r} k ej q = record {
   turns = λ R x o out h.
       let e0 = k .mode in
       let n = entered h (omega arith) in
       let kind = kindAt (s .work) (m .value) in
-      let op = arithmetic (kind - 14) in
       let v = operand-view (n .at .operand) (calculation-class kind (k .from) (k .until)) in
       let t = v .0 in
-      let a = v .1 in
-      let b = v .2 in
-      let p = operand-as (n .at .operand) (v .3) in
+      let op = v .1 in
+      let a = v .2 in
+      let b = v .3 in
+      let p = operand-as (n .at .operand) (v .4) in
       let two = two-operands p (Kind.joining (Calculates op)) t a b (p .known .at) (known-joined t (Calculates op) a b (p .known)) in
       let ins = two .inside in
-      opens n {F = Left (t .at) op (n .context) b} {phase = 2} {a = Evaluate} {e = a} {j = j} (record {
+      opens n {F = Left (t .at) op (n .context) b} {phase = Phase.left} {a = Evaluate} {e = a} {j = j} (record {
         holds-nothing = refl;
         few-turns = omega arith;
         below = omega arith;
         operand = subst (λ (i : ℕ). Operand s (R .W) (R .ports) (n .at .env) (n .context) i a) (sym ej) (two .left);
         holds = tt;
-        waits = (
-          record {
-            kind = kind-of (Kind.joining (Calculates op)) (some t) (flat a ++ flat b) (p .known .at);
-            place = place-is (R .lexed) (Kind.joining (Calculates op)) t (flat a ++ flat b) (p .known .at);
-          },
-          two .right,
-        );
+        waits = (joined-at (R .lexed) t (Calculates op) a b p, two .right);
         kept = tt;
-        same = works-value n e0 ∙ ap (λ (d : Expr). value (n .context .values) d >>= worth) (v .3) ∙ calculation-same (t .at) op (value (n .context .values) a) (value (n .context .values) b);
+        same = works-value n e0 ∙ ap (λ (d : Expr). value (n .context .values) d >>= worth) (v .4) ∙ calculation-same (t .at) op (value (n .context .values) a) (value (n .context .values) b);
       }) r q;
 }
 
 -- the left operand has come
-module _ {s : Source} {mem : List ℕ} {m : Machine} (w : Waiting mem m 2) where
+module _ {s : Source} {mem : List ℕ} {m : Machine} (w : Waiting mem m Phase.left) where
   pub left-misfits : (m .mode ≡ isNumber → ⊥) → Takes s mem mem m (Refuses 9 0)
   left-misfits e = record {
     turns = λ R x o out t.
-        let v = by-phase (t .frame) 2 (top-phase t ∙ w .phase) in
+        let v = by-phase (t .frame) Phase.left (top-phase t ∙ w .phase) in
         let h = top-as t (v .4) in
         refuses h (misfit-then _ (not-number R o mem m (h .came) (h .come) e));
   }
 
   pub left-steps : m .mode ≡ isNumber → {mem' : List ℕ} {k : ℕ} → k ≡ getD mem (m .frames + 1) 0
-      → Framed mem mem' (m .frames) (record { phase = 3; entry = k; base = m .top; at = 0; count = 0; value = m .value; other = 0 }) → Takes s mem mem' m (Next (came m (modeOf Evaluate) (k - 1) 0))
+      → Framed mem mem' (m .frames) (record { phase = Phase.right; entry = k; base = m .top; at = 0; count = 0; value = m .value; other = 0 }) → Takes s mem mem' m (Next (came m (modeOf Evaluate) (k - 1) 0))
   left-steps e {mem'} {k} ek f = record {
     turns = λ R x o out t.
-        let v = by-phase (t .frame) 2 (top-phase t ∙ w .phase) in
+        let v = by-phase (t .frame) Phase.left (top-phase t ∙ w .phase) in
         let p = v .0 in
         let op = v .1 in
         let c = v .2 in
@@ -122,7 +115,7 @@ module _ {s : Source} {mem : List ℕ} {m : Machine} (w : Waiting mem m 2) where
         let same-entry : k ≡ words h .entry = ek ∙ entry-word h in
         let some = h .at .some in
         let at = h .at .entry in
-        renews h {phase = 2} refl {G = Right p op (m .value)} {a = Evaluate} {c = c} {e = b} (n .same) (record {
+        renews h {phase = Phase.left} refl {G = Right p op (m .value)} {a = Evaluate} {c = c} {e = b} (n .same) (record {
           holds-nothing = refl;
           framed = f;
           entry-is = same-entry;
@@ -139,35 +132,29 @@ module _ {s : Source} {mem : List ℕ} {m : Machine} (w : Waiting mem m 2) where
   }
 
 -- the right operand has come
-module _ {s : Source} {mem : List ℕ} {m : Machine} (w : Waiting mem m 3) where
+module _ {s : Source} {mem : List ℕ} {m : Machine} (w : Waiting mem m Phase.right) where
   pub right-misfits : (m .mode ≡ isNumber → ⊥) → Takes s mem mem m (Refuses 9 0)
   right-misfits e = record {
     turns = λ R x o out t.
-        let v = by-phase (t .frame) 3 (top-phase t ∙ w .phase) in
+        let v = by-phase (t .frame) Phase.right (top-phase t ∙ w .phase) in
         let h = top-as t (v .3) in
         refuses h (misfit-then _ (not-number R o mem m (h .came) (h .come) e));
   }
 
-  pub right-kind : Topped s mem m → 14 ≤ kindAt (s .work) (getD mem (m .frames + 1) 0)
-  right-kind t =
-      let v = by-phase (t .top .frame) 3 (top-phase (t .top) ∙ w .phase) in
-      let h = top-as (t .top) (v .3) in
-      subst (λ (j : ℕ). 14 ≤ kindAt (s .work) j) (sym (entry-word h)) (op-arithmetic (h .at .waits) .0)
-
-  pub right-steps : m .mode ≡ isNumber → {k i p a : ℕ} (r : Worked) → k ≡ getD mem (m .frames + 1) 0 → i ≡ kindAt (s .work) k - 14 → p ≡ placeAt (s .work) k → a ≡ getD mem (m .frames + 5) 0
+  pub right-steps : m .mode ≡ isNumber → {k i p a : ℕ} (r : Worked) → k ≡ getD mem (m .frames + 1) 0 → i ≡ infixCodeAt (numberAt (s .work) k) → p ≡ placeAt (s .work) k → a ≡ getD mem (m .frames + 5) 0
       → says r ≡ calculate p (arithmetic i) a (m .value) → Takes s mem mem m (numbered (popped m) r)
   right-steps e {k} {i} {p} {a} r ek ei ep ea g = record {
     turns = λ R x o out t.
-        let v = by-phase (t .frame) 3 (top-phase t ∙ w .phase) in
+        let v = by-phase (t .frame) Phase.right (top-phase t ∙ w .phase) in
         let op = v .1 in
         let h = top-as t (v .3) in
         let n = came-number R o mem m (h .came) (h .come) e in
         let at : OpAt s k (Between (Calculates op)) (v .0) = subst (λ (j : ℕ). OpAt s j (Between (Calculates op)) (v .0)) (sym (ek ∙ entry-word h)) (h .at .waits) in
-        let same-op : arithmetic i ≡ op = ap arithmetic ei ∙ op-arithmetic at .1 in
+        let same-op : arithmetic i ≡ op = ap arithmetic ei ∙ op-arithmetic at in
         let same-place : p ≡ v .0 = ep ∙ at .place in
         let same-number : a ≡ v .2 = ea ∙ value-word h ∙ h .at .holds .here in
         let g' : says r ≡ calculate (v .0) op (v .2) (m .value) = g ∙ ap (λ (j : ℕ). calculate j (arithmetic i) a (m .value)) same-place
         ∙ ap₂ (λ (y : Arithmetic) (j : ℕ). calculate (v .0) y j (m .value)) same-op same-number in
-        yields-number h {phase = 3} refl (n .same) r g' (calculate-sane (v .0) op (v .2) (m .value) (h .at .holds .small) (n .small))
+        yields-number h {phase = Phase.right} refl (n .same) r g' (calculate-sane (v .0) op (v .2) (m .value) (h .at .holds .small) (n .small))
         (ap (apply (Right (v .0) op (v .2))) (n .same) ∙ bind-at (m .value) (λ j. calculate (v .0) op (v .2) j >>= λ y. worth (Number y)));
   }

@@ -2,7 +2,6 @@
 use Prim.Native.Nat.{ℕ, suc, _+_, _-_, _≤_, _<_, _^_}
 use mathlib.Core.Bool.{false≢true}
 use mathlib.Core.List.{List, _++_}
-use mathlib.Core.Option.{some}
 use mathlib.Core.Path.{_≡_, refl, sym, ap, ap₂, _∙_, subst}
 use native.Mathlib.Omega.{arith}
 use native.Mathlib.Nat.{add-zero}
@@ -17,21 +16,21 @@ use Rattle.language.specs.Sets.{combine}
 use Rattle.language.specs.Values.{Value, Set, set, limited, value}
 use Rattle.language.specs.Laws.Basics.Results.{value-of}
 use Rattle.entries.specs.Kinds as Kind
-use Rattle.entries.specs.Flat.{flat}
 use Rattle.name_values.specs.KnownLaws.{known-joined}
 use Rattle.sets.specs.Operators.{combination}
 use Rattle.sets.specs.declared.Worked.{Worked}
-use Rattle.operands.specs.Entries.{kindAt, sizeAt, placeAt}
-use Rattle.operands.specs.ClassLaws.{kind-of, place-is}
+use Rattle.operators.specs.Tables.{infixCodeAt}
+use Rattle.operands.specs.Entries.{kindAt, sizeAt, placeAt, numberAt}
 use Rattle.operands.specs.KindLaws.{combination-class}
 use Rattle.operands.specs.Working.{Source}
 use Rattle.memory_sets.specs.Places.{Copied, elementsAt, Two, SetAt}
 use Rattle.memory_sets.specs.PlacedLaws.{words-of, combine-sane}
+use Rattle.machine.specs.Phases as Phase
 use Rattle.machine.specs.Came.{Evaluate, Came, Worth, worth, works, asSet}
 use Rattle.machine.specs.Frames.{LeftSet, RightSet, combined, apply}
 use Rattle.machine.specs.Realm.{Realm, Operand}
 use Rattle.machine.specs.Operators.{Between, OpAt}
-use Rattle.machine.specs.OperatorLaws.{op-combination}
+use Rattle.machine.specs.OperatorLaws.{joined-at, op-combination}
 use Rattle.machine.specs.Memory.{firstKept, frameWords, freeOf, Slotted, nowhere, Held, onTop, Framed}
 use Rattle.machine.specs.MemoryLaws.{held-none, agree-same, agree-from}
 use Rattle.machine.specs.NoteLaws.{noted-kept, lasting-kept}
@@ -66,47 +65,41 @@ combination-same p o a b =
     ∙ sym (take-set a (λ m. (b >>= worth) >>= combined p o m))
 
 -- both operands stand before the entry
-pub combination-inside : {s : Source} {mem : List ℕ} {m : Machine} → Ready s mem m → Evaluates (s .work) m 19 22 → 1 + sizeAt (s .work) (m .value - 1) ≤ m .value
+pub combination-inside : {s : Source} {mem : List ℕ} {m : Machine} → Ready s mem m → Evaluates (s .work) m Kind.combination Kind.equality → 1 + sizeAt (s .work) (m .value - 1) ≤ m .value
 combination-inside {s} {m = m} r k =
     let e0 = k .mode in
     let n = entered (r .state) (omega arith) in
     let kind = kindAt (s .work) (m .value) in
-    let o = combination (kind - 19) in
     let v = operand-view (n .at .operand) (combination-class kind (k .from) (k .until)) in
-    let p = operand-as (n .at .operand) (v .3) in
-    two-operands p (Kind.joining (Combines o)) (v .0) (v .1) (v .2) (p .known .at) (known-joined (v .0) (Combines o) (v .1) (v .2) (p .known)) .inside
+    let o = v .1 in
+    let p = operand-as (n .at .operand) (v .4) in
+    two-operands p (Kind.joining (Combines o)) (v .0) (v .2) (v .3) (p .known .at) (known-joined (v .0) (Combines o) (v .2) (v .3) (p .known)) .inside
 
 -- the entry: its left operand is worked out first
-pub combination-steps : {s : Source} {mem mem' : List ℕ} {m : Machine} {j : ℕ} {r : Move} → Evaluates (s .work) m 19 22 → j ≡ m .value - 1 - sizeAt (s .work) (m .value - 1)
-    → Opened mem mem' m 4 (modeOf Evaluate) j r → Steps s mem mem' m r
+pub combination-steps : {s : Source} {mem mem' : List ℕ} {m : Machine} {j : ℕ} {r : Move} → Evaluates (s .work) m Kind.combination Kind.equality → j ≡ m .value - 1 - sizeAt (s .work) (m .value - 1)
+    → Opened mem mem' m Phase.leftSet (modeOf Evaluate) j r → Steps s mem mem' m r
 combination-steps {s} {mem} {mem'} {m} {j} {r} k ej q = record {
   turns = λ R x o out h.
       let e0 = k .mode in
       let n = entered h (omega arith) in
       let kind = kindAt (s .work) (m .value) in
-      let op = combination (kind - 19) in
       let v = operand-view (n .at .operand) (combination-class kind (k .from) (k .until)) in
       let t = v .0 in
-      let a = v .1 in
-      let b = v .2 in
-      let p = operand-as (n .at .operand) (v .3) in
+      let op = v .1 in
+      let a = v .2 in
+      let b = v .3 in
+      let p = operand-as (n .at .operand) (v .4) in
       let two = two-operands p (Kind.joining (Combines op)) t a b (p .known .at) (known-joined t (Combines op) a b (p .known)) in
       let ins = two .inside in
-      opens n {F = LeftSet (t .at) op (n .context) b} {phase = 4} {a = Evaluate} {e = a} {j = j} (record {
+      opens n {F = LeftSet (t .at) op (n .context) b} {phase = Phase.leftSet} {a = Evaluate} {e = a} {j = j} (record {
         holds-nothing = refl;
         few-turns = omega arith;
         below = omega arith;
         operand = subst (λ (i : ℕ). Operand s (R .W) (R .ports) (n .at .env) (n .context) i a) (sym ej) (two .left);
         holds = tt;
-        waits = (
-          record {
-            kind = kind-of (Kind.joining (Combines op)) (some t) (flat a ++ flat b) (p .known .at);
-            place = place-is (R .lexed) (Kind.joining (Combines op)) t (flat a ++ flat b) (p .known .at);
-          },
-          two .right,
-        );
+        waits = (joined-at (R .lexed) t (Combines op) a b p, two .right);
         kept = tt;
-        same = works-value n e0 ∙ ap (λ (d : Expr). value (n .context .values) d >>= worth) (v .3) ∙ combination-same (t .at) op (value (n .context .values) a) (value (n .context .values) b);
+        same = works-value n e0 ∙ ap (λ (d : Expr). value (n .context .values) d >>= worth) (v .4) ∙ combination-same (t .at) op (value (n .context .values) a) (value (n .context .values) b);
       }) r q;
 }
 
@@ -139,20 +132,20 @@ set-numbered {mem = mem} {m} t e =
     record { from = omega arith; top = omega arith; few = omega arith }
 
 -- the left operand has come
-module _ {s : Source} {mem : List ℕ} {m : Machine} (w : Waiting mem m 4) where
+module _ {s : Source} {mem : List ℕ} {m : Machine} (w : Waiting mem m Phase.leftSet) where
   pub left-misfits : (m .mode ≡ isSet → ⊥) → Takes s mem mem m (Refuses 9 0)
   left-misfits e = record {
     turns = λ R x o out t.
-        let v = by-phase (t .frame) 4 (top-phase t ∙ w .phase) in
+        let v = by-phase (t .frame) Phase.leftSet (top-phase t ∙ w .phase) in
         let h = top-as t (v .4) in
         refuses h (misfit-then _ (not-set R o mem m (h .came) (h .come) e));
   }
 
   pub left-steps : m .mode ≡ isSet → {mem' : List ℕ} {k top : ℕ} → k ≡ getD mem (m .frames + 1) 0 → top ≡ above m
-      → Framed mem mem' (m .frames) (record { phase = 5; entry = k; base = m .top; at = m .from; count = m .value; value = 0; other = 0 }) → Takes s mem mem' m (Next (holding-set m (k - 1) top))
+      → Framed mem mem' (m .frames) (record { phase = Phase.rightSet; entry = k; base = m .top; at = m .from; count = m .value; value = 0; other = 0 }) → Takes s mem mem' m (Next (holding-set m (k - 1) top))
   left-steps e {mem'} {k} ek et f = takes-next (ap (holding-set m (k - 1)) et) (record {
     turns = λ R x o out t.
-        let v = by-phase (t .frame) 4 (top-phase t ∙ w .phase) in
+        let v = by-phase (t .frame) Phase.leftSet (top-phase t ∙ w .phase) in
         let p = v .0 in
         let op = v .1 in
         let c = v .2 in
@@ -176,7 +169,7 @@ module _ {s : Source} {mem : List ℕ} {m : Machine} (w : Waiting mem m 4) where
         let am = above-most m in
         let lw = sits-low m (omega arith) (g .sits) in
         goes h {G = RightSet p op (g .set)} {a = Evaluate} {c = c} {e = b} {mem₁ = mem} (record {
-          new = record { phase = 5; entry = k; base = m .top; at = m .from; count = m .value; value = 0; other = 0 };
+          new = record { phase = Phase.rightSet; entry = k; base = m .top; at = m .from; count = m .value; value = 0; other = 0 };
           framed = f;
           phased = refl;
           base-is = ft;
@@ -218,7 +211,7 @@ abbrev pub made-set : Machine → (n base : ℕ) → Machine
 made-set m n base = record { mode = isSet; value = n; from = base; scope = m .scope; depth = m .depth; top = base; frames = m .frames + frameWords; nodes = m .nodes }
 
 -- the right operand has come: both sets, and the place behind them
-module _ {s : Source} {mem : List ℕ} {m : Machine} (w : Waiting mem m 5) (e : m .mode ≡ isSet) where
+module _ {s : Source} {mem : List ℕ} {m : Machine} (w : Waiting mem m Phase.rightSet) (e : m .mode ≡ isSet) where
   module _ {R : Realm s} {out : List ℕ} {x : Result Came} {o : Began} {p : ℕ} {op : Combination} {l : List ℕ} (h : TopOf R mem out m x o (RightSet p op l)) where
     right : IsSet mem m (h .came)
     right = came-set R o mem m (h .came) (h .come) e
@@ -321,7 +314,7 @@ pub record Reads (s : Source) (mem : List ℕ) (m : Machine) (k base la lc to i 
   pub left-at : la ≡ getD mem (m .frames + 3) 0
   pub left-count : lc ≡ getD mem (m .frames + 4) 0
   pub to-is : to ≡ above m
-  pub operator : i ≡ kindAt (s .work) k - 19
+  pub operator : i ≡ infixCodeAt (numberAt (s .work) k)
   pub place : p ≡ placeAt (s .work) k
 
 -- where the result goes
@@ -333,32 +326,26 @@ abbrev answer : List ℕ → Machine → (la lc i p : ℕ) → Result (List ℕ)
 answer mem m la lc i p = limited p (combine (combination i) (elementsAt mem (record { at = la; count = lc })) (elementsAt mem (record { at = m .from; count = m .value })))
 
 -- a frame of this phase
-module _ {s : Source} {mem : List ℕ} {m : Machine} (w : Waiting mem m 5) where
+module _ {s : Source} {mem : List ℕ} {m : Machine} (w : Waiting mem m Phase.rightSet) where
   pub right-misfits : (m .mode ≡ isSet → ⊥) → Takes s mem mem m (Refuses 9 0)
   right-misfits e = record {
     turns = λ R x o out t.
-        let v = by-phase (t .frame) 5 (top-phase t ∙ w .phase) in
+        let v = by-phase (t .frame) Phase.rightSet (top-phase t ∙ w .phase) in
         let h = top-as t (v .3) in
         refuses h (misfit-then _ (not-set R o mem m (h .came) (h .come) e));
   }
-
-  pub right-kind : Topped s mem m → 19 ≤ kindAt (s .work) (getD mem (m .frames + 1) 0)
-  right-kind t =
-      let v = by-phase (t .top .frame) 5 (top-phase (t .top) ∙ w .phase) in
-      let h = top-as (t .top) (v .3) in
-      subst (λ (j : ℕ). 19 ≤ kindAt (s .work) j) (sym (entry-word h)) (op-combination (h .at .waits) .0)
 
   module _ (e : m .mode ≡ isSet) where
     pub right-two : Topped s mem m → {la lc to : ℕ} → la ≡ getD mem (m .frames + 3) 0 → lc ≡ getD mem (m .frames + 4) 0 → to ≡ above m
         → Two mem (record { at = la; count = lc }) (record { at = m .from; count = m .value }) to
     right-two t {la} {lc} ea ec et =
-        let v = by-phase (t .top .frame) 5 (top-phase (t .top) ∙ w .phase) in
+        let v = by-phase (t .top .frame) Phase.rightSet (top-phase (t .top) ∙ w .phase) in
         let h = top-as (t .top) (v .3) in
         subst (Two mem (record { at = la; count = lc }) (record { at = m .from; count = m .value })) (sym et) (both w e h (ea ∙ at-word h) (ec ∙ count-word h))
 
     pub right-lowers : Topped s mem m → {base to n : ℕ} → base ≡ getD mem (m .frames + 2) 0 → to ≡ above m → n ≤ maxElements → Lowers mem base to n
     right-lowers t eb et l =
-        let v = by-phase (t .top .frame) 5 (top-phase (t .top) ∙ w .phase) in
+        let v = by-phase (t .top .frame) Phase.rightSet (top-phase (t .top) ∙ w .phase) in
         let h = top-as (t .top) (v .3) in
         let z = limits w e h in
         let z1 = z .base-low in
@@ -375,7 +362,7 @@ module _ {s : Source} {mem : List ℕ} {m : Machine} (w : Waiting mem m 5) where
 
         as-defined : answer mem m la lc i p ≡ limited pl (combine op (elementsAt mem (record { at = la; count = lc })) (elementsAt mem (record { at = m .from; count = m .value })))
         as-defined = ap₂ (λ (j : ℕ) (y : Combination). limited j (combine y (elementsAt mem (record { at = la; count = lc })) (elementsAt mem (record { at = m .from; count = m .value }))))
-            (q .place ∙ at .place) (ap combination (q .operator) ∙ op-combination at .1)
+            (q .place ∙ at .place) (ap combination (q .operator) ∙ op-combination at)
 
         comes-to : {r : Result (List ℕ)} → r ≡ answer mem m la lc i p → apply (RightSet pl op l) (h .came) ≡ (r >>= λ y. worth (Set y))
         comes-to g = joined w e h (q .left-at ∙ at-word h) (q .left-count ∙ count-word h) (sym as-defined ∙ sym g)
@@ -383,7 +370,7 @@ module _ {s : Source} {mem : List ℕ} {m : Machine} (w : Waiting mem m 5) where
       pub right-refuses : {mem₁ : List ℕ} {number place : ℕ} → SetAt mem mem₁ to (Worked.Refused number place) (answer mem m la lc i p) → Takes s mem mem₁ m (Refuses number place)
       right-refuses g = record {
         turns = λ R x o out t.
-            let v = by-phase (t .frame) 5 (top-phase t ∙ w .phase) in
+            let v = by-phase (t .frame) Phase.rightSet (top-phase t ∙ w .phase) in
             let h = top-as t (v .3) in
             refuses-late h (g .kept .len) (comes-to h (g .set .says) ∙ bind-refused _ _ _ _ refl);
       }
@@ -391,7 +378,7 @@ module _ {s : Source} {mem : List ℕ} {m : Machine} (w : Waiting mem m 5) where
       pub right-makes : {mem₁ mem₂ : List ℕ} {n : ℕ} → SetAt mem mem₁ to (Worked.Value n) (answer mem m la lc i p) → Copied mem₁ to mem₁ mem₂ base n → Takes s mem mem₂ m (Next (made-set m n base))
       right-makes {mem₁} {mem₂} {n} g c = record {
         turns = λ R x o out t.
-            let v = by-phase (t .frame) 5 (top-phase t ∙ w .phase) in
+            let v = by-phase (t .frame) Phase.rightSet (top-phase t ∙ w .phase) in
             let h = top-as t (v .3) in
             let z = limits w e h in
             let z1 = z .base-low in

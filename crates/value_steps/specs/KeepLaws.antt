@@ -15,6 +15,7 @@ use Rattle.memory_sets.specs.Places.{Copied}
 use Rattle.name_values.specs.World.{Meaning, nameValue, meaningAt}
 use Rattle.name_values.specs.Sorts as Sort
 use Rattle.operands.specs.Working.{Source}
+use Rattle.machine.specs.Phases as Phase
 use Rattle.machine.specs.Came.{Came, Worth, worth}
 use Rattle.machine.specs.Frames.{KeepValue}
 use Rattle.machine.specs.Realm.{Realm}
@@ -79,18 +80,18 @@ pub record Keeping (mem : List ℕ) (m : Machine) (r : ℕ) : Type 0 where
   pub inside : firstKept ≤ length mem
   pub frames : m .frames + frameWords ≤ length mem
 
-module _ {s : Source} {mem : List ℕ} {m : Machine} (w : Waiting mem m 17) where
+module _ {s : Source} {mem : List ℕ} {m : Machine} (w : Waiting mem m Phase.keepValue) where
   -- the name that is kept
   pub keep-name : Topped s mem m → {r : ℕ} → r ≡ getD mem (m .frames + 6) 0 → Keeping mem m r
   keep-name t er =
-      let v = by-phase (t .top .frame) 17 (top-phase (t .top) ∙ w .phase) in
+      let v = by-phase (t .top .frame) Phase.keepValue (top-phase (t .top) ∙ w .phase) in
       let h = top-as (t .top) (v .3) in
       record { declared = declared h (waiting h) er; inside = below h .inside; frames = h .at .inside }
 
   -- the set that has come can be copied
   pub keep-inside : Topped s mem m → m .mode ≡ isSet → m .from + m .value ≤ length mem
   keep-inside t e =
-      let v = by-phase (t .top .frame) 17 (top-phase (t .top) ∙ w .phase) in
+      let v = by-phase (t .top .frame) Phase.keepValue (top-phase (t .top) ∙ w .phase) in
       let h = top-as (t .top) (v .3) in
       let g = came-set (t .realm) (t .began) mem m (h .came) (h .come) e in
       let b = below h in
@@ -108,13 +109,13 @@ module _ {s : Source} {mem : List ℕ} {m : Machine} (w : Waiting mem m 17) wher
   module _ {scope : ℕ} (es : scope ≡ getD mem (m .frames + 5) 0) where
     -- whatever else it is, it goes on
     pub keep-passes : Takes s mem mem m (Next (released m scope))
-    keep-passes = record { turns = λ R x o out t. let v = by-phase (t .frame) 17 (top-phase t ∙ w .phase) in let h = top-as t (v .3) in lets-go h (waiting h) es }
+    keep-passes = record { turns = λ R x o out t. let v = by-phase (t .frame) Phase.keepValue (top-phase t ∙ w .phase) in let h = top-as t (v .3) in lets-go h (waiting h) es }
 
     module _ {r : ℕ} (er : r ≡ getD mem (m .frames + 6) 0) where
       pub keep-number : m .mode ≡ isNumber → Takes s mem (noting mem r Sort.number (m .value) 0) m (Next (released m scope))
       keep-number e = record {
         turns = λ R x o out t.
-            let v = by-phase (t .frame) 17 (top-phase t ∙ w .phase) in
+            let v = by-phase (t .frame) Phase.keepValue (top-phase t ∙ w .phase) in
             let h = top-as t (v .3) in
             let g = came-number R o mem m (h .came) (h .come) e in
             let b = below h in
@@ -129,7 +130,7 @@ module _ {s : Source} {mem : List ℕ} {m : Machine} (w : Waiting mem m 17) wher
       pub keep-kept : m .mode ≡ isSet → m .from < freeOf mem → Takes s mem (noting mem r Sort.set (m .value) (m .from)) m (Next (released m scope))
       keep-kept e lo = record {
         turns = λ R x o out t.
-            let v = by-phase (t .frame) 17 (top-phase t ∙ w .phase) in
+            let v = by-phase (t .frame) Phase.keepValue (top-phase t ∙ w .phase) in
             let h = top-as t (v .3) in
             let g = came-set R o mem m (h .came) (h .come) e in
             let b = below h in
@@ -156,7 +157,7 @@ module _ {s : Source} {mem : List ℕ} {m : Machine} (w : Waiting mem m 17) wher
           → Takes s mem (noting (set mem₁ freeWord (freeOf mem + m .value)) r Sort.set (m .value) (freeOf mem)) m (Next (released (came m (m .mode) (m .value) (freeOf mem)) scope))
       keep-copied {mem₁} e room cp = record {
         turns = λ R x o out t.
-            let v = by-phase (t .frame) 17 (top-phase t ∙ w .phase) in
+            let v = by-phase (t .frame) Phase.keepValue (top-phase t ∙ w .phase) in
             let h = top-as t (v .3) in
             let g = came-set R o mem m (h .came) (h .come) e in
             let b = below h in

@@ -24,6 +24,7 @@ use Rattle.operands.specs.Entries.{kindAt, placeAt}
 use Rattle.operands.specs.Classes.{classOf}
 use Rattle.operands.specs.ClassLaws.{place-is}
 use Rattle.operands.specs.Working.{Source}
+use Rattle.machine.specs.Phases as Phase
 use Rattle.machine.specs.Came.{Evaluate, Came, Worth, worth, works}
 use Rattle.machine.specs.Frames.{KeepValue}
 use Rattle.machine.specs.Realm.{Realm}
@@ -109,12 +110,12 @@ note-first mem r = ap (λ (i : ℕ). getD mem i 0) (sym (add-zero (noteWords * r
 
 -- the reference of the entry's name is that of a declared one, which is no definition whose body has to be worked out
 pub record Refers (work refs mem : List ℕ) (m : Machine) (r : ℕ) : Type 0 where
-  pub named : Evaluates work m Kind.named 1
+  pub named : Evaluates work m Kind.named Kind.numeral
   pub same : r ≡ getD refs (m .value) 0
   pub declared : r < maxNames
   pub no-body : noteAt mem r 0 ≡ Sort.body → ⊥
 
-module _ {s : Source} {mem : List ℕ} {m : Machine} (k : Evaluates (s .work) m Kind.named 1) {r : ℕ} (er : r ≡ getD (s .refs) (m .value) 0) where
+module _ {s : Source} {mem : List ℕ} {m : Machine} (k : Evaluates (s .work) m Kind.named Kind.numeral) {r : ℕ} (er : r ≡ getD (s .refs) (m .value) 0) where
   -- a big operator's name: its element stands in a slot
   pub element-inside : Ready s mem m → maxNames ≤ r → m .scope + (r - maxNames) < length mem
   element-inside h l =
@@ -222,7 +223,7 @@ module _ {s : Source} {mem : List ℕ} {m : Machine} (k : Evaluates (s .work) m 
     }
 
     -- a definition: its body is worked out, and a frame waits to keep what it comes to
-    pub body-steps : sort ≡ Sort.body → {mem' : List ℕ} {u : Move} → Enclosed mem mem' m 17 0 r (modeOf Evaluate) n u → Steps s mem mem' m u
+    pub body-steps : sort ≡ Sort.body → {mem' : List ℕ} {u : Move} → Enclosed mem mem' m Phase.keepValue 0 r (modeOf Evaluate) n u → Steps s mem mem' m u
     body-steps z {mem'} {u} w = record {
       turns = λ R x o out h.
           let e = k .mode in
@@ -230,7 +231,7 @@ module _ {s : Source} {mem : List ℕ} {m : Machine} (k : Evaluates (s .work) m 
           let b = fact q .body z in
           let c = b .context in
           let d = b .expr in
-          encloses q {F = KeepValue r c d} {phase = 17} {at = 0} {r = r} {a = Evaluate} {c = c} {e = d} {j = n} (record {
+          encloses q {F = KeepValue r c d} {phase = Phase.keepValue} {at = 0} {r = r} {a = Evaluate} {c = c} {e = d} {j = n} (record {
             holds-nothing = refl;
             few-turns = omega arith;
             below = named-by q (k .until) er .before n c d l (b .defines);

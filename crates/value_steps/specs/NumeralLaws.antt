@@ -30,7 +30,7 @@ use Rattle.machine.specs.OperandLaws.{operand-view, operand-as}
 use Rattle.machine.specs.declared.Machine.{Machine}
 use Rattle.machine.specs.Entering.{Evaluates, works-value}
 
-pub numeral-steps : {s : Source} {mem : List ℕ} {m : Machine} {p : ℕ} (w : Worked) → Evaluates (s .work) m Kind.numeral 2 → p ≡ placeAt (s .work) (m .value)
+pub numeral-steps : {s : Source} {mem : List ℕ} {m : Machine} {p : ℕ} (w : Worked) → Evaluates (s .work) m Kind.numeral Kind.truth → p ≡ placeAt (s .work) (m .value)
     → says w ≡ inRange p (decimal 0 (digitsAt (s .text) p)) → Steps s mem mem m (numbered m w)
 numeral-steps {s} {m = m} {p} w k q g = record {
   turns = λ R x o out h.

@@ -1,5 +1,4 @@
 // Operators between two sets. A set that a frame holds stays where it stands; the result is made above both and moved to where the frame's values begin.
-use entries::kinds;
 use machine::FRAME;
 use machine::Machine;
 use machine::Move;
@@ -11,10 +10,12 @@ use memory_sets::Span;
 use memory_sets::moving::lower;
 use memory_sets::two::combine;
 use node::refusals;
-use operands::entry::kind_at;
+use operands::entry::infix_at;
 use operands::entry::place_at;
 use operands::entry::size_at;
 use sets::Worked;
+ghost use Rattle.entries.specs.Kinds as Kind;
+ghost use Rattle.machine.specs.Phases as Phase;
 ghost use Rattle.machine.specs.States.{Ready, Steps, Topped, Takes};
 ghost use Rattle.operands.specs.Working.{source};
 ghost use Rattle.machine.specs.Entering.{Evaluates, Waiting};
@@ -22,7 +23,7 @@ ghost use Rattle.machine.specs.Entering.{Evaluates, Waiting};
 // The left operand is worked out first.
 pub fn combination(text: &[u8], work: &[u8], refs: &[u16], memory: &mut [u32], m: Machine) -> Move
     requires { ⌜ Ready (source (now text) (now work) (now refs)) (now memory) m ⌝ }
-    requires { ⌜ Evaluates (now work) m 19 22 ⌝ }
+    requires { ⌜ Evaluates (now work) m Kind.combination Kind.equality ⌝ }
     ensures { λ r. ⌜ Steps (source (now (text .entry)) (now (work .entry)) (now (refs .entry))) (now (memory .entry)) (now (memory .exit)) m r ⌝ }
 {
     let k = m.value as usize;
@@ -33,7 +34,7 @@ pub fn combination(text: &[u8], work: &[u8], refs: &[u16], memory: &mut [u32], m
 // The left operand has come: the right one is worked out above it.
 pub fn left(text: &[u8], work: &[u8], refs: &[u16], memory: &mut [u32], m: Machine) -> Move
     requires { ⌜ Topped (source (now text) (now work) (now refs)) (now memory) m ⌝ }
-    requires { ⌜ Waiting (now memory) m 4 ⌝ }
+    requires { ⌜ Waiting (now memory) m Phase.leftSet ⌝ }
     ensures { λ r. ⌜ Takes (source (now (text .entry)) (now (work .entry)) (now (refs .entry))) (now (memory .entry)) (now (memory .exit)) m r ⌝ }
 {
     if m.mode != modes::SET {
@@ -70,7 +71,7 @@ pub fn left(text: &[u8], work: &[u8], refs: &[u16], memory: &mut [u32], m: Machi
 // The right operand has come.
 pub fn right(text: &[u8], work: &[u8], refs: &[u16], memory: &mut [u32], m: Machine) -> Move
     requires { ⌜ Topped (source (now text) (now work) (now refs)) (now memory) m ⌝ }
-    requires { ⌜ Waiting (now memory) m 5 ⌝ }
+    requires { ⌜ Waiting (now memory) m Phase.rightSet ⌝ }
     ensures { λ r. ⌜ Takes (source (now (text .entry)) (now (work .entry)) (now (refs .entry))) (now (memory .entry)) (now (memory .exit)) m r ⌝ }
 {
     if m.mode != modes::SET {
@@ -88,7 +89,7 @@ pub fn right(text: &[u8], work: &[u8], refs: &[u16], memory: &mut [u32], m: Mach
         count: m.value as usize,
     };
     let to = m.above();
-    let operator = kind_at(work, k) - kinds::COMBINATIONS;
+    let operator = infix_at(work, k);
     let place = place_at(work, k);
     let r = combine(place, operator, memory, left, right, to);
     match r {

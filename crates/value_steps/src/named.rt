@@ -16,6 +16,8 @@ ghost use mathlib.Core.Path.{_≡_};
 ghost use Prim.Native.Nat.{_+_, _≤_, _<_, _^_};
 ghost use lib.ListN.{length};
 ghost use Rattle.language.specs.Limits.{maxNames};
+ghost use Rattle.entries.specs.Kinds as Kind;
+ghost use Rattle.machine.specs.Phases as Phase;
 ghost use Rattle.machine.specs.Memory.{firstKept, frameWords};
 ghost use Rattle.machine.specs.States.{Ready, Steps, Topped, Takes};
 ghost use Rattle.machine.specs.Telling.{isSet};
@@ -27,7 +29,7 @@ ghost use Rattle.value_steps.specs.NotingLaws.{noting};
 
 pub fn name(text: &[u8], work: &[u8], refs: &[u16], memory: &mut [u32], m: Machine) -> Move
     requires { ⌜ Ready (source (now text) (now work) (now refs)) (now memory) m ⌝ }
-    requires { ⌜ Evaluates (now work) m 0 1 ⌝ }
+    requires { ⌜ Evaluates (now work) m Kind.named Kind.numeral ⌝ }
     ensures { λ r. ⌜ Steps (source (now (text .entry)) (now (work .entry)) (now (refs .entry))) (now (memory .entry)) (now (memory .exit)) m r ⌝ }
 {
     let k = m.value as usize;
@@ -107,7 +109,7 @@ fn note(memory: &mut [u32], r: usize, sort: u32, n: u32, address: usize)
 // A definition's body has come to a value: a number or a set is kept.
 pub fn keep(text: &[u8], work: &[u8], refs: &[u16], memory: &mut [u32], m: Machine) -> Move
     requires { ⌜ Topped (source (now text) (now work) (now refs)) (now memory) m ⌝ }
-    requires { ⌜ Waiting (now memory) m 17 ⌝ }
+    requires { ⌜ Waiting (now memory) m Phase.keepValue ⌝ }
     ensures { λ r. ⌜ Takes (source (now (text .entry)) (now (work .entry)) (now (refs .entry))) (now (memory .entry)) (now (memory .exit)) m r ⌝ }
 {
     if m.mode == modes::SET {
@@ -126,7 +128,7 @@ pub fn keep(text: &[u8], work: &[u8], refs: &[u16], memory: &mut [u32], m: Machi
 // A set is copied behind the kept ones, unless it is one of them; where there is no room for it nothing is kept.
 fn keep_set(text: &[u8], work: &[u8], refs: &[u16], memory: &mut [u32], m: Machine) -> Move
     requires { ⌜ Topped (source (now text) (now work) (now refs)) (now memory) m ⌝ }
-    requires { ⌜ Waiting (now memory) m 17 ⌝ }
+    requires { ⌜ Waiting (now memory) m Phase.keepValue ⌝ }
     requires { ⌜ m .mode ≡ isSet ⌝ }
     ensures { λ r. ⌜ Takes (source (now (text .entry)) (now (work .entry)) (now (refs .entry))) (now (memory .entry)) (now (memory .exit)) m r ⌝ }
 {

@@ -1,5 +1,4 @@
 // Numerals, and operators between two numbers.
-use entries::kinds;
 use machine::Machine;
 use machine::Move;
 use machine::Words;
@@ -7,17 +6,19 @@ use machine::frame;
 use machine::modes;
 use machine::phases;
 use node::refusals;
-use operands::entry::kind_at;
+use operands::entry::infix_at;
 use operands::entry::place_at;
 use operands::entry::size_at;
 use sets::numbers;
+ghost use Rattle.entries.specs.Kinds as Kind;
+ghost use Rattle.machine.specs.Phases as Phase;
 ghost use Rattle.machine.specs.States.{Ready, Steps, Topped, Takes};
 ghost use Rattle.operands.specs.Working.{source};
 ghost use Rattle.machine.specs.Entering.{Evaluates, Waiting};
 
 pub fn numeral(text: &[u8], work: &[u8], refs: &[u16], memory: &[u32], m: Machine) -> Move
     requires { ⌜ Ready (source (now text) (now work) (now refs)) (now memory) m ⌝ }
-    requires { ⌜ Evaluates (now work) m 1 2 ⌝ }
+    requires { ⌜ Evaluates (now work) m Kind.numeral Kind.truth ⌝ }
     ensures { λ r. ⌜ Steps (source (now (text .entry)) (now (work .entry)) (now (refs .entry))) (now (memory .entry)) (now (memory .entry)) m r ⌝ }
 {
     let k = m.value as usize;
@@ -27,7 +28,7 @@ pub fn numeral(text: &[u8], work: &[u8], refs: &[u16], memory: &[u32], m: Machin
 // An operator between two numbers: its left operand is worked out first.
 pub fn calculation(text: &[u8], work: &[u8], refs: &[u16], memory: &mut [u32], m: Machine) -> Move
     requires { ⌜ Ready (source (now text) (now work) (now refs)) (now memory) m ⌝ }
-    requires { ⌜ Evaluates (now work) m 14 19 ⌝ }
+    requires { ⌜ Evaluates (now work) m Kind.arithmetic Kind.combination ⌝ }
     ensures { λ r. ⌜ Steps (source (now (text .entry)) (now (work .entry)) (now (refs .entry))) (now (memory .entry)) (now (memory .exit)) m r ⌝ }
 {
     let k = m.value as usize;
@@ -38,7 +39,7 @@ pub fn calculation(text: &[u8], work: &[u8], refs: &[u16], memory: &mut [u32], m
 // The left operand has come: the right one is worked out.
 pub fn left(text: &[u8], work: &[u8], refs: &[u16], memory: &mut [u32], m: Machine) -> Move
     requires { ⌜ Topped (source (now text) (now work) (now refs)) (now memory) m ⌝ }
-    requires { ⌜ Waiting (now memory) m 2 ⌝ }
+    requires { ⌜ Waiting (now memory) m Phase.left ⌝ }
     ensures { λ r. ⌜ Takes (source (now (text .entry)) (now (work .entry)) (now (refs .entry))) (now (memory .entry)) (now (memory .exit)) m r ⌝ }
 {
     if m.mode != modes::NUMBER {
@@ -65,7 +66,7 @@ pub fn left(text: &[u8], work: &[u8], refs: &[u16], memory: &mut [u32], m: Machi
 // The right operand has come.
 pub fn right(text: &[u8], work: &[u8], refs: &[u16], memory: &[u32], m: Machine) -> Move
     requires { ⌜ Topped (source (now text) (now work) (now refs)) (now memory) m ⌝ }
-    requires { ⌜ Waiting (now memory) m 3 ⌝ }
+    requires { ⌜ Waiting (now memory) m Phase.right ⌝ }
     ensures { λ r. ⌜ Takes (source (now (text .entry)) (now (work .entry)) (now (refs .entry))) (now (memory .entry)) (now (memory .entry)) m r ⌝ }
 {
     if m.mode != modes::NUMBER {
@@ -74,7 +75,7 @@ pub fn right(text: &[u8], work: &[u8], refs: &[u16], memory: &[u32], m: Machine)
     let at = m.frames;
     let k = memory[at + 1] as usize;
     let a = memory[at + 5];
-    let operator = kind_at(work, k) - kinds::ARITHMETIC;
+    let operator = infix_at(work, k);
     let r = numbers::calculate(place_at(work, k), operator, a, m.value);
     m.popped().numbered(r)
 }

@@ -1,8 +1,6 @@
 use native.Mathlib.Omega.{arith}
-use Prim.Native.Nat.{ℕ, _-_}
 use mathlib.Core.Path.{refl, ap, _∙_}
 use Rattle.atom_steps.specs.AgainstLaws.{
-  against-kind,
   against-notes,
   against-entry,
   against-readable,
@@ -35,23 +33,17 @@ cast-k c =
     let start = c .before .before .before .before .before in
     let f = topped-to-write-entry (start .pre .0) .few in omega arith
 
-kind-at-requires : tie.Need-kind-at-requires
-kind-at-requires c κs =
+infix-at-requires : tie.Need-infix-at-requires
+infix-at-requires c κs =
     let start = c .before .before .before .before .before in
     let f = topped-to-write-entry (start .pre .0) in (f .few, f .work)
-
-sub-operator : tie.Need-sub-operator
-sub-operator c =
-    let start = c .before .before .before .before .before .before in
-    let at-kind-at = c .kind-at in
-    let k = against-kind (start .pre .1) (start .pre .0) in let z = at-kind-at .ensures in omega arith
 
 returns : tie.Need-returns
 returns c =
     let start = c .before .before .before .before .before .before .before in
-    let at-kind-at = c .before .kind-at in
+    let at-infix-at = c .before .infix-at in
     let at-if1 = c .if1 in
-    against-misfits (start .pre .1) (ap (λ (i : ℕ). i - 22) (at-kind-at .ensures)) (at-if1 .taken)
+    against-misfits (start .pre .1) (at-infix-at .ensures) (at-if1 .taken)
 
 mul-width : tie.Need-mul-width
 mul-width c =
@@ -157,7 +149,7 @@ wrote-requires c κs = search needs
 returns-2 : tie.Need-returns-2
 returns-2 c =
     let start = c .before .before .before .before .before .before .before .before .before .before .before .before .before .before .before .before .before .before .before in
-    let at-kind-at = c .before .before .before .before .before .before .before .before .before .before .before .before .before .kind-at in
+    let at-infix-at = c .before .before .before .before .before .before .before .before .before .before .before .before .before .infix-at in
     let at-if1 = c .before .before .before .before .before .before .before .before .before .before .before .before .if1 in
     let at-words-end = c .before .before .before .before .before .before .before .before .words-end in
     let at-widths-are = c .before .before .before .before .before .before .before .widths-are in
@@ -168,7 +160,7 @@ returns-2 c =
     let at-capped = c .before .capped in
     let at-wrote = c .wrote in
     takes-to-write-as (ap Next (at-wrote .ensures ∙ ap (λ (n : Machine). wrote n (at-capped .result)) (at-popped .ensures)))
-    (against-equal (start .pre .1) (ap (λ (i : ℕ). i - 22) (at-kind-at .ensures))
+    (against-equal (start .pre .1) (at-infix-at .ensures)
     (record { width-is = refl; first-is = refl; entry-is = refl; end-is = at-words-end .ensures }) (at-if1 .left) (at-widths-are .ensures) (at-if2 .taken) (at-one-of .ensures) (at-if3 .taken) (at-capped .ensures))
 
 cap-requires : tie.Need-cap-requires
@@ -186,7 +178,7 @@ wrote-requires-2 c κs = search needs
 returns-3 : tie.Need-returns-3
 returns-3 c =
     let start = c .before .before .before .before .before .before .before .before .before .before .before .before .before .before .before .before .before .before .before .before .before in
-    let at-kind-at = c .before .before .before .before .before .before .before .before .before .before .before .before .before .before .before .kind-at in
+    let at-infix-at = c .before .before .before .before .before .before .before .before .before .before .before .before .before .before .before .infix-at in
     let at-if1 = c .before .before .before .before .before .before .before .before .before .before .before .before .before .before .if1 in
     let at-words-end = c .before .before .before .before .before .before .before .before .before .before .words-end in
     let at-widths-are = c .before .before .before .before .before .before .before .before .before .widths-are in
@@ -198,18 +190,18 @@ returns-3 c =
     let at-capped2 = c .before .capped2 in
     let at-wrote2 = c .wrote2 in
     takes-to-write-as (ap Next (at-wrote2 .ensures ∙ ap (λ (n : Machine). wrote n (at-capped2 .result)) (at-popped2 .ensures)))
-    (against-unequal (start .pre .1) (ap (λ (i : ℕ). i - 22) (at-kind-at .ensures))
+    (against-unequal (start .pre .1) (at-infix-at .ensures)
     (record { width-is = refl; first-is = refl; entry-is = refl; end-is = at-words-end .ensures }) (at-if1 .left) (at-widths-are .ensures) (at-if2 .taken) (at-one-of .ensures) (at-if3 .left) (at-cap .ensures) (at-capped2 .ensures))
 
 returns-4 : tie.Need-returns-4
 returns-4 c =
     let start = c .before .before .before .before .before .before .before .before .before .before .before .before .before in
-    let at-kind-at = c .before .before .before .before .before .before .before .kind-at in
+    let at-infix-at = c .before .before .before .before .before .before .before .infix-at in
     let at-if1 = c .before .before .before .before .before .before .if1 in
     let at-words-end = c .before .before .words-end in
     let at-widths-are = c .before .widths-are in
     let at-if2 = c .if2 in
-    against-width (start .pre .1) (ap (λ (i : ℕ). i - 22) (at-kind-at .ensures)) (record { width-is = refl; first-is = refl; entry-is = refl; end-is = at-words-end .ensures }) (at-if1 .left) (at-widths-are .ensures) (at-if2 .left)
+    against-width (start .pre .1) (at-infix-at .ensures) (record { width-is = refl; first-is = refl; entry-is = refl; end-is = at-words-end .ensures }) (at-if1 .left) (at-widths-are .ensures) (at-if2 .left)
 
 pub against-spec : {M : Type 1} → statement M
 against-spec =
@@ -219,8 +211,7 @@ against-spec =
     mul-k
     shared-slice-read-k
     cast-k
-    kind-at-requires
-    sub-operator
+    infix-at-requires
     returns
     mul-width
     add-width

@@ -1,7 +1,6 @@
 use native.Mathlib.Omega.{arith}
-use Prim.Native.Nat.{ℕ, _-_}
 use mathlib.Core.Path.{refl, ap, _∙_}
-use Rattle.atom_steps.specs.ComparisonLaws.{number-misfits, right-kind, number-steps}
+use Rattle.atom_steps.specs.ComparisonLaws.{number-misfits, number-steps}
 use Rattle.machine.specs.declared.Move.the-variants.{Next}
 use Rattle.machine.specs.declared.Machine.{Machine}
 use Rattle.machine.specs.EnterLaws.{wrote}
@@ -40,16 +39,10 @@ mul-a c = search needs
 shared-slice-read-a : tie.Need-shared-slice-read-a
 shared-slice-read-a c = search needs
 
-kind-at-requires : tie.Need-kind-at-requires
-kind-at-requires c κs =
+infix-at-requires : tie.Need-infix-at-requires
+infix-at-requires c κs =
     let start = c .before .before .before .before .before .before .before .before in
     let f = topped-to-write-entry (start .pre .0) in (f .few, f .work)
-
-sub-operator : tie.Need-sub-operator
-sub-operator c =
-    let start = c .before .before .before .before .before .before .before .before .before in
-    let at-kind-at = c .kind-at in
-    let k = right-kind (start .pre .1 .waiting) (start .pre .0) in let z = at-kind-at .ensures in omega arith
 
 compare-requires : tie.Need-compare-requires
 compare-requires c κs = search needs
@@ -70,14 +63,14 @@ returns-2 : tie.Need-returns-2
 returns-2 c =
     let start = c .before .before .before .before .before .before .before .before .before .before .before .before .before .before .before in
     let at-if1 = c .before .before .before .before .before .before .before .before .before .if1 in
-    let at-kind-at = c .before .before .before .before .before .before .kind-at in
+    let at-infix-at = c .before .before .before .before .before .before .infix-at in
     let at-compare = c .before .before .before .before .before .compare in
     let at-constant = c .before .before .before .constant in
     let at-popped = c .before .before .popped in
     let at-capped = c .before .capped in
     let at-wrote = c .wrote in
     takes-to-write-as (ap Next (at-wrote .ensures ∙ ap (λ (n : Machine). wrote n (at-capped .result)) (at-popped .ensures)))
-    (number-steps (start .pre .1) (at-if1 .left) (ap (λ (i : ℕ). i - 22) (at-kind-at .ensures)) refl (at-compare .ensures) (at-constant .ensures) (at-capped .ensures))
+    (number-steps (start .pre .1) (at-if1 .left) (at-infix-at .ensures) refl (at-compare .ensures) (at-constant .ensures) (at-capped .ensures))
 
 pub with-number-spec : {M : Type 1} → statement M
 with-number-spec =
@@ -91,8 +84,7 @@ with-number-spec =
     add-a
     mul-a
     shared-slice-read-a
-    kind-at-requires
-    sub-operator
+    infix-at-requires
     compare-requires
     constant-requires
     popped-requires

@@ -25,8 +25,8 @@ mul-k c = search needs
 slice-read-k : tie.Need-slice-read-k
 slice-read-k c = search needs
 
-cast-kind-at : tie.Need-cast-kind-at
-cast-kind-at c =
+cast-k : tie.Need-cast-k
+cast-k c =
     let start = c .before .before .before .before .before .before .before .before in
     let f = topped-to-write-entry (start .pre .0) .few in omega arith
 
@@ -43,12 +43,17 @@ returns-2 c =
     let at-if2 = c .if2 in
     elements-formless (start .pre .1) (at-if1 .left) refl (at-kind-at .ensures) (at-if2 .taken)
 
+prefix-at-requires : tie.Need-prefix-at-requires
+prefix-at-requires c κs =
+    let start = c .before .before .before .before .before .before .before .before .before .before .before .before in
+    let f = topped-to-write-entry (start .pre .0) in (f .few, f .work)
+
 constant-requires : tie.Need-constant-requires
 constant-requires c κs = search needs
 
 popped-requires : tie.Need-popped-requires
 popped-requires c κs =
-    let start = c .before .before .before .before .before .before .before .before .before .before .before .before .before .before in
+    let start = c .before .before .before .before .before .before .before .before .before .before .before .before .before .before .before in
     let i = start .pre .0 .top .top .at .inside in let s = start .pre .0 .lent .small in omega arith
 
 capped-requires : tie.Need-capped-requires
@@ -59,17 +64,18 @@ wrote-requires c κs = search needs
 
 returns-3 : tie.Need-returns-3
 returns-3 c =
-    let start = c .before .before .before .before .before .before .before .before .before .before .before .before .before .before .before .before .before in
-    let at-if1 = c .before .before .before .before .before .before .before .before .before .before .before .if1 in
-    let at-kind-at = c .before .before .before .before .before .before .before .before .kind-at in
-    let at-if2 = c .before .before .before .before .before .before .before .if2 in
-    let at-if3 = c .before .before .before .before .before .if3 in
+    let start = c .before .before .before .before .before .before .before .before .before .before .before .before .before .before .before .before .before .before in
+    let at-if1 = c .before .before .before .before .before .before .before .before .before .before .before .before .if1 in
+    let at-kind-at = c .before .before .before .before .before .before .before .before .before .kind-at in
+    let at-if2 = c .before .before .before .before .before .before .before .before .if2 in
+    let at-if3 = c .before .before .before .before .before .before .if3 in
+    let at-prefix-at = c .before .before .before .before .before .prefix-at in
     let at-constant = c .before .before .before .constant in
     let at-popped = c .before .before .popped in
     let at-capped = c .before .capped in
     let at-wrote = c .wrote in
     takes-to-write-as (ap Next (at-wrote .ensures ∙ ap (λ (n : Machine). wrote n (at-capped .result)) (at-popped .ensures)))
-    (elements-none (start .pre .1) (at-if1 .left) refl (at-kind-at .ensures) (at-if2 .left) (at-if3 .taken) refl (at-constant .ensures) (at-capped .ensures))
+    (elements-none (start .pre .1) (at-if1 .left) refl (at-kind-at .ensures) (at-if2 .left) (at-if3 .taken) (at-prefix-at .ensures) refl (at-constant .ensures) (at-capped .ensures))
 
 begin-requires : tie.Need-begin-requires
 begin-requires c κs =
@@ -99,9 +105,10 @@ elements-spec =
     add-k
     mul-k
     slice-read-k
-    cast-kind-at
+    cast-k
     kind-at-requires
     returns-2
+    prefix-at-requires
     constant-requires
     popped-requires
     capped-requires

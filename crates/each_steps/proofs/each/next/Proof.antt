@@ -1,9 +1,8 @@
-use Rattle.each_steps.specs.GatherLaws.{joins-small}
 use Prim.Native.Nat.{_+_}
 use mathlib.Core.Path.{refl}
 use native.Mathlib.Omega.{arith}
 use Rattle.machine.specs.OperandLaws.{topped-to-write-entry}
-use Rattle.each_steps.specs.EachLaws.{next-misfits, next-turnable, next-kind, next-steps}
+use Rattle.each_steps.specs.EachLaws.{next-misfits, next-turnable, next-small, next-steps}
 use borrow.Author.Needs.{needs}
 use Rattle.each_steps.proofs.each.next.Statement.{statement}
 use Rattle.each_steps.proofs.each.next.Tie as tie
@@ -43,29 +42,23 @@ cast-folded c =
     let at-slice-known3 = c .slice-known3 in
     omega (arith, at-slice-known3 .given (start .args .m .frames + 5))
 
-kind-at-requires : tie.Need-kind-at-requires
-kind-at-requires c κs =
+prefix-at-requires : tie.Need-prefix-at-requires
+prefix-at-requires c κs =
     let start = c .before .before .before .before .before .before .before .before in
     let f = topped-to-write-entry (start .pre .0) in (f .few, f .work)
 
-joining-requires : tie.Need-joining-requires
-joining-requires c κs =
-    let start = c .before .before .before .before .before .before .before .before .before in
-    let at-kind-at = c .kind-at in
-    let k = next-kind (start .pre .1) (start .pre .0) in let z = at-kind-at .ensures in let l = k .0 in let u = k .1 in ((omega arith), (omega arith))
-
 join-requires : tie.Need-join-requires
 join-requires c κs =
-    let at-kind-at = c .before .before .kind-at in
-    let at-joining = c .before .joining in
-    joins-small (at-kind-at .result) (at-joining .ensures)
+    let start = c .before .before .before .before .before .before .before .before .before .before in
+    let at-prefix-at = c .before .prefix-at in
+    let l = next-small (start .pre .1) (start .pre .0) in let e = at-prefix-at .ensures in omega arith
 
 capped-requires : tie.Need-capped-requires
 capped-requires c κs = search needs
 
 onward-requires : tie.Need-onward-requires
 onward-requires c κs =
-    let start = c .before .before .before .before .before .before .before .before .before .before .before .before .before .before in
+    let start = c .before .before .before .before .before .before .before .before .before .before .before .before .before in
     let at-capped = c .capped in
     next-turnable (start .pre .1) (start .pre .0) (let e = at-capped .ensures in omega arith)
 
@@ -74,14 +67,13 @@ same-length c = search needs
 
 returns-2 : tie.Need-returns-2
 returns-2 c =
-    let start = c .before .before .before .before .before .before .before .before .before .before .before .before .before .before .before .before .before in
-    let at-if1 = c .before .before .before .before .before .before .before .before .before .before .before .if1 in
-    let at-kind-at = c .before .before .before .before .before .before .before .before .kind-at in
-    let at-joining = c .before .before .before .before .before .before .before .joining in
+    let start = c .before .before .before .before .before .before .before .before .before .before .before .before .before .before .before .before in
+    let at-if1 = c .before .before .before .before .before .before .before .before .before .before .if1 in
+    let at-prefix-at = c .before .before .before .before .before .before .before .prefix-at in
     let at-join = c .before .before .before .before .before .join in
     let at-capped = c .before .before .before .capped in
     let at-onward = c .before .before .onward in
-    next-steps (start .pre .1) (at-if1 .left) refl (at-kind-at .ensures) (at-joining .ensures) refl (at-join .ensures) (at-capped .ensures) (at-onward .ensures)
+    next-steps (start .pre .1) (at-if1 .left) refl (at-prefix-at .ensures) refl (at-join .ensures) (at-capped .ensures) (at-onward .ensures)
 
 pub next-spec : {M : Type 1} → statement M
 next-spec =
@@ -96,8 +88,7 @@ next-spec =
     mul-folded
     slice-read-folded
     cast-folded
-    kind-at-requires
-    joining-requires
+    prefix-at-requires
     join-requires
     capped-requires
     onward-requires

@@ -29,17 +29,12 @@ returns c = (c .before .before .low) .ensures
 cast-at : tie.Need-cast-at
 cast-at c = omega arith
 
-number-requires : tie.Need-number-requires
-number-requires c κs =
-    let start = c .before .before .before .before .before .before .before in
-    ((start .pre .0 .state) .stacked .ready .fits .room, omega arith)
-
 add-number : tie.Need-add-number
 add-number c = omega arith
 
-number-requires-2 : tie.Need-number-requires-2
-number-requires-2 c κs =
-    let at-top = c .before .before .before .before .before in
+number-requires : tie.Need-number-requires
+number-requires c κs =
+    let at-top = c .before .before .before in
     let start = at-top .before .before .before .before in
     rw ((at-top .top) .ensures) (
       (start .pre .0 .state) .stacked .ready .fits .room,
@@ -52,16 +47,15 @@ between-requires c κs = search needs
 
 grow-requires : tie.Need-grow-requires
 grow-requires c κs =
-    let at-number2 = c .before .before in
-    let at-number = at-number2 .before .before in
+    let at-number = c .before .before in
     let at-top = at-number .before .before .before .before in
     let start = at-top .before .before .before .before in
-    rw ((c .before .between) .ensures, (at-number2 .number2) .ensures, (at-number .number) .ensures, (at-top .top) .ensures)
+    rw ((c .before .between) .ensures, (at-number .number) .ensures, (at-top .top) .ensures)
     (upper-grows (start .pre .0 .state) (start .pre .1) (let q : (at-top .top) .result / 8192 / 32 ≡ 19 = omega arith in ap slotClass (sym ((at-top .top) .ensures)) ∙ q))
 
 popped-requires : tie.Need-popped-requires
 popped-requires c κs =
-    let start = c .before .before .before .before .before .before .before .before .before .before .before .before .before .before .before in
+    let start = c .before .before .before .before .before .before .before .before .before .before .before .before .before in
     (start .pre .1)
 
 add-named : tie.Need-add-named
@@ -71,8 +65,7 @@ named-requires : tie.Need-named-requires
 named-requires c κs =
     let at-grow = c .before .before .before .before in
     let at-between = at-grow .before .before in
-    let at-number2 = at-between .before in
-    let at-number = at-number2 .before .before in
+    let at-number = at-between .before in
     let at-top = at-number .before .before .before .before in
     let start-2 = at-top .before .before .before .before in
     rw (
@@ -80,7 +73,6 @@ named-requires c κs =
       (at-grow .grow) .ensures .0,
       (at-grow .grow) .ensures .1,
       (at-between .between) .ensures,
-      (at-number2 .number2) .ensures,
       (at-number .number) .ensures,
       (at-top .top) .ensures,
     ) (record {
@@ -100,8 +92,7 @@ returns-2 c =
     let at-popped = at-named .before .before in
     let at-grow = at-popped .before .before .before in
     let at-between = at-grow .before .before in
-    let at-number2 = at-between .before in
-    let at-number = at-number2 .before .before in
+    let at-number = at-between .before in
     let at-top = at-number .before .before .before .before in
     let start = at-top .before .before .before .before in
     λ ts s x h. turn-upper h (start .pre .1) (let q : (at-top .top) .result / 8192 / 32 ≡ 19 = omega arith in ap slotClass (sym ((at-top .top) .ensures)) ∙ q) ((at-named .named) .result)
@@ -110,7 +101,6 @@ returns-2 c =
       (at-grow .grow) .ensures .0,
       (at-grow .grow) .ensures .1,
       (at-between .between) .ensures,
-      (at-number2 .number2) .ensures,
       (at-number .number) .ensures,
       (at-top .top) .ensures,
     ) at ((at-named .named) .ensures ts s x
@@ -119,7 +109,6 @@ returns-2 c =
       (at-grow .grow) .ensures .0,
       (at-grow .grow) .ensures .1,
       (at-between .between) .ensures,
-      (at-number2 .number2) .ensures,
       (at-number .number) .ensures,
       (at-top .top) .ensures,
     ) (names-upper h (start .pre .1) (let q : (at-top .top) .result / 8192 / 32 ≡ 19 = omega arith in ap slotClass (sym ((at-top .top) .ensures)) ∙ q)))))
@@ -166,9 +155,8 @@ names-spec =
     same-length
     returns
     cast-at
-    number-requires
     add-number
-    number-requires-2
+    number-requires
     between-requires
     grow-requires
     popped-requires

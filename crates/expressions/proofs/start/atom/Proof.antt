@@ -50,7 +50,7 @@ leaf-requires-2 c κs =
     let at-kind = c .before .before .before .before in
     let start = at-kind .before .before .before .before in
     let first : kindAt (now (start .args .work)) (start .args .m .c) ≡ 66 = (let q : (at-kind .kind) .result ≡ 66 = omega arith in sym ((at-kind .kind) .ensures) ∙ q) in
-    asks-leaf (start .pre .0) (omega arith) 3 (lit< tt)
+    asks-leaf (start .pre .0) (omega arith) 2 (lit< tt)
 
 same-length-3 : tie.Need-same-length-3
 same-length-3 c = search needs

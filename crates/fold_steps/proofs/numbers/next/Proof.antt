@@ -1,10 +1,7 @@
-use Prim.Native.Nat.{ℕ, _-_}
-use mathlib.Core.Path.{refl, ap, _∙_}
+use mathlib.Core.Path.{refl}
 use native.Mathlib.Omega.{arith}
 use Rattle.fold_steps.specs.NumberLaws.{next-misfits, next-foldable, next-refuses, next-steps}
 use Rattle.machine.specs.OperandLaws.{topped-entry}
-use Rattle.machine.specs.Frames.{numeric}
-use Rattle.fold_steps.specs.BigLaws.{bigOperator}
 use borrow.Author.Needs.{needs}
 use Rattle.fold_steps.proofs.numbers.next.Statement.{statement}
 use Rattle.fold_steps.proofs.numbers.next.Tie as tie
@@ -43,13 +40,10 @@ place-at-requires c κs =
     let start = c .before .before .before .before .before .before .before .before in
     let f = topped-entry (start .pre .0) in (f .few, f .work)
 
-kind-at-requires : tie.Need-kind-at-requires
-kind-at-requires c κs =
+prefix-at-requires : tie.Need-prefix-at-requires
+prefix-at-requires c κs =
     let start = c .before .before .before .before .before .before .before .before .before in
     let f = topped-entry (start .pre .0) in (f .few, f .work)
-
-between-requires : tie.Need-between-requires
-between-requires c κs = search needs
 
 calculate-requires : tie.Need-calculate-requires
 calculate-requires c κs = search needs
@@ -59,7 +53,7 @@ enum-known-r c = search needs
 
 onward-requires : tie.Need-onward-requires
 onward-requires c κs =
-    let start = c .before .before .before .before .before .before .before .before .before .before .before .before .before .before .before .before in
+    let start = c .before .before .before .before .before .before .before .before .before .before .before .before .before .before .before in
     next-foldable (start .pre .1) (start .pre .0)
 
 enum-known-r-2 : tie.Need-enum-known-r-2
@@ -70,29 +64,27 @@ same-length c = search needs
 
 returns-2 : tie.Need-returns-2
 returns-2 c =
-    let start = c .before .before .before .before .before .before .before .before .before .before .before .before .before .before .before .before .before .before .before in
-    let at-if1 = c .before .before .before .before .before .before .before .before .before .before .before .before .before .if1 in
-    let at-place-at = c .before .before .before .before .before .before .before .before .before .before .place-at in
-    let at-kind-at = c .before .before .before .before .before .before .before .before .before .kind-at in
-    let at-between = c .before .before .before .before .before .before .before .before .between in
+    let start = c .before .before .before .before .before .before .before .before .before .before .before .before .before .before .before .before .before .before in
+    let at-if1 = c .before .before .before .before .before .before .before .before .before .before .before .before .if1 in
+    let at-place-at = c .before .before .before .before .before .before .before .before .before .place-at in
+    let at-prefix-at = c .before .before .before .before .before .before .before .before .prefix-at in
     let at-calculate = c .before .before .before .before .before .before .before .calculate in
     let at-r = c .before .before .before .before .before .r in
     let at-onward = c .before .before .onward in
-    next-steps (start .pre .1) (at-if1 .left) {i = at-between .result}
-    (record { entry = refl; operator = at-between .ensures ∙ ap (λ (i : ℕ). numeric (bigOperator (i - 39))) (at-kind-at .ensures); place = at-place-at .ensures; folded = refl; answer = rw (at-r .given .1) at (at-calculate .ensures) })
+    next-steps (start .pre .1) (at-if1 .left) {i = at-prefix-at .result}
+    (record { entry = refl; operator = at-prefix-at .ensures; place = at-place-at .ensures; folded = refl; answer = rw (at-r .given .1) at (at-calculate .ensures) })
     (at-onward .result) (at-onward .ensures)
 
 returns-3 : tie.Need-returns-3
 returns-3 c =
-    let start = c .before .before .before .before .before .before .before .before .before .before .before .before .before .before .before in
-    let at-if1 = c .before .before .before .before .before .before .before .before .before .if1 in
-    let at-place-at = c .before .before .before .before .before .before .place-at in
-    let at-kind-at = c .before .before .before .before .before .kind-at in
-    let at-between = c .before .before .before .before .between in
+    let start = c .before .before .before .before .before .before .before .before .before .before .before .before .before .before in
+    let at-if1 = c .before .before .before .before .before .before .before .before .if1 in
+    let at-place-at = c .before .before .before .before .before .place-at in
+    let at-prefix-at = c .before .before .before .before .prefix-at in
     let at-calculate = c .before .before .before .calculate in
     let at-r2 = c .before .r2 in
-    next-refuses (start .pre .1) (at-if1 .left) {i = at-between .result}
-    (record { entry = refl; operator = at-between .ensures ∙ ap (λ (i : ℕ). numeric (bigOperator (i - 39))) (at-kind-at .ensures); place = at-place-at .ensures; folded = refl; answer = rw (at-r2 .given .1) at (at-calculate .ensures) })
+    next-refuses (start .pre .1) (at-if1 .left) {i = at-prefix-at .result}
+    (record { entry = refl; operator = at-prefix-at .ensures; place = at-place-at .ensures; folded = refl; answer = rw (at-r2 .given .1) at (at-calculate .ensures) })
 
 pub next-spec : {M : Type 1} → statement M
 next-spec =
@@ -107,8 +99,7 @@ next-spec =
     mul-a
     slice-read-a
     place-at-requires
-    kind-at-requires
-    between-requires
+    prefix-at-requires
     calculate-requires
     enum-known-r
     onward-requires

@@ -1,14 +1,12 @@
 use native.Mathlib.Omega.{arith}
-use Prim.Native.Nat.{ℕ, _-_}
 use mathlib.Core.Path.{refl, ap, _∙_}
 use Rattle.machine.specs.declared.Machine.{Machine}
 use Rattle.machine.specs.Telling.{isLogic}
 use Rattle.machine.specs.EnterLaws.{came}
-use Rattle.machine.specs.FlatLaws.{popped}
 use Rattle.machine.specs.ContractLaws.{takes-as, takes-next}
 use Rattle.machine.specs.OperandLaws.{topped-entry}
-use Rattle.fold_steps.specs.BigLaws.{bigOperator}
-use Rattle.fold_steps.specs.OverLaws.{overNothing, over-misfits, over-from, over-beginning, over-logic, over-nothing, over-numbers, over-sets}
+use Rattle.fold_steps.specs.Bigs.{bigBy}
+use Rattle.fold_steps.specs.OverLaws.{overNothing, over-misfits, over-beginning, over-logic, over-nothing, over-numbers, over-sets}
 use borrow.Author.Needs.{needs}
 use Rattle.fold_steps.proofs.over.elements.Statement.{statement}
 use Rattle.fold_steps.proofs.over.elements.Tie as tie
@@ -58,30 +56,32 @@ returns-2 c =
 popped-requires-2 : tie.Need-popped-requires-2
 popped-requires-2 c κs = search needs
 
-place-at-requires : tie.Need-place-at-requires
-place-at-requires c κs =
+prefix-at-requires : tie.Need-prefix-at-requires
+prefix-at-requires c κs =
     let start = c .before .before .before .before .before .before .before .before .before .before .before .before in
     let f = topped-entry (start .pre .0) in (f .few, f .work)
 
-nothing-requires : tie.Need-nothing-requires
-nothing-requires c κs =
+place-at-requires : tie.Need-place-at-requires
+place-at-requires c κs =
     let start = c .before .before .before .before .before .before .before .before .before .before .before .before .before in
-    let at-kind-at = c .before .before .before .before .before .kind-at in
-    let at-if2 = c .before .before .before .before .if2 in
-    let f = over-from (start .pre .1) (start .pre .0) in let z = at-kind-at .ensures in let u = at-if2 .left in (omega arith, omega arith)
+    let f = topped-entry (start .pre .0) in (f .few, f .work)
+
+nothing-requires : tie.Need-nothing-requires
+nothing-requires c κs = search needs
 
 returns-3 : tie.Need-returns-3
 returns-3 c =
-    let start = c .before .before .before .before .before .before .before .before .before .before .before .before .before .before in
-    let at-if1 = c .before .before .before .before .before .before .before .before .if1 in
-    let at-kind-at = c .before .before .before .before .before .before .kind-at in
-    let at-if3 = c .before .before .before .if3 in
-    let at-popped2 = c .before .before .popped2 in
+    let start = c .before .before .before .before .before .before .before .before .before .before .before .before .before .before .before in
+    let at-if1 = c .before .before .before .before .before .before .before .before .before .if1 in
+    let at-kind-at = c .before .before .before .before .before .before .before .kind-at in
+    let at-if2 = c .before .before .before .before .before .before .if2 in
+    let at-if3 = c .before .before .before .before .if3 in
+    let at-popped2 = c .before .before .before .popped2 in
+    let at-prefix-at = c .before .before .prefix-at in
     let at-place-at = c .before .place-at in
     let at-nothing = c .nothing in
-    takes-as (at-nothing .ensures ∙ ap (λ (n : Machine). overNothing n (bigOperator (at-kind-at .result - 39)) (at-place-at .result)) (at-popped2 .ensures)
-    ∙ ap (λ (j : ℕ). overNothing (popped (start .args .m)) (bigOperator (j - 39)) (at-place-at .result)) (at-kind-at .ensures))
-    (over-nothing (start .pre .1) (at-if1 .left) refl (at-if3 .taken) (at-place-at .ensures))
+    takes-as (at-nothing .ensures ∙ ap (λ (n : Machine). overNothing n (bigBy (at-kind-at .result) (at-prefix-at .result)) (at-place-at .result)) (at-popped2 .ensures))
+    (over-nothing (start .pre .1) (at-if1 .left) refl (let u = at-if2 .left in let z = at-kind-at .ensures in omega arith) (at-if3 .taken) (at-kind-at .ensures) (at-prefix-at .ensures) (at-place-at .ensures))
 
 begin-requires : tie.Need-begin-requires
 begin-requires c κs =
@@ -139,6 +139,7 @@ elements-spec =
     came-requires
     returns-2
     popped-requires-2
+    prefix-at-requires
     place-at-requires
     nothing-requires
     returns-3

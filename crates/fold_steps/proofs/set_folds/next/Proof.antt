@@ -1,9 +1,7 @@
 use native.Mathlib.Omega.{arith}
-use Prim.Native.Nat.{ℕ, _+_, _-_}
-use mathlib.Core.Path.{refl, ap, _∙_}
+use Prim.Native.Nat.{_+_}
+use mathlib.Core.Path.{refl}
 use Rattle.machine.specs.OperandLaws.{topped-entry}
-use Rattle.fold_steps.specs.BigLaws.{bigOperator}
-use Rattle.fold_steps.specs.SetFolds.{setwise}
 use Rattle.fold_steps.specs.SetLaws.{next-misfits, next-two, next-foldable, next-refuses, next-steps}
 use borrow.Author.Needs.{needs}
 use Rattle.fold_steps.proofs.set_folds.next.Statement.{statement}
@@ -65,23 +63,20 @@ cast-t18 c = search needs
 sub-to : tie.Need-sub-to
 sub-to c = search needs
 
-kind-at-requires : tie.Need-kind-at-requires
-kind-at-requires c κs =
+prefix-at-requires : tie.Need-prefix-at-requires
+prefix-at-requires c κs =
     let start = c .before .before .before .before .before .before .before .before .before .before in
     let f = topped-entry (start .pre .0) in (f .few, f .work)
 
-between-requires : tie.Need-between-requires
-between-requires c κs = search needs
-
 place-at-requires : tie.Need-place-at-requires
 place-at-requires c κs =
-    let start = c .before .before .before .before .before .before .before .before .before .before .before .before in
+    let start = c .before .before .before .before .before .before .before .before .before .before .before in
     let f = topped-entry (start .pre .0) in (f .few, f .work)
 
 combine-requires : tie.Need-combine-requires
 combine-requires c κs =
-    let start = c .before .before .before .before .before .before .before .before .before .before .before .before .before .before in
-    let at-if1 = c .before .before .before .before .before .before .before .before .if1 in
+    let start = c .before .before .before .before .before .before .before .before .before .before .before .before .before in
+    let at-if1 = c .before .before .before .before .before .before .before .if1 in
     next-two (start .pre .1) (at-if1 .left) refl refl refl (start .pre .0)
 
 enum-known-r : tie.Need-enum-known-r
@@ -89,15 +84,14 @@ enum-known-r c = search needs
 
 onward-requires : tie.Need-onward-requires
 onward-requires c κs =
-    let start = c .before .before .before .before .before .before .before .before .before .before .before .before .before .before .before .before .before .before .before .before .before in
-    let at-if1 = c .before .before .before .before .before .before .before .before .before .before .before .before .before .before .before .if1 in
-    let at-kind-at = c .before .before .before .before .before .before .before .before .before .before .kind-at in
-    let at-between = c .before .before .before .before .before .before .before .before .before .between in
+    let start = c .before .before .before .before .before .before .before .before .before .before .before .before .before .before .before .before .before .before .before .before in
+    let at-if1 = c .before .before .before .before .before .before .before .before .before .before .before .before .before .before .if1 in
+    let at-prefix-at = c .before .before .before .before .before .before .before .before .before .prefix-at in
     let at-place-at = c .before .before .before .before .before .before .before .before .place-at in
     let at-combine = c .before .before .before .before .before .before .combine in
     let at-r = c .before .before .r in
-    next-foldable (start .pre .1) (at-if1 .left) {i = at-between .result}
-    (record { entry = refl; operator = at-between .ensures ∙ ap (λ (i : ℕ). setwise (bigOperator (i - 39))) (at-kind-at .ensures); place = at-place-at .ensures; folded-at = refl; folded-count = refl; to-is = refl })
+    next-foldable (start .pre .1) (at-if1 .left) {i = at-prefix-at .result}
+    (record { entry = refl; operator = at-prefix-at .ensures; place = at-place-at .ensures; folded-at = refl; folded-count = refl; to-is = refl })
     (rw (at-r .given .1) at (at-combine .ensures)) (start .pre .0)
 
 enum-known-r-2 : tie.Need-enum-known-r-2
@@ -108,16 +102,15 @@ same-length c = search needs
 
 returns-2 : tie.Need-returns-2
 returns-2 c =
-    let start = c .before .before .before .before .before .before .before .before .before .before .before .before .before .before .before .before .before .before .before .before .before .before .before .before in
-    let at-if1 = c .before .before .before .before .before .before .before .before .before .before .before .before .before .before .before .before .before .before .if1 in
-    let at-kind-at = c .before .before .before .before .before .before .before .before .before .before .before .before .before .kind-at in
-    let at-between = c .before .before .before .before .before .before .before .before .before .before .before .before .between in
+    let start = c .before .before .before .before .before .before .before .before .before .before .before .before .before .before .before .before .before .before .before .before .before .before .before in
+    let at-if1 = c .before .before .before .before .before .before .before .before .before .before .before .before .before .before .before .before .before .if1 in
+    let at-prefix-at = c .before .before .before .before .before .before .before .before .before .before .before .before .prefix-at in
     let at-place-at = c .before .before .before .before .before .before .before .before .before .before .before .place-at in
     let at-combine = c .before .before .before .before .before .before .before .before .before .combine in
     let at-r = c .before .before .before .before .before .r in
     let at-onward = c .before .before .onward in
-    next-steps (start .pre .1) (at-if1 .left) {i = at-between .result}
-    (record { entry = refl; operator = at-between .ensures ∙ ap (λ (i : ℕ). setwise (bigOperator (i - 39))) (at-kind-at .ensures); place = at-place-at .ensures; folded-at = refl; folded-count = refl; to-is = refl })
+    next-steps (start .pre .1) (at-if1 .left) {i = at-prefix-at .result}
+    (record { entry = refl; operator = at-prefix-at .ensures; place = at-place-at .ensures; folded-at = refl; folded-count = refl; to-is = refl })
     (rw (at-r .given .1) at (at-combine .ensures)) (at-onward .result) (at-onward .ensures)
 
 same-length-2 : tie.Need-same-length-2
@@ -125,15 +118,14 @@ same-length-2 c = search needs
 
 returns-3 : tie.Need-returns-3
 returns-3 c =
-    let start = c .before .before .before .before .before .before .before .before .before .before .before .before .before .before .before .before .before .before .before .before in
-    let at-if1 = c .before .before .before .before .before .before .before .before .before .before .before .before .before .before .if1 in
-    let at-kind-at = c .before .before .before .before .before .before .before .before .before .kind-at in
-    let at-between = c .before .before .before .before .before .before .before .before .between in
+    let start = c .before .before .before .before .before .before .before .before .before .before .before .before .before .before .before .before .before .before .before in
+    let at-if1 = c .before .before .before .before .before .before .before .before .before .before .before .before .before .if1 in
+    let at-prefix-at = c .before .before .before .before .before .before .before .before .prefix-at in
     let at-place-at = c .before .before .before .before .before .before .before .place-at in
     let at-combine = c .before .before .before .before .before .combine in
     let at-r2 = c .before .r2 in
-    next-refuses (start .pre .1) (at-if1 .left) {i = at-between .result}
-    (record { entry = refl; operator = at-between .ensures ∙ ap (λ (i : ℕ). setwise (bigOperator (i - 39))) (at-kind-at .ensures); place = at-place-at .ensures; folded-at = refl; folded-count = refl; to-is = refl })
+    next-refuses (start .pre .1) (at-if1 .left) {i = at-prefix-at .result}
+    (record { entry = refl; operator = at-prefix-at .ensures; place = at-place-at .ensures; folded-at = refl; folded-count = refl; to-is = refl })
     (rw (at-r2 .given .1) at (at-combine .ensures))
 
 pub next-spec : {M : Type 1} → statement M
@@ -155,8 +147,7 @@ next-spec =
     cast-t28
     cast-t18
     sub-to
-    kind-at-requires
-    between-requires
+    prefix-at-requires
     place-at-requires
     combine-requires
     enum-known-r

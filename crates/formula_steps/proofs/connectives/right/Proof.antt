@@ -1,8 +1,7 @@
 use native.Mathlib.Omega.{arith}
 use mathlib.Core.Path.{refl, ap, _∙_}
 use Prim.Native.Nat.{_+_}
-use Rattle.formula_steps.specs.ConnectiveLaws.{right-misfits, right-kind, right-steps}
-use Rattle.operator_nodes.specs.ShapeLaws.{binary-small}
+use Rattle.formula_steps.specs.ConnectiveLaws.{right-misfits, right-small, right-steps}
 use Rattle.machine.specs.declared.Move.the-variants.{Next}
 use Rattle.machine.specs.declared.Machine.{Machine}
 use Rattle.machine.specs.EnterLaws.{wrote}
@@ -47,21 +46,16 @@ cast-first c =
     let at-shared-slice-known6 = c .shared-slice-known6 in
     omega (arith, at-shared-slice-known6 .given (start .args .m .frames + 5))
 
-kind-at-requires : tie.Need-kind-at-requires
-kind-at-requires c κs =
+infix-at-requires : tie.Need-infix-at-requires
+infix-at-requires c κs =
     let start = c .before .before .before .before .before .before .before .before in
     let f = topped-to-write-entry (start .pre .0) in (f .few, f .work)
 
-binary-kind-requires : tie.Need-binary-kind-requires
-binary-kind-requires c κs =
-    let start = c .before .before .before .before .before .before .before .before .before in
-    let at-kind-at = c .kind-at in
-    let k = right-kind (start .pre .1) (start .pre .0) in let z = at-kind-at .ensures in let l = k .0 in let u = k .1 in ((omega arith), (omega arith))
-
 join-requires : tie.Need-join-requires
 join-requires c κs =
-    let at-binary-kind = c .before .binary-kind in
-    let b = at-binary-kind .ensures in let l = binary-small (b .operator) in let e = b .node in omega arith
+    let start = c .before .before .before .before .before .before .before .before .before .before in
+    let at-infix-at = c .before .infix-at in
+    let l = right-small (start .pre .1) (start .pre .0) in let e = at-infix-at .ensures in omega arith
 
 popped-requires : tie.Need-popped-requires
 popped-requires c κs = search needs
@@ -74,16 +68,15 @@ wrote-requires c κs = search needs
 
 returns-2 : tie.Need-returns-2
 returns-2 c =
-    let start = c .before .before .before .before .before .before .before .before .before .before .before .before .before .before .before in
-    let at-if1 = c .before .before .before .before .before .before .before .before .before .if1 in
-    let at-kind-at = c .before .before .before .before .before .before .kind-at in
-    let at-binary-kind = c .before .before .before .before .before .binary-kind in
+    let start = c .before .before .before .before .before .before .before .before .before .before .before .before .before .before in
+    let at-if1 = c .before .before .before .before .before .before .before .before .if1 in
+    let at-infix-at = c .before .before .before .before .before .infix-at in
     let at-join = c .before .before .before .join in
     let at-popped = c .before .before .popped in
     let at-capped = c .before .capped in
     let at-wrote = c .wrote in
     takes-to-write-as (ap Next (at-wrote .ensures ∙ ap (λ (n : Machine). wrote n (at-capped .result)) (at-popped .ensures)))
-    (right-steps (start .pre .1) (at-if1 .left) refl (at-kind-at .ensures) (at-binary-kind .ensures) refl (at-join .ensures) (at-capped .ensures))
+    (right-steps (start .pre .1) (at-if1 .left) refl (at-infix-at .ensures) refl (at-join .ensures) (at-capped .ensures))
 
 pub right-spec : {M : Type 1} → statement M
 right-spec =
@@ -98,8 +91,7 @@ right-spec =
     mul-first
     shared-slice-read-first
     cast-first
-    kind-at-requires
-    binary-kind-requires
+    infix-at-requires
     join-requires
     popped-requires
     capped-requires

@@ -10,8 +10,8 @@ use Rattle.formula_steps.proofs.leaves.truth.Tie as tie
 cast-k : tie.Need-cast-k
 cast-k c = search needs
 
-kind-at-requires : tie.Need-kind-at-requires
-kind-at-requires c κs =
+number-at-requires : tie.Need-number-at-requires
+number-at-requires c κs =
     let start = c .before .before .before .before .before in
     written-entry (start .pre .0) (let e = start .pre .1 .mode in omega arith)
 
@@ -27,13 +27,13 @@ wrote-requires c κs = search needs
 returns : tie.Need-returns
 returns c =
     let start = c .before .before .before .before .before .before .before .before .before .before in
-    let at-kind-at = c .before .before .before .before .kind-at in
+    let at-number-at = c .before .before .before .before .number-at in
     let at-constant = c .before .before .constant in
     let at-capped = c .before .capped in
     let at-wrote = c .wrote in
-    writes-as (ap Next (at-wrote .ensures)) (truth-steps (start .pre .1) (at-kind-at .ensures) refl (at-constant .ensures) (at-capped .ensures))
+    writes-as (ap Next (at-wrote .ensures)) (truth-steps (start .pre .1) (at-number-at .ensures) refl (at-constant .ensures) (at-capped .ensures))
 
 pub truth-spec : {M : Type 1} → statement M
 truth-spec =
     tie.close
-    (tie.spec cast-k kind-at-requires constant-requires capped-requires wrote-requires returns)
+    (tie.spec cast-k number-at-requires constant-requires capped-requires wrote-requires returns)

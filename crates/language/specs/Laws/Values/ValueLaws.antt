@@ -171,31 +171,31 @@ logic e = whole e (Done Logic) (done tt)
 pub value-sane : (e : Expr) (braces : Bool) → Proper braces e → (sc : Scope) → Visible Sane sc → Within (SaneIn braces) (value sc e)
 value-sane (Named t) b p sc g = whole (p .0) _ (g t)
 value-sane (Numeral t) b p sc g = whole (p .0) _ (number-is _ (inRange-sane (t .at) (decimal 0 (t .text))))
-value-sane (Truth t c) b p sc g = logic p
+value-sane (Truth t c) b p sc g = logic (p .0)
 value-sane (Index t e) b p sc g = logic (p .0)
 value-sane (Paren t e) b p sc g = whole (p .0) _ (value-sane e false (p .1) sc g)
 value-sane (Prefixed t (Measures m) e) b p sc g =
-    whole (p .0) _ (number-is _ (bind _ _ (as-set _ (value-sane e false (p .1) sc g)) (measure-sane (t .at) m)))
+    whole (p .0 .0) _ (number-is _ (bind _ _ (as-set _ (value-sane e false (p .1) sc g)) (measure-sane (t .at) m)))
 value-sane (Prefixed t WidthOf e) b p sc g =
-    whole (p .0) _ (bind _ _ (bind _ bus (value-sane e false (p .1) sc g) bus-sane) (λ u h. done (omega (arith, h))))
-value-sane (Prefixed t (Applies o) e) b p sc g = logic (p .0)
+    whole (p .0 .0) _ (bind _ _ (bind _ bus (value-sane e false (p .1) sc g) bus-sane) (λ u h. done (omega (arith, h))))
+value-sane (Prefixed t (Applies o) e) b p sc g = logic (p .0 .0)
 value-sane (Joined t (Calculates o) x y) b p sc g =
-    whole (p .0) _ (bind _ _ (as-number _ (value-sane x false (p .1) sc g)) (λ m h.
+    whole (p .0 .0) _ (bind _ _ (as-number _ (value-sane x false (p .1) sc g)) (λ m h.
     number-is _ (bind _ _ (as-number _ (value-sane y false (p .2) sc g)) (λ n k. calculate-sane (t .at) o m n h k))))
 value-sane (Joined t (Combines o) x y) b p sc g =
-    whole (p .0) _ (bind _ _ (as-set _ (value-sane x false (p .1) sc g)) (λ m h.
+    whole (p .0 .0) _ (bind _ _ (as-set _ (value-sane x false (p .1) sc g)) (λ m h.
     bind _ _ (as-set _ (value-sane y false (p .2) sc g)) (λ n k.
     set-is _ (limited-sane (t .at) (combine o m n) (combine-ascending o 0 maxNumber m n (h .0) (k .0))))))
-value-sane (Joined t (Compares o) x y) b p sc g = logic (p .0)
-value-sane (Joined t Membership x y) b p sc g = logic (p .0)
-value-sane (Joined t (Connects o) x y) b p sc g = logic (p .0)
+value-sane (Joined t (Compares o) x y) b p sc g = logic (p .0 .0)
+value-sane (Joined t Membership x y) b p sc g = logic (p .0 .0)
+value-sane (Joined t (Connects o) x y) b p sc g = logic (p .0 .0)
 value-sane (Nexts t n e) b p sc g = logic (p .0)
-value-sane (InWindow t o n m e) b p sc g = logic (p .0)
+value-sane (InWindow t o n m e) b p sc g = logic (p .0 .0)
 value-sane (Each t o further i s e) b p sc g =
-    whole (p .0) _ (bind _ _ (as-set _ (value-sane s false (p .1) sc g)) (λ m h.
+    whole (p .0 .0) _ (bind _ _ (as-set _ (value-sane s false (p .1) sc g)) (λ m h.
     big-sane (t .at) o _ (λ k l. value-sane e false (p .2) (naming i (Done (Number k)) sc) (naming-within Sane i _ sc (done l) g)) m (ascending-all 0 maxNumber m (h .0))))
 value-sane (Between t l h x y) b p sc g =
-    whole (p .0) _ (bind _ _ (as-number _ (value-sane x false (p .1) sc g)) (λ m u.
+    whole (p .0 .0) _ (bind _ _ (as-number _ (value-sane x false (p .1) sc g)) (λ m u.
     set-is _ (bind _ _ (as-number _ (value-sane y false (p .2) sc g)) (λ n k. between-sane (t .at) l h m n k))))
 value-sane (Listed t es) b p sc g =
     whole (p .0) _ (set-is _ (bind _ _ (bind _ set (value-sane es true (p .1) sc g) (λ v h. h)) (limited-sane (t .at))))

@@ -1,5 +1,5 @@
 use mathlib.Core.Path.{ap}
-use Rattle.operator_nodes.specs.Shapes.{shapeOf}
+use Rattle.operands.specs.Shapes.{shapeOf}
 use Rattle.machine_run.specs.ChoosingLaws.{ready, formless, steps-write}
 use borrow.Author.Needs.{needs}
 use Rattle.machine_run.proofs.formulas.atom.Statement.{statement}

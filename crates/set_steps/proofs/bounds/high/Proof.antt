@@ -36,14 +36,22 @@ mul-a c = search needs
 slice-read-a : tie.Need-slice-read-a
 slice-read-a c = search needs
 
+number-at-requires : tie.Need-number-at-requires
+number-at-requires c κs =
+    let start = c .before .before .before .before .before .before .before .before in
+    let f = topped-entry (start .pre .0) in (f .few, f .work)
+
+strict-requires : tie.Need-strict-requires
+strict-requires c κs = search needs
+
 kind-at-requires : tie.Need-kind-at-requires
 kind-at-requires c κs =
-    let start = c .before .before .before .before .before .before .before .before in
+    let start = c .before .before .before .before .before .before .before .before .before .before in
     let f = topped-entry (start .pre .0) in (f .few, f .work)
 
 place-at-requires : tie.Need-place-at-requires
 place-at-requires c κs =
-    let start = c .before .before .before .before .before .before .before .before .before in
+    let start = c .before .before .before .before .before .before .before .before .before .before .before in
     let f = topped-entry (start .pre .0) in (f .few, f .work)
 
 between-requires : tie.Need-between-requires
@@ -57,14 +65,16 @@ same-length c = search needs
 
 returns-2 : tie.Need-returns-2
 returns-2 c =
-    let start = c .before .before .before .before .before .before .before .before .before .before .before .before .before .before .before in
-    let at-if1 = c .before .before .before .before .before .before .before .before .before .if1 in
+    let start = c .before .before .before .before .before .before .before .before .before .before .before .before .before .before .before .before .before in
+    let at-if1 = c .before .before .before .before .before .before .before .before .before .before .before .if1 in
+    let at-number-at = c .before .before .before .before .before .before .before .before .number-at in
+    let at-strict = c .before .before .before .before .before .before .before .strict in
     let at-kind-at = c .before .before .before .before .before .before .kind-at in
     let at-place-at = c .before .before .before .before .before .place-at in
     let at-between = c .before .before .before .between in
     let at-made = c .made in
     takes-as (at-made .ensures)
-    (high-steps (start .pre .1) (at-if1 .left) (at-between .result) refl (at-kind-at .ensures) (at-place-at .ensures) refl (at-between .ensures))
+    (high-steps (start .pre .1) (at-if1 .left) (at-between .result) refl (at-number-at .ensures) (at-strict .ensures) (at-kind-at .ensures) (at-place-at .ensures) refl (at-between .ensures))
 
 pub high-spec : {M : Type 1} → statement M
 high-spec =
@@ -78,6 +88,8 @@ high-spec =
     add-a
     mul-a
     slice-read-a
+    number-at-requires
+    strict-requires
     kind-at-requires
     place-at-requires
     between-requires

@@ -1,7 +1,6 @@
 use native.Mathlib.Omega.{arith}
 use mathlib.Core.Path.{refl, ap, _∙_}
-use Prim.Native.Nat.{ℕ, _-_}
-use Rattle.set_steps.specs.MeasureLaws.{measured-misfits, measured-kind, measured-placed, measured-steps}
+use Rattle.set_steps.specs.MeasureLaws.{measured-misfits, measured-placed, measured-steps}
 use Rattle.machine.specs.declared.Machine.{Machine}
 use Rattle.machine.specs.NumberLaws.{numbered}
 use Rattle.machine.specs.ContractLaws.{takes-as}
@@ -33,16 +32,10 @@ cast-k c =
 cast-t11 : tie.Need-cast-t11
 cast-t11 c = search needs
 
-kind-at-requires : tie.Need-kind-at-requires
-kind-at-requires c κs =
+prefix-at-requires : tie.Need-prefix-at-requires
+prefix-at-requires c κs =
     let start = c .before .before .before .before .before .before .before .before .before in
     let f = topped-entry (start .pre .0) in (f .few, f .work)
-
-sub-operator : tie.Need-sub-operator
-sub-operator c =
-    let start = c .before .before .before .before .before .before .before .before .before .before in
-    let at-kind-at = c .kind-at in
-    let k = measured-kind (start .pre .1) (start .pre .0) in let z = at-kind-at .ensures in omega arith
 
 place-at-requires : tie.Need-place-at-requires
 place-at-requires c κs =
@@ -67,13 +60,13 @@ returns-2 : tie.Need-returns-2
 returns-2 c =
     let start = c .before .before .before .before .before .before .before .before .before .before .before .before .before .before in
     let at-if1 = c .before .before .before .before .before .before .before .before .if1 in
-    let at-kind-at = c .before .before .before .before .kind-at in
+    let at-prefix-at = c .before .before .before .before .prefix-at in
     let at-place-at = c .before .before .before .place-at in
     let at-measure = c .before .before .measure in
     let at-popped = c .before .popped in
     let at-numbered = c .numbered in
     takes-as (at-numbered .ensures ∙ ap (λ (n : Machine). numbered n (at-measure .result)) (at-popped .ensures))
-    (measured-steps (start .pre .1) (at-if1 .left) (at-measure .result) refl (ap (λ (i : ℕ). i - 6) (at-kind-at .ensures)) (at-place-at .ensures) (at-measure .ensures))
+    (measured-steps (start .pre .1) (at-if1 .left) (at-measure .result) refl (at-prefix-at .ensures) (at-place-at .ensures) (at-measure .ensures))
 
 pub measured-spec : {M : Type 1} → statement M
 measured-spec =
@@ -85,8 +78,7 @@ measured-spec =
     shared-slice-read-k
     cast-k
     cast-t11
-    kind-at-requires
-    sub-operator
+    prefix-at-requires
     place-at-requires
     measure-requires
     popped-requires

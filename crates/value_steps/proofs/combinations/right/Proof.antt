@@ -1,7 +1,7 @@
 use native.Mathlib.Omega.{arith}
-use mathlib.Core.Path.{refl, ap}
-use Prim.Native.Nat.{ℕ, _+_, _-_}
-use Rattle.value_steps.specs.CombinationLaws.{right-misfits, right-kind, right-two, right-lowers, right-makes, right-refuses}
+use mathlib.Core.Path.{refl}
+use Prim.Native.Nat.{_+_}
+use Rattle.value_steps.specs.CombinationLaws.{right-misfits, right-two, right-lowers, right-makes, right-refuses}
 use Rattle.machine.specs.OperandLaws.{topped-entry}
 use borrow.Author.Needs.{needs}
 use Rattle.value_steps.proofs.combinations.right.Statement.{statement}
@@ -78,16 +78,10 @@ cast-t19 c = search needs
 above-requires : tie.Need-above-requires
 above-requires c κs = search needs
 
-kind-at-requires : tie.Need-kind-at-requires
-kind-at-requires c κs =
+infix-at-requires : tie.Need-infix-at-requires
+infix-at-requires c κs =
     let start = c .before .before .before .before .before .before .before .before .before .before .before .before in
     let f = topped-entry (start .pre .0) in (f .few, f .work)
-
-sub-operator : tie.Need-sub-operator
-sub-operator c =
-    let start = c .before .before .before .before .before .before .before .before .before .before .before .before .before in
-    let at-kind-at = c .kind-at in
-    let k = right-kind (start .pre .1) (start .pre .0) in let z = at-kind-at .ensures in omega arith
 
 place-at-requires : tie.Need-place-at-requires
 place-at-requires c κs =
@@ -135,13 +129,13 @@ returns-2 c =
     let start = c .before .before .before .before .before .before .before .before .before .before .before .before .before .before .before .before .before .before .before .before .before .before .before .before .before in
     let at-if1 = c .before .before .before .before .before .before .before .before .before .before .before .before .before .before .before .before .before .before .before .if1 in
     let at-above = c .before .before .before .before .before .before .before .before .before .before .before .before .before .above in
-    let at-kind-at = c .before .before .before .before .before .before .before .before .before .before .before .before .kind-at in
+    let at-infix-at = c .before .before .before .before .before .before .before .before .before .before .before .before .infix-at in
     let at-place-at = c .before .before .before .before .before .before .before .before .before .before .before .place-at in
     let at-combine = c .before .before .before .before .before .before .before .before .before .combine in
     let at-r = c .before .before .before .before .before .r in
     let at-lower = c .before .before .lower in
     right-makes (start .pre .1) (at-if1 .left)
-    (record { entry = refl; base-is = refl; left-at = refl; left-count = refl; to-is = at-above .ensures; operator = ap (λ (i : ℕ). i - 19) (at-kind-at .ensures); place = at-place-at .ensures })
+    (record { entry = refl; base-is = refl; left-at = refl; left-count = refl; to-is = at-above .ensures; operator = at-infix-at .ensures; place = at-place-at .ensures })
     (rw (at-r .given .1) at (at-combine .ensures)) (at-lower .ensures)
 
 same-length-2 : tie.Need-same-length-2
@@ -152,12 +146,12 @@ returns-3 c =
     let start = c .before .before .before .before .before .before .before .before .before .before .before .before .before .before .before .before .before .before .before .before .before in
     let at-if1 = c .before .before .before .before .before .before .before .before .before .before .before .before .before .before .before .if1 in
     let at-above = c .before .before .before .before .before .before .before .before .before .above in
-    let at-kind-at = c .before .before .before .before .before .before .before .before .kind-at in
+    let at-infix-at = c .before .before .before .before .before .before .before .before .infix-at in
     let at-place-at = c .before .before .before .before .before .before .before .place-at in
     let at-combine = c .before .before .before .before .before .combine in
     let at-r2 = c .before .r2 in
     right-refuses (start .pre .1) (at-if1 .left)
-    (record { entry = refl; base-is = refl; left-at = refl; left-count = refl; to-is = at-above .ensures; operator = ap (λ (i : ℕ). i - 19) (at-kind-at .ensures); place = at-place-at .ensures })
+    (record { entry = refl; base-is = refl; left-at = refl; left-count = refl; to-is = at-above .ensures; operator = at-infix-at .ensures; place = at-place-at .ensures })
     (rw (at-r2 .given .1) at (at-combine .ensures))
 
 pub right-spec : {M : Type 1} → statement M
@@ -183,8 +177,7 @@ right-spec =
     cast-t30
     cast-t19
     above-requires
-    kind-at-requires
-    sub-operator
+    infix-at-requires
     place-at-requires
     combine-requires
     enum-known-r

@@ -1,7 +1,6 @@
 use native.Mathlib.Omega.{arith}
 use mathlib.Core.Path.{refl, ap, _∙_}
-use Prim.Native.Nat.{ℕ, _-_}
-use Rattle.value_steps.specs.ArithmeticLaws.{right-misfits, right-kind, right-steps}
+use Rattle.value_steps.specs.ArithmeticLaws.{right-misfits, right-steps}
 use Rattle.machine.specs.declared.Machine.{Machine}
 use Rattle.machine.specs.NumberLaws.{numbered}
 use Rattle.machine.specs.ContractLaws.{takes-as}
@@ -39,16 +38,10 @@ mul-a c = search needs
 shared-slice-read-a : tie.Need-shared-slice-read-a
 shared-slice-read-a c = search needs
 
-kind-at-requires : tie.Need-kind-at-requires
-kind-at-requires c κs =
+infix-at-requires : tie.Need-infix-at-requires
+infix-at-requires c κs =
     let start = c .before .before .before .before .before .before .before .before in
     let f = topped-entry (start .pre .0) in (f .few, f .work)
-
-sub-operator : tie.Need-sub-operator
-sub-operator c =
-    let start = c .before .before .before .before .before .before .before .before .before in
-    let at-kind-at = c .kind-at in
-    let k = right-kind (start .pre .1) (start .pre .0) in let z = at-kind-at .ensures in omega arith
 
 place-at-requires : tie.Need-place-at-requires
 place-at-requires c κs =
@@ -68,13 +61,13 @@ returns-2 : tie.Need-returns-2
 returns-2 c =
     let start = c .before .before .before .before .before .before .before .before .before .before .before .before .before in
     let at-if1 = c .before .before .before .before .before .before .before .if1 in
-    let at-kind-at = c .before .before .before .before .kind-at in
+    let at-infix-at = c .before .before .before .before .infix-at in
     let at-place-at = c .before .before .before .place-at in
     let at-calculate = c .before .before .calculate in
     let at-popped = c .before .popped in
     let at-numbered = c .numbered in
     takes-as (at-numbered .ensures ∙ ap (λ (n : Machine). numbered n (at-calculate .result)) (at-popped .ensures))
-    (right-steps (start .pre .1) (at-if1 .left) (at-calculate .result) refl (ap (λ (i : ℕ). i - 14) (at-kind-at .ensures)) (at-place-at .ensures) refl (at-calculate .ensures))
+    (right-steps (start .pre .1) (at-if1 .left) (at-calculate .result) refl (at-infix-at .ensures) (at-place-at .ensures) refl (at-calculate .ensures))
 
 pub right-spec : {M : Type 1} → statement M
 right-spec =
@@ -88,8 +81,7 @@ right-spec =
     add-a
     mul-a
     shared-slice-read-a
-    kind-at-requires
-    sub-operator
+    infix-at-requires
     place-at-requires
     calculate-requires
     popped-requires

@@ -1,4 +1,4 @@
--- What the word of an operator's row says: levels, role, kinds of entries, as the grammar has them for the token.
+-- What the word of an operator's row says: levels, role, kinds of entries, code, as the grammar has them for the token.
 use Prim.Native.Nat.{ℕ, _+_, _*_, _/_, _%_, _<_}
 use Prim.Native.String.{String}
 use native.Mathlib.Omega.{arith}
@@ -15,9 +15,10 @@ use Rattle.language.specs.Grammar.{rightLevel}
 use Rattle.language.specs.Laws.Basics.Tests.{and-left, and-right, some-none}
 use Rattle.lexer.specs.Numbers.{number, numbered}
 use Rattle.entries.specs.Kinds as Kind
 use Rattle.operators.specs.Readers.{infixRow, prefixRow, operatorIn, operatorAt, levelIn, levelAt, roleIn, roleAt}
+use Rattle.operators.specs.Codes.{infixCode, roleCode}
 use Rattle.operators.specs.Tables.{rowBy, infixBy, prefixBy, infixWord, prefixWord, roleNumber, windowKind, soleKind, infixAt, prefixAt}
 use Rattle.operators.specs.TableLaws.{infix-number, prefix-number}
 
 -- what a test says of every row holds of the row found
 every : {R : Type 0} → (R → Bool) → List R → Bool
@@ -43,10 +44,11 @@ pub record InfixFound (t : Token) (x : ℕ) : Type 0 where
   pub here : infixRow t ≡ some row
   pub level : x % 32 ≡ row .level
   pub right : x / 32 % 32 ≡ rightLevel row
-  pub kind : x / 1024 ≡ Kind.joining (operatorAt t)
+  pub kind : x / 1024 % 64 ≡ Kind.joining (operatorAt t)
+  pub code : x / 65_536 ≡ infixCode (operatorAt t)
   pub right-some : 0 < rightLevel row
   pub right-fits : rightLevel row < 32
-  pub kind-fits : x / 1024 < 64
+  pub kind-fits : x / 1024 % 64 < 64
 
 infix-found : (t : Token) (r : InfixRow) → infixBy (number t) ≡ some r → InfixFound t (infixWord (some r))
 unfolding operatorAt every
@@ -60,12 +62,17 @@ infix-found t r e =
     let a = ltb-true (r .level) 32 (and-right (ltb 0 (r .level)) _ levels) in
     let b = ltb-true (rightLevel r) 32 (and-right (ltb 0 (rightLevel r)) _ rights) in
     let k = ltb-true (Kind.joining (r .operator)) 64 (and-right (ltb 0 (Kind.joining (r .operator))) _ kinds) in
+    let x = infixWord (some r) in
+    let high : x / 1024 ≡ infixCode (r .operator) * 64 + Kind.joining (r .operator) = omega arith in
+    let dk : x / 1024 % 64 ≡ Kind.joining (r .operator) = ap (λ y. y % 64) high ∙ below-join 6 (infixCode (r .operator)) k in
+    let dc : x / 65_536 ≡ infixCode (r .operator) = omega arith in
     record {
       row = r;
       here = row;
       level = omega arith;
       right = omega arith;
-      kind = (let d : infixWord (some r) / 1024 ≡ Kind.joining (r .operator) = omega arith in d ∙ ap (λ o. Kind.joining (operatorIn o)) (sym row));
+      kind = dk ∙ ap (λ o. Kind.joining (operatorIn o)) (sym row);
+      code = dc ∙ ap (λ o. infixCode (operatorIn o)) (sym row);
       right-some = ltb-true 0 (rightLevel r) (and-left (ltb 0 (rightLevel r)) _ rights);
       right-fits = b;
       kind-fits = omega arith;
@@ -103,10 +110,11 @@ pub record PrefixFound (t : Token) (x : ℕ) : Type 0 where
   pub level : x % 32 ≡ levelAt t
   pub role : x / 32 % 8 ≡ roleNumber (roleAt t)
   pub sole : x / 256 % 64 ≡ soleKind (roleAt t)
-  pub window : x / 16_384 ≡ windowKind (roleAt t)
+  pub window : x / 16_384 % 64 ≡ windowKind (roleAt t)
+  pub code : x / 1_048_576 ≡ roleCode (roleAt t)
   pub level-some : 0 < levelAt t
   pub level-fits : levelAt t < 32
-  pub window-fits : x / 16_384 < 64
+  pub window-fits : x / 16_384 % 64 < 64
 
 role-small : (o : Role) → roleNumber o < 8
 role-small o = elim o [ Plain p ↦ lit< tt | Counted ↦ lit< tt | Windowed q ↦ lit< tt | Folding q ↦ lit< tt ]
@@ -127,11 +135,14 @@ prefix-found t r e =
     let same : r .level ≡ levelIn (prefixRow t) = ap levelIn (sym row) in
     let role-same : r .role ≡ roleIn (prefixRow t) = ap roleIn (sym row) in
     let dl : x % 32 ≡ r .level = omega arith in
-    let next : x / 32 ≡ (windowKind (r .role) * 64 + soleKind (r .role)) * 8 + roleNumber (r .role) = omega arith in
-    let dr : x / 32 % 8 ≡ roleNumber (r .role) = ap (λ y. y % 8) next ∙ below-join 3 (windowKind (r .role) * 64 + soleKind (r .role)) b in
-    let high : x / 256 ≡ windowKind (r .role) * 64 + soleKind (r .role) = omega arith in
-    let ds : x / 256 % 64 ≡ soleKind (r .role) = ap (λ y. y % 64) high ∙ below-join 6 (windowKind (r .role)) k in
-    let dw : x / 16_384 ≡ windowKind (r .role) = omega arith in
+    let two = roleCode (r .role) * 64 + windowKind (r .role) in
+    let next : x / 32 ≡ (two * 64 + soleKind (r .role)) * 8 + roleNumber (r .role) = omega arith in
+    let dr : x / 32 % 8 ≡ roleNumber (r .role) = ap (λ y. y % 8) next ∙ below-join 3 (two * 64 + soleKind (r .role)) b in
+    let high : x / 256 ≡ two * 64 + soleKind (r .role) = omega arith in
+    let ds : x / 256 % 64 ≡ soleKind (r .role) = ap (λ y. y % 64) high ∙ below-join 6 two k in
+    let higher : x / 16_384 ≡ two = omega arith in
+    let dw : x / 16_384 % 64 ≡ windowKind (r .role) = ap (λ y. y % 64) higher ∙ below-join 6 (roleCode (r .role)) v in
+    let dc : x / 1_048_576 ≡ roleCode (r .role) = omega arith in
     record {
       row = r;
       here = row;
@@ -140,6 +151,7 @@ prefix-found t r e =
       role = dr ∙ ap roleNumber role-same;
       sole = ds ∙ ap soleKind role-same;
       window = dw ∙ ap windowKind role-same;
+      code = dc ∙ ap roleCode role-same;
       level-some = subst (λ n. 0 < n) same z;
       level-fits = subst (λ n. n < 32) same a;
       window-fits = omega arith;
