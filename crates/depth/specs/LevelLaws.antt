@@ -10,6 +10,7 @@ use lib.Seq.{slice, slice-cons}
 use native.Mathlib.Omega.{arith}
 use native.Mathlib.Numerals.{add-one}
 use borrow.Author.Tests.{eq-eqb, ne-eqb, lt-ltb, le-ltb, le-leb, lt-leb}
+use Rattle.language.specs.Bytes.{if_then_else_}
 use Rattle.language.specs.Limits.{maxLevels}
 use Rattle.language.specs.Laws.Basics.Tests.{pick, leave}
 use Rattle.entries.specs.Kinds as Kind
@@ -22,6 +23,10 @@ not-one e d = omega arith
 
 -- levels
 module _ (k n s : ℕ) where
+  pub level-by : (v : ℕ) → v ≡ getD ownLevels k 0 → (if eqb v 1 then capped (suc n) else (if eqb v 2 then (if eqb s (Kind.binder false) then capped (suc n) else n) else n)) ≡ levelOf k n s
+  unfolding levelOf
+  level-by v e = ap (λ u. if eqb u 1 then capped (suc n) else (if eqb u 2 then (if eqb s (Kind.binder false) then capped (suc n) else n) else n)) e
+
   pub own-level : getD ownLevels k 0 ≡ 1 → levelOf k n s ≡ capped (suc n)
   unfolding levelOf
   own-level e = pick (eqb (getD ownLevels k 0) 1) _ _ (eq-eqb _ _ e)

@@ -20,13 +20,6 @@ ghost use Rattle.depth.specs.Progress.{Reached};
 ghost use Rattle.depth.specs.ProgressLaws.{TooDeep};
 ghost use Rattle.depth.specs.Depth.{capped, highest as highest', levelOf, faultOf};
 
-// By kind: 1 for a level of its own, 2 if that depends on the first operand.
-const OWN_LEVELS: [u8; 64] = *b"\
-    \x01\x01\x01\x01\x01\x01\x01\x01\x01\x01\x01\x01\x01\x01\x01\x01\
-    \x01\x01\x01\x01\x01\x01\x01\x01\x01\x01\x01\x01\x01\x01\x01\x01\
-    \x01\x01\x01\x01\x01\x01\x01\x02\x02\x02\x02\x02\x02\x00\x00\x00\
-    \x00\x00\x00\x01\x00\x01\x00\x00\x00\x00\x00\x00\x00\x00\x00\x00";
-
 // The kind of the entry before, how many operands are on the stack, and the first place found.
 pub struct Progress {
     pub before: u32,
@@ -65,21 +58,30 @@ fn raised(n: u32) -> u32
     }
 }
 
+// One more than its operands' for an expression; a big operator is one level however many names it has, which its first name's entry counts.
 fn level_of(kind: u32, most: u32, start: u32) -> u32
     requires { ⌜ kind < 64 ⌝ }
     ensures { λ r. ⌜ r ≡ levelOf kind most start ⌝ }
 {
-    let own = OWN_LEVELS[kind as usize];
-    if own == 1 {
-        return raised(most);
-    }
-    if own == 2 {
+    if kind < kinds::BIG_NUMBERS {
+        raised(most)
+    } else if kind < kinds::BINDER {
         if start == kinds::BINDER {
-            return raised(most);
+            raised(most)
+        } else {
+            most
         }
-        return most;
+    } else if kind < kinds::LISTED {
+        most
+    } else if kind < kinds::ELEMENT {
+        raised(most)
+    } else if kind < kinds::RANGE {
+        most
+    } else if kind < kinds::LINES {
+        raised(most)
+    } else {
+        most
     }
-    most
 }
 
 // Too deep, if the entry is a line's.

@@ -13,7 +13,10 @@ use crate::stack::TOKENS;
 use crate::stack::Turn;
 use entries::Parse;
 use operators::infixes::infix;
-ghost use mathlib.Core.Bool.{true};
+ghost use mathlib.Core.Path.{_≡_};
+ghost use mathlib.Core.Bool.{true, not, _&&_};
+ghost use Prim.Native.Nat.{_%_};
+ghost use lib.Dec.{eqb, leb};
 ghost use Rattle.expressions.specs.States.{Standing, Steps};
 ghost use Rattle.expressions.specs.Complete.{Completed, Ends};
 
@@ -45,6 +48,16 @@ fn pop(m: Machine, work: &mut [u8]) -> Turn
     names(m, work)
 }
 
+// The row is that of an operator, of a level up to this one.
+fn tight(row: u32, level: u32) -> bool
+    ensures { λ r. ⌜ r ≡ (not (eqb row 0) && leb (row % 32) level) ⌝ }
+{
+    if row == 0 {
+        return false;
+    }
+    row % 32 <= level
+}
+
 // An operand is complete: an operator that is tight enough goes on with it.
 fn climb(m: Machine, work: &mut [u8]) -> Turn
     requires { ⌜ Standing true (now work) m ⌝ }
@@ -53,13 +66,10 @@ fn climb(m: Machine, work: &mut [u8]) -> Turn
     let c = m.c;
     let at = c.at;
     let q = infix(c.kind(work));
-    if q == 0 {
-        return pop(m, work);
+    if tight(q, m.level) {
+        return Turn::Next(m.push(work, RIGHT, at, c.next(), q / 32 % 32));
     }
-    if m.level < q % 32 {
-        return pop(m, work);
-    }
-    Turn::Next(m.push(work, RIGHT, at, c.next(), q / 32 % 32))
+    pop(m, work)
 }
 
 // One step.

@@ -1,14 +1,11 @@
--- The rows by number are the grammar's rows of the token; a table that lists them has at each place the row of that number.
-use Prim.Native.Nat.{ℕ, zero, suc, _+_, _≤_, _<_}
+-- The rows by number are the grammar's rows of the token; a number that is none of the names' has no row.
+use Prim.Native.Nat.{ℕ}
 use Prim.Native.String.{String}
-use native.Mathlib.Omega.{arith}
 use mathlib.Core.List.{List, [], _∷_}
 use mathlib.Core.Bool.{Bool, true, false, _&&_, _||_}
 use mathlib.Core.Option.{Option, none, some}
 use mathlib.Core.Path.{_≡_, refl, sym, ap, _∙_}
-use lib.Dec.{ltb}
-use lib.ListN.{getD}
-use borrow.Author.Tests.{ltb-true, ne-eqb}
+use borrow.Author.Tests.{ne-eqb}
 use Rattle.language.specs.Tokens.{Token}
 use Rattle.language.specs.Operators.{InfixRow, infixes, PrefixRow, prefixes}
 use Rattle.language.specs.Grammar.{named, infixOf, prefixOf}
@@ -18,47 +15,33 @@ use Rattle.lexer.specs.NumberLaws.{known, named-number}
 use Rattle.operators.specs.Readers.{infixRow, prefixRow}
 use Rattle.operators.specs.Tables.{rowBy, infixBy, prefixBy, infixWord, prefixWord, infixAt, prefixAt}
 
--- a function's values from i on, n of them
-abbrev pub values : (ℕ → ℕ) → ℕ → ℕ → List ℕ
-values f i zero = []
-values f i (suc n) = f i ∷ values f (suc i) n
+-- the number is that of no name, as the last arm of a `match` knows it that has one for each name in their order; `before` is what it knows by arms before them
+abbrev NoName : Type 0 → List String → ℕ → Type 0
+NoName before [] n = before
+NoName before (s ∷ ss) n = NoName (before × (n ≡ fixed s → ⊥)) ss n
 
-values-from : (f : ℕ → ℕ) (i n k : ℕ) → k < n → getD (values f i n) k 0 ≡ f (i + k)
-values-from f i zero k h = absurd (omega arith)
-values-from f i (suc n) zero h = ap f (omega arith)
-values-from f i (suc n) (suc k) h = values-from f (suc i) n k (omega arith) ∙ ap f (omega arith)
-
-pub values-at : (f : ℕ → ℕ) (n k : ℕ) → k < n → getD (values f 0 n) k 0 ≡ f k
-values-at f n k h = values-from f 0 n k h ∙ ap f (omega arith)
-
--- every name of a row is a sign or word of the format, with a number below the table's size
-abbrev tableSize : ℕ
-tableSize = 104
-
-small : List String → Bool
-small [] = true
-small (s ∷ ss) = ltb (fixed s) tableSize && small ss
+not-numbered : (before : Type 0) (ss : List String) (n : ℕ) → NoName before ss n → before × (numbered ss n ≡ false)
+not-numbered before [] n h = (h, refl)
+not-numbered before (s ∷ ss) n h =
+    let later = not-numbered (before × (n ≡ fixed s → ⊥)) ss n h in
+    (later .0 .0, ap (λ b. b || numbered ss n) (ne-eqb n (fixed s) (later .0 .1)) ∙ later .1)
 
 module _ {R : Type 0} (names : R → List String) where
   good : List R → Bool
   good [] = true
-  good (r ∷ rs) = (known (names r) && small (names r)) && good rs
+  good (r ∷ rs) = known (names r) && good rs
 
-  -- a number that no name has
-  not-numbered : (ss : List String) (n : ℕ) → small ss ≡ true → tableSize ≤ n → numbered ss n ≡ false
-  unfolding small
-  not-numbered [] n h l = refl
-  not-numbered (s ∷ ss) n h l =
-      let k = ltb-true (fixed s) tableSize (and-left (ltb (fixed s) tableSize) (small ss) h) in
-      ap (λ b. b || numbered ss n) (ne-eqb n (fixed s) (λ e. omega arith)) ∙ not-numbered ss n (and-right (ltb (fixed s) tableSize) (small ss) h) l
+  -- nor of one in the rows
+  abbrev NoRow : Type 0 → List R → ℕ → Type 0
+  NoRow before [] n = before
+  NoRow before (r ∷ rs) n = NoRow (NoName before (names r) n) rs n
 
-  none-past : (rs : List R) (n : ℕ) → good rs ≡ true → tableSize ≤ n → rowBy names rs n ≡ none
-  unfolding good
-  none-past [] n h l = refl
-  none-past (r ∷ rs) n h l =
-      let here = and-left (known (names r) && small (names r)) (good rs) h in
-      leave (numbered (names r) n) _ _ (not-numbered (names r) n (and-right (known (names r)) (small (names r)) here) l)
-      ∙ none-past rs n (and-right (known (names r) && small (names r)) (good rs) h) l
+  none-found : (before : Type 0) (rs : List R) (n : ℕ) → NoRow before rs n → before × (rowBy names rs n ≡ none)
+  none-found before [] n h = (h, refl)
+  none-found before (r ∷ rs) n h =
+      let later = none-found (NoName before (names r) n) rs n h in
+      let here = not-numbered before (names r) n (later .0) in
+      (here .0, leave (numbered (names r) n) _ _ (here .1) ∙ later .1)
 
   -- a search by the token's names is one by its number
   module _ (find : List R → Token → Option R) (t : Token) (nothing : find [] t ≡ none)
@@ -67,23 +50,22 @@ module _ {R : Type 0} (names : R → List String) where
     unfolding good
     find-number [] h = nothing
     find-number (r ∷ rs) h =
-        let here = and-left (known (names r) && small (names r)) (good rs) h in
         step r rs
-        ∙ ap (λ (b : Bool). elim b [ true ↦ some r | false ↦ find rs t ]) (named-number (names r) t (and-left (known (names r)) (small (names r)) here))
-        ∙ ap (λ (o : Option R). elim (numbered (names r) (number t)) [ true ↦ some r | false ↦ o ]) (find-number rs (and-right (known (names r) && small (names r)) (good rs) h))
+        ∙ ap (λ (b : Bool). elim b [ true ↦ some r | false ↦ find rs t ]) (named-number (names r) t (and-left (known (names r)) (good rs) h))
+        ∙ ap (λ (o : Option R). elim (numbered (names r) (number t)) [ true ↦ some r | false ↦ o ]) (find-number rs (and-right (known (names r)) (good rs) h))
 
 pub infix-number : (t : Token) → infixRow t ≡ infixBy (number t)
-unfolding infixRow good small
+unfolding infixRow good
 infix-number t = find-number (λ (r : InfixRow). r .names) infixOf t refl (λ r rs. refl) infixes refl
 
 pub prefix-number : (t : Token) → prefixRow t ≡ prefixBy (number t)
-unfolding prefixRow good small
+unfolding prefixRow good
 prefix-number t = find-number (λ (r : PrefixRow). r .names) prefixOf t refl (λ r rs. refl) prefixes refl
 
-pub infix-past : (n : ℕ) → tableSize ≤ n → 0 ≡ infixAt n
-unfolding infixAt good small
-infix-past n h = ap infixWord (sym (none-past (λ (r : InfixRow). r .names) infixes n refl h))
+pub infix-other : (n : ℕ) → NoRow (λ (r : InfixRow). r .names) (Unit {0}) infixes n → 0 ≡ infixAt n
+unfolding infixAt
+infix-other n h = ap infixWord (sym (none-found (λ (r : InfixRow). r .names) (Unit {0}) infixes n h .1))
 
-pub prefix-past : (n : ℕ) → tableSize ≤ n → 0 ≡ prefixAt n
-unfolding prefixAt good small
-prefix-past n h = ap prefixWord (sym (none-past (λ (r : PrefixRow). r .names) prefixes n refl h))
+pub prefix-other : (n : ℕ) → NoRow (λ (r : PrefixRow). r .names) (Unit {0}) prefixes n → 0 ≡ prefixAt n
+unfolding prefixAt
+prefix-other n h = ap prefixWord (sym (none-found (λ (r : PrefixRow). r .names) (Unit {0}) prefixes n h .1))

@@ -2,3 +2,4 @@
 pub mod codes;
 pub mod infixes;
 pub mod prefixes;
+pub mod tokens;

@@ -1,7 +1,7 @@
-// Table 1 of document 001 by the numbers of tokens, operators before their operand: a new one is a new row here.
+// Table 1 of document 001 by the numbers of tokens, operators before their operand: a new one is a constant and an arm here, at its place in the order of specs/Operators of crate language.
 use crate::codes;
+use crate::tokens;
 use entries::kinds;
-use lexer::numbers;
 use node::Node;
 ghost use mathlib.Core.Path.{_≡_};
 ghost use Rattle.operators.specs.Tables.{prefixAt, prefixCodeAt};
@@ -59,123 +59,36 @@ const BIG_AND: u32 = Node::AND * CODE + kinds::BIG_FORMULAS * SOLE + FOLDING + 1
 
 const BIG_OR: u32 = Node::OR * CODE + kinds::BIG_FORMULAS * SOLE + FOLDING + 11;
 
-// By the number of a token.
-const PREFIX: [u32; 104] = [
-    0,
-    0,
-    0,
-    0,
-    0,
-    0,
-    BIG_CAP,
-    BIG_CUP,
-    0,
-    0,
-    0,
-    0,
-    0,
-    0,
-    0,
-    0,
-    0,
-    BIG_AND,
-    BIG_OR,
-    0,
-    0,
-    0,
-    0,
-    0,
-    0,
-    0,
-    0,
-    0,
-    0,
-    0,
-    0,
-    0,
-    PRODUCT,
-    0,
-    0,
-    SUM,
-    0,
-    0,
-    0,
-    NOT,
-    0,
-    0,
-    0,
-    0,
-    0,
-    0,
-    0,
-    0,
-    0,
-    0,
-    0,
-    0,
-    0,
-    0,
-    0,
-    0,
-    0,
-    0,
-    0,
-    0,
-    0,
-    0,
-    0,
-    0,
-    0,
-    0,
-    0,
-    0,
-    SUM,
-    PRODUCT,
-    SIZE,
-    MIN,
-    MAX,
-    SIZEOF,
-    0,
-    0,
-    0,
-    0,
-    0,
-    BIG_CAP,
-    BIG_CUP,
-    0,
-    0,
-    0,
-    0,
-    0,
-    0,
-    0,
-    0,
-    0,
-    0,
-    NOT,
-    NEXT,
-    FINALLY,
-    GLOBALLY,
-    BIG_AND,
-    BIG_AND,
-    BIG_OR,
-    BIG_OR,
-    0,
-    0,
-    0,
-    0,
-    0,
-];
-
 // The row of an operator before its operand, 0 if the number is none.
 pub fn prefix(number: u32) -> u32
     ensures { λ r. ⌜ r ≡ prefixAt number ⌝ }
 {
-    if number < numbers::COUNT {
-        let n = number as usize;
-        return PREFIX[n];
+    match number {
+        tokens::PLUS_SIGN => SUM,
+        tokens::SUM => SUM,
+        tokens::STAR => PRODUCT,
+        tokens::PROD => PRODUCT,
+        tokens::SIZE => SIZE,
+        tokens::MIN => MIN,
+        tokens::MAX => MAX,
+        tokens::SIZEOF => SIZEOF,
+        tokens::CIRCLED_STAR => BIG_CAP,
+        tokens::CAP => BIG_CAP,
+        tokens::CIRCLED_PLUS => BIG_CUP,
+        tokens::CUP => BIG_CUP,
+        tokens::BANG => NOT,
+        tokens::NOT => NOT,
+        tokens::X => NEXT,
+        tokens::F => FINALLY,
+        tokens::G => GLOBALLY,
+        tokens::CONJUNCTION => BIG_AND,
+        tokens::AND => BIG_AND,
+        tokens::FORALL => BIG_AND,
+        tokens::DISJUNCTION => BIG_OR,
+        tokens::OR => BIG_OR,
+        tokens::EXISTS => BIG_OR,
+        _ => 0,
     }
-    0
 }
 
 // The code of the operator before its operand that a token of this number is; 0, SIZE, for a bar.

@@ -1,5 +1,6 @@
 pub mod Cells
 pub mod Arity
+pub mod Stretches
 pub mod Parts
 pub mod Places
 pub mod ArityLaws

@@ -2,7 +2,7 @@
 use Prim.Native.Nat.{ℕ}
 use mathlib.Core.List.{List, [], _∷_, map}
 use mathlib.Core.Bool.{Bool, true, false, false≢true}
-use mathlib.Core.Path.{_≡_, refl, _∙_}
+use mathlib.Core.Path.{_≡_, refl, ap, _∙_}
 use lib.Dec.{eqb, ltb}
 use lib.ListN.{getD}
 use native.Mathlib.Omega.{arith}
@@ -38,15 +38,19 @@ firstOf (n ∷ ns) = n
 
 -- the ways through the definition
 module _ (k x s : ℕ) where
-  pub by-operand : getD starting k 0 ≡ 1 → startOf k x s ≡ s
+  pub start-by : (v : ℕ) → v ≡ getD starting k 0 → (if eqb v 1 then s else (if eqb v 2 then k else x)) ≡ startOf k x s
+  unfolding startOf
+  start-by v e = ap (λ u. if eqb u 1 then s else (if eqb u 2 then k else x)) e
+
+  by-operand : getD starting k 0 ≡ 1 → startOf k x s ≡ s
   unfolding startOf
   by-operand e = pick (eqb (getD starting k 0) 1) _ _ (eq-eqb _ _ e)
 
-  pub by-kind : (getD starting k 0 ≡ 1 → ⊥) → getD starting k 0 ≡ 2 → startOf k x s ≡ k
+  by-kind : (getD starting k 0 ≡ 1 → ⊥) → getD starting k 0 ≡ 2 → startOf k x s ≡ k
   unfolding startOf
   by-kind e d = leave (eqb (getD starting k 0) 1) _ _ (ne-eqb _ _ e) ∙ pick (eqb (getD starting k 0) 2) _ _ (eq-eqb _ _ d)
 
-  pub by-token : (getD starting k 0 ≡ 1 → ⊥) → (getD starting k 0 ≡ 2 → ⊥) → startOf k x s ≡ x
+  by-token : (getD starting k 0 ≡ 1 → ⊥) → (getD starting k 0 ≡ 2 → ⊥) → startOf k x s ≡ x
   unfolding startOf
   by-token e d = leave (eqb (getD starting k 0) 1) _ _ (ne-eqb _ _ e) ∙ leave (eqb (getD starting k 0) 2) _ _ (ne-eqb _ _ d)
 

@@ -1,34 +1,19 @@
 // One pass over the entries of a text's tree, operands before their operators, with a stack of what is known of the operands.
 // The functions ask for an index within the lent buffers and a kind of six bits: every pass goes over the entries, whose words hold no others.
-use basics::u8_usize::wide;
 use entries::fields::SIZES;
 use entries::fields::TOKENS;
 use entries::kinds;
 use words::get;
 ghost use mathlib.Core.Path.{_≡_};
 ghost use Prim.Native.Nat.{_-_, _≤_, _<_};
-ghost use lib.ListN.{length};
+ghost use lib.ListN.{length, getD};
 ghost use lib.Seq.{slice};
 ghost use Rattle.language.specs.Limits.{workBytes, maxTokens};
 ghost use Rattle.language.specs.Places.{first};
 ghost use Rattle.traversal.specs.Cells.{cellAt};
-ghost use Rattle.traversal.specs.Arity.{operands};
+ghost use Rattle.traversal.specs.Arity.{arities, operands};
 ghost use Rattle.traversal.specs.Starts.{firstOf, startOf};
 ghost use Rattle.traversal.specs.Places.{placed, placeIn};
-
-// How many operands a kind has.
-const ARITIES: [u8; 64] = *b"\
-    \x00\x00\x00\x00\x01\x01\x01\x01\x01\x01\x01\x01\x01\x01\x02\x02\
-    \x02\x02\x02\x02\x02\x02\x02\x02\x02\x02\x02\x02\x02\x02\x02\x02\
-    \x02\x02\x02\x02\x02\x03\x03\x02\x02\x02\x02\x02\x02\x01\x01\x02\
-    \x02\x02\x02\x01\x01\x03\x01\x01\x00\x00\x00\x00\x01\x01\x01\x00";
-
-// By kind: 1 if the first operand stands first, 2 for a big operator's name.
-const STARTING: [u8; 64] = *b"\
-    \x00\x00\x00\x00\x00\x00\x00\x00\x00\x00\x00\x00\x00\x00\x01\x01\
-    \x01\x01\x01\x01\x01\x01\x01\x01\x01\x01\x01\x01\x01\x01\x01\x01\
-    \x01\x01\x01\x01\x00\x00\x00\x00\x00\x00\x00\x00\x00\x02\x02\x01\
-    \x01\x01\x01\x00\x01\x00\x00\x00\x00\x00\x00\x00\x00\x00\x00\x00";
 
 // An entry as a pass sees it: its kind, its token's word, its size.
 pub struct Cell {
@@ -73,6 +58,40 @@ pub fn cell_at(work: &[u8], i: usize) -> Cell
     }
 }
 
+// How many operands a kind has.
+fn arity(kind: u32) -> usize
+    requires { ⌜ kind < 64 ⌝ }
+    ensures { λ r. ⌜ r ≡ getD arities kind 0 ⌝ }
+{
+    if kind < kinds::INDEX {
+        0
+    } else if kind < kinds::ARITHMETIC {
+        1
+    } else if kind < kinds::WINDOW {
+        2
+    } else if kind < kinds::BIG_NUMBERS {
+        3
+    } else if kind < kinds::BINDER {
+        2
+    } else if kind < kinds::BETWEEN {
+        1
+    } else if kind < kinds::LISTED {
+        2
+    } else if kind < kinds::RANGE {
+        1
+    } else if kind < kinds::LINES {
+        3
+    } else if kind < kinds::ENUMERATION {
+        1
+    } else if kind < kinds::BUS {
+        0
+    } else if kind < kinds::HEADING {
+        1
+    } else {
+        0
+    }
+}
+
 // The number of an entry's operands; `before` is the kind of the entry before it.
 pub fn operand_count(before: u32, c: Cell) -> usize
     requires { ⌜ c .kind < 64 ⌝ }
@@ -91,7 +110,7 @@ pub fn operand_count(before: u32, c: Cell) -> usize
         }
         return 1;
     }
-    wide(ARITIES[kind as usize])
+    arity(kind)
 }
 
 // What is left of n, at least 0.
@@ -101,19 +120,28 @@ pub fn less(n: usize, m: usize) -> usize
     if m < n { n - m } else { 0 }
 }
 
-// Where an entry starts: with its first operand, or at its token's place.
+// Where an entry starts: with its first operand, or at its token's place; a big operator's name has its kind there.
 pub fn start_of(kind: u32, place: u32, start: u32) -> u32
     requires { ⌜ kind < 64 ⌝ }
     ensures { λ r. ⌜ r ≡ startOf kind place start ⌝ }
 {
-    let first = STARTING[kind as usize];
-    if first == 1 {
-        return start;
+    if kind < kinds::ARITHMETIC {
+        place
+    } else if kind < kinds::NEXTS {
+        start
+    } else if kind < kinds::BINDER {
+        place
+    } else if kind < kinds::BETWEEN {
+        kind
+    } else if kind < kinds::LISTED {
+        start
+    } else if kind < kinds::ELEMENT {
+        place
+    } else if kind < kinds::RANGE {
+        start
+    } else {
+        place
     }
-    if first == 2 {
-        return kind;
-    }
-    place
 }
 
 // The first number of a part of the stack, 0 if the part is empty.

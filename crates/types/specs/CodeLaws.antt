@@ -10,6 +10,7 @@ use lib.Seq.{slice, slice-cons, drop-drop, length-slice}
 use native.Mathlib.Numerals.{add-one}
 use native.Mathlib.Omega.{arith}
 use borrow.Author.Tests.{eq-eqb, ne-eqb, lt-ltb, le-ltb}
+use Rattle.language.specs.Bytes.{if_then_else_}
 use Rattle.language.specs.Places.{first, unless}
 use Rattle.language.specs.Laws.Basics.Tests.{pick, leave}
 use Rattle.language.specs.Limits.{maxNames}
@@ -44,17 +45,9 @@ bound-kind table r h = sym (leave (ltb r maxNames) _ _ (le-ltb _ _ h))
 
 -- what an entry gives
 module _ (k name operand : ℕ) where
-  pub gives-name : getD giving k 0 ≡ 6 → name ≡ givesOf k name operand
+  pub gives-by : (v : ℕ) → v ≡ getD giving k 0 → (if eqb v 6 then name else (if eqb v 7 then operand else v)) ≡ givesOf k name operand
   unfolding givesOf
-  gives-name e = sym (pick (eqb (getD giving k 0) 6) _ _ (eq-eqb _ _ e))
-
-  pub gives-operand : (getD giving k 0 ≡ 6 → ⊥) → getD giving k 0 ≡ 7 → operand ≡ givesOf k name operand
-  unfolding givesOf
-  gives-operand e d = sym (leave (eqb (getD giving k 0) 6) _ _ (ne-eqb _ _ e) ∙ pick (eqb (getD giving k 0) 7) _ _ (eq-eqb _ _ d))
-
-  pub gives-own : (getD giving k 0 ≡ 6 → ⊥) → (getD giving k 0 ≡ 7 → ⊥) → getD giving k 0 ≡ givesOf k name operand
-  unfolding givesOf
-  gives-own e d = sym (leave (eqb (getD giving k 0) 6) _ _ (ne-eqb _ _ e) ∙ leave (eqb (getD giving k 0) 7) _ _ (ne-eqb _ _ d))
+  gives-by v e = ap (λ u. if eqb u 6 then name else (if eqb u 7 then operand else u)) e
 
 -- does it fit?
 module _ (d k : ℕ) where

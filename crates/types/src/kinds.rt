@@ -1,23 +1,31 @@
 // What an entry gives and what it takes, by its kind. The functions are the pass's own: it has bounded what they ask for.
-use basics::u8_u32::wide;
-use entries::kinds::ELEMENT;
+use entries::kinds;
 use traversal::Place;
 use traversal::first_of;
 ghost use mathlib.Core.Path.{_≡_};
 ghost use Prim.Native.Nat.{_≤_, _<_};
-ghost use lib.ListN.{length};
+ghost use lib.ListN.{length, getD};
 ghost use lib.Seq.{slice};
 ghost use Rattle.language.specs.Places.{unless};
 ghost use Rattle.traversal.specs.Places.{placed};
-ghost use Rattle.types.specs.Kinds.{givesOf, fits, takesLast, misfits as misfits', sidesOf, indexed as indexed'};
+ghost use Rattle.types.specs.Kinds.{lastTakes, otherTakes, givesOf, fits, takesLast, misfits as misfits', sidesOf, indexed as indexed'};
 ghost use Rattle.types.specs.Pass.{wrongAt};
 
 // Types as numbers.
 pub const NUMBER: u32 = 0;
 
-const BUS: u32 = 3;
+const SET: u32 = 1;
 
-const VALUE: u32 = 4;
+pub const FORMULA: u32 = 2;
+
+pub const BUS: u32 = 3;
+
+pub const VALUE: u32 = 4;
+
+pub const ENUMERATION: u32 = 5;
+
+// What a line gives.
+const NOTHING: u32 = 8;
 
 // What an operand may be: of any type; of one that a definition may have, which are the first three.
 const ANY: u32 = 8;
@@ -26,46 +34,45 @@ const DEFINABLE: u32 = 9;
 
 const UNDEFINABLE: u32 = 3;
 
-// By kind: the type of what an entry gives; 6 for a name's own, 7 for that of the operand, 8 for a line.
-const GIVING: [u8; 64] = *b"\
-    \x06\x00\x02\x02\x02\x07\x00\x00\x00\x00\x02\x02\x02\x02\x00\x00\
-    \x00\x00\x00\x01\x01\x01\x02\x02\x02\x02\x02\x02\x02\x02\x02\x02\
-    \x02\x02\x02\x02\x02\x02\x02\x00\x00\x01\x01\x02\x02\x01\x01\x01\
-    \x01\x01\x01\x01\x01\x01\x08\x08\x08\x08\x08\x08\x08\x08\x08\x08";
+// What the operands before the last may be: the sides of an equation, an index.
+const EQUATION: u32 = 10;
 
-const NAMES_OWN: u8 = 6;
+const INDEX: u32 = 11;
 
-const OPERANDS: u8 = 7;
-
-// By kind: the type of the last operand, and of those before it; 10 for the sides of an equation, 11 for an index.
-const LAST_TAKES: [u8; 64] = *b"\
-    \x08\x08\x08\x08\x00\x08\x01\x01\x01\x03\x02\x02\x02\x02\x00\x00\
-    \x00\x00\x00\x01\x01\x01\x08\x08\x00\x00\x00\x00\x01\x02\x02\x02\
-    \x02\x02\x02\x02\x02\x02\x02\x00\x00\x01\x01\x02\x02\x01\x01\x00\
-    \x00\x00\x00\x08\x00\x00\x00\x09\x08\x08\x08\x08\x00\x05\x02\x08";
-
-const OTHER_TAKES: [u8; 64] = *b"\
-    \x08\x08\x08\x08\x0b\x08\x08\x08\x08\x08\x08\x08\x08\x08\x00\x00\
-    \x00\x00\x00\x01\x01\x01\x0a\x0a\x00\x00\x00\x00\x00\x02\x02\x02\
-    \x02\x02\x02\x02\x00\x00\x00\x08\x08\x08\x08\x08\x08\x08\x08\x00\
-    \x00\x00\x00\x08\x00\x00\x08\x08\x08\x08\x08\x08\x08\x08\x08\x08";
-
-const EQUATION: u8 = 10;
-
-const INDEX: u8 = 11;
-
+// The type of what an entry gives, with that of its name and of its operand.
 pub fn gives_of(kind: u32, name: u32, operand: u32) -> u32
     requires { ⌜ kind < 64 ⌝ }
     ensures { λ r. ⌜ r ≡ givesOf kind name operand ⌝ }
 {
-    let gives = GIVING[kind as usize];
-    if gives == NAMES_OWN {
-        return name;
+    if kind < kinds::NUMERAL {
+        name
+    } else if kind < kinds::TRUTH {
+        NUMBER
+    } else if kind < kinds::PAREN {
+        FORMULA
+    } else if kind < kinds::MEASURE {
+        operand
+    } else if kind < kinds::UNARY {
+        NUMBER
+    } else if kind < kinds::ARITHMETIC {
+        FORMULA
+    } else if kind < kinds::COMBINATION {
+        NUMBER
+    } else if kind < kinds::EQUALITY {
+        SET
+    } else if kind < kinds::BIG_NUMBERS {
+        FORMULA
+    } else if kind < kinds::BIG_SETS {
+        NUMBER
+    } else if kind < kinds::BIG_FORMULAS {
+        SET
+    } else if kind < kinds::BINDER {
+        FORMULA
+    } else if kind < kinds::LINES {
+        SET
+    } else {
+        NOTHING
     }
-    if gives == OPERANDS {
-        return operand;
-    }
-    wide(gives)
 }
 
 // An operand that does not fit what is taken.
@@ -87,17 +94,111 @@ fn misfit(takes: u32, kind: u32, start: u32) -> Place
     Place::At(start)
 }
 
+// The type of the last operand, by an entry's kind.
+fn last_takes(kind: u32) -> u32
+    requires { ⌜ kind < 64 ⌝ }
+    ensures { λ r. ⌜ r ≡ getD lastTakes kind 0 ⌝ }
+{
+    if kind < kinds::INDEX {
+        ANY
+    } else if kind < kinds::PAREN {
+        NUMBER
+    } else if kind < kinds::MEASURE {
+        ANY
+    } else if kind < kinds::WIDTH {
+        SET
+    } else if kind < kinds::UNARY {
+        BUS
+    } else if kind < kinds::ARITHMETIC {
+        FORMULA
+    } else if kind < kinds::COMBINATION {
+        NUMBER
+    } else if kind < kinds::EQUALITY {
+        SET
+    } else if kind < kinds::ORDER {
+        ANY
+    } else if kind < kinds::MEMBERSHIP {
+        NUMBER
+    } else if kind < kinds::BINARY {
+        SET
+    } else if kind < kinds::BIG_NUMBERS {
+        FORMULA
+    } else if kind < kinds::BIG_SETS {
+        NUMBER
+    } else if kind < kinds::BIG_FORMULAS {
+        SET
+    } else if kind < kinds::BINDER {
+        FORMULA
+    } else if kind < kinds::BETWEEN {
+        SET
+    } else if kind < kinds::LISTED {
+        NUMBER
+    } else if kind < kinds::ELEMENT {
+        ANY
+    } else if kind < kinds::DEFINITION {
+        NUMBER
+    } else if kind < kinds::ENUMERATION {
+        DEFINABLE
+    } else if kind < kinds::BUS {
+        ANY
+    } else if kind < kinds::TYPED {
+        NUMBER
+    } else if kind < kinds::LINE {
+        ENUMERATION
+    } else if kind < kinds::HEADING {
+        FORMULA
+    } else {
+        ANY
+    }
+}
+
+// And of those before it.
+fn others_take(kind: u32) -> u32
+    requires { ⌜ kind < 64 ⌝ }
+    ensures { λ r. ⌜ r ≡ getD otherTakes kind 0 ⌝ }
+{
+    if kind < kinds::INDEX {
+        ANY
+    } else if kind < kinds::PAREN {
+        INDEX
+    } else if kind < kinds::ARITHMETIC {
+        ANY
+    } else if kind < kinds::COMBINATION {
+        NUMBER
+    } else if kind < kinds::EQUALITY {
+        SET
+    } else if kind < kinds::ORDER {
+        EQUATION
+    } else if kind < kinds::BINARY {
+        NUMBER
+    } else if kind < kinds::NEXTS {
+        FORMULA
+    } else if kind < kinds::BIG_NUMBERS {
+        NUMBER
+    } else if kind < kinds::BETWEEN {
+        ANY
+    } else if kind < kinds::LISTED {
+        NUMBER
+    } else if kind < kinds::ELEMENT {
+        ANY
+    } else if kind < kinds::LINES {
+        NUMBER
+    } else {
+        ANY
+    }
+}
+
 fn takes_last(kind: u32, n: usize) -> u32
     requires { ⌜ kind < 64 ⌝ }
     ensures { λ r. ⌜ r ≡ takesLast kind n ⌝ }
 {
-    if kind == ELEMENT {
+    if kind == kinds::ELEMENT {
         if n == 2 {
             return ANY;
         }
         return NUMBER;
     }
-    wide(LAST_TAKES[kind as usize])
+    last_takes(kind)
 }
 
 // The first of the operands that does not fit.
@@ -137,7 +238,7 @@ pub fn indexed(kind: u32, name: u32, place: u32) -> Place
     requires { ⌜ kind < 64 ⌝ }
     ensures { λ r. ⌜ r ≡ placed (indexed' kind name place) ⌝ }
 {
-    if OTHER_TAKES[kind as usize] == INDEX {
+    if others_take(kind) == INDEX {
         return misfit(BUS, name, place);
     }
     Place::Nowhere
@@ -148,19 +249,12 @@ pub fn wrong_at(kind: u32, kinds: &[u32], starts: &[u32], from: usize, to: usize
     requires { ⌜ (kind < 64) × (to ≤ length (now kinds)) × (to ≤ length (now starts)) × (from ≤ to) ⌝ }
     ensures { λ r. ⌜ r ≡ placed (wrongAt kind (slice from to (now (kinds .entry))) (slice from to (now (starts .entry)))) ⌝ }
 {
-    let other = OTHER_TAKES[kind as usize];
+    let other = others_take(kind);
     if other == EQUATION {
         let left = first_of(kinds, from, to);
         let right = first_of(kinds, from + 1, to);
         let start = first_of(starts, from, to);
         return sides_of(left, right, start, first_of(starts, from + 1, to));
     }
-    misfits(
-        wide(other),
-        takes_last(kind, to - from),
-        kinds,
-        starts,
-        from,
-        to,
-    )
+    misfits(other, takes_last(kind, to - from), kinds, starts, from, to)
 }

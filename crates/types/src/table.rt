@@ -1,7 +1,10 @@
 // The types of declared names by their references. The functions are the pass's own: it has bounded what they ask for.
+use crate::kinds::BUS;
+use crate::kinds::ENUMERATION;
+use crate::kinds::FORMULA;
 use crate::kinds::NUMBER;
-use basics::u8_u32::wide;
-use entries::kinds::DEFINITION;
+use crate::kinds::VALUE;
+use entries::kinds;
 use language::limits;
 use lexer::fields::LENGTHS;
 use lexer::fields::OFFSETS;
@@ -9,22 +12,42 @@ use traversal::Cell;
 use traversal::cell_at;
 ghost use mathlib.Core.Path.{_≡_};
 ghost use Prim.Native.Nat.{_≤_, _<_};
-ghost use lib.ListN.{length};
+ghost use lib.ListN.{length, getD};
 ghost use Rattle.language.specs.Limits.{maxTokens, maxNames, workBytes};
 ghost use Rattle.traversal.specs.Passed.{passed};
 ghost use Rattle.types.specs.Cells.{namedCell};
 ghost use Rattle.types.specs.Kinds.{referenceOf, kindAt};
 ghost use Rattle.types.specs.Pass.{tableOf};
-ghost use Rattle.types.specs.Declaring.{declare as declare'};
+ghost use Rattle.types.specs.Declaring.{declaring, declare as declare'};
 
-// By kind: the type of a name that the entry declares; 8 if it declares none, or a definition's.
-const DECLARING: [u8; 64] = *b"\
-    \x08\x08\x08\x08\x08\x08\x08\x08\x08\x08\x08\x08\x08\x08\x08\x08\
-    \x08\x08\x08\x08\x08\x08\x08\x08\x08\x08\x08\x08\x08\x08\x08\x08\
-    \x08\x08\x08\x08\x08\x08\x08\x08\x08\x08\x08\x08\x08\x08\x08\x08\
-    \x08\x08\x08\x08\x08\x08\x00\x08\x05\x04\x08\x02\x03\x03\x08\x08";
+// No name, or a definition's.
+const UNDECLARED: u32 = 8;
 
-const UNDECLARED: u8 = 8;
+// The type of the name that an entry declares, by its kind.
+fn declared(kind: u32) -> u32
+    requires { ⌜ kind < 64 ⌝ }
+    ensures { λ r. ⌜ r ≡ getD declaring kind 0 ⌝ }
+{
+    if kind < kinds::PARAMETER {
+        UNDECLARED
+    } else if kind < kinds::DEFINITION {
+        NUMBER
+    } else if kind < kinds::ENUMERATION {
+        UNDECLARED
+    } else if kind < kinds::IDENTIFIER {
+        ENUMERATION
+    } else if kind < kinds::WORD {
+        VALUE
+    } else if kind < kinds::SIGNAL {
+        UNDECLARED
+    } else if kind < kinds::BUS {
+        FORMULA
+    } else if kind < kinds::LINE {
+        BUS
+    } else {
+        UNDECLARED
+    }
+}
 
 fn wide_reference(x: u16) -> u32
     ensures { λ r. ⌜ (r ≡ x) × (r < 65536) ⌝ }
@@ -63,7 +86,7 @@ pub fn define(table: &mut [u32], kind: u32, word: u32, operand: u32)
     requires { ⌜ length (now table) ≡ maxNames ⌝ }
     ensures { λ _. ⌜ now (table .exit) ≡ tableOf (now (table .entry)) kind word operand ⌝ }
 {
-    if kind == DEFINITION {
+    if kind == kinds::DEFINITION {
         let reference = (word / OFFSETS) as usize;
         if reference < limits::MAX_NAMES {
             table[reference] = operand;
@@ -76,13 +99,13 @@ fn declare(c: Cell, table: &mut [u32])
     requires { ⌜ (c .kind < 64) × (length (now table) ≡ maxNames) ⌝ }
     ensures { λ _. ⌜ now (table .exit) ≡ declare' c (now (table .entry)) ⌝ }
 {
-    let kind = DECLARING[c.kind as usize];
+    let kind = declared(c.kind);
     if kind == UNDECLARED {
         return;
     }
     let reference = (c.token / OFFSETS) as usize;
     if reference < limits::MAX_NAMES {
-        table[reference] = wide(kind);
+        table[reference] = kind;
     }
 }
 

@@ -1,51 +1,34 @@
--- An entry's levels: each way through the definition; the table is the definition's.
-use mathlib.Core.Path.{sym, ap, _∙_}
+-- An entry's levels: the definition's table has each value from one kind up to the next, which antt computes.
+use borrow.Author.Needs.{needs, zero≤}
+use native.Mathlib.Omega.{arith}
 use native.Mathlib.Numerals.{add-one}
-use Rattle.depth.specs.Depth.{capped}
-use Rattle.depth.specs.LevelLaws.{own-level, no-level, first-level, further-level}
-use borrow.Author.Needs.{needs}
+use Prim.Native.Nat.{ℕ, _+_}
+use mathlib.Core.Path.{_≡_, refl, sym, ap, _∙_}
+use lib.ListN.{getD}
+use Rattle.traversal.specs.Stretches.{stretch}
+use Rattle.depth.specs.Depth.{capped, ownLevels, levelOf}
+use Rattle.depth.specs.LevelLaws.{level-by, first-level, further-level}
 use Rattle.depth.proofs.level_of.Statement.{statement}
 use Rattle.depth.proofs.level_of.Tie as tie
 
-array-read-own : tie.Need-array-read-own
-array-read-own c = search needs
-
-raised-requires : tie.Need-raised-requires
-raised-requires c κs = search needs
-
-returns : tie.Need-returns
-returns c =
-    let start-2 = c .before .before in
-    (c .raised) .ensures ∙ ap capped (add-one (start-2 .args .most)) ∙ sym (own-level (start-2 .args .kind) (start-2 .args .most) (start-2 .args .start) ((c .before .if1) .taken))
-
-raised-requires-2 : tie.Need-raised-requires-2
-raised-requires-2 c κs = search needs
-
-returns-2 : tie.Need-returns-2
-returns-2 c =
-    let at-if2 = c .before .before in
-    let start-2 = at-if2 .before .before in
-    (c .raised2) .ensures ∙ ap capped (add-one (start-2 .args .most)) ∙ sym
-    (first-level (start-2 .args .kind) (start-2 .args .most) (start-2 .args .start) ((at-if2 .if2) .taken) ((c .before .if3) .taken))
-
-returns-3 : tie.Need-returns-3
-returns-3 c =
-    let start-2 = c .before .before .before in
-    sym (further-level (start-2 .args .kind) (start-2 .args .most) (start-2 .args .start) ((c .before .if2) .taken) ((c .if3) .left))
-
-returns-4 : tie.Need-returns-4
-returns-4 c =
-    let start-2 = c .before .before in
-    sym (no-level (start-2 .args .kind) (start-2 .args .most) (start-2 .args .start) ((c .before .if1) .left) ((c .if2) .left))
+higher : (k n s : ℕ) {r : ℕ} → r ≡ capped (n + 1) → 1 ≡ getD ownLevels k 0 → r ≡ levelOf k n s
+higher k n s h e = h ∙ ap capped (add-one n) ∙ level-by k n s 1 e
 
 pub level-of-spec : {M : Type 1} → statement M
 level-of-spec =
     tie.close
     (tie.spec
-    array-read-own
-    raised-requires
-    returns
-    raised-requires-2
-    returns-2
-    returns-3
-    returns-4)
+    (λ c κs. search needs)
+    (λ c κs. search needs)
+    (λ c κs. search needs)
+    (λ c κs. search needs)
+    (λ c. higher _ _ _ (c .raised .ensures) (stretch ownLevels zero≤ (c .before .if1 .taken) refl))
+    (λ c.
+    let big = stretch ownLevels (c .before .before .before .if1 .left) (c .before .before .if2 .taken) refl in
+    c .raised2 .ensures ∙ ap capped (add-one _) ∙ sym (first-level _ _ _ (sym big) (c .before .if3 .taken)))
+    (λ c. sym (further-level _ _ _ (sym (stretch ownLevels (c .before .before .if1 .left) (c .before .if2 .taken) refl)) (c .if3 .left)))
+    (λ c. level-by _ _ _ 0 (stretch ownLevels (c .before .if2 .left) (c .if4 .taken) refl))
+    (λ c. higher _ _ _ (c .raised3 .ensures) (stretch ownLevels (c .before .before .if4 .left) (c .before .if5 .taken) refl))
+    (λ c. level-by _ _ _ 0 (stretch ownLevels (c .before .if5 .left) (c .if6 .taken) refl))
+    (λ c. higher _ _ _ (c .raised4 .ensures) (stretch ownLevels (c .before .before .if6 .left) (c .before .if7 .taken) refl))
+    (λ c. level-by _ _ _ 0 (stretch ownLevels {b = 64} (c .if7 .left) (omega arith) refl)))

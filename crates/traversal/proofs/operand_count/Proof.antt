@@ -1,4 +1,4 @@
--- The number of operands: each way through the definition, and the table, which is the definition's.
+-- The number of operands: each way through the definition.
 use mathlib.Core.Path.{sym, _∙_}
 use Rattle.traversal.specs.ArityLaws.{more-operands, last-operands, empty-operands, filled-operands, other-operands}
 use borrow.Author.Needs.{needs}
@@ -23,20 +23,14 @@ returns-4 c =
     let start = at-if3 .before .before in
     sym (filled-operands (start .args .before) (start .args .c) ((at-if3 .if3) .taken) ((c .if4) .left))
 
-cast-wide : tie.Need-cast-wide
-cast-wide c = search needs
-
-array-read-wide : tie.Need-array-read-wide
-array-read-wide c = search needs
-
-wide-requires : tie.Need-wide-requires
-wide-requires c κs = search needs
+arity-requires : tie.Need-arity-requires
+arity-requires c κs = search needs
 
 returns-5 : tie.Need-returns-5
 returns-5 c =
     let at-if1 = c .before .before in
     let start = at-if1 .before in
-    (c .wide) .ensures .0 ∙ sym (other-operands (start .args .before) (start .args .c) ((at-if1 .if1) .left) ((c .before .if3) .left))
+    (c .arity) .ensures ∙ sym (other-operands (start .args .before) (start .args .c) ((at-if1 .if1) .left) ((c .before .if3) .left))
 
 pub operand-count-spec : {M : Type 1} → statement M
 operand-count-spec =
@@ -46,7 +40,5 @@ operand-count-spec =
     returns-2
     returns-3
     returns-4
-    cast-wide
-    array-read-wide
-    wide-requires
+    arity-requires
     returns-5)

@@ -1,25 +1,21 @@
--- An entry's start: each way through the definition; the table is the definition's.
-use mathlib.Core.Path.{sym}
-use Rattle.traversal.specs.Starts.{by-operand, by-kind, by-token}
-use borrow.Author.Needs.{needs}
+-- An entry's start: the definition's table has each value from one kind up to the next, which antt computes.
+use borrow.Author.Needs.{zero≤}
+use native.Mathlib.Omega.{arith}
+use mathlib.Core.Path.{refl}
+use Rattle.traversal.specs.Starts.{starting, start-by}
+use Rattle.traversal.specs.Stretches.{stretch}
 use Rattle.traversal.proofs.start_of.Statement.{statement}
 use Rattle.traversal.proofs.start_of.Tie as tie
 
-array-read-first : tie.Need-array-read-first
-array-read-first c = search needs
-
-returns : tie.Need-returns
-returns c = sym (by-operand ((c .before) .args .kind) ((c .before) .args .place) ((c .before) .args .start) ((c .if1) .taken))
-
-returns-2 : tie.Need-returns-2
-returns-2 c =
-    let start-2 = c .before .before in
-    sym (by-kind (start-2 .args .kind) (start-2 .args .place) (start-2 .args .start) ((c .before .if1) .left) ((c .if2) .taken))
-
-returns-3 : tie.Need-returns-3
-returns-3 c =
-    let start-2 = c .before .before in
-    sym (by-token (start-2 .args .kind) (start-2 .args .place) (start-2 .args .start) ((c .before .if1) .left) ((c .if2) .left))
-
 pub start-of-spec : {M : Type 1} → statement M
-start-of-spec = tie.close (tie.spec array-read-first returns returns-2 returns-3)
+start-of-spec =
+    tie.close
+    (tie.spec
+    (λ c. start-by _ _ _ 0 (stretch starting zero≤ (c .if1 .taken) refl))
+    (λ c. start-by _ _ _ 1 (stretch starting (c .before .if1 .left) (c .if2 .taken) refl))
+    (λ c. start-by _ _ _ 0 (stretch starting (c .before .if2 .left) (c .if3 .taken) refl))
+    (λ c. start-by _ _ _ 2 (stretch starting (c .before .if3 .left) (c .if4 .taken) refl))
+    (λ c. start-by _ _ _ 1 (stretch starting (c .before .if4 .left) (c .if5 .taken) refl))
+    (λ c. start-by _ _ _ 0 (stretch starting (c .before .if5 .left) (c .if6 .taken) refl))
+    (λ c. start-by _ _ _ 1 (stretch starting (c .before .if6 .left) (c .if7 .taken) refl))
+    (λ c. start-by _ _ _ 0 (stretch starting {b = 64} (c .if7 .left) (omega arith) refl)))

@@ -1,14 +1,44 @@
 -- `expressions::climb::climb` meets its contract: by the row of Table 1 that the next token has.
 use borrow.Author.Needs.{needs}
+use borrow.Author.Tests.{eqb-true, eqb-false, leb-true, leb-false, not-true}
 use native.Mathlib.Omega.{arith}
-use mathlib.Core.Path.{ap, _∙_}
-use lib.Dec.{lit<}
+use Prim.Native.Nat.{ℕ, _%_, _≤_}
+use mathlib.Core.Bool.{Bool, true, false, not, _&&_}
+use mathlib.Core.List.{List}
+use mathlib.Core.Path.{_≡_, refl, sym, ap, _∙_}
+use lib.Dec.{eqb, leb, lit<}
+use Rattle.language.specs.Tree.{Expr}
+use Rattle.language.specs.Grammar.{Tokens, Read}
+use Rattle.language.specs.Laws.Basics.Tests.{and-left, and-right}
+use Rattle.entries.specs.declared.Cursor.{Cursor}
+use Rattle.entries.specs.Cursors.{kindAt}
 use Rattle.operators.specs.Tables.{infixAt}
+use Rattle.expressions.specs.declared.stack.Machine.{Machine}
+use Rattle.expressions.specs.States.{State}
+use Rattle.expressions.specs.Complete.{Complete}
 use Rattle.expressions.specs.StateAsks.{asks-kind}
 use Rattle.expressions.specs.Climbs.{ends-none, ends-loose, operator-inside, turn-right}
 use Rattle.expressions.specs.StateLaws.{facts}
 use Rattle.expressions.proofs.climb.climb.Statement.{statement}
 use Rattle.expressions.proofs.climb.climb.Tie as tie
+
+-- what the test of a row says
+abbrev tightly : ℕ → ℕ → Bool
+tightly q level = not (eqb q 0) && leb (q % 32) level
+
+some-row : (q level : ℕ) → tightly q level ≡ true → q ≡ 0 → ⊥
+some-row q level h = eqb-false q 0 (not-true (eqb q 0) (and-left (not (eqb q 0)) (leb (q % 32) level) h))
+
+tight-row : (q level : ℕ) → tightly q level ≡ true → q % 32 ≤ level
+tight-row q level h = leb-true (q % 32) level (and-right (not (eqb q 0)) (leb (q % 32) level) h)
+
+ends : {ts : Tokens} {s : Cursor} {x : Read Expr} {w : List ℕ} {m : Machine} → State true ts s x w m → (q : ℕ) → q ≡ infixAt (kindAt w (m .c)) → tightly q (m .level) ≡ false
+    → Complete ts s x w m
+ends {ts} {s} {x} {w} {m} h q row e = go (eqb q 0) refl e
+  where
+    go : (b : Bool) → eqb q 0 ≡ b → (not b && leb (q % 32) (m .level)) ≡ false → Complete ts s x w m
+    go true z f = ends-none h q row (eqb-true q 0 z)
+    go false z f = ends-loose h q row (eqb-false q 0 z) (leb-false (q % 32) (m .level) f)
 
 kind-requires : tie.Need-kind-requires
 kind-requires c κs =
@@ -18,9 +48,55 @@ kind-requires c κs =
 infix-requires : tie.Need-infix-requires
 infix-requires c κs = search needs
 
+tight-requires : tie.Need-tight-requires
+tight-requires c κs = search needs
+
+next-requires : tie.Need-next-requires
+next-requires c κs =
+    let at-if1 = c .before in
+    let at-tight = at-if1 .before in
+    let at-infix = at-tight .before in
+    let at-kind = at-infix .before in
+    let start = at-kind .before .before .before .before in
+    let row = at-infix .«infix» in
+    let tests = sym ((at-tight .tight) .ensures) ∙ (at-if1 .if1) .taken in
+    let i = operator-inside (start .pre .state) (row .result) (row .ensures ∙ ap infixAt ((at-kind .kind) .ensures)) (some-row (row .result) _ tests) in
+    omega (arith, asks-kind (start .pre) .few)
+
+push-requires : tie.Need-push-requires
+push-requires c κs =
+    let at-if1 = c .before .before in
+    let at-tight = at-if1 .before in
+    let at-infix = at-tight .before in
+    let at-kind = at-infix .before in
+    let start = at-kind .before .before .before .before in
+    let row = at-infix .«infix» in
+    let tests = sym ((at-tight .tight) .ensures) ∙ (at-if1 .if1) .taken in
+    let i = operator-inside (start .pre .state) (row .result) (row .ensures ∙ ap infixAt ((at-kind .kind) .ensures)) (some-row (row .result) _ tests) in
+    let f = facts (start .pre .state) in
+    record { room = f .fits .room; deep = omega (arith, f .apart, f .few); class-fits = lit< tt; level-fits = f .level-fits; token-fits = omega (arith, f .fits .few) }
+
+same-length : tie.Need-same-length
+same-length c = search needs
+
+returns : tie.Need-returns
+returns c =
+    let at-push = c .before .before in
+    let at-next = at-push .before in
+    let at-if1 = at-next .before .before in
+    let at-tight = at-if1 .before in
+    let at-infix = at-tight .before in
+    let at-kind = at-infix .before in
+    let row = at-infix .«infix» in
+    let tests = sym ((at-tight .tight) .ensures) ∙ (at-if1 .if1) .taken in
+    λ ts s x h. rw ((at-push .push) .ensures .0, (at-push .push) .ensures .1, (at-next .next) .ensures)
+    (turn-right h (row .result) (row .ensures ∙ ap infixAt ((at-kind .kind) .ensures)) (some-row (row .result) _ tests) (tight-row (row .result) _ tests))
+
 pop-requires : tie.Need-pop-requires
 pop-requires c κs =
-    let at-infix = c .before .before in
+    let at-if1 = c .before in
+    let at-tight = at-if1 .before in
+    let at-infix = at-tight .before in
     let at-kind = at-infix .before in
     let start = at-kind .before .before .before .before in
     let row = at-infix .«infix» in
@@ -28,34 +104,7 @@ pop-requires c κs =
       tokens = start .pre .tokens;
       start = start .pre .start;
       answer = start .pre .answer;
-      state = ends-none (start .pre .state) (row .result)
-          (row .ensures ∙ ap infixAt ((at-kind .kind) .ensures)) ((c .before .if1) .taken);
-    }
-
-same-length : tie.Need-same-length
-same-length c = search needs
-
-returns : tie.Need-returns
-returns c =
-    let at-pop = c .before .before in
-    let at-if1 = at-pop .before .before in
-    let at-infix = at-if1 .before in
-    let at-kind = at-infix .before in
-    let row = at-infix .«infix» in
-    λ ts s x h. (at-pop .pop) .ensures ts s x (ends-none h (row .result) (row .ensures ∙ ap infixAt ((at-kind .kind) .ensures)) ((at-if1 .if1) .taken))
-
-pop-requires-2 : tie.Need-pop-requires-2
-pop-requires-2 c κs =
-    let at-if1 = c .before .before .before in
-    let at-infix = at-if1 .before in
-    let at-kind = at-infix .before in
-    let start-2 = at-kind .before .before .before .before in
-    record {
-      tokens = start-2 .pre .tokens;
-      start = start-2 .pre .start;
-      answer = start-2 .pre .answer;
-      state = ends-loose (start-2 .pre .state) ((at-infix .«infix») .result)
-          ((at-infix .«infix») .ensures ∙ ap infixAt ((at-kind .kind) .ensures)) ((at-if1 .if1) .left) (omega arith);
+      state = ends (start .pre .state) (row .result) (row .ensures ∙ ap infixAt ((at-kind .kind) .ensures)) (sym ((at-tight .tight) .ensures) ∙ (at-if1 .if1) .left);
     }
 
 same-length-2 : tie.Need-same-length-2
@@ -63,43 +112,14 @@ same-length-2 c = search needs
 
 returns-2 : tie.Need-returns-2
 returns-2 c =
-    let at-pop2 = c .before .before in
-    let at-if1 = at-pop2 .before .before .before .before in
-    let at-infix = at-if1 .before in
+    let at-pop = c .before .before in
+    let at-if1 = at-pop .before .before in
+    let at-tight = at-if1 .before in
+    let at-infix = at-tight .before in
     let at-kind = at-infix .before in
-    λ ts s x h. (at-pop2 .pop2) .ensures ts s x (ends-loose h ((at-infix .«infix») .result) ((at-infix .«infix») .ensures ∙ ap infixAt ((at-kind .kind) .ensures)) ((at-if1 .if1) .left) (omega arith))
-
-next-requires : tie.Need-next-requires
-next-requires c κs =
-    let at-if1 = c .before .before .before in
-    let at-infix = at-if1 .before in
-    let at-kind = at-infix .before in
-    let start = at-kind .before .before .before .before in
     let row = at-infix .«infix» in
-    let i = operator-inside (start .pre .state) (row .result) (row .ensures ∙ ap infixAt ((at-kind .kind) .ensures)) ((at-if1 .if1) .left) in omega (arith, asks-kind (start .pre) .few)
-
-push-requires : tie.Need-push-requires
-push-requires c κs =
-    let at-if1 = c .before .before .before .before in
-    let at-infix = at-if1 .before in
-    let at-kind = at-infix .before in
-    let start = at-kind .before .before .before .before in
-    let row = at-infix .«infix» in
-    let i = operator-inside (start .pre .state) (row .result) (row .ensures ∙ ap infixAt ((at-kind .kind) .ensures)) ((at-if1 .if1) .left) in let f = facts (start .pre .state) in
-    record { room = f .fits .room; deep = omega (arith, f .apart, f .few); class-fits = lit< tt; level-fits = f .level-fits; token-fits = omega (arith, f .fits .few) }
-
-same-length-3 : tie.Need-same-length-3
-same-length-3 c = search needs
-
-returns-3 : tie.Need-returns-3
-returns-3 c =
-    let at-push = c .before .before in
-    let at-next = at-push .before in
-    let at-if1 = at-next .before .before .before .before in
-    let at-infix = at-if1 .before in
-    let at-kind = at-infix .before in
-    λ ts s x h. rw ((at-push .push) .ensures .0, (at-push .push) .ensures .1, (at-next .next) .ensures)
-    (turn-right h ((at-infix .«infix») .result) ((at-infix .«infix») .ensures ∙ ap infixAt ((at-kind .kind) .ensures)) ((at-if1 .if1) .left) (omega arith))
+    λ ts s x h. (at-pop .pop) .ensures ts s x
+    (ends h (row .result) (row .ensures ∙ ap infixAt ((at-kind .kind) .ensures)) (sym ((at-tight .tight) .ensures) ∙ (at-if1 .if1) .left))
 
 pub climb-spec : {M : Type 1} → statement M
 climb-spec =
@@ -107,13 +127,11 @@ climb-spec =
     (tie.spec
     kind-requires
     infix-requires
-    pop-requires
-    same-length
-    returns
-    pop-requires-2
-    same-length-2
-    returns-2
+    tight-requires
     next-requires
     push-requires
-    same-length-3
-    returns-3)
+    same-length
+    returns
+    pop-requires
+    same-length-2
+    returns-2)

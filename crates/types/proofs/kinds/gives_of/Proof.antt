@@ -1,29 +1,28 @@
--- What an entry gives: each way through the definition, whose table this is.
-use mathlib.Core.Path.{_∙_}
-use Rattle.types.specs.CodeLaws.{gives-name, gives-operand, gives-own}
-use borrow.Author.Needs.{needs}
+-- What an entry gives: the definition's table has each value from one kind up to the next, which antt computes.
+use borrow.Author.Needs.{zero≤}
+use native.Mathlib.Omega.{arith}
+use mathlib.Core.Path.{refl}
+use Rattle.traversal.specs.Stretches.{stretch}
+use Rattle.types.specs.Kinds.{giving}
+use Rattle.types.specs.CodeLaws.{gives-by}
 use Rattle.types.proofs.kinds.gives_of.Statement.{statement}
 use Rattle.types.proofs.kinds.gives_of.Tie as tie
 
-array-read-gives : tie.Need-array-read-gives
-array-read-gives c = search needs
-
-returns : tie.Need-returns
-returns c = gives-name ((c .before) .args .kind) ((c .before) .args .name) ((c .before) .args .operand) ((c .if1) .taken)
-
-returns-2 : tie.Need-returns-2
-returns-2 c =
-    let start = c .before .before in
-    gives-operand (start .args .kind) (start .args .name) (start .args .operand) ((c .before .if1) .left) ((c .if2) .taken)
-
-wide-requires : tie.Need-wide-requires
-wide-requires c κs = search needs
-
-returns-3 : tie.Need-returns-3
-returns-3 c =
-    let at-if1 = c .before .before in
-    let start = at-if1 .before in
-    (c .wide) .ensures .0 ∙ gives-own (start .args .kind) (start .args .name) (start .args .operand) ((at-if1 .if1) .left) ((c .before .if2) .left)
-
 pub gives-of-spec : {M : Type 1} → statement M
-gives-of-spec = tie.close (tie.spec array-read-gives returns returns-2 wide-requires returns-3)
+gives-of-spec =
+    tie.close
+    (tie.spec
+    (λ c. gives-by _ _ _ 6 (stretch giving zero≤ (c .if1 .taken) refl))
+    (λ c. gives-by _ _ _ 0 (stretch giving (c .before .if1 .left) (c .if2 .taken) refl))
+    (λ c. gives-by _ _ _ 2 (stretch giving (c .before .if2 .left) (c .if3 .taken) refl))
+    (λ c. gives-by _ _ _ 7 (stretch giving (c .before .if3 .left) (c .if4 .taken) refl))
+    (λ c. gives-by _ _ _ 0 (stretch giving (c .before .if4 .left) (c .if5 .taken) refl))
+    (λ c. gives-by _ _ _ 2 (stretch giving (c .before .if5 .left) (c .if6 .taken) refl))
+    (λ c. gives-by _ _ _ 0 (stretch giving (c .before .if6 .left) (c .if7 .taken) refl))
+    (λ c. gives-by _ _ _ 1 (stretch giving (c .before .if7 .left) (c .if8 .taken) refl))
+    (λ c. gives-by _ _ _ 2 (stretch giving (c .before .if8 .left) (c .if9 .taken) refl))
+    (λ c. gives-by _ _ _ 0 (stretch giving (c .before .if9 .left) (c .if10 .taken) refl))
+    (λ c. gives-by _ _ _ 1 (stretch giving (c .before .if10 .left) (c .if11 .taken) refl))
+    (λ c. gives-by _ _ _ 2 (stretch giving (c .before .if11 .left) (c .if12 .taken) refl))
+    (λ c. gives-by _ _ _ 1 (stretch giving (c .before .if12 .left) (c .if13 .taken) refl))
+    (λ c. gives-by _ _ _ 8 (stretch giving {b = 64} (c .if13 .left) (omega arith) refl)))

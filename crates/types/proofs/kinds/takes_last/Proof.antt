@@ -11,14 +11,11 @@ returns c = last-more ((c .before .before) .args .kind) ((c .before .before) .ar
 returns-2 : tie.Need-returns-2
 returns-2 c = last-one ((c .before .before) .args .kind) ((c .before .before) .args .n) ((c .before .if1) .taken) ((c .if2) .left)
 
-array-read-wide : tie.Need-array-read-wide
-array-read-wide c = search needs
-
-wide-requires : tie.Need-wide-requires
-wide-requires c κs = search needs
+last-takes-requires : tie.Need-last-takes-requires
+last-takes-requires c κs = search needs
 
 returns-3 : tie.Need-returns-3
-returns-3 c = (c .wide) .ensures .0 ∙ last-table ((c .before .before) .args .kind) ((c .before .before) .args .n) ((c .before .if1) .left)
+returns-3 c = (c .last-takes) .ensures ∙ last-table ((c .before .before) .args .kind) ((c .before .before) .args .n) ((c .before .if1) .left)
 
 pub takes-last-spec : {M : Type 1} → statement M
-takes-last-spec = tie.close (tie.spec returns returns-2 array-read-wide wide-requires returns-3)
+takes-last-spec = tie.close (tie.spec returns returns-2 last-takes-requires returns-3)

@@ -1,11 +1,12 @@
 -- The operands of an equation by their sides, all others by what is taken.
+use mathlib.Core.Path.{sym, _∙_}
 use Rattle.types.specs.CodeLaws.{wrong-sides, wrong-misfits}
 use borrow.Author.Needs.{needs}
 use Rattle.types.proofs.kinds.wrong_at.Statement.{statement}
 use Rattle.types.proofs.kinds.wrong_at.Tie as tie
 
-array-read-other : tie.Need-array-read-other
-array-read-other c = search needs
+others-take-requires : tie.Need-others-take-requires
+others-take-requires c κs = search needs
 
 first-of-requires : tie.Need-first-of-requires
 first-of-requires c κs = search needs
@@ -34,12 +35,11 @@ returns c =
     let at-first-of2 = at-first-of3 .before in
     let at-first-of = at-first-of2 .before in
     let at-if1 = at-first-of .before in
-    let start = at-if1 .before .before .before in
-    wrong-sides (start .args .kind) (start .args .kinds .now) (start .args .starts .now) (start .args .from) (start .args .to) _ ((at-if1 .if1) .taken) ((at-first-of .first-of) .ensures)
+    let at-takes = at-if1 .before in
+    let start = at-takes .before .before .before in
+    let sides = sym ((at-takes .others-take) .ensures) ∙ (at-if1 .if1) .taken in
+    wrong-sides (start .args .kind) (start .args .kinds .now) (start .args .starts .now) (start .args .from) (start .args .to) _ sides ((at-first-of .first-of) .ensures)
     ((at-first-of2 .first-of2) .ensures) ((at-first-of3 .first-of3) .ensures) ((c .before .first-of4) .ensures) ((c .sides-of) .ensures)
-
-wide-requires : tie.Need-wide-requires
-wide-requires c κs = search needs
 
 sub-takes-last : tie.Need-sub-takes-last
 sub-takes-last c = search needs
@@ -52,17 +52,18 @@ misfits-requires c κs = search needs
 
 returns-2 : tie.Need-returns-2
 returns-2 c =
-    let at-wide = c .before .before in
-    let at-if1 = at-wide .before in
-    let start = at-if1 .before .before .before in
-    wrong-misfits (start .args .kind) (start .args .kinds .now) (start .args .starts .now) (start .args .from) (start .args .to) _ ((at-if1 .if1) .left) (start .pre .1) ((at-wide .wide) .ensures .0)
+    let at-if1 = c .before .before in
+    let at-takes = at-if1 .before in
+    let start = at-takes .before .before .before in
+    let takes = (at-takes .others-take) .ensures in
+    wrong-misfits (start .args .kind) (start .args .kinds .now) (start .args .starts .now) (start .args .from) (start .args .to) _ (λ e. (at-if1 .if1) .left (takes ∙ e)) (start .pre .1) takes
     ((c .before .takes-last) .ensures) ((c .misfits) .ensures)
 
 pub wrong-at-spec : {M : Type 1} → statement M
 wrong-at-spec =
     tie.close
     (tie.spec
-    array-read-other
+    others-take-requires
     first-of-requires
     add-first-of
     first-of-requires-2
@@ -71,7 +72,6 @@ wrong-at-spec =
     first-of-requires-4
     sides-of-requires
     returns
-    wide-requires
     sub-takes-last
     takes-last-requires
     misfits-requires
