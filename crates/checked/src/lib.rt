@@ -2,6 +2,7 @@
 // `check` asks for a work buffer and tables of full length; `read` refuses a shorter buffer (17) and lends the tables.
 use depth::too_deep;
 use enumerations::wrong_words;
+use language::limits;
 use names::Naming;
 use names::resolve;
 use node::refusals;
@@ -62,6 +63,25 @@ fn well_formed(
     naming
 }
 
+// `well_formed` in a frame of its own: a function that calls itself, which this one never does, is not made part of its caller, whose frame would hold the arrays of the
+// stages while the text is expanded.
+fn well_formed_apart(
+    text: &[u8],
+    work: &[u8],
+    tokens: usize,
+    entries: usize,
+    refs: &mut [u16],
+    found: &mut [u16],
+) -> Naming
+    requires { ⌜ TreeStored (now text) (now work) tokens entries × (maxTokens ≤ length (now refs)) × (maxNames ≤ length (now found)) ⌝ }
+    ensures { λ r. ⌜ ((x : Spec) → Stored (now (text .entry)) (now (work .entry)) tokens entries x → Forms x (now (refs .exit)) (now (found .exit)) r) ⌝ }
+{
+    if entries > limits::MAX_TOKENS {
+        return well_formed_apart(text, work, tokens, entries, refs, found);
+    }
+    well_formed(text, work, tokens, entries, refs, found)
+}
+
 fn answer(tokens: usize, entries: usize, facts: Facts, naming: Naming) -> Checked
     ensures { λ r. ⌜ r ≡ answer' tokens entries facts naming ⌝ }
 {
@@ -98,6 +118,6 @@ pub fn check(text: &[u8], work: &mut [u8], refs: &mut [u16], found: &mut [u16]) 
     let Text::Accepted(tokens, entries, facts) = outline else {
         return unchecked(outline);
     };
-    let naming = well_formed(text, work, tokens, entries, refs, found);
+    let naming = well_formed_apart(text, work, tokens, entries, refs, found);
     answer(tokens, entries, facts, naming)
 }

@@ -17,14 +17,14 @@ use Rattle.notes.specs.Notes.{Notes}
 use Rattle.machine.specs.Memory.{frameWords, reserve, spare, firstKept}
 use Rattle.machine.specs.Realm.{Operand, Realm}
 use Rattle.machine_run.specs.Running.{maxMemory, regionsOf, Given, Runnable, NumberTold}
-use Rattle.memory_notes.specs.Laid.{slotsFrom, Laid}
+use Rattle.memory_notes.specs.Laid.{lastSlots, Laid}
 use Rattle.memory_notes.specs.LaidLaws.{laid-noted, laid-lasting}
 
 -- the memory and the table of nodes, with room for a text of so many entries
 pub record MemoryRoom (mem table : List ℕ) (entries : ℕ) : Type 0 where
   pub sized : length table ≡ maxNodes
-  pub kept : firstKept ≤ slotsFrom (length mem)
-  pub room : slotsFrom (length mem) + entries + (frameWords + reserve + spare + entries) ≤ length mem
+  pub kept : firstKept ≤ lastSlots (length mem)
+  pub room : lastSlots (length mem) + entries + (frameWords + reserve + spare + entries) ≤ length mem
   pub most : length mem ≤ maxMemory
 
 pub record Room (refs sorts numbers mem table : List ℕ) (entries : ℕ) : Type 0 where
@@ -66,7 +66,7 @@ pub record Numbered (text w refs sorts numbers table table′ : List ℕ) (k : �
 -- the room stays where lengths do
 pub room-kept : {mem table : List ℕ} {entries : ℕ} (mem′ table′ : List ℕ) → length mem′ ≡ length mem → length table′ ≡ length table → MemoryRoom mem table entries → MemoryRoom mem′ table′ entries
 room-kept {mem} mem′ table′ l t r =
-    let same : slotsFrom (length mem′) ≡ slotsFrom (length mem) = ap slotsFrom l in
+    let same : lastSlots (length mem′) ≡ lastSlots (length mem) = ap lastSlots l in
     let k = r .kept in
     let m = r .room in
     let n = r .most in
@@ -82,8 +82,8 @@ module _ {text w refs sorts numbers mem mem′ table firsts : List ℕ} {entries
   expression-given : {k : ℕ} (R : Realm (source text w refs)) (c : Context) (e : Expr) → Expression text w refs sorts numbers k R c e
       → Given (source text w refs) R mem′ table entries k (suc maxNodes) c e
   expression-given R c e x =
-      let s = laid .slots in
-      let k = room-kept mem′ table len refl room .kept in
+      let s = laid .behind in
+      let e = laid .early in
       record {
         operand = x .operand;
         noted = laid-noted laid R (regionsOf mem′ entries) (suc maxNodes) (x .notes) (λ l. absurd (omega arith)) (omega arith) (omega arith) (omega arith);
@@ -93,7 +93,7 @@ module _ {text w refs sorts numbers mem mem′ table firsts : List ℕ} {entries
   pub workable-runnable : {k : ℕ} → Workable text w refs sorts numbers mem table entries k → Runnable (source text w refs) mem′ table entries k (suc maxNodes)
   workable-runnable h =
       let r = room-kept mem′ table len refl room in
-      let s = laid .slots in
+      let s = laid .early in
       let m = r .most in
       let n = r .room in
       record {

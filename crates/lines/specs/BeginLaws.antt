@@ -19,7 +19,7 @@ use Rattle.name_values.specs.Worked.{worldIn}
 use Rattle.notes.specs.Notes.{Notes}
 use Rattle.operands.specs.Working.{Source}
 use Rattle.machine.specs.Memory.{firstKept}
-use Rattle.memory_notes.specs.Laid.{Laid, FirstSignals, slotsFrom}
+use Rattle.memory_notes.specs.Laid.{Laid, FirstSignals}
 use Rattle.memory_notes.specs.LaidLaws.{laid-noted, laid-lasting}
 use Rattle.memory_notes.specs.ShortTables.{short-table}
 use Rattle.machine_run.specs.Running.{regionsOf}
@@ -32,10 +32,10 @@ world x d = worldIn x (inOrder d) (d .table)
 module _ (x : Spec) (d : Declarations) (regular : All RegularDefinition (x .definitions)) (declared : declarations x ≡ Done d) where
   pub begins : {s : Source} {memory table words sorts numbers firsts found : List ℕ} {count entries names start : ℕ} → Stored (s .text) (s .work) count entries x → Resolved x (s .refs) found names
       → Notes (tokens (s .text)) (s .work) (world x d) sorts numbers → Laid memory sorts numbers firsts → (start ≤ maxNodes → FirstSignals (inOrder d) (world x d) firsts)
-      → firstKept ≤ slotsFrom (length memory) → start ≤ suc maxNodes → (start ≤ maxNodes → start ≡ 0) → Begins s (buffers memory table words) entries start x d
-  begins {s} {memory} {table} {entries = entries} {start = start} stored resolved notes laid firsts room few starts =
+      → start ≤ suc maxNodes → (start ≤ maxNodes → start ≡ 0) → Begins s (buffers memory table words) entries start x d
+  begins {s} {memory} {table} {entries = entries} {start = start} stored resolved notes laid firsts few starts =
       let t : Tree s entries x d = record { count = _; found = _; names = _; stored = stored; resolved = resolved; short = value-of declared (short-table x regular) } in
-      let z = laid .slots in
+      let z = laid .behind in
       record {
         tree = t;
         few = few;

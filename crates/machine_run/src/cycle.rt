@@ -54,7 +54,8 @@ fn step(
     take(text, work, refs, memory, table, m)
 }
 
-// The entry of m, for which there is no room.
+// The entry of m, for which there is no room. A function that calls itself, which this one never does, is not made part of its caller, whose frame would hold the fresh memory
+// all the time.
 fn apart(
     text: &[u8],
     work: &[u8],
@@ -68,6 +69,9 @@ fn apart(
     ensures { λ r. ⌜ Writes (source (now (text .entry)) (now (work .entry)) (now (refs .entry))) (now (memory .entry)) (now (memory .exit)) (now (table .entry)) (now (table .exit)) m (moved r) ⌝ }
 {
     let mut fresh = room();
+    if m.mode > modes::EXPAND {
+        return apart(text, work, refs, &mut fresh, table, m);
+    }
     copy(memory, 0, &mut fresh, 0, m.depth);
     let r = evaluate(text, work, refs, &mut fresh, table, outset(m));
     let Outcome::Came(n) = r else {

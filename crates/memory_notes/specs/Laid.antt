@@ -9,9 +9,9 @@ use Rattle.language.specs.Numbering.{firstOf}
 use Rattle.name_values.specs.World.{World, Stands, nameAt, meaningAt}
 use Rattle.machine.specs.Memory.{firstKept, slotsWord, noteAt, freeOf}
 
--- slots begin in the middle of the memory: what lies before has room for the notes and for a full set of nearly every name
-abbrev pub slotsFrom : ℕ → ℕ
-slotsFrom n = n / 2
+-- slots begin in the middle of the memory at the latest: what lies before has room for the notes and for a full set of nearly every name
+abbrev pub lastSlots : ℕ → ℕ
+lastSlots n = n / 2
 
 -- each name's sort, number and first signal, by its number
 pub record Laid (mem sorts numbers firsts : List ℕ) : Type 0 where
@@ -20,7 +20,8 @@ pub record Laid (mem sorts numbers firsts : List ℕ) : Type 0 where
   pub first : (r : ℕ) → r < maxNames → noteAt mem r 2 ≡ getD firsts r 0
   pub mark : (r : ℕ) → r < maxNames → noteAt mem r 3 ≡ 0
   pub free : freeOf mem ≡ firstKept
-  pub slots : getD mem slotsWord 0 ≡ slotsFrom (length mem)
+  pub behind : firstKept ≤ getD mem slotsWord 0
+  pub early : getD mem slotsWord 0 ≤ lastSlots (length mem)
 
 -- the first signals of names that are signals, by the names' numbers; they are at most 255 in all
 pub record FirstSignals (ps : List Port) (W : World) (firsts : List ℕ) : Type 0 where

@@ -10,7 +10,7 @@ use lib.Seq.{getD-set-same, getD-set-other}
 use borrow.Author.Tests.{ltb-true, ltb-false}
 use Rattle.language.specs.Limits.{maxNames}
 use Rattle.machine.specs.Memory.{noteWords, freeWord, slotsWord, firstKept, noteAt}
-use Rattle.memory_notes.specs.Laid.{Laid, slotsFrom}
+use Rattle.memory_notes.specs.Laid.{Laid, lastSlots}
 
 -- the note of the name r
 record NoteIs (mem : List ℕ) (r sort number first : ℕ) : Type 0 where
@@ -113,16 +113,17 @@ laid-more mem sorts numbers firsts i k a q e room h = record { note = λ r l. go
         subst (λ (j : ℕ). NoteIs (four mem k a (getD numbers i 0) (getD firsts i 0)) j (getD sorts j 0) (getD numbers j 0) (getD firsts j 0)) (sym z) own
 
 -- the two words behind the notes
-pub laid-whole : (mem sorts numbers firsts : List ℕ) (i n : ℕ) → maxNames ≤ i → firstKept ≤ length mem → n ≡ slotsFrom (length mem) → LaidTo mem sorts numbers firsts i
+pub laid-whole : (mem sorts numbers firsts : List ℕ) (i n : ℕ) → maxNames ≤ i → firstKept ≤ length mem → firstKept ≤ n → n ≤ lastSlots (length mem) → LaidTo mem sorts numbers firsts i
     → Laid (set (set mem freeWord firstKept) slotsWord n) sorts numbers firsts
-laid-whole mem sorts numbers firsts i n l room e h =
+laid-whole mem sorts numbers firsts i n l room low high h =
     record {
       sort = λ r m. note r m .sort-is;
       number = λ r m. note r m .number-is;
       first = λ r m. note r m .first-is;
       mark = λ r m. note r m .unmarked;
       free = getD-set-other (set mem freeWord firstKept) slotsWord freeWord n 0 (λ q. omega arith) ∙ getD-set-same mem freeWord firstKept 0 (omega arith);
-      slots = getD-set-same (set mem freeWord firstKept) slotsWord n 0 (omega (arith, long)) ∙ e ∙ subst (λ (j : ℕ). slotsFrom (length mem) ≡ slotsFrom j) (sym (len)) refl;
+      behind = omega (arith, low, word);
+      early = subst (λ (j : ℕ). getD (set (set mem freeWord firstKept) slotsWord n) slotsWord 0 ≤ lastSlots j) (sym len) (omega (arith, word, high));
     }
   where
     long : length (set mem freeWord firstKept) ≡ length mem
@@ -130,6 +131,9 @@ laid-whole mem sorts numbers firsts i n l room e h =
 
     len : length (set (set mem freeWord firstKept) slotsWord n) ≡ length mem
     len = length-set (set mem freeWord firstKept) slotsWord n ∙ long
+
+    word : getD (set (set mem freeWord firstKept) slotsWord n) slotsWord 0 ≡ n
+    word = getD-set-same (set mem freeWord firstKept) slotsWord n 0 (omega (arith, long))
 
     note : (r : ℕ) → r < maxNames → NoteIs (set (set mem freeWord firstKept) slotsWord n) r (getD sorts r 0) (getD numbers r 0) (getD firsts r 0)
     note r m =

@@ -81,7 +81,7 @@ module _ {text w refs found : List ℕ} {entries names : ℕ} {x : Spec} (c : Ch
       let known : All Known ps = all-both (λ q f r. (f, r)) ps first-told (regular-ports x D (c .regular) (h .is)) in
       let buses = ports-buses {qs = D .inputs} {rs = D .outputs} (buses-from 0 ps known (h .noted)) (h .inputs) (h .ports) (h .few) in
       record {
-        begins = begins x D (c .regular) (h .is) (c .tree .stored) (c .tree .resolved) (h .notes) (h .laid) numbered (h .room .kept) (few s) (starts s);
+        begins = begins x D (c .regular) (h .is) (c .tree .stored) (c .tree .resolved) (h .notes) (h .laid) numbered (few s) (starts s);
         inputs = buses .0;
         outputs = buses .1;
       }

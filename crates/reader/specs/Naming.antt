@@ -20,7 +20,7 @@ use Rattle.ports.specs.declared.Signals.{Signals}
 use Rattle.ports.specs.declared.Signals.the-variants.{Listed, TooMany}
 use Rattle.machine.specs.Memory.{firstKept, frameWords, reserve, spare}
 use Rattle.machine_run.specs.Running.{maxMemory}
-use Rattle.memory_notes.specs.Laid.{slotsFrom}
+use Rattle.memory_notes.specs.Laid.{lastSlots}
 use Rattle.assembly.specs.declared.implied.Ports.{Ports}
 use Rattle.declarations.specs.declared.Declared.{Declared}
 use Rattle.declarations.specs.declared.Declared.the-variants.{Ports as WithPorts, Refused as NotDeclared}
@@ -64,8 +64,8 @@ someMemory = 65_536
 
 -- a memory with room for a text of so many entries
 pub record Roomy (memory : List ℕ) (entries : ℕ) : Type 0 where
-  pub room : slotsFrom (length memory) + entries + (frameWords + reserve + spare + entries) ≤ length memory
-  pub kept : firstKept ≤ slotsFrom (length memory)
+  pub room : lastSlots (length memory) + entries + (frameWords + reserve + spare + entries) ≤ length memory
+  pub kept : firstKept ≤ lastSlots (length memory)
   pub most : length memory ≤ maxMemory
 
 -- the answer on a tree, and the counts of one that is accepted
@@ -78,7 +78,7 @@ module _ {text w refs found : List ℕ} {t : CheckedTree} where
   parsed-given h = record { x = h .x; checked = h .parsed .checked; refs-room = h .refs-room; found-room = h .found-room }
 
 pub few-roomy : {memory : List ℕ} {entries : ℕ} → length memory ≡ littleMemory → entries ≤ fewEntries → Roomy memory entries
-few-roomy l h = let q = ap slotsFrom l in record { room = omega (arith, q); kept = omega (arith, q); most = omega arith }
+few-roomy l h = let q = ap lastSlots l in record { room = omega (arith, q); kept = omega (arith, q); most = omega arith }
 
 pub all-roomy : {text w refs found memory : List ℕ} {t : CheckedTree} → SomeParsed text w refs found t → someMemory ≤ length memory → length memory ≤ maxMemory
     → Roomy memory (t .entries)
@@ -147,4 +147,4 @@ module _ {text w refs found : List ℕ} {t : CheckedTree} {memory table list lis
   some-sized =
       let f = all (h .parsed) g e in
       let z = f .room in
-      record { work-room = h .work-room; refs-room = h .refs-room; room = omega (arith, f .laid .slots, z .room); most = z .most; list-size = omega arith }
+      record { work-room = h .work-room; refs-room = h .refs-room; room = omega (arith, f .laid .early, z .room); most = z .most; list-size = omega arith }

@@ -239,7 +239,8 @@ fn expand_checked_short(
     expand_checked_in(text, work, refs, found, &mut memory, tree, nodes, signals)
 }
 
-// `expand_checked_in` of a text of some names.
+// `expand_checked_in` of a text of some names. A function that calls itself, which this one never does, is not made part of its caller, whose frame would hold the memory for
+// every text.
 fn expand_checked_middle(
     text: &[u8],
     work: &[u8],
@@ -254,10 +255,13 @@ fn expand_checked_middle(
         → Converts x (now (nodes .entry)) (now (signals .entry)) (now (nodes .exit)) (now (signals .exit)) r) ⌝ }
 {
     let mut memory = [0u32; SOME_MEMORY];
+    if tree.entries > limits::MAX_TOKENS {
+        return expand_checked_middle(text, work, refs, found, tree, nodes, signals);
+    }
     expand_checked_in(text, work, refs, found, &mut memory, tree, nodes, signals)
 }
 
-// `expand_checked_in` of any text.
+// `expand_checked_in` of any text, in a frame of its own too.
 fn expand_checked_long(
     text: &[u8],
     work: &[u8],
@@ -272,6 +276,9 @@ fn expand_checked_long(
         → Converts x (now (nodes .entry)) (now (signals .entry)) (now (nodes .exit)) (now (signals .exit)) r) ⌝ }
 {
     let mut memory = [0u32; MEMORY];
+    if tree.entries > limits::MAX_TOKENS {
+        return expand_checked_long(text, work, refs, found, tree, nodes, signals);
+    }
     expand_checked_in(text, work, refs, found, &mut memory, tree, nodes, signals)
 }
 

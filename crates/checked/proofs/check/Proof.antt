@@ -22,8 +22,8 @@ same-length c = search needs
 returns : tie.Need-returns
 returns c = handed-up (c .before .before .before .before .before .outlined .ensures) _ _ (c .before .enum-told .given .1) (c .unchecked .ensures)
 
-well-formed-requires : tie.Need-well-formed-requires
-well-formed-requires c κs =
+well-formed-apart-requires : tie.Need-well-formed-apart-requires
+well-formed-apart-requires c κs =
     let drawn = c .before .before .before .before .before .before .before .before in
     let start = drawn .before .before .before .before .before .before in
     (tree (drawn .outlined .ensures) (c .before .before .before .before .outline .given .1) (start .pre .0), start .pre .1, start .pre .2)
@@ -45,7 +45,7 @@ returns-2 c =
     let formed = c .before .before .before .before .before in
     let drawn = formed .before .before .before .before .before .before .before .before .before in
     let start = drawn .before .before .before .before .before .before in
-    checks (drawn .outlined .ensures) (formed .before .before .before .before .before .outline .given .1) (start .pre .0) (formed .well-formed .ensures) (c .answer .ensures)
+    checks (drawn .outlined .ensures) (formed .before .before .before .before .before .outline .given .1) (start .pre .0) (formed .well-formed-apart .ensures) (c .answer .ensures)
 
 pub check-spec : {M : Type 1} → statement M
 check-spec =
@@ -57,7 +57,7 @@ check-spec =
     unchecked-requires
     same-length
     returns
-    well-formed-requires
+    well-formed-apart-requires
     answer-requires
     same-length-2
     same-length-3

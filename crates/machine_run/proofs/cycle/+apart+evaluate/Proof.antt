@@ -45,7 +45,7 @@ evaluate-below t =
     and 5 evaluate-kinds.ps (falls 5 evaluate-kinds.ps _<_ μ-evaluate t) evaluate.Pre
 
 abbrev apart-calls : ℕ → apart-lts.Claims
-apart-calls t = (room-reads.Asked, room-reads.Learnt, copy-reads.Asked, copy-reads.Learnt, outset-reads.Asked, outset-reads.Learnt, evaluate-below t, evaluate.Post, bring-reads.Asked, bring-reads.Learnt)
+apart-calls t = (room-reads.Asked, room-reads.Learnt, apart-below t, apart.Post, copy-reads.Asked, copy-reads.Learnt, outset-reads.Asked, outset-reads.Learnt, evaluate-below t, evaluate.Post, bring-reads.Asked, bring-reads.Learnt)
 
 abbrev evaluate-calls : ℕ → evaluate-lts.Claims
 evaluate-calls t = (finished-reads.Asked, finished-reads.Learnt, step-reads.Asked, step-reads.Learnt, apart-below t, apart.Post)
@@ -53,15 +53,30 @@ evaluate-calls t = (finished-reads.Asked, finished-reads.Learnt, step-reads.Aske
 apart-room-requires : (t : ℕ) → apart-lts.Need-room-requires (apart-calls t) (apart-at t) apart.Post
 apart-room-requires t c κs = search needs
 
+apart-slice-aggregate-apart : (t : ℕ) → apart-lts.Need-slice-aggregate-apart (apart-calls t) (apart-at t) apart.Post
+apart-slice-aggregate-apart t c = search needs
+
+apart-apart-requires : (t : ℕ) → apart-lts.Need-apart-requires (apart-calls t) (apart-at t) apart.Post
+apart-apart-requires t c κs =
+    let at-if = c .before .before in
+    let start = at-if .before .before .before .before .before .before .before in
+    absurd (omega (arith, start .pre .1 .1, at-if .if1 .taken))
+
+apart-returns : (t : ℕ) → apart-lts.Need-returns (apart-calls t) (apart-at t) apart.Post
+apart-returns t c =
+    let at-if = c .before .before .before .before in
+    let start = at-if .before .before .before .before .before .before .before in
+    absurd (omega (arith, start .pre .1 .1, at-if .if1 .taken))
+
 apart-slice-aggregate-copy : (t : ℕ) → apart-lts.Need-slice-aggregate-copy (apart-calls t) (apart-at t) apart.Post
 apart-slice-aggregate-copy t c = search needs
 
 apart-copy-requires : (t : ℕ) → apart-lts.Need-copy-requires (apart-calls t) (apart-at t) apart.Post
 apart-copy-requires t c κs =
-    let start = c .before .before .before .before .before .before .before in
-    let at-room = c .before .before .room in
+    let at-room = c .before .before .before .before in
+    let start = at-room .before .before .before .before .before in
     let f = cycles.slots-fit (start .pre .1 .0) (start .pre .1 .1) in
-    let l = at-room .ensures in
+    let l = at-room .room .ensures in
     let t = start .pre .1 .0 .most in
     (omega arith, omega arith)
 
@@ -70,16 +85,17 @@ apart-slice-aggregate-evaluate t c = search needs
 
 apart-outset-requires : (t : ℕ) → apart-lts.Need-outset-requires (apart-calls t) (apart-at t) apart.Post
 apart-outset-requires t c κs =
-    let start = c .before .before .before .before .before .before .before .before .before .before .before in
+    let start = c .before .before .before .before .before .before .before .before .before .before .before .before .before in
     cycles.outset-fits (start .pre .1 .0) (start .pre .1 .1)
 
 apart-evaluate-requires : (t : ℕ) → apart-lts.Need-evaluate-requires (apart-calls t) (apart-at t) apart.Post
 apart-evaluate-requires t c κs =
-    let start = c .before .before .before .before .before .before .before .before .before .before .before .before in
-    let at-room = c .before .before .before .before .before .before .before .room in
-    let at-copy = c .before .before .before .before .copy in
-    let at-outset = c .outset in
-    (cycles.outset-less (start .args .m) (start .pre .0) (at-outset .ensures), cycles.fresh-begins (start .args .m) (at-room .ensures) (at-copy .ensures) (start .pre .1 .0 .most) (start .pre .1 .0) (start .pre .1 .1) (at-outset .ensures))
+    let at-outset = c in
+    let at-copy = at-outset .before .before .before .before in
+    let at-room = at-copy .before .before .before .before .before in
+    let start = at-room .before .before .before .before .before in
+    (cycles.outset-less (start .args .m) (start .pre .0) (at-outset .outset .ensures),
+    cycles.fresh-begins (start .args .m) (at-room .room .ensures) (at-copy .copy .ensures) (start .pre .1 .0 .most) (start .pre .1 .0) (start .pre .1 .1) (at-outset .outset .ensures))
 
 apart-enum-known-r : (t : ℕ) → apart-lts.Need-enum-known-r (apart-calls t) (apart-at t) apart.Post
 apart-enum-known-r t c = search needs
@@ -90,42 +106,44 @@ apart-enum-told t c = search needs
 apart-same-length : (t : ℕ) → apart-lts.Need-same-length (apart-calls t) (apart-at t) apart.Post
 apart-same-length t c = search needs
 
-apart-returns : (t : ℕ) → apart-lts.Need-returns (apart-calls t) (apart-at t) apart.Post
-apart-returns t c =
-    let start = c .before .before .before .before .before .before .before .before .before .before .before .before .before .before .before .before in
-    let at-room = c .before .before .before .before .before .before .before .before .before .before .before .room in
-    let at-copy = c .before .before .before .before .before .before .before .before .copy in
-    let at-outset = c .before .before .before .before .outset in
-    let at-evaluate = c .before .before .before .evaluate in
-    let at-enum-told = c .enum-told in
-    cycles.apart-fails (start .args .m) (at-room .ensures) (at-copy .ensures) (start .pre .1 .0 .most) (start .pre .1 .0) (start .pre .1 .1) (at-outset .ensures) (at-evaluate .ensures) (at-enum-told .given .1)
+apart-returns-2 : (t : ℕ) → apart-lts.Need-returns-2 (apart-calls t) (apart-at t) apart.Post
+apart-returns-2 t c =
+    let at-evaluate = c .before .before .before in
+    let at-outset = at-evaluate .before in
+    let at-copy = at-outset .before .before .before .before in
+    let at-room = at-copy .before .before .before .before .before in
+    let start = at-room .before .before .before .before .before in
+    cycles.apart-fails (start .args .m) (at-room .room .ensures) (at-copy .copy .ensures) (start .pre .1 .0 .most) (start .pre .1 .0) (start .pre .1 .1) (at-outset .outset .ensures)
+    (at-evaluate .evaluate .ensures) (c .enum-told .given .1)
 
 apart-slice-aggregate-bring : (t : ℕ) → apart-lts.Need-slice-aggregate-bring (apart-calls t) (apart-at t) apart.Post
 apart-slice-aggregate-bring t c = search needs
 
 apart-bring-requires : (t : ℕ) → apart-lts.Need-bring-requires (apart-calls t) (apart-at t) apart.Post
 apart-bring-requires t c κs =
-    let start = c .before .before .before .before .before .before .before .before .before .before .before .before .before .before .before .before .before .before .before in
-    let at-room = c .before .before .before .before .before .before .before .before .before .before .before .before .before .before .room in
-    let at-copy = c .before .before .before .before .before .before .before .before .before .before .before .copy in
-    let at-outset = c .before .before .before .before .before .before .before .outset in
-    let at-evaluate = c .before .before .before .before .before .before .evaluate in
-    let at-r = c .before .before .before .r in
-    cycles.apart-bringable (start .args .m) (at-room .ensures) (at-copy .ensures) (start .pre .1 .0 .most) (start .pre .1 .0) (start .pre .1 .1) (at-outset .ensures) (at-evaluate .ensures) (at-r .given .1)
+    let at-r = c .before .before .before in
+    let at-evaluate = at-r .before .before .before in
+    let at-outset = at-evaluate .before in
+    let at-copy = at-outset .before .before .before .before in
+    let at-room = at-copy .before .before .before .before .before in
+    let start = at-room .before .before .before .before .before in
+    cycles.apart-bringable (start .args .m) (at-room .room .ensures) (at-copy .copy .ensures) (start .pre .1 .0 .most) (start .pre .1 .0) (start .pre .1 .1) (at-outset .outset .ensures)
+    (at-evaluate .evaluate .ensures) (at-r .r .given .1)
 
 apart-same-length-2 : (t : ℕ) → apart-lts.Need-same-length-2 (apart-calls t) (apart-at t) apart.Post
 apart-same-length-2 t c = search needs
 
-apart-returns-2 : (t : ℕ) → apart-lts.Need-returns-2 (apart-calls t) (apart-at t) apart.Post
-apart-returns-2 t c =
-    let start = c .before .before .before .before .before .before .before .before .before .before .before .before .before .before .before .before .before .before .before .before .before .before in
-    let at-room = c .before .before .before .before .before .before .before .before .before .before .before .before .before .before .before .before .before .room in
-    let at-copy = c .before .before .before .before .before .before .before .before .before .before .before .before .before .before .copy in
-    let at-outset = c .before .before .before .before .before .before .before .before .before .before .outset in
-    let at-evaluate = c .before .before .before .before .before .before .before .before .before .evaluate in
-    let at-r = c .before .before .before .before .before .before .r in
-    let at-bring = c .before .before .bring in
-    cycles.apart-comes (start .args .m) (at-room .ensures) (at-copy .ensures) (start .pre .1 .0 .most) (start .pre .1 .0) (start .pre .1 .1) (at-outset .ensures) (at-evaluate .ensures) (at-r .given .1) (at-bring .ensures)
+apart-returns-3 : (t : ℕ) → apart-lts.Need-returns-3 (apart-calls t) (apart-at t) apart.Post
+apart-returns-3 t c =
+    let at-bring = c .before .before in
+    let at-r = at-bring .before .before .before .before in
+    let at-evaluate = at-r .before .before .before in
+    let at-outset = at-evaluate .before in
+    let at-copy = at-outset .before .before .before .before in
+    let at-room = at-copy .before .before .before .before .before in
+    let start = at-room .before .before .before .before .before in
+    cycles.apart-comes (start .args .m) (at-room .room .ensures) (at-copy .copy .ensures) (start .pre .1 .0 .most) (start .pre .1 .0) (start .pre .1 .1) (at-outset .outset .ensures)
+    (at-evaluate .evaluate .ensures) (at-r .r .given .1) (at-bring .bring .ensures)
 
 abbrev evaluate-Inv-loop : evaluate-lts.InvT-loop
 evaluate-Inv-loop text work refs memory₀ table₀ n₀ memory table n = cycles.Runs (source text work refs) memory₀ table₀ n₀ memory table n
@@ -252,6 +270,9 @@ pub +apart+evaluate-spec : {M : Type 1} → statement M
     (apart-at t)
     apart.Post
     (apart-room-requires t)
+    (apart-slice-aggregate-apart t)
+    (apart-apart-requires t)
+    (apart-returns t)
     (apart-slice-aggregate-copy t)
     (apart-copy-requires t)
     (apart-slice-aggregate-evaluate t)
@@ -260,11 +281,11 @@ pub +apart+evaluate-spec : {M : Type 1} → statement M
     (apart-enum-known-r t)
     (apart-enum-told t)
     (apart-same-length t)
-    (apart-returns t)
+    (apart-returns-2 t)
     (apart-slice-aggregate-bring t)
     (apart-bring-requires t)
     (apart-same-length-2 t)
-    (apart-returns-2 t))
+    (apart-returns-3 t))
     λ t. evaluate-lts.spec (evaluate-calls t)
     (evaluate-at t)
     evaluate.Post
