@@ -1,7 +1,7 @@
 -- The whole formula: it has the nodes of every line, and its own are handed over as they are.
 use Prim.Native.Nat.{ℕ, _+_, _<_, _≤_}
 use mathlib.Core.Bool.{Bool, true, false}
-use mathlib.Core.Path.{_≡_, ap, _∙_}
+use mathlib.Core.Path.{_≡_, ap₂, _∙_, sym}
 use mathlib.Core.List.{List, [], _∷_, _++_}
 use lib.ListN.{length, drop}
 use lib.Seq.{sets, sets-eq}
@@ -10,10 +10,12 @@ use Rattle.node.specs.Limits.{maxNodes}
 use Rattle.node.specs.Ltl.{And, Formula, Two}
 use Rattle.node.specs.Postorder.{size, nodesFrom}
 use Rattle.node.specs.PostorderLaws.{length-nodes}
+use Rattle.node.specs.Written.{nodesOf, count}
+use Rattle.node.specs.WrittenLaws.{nodes-are, count-is}
 use Rattle.language.specs.Tree.{Part, Initially, Preset, Require, Assert, Assume, Guarantee, partCode}
 use Rattle.language.specs.Expansion.{Sections, joined, conjunction, linesOf, section, whole}
 use Rattle.writing.specs.Writing.{Wrote}
-use Rattle.writing.specs.WritingLaws.{ends, wrote-none}
+use Rattle.writing.specs.WritingLaws.{ends, past, wrote-none}
 use Rattle.writing.specs.OperandLaws.{size-one, size-two}
 use Rattle.writing.specs.Parts.{moves}
 use Rattle.writing.specs.PartLaws.{stands, lent}
@@ -69,12 +71,24 @@ pub assembled-many : (strict : Bool) (ss : Sections) {words table out out′ : L
     → Wrote (whole strict (section ss)) out out′ 0 r
 assembled-many strict ss g h l = wrote-none (omega (arith, g .many h, whole-size strict ss)) l
 
--- the whole formula's nodes, copied to the front of a lent slice
-pub delivered : {f : Formula} {before whole : List ℕ} {n : ℕ} (nodes : List ℕ) → Wrote f before whole 0 n → length before ≡ maxNodes → n ≤ maxNodes → n ≤ length nodes
-    → sets nodes 0 (moves 0 0 n whole) ≡ nodesFrom 0 f ++ drop (size f) nodes
-delivered {f} {before} {whole} {n} nodes w l h g =
-    let b = ends w h in
-    let e : n ≡ size f = omega arith in
-    let k = length-nodes 0 f in
-    let z : 0 + length (nodesFrom 0 f) ≡ size f = omega arith in
-    lent (stands w l h) e nodes 0 ∙ sets-eq (nodesFrom 0 f) nodes 0 (omega arith) ∙ ap (λ (j : ℕ). nodesFrom 0 f ++ drop j nodes) z
+-- .. and so are the whole formula's nodes
+pub whole-count : (strict : Bool) (ss : Sections) → extent (inTurn ss) ≤ count (whole strict (section ss))
+whole-count strict ss = omega (arith, whole-size strict ss, count-is (whole strict (section ss)))
+
+-- a formula written from the first index on: where its nodes end, and that they do not fit
+module _ {f : Formula} {before whole : List ℕ} {n : ℕ} (w : Wrote f before whole 0 n) where
+  pub written-count : n ≤ maxNodes → n ≡ count f
+  written-count h = let b = ends w h in omega (arith, count-is f)
+
+  pub written-many : maxNodes < n → maxNodes < count f
+  written-many h = let b = past w h in omega (arith, count-is f)
+
+  -- they are copied to the front of a lent slice
+  pub delivered : (nodes : List ℕ) → length before ≡ maxNodes → n ≤ maxNodes → n ≤ length nodes → sets nodes 0 (moves 0 0 n whole) ≡ nodesOf f ++ drop (count f) nodes
+  delivered nodes l h g =
+      let b = ends w h in
+      let e : n ≡ size f = omega arith in
+      let k = length-nodes 0 f in
+      let z : 0 + length (nodesFrom 0 f) ≡ size f = omega arith in
+      lent (stands w l h) e nodes 0 ∙ sets-eq (nodesFrom 0 f) nodes 0 (omega arith)
+      ∙ ap₂ (λ (vs : List ℕ) (j : ℕ). vs ++ drop j nodes) (sym (nodes-are f)) (z ∙ sym (count-is f))

@@ -10,9 +10,10 @@ use native.Mathlib.Omega.{arith}
 use borrow.Author.Tests.{le-leb}
 use Rattle.node.specs.Limits.{maxNodes}
 use Rattle.node.specs.Ltl.{Formula, True, False, Signal, One, Two}
-use Rattle.node.specs.Postorder.{size, SignalsBelow}
+use Rattle.node.specs.Postorder.{SignalsBelow}
 use Rattle.node.specs.Result.{Result, Done, _>>=_, guard}
 use Rattle.node.specs.ResultLaws.{bind-to, guard-pass}
+use Rattle.node.specs.Written.{count}
 use Rattle.language.specs.Limits.{maxSignals}
 use Rattle.language.specs.Bytes.{same}
 use Rattle.language.specs.Tokens.{Name, Token}
@@ -138,16 +139,16 @@ expand-line x d tree f undefined plain h =
 
 -- what a tree of one model gives, where refusals 15 and 16 find nothing: the one place that opens `converted`
 converted-by : (x : Spec) (d : Declarations) (f : Formula) (m : Model) → x .semantics ≡ m → x .target ≡ m → declarations x ≡ Done d → expand x d (lines x d) ≡ Done f
-    → tooManySignals 0 (inOrder d) ≡ none → size f ≤ maxNodes →
+    → tooManySignals 0 (inOrder d) ≡ none → count f ≤ maxNodes →
     specExpansion x ≡ Done (record { formula = f; signals = signalList (inOrder d) })
 unfolding specExpansion refuseAt
 converted-by x d f m semantics target hd hf few small =
     let signals = signalList (inOrder d) in
     let unshifted : adapted (x .semantics) (x .target) signals f ≡ f = ap₂ (λ (semantics target : Model). adapted semantics target signals f) semantics target ∙ one-model m in
-    let counted : leb (size f) maxNodes ≡ true = le-leb (size f) maxNodes small in
+    let counted : leb (count f) maxNodes ≡ true = le-leb (count f) maxNodes small in
     bind-to (declarations x) d _ hd ∙ bind-to (expand x d (lines x d)) f _ hf
-    ∙ ap (λ (g : Formula). refuseAt 15 (tooManySignals 0 (inOrder d)) (guard (leb (size g) maxNodes) 16 0 (Done (record { formula = g; signals = signals })))) unshifted
-    ∙ ap (λ (o : Option ℕ). refuseAt 15 o (guard (leb (size f) maxNodes) 16 0 (Done (record { formula = f; signals = signals })))) few
+    ∙ ap (λ (g : Formula). refuseAt 15 (tooManySignals 0 (inOrder d)) (guard (leb (count g) maxNodes) 16 0 (Done (record { formula = g; signals = signals })))) unshifted
+    ∙ ap (λ (o : Option ℕ). refuseAt 15 o (guard (leb (count f) maxNodes) 16 0 (Done (record { formula = f; signals = signals })))) few
     ∙ guard-pass 16 0 _ counted
   where
     one-model : (m : Model) → adapted m m (signalList (inOrder d)) f ≡ f
@@ -213,9 +214,9 @@ module _
         ∙ expand-line spec declaredFor tree f refl refl (expansion-inside (atSignals declaredFor) names name-stands f below _)
 
     -- what the tree gives
-    pub converted-for : length names ≤ maxSignals → size (guaranteeing f) ≤ maxNodes → specExpansion spec ≡ Done (record { formula = guaranteeing f; signals = signalList ports })
+    pub converted-for : length names ≤ maxSignals → count (guaranteeing f) ≤ maxNodes → specExpansion spec ≡ Done (record { formula = guaranteeing f; signals = signalList ports })
     converted-for few small =
-        let count : length ports ≡ length names = sym (length-map ports (λ p. p .name .text)) ∙ ap length texts-for in
+        let told : length ports ≡ length names = sym (length-map ports (λ p. p .name .text)) ∙ ap length texts-for in
         converted-by spec declaredFor (guaranteeing f) m refl refl declared-for expanded-for (few-signals 0 ports narrow (omega arith)) small
 
 -- the signal list of such ports: their names as the text has them, and their side

@@ -13,6 +13,7 @@ use Rattle.node.specs.Limits.{maxNodes}
 use Rattle.node.specs.Ltl.{Formula}
 use Rattle.node.specs.Postorder.{size, SignalsBelow}
 use Rattle.node.specs.PostorderLaws.{signals-more}
+use Rattle.node.specs.WrittenLaws.{count-most}
 use Rattle.node.specs.Result.{Done, Refused, _>>=_}
 use Rattle.node.specs.ResultLaws.{bind-done, bind-to, bind-refused, not-done, guard-pass, guard-stop}
 use Rattle.language.specs.Limits.{maxBytes, maxTokens, maxLevels, maxSignals}
@@ -169,7 +170,7 @@ module _ {text s : List ℕ} (w : WrittenOf text s) where
     unfolding textExpansion
     means =
         bind-to (parsed s) tree specExpansion parses-as
-        ∙ converted-for m inputs outputs names f word places (listed .sides) below (fine .1) few (omega (arith, guaranteed-size f, size-small (k .counted)))
+        ∙ converted-for m inputs outputs names f word places (listed .sides) below (fine .1) few (omega (arith, guaranteed-size f, count-most (guaranteeing f), size-small (k .counted)))
 
     -- its signals, entry by entry
     placed : All (PortPlaced s) (inOrder declared)

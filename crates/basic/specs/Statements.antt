@@ -7,8 +7,8 @@ use mathlib.Core.Option.{none}
 use lib.ListN.{length}
 use Rattle.node.specs.Ltl.{Formula, True, One, Two, G, And, Implies}
 use Rattle.node.specs.Fields.{pack}
-use Rattle.node.specs.Postorder.{size, nodesFrom}
 use Rattle.node.specs.Result.{Done}
+use Rattle.node.specs.Written.{nodesOf, count}
 use Rattle.language.specs.Limits.{maxBytes}
 use Rattle.language.specs.Tokens.{tokens}
 use Rattle.language.specs.Tree.{Spec}
@@ -45,6 +45,6 @@ pub record ReadsBack (text s : List ℕ) : Type 0 where
   pub meaning : textExpansion text ≡ Done source
   pub reads : textExpansion s ≡ Done back
   pub formula : back .formula ≡ guaranteeing (source .formula)
-  pub nodes : nodesFrom 0 (back .formula) ≡ front ++ (map (moved 0 8) (nodesFrom 0 (source .formula)) ++ behind (size (source .formula)))
+  pub nodes : nodesOf (back .formula) ≡ front ++ (map (moved 0 8) (nodesOf (source .formula)) ++ behind (count (source .formula)))
   pub names : namesOf s (back .signals) ≡ namesOf text (source .signals)
   pub directions : map flagOf (back .signals) ≡ map flagOf (source .signals)

@@ -13,7 +13,7 @@ use Rattle.traversal.specs.declared.Place.the-variants.{At, Nowhere}
 use Rattle.names.specs.declared.Naming.{Naming}
 use Rattle.names.specs.declared.Naming.the-variants.{Named, Refused as NotNamed}
 use Rattle.names.specs.Resolved.{Stored, naming, Resolved, Says, Answers}
-use Rattle.depth.specs.ProgressLaws.{TooDeep}
+use Rattle.depth.specs.Promise.{TooDeep}
 use Rattle.types.specs.Running.{WrongType}
 use Rattle.enumerations.specs.Promise.{WrongWords}
 use Rattle.checked.specs.Checking.{Finds, Forms}

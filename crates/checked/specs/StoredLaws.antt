@@ -16,7 +16,7 @@ use Rattle.spellings.specs.InternLaws.{lexed-from}
 use Rattle.names.specs.Resolved.{Stored, Resolved}
 use Rattle.traversal.specs.declared.Place.{Place}
 use Rattle.traversal.specs.Places.{placed}
-use Rattle.depth.specs.ProgressLaws.{TooDeep}
+use Rattle.depth.specs.Promise.{TooDeep}
 use Rattle.types.specs.Resolving.{tree-stored}
 use Rattle.types.specs.Running.{WrongType}
 use Rattle.enumerations.specs.SpellLaws.{spells-tell}

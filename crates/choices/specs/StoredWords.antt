@@ -23,7 +23,7 @@ use Rattle.entries.specs.Stored.{firstEntry, kindOf, EntriesFrom}
 use Rattle.spellings.specs.Interned.{Lexed}
 use Rattle.traversal.specs.Cells.{Told, Seen, cellAt, TokensTell, entries-seen}
 use Rattle.enumerations.specs.Pass.{bytesAt}
-use Rattle.enumerations.specs.WordLaws.{Spelled}
+use Rattle.enumerations.specs.Given.{Spelled}
 use Rattle.enumerations.specs.SpellLaws.{spelled}
 use Rattle.choices.specs.Entries.{endFrom, wordsEnd, identifiersEnd, wordsAt, rowIn, rowsAt, textsOf, Words}
 use Rattle.choices.specs.EntryLaws.{end-past, end-low, end-high, end-more}

@@ -11,7 +11,8 @@ use Rattle.node.specs.Limits.{maxNodes}
 use Rattle.node.specs.Ltl.{Word as NodeWord}
 use Rattle.node.specs.Result.{Done, guard, Counts}
 use Rattle.node.specs.Table.{treeAt, NodeHolds}
-use Rattle.node.specs.Postorder.{size, nodesFrom, SignalsBelow}
+use Rattle.node.specs.Postorder.{SignalsBelow}
+use Rattle.node.specs.Written.{nodesOf, count}
 use Rattle.forms.specs.Forms.{form}
 use Rattle.forms.specs.Forbidden.{forbidden}
 use Rattle.rewriter.specs.Rewriting.{rewriting, rewritten}
@@ -45,24 +46,20 @@ pub record Demand3 (text : List ℕ) (number : ℕ) (nodes signals : List ℕ) (
   pub once : Once text (take s signals)
   pub listed : (x : Spec) → parsed text ≡ Done x → ListedAs x (take s signals)
 
--- the reader's nodes for an accepted text
-abbrev pub nodesOf : NumberedFormula → List ℕ
-nodesOf c = nodesFrom 0 (c .formula)
-
 -- demand 3 of an accepted text
 pub record Claim (text : List ℕ) (c : NumberedFormula) : Type 0 where
   -- what the reader leaves, whatever stands after it
-  pub reader : (rest others : List ℕ) → Demand3 text 0 (nodesOf c ++ rest) (c .signals ++ others) (size (c .formula)) (length (c .signals))
+  pub reader : (rest others : List ℕ) → Demand3 text 0 (nodesOf (c .formula) ++ rest) (c .signals ++ others) (count (c .formula)) (length (c .signals))
   -- what the rewriter leaves, given the reader's nodes and a form
-  pub rewriter : (number : ℕ) (out others : List ℕ) (k : Counts) → rewriting number (nodesOf c) (length out) ≡ Done k
-      → Demand3 text number (rewritten number (nodesOf c) out) (c .signals ++ others) (k .nodes) (length (c .signals))
+  pub rewriter : (number : ℕ) (out others : List ℕ) (k : Counts) → rewriting number (nodesOf (c .formula)) (length out) ≡ Done k
+      → Demand3 text number (rewritten number (nodesOf (c .formula)) out) (c .signals ++ others) (k .nodes) (length (c .signals))
   -- 'A form fits if its definition gives at most 8,192 nodes; then only 18 refuses it'
-  pub fits : (number : ℕ) → number ≤ 2 → (room : ℕ) → size (form number (c .formula)) ≤ maxNodes
-      → rewriting number (nodesOf c) room ≡ guard (leb (size (form number (c .formula))) room) 18 0 (Done (record { nodes = size (form number (c .formula)); signals = 0 }))
+  pub fits : (number : ℕ) → number ≤ 2 → (room : ℕ) → count (form number (c .formula)) ≤ maxNodes
+      → rewriting number (nodesOf (c .formula)) room ≡ guard (leb (count (form number (c .formula))) room) 18 0 (Done (record { nodes = count (form number (c .formula)); signals = 0 }))
 
 -- what the reader's whole answer leaves in buffers of any length: the claim on what stands there, and the nodes and the signal list to hand on
 pub record Leaves (text nodes signals : List ℕ) (c : NumberedFormula) : Type 0 where
   pub claim : Claim text c
   pub demand : Demand3 text 0 nodes signals (counts c .nodes) (counts c .signals)
-  pub handed : take (counts c .nodes) nodes ≡ nodesOf c
+  pub handed : take (counts c .nodes) nodes ≡ nodesOf (c .formula)
   pub list : take (counts c .signals) signals ≡ c .signals

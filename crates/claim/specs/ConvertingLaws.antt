@@ -6,9 +6,9 @@ use lib.Dec.{leb}
 use lib.ListN.{length}
 use borrow.Author.Tests.{leb-true}
 use Rattle.node.specs.Limits.{maxNodes}
-use Rattle.node.specs.Postorder.{size}
 use Rattle.node.specs.Result.{Result, Done, _>>=_, guard}
 use Rattle.node.specs.ResultLaws.{guard-done, guard-bind}
+use Rattle.node.specs.Written.{count}
 use Rattle.forms.specs.Forms.{form}
 use Rattle.language.specs.Limits.{maxSignals, workBytes}
 use Rattle.language.specs.Reading.{NumberedFormula, reading}
@@ -26,7 +26,7 @@ converting-reads text number work nodes signals =
 
 -- what is accepted of a text is its form, which fits
 pub record FormOf (number : ℕ) (c d : NumberedFormula) : Type 0 where
-  pub few : size (form number (c .formula)) ≤ maxNodes
+  pub few : count (form number (c .formula)) ≤ maxNodes
   pub same : inForm number c ≡ d
 
 pub formed-done : (number : ℕ) (nodes signals : List ℕ) (c : NumberedFormula) {d : NumberedFormula} → formed number (length nodes) (length signals) c ≡ Done d → FormOf number c d

@@ -5,8 +5,8 @@ use mathlib.Core.Path.{_≡_}
 use mathlib.Core.List.{List}
 use lib.ListN.{length}
 use Rattle.node.specs.Limits.{maxNodes}
-use Rattle.node.specs.Postorder.{size}
 use Rattle.node.specs.Result.{Done}
+use Rattle.node.specs.Written.{count}
 use Rattle.node.specs.Answer.{says}
 use Rattle.node.specs.declared.Answer.{Answer}
 use Rattle.node.specs.declared.Answer.the-variants.{Accepted}
@@ -23,5 +23,5 @@ pub record Converts (text : List ℕ) (number : ℕ) (work nodes signals work′
   -- accepted: demand 3 on what stands in the lent buffers, by the counts told
   pub demand : (n s : ℕ) → r ≡ Accepted n s → Demand3 text number nodes′ signals′ n s
   -- 'A form fits if its definition gives at most 8,192 nodes; then only 18 refuses it': of an accepted text, given a work buffer that is long enough
-  pub fits : (c : NumberedFormula) → textExpansion text ≡ Done c → number ≤ 2 → size (form number (c .formula)) ≤ maxNodes → workBytes ≤ length work
+  pub fits : (c : NumberedFormula) → textExpansion text ≡ Done c → number ≤ 2 → count (form number (c .formula)) ≤ maxNodes → workBytes ≤ length work
       → says r ≡ told (delivered (length nodes) (length signals) (inForm number c))

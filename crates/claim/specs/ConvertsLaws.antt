@@ -5,9 +5,9 @@ use mathlib.Core.List.{List}
 use lib.ListN.{length, drop}
 use borrow.Author.Tests.{le-leb}
 use Rattle.node.specs.Limits.{maxNodes}
-use Rattle.node.specs.Postorder.{size}
 use Rattle.node.specs.Result.{Done, _>>=_, Counts}
 use Rattle.node.specs.ResultLaws.{guard-done, guard-pass, bind-done}
+use Rattle.node.specs.Written.{count}
 use Rattle.node.specs.declared.Answer.{Answer}
 use Rattle.node.specs.declared.Answer.the-variants.{Accepted}
 use Rattle.forms.specs.Forms.{form}
@@ -35,11 +35,11 @@ module _ (text : List ℕ) (number work : ℕ) (nodes signals : List ℕ) where
       let b = bind-done (textExpansion text) _ (a .1) in
       record { source = b .0; meaning = b .1; form = formed-done number nodes signals (b .0) (b .2) }
 
-  fitting-delivered : (c : NumberedFormula) → textExpansion text ≡ Done c → number ≤ 2 → size (form number (c .formula)) ≤ maxNodes → workBytes ≤ work
+  fitting-delivered : (c : NumberedFormula) → textExpansion text ≡ Done c → number ≤ 2 → count (form number (c .formula)) ≤ maxNodes → workBytes ≤ work
       → converting text number work (length nodes) (length signals) ≡ delivered (length nodes) (length signals) (inForm number c)
   unfolding converting formed _>>=_
   fitting-delivered c e h k l =
-      guard-pass 17 0 _ (le-leb workBytes work l) ∙ rw e (guard-pass 21 0 _ (le-leb number 2 h) ∙ guard-pass 16 0 _ (le-leb (size (form number (c .formula))) maxNodes k))
+      guard-pass 17 0 _ (le-leb workBytes work l) ∙ rw e (guard-pass 21 0 _ (le-leb number 2 h) ∙ guard-pass 16 0 _ (le-leb (count (form number (c .formula))) maxNodes k))
 
 -- the last two follow from the first
 module _ (text : List ℕ) (number : ℕ) {work nodes signals work′ nodes′ signals′ : List ℕ} {r : Answer}
@@ -52,7 +52,7 @@ module _ (text : List ℕ) (number : ℕ) {work nodes signals work′ nodes′ s
       let c = f .source in
       let here : Demand3 text number (nodesAfter (Done d) nodes) (signalsAfter (Done d) signals) (counts d .nodes) (counts d .signals) =
       subst (λ (x : NumberedFormula). Demand3 text number (nodesAfter (Done x) nodes) (signalsAfter (Done x) signals) (counts x .nodes) (counts x .signals)) (f .form .same)
-      (form-demand text c (f .meaning) number (drop (size (form number (c .formula))) nodes) (drop (length (c .signals)) signals) (f .form .few)) in
+      (form-demand text c (f .meaning) number (drop (count (form number (c .formula))) nodes) (drop (length (c .signals)) signals) (f .form .few)) in
       rw (y .nodesLeft, y .signalsLeft, a .done) (subst (λ (k : Counts). Demand3 text number (nodesAfter (Done d) nodes) (signalsAfter (Done d) signals) (k .nodes) (k .signals)) (a .same) here)
 
   pub converts : Converts text number work nodes signals work′ nodes′ signals′ r

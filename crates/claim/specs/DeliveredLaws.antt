@@ -7,9 +7,9 @@ use lib.ListN.{length, take, length-take}
 use native.Mathlib.Omega.{arith}
 use borrow.Author.Tests.{le-leb}
 use Rattle.node.specs.Limits.{maxNodes}
-use Rattle.node.specs.Postorder.{size}
 use Rattle.node.specs.Result.{Result, Done, Refused, _>>=_}
 use Rattle.node.specs.ResultLaws.{guard-pass}
+use Rattle.node.specs.Written.{count}
 use Rattle.language.specs.Limits.{maxSignals}
 use Rattle.language.specs.Reading.{NumberedFormula, textExpansion, delivered}
 use Rattle.language.specs.Laws.Meaning.Acceptance.{accepts, list-limited}
@@ -19,7 +19,7 @@ unfolding _>>=_
 all-delivered text = go (textExpansion text) refl
   where
     go : (r : Result NumberedFormula) → textExpansion text ≡ r → r >>= delivered maxNodes maxSignals ≡ r
-    go (Done c) e = guard-pass 18 0 _ (ap₂ _&&_ (le-leb (size (c .formula)) maxNodes (accepts e .fewNodes)) (le-leb (length (c .signals)) maxSignals (list-limited text c e)))
+    go (Done c) e = guard-pass 18 0 _ (ap₂ _&&_ (le-leb (count (c .formula)) maxNodes (accepts e .fewNodes)) (le-leb (length (c .signals)) maxSignals (list-limited text c e)))
     go (Refused n p) e = refl
 
 pub taken-room : (n : ℕ) (l : List ℕ) → length (take n l) ≡ n → n ≤ length l

@@ -10,16 +10,15 @@ use native.Mathlib.Omega.{arith}
 use borrow.Author.Tests.{lt-leb, le-leb, leb-true}
 use Rattle.node.specs.Limits.{maxNodes}
 use Rattle.node.specs.Ltl.{Formula}
-use Rattle.node.specs.Postorder.{size}
-use Rattle.node.specs.PostorderLaws.{size-pos}
 use Rattle.node.specs.Result.{Result, Done, _>>=_, guard, Counts}
 use Rattle.node.specs.ResultLaws.{guard-pass, guard-stop}
+use Rattle.node.specs.Written.{nodesOf, count}
+use Rattle.node.specs.WrittenLaws.{count-some}
 use Rattle.forms.specs.Forms.{form}
 use Rattle.rewriter.specs.Rewriting.{fitting, rewriting}
 use Rattle.rewriter.specs.RewritingLaws.{rewriting-form}
 use Rattle.rewriter.specs.OwnNodes.{own-rewriting}
 use Rattle.language.specs.Reading.{NumberedFormula, textExpansion}
-use Rattle.claim.specs.Claim.{nodesOf}
 use Rattle.claim.specs.ClaimLaws.{text-few, text-small}
 use Rattle.claim.specs.Yields.{told}
 use Rattle.claim.specs.Converting.{inForm, formed}
@@ -68,20 +67,20 @@ withSignals s r = r >>= λ k. Done (record { nodes = k .nodes; signals = s })
 
 module _ (text : List ℕ) (c : NumberedFormula) (e : textExpansion text ≡ Done c) (number : ℕ) where
   -- the rewriter on the reader's nodes: never 19
-  own-answer : (room : ℕ) → rewriting number (nodesOf c) room ≡ guard (leb number 2) 21 0 (fitting (form number (c .formula)) room)
+  own-answer : (room : ℕ) → rewriting number (nodesOf (c .formula)) room ≡ guard (leb number 2) 21 0 (fitting (form number (c .formula)) room)
   own-answer room = go (decLe number 2)
     where
-      go : Dec (number ≤ 2) → rewriting number (nodesOf c) room ≡ guard (leb number 2) 21 0 (fitting (form number (c .formula)) room)
+      go : Dec (number ≤ 2) → rewriting number (nodesOf (c .formula)) room ≡ guard (leb number 2) 21 0 (fitting (form number (c .formula)) room)
       go (yes h) = own-rewriting number (c .formula) room h (text-small text c e) (text-few text c e) ∙ sym (guard-pass 21 0 _ (le-leb number 2 h))
-      go (no h) = rewriting-form number (nodesOf c) room (omega arith) ∙ sym (guard-stop 21 0 _ (lt-leb number 2 (omega arith)))
+      go (no h) = rewriting-form number (nodesOf (c .formula)) room (omega arith) ∙ sym (guard-stop 21 0 _ (lt-leb number 2 (omega arith)))
 
   -- so the converter tells what the rewriter does, lent that room
-  pub formed-told : (nodes signals : ℕ) → told (formed number nodes signals c) ≡ withSignals (length (c .signals)) (rewriting number (nodesOf c) (room nodes signals (length (c .signals))))
+  pub formed-told : (nodes signals : ℕ) → told (formed number nodes signals c) ≡ withSignals (length (c .signals)) (rewriting number (nodesOf (c .formula)) (room nodes signals (length (c .signals))))
   unfolding formed fitting
   formed-told nodes signals =
       let f : Formula = form number (c .formula) in
       let s : ℕ = length (c .signals) in
-      let large : Bool = leb (size f) maxNodes in
-      ap (λ (b : Bool). told (guard (leb number 2) 21 0 (guard large 16 0 (guard b 18 0 (Done (inForm number c)))))) (sym (room-fits (size f) nodes signals s (size-pos f)))
-      ∙ told-behind _ _ (inForm number c) (record { nodes = size f; signals = 0 }) refl (leb number 2) large (leb (size f) (room nodes signals s))
+      let large : Bool = leb (count f) maxNodes in
+      ap (λ (b : Bool). told (guard (leb number 2) 21 0 (guard large 16 0 (guard b 18 0 (Done (inForm number c)))))) (sym (room-fits (count f) nodes signals s (count-some f)))
+      ∙ told-behind _ _ (inForm number c) (record { nodes = count f; signals = 0 }) refl (leb number 2) large (leb (count f) (room nodes signals s))
       ∙ ap (withSignals s) (sym (own-answer (room nodes signals s)))

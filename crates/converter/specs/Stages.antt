@@ -5,20 +5,18 @@ use mathlib.Core.List.{List, _++_}
 use lib.ListN.{length, take, drop}
 use Rattle.node.specs.Limits.{maxNodes}
 use Rattle.node.specs.Ltl.{Formula}
-use Rattle.node.specs.Postorder.{size, nodesFrom}
-use Rattle.node.specs.PostorderLaws.{length-nodes}
 use Rattle.node.specs.Result.{Result, Done, Refused, _>>=_, Counts}
 use Rattle.node.specs.Table.{root}
+use Rattle.node.specs.Written.{nodesOf, count}
+use Rattle.node.specs.WrittenLaws.{length-of, table-root}
 use Rattle.node.specs.Answer.{says}
 use Rattle.node.specs.declared.Answer.{Answer}
 use Rattle.node.specs.declared.Answer.the-variants.{Accepted}
 use Rattle.forms.specs.Forms.{form}
 use Rattle.rewriter.specs.Rewriting.{rewriting, target, leaves}
-use Rattle.rewriter.specs.OwnNodes.{own-root}
 use Rattle.language.specs.Limits.{maxSignals}
 use Rattle.language.specs.Reading.{NumberedFormula, textExpansion, reading, nodesAfter, signalsAfter, workAfter}
 use Rattle.language.specs.Laws.Buffers.{accepted-meant}
-use Rattle.claim.specs.Claim.{nodesOf}
 use Rattle.claim.specs.ClaimLaws.{text-few, text-small}
 use Rattle.claim.specs.Yields.{told}
 use Rattle.claim.specs.YieldsLaws.{accepted, refused, told-done, told-refused}
@@ -37,7 +35,7 @@ pub record AtHand (text : List ℕ) (number : ℕ) (work nodes signals work′ t
   pub meaning : textExpansion text ≡ Done source
   pub answer : conversion text number work nodes signals ≡ formed number (length nodes) (length signals) source
   pub listTold : s ≡ length (source .signals)
-  pub handed : take n table ≡ nodesOf source
+  pub handed : take n table ≡ nodesOf (source .formula)
   pub listed : take s list ≡ source .signals
   pub tableRoom : n ≤ length table
   pub listRoom : s ≤ length list
@@ -71,9 +69,9 @@ module _ (number : ℕ) (nodes signals : List ℕ) {text work work′ table tabl
       let t = accepted (read .yields) e in
       let c = t .value in
       let left = read .leaves c (t .done) in
-      let nodesTold : size (c .formula) ≡ n = ap (λ (k : Counts). k .nodes) (t .same) in
+      let nodesTold : count (c .formula) ≡ n = ap (λ (k : Counts). k .nodes) (t .same) in
       let signalsTold : length (c .signals) ≡ s = ap (λ (k : Counts). k .signals) (t .same) in
-      let handed : take n table′ ≡ nodesOf c = subst (λ (k : ℕ). take k table′ ≡ nodesOf c) nodesTold (left .handed) in
+      let handed : take n table′ ≡ nodesOf (c .formula) = subst (λ (k : ℕ). take k table′ ≡ nodesOf (c .formula)) nodesTold (left .handed) in
       let listed : take s list′ ≡ c .signals = subst (λ (k : ℕ). take k list′ ≡ c .signals) signalsTold (left .list) in
       record {
         source = c;
@@ -82,7 +80,7 @@ module _ (number : ℕ) (nodes signals : List ℕ) {text work work′ table tabl
         listTold = sym signalsTold;
         handed = handed;
         listed = listed;
-        tableRoom = taken-room n table′ (ap length handed ∙ length-nodes 0 (c .formula) ∙ nodesTold);
+        tableRoom = taken-room n table′ (ap length handed ∙ length-of (c .formula) ∙ nodesTold);
         listRoom = taken-room s list′ (ap length listed ∙ signalsTold);
         workLeft = read .yields .workLeft;
       }
@@ -122,7 +120,7 @@ module _ {text work nodes signals work′ table list nodes′ signals′ : List 
 
     form-is : target number (take n table) ≡ form number (g .source .formula)
     form-is =
-        ap (form number) (ap root (g .handed) ∙ own-root (g .source .formula) (text-small text (g .source) (g .meaning)) (text-few text (g .source) (g .meaning)))
+        ap (form number) (ap root (g .handed) ∙ table-root (g .source .formula) (text-small text (g .source) (g .meaning)) (text-few text (g .source) (g .meaning)))
 
     pub form-accepted : Converts text number work nodes signals work′ nodes′ signals′ (Accepted m s)
     form-accepted =
@@ -130,7 +128,7 @@ module _ {text work nodes signals work′ table list nodes′ signals′ : List 
         (record {
           answer = accepts;
           nodesLeft = w .nodesLeft ∙ ap (λ (x : Answer). leaves (says x) (target number (take n table)) nodes) e
-              ∙ ap (λ (f : Formula). nodesFrom 0 f ++ drop (size f) nodes) form-is ∙ ap (λ x. nodesAfter x nodes) (sym result);
+              ∙ ap (λ (f : Formula). nodesOf f ++ drop (count f) nodes) form-is ∙ ap (λ x. nodesAfter x nodes) (sym result);
           signalsLeft = w .signalsLeft ∙ ap (λ (x : Answer). listLeft (says x) (take s list) signals) e
               ∙ ap (λ (l : List ℕ). l ++ drop (length l) signals) (g .listed) ∙ ap (λ x. signalsAfter x signals) (sym result);
           workLeft = g .workLeft;

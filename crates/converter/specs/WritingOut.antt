@@ -7,9 +7,9 @@ use lib.Seq.{paste, length-take-le, take-length, drop-length}
 use native.Mathlib.Nat.{zero-add}
 use native.Mathlib.Omega.{arith}
 use Rattle.node.specs.Ltl.{Formula}
-use Rattle.node.specs.Postorder.{size, nodesFrom}
-use Rattle.node.specs.PostorderLaws.{size-pos}
 use Rattle.node.specs.Result.{Result, Done, Refused, Counts}
+use Rattle.node.specs.Written.{nodesOf, count}
+use Rattle.node.specs.WrittenLaws.{count-some}
 use Rattle.node.specs.Answer.{says}
 use Rattle.node.specs.declared.Answer.{Answer}
 use Rattle.node.specs.declared.Answer.the-variants.{Accepted}
@@ -47,7 +47,7 @@ module _ (number : ℕ) (table list nodes signals : List ℕ) {end : ℕ} {out n
     pub list-fits : length list ≤ length signals
     list-fits =
         let a = rewriter-accepts (room (length nodes) (length signals) (length list)) (sym answered ∙ ap says e) in
-        let some = size-pos (target number table) in
+        let some = count-some (target number table) in
         room-some (length nodes) (length signals) (length list) (let fits = a .fits in omega arith)
 
     all : end ≡ length nodes
@@ -60,7 +60,7 @@ module _ (number : ℕ) (table list nodes signals : List ℕ) {end : ℕ} {out n
         (record {
           answer = sym (ap says e) ∙ answered;
           nodesLeft = left e
-              ∙ ap₂ (λ (l r : List ℕ). (nodesFrom 0 f ++ drop (size f) l) ++ r) (ap (λ (i : ℕ). take i nodes) all ∙ take-length nodes) (ap (λ (i : ℕ). drop i nodes) all ∙ drop-length nodes)
-              ∙ append-nil (nodesFrom 0 f ++ drop (size f) nodes);
+              ∙ ap₂ (λ (l r : List ℕ). (nodesOf f ++ drop (count f) l) ++ r) (ap (λ (i : ℕ). take i nodes) all ∙ take-length nodes) (ap (λ (i : ℕ). drop i nodes) all ∙ drop-length nodes)
+              ∙ append-nil (nodesOf f ++ drop (count f) nodes);
           signalsLeft = copied ∙ ap₂ (λ (l : List ℕ) (i : ℕ). l ++ drop i signals) (take-length list) (zero-add (length list));
         })

@@ -1,4 +1,5 @@
 pub mod Depth
+pub mod Promise
 pub mod LevelLaws
 pub mod NodeLaws
 pub mod DepthLaws

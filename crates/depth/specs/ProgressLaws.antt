@@ -6,20 +6,18 @@ use lib.ListN.{set, length-set}
 use lib.Seq.{slice}
 use native.Mathlib.Omega.{arith}
 use Rattle.language.specs.Limits.{maxTokens}
-use Rattle.language.specs.Tree.{Spec}
-use Rattle.language.specs.Grammar.{Tokens}
-use Rattle.language.specs.Places.{first, tooDeep}
+use Rattle.language.specs.Places.{first}
 use Rattle.lexer.specs.Stored.{offsetIn}
 use Rattle.traversal.specs.declared.Cell.{Cell}
 use Rattle.traversal.specs.declared.Place.{Place}
 use Rattle.traversal.specs.Arity.{operands, firstLine}
-use Rattle.traversal.specs.Cells.{cellAt, TokensTell, Offset}
-use Rattle.traversal.specs.TreeStored.{TreeStored}
+use Rattle.traversal.specs.Cells.{cellAt}
 use Rattle.traversal.specs.Places.{placed, placeIn}
 use Rattle.depth.specs.declared.Progress.{Progress}
 use Rattle.traversal.specs.Starts.{firstOf, startOf}
 use Rattle.depth.specs.Depth.{highest, levelOf, faultOf, step}
 use Rattle.depth.specs.DepthLaws.{finds-deep}
+use Rattle.depth.specs.Promise.{TooDeep}
 use Rattle.depth.specs.Progress.{after, Agrees, Reached, part-agrees, line-agrees, reached-more}
 
 module _ {w : List ℕ} {i : ℕ} {p : Progress} {ls ss : List ℕ} (r : Reached w i p ls ss) (small : i < maxTokens) {c : Cell} (hc : c ≡ cellAt w i) {n below start level : ℕ} {f g : Place}
@@ -44,10 +42,6 @@ module _ {w : List ℕ} {i : ℕ} {p : Progress} {ls ss : List ℕ} (r : Reached
       reached-more w i p _ ls ss ls ss r refl refl (omega (arith, low))
       (subst (λ d. Agrees (step d (after w i)) (record { before = c .kind; top = below; found = f }) ls ss) hc
       (line-agrees _ p ls ss c below (r .agrees) (hb ∙ ap (λ k. p .top - k) hn) f g out fault-here hf))
-
--- the answer, whatever tree the entries hold
-unfoldable pub TooDeep : List ℕ → ℕ → Place → Type 0
-TooDeep w n r = (ts : Tokens) (x : Spec) → TokensTell Offset w ts → TreeStored w ts n x → r ≡ placed (tooDeep x)
 
 pub passed-all : (w : List ℕ) (n i : ℕ) (p : Progress) (ls ss : List ℕ) → Reached w i p ls ss → i ≤ n → n ≤ i → TooDeep w n (p .found)
 unfolding TooDeep

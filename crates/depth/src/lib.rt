@@ -17,7 +17,7 @@ ghost use lib.Seq.{slice};
 ghost use Rattle.language.specs.Limits.{maxTokens, workBytes};
 ghost use Rattle.traversal.specs.Places.{placed};
 ghost use Rattle.depth.specs.Progress.{Reached};
-ghost use Rattle.depth.specs.ProgressLaws.{TooDeep};
+ghost use Rattle.depth.specs.Promise.{TooDeep};
 ghost use Rattle.depth.specs.Depth.{capped, highest as highest', levelOf, faultOf};
 
 // The kind of the entry before, how many operands are on the stack, and the first place found.

@@ -8,14 +8,13 @@ use lib.Dec.{leb}
 use lib.ListN.{length, length-map, take}
 use borrow.Author.Tests.{leb-true}
 use Rattle.node.specs.Limits.{maxNodes}
-use Rattle.node.specs.Postorder.{size}
-use Rattle.node.specs.PostorderLaws.{length-nodes}
 use Rattle.node.specs.Result.{Result, Done, Refused, _>>=_, Counts}
 use Rattle.node.specs.ResultLaws.{guard-done, guard-bind, bind-to, bind-where, bind-refused}
 use Rattle.node.specs.Table.{treeAt}
+use Rattle.node.specs.Written.{nodesOf, count}
+use Rattle.node.specs.WrittenLaws.{length-of, table-root}
 use Rattle.node.specs.declared.Answer.{Answer}
 use Rattle.node.specs.declared.Answer.the-variants.{Accepted}
-use Rattle.rewriter.specs.OwnNodes.{own-root}
 use Rattle.bits.specs.Bits.{Values}
 use Rattle.recordings.specs.Recording.{lassoOf, letterOf}
 use Rattle.recordings.specs.declared.Lasso.{Lasso}
@@ -30,7 +29,6 @@ use Rattle.language.specs.Expansion.{linesOf, conjunction, whole}
 use Rattle.language.specs.Shifting.{adapted}
 use Rattle.language.specs.Reading.{NumberedFormula, textExpansion, reading, workAfter}
 use Rattle.language.specs.Laws.Meaning.Acceptance.{accepts}
-use Rattle.claim.specs.Claim.{nodesOf}
 use Rattle.claim.specs.ClaimLaws.{text-few, text-small}
 use Rattle.claim.specs.YieldsLaws.{accepted, refused}
 use Rattle.parser.specs.declared.Facts.{Facts}
@@ -62,7 +60,7 @@ diagnosed {text} {recording} {work} {rows} e l w =
 
 -- the diagnosis of what the reader answers with buffers of the largest size
 pub diagnosing-accepting : (text recording : List ℕ) (work rows : ℕ)
-    → diagnosing text recording work rows ≡ accepting text work >>= λ c. verdictOf (nodesOf c) (length (c .signals)) recording rows >>= finding text recording
+    → diagnosing text recording work rows ≡ accepting text work >>= λ c. verdictOf (nodesOf (c .formula)) (length (c .signals)) recording rows >>= finding text recording
 unfolding diagnosing
 diagnosing-accepting text recording work rows = sym (guard-bind (leb workBytes work) 17 0 (textExpansion text) _)
 
@@ -83,29 +81,29 @@ module _ (text : List ℕ) (c : NumberedFormula) (e : textExpansion text ≡ Don
   abbrev rowsOf : Part → List Values
   rowsOf q = lineRows recording (own .formulas q)
 
-  module _ {room : ℕ} (o : Opens (nodesOf c) (length (c .signals)) recording room) (h : RowsHold (nodesOf c) recording rows) where
-    given : Given (nodesOf c) rows strict lines (w .n) (w .l) (letterOf recording (w .k)) (own .formulas)
+  module _ {room : ℕ} (o : Opens (nodesOf (c .formula)) (length (c .signals)) recording room) (h : RowsHold (nodesOf (c .formula)) recording rows) where
+    given : Given (nodesOf (c .formula)) rows strict lines (w .n) (w .l) (letterOf recording (w .k)) (own .formulas)
     given =
         record {
           limit = length (c .signals);
           formed = o .formed;
           root =
-              own-root (c .formula) (text-small text c e) (text-few text c e)
+              table-root (c .formula) (text-small text c e) (text-few text c e)
               ∙ lines-of text c e .formula
               ∙ ap (λ (b : Bool). whole b (λ q. conjunction (own .formulas q))) (sym strictly);
           some = o .reads .header .some;
           right = λ i p b m.
               so-same _ _
-              (Iff·trans (h i p b m) (Iff·symm (row-right (w .n) (w .l) (letterOf recording (w .k)) (o .reads .header .loop) (treeAt (nodesOf c) i) p m)));
+              (Iff·trans (h i p b m) (Iff·symm (row-right (w .n) (w .l) (letterOf recording (w .k)) (o .reads .header .loop) (treeAt (nodesOf (c .formula)) i) p m)));
           preset = ap (λ (k : LineCounts). k .preset) counted ∙ as-many Preset;
           assert = ap (λ (k : LineCounts). k .assert) counted ∙ as-many Assert;
           guarantee = ap (λ (k : LineCounts). k .guarantee) counted ∙ as-many Guarantee;
         }
 
-    found-is : (b : Bool) → Done (foundBy (nodesOf c) rows strict lines (w .n) b) ≡ finding text recording b
+    found-is : (b : Bool) → Done (foundBy (nodesOf (c .formula)) rows strict lines (w .n) b) ≡ finding text recording b
     found-is true = refl
     found-is false =
-        ap Done (found-named (nodesOf c) rows strict lines (w .n) (w .l) (letterOf recording (w .k)) (own .formulas) given)
+        ap Done (found-named (nodesOf (c .formula)) rows strict lines (w .n) (w .l) (letterOf recording (w .k)) (own .formulas) given)
         ∙ ap (λ (b : Bool). Done (lineNamed b rowsOf (w .n))) strictly
         ∙ sym (bind-to (lined text) own _ (lines-of text c e .lining))
 
@@ -114,7 +112,7 @@ pub record AtHand (text work work′ table : List ℕ) (n s : ℕ) (told : Told)
   pub source : NumberedFormula
   pub meaning : textExpansion text ≡ Done source
   pub passed : accepting text (length work) ≡ Done source
-  pub handed : take n table ≡ nodesOf source
+  pub handed : take n table ≡ nodesOf (source .formula)
   pub listed : s ≡ length (source .signals)
   pub room : n ≤ length table
   pub strict : told .facts .strict ≡ accepts meaning .spec .strict
@@ -141,15 +139,15 @@ module _ {text work work′ table table′ list list′ : List ℕ} {told : Told
       let a = answered (Done c) (t .done) in
       let g = guard-done (leb workBytes (length work)) 17 0 (textExpansion text) a in
       let x = accepts (g .1) in
-      let nodesTold : size (c .formula) ≡ n = ap (λ (k : Counts). k .nodes) (t .same) in
-      let handed : take n table′ ≡ nodesOf c = subst (λ (k : ℕ). take k table′ ≡ nodesOf c) nodesTold (read .reads .leaves c (t .done) .handed) in
+      let nodesTold : count (c .formula) ≡ n = ap (λ (k : Counts). k .nodes) (t .same) in
+      let handed : take n table′ ≡ nodesOf (c .formula) = subst (λ (k : ℕ). take k table′ ≡ nodesOf (c .formula)) nodesTold (read .reads .leaves c (t .done) .handed) in
       record {
         source = c;
         meaning = g .1;
         passed = a;
         handed = handed;
         listed = sym (ap (λ (k : Counts). k .signals) (t .same));
-        room = taken-room n table′ (ap length handed ∙ length-nodes 0 (c .formula) ∙ nodesTold);
+        room = taken-room n table′ (ap length handed ∙ length-of (c .formula) ∙ nodesTold);
         strict = ap (λ (f : Facts). f .strict) (read .facts (leb-true workBytes (length work) (g .0)) (x .spec) (x .parsing));
         lines = read .lines n s e (x .spec) (x .declared) (x .parsing) (x .declaring) (lines-of text c (g .1) .sections) (lines-of text c (g .1) .sectioning);
         workLeft = read .reads .yields .workLeft;
@@ -160,7 +158,7 @@ pub read-diagnosed : {text recording work work′ table rows rows′ : List ℕ}
     → DiagnosesTable (take n table) s recording (told .facts .strict) (told .lines) rows rows′ r → Diagnoses text recording work rows work′ rows′ r
 read-diagnosed {text} {recording} {work} {rows = rows} {rows′} {told = told} {r} g d =
     let c = g .source in
-    let ws = nodesOf c in
+    let ws = nodesOf (c .formula) in
     let signals = length (c .signals) in
     let t : DiagnosesTable ws signals recording (told .facts .strict) (told .lines) rows rows′ r = rw (g .handed, g .listed) at d in
     diagnosed

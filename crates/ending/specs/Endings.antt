@@ -7,9 +7,9 @@ use lib.Dec.{leb}
 use borrow.Author.Tests.{le-leb, lt-leb}
 use Rattle.node.specs.Limits.{maxNodes}
 use Rattle.node.specs.Ltl.{Formula}
-use Rattle.node.specs.Postorder.{size}
 use Rattle.node.specs.Result.{Result, Done, Refused, _>>=_, guard}
 use Rattle.node.specs.ResultLaws.{guard-pass, guard-stop, bind-refused, bind-to}
+use Rattle.node.specs.Written.{count}
 use Rattle.language.specs.Tree.{Spec}
 use Rattle.language.specs.Places.{refuseAt}
 use Rattle.language.specs.Parsing.{parsed}
@@ -22,7 +22,7 @@ use Rattle.language.specs.Reading.{NumberedFormula, specExpansion, textExpansio
 
 -- 16
 abbrev pub fitted : Formula → List ℕ → Result NumberedFormula
-fitted f list = guard (leb (size f) maxNodes) 16 0 (Done (record { formula = f; signals = list }))
+fitted f list = guard (leb (count f) maxNodes) 16 0 (Done (record { formula = f; signals = list }))
 
 -- 15 before it
 abbrev pub ended : Spec → Declarations → Formula → Result NumberedFormula
@@ -69,8 +69,8 @@ module _ (k : NumberedFormula → Result NumberedFormula) where
 
   -- 16
   module _ (f : Formula) (list : List ℕ) where
-    pub too-large : maxNodes < size f → fitted f list >>= k ≡ Refused 16 0
-    too-large h = bind-refused _ _ _ k (guard-stop 16 0 _ (lt-leb (size f) maxNodes h))
+    pub too-large : maxNodes < count f → fitted f list >>= k ≡ Refused 16 0
+    too-large h = bind-refused _ _ _ k (guard-stop 16 0 _ (lt-leb (count f) maxNodes h))
 
-    pub not-too-large : size f ≤ maxNodes → fitted f list >>= k ≡ k (record { formula = f; signals = list })
-    not-too-large h = bind-to _ _ k (guard-pass 16 0 _ (le-leb (size f) maxNodes h))
+    pub not-too-large : count f ≤ maxNodes → fitted f list >>= k ≡ k (record { formula = f; signals = list })
+    not-too-large h = bind-to _ _ k (guard-pass 16 0 _ (le-leb (count f) maxNodes h))

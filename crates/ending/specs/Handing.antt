@@ -11,9 +11,9 @@ use native.Mathlib.Omega.{arith}
 use borrow.Author.Tests.{le-leb, lt-leb}
 use Rattle.node.specs.Limits.{maxNodes}
 use Rattle.node.specs.Ltl.{Formula}
-use Rattle.node.specs.Postorder.{size, nodesFrom}
 use Rattle.node.specs.Result.{Done, Refused, _>>=_}
 use Rattle.node.specs.ResultLaws.{guard-pass, guard-stop}
+use Rattle.node.specs.Written.{nodesOf, count}
 use Rattle.node.specs.declared.Answer.{Answer}
 use Rattle.node.specs.declared.Answer.the-variants.{Accepted}
 use Rattle.language.specs.Limits.{maxSignals}
@@ -21,7 +21,6 @@ use Rattle.language.specs.Expansion.{Sections, section, whole}
 use Rattle.language.specs.Shifting.{shifted}
 use Rattle.language.specs.Reading.{delivered}
 use Rattle.writing.specs.Writing.{Wrote}
-use Rattle.writing.specs.WritingLaws.{ends, past}
 use Rattle.writing.specs.Parts.{moves}
 use Rattle.assembly.specs.Gathered.{inTurn, Gathered, SomeGathered}
 use Rattle.assembly.specs.Layout.{Assembles}
@@ -59,35 +58,32 @@ and-stop false b e = refl
 
 module _ {f : Formula} {out out′ : List ℕ} {m : ℕ} (w : Wrote f out out′ 0 m) (list : List ℕ) (nodes signals : List ℕ) where
   formula-large : maxNodes < m → Hands (fitted f list >>= delivered (length nodes) (length signals)) nodes signals nodes signals (Answer.Refused 16 0)
-  formula-large h = hands-refused nodes signals (too-large (delivered (length nodes) (length signals)) f list (let l = past w h in omega arith))
+  formula-large h = hands-refused nodes signals (too-large (delivered (length nodes) (length signals)) f list (Whole.written-many w h))
 
   module _ (h : m ≤ maxNodes) where
-    size-is : m ≡ size f
-    size-is = let l = ends w h in omega arith
-
     nodes-short : length nodes < m → Hands (fitted f list >>= delivered (length nodes) (length signals)) nodes signals nodes signals (Answer.Refused 18 0)
     nodes-short s =
-        let n = size-is in
+        let n = Whole.written-count w h in
         hands-refused nodes signals (not-too-large (delivered (length nodes) (length signals)) f list (omega arith)
-        ∙ guard-stop 18 0 _ (ap (λ b. b && leb (length list) (length signals)) (lt-leb (size f) (length nodes) (omega arith))))
+        ∙ guard-stop 18 0 _ (ap (λ b. b && leb (length list) (length signals)) (lt-leb (count f) (length nodes) (omega arith))))
 
     signals-short : length signals < length list → Hands (fitted f list >>= delivered (length nodes) (length signals)) nodes signals nodes signals (Answer.Refused 18 0)
     signals-short s =
-        let n = size-is in
+        let n = Whole.written-count w h in
         hands-refused nodes signals (not-too-large (delivered (length nodes) (length signals)) f list (omega arith)
-        ∙ guard-stop 18 0 _ (and-stop (leb (size f) (length nodes)) _ (lt-leb (length list) (length signals) s)))
+        ∙ guard-stop 18 0 _ (and-stop (leb (count f) (length nodes)) _ (lt-leb (length list) (length signals) s)))
 
     formula-handed : length out ≡ maxNodes → m ≤ length nodes → length list ≤ length signals
         → Hands (fitted f list >>= delivered (length nodes) (length signals)) nodes signals (sets nodes 0 (moves 0 0 m out′)) (list ++ drop (length list) signals) (Accepted m (length list))
     formula-handed l p q =
-        let n = size-is in
+        let n = Whole.written-count w h in
         let R = fitted f list >>= delivered (length nodes) (length signals) in
         let S = list ++ drop (length list) signals in
         let done : R ≡ Done (record { formula = f; signals = list }) =
         not-too-large (delivered (length nodes) (length signals)) f list (omega arith)
-        ∙ guard-pass 18 0 _ (ap₂ _&&_ (le-leb (size f) (length nodes) (omega arith)) (le-leb (length list) (length signals) q)) in
-        subst (λ N. Hands R nodes signals N S (Accepted m (length list))) (sym (Whole.delivered nodes w l h p))
-        (subst (λ k. Hands R nodes signals (nodesFrom 0 f ++ drop (size f) nodes) S (Accepted k (length list))) (sym n) (hands-accepted nodes signals done))
+        ∙ guard-pass 18 0 _ (ap₂ _&&_ (le-leb (count f) (length nodes) (omega arith)) (le-leb (length list) (length signals) q)) in
+        subst (λ N. Hands R nodes signals N S (Accepted m (length list))) (sym (Whole.delivered w nodes l h p))
+        (subst (λ k. Hands R nodes signals (nodesOf f ++ drop (count f) nodes) S (Accepted k (length list))) (sym n) (hands-accepted nodes signals done))
 
 -- the same of whatever formula was written
 module _ {whole : List ℕ} {m : ℕ} (list : List ℕ) (nodes signals : List ℕ) where

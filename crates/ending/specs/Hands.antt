@@ -3,8 +3,8 @@ use Prim.Native.Nat.{ℕ}
 use mathlib.Core.List.{List, _++_}
 use mathlib.Core.Path.{_≡_, refl, sym, subst}
 use lib.ListN.{length, drop}
-use Rattle.node.specs.Postorder.{size, nodesFrom}
 use Rattle.node.specs.Result.{Result, Done, Refused, _>>=_}
+use Rattle.node.specs.Written.{nodesOf, count}
 use Rattle.node.specs.Answer.{says}
 use Rattle.node.specs.declared.Answer.{Answer}
 use Rattle.node.specs.declared.Answer.the-variants.{Accepted}
@@ -28,9 +28,9 @@ module _ {result : Result NumberedFormula} where
   hands-refused {n} {p} nodes signals e = subst (λ x. Hands x nodes signals nodes signals (Answer.Refused n p)) (sym e) (record { answer = refl; nodesLeft = refl; signalsLeft = refl })
 
   pub hands-accepted : {c : NumberedFormula} (nodes signals : List ℕ) → result ≡ Done c
-      → Hands result nodes signals (nodesFrom 0 (c .formula) ++ drop (size (c .formula)) nodes) (c .signals ++ drop (length (c .signals)) signals) (Accepted (size (c .formula)) (length (c .signals)))
+      → Hands result nodes signals (nodesOf (c .formula) ++ drop (count (c .formula)) nodes) (c .signals ++ drop (length (c .signals)) signals) (Accepted (count (c .formula)) (length (c .signals)))
   unfolding _>>=_
   hands-accepted {c} nodes signals e =
-      subst (λ x. Hands x nodes signals (nodesFrom 0 (c .formula) ++ drop (size (c .formula)) nodes) (c .signals ++ drop (length (c .signals)) signals)
-      (Accepted (size (c .formula)) (length (c .signals))))
+      subst (λ x. Hands x nodes signals (nodesOf (c .formula) ++ drop (count (c .formula)) nodes) (c .signals ++ drop (length (c .signals)) signals)
+      (Accepted (count (c .formula)) (length (c .signals))))
       (sym e) (record { answer = refl; nodesLeft = refl; signalsLeft = refl })

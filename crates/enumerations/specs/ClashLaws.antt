@@ -1,7 +1,7 @@
--- A word against the rows before it, as the code holds them: owners and rows in two arrays, of each row the first n marks.
+-- A word against the rows before it, one by one, and that the code's answer is the definition's.
 use Prim.Native.Nat.{ℕ, _+_, _≤_, _<_}
 use mathlib.Core.List.{List, [], _∷_, map}
-use mathlib.Core.Bool.{Bool, true, false, _&&_, _||_, not}
+use mathlib.Core.Bool.{true, false, _&&_, _||_, not}
 use mathlib.Core.Path.{_≡_, refl, sym, ap, ap₂, _∙_}
 use lib.Dec.{eqb}
 use lib.ListN.{length, getD, take}
@@ -11,20 +11,8 @@ use native.Mathlib.Omega.{arith}
 use borrow.Author.Tests.{eq-eqb, ne-eqb}
 use Rattle.language.specs.Words.{meet}
 use Rattle.traversal.specs.StackLaws.{no-part}
+use Rattle.enumerations.specs.Clashes.{clashRows}
 use Rattle.enumerations.specs.Pass.{Row, anyClash}
-
-abbrev pub clashRows : ℕ → ℕ → List ℕ → List ℕ → List (List ℕ) → Bool
-clashRows n o v [] rs = false
-clashRows n o v (k ∷ ks) [] = false
-clashRows n o v (k ∷ ks) (r ∷ rs) = (not (eqb k o) && meet (take n r) v) || clashRows n o v ks rs
-
-pub record Clashable (owners : List ℕ) (rows : List (List ℕ)) (count : ℕ) (row : List ℕ) (n : ℕ) : Type 0 where
-  pub short : n ≤ 8
-  pub full : length row ≡ 8
-  pub small : count ≤ 16
-  pub few : count ≤ length owners
-  pub few′ : count ≤ length rows
-  pub each : (j : ℕ) → j < length rows → length (getD rows j []) ≡ 8
 
 module _ (n o : ℕ) (v ks : List ℕ) (rs : List (List ℕ)) (i count : ℕ) (few : count ≤ length ks) (few′ : count ≤ length rs) where
   pub clash-none : count ≤ i → false ≡ clashRows n o v (slice i count ks) (slice i count rs)

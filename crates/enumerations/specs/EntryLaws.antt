@@ -53,26 +53,16 @@ use Rattle.traversal.specs.Arity.{firstLine}
 use Rattle.traversal.specs.ArityLaws.{truth-plain, before-plain, joining-plain, window-plain, big-plain, binder-plain, between-plain}
 use Rattle.traversal.specs.PassLaws.{run}
 use Rattle.traversal.specs.Passed.{passed-all}
-use Rattle.traversal.specs.Places.{first-none, first-assoc}
+use Rattle.traversal.specs.declared.Place.{Place}
+use Rattle.traversal.specs.Places.{placed, first-none, first-assoc}
 use Rattle.traversal.specs.TreeStored.{TreeStored}
-use Rattle.enumerations.specs.Scan.{Word, owned, wordsFrom, Ascends}
+use Rattle.enumerations.specs.Given.{Spells, GoodDefinition}
+use Rattle.enumerations.specs.Promise.{WrongWords}
+use Rattle.enumerations.specs.Scan.{Word, owned, wordsFrom}
 use Rattle.enumerations.specs.ScanLaws.{scan-finds}
 use Rattle.enumerations.specs.Pass.{State, word, begun, named, step}
-use Rattle.enumerations.specs.WordLaws.{Spelled, Pending, pending-begin, pending-name, pending-word, pending-end}
+use Rattle.enumerations.specs.WordLaws.{Pending, pending-begin, pending-name, pending-word, pending-end}
 use Rattle.enumerations.specs.Running.{begin, after}
-
--- the words of enumerations' tokens spell them
-abbrev pub Spells : List ℕ → ℕ → Token → Type 0
-Spells text x t = isOf Marks t ≡ true → Spelled text x t
-
--- an enumeration's words are words, in the text's order
-pub record WordsOf (is : List Identifier) : Type 0 where
-  pub marks : All (λ (v : Word). isOf Marks (v .token) ≡ true) (wordsFrom 1 is)
-  pub ascend : Ascends (wordsFrom 1 is)
-
-abbrev pub GoodDefinition : Definition → Type 0
-GoodDefinition (Defined x e) = Unit {0}
-GoodDefinition (Enumerated x is) = WordsOf is
 
 module _ (text : List ℕ) where
   -- entries that the pass goes by
@@ -253,3 +243,8 @@ module _ (text : List ℕ) where
 pub finds-bad : (text w : List ℕ) (ts : Tokens) (n : ℕ) (x : Spec) → TokensTell (Spells text) w ts → TreeStored w ts n x → All GoodDefinition (x .definitions) → after text w n .found ≡ wrongWords x
 finds-bad text w ts n x told t g =
     ap (λ (s : State). s .found) (passed-all (step text) (cellAt w) begin (outline x) n (t .count)) ∙ text-run text (cellAt w) x g (entries-seen (Spells text) w ts told 0 (outline x) (t .entries))
+
+-- so the stage keeps its promise
+pub promised : (text w : List ℕ) (n : ℕ) {r : Place} → r ≡ placed (after text w n .found) → WrongWords text w n r
+unfolding WrongWords
+promised text w n e ts x told t g = e ∙ ap placed (finds-bad text w ts n x told t g)

@@ -1,5 +1,7 @@
 pub mod ClashLaws
+pub mod Clashes
 pub mod EntryLaws
+pub mod Given
 pub mod Pass
 pub mod Progress
 pub mod Promise

@@ -20,7 +20,8 @@ use Rattle.traversal.specs.Places.{placed, placeIn, place-placed}
 use Rattle.enumerations.specs.declared.Progress.{Progress}
 use Rattle.enumerations.specs.Pass.{Row, State, bytesAt, anyClash, sizeOf, shut, opened, tested, word, step}
 use Rattle.enumerations.specs.RowLaws.{size-later}
-use Rattle.enumerations.specs.ClashLaws.{clashRows, clash-rows}
+use Rattle.enumerations.specs.Clashes.{clashRows}
+use Rattle.enumerations.specs.ClashLaws.{clash-rows}
 
 abbrev ownersOf : List Row → List ℕ
 ownersOf rs = map (λ (r : Row). r .owner) rs

@@ -13,8 +13,7 @@ use Rattle.lexer.specs.StoredLaws.{offset-word, length-word}
 use Rattle.lexer.specs.LexingLaws.{Lexical, token-stands, token-near}
 use Rattle.traversal.specs.Cells.{TokensTell}
 use Rattle.enumerations.specs.Pass.{bytesAt}
-use Rattle.enumerations.specs.WordLaws.{Spelled}
-use Rattle.enumerations.specs.EntryLaws.{Spells}
+use Rattle.enumerations.specs.Given.{Spelled, Spells}
 
 bytes-text : (text : List ℕ) (at n : ℕ) → at + n ≤ length text → bytesAt text at n ≡ take n (drop at text)
 unfolding bytesAt

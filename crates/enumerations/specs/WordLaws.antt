@@ -9,19 +9,13 @@ use lib.ListN.{length, length-map}
 use native.Mathlib.Omega.{arith}
 use borrow.Author.Tests.{eqb-true, eqb-false, eq-eqb, ne-eqb, leb-true, leb-false, le-leb, lt-leb, not-true}
 use Rattle.language.specs.Limits.{maxWords, maxMarks}
-use Rattle.language.specs.Tokens.{Token}
 use Rattle.language.specs.Places.{first}
 use Rattle.language.specs.Laws.Basics.Tests.{pick, leave, and-left, and-right}
 use Rattle.lexer.specs.Stored.{longest, offsetIn, lengthIn}
 use Rattle.traversal.specs.Places.{first-none}
+use Rattle.enumerations.specs.Given.{Spelled}
 use Rattle.enumerations.specs.Scan.{Word, meets, anyMeets, good, scan, scanAll}
 use Rattle.enumerations.specs.Pass.{Row, State, bytesAt, anyClash, sizeOf, shut, opened, tested, word, begun, named}
-
--- the word x of a token t of the text, its length kept up to 255
-pub record Spelled (text : List ℕ) (x : ℕ) (t : Token) : Type 0 where
-  pub place : offsetIn x ≡ t .at
-  pub size : lengthIn x ≡ min longest (length (t .text))
-  pub bytes : bytesAt text (t .at) (length (t .text)) ≡ t .text
 
 abbrev rowOf : Word → Row
 rowOf u = record { owner = u .owner; marks = u .token .text }

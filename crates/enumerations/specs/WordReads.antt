@@ -18,7 +18,7 @@ use Rattle.language.specs.Laws.Grammar.TokenLaws.{Rising, tokens-rise}
 use Rattle.language.specs.Laws.Grammar.ReaderLaws.{Reads, takes}
 use Rattle.language.specs.Laws.Grammar.SectionReads.{expression-reads, infoOf-reads}
 use Rattle.enumerations.specs.Scan.{Word, owned, wordsFrom, Ascends}
-use Rattle.enumerations.specs.EntryLaws.{WordsOf, GoodDefinition}
+use Rattle.enumerations.specs.Given.{WordsOf, GoodDefinition}
 
 -- tokens in the text's order, from a place on
 abbrev Ascending : ℕ → Tokens → Type 0

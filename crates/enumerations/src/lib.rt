@@ -16,7 +16,7 @@ ghost use Rattle.enumerations.specs.Pass.{bytesAt, sizeOf, word as word'
 ghost use Rattle.traversal.specs.Cells.{cellAt};
 ghost use Rattle.enumerations.specs.Promise.{WrongWords};
 ghost use Rattle.enumerations.specs.Progress.{Sized, Passes, shutAt};
-ghost use Rattle.enumerations.specs.ClashLaws.{clashRows, Clashable};
+ghost use Rattle.enumerations.specs.Clashes.{clashRows, Clashable};
 
 // The mark that matches both.
 const STAR: u8 = 42;

@@ -10,7 +10,8 @@ use Rattle.node.specs.Limits.{maxNodes, fieldLimit}
 use Rattle.node.specs.Fields.{kindOf, firstOf, secondOf}
 use Rattle.node.specs.Kinds.{Shape, Truth, Falsehood, Atom, UnaryOf, BinaryOf, Unused, shapeOf, build}
 use Rattle.node.specs.Table.{treeAt}
-use Rattle.node.specs.TableLaws.{Formed, Below, node-is}
+use Rattle.node.specs.Formed.{Formed, Below}
+use Rattle.node.specs.TableLaws.{node-is}
 use Rattle.recordings.specs.Limits.{maxPositions}
 use Rattle.rows.specs.Memory.{rowBytes, rowsLimit, bitsAt, Kept, Written, kept-row, written-as}
 use Rattle.bits.specs.Bits.{width}

@@ -13,7 +13,8 @@ use Rattle.node.specs.Result.{Result, Done, guard, _>>=_, Counts}
 use Rattle.node.specs.ResultLaws.{guard-pass, guard-stop, guard-done, bind-done, not-done}
 use Rattle.node.specs.Answer.{says}
 use Rattle.node.specs.Table.{checked, treeAt, NodeHolds}
-use Rattle.node.specs.TableLaws.{Formed, checked-done}
+use Rattle.node.specs.Formed.{Formed}
+use Rattle.node.specs.TableLaws.{checked-done}
 use Rattle.node.specs.declared.Answer.{Answer}
 use Rattle.recordings.specs.Limits.{maxSignals, maxPositions}
 use Rattle.rows.specs.Memory.{rowsLimit}

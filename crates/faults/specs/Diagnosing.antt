@@ -7,6 +7,7 @@ use lib.Dec.{eqb, leb}
 use lib.ListN.{length}
 use Rattle.node.specs.Ltl.{Formula}
 use Rattle.node.specs.Result.{Result, Done, Refused, _>>=_, guard}
+use Rattle.node.specs.Written.{nodesOf}
 use Rattle.node.specs.Temporal.{Property, Always}
 use Rattle.bits.specs.Bits.{Values}
 use Rattle.recordings.specs.Recording.{lassoOf, letterOf}
@@ -22,7 +23,6 @@ use Rattle.language.specs.Expansion.{gather, atSignals, defineAll, expandSectio
 use Rattle.language.specs.Shifting.{adapted}
 use Rattle.language.specs.Meaning.{Word, MatchesOne, Sense, Means, present, meaningAll, namesOf, readAs, SectionMeans}
 use Rattle.language.specs.Reading.{NumberedFormula, textExpansion}
-use Rattle.claim.specs.Claim.{nodesOf}
 use Rattle.faults.specs.Naming.{Finding, NoFault, lineNamed}
 
 -- a text's lines as formulas, section by section: those of its nodes, so a converted file's with their X
@@ -54,11 +54,11 @@ finding text bs false = lined text >>= λ m. Done (lineNamed (m .strict) (λ q. 
 unfoldable pub diagnosing : (text recording : List ℕ) (work rows : ℕ) → Result Finding
 diagnosing text recording work rows =
     guard (leb workBytes work) 17 0
-    (textExpansion text >>= λ c. verdictOf (nodesOf c) (length (c .signals)) recording rows >>= finding text recording)
+    (textExpansion text >>= λ c. verdictOf (nodesOf (c .formula)) (length (c .signals)) recording rows >>= finding text recording)
 
 -- the rows after an answer: the evaluator's on the text's nodes; a refusal changes nothing
 abbrev pub rowsLeft : List ℕ → List ℕ → Result NumberedFormula → List ℕ
-rowsLeft bs rows (Done c) = left (nodesOf c) bs rows (evaluation (nodesOf c) (length (c .signals)) bs (length rows))
+rowsLeft bs rows (Done c) = left (nodesOf (c .formula)) bs rows (evaluation (nodesOf (c .formula)) (length (c .signals)) bs (length rows))
 rowsLeft bs rows (Refused number place) = rows
 
 abbrev pub rowsAfter : (text recording : List ℕ) (work : ℕ) → List ℕ → List ℕ

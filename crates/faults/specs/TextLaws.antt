@@ -11,9 +11,10 @@ use Rattle.node.specs.LtlLaws.{unary-same, binary-same}
 use Rattle.node.specs.Postorder.{SignalsBelow}
 use Rattle.node.specs.Result.{Done}
 use Rattle.node.specs.ResultLaws.{guard-done, bind-done, bind-to}
+use Rattle.node.specs.Written.{nodesOf}
+use Rattle.node.specs.WrittenLaws.{table-root}
 use Rattle.node.specs.Temporal.{Property}
 use Rattle.node.specs.TemporalLaws.{Same}
-use Rattle.rewriter.specs.OwnNodes.{own-root}
 use Rattle.bits.specs.Bits.{Values}
 use Rattle.recordings.specs.declared.Lasso.{Lasso}
 use Rattle.recordings.specs.Recording.{lassoOf, letterOf}
@@ -38,7 +39,7 @@ use Rattle.language.specs.Laws.Meaning.TextAgreement.{LinesHold}
 use Rattle.language.specs.Laws.Meaning.ShiftedWords.{adapted-holds}
 use Rattle.language.specs.Laws.Meaning.Acceptance.{accepts, text-agrees, text-signals}
 use Rattle.language.specs.Laws.Meaning.LineAgreement.{Pairs, section-lines, lines-told}
-use Rattle.claim.specs.Claim.{Gives, nodesOf}
+use Rattle.claim.specs.Claim.{Gives}
 use Rattle.claim.specs.ClaimLaws.{text-few, text-small}
 use Rattle.faults.specs.Naming.{Finding, NoFault, FaultIn, lineNamed}
 use Rattle.faults.specs.Diagnosing.{sectionsOf, linedBy, lined, lineRows, finding, diagnosing, Assumed, Placed, Every, LineMeans, partLines, senseOf, SectionOf, readOn, Fault}
@@ -190,11 +191,11 @@ module _ (text : List ℕ) (c : NumberedFormula) (e : textExpansion text ≡ Don
 
   -- the verdict on the text's own nodes, with room for the rows, is its own meaning
   module _ (bs : List ℕ) (room : ℕ) (g : Gives text (c .signals) (recorded bs)) where
-    pub verdict-of-text : {b : Bool} → verdictOf (nodesOf c) (length (c .signals)) bs room ≡ Done b → So b ↔ TextMeans text (g .word) 0
+    pub verdict-of-text : {b : Bool} → verdictOf (nodesOf (c .formula)) (length (c .signals)) bs room ≡ Done b → So b ↔ TextMeans text (g .word) 0
     verdict-of-text {b} h =
         let root : So b ↔ Holds (c .formula) (recorded bs) 0 =
-        subst (λ (f : Formula). So b ↔ Holds f (recorded bs) 0) (own-root (c .formula) (text-small text c e) (text-few text c e))
-        (verdict-means (nodesOf c) (length (c .signals)) bs room h) in
+        subst (λ (f : Formula). So b ↔ Holds f (recorded bs) 0) (table-root (c .formula) (text-small text c e) (text-few text c e))
+        (verdict-means (nodesOf (c .formula)) (length (c .signals)) bs room h) in
         let letters = holds-below (length (c .signals)) (numbered text (c .signals) (g .word)) (recorded bs) (g .same) (c .formula) (text-signals text c e) 0 in
         Iff·trans root (Iff·trans (Iff·symm letters) (Iff·symm (text-agrees text c e (g .word) 0)))
 
@@ -203,12 +204,12 @@ module _ (text : List ℕ) (c : NumberedFormula) (e : textExpansion text ≡ Don
     Finds NoFault = TextMeans text (g .word) 0
     Finds (FaultIn q k) = Fault text (g .word) q k
 
-    verdict-finds : (b : Bool) → verdictOf (nodesOf c) (length (c .signals)) bs room ≡ Done b → (f : Finding) → finding text bs b ≡ Done f → Finds f
+    verdict-finds : (b : Bool) → verdictOf (nodesOf (c .formula)) (length (c .signals)) bs room ≡ Done b → (f : Finding) → finding text bs b ≡ Done f → Finds f
     unfolding verdictOf
     verdict-finds true h f r = subst Finds (done-same r) (verdict-of-text h .0 (λ i. true))
     verdict-finds false h f r =
-        let p = bind-done (evaluation (nodesOf c) (length (c .signals)) bs room) _ h in
-        let inside = opens (nodesOf c) (length (c .signals)) bs room (p .1) .reads .header .loop in
+        let p = bind-done (evaluation (nodesOf (c .formula)) (length (c .signals)) bs room) _ h in
+        let inside = opens (nodesOf (c .formula)) (length (c .signals)) bs room (p .1) .reads .header .loop in
         let k = found bs inside g (λ m. false≢true (verdict-of-text h .1 m)) f r in
         subst Finds (sym (k .2)) (k .3)
 
@@ -218,8 +219,8 @@ module _ (text : List ℕ) (c : NumberedFormula) (e : textExpansion text ≡ Don
         let a = guard-done (leb workBytes work) 17 0 _ h in
         let m = bind-done (textExpansion text) _ (a .1) in
         let same : m .0 ≡ c = done-same (sym (m .1) ∙ e) in
-        let v = bind-done (verdictOf (nodesOf (m .0)) (length (m .0 .signals)) bs room) (finding text bs) (m .2) in
-        verdict-finds (v .0) (ap (λ (y : NumberedFormula). verdictOf (nodesOf y) (length (y .signals)) bs room) (sym same) ∙ v .1) f (v .2)
+        let v = bind-done (verdictOf (nodesOf (m .0 .formula)) (length (m .0 .signals)) bs room) (finding text bs) (m .2) in
+        verdict-finds (v .0) (ap (λ (y : NumberedFormula). verdictOf (nodesOf (y .formula)) (length (y .signals)) bs room) (sym same) ∙ v .1) f (v .2)
 
 -- a recording on which no fault is found holds, and a line that is named is at fault
 module _ (text : List ℕ) (c : NumberedFormula) (e : textExpansion text ≡ Done c) (bs : List ℕ) (g : Gives text (c .signals) (recorded bs)) where

@@ -3,7 +3,6 @@ use Prim.Native.Nat.{ℕ, _≤_, _<_, _+_, _-_}
 use mathlib.Core.Path.{_≡_, refl, ap, _∙_, sym, subst}
 use mathlib.Core.Logic.{_⊎_, inl, inr}
 use mathlib.Core.List.{List}
-use lib.Dec.{eqb}
 use native.Mathlib.Decide.{decLt}
 use native.Mathlib.Omega.{arith}
 use Rattle.node.specs.Limits.{fieldLimit}
@@ -11,18 +10,9 @@ use Rattle.node.specs.Ltl.{Not, Formula, One, Two}
 use Rattle.node.specs.Kinds.{UnaryOf, BinaryOf, Unused, shapeOf, unaryKind, binaryKind}
 use Rattle.node.specs.KindLaws.{no-shape, Each, each-below}
 use Rattle.node.specs.Table.{treeAt}
-use Rattle.node.specs.TableLaws.{NodeIs}
-use Rattle.node.specs.Bounds.{pick}
+use Rattle.node.specs.Formed.{NodeIs}
 use Rattle.forms.specs.Forms.{plain, negated, core}
-use Rattle.form_writers.specs.Writing.{IsUnary, IsBinary, unaryOf, binaryOf}
-
--- the kind of the dual operator
-abbrev pub dualKind : ℕ → ℕ
-dualKind k = pick (eqb k 4) 5 (pick (eqb k 5) 4 (pick (eqb k 9) 10 (pick (eqb k 10) 9 (pick (eqb k 11) 12 (pick (eqb k 12) 11 k)))))
-
--- `||` for `&&`, U for R: the operators that core form derives them from
-abbrev pub baseKind : ℕ → ℕ
-baseKind k = pick (eqb k 4) 5 11
+use Rattle.form_writers.specs.Writing.{IsUnary, IsBinary, unaryOf, binaryOf, dualKind, baseKind}
 
 -- the rule at from, from + 1, .., one by one
 each-from : (P : ℕ → Type 0) (from n : ℕ) → Each (λ j. P (from + j)) n → (k : ℕ) → from ≤ k → k < from + n → P k

@@ -1,12 +1,14 @@
 -- What the functions of the rewriter that write nodes promise and ask: crate storing's words, and a node of a table. Laws in WritingLaws.
 use Prim.Native.Nat.{ℕ, _<_}
 use mathlib.Core.Path.{_≡_}
+use mathlib.Core.Bool.{cond}
 use mathlib.Core.List.{List, [], _∷_}
+use lib.Dec.{eqb}
 use lib.ListN.{length, getD}
 use Rattle.node.specs.Limits.{fieldLimit}
 use Rattle.node.specs.Ltl.{Unary, Not, X, G, F, Binary, And, Or, Implies, Iff, U, R, W}
 use Rattle.node.specs.Kinds.{unaryKind, binaryKind}
-use Rattle.node.specs.TableLaws.{Formed}
+use Rattle.node.specs.Formed.{Formed}
 pub use Rattle.storing.specs.Storing.{Stored, Puts, Wrote, Room, constantOf}
 
 -- what the functions ask of the table, the node's number, the slice and the first index
@@ -30,3 +32,11 @@ pub record IsUnary (op : ℕ) : Type 0 where
 pub record IsBinary (op : ℕ) : Type 0 where
   pub small : op < 16
   pub number : binaryKind (binaryOf op) ≡ op
+
+-- the kind of the dual operator
+abbrev pub dualKind : ℕ → ℕ
+dualKind k = cond (eqb k 4) 5 (cond (eqb k 5) 4 (cond (eqb k 9) 10 (cond (eqb k 10) 9 (cond (eqb k 11) 12 (cond (eqb k 12) 11 k)))))
+
+-- `||` for `&&`, U for R: the operators that core form derives them from
+abbrev pub baseKind : ℕ → ℕ
+baseKind k = cond (eqb k 4) 5 11

@@ -6,7 +6,7 @@ ghost use Rattle.node.specs.Limits.{fieldLimit};
 ghost use Rattle.node.specs.Ltl.{True, Signal, One, Not};
 ghost use Rattle.node.specs.Fields.{pack};
 ghost use Rattle.node.specs.Kinds.{shapeOf};
-ghost use Rattle.node.specs.TableLaws.{Formed, NodeIs};
+ghost use Rattle.node.specs.Formed.{Formed, NodeIs};
 ghost use Rattle.form_writers.specs.Writing.{Puts, Wrote, Room};
 use node::MAX_NODES;
 use node::Node;

@@ -14,6 +14,7 @@ use Rattle.node.specs.Kinds.{Shape, Truth, Falsehood, Atom, UnaryOf, BinaryOf, 
 use Rattle.node.specs.KindLaws.{unary-shape, binary-shape}
 use Rattle.node.specs.Postorder.{size, nodesFrom, SignalsBelow}
 use Rattle.node.specs.PostorderLaws.{size-pos, length-nodes}
+use Rattle.node.specs.Written.{nodesOf, count}
 use Rattle.forms.specs.Forms.{plain, negated, core, form}
 use Rattle.forms.specs.Forbidden.{forbids, shapeAt, forbidsWord, tally, forbidden}
 
@@ -200,7 +201,8 @@ form-clean (suc zero) f = plain-clean f
 form-clean (suc (suc n)) f = core-clean n f
 
 -- a form's own nodes: none is forbidden
-pub none-forbidden : (n : ℕ) (f : Formula) → SignalsBelow fieldLimit (form n f) → size (form n f) ≤ fieldLimit → forbidden n (nodesFrom 0 (form n f)) ≡ 0
+pub none-forbidden : (n : ℕ) (f : Formula) → SignalsBelow fieldLimit (form n f) → count (form n f) ≤ fieldLimit → forbidden n (nodesOf (form n f)) ≡ 0
+unfolding nodesOf count
 none-forbidden n f s h =
     let all : List ℕ = nodesFrom 0 (form n f) in
     ap (λ (x : List ℕ). tally (forbidsWord n x) all) (sym (append-nil all)) ∙ tally-clean n 0 (form n f) [] [] s (omega arith) refl (form-clean n f)

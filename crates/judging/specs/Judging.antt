@@ -6,14 +6,14 @@ use mathlib.Core.List.{List}
 use lib.Dec.{leb}
 use lib.ListN.{length}
 use Rattle.node.specs.Result.{Result, _>>=_, guard}
+use Rattle.node.specs.Written.{nodesOf}
 use Rattle.evaluator.specs.Evaluation.{rowsSize, verdictOf}
 use Rattle.language.specs.Limits.{workBytes}
 use Rattle.language.specs.Reading.{NumberedFormula, textExpansion}
-use Rattle.claim.specs.Claim.{nodesOf}
 
 -- the evaluator's verdict on a text's own nodes, with as many signals as its list has; there is room for every row, so that 18 is never due
 abbrev pub verdictOn : List ℕ → NumberedFormula → Result Bool
-verdictOn recording c = verdictOf (nodesOf c) (length (c .signals)) recording (rowsSize (nodesOf c) recording)
+verdictOn recording c = verdictOf (nodesOf (c .formula)) (length (c .signals)) recording (rowsSize (nodesOf (c .formula)) recording)
 
 -- the reader's 17, then 1 to 16, then the evaluator's 20
 unfoldable pub judging : (text recording : List ℕ) (work : ℕ) → Result Bool

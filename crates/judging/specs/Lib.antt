@@ -2,6 +2,7 @@ pub mod Judging
 pub mod Longer
 pub mod Promise
 pub mod MeaningLaws
+pub mod Room
 pub mod RoomLaws
 pub mod Stages
 pub mod LongerLaws

@@ -2,12 +2,12 @@
 -- wrong'). So a file of any size is judged by its beginning. Laws in LongerLaws.
 use Prim.Native.Nat.{ℕ, _≤_}
 use mathlib.Core.Path.{_≡_}
-use mathlib.Core.Bool.{Bool, _&&_}
+use mathlib.Core.Bool.{Bool, cond, _&&_}
 use mathlib.Core.List.{List}
 use lib.Dec.{eqb, leb, ltb}
 use lib.ListN.{length, take}
 use Rattle.node.specs.Result.{Result, Done, Refused}
-use Rattle.recordings.specs.Limits.{longest, pick, told}
+use Rattle.recordings.specs.Limits.{longest, told}
 use Rattle.judging.specs.Judging.{judging}
 
 -- a recording begins with some bytes, which are all of it unless they are more than the longest has; its length is told
@@ -18,7 +18,7 @@ pub record Begins (start : List ℕ) (size : ℕ) (whole : List ℕ) : Type 0 wh
 
 -- a refusal's place with another length in it: 20 tells one at any place but the header's
 abbrev pub placeTold : (size number place : ℕ) → ℕ
-placeTold size number place = pick (eqb number 20 && ltb 0 place) size place
+placeTold size number place = cond (eqb number 20 && ltb 0 place) size place
 
 abbrev pub moved : ℕ → Result Bool → Result Bool
 moved size (Done b) = Done b
@@ -26,4 +26,4 @@ moved size (Refused number place) = Refused number (placeTold size number place)
 
 -- the verdict on a beginning: that of a whole recording where it is no more than the longest has, else the same with the told length in it
 abbrev pub judgingStart : (text start : List ℕ) (size work : ℕ) → Result Bool
-judgingStart text start size work = pick (leb (length start) longest) (judging text start work) (moved size (judging text start work))
+judgingStart text start size work = cond (leb (length start) longest) (judging text start work) (moved size (judging text start work))

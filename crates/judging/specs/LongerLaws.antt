@@ -1,7 +1,7 @@
 -- A recording longer than any of the format is refused by its header or by its length, so the answer on its beginning is the answer on the whole but for the length.
 use Prim.Native.Nat.{ℕ, zero, suc, _+_, _*_, _/_, _≤_, _<_}
 use mathlib.Core.Path.{_≡_, refl, ap, ap₂, _∙_, sym}
-use mathlib.Core.Bool.{Bool, true, false, _&&_}
+use mathlib.Core.Bool.{Bool, true, false, cond, _&&_}
 use mathlib.Core.List.{List}
 use lib.Dec.{leb, eqb, ltb}
 use lib.ListN.{length, take, getD}
@@ -11,8 +11,9 @@ use native.Mathlib.Omega.{arith}
 use borrow.Author.Tests.{ne-eqb, eq-eqb, le-leb, lt-leb, lt-ltb}
 use Rattle.node.specs.Result.{Result, Done, Refused, _>>=_}
 use Rattle.node.specs.ResultLaws.{guard-done}
-use Rattle.rewriter.specs.OwnNodes.{own-checked}
-use Rattle.recordings.specs.Limits.{maxPositions, maxSignals, positionBits, startBits, signalBits, headerBits, headerBytes, longest, pick, told}
+use Rattle.node.specs.Written.{nodesOf}
+use Rattle.node.specs.WrittenLaws.{table-of}
+use Rattle.recordings.specs.Limits.{maxPositions, maxSignals, positionBits, startBits, signalBits, headerBits, headerBytes, longest, told}
 use Rattle.bits.specs.Bits.{Values, digit, number}
 use Rattle.bits.specs.BitLaws.{same-byte}
 use Rattle.recordings.specs.Recording.{fieldAt, lassoOf, headerFits, readable, counted}
@@ -25,7 +26,6 @@ use Rattle.language.specs.Limits.{workBytes}
 use Rattle.language.specs.Reading.{NumberedFormula, textExpansion}
 use Rattle.language.specs.Laws.Basics.Results.{refusal-of}
 use Rattle.language.specs.Laws.Meaning.Acceptance.{text-signals, list-limited}
-use Rattle.claim.specs.Claim.{nodesOf}
 use Rattle.claim.specs.ClaimLaws.{text-few}
 use Rattle.judging.specs.Judging.{verdictOn, judging}
 use Rattle.judging.specs.Promise.{JudgesStart, JudgesText}
@@ -63,7 +63,7 @@ module _ (text : List ℕ) (c : NumberedFormula) (e : textExpansion text ≡ Don
   unfolding verdictOf _>>=_
   refused-by h =
       let few = list-limited text c e in
-      rw (bad-recording (nodesOf c) signals bs (rowsSize (nodesOf c) bs) few (own-checked signals (c .formula) (omega arith) (text-signals text c e) (text-few text c e)) h) refl
+      rw (bad-recording (nodesOf (c .formula)) signals bs (rowsSize (nodesOf (c .formula)) bs) few (table-of signals (c .formula) (omega arith) (text-signals text c e) (text-few text c e)) h) refl
 
   module _ (long : longest < length bs) where
     long-header : headerFits signals (lassoOf bs) ≡ false → verdictOn bs c ≡ Refused 20 0
@@ -87,17 +87,17 @@ told-some place h = omega arith
 -- refusals that keep their place, and the one that does not
 module _ (size n p : ℕ) where
   pub place-other : (n ≡ 20 → ⊥) → p ≡ placeTold size n p
-  place-other h = ap (λ (b : Bool). pick (b && ltb 0 p) size p) (sym (ne-eqb n 20 h))
+  place-other h = ap (λ (b : Bool). cond (b && ltb 0 p) size p) (sym (ne-eqb n 20 h))
 
   pub place-header : p ≡ 0 → p ≡ placeTold size n p
   place-header e = rw e (go (eqb n 20))
     where
-      go : (b : Bool) → 0 ≡ pick (b && false) size 0
+      go : (b : Bool) → 0 ≡ cond (b && false) size 0
       go true = refl
       go false = refl
 
   pub place-length : n ≡ 20 → 0 < p → size ≡ placeTold size n p
-  place-length e l = ap₂ (λ (a b : Bool). pick (a && b) size p) (sym (eq-eqb n 20 e)) (sym (lt-ltb 0 p l))
+  place-length e l = ap₂ (λ (a b : Bool). cond (a && b) size p) (sym (eq-eqb n 20 e)) (sym (lt-ltb 0 p l))
 
   pub moved-refused : {v : Verdict} {q : ℕ} → v ≡ Verdict.Refused n p → q ≡ placeTold size n p → finds (Verdict.Refused n q) ≡ moved size (finds v)
   moved-refused e h = ap (Refused n) h ∙ ap (λ (x : Verdict). moved size (finds x)) (sym e)
@@ -131,7 +131,7 @@ module _ (text start whole : List ℕ) {size : ℕ} (b : Begins start size whole
 -- the promise: of a recording that was judged whole, and of one that is too long
 module _ {text start work work′ : List ℕ} (size : ℕ) {v : Verdict} (j : JudgesText text start work work′ v) where
   abbrev chosen : Bool → Result Bool
-  chosen b = pick b (judging text start (length work)) (moved size (judging text start (length work)))
+  chosen b = cond b (judging text start (length work)) (moved size (judging text start (length work)))
 
   pub start-whole : length start ≤ longest → JudgesStart text start size work work′ v
   start-whole h =

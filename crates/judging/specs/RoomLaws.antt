@@ -1,6 +1,5 @@
--- 8,192 rows of 256 bytes are room for the rows of every table over every recording: what the evaluator answers with so much room is what it answers with room for
--- exactly its rows.
-use Prim.Native.Nat.{ℕ, _*_, _-_, _≤_}
+-- Room for the rows of every table over every recording: what the evaluator answers with so much room is what it answers with room for exactly its rows.
+use Prim.Native.Nat.{ℕ, _-_, _≤_}
 use mathlib.Core.Path.{_≡_, ap, _∙_, sym}
 use mathlib.Core.List.{List}
 use lib.Dec.{leb}
@@ -20,10 +19,7 @@ use Rattle.recordings.specs.RecordingLaws.{Heads, guard-same, bind-same, readab
 use Rattle.rows.specs.Row.{nodeRow}
 use Rattle.rows.specs.Memory.{rowBytes}
 use Rattle.evaluator.specs.Evaluation.{rowsSize, evaluation, verdictOf}
-
--- the longest rows, for the most nodes
-abbrev pub rowsRoom : ℕ
-rowsRoom = rowBytes * maxNodes
+use Rattle.judging.specs.Room.{rowsRoom}
 
 module _ (nodes : List ℕ) (signals : ℕ) (bs : List ℕ) (room : ℕ) (h : rowsRoom ≤ room) where
   rows-fit : length nodes ≤ maxNodes → Heads signals (lassoOf bs) → rowsSize nodes bs ≤ room

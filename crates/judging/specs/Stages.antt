@@ -5,17 +5,16 @@ use mathlib.Core.List.{List}
 use lib.Dec.{leb}
 use lib.ListN.{length, take}
 use Rattle.node.specs.Limits.{maxNodes}
-use Rattle.node.specs.Postorder.{size}
-use Rattle.node.specs.PostorderLaws.{length-nodes}
 use Rattle.node.specs.Result.{Result, Done, Refused, _>>=_, Counts}
 use Rattle.node.specs.ResultLaws.{guard-done, guard-bind, bind-done}
+use Rattle.node.specs.Written.{nodesOf, count}
+use Rattle.node.specs.WrittenLaws.{length-of}
 use Rattle.node.specs.declared.Answer.{Answer}
 use Rattle.node.specs.declared.Answer.the-variants.{Accepted}
 use Rattle.evaluator.specs.Evaluation.{rowsSize, verdictOf, finds}
 use Rattle.evaluator.specs.declared.Verdict.{Verdict}
 use Rattle.language.specs.Limits.{maxSignals, workBytes}
 use Rattle.language.specs.Reading.{NumberedFormula, textExpansion, reading, workAfter}
-use Rattle.claim.specs.Claim.{nodesOf}
 use Rattle.claim.specs.YieldsLaws.{accepted, refused}
 use Rattle.claim.specs.Reads.{Reads}
 use Rattle.faults.specs.TextLaws.{verdict-of-text}
@@ -40,7 +39,7 @@ module _ (text recording : List ℕ) {work work′ : List ℕ} {r : Verdict} whe
         means = λ c m b d g.
             let a = guard-done _ 17 0 _ (sym e ∙ d) in
             let s = bind-done (textExpansion text) (verdictOn recording) (a .1) in
-            verdict-of-text text c m recording (rowsSize (nodesOf c) recording) g (ap (verdictOn recording) (same (sym m ∙ s .1)) ∙ s .2);
+            verdict-of-text text c m recording (rowsSize (nodesOf (c .formula)) recording) g (ap (verdictOn recording) (same (sym m ∙ s .1)) ∙ s .2);
         played = λ c m. played text c m recording;
         workLeft = w;
       }
@@ -52,7 +51,7 @@ module _ (text recording : List ℕ) {work work′ : List ℕ} {r : Verdict} whe
 pub record AtHand (text recording work work′ table : List ℕ) (n s : ℕ) : Type 0 where
   pub source : NumberedFormula
   pub answer : judging text recording (length work) ≡ verdictOn recording source
-  pub handed : take n table ≡ nodesOf source
+  pub handed : take n table ≡ nodesOf (source .formula)
   pub counted : s ≡ length (source .signals)
   pub room : n ≤ length table
   pub workLeft : work′ ≡ workAfter work
@@ -75,14 +74,14 @@ module _ (recording : List ℕ) {text work work′ table table′ list list′ :
   read-accepted {n} {s} e =
       let t = accepted (read .yields) e in
       let c = t .value in
-      let nodesTold : size (c .formula) ≡ n = ap (λ (k : Counts). k .nodes) (t .same) in
-      let handed : take n table′ ≡ nodesOf c = subst (λ (k : ℕ). take k table′ ≡ nodesOf c) nodesTold (read .leaves c (t .done) .handed) in
+      let nodesTold : count (c .formula) ≡ n = ap (λ (k : Counts). k .nodes) (t .same) in
+      let handed : take n table′ ≡ nodesOf (c .formula) = subst (λ (k : ℕ). take k table′ ≡ nodesOf (c .formula)) nodesTold (read .leaves c (t .done) .handed) in
       record {
         source = c;
         answer = after-reading (Done c) (t .done);
         handed = handed;
         counted = sym (ap (λ (k : Counts). k .signals) (t .same));
-        room = taken-room n table′ (ap length handed ∙ length-nodes 0 (c .formula) ∙ nodesTold);
+        room = taken-room n table′ (ap length handed ∙ length-of (c .formula) ∙ nodesTold);
         workLeft = read .yields .workLeft;
       }
 

@@ -3,7 +3,7 @@ ghost use mathlib.Core.Path.{_≡_};
 ghost use lib.ListN.{length};
 ghost use Rattle.evaluator.specs.Evaluation.{rowsSize, verdictOf, finds};
 ghost use Rattle.judging.specs.Promise.{JudgesStart, JudgesText};
-ghost use Rattle.judging.specs.RoomLaws.{rowsRoom};
+ghost use Rattle.judging.specs.Room.{rowsRoom};
 ghost use Rattle.judging.specs.Longer.{placeTold, moved as moved'};
 use evaluator::Verdict;
 use evaluator::unjudged;

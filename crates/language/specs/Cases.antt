@@ -8,8 +8,8 @@ use Prim.Native.String.{String}
 use mathlib.Core.List.{List, [], _∷_, _++_}
 use lib.ListN.{length}
 use Rattle.node.specs.Ltl.{Formula, True, False, Signal, One, Two, Not, G, And, Implies, W}
-use Rattle.node.specs.Postorder.{size}
 use Rattle.node.specs.Result.{Result, Done, _>>=_}
+use Rattle.node.specs.Written.{count}
 use Rattle.language.specs.Bytes.{ascii}
 use Rattle.language.specs.Reading.{NumberedFormula, textExpansion, reading}
 
@@ -45,7 +45,7 @@ lettered n = letteredFrom 0 n
 
 -- how many nodes and signals an accepted text has
 abbrev pub counted : Result NumberedFormula → Result (ℕ × ℕ)
-counted r = r >>= λ c. Done (size (c .formula), length (c .signals))
+counted r = r >>= λ c. Done (count (c .formula), length (c .signals))
 
 abbrev pub outcome : List ℕ → Result (ℕ × ℕ)
 outcome s = counted (textExpansion s)

@@ -6,6 +6,7 @@ use mathlib.Core.Path.{_≡_, refl}
 use Rattle.node.specs.Ltl.{True, Signal, One, Two, Not, X, And, Or, Implies, Iff, Formula}
 use Rattle.node.specs.Postorder.{size}
 use Rattle.node.specs.Result.{Done, Refused, _>>=_, guard, Result}
+use Rattle.node.specs.Written.{count}
 use Rattle.language.specs.Bytes.{ascii}
 use Rattle.language.specs.Places.{refuseAt}
 use Rattle.language.specs.Parsing.{parsed}
@@ -87,7 +88,7 @@ formulas =
     []
 
 formulas-met : map (λ c. formula (c .0)) formulas ≡ map (λ c. c .1) formulas
-unfolding textExpansion parsed specExpansion _>>=_ guard refuseAt size
+unfolding textExpansion parsed specExpansion _>>=_ guard refuseAt count size
 formulas-met = refl
 
 -- TSingle; its line of ASSUME has no `;`
@@ -234,5 +235,5 @@ outcomes =
     []
 
 outcomes-met : map (λ c. outcome (c .0)) outcomes ≡ map (λ c. c .1) outcomes
-unfolding textExpansion parsed specExpansion _>>=_ guard refuseAt size
+unfolding textExpansion parsed specExpansion _>>=_ guard refuseAt count size
 outcomes-met = refl

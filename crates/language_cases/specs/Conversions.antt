@@ -6,6 +6,7 @@ use Rattle.node.specs.Fields.{pack}
 use Rattle.node.specs.Ltl.{True, Signal, One, Two, Not, X, And, Or, Formula}
 use Rattle.node.specs.Postorder.{size, nodesFrom}
 use Rattle.node.specs.Result.{Result, Done, Refused, _>>=_, guard}
+use Rattle.node.specs.Written.{nodesOf, count}
 use Rattle.language.specs.Bytes.{ascii}
 use Rattle.language.specs.Places.{refuseAt}
 use Rattle.language.specs.Parsing.{parsed}
@@ -32,7 +33,7 @@ abbrev file : List ℕ
 file = ascii "MAIN { INPUTS { r; } OUTPUTS { g; } GUARANTEE { G (r -> F g); } }"
 
 abbrev nodes : List ℕ → Result (List ℕ)
-nodes s = textExpansion s >>= λ c. Done (nodesFrom 0 (c .formula))
+nodes s = textExpansion s >>= λ c. Done (nodesOf (c .formula))
 
 abbrev rows : List (ℕ × ℕ × ℕ) → List ℕ
 rows l = map (λ r. pack (r .0) (r .1) (r .2)) l
@@ -40,18 +41,18 @@ rows l = map (λ r. pack (r .0) (r .1) (r .2)) l
 -- 'From Moore to Mealy each input node gets an X above it'
 fileToMealy : nodes (toMealy file) ≡ Done (rows ((0, 0, 0) ∷ (0, 0, 0) ∷ (0, 0, 0) ∷ (9, 2, 0) ∷ (0, 0, 0) ∷ (4, 3, 4) ∷ (0, 0, 0) ∷ (9, 6, 0) ∷ (2, 0, 0) ∷ (8, 8, 0) ∷ (2, 1, 0) ∷ (10, 10, 0) ∷
     (6, 9, 11) ∷ (9, 12, 0) ∷ (4, 7, 13) ∷ (6, 5, 14) ∷ (4, 1, 15) ∷ (6, 0, 16) ∷ []))
-unfolding textExpansion parsed specExpansion _>>=_ guard refuseAt size nodesFrom
+unfolding textExpansion parsed specExpansion _>>=_ guard refuseAt count size nodesOf nodesFrom
 fileToMealy = refl
 
 -- 'from Mealy to Moore each output node does'
 fileToMoore : nodes (toMoore file) ≡ Done (rows ((0, 0, 0) ∷ (0, 0, 0) ∷ (0, 0, 0) ∷ (9, 2, 0) ∷ (0, 0, 0) ∷ (4, 3, 4) ∷ (0, 0, 0) ∷ (9, 6, 0) ∷ (2, 0, 0) ∷ (2, 1, 0) ∷ (8, 9, 0) ∷ (10, 10, 0) ∷
     (6, 8, 11) ∷ (9, 12, 0) ∷ (4, 7, 13) ∷ (6, 5, 14) ∷ (4, 1, 15) ∷ (6, 0, 16) ∷ []))
-unfolding textExpansion parsed specExpansion _>>=_ guard refuseAt size nodesFrom
+unfolding textExpansion parsed specExpansion _>>=_ guard refuseAt count size nodesOf nodesFrom
 fileToMoore = refl
 
 -- the signal list does not show it
 listUnchanged : signals (toMealy file) ≡ Done (entry 0 84 0 0 ∷ entry 1 99 0 0 ∷ [])
-unfolding textExpansion parsed specExpansion _>>=_ guard refuseAt size
+unfolding textExpansion parsed specExpansion _>>=_ guard refuseAt count size
 listUnchanged = refl
 
 -- texts, and what each one's GUARANTEE comes to
@@ -66,7 +67,7 @@ guarantees =
     []
 
 guarantees-met : map (λ c. guaranteed (c .0)) guarantees ≡ map (λ c. c .1) guarantees
-unfolding textExpansion parsed specExpansion _>>=_ guard refuseAt size
+unfolding textExpansion parsed specExpansion _>>=_ guard refuseAt count size
 guarantees-met = refl
 
 -- texts, and the whole formula of each
@@ -87,13 +88,13 @@ formulas =
     []
 
 formulas-met : map (λ c. formula (c .0)) formulas ≡ map (λ c. c .1) formulas
-unfolding textExpansion parsed specExpansion _>>=_ guard refuseAt size
+unfolding textExpansion parsed specExpansion _>>=_ guard refuseAt count size
 formulas-met = refl
 
 -- F2.5: a strict text keeps the strict formula; every section is treated
 strictToMealy : formula (ascii "INFO { TITLE: \"t\" DESCRIPTION: \"d\" SEMANTICS: Moore, Strict TARGET: Mealy } MAIN { INPUTS { a; } OUTPUTS { g; } INITIALLY { a } PRESET { a } REQUIRE { a } ASSERT { a } ASSUME { a } GUARANTEE { g } }") ≡
     Done (let late = One X (Signal 0) in strict late late late late late (Signal 1))
-unfolding textExpansion parsed specExpansion _>>=_ guard refuseAt size
+unfolding textExpansion parsed specExpansion _>>=_ guard refuseAt count size
 strictToMealy = refl
 
 -- texts, and what each comes to: its nodes and signals, or its refusal
@@ -112,5 +113,5 @@ outcomes =
     []
 
 outcomes-met : map (λ c. outcome (c .0)) outcomes ≡ map (λ c. c .1) outcomes
-unfolding textExpansion parsed specExpansion _>>=_ guard refuseAt size
+unfolding textExpansion parsed specExpansion _>>=_ guard refuseAt count size
 outcomes-met = refl

@@ -5,6 +5,7 @@ use mathlib.Core.Path.{_≡_, refl}
 use Rattle.node.specs.Ltl.{Signal, Formula}
 use Rattle.node.specs.Postorder.{size}
 use Rattle.node.specs.Result.{Done, Refused, _>>=_, guard, Result}
+use Rattle.node.specs.Written.{count}
 use Rattle.language.specs.Bytes.{ascii}
 use Rattle.language.specs.Places.{refuseAt}
 use Rattle.language.specs.Parsing.{parsed}
@@ -27,7 +28,7 @@ formulas =
     []
 
 formulas-met : map (λ c. formula (c .0)) formulas ≡ map (λ c. c .1) formulas
-unfolding textExpansion parsed specExpansion _>>=_ guard refuseAt size
+unfolding textExpansion parsed specExpansion _>>=_ guard refuseAt count size
 formulas-met = refl
 
 -- texts, and what each comes to: its nodes and signals, or its refusal
@@ -132,5 +133,5 @@ outcomes =
     []
 
 outcomes-met : map (λ c. outcome (c .0)) outcomes ≡ map (λ c. c .1) outcomes
-unfolding textExpansion parsed specExpansion _>>=_ guard refuseAt size
+unfolding textExpansion parsed specExpansion _>>=_ guard refuseAt count size
 outcomes-met = refl

@@ -5,6 +5,7 @@ use mathlib.Core.Path.{_≡_, refl}
 use Rattle.node.specs.Ltl.{True, False, Signal, One, Two, Not, And, Or, Iff, U, Formula}
 use Rattle.node.specs.Postorder.{size, nodesFrom}
 use Rattle.node.specs.Result.{Done, Refused, _>>=_, guard, Result}
+use Rattle.node.specs.Written.{nodesOf, count}
 use Rattle.language.specs.Bytes.{ascii}
 use Rattle.language.specs.Places.{refuseAt}
 use Rattle.language.specs.Parsing.{parsed}
@@ -16,12 +17,12 @@ use Rattle.node.specs.Fields.{pack}
 -- E8: the offset is that of the bus's own name
 listed : signals (typed (ascii "a")) ≡ Done (entry 0 140 0 0 ∷ entry 0 143 0 3 ∷ entry 0 143 1 3 ∷ entry 0 143 2 3 ∷ entry 0 149 0 2 ∷ entry 0 149 1 2 ∷ entry 1 169 0 3 ∷ entry 1 169 1 3 ∷ entry 1
     169 2 3 ∷ [])
-unfolding textExpansion parsed specExpansion _>>=_ guard refuseAt size
+unfolding textExpansion parsed specExpansion _>>=_ guard refuseAt count size
 listed = refl
 
 -- inputs number first even if OUTPUTS stands first; a bus of width 1 has index 0 and width 1, a single signal 0 and 0
 inputsNumberFirst : signals (text (ascii "MAIN { OUTPUTS { o; } INPUTS { b[1]; c[2]; s; } }")) ≡ Done (entry 0 99 0 1 ∷ entry 0 105 0 2 ∷ entry 0 105 1 2 ∷ entry 0 111 0 0 ∷ entry 1 85 0 0 ∷ [])
-unfolding textExpansion parsed specExpansion _>>=_ guard refuseAt size
+unfolding textExpansion parsed specExpansion _>>=_ guard refuseAt count size
 inputsNumberFirst = refl
 
 -- texts, and what each comes to: its nodes and signals, or its refusal
@@ -32,7 +33,7 @@ outcomes =
     []
 
 outcomes-met : map (λ c. outcome (c .0)) outcomes ≡ map (λ c. c .1) outcomes
-unfolding textExpansion parsed specExpansion _>>=_ guard refuseAt size
+unfolding textExpansion parsed specExpansion _>>=_ guard refuseAt count size
 outcomes-met = refl
 
 -- texts, and the whole formula of each
@@ -78,7 +79,7 @@ formulas =
     []
 
 formulas-met : map (λ c. formula (c .0)) formulas ≡ map (λ c. c .1) formulas
-unfolding textExpansion parsed specExpansion _>>=_ guard refuseAt size
+unfolding textExpansion parsed specExpansion _>>=_ guard refuseAt count size
 formulas-met = refl
 
 -- texts, and what each one's GUARANTEE comes to
@@ -120,14 +121,14 @@ guarantees =
     []
 
 guarantees-met : map (λ c. guaranteed (c .0)) guarantees ≡ map (λ c. c .1) guarantees
-unfolding textExpansion parsed specExpansion _>>=_ guard refuseAt size
+unfolding textExpansion parsed specExpansion _>>=_ guard refuseAt count size
 guarantees-met = refl
 
 -- 'entries past an accepted result are unchanged', and a refused call changes none
 pastResult : drop 12 (nodesAfter (textExpansion (text (ascii "MAIN { INPUTS { } OUTPUTS { } }"))) (replicate 15 7)) ≡ pack 6 0 11 ∷ 7 ∷ 7 ∷ []
-unfolding textExpansion parsed specExpansion _>>=_ guard refuseAt size nodesFrom
+unfolding textExpansion parsed specExpansion _>>=_ guard refuseAt count size nodesOf nodesFrom
 pastResult = refl
 
 refusedResult : nodesAfter (textExpansion []) (7 ∷ []) ++ signalsAfter (textExpansion []) (8 ∷ []) ≡ 7 ∷ 8 ∷ []
-unfolding textExpansion parsed specExpansion _>>=_ guard refuseAt size
+unfolding textExpansion parsed specExpansion _>>=_ guard refuseAt count size
 refusedResult = refl

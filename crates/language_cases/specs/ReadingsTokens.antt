@@ -4,6 +4,7 @@ use mathlib.Core.Path.{_≡_, refl}
 use Rattle.node.specs.Ltl.{True, Signal, One, Two, X, And, Formula}
 use Rattle.node.specs.Postorder.{size}
 use Rattle.node.specs.Result.{Result, Done, Refused, _>>=_, guard}
+use Rattle.node.specs.Written.{count}
 use Rattle.language.specs.Bytes.{ascii}
 use Rattle.language.specs.Places.{refuseAt}
 use Rattle.language.specs.Parsing.{parsed}
@@ -22,7 +23,7 @@ guarantees =
     []
 
 guarantees-met : map (λ c. guaranteed (c .0)) guarantees ≡ map (λ c. c .1) guarantees
-unfolding textExpansion parsed specExpansion _>>=_ guard refuseAt size
+unfolding textExpansion parsed specExpansion _>>=_ guard refuseAt count size
 guarantees-met = refl
 
 -- T7: 'No name is a word of the format': section and line words, the v1.0 names, and every word of Table 1
@@ -41,7 +42,7 @@ abbrev asSignal : String → Result (ℕ × ℕ)
 asSignal w = outcome (text (ascii "MAIN { INPUTS { " ++ ascii w ++ ascii "; } OUTPUTS { } }"))
 
 noWordIsAName : map asSignal formatWords ≡ map (λ w. Refused 4 84) formatWords
-unfolding textExpansion parsed specExpansion _>>=_ guard refuseAt size
+unfolding textExpansion parsed specExpansion _>>=_ guard refuseAt count size
 noWordIsAName = refl
 
 -- texts, and what each comes to: its nodes and signals, or its refusal
@@ -118,5 +119,5 @@ outcomes =
     []
 
 outcomes-met : map (λ c. outcome (c .0)) outcomes ≡ map (λ c. c .1) outcomes
-unfolding textExpansion parsed specExpansion _>>=_ guard refuseAt size
+unfolding textExpansion parsed specExpansion _>>=_ guard refuseAt count size
 outcomes-met = refl

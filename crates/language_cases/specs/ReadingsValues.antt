@@ -5,6 +5,7 @@ use mathlib.Core.Path.{_≡_, refl}
 use Rattle.node.specs.Ltl.{True, False, Signal, One, Two, X, And, Or, Formula}
 use Rattle.node.specs.Postorder.{size}
 use Rattle.node.specs.Result.{Done, Refused, _>>=_, guard, Result}
+use Rattle.node.specs.Written.{count}
 use Rattle.language.specs.Bytes.{ascii}
 use Rattle.language.specs.Places.{refuseAt}
 use Rattle.language.specs.Parsing.{parsed}
@@ -44,7 +45,7 @@ guarantees =
     []
 
 guarantees-met : map (λ c. guaranteed (c .0)) guarantees ≡ map (λ c. c .1) guarantees
-unfolding textExpansion parsed specExpansion _>>=_ guard refuseAt size
+unfolding textExpansion parsed specExpansion _>>=_ guard refuseAt count size
 guarantees-met = refl
 
 -- texts, and what each comes to: its nodes and signals, or its refusal
@@ -105,5 +106,5 @@ outcomes =
     []
 
 outcomes-met : map (λ c. outcome (c .0)) outcomes ≡ map (λ c. c .1) outcomes
-unfolding textExpansion parsed specExpansion _>>=_ guard refuseAt size
+unfolding textExpansion parsed specExpansion _>>=_ guard refuseAt count size
 outcomes-met = refl

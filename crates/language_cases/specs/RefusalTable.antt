@@ -4,6 +4,7 @@ use mathlib.Core.List.{[], _++_, List, _∷_, map}
 use mathlib.Core.Path.{_≡_, refl}
 use Rattle.node.specs.Postorder.{size}
 use Rattle.node.specs.Result.{Refused, _>>=_, guard, Result}
+use Rattle.node.specs.Written.{count}
 use Rattle.language.specs.Bytes.{ascii}
 use Rattle.language.specs.Places.{refuseAt}
 use Rattle.language.specs.Parsing.{parsed}
@@ -60,5 +61,5 @@ outcomes =
     []
 
 outcomes-met : map (λ c. outcome (c .0)) outcomes ≡ map (λ c. c .1) outcomes
-unfolding textExpansion parsed specExpansion _>>=_ guard refuseAt size
+unfolding textExpansion parsed specExpansion _>>=_ guard refuseAt count size
 outcomes-met = refl

@@ -5,6 +5,7 @@ use mathlib.Core.Path.{_≡_, refl}
 use Rattle.node.specs.Ltl.{True, Formula}
 use Rattle.node.specs.Postorder.{size}
 use Rattle.node.specs.Result.{Done, Refused, _>>=_, guard, Result}
+use Rattle.node.specs.Written.{count}
 use Rattle.language.specs.Bytes.{ascii}
 use Rattle.language.specs.Places.{refuseAt}
 use Rattle.language.specs.Parsing.{parsed}
@@ -19,7 +20,7 @@ guarantees =
     []
 
 guarantees-met : map (λ c. guaranteed (c .0)) guarantees ≡ map (λ c. c .1) guarantees
-unfolding textExpansion parsed specExpansion _>>=_ guard refuseAt size
+unfolding textExpansion parsed specExpansion _>>=_ guard refuseAt count size
 guarantees-met = refl
 
 -- texts, and what each comes to: its nodes and signals, or its refusal
@@ -78,33 +79,33 @@ outcomes =
     []
 
 outcomes-met : map (λ c. outcome (c .0)) outcomes ≡ map (λ c. c .1) outcomes
-unfolding textExpansion parsed specExpansion _>>=_ guard refuseAt size
+unfolding textExpansion parsed specExpansion _>>=_ guard refuseAt count size
 outcomes-met = refl
 
 -- 17: 'work buffer short', 65,535 bytes; before 1
 workShort : lent (repeated 32769 " ") 65535 0 0 ≡ Refused 17 0
-unfolding reading textExpansion parsed specExpansion _>>=_ guard refuseAt size
+unfolding reading textExpansion parsed specExpansion _>>=_ guard refuseAt count size
 workShort = refl
 
 -- 18: 'result buffer short', 13 nodes due, 12 lent
 nodesShort : lent (text (ascii "MAIN { INPUTS { } OUTPUTS { } }")) 65536 12 0 ≡ Refused 18 0
-unfolding reading textExpansion parsed specExpansion _>>=_ guard refuseAt size
+unfolding reading textExpansion parsed specExpansion _>>=_ guard refuseAt count size
 nodesShort = refl
 
 nodesEnough : lent (text (ascii "MAIN { INPUTS { } OUTPUTS { } }")) 65536 13 0 ≡ Done (13, 0)
-unfolding reading textExpansion parsed specExpansion _>>=_ guard refuseAt size
+unfolding reading textExpansion parsed specExpansion _>>=_ guard refuseAt count size
 nodesEnough = refl
 
 -- the signal list is a result too
 signalsShort : lent (text (ascii "MAIN { INPUTS { a; } OUTPUTS { } }")) 65536 13 0 ≡ Refused 18 0
-unfolding reading textExpansion parsed specExpansion _>>=_ guard refuseAt size
+unfolding reading textExpansion parsed specExpansion _>>=_ guard refuseAt count size
 signalsShort = refl
 
 signalsEnough : lent (text (ascii "MAIN { INPUTS { a; } OUTPUTS { } }")) 65537 8192 1 ≡ Done (13, 1)
-unfolding reading textExpansion parsed specExpansion _>>=_ guard refuseAt size
+unfolding reading textExpansion parsed specExpansion _>>=_ guard refuseAt count size
 signalsEnough = refl
 
 -- 16 before 18
 nodesBeforeRoom : lent (line (ascii "X[8192] a")) 65536 0 0 ≡ Refused 16 0
-unfolding reading textExpansion parsed specExpansion _>>=_ guard refuseAt size
+unfolding reading textExpansion parsed specExpansion _>>=_ guard refuseAt count size
 nodesBeforeRoom = refl

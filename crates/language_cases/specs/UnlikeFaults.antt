@@ -7,9 +7,9 @@ use mathlib.Core.Path.{_≡_, sym}
 use lib.Dec.{leb}
 use Rattle.node.specs.Limits.{maxNodes}
 use Rattle.node.specs.Ltl.{Formula}
-use Rattle.node.specs.Postorder.{size}
 use Rattle.node.specs.Result.{Result, Done, Refused, _>>=_, guard}
 use Rattle.node.specs.ResultLaws.{not-done}
+use Rattle.node.specs.Written.{count}
 use Rattle.language.specs.Tree.{Spec}
 use Rattle.language.specs.Places.{refuseAt}
 use Rattle.language.specs.Declared.{Declarations, declarations}
@@ -35,7 +35,7 @@ withTarget x = record {
 abbrev ended : Declarations → Formula → Result NumberedFormula
 ended d g =
     let list = signalList (inOrder d) in
-    refuseAt 15 (tooManySignals 0 (inOrder d)) (guard (leb (size g) maxNodes) 16 0 (Done (record { formula = g; signals = list })))
+    refuseAt 15 (tooManySignals 0 (inOrder d)) (guard (leb (count g) maxNodes) 16 0 (Done (record { formula = g; signals = list })))
 
 module _ (n p : ℕ) (other : n ≡ 16 → ⊥) where
   sized : (b c : Bool) (k l : NumberedFormula) → guard b 16 0 (Done k) ≡ Refused n p → guard c 16 0 (Done l) ≡ Refused n p
@@ -49,7 +49,7 @@ module _ (n p : ℕ) (other : n ≡ 16 → ⊥) where
   counted (some q) r s h e = e
 
   alike : (d : Declarations) (f g : Formula) → ended d f ≡ Refused n p → ended d g ≡ Refused n p
-  alike d f g = counted (tooManySignals 0 (inOrder d)) _ _ (sized (leb (size f) maxNodes) (leb (size g) maxNodes) _ _)
+  alike d f g = counted (tooManySignals 0 (inOrder d)) _ _ (sized (leb (count f) maxNodes) (leb (count g) maxNodes) _ _)
 
   through : {A : Type 0} (r : Result A) (j k : A → Result NumberedFormula) → ((a : A) → j a ≡ Refused n p → k a ≡ Refused n p) → r >>= j ≡ Refused n p → r >>= k ≡ Refused n p
   unfolding _>>=_

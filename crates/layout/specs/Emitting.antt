@@ -10,7 +10,8 @@ use Rattle.node.specs.Limits.{maxNodes}
 use Rattle.node.specs.Fields.{kindOf, firstOf, secondOf}
 use Rattle.node.specs.Kinds.{Shape, Truth, Falsehood, Atom, UnaryOf, BinaryOf, Unused, shapeOf}
 use Rattle.node.specs.Table.{treeAt, root}
-use Rattle.node.specs.TableLaws.{Below, NodeIs, node-is}
+use Rattle.node.specs.Formed.{Below, NodeIs}
+use Rattle.node.specs.TableLaws.{node-is}
 use Rattle.basics.specs.Told.{maxTold}
 use Rattle.signal_names.specs.Runs.{puts-nothing, puts-after, puts-length}
 use Rattle.signal_names.specs.Promise.{Puts}

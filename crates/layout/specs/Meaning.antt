@@ -12,7 +12,7 @@ use Rattle.node.specs.Result.{Refused, _>>=_}
 use Rattle.node.specs.Postorder.{SignalsBelow}
 use Rattle.node.specs.PostorderLaws.{tree-signals}
 use Rattle.node.specs.Table.{root}
-use Rattle.node.specs.TableLaws.{Formed}
+use Rattle.node.specs.Formed.{Formed}
 use Rattle.language.specs.Bytes.{ascii, if_then_else_}
 use Rattle.language.specs.Places.{refuseAt}
 use Rattle.language.specs.Tree.{Model, Mealy, Moore}

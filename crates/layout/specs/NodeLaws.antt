@@ -7,7 +7,7 @@ use lib.ListN.{length, getD}
 use native.Mathlib.Omega.{arith}
 use Rattle.node.specs.Fields.{kindOf, firstOf, secondOf}
 use Rattle.node.specs.Kinds.{kindCount, shapeOf}
-use Rattle.node.specs.TableLaws.{Below}
+use Rattle.node.specs.Formed.{Below}
 use Rattle.language.specs.Limits.{maxName}
 use Rattle.layout.specs.Layout.{piece, sized, nth}
 use Rattle.layout.specs.Table.{following, ofSignal, ofOperand, Measurable}

@@ -10,7 +10,7 @@ use borrow.Author.Tests.{eq-eqb, ne-eqb}
 use Rattle.node.specs.Kinds.{Shape, Truth, Falsehood, Atom, UnaryOf, BinaryOf, Unused, kindCount, shapeOf, build}
 use Rattle.node.specs.KindLaws.{Each, each-below, no-shape}
 use Rattle.node.specs.Ltl.{Formula}
-use Rattle.node.specs.TableLaws.{Below}
+use Rattle.node.specs.Formed.{Below}
 use Rattle.language.specs.Laws.Basics.Tests.{pick, leave}
 use Rattle.layout.specs.Layout.{piece, sized, weight}
 use Rattle.layout.specs.Table.{following, ofSignal, ofOperand}

@@ -7,7 +7,7 @@ use Rattle.node.specs.Limits.{maxNodes}
 use Rattle.node.specs.Fields.{kindOf}
 use Rattle.node.specs.Kinds.{Shape, shapeOf}
 use Rattle.node.specs.Table.{treeAt}
-use Rattle.node.specs.TableLaws.{Formed}
+use Rattle.node.specs.Formed.{Formed}
 use Rattle.signal_names.specs.Promise.{Held, Puts}
 use Rattle.layout.specs.Layout.{operands, left}
 use Rattle.layout.specs.declared.formula.Turn.{Turn}
@@ -43,6 +43,11 @@ pub record Scene (nodes names sizes : List ℕ) : Type 0 where
   pub limit : ℕ
   pub formed : Formed limit nodes
   pub held : Held names sizes limit
+
+-- operand k
+abbrev pub operandAt : ℕ → ℕ → ℕ → ℕ
+operandAt zero a b = a
+operandAt (suc k) a b = b
 
 -- one turn: some bytes of what was owed are written
 pub record Turns (name : ℕ → List ℕ) (nodes stack stack′ out out′ : List ℕ) (h at : ℕ) (r : Turn) : Type 0 where

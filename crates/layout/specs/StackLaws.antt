@@ -15,19 +15,15 @@ use Rattle.node.specs.Fields.{kindOf, firstOf, secondOf}
 use Rattle.node.specs.Ltl.{Formula}
 use Rattle.node.specs.Kinds.{Shape, Truth, Falsehood, Atom, UnaryOf, BinaryOf, Unused, kindCount, shapeOf, build}
 use Rattle.node.specs.Table.{treeAt}
-use Rattle.node.specs.TableLaws.{Below, NodeIs, node-is}
+use Rattle.node.specs.Formed.{Below, NodeIs}
+use Rattle.node.specs.TableLaws.{node-is}
 use Rattle.language.specs.Bytes.{ascii}
 use Rattle.basic.specs.Basic.{binarySign}
 use Rattle.signal_names.specs.Promise.{slot, Puts}
 use Rattle.layout.specs.Layout.{operands, layout, left, pieceOf}
 use Rattle.layout.specs.Table.{following, Writable}
 use Rattle.layout.specs.SizeLaws.{kind-below, atom-below}
-use Rattle.layout.specs.Stack.{owner, written, owed, todo, shapeAt, Entry, Stacked, Scene, Turns}
-
--- operand k
-abbrev pub operandAt : ℕ → ℕ → ℕ → ℕ
-operandAt zero a b = a
-operandAt (suc k) a b = b
+use Rattle.layout.specs.Stack.{owner, written, owed, todo, shapeAt, Entry, Stacked, Scene, operandAt, Turns}
 
 pub operand-first : (k a b : ℕ) → k ≡ 0 → a ≡ operandAt k a b
 operand-first zero a b e = refl

@@ -7,7 +7,7 @@ use lib.Dec.{ltb, eqb}
 use lib.ListN.{length, getD}
 use Rattle.node.specs.Fields.{kindOf, firstOf, secondOf}
 use Rattle.node.specs.Kinds.{Shape, shapes, shapeOf}
-use Rattle.node.specs.TableLaws.{Below}
+use Rattle.node.specs.Formed.{Below}
 use Rattle.language.specs.Limits.{maxName}
 use Rattle.language.specs.Bytes.{if_then_else_}
 use Rattle.signal_names.specs.Promise.{slotBytes}

@@ -1,13 +1,14 @@
 -- The whole text as it is written: INFO and the lists around the formula's text.
-use Prim.Native.Nat.{ℕ, zero, suc, _+_}
+use Prim.Native.Nat.{ℕ, zero, suc, _+_, _*_, _<_, _≤_, min}
 use mathlib.Core.Path.{_≡_}
 use mathlib.Core.Bool.{true, false}
 use mathlib.Core.List.{List, [], _∷_, _++_}
 use lib.Dec.{eqb}
-use lib.ListN.{length}
+use lib.ListN.{length, getD}
 use Rattle.node.specs.Ltl.{Formula}
 use Rattle.node.specs.Result.{Result, Done, guard, _>>=_}
 use Rattle.node.specs.Table.{root}
+use Rattle.basics.specs.Told.{maxTold}
 use Rattle.language.specs.Limits.{maxName}
 use Rattle.language.specs.Bytes.{ascii}
 use Rattle.language.specs.Places.{refuseAt}
@@ -18,7 +19,8 @@ use Rattle.basic.specs.Spelling.{namesOf, sideOf}
 use Rattle.basic.specs.Basic.{basicTokens, parted}
 use Rattle.basic.specs.Writing.{fits, faultFrom, bytesTold, textAfter}
 use Rattle.basic.specs.declared.Written.{Written}
-use Rattle.layout.specs.Layout.{layout}
+use Rattle.signal_names.specs.Promise.{slotBytes}
+use Rattle.layout.specs.Layout.{layout, weight, nth}
 
 -- a model by its code
 abbrev pub modelOf : ℕ → Model
@@ -73,6 +75,17 @@ fixedSize = length (headText Mealy) + length outputsText + length guaranteeText 
 -- what the code's constants stand for, in their order
 abbrev pub fixedSizes : List ℕ
 fixedSizes = length (headText Mealy) ∷ length outputsText ∷ length guaranteeText ∷ length endText ∷ length lineEnd ∷ fixedSize ∷ []
+
+-- slot k has a name
+pub record Listed (names sizes : List ℕ) (k : ℕ) : Type 0 where
+  pub sized : k < length sizes
+  pub small : getD sizes k 0 ≤ maxName
+  pub room : slotBytes * k + maxName ≤ length names
+
+-- the size that is told
+pub record Sizes (sizes list : List ℕ) (f : Formula) (r : ℕ) : Type 0 where
+  pub is : r ≡ fixedSize + linesSize (nth sizes) 0 0 list + linesSize (nth sizes) 1 0 list + min maxTold (weight (nth sizes) f)
+  pub small : r ≤ 2 * maxTold
 
 -- an answer and the lent buffer after it, of what the definition gives
 pub record Delivers (r : Result (List ℕ)) (out out′ : List ℕ) (w : Written) : Type 0 where

@@ -9,14 +9,13 @@ use lib.Seq.{drop-cons, take-length}
 use native.Mathlib.Numerals.{add-one}
 use native.Mathlib.Omega.{arith}
 use borrow.Author.Tests.{eq-eqb, ne-eqb}
-use Rattle.language.specs.Limits.{maxName}
 use Rattle.language.specs.Tree.{Mealy, Moore}
 use Rattle.language.specs.Numbered.{flagOf}
 use Rattle.language.specs.Laws.Basics.Tests.{pick, leave}
 use Rattle.signal_names.specs.Runs.{part-length, puts-nothing, puts-after, puts-length}
 use Rattle.signal_names.specs.Promise.{slot, slotBytes, Held, part, Puts}
 use Rattle.layout.specs.Layout.{nth}
-use Rattle.layout.specs.Text.{modelOf, headText, lineOf, linesFrom, lineEnd, lineSize, linesSize}
+use Rattle.layout.specs.Text.{modelOf, headText, lineOf, linesFrom, lineEnd, lineSize, linesSize, Listed}
 
 -- a slice put as a whole
 pub put-whole : {from out out′ : List ℕ} {at r : ℕ} → Puts (part from 0 (length from)) out out′ at r → Puts from out out′ at r
@@ -29,12 +28,6 @@ mealy-is t e = ap (λ (n : ℕ). headText (modelOf n)) e
 pub moore-is : (t : ℕ) → (t ≡ 0 → ⊥) → headText (modelOf t) ≡ headText Moore
 moore-is zero e = absurd (e refl)
 moore-is (suc t) e = refl
-
--- slot k has a name
-pub record Listed (names sizes : List ℕ) (k : ℕ) : Type 0 where
-  pub sized : k < length sizes
-  pub small : getD sizes k 0 ≤ maxName
-  pub room : slotBytes * k + maxName ≤ length names
 
 pub held-listed : {names sizes : List ℕ} {n : ℕ} (k : ℕ) → Held names sizes n → k < n → Listed names sizes k
 held-listed k h l = record { sized = omega (arith, h .sized); small = h .small k l; room = omega (arith, h .room) }

@@ -1,5 +1,5 @@
 -- The whole text: its size, whether it fits, and that it is the definition's.
-use Prim.Native.Nat.{ℕ, _+_, _*_, _-_, _<_, _≤_, min}
+use Prim.Native.Nat.{ℕ, _+_, _-_, _<_, _≤_}
 use mathlib.Core.Path.{_≡_, refl, ap, ap₂, _∙_}
 use mathlib.Core.Bool.{Bool, true, false, _&&_}
 use mathlib.Core.List.{List, _++_}
@@ -23,13 +23,8 @@ use Rattle.signal_names.specs.Runs.{puts-after, puts-length}
 use Rattle.signal_names.specs.Promise.{slot, Held, Puts}
 use Rattle.layout.specs.Layout.{layout, weight, nth}
 use Rattle.layout.specs.Stack.{Scene}
-use Rattle.layout.specs.Text.{headText, outputsText, guaranteeText, endText, linesFrom, linesSize, textOf, fixedSize, Delivers, handed}
+use Rattle.layout.specs.Text.{headText, outputsText, guaranteeText, endText, linesFrom, linesSize, textOf, fixedSize, Sizes, Delivers, handed}
 use Rattle.layout.specs.TextLaws.{lines-sized, listed-length, held-listed}
-
--- the size that is told
-pub record Sizes (sizes list : List ℕ) (f : Formula) (r : ℕ) : Type 0 where
-  pub is : r ≡ fixedSize + linesSize (nth sizes) 0 0 list + linesSize (nth sizes) 1 0 list + min maxTold (weight (nth sizes) f)
-  pub small : r ≤ 2 * maxTold
 
 -- a formula's size
 layout-length : (name : ℕ → List ℕ) (size : ℕ → ℕ) (limit : ℕ) → ((k : ℕ) → k < limit → length (name k) ≡ size k) → (f : Formula) → SignalsBelow limit f → length (layout name f) ≡ weight size f

@@ -8,7 +8,7 @@ use native.Mathlib.Omega.{arith}
 use lib.ListN.{length}
 use Rattle.node.specs.Ltl.{Formula}
 use Rattle.node.specs.Table.{treeAt}
-use Rattle.node.specs.TableLaws.{Formed}
+use Rattle.node.specs.Formed.{Formed}
 use Rattle.bits.specs.Bits.{Values, width}
 use Rattle.rows.specs.Row.{row}
 use Rattle.language.specs.Bytes.{if_then_else_}

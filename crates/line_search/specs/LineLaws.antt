@@ -11,7 +11,8 @@ use Rattle.node.specs.Ltl.{Formula, True, False, Signal, One, Two}
 use Rattle.node.specs.Fields.{kindOf, firstOf, secondOf}
 use Rattle.node.specs.Kinds.{Shape, Truth, Falsehood, Atom, UnaryOf, BinaryOf, Unused, shapeOf, build}
 use Rattle.node.specs.Table.{treeAt}
-use Rattle.node.specs.TableLaws.{Formed, Below, node-is}
+use Rattle.node.specs.Formed.{Formed, Below}
+use Rattle.node.specs.TableLaws.{node-is}
 use Rattle.bits.specs.Bits.{Values}
 use Rattle.rows.specs.Row.{row}
 use Rattle.language.specs.Bytes.{if_then_else_}

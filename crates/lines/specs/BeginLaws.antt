@@ -3,7 +3,6 @@ use Prim.Native.Nat.{ℕ, suc, _≤_}
 use mathlib.Core.List.{List}
 use mathlib.Core.Path.{_≡_, refl}
 use native.Mathlib.Omega.{arith}
-use lib.ListN.{length}
 use Rattle.node.specs.Limits.{maxNodes}
 use Rattle.node.specs.Result.{Done}
 use Rattle.language.specs.Tokens.{tokens}
@@ -18,7 +17,6 @@ use Rattle.name_values.specs.World.{World}
 use Rattle.name_values.specs.Worked.{worldIn}
 use Rattle.notes.specs.Notes.{Notes}
 use Rattle.operands.specs.Working.{Source}
-use Rattle.machine.specs.Memory.{firstKept}
 use Rattle.memory_notes.specs.Laid.{Laid, FirstSignals}
 use Rattle.memory_notes.specs.LaidLaws.{laid-noted, laid-lasting}
 use Rattle.memory_notes.specs.ShortTables.{short-table}

@@ -1,6 +1,6 @@
 -- The numbers of the code stand for the spans, node by node.
 use Prim.Native.Nat.{ℕ, _+_, _-_, _≤_, _<_, max}
-use mathlib.Core.Path.{_≡_, refl, ap}
+use mathlib.Core.Path.{_≡_, refl}
 use mathlib.Core.List.{List}
 use mathlib.Core.Bool.{true, and-eq-true-iff}
 use native.Mathlib.Decide.{ℕ-discrete, decLt}
@@ -15,11 +15,12 @@ use Rattle.node.specs.Kinds.{Shape, Truth, Falsehood, Atom, UnaryOf, BinaryOf, 
 use Rattle.node.specs.KindLaws.{each-below, by-kind, no-shape}
 use Rattle.node.specs.Result.{Done}
 use Rattle.node.specs.Table.{treeAt, root, fits}
-use Rattle.node.specs.TableLaws.{Formed, NodeIs, node-is}
+use Rattle.node.specs.Formed.{Formed, NodeIs}
+use Rattle.node.specs.TableLaws.{node-is}
 use Rattle.lookahead.specs.Span.{Span, Silent, Ahead, Endless, later, wider, forever, unarySpan, binarySpan, span}
 use Rattle.lookahead.specs.Reaching.{reported}
 use Rattle.lookahead.specs.Low.{Low, low-more, node-low}
-use Rattle.lookahead.specs.Codes.{here, endless, Coded, foreverCode, joinedCode, codeOf, nodeCode, nearCount, narrowCode, widened, numberAt, Sized, Narrow, InTable, toldCode}
+use Rattle.lookahead.specs.Codes.{here, endless, Coded, foreverCode, joinedCode, codeOf, nodeCode, nearCount, narrowCode, widened, numberAt, Sized, Narrow, InTable, toldCode, Spanned}
 use Rattle.lookahead.specs.KeptLaws.{KeepsOne, coded-narrow}
 
 -- the numbers of spans of a table: nodes before n, and node n
@@ -138,11 +139,6 @@ kind-operator =
 -- constants and signals look at nothing else
 code-leaf : (n x y : ℕ) (s t : Span) (kind : ℕ) → kind < 3 → Coded n (codeOf kind x y) (shapeSpan (shapeOf kind) s t)
 code-leaf n x y s t = each-below (λ k. Coded n (codeOf k x y) (shapeSpan (shapeOf k) s t)) 3 (((tt, omega arith), omega arith), refl)
-
--- the numbers of the first nodes of a table
-pub record Spanned (nodes : List ℕ) (count : ℕ) (bytes words : List ℕ) : Type 0 where
-  pub sized : Sized bytes words
-  pub right : (j : ℕ) → j < count → Coded j (numberAt bytes words j) (span (treeAt nodes j))
 
 -- node i of a table of the format
 module _ {limit : ℕ} {ws : List ℕ} (f : Formed limit ws) (i : ℕ) (h : i < length ws) where

@@ -2,14 +2,14 @@
 use Prim.Native.Nat.{ℕ, _+_, _-_, _≤_, _<_, max}
 use mathlib.Core.Path.{_≡_}
 use mathlib.Core.List.{List}
-use mathlib.Core.Bool.{Bool, true, false}
+use mathlib.Core.Bool.{cond}
 use lib.Dec.{ltb, leb, eqb}
 use lib.ListN.{length, getD}
 use Rattle.node.specs.Limits.{maxNodes}
 use Rattle.node.specs.Fields.{kindOf, firstOf, secondOf}
-use Rattle.node.specs.Bounds.{pick}
 use Rattle.node.specs.Result.{Result, Done}
-use Rattle.lookahead.specs.Span.{Span, Silent, Ahead, Endless}
+use Rattle.node.specs.Table.{treeAt}
+use Rattle.lookahead.specs.Span.{Span, Silent, Ahead, Endless, span}
 use Rattle.lookahead.specs.Reaching.{Distance, Letters, Unbounded}
 
 -- below it a number says that there is no signal
@@ -27,15 +27,15 @@ Coded n s (Ahead k) = s ≡ here + k
 Coded n s Endless = (endless ≤ s) × (s ≤ endless + n)
 
 abbrev pub foreverCode : ℕ → ℕ
-foreverCode s = pick (ltb s here) s endless
+foreverCode s = cond (ltb s here) s endless
 
 -- an operator other than X and !
 abbrev pub joinedCode : ℕ → ℕ → ℕ → ℕ
-joinedCode kind a b = pick (ltb kind 8) (max a b) (pick (leb kind 10) (foreverCode a) (foreverCode (max a b)))
+joinedCode kind a b = cond (ltb kind 8) (max a b) (cond (leb kind 10) (foreverCode a) (foreverCode (max a b)))
 
 -- the number of a node of a kind, from those of its operands
 abbrev pub codeOf : ℕ → ℕ → ℕ → ℕ
-codeOf kind a b = pick (ltb kind 2) 0 (pick (ltb kind 3) here (pick (eqb kind 8) (a + 1) (pick (eqb kind 3) a (joinedCode kind a b))))
+codeOf kind a b = cond (ltb kind 2) 0 (cond (ltb kind 3) here (cond (eqb kind 8) (a + 1) (cond (eqb kind 3) a (joinedCode kind a b))))
 
 -- a node's number, from those of the nodes before it
 abbrev pub nodeCode : ℕ → (ℕ → ℕ) → ℕ
@@ -52,14 +52,14 @@ abbrev pub nearEndless : ℕ
 nearEndless = 255
 
 abbrev pub narrowCode : ℕ → ℕ
-narrowCode s = pick (ltb s here) 0 (pick (leb endless s) nearEndless (s - here + 1))
+narrowCode s = cond (ltb s here) 0 (cond (leb endless s) nearEndless (s - here + 1))
 
 abbrev pub widened : ℕ → ℕ
-widened b = pick (eqb b 0) 0 (pick (eqb b nearEndless) endless (b + 16_383))
+widened b = cond (eqb b 0) 0 (cond (eqb b nearEndless) endless (b + 16_383))
 
 -- the number that is kept for node i
 abbrev pub numberAt : List ℕ → List ℕ → ℕ → ℕ
-numberAt bytes words i = pick (leb nearCount i) (getD words (i - nearCount) 0) (widened (getD bytes i 0))
+numberAt bytes words i = cond (leb nearCount i) (getD words (i - nearCount) 0) (widened (getD bytes i 0))
 
 abbrev pub Sized : List ℕ → List ℕ → Type 0
 Sized bytes words = (length bytes ≡ nearCount) × (length words ≡ farCount)
@@ -72,10 +72,11 @@ Narrow s = s < endless → s < here + nearCount
 abbrev pub InTable : ℕ → (ℕ → ℕ) → Type 0
 InTable word at = 3 ≤ kindOf word → (firstOf word < maxNodes) × (secondOf word < maxNodes) × (at (firstOf word) ≤ endless + maxNodes)
 
-abbrev pub chosen : Bool → Distance → Distance → Distance
-chosen true a b = a
-chosen false a b = b
-
 -- the reach that a number stands for
 abbrev pub toldCode : ℕ → Result Distance
-toldCode s = Done (chosen (leb endless s) Unbounded (Letters (s - here)))
+toldCode s = Done (cond (leb endless s) Unbounded (Letters (s - here)))
+
+-- the numbers of the first nodes of a table
+pub record Spanned (nodes : List ℕ) (count : ℕ) (bytes words : List ℕ) : Type 0 where
+  pub sized : Sized bytes words
+  pub right : (j : ℕ) → j < count → Coded j (numberAt bytes words j) (span (treeAt nodes j))

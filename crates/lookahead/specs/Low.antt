@@ -8,7 +8,8 @@ use Rattle.node.specs.Ltl.{Unary, Not, X, G, F, Binary, And, Or, Implies, Iff, 
 use Rattle.node.specs.Fields.{kindOf, firstOf, secondOf}
 use Rattle.node.specs.Kinds.{Shape, Truth, Falsehood, Atom, UnaryOf, BinaryOf, Unused, shapeOf, build}
 use Rattle.node.specs.Table.{treeAt}
-use Rattle.node.specs.TableLaws.{Formed, Below, node-is}
+use Rattle.node.specs.Formed.{Formed, Below}
+use Rattle.node.specs.TableLaws.{node-is}
 use Rattle.lookahead.specs.Span.{Span, Silent, Ahead, Endless, later, wider, forever, unarySpan, binarySpan, span}
 
 -- a span of at most n letters ahead, if it has a bound

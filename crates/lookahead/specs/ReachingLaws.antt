@@ -12,14 +12,16 @@ use Rattle.node.specs.Result.{Result, Done, Counts}
 use Rattle.node.specs.ResultLaws.{guard-done, bind-done, bind-to, bind-refused}
 use Rattle.node.specs.Answer.{says}
 use Rattle.node.specs.Table.{root, checked}
-use Rattle.node.specs.TableLaws.{Formed, checked-done}
-use Rattle.node.specs.Postorder.{size, nodesFrom, SignalsBelow}
-use Rattle.node.specs.PostorderLaws.{length-nodes, tree-signals}
+use Rattle.node.specs.Formed.{Formed}
+use Rattle.node.specs.TableLaws.{checked-done}
+use Rattle.node.specs.Postorder.{SignalsBelow}
+use Rattle.node.specs.PostorderLaws.{tree-signals}
+use Rattle.node.specs.Written.{nodesOf, count}
+use Rattle.node.specs.WrittenLaws.{length-of, table-of, table-root}
 use Rattle.node.specs.declared.Answer.{Answer}
 use Rattle.forms.specs.FormSignals.{form-signals}
 use Rattle.rewriter.specs.Rewriting.{target, fitting, rewriting, leaves}
 use Rattle.rewriter.specs.RewritingLaws.{Accepts, accepts}
-use Rattle.rewriter.specs.OwnNodes.{own-checked, own-root}
 use Rattle.rewriter.specs.Promise.{Rewrites}
 use Rattle.lookahead.specs.Span.{Span, Silent, Ahead, Endless, span}
 use Rattle.lookahead.specs.SpanAgrees.{Shared, span-agrees}
@@ -71,7 +73,7 @@ module _ {t : Answer} {x y : ℕ} (nodes : List ℕ) (e : says t ≡ checked fie
 -- the rewriter's forms
 module _ (number : ℕ) (nodes : List ℕ) where
   -- the form's own nodes have the table's reach
-  pub form-reaching : (room : ℕ) {c : Counts} → rewriting number nodes room ≡ Done c → reaching (nodesFrom 0 (target number nodes)) ≡ reaching nodes
+  pub form-reaching : (room : ℕ) {c : Counts} → rewriting number nodes room ≡ Done c → reaching (nodesOf (target number nodes)) ≡ reaching nodes
   unfolding rewriting
   form-reaching room e =
       let f : Formula = target number nodes in
@@ -79,8 +81,8 @@ module _ (number : ℕ) (nodes : List ℕ) where
       let a : Accepts number nodes room _ = accepts room e in
       let p = a .formed .some in
       let s : SignalsBelow fieldLimit f = form-signals number fieldLimit (root nodes) (tree-signals (a .formed) (length nodes - 1) (omega arith)) in
-      reaching-done (nodesFrom 0 f) (own-checked fieldLimit f (omega arith) s (a .few))
-      ∙ ap (λ (g : Formula). Done (reported (span g))) (own-root f s (a .few))
+      reaching-done (nodesOf f) (table-of fieldLimit f (omega arith) s (a .few))
+      ∙ ap (λ (g : Formula). Done (reported (span g))) (table-root f s (a .few))
       ∙ ap (λ (x : Span). Done (reported x)) (form-span number (root nodes))
       ∙ sym (reaching-done nodes (q .1))
 
@@ -89,6 +91,6 @@ module _ (number : ℕ) (nodes : List ℕ) where
   left-reaching out out′ n s w q =
       let e : rewriting number nodes (length out) ≡ Done (record { nodes = n; signals = s }) = sym (w .answer) ∙ ap says q in
       let f : Formula = target number nodes in
-      let count : n ≡ size f = ap (λ (c : Counts). c .nodes) (let a : Accepts number nodes (length out) _ = accepts (length out) e in a .counts) in
-      let left : out′ ≡ nodesFrom 0 f ++ drop (size f) out = w .buffer ∙ ap (λ (x : Result Counts). leaves x f out) e in
-      ap reaching (ap (take n) left ∙ take-at (nodesFrom 0 f) (drop (size f) out) n (length-nodes 0 f ∙ sym count)) ∙ form-reaching (length out) e
+      let told : n ≡ count f = ap (λ (c : Counts). c .nodes) (let a : Accepts number nodes (length out) _ = accepts (length out) e in a .counts) in
+      let left : out′ ≡ nodesOf f ++ drop (count f) out = w .buffer ∙ ap (λ (x : Result Counts). leaves x f out) e in
+      ap reaching (ap (take n) left ∙ take-at (nodesOf f) (drop (count f) out) n (length-of f ∙ sym told)) ∙ form-reaching (length out) e

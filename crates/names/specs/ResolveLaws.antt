@@ -27,7 +27,7 @@ use Rattle.names.specs.Balanced.{balanced-outline}
 use Rattle.names.specs.NameReads.{names-read}
 use Rattle.spellings.specs.Interned.{top, Interned}
 use Rattle.spellings.specs.TopLaws.{below-top}
-use Rattle.names.specs.Tables.{noPlace, placeOf}
+use Rattle.names.specs.Tables.{noPlace, placeOf, Blank}
 use Rattle.names.specs.TableLaws.{place-some, place-none, place-min}
 use Rattle.names.specs.Walkable.{Walkable, Table}
 use Rattle.names.specs.Meeting.{declaredFrom, declared-none, Met}
@@ -56,11 +56,6 @@ walkable {text} {count = count} {x = x} s i r =
       interned = i;
       room = r;
     }
-
--- a table over the spellings of a text that holds no place
-pub record Blank (text table : List ℕ) : Type 0 where
-  pub room : length text < length table
-  pub empty : (i : ℕ) → i < length table → getD table i 0 ≡ noPlace
 
 pub blank-room : {text : List ℕ} (ids : List ℕ) {table : List ℕ} → top ids ≤ length text + 1 → Blank text table → top ids ≤ length table
 blank-room ids t b = let r = b .room in omega arith

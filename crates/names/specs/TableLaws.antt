@@ -19,7 +19,7 @@ use Rattle.language.specs.Laws.Basics.Tests.{pick, leave, same-equal}
 use Rattle.names.specs.AlikeLaws.{met}
 use Rattle.spellings.specs.Interned.{tokenAt, IsName, Interned}
 use Rattle.spellings.specs.TopLaws.{below-top}
-use Rattle.names.specs.Tables.{noPlace, placeOf, least, Placed, Shows}
+use Rattle.names.specs.Tables.{noPlace, placeOf, least, hiddenPlace, Placed, Shows}
 
 pub place-some : (v : ℕ) → v < noPlace → placeOf v ≡ some v
 unfolding placeOf
@@ -87,10 +87,6 @@ again-least (n ∷ ns) t h p = go (again-least ns t (h .1) p) (same (n .text) (t
         ap₂ first (pick (same (n .text) (t .text)) _ _ e ∙ sym (place-some (max (n .at) (t .at)) (omega arith))) ih
         ∙ place-min (max (n .at) (t .at)) (max (least ns t) (t .at)) ∙ ap placeOf m
     go ih false e = rw (least-other n ns t e) (ap (λ o. first o (again ns t)) (leave (same (n .text) (t .text)) _ _ e) ∙ ih)
-
--- the place of a name that is used, if no name of its spelling is visible: v is their smallest place
-unfoldable pub hiddenPlace : ℕ → ℕ → ℕ
-hiddenPlace v at = elim (ltb v noPlace) [ true ↦ noPlace | false ↦ at ]
 
 pub hidden-least : (ns : Names) (t : Token) → All Placed ns → Placed t → hidden ns t ≡ placeOf (hiddenPlace (least ns t) (t .at))
 unfolding hiddenPlace

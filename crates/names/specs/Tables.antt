@@ -23,6 +23,10 @@ unfoldable pub least : Names → Token → ℕ
 least [] t = noPlace
 least (n ∷ ns) t = elim (same (n .text) (t .text)) [ true ↦ min (n .at) (least ns t) | false ↦ least ns t ]
 
+-- the place of a name that is used, if no name of its spelling is visible: v is their smallest place
+unfoldable pub hiddenPlace : ℕ → ℕ → ℕ
+hiddenPlace v at = elim (ltb v noPlace) [ true ↦ noPlace | false ↦ at ]
+
 -- tokens of a text have places
 abbrev pub Placed : Token → Type 0
 Placed t = t .at < noPlace
@@ -31,3 +35,8 @@ Placed t = t .at < noPlace
 pub record Shows (ts : List Token) (count : ℕ) (ids table : List ℕ) (m : Token → ℕ) : Type 0 where
   pub room : top ids ≤ length table
   pub holds : (j : ℕ) → j < count → IsName ts j → getD table (getD ids j 0) 0 ≡ m (tokenAt ts j)
+
+-- a table over the spellings of a text that holds no place
+pub record Blank (text table : List ℕ) : Type 0 where
+  pub room : length text < length table
+  pub empty : (i : ℕ) → i < length table → getD table i 0 ≡ noPlace

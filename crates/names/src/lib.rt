@@ -22,7 +22,7 @@ ghost use Rattle.language.specs.Limits.{maxTokens, maxNames};
 ghost use Rattle.language.specs.Tree.{Spec};
 ghost use Rattle.names.specs.Answering.{answerOf};
 ghost use Rattle.spellings.specs.Interned.{Begun};
-ghost use Rattle.names.specs.ResolveLaws.{Blank};
+ghost use Rattle.names.specs.Tables.{Blank};
 ghost use Rattle.names.specs.Resolved.{Stored, TreeStored, Answers};
 
 // The empty spelling, and one node for each byte of the longest text (specs/Trie, maxNodes).

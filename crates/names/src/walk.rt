@@ -22,11 +22,10 @@ ghost use Rattle.language.specs.Names.{Names};
 ghost use Rattle.entries.specs.Kinds as Kind;
 ghost use Rattle.entries.specs.Stored.{firstEntry, kindOf};
 ghost use Rattle.names.specs.Roles as Roles;
-ghost use Rattle.names.specs.TableLaws.{hiddenPlace};
+ghost use Rattle.names.specs.Tables.{hiddenPlace, noPlace};
 ghost use Rattle.names.specs.Walkable.{Walkable};
 ghost use Rattle.names.specs.Walking.{Walking};
 ghost use Rattle.names.specs.States.{Stands, GoesOn, Begins};
-ghost use Rattle.names.specs.Tables.{noPlace};
 
 // How many names of big operators are open, and the first places that 6 and 7 have found.
 pub struct Walk {

@@ -1,7 +1,7 @@
 -- The test of a node by bounds: what its fields lie below, by its kind. A choice between numbers and no case, as the code has it.
 use Prim.Native.Nat.{ℕ, zero, suc, _≤_}
 use mathlib.Core.Path.{_≡_, refl, ap, ap₂, _∙_, sym}
-use mathlib.Core.Bool.{Bool, true, false, _&&_, _||_}
+use mathlib.Core.Bool.{Bool, cond, _&&_, _||_}
 use lib.Dec.{ltb, eqb, eqb·suc-zero, leb·suc-zero, leb·suc-suc}
 use native.Mathlib.Omega.{arith}
 use borrow.Author.Tests.{le-ltb}
@@ -10,17 +10,13 @@ use Rattle.node.specs.Kinds.{kindCount, shapeOf}
 use Rattle.node.specs.KindLaws.{by-kind, no-shape}
 use Rattle.node.specs.Table.{fits, nodeFits}
 
-abbrev pub pick : Bool → ℕ → ℕ → ℕ
-pick true a b = a
-pick false a b = b
-
 -- 0 for a constant, a signal's number, an operand's; nothing lies below the bound of no kind
 abbrev pub firstEnd : ℕ → ℕ → ℕ → ℕ
-firstEnd limit n kind = pick (ltb kind 2) 1 (pick (ltb kind 3) limit (pick (ltb kind kindCount) n 0))
+firstEnd limit n kind = cond (ltb kind 2) 1 (cond (ltb kind 3) limit (cond (ltb kind kindCount) n 0))
 
 -- an operand's number for the kinds of two operands, otherwise 0
 abbrev pub secondEnd : ℕ → ℕ → ℕ
-secondEnd n kind = pick ((ltb 3 kind && ltb kind 8) || ltb 10 kind) n 1
+secondEnd n kind = cond ((ltb 3 kind && ltb kind 8) || ltb 10 kind) n 1
 
 abbrev pub bounded : ℕ → ℕ → ℕ → ℕ → ℕ → Bool
 bounded limit n kind a b = ltb a (firstEnd limit n kind) && ltb b (secondEnd n kind)

@@ -11,7 +11,9 @@ pub mod Kinds
 pub mod Result
 pub mod Answer
 pub mod Table
+pub mod Formed
 pub mod Postorder
+pub mod Written
 pub mod Tests
 pub mod LogicLaws
 pub mod TemporalLaws
@@ -22,4 +24,6 @@ pub mod ResultLaws
 pub mod TableLaws
 pub mod Bounds
 pub mod PostorderLaws
+pub mod FormatLaws
+pub mod WrittenLaws
 pub mod Adequacy

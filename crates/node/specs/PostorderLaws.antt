@@ -12,7 +12,8 @@ use Rattle.node.specs.FieldLaws.{kind-pack, first-pack, second-pack}
 use Rattle.node.specs.Kinds.{Shape, Truth, Falsehood, Atom, UnaryOf, BinaryOf, Unused, shapeOf, build, unaryKind, binaryKind}
 use Rattle.node.specs.KindLaws.{unary-shape, binary-shape}
 use Rattle.node.specs.Table.{among, formulaOf, formulas, treeAt}
-use Rattle.node.specs.TableLaws.{formulas-keep, Formed, Below, node-is}
+use Rattle.node.specs.Formed.{Formed, Below}
+use Rattle.node.specs.TableLaws.{formulas-keep, node-is}
 use Rattle.node.specs.Postorder.{size, nodesFrom, SignalsBelow}
 
 pub size-pos : (f : Formula) → 0 < size f

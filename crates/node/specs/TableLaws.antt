@@ -19,6 +19,7 @@ use Rattle.node.specs.KindLaws.{no-shape}
 use Rattle.node.specs.Result.{Result, Done, Refused, guard, Counts}
 use Rattle.node.specs.Tests.{and-left, and-right}
 use Rattle.node.specs.ResultLaws.{guard-pass, guard-stop, guard-done}
+use Rattle.node.specs.Formed.{Formed, Below, NodeIs, allFit, counted}
 use Rattle.node.specs.Table.{among, formulaOf, formulas, treeAt, fits, nodeFits, scanned, checked}
 
 -- a node's formula depends on the formulas below its number only
@@ -59,21 +60,6 @@ pub tree-step : (limit : ℕ) (ws : List ℕ) (i : ℕ) → i < length ws → no
 unfolding treeAt
 tree-step limit ws i h ok = rw zero-add at (formulas-step limit [] ws i h (rw zero-add ok))
 
--- a table of the format, its signal numbers below `limit`
-pub record Formed (limit : ℕ) (ws : List ℕ) : Type 0 where
-  pub some : 0 < length ws
-  pub few : length ws ≤ maxNodes
-  pub each : (i : ℕ) → i < length ws → nodeFits limit i (getD ws i 0) ≡ true
-
--- a node's operands come before it, its signal's number lies below the limit
-abbrev pub Below : ℕ → Shape → ℕ → ℕ → ℕ → Type 0
-Below limit Truth n a b = Unit {0}
-Below limit Falsehood n a b = Unit {0}
-Below limit Atom n a b = a < limit
-Below limit (UnaryOf o) n a b = a < n
-Below limit (BinaryOf o) n a b = (a < n) × (b < n)
-Below limit Unused n a b = ⊥
-
 fits-below : (limit n : ℕ) (s : Shape) (a b : ℕ) → fits limit n s a b ≡ true → Below limit s n a b
 fits-below limit n Truth a b ok = tt
 fits-below limit n Falsehood a b ok = tt
@@ -81,11 +67,6 @@ fits-below limit n Atom a b ok = ltb-true a limit (and-left (ltb a limit) (eqb b
 fits-below limit n (UnaryOf o) a b ok = ltb-true a n (and-left (ltb a n) (eqb b 0) ok)
 fits-below limit n (BinaryOf o) a b ok = (ltb-true a n (and-left (ltb a n) (ltb b n) ok), ltb-true b n (and-right (ltb a n) (ltb b n) ok))
 fits-below limit n Unused a b ok = false≢true ok
-
--- what is known of node i: its formula, of its operands' formulas, and that these come before it
-pub record NodeIs (limit : ℕ) (ws : List ℕ) (i : ℕ) (s : Shape) (a b : ℕ) : Type 0 where
-  pub tree : treeAt ws i ≡ build s (treeAt ws) a b
-  pub lower : Below limit s i a b
 
 pub node-is : {limit : ℕ} {ws : List ℕ} (i k a b : ℕ) → Formed limit ws → i < length ws → k ≡ kindOf (getD ws i 0) → a ≡ firstOf (getD ws i 0) → b ≡ secondOf (getD ws i 0)
     → NodeIs limit ws i (shapeOf k) a b
@@ -141,9 +122,6 @@ scanned-done limit n (w ∷ ws) e = scanned-done limit (suc n) ws (guard-done (n
 
 -- the three ways through the test
 module _ (limit : ℕ) (ws : List ℕ) where
-  abbrev pub counted : Result Counts
-  counted = Done (record { nodes = length ws; signals = limit })
-
   pub checked-empty : length ws ≡ 0 → checked limit ws ≡ Refused 19 0
   unfolding checked
   checked-empty e = guard-stop 19 0 _ (le-ltb 0 (length ws) (omega arith))
@@ -152,7 +130,7 @@ module _ (limit : ℕ) (ws : List ℕ) where
   unfolding checked
   checked-many h = guard-pass 19 0 _ (lt-ltb 0 (length ws) (omega arith)) ∙ guard-stop 19 maxNodes _ (lt-leb (length ws) maxNodes h)
 
-  pub checked-scan : (length ws ≡ 0 → ⊥) → length ws ≤ maxNodes → checked limit ws ≡ scanned limit 0 ws counted
+  pub checked-scan : (length ws ≡ 0 → ⊥) → length ws ≤ maxNodes → checked limit ws ≡ scanned limit 0 ws (counted limit ws)
   unfolding checked
   checked-scan h l = guard-pass 19 0 _ (lt-ltb 0 (length ws) (omega arith)) ∙ guard-pass 19 maxNodes _ (le-leb (length ws) maxNodes l)
 
@@ -177,12 +155,7 @@ checked-done {limit} {ws} {c} e =
       counts = sym s;
     }
 
--- does each word fit, the first of them as node n?
-unfoldable pub allFit : ℕ → ℕ → List ℕ → Bool
-allFit limit n [] = true
-allFit limit n (w ∷ ws) = nodeFits limit n w && allFit limit (suc n) ws
-
--- then the scan comes to its end
+-- if each word fits, the scan comes to its end
 pub all-scanned : {A : Type 0} (limit n : ℕ) (ws : List ℕ) (r : Result A) → allFit limit n ws ≡ true → scanned limit n ws r ≡ r
 unfolding allFit scanned
 all-scanned limit n [] r e = refl

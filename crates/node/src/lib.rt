@@ -3,14 +3,13 @@ pub mod refusals;
 
 ghost use mathlib.Core.Path.{_≡_};
 ghost use Prim.Native.Nat.{_<_, _≤_};
-ghost use mathlib.Core.Bool.{false};
+ghost use mathlib.Core.Bool.{false, cond};
 ghost use lib.ListN.{length};
 ghost use Rattle.node.specs.Limits.{fieldLimit, maxNodes, limits as limits'};
 ghost use Rattle.node.specs.Fields.{pack, kindOf, firstOf, secondOf};
 ghost use Rattle.node.specs.Kinds.{kinds as kinds'};
 ghost use Rattle.node.specs.Table.{nodeFits, scanned, checked};
-ghost use Rattle.node.specs.TableLaws.{allFit, counted};
-ghost use Rattle.node.specs.Bounds.{pick};
+ghost use Rattle.node.specs.Formed.{allFit, counted};
 ghost use Rattle.node.specs.Answer.{says};
 ghost use Rattle.node.specs.Result.{Refused};
 
@@ -145,7 +144,7 @@ const KINDS: u32 = 14;
 
 // One of two numbers: a function of its own, so that the compiled choice has no branch.
 fn either(test: bool, a: u32, b: u32) -> u32
-    ensures { λ r. ⌜ r ≡ pick test a b ⌝ }
+    ensures { λ r. ⌜ r ≡ cond test a b ⌝ }
 {
     if test { a } else { b }
 }

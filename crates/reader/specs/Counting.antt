@@ -7,7 +7,7 @@ use native.Mathlib.Omega.{arith}
 use lib.ListN.{length}
 use Rattle.node.specs.Limits.{maxNodes}
 use Rattle.node.specs.Ltl.{Formula}
-use Rattle.node.specs.Postorder.{size}
+use Rattle.node.specs.Written.{count}
 use Rattle.node.specs.Result.{Result, Done, Refused, _>>=_}
 use Rattle.node.specs.ResultLaws.{not-done, bind-to, bind-refused}
 use Rattle.node.specs.Answer.{says}
@@ -20,12 +20,12 @@ use Rattle.language.specs.Lines.{lines}
 use Rattle.language.specs.Expansion.{Sections, gather, atSignals, defineAll, expandSection, section, whole, expand}
 use Rattle.language.specs.Shifting.{adapted}
 use Rattle.language.specs.Reading.{NumberedFormula, delivered}
-use Rattle.language.specs.Laws.Meaning.ShiftLaws.{shifted-size}
+use Rattle.language.specs.Laws.Meaning.ShiftLaws.{shifted-count}
 use Rattle.parser.specs.declared.Facts.{Facts}
 use Rattle.ports.specs.declared.Signals.{Signals}
 use Rattle.ports.specs.declared.Signals.the-variants.{Listed, TooMany}
 use Rattle.assembly.specs.Gathered.{inTurn, extent, Lined}
-use Rattle.assembly.specs.WholeLaws.{whole-size}
+use Rattle.assembly.specs.WholeLaws.{whole-count}
 use Rattle.ending.specs.Endings.{ended, too-many, few-signals, too-large}
 use Rattle.ending.specs.Listing.{startOf, Listing}
 use Rattle.ending.specs.Finishing as Ending
@@ -48,12 +48,12 @@ pub finishes-refused : {x : Spec} {d : Declarations} {nodes signals nodes′ sig
 finishes-refused {x} {d} {nodes} {signals} {nodes′} {signals′} a h =
     record { finishes = subst (Ending.Finishes x d nodes signals nodes′ signals′) (sym a) h; lines = λ n s e. absurd (not-accepted a e) }
 
--- a formula is converted to one that is not smaller
-adapted-size : (a b : Model) (list : List ℕ) (f : Formula) → size f ≤ size (adapted a b list f)
-adapted-size Mealy Mealy list f = omega arith
-adapted-size Mealy Moore list f = shifted-size _ f
-adapted-size Moore Mealy list f = shifted-size _ f
-adapted-size Moore Moore list f = omega arith
+-- a formula is converted to one that has no fewer nodes
+adapted-count : (a b : Model) (list : List ℕ) (f : Formula) → count f ≤ count (adapted a b list f)
+adapted-count Mealy Mealy list f = omega arith
+adapted-count Mealy Moore list f = shifted-count _ f
+adapted-count Moore Mealy list f = shifted-count _ f
+adapted-count Moore Moore list f = omega arith
 
 module _ {f : Facts} {s : Signals} {words table list : List ℕ} {count at : ℕ} {x : Spec} {d : Declarations} (g : Complete f s words count table at list x d)
     {nodes signals nodes′ signals′ : List ℕ} {a : Answer} (h : Ending.Finishes x d nodes signals nodes′ signals′ a) where
@@ -82,7 +82,7 @@ module _ {f : Facts} {s : Signals} {words table list : List ℕ} {count at : ℕ
         let list′ = signalList (inOrder d) in
         let w = whole (x .strict) (section ss) in
         accepted (few-signals end x d formula (t .0)
-        ∙ too-large end (adapted (x .semantics) (x .target) list′ w) list′ (omega (arith, whole-size (x .strict) ss, adapted-size (x .semantics) (x .target) list′ w)))
+        ∙ too-large end (adapted (x .semantics) (x .target) list′ w) list′ (omega (arith, whole-count (x .strict) ss, adapted-count (x .semantics) (x .target) list′ w)))
     not-many (TooMany p) t l = accepted (too-many end x d formula t)
 
     fits : at ≤ maxNodes

@@ -8,7 +8,7 @@ use lib.ListN.{length}
 use Rattle.node.specs.Result.{Done, Refused}
 use Rattle.node.specs.declared.Answer.{Answer}
 use Rattle.node.specs.declared.Answer.the-variants.{Accepted}
-use Rattle.words.specs.Words.{cleared}
+use Rattle.basics.specs.Clearing.{cleared}
 use Rattle.language.specs.Limits.{workBytes}
 use Rattle.language.specs.Tree.{Spec}
 use Rattle.language.specs.Parsing.{parsed}

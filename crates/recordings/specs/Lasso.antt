@@ -1,16 +1,15 @@
 -- The infinite word that a recording denotes (document 01, 'Recordings'). Laws in LassoLaws.
 use Prim.Native.Nat.{ℕ, zero, suc, _+_}
-use mathlib.Core.Bool.{Bool}
+use mathlib.Core.Bool.{Bool, cond}
 use mathlib.Core.List.{List}
 use lib.Dec.{ltb}
 use Rattle.node.specs.Ltl.{Word}
-use Rattle.recordings.specs.Limits.{pick}
 use Rattle.recordings.specs.Recording.{lassoOf, letterOf}
 use Rattle.recordings.specs.declared.Lasso.{Lasso}
 
 -- 'After position N-1 comes L': the position after p
 unfoldable pub next : ℕ → ℕ → ℕ → ℕ
-next n l p = pick (ltb (p + 1) n) (p + 1) l
+next n l p = cond (ltb (p + 1) n) (p + 1) l
 
 -- the position that stands at time t
 unfoldable pub place : ℕ → ℕ → ℕ → ℕ

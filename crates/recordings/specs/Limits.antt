@@ -1,6 +1,5 @@
 -- Limits of recordings (document 01, 'Recordings' and the table of refusals).
 use Prim.Native.Nat.{ℕ, _+_, _*_, _/_, min}
-use mathlib.Core.Bool.{Bool, true, false}
 use mathlib.Core.List.{List, [], _∷_}
 use Rattle.basics.specs.Told.{maxTold}
 use Rattle.bits.specs.Bits.{width}
@@ -30,10 +29,6 @@ headerBytes = headerBits / 8
 -- the longest recording
 abbrev pub longest : ℕ
 longest = headerBytes + width (maxPositions * maxSignals)
-
-abbrev pub pick : {A : Type 0} → Bool → A → A → A
-pick true a b = a
-pick false a b = b
 
 -- a place has 32 bits in an answer: one beyond them, which only a recording of 4 GB can have, is told as the last
 unfoldable pub told : ℕ → ℕ

@@ -25,7 +25,7 @@ use Rattle.language.specs.Laws.Grammar.TreeTokens.{InIdentifier, InDefinition}
 use Rattle.language.specs.Laws.Grammar.SpecReads.{specOf-decides}
 use Rattle.node.specs.Result.{Done}
 use Rattle.enumerations.specs.Scan.{Word as Owned, owned, wordsFrom}
-use Rattle.enumerations.specs.EntryLaws.{GoodDefinition}
+use Rattle.enumerations.specs.Given.{GoodDefinition}
 use Rattle.enumerations.specs.WordReads.{good-definitions}
 use Rattle.refusal_laws.specs.Refusals.{Among, Following, FirstPlace, joined, wordsOf, UnlikeAt, OneValuation, SharedAt, BadWordAt, MiswordedAt}
 use Rattle.refusal_laws.specs.Places.{nowhere, at, either, same-places, unless-place, in-list, among-append, among-same}

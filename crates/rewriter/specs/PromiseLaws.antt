@@ -8,8 +8,8 @@ use Rattle.node.specs.Ltl.{Word, Holds}
 use Rattle.node.specs.Limits.{fieldLimit}
 use Rattle.node.specs.Result.{Result, Done, Counts}
 use Rattle.node.specs.Table.{root, NodeHolds, checked}
+use Rattle.node.specs.Written.{count}
 use Rattle.node.specs.Answer.{says}
-use Rattle.node.specs.Postorder.{size}
 use Rattle.node.specs.declared.Answer.{Answer}
 use Rattle.node.specs.declared.Answer.the-variants.{Accepted, Refused}
 use Rattle.forms.specs.Forbidden.{forbidden}
@@ -24,14 +24,14 @@ module _ (form : ℕ) (nodes out out′ : List ℕ) where
     accepted : Accepts form nodes (length out) (record { nodes = n; signals = s })
     accepted = accepts (length out) (sym e)
 
-    count : n ≡ size (target form nodes)
-    count = ap (λ (c : Counts). c .nodes) (accepted .counts)
+    told : n ≡ count (target form nodes)
+    told = ap (λ (c : Counts). c .nodes) (accepted .counts)
 
     means : (w : Word) (t : ℕ) → NodeHolds out′ (n - 1) w t ↔ Holds (root nodes) w t
-    means w t = rw (b, ← e, count) (written-holds form nodes out accepted w t)
+    means w t = rw (b, ← e, told) (written-holds form nodes out accepted w t)
 
     cleans : forbidden form (take n out′) ≡ 0
-    cleans = rw (b, ← e, count) (written-clean form nodes out accepted)
+    cleans = rw (b, ← e, told) (written-clean form nodes out accepted)
 
   pub rewrites : (r : Answer) → says r ≡ rewriting form nodes (length out) → out′ ≡ leaves (says r) (target form nodes) out → Rewrites form nodes out out′ r
   rewrites r e b =

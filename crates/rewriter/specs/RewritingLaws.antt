@@ -13,9 +13,12 @@ use Rattle.node.specs.Ltl.{Formula, Word, Holds}
 use Rattle.node.specs.Result.{Done, Refused, _>>=_, Counts}
 use Rattle.node.specs.ResultLaws.{guard-pass, guard-stop, guard-done, bind-done}
 use Rattle.node.specs.Table.{root, NodeHolds, checked}
-use Rattle.node.specs.TableLaws.{Formed, checked-done}
-use Rattle.node.specs.Postorder.{size, nodesFrom, SignalsBelow}
-use Rattle.node.specs.PostorderLaws.{length-nodes, root-is, tree-signals}
+use Rattle.node.specs.Formed.{Formed}
+use Rattle.node.specs.TableLaws.{checked-done}
+use Rattle.node.specs.Postorder.{SignalsBelow}
+use Rattle.node.specs.PostorderLaws.{tree-signals}
+use Rattle.node.specs.Written.{nodesOf, count}
+use Rattle.node.specs.WrittenLaws.{length-of, root-of}
 use Rattle.forms.specs.FormLaws.{form-holds}
 use Rattle.forms.specs.FormSignals.{form-signals}
 use Rattle.forms.specs.Forbidden.{forbidden}
@@ -24,17 +27,17 @@ use Rattle.rewriter.specs.Rewriting.{target, fitting, rewriting}
 
 -- the three ways of a formula of the format into a buffer
 module _ (f : Formula) (room : ℕ) where
-  pub fitting-many : maxNodes < size f → fitting f room ≡ Refused 16 0
+  pub fitting-many : maxNodes < count f → fitting f room ≡ Refused 16 0
   unfolding fitting
-  fitting-many h = guard-stop 16 0 _ (lt-leb (size f) maxNodes h)
+  fitting-many h = guard-stop 16 0 _ (lt-leb (count f) maxNodes h)
 
-  pub fitting-short : size f ≤ maxNodes → room < size f → fitting f room ≡ Refused 18 0
+  pub fitting-short : count f ≤ maxNodes → room < count f → fitting f room ≡ Refused 18 0
   unfolding fitting
-  fitting-short h l = guard-pass 16 0 _ (le-leb (size f) maxNodes h) ∙ guard-stop 18 0 _ (lt-leb (size f) room l)
+  fitting-short h l = guard-pass 16 0 _ (le-leb (count f) maxNodes h) ∙ guard-stop 18 0 _ (lt-leb (count f) room l)
 
-  pub fitting-good : size f ≤ maxNodes → size f ≤ room → fitting f room ≡ Done (record { nodes = size f; signals = 0 })
+  pub fitting-good : count f ≤ maxNodes → count f ≤ room → fitting f room ≡ Done (record { nodes = count f; signals = 0 })
   unfolding fitting
-  fitting-good h l = guard-pass 16 0 _ (le-leb (size f) maxNodes h) ∙ guard-pass 18 0 _ (le-leb (size f) room l)
+  fitting-good h l = guard-pass 16 0 _ (le-leb (count f) maxNodes h) ∙ guard-pass 18 0 _ (le-leb (count f) room l)
 
 -- the three ways of a table into its form
 module _ (number : ℕ) (nodes : List ℕ) (room : ℕ) where
@@ -53,9 +56,9 @@ module _ (number : ℕ) (nodes : List ℕ) (room : ℕ) where
 -- what an accepted answer says
 pub record Accepts (number : ℕ) (nodes : List ℕ) (room : ℕ) (c : Counts) : Type 0 where
   pub formed : Formed fieldLimit nodes
-  pub few : size (target number nodes) ≤ maxNodes
-  pub fits : size (target number nodes) ≤ room
-  pub counts : c ≡ record { nodes = size (target number nodes); signals = 0 }
+  pub few : count (target number nodes) ≤ maxNodes
+  pub fits : count (target number nodes) ≤ room
+  pub counts : c ≡ record { nodes = count (target number nodes); signals = 0 }
 
 pub accepts : {number : ℕ} {nodes : List ℕ} {c : Counts} (room : ℕ) → rewriting number nodes room ≡ Done c → Accepts number nodes room c
 unfolding rewriting fitting
@@ -63,9 +66,9 @@ accepts {number} {nodes} {c} room e =
     let f : Formula = target number nodes in
     let p = guard-done (leb number 2) 21 0 _ e in
     let q = bind-done (checked fieldLimit nodes) (λ _. fitting f room) (p .1) in
-    let r = guard-done (leb (size f) maxNodes) 16 0 _ (q .2) in
-    let s = guard-done (leb (size f) room) 18 0 (Done (record { nodes = size f; signals = 0 })) (r .1) in
-    record { formed = checked-done (q .1) .formed; few = leb-true (size f) maxNodes (r .0); fits = leb-true (size f) room (s .0); counts = let g = s .1 in cc }
+    let r = guard-done (leb (count f) maxNodes) 16 0 _ (q .2) in
+    let s = guard-done (leb (count f) room) 18 0 (Done (record { nodes = count f; signals = 0 })) (r .1) in
+    record { formed = checked-done (q .1) .formed; few = leb-true (count f) maxNodes (r .0); fits = leb-true (count f) room (s .0); counts = let g = s .1 in cc }
 
 -- an accepted table's form, the nodes written and any after them
 module _ (number : ℕ) (nodes out : List ℕ) {room : ℕ} {c : Counts} (a : Accepts number nodes room c) where
@@ -74,14 +77,14 @@ module _ (number : ℕ) (nodes out : List ℕ) {room : ℕ} {c : Counts} (a : Ac
       let h = a .formed .some in form-signals number fieldLimit (root nodes) (tree-signals (a .formed) (length nodes - 1) (omega arith))
 
   -- the last node written holds where the table's root does
-  pub written-holds : (w : Word) (t : ℕ) → NodeHolds (nodesFrom 0 (target number nodes) ++ drop (size (target number nodes)) out) (size (target number nodes) - 1) w t ↔ Holds (root nodes) w t
+  pub written-holds : (w : Word) (t : ℕ) → NodeHolds (nodesOf (target number nodes) ++ drop (count (target number nodes)) out) (count (target number nodes) - 1) w t ↔ Holds (root nodes) w t
   written-holds w t =
       let h = a .few in
-      rw (root-is (target number nodes) (drop (size (target number nodes)) out) target-signals (omega arith)) (form-holds number (root nodes) w t)
+      rw (root-of (target number nodes) (drop (count (target number nodes)) out) target-signals (omega arith)) (form-holds number (root nodes) w t)
 
   -- none of the nodes written is forbidden
-  pub written-clean : forbidden number (take (size (target number nodes)) (nodesFrom 0 (target number nodes) ++ drop (size (target number nodes)) out)) ≡ 0
+  pub written-clean : forbidden number (take (count (target number nodes)) (nodesOf (target number nodes) ++ drop (count (target number nodes)) out)) ≡ 0
   written-clean =
       let h = a .few in
       let f : Formula = target number nodes in
-      ap (forbidden number) (take-at (nodesFrom 0 f) (drop (size f) out) (size f) (length-nodes 0 f)) ∙ none-forbidden number (root nodes) target-signals (omega arith)
+      ap (forbidden number) (take-at (nodesOf f) (drop (count f) out) (count f) (length-of f)) ∙ none-forbidden number (root nodes) target-signals (omega arith)

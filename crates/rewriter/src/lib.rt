@@ -5,16 +5,16 @@ ghost use Prim.Native.Nat.{_≤_};
 ghost use lib.ListN.{length};
 ghost use Rattle.node.specs.Limits.{maxNodes, fieldLimit};
 ghost use Rattle.node.specs.Table.{root, treeAt};
-ghost use Rattle.node.specs.TableLaws.{Formed};
+ghost use Rattle.node.specs.Formed.{Formed};
 ghost use Rattle.forms.specs.Forms.{form as form'};
 ghost use Rattle.form_writers.specs.Writing.{Wrote, Ready};
 ghost use Rattle.rewriter.specs.Fitting.{HandsOver, Fitted};
 ghost use Rattle.rewriter.specs.Promise.{Rewrites};
-use node::Answer;
-use node::MAX_NODES;
 use form_writers::copy::copy;
 use form_writers::core_form::core;
 use form_writers::negation_form::plain;
+use node::Answer;
+use node::MAX_NODES;
 
 // The forms by their numbers.
 pub const AS_EXPANDED: u32 = 0;

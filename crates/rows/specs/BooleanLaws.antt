@@ -20,22 +20,14 @@ use Rattle.bits.specs.Bitwise.{and-acts, or-acts, xor-acts, flip-bit}
 use Rattle.rows.specs.Row.{shown}
 use Rattle.rows.specs.RowLaws.{shown-in, shown-out}
 use Rattle.rows.specs.Steps.{pairOf}
-use Rattle.rows.specs.Memory.{rowBytes, rowsLimit, bitsAt, Written}
+use Rattle.rows.specs.Memory.{rowsLimit, bitsAt, Written}
 use Rattle.rows.specs.Ready.{boolean, Placed, Boolean, pairRow}
-use Rattle.rows.specs.Booleans.{flip, bytesOf, byteSteps, blanked}
+use Rattle.rows.specs.Booleans.{flip, bytesOf, byteSteps, blanked, Bound}
 use Rattle.rows.specs.declared.Op.{Op}
 
 -- every element is a byte
 abbrev pub Bytes : List ℕ → Type 0
 Bytes bs = (k : ℕ) → getD bs k 0 < 256
-
--- the bytes of two operands lie before the `count` bytes at `base`, and all in the buffer
-pub record Bound (rows : List ℕ) (op : Op) (base count : ℕ) : Type 0 where
-  pub first-in : op .first + count ≤ base
-  pub second-in : op .second + count ≤ base
-  pub room : base + count ≤ length rows
-  pub low : base ≤ rowsLimit + rowBytes
-  pub few : count ≤ rowBytes
 
 power : (n : ℕ) → 256 ^ n ≡ 2 ^ (8 * n)
 power zero = refl

@@ -1,11 +1,13 @@
 -- What `!`, `&&`, `||`, `->` and `<->` make of n bytes of their operands' rows, all bits at once, and the same byte by byte: 'eight bytes as one 64-bit word, with the odd
 -- bytes at the row's end done singly. Each word step equals the eight byte steps it stands for' (document 02, F-4). Laws in BooleanLaws.
-use Prim.Native.Nat.{ℕ, zero, suc, _+_, _*_, _-_, _/_, _^_}
+use Prim.Native.Nat.{ℕ, zero, suc, _+_, _*_, _-_, _/_, _^_, _≤_}
 use mathlib.Core.List.{List}
 use lib.Bits.{bitAnd, bitOr, bitXor}
-use lib.ListN.{getD, set}
+use lib.ListN.{length, getD, set}
 use Rattle.node.specs.Ltl.{Unary, Not, X, G, F, Binary, And, Or, Implies, Iff, U, R, W}
 use Rattle.node.specs.Kinds.{Shape, Truth, Falsehood, Atom, UnaryOf, BinaryOf, Unused}
+use Rattle.rows.specs.Memory.{rowBytes, rowsLimit}
+use Rattle.rows.specs.declared.Op.{Op}
 
 -- the bits of n bytes turned over
 abbrev pub flip : ℕ → ℕ → ℕ
@@ -43,3 +45,11 @@ byteSteps s rows a b c (suc n) = set (byteSteps s rows a b c n) (c + n) (bytesOf
 -- a byte with its s low bits 0
 abbrev pub blanked : ℕ → ℕ → ℕ
 blanked x s = x / 2 ^ s * 2 ^ s
+
+-- the bytes of two operands lie before the `count` bytes at `base`, and all in the buffer
+pub record Bound (rows : List ℕ) (op : Op) (base count : ℕ) : Type 0 where
+  pub first-in : op .first + count ≤ base
+  pub second-in : op .second + count ≤ base
+  pub room : base + count ≤ length rows
+  pub low : base ≤ rowsLimit + rowBytes
+  pub few : count ≤ rowBytes

@@ -4,7 +4,7 @@ use mathlib.Core.Bool.{Bool, true, false, _&&_}
 use mathlib.Core.List.{List, [], _∷_}
 use lib.Dec.{eqb}
 use lib.ListN.{length}
-use Rattle.node.specs.Postorder.{nodesFrom}
+use Rattle.node.specs.Written.{nodesOf}
 use Rattle.node.specs.Result.{Result, Done, Refused, Counts}
 use Rattle.rewriter.specs.Rewriting.{target, rewriting}
 use Rattle.recordings.specs.Recording.{lassoOf}
@@ -33,7 +33,7 @@ pub record Text : Type 0 where
   pub expected : Expected
 
 abbrev pub textAnswer : Result NumberedFormula → Expected → Bool
-textAnswer (Done c) e = results e (nodesFrom 0 (c .formula)) (c .signals)
+textAnswer (Done c) e = results e (nodesOf (c .formula)) (c .signals)
 textAnswer (Refused n p) e = rejects e n p
 
 abbrev pub textsHeld : List Text → Bool
@@ -47,7 +47,7 @@ pub record Table : Type 0 where
   pub expected : Expected
 
 abbrev pub tableAnswer : Result Counts → Table → Bool
-tableAnswer (Done c) t = results (t .expected) (nodesFrom 0 (target (t .form) (t .nodes))) (c .nodes ∷ c .signals ∷ [])
+tableAnswer (Done c) t = results (t .expected) (nodesOf (target (t .form) (t .nodes))) (c .nodes ∷ c .signals ∷ [])
 tableAnswer (Refused n p) t = rejects (t .expected) n p
 
 abbrev pub tablesHeld : List Table → Bool

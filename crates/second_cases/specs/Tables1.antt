@@ -3,6 +3,7 @@ use mathlib.Core.Bool.{true}
 use mathlib.Core.List.{List, [], _∷_}
 use mathlib.Core.Path.{_≡_, refl}
 use Rattle.node.specs.Postorder.{size, nodesFrom}
+use Rattle.node.specs.Written.{nodesOf, count}
 use Rattle.node.specs.Result.{_>>=_, guard}
 use Rattle.node.specs.Table.{formulas, treeAt, scanned, checked}
 use Rattle.forms.specs.Forms.{plain, negated, core}
@@ -18,7 +19,7 @@ cases-0 =
     []
 
 held-0 : tablesHeld cases-0 ≡ true
-unfolding cases-0 rewriting fitting checked scanned _>>=_ guard treeAt formulas plain negated core size nodesFrom
+unfolding cases-0 rewriting fitting checked scanned _>>=_ guard treeAt formulas plain negated core count size nodesOf nodesFrom
 held-0 = refl
 
 cases-1 : List Table
@@ -30,7 +31,7 @@ cases-1 =
     []
 
 held-1 : tablesHeld cases-1 ≡ true
-unfolding cases-1 rewriting fitting checked scanned _>>=_ guard treeAt formulas plain negated core size nodesFrom
+unfolding cases-1 rewriting fitting checked scanned _>>=_ guard treeAt formulas plain negated core count size nodesOf nodesFrom
 held-1 = refl
 
 cases-2 : List Table
@@ -42,7 +43,7 @@ cases-2 =
     []
 
 held-2 : tablesHeld cases-2 ≡ true
-unfolding cases-2 rewriting fitting checked scanned _>>=_ guard treeAt formulas plain negated core size nodesFrom
+unfolding cases-2 rewriting fitting checked scanned _>>=_ guard treeAt formulas plain negated core count size nodesOf nodesFrom
 held-2 = refl
 
 cases-3 : List Table
@@ -54,7 +55,7 @@ cases-3 =
     []
 
 held-3 : tablesHeld cases-3 ≡ true
-unfolding cases-3 rewriting fitting checked scanned _>>=_ guard treeAt formulas plain negated core size nodesFrom
+unfolding cases-3 rewriting fitting checked scanned _>>=_ guard treeAt formulas plain negated core count size nodesOf nodesFrom
 held-3 = refl
 
 cases-4 : List Table
@@ -66,7 +67,7 @@ cases-4 =
     []
 
 held-4 : tablesHeld cases-4 ≡ true
-unfolding cases-4 rewriting fitting checked scanned _>>=_ guard treeAt formulas plain negated core size nodesFrom
+unfolding cases-4 rewriting fitting checked scanned _>>=_ guard treeAt formulas plain negated core count size nodesOf nodesFrom
 held-4 = refl
 
 cases-5 : List Table
@@ -78,7 +79,7 @@ cases-5 =
     []
 
 held-5 : tablesHeld cases-5 ≡ true
-unfolding cases-5 rewriting fitting checked scanned _>>=_ guard treeAt formulas plain negated core size nodesFrom
+unfolding cases-5 rewriting fitting checked scanned _>>=_ guard treeAt formulas plain negated core count size nodesOf nodesFrom
 held-5 = refl
 
 cases-6 : List Table
@@ -90,7 +91,7 @@ cases-6 =
     []
 
 held-6 : tablesHeld cases-6 ≡ true
-unfolding cases-6 rewriting fitting checked scanned _>>=_ guard treeAt formulas plain negated core size nodesFrom
+unfolding cases-6 rewriting fitting checked scanned _>>=_ guard treeAt formulas plain negated core count size nodesOf nodesFrom
 held-6 = refl
 
 cases-7 : List Table
@@ -102,7 +103,7 @@ cases-7 =
     []
 
 held-7 : tablesHeld cases-7 ≡ true
-unfolding cases-7 rewriting fitting checked scanned _>>=_ guard treeAt formulas plain negated core size nodesFrom
+unfolding cases-7 rewriting fitting checked scanned _>>=_ guard treeAt formulas plain negated core count size nodesOf nodesFrom
 held-7 = refl
 
 cases-8 : List Table
@@ -114,7 +115,7 @@ cases-8 =
     []
 
 held-8 : tablesHeld cases-8 ≡ true
-unfolding cases-8 rewriting fitting checked scanned _>>=_ guard treeAt formulas plain negated core size nodesFrom
+unfolding cases-8 rewriting fitting checked scanned _>>=_ guard treeAt formulas plain negated core count size nodesOf nodesFrom
 held-8 = refl
 
 cases-9 : List Table
@@ -126,7 +127,7 @@ cases-9 =
     []
 
 held-9 : tablesHeld cases-9 ≡ true
-unfolding cases-9 rewriting fitting checked scanned _>>=_ guard treeAt formulas plain negated core size nodesFrom
+unfolding cases-9 rewriting fitting checked scanned _>>=_ guard treeAt formulas plain negated core count size nodesOf nodesFrom
 held-9 = refl
 
 cases-10 : List Table
@@ -138,7 +139,7 @@ cases-10 =
     []
 
 held-10 : tablesHeld cases-10 ≡ true
-unfolding cases-10 rewriting fitting checked scanned _>>=_ guard treeAt formulas plain negated core size nodesFrom
+unfolding cases-10 rewriting fitting checked scanned _>>=_ guard treeAt formulas plain negated core count size nodesOf nodesFrom
 held-10 = refl
 
 cases-11 : List Table
@@ -150,5 +151,5 @@ cases-11 =
     []
 
 held-11 : tablesHeld cases-11 ≡ true
-unfolding cases-11 rewriting fitting checked scanned _>>=_ guard treeAt formulas plain negated core size nodesFrom
+unfolding cases-11 rewriting fitting checked scanned _>>=_ guard treeAt formulas plain negated core count size nodesOf nodesFrom
 held-11 = refl

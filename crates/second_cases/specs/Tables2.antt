@@ -3,6 +3,7 @@ use mathlib.Core.Bool.{true}
 use mathlib.Core.List.{List, [], _∷_}
 use mathlib.Core.Path.{_≡_, refl}
 use Rattle.node.specs.Postorder.{size, nodesFrom}
+use Rattle.node.specs.Written.{nodesOf, count}
 use Rattle.node.specs.Result.{_>>=_, guard}
 use Rattle.node.specs.Table.{formulas, treeAt, scanned, checked}
 use Rattle.forms.specs.Forms.{plain, negated, core}
@@ -18,7 +19,7 @@ cases-0 =
     []
 
 held-0 : tablesHeld cases-0 ≡ true
-unfolding cases-0 rewriting fitting checked scanned _>>=_ guard treeAt formulas plain negated core size nodesFrom
+unfolding cases-0 rewriting fitting checked scanned _>>=_ guard treeAt formulas plain negated core count size nodesOf nodesFrom
 held-0 = refl
 
 cases-1 : List Table
@@ -30,7 +31,7 @@ cases-1 =
     []
 
 held-1 : tablesHeld cases-1 ≡ true
-unfolding cases-1 rewriting fitting checked scanned _>>=_ guard treeAt formulas plain negated core size nodesFrom
+unfolding cases-1 rewriting fitting checked scanned _>>=_ guard treeAt formulas plain negated core count size nodesOf nodesFrom
 held-1 = refl
 
 cases-2 : List Table
@@ -42,7 +43,7 @@ cases-2 =
     []
 
 held-2 : tablesHeld cases-2 ≡ true
-unfolding cases-2 rewriting fitting checked scanned _>>=_ guard treeAt formulas plain negated core size nodesFrom
+unfolding cases-2 rewriting fitting checked scanned _>>=_ guard treeAt formulas plain negated core count size nodesOf nodesFrom
 held-2 = refl
 
 cases-3 : List Table
@@ -54,7 +55,7 @@ cases-3 =
     []
 
 held-3 : tablesHeld cases-3 ≡ true
-unfolding cases-3 rewriting fitting checked scanned _>>=_ guard treeAt formulas plain negated core size nodesFrom
+unfolding cases-3 rewriting fitting checked scanned _>>=_ guard treeAt formulas plain negated core count size nodesOf nodesFrom
 held-3 = refl
 
 cases-4 : List Table
@@ -66,7 +67,7 @@ cases-4 =
     []
 
 held-4 : tablesHeld cases-4 ≡ true
-unfolding cases-4 rewriting fitting checked scanned _>>=_ guard treeAt formulas plain negated core size nodesFrom
+unfolding cases-4 rewriting fitting checked scanned _>>=_ guard treeAt formulas plain negated core count size nodesOf nodesFrom
 held-4 = refl
 
 cases-5 : List Table
@@ -78,5 +79,5 @@ cases-5 =
     []
 
 held-5 : tablesHeld cases-5 ≡ true
-unfolding cases-5 rewriting fitting checked scanned _>>=_ guard treeAt formulas plain negated core size nodesFrom
+unfolding cases-5 rewriting fitting checked scanned _>>=_ guard treeAt formulas plain negated core count size nodesOf nodesFrom
 held-5 = refl

@@ -3,6 +3,7 @@ use mathlib.Core.Bool.{true}
 use mathlib.Core.List.{List, [], _∷_}
 use mathlib.Core.Path.{_≡_, refl}
 use Rattle.node.specs.Postorder.{size, nodesFrom}
+use Rattle.node.specs.Written.{nodesOf, count}
 use Rattle.node.specs.Result.{_>>=_, guard}
 use Rattle.language.specs.Bytes.{ascii}
 use Rattle.language.specs.Places.{refuseAt}
@@ -17,5 +18,5 @@ cases-0 =
     []
 
 held-0 : textsHeld cases-0 ≡ true
-unfolding cases-0 textExpansion parsed specExpansion _>>=_ guard refuseAt nodesFrom size
+unfolding cases-0 textExpansion parsed specExpansion _>>=_ guard refuseAt nodesOf nodesFrom count size
 held-0 = refl

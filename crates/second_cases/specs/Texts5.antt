@@ -3,6 +3,7 @@ use mathlib.Core.Bool.{true}
 use mathlib.Core.List.{List, [], _∷_}
 use mathlib.Core.Path.{_≡_, refl}
 use Rattle.node.specs.Postorder.{size, nodesFrom}
+use Rattle.node.specs.Written.{nodesOf, count}
 use Rattle.node.specs.Result.{_>>=_, guard}
 use Rattle.language.specs.Bytes.{ascii}
 use Rattle.language.specs.Places.{refuseAt}
@@ -19,7 +20,7 @@ cases-0 =
     []
 
 held-0 : textsHeld cases-0 ≡ true
-unfolding cases-0 textExpansion parsed specExpansion _>>=_ guard refuseAt nodesFrom size
+unfolding cases-0 textExpansion parsed specExpansion _>>=_ guard refuseAt nodesOf nodesFrom count size
 held-0 = refl
 
 cases-1 : List Text
@@ -31,7 +32,7 @@ cases-1 =
     []
 
 held-1 : textsHeld cases-1 ≡ true
-unfolding cases-1 textExpansion parsed specExpansion _>>=_ guard refuseAt nodesFrom size
+unfolding cases-1 textExpansion parsed specExpansion _>>=_ guard refuseAt nodesOf nodesFrom count size
 held-1 = refl
 
 cases-2 : List Text
@@ -43,7 +44,7 @@ cases-2 =
     []
 
 held-2 : textsHeld cases-2 ≡ true
-unfolding cases-2 textExpansion parsed specExpansion _>>=_ guard refuseAt nodesFrom size
+unfolding cases-2 textExpansion parsed specExpansion _>>=_ guard refuseAt nodesOf nodesFrom count size
 held-2 = refl
 
 cases-3 : List Text
@@ -55,7 +56,7 @@ cases-3 =
     []
 
 held-3 : textsHeld cases-3 ≡ true
-unfolding cases-3 textExpansion parsed specExpansion _>>=_ guard refuseAt nodesFrom size
+unfolding cases-3 textExpansion parsed specExpansion _>>=_ guard refuseAt nodesOf nodesFrom count size
 held-3 = refl
 
 cases-4 : List Text
@@ -67,7 +68,7 @@ cases-4 =
     []
 
 held-4 : textsHeld cases-4 ≡ true
-unfolding cases-4 textExpansion parsed specExpansion _>>=_ guard refuseAt nodesFrom size
+unfolding cases-4 textExpansion parsed specExpansion _>>=_ guard refuseAt nodesOf nodesFrom count size
 held-4 = refl
 
 cases-5 : List Text
@@ -79,7 +80,7 @@ cases-5 =
     []
 
 held-5 : textsHeld cases-5 ≡ true
-unfolding cases-5 textExpansion parsed specExpansion _>>=_ guard refuseAt nodesFrom size
+unfolding cases-5 textExpansion parsed specExpansion _>>=_ guard refuseAt nodesOf nodesFrom count size
 held-5 = refl
 
 cases-6 : List Text
@@ -91,7 +92,7 @@ cases-6 =
     []
 
 held-6 : textsHeld cases-6 ≡ true
-unfolding cases-6 textExpansion parsed specExpansion _>>=_ guard refuseAt nodesFrom size
+unfolding cases-6 textExpansion parsed specExpansion _>>=_ guard refuseAt nodesOf nodesFrom count size
 held-6 = refl
 
 cases-7 : List Text
@@ -103,7 +104,7 @@ cases-7 =
     []
 
 held-7 : textsHeld cases-7 ≡ true
-unfolding cases-7 textExpansion parsed specExpansion _>>=_ guard refuseAt nodesFrom size
+unfolding cases-7 textExpansion parsed specExpansion _>>=_ guard refuseAt nodesOf nodesFrom count size
 held-7 = refl
 
 cases-8 : List Text
@@ -115,7 +116,7 @@ cases-8 =
     []
 
 held-8 : textsHeld cases-8 ≡ true
-unfolding cases-8 textExpansion parsed specExpansion _>>=_ guard refuseAt nodesFrom size
+unfolding cases-8 textExpansion parsed specExpansion _>>=_ guard refuseAt nodesOf nodesFrom count size
 held-8 = refl
 
 cases-9 : List Text
@@ -127,7 +128,7 @@ cases-9 =
     []
 
 held-9 : textsHeld cases-9 ≡ true
-unfolding cases-9 textExpansion parsed specExpansion _>>=_ guard refuseAt nodesFrom size
+unfolding cases-9 textExpansion parsed specExpansion _>>=_ guard refuseAt nodesOf nodesFrom count size
 held-9 = refl
 
 cases-10 : List Text
@@ -139,7 +140,7 @@ cases-10 =
     []
 
 held-10 : textsHeld cases-10 ≡ true
-unfolding cases-10 textExpansion parsed specExpansion _>>=_ guard refuseAt nodesFrom size
+unfolding cases-10 textExpansion parsed specExpansion _>>=_ guard refuseAt nodesOf nodesFrom count size
 held-10 = refl
 
 cases-11 : List Text
@@ -151,5 +152,5 @@ cases-11 =
     []
 
 held-11 : textsHeld cases-11 ≡ true
-unfolding cases-11 textExpansion parsed specExpansion _>>=_ guard refuseAt nodesFrom size
+unfolding cases-11 textExpansion parsed specExpansion _>>=_ guard refuseAt nodesOf nodesFrom count size
 held-11 = refl

@@ -21,8 +21,8 @@ use Rattle.lexer.specs.Answer.{Tokenized}
 use Rattle.lexer.specs.LexingLaws.{lexical, token-stands, number-at, offset-at, length-at}
 use Rattle.lexer.specs.Stored.{numberIn, offsetIn, lengthIn}
 use Rattle.words.specs.Words.{wordAt}
-use Rattle.spellings.specs.Trie.{maxNodes, Trie, Spells}
-use Rattle.spellings.specs.SpellLaws.{part, spells-few}
+use Rattle.spellings.specs.Trie.{maxNodes, Trie, Spells, part}
+use Rattle.spellings.specs.SpellLaws.{spells-few}
 use Rattle.spellings.specs.Interned.{tokenAt, IsName, Lexed, top, Interned, Indexed, Begun}
 use Rattle.spellings.specs.TopLaws.{top-least}
 

@@ -6,11 +6,7 @@ use native.Mathlib.Omega.{arith}
 use native.Mathlib.Numerals.{add-one}
 use lib.ListN.{length, getD, take, drop, length-drop, length-append}
 use lib.Seq.{take-suc, getD-drop, length-take-le}
-use Rattle.spellings.specs.Trie.{more, Trie, nodesWith, Steps, Spells}
-
--- the bytes of a token in a text
-unfoldable pub part : ℕ → ℕ → List ℕ → List ℕ
-part at n text = take n (drop at text)
+use Rattle.spellings.specs.Trie.{more, Trie, nodesWith, Steps, Spells, part}
 
 pub part-none : (at : ℕ) (text : List ℕ) → part at 0 text ≡ []
 unfolding part

@@ -7,7 +7,7 @@ use mathlib.Core.Bool.{true, false}
 use mathlib.Core.Logic.{_≢_}
 use mathlib.Core.Path.{_≡_}
 use lib.Dec.{eqb}
-use lib.ListN.{length, getD}
+use lib.ListN.{length, getD, take, drop}
 
 -- node 0, and one for each byte of the longest text
 abbrev pub maxNodes : ℕ
@@ -90,3 +90,7 @@ pub record Spells {links byte : List ℕ} {n : ℕ} (t : Trie links byte n) (lin
   pub spells : trie .str r ≡ s
   pub less : n ≤ m
   pub few : m ≤ n + length s
+
+-- the bytes of a token in a text
+unfoldable pub part : ℕ → ℕ → List ℕ → List ℕ
+part at n text = take n (drop at text)

@@ -4,8 +4,7 @@ use basics::u16_usize::wide;
 ghost use mathlib.Core.Path.{_≡_};
 ghost use Prim.Native.Nat.{_+_, _≤_, _<_};
 ghost use lib.ListN.{length};
-ghost use Rattle.spellings.specs.Trie.{maxNodes, Trie, Sought, nodesWith, Steps, Spells};
-ghost use Rattle.spellings.specs.SpellLaws.{part};
+ghost use Rattle.spellings.specs.Trie.{maxNodes, Trie, Sought, nodesWith, Steps, Spells, part};
 
 // Of the three links of a node, the one to its first child; the others lead to further children of its parent, by a bit of the byte that is sought.
 const CHILD: usize = 2;

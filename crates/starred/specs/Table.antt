@@ -8,6 +8,7 @@ use lib.ListN.{length}
 use Rattle.node.specs.Postorder.{size, nodesFrom}
 use Rattle.node.specs.Result.{Result, Done, Refused, _>>=_, guard}
 use Rattle.node.specs.Table.{treeAt, formulas, scanned, checked}
+use Rattle.node.specs.Written.{nodesOf, count}
 use Rattle.bits.specs.Bits.{bitAt, number}
 use Rattle.recordings.specs.Recording.{blank, filled, readable}
 use Rattle.recordings.specs.Lasso.{next}
@@ -29,7 +30,7 @@ fileText = text (ascii "MAIN { INPUTS { r; } OUTPUTS { g; } GUARANTEE { G (r -> 
 -- the verdict of a recording on a text's nodes; a byte is lent for each of its rows
 abbrev pub verdictOn : List ℕ → List ℕ → Result Bool
 verdictOn bytes recording =
-    textExpansion bytes >>= λ c. verdictOf (nodesFrom 0 (c .formula)) (length (c .signals)) recording (size (c .formula))
+    textExpansion bytes >>= λ c. verdictOf (nodesOf (c .formula)) (length (c .signals)) recording (count (c .formula))
 
 -- a starred case: of a text, or of a recording on the file
 pub data Case : Type 0 where
@@ -77,7 +78,7 @@ met (OfRecording recording holds) t = verdict→eq (verdictOn fileText recording
 
 -- the table, computed
 tested : So (every passes cases)
-unfolding textExpansion parsed specExpansion refuseAt size nodesFrom verdictOf evaluation _>>=_ guard checked scanned readable filled blank treeAt formulas number bitAt next sweepFrom around row
+unfolding textExpansion parsed specExpansion refuseAt count size nodesOf nodesFrom verdictOf evaluation _>>=_ guard checked scanned readable filled blank treeAt formulas number bitAt next sweepFrom around row
 tested = refl
 
 -- every starred case holds
@@ -85,6 +86,6 @@ pub all-met : (s : Case) → List·Mem s cases → Met s
 all-met s m = met s (every-each passes cases tested s m)
 
 -- the nodes that the evaluator's own cases are about are the file's
-pub file-nodes : (textExpansion fileText >>= λ c. Done (nodesFrom 0 (c .formula))) ≡ Done file
-unfolding textExpansion parsed specExpansion refuseAt size nodesFrom _>>=_ guard
+pub file-nodes : (textExpansion fileText >>= λ c. Done (nodesOf (c .formula))) ≡ Done file
+unfolding textExpansion parsed specExpansion refuseAt count size nodesOf nodesFrom _>>=_ guard
 file-nodes = refl

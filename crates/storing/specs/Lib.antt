@@ -1,5 +1,3 @@
 pub mod Storing
 pub mod StoringLaws
-pub mod FormatLaws
-pub mod Written
 pub mod WrittenLaws

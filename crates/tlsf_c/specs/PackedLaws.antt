@@ -11,6 +11,7 @@ use Rattle.node.specs.Ltl.{Formula}
 use Rattle.node.specs.Result.{Result, Done, Refused, _>>=_, guard}
 use Rattle.node.specs.ResultLaws.{guard-done}
 use Rattle.node.specs.Table.{nodeFits, scanned, checked}
+use Rattle.node.specs.Written.{nodesOf}
 use Rattle.rewriter.specs.Rewriting.{target, fitting, rewriting}
 use Rattle.recordings.specs.Recording.{filled, readable, lassoOf}
 use Rattle.evaluator.specs.Evaluation.{evaluation, verdictOf}
@@ -18,7 +19,6 @@ use Rattle.recordings.specs.declared.Lasso.{Lasso}
 use Rattle.language.specs.Limits.{workBytes}
 use Rattle.language.specs.Reading.{NumberedFormula, textExpansion, reading}
 use Rattle.language.specs.Laws.Basics.Results.{refusal-of}
-use Rattle.claim.specs.Claim.{nodesOf}
 use Rattle.claim.specs.Yields.{told}
 use Rattle.claim.specs.Converting.{converting}
 use Rattle.claim.specs.RefusalNumbers.{UpTo, reading-numbers, converting-numbers}
@@ -119,8 +119,8 @@ diagnosing-fits : (text bs : List ℕ) (work room : ℕ) → Fits (diagnosing te
 unfolding _>>=_
 diagnosing-fits text bs work room = subst Fits (sym (diagnosing-accepting text bs work room)) (go (accepting text work) refl)
   where
-    go : (r : Result NumberedFormula) → accepting text work ≡ r → Fits (r >>= λ c. verdictOf (nodesOf c) (length (c .signals)) bs room >>= finding text bs)
-    go (Done c) e = bind-fits (verdictOf (nodesOf c) (length (c .signals)) bs room) (finding text bs) (verdict-fits (nodesOf c) (length (c .signals)) bs room)
+    go : (r : Result NumberedFormula) → accepting text work ≡ r → Fits (r >>= λ c. verdictOf (nodesOf (c .formula)) (length (c .signals)) bs room >>= finding text bs)
+    go (Done c) e = bind-fits (verdictOf (nodesOf (c .formula)) (length (c .signals)) bs room) (finding text bs) (verdict-fits (nodesOf (c .formula)) (length (c .signals)) bs room)
         (finding-fits text c (guard-done (leb workBytes work) 17 0 (textExpansion text) e .1) bs)
     go (Refused number place) e = let low = refusal-of e (accepting-numbers text work) in omega arith
 

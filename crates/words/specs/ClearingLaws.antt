@@ -1,12 +1,14 @@
 -- What clearing the first bytes keeps, one byte more of it, and that it forgets what they were.
 use mathlib.Core.Path.{_≡_, refl, sym, ap, _∙_}
-use mathlib.Core.List.{List, [], _∷_, _++_}
+use mathlib.Core.List.{List, [], _∷_}
 use Prim.Native.Nat.{ℕ, zero, suc, _+_, _-_, _≤_, min}
 use native.Mathlib.Nat.{le-of-suc-le-suc}
 use native.Mathlib.Omega.{arith}
-use lib.ListN.{length, drop, set, replicate}
+use lib.ListN.{length, set}
 use lib.Seq.{drop-drop}
-use Rattle.words.specs.Words.{past, cleared}
+use Rattle.basics.specs.Clearing.{cleared}
+use Rattle.basics.specs.ClearingLaws.{length-cleared}
+use Rattle.words.specs.Words.{past}
 
 pub past-past : (m n : ℕ) (w : List ℕ) → past m (past n w) ≡ past (n + m) w
 unfolding past
@@ -17,12 +19,6 @@ pub past-later : (m n : ℕ) (v w : List ℕ) → m ≤ n → past m v ≡ past 
 past-later m n v w h e =
     let k : m + (n - m) ≡ n = omega arith in
     ap (λ j. past j v) (sym k) ∙ sym (past-past (n - m) m v) ∙ ap (past (n - m)) e ∙ past-past (n - m) m w ∙ ap (λ j. past j w) k
-
-pub length-cleared : (n : ℕ) (w : List ℕ) → length (cleared n w) ≡ length w
-unfolding cleared
-length-cleared zero w = refl
-length-cleared (suc n) [] = refl
-length-cleared (suc n) (b ∷ w) = ap suc (length-cleared n w)
 
 pub cleared-none : (w : List ℕ) → w ≡ cleared 0 w
 unfolding cleared
@@ -67,9 +63,3 @@ cleared-same (suc n) [] [] l e = refl
 cleared-same (suc n) [] (b ∷ w) l e = absurd (omega arith)
 cleared-same (suc n) (a ∷ v) [] l e = absurd (omega arith)
 cleared-same (suc n) (a ∷ v) (b ∷ w) l e = ap (λ t. 0 ∷ t) (cleared-same n v w (omega arith) e)
-
-pub cleared-zeros : (n : ℕ) (w : List ℕ) → n ≤ length w → cleared n w ≡ replicate n 0 ++ drop n w
-unfolding cleared
-cleared-zeros zero w h = refl
-cleared-zeros (suc n) [] h = absurd (omega arith)
-cleared-zeros (suc n) (b ∷ w) h = ap (λ t. 0 ∷ t) (cleared-zeros n w (omega arith))

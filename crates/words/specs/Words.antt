@@ -1,5 +1,5 @@
--- Big-endian numbers of any number of bytes in a list of bytes, the words of four bytes among them; a list with its first bytes cleared.
-use mathlib.Core.List.{List, [], _∷_}
+-- Big-endian numbers of any number of bytes in a list of bytes, the words of four bytes among them.
+use mathlib.Core.List.{List}
 use Prim.Native.Nat.{ℕ, zero, suc, _+_, _*_, _/_, _%_}
 use lib.ListN.{getD, drop, set}
 
@@ -23,9 +23,3 @@ putWord w i v = writeAt w (4 * i) 4 v
 -- the bytes from n on; shut, since `drop` at a large numeral unfolds as often
 unfoldable pub past : ℕ → List ℕ → List ℕ
 past n w = drop n w
-
--- w with its first n bytes 0
-unfoldable pub cleared : ℕ → List ℕ → List ℕ
-cleared zero w = w
-cleared (suc n) [] = []
-cleared (suc n) (b ∷ w) = 0 ∷ cleared n w

@@ -5,7 +5,8 @@ use basics::u8_u32::wide;
 ghost use mathlib.Core.Path.{_≡_};
 ghost use Prim.Native.Nat.{_+_, _*_, _≤_};
 ghost use lib.ListN.{length};
-ghost use Rattle.words.specs.Words.{wordAt, putWord, cleared};
+ghost use Rattle.basics.specs.Clearing.{cleared};
+ghost use Rattle.words.specs.Words.{wordAt, putWord};
 
 // Word i. Like `put` it is no entry point: the callers have bounded the index by the buffer they were lent, and show it.
 pub fn get(work: &[u8], i: usize) -> u32

@@ -9,14 +9,14 @@ use lib.ListN.{length, take}
 use native.Mathlib.Omega.{arith}
 use borrow.Author.Tests.{le-leb, leb-true}
 use Rattle.node.specs.Limits.{maxNodes}
-use Rattle.node.specs.Postorder.{size}
-use Rattle.node.specs.PostorderLaws.{length-nodes}
 use Rattle.node.specs.Result.{Result, Done, Refused, _>>=_, guard, Counts}
 use Rattle.node.specs.ResultLaws.{bind-done, bind-to, bind-refused, guard-pass, guard-done}
-use Rattle.node.specs.TableLaws.{Formed, checked-done}
+use Rattle.node.specs.Formed.{Formed}
+use Rattle.node.specs.TableLaws.{checked-done}
+use Rattle.node.specs.Written.{nodesOf, count}
+use Rattle.node.specs.WrittenLaws.{length-of, table-of, table-root}
 use Rattle.node.specs.declared.Answer.{Answer}
 use Rattle.node.specs.declared.Answer.the-variants.{Accepted}
-use Rattle.rewriter.specs.OwnNodes.{own-checked, own-root}
 use Rattle.language.specs.Limits.{maxSignals, workBytes}
 use Rattle.language.specs.Tree.{Model, Mealy, Moore, Spec}
 use Rattle.language.specs.Places.{refuseAt}
@@ -26,7 +26,6 @@ use Rattle.language.specs.Laws.Buffers.{accepted-meant}
 use Rattle.language.specs.Laws.Meaning.Acceptance.{text-signals, list-limited}
 use Rattle.parser.specs.Outlines.{modelCode}
 use Rattle.parser.specs.declared.Facts.{Facts}
-use Rattle.claim.specs.Claim.{nodesOf}
 use Rattle.claim.specs.ClaimLaws.{text-few, text-small}
 use Rattle.claim.specs.DeliveredLaws.{all-delivered, taken-room}
 use Rattle.claim.specs.YieldsLaws.{accepted, refused}
@@ -127,20 +126,20 @@ module _ {text work work′ table table′ list list′ : List ℕ} {told : Told
         let both = accepted-meant text (length work) table list c (t .done) in
         let meaning = both .0 in
         let tree = bind-done (parsed text) specExpansion meaning in
-        let nodesTold : size (c .formula) ≡ n = ap (λ (k : Counts). k .nodes) (t .same) in
+        let nodesTold : count (c .formula) ≡ n = ap (λ (k : Counts). k .nodes) (t .same) in
         let signalsTold : length (c .signals) ≡ s = ap (λ (k : Counts). k .signals) (t .same) in
-        let handed-on : take n table′ ≡ nodesOf c = subst (λ (k : ℕ). take k table′ ≡ nodesOf c) nodesTold (left .handed) in
+        let handed-on : take n table′ ≡ nodesOf (c .formula) = subst (λ (k : ℕ). take k table′ ≡ nodesOf (c .formula)) nodesTold (left .handed) in
         let listed : take s list′ ≡ c .signals = subst (λ (k : ℕ). take k list′ ≡ c .signals) signalsTold (left .list) in
         let limited = list-limited text c meaning in
-        let ready = checked-done (own-checked (length (c .signals)) (c .formula) (omega arith) (text-signals text c meaning) (text-few text c meaning)) .formed in
+        let ready = checked-done (table-of (length (c .signals)) (c .formula) (omega arith) (text-signals text c meaning) (text-few text c meaning)) .formed in
         let work-long : workBytes ≤ length work = enough text (length work) (length table) (length list) (t .done) in
         let model = model-is (told .facts .target) (tree .0 .target) (ap (λ (f : Facts). f .target) (read .facts work-long (tree .0) (tree .1))) in
-        let own = own-root (c .formula) (text-small text c meaning) (text-few text c meaning) in
+        let own = table-root (c .formula) (text-small text c meaning) (text-few text c meaning) in
         record {
           formed = rw (listed, handed-on) ready;
           few = rw listed limited;
           result = λ room. writing-text text (length work) room work-long (tree .1) (tree .2) ∙ sym (rw (model, listed, handed-on, own) refl);
-          tableRoom = taken-room n table′ (ap length handed-on ∙ length-nodes 0 (c .formula) ∙ nodesTold);
+          tableRoom = taken-room n table′ (ap length handed-on ∙ length-of (c .formula) ∙ nodesTold);
           listRoom = taken-room s list′ (ap length listed ∙ signalsTold);
           workLeft = read .reads .yields .workLeft;
         }

@@ -121,6 +121,6 @@ fn refusals_are_errors() {
 #[test]
 fn the_least_stack() {
     let job = || read(text("a").as_bytes()).expect("accepted");
-    let thread = std::thread::Builder::new().stack_size(2 << 20).spawn(job);
+    let thread = std::thread::Builder::new().stack_size(1 << 20).spawn(job);
     assert!(thread.expect("a thread").join().is_ok());
 }

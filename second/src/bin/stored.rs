@@ -210,13 +210,14 @@ const TEXTS: Kind = Kind {
     item: "Text",
     test: "textsHeld",
     uses: "use Rattle.node.specs.Postorder.{size, nodesFrom}
+use Rattle.node.specs.Written.{nodesOf, count}
 use Rattle.node.specs.Result.{_>>=_, guard}
 use Rattle.language.specs.Bytes.{ascii}
 use Rattle.language.specs.Places.{refuseAt}
 use Rattle.language.specs.Parsing.{parsed}
 use Rattle.language.specs.Reading.{textExpansion, specExpansion}
 ",
-    unfolding: "textExpansion parsed specExpansion _>>=_ guard refuseAt nodesFrom size",
+    unfolding: "textExpansion parsed specExpansion _>>=_ guard refuseAt nodesOf nodesFrom count size",
 };
 
 const FORMS: Kind = Kind {
@@ -224,12 +225,13 @@ const FORMS: Kind = Kind {
     item: "Table",
     test: "tablesHeld",
     uses: "use Rattle.node.specs.Postorder.{size, nodesFrom}
+use Rattle.node.specs.Written.{nodesOf, count}
 use Rattle.node.specs.Result.{_>>=_, guard}
 use Rattle.node.specs.Table.{formulas, treeAt, scanned, checked}
 use Rattle.forms.specs.Forms.{plain, negated, core}
 use Rattle.rewriter.specs.Rewriting.{fitting, rewriting}
 ",
-    unfolding: "rewriting fitting checked scanned _>>=_ guard treeAt formulas plain negated core size nodesFrom",
+    unfolding: "rewriting fitting checked scanned _>>=_ guard treeAt formulas plain negated core count size nodesOf nodesFrom",
 };
 
 const ROWS: Kind = Kind {

@@ -14,7 +14,9 @@ mul-lines : tie.Need-mul-lines
 mul-lines c = search needs
 
 sub-lines : tie.Need-sub-lines
-sub-lines c = omega (arith, (c .before) .pre .behind (omega arith), (c .before) .pre .few (omega arith))
+sub-lines c =
+    let start = c .before in
+    omega (arith, start .pre .behind (omega arith), start .pre .few (omega arith))
 
 cast-lines : tie.Need-cast-lines
 cast-lines c = search needs
@@ -23,13 +25,19 @@ add-lines : tie.Need-add-lines
 add-lines c = search needs
 
 mul-lines-2 : tie.Need-mul-lines-2
-mul-lines-2 c = omega (arith, (c .before) .pre .behind (omega arith), (c .before) .pre .few (omega arith))
+mul-lines-2 c =
+    let start = c .before in
+    omega (arith, start .pre .behind (omega arith), start .pre .few (omega arith))
 
 slice-write-lines : tie.Need-slice-write-lines
-slice-write-lines c = omega (arith, (c .before) .pre .behind (omega arith), (c .before) .pre .few (omega arith))
+slice-write-lines c =
+    let start = c .before in
+    omega (arith, start .pre .behind (omega arith), start .pre .few (omega arith))
 
 add-result : tie.Need-add-result
-add-result c = omega (arith, (c .before) .pre .behind (omega arith), (c .before) .pre .few (omega arith))
+add-result c =
+    let start = c .before in
+    omega (arith, start .pre .behind (omega arith), start .pre .few (omega arith))
 
 same-length : tie.Need-same-length
 same-length c = search needs

@@ -20,8 +20,10 @@ join-requires c κs = search needs
 
 returns : tie.Need-returns
 returns c =
-    λ ss l. (c .join) .ensures .wrote And refl ((c .before .before .before .before .cap) .ensures G refl _ .wrote
-    ((c .before .before .before .before .before .before .section) .ensures Require refl ss l)) ((c .before .before .section2) .ensures Assume refl ss l)
+    let section2-at = c .before .before in
+    let cap-at = section2-at .before .before in
+    let section-at = cap-at .before .before in
+    λ ss l. c .join .ensures .wrote And refl (cap-at .cap .ensures G refl _ .wrote (section-at .section .ensures Require refl ss l)) (section2-at .section2 .ensures Assume refl ss l)
 
 pub assumed-spec : {M : Type 1} → statement M
 assumed-spec = tie.close (tie.spec section-requires cap-requires section-requires-2 join-requires returns)

@@ -12,7 +12,9 @@ section-requires c κs = search needs
 
 returns : tie.Need-returns
 returns c =
-    λ ss l. rw (not-true ((c .before .before .before .before) .args .strict) ((c .if1) .taken)) ((c .before .section) .ensures Preset refl ss l)
+    let section-at = c .before in
+    let start = section-at .before .before .before in
+    λ ss l. rw (not-true (start .args .strict) (c .if1 .taken)) (section-at .section .ensures Preset refl ss l)
 
 section-requires-2 : tie.Need-section-requires-2
 section-requires-2 c κs = search needs
@@ -31,12 +33,17 @@ join-requires-2 c κs = search needs
 
 returns-2 : tie.Need-returns-2
 returns-2 c =
+    let join-at = c .before .before in
+    let cap-at = join-at .before .before in
+    let section3-at = cap-at .before .before in
+    let section2-at = section3-at .before .before in
+    let if1-at = section2-at .before .before in
+    let section-at = if1-at .before in
+    let start = section-at .before .before .before in
     λ ss l.
-    let w = (c .before .before .join) .ensures .wrote W refl ((c .before .before .before .before .before .before .before .before .section2) .ensures Assert refl ss l)
-    ((c .before .before .before .before .cap) .ensures Not refl _ .wrote ((c .before .before .before .before .before .before .section3) .ensures Require refl ss l)) in
-    rw (not-false ((c .before .before .before .before .before .before .before .before .before .before .before .before .before .before) .args .strict)
-    ((c .before .before .before .before .before .before .before .before .before .before .if1) .left))
-    ((c .join2) .ensures .wrote And refl ((c .before .before .before .before .before .before .before .before .before .before .before .section) .ensures Preset refl ss l) w)
+    let w = join-at .join .ensures .wrote W refl (section2-at .section2 .ensures Assert refl ss l)
+    (cap-at .cap .ensures Not refl _ .wrote (section3-at .section3 .ensures Require refl ss l)) in
+    rw (not-false (start .args .strict) (if1-at .if1 .left)) (c .join2 .ensures .wrote And refl (section-at .section .ensures Preset refl ss l) w)
 
 pub preset-spec : {M : Type 1} → statement M
 preset-spec = tie.close (tie.spec section-requires returns section-requires-2 section-requires-3 cap-requires join-requires join-requires-2 returns-2)

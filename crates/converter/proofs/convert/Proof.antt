@@ -8,13 +8,6 @@ use borrow.Author.Needs.{needs}
 use Rattle.converter.proofs.convert.Statement.{statement}
 use Rattle.converter.proofs.convert.Tie as tie
 
--- where a text that is accepted has been read, and the entry
-abbrev read : tie.After-known-told → tie.After-read
-read d = d .before .before .before .before .before .before .before
-
-abbrev start : tie.After-known-told → tie.Start
-start d = d .before .before .before .before .before .before .before .before .before .before .before .before .before .before .before
-
 slice-aggregate-read : tie.Need-slice-aggregate-read
 slice-aggregate-read c = search needs
 
@@ -35,9 +28,10 @@ same-length c = search needs
 
 returns : tie.Need-returns
 returns c =
-    let a = c .before .before .before .before .before .before .before .before .before .before .before .before .before .before .args in
-    read-refused (a .form) (a .nodes .now) (a .signals .now) (c .before .before .before .before .before .before .read .ensures) (length-replicate {A = ℕ} _ 0) (length-replicate {A = ℕ} _ 0)
-    (c .enum-told .given .1)
+    let read-at = c .before .before .before .before .before .before in
+    let start = read-at .before .before .before .before .before .before .before .before in
+    let a = start .args in
+    read-refused (a .form) (a .nodes .now) (a .signals .now) (read-at .read .ensures) (length-replicate {A = ℕ} _ 0) (length-replicate {A = ℕ} _ 0) (c .enum-told .given .1)
 
 cast-n : tie.Need-cast-n
 cast-n c = search needs
@@ -47,9 +41,11 @@ cast-s c = search needs
 
 array-share-prefix-table : tie.Need-array-share-prefix-table
 array-share-prefix-table c =
-    let a = start c .args in
-    let g = read-accepted (a .form) (a .nodes .now) (a .signals .now) (read c .read .ensures) (length-replicate {A = ℕ} _ 0) (length-replicate {A = ℕ} _ 0) (c .before .read2 .given .1) in
-    g .tableRoom
+    let read2-at = c .before in
+    let read-at = read2-at .before .before .before .before .before .before in
+    let start = read-at .before .before .before .before .before .before .before .before in
+    let a = start .args in
+    read-accepted (a .form) (a .nodes .now) (a .signals .now) (read-at .read .ensures) (length-replicate {A = ℕ} _ 0) (length-replicate {A = ℕ} _ 0) (read2-at .read2 .given .1) .tableRoom
 
 slice-aggregate-write-out : tie.Need-slice-aggregate-write-out
 slice-aggregate-write-out c =
@@ -57,10 +53,11 @@ slice-aggregate-write-out c =
 
 array-share-prefix-list : tie.Need-array-share-prefix-list
 array-share-prefix-list c =
-    let d = c .before in
-    let a = start d .args in
-    let g = read-accepted (a .form) (a .nodes .now) (a .signals .now) (read d .read .ensures) (length-replicate {A = ℕ} _ 0) (length-replicate {A = ℕ} _ 0) (d .before .read2 .given .1) in
-    g .listRoom
+    let read2-at = c .before .before in
+    let read-at = read2-at .before .before .before .before .before .before in
+    let start = read-at .before .before .before .before .before .before .before .before in
+    let a = start .args in
+    read-accepted (a .form) (a .nodes .now) (a .signals .now) (read-at .read .ensures) (length-replicate {A = ℕ} _ 0) (length-replicate {A = ℕ} _ 0) (read2-at .read2 .given .1) .listRoom
 
 slice-aggregate-write-out-2 : tie.Need-slice-aggregate-write-out-2
 slice-aggregate-write-out-2 c =
@@ -86,10 +83,13 @@ same-length-4 c = search needs
 
 returns-2 : tie.Need-returns-2
 returns-2 c =
-    let d = c .before .before .before .before .before .before .before .before .before .before .before in
-    let a = start d .args in
-    let g = read-accepted (a .form) (a .nodes .now) (a .signals .now) (read d .read .ensures) (length-replicate {A = ℕ} _ 0) (length-replicate {A = ℕ} _ 0) (d .before .read2 .given .1) in
-    form-refused g (c .before .before .before .before .before .before .write-out .ensures) (c .enum-told2 .given .1)
+    let write-out-at = c .before .before .before .before .before .before in
+    let read2-at = write-out-at .before .before .before .before .before .before in
+    let read-at = read2-at .before .before .before .before .before .before in
+    let start = read-at .before .before .before .before .before .before .before .before in
+    let a = start .args in
+    let g = read-accepted (a .form) (a .nodes .now) (a .signals .now) (read-at .read .ensures) (length-replicate {A = ℕ} _ 0) (length-replicate {A = ℕ} _ 0) (read2-at .read2 .given .1) in
+    form-refused g (write-out-at .write-out .ensures) (c .enum-told2 .given .1)
 
 same-length-5 : tie.Need-same-length-5
 same-length-5 c = search needs
@@ -102,10 +102,14 @@ same-length-7 c = search needs
 
 returns-3 : tie.Need-returns-3
 returns-3 c =
-    let d = c .before .before .before .before .before .before .before .before .before .before .before .before in
-    let a = start d .args in
-    let g = read-accepted (a .form) (a .nodes .now) (a .signals .now) (read d .read .ensures) (length-replicate {A = ℕ} _ 0) (length-replicate {A = ℕ} _ 0) (d .before .read2 .given .1) in
-    form-accepted g (c .before .before .before .before .before .before .before .write-out .ensures) (c .before .written .given .1)
+    let written-at = c .before in
+    let write-out-at = written-at .before .before .before .before .before .before in
+    let read2-at = write-out-at .before .before .before .before .before .before in
+    let read-at = read2-at .before .before .before .before .before .before in
+    let start = read-at .before .before .before .before .before .before .before .before in
+    let a = start .args in
+    let g = read-accepted (a .form) (a .nodes .now) (a .signals .now) (read-at .read .ensures) (length-replicate {A = ℕ} _ 0) (length-replicate {A = ℕ} _ 0) (read2-at .read2 .given .1) in
+    form-accepted g (write-out-at .write-out .ensures) (written-at .written .given .1)
 
 pub convert-spec : {M : Type 1} → statement M
 convert-spec =

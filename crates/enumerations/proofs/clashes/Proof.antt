@@ -5,7 +5,8 @@ use native.Mathlib.Omega.{arith}
 use borrow.Author.Needs.{needs}
 use lib.ListN.{take}
 use lib.Seq.{slice}
-use Rattle.enumerations.specs.ClashLaws.{clashRows, clash-none, clash-own, clash-not, clash-here}
+use Rattle.enumerations.specs.Clashes.{clashRows}
+use Rattle.enumerations.specs.ClashLaws.{clash-none, clash-own, clash-not, clash-here}
 use Rattle.enumerations.proofs.clashes.Statement.{statement}
 use Rattle.enumerations.proofs.clashes.Tie as tie
 

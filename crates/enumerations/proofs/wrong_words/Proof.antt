@@ -4,7 +4,7 @@ use mathlib.Core.Path.{refl}
 use native.Mathlib.Omega.{arith}
 use borrow.Author.Needs.{needs}
 use Rattle.traversal.specs.Places.{placed}
-use Rattle.enumerations.specs.Promise.{promised}
+use Rattle.enumerations.specs.EntryLaws.{promised}
 use Rattle.enumerations.specs.Running.{Ran, ran-none, ran-more, ran-all}
 use Rattle.enumerations.proofs.wrong_words.Statement.{statement}
 use Rattle.enumerations.proofs.wrong_words.Tie as tie

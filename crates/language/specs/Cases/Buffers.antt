@@ -7,6 +7,7 @@ use native.Mathlib.Omega.{arith}
 use Rattle.node.specs.Fields.{pack}
 use Rattle.node.specs.Postorder.{size, nodesFrom}
 use Rattle.node.specs.Result.{Done, Refused, _>>=_, guard}
+use Rattle.node.specs.Written.{nodesOf, count}
 use Rattle.language.specs.Bytes.{ascii}
 use Rattle.language.specs.Places.{refuseAt}
 use Rattle.language.specs.Parsing.{parsed}
@@ -29,13 +30,13 @@ abbrev empty : List ℕ
 empty = text (ascii "MAIN { INPUTS { r; } OUTPUTS { g; } }")
 
 told : (textExpansion empty >>= λ c. Done (counts c)) ≡ Done (record { nodes = 13; signals = 2 })
-unfolding textExpansion parsed specExpansion _>>=_ guard refuseAt size
+unfolding textExpansion parsed specExpansion _>>=_ guard refuseAt count size
 told = refl
 
 nodes-left : drop 11 (nodesAfter (textExpansion empty) (replicate 15 7)) ≡ pack 4 1 10 ∷ pack 6 0 11 ∷ 7 ∷ 7 ∷ []
-unfolding textExpansion parsed specExpansion _>>=_ guard refuseAt size nodesFrom
+unfolding textExpansion parsed specExpansion _>>=_ guard refuseAt count size nodesOf nodesFrom
 nodes-left = refl
 
 signals-left : signalsAfter (textExpansion empty) (replicate 4 8) ≡ entry 0 84 0 0 ∷ entry 1 99 0 0 ∷ 8 ∷ 8 ∷ []
-unfolding textExpansion parsed specExpansion _>>=_ guard refuseAt size
+unfolding textExpansion parsed specExpansion _>>=_ guard refuseAt count size
 signals-left = refl

@@ -10,6 +10,7 @@ use Rattle.node.specs.Fields.{pack}
 use Rattle.node.specs.Ltl.{True, Two, And}
 use Rattle.node.specs.Postorder.{size, nodesFrom}
 use Rattle.node.specs.Result.{Result, Done, Refused, _>>=_, guard}
+use Rattle.node.specs.Written.{nodesOf, count}
 use Rattle.language.specs.Bytes.{ascii, same}
 use Rattle.language.specs.Tokens.{End, tokens}
 use Rattle.language.specs.Grammar.{expectOf}
@@ -46,8 +47,8 @@ abbrev valueOf : String → Result Value
 valueOf s = expression (tokens (ascii s)) >>= λ (e, ts). expectOf End ts >>= λ _. value nothing e
 
 abbrev pub answer : Question → Result (List ℕ)
-answer (Listing s) = textExpansion s >>= λ c. Done (nodesFrom 0 (c .formula) ++ c .signals)
-answer (LineOf s) = guaranteed (line (ascii s)) >>= λ f. Done (nodesFrom 0 f)
+answer (Listing s) = textExpansion s >>= λ c. Done (nodesOf (c .formula) ++ c .signals)
+answer (LineOf s) = guaranteed (line (ascii s)) >>= λ f. Done (nodesOf f)
 answer (NodesIn s) = outcome s >>= λ n. Done (n .0 ∷ [])
 answer (NumberOf s) = valueOf s >>= number >>= λ n. Done (n ∷ [])
 answer (SetOf s) = valueOf s >>= set
@@ -94,7 +95,7 @@ passes r = answers (answer (r .question)) (r .expected)
 
 -- the table, computed
 tested : So (every passes starred)
-unfolding textExpansion parsed specExpansion _>>=_ guard refuseAt size nodesFrom
+unfolding textExpansion parsed specExpansion _>>=_ guard refuseAt count size nodesOf nodesFrom
 tested = refl
 
 pub answers→eq : (r : Result (List ℕ)) (e : List ℕ) → So (answers r e) → r ≡ Done e
@@ -116,15 +117,15 @@ odd = range-member 1 3 8 (omega arith)
 
 -- 'Unmarked: 32,768 bytes .. pass': the file, and blanks
 longest : outcome (text (ascii "MAIN { INPUTS { r; } OUTPUTS { g; } GUARANTEE { G (r -> F g); } }" ++ repeated 32635 " ")) ≡ Done (17, 2)
-unfolding textExpansion parsed specExpansion _>>=_ guard refuseAt size
+unfolding textExpansion parsed specExpansion _>>=_ guard refuseAt count size
 longest = refl
 
 -- 'width 255'
 widest : outcome (text (ascii "MAIN { INPUTS { b[255]; } OUTPUTS { } GUARANTEE { b[254]; } }")) ≡ Done (13, 255)
-unfolding textExpansion parsed specExpansion _>>=_ guard refuseAt size
+unfolding textExpansion parsed specExpansion _>>=_ guard refuseAt count size
 widest = refl
 
 -- '256 elements'
 largest : guaranteed (line (ascii "|{0,1..255}| == 256 && |{0,1..254} (+) {255}| == 256 && +[0 <= i < 256] 1 == 256")) ≡ Done (Two And (Two And True True) True)
-unfolding textExpansion parsed specExpansion _>>=_ guard refuseAt size
+unfolding textExpansion parsed specExpansion _>>=_ guard refuseAt count size
 largest = refl

@@ -4,8 +4,8 @@ use mathlib.Core.Path.{_≡_, refl}
 use lib.Dec.{leb}
 use native.Mathlib.Omega.{arith}
 use Rattle.node.specs.Limits.{maxNodes}
-use Rattle.node.specs.Postorder.{size}
 use Rattle.node.specs.Result.{Result, Done, _>>=_, guard}
+use Rattle.node.specs.Written.{count}
 use Rattle.language.specs.Tree.{Model, Mealy, Moore, Spec}
 use Rattle.language.specs.Places.{refuseAt}
 use Rattle.language.specs.Declared.{declarations}
@@ -19,7 +19,7 @@ use Rattle.language.specs.Reading.{NumberedFormula, specExpansion}
 abbrev pub asExpanded : Spec → Result NumberedFormula
 asExpanded x =
     declarations x >>= λ d. expand x d (lines x d) >>= λ f.
-    refuseAt 15 (tooManySignals 0 (inOrder d)) (guard (leb (size f) maxNodes) 16 0 (Done (record { formula = f; signals = signalList (inOrder d) })))
+    refuseAt 15 (tooManySignals 0 (inOrder d)) (guard (leb (count f) maxNodes) 16 0 (Done (record { formula = f; signals = signalList (inOrder d) })))
 
 pub equal-models : (x : Spec) → x .semantics ≡ x .target → specExpansion x ≡ asExpanded x
 unfolding specExpansion
@@ -33,7 +33,7 @@ equal-models x e = go (x .semantics) (x .target) e
         declarations x >>= λ d. expand x d (lines x d) >>= λ f.
         let list = signalList (inOrder d) in
         let g = adapted m n list f in
-        refuseAt 15 (tooManySignals 0 (inOrder d)) (guard (leb (size g) maxNodes) 16 0 (Done (record { formula = g; signals = list })))
+        refuseAt 15 (tooManySignals 0 (inOrder d)) (guard (leb (count g) maxNodes) 16 0 (Done (record { formula = g; signals = list })))
 
     go : (m n : Model) → m ≡ n → given m n ≡ asExpanded x
     go Mealy Mealy e = refl

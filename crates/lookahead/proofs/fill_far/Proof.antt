@@ -3,8 +3,8 @@ use Prim.Native.Nat.{_-_, _≤_, _<_}
 use mathlib.Core.Path.{_≡_}
 use native.Mathlib.Omega.{arith}
 use lib.ListN.{length}
-use Rattle.lookahead.specs.Codes.{nearCount}
-use Rattle.lookahead.specs.CodeLaws.{Spanned, in-table, far-more}
+use Rattle.lookahead.specs.Codes.{nearCount, Spanned}
+use Rattle.lookahead.specs.CodeLaws.{in-table, far-more}
 use Rattle.lookahead.specs.KeptLaws.{keeps-far}
 use borrow.Author.Needs.{needs}
 use Rattle.lookahead.proofs.fill_far.Statement.{statement}

@@ -2,8 +2,8 @@
 use Prim.Native.Nat.{_-_, _≤_, _<_}
 use mathlib.Core.Path.{_≡_, ap, _∙_}
 use native.Mathlib.Omega.{arith}
-use Rattle.lookahead.specs.Codes.{nearCount, narrowCode}
-use Rattle.lookahead.specs.CodeLaws.{Spanned, in-table, narrow-code, spanned-none, near-more}
+use Rattle.lookahead.specs.Codes.{nearCount, narrowCode, Spanned}
+use Rattle.lookahead.specs.CodeLaws.{in-table, narrow-code, spanned-none, near-more}
 use Rattle.lookahead.specs.KeptLaws.{keeps-near}
 use borrow.Author.Needs.{needs}
 use Rattle.lookahead.proofs.fill_near.Statement.{statement}

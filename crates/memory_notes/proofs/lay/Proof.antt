@@ -166,7 +166,7 @@ loop-again c =
     let more = c .behind .ensures in (
       ((omega (arith, at-test .loop-test .taken), four-length (at-loop .loop .memory) _ _ _ _ ∙ at-loop .loop .inv .0 .0 .1), (omega (arith, kept, more), omega (arith, kept, more))),
       laid-more (at-loop .loop .memory) _ _ _ (at-loop .loop .r) _ _ refl (at-wide .wide .ensures .0)
-      (omega (arith, at-test .loop-test .taken, at-loop .loop .inv .0 .0 .1, start .pre .1 .0)) (at-loop .loop .inv .1),
+          (omega (arith, at-test .loop-test .taken, at-loop .loop .inv .0 .0 .1, start .pre .1 .0)) (at-loop .loop .inv .1),
     )
 
 least-requires : tie.Need-least-requires Inv-loop μ-loop
@@ -209,7 +209,7 @@ returns c =
     let at-least = c .least .ensures in (
       length-set (set (at-loop .loop .memory) freeWord firstKept) slotsWord _ ∙ length-set (at-loop .loop .memory) freeWord firstKept ∙ at-loop .loop .inv .0 .0 .1,
       laid-whole (at-loop .loop .memory) _ _ _ (at-loop .loop .r) _ (omega (arith, at-test .loop-test .left)) (omega (arith, at-loop .loop .inv .0 .0 .1, start .pre .1 .0))
-      (omega arith) (omega arith) (at-loop .loop .inv .1),
+          (omega arith) (omega arith) (at-loop .loop .inv .1),
     )
 
 pub lay-spec : {M : Type 1} → statement M

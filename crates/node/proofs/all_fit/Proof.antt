@@ -4,7 +4,8 @@ use mathlib.Core.Path.{_≡_, refl, ap, _∙_, sym}
 use mathlib.Core.Bool.{_&&_, and-assoc, and-true}
 use native.Mathlib.Omega.{arith}
 use lib.ListN.{length, drop}
-use Rattle.node.specs.TableLaws.{allFit, all-step, all-end}
+use Rattle.node.specs.Formed.{allFit}
+use Rattle.node.specs.TableLaws.{all-step, all-end}
 use borrow.Author.Needs.{needs}
 use Rattle.node.proofs.all_fit.Statement.{statement}
 use Rattle.node.proofs.all_fit.Tie as tie

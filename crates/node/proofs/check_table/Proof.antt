@@ -1,7 +1,8 @@
 -- `check_table` meets its contract: where all nodes fit the scan comes to its end, otherwise to the first that does not.
 use mathlib.Core.Path.{sym, _∙_}
 use borrow.Author.Needs.{needs}
-use Rattle.node.specs.TableLaws.{counted, all-scanned, checked-empty, checked-many, checked-scan}
+use Rattle.node.specs.Formed.{counted}
+use Rattle.node.specs.TableLaws.{all-scanned, checked-empty, checked-many, checked-scan}
 use Rattle.node.proofs.check_table.Statement.{statement}
 use Rattle.node.proofs.check_table.Tie as tie
 

@@ -5,7 +5,8 @@ use mathlib.Core.Bool.{false}
 use native.Mathlib.Omega.{arith}
 use lib.ListN.{length, drop}
 use Rattle.node.specs.Table.{scanned}
-use Rattle.node.specs.TableLaws.{allFit, counted, misfit-inside, misfit-after, scan-good, scan-bad}
+use Rattle.node.specs.Formed.{allFit, counted}
+use Rattle.node.specs.TableLaws.{misfit-inside, misfit-after, scan-good, scan-bad}
 use borrow.Author.Needs.{needs}
 use Rattle.node.proofs.first_misfit.Statement.{statement}
 use Rattle.node.proofs.first_misfit.Tie as tie

@@ -1,8 +1,8 @@
 -- `node_fits` meets its contract: the bounds of its kind decide of a node.
 use mathlib.Core.Path.{ap, ap₂, _∙_}
-use mathlib.Core.Bool.{_&&_}
+use mathlib.Core.Bool.{cond, _&&_}
 use lib.Dec.{ltb}
-use Rattle.node.specs.Bounds.{pick, word-fits}
+use Rattle.node.specs.Bounds.{word-fits}
 use borrow.Author.Needs.{needs}
 use Rattle.node.proofs.node_fits.Statement.{statement}
 use Rattle.node.proofs.node_fits.Tie as tie
@@ -35,7 +35,7 @@ returns c =
     let s = at-either .before in
     let f = s .before in
     let k = f .before .kind .result in
-    let e = c .before .either3 .ensures ∙ ap (pick (ltb k 2) 1) (at-either2 .either2 .ensures ∙ ap (pick (ltb k 3) _) (at-either .either .ensures)) in
+    let e = c .before .either3 .ensures ∙ ap (cond (ltb k 2) 1) (at-either2 .either2 .ensures ∙ ap (cond (ltb k 3) _) (at-either .either .ensures)) in
     ap₂ (λ x y. ltb (f .first .result) x && ltb (s .second .result) y) e (c .either4 .ensures)
     ∙ word-fits _ _ _ k _ _ (f .before .kind .ensures) (f .first .ensures) (s .second .ensures)
 

@@ -41,7 +41,7 @@ returns-2 c =
     let at-if1 = at-hand-over .before .before .before in
     let at-write-form = at-if1 .before .before in
     let start = at-write-form .before .before .before .before in
-    fitted-over _ (start .args .out .now) _ (omega (arith, length-replicate {A = ℕ} 8192 0)) (at-write-form .write-form .ensures .stored (at-if1 .if1 .left)) (at-hand-over .hand-over .ensures)
+    fitted-over _ (start .args .out .now) _ (omega (arith, length-replicate {A = ℕ} 8192 0)) (at-write-form .write-form .ensures) (at-if1 .if1 .left) (at-hand-over .hand-over .ensures)
 
 pub fit-spec : {M : Type 1} → statement M
 fit-spec =

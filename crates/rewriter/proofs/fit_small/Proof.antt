@@ -45,7 +45,7 @@ returns-2 c =
     let at-if1 = at-hand-over .before .before .before in
     let at-write-form = at-if1 .before .before in
     let start = at-write-form .before .before .before .before in
-    fitted-over _ (start .args .out .now) _ (omega (arith, length-replicate {A = ℕ} 1024 0)) (at-write-form .write-form .ensures .stored (let h = at-if1 .if1 .left in omega arith))
+    fitted-over _ (start .args .out .now) _ (omega (arith, length-replicate {A = ℕ} 1024 0)) (at-write-form .write-form .ensures) (let h = at-if1 .if1 .left in omega arith)
     (at-hand-over .hand-over .ensures)
 
 pub fit-small-spec : {M : Type 1} → statement M

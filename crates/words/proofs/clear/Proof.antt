@@ -5,7 +5,7 @@ use native.Mathlib.Numerals.{add-one}
 use native.Mathlib.Omega.{arith}
 use lib.ListN.{set}
 use borrow.Author.Needs.{needs}
-use Rattle.words.specs.Words.{cleared}
+use Rattle.basics.specs.Clearing.{cleared}
 use Rattle.words.specs.ClearingLaws.{kept-length, cleared-none, cleared-more, cleared-all}
 use Rattle.words.proofs.clear.Statement.{statement}
 use Rattle.words.proofs.clear.Tie as tie

@@ -55,19 +55,19 @@ wide-requires-2 c κs = search needs
 mul-first : tie.Need-mul-first Inv-loop μ-loop
 mul-first c =
     let if1-at = c .before .before .before .before .before in
-    let at-loop = if1-at .before .before in
-    let start = at-loop .before .before .before .before in
+    let loop-at = if1-at .before .before in
+    let start = loop-at .before .before .before .before in
     let ports = start .pre .ports in
-    let n = next-port _ _ _ _ _ _ _ _ ports (start .pre .some) (at-loop .loop .inv .1 ports (start .pre .some) (start .pre .buses)) (omega (arith, if1-at .if1 .taken)) in
+    let n = next-port _ _ _ _ _ _ _ _ ports (start .pre .some) (loop-at .loop .inv .1 ports (start .pre .some) (start .pre .buses)) (omega (arith, if1-at .if1 .taken)) in
     omega (arith, c .wide2 .ensures .0, n .bus .named)
 
 element-copy-out-first : tie.Need-element-copy-out-first Inv-loop μ-loop
 element-copy-out-first c =
     let if1-at = c .before .before .before .before .before in
-    let at-loop = if1-at .before .before in
-    let start = at-loop .before .before .before .before in
+    let loop-at = if1-at .before .before in
+    let start = loop-at .before .before .before .before in
     let ports = start .pre .ports in
-    let n = next-port _ _ _ _ _ _ _ _ ports (start .pre .some) (at-loop .loop .inv .1 ports (start .pre .some) (start .pre .buses)) (omega (arith, if1-at .if1 .taken)) in
+    let n = next-port _ _ _ _ _ _ _ _ ports (start .pre .some) (loop-at .loop .inv .1 ports (start .pre .some) (start .pre .buses)) (omega (arith, if1-at .if1 .taken)) in
     omega (arith, c .wide2 .ensures .0, n .bus .named)
 
 imply-requires : tie.Need-imply-requires Inv-loop μ-loop
@@ -75,11 +75,11 @@ imply-requires c κs =
     let wide2-at = c .before .before .before in
     let wide-at = wide2-at .before .before .before in
     let if1-at = wide-at .before .before in
-    let at-loop = if1-at .before .before in
-    let start = at-loop .before .before .before .before in
+    let loop-at = if1-at .before .before in
+    let start = loop-at .before .before .before .before in
     let ports = start .pre .ports in
-    let n = next-port _ _ _ _ _ _ _ _ ports (start .pre .some) (at-loop .loop .inv .1 ports (start .pre .some) (start .pre .buses)) (omega (arith, if1-at .if1 .taken)) in
-    going-ready _ _ _ _ _ _ _ _ ports (start .pre .some) (start .pre .room) n (wide-at .wide .ensures .0) (wide2-at .wide2 .ensures .0) (omega arith) (at-loop .loop .inv .0)
+    let n = next-port _ _ _ _ _ _ _ _ ports (start .pre .some) (loop-at .loop .inv .1 ports (start .pre .some) (start .pre .buses)) (omega (arith, if1-at .if1 .taken)) in
+    going-ready _ _ _ _ _ _ _ _ ports (start .pre .some) (start .pre .room) n (wide-at .wide .ensures .0) (wide2-at .wide2 .ensures .0) (omega arith) (loop-at .loop .inv .0)
 
 add-j : tie.Need-add-j Inv-loop μ-loop
 add-j c =
@@ -95,11 +95,11 @@ loop-again : tie.Need-loop-again Inv-loop μ-loop
 loop-again c =
     let wide-at = c .before in
     let if1-at = wide-at .before .before in
-    let at-loop = if1-at .before .before in
-    let start = at-loop .before .before .before .before in (
-      ⊎-elim (λ w. omega (arith, ap length (w .10), w .7 .given, at-loop .loop .inv .0)) (λ w. ap length (w .2) ∙ at-loop .loop .inv .0) (c .if2 .came),
+    let loop-at = if1-at .before .before in
+    let start = loop-at .before .before .before .before in (
+      ⊎-elim (λ w. omega (arith, ap length (w .10), w .7 .given, loop-at .loop .inv .0)) (λ w. ap length (w .2) ∙ loop-at .loop .inv .0) (c .if2 .came),
       λ ps qs b.
-          let n = next-port _ _ _ _ _ _ _ _ ps qs (at-loop .loop .inv .1 ps qs b) (omega (arith, if1-at .if1 .taken)) in
+          let n = next-port _ _ _ _ _ _ _ _ ps qs (loop-at .loop .inv .1 ps qs b) (omega (arith, if1-at .if1 .taken)) in
           rw add-one
           (⊎-elim
           (λ w. rw (w .9, w .10, w .11) (going-typed _ _ _ _ _ _ _ _ ps qs (start .pre .room) n (wide-at .wide .ensures .0) (w .2 .ensures .0) (omega (arith, w .0 .taken)) (w .6 .ensures)))
@@ -109,13 +109,13 @@ loop-again c =
 
 same-length : tie.Need-same-length Inv-loop μ-loop
 same-length c =
-    let at-loop = c .before .before in
-    at-loop .loop .inv .0
+    let loop-at = c .before .before in
+    loop-at .loop .inv .0
 
 returns : tie.Need-returns Inv-loop μ-loop
 returns c =
-    let at-loop = c .before .before in
-    λ ps qs b. going-all _ _ _ _ _ _ _ _ ps qs (at-loop .loop .inv .1 ps qs b) (omega (arith, c .if1 .left))
+    let loop-at = c .before .before in
+    λ ps qs b. going-all _ _ _ _ _ _ _ _ ps qs (loop-at .loop .inv .1 ps qs b) (omega (arith, c .if1 .left))
 
 pub implied-spec : {M : Type 1} → statement M
 implied-spec =

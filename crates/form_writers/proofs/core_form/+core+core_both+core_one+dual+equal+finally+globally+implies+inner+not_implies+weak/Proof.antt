@@ -6,7 +6,8 @@ use native.Mathlib.Omega.{arith}
 use borrow.Author.Needs.{needs}
 use Rattle.node.specs.Limits.{fieldLimit}
 use Rattle.node.specs.Kinds.{shapeOf}
-use Rattle.node.specs.TableLaws.{NodeIs, no-other}
+use Rattle.node.specs.Formed.{NodeIs}
+use Rattle.node.specs.TableLaws.{no-other}
 use Rattle.forms.specs.Forms.{core as core'}
 use Rattle.form_writers.specs.WritingLaws.{operand, operands}
 use Rattle.form_writers.specs.KeptLaws.{OneStep, TwoStep, DualStep, core-one, core-two, core-dual}

@@ -6,7 +6,8 @@ use native.Mathlib.Omega.{arith}
 use borrow.Author.Needs.{needs}
 use Rattle.node.specs.Limits.{fieldLimit}
 use Rattle.node.specs.Kinds.{shapeOf}
-use Rattle.node.specs.TableLaws.{NodeIs, rest-above}
+use Rattle.node.specs.Formed.{NodeIs}
+use Rattle.node.specs.TableLaws.{rest-above}
 use Rattle.forms.specs.Forms.{plain as plain', negated as negated'}
 use Rattle.form_writers.specs.WritingLaws.{operand, operands}
 use Rattle.form_writers.specs.KeptLaws.{OfOne, OfTwo, OneStep, TwoStep, one-step, two-step, of-two, plain-one, plain-two, negated-one, negated-two}

@@ -7,8 +7,8 @@ use mathlib.Core.Option.{none}
 use lib.Dec.{leb}
 use native.Mathlib.Omega.{arith}
 use Rattle.node.specs.Limits.{maxNodes}
-use Rattle.node.specs.Postorder.{size}
 use Rattle.node.specs.Result.{Result, Done, Refused, _>>=_}
+use Rattle.node.specs.Written.{count}
 use Rattle.language.specs.Tokens.{Token}
 use Rattle.language.specs.Tree.{Part, Spec}
 use Rattle.language.specs.Places.{definitionLines, mainLines, allLines}
@@ -121,7 +121,7 @@ unfolding specExpansion
 converted-later x s o w =
     bind (declarations x) _ (later _ (declarations-reach x s o w)) (λ d k. bind (expand x d (lines x d)) _ (later _ (expand-reaches x s o w d k)) (λ f u.
     placed 15 _ (λ p e. omega arith)
-    (guarded (leb (size (adapted (x .semantics) (x .target) (signalList (inOrder d)) f)) maxNodes) 16 0 (λ _. omega arith) (λ _. done tt))))
+    (guarded (leb (count (adapted (x .semantics) (x .target) (signalList (inOrder d)) f)) maxNodes) 16 0 (λ _. omega arith) (λ _. done tt))))
 
 pub converted-refused : (x : Spec) → ProperSpec x → declaredAgain x ≡ none → wrongType x ≡ none → (n p : ℕ) → specExpansion x ≡ Refused n p → Later n
 converted-refused x s o w n p e = refusal-of e (converted-later x s o w)

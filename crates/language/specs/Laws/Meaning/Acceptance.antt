@@ -11,9 +11,10 @@ use borrow.Author.Tests.{leb-true}
 use Rattle.node.specs.Limits.{maxNodes}
 use Rattle.node.specs.Ltl.{Formula, Holds}
 use Rattle.node.specs.TemporalLaws.{Same}
-use Rattle.node.specs.Postorder.{size, SignalsBelow}
+use Rattle.node.specs.Postorder.{SignalsBelow}
 use Rattle.node.specs.Result.{Done}
 use Rattle.node.specs.ResultLaws.{bind-done, guard-done}
+use Rattle.node.specs.Written.{count}
 use Rattle.language.specs.Limits.{maxSignals}
 use Rattle.language.specs.Tree.{Spec}
 use Rattle.language.specs.Parsing.{parsed}
@@ -55,7 +56,7 @@ pub record Accepts (text : List ℕ) (c : NumberedFormula) : Type 0 where
   pub expanding : expand spec declared (lines spec declared) ≡ Done plain
   pub adapting : c .formula ≡ adapted (spec .semantics) (spec .target) (signalList (inOrder declared)) plain
   pub fewSignals : tooManySignals 0 (inOrder declared) ≡ none
-  pub fewNodes : size (c .formula) ≤ maxNodes
+  pub fewNodes : count (c .formula) ≤ maxNodes
   pub listing : c .signals ≡ signalList (inOrder declared)
 
 pub accepts : {text : List ℕ} {c : NumberedFormula} → textExpansion text ≡ Done c → Accepts text c
@@ -68,7 +69,7 @@ accepts {text} {c} e =
     let f = bind-done (expand x d (lines x d)) _ (b .2) in
     let h = refuseAt-done 15 (tooManySignals 0 (inOrder d)) _ (f .2) in
     let g : Formula = adapted (x .semantics) (x .target) (signalList (inOrder d)) (f .0) in
-    let k = guard-done (leb (size g) maxNodes) 16 0 _ (h .1) in
+    let k = guard-done (leb (count g) maxNodes) 16 0 _ (h .1) in
     let done : Done (record { formula = g; signals = signalList (inOrder d) }) ≡ Done c = k .1 in
     let formula : g ≡ c .formula = cc in
     let list : signalList (inOrder d) ≡ c .signals = cc in
@@ -82,7 +83,7 @@ accepts {text} {c} e =
       expanding = f .1;
       adapting = sym formula;
       fewSignals = h .0;
-      fewNodes = subst (λ n. size n ≤ maxNodes) formula (leb-true (size g) maxNodes (k .0));
+      fewNodes = subst (λ n. count n ≤ maxNodes) formula (leb-true (count g) maxNodes (k .0));
       listing = sym list;
     }
 

@@ -9,6 +9,8 @@ use Rattle.node.specs.Ltl.{Formula, True, False, Signal, One, Two, Word, Holds}
 use Rattle.node.specs.LtlLaws.{unary-same, binary-same}
 use Rattle.node.specs.TemporalLaws.{Same}
 use Rattle.node.specs.Postorder.{size, SignalsBelow}
+use Rattle.node.specs.Written.{count}
+use Rattle.node.specs.WrittenLaws.{count-is}
 use Rattle.language.specs.Tree.{Model, Mealy, Moore}
 use Rattle.language.specs.Shifting.{shifted, adapted}
 
@@ -57,6 +59,9 @@ module _ (late : ℕ → Bool) where
       go false = omega arith
   shifted-size (One o a) = let h = shifted-size a in omega arith
   shifted-size (Two o a b) = let h = shifted-size a in let k = shifted-size b in omega arith
+
+  pub shifted-count : (f : Formula) → count f ≤ count (shifted late f)
+  shifted-count f = omega (arith, shifted-size f, count-is f, count-is (shifted late f))
 
 -- the same of a text's formula, whatever its models
 pub adapted-below : (m n : Model) (list : List ℕ) (limit : ℕ) (f : Formula) → SignalsBelow limit f → SignalsBelow limit (adapted m n list f)

@@ -8,8 +8,8 @@ use lib.ListN.{length}
 use native.Mathlib.Omega.{arith}
 use Rattle.node.specs.Limits.{maxNodes}
 use Rattle.node.specs.Ltl.{Formula}
-use Rattle.node.specs.Postorder.{size}
 use Rattle.node.specs.Result.{Result, Done, Refused}
+use Rattle.node.specs.Written.{count}
 use Rattle.language.specs.Limits.{maxSignals, workBytes}
 use Rattle.language.specs.Tokens.{Token}
 use Rattle.language.specs.Operators.{
@@ -180,7 +180,7 @@ module _ (n : ℕ) where
       bind _ _ (declarations-held n x h) λ d v.
       bind _ _ (expand-held x d h) λ f _.
       held-refuseAt 15 _ (low-tooManySignals 0 (inOrder d) (all-append (PortAt n) (d .inputs) (d .outputs) (v .inputs) (v .outputs)))
-      (guarded (leb (size (adapted (x .semantics) (x .target) (signalList (inOrder d)) f)) maxNodes) 16 _ (λ _. omega arith) (λ _. done tt))
+      (guarded (leb (count (adapted (x .semantics) (x .target) (signalList (inOrder d)) f)) maxNodes) 16 _ (λ _. omega arith) (λ _. done tt))
 
 meant-held : (text : List ℕ) → Held (length text) Any (textExpansion text)
 unfolding textExpansion
@@ -190,7 +190,7 @@ reading-held : (text : List ℕ) (work nodes signals : ℕ) → Held (length tex
 unfolding reading
 reading-held text work nodes signals =
     guarded (leb workBytes work) 17 _ (λ _. omega arith)
-    (λ _. bind (textExpansion text) _ (meant-held text) λ c _. guarded (leb (size (c .formula)) nodes && leb (length (c .signals)) signals) 18 _ (λ _. omega arith) (λ _. done tt))
+    (λ _. bind (textExpansion text) _ (meant-held text) λ c _. guarded (leb (count (c .formula)) nodes && leb (length (c .signals)) signals) 18 _ (λ _. omega arith) (λ _. done tt))
 
 -- every refused place lies in the text
 pub reading-place : (text : List ℕ) (work nodes signals number p : ℕ) → reading text work nodes signals ≡ Refused number p → p ≤ length text

@@ -93,9 +93,10 @@ apart-evaluate-requires t c κs =
     let at-outset = c in
     let at-copy = at-outset .before .before .before .before in
     let at-room = at-copy .before .before .before .before .before in
-    let start = at-room .before .before .before .before .before in
-    (cycles.outset-less (start .args .m) (start .pre .0) (at-outset .outset .ensures),
-    cycles.fresh-begins (start .args .m) (at-room .room .ensures) (at-copy .copy .ensures) (start .pre .1 .0 .most) (start .pre .1 .0) (start .pre .1 .1) (at-outset .outset .ensures))
+    let start = at-room .before .before .before .before .before in (
+      cycles.outset-less (start .args .m) (start .pre .0) (at-outset .outset .ensures),
+      cycles.fresh-begins (start .args .m) (at-room .room .ensures) (at-copy .copy .ensures) (start .pre .1 .0 .most) (start .pre .1 .0) (start .pre .1 .1) (at-outset .outset .ensures),
+    )
 
 apart-enum-known-r : (t : ℕ) → apart-lts.Need-enum-known-r (apart-calls t) (apart-at t) apart.Post
 apart-enum-known-r t c = search needs

@@ -4,8 +4,8 @@ use mathlib.Core.Path.{_≡_, refl, _∙_}
 use native.Mathlib.Omega.{arith}
 use borrow.Author.Needs.{needs}
 use lib.ListN.{length}
-use Rattle.spellings.specs.Trie.{Trie, Spells}
-use Rattle.spellings.specs.SpellLaws.{part, part-none, part-more, spells-none, spells-more, spells-all, spells-few}
+use Rattle.spellings.specs.Trie.{Trie, Spells, part}
+use Rattle.spellings.specs.SpellLaws.{part-none, part-more, spells-none, spells-more, spells-all, spells-few}
 use Rattle.spellings.proofs.trie.spell.Statement.{statement}
 use Rattle.spellings.proofs.trie.spell.Tie as tie
 
