@@ -66,14 +66,13 @@ whole-size strict ss = go strict (parts-size (inTurn ss)) (part-size Initially s
     go false h i j k l m n = simp (size-one, size-two) (omega arith)
     go true h i j k l m n = simp (size-one, size-two) (omega arith)
 
+pub whole-count : (strict : Bool) (ss : Sections) → extent (inTurn ss) ≤ count (whole strict (section ss))
+whole-count strict ss = omega (arith, whole-size strict ss, count-is (whole strict (section ss)))
+
 -- lines that do not fit the table
 pub assembled-many : (strict : Bool) (ss : Sections) {words table out out′ : List ℕ} {count at r : ℕ} → Gathered (inTurn ss) words count table at → maxNodes < at → maxNodes < r
     → Wrote (whole strict (section ss)) out out′ 0 r
 assembled-many strict ss g h l = wrote-none (omega (arith, g .many h, whole-size strict ss)) l
-
--- .. and so are the whole formula's nodes
-pub whole-count : (strict : Bool) (ss : Sections) → extent (inTurn ss) ≤ count (whole strict (section ss))
-whole-count strict ss = omega (arith, whole-size strict ss, count-is (whole strict (section ss)))
 
 -- a formula written from the first index on: where its nodes end, and that they do not fit
 module _ {f : Formula} {before whole : List ℕ} {n : ℕ} (w : Wrote f before whole 0 n) where

@@ -10,7 +10,6 @@ use Rattle.node.specs.Fields.{pack}
 use Rattle.node.specs.Postorder.{size, nodesFrom, SignalsBelow}
 use Rattle.node.specs.PostorderLaws.{size-pos}
 use Rattle.node.specs.Written.{nodesOf, count}
-use Rattle.node.specs.WrittenLaws.{nodes-are, count-is}
 use Rattle.writing.specs.Moving.{moved}
 use Rattle.writing.specs.MovingLaws.{moved-nodes}
 use Rattle.writing.specs.OperandLaws.{size-true, size-one, size-two, nodes-true, nodes-one, nodes-two}
@@ -29,9 +28,8 @@ nodes-of f =
     (ap₂ _∷_ (ap (pack 6 5) (omega arith)) (ap₂ _∷_ (ap (pack 4 1) (omega arith)) (ap (λ (n : ℕ). pack 6 0 n ∷ []) (omega arith))))))
 
 pub guaranteed-nodes : (f : Formula) → size f ≤ fieldLimit → SignalsBelow fieldLimit f → nodesOf (guaranteeing f) ≡ front ++ (map (moved 0 8) (nodesOf f) ++ behind (count f))
-guaranteed-nodes f small below =
-    let there = sym (moved-nodes 0 8 0 f (omega arith) (omega arith) below) ∙ ap (map (moved 0 8)) (sym (nodes-are f)) in
-    nodes-are (guaranteeing f) ∙ nodes-of f ∙ ap₂ (λ (vs : List ℕ) (n : ℕ). front ++ (vs ++ behind n)) there (sym (count-is f))
+unfolding nodesOf count
+guaranteed-nodes f small below = nodes-of f ∙ ap (λ (l : List ℕ). front ++ (l ++ behind (size f))) (sym (moved-nodes 0 8 0 f (omega arith) (omega arith) below))
 
 pub guaranteed-size : (f : Formula) → size (guaranteeing f) ≡ size f + 12
 guaranteed-size f = simp (size-two, size-one, size-true) (omega arith)
