@@ -15,36 +15,34 @@ use Rattle.writing.specs.Writing.{Wrote, Caps}
 use Rattle.language.specs.Limits.{maxNames, maxTokens, maxSignals}
 use Rattle.language.specs.Tokens.{Token}
 use Rattle.language.specs.Operators.{Comparison}
-use Rattle.language.specs.Values.{Value, Sized, misfit}
-use Rattle.language.specs.Declared.{Port, BusOf, Identifies}
+use Rattle.language.specs.Values.{Sized, misfit}
+use Rattle.language.specs.Declared.{Port}
 use Rattle.language.specs.Expansion.{against, oneOf, widthIs}
 use Rattle.entries.specs.Kinds as Kind
 use Rattle.sets.specs.Operators.{comparison}
 use Rattle.choices.specs.Entries.{wordsEnd, Words}
 use Rattle.choices.specs.EntryLaws.{end-bound}
 use Rattle.choices.specs.Promises.{Readable, OneOf, WidthsAre}
-use Rattle.name_values.specs.World.{Stands, nameAt, meaningAt}
-use Rattle.operators.specs.Codes.{comparisonCode}
+use Rattle.name_values.specs.World.{nameAt}
 use Rattle.operators.specs.Tables.{infixCodeAt}
 use Rattle.operands.specs.Entries.{numberAt}
 use Rattle.operands.specs.Working.{Source}
 use Rattle.machine.specs.Phases as Phase
-use Rattle.machine.specs.Came.{Came, Worth, nodes}
-use Rattle.machine.specs.Frames.{Frame, apply}
+use Rattle.machine.specs.Came.{Came, nodes}
+use Rattle.machine.specs.Frames.{apply}
 use Rattle.machine.specs.Realm.{Realm}
 use Rattle.machine.specs.OperatorLaws.{comparison-of}
 use Rattle.machine.specs.Memory.{noteWords, noteAt}
-use Rattle.machine.specs.Holding.{holding, empty}
 use Rattle.machine.specs.Table.{Began}
-use Rattle.machine.specs.States.{Turned, TopOf, Top, ToppedToWrite, TakesToWrite}
+use Rattle.machine.specs.States.{Turned, Top, ToppedToWrite, TakesToWrite}
 use Rattle.machine.specs.TakeLaws.{refuses, note-under}
-use Rattle.machine.specs.EnterLaws.{wrote}
-use Rattle.machine.specs.FlatLaws.{popped}
+use Rattle.machine.specs.Moves.{wrote, popped}
 use Rattle.machine.specs.declared.Machine.{Machine}
 use Rattle.machine.specs.declared.Move.the-variants.{Next, Refused as Refuses}
 use Rattle.machine.specs.FactLaws.{noted-width, noted-identifier}
 use Rattle.atom_steps.specs.WriteLaws.{writes-after}
 use Rattle.atom_steps.specs.NoteLaws.{words-behind, signals-here}
+use Rattle.atom_steps.specs.Comparing.{Faced, Faces}
 
 -- equal and unequal are the first two
 order-misfit : (op : ℕ) → 1 < op → (ps : List Port) (b : Sized) (ws : List Token) → against ps (comparison op) b ws ≡ misfit
@@ -64,26 +62,6 @@ by-width : (op : ℕ) → op ≤ 1 → (ps : List Port) (b : Sized) (ws : List T
 by-width zero l ps b ws = refl
 by-width (suc zero) l ps b ws = refl
 by-width (suc (suc k)) l ps b ws = absurd (omega arith)
-
--- the frame and what has come to it are the bus b, whose name stands at `place`, and the identifier i
-pub record Faced {s : Source} (R : Realm s) (mem out : List ℕ) (m : Machine) (x : Result Came) (o : Began) (place b i : ℕ) : Type 0 where
-  pub frame : Frame
-  pub top : TopOf R mem out m x o frame
-  pub flat : holding frame ≡ empty Phase.rightCompared false
-  pub value : Value
-  pub came : top .came ≡ Worth value
-  pub operator : Comparison
-  pub code : infixCodeAt (numberAt (s .work) (getD mem (m .frames + 1) 0)) ≡ comparisonCode operator
-  pub width : ℕ
-  pub words : List Token
-  pub bus : b < maxNames
-  pub bus-means : meaningAt (R .W) b ≡ Stands (BusOf width)
-  pub choice : i < maxNames
-  pub choice-means : meaningAt (R .W) i ≡ Stands (Identifies words)
-  pub same : apply frame (top .came) ≡ (against (R .ports) operator (record { place = place; name = nameAt (R .W) b; width = width }) words >>= nodes)
-
-pub record Faces (s : Source) (mem out : List ℕ) (m : Machine) (place b i : ℕ) : Type 0 where
-  pub faced : (R : Realm s) (x : Result Came) (o : Began) → Top R mem out m x o → Faced R mem out m x o place b i
 
 -- what the code reads: the notes of both names, where the identifier's words end
 pub record Reads (s : Source) (mem : List ℕ) (b i width first entry end : ℕ) : Type 0 where

@@ -41,22 +41,24 @@ use Rattle.machine.specs.Telling.{isNumber}
 use Rattle.machine.specs.Table.{Began}
 use Rattle.machine.specs.States.{modeOf, Ready, Steps, Turned, TopOf, ToppedToWrite, TakesToWrite}
 use Rattle.machine.specs.StateLaws.{entered}
-use Rattle.machine.specs.EnterLaws.{wrote}
+use Rattle.machine.specs.Moves.{wrote, popped}
 use Rattle.machine.specs.ComeLaws.{IsNumber, came-number, not-number, misfit-then}
 use Rattle.machine.specs.FrameViews.{by-phase}
 use Rattle.machine.specs.TakeLaws.{words, entry-word, room-under, refuses, goes, top-phase, top-as, note-under}
 use Rattle.machine.specs.Openings.{Opened}
 use Rattle.machine.specs.OpenLaws.{opens}
-use Rattle.machine.specs.FlatLaws.{popped, flat-top, flat-scope, flat-depth, flat-laid, weight-falls}
+use Rattle.machine.specs.FlatLaws.{flat-top, flat-scope, flat-depth, flat-laid, weight-falls}
 use Rattle.machine.specs.BindLaws.{take-number, then-nodes}
 use Rattle.machine.specs.OperandLaws.{operand-as, alongside, topped-to-write-entry}
 use Rattle.machine.specs.declared.Machine.{Machine}
 use Rattle.machine.specs.declared.Move.{Move}
 use Rattle.machine.specs.declared.Move.the-variants.{Next, Refused as Refuses}
-use Rattle.machine.specs.Entering.{Expands, Waiting, works-formula, operand-shape}
+use Rattle.machine.specs.Entering.{Expands, Waiting}
+use Rattle.machine.specs.EnteringLaws.{works-formula, operand-shape}
 use Rattle.value_steps.specs.NameLaws.{note-first}
 use Rattle.atom_steps.specs.WriteLaws.{writes-after}
-use Rattle.atom_steps.specs.SignalLaws.{Signalled, bit-in, bit-out, signal-fits, signal-wrote}
+use Rattle.atom_steps.specs.SignalLaws.{bit-in, bit-out, signal-fits, signal-wrote}
+use Rattle.atom_steps.specs.Signals.{Signalled}
 
 -- the clause as its frame has it
 index-same : (ps : List Port) (a v : Result Value) → ((a >>= number >>= λ i. v >>= bus >>= bitAt ps i) >>= nodes) ≡ ((a >>= worth) >>= λ u. asNumber u >>= λ i. v >>= bus >>= bitAt ps i >>= nodes)
@@ -320,15 +322,6 @@ module _ {s : Source} {mem out : List ℕ} {m : Machine} (w : Waiting mem m Phas
                   ∙ ap (λ (ps : List Port). works Evaluate bc be >>= λ q. asValue q >>= bus >>= bitAt ps (m .value) >>= nodes) (sym (h .at .waits .ports));
             });
       }
-
--- the index has come, and the name is a declared one that is no definition
-pub record Points (refs mem : List ℕ) (m : Machine) (k r : ℕ) : Type 0 where
-  pub waiting : Waiting mem m Phase.indexed
-  pub number : m .mode ≡ isNumber
-  pub entry : k ≡ getD mem (m .frames + 1) 0
-  pub reference : r ≡ getD refs k 0
-  pub declared : r < maxNames
-  pub no-body : getD mem (noteWords * r) 0 ≡ Sort.body → ⊥
 
 -- what is read can be read
 pub reference-inside : {s : Source} {mem out : List ℕ} {m : Machine} → ToppedToWrite s mem out m → getD mem (m .frames + 1) 0 < length (s .refs)

@@ -33,7 +33,8 @@ use Rattle.machine.specs.declared.Move.the-variants.{Next, Refused as Refuses}
 use Rattle.machine.specs.Entering.{Waiting}
 use Rattle.machine.specs.TellLaws.{IsBus, tells-bus, tells-unsized, tells-no-bus, IsValue, came-value}
 use Rattle.machine.specs.FactLaws.{noted-width}
-use Rattle.atom_steps.specs.SignalLaws.{Signalled, bit-in, bit-out, signal-fits, signal-wrote}
+use Rattle.atom_steps.specs.SignalLaws.{bit-in, bit-out, signal-fits, signal-wrote}
+use Rattle.atom_steps.specs.Signals.{Signalled}
 use Rattle.writing.specs.StayLaws.{wrote-stays}
 
 -- the next state: a formula was written, and the names of the use are visible again

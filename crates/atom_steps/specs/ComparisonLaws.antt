@@ -1,5 +1,5 @@
 -- A comparison: its left operand, its right operand.
-use Prim.Native.Nat.{ℕ, suc, _+_, _-_, _≤_, _<_, min}
+use Prim.Native.Nat.{ℕ, suc, _+_, _-_, _≤_, min}
 use mathlib.Core.Bool.{Bool}
 use mathlib.Core.List.{List}
 use mathlib.Core.Path.{_≡_, refl, sym, ap, ap₂, _∙_, subst}
@@ -11,7 +11,6 @@ use Rattle.node.specs.Result.{Result, Done, Refused, _>>=_}
 use Rattle.node.specs.ResultLaws.{bind-at, bind-again, bind-to, bind-refused}
 use Rattle.writing.specs.Writing.{Wrote}
 use Rattle.writing.specs.Writing as Writing
-use Rattle.language.specs.Limits.{maxNames}
 use Rattle.language.specs.Operators.{Comparison, Compares}
 use Rattle.language.specs.Tree.{Expr}
 use Rattle.language.specs.Values.{Value, number, bus, choice, value}
@@ -35,18 +34,19 @@ use Rattle.machine.specs.Telling.{isNumber, isBus, isUnsized, isChoice, isNodes
 use Rattle.machine.specs.Table.{Began}
 use Rattle.machine.specs.States.{modeOf, Ready, Steps, TopOf, Topped, Takes, TakesToWrite}
 use Rattle.machine.specs.StateLaws.{entered}
-use Rattle.machine.specs.EnterLaws.{came, wrote}
+use Rattle.machine.specs.Moves.{came, wrote, popped}
 use Rattle.machine.specs.ComeLaws.{misfit-then}
 use Rattle.machine.specs.FrameViews.{by-phase}
 use Rattle.machine.specs.TakeLaws.{words, entry-word, at-word, value-word, other-word, refuses, top-phase, top-as}
 use Rattle.machine.specs.Openings.{Opened}
 use Rattle.machine.specs.OpenLaws.{opens}
-use Rattle.machine.specs.FlatLaws.{popped, renews}
+use Rattle.machine.specs.FlatLaws.{renews}
 use Rattle.machine.specs.BindLaws.{take-value, then-nodes}
 use Rattle.machine.specs.declared.Machine.{Machine}
 use Rattle.machine.specs.declared.Move.{Move}
 use Rattle.machine.specs.declared.Move.the-variants.{Next, Refused as Refuses}
-use Rattle.machine.specs.Entering.{Expands, Waiting, works-formula, operand-shape}
+use Rattle.machine.specs.Entering.{Expands, Waiting}
+use Rattle.machine.specs.EnteringLaws.{works-formula, operand-shape}
 use Rattle.machine.specs.SameLaws.{same-truth}
 use Rattle.atom_steps.specs.JoinedLaws.{joined-two, joined-op}
 use Rattle.atom_steps.specs.WriteLaws.{writes-after}
@@ -64,7 +64,7 @@ use Rattle.machine.specs.TellLaws.{
   came-value,
   not-value,
 }
-use Rattle.atom_steps.specs.AgainstLaws.{Faces}
+use Rattle.atom_steps.specs.Comparing.{Nameable, NameOf, Comparing, Faces}
 
 -- the clause as its frames have it
 comparison-same : (c : Context) (o : Comparison) (a b : Result Value) → ((a >>= λ x. b >>= compared (c .ports) o x) >>= nodes) ≡ ((a >>= worth) >>= λ v. asValue v >>= λ x. (b >>= worth) >>= comparing o c x)
@@ -106,16 +106,6 @@ comparison-steps {s} {mem} {mem'} {m} {j} {r} k ej w = record {
         same = works-formula n e0 ∙ ap (λ (d : Expr). expansion (n .context) d >>= nodes) (v .4) ∙ comparison-same (n .context) op (value (n .context .values) a) (value (n .context .values) b);
       }) r w;
 }
-
--- the number of a name, by which a bus or an identifier is told
-pub record Nameable (m : Machine) : Type 0 where
-  pub bus : m .mode ≡ isBus → m .from < maxNames
-  pub choice : m .mode ≡ isChoice → m .from < maxNames
-
-pub record NameOf (m : Machine) (r : ℕ) : Type 0 where
-  pub bus : m .mode ≡ isBus → r ≡ m .from
-  pub choice : m .mode ≡ isChoice → r ≡ m .from
-  pub small : r < maxNames
 
 -- the left operand has come
 module _ {s : Source} {mem : List ℕ} {m : Machine} (w : Waiting mem m Phase.leftCompared) where
@@ -168,12 +158,6 @@ module _ {s : Source} {mem : List ℕ} {m : Machine} (w : Waiting mem m Phase.le
             same = ap (apply (LeftCompared op c b)) (g .same) ∙ bind-at (g .value) (λ y. works Evaluate c b >>= comparing op c y);
           });
     }
-
--- the right operand has come, a value; the left one is of this mode
-pub record Comparing (mem : List ℕ) (m : Machine) (mode : ℕ) : Type 0 where
-  pub waiting : Waiting mem m Phase.rightCompared
-  pub value : m .mode ≡ isNodes → ⊥
-  pub left : getD mem (m .frames + 3) 0 ≡ mode
 
 module _ {s : Source} {mem out : List ℕ} {m : Machine} (w : Waiting mem m Phase.rightCompared) where
   pub right-misfits : m .mode ≡ isNodes → TakesToWrite s mem mem out out m (Refuses 9 0)

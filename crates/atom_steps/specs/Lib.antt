@@ -2,8 +2,11 @@ pub mod JoinedLaws
 pub mod WriteLaws
 pub mod NoteLaws
 pub mod MembershipLaws
+pub mod Comparing
 pub mod ComparisonLaws
 pub mod AgainstLaws
+pub mod Signals
 pub mod SignalLaws
+pub mod Bits
 pub mod BitLaws
 pub mod BitOfLaws

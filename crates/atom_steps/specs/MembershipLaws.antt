@@ -29,18 +29,19 @@ use Rattle.machine.specs.Memory.{Framed}
 use Rattle.machine.specs.Telling.{isNumber, isSet}
 use Rattle.machine.specs.States.{modeOf, Ready, Steps, Takes, ToppedToWrite, TakesToWrite}
 use Rattle.machine.specs.StateLaws.{entered}
-use Rattle.machine.specs.EnterLaws.{came, wrote}
+use Rattle.machine.specs.Moves.{came, wrote, popped}
 use Rattle.machine.specs.ComeLaws.{came-number, not-number, came-set, not-set, misfit-then}
 use Rattle.machine.specs.FrameViews.{by-phase}
 use Rattle.machine.specs.TakeLaws.{words, entry-word, value-word, refuses, top-phase, top-as}
 use Rattle.machine.specs.Openings.{Opened}
 use Rattle.machine.specs.OpenLaws.{opens}
-use Rattle.machine.specs.FlatLaws.{popped, renews}
+use Rattle.machine.specs.FlatLaws.{renews}
 use Rattle.machine.specs.BindLaws.{take-number, take-set, then-nodes}
 use Rattle.machine.specs.declared.Machine.{Machine}
 use Rattle.machine.specs.declared.Move.{Move}
 use Rattle.machine.specs.declared.Move.the-variants.{Next, Refused as Refuses}
-use Rattle.machine.specs.Entering.{Expands, Waiting, works-formula, operand-shape}
+use Rattle.machine.specs.Entering.{Expands, Waiting}
+use Rattle.machine.specs.EnteringLaws.{works-formula, operand-shape}
 use Rattle.machine.specs.SameLaws.{same-truth}
 use Rattle.atom_steps.specs.JoinedLaws.{joined-two}
 use Rattle.atom_steps.specs.WriteLaws.{writes-after}

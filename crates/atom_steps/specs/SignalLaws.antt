@@ -25,10 +25,7 @@ use Rattle.machine.specs.Table.{Began}
 use Rattle.machine.specs.States.{TopOf}
 use Rattle.machine.specs.declared.Machine.{Machine}
 use Rattle.atom_steps.specs.NoteLaws.{signals-here}
-
--- whatever number the signal has, if it is asked for
-pub record Signalled (first i : ℕ) (out out' : List ℕ) (at r : ℕ) : Type 0 where
-  pub wrote : (j : ℕ) → (at ≤ maxNodes → first + i ≡ j) → Wrote (Signal j) out out' at r
+use Rattle.atom_steps.specs.Signals.{Signalled}
 
 pub signalled-past : {first i : ℕ} {out out' : List ℕ} {at r : ℕ} → maxNodes < at → maxNodes < r → Signalled first i out out' at r
 signalled-past l h = record { wrote = λ j e. wrote-none (omega arith) h }

@@ -18,8 +18,8 @@ use Rattle.machine.specs.Holding.{Holding, holding, empty}
 use Rattle.machine.specs.Table.{Began}
 use Rattle.machine.specs.TableLaws.{wrote-capped}
 use Rattle.machine.specs.States.{Turned, TopOf}
-use Rattle.machine.specs.EnterLaws.{wrote}
-use Rattle.machine.specs.FlatLaws.{popped, flat-laid}
+use Rattle.machine.specs.Moves.{wrote, popped}
+use Rattle.machine.specs.FlatLaws.{flat-laid}
 use Rattle.machine.specs.FormulaLaws.{finishes}
 use Rattle.machine.specs.declared.Machine.{Machine}
 use Rattle.machine.specs.declared.Move.the-variants.{Next}

@@ -18,7 +18,7 @@ ghost use Rattle.machine.specs.Phases as Phase;
 ghost use Rattle.machine.specs.States.{Ready, Steps, ToppedToWrite, TakesToWrite};
 ghost use Rattle.operands.specs.Working.{source};
 ghost use Rattle.machine.specs.Entering.{Expands, Waiting};
-ghost use Rattle.atom_steps.specs.BitLaws.{Points};
+ghost use Rattle.atom_steps.specs.Bits.{Points};
 use crate::signals::signal_at;
 
 // The index is worked out first.

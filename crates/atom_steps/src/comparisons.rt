@@ -22,10 +22,10 @@ use writing::constant;
 ghost use Rattle.entries.specs.Kinds as Kind;
 ghost use Rattle.machine.specs.Phases as Phase;
 ghost use Rattle.machine.specs.States.{Ready, Steps, Topped, Takes, ToppedToWrite, TakesToWrite};
+ghost use Rattle.machine.specs.Telling.{isNumber, isBus, isChoice};
 ghost use Rattle.operands.specs.Working.{source};
 ghost use Rattle.machine.specs.Entering.{Expands, Waiting};
-ghost use Rattle.atom_steps.specs.ComparisonLaws.{Nameable, NameOf, Comparing};
-ghost use Rattle.atom_steps.specs.AgainstLaws.{Faces};
+ghost use Rattle.atom_steps.specs.Comparing.{Nameable, NameOf, Comparing, Faces};
 
 // The left operand is worked out first.
 pub fn comparison(text: &[u8], work: &[u8], refs: &[u16], memory: &mut [u32], m: Machine) -> Move
@@ -123,7 +123,7 @@ fn with_number(
     m: Machine,
 ) -> Move
     requires { ⌜ ToppedToWrite (source (now text) (now work) (now refs)) (now memory) (now table) m ⌝ }
-    requires { ⌜ Comparing (now memory) m 2 ⌝ }
+    requires { ⌜ Comparing (now memory) m isNumber ⌝ }
     ensures { λ r. ⌜ TakesToWrite (source (now (text .entry)) (now (work .entry)) (now (refs .entry))) (now (memory .entry)) (now (memory .entry)) (now (table .entry)) (now (table .exit)) m r ⌝ }
 {
     if m.mode != modes::NUMBER {
@@ -147,7 +147,7 @@ fn with_bus(
     m: Machine,
 ) -> Move
     requires { ⌜ ToppedToWrite (source (now text) (now work) (now refs)) (now memory) (now table) m ⌝ }
-    requires { ⌜ Comparing (now memory) m 5 ⌝ }
+    requires { ⌜ Comparing (now memory) m isBus ⌝ }
     ensures { λ r. ⌜ TakesToWrite (source (now (text .entry)) (now (work .entry)) (now (refs .entry))) (now (memory .entry)) (now (memory .entry)) (now (table .entry)) (now (table .exit)) m r ⌝ }
 {
     if m.mode != modes::CHOICE {
@@ -169,7 +169,7 @@ fn with_identifier(
     m: Machine,
 ) -> Move
     requires { ⌜ ToppedToWrite (source (now text) (now work) (now refs)) (now memory) (now table) m ⌝ }
-    requires { ⌜ Comparing (now memory) m 7 ⌝ }
+    requires { ⌜ Comparing (now memory) m isChoice ⌝ }
     ensures { λ r. ⌜ TakesToWrite (source (now (text .entry)) (now (work .entry)) (now (refs .entry))) (now (memory .entry)) (now (memory .entry)) (now (table .entry)) (now (table .exit)) m r ⌝ }
 {
     if m.mode == modes::UNSIZED {

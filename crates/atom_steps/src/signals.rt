@@ -7,7 +7,7 @@ ghost use Prim.Native.Nat.{_+_, _*_, _≤_, _<_};
 ghost use lib.ListN.{length};
 ghost use Rattle.node.specs.Limits.{fieldLimit, maxNodes};
 ghost use Rattle.machine.specs.Memory.{noteWords, noteAt};
-ghost use Rattle.atom_steps.specs.SignalLaws.{Signalled};
+ghost use Rattle.atom_steps.specs.Signals.{Signalled};
 
 // Signal i of the name r. Past the last node nothing is asked of its number.
 pub fn signal_at(memory: &[u32], r: usize, i: u32, table: &mut [u32; MAX_NODES], at: usize) -> usize

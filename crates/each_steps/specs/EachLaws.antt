@@ -30,16 +30,15 @@ use Rattle.machine.specs.Came.{Expand, Came, nodes}
 use Rattle.machine.specs.Frames.{OverEach, FirstEach, NextEach, connective, formulaAt, onwardFormulas, apply}
 use Rattle.machine.specs.Realm.{Realm}
 use Rattle.machine.specs.OperatorLaws.{binary-small}
-use Rattle.machine.specs.SetLaws.{above}
+use Rattle.machine.specs.Moves.{above, wrote, popped}
 use Rattle.machine.specs.Telling.{isSet, isNodes}
 use Rattle.machine.specs.Table.{Began}
 use Rattle.machine.specs.TableLaws.{laid-more, laid-last, laid-end, wrote-capped}
 use Rattle.machine.specs.States.{modeOf, TopOf, Topped, Takes, ToppedToWrite, TakesToWrite}
 use Rattle.machine.specs.ComeLaws.{came-set, not-set, came-formula, not-formula, misfit-then}
 use Rattle.machine.specs.FrameViews.{by-phase}
-use Rattle.machine.specs.EnterLaws.{wrote}
 use Rattle.machine.specs.TakeLaws.{entry-word, value-word, refuses, top-phase, top-as}
-use Rattle.machine.specs.FlatLaws.{popped, flat-laid}
+use Rattle.machine.specs.FlatLaws.{flat-laid}
 use Rattle.machine.specs.FormulaLaws.{formula-laid, finishes}
 use Rattle.machine.specs.declared.Machine.{Machine}
 use Rattle.machine.specs.declared.Move.{Move}
@@ -47,8 +46,8 @@ use Rattle.machine.specs.declared.Move.the-variants.{Next, Refused as Refuses}
 use Rattle.machine.specs.Entering.{Waiting}
 use Rattle.machine.specs.SameLaws.{same-truth}
 use Rattle.fold_steps.specs.BigLaws.{of-formulas}
-use Rattle.fold_steps.specs.TurningLaws.{Turns}
-use Rattle.fold_steps.specs.ElementLaws.{split, begun, Beginning, beginning, begins, no-element}
+use Rattle.fold_steps.specs.Turning.{Turns, begun, Beginning}
+use Rattle.fold_steps.specs.ElementLaws.{split, beginning, begins, no-element}
 use Rattle.each_steps.specs.Onward.{Turnable, Onward}
 use Rattle.each_steps.specs.OnwardLaws.{turnable, goes-on}
 use Rattle.each_steps.specs.GatherLaws.{connective-code, no-formulas, over-nothing, first-same}

@@ -9,12 +9,11 @@ use Rattle.machine.specs.Came.{Expand}
 use Rattle.machine.specs.Memory.{frameWords}
 use Rattle.machine.specs.Telling.{isNodes}
 use Rattle.machine.specs.States.{modeOf}
-use Rattle.machine.specs.EnterLaws.{wrote}
+use Rattle.machine.specs.Moves.{wrote}
 use Rattle.machine.specs.declared.Machine.{Machine}
 use Rattle.machine.specs.declared.Move.{Move}
 use Rattle.machine.specs.declared.Move.the-variants.{Next}
-use Rattle.fold_steps.specs.TurningLaws.{Turns}
-use Rattle.fold_steps.specs.ContinueLaws.{wordsAt, nextAt, Continuing, unbound}
+use Rattle.fold_steps.specs.Turning.{Turns, wordsAt, nextAt, Continuing, unbound}
 
 -- the frame is gone, and the formula ends before `nodes`
 abbrev pub closed : Machine → (base nodes : ℕ) → Machine

@@ -26,14 +26,14 @@ use Rattle.machine.specs.TableLaws.{lasting-stays}
 use Rattle.machine.specs.Cost.{turns}
 use Rattle.machine.specs.Stack.{OfFormulas, EachOf, Folding}
 use Rattle.machine.specs.States.{modeOf, Turned, TopOf}
-use Rattle.machine.specs.EnterLaws.{wrote}
+use Rattle.machine.specs.Moves.{wrote}
 use Rattle.machine.specs.TakeLaws.{words, base-word, count-word, pops}
 use Rattle.machine.specs.declared.Machine.{Machine}
 use Rattle.machine.specs.declared.Move.{Move}
 use Rattle.machine.specs.declared.Move.the-variants.{Next}
-use Rattle.fold_steps.specs.TurningLaws.{Turns}
+use Rattle.fold_steps.specs.Turning.{Turns, wordsAt, nextAt, Continuing}
 use Rattle.fold_steps.specs.ElementLaws.{split}
-use Rattle.fold_steps.specs.ContinueLaws.{turning-scope, turning-depth, turning-held, turning-lies, turning-count, wordsAt, nextAt, Continuing, continuing, continues}
+use Rattle.fold_steps.specs.ContinueLaws.{turning-scope, turning-depth, turning-held, turning-lies, turning-count, continuing, continues}
 use Rattle.each_steps.specs.Onward.{closed, leftOf, baseOf, Turnable, Onward}
 use Rattle.each_steps.specs.GatherLaws.{next-same}
 use Rattle.writing.specs.StayLaws.{Stays}

@@ -27,7 +27,8 @@ use Rattle.machine.specs.BindLaws.{take-set}
 use Rattle.machine.specs.OperandLaws.{operand-view, operand-as}
 use Rattle.machine.specs.declared.Machine.{Machine}
 use Rattle.machine.specs.declared.Move.{Move}
-use Rattle.machine.specs.Entering.{Expands, works-formula}
+use Rattle.machine.specs.Entering.{Expands}
+use Rattle.machine.specs.EnteringLaws.{works-formula}
 use Rattle.fold_steps.specs.BigLaws.{parts-of}
 
 -- the clause as its frame has it

@@ -5,7 +5,7 @@ use machine::modes;
 use node::refusals;
 ghost use Rattle.machine.specs.States.{Ready, Steps};
 ghost use Rattle.operands.specs.Working.{source};
-ghost use Rattle.each_steps.specs.MisfitLaws.{Logical, Formless};
+ghost use Rattle.each_steps.specs.Misfits.{Logical, Formless};
 
 // A formula is only marked as one.
 pub fn logic(text: &[u8], work: &[u8], refs: &[u16], memory: &[u32], m: Machine) -> Move

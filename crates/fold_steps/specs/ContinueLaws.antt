@@ -28,23 +28,9 @@ use Rattle.machine.specs.TakeLaws.{words, entry-word, at-word, count-word, room
 use Rattle.machine.specs.declared.Words.{Words}
 use Rattle.machine.specs.declared.Machine.{Machine}
 use Rattle.machine.specs.declared.Move.the-variants.{Next}
-use Rattle.fold_steps.specs.TurningLaws.{turned, turns-to}
+use Rattle.fold_steps.specs.TurningLaws.{turns-to}
 use Rattle.fold_steps.specs.ElementLaws.{Split}
-
--- a frame's words as they are read; those of the frame at the next element
-abbrev pub wordsAt : List ℕ → ℕ → Words
-wordsAt mem at = record {
-  phase = getD mem at 0;
-  entry = getD mem (at + 1) 0;
-  base = getD mem (at + 2) 0;
-  at = getD mem (at + 3) 0;
-  count = getD mem (at + 4) 0;
-  value = getD mem (at + 5) 0;
-  other = getD mem (at + 6) 0;
-}
-
-abbrev pub nextAt : Words → (phase value other : ℕ) → Words
-nextAt w phase value other = record { phase = phase; entry = w .entry; base = w .base; at = w .at + 1; count = w .count - 1; value = value; other = other }
+use Rattle.fold_steps.specs.Turning.{wordsAt, nextAt, Continuing, unbound, turned}
 
 -- an element that lies somewhere
 lies-inside : {free base top at n : ℕ} → 0 < n → free ≤ base → Lies free base top at n → base ≤ top → at < top + 1
@@ -55,17 +41,6 @@ lies-inside p q (placed a b) r = omega arith
 -- one operand fewer is left, over words
 one-fewer : (new old n : ℕ) {p c : ℕ} → p ≡ old → c ≡ suc n → turns' new n < turns' old (suc n) → turns' new (c - 1) < turns' p c
 one-fewer new old n {p} {c} e d h = let q : c - 1 ≡ n = omega arith in rw (q, d, e) h
-
--- what function `again` asks for
-pub record Continuing (mem : List ℕ) (m : Machine) (other : ℕ) : Type 0 where
-  pub inside : m .frames + frameWords ≤ length mem
-  pub small : length mem < 2 ^ 32
-  pub some : 0 < getD mem (m .frames + 4) 0
-  pub from : getD mem (m .frames + 3) 0 < length mem
-  pub bound : 0 < m .depth
-  pub slot : m .depth ≤ length mem
-  pub entry : 0 < getD mem (m .frames + 1) 0
-  pub numbered : other < 2 ^ 32
 
 -- a frame that binds a name
 module _ {s : Source} {R : Realm s} {mem out : List ℕ} {m : Machine} {x : Result Came} {o : Began} {F : Frame} (h : TopOf R mem out m x o F) {phase : ℕ} {l fold : List ℕ} {forms : List Laying}
@@ -184,11 +159,6 @@ module _ {s : Source} {R : Realm s} {mem out : List ℕ} {m : Machine} {x : Resu
         kept = b .kept;
         same = b .same;
       }))
-
--- no element is left: the name's slot is free again
-abbrev pub unbound : Machine → (mode value from base : ℕ) → Machine
-unbound m mode value from base =
-    record { mode = mode; value = value; from = from; scope = m .scope; depth = m .depth - 1; top = base; frames = m .frames + frameWords; nodes = m .nodes }
 
 module _ {s : Source} {R : Realm s} {mem out : List ℕ} {m : Machine} {x : Result Came} {o : Began} {F : Frame} (h : TopOf R mem out m x o F) {phase : ℕ} {l fold : List ℕ}
     (f : holding F ≡ turning phase l fold []) where

@@ -15,10 +15,11 @@ use Rattle.operands.specs.Working.{Source}
 use Rattle.machine.specs.Came.{Aim, Came, works}
 use Rattle.machine.specs.Frames.{Frame, apply, Kept}
 use Rattle.machine.specs.Realm.{Realm}
-use Rattle.machine.specs.Memory.{frameWords, freeOf, Held, Lies, nowhere}
+use Rattle.machine.specs.Memory.{freeOf, Held, Lies, nowhere}
 use Rattle.machine.specs.MemoryLaws.{held-head, held-tail, held-none, lies-tail, agree-same}
 use Rattle.machine.specs.Holding.{Holding, holding, empty, formsOf, turning}
-use Rattle.machine.specs.SetLaws.{above, above-from, above-most, sits-lies, sits-low}
+use Rattle.machine.specs.SetLaws.{above-from, above-most, sits-lies, sits-low}
+use Rattle.machine.specs.Moves.{above}
 use Rattle.machine.specs.Telling.{Fine}
 use Rattle.machine.specs.Table.{Began, endOf}
 use Rattle.machine.specs.Cost.{turns as turns'}
@@ -27,10 +28,10 @@ use Rattle.machine.specs.States.{modeOf, Turned, TopOf}
 use Rattle.machine.specs.ComeLaws.{IsSet}
 use Rattle.machine.specs.TakeLaws.{words, entry-word, room-under, renewed}
 use Rattle.machine.specs.FlatLaws.{flat-top, flat-depth, flat-laid}
-use Rattle.machine.specs.declared.Words.{Words}
 use Rattle.machine.specs.declared.Machine.{Machine}
 use Rattle.machine.specs.declared.Move.the-variants.{Next}
-use Rattle.fold_steps.specs.TurningLaws.{Turns, turns-to}
+use Rattle.fold_steps.specs.TurningLaws.{turns-to}
+use Rattle.fold_steps.specs.Turning.{begunAt, begun, Beginning, Turns}
 
 -- a set's first element and the others
 pub record Split (mem : List ℕ) (at : ℕ) (l : List ℕ) : Type 0 where
@@ -57,24 +58,6 @@ split mem at (x ∷ l) h f n =
 pub no-element : (l : List ℕ) → length l ≡ 0 → l ≡ []
 no-element [] e = refl
 no-element (v ∷ l) e = absurd (omega arith)
-
--- the words of the frame at the first element: it holds the others
-abbrev pub begunAt : Machine → (entry phase : ℕ) → Words
-begunAt m entry phase = record { phase = phase; entry = entry; base = m .top; at = m .from + 1; count = m .value - 1; value = 0; other = 0 }
-
-abbrev pub begun : List ℕ → Machine → ℕ → Words
-begun mem m phase = begunAt m (getD mem (m .frames + 1) 0) phase
-
--- what function `begin` asks for
-pub record Beginning (mem : List ℕ) (m : Machine) : Type 0 where
-  pub inside : m .frames + frameWords ≤ length mem
-  pub small : length mem < 2 ^ 32
-  pub some : 0 < m .value
-  pub few : m .value ≤ maxElements
-  pub from : m .from < length mem
-  pub slot : m .depth < length mem
-  pub top : m .top < length mem
-  pub entry : 0 < getD mem (m .frames + 1) 0
 
 module _ {s : Source} {R : Realm s} {mem out : List ℕ} {m : Machine} {x : Result Came} {o : Began} {F : Frame} (h : TopOf R mem out m x o F) {phase : ℕ} (f : holding F ≡ empty phase false)
     (g : IsSet mem m (h .came)) where

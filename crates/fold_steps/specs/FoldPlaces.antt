@@ -1,29 +1,17 @@
 -- Where a folded set stands: a kept one, or behind the elements that are left; and where it goes next.
-use Prim.Native.Nat.{ℕ, _+_, _-_, _≤_, _<_, _^_}
+use Prim.Native.Nat.{ℕ, _+_, _≤_, _<_, _^_}
 use mathlib.Core.List.{List}
 use mathlib.Core.Path.{_≡_, _∙_}
 use native.Mathlib.Omega.{arith}
 use lib.ListN.{length, getD}
 use lib.Seq.{getD-drop}
-use Rattle.language.specs.Limits.{maxElements}
 use Rattle.language.specs.Expansion.{at}
 use Rattle.memory_sets.specs.Places.{Copied}
-use Rattle.machine.specs.Phases as Phase
-use Rattle.machine.specs.Came.{Evaluate}
-use Rattle.machine.specs.Memory.{firstKept, frameWords, setWords, Lies, nowhere, keptSet, value as placed, Sits, inKept, onTop}
+use Rattle.machine.specs.Memory.{firstKept, setWords, Lies, nowhere, keptSet, value as placed, Sits, inKept, onTop}
 use Rattle.machine.specs.MemoryLaws.{word-of}
-use Rattle.machine.specs.Telling.{isSet}
-use Rattle.machine.specs.States.{modeOf}
 use Rattle.machine.specs.declared.Machine.{Machine}
-use Rattle.machine.specs.declared.Move.{Move}
-use Rattle.machine.specs.declared.Move.the-variants.{Next}
-use Rattle.fold_steps.specs.TurningLaws.{Turns}
-use Rattle.fold_steps.specs.ContinueLaws.{wordsAt, nextAt, unbound, Continuing}
-
--- where the elements that are left end, among the frame's values
-pub record Behind (base rest count low : ℕ) : Type 0 where
-  pub kept : rest < base → low ≡ base
-  pub among : base ≤ rest → low ≡ rest + count
+use Rattle.fold_steps.specs.Turning.{Continuing}
+use Rattle.fold_steps.specs.FoldingSets.{Behind, Foldable}
 
 -- what the frame holds lies there too where the values end elsewhere
 pub lies-to : {free free' base top top' at n : ℕ} → free ≤ free' → at + n ≤ top' → Lies free base top at n → Lies free' base top' at n
@@ -50,19 +38,6 @@ pub data Rests (free top frames from n : ℕ) : Type 0 where
 pub sits-rests : {free top frames from n c : ℕ} → c ≡ n → top + n ≤ frames → Sits free top from n → Rests free top frames from c
 sits-rests e f (inKept p q) = kept p (omega arith)
 sits-rests e f (onTop p) = high (omega arith) (omega arith)
-
--- what function `onward` asks for
-pub record Foldable (mem : List ℕ) (m : Machine) (from n : ℕ) : Type 0 where
-  pub inside : m .frames + frameWords ≤ length mem
-  pub small : length mem < 2 ^ 32
-  pub bound : 0 < m .depth
-  pub slot : m .depth ≤ length mem
-  pub entry : 0 < getD mem (m .frames + 1) 0
-  pub rest : 0 < getD mem (m .frames + 4) 0 → getD mem (m .frames + 3) 0 < length mem
-  pub few : getD mem (m .frames + 4) 0 ≤ maxElements
-  pub fits : from + n ≤ m .frames
-  pub down : 0 < getD mem (m .frames + 4) 0 → (low : ℕ) → Behind (getD mem (m .frames + 2) 0) (getD mem (m .frames + 3) 0) (getD mem (m .frames + 4) 0) low
-      → getD mem (m .frames + 2) 0 ≤ from → low ≤ from
 
 -- what the functions that it calls ask for
 module _ {mem : List ℕ} {m : Machine} {from n : ℕ} (f : Foldable mem m from n) (some : 0 < getD mem (m .frames + 4) 0) where
@@ -103,14 +78,3 @@ module _ {mem : List ℕ} {m : Machine} {from n : ℕ} (f : Foldable mem m from 
         let t = f .slot in
         let k = f .entry in
         record { inside = omega arith; small = omega arith; some = omega arith; from = omega arith; bound = f .bound; slot = omega arith; entry = omega arith; numbered = omega arith }
-
--- what it does: the set is the answer where no element is left, moved down to the frame's base unless it is a kept one; else it is held behind those that are left
-pub data Onward (mem mem' : List ℕ) (m : Machine) (from n : ℕ) (r : Move) : Type 0 where
-  keptEnd : getD mem (m .frames + 4) 0 ≡ 0 → from < getD mem (m .frames + 2) 0 → mem' ≡ mem → r ≡ Next (unbound m isSet n from (getD mem (m .frames + 2) 0)) → Onward mem mem' m from n r
-  lowEnd : getD mem (m .frames + 4) 0 ≡ 0 → getD mem (m .frames + 2) 0 ≤ from → Copied mem from mem mem' (getD mem (m .frames + 2) 0) n
-      → r ≡ Next (unbound m isSet n (getD mem (m .frames + 2) 0) (getD mem (m .frames + 2) 0)) → Onward mem mem' m from n r
-  keptOn : {low : ℕ} {y : Machine} → 0 < getD mem (m .frames + 4) 0 → Behind (getD mem (m .frames + 2) 0) (getD mem (m .frames + 3) 0) (getD mem (m .frames + 4) 0) low → from < getD mem (m .frames + 2) 0
-      → r ≡ Next y → Turns mem mem' m (nextAt (wordsAt mem (m .frames)) Phase.nextSet n from) (m .depth - 1) (getD mem (getD mem (m .frames + 3) 0) 0) (modeOf Evaluate) low y → Onward mem mem' m from n r
-  lowOn : {low : ℕ} {y : Machine} {mem₁ : List ℕ} → 0 < getD mem (m .frames + 4) 0 → Behind (getD mem (m .frames + 2) 0) (getD mem (m .frames + 3) 0) (getD mem (m .frames + 4) 0) low
-      → getD mem (m .frames + 2) 0 ≤ from → Copied mem from mem mem₁ low n → r ≡ Next y
-      → Turns mem₁ mem' m (nextAt (wordsAt mem₁ (m .frames)) Phase.nextSet n low) (m .depth - 1) (getD mem₁ (getD mem₁ (m .frames + 3) 0) 0) (modeOf Evaluate) (low + n) y → Onward mem mem' m from n r

@@ -33,11 +33,12 @@ use Rattle.machine.specs.TakeLaws.{words, room-under}
 use Rattle.machine.specs.declared.Machine.{Machine}
 use Rattle.machine.specs.declared.Move.{Move}
 use Rattle.machine.specs.declared.Move.the-variants.{Next}
-use Rattle.fold_steps.specs.TurningLaws.{Turns}
+use Rattle.fold_steps.specs.Turning.{Turns, wordsAt, nextAt}
 use Rattle.fold_steps.specs.ElementLaws.{split, no-element}
-use Rattle.fold_steps.specs.ContinueLaws.{wordsAt, nextAt, continues, ends, turning-depth, turning-held, turning-lies, turning-count, turning-laid}
+use Rattle.fold_steps.specs.ContinueLaws.{continues, ends, turning-depth, turning-held, turning-lies, turning-count, turning-laid}
 use Rattle.fold_steps.specs.SetFolds.{fold-end, fold-more}
-use Rattle.fold_steps.specs.FoldPlaces.{Behind, lies-to, Room, room-behind, Rests, kept, high, Foldable, Onward, keptEnd, lowEnd, keptOn, lowOn}
+use Rattle.fold_steps.specs.FoldPlaces.{lies-to, Room, room-behind, Rests, kept, high}
+use Rattle.fold_steps.specs.FoldingSets.{Behind, Foldable, Onward, keptEnd, lowEnd, keptOn, lowOn}
 
 module _ {s : Source} {R : Realm s} {mem out : List ℕ} {m : Machine} {x : Result Came} {o : Began} {F : Frame} (h : TopOf R mem out m x o F) {phase : ℕ} {l fold : List ℕ} (f : holding F ≡ turning phase l fold []) where
   -- numbers that all of this goes by

@@ -1,11 +1,14 @@
+pub mod Turning
 pub mod TurningLaws
 pub mod Bigs
 pub mod BigLaws
 pub mod ElementLaws
 pub mod ContinueLaws
 pub mod OverLaws
+pub mod FoldingNumbers
 pub mod NumberLaws
 pub mod SetFolds
+pub mod FoldingSets
 pub mod FoldPlaces
 pub mod FoldedLaws
 pub mod SetLaws

@@ -1,5 +1,5 @@
 -- A big operator of numbers: what its operands have come to is folded to the left.
-use Prim.Native.Nat.{ℕ, suc, _+_, _-_, _≤_, _<_, _^_}
+use Prim.Native.Nat.{ℕ, suc, _+_, _≤_, _<_, _^_}
 use mathlib.Core.List.{List, [], _∷_}
 use mathlib.Core.Path.{_≡_, refl, sym, ap, ap₂, _∙_, subst}
 use native.Mathlib.Omega.{arith}
@@ -33,18 +33,18 @@ use Rattle.machine.specs.Telling.{isNumber, Fine}
 use Rattle.machine.specs.Table.{Began}
 use Rattle.machine.specs.Cost.{turns}
 use Rattle.machine.specs.Stack.{EachOf, OfNumbers}
-use Rattle.machine.specs.States.{modeOf, Turned, TopOf, Top, Topped, Takes}
+use Rattle.machine.specs.States.{Turned, TopOf, Top, Topped, Takes}
 use Rattle.machine.specs.ComeLaws.{IsNumber, came-number, not-number, misfit-then}
 use Rattle.machine.specs.FrameViews.{by-phase}
 use Rattle.machine.specs.TakeLaws.{words, entry-word, base-word, count-word, value-word, refuses, top-phase, top-as}
 use Rattle.machine.specs.BindLaws.{take-number}
 use Rattle.machine.specs.declared.Machine.{Machine}
 use Rattle.machine.specs.declared.Move.{Move}
-use Rattle.machine.specs.declared.Move.the-variants.{Next, Refused as Refuses}
+use Rattle.machine.specs.declared.Move.the-variants.{Refused as Refuses}
 use Rattle.machine.specs.Entering.{Waiting}
-use Rattle.fold_steps.specs.TurningLaws.{Turns}
 use Rattle.fold_steps.specs.ElementLaws.{split, no-element}
-use Rattle.fold_steps.specs.ContinueLaws.{wordsAt, nextAt, unbound, Continuing, continuing, continues, ends, turning-depth, turning-held, turning-lies, turning-count, turning-laid}
+use Rattle.fold_steps.specs.ContinueLaws.{continuing, continues, ends, turning-depth, turning-held, turning-lies, turning-count, turning-laid}
+use Rattle.fold_steps.specs.FoldingNumbers.{Foldable, Onward, ended, going}
 
 -- the fold over no element, and over one more
 fold-end : (p : ℕ) (o : Big) (c : Context) (i : Token) (e : Expr) (a : ℕ) → onwardNumbers p o c i e [] a ≡ worth (Number a)
@@ -67,18 +67,6 @@ numeric-code BigCap h = absurd h
 numeric-code BigCup h = absurd h
 numeric-code BigAnd h = absurd h
 numeric-code BigOr h = absurd h
-
--- a number is folded: it is the answer where no element is left; else the operand is worked out at the next one
-pub record Foldable (mem : List ℕ) (m : Machine) : Type 0 where
-  pub next : 0 < getD mem (m .frames + 4) 0 → Continuing mem m 0
-  pub inside : m .frames + 7 ≤ length mem
-  pub small : length mem < 2 ^ 32
-  pub bound : 0 < m .depth
-
-pub data Onward (mem mem' : List ℕ) (m : Machine) (n : ℕ) (r : Move) : Type 0 where
-  ended : getD mem (m .frames + 4) 0 ≡ 0 → mem' ≡ mem → r ≡ Next (unbound m isNumber n 0 (getD mem (m .frames + 2) 0)) → Onward mem mem' m n r
-  going : {y : Machine} → 0 < getD mem (m .frames + 4) 0 → r ≡ Next y
-      → Turns mem mem' m (nextAt (wordsAt mem (m .frames)) Phase.nextNumber n 0) (m .depth - 1) (getD mem (getD mem (m .frames + 3) 0) 0) (modeOf Evaluate) (m .top) y → Onward mem mem' m n r
 
 module _ {s : Source} {R : Realm s} {mem out : List ℕ} {m : Machine} {x : Result Came} {o : Began} {F : Frame} (h : TopOf R mem out m x o F) {phase : ℕ} {l : List ℕ} (f : holding F ≡ turning phase l [] []) where
   pub foldable : length mem < 2 ^ 32 → Foldable mem m

@@ -24,17 +24,17 @@ use Rattle.machine.specs.Realm.{Operand, Realm}
 use Rattle.machine.specs.Operators.{Folds, OpAt}
 use Rattle.machine.specs.Memory.{onTop}
 use Rattle.machine.specs.MemoryLaws.{held-none}
-use Rattle.machine.specs.SetLaws.{above, sits-low}
-use Rattle.machine.specs.Telling.{isNumber, isSet, isLogic}
+use Rattle.machine.specs.SetLaws.{sits-low}
+use Rattle.machine.specs.Moves.{above, came, popped}
+use Rattle.machine.specs.Telling.{isSet, isLogic}
 use Rattle.machine.specs.Table.{Began}
 use Rattle.machine.specs.Stack.{OfNumbers, OfSets, OfFormulas}
 use Rattle.machine.specs.States.{modeOf, Ready, Steps, Turned, TopOf, Top, Topped, Takes}
 use Rattle.machine.specs.StateLaws.{entered}
-use Rattle.machine.specs.EnterLaws.{came}
 use Rattle.machine.specs.ComeLaws.{came-set, not-set, misfit-then}
 use Rattle.machine.specs.FrameViews.{by-phase}
 use Rattle.machine.specs.TakeLaws.{entry-word, room-under, refuses, top-phase, top-as}
-use Rattle.machine.specs.FlatLaws.{popped, flat-top, yields}
+use Rattle.machine.specs.FlatLaws.{flat-top, yields}
 use Rattle.machine.specs.Openings.{Opened}
 use Rattle.machine.specs.OpenLaws.{opens}
 use Rattle.machine.specs.BindLaws.{take-number, take-set, then-worth, number-last, set-last}
@@ -42,11 +42,12 @@ use Rattle.machine.specs.OperandLaws.{operand-view, operand-as}
 use Rattle.machine.specs.declared.Machine.{Machine}
 use Rattle.machine.specs.declared.Move.{Move}
 use Rattle.machine.specs.declared.Move.the-variants.{Next, Refused as Refuses}
-use Rattle.machine.specs.Entering.{Evaluates, Waiting, works-value}
-use Rattle.fold_steps.specs.TurningLaws.{Turns}
-use Rattle.fold_steps.specs.Bigs.{bigBy}
+use Rattle.machine.specs.Entering.{Evaluates, Waiting}
+use Rattle.machine.specs.EnteringLaws.{works-value}
+use Rattle.fold_steps.specs.Turning.{Turns, begun, Beginning}
+use Rattle.fold_steps.specs.Bigs.{bigBy, overNothing}
 use Rattle.fold_steps.specs.BigLaws.{big-by, of-numbers, of-sets, of-formulas, parts-of}
-use Rattle.fold_steps.specs.ElementLaws.{split, no-element, begun, Beginning, beginning, begins}
+use Rattle.fold_steps.specs.ElementLaws.{split, no-element, beginning, begins}
 
 -- the clause as its frame has it
 over-same : (r : Result Value) (k : List ℕ → Result Value) → ((r >>= set >>= k) >>= worth) ≡ ((r >>= worth) >>= λ v. asSet v >>= λ l. k l >>= worth)
@@ -103,15 +104,6 @@ at-over : {s : Source} {R : Realm s} {mem out : List ℕ} {m : Machine} {x : Res
 at-over t w =
     let v = by-phase (t .frame) Phase.over (top-phase t ∙ w .phase) in
     record { place = v .0; op = v .1; context = v .2; name = v .3; operand = v .4; top = top-as t {F = Over (v .0) (v .1) (v .2) (v .3) (v .4)} (v .5) }
-
--- over nothing
-abbrev pub overNothing : Machine → Big → ℕ → Move
-overNothing m BigSum p = Next (came m isNumber 0 0)
-overNothing m BigProduct p = Next (came m isNumber 1 0)
-overNothing m BigCap p = Refuses 11 p
-overNothing m BigCup p = Next (came m isSet 0 (m .top))
-overNothing m BigAnd p = Next (came m isLogic 0 0)
-overNothing m BigOr p = Next (came m isLogic 0 0)
 
 pub nothing-as : (m : Machine) (p : ℕ) {o u : Big} → u ≡ o → overNothing m o p ≡ overNothing m u p
 nothing-as m p e = ap (λ (y : Big). overNothing m y p) (sym e)

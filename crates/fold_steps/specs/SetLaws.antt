@@ -43,7 +43,8 @@ use Rattle.machine.specs.declared.Move.the-variants.{Refused as Refuses}
 use Rattle.machine.specs.Entering.{Waiting}
 use Rattle.value_steps.specs.PlacedLaws.{elements-are, placed as set-placed}
 use Rattle.fold_steps.specs.SetFolds.{setwise, setwise-code, merge-same}
-use Rattle.fold_steps.specs.FoldPlaces.{high, sits-rests, Foldable, Onward}
+use Rattle.fold_steps.specs.FoldPlaces.{high, sits-rests}
+use Rattle.fold_steps.specs.FoldingSets.{Foldable, Onward}
 use Rattle.fold_steps.specs.FoldedLaws.{limits, Folding, foldable, folds-on}
 
 -- the frame that waits for the operand at the first element; at a further one, where `sum` was folded before

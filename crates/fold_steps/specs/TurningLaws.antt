@@ -31,15 +31,7 @@ use Rattle.machine.specs.FlatLaws.{weight-falls}
 use Rattle.machine.specs.declared.Words.{Words}
 use Rattle.machine.specs.declared.Machine.{Machine}
 use Rattle.machine.specs.declared.Move.the-variants.{Next}
-
--- the next state: the name's slot is the last one, and entry j is worked out above `top`
-abbrev pub turned : Machine → (mode j slot top nodes : ℕ) → Machine
-turned m mode j slot top nodes = record { mode = mode; value = j; from = 0; scope = m .scope; depth = slot + 1; top = top; frames = m .frames; nodes = nodes }
-
--- what function `turn` does
-pub record Turns (mem mem' : List ℕ) (m : Machine) (w : Words) (slot v mode top : ℕ) (n : Machine) : Type 0 where
-  pub framed : Framed (set mem slot v) mem' (m .frames) w
-  pub next : n ≡ turned m mode (w .entry - 1) slot top (m .nodes)
+use Rattle.fold_steps.specs.Turning.{turned, Turns}
 
 pub turns-above : {mem mem' : List ℕ} {m : Machine} {w : Words} {slot v mode top top' : ℕ} {n : Machine} → top ≡ top' → Turns mem mem' m w slot v mode top n → Turns mem mem' m w slot v mode top' n
 turns-above {mem} {mem'} {m} {w} {slot} {v} {mode} {n = n} e t = subst (λ (j : ℕ). Turns mem mem' m w slot v mode j n) e t

@@ -13,7 +13,7 @@ ghost use Rattle.machine.specs.Phases as Phase;
 ghost use Rattle.machine.specs.States.{Topped, Takes};
 ghost use Rattle.operands.specs.Working.{source};
 ghost use Rattle.machine.specs.Entering.{Waiting};
-ghost use Rattle.fold_steps.specs.NumberLaws.{Foldable, Onward};
+ghost use Rattle.fold_steps.specs.FoldingNumbers.{Foldable, Onward};
 use crate::turning::again;
 
 // A number is folded: the answer where no element is left.

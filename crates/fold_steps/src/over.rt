@@ -17,8 +17,7 @@ ghost use Rattle.machine.specs.Phases as Phase;
 ghost use Rattle.machine.specs.States.{Ready, Steps, Topped, Takes};
 ghost use Rattle.operands.specs.Working.{source};
 ghost use Rattle.machine.specs.Entering.{Evaluates, Waiting};
-ghost use Rattle.fold_steps.specs.Bigs.{bigBy};
-ghost use Rattle.fold_steps.specs.OverLaws.{overNothing};
+ghost use Rattle.fold_steps.specs.Bigs.{bigBy, overNothing};
 use crate::turning::begin;
 
 // The set is worked out first: its expression ends before the entry of the operator's name, which stands before the operand.

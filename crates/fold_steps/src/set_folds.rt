@@ -21,8 +21,8 @@ ghost use Rattle.machine.specs.declared.Move.the-variants.{Next};
 ghost use Rattle.machine.specs.Memory.{frameWords};
 ghost use Rattle.operands.specs.Working.{source};
 ghost use Rattle.machine.specs.Entering.{Waiting};
-ghost use Rattle.fold_steps.specs.ContinueLaws.{unbound};
-ghost use Rattle.fold_steps.specs.FoldPlaces.{Behind, Foldable, Onward};
+ghost use Rattle.fold_steps.specs.Turning.{unbound};
+ghost use Rattle.fold_steps.specs.FoldingSets.{Behind, Foldable, Onward};
 use crate::turning::again;
 
 // Where the elements that are left end, if they stand among the frame's values; the values' beginning if they are those of a kept set.

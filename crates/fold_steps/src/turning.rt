@@ -5,10 +5,8 @@ use machine::frame;
 ghost use Prim.Native.Nat.{_+_, _-_, _≤_, _<_, _^_};
 ghost use lib.ListN.{length, getD};
 ghost use Rattle.machine.specs.Memory.{frameWords};
-ghost use Rattle.machine.specs.SetLaws.{above as above'};
-ghost use Rattle.fold_steps.specs.TurningLaws.{Turns};
-ghost use Rattle.fold_steps.specs.ElementLaws.{Beginning, begun};
-ghost use Rattle.fold_steps.specs.ContinueLaws.{Continuing, wordsAt, nextAt};
+ghost use Rattle.machine.specs.Moves.{above as above'};
+ghost use Rattle.fold_steps.specs.Turning.{Turns, Beginning, begun, Continuing, wordsAt, nextAt};
 
 // An element goes into the slot of the operator's name, the frame is written anew, and the operand, at the entry before the operator's, is worked out above `top`.
 pub fn turn(

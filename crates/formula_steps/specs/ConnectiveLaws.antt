@@ -32,20 +32,20 @@ use Rattle.machine.specs.Telling.{isNodes}
 use Rattle.machine.specs.TableLaws.{laid-last, laid-end, wrote-capped}
 use Rattle.machine.specs.States.{modeOf, Ready, Steps, Takes, ToppedToWrite, TakesToWrite}
 use Rattle.machine.specs.StateLaws.{entered}
-use Rattle.machine.specs.EnterLaws.{came, wrote}
+use Rattle.machine.specs.Moves.{came, wrote, popped}
 use Rattle.machine.specs.ComeLaws.{came-formula, not-formula, misfit-then}
 use Rattle.machine.specs.FrameViews.{by-phase}
 use Rattle.machine.specs.TakeLaws.{words, entry-word, value-word, refuses, top-phase, top-as}
 use Rattle.machine.specs.Openings.{Opened}
 use Rattle.machine.specs.OpenLaws.{opens}
-use Rattle.machine.specs.FlatLaws.{popped}
 use Rattle.machine.specs.FormulaLaws.{formula-laid, retains, finishes}
 use Rattle.machine.specs.BindLaws.{take-formula, then-nodes}
 use Rattle.machine.specs.OperandLaws.{operand-as, two-operands}
 use Rattle.machine.specs.declared.Machine.{Machine}
 use Rattle.machine.specs.declared.Move.{Move}
 use Rattle.machine.specs.declared.Move.the-variants.{Next, Refused as Refuses}
-use Rattle.machine.specs.Entering.{Expands, Waiting, works-formula, operand-shape}
+use Rattle.machine.specs.Entering.{Expands, Waiting}
+use Rattle.machine.specs.EnteringLaws.{works-formula, operand-shape}
 
 -- the clause as its frames have it
 connective-same : (o : Binary) (a b : Result Formula) → ((a >>= λ f. b >>= λ g. Done (Two o f g)) >>= nodes) ≡ ((a >>= nodes) >>= λ v. asFormula v >>= λ f. (b >>= nodes) >>= connected o f)

@@ -26,11 +26,13 @@ use Rattle.machine.specs.Came.{nodes}
 use Rattle.machine.specs.TableLaws.{wrote-capped}
 use Rattle.machine.specs.States.{ReadyToWrite, Writes}
 use Rattle.machine.specs.StateLaws.{entered}
-use Rattle.machine.specs.EnterLaws.{wrote, writes, entry-few}
+use Rattle.machine.specs.EnterLaws.{writes, entry-few}
+use Rattle.machine.specs.Moves.{wrote}
 use Rattle.machine.specs.OperandLaws.{operand-as}
 use Rattle.machine.specs.declared.Machine.{Machine}
 use Rattle.machine.specs.declared.Move.the-variants.{Next}
-use Rattle.machine.specs.Entering.{Expands, works-formula, operand-shape}
+use Rattle.machine.specs.Entering.{Expands}
+use Rattle.machine.specs.EnteringLaws.{works-formula, operand-shape}
 use Rattle.machine.specs.SameLaws.{same-truth}
 
 -- the entry's words can be read

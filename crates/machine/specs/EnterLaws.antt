@@ -23,7 +23,7 @@ use Rattle.machine.specs.Realm.{Operand, Realm}
 use Rattle.machine.specs.Memory.{frameWords, spare, reserve, Held, Slotted, nowhere, Agree, Framed, spread}
 use Rattle.machine.specs.MemoryLaws.{held-none, slotted-kept, keeps-same, agree-keeps, framed-words, framed-agree}
 use Rattle.machine.specs.Holding.{Holding, Laying, holding, vacant, empty, elements, folded, slotsOf, formsOf}
-use Rattle.machine.specs.Telling.{isNodes, Tells}
+use Rattle.machine.specs.Telling.{Tells}
 use Rattle.machine.specs.Notes.{Lasting}
 use Rattle.machine.specs.NoteLaws.{noted-kept, lasting-kept}
 use Rattle.machine.specs.Table.{Began, Laid, endOf}
@@ -33,6 +33,7 @@ use Rattle.machine.specs.Stack.{Ground, scopeAbove, Holds, Waits, Stack,
 use Rattle.machine.specs.StackLaws.{Room, stack-kept, stack-room}
 use Rattle.machine.specs.States.{Works, Has, modeOf, Standing, Come, cost, Turned}
 use Rattle.machine.specs.StateLaws.{Entered, come-mode, mode-few}
+use Rattle.machine.specs.Moves.{came, wrote}
 use Rattle.machine.specs.declared.Words.{Words}
 use Rattle.machine.specs.declared.Machine.{Machine}
 use Rattle.machine.specs.declared.Move.the-variants.{Next, Refused as Refuses}
@@ -40,14 +41,6 @@ use Rattle.machine.specs.declared.Move.the-variants.{Next, Refused as Re
 pub costs-frame : (mem : List ℕ) (at : ℕ) (w : Words) {rest : List ℕ} → drop at mem ≡ spread w rest → costs (drop at mem) ≡ weight (w .phase) (w .entry) (w .count) + costs rest
 unfolding costs
 costs-frame mem at w e = rw e
-
--- the next state where a value comes; where a formula was written; where another entry is worked out
-abbrev pub came : Machine → (mode value from : ℕ) → Machine
-came m mode value from =
-    record { mode = mode; value = value; from = from; scope = m .scope; depth = m .depth; top = m .top; frames = m .frames; nodes = m .nodes }
-
-abbrev pub wrote : Machine → ℕ → Machine
-wrote m n = record { mode = isNodes; value = 0; from = 0; scope = m .scope; depth = m .depth; top = m .top; frames = m .frames; nodes = n }
 
 price-up : (j k : ℕ) → 0 < j → j ≤ k → price j ≤ price k
 price-up zero k h l = absurd (omega arith)

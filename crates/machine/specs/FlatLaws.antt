@@ -15,7 +15,7 @@ use Rattle.operands.specs.Working.{Source}
 use Rattle.machine.specs.Came.{Aim, Came, Worth, works}
 use Rattle.machine.specs.Frames.{Frame, apply, Kept}
 use Rattle.machine.specs.Realm.{Operand, Realm}
-use Rattle.machine.specs.Memory.{frameWords, Held, Slotted, nowhere, Framed}
+use Rattle.machine.specs.Memory.{Held, Slotted, nowhere, Framed}
 use Rattle.machine.specs.MemoryLaws.{held-none, agree-same}
 use Rattle.machine.specs.Holding.{Holding, Laying, holding, empty, elements, folded, slotsOf, formsOf}
 use Rattle.machine.specs.Telling.{Tells}
@@ -25,14 +25,10 @@ use Rattle.machine.specs.Cost.{price, price-some, times, times-suc, turn
 use Rattle.machine.specs.Stack.{scopeAbove, Holds, Waits}
 use Rattle.machine.specs.States.{modeOf, Standing, written, Turned, TopOf}
 use Rattle.machine.specs.TakeLaws.{words, room-under, pops, renewed, goes}
-use Rattle.machine.specs.EnterLaws.{came}
+use Rattle.machine.specs.Moves.{popped, came}
 use Rattle.machine.specs.declared.Words.{Words}
 use Rattle.machine.specs.declared.Machine.{Machine}
 use Rattle.machine.specs.declared.Move.the-variants.{Next}
-
--- the frame is gone
-abbrev pub popped : Machine → Machine
-popped m = record { mode = m .mode; value = m .value; from = m .from; scope = m .scope; depth = m .depth; top = m .top; frames = m .frames + frameWords; nodes = m .nodes }
 
 -- fewer operands are left
 pub times-less : (i j k : ℕ) → i < j → times i k + price k < times j k

@@ -26,8 +26,8 @@ use Rattle.machine.specs.Cost.{turns}
 use Rattle.machine.specs.Stack.{scopeAbove, Holds, Waits}
 use Rattle.machine.specs.States.{modeOf, written, Turned, TopOf}
 use Rattle.machine.specs.TakeLaws.{words, pops, renewed, goes}
-use Rattle.machine.specs.EnterLaws.{came, wrote}
-use Rattle.machine.specs.FlatLaws.{popped, flat-top, flat-scope, flat-depth, weight-less}
+use Rattle.machine.specs.Moves.{came, wrote, popped}
+use Rattle.machine.specs.FlatLaws.{flat-top, flat-scope, flat-depth, weight-less}
 use Rattle.machine.specs.declared.Words.{Words}
 use Rattle.machine.specs.declared.Machine.{Machine}
 use Rattle.machine.specs.declared.Move.the-variants.{Next}

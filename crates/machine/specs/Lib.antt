@@ -21,6 +21,7 @@ pub mod TellLaws
 pub mod PlainLaws
 pub mod SameLaws
 pub mod StateLaws
+pub mod Moves
 pub mod EnterLaws
 pub mod FrameViews
 pub mod TakeLaws
@@ -37,3 +38,4 @@ pub mod ContractLaws
 pub mod FormulaLaws
 pub mod SetLaws
 pub mod Entering
+pub mod EnteringLaws

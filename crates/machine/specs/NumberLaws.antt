@@ -14,21 +14,14 @@ use Rattle.machine.specs.Came.{Came, Worth, worth, works}
 use Rattle.machine.specs.Frames.{Frame, apply}
 use Rattle.machine.specs.Realm.{Realm}
 use Rattle.machine.specs.Holding.{holding, empty}
-use Rattle.machine.specs.Telling.{isNumber}
 use Rattle.machine.specs.Table.{Began}
 use Rattle.machine.specs.States.{Turned, TopOf}
 use Rattle.machine.specs.StateLaws.{Entered}
-use Rattle.machine.specs.EnterLaws.{came, comes, fails}
+use Rattle.machine.specs.EnterLaws.{comes, fails}
 use Rattle.machine.specs.TakeLaws.{refuses}
-use Rattle.machine.specs.FlatLaws.{popped, yields}
+use Rattle.machine.specs.FlatLaws.{yields}
+use Rattle.machine.specs.Moves.{numbered, popped}
 use Rattle.machine.specs.declared.Machine.{Machine}
-use Rattle.machine.specs.declared.Move.{Move}
-use Rattle.machine.specs.declared.Move.the-variants.{Next, Refused as Refuses}
-
--- the move of a number worked out
-abbrev pub numbered : Machine → Worked → Move
-numbered m (Worked.Value n) = Next (came m isNumber n 0)
-numbered m (Worked.Refused number place) = Refuses number place
 
 -- of an entry
 pub comes-number : {s : Source} {R : Realm s} {mem out : List ℕ} {m : Machine} {x : Result Came} {o : Began} (h : Entered R mem out m x o) (w : Worked) {g : Result ℕ} → says w ≡ g

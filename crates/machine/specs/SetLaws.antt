@@ -10,11 +10,8 @@ use lib.ListN.{length, getD}
 use borrow.Author.Tests.{eq-eqb, ne-eqb}
 use Rattle.language.specs.Laws.Basics.Tests.{pick, leave}
 use Rattle.machine.specs.Memory.{Held, Lies, nowhere, keptSet, value, Sits, inKept, onTop}
+use Rattle.machine.specs.Moves.{above}
 use Rattle.machine.specs.declared.Machine.{Machine}
-
--- the values' end, with a set that stands on top of them
-abbrev pub above : Machine → ℕ
-above m = elim (eqb (m .from) (m .top)) [ true ↦ m .top + m .value | false ↦ m .top ]
 
 pub above-is : (m : Machine) → m .from ≡ m .top → above m ≡ m .top + m .value
 above-is m e = pick (eqb (m .from) (m .top)) _ _ (eq-eqb (m .from) (m .top) e)

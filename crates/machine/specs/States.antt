@@ -111,7 +111,7 @@ pub record Went {s : Source} (R : Realm s) (mem mem' out' : List ℕ) (m n : Mac
 pub record Parted (mem mem' out out' : List ℕ) (m : Machine) : Type 0 where
   pub same : mem' ≡ mem
   pub same-table : out' ≡ out
-  pub mode : m .mode ≤ 1
+  pub mode : m .mode ≤ modeOf Expand
   pub short : m .frames < m .top + (frameWords + reserve + spare + m .value)
 
 abbrev pub After : {s : Source} → Realm s → (mem mem' out out' : List ℕ) → Machine → Result Came → Began → Move → Type 0

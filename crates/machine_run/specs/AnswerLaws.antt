@@ -1,5 +1,5 @@
 -- The runs of `number_of` and `formula_of`: how they begin, and what their answers say.
-use Prim.Native.Nat.{ℕ, suc, _+_, _≤_, _<_}
+use Prim.Native.Nat.{ℕ, suc, _≤_, _<_}
 use mathlib.Core.List.{List, []}
 use mathlib.Core.Path.{_≡_, refl, sym, ap, _∙_, subst}
 use native.Mathlib.Omega.{arith}
@@ -22,7 +22,7 @@ use Rattle.machine.specs.Table.{Began, Laid}
 use Rattle.machine.specs.States.{modeOf, Come, written, State}
 use Rattle.machine.specs.StateLaws.{Final, ended, mode-few}
 use Rattle.machine.specs.declared.Machine.{Machine}
-use Rattle.machine_run.specs.Running.{regionsOf, Room, Given, Runnable, NumberTold, FormulaTold}
+use Rattle.machine_run.specs.Running.{regionsOf, Room, Given, Runnable, NumberTold, FormulaTold, initial, NumberIs}
 use Rattle.machine_run.specs.Evaluating.{Stands, Bare, Evaluated}
 use Rattle.machine_run.specs.StartLaws.{beganAt, Starting, starts, same-table, wrote-behind, noted-at}
 use Rattle.machine_run.specs.declared.cycle.Outcome.{Outcome}
@@ -30,11 +30,6 @@ use Rattle.machine_run.specs.declared.cycle.Outcome.the-variants.{Came a
 use Rattle.machine_run.specs.declared.Written.{Written}
 use Rattle.machine_run.specs.declared.Written.the-variants.{At}
 use Rattle.writing.specs.StayLaws.{wrote-stays}
-
--- a number, or what is none
-pub record NumberIs (n : Machine) (w : Worked) : Type 0 where
-  pub number : n .mode ≡ isNumber → w ≡ Worked.Value (n .value)
-  pub other : (n .mode ≡ isNumber → ⊥) → w ≡ Worked.Refused 9 0
 
 -- what has come of a value, of a formula
 worth-done : (r : Result Value) (v : Came) → (r >>= worth) ≡ Done v → (u : Value) × ((r ≡ Done u) × (v ≡ Worth u))
@@ -56,11 +51,6 @@ nodes-refused : (r : Result Formula) {n p : ℕ} → (r >>= nodes) ≡ Refused n
 unfolding _>>=_
 nodes-refused (Done f) e = absurd (let z : _≡_ {A = ℕ} 0 1 = cc in omega arith)
 nodes-refused (Refused n p) e = cc
-
--- the state in which a run begins
-abbrev pub initial : List ℕ → (entries k at mode : ℕ) → Machine
-initial mem entries k at mode =
-    record { mode = mode; value = k; from = 0; scope = getD mem slotsWord 0; depth = getD mem slotsWord 0; top = getD mem slotsWord 0 + entries; frames = length mem; nodes = at }
 
 module _ {s : Source} {mem table : List ℕ} {entries k at : ℕ} (room : Room s mem table entries k at) (a : Aim) where
   starting : {R : Realm s} {c : Context} {e : Expr} → Given s R mem table entries k at c e → Starting R (regionsOf mem entries) mem table (initial mem entries k at (modeOf a)) a c e

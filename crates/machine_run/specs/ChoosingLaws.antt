@@ -58,7 +58,7 @@ use Rattle.machine.specs.TakeLaws.{top-phase}
 use Rattle.machine.specs.Entering.{Evaluates}
 use Rattle.machine.specs.declared.Machine.{Machine}
 use Rattle.machine.specs.declared.Move.{Move}
-use Rattle.each_steps.specs.MisfitLaws.{Logical, Formless}
+use Rattle.each_steps.specs.Misfits.{Logical, Formless}
 use Rattle.machine_run.specs.Choosing.{Kinded, Collected}
 
 -- a number that is not the lowest

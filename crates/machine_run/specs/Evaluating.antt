@@ -6,11 +6,11 @@ use mathlib.Core.Path.{_≡_}
 use lib.ListN.{length}
 use Rattle.node.specs.Result.{Result, Refused}
 use Rattle.operands.specs.Working.{Source}
-use Rattle.machine.specs.Came.{Came}
+use Rattle.machine.specs.Came.{Expand, Came}
 use Rattle.machine.specs.Memory.{Regions, Keeps, frameWords, spare, reserve}
 use Rattle.machine.specs.Realm.{Realm}
 use Rattle.machine.specs.Table.{Began}
-use Rattle.machine.specs.States.{Lent, State}
+use Rattle.machine.specs.States.{modeOf, Lent, State}
 use Rattle.machine.specs.declared.Machine.{Machine}
 use Rattle.machine.specs.declared.Move.{Move}
 use Rattle.machine.specs.declared.Move.the-variants.{Next, Refused as Refuses}
@@ -47,7 +47,7 @@ pub record Stands (s : Source) (mem out : List ℕ) (m : Machine) : Type 0 where
 
 -- an entry is worked out on an empty stack
 pub record Bare (m : Machine) (words : ℕ) : Type 0 where
-  pub mode : m .mode ≤ 1
+  pub mode : m .mode ≤ modeOf Expand
   pub bare : m .frames ≡ words
 
 pub record Arrives {s : Source} (R : Realm s) (mem mem' out' : List ℕ) (n : Machine) (x : Result Came) (o : Began) : Type 0 where

@@ -17,6 +17,8 @@ use Rattle.machine.specs.Memory.{Regions, slotsWord, frameWords, spare, reserve
 use Rattle.machine.specs.Realm.{Operand, Realm}
 use Rattle.machine.specs.Notes.{Noted, Lasting}
 use Rattle.machine.specs.States.{Lent}
+use Rattle.machine.specs.Telling.{isNumber}
+use Rattle.machine.specs.declared.Machine.{Machine}
 use Rattle.machine_run.specs.declared.Written.{Written}
 use Rattle.machine_run.specs.declared.Written.the-variants.{At}
 
@@ -74,3 +76,13 @@ pub record FormulaTold (s : Source) (mem mem' table table' : List ℕ) (entries 
   pub len : length mem' ≡ length mem
   pub slots : getD mem' slotsWord 0 ≡ getD mem slotsWord 0
   pub tells : (R : Realm s) (c : Context) (e : Expr) → Given s R mem table entries k at c e → Answers (Formed R mem' table table' entries at) r (expansion c e)
+
+-- the state in which a run begins
+abbrev pub initial : List ℕ → (entries k at mode : ℕ) → Machine
+initial mem entries k at mode =
+    record { mode = mode; value = k; from = 0; scope = getD mem slotsWord 0; depth = getD mem slotsWord 0; top = getD mem slotsWord 0 + entries; frames = length mem; nodes = at }
+
+-- a number, or what is none
+pub record NumberIs (n : Machine) (w : Worked) : Type 0 where
+  pub number : n .mode ≡ isNumber → w ≡ Worked.Value (n .value)
+  pub other : (n .mode ≡ isNumber → ⊥) → w ≡ Worked.Refused 9 0

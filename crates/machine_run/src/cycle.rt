@@ -13,7 +13,8 @@ use node::MAX_NODES;
 ghost use Prim.Native.Nat.{_≤_};
 ghost use lib.ListN.{length};
 ghost use Rattle.operands.specs.Working.{source};
-ghost use Rattle.machine.specs.States.{ReadyToWrite, Writes};
+ghost use Rattle.machine.specs.Came.{Expand};
+ghost use Rattle.machine.specs.States.{modeOf, ReadyToWrite, Writes};
 ghost use Rattle.machine_run.specs.Evaluating.{Finished, Going, Stands, Bare, Evaluated, moved};
 
 // What a run comes to: the state in which the answer has come, or a refusal with its number and place.
@@ -65,7 +66,7 @@ fn apart(
     m: Machine,
 ) -> Outcome
     requires { ⌜ Stands (source (now text) (now work) (now refs)) (now memory) (now table) m ⌝ }
-    requires { ⌜ m .mode ≤ 1 ⌝ }
+    requires { ⌜ m .mode ≤ modeOf Expand ⌝ }
     ensures { λ r. ⌜ Writes (source (now (text .entry)) (now (work .entry)) (now (refs .entry))) (now (memory .entry)) (now (memory .exit)) (now (table .entry)) (now (table .exit)) m (moved r) ⌝ }
 {
     let mut fresh = room();

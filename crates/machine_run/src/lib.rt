@@ -21,8 +21,7 @@ ghost use Rattle.node.specs.Limits.{maxNodes};
 ghost use Rattle.operands.specs.Working.{source};
 ghost use mathlib.Core.Path.{_≡_};
 ghost use Rattle.machine.specs.Memory.{slotsWord};
-ghost use Rattle.machine_run.specs.AnswerLaws.{initial as initial', NumberIs};
-ghost use Rattle.machine_run.specs.Running.{Runnable, NumberTold, FormulaTold};
+ghost use Rattle.machine_run.specs.Running.{Runnable, NumberTold, FormulaTold, initial as initial', NumberIs};
 
 // Where a formula's nodes end, 8,193 if they do not fit; or a refusal's number and place.
 pub enum Written {

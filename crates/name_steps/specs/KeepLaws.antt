@@ -39,7 +39,8 @@ use Rattle.machine.specs.Entering.{Waiting}
 use Rattle.machine.specs.declared.Machine.{Machine}
 use Rattle.machine.specs.declared.Move.the-variants.{Next}
 use Rattle.value_steps.specs.NotingLaws.{renoted-noted, renoted-lasting, marking, marking-renoted}
-use Rattle.value_steps.specs.ReleaseLaws.{released, below, Releasing, declared, defined, releases, lets-go}
+use Rattle.value_steps.specs.ReleaseLaws.{below, Releasing, declared, defined, releases, lets-go}
+use Rattle.value_steps.specs.Moves.{released}
 use Rattle.name_steps.specs.Marks.{Marked}
 
 -- the formula that has come of an expression

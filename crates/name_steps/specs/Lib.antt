@@ -1,4 +1,5 @@
 pub mod Marks
 pub mod MarkLaws
+pub mod Named
 pub mod NameLaws
 pub mod KeepLaws

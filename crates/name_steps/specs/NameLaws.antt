@@ -36,10 +36,12 @@ use Rattle.machine.specs.Table.{Began}
 use Rattle.machine.specs.TableLaws.{laid-from, laid-end, wrote-capped}
 use Rattle.machine.specs.States.{modeOf, Ready, ReadyToWrite, Writes}
 use Rattle.machine.specs.StateLaws.{Entered, entered}
-use Rattle.machine.specs.EnterLaws.{wrote, writes, fails}
+use Rattle.machine.specs.EnterLaws.{writes, fails}
+use Rattle.machine.specs.Moves.{wrote}
 use Rattle.machine.specs.Openings.{Enclosed}
 use Rattle.machine.specs.OpenLaws.{encloses}
-use Rattle.machine.specs.Entering.{Expands, works-formula}
+use Rattle.machine.specs.Entering.{Expands}
+use Rattle.machine.specs.EnteringLaws.{works-formula}
 use Rattle.machine.specs.declared.Machine.{Machine}
 use Rattle.machine.specs.declared.Move.{Move}
 use Rattle.machine.specs.declared.Move.the-variants.{Next, Refused as Refuses}
@@ -47,7 +49,7 @@ use Rattle.machine.specs.PlainLaws.{NoFormula, meaning-plain}
 use Rattle.value_steps.specs.NameLaws.{Using, named-by}
 use Rattle.name_steps.specs.Marks.{Copyable, Again}
 use Rattle.name_steps.specs.MarkLaws.{copyable}
-use Rattle.atom_steps.specs.SignalLaws.{Signalled}
+use Rattle.atom_steps.specs.Signals.{Signalled}
 
 -- a state, whatever may be written
 pub ready-of : {s : Source} {mem out : List ℕ} {m : Machine} → ReadyToWrite s mem out m → Ready s mem m
@@ -75,13 +77,6 @@ other-sort v l a b c d e f = upper (lower a b c)
 
     upper : 3 ≤ v → v ≡ Sort.identifier
     upper h = omega arith
-
--- the reference of the entry's name is that of a definition
-pub record Defined (work refs mem : List ℕ) (m : Machine) (r : ℕ) : Type 0 where
-  pub named : Expands work m Kind.named Kind.numeral
-  pub same : r ≡ getD refs (m .value) 0
-  pub declared : r < maxNames
-  pub body : noteAt mem r 0 ≡ Sort.body
 
 module _ {s : Source} {mem out : List ℕ} {m : Machine} (k : Expands (s .work) m Kind.named Kind.numeral) {r : ℕ} (er : r ≡ getD (s .refs) (m .value) 0) where
   -- a big operator's name

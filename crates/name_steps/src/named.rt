@@ -18,7 +18,7 @@ ghost use Rattle.machine.specs.Phases as Phase;
 ghost use Rattle.machine.specs.Entering.{Expands, Waiting};
 ghost use Rattle.machine.specs.States.{ReadyToWrite, Writes, Topped, Takes};
 ghost use Rattle.operands.specs.Working.{source};
-ghost use Rattle.name_steps.specs.NameLaws.{Defined};
+ghost use Rattle.name_steps.specs.Named.{Defined};
 
 pub fn name(
     text: &[u8],

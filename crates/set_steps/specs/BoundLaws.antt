@@ -30,7 +30,7 @@ use Rattle.machine.specs.Memory.{Framed}
 use Rattle.machine.specs.Telling.{isNumber}
 use Rattle.machine.specs.States.{modeOf, Ready, Steps, Takes}
 use Rattle.machine.specs.StateLaws.{entered}
-use Rattle.machine.specs.EnterLaws.{came}
+use Rattle.machine.specs.Moves.{came}
 use Rattle.machine.specs.ComeLaws.{came-number, not-number, misfit-then}
 use Rattle.machine.specs.FrameViews.{by-phase}
 use Rattle.machine.specs.TakeLaws.{words, entry-word, value-word, refuses, top-phase, top-as}
@@ -42,8 +42,10 @@ use Rattle.machine.specs.OperandLaws.{operand-view, operand-as, two-operands}
 use Rattle.machine.specs.declared.Machine.{Machine}
 use Rattle.machine.specs.declared.Move.{Move}
 use Rattle.machine.specs.declared.Move.the-variants.{Next, Refused as Refuses}
-use Rattle.machine.specs.Entering.{Evaluates, Waiting, works-value}
-use Rattle.set_steps.specs.MakingLaws.{made, makes}
+use Rattle.machine.specs.Entering.{Evaluates, Waiting}
+use Rattle.machine.specs.EnteringLaws.{works-value}
+use Rattle.set_steps.specs.MakingLaws.{makes}
+use Rattle.set_steps.specs.Making.{made}
 
 -- the clause as its frames have it
 bounds-same : (p : ℕ) (l h : Bool) (a b : Result Value) → ((a >>= number >>= λ m. b >>= number >>= between p l h m >>= λ s. Done (Set s)) >>= worth)

@@ -12,7 +12,7 @@ use lib.Seq.{getD-set-same, getD-set-other, drop-set-lt}
 use borrow.Author.Tests.{eq-eqb, ne-eqb}
 use Rattle.node.specs.Result.{Result, Done, Refused, _>>=_, guard}
 use Rattle.node.specs.ResultLaws.{bind-again, bind-at}
-use Rattle.language.specs.Limits.{maxTokens, maxNumber, workBytes}
+use Rattle.language.specs.Limits.{maxTokens, maxNumber}
 use Rattle.language.specs.Tokens.{Token, tokens}
 use Rattle.language.specs.Tree.{Expr, Named, Numeral, Truth, Index, Paren, Prefixed, Joined, Nexts, InWindow, Each, Between, Listed, Empty, Element, Range}
 use Rattle.language.specs.Expansion.{Context}
@@ -52,7 +52,8 @@ use Rattle.machine.specs.Table.{Began}
 use Rattle.machine.specs.TableLaws.{laid-as}
 use Rattle.machine.specs.States.{modeOf, written, Ready, Steps, TopOf, Topped, Takes}
 use Rattle.machine.specs.StateLaws.{Entered, entered}
-use Rattle.machine.specs.EnterLaws.{came, comes, entry-few, pushes-in}
+use Rattle.machine.specs.EnterLaws.{comes, entry-few, pushes-in}
+use Rattle.machine.specs.Moves.{came}
 use Rattle.machine.specs.Openings.{opened}
 use Rattle.machine.specs.ComeLaws.{came-number, not-number, misfit-then}
 use Rattle.machine.specs.FrameViews.{by-phase}
@@ -62,12 +63,11 @@ use Rattle.machine.specs.BindLaws.{take-number, set-last}
 use Rattle.machine.specs.OperandLaws.{topped-entry, operand-view, operand-as}
 use Rattle.machine.specs.declared.Machine.{Machine}
 use Rattle.machine.specs.declared.Move.the-variants.{Next, Short, Refused as Refuses}
-use Rattle.machine.specs.Entering.{Evaluates, Waiting, works-value}
-use Rattle.set_steps.specs.MakingLaws.{made, makes}
-
--- where the expression of the element at entry j ends
-abbrev pub elementAt : List ℕ → ℕ → ℕ
-elementAt work j = elim (eqb (kindAt work (j - 1)) Kind.element) [ true ↦ j - 1 - sizeAt work (j - 1) | false ↦ j - 1 ]
+use Rattle.machine.specs.Entering.{Evaluates, Waiting}
+use Rattle.machine.specs.EnteringLaws.{works-value}
+use Rattle.set_steps.specs.MakingLaws.{makes}
+use Rattle.set_steps.specs.Making.{made}
+use Rattle.set_steps.specs.Braces.{elementAt, Elementary}
 
 pub element-followed : (work : List ℕ) (j : ℕ) → kindAt work (j - 1) ≡ Kind.element → elementAt work j ≡ j - 1 - sizeAt work (j - 1)
 element-followed work j e = pick (eqb (kindAt work (j - 1)) Kind.element) _ _ (eq-eqb (kindAt work (j - 1)) Kind.element e)
@@ -88,13 +88,6 @@ element-by false j i = omega arith
 
 pub element-small : (work : List ℕ) (j : ℕ) → elementAt work j ≤ j
 element-small work j = element-by (eqb (kindAt work (j - 1)) Kind.element) j (sizeAt work (j - 1))
-
--- the entries from there on can be read
-pub record Elementary (work : List ℕ) (j : ℕ) : Type 0 where
-  pub some : 0 < j
-  pub few : j < maxTokens
-  pub long : workBytes ≤ length work
-  pub inside : kindAt work (j - 1) ≡ Kind.element → sizeAt work (j - 1) < j
 
 -- what stands in braces behind an element
 data Further : Expr → Type 0 where

@@ -31,14 +31,7 @@ use Rattle.machine.specs.TableLaws.{laid-as}
 use Rattle.machine.specs.States.{written, Turned, TopOf}
 use Rattle.machine.specs.TakeLaws.{words, room-under, refuses-late, pops}
 use Rattle.machine.specs.declared.Machine.{Machine}
-use Rattle.machine.specs.declared.Move.{Move}
-use Rattle.machine.specs.declared.Move.the-variants.{Next, Refused as Refuses}
-use Rattle.value_steps.specs.CombinationLaws.{made-set}
-
--- the move of a set made
-abbrev pub made : Machine → ℕ → Worked → Move
-made m base (Worked.Value n) = Next (made-set m n base)
-made m base (Worked.Refused number place) = Refuses number place
+use Rattle.set_steps.specs.Making.{made}
 
 module _ {s : Source} {R : Realm s} {mem out : List ℕ} {m : Machine} {x : Result Came} {o : Began} {F : Frame} (h : TopOf R mem out m x o F) where
   -- w is the definition's answer g, in n words from the frame's base on

@@ -37,14 +37,15 @@ use Rattle.machine.specs.FrameViews.{by-phase}
 use Rattle.machine.specs.TakeLaws.{entry-word, refuses, top-phase, top-as}
 use Rattle.machine.specs.Openings.{Opened}
 use Rattle.machine.specs.OpenLaws.{opens}
-use Rattle.machine.specs.FlatLaws.{popped}
-use Rattle.machine.specs.NumberLaws.{numbered, yields-number}
+use Rattle.machine.specs.Moves.{popped, numbered}
+use Rattle.machine.specs.NumberLaws.{yields-number}
 use Rattle.machine.specs.BindLaws.{take-set, number-last}
 use Rattle.machine.specs.OperandLaws.{operand-view, operand-as, alongside}
 use Rattle.machine.specs.declared.Machine.{Machine}
 use Rattle.machine.specs.declared.Move.{Move}
 use Rattle.machine.specs.declared.Move.the-variants.{Refused as Refuses}
-use Rattle.machine.specs.Entering.{Evaluates, Waiting, works-value}
+use Rattle.machine.specs.Entering.{Evaluates, Waiting}
+use Rattle.machine.specs.EnteringLaws.{works-value}
 use Rattle.value_steps.specs.PlacedLaws.{elements-are, placed, spanOf, set-under}
 
 -- the clause as its frame has it

@@ -28,17 +28,18 @@ use Rattle.machine.specs.Table.{Began}
 use Rattle.machine.specs.States.{modeOf, Ready, Steps, Come, Topped, Takes}
 use Rattle.machine.specs.StateLaws.{entered}
 use Rattle.machine.specs.FrameViews.{by-phase}
-use Rattle.machine.specs.EnterLaws.{came}
+use Rattle.machine.specs.Moves.{came, popped}
 use Rattle.machine.specs.TakeLaws.{refuses, top-phase, top-as, note-under}
 use Rattle.machine.specs.Openings.{Opened}
 use Rattle.machine.specs.OpenLaws.{opens}
-use Rattle.machine.specs.FlatLaws.{popped, yields}
+use Rattle.machine.specs.FlatLaws.{yields}
 use Rattle.machine.specs.ContractLaws.{takes-next}
 use Rattle.machine.specs.OperandLaws.{operand-view, operand-as, alongside}
 use Rattle.machine.specs.declared.Machine.{Machine}
 use Rattle.machine.specs.declared.Move.{Move}
 use Rattle.machine.specs.declared.Move.the-variants.{Next, Refused as Refuses}
-use Rattle.machine.specs.Entering.{Evaluates, Waiting, works-value}
+use Rattle.machine.specs.Entering.{Evaluates, Waiting}
+use Rattle.machine.specs.EnteringLaws.{works-value}
 use Rattle.machine.specs.FactLaws.{noted-width}
 use Rattle.machine.specs.TellLaws.{tells-bus, tells-unsized, tells-no-bus, came-value}
 

@@ -19,7 +19,7 @@ ghost use Rattle.machine.specs.Phases as Phase;
 ghost use Rattle.machine.specs.States.{Ready, Steps, Topped, Takes};
 ghost use Rattle.operands.specs.Working.{source};
 ghost use Rattle.machine.specs.Entering.{Evaluates, Waiting};
-ghost use Rattle.set_steps.specs.BraceLaws.{elementAt, Elementary};
+ghost use Rattle.set_steps.specs.Braces.{elementAt, Elementary};
 use crate::making::made;
 
 // Where the expression of an element at entry j ends: the further elements stand behind it.

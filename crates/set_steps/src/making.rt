@@ -7,7 +7,7 @@ use sets::Worked;
 ghost use mathlib.Core.Path.{_≡_};
 ghost use Prim.Native.Nat.{_+_, _<_, _^_};
 ghost use Rattle.machine.specs.Memory.{frameWords};
-ghost use Rattle.set_steps.specs.MakingLaws.{made as made'};
+ghost use Rattle.set_steps.specs.Making.{made as made'};
 
 // It stands where the values of the last frame begin, and the frame is gone; or a refusal.
 pub fn made(m: Machine, base: usize, w: Worked) -> Move

@@ -30,20 +30,20 @@ use Rattle.machine.specs.Telling.{isNodes}
 use Rattle.machine.specs.TableLaws.{laid-last, wrote-capped}
 use Rattle.machine.specs.States.{modeOf, Ready, Steps, ToppedToWrite, TakesToWrite}
 use Rattle.machine.specs.StateLaws.{entered}
-use Rattle.machine.specs.EnterLaws.{wrote}
+use Rattle.machine.specs.Moves.{wrote, popped}
 use Rattle.machine.specs.ComeLaws.{came-formula, not-formula, misfit-then}
 use Rattle.machine.specs.FrameViews.{by-phase}
 use Rattle.machine.specs.TakeLaws.{entry-word, refuses, top-phase, top-as}
 use Rattle.machine.specs.Openings.{Opened}
 use Rattle.machine.specs.OpenLaws.{opens}
-use Rattle.machine.specs.FlatLaws.{popped}
 use Rattle.machine.specs.FormulaLaws.{formula-laid, finishes}
 use Rattle.machine.specs.BindLaws.{take-formula, then-nodes}
 use Rattle.machine.specs.OperandLaws.{operand-as, one-operand}
 use Rattle.machine.specs.declared.Machine.{Machine}
 use Rattle.machine.specs.declared.Move.{Move}
 use Rattle.machine.specs.declared.Move.the-variants.{Next, Refused as Refuses}
-use Rattle.machine.specs.Entering.{Expands, Waiting, works-formula, operand-shape}
+use Rattle.machine.specs.Entering.{Expands, Waiting}
+use Rattle.machine.specs.EnteringLaws.{works-formula, operand-shape}
 
 -- the clause as its frame has it
 unary-same : (o : Unary) (a : Result Formula) → ((a >>= λ f. Done (One o f)) >>= nodes) ≡ ((a >>= nodes) >>= λ v. asFormula v >>= λ f. nodes (One o f))

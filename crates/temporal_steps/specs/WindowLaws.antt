@@ -40,20 +40,21 @@ use Rattle.machine.specs.Telling.{isNumber, isNodes}
 use Rattle.machine.specs.TableLaws.{laid-last, laid-end, wrote-capped, laid-sized}
 use Rattle.machine.specs.States.{modeOf, Ready, Steps, Topped, Takes, ToppedToWrite, TakesToWrite}
 use Rattle.machine.specs.StateLaws.{entered}
-use Rattle.machine.specs.EnterLaws.{came, wrote}
+use Rattle.machine.specs.Moves.{came, wrote, popped}
 use Rattle.machine.specs.ComeLaws.{came-number, not-number, came-formula, not-formula, misfit-then}
 use Rattle.machine.specs.FrameViews.{by-phase}
 use Rattle.machine.specs.TakeLaws.{words, entry-word, at-word, value-word, other-word, refuses, top-phase, top-as}
 use Rattle.machine.specs.Openings.{Opened}
 use Rattle.machine.specs.OpenLaws.{opens}
-use Rattle.machine.specs.FlatLaws.{popped, flat-laid, renews}
+use Rattle.machine.specs.FlatLaws.{flat-laid, renews}
 use Rattle.machine.specs.FormulaLaws.{formula-laid, finishes}
 use Rattle.machine.specs.BindLaws.{take-number, take-formula, then-nodes}
 use Rattle.machine.specs.OperandLaws.{operand-as, three-operands}
 use Rattle.machine.specs.declared.Machine.{Machine}
 use Rattle.machine.specs.declared.Move.{Move}
 use Rattle.machine.specs.declared.Move.the-variants.{Next, Refused as Refuses}
-use Rattle.machine.specs.Entering.{Expands, Waiting, works-formula, operand-shape}
+use Rattle.machine.specs.Entering.{Expands, Waiting}
+use Rattle.machine.specs.EnteringLaws.{works-formula, operand-shape}
 use Rattle.machine.specs.SameLaws.{same-nexts, same-chain}
 use Rattle.temporal_steps.specs.TableLaws.{wrote-chain}
 use Rattle.temporal_steps.specs.Windows.{windowBy}

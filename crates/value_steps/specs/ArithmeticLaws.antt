@@ -30,20 +30,21 @@ use Rattle.machine.specs.Holding.{phase}
 use Rattle.machine.specs.Telling.{isNumber}
 use Rattle.machine.specs.States.{modeOf, Ready, Steps, Takes}
 use Rattle.machine.specs.StateLaws.{entered}
-use Rattle.machine.specs.EnterLaws.{came}
+use Rattle.machine.specs.Moves.{came, popped, numbered}
 use Rattle.machine.specs.ComeLaws.{came-number, not-number, misfit-then}
 use Rattle.machine.specs.FrameViews.{by-phase}
 use Rattle.machine.specs.TakeLaws.{words, entry-word, value-word, refuses, top-phase, top-as}
 use Rattle.machine.specs.Openings.{Opened}
 use Rattle.machine.specs.OpenLaws.{opens}
-use Rattle.machine.specs.FlatLaws.{popped, renews}
-use Rattle.machine.specs.NumberLaws.{numbered, yields-number}
+use Rattle.machine.specs.FlatLaws.{renews}
+use Rattle.machine.specs.NumberLaws.{yields-number}
 use Rattle.machine.specs.BindLaws.{take-number, then-worth, number-last}
 use Rattle.machine.specs.OperandLaws.{operand-view, operand-as, two-operands}
 use Rattle.machine.specs.declared.Machine.{Machine}
 use Rattle.machine.specs.declared.Move.{Move}
 use Rattle.machine.specs.declared.Move.the-variants.{Next, Refused as Refuses}
-use Rattle.machine.specs.Entering.{Evaluates, Waiting, works-value}
+use Rattle.machine.specs.Entering.{Evaluates, Waiting}
+use Rattle.machine.specs.EnteringLaws.{works-value}
 
 -- the clause as its frames have it
 calculation-same : (p : ℕ) (o : Arithmetic) (a b : Result Value) → ((a >>= number >>= λ m. b >>= number >>= calculate p o m >>= λ n. Done (Number n)) >>= worth)

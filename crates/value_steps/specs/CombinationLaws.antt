@@ -34,7 +34,8 @@ use Rattle.machine.specs.OperatorLaws.{joined-at, op-combination}
 use Rattle.machine.specs.Memory.{firstKept, frameWords, freeOf, Slotted, nowhere, Held, onTop, Framed}
 use Rattle.machine.specs.MemoryLaws.{held-none, agree-same, agree-from}
 use Rattle.machine.specs.NoteLaws.{noted-kept, lasting-kept}
-use Rattle.machine.specs.SetLaws.{above, above-from, above-most, sits-lies, sits-below, sits-low, lies-under, held-words}
+use Rattle.machine.specs.SetLaws.{above-from, above-most, sits-lies, sits-below, sits-low, lies-under, held-words}
+use Rattle.machine.specs.Moves.{above}
 use Rattle.machine.specs.Telling.{isSet}
 use Rattle.machine.specs.Table.{Began}
 use Rattle.machine.specs.TableLaws.{laid-as}
@@ -53,8 +54,10 @@ use Rattle.machine.specs.OperandLaws.{operand-view, operand-as, two-operands}
 use Rattle.machine.specs.declared.Machine.{Machine}
 use Rattle.machine.specs.declared.Move.{Move}
 use Rattle.machine.specs.declared.Move.the-variants.{Next, Refused as Refuses}
-use Rattle.machine.specs.Entering.{Evaluates, Waiting, works-value}
+use Rattle.machine.specs.Entering.{Evaluates, Waiting}
+use Rattle.machine.specs.EnteringLaws.{works-value}
 use Rattle.value_steps.specs.PlacedLaws.{elements-are, placed}
+use Rattle.value_steps.specs.Moves.{made-set}
 
 -- the clause as its frames have it
 combination-same : (p : ℕ) (o : Combination) (a b : Result Value) → ((a >>= set >>= λ m. b >>= set >>= λ n. limited p (combine o m n) >>= λ l. Done (Set l)) >>= worth)
@@ -205,10 +208,6 @@ module _ {s : Source} {mem : List ℕ} {m : Machine} (w : Waiting mem m Phase.le
           same = ap (apply (LeftSet p op c b)) (g .same) ∙ bind-at (g .set) (λ i. works Evaluate c b >>= combined p op i);
         });
   })
-
--- the next state where a set was made at the frame's base
-abbrev pub made-set : Machine → (n base : ℕ) → Machine
-made-set m n base = record { mode = isSet; value = n; from = base; scope = m .scope; depth = m .depth; top = base; frames = m .frames + frameWords; nodes = m .nodes }
 
 -- the right operand has come: both sets, and the place behind them
 module _ {s : Source} {mem : List ℕ} {m : Machine} (w : Waiting mem m Phase.rightSet) (e : m .mode ≡ isSet) where

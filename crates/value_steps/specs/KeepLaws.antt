@@ -29,14 +29,16 @@ use Rattle.machine.specs.Table.{Began}
 use Rattle.machine.specs.States.{Arrived, Come, Turned, TopOf, Topped, Takes}
 use Rattle.machine.specs.ComeLaws.{came-number, came-set}
 use Rattle.machine.specs.FrameViews.{by-phase}
-use Rattle.machine.specs.EnterLaws.{came}
+use Rattle.machine.specs.Moves.{came}
 use Rattle.machine.specs.TakeLaws.{top-phase, top-as}
 use Rattle.machine.specs.declared.Machine.{Machine}
 use Rattle.machine.specs.declared.Move.the-variants.{Next}
 use Rattle.machine.specs.Entering.{Waiting}
 use Rattle.machine.specs.FactLaws.{fact-of}
-use Rattle.value_steps.specs.ReleaseLaws.{released, below, Releasing, declared, defined, releases, lets-go}
-use Rattle.value_steps.specs.NotingLaws.{Renoted, renoted-noted, renoted-lasting, noting, noting-renoted, past-notes, grown-fits, grown-free, grown-word, grown-renoted}
+use Rattle.value_steps.specs.ReleaseLaws.{below, Releasing, declared, defined, releases, lets-go}
+use Rattle.value_steps.specs.Moves.{released}
+use Rattle.value_steps.specs.NotingLaws.{Renoted, renoted-noted, renoted-lasting, noting-renoted, past-notes, grown-fits, grown-free, grown-word, grown-renoted}
+use Rattle.value_steps.specs.Named.{noting}
 
 -- the value that has come of an expression
 worth-done : (r : Result Value) {v : Value} → (r >>= worth) ≡ Done (Worth v) → r ≡ Done v

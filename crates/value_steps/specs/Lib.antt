@@ -1,9 +1,12 @@
 pub mod NumeralLaws
 pub mod ArithmeticLaws
 pub mod PlacedLaws
+pub mod Moves
 pub mod CombinationLaws
+pub mod Named
 pub mod NameLaws
 pub mod NotingLaws
 pub mod ReleaseLaws
 pub mod KeepLaws
+pub mod Parens
 pub mod ParenLaws

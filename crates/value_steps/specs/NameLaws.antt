@@ -36,14 +36,16 @@ use Rattle.machine.specs.Table.{Began}
 use Rattle.machine.specs.States.{modeOf, Ready, Steps}
 use Rattle.machine.specs.StateLaws.{Entered, entered}
 use Rattle.machine.specs.StackLaws.{stack-room}
-use Rattle.machine.specs.EnterLaws.{came, comes, fails, entry-few}
+use Rattle.machine.specs.EnterLaws.{comes, fails, entry-few}
+use Rattle.machine.specs.Moves.{came}
 use Rattle.machine.specs.Openings.{Enclosed}
 use Rattle.machine.specs.OpenLaws.{encloses}
 use Rattle.machine.specs.OperandLaws.{operand-view, operand-as}
 use Rattle.machine.specs.declared.Machine.{Machine}
 use Rattle.machine.specs.declared.Move.{Move}
 use Rattle.machine.specs.declared.Move.the-variants.{Next, Refused as Refuses}
-use Rattle.machine.specs.Entering.{Evaluates, works-value}
+use Rattle.machine.specs.Entering.{Evaluates}
+use Rattle.machine.specs.EnteringLaws.{works-value}
 
 -- an element of a list of small numbers
 small-at : (env : List ℕ) → All (λ v. v ≤ maxNumber) env → (d : ℕ) → d < length env → numbered 0 env d ≤ maxNumber
@@ -107,13 +109,6 @@ reference-inside h l = let e = entry-few (entered (h .state) l) in let f = h .le
 
 pub note-first : (mem : List ℕ) (r : ℕ) → getD mem (noteWords * r) 0 ≡ noteAt mem r 0
 note-first mem r = ap (λ (i : ℕ). getD mem i 0) (sym (add-zero (noteWords * r)))
-
--- the reference of the entry's name is that of a declared one, which is no definition whose body has to be worked out
-pub record Refers (work refs mem : List ℕ) (m : Machine) (r : ℕ) : Type 0 where
-  pub named : Evaluates work m Kind.named Kind.numeral
-  pub same : r ≡ getD refs (m .value) 0
-  pub declared : r < maxNames
-  pub no-body : noteAt mem r 0 ≡ Sort.body → ⊥
 
 module _ {s : Source} {mem : List ℕ} {m : Machine} (k : Evaluates (s .work) m Kind.named Kind.numeral) {r : ℕ} (er : r ≡ getD (s .refs) (m .value) 0) where
   -- a big operator's name: its element stands in a slot

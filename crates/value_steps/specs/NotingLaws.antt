@@ -19,6 +19,7 @@ use Rattle.machine.specs.Memory.{Regions, noteWords, firstKept, freeWord, slots
 use Rattle.machine.specs.MemoryLaws.{agree-then, word-of, agree-keeps}
 use Rattle.machine.specs.Notes.{Fact, Noted, Lasts, Lasting}
 use Rattle.machine.specs.FactLaws.{fact-keeps}
+use Rattle.value_steps.specs.Named.{noting}
 
 -- the note of r is another, all others stay
 pub record Renoted (z : Regions) (mem mem' : List ℕ) (r sort n a mark : ℕ) : Type 0 where
@@ -72,10 +73,6 @@ module _ {z : Regions} {mem mem' : List ℕ} {r sort n a mark : ℕ} (w : Renote
           subst (λ (i : ℕ). Fact s mem' (meaningAt (R .W) q) i (noteAt mem' q 1) (noteAt mem' q 2)) (sym (w .others q 0 l (omega arith) e))
           (subst (λ (i : ℕ). Fact s mem' (meaningAt (R .W) q) (noteAt mem q 0) i (noteAt mem' q 2)) (sym (w .others q 1 l (omega arith) e))
           (subst (λ (i : ℕ). Fact s mem' (meaningAt (R .W) q) (noteAt mem q 0) (noteAt mem q 1) i) (sym (w .others q 2 l (omega arith) e)) (fact-keeps (agree-keeps (w .agree 0 0 (z .slots) (omega arith))) (h .facts q l))))
-
--- three words of the note are written
-abbrev pub noting : List ℕ → (r sort n a : ℕ) → List ℕ
-noting mem r sort n a = set (set (set mem (noteWords * r) sort) (noteWords * r + 1) n) (noteWords * r + 2) a
 
 module _ (mem : List ℕ) (r sort n a : ℕ) (l : r < maxNames) (fits : firstKept ≤ length mem) where
   abbrev one : List ℕ

@@ -25,10 +25,12 @@ use Rattle.operands.specs.Working.{Source}
 use Rattle.machine.specs.Came.{worth}
 use Rattle.machine.specs.States.{Steps}
 use Rattle.machine.specs.StateLaws.{entered}
-use Rattle.machine.specs.NumberLaws.{numbered, comes-number}
+use Rattle.machine.specs.NumberLaws.{comes-number}
+use Rattle.machine.specs.Moves.{numbered}
 use Rattle.machine.specs.OperandLaws.{operand-view, operand-as}
 use Rattle.machine.specs.declared.Machine.{Machine}
-use Rattle.machine.specs.Entering.{Evaluates, works-value}
+use Rattle.machine.specs.Entering.{Evaluates}
+use Rattle.machine.specs.EnteringLaws.{works-value}
 
 pub numeral-steps : {s : Source} {mem : List ℕ} {m : Machine} {p : ℕ} (w : Worked) → Evaluates (s .work) m Kind.numeral Kind.truth → p ≡ placeAt (s .work) (m .value)
     → says w ≡ inRange p (decimal 0 (digitsAt (s .text) p)) → Steps s mem mem m (numbered m w)

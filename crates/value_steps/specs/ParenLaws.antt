@@ -1,5 +1,5 @@
 -- A parenthesis is what stands in it, as a value and as a formula.
-use Prim.Native.Nat.{ℕ, _-_, _≤_, _<_}
+use Prim.Native.Nat.{ℕ, _-_, _<_}
 use mathlib.Core.List.{List}
 use mathlib.Core.Path.{_≡_, refl, sym, ap, _∙_, subst}
 use mathlib.Core.Option.{some}
@@ -10,7 +10,6 @@ use Rattle.language.specs.Expansion.{Context}
 use Rattle.entries.specs.Kinds as Kind
 use Rattle.entries.specs.Flat.{flat}
 use Rattle.name_values.specs.KnownLaws.{known-paren}
-use Rattle.operands.specs.Entries.{kindAt}
 use Rattle.operands.specs.Classes.{classOf}
 use Rattle.operands.specs.ClassLaws.{has-entry}
 use Rattle.operands.specs.Operands.{below}
@@ -19,15 +18,12 @@ use Rattle.machine.specs.Came.{Aim, Evaluate, Expand, works}
 use Rattle.machine.specs.Realm.{Operand}
 use Rattle.machine.specs.States.{Ready, Steps}
 use Rattle.machine.specs.StateLaws.{entered}
-use Rattle.machine.specs.EnterLaws.{came, leads}
+use Rattle.machine.specs.EnterLaws.{leads}
+use Rattle.machine.specs.Moves.{came}
 use Rattle.machine.specs.OperandLaws.{operand-view, operand-as, alongside}
 use Rattle.machine.specs.declared.Machine.{Machine}
 use Rattle.machine.specs.declared.Move.the-variants.{Next}
-
--- an entry that is a parenthesis, whatever it is worked out as
-pub record Parenthesis (work : List ℕ) (m : Machine) : Type 0 where
-  pub mode : m .mode ≤ 1
-  pub kind : kindAt work (m .value) ≡ Kind.paren
+use Rattle.value_steps.specs.Parens.{Parenthesis}
 
 works-paren : (a : Aim) (c : Context) (t : Token) (e : Expr) → works a c (Paren t e) ≡ works a c e
 works-paren Evaluate c t e = refl

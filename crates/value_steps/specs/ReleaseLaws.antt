@@ -24,16 +24,12 @@ use Rattle.machine.specs.Table.{Began}
 use Rattle.machine.specs.TableLaws.{laid-as}
 use Rattle.machine.specs.Stack.{Returns, Defining}
 use Rattle.machine.specs.States.{Standing, Come, written, Turned, TopOf, Takes}
-use Rattle.machine.specs.EnterLaws.{came}
+use Rattle.machine.specs.Moves.{came}
 use Rattle.machine.specs.TakeLaws.{words, value-word, other-word, room-under, pops}
 use Rattle.machine.specs.declared.Machine.{Machine}
 use Rattle.machine.specs.declared.Move.{Move}
 use Rattle.machine.specs.declared.Move.the-variants.{Next}
-
--- the frame is gone
-abbrev pub released : Machine → ℕ → Machine
-released m scope =
-    record { mode = m .mode; value = m .value; from = m .from; scope = scope; depth = m .depth; top = m .top; frames = m .frames + frameWords; nodes = m .nodes }
+use Rattle.value_steps.specs.Moves.{released}
 
 module _ {s : Source} (R : Realm s) (o : Began) (mem : List ℕ) (m : Machine) (scope : ℕ) where
   same-standing : (v : Value) → Standing R o mem m v → Standing R o mem (released m scope) v

@@ -23,9 +23,8 @@ ghost use Rattle.machine.specs.States.{Ready, Steps, Topped, Takes};
 ghost use Rattle.machine.specs.Telling.{isSet};
 ghost use Rattle.operands.specs.Working.{source};
 ghost use Rattle.machine.specs.Entering.{Evaluates, Waiting};
-ghost use Rattle.value_steps.specs.ReleaseLaws.{released as released'};
-ghost use Rattle.value_steps.specs.NameLaws.{Refers};
-ghost use Rattle.value_steps.specs.NotingLaws.{noting};
+ghost use Rattle.value_steps.specs.Moves.{released as released'};
+ghost use Rattle.value_steps.specs.Named.{Refers, noting};
 
 pub fn name(text: &[u8], work: &[u8], refs: &[u16], memory: &mut [u32], m: Machine) -> Move
     requires { ⌜ Ready (source (now text) (now work) (now refs)) (now memory) m ⌝ }

@@ -3,7 +3,7 @@ use machine::Machine;
 use machine::Move;
 ghost use Rattle.machine.specs.States.{Ready, Steps};
 ghost use Rattle.operands.specs.Working.{source};
-ghost use Rattle.value_steps.specs.ParenLaws.{Parenthesis};
+ghost use Rattle.value_steps.specs.Parens.{Parenthesis};
 
 // What stands in it is worked out in its place.
 pub fn paren(text: &[u8], work: &[u8], refs: &[u16], memory: &[u32], m: Machine) -> Move

@@ -1,6 +1,6 @@
 use native.Mathlib.Omega.{arith}
 use Rattle.atom_steps.specs.BitLaws.{index-inside, index-steps}
-use Rattle.machine.specs.Entering.{expands-open}
+use Rattle.machine.specs.EnteringLaws.{expands-open}
 use borrow.Author.Needs.{needs}
 use Rattle.atom_steps.proofs.bits.index.Statement.{statement}
 use Rattle.atom_steps.proofs.bits.index.Tie as tie

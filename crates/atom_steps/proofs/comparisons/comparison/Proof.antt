@@ -2,7 +2,7 @@ use native.Mathlib.Omega.{arith}
 use Prim.Native.Nat.{ℕ, _-_}
 use mathlib.Core.Path.{ap}
 use Rattle.atom_steps.specs.ComparisonLaws.{comparison-inside, comparison-steps}
-use Rattle.machine.specs.Entering.{expands-open}
+use Rattle.machine.specs.EnteringLaws.{expands-open}
 use Rattle.machine.specs.OperandLaws.{ready-entry}
 use borrow.Author.Needs.{needs}
 use Rattle.atom_steps.proofs.comparisons.comparison.Statement.{statement}

@@ -2,7 +2,7 @@ use mathlib.Core.Path.{refl, ap, _∙_}
 use Rattle.atom_steps.specs.MembershipLaws.{among-misfits, among-placed, among-steps}
 use Rattle.machine.specs.declared.Move.the-variants.{Next}
 use Rattle.machine.specs.declared.Machine.{Machine}
-use Rattle.machine.specs.EnterLaws.{wrote}
+use Rattle.machine.specs.Moves.{wrote}
 use Rattle.machine.specs.ContractLaws.{takes-to-write-as}
 use borrow.Author.Needs.{needs}
 use Rattle.atom_steps.proofs.membership.among.Statement.{statement}

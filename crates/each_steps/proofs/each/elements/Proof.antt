@@ -2,7 +2,7 @@ use mathlib.Core.Path.{refl, ap, _∙_}
 use native.Mathlib.Omega.{arith}
 use Rattle.machine.specs.declared.Machine.{Machine}
 use Rattle.machine.specs.declared.Move.the-variants.{Next}
-use Rattle.machine.specs.EnterLaws.{wrote}
+use Rattle.machine.specs.Moves.{wrote}
 use Rattle.machine.specs.ContractLaws.{takes-to-write-as}
 use Rattle.machine.specs.OperandLaws.{topped-to-write-entry}
 use Rattle.each_steps.specs.EachLaws.{elements-misfits, elements-formless, elements-none, elements-beginning, elements-steps}

@@ -1,7 +1,7 @@
 use native.Mathlib.Omega.{arith}
 use Prim.Native.Nat.{_+_}
 use mathlib.Core.Path.{refl}
-use Rattle.fold_steps.specs.NumberLaws.{ended, going}
+use Rattle.fold_steps.specs.FoldingNumbers.{ended, going}
 use borrow.Author.Needs.{needs}
 use Rattle.fold_steps.proofs.numbers.onward.Statement.{statement}
 use Rattle.fold_steps.proofs.numbers.onward.Tie as tie

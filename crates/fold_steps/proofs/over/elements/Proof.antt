@@ -2,11 +2,11 @@ use native.Mathlib.Omega.{arith}
 use mathlib.Core.Path.{refl, ap, _∙_}
 use Rattle.machine.specs.declared.Machine.{Machine}
 use Rattle.machine.specs.Telling.{isLogic}
-use Rattle.machine.specs.EnterLaws.{came}
+use Rattle.machine.specs.Moves.{came}
 use Rattle.machine.specs.ContractLaws.{takes-as, takes-next}
 use Rattle.machine.specs.OperandLaws.{topped-entry}
-use Rattle.fold_steps.specs.Bigs.{bigBy}
-use Rattle.fold_steps.specs.OverLaws.{overNothing, over-misfits, over-beginning, over-logic, over-nothing, over-numbers, over-sets}
+use Rattle.fold_steps.specs.Bigs.{bigBy, overNothing}
+use Rattle.fold_steps.specs.OverLaws.{over-misfits, over-beginning, over-logic, over-nothing, over-numbers, over-sets}
 use borrow.Author.Needs.{needs}
 use Rattle.fold_steps.proofs.over.elements.Statement.{statement}
 use Rattle.fold_steps.proofs.over.elements.Tie as tie

@@ -1,7 +1,8 @@
 use native.Mathlib.Omega.{arith}
 use Prim.Native.Nat.{_+_}
 use mathlib.Core.Path.{refl}
-use Rattle.fold_steps.specs.FoldPlaces.{foldable-continuing, foldable-lowers, foldable-lowered, keptEnd, lowEnd, keptOn, lowOn}
+use Rattle.fold_steps.specs.FoldPlaces.{foldable-continuing, foldable-lowers, foldable-lowered}
+use Rattle.fold_steps.specs.FoldingSets.{keptEnd, lowEnd, keptOn, lowOn}
 use borrow.Author.Needs.{needs}
 use Rattle.fold_steps.proofs.set_folds.onward.Statement.{statement}
 use Rattle.fold_steps.proofs.set_folds.onward.Tie as tie

@@ -4,7 +4,7 @@ use Prim.Native.Nat.{_+_}
 use Rattle.formula_steps.specs.ConnectiveLaws.{right-misfits, right-small, right-steps}
 use Rattle.machine.specs.declared.Move.the-variants.{Next}
 use Rattle.machine.specs.declared.Machine.{Machine}
-use Rattle.machine.specs.EnterLaws.{wrote}
+use Rattle.machine.specs.Moves.{wrote}
 use Rattle.machine.specs.ContractLaws.{takes-to-write-as}
 use Rattle.machine.specs.OperandLaws.{topped-to-write-entry}
 use borrow.Author.Needs.{needs}

@@ -2,7 +2,7 @@ use native.Mathlib.Omega.{arith}
 use mathlib.Core.Path.{refl, ap, _∙_}
 use Rattle.set_steps.specs.MeasureLaws.{measured-misfits, measured-placed, measured-steps}
 use Rattle.machine.specs.declared.Machine.{Machine}
-use Rattle.machine.specs.NumberLaws.{numbered}
+use Rattle.machine.specs.Moves.{numbered}
 use Rattle.machine.specs.ContractLaws.{takes-as}
 use Rattle.machine.specs.OperandLaws.{topped-entry}
 use borrow.Author.Needs.{needs}

@@ -4,7 +4,7 @@ use Prim.Native.Nat.{_+_}
 use Rattle.temporal_steps.specs.RepetitionLaws.{repeated-misfits, repeated-steps}
 use Rattle.machine.specs.declared.Move.the-variants.{Next}
 use Rattle.machine.specs.declared.Machine.{Machine}
-use Rattle.machine.specs.EnterLaws.{wrote}
+use Rattle.machine.specs.Moves.{wrote}
 use Rattle.machine.specs.ContractLaws.{takes-to-write-as}
 use borrow.Author.Needs.{needs}
 use Rattle.temporal_steps.proofs.repetitions.repeated.Statement.{statement}

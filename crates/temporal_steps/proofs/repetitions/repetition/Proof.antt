@@ -2,7 +2,7 @@ use native.Mathlib.Omega.{arith}
 use Prim.Native.Nat.{ℕ, _-_}
 use mathlib.Core.Path.{ap}
 use Rattle.temporal_steps.specs.RepetitionLaws.{repetition-inside, repetition-steps}
-use Rattle.machine.specs.Entering.{expands-open}
+use Rattle.machine.specs.EnteringLaws.{expands-open}
 use Rattle.machine.specs.OperandLaws.{ready-entry}
 use borrow.Author.Needs.{needs}
 use Rattle.temporal_steps.proofs.repetitions.repetition.Statement.{statement}

@@ -1,6 +1,6 @@
 use mathlib.Core.Path.{refl}
 use Rattle.temporal_steps.specs.UnaryLaws.{unary-inside, unary-steps}
-use Rattle.machine.specs.Entering.{expands-open}
+use Rattle.machine.specs.EnteringLaws.{expands-open}
 use borrow.Author.Needs.{needs}
 use Rattle.temporal_steps.proofs.unaries.unary.Statement.{statement}
 use Rattle.temporal_steps.proofs.unaries.unary.Tie as tie

@@ -1,7 +1,7 @@
 use native.Mathlib.Omega.{arith}
 use mathlib.Core.Path.{refl}
 use Rattle.temporal_steps.specs.WindowLaws.{windowing-inside, last-inside, windowing-steps}
-use Rattle.machine.specs.Entering.{expands-open}
+use Rattle.machine.specs.EnteringLaws.{expands-open}
 use Rattle.machine.specs.OperandLaws.{ready-entry}
 use borrow.Author.Needs.{needs}
 use Rattle.temporal_steps.proofs.windows.windowing.Statement.{statement}

@@ -4,7 +4,8 @@ use mathlib.Core.Path.{refl, ap, _∙_}
 use lib.ListN.{length, getD, length-set}
 use native.Mathlib.Omega.{arith}
 use Rattle.machine.specs.ContractLaws.{takes-next}
-use Rattle.value_steps.specs.ReleaseLaws.{released, takes-in}
+use Rattle.value_steps.specs.ReleaseLaws.{takes-in}
+use Rattle.value_steps.specs.Moves.{released}
 use Rattle.value_steps.specs.KeepLaws.{keep-name, keep-inside, keep-passes, keep-kept, keep-copied}
 use Rattle.machine.specs.declared.Machine.{Machine}
 use borrow.Author.Needs.{needs}

@@ -1,0 +1,42 @@
+-- An entry of a kind: its frame can be pushed; what it is worked out to, as a value or as a formula; the expression that stands there.
+use Prim.Native.Nat.{ℕ}
+use mathlib.Core.List.{List}
+use mathlib.Core.Path.{_≡_, sym, ap, _∙_, subst}
+use native.Mathlib.Omega.{arith}
+use lib.ListN.{length}
+use Rattle.node.specs.Result.{Result, _>>=_}
+use Rattle.language.specs.Tree.{Expr}
+use Rattle.language.specs.Values.{value}
+use Rattle.language.specs.Declared.{Port}
+use Rattle.language.specs.Expansion.{Context, expansion}
+use Rattle.name_values.specs.World.{World}
+use Rattle.operands.specs.Entries.{kindAt}
+use Rattle.operands.specs.ClassLaws.{has-entry}
+use Rattle.operands.specs.Working.{Source}
+use Rattle.operands.specs.Shapes.{Shape, shapeOf, View, view}
+use Rattle.operands.specs.ShapeLaws.{expr-shape}
+use Rattle.machine.specs.Came.{Aim, Evaluate, Expand, Came, worth, nodes, works}
+use Rattle.machine.specs.Realm.{Operand, Realm}
+use Rattle.machine.specs.Table.{Began}
+use Rattle.machine.specs.States.{modeOf, Ready}
+use Rattle.machine.specs.StateLaws.{Entered, aim-evaluate, aim-expand}
+use Rattle.machine.specs.Openings.{Openable}
+use Rattle.machine.specs.OpenLaws.{ready-open}
+use Rattle.machine.specs.Entering.{Expands}
+use Rattle.machine.specs.declared.Machine.{Machine}
+
+-- its frame can be pushed
+pub expands-open : {s : Source} {mem : List ℕ} {m : Machine} {low high : ℕ} → Ready s mem m → Expands (s .work) m low high → Openable (length mem) m
+expands-open h k = let e = k .mode in ready-open h (omega arith)
+
+pub works-value : {s : Source} {R : Realm s} {mem out : List ℕ} {m : Machine} {x : Result Came} {o : Began} (h : Entered R mem out m x o) → m .mode ≡ modeOf Evaluate
+    → works (h .aim) (h .context) (h .tree) ≡ (value (h .context .values) (h .tree) >>= worth)
+works-value h e = ap (λ (a : Aim). works a (h .context) (h .tree)) (aim-evaluate (h .aim) (sym (h .at .mode) ∙ e))
+
+pub works-formula : {s : Source} {R : Realm s} {mem out : List ℕ} {m : Machine} {x : Result Came} {o : Began} (h : Entered R mem out m x o) → m .mode ≡ modeOf Expand
+    → works (h .aim) (h .context) (h .tree) ≡ (expansion (h .context) (h .tree) >>= nodes)
+works-formula h e = ap (λ (a : Aim). works a (h .context) (h .tree)) (aim-expand (h .aim) (sym (h .at .mode) ∙ e))
+
+-- the expression of an entry that is a formula's
+pub operand-shape : {s : Source} {W : World} {ps : List Port} {env : List ℕ} {c : Context} {k : ℕ} {e : Expr} → Operand s W ps env c k e → {z : Shape} → shapeOf (kindAt (s .work) k) ≡ z → View z e
+operand-shape {e = e} p h = subst (λ (y : Shape). View y e) (sym (expr-shape e (has-entry e (p .known .proper)) (p .known .at)) ∙ h) (view e)
