@@ -1,5 +1,6 @@
 -- The phases of frames: what a frame waits for, in the order of specs/Frames.
 use Prim.Native.Nat.{ℕ}
+use mathlib.Core.List.{List, [], _∷_}
 
 abbrev pub measured : ℕ
 measured = 0
@@ -112,3 +113,10 @@ bitOf = 35
 -- how many they are
 abbrev pub count : ℕ
 count = 36
+
+-- what the code's constants stand for, in their order
+abbrev pub phases : List ℕ
+phases =
+    measured ∷ width ∷ left ∷ right ∷ leftSet ∷ rightSet ∷ low ∷ high ∷ elements ∷ rangeFirst ∷ rangeSecond ∷ rangeLast ∷ over ∷ firstNumber ∷ nextNumber ∷ firstSet ∷ nextSet ∷ keepValue ∷ capping ∷
+    leftFormula ∷ rightFormula ∷ leftCompared ∷ rightCompared ∷ member ∷ among ∷ indexed ∷ repeat ∷ repeated ∷ windowFrom ∷ windowTo ∷ windowed ∷ overEach ∷ firstEach ∷ nextEach ∷ keepFormula ∷
+    bitOf ∷ []

@@ -1,4 +1,7 @@
 // The phases of frames (specs/Holding), in the order of specs/Frames: what a frame waits for.
+ghost use mathlib.Core.Path.{_≡_};
+ghost use Rattle.machine.specs.Phases.{phases as phases'};
+
 pub const MEASURED: u32 = 0;
 
 pub const WIDTH: u32 = 1;
@@ -70,3 +73,47 @@ pub const NEXT_EACH: u32 = 33;
 pub const KEEP_FORMULA: u32 = 34;
 
 pub const BIT_OF: u32 = 35;
+
+// What the constants stand for.
+pub fn phases() -> [u32; 36]
+    ensures { λ r. ⌜ r ≡ phases' ⌝ }
+{
+    [
+        MEASURED,
+        WIDTH,
+        LEFT,
+        RIGHT,
+        LEFT_SET,
+        RIGHT_SET,
+        LOW,
+        HIGH,
+        ELEMENTS,
+        RANGE_FIRST,
+        RANGE_SECOND,
+        RANGE_LAST,
+        OVER,
+        FIRST_NUMBER,
+        NEXT_NUMBER,
+        FIRST_SET,
+        NEXT_SET,
+        KEEP_VALUE,
+        CAPPING,
+        LEFT_FORMULA,
+        RIGHT_FORMULA,
+        LEFT_COMPARED,
+        RIGHT_COMPARED,
+        MEMBER,
+        AMONG,
+        INDEXED,
+        REPEAT,
+        REPEATED,
+        WINDOW_FROM,
+        WINDOW_TO,
+        WINDOWED,
+        OVER_EACH,
+        FIRST_EACH,
+        NEXT_EACH,
+        KEEP_FORMULA,
+        BIT_OF,
+    ]
+}
