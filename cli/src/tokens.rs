@@ -236,7 +236,7 @@ fn sign(rest: &[u8]) -> usize {
 }
 
 /// For each first byte the words that begin with it, a bit for each.
-const BEGINNING: [u64; 256] = {
+const BEGINNING: [u128; 256] = {
     let mut beginning = [0; 256];
     let mut number = 0;
     while number < WORDS.len() {

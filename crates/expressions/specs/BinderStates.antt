@@ -47,8 +47,8 @@ member-here {ts} {w} {c} max t r true e =
     let inside = before-end w c (omega arith) in
     ap (λ b. b && named ("IN" ∷ "ELEM" ∷ "<-" ∷ []) (front (rest (drop (c .at) ts)))) (next-class r Name refl)
     ∙ ap (λ us. eqb (kindAt w c) 1 && named ("IN" ∷ "ELEM" ∷ "<-" ∷ []) (front us)) (sym (drop-next (c .at) ts))
-    ∙ ap (λ b. eqb (kindAt w c) 1 && b) (next-named (ready-next r inside) ("IN" ∷ "ELEM" ∷ "<-" ∷ []) refl ∙ no-more (eqb (kindAt w (nextOf c)) 89) (eqb (kindAt w (nextOf c)) 90)
-    (eqb (kindAt w (nextOf c)) 15))
+    ∙ ap (λ b. eqb (kindAt w c) 1 && b) (next-named (ready-next r inside) ("IN" ∷ "ELEM" ∷ "<-" ∷ []) refl ∙ no-more (eqb (kindAt w (nextOf c)) (fixed "IN")) (eqb (kindAt w (nextOf c)) (fixed "ELEM"))
+    (eqb (kindAt w (nextOf c)) (fixed "<-")))
   where
     no-more : (p q o : Bool) → (p || (q || (o || false))) ≡ (p || (q || o))
     no-more true q o = refl
@@ -212,7 +212,7 @@ module _ {ts : Tokens} {s : Cursor} {x : Read Expr} {w : List ℕ} {m : Machine}
       refuses-at h (nextOf (m .c)) (ready-next (h .stacked .ready) fold-inside)
       (reads-fold ∙ ap (λ (r : Read Token). r >>= λ (c, vs). folds (m .level) (here h) vs)
       (leave (next "[" (rest (drop (m .c .at) ts))) (Done (front (rest (drop (m .c .at) ts)), rest (rest (drop (m .c .at) ts)))) (stop (rest (drop (m .c .at) ts)))
-      (next-sign h fold-inside "[" refl ∙ ne-eqb (kindAt w (nextOf (m .c))) 24 f))
+      (next-sign h fold-inside "[" refl ∙ ne-eqb (kindAt w (nextOf (m .c))) _ f))
       ∙ ap stop (sym (drop-next (m .c .at) ts)))
 
   module _ (bracket : kindAt w (nextOf (m .c)) ≡ fixed "[") where
@@ -235,7 +235,7 @@ module _ {ts : Tokens} {s : Cursor} {x : Read Expr} {w : List ℕ} {m : Machine}
               ∙ ap (plug (h .frames))
               (reads-fold ∙ ap (λ (r : Read Token). r >>= λ (c, vs). folds (m .level) (here h) vs)
               (pick (next "[" (rest (drop (m .c .at) ts))) (Done (front (rest (drop (m .c .at) ts)), rest (rest (drop (m .c .at) ts)))) (stop (rest (drop (m .c .at) ts)))
-              (next-sign h fold-inside "[" refl ∙ eq-eqb (kindAt w (nextOf (m .c))) 24 bracket))
+              (next-sign h fold-inside "[" refl ∙ eq-eqb (kindAt w (nextOf (m .c))) _ bracket))
               ∙ bind-at (front (rest (drop (m .c .at) ts)), rest (rest (drop (m .c .at) ts))) _ ∙ ap (folds (m .level) (here h)) (sym (drop-two (m .c .at) ts)));
         }
 

@@ -91,7 +91,7 @@ module _ {ts : Tokens} {s : Cursor} {x : Read Expr} {w : List ℕ} {m : Machine}
                   (grown (credits (h .frames)) (base (h .frames)) [] (flat (h .tree)) tt (h .rooted) (h .stacked) 52 0 (lit< tt) (lit< tt) none tt);
               same =
                   h .same
-                  ∙ ap (plug (h .frames)) (listed-end (h .tree) (drop (m .c .at) ts) (next-number (h .stacked .ready) "," refl ∙ ne-eqb (kindAt w (m .c)) 27 f) ∙ sym
+                  ∙ ap (plug (h .frames)) (listed-end (h .tree) (drop (m .c .at) ts) (next-number (h .stacked .ready) "," refl ∙ ne-eqb (kindAt w (m .c)) _ f) ∙ sym
                   (climbs-zero e (drop (m .c .at) ts)));
             };
         light = omega (arith, stacked-apart (h .stacked), stacked-few (h .stacked));
@@ -159,7 +159,7 @@ module _ {ts : Tokens} {s : Cursor} {x : Read Expr} {w : List ℕ} {m : Machine}
                 firm = ((tt, (λ z. omega arith, tt)), (((h .rooted, tt), (λ z. omega arith, tt)), h .firm));
                 stacked = subst (λ es. Stacked ts s u (nextOf (m .c)) (m .depth + 1 + 1) (slot 17 0 t [] ∷ slot 5 0 t [] ∷ slotsOf (h .frames)) es (0 + (0 + credits (h .frames))))
                     (sym (append-nil (base (h .frames) ++ flat (h .tree)))) (stacked-less both (0 + (0 + credits (h .frames))) (omega arith));
-                same = h .same ∙ ap (plug (h .frames)) (listed-more (h .tree) us (next-number (h .stacked .ready) "," refl ∙ eq-eqb (kindAt w (m .c)) 27 comma) ∙ rest-same);
+                same = h .same ∙ ap (plug (h .frames)) (listed-more (h .tree) us (next-number (h .stacked .ready) "," refl ∙ eq-eqb (kindAt w (m .c)) _ comma) ∙ rest-same);
               };
           light = omega arith;
         })
@@ -203,7 +203,7 @@ module _ {ts : Tokens} {s : Cursor} {x : Read Expr} {w : List ℕ} {m : Machine}
         level = refl;
         stacked = subst (λ u. Stacked ts s u (m .c) (m .depth - 1 + 1) (slot 11 (F .level) (F .token) [] ∷ slotsOf (q .1)) ((base (q .1) ++ flat (F .first)) ++ flat (p .tree))
             (suc (0 + credits (q .1)))) same-buffer (stacked-less pushed (suc (0 + credits (q .1))) (omega arith));
-        same = p .same ∙ ap (plug (q .1)) (leave (next ".." (drop (m .c .at) ts)) _ _ (next-number (h .stacked .ready) ".." refl ∙ ne-eqb (kindAt w (m .c)) 19 f));
+        same = p .same ∙ ap (plug (q .1)) (leave (next ".." (drop (m .c .at) ts)) _ _ (next-number (h .stacked .ready) ".." refl ∙ ne-eqb (kindAt w (m .c)) _ f));
       }
 
   pub kept-two : slotClass (topSlot w (m .depth)) ≡ 16 → (k l i : ℕ) → Kept w (putSlot w (m .depth - 1) k l i) (s .out)

@@ -140,7 +140,7 @@ module _ {ts : Tokens} {s : Cursor} {x : Read Expr} {w : List ℕ} {m : Machine}
           same =
               h .same
               ∙ ap (plug (h .frames))
-              (pick (next "," (drop (c .at) ts)) _ _ (next-number (named-stacked .ready) "," refl ∙ eq-eqb (kindAt namedIn (emittedOf c)) 27 comma)
+              (pick (next "," (drop (c .at) ts)) _ _ (next-number (named-stacked .ready) "," refl ∙ eq-eqb (kindAt namedIn (emittedOf c)) _ comma)
               ∙ ap (λ vs. folds 0 (h .frame .token) vs >>= λ (e, us). resume over e us) (sym (drop-next (c .at) ts)));
         }
 
@@ -163,7 +163,7 @@ module _ {ts : Tokens} {s : Cursor} {x : Read Expr} {w : List ℕ} {m : Machine}
   -- the operand follows
   module _ (no-comma : kindAt namedIn (emittedOf c) ≡ fixed "," → ⊥) where
     ends-here : x ≡ plug (h .frames) (expect "]" (drop (c .at) ts) >>= λ (d, us). reads (levelAt (h .frame .token)) us >>= λ (e, vs). resume over e vs)
-    ends-here = h .same ∙ ap (plug (h .frames)) (leave (next "," (drop (c .at) ts)) _ _ (next-number (named-stacked .ready) "," refl ∙ ne-eqb (kindAt namedIn (emittedOf c)) 27 no-comma))
+    ends-here = h .same ∙ ap (plug (h .frames)) (leave (next "," (drop (c .at) ts)) _ _ (next-number (named-stacked .ready) "," refl ∙ ne-eqb (kindAt namedIn (emittedOf c)) _ no-comma))
 
     pub turn-operand : kindAt namedIn (emittedOf c) ≡ fixed "]" → NameBound ts s x w namedIn m c
         (Next (record { c = nextOf (emittedOf c); depth = m .depth; level = prefixAt (operatorIn namedIn top) % 32; complete = false }))

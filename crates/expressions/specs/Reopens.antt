@@ -143,7 +143,7 @@ module _ {ts : Tokens} {s : Cursor} {x : Read Expr} {w : List ℕ} {m : Machine}
         let p = q .2 in
         reopens F (withFirst Two F (p .tree)) (q .1) _ (nextOf (m .c)) (suc (0 + credits (q .1))) 17 (stacked-next (p .stacked) (sign-inside h _ k (lit< tt))) (p .firm)
         ((p .rooted, tt), (λ z. omega arith, tt)) refl refl (omega arith) (lit< tt) (omega arith) (p .stacked .count) (omega arith) (lit< tt) (lit< tt)
-        (p .same ∙ ap (plug (q .1)) (pick (next "," (drop (m .c .at) ts)) _ _ (next-number (h .stacked .ready) "," refl ∙ eq-eqb (kindAt w (m .c)) 27 k) ∙ ap
+        (p .same ∙ ap (plug (q .1)) (pick (next "," (drop (m .c .at) ts)) _ _ (next-number (h .stacked .ready) "," refl ∙ eq-eqb (kindAt w (m .c)) _ k) ∙ ap
         (λ vs. reads loosest vs >>= λ (y, us). resume (withFirst Two F (p .tree)) y us) (sym (drop-next (m .c .at) ts))))
 
     pub turn-range : slotClass top ≡ 16 → kindAt w (m .c) ≡ fixed ".." → Turned ts s x w (reopenedIn w m 10) m (reopenedOf m (nextOf (m .c)) 17)
@@ -153,7 +153,7 @@ module _ {ts : Tokens} {s : Cursor} {x : Read Expr} {w : List ℕ} {m : Machine}
         let p = q .2 in
         reopens F (withSecond Last F (p .tree)) (q .1) _ (nextOf (m .c)) (suc (1 + credits (q .1))) 17 (stacked-next (p .stacked) (sign-inside h _ k (lit< tt))) (p .firm)
         ((p .firm-top .0 .0, (p .rooted, tt)), (λ z. omega arith, tt)) refl refl (omega arith) (lit< tt) (omega arith) (p .stacked .count) (omega arith) (lit< tt) (lit< tt)
-        (p .same ∙ ap (plug (q .1)) (pick (next ".." (drop (m .c .at) ts)) _ _ (next-number (h .stacked .ready) ".." refl ∙ eq-eqb (kindAt w (m .c)) 19 k) ∙ ap
+        (p .same ∙ ap (plug (q .1)) (pick (next ".." (drop (m .c .at) ts)) _ _ (next-number (h .stacked .ready) ".." refl ∙ eq-eqb (kindAt w (m .c)) _ k) ∙ ap
         (λ vs. reads loosest vs >>= λ (y, us). resume (withSecond Last F (p .tree)) y us) (sym (drop-next (m .c .at) ts))))
 
     -- neither bracket of the two

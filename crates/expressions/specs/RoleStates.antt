@@ -94,12 +94,12 @@ module _ {ts : Tokens} {s : Cursor} {x : Read Expr} {w : List ℕ} {m : Machine}
     -- no bracket follows
     pub turn-bare : (p / 32 % 8 ≡ 4 → ⊥) → (kindAt w (nextOf (m .c)) ≡ fixed "[" → ⊥) → Turned ts s x w (putSlot w (m .depth) 2 (m .level) (m .c .at)) m (Next (pushedOf m (nextOf (m .c)) (p % 32)))
     turn-bare f g =
-        turn-one (ap (takesOne (roleAt (here h))) (next-sign h (inside h not-end) "[" refl ∙ ne-eqb (kindAt w (nextOf (m .c))) 24 g) ∙ takes-bare (roleAt (here h)) (λ e. f (found .role ∙ e)))
+        turn-one (ap (takesOne (roleAt (here h))) (next-sign h (inside h not-end) "[" refl ∙ ne-eqb (kindAt w (nextOf (m .c))) _ g) ∙ takes-bare (roleAt (here h)) (λ e. f (found .role ∙ e)))
 
     -- a bracket follows
     module _ (bracket : kindAt w (nextOf (m .c)) ≡ fixed "[") where
       bracket-here : next "[" (rest (drop (m .c .at) ts)) ≡ true
-      bracket-here = next-sign h (inside h not-end) "[" refl ∙ eq-eqb (kindAt w (nextOf (m .c))) 24 bracket
+      bracket-here = next-sign h (inside h not-end) "[" refl ∙ eq-eqb (kindAt w (nextOf (m .c))) _ bracket
 
       pub turn-count : p / 32 % 8 ≡ 2 → Turned ts s x w (putSlot w (m .depth) 12 (m .level) (m .c .at)) m (Next (pushedOf m (nextOf (nextOf (m .c))) 17))
       turn-count e =

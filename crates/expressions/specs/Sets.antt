@@ -78,7 +78,7 @@ module _ {ts : Tokens} {s : Cursor} {x : Read Expr} {w : List ℕ} {m : Machine}
         set-of 15 (F .level) (F .token) [] tt (q .1) (p .firm) (p .tree) (p .rooted) (nextOf (m .c))
         (stacked-less (stacked-next (p .stacked) (sign-inside h _ k (lit< tt))) (suc (credits (q .1))) (omega arith)) l (ap (under 52 none) (append-nil (flat (p .tree)))) (omega arith)
         (p .stacked .count) (omega arith)
-        (p .same ∙ ap (plug (q .1)) (leave (next "," (drop (m .c .at) ts)) _ _ (next-number (h .stacked .ready) "," refl ∙ other-sign 21 27 k refl) ∙ expect-here (h .stacked .ready) "}" refl _ k))
+        (p .same ∙ ap (plug (q .1)) (leave (next "," (drop (m .c .at) ts)) _ _ (next-number (h .stacked .ready) "," refl ∙ other-sign (fixed "}") (fixed ",") k refl) ∙ expect-here (h .stacked .ready) "}" refl _ k))
 
     pub set-all : slotClass top ≡ 11 → kindAt w (m .c) ≡ fixed "}" → Lists w m (nextOf (m .c)) 2 × Turned ts s x w (listedIn w m (nextOf (m .c)) 2) m (listedOf w m (nextOf (m .c)) 2)
     set-all e k =
@@ -94,7 +94,7 @@ module _ {ts : Tokens} {s : Cursor} {x : Read Expr} {w : List ℕ} {m : Machine}
     unclosed-one e f g =
         let q = popping h One deep e in
         refused-here (q .1) (m .c) (h .stacked .ready)
-        (q .2 .same ∙ ap (plug (q .1)) (leave (next "," (drop (m .c .at) ts)) _ _ (next-number (h .stacked .ready) "," refl ∙ ne-eqb (kindAt w (m .c)) 27 f) ∙ expect-other (h .stacked .ready) "}"
+        (q .2 .same ∙ ap (plug (q .1)) (leave (next "," (drop (m .c .at) ts)) _ _ (next-number (h .stacked .ready) "," refl ∙ ne-eqb (kindAt w (m .c)) _ f) ∙ expect-other (h .stacked .ready) "}"
         refl _ g))
 
     pub unclosed-all : slotClass top ≡ 11 → (kindAt w (m .c) ≡ fixed "}" → ⊥) → Turned ts s x w w m (Ended (refusedAt w (m .c)))

@@ -31,17 +31,17 @@ no-more false true = refl
 no-more false false = refl
 
 pub strict-number : (t : Token) → isStrict t ≡ strictAt (number t)
-strict-number t = named-number ("<" ∷ "LE" ∷ []) t refl ∙ no-more (eqb (number t) 37) (eqb (number t) 84)
+strict-number t = named-number ("<" ∷ "LE" ∷ []) t refl ∙ no-more (eqb (number t) (fixed "<")) (eqb (number t) (fixed "LE"))
 
 module _ {ts : Tokens} {w : List ℕ} {c : Cursor} (ready : Ready ts w c) {B : Type 0} (K : (Token × Bool) × Tokens → Read B) where
   abbrev us : Tokens
   us = drop (c .at) ts
 
   strict-here : named ("<" ∷ "LE" ∷ []) (front us) ≡ strictAt (kindAt w c)
-  strict-here = next-named ready ("<" ∷ "LE" ∷ []) refl ∙ no-more (eqb (kindAt w c) 37) (eqb (kindAt w c) 84)
+  strict-here = next-named ready ("<" ∷ "LE" ∷ []) refl ∙ no-more (eqb (kindAt w c) (fixed "<")) (eqb (kindAt w c) (fixed "LE"))
 
-  lax-here : named ("<=" ∷ "LEQ" ∷ []) (front us) ≡ (eqb (kindAt w c) 13 || eqb (kindAt w c) 85)
-  lax-here = next-named ready ("<=" ∷ "LEQ" ∷ []) refl ∙ no-more (eqb (kindAt w c) 13) (eqb (kindAt w c) 85)
+  lax-here : named ("<=" ∷ "LEQ" ∷ []) (front us) ≡ (eqb (kindAt w c) (fixed "<=") || eqb (kindAt w c) (fixed "LEQ"))
+  lax-here = next-named ready ("<=" ∷ "LEQ" ∷ []) refl ∙ no-more (eqb (kindAt w c) (fixed "<=")) (eqb (kindAt w c) (fixed "LEQ"))
 
   pub sign-here : signAt (kindAt w c) ≡ true → (signOf us >>= K) ≡ K ((front us, isStrict (front us)), drop (c .at + 1) ts)
   sign-here e = go (isStrict (front us)) refl
@@ -53,7 +53,7 @@ module _ {ts : Tokens} {w : List ℕ} {c : Cursor} (ready : Ready ts w c) {B : T
       go : (b : Bool) → isStrict (front us) ≡ b → (signOf us >>= K) ≡ K ((front us, isStrict (front us)), drop (c .at + 1) ts)
       go true z = ends true z (pick (isStrict (front us)) _ _ z)
       go false z =
-          let lax : (eqb (kindAt w c) 13 || eqb (kindAt w c) 85) ≡ true = ap (λ a. a || (eqb (kindAt w c) 13 || eqb (kindAt w c) 85)) (sym z ∙ strict-here) ∙ e in
+          let lax : (eqb (kindAt w c) (fixed "<=") || eqb (kindAt w c) (fixed "LEQ")) ≡ true = ap (λ a. a || (eqb (kindAt w c) (fixed "<=") || eqb (kindAt w c) (fixed "LEQ"))) (sym z ∙ strict-here) ∙ e in
           ends false z (leave (isStrict (front us)) _ _ z ∙ pick (named ("<=" ∷ "LEQ" ∷ []) (front us)) _ _ (lax-here ∙ lax))
 
   pub sign-other : signAt (kindAt w c) ≡ false → (signOf us >>= K) ≡ stop us

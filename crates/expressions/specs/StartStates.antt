@@ -40,11 +40,12 @@ pub drop-two : (n : ℕ) (ts : Tokens) → drop (n + 1 + 1) ts ≡ rest (rest (d
 drop-two n ts = drop-next (n + 1) ts ∙ ap rest (drop-next n ts)
 
 -- a number that is none of those that begin an operand
-pub starters : (k : ℕ) → (k ≡ 1 → ⊥) → (k ≡ 2 → ⊥) → (k ≡ 66 → ⊥) → (k ≡ 67 → ⊥) → (k ≡ 22 → ⊥) → (k ≡ 31 → ⊥) → (k ≡ 20 → ⊥) → starter k ≡ true → ⊥
+pub starters : (k : ℕ) → (k ≡ 1 → ⊥) → (k ≡ 2 → ⊥) → (k ≡ fixed "true" → ⊥) → (k ≡ fixed "false" → ⊥) → (k ≡ fixed "(" → ⊥) → (k ≡ fixed "|" → ⊥) → (k ≡ fixed "{" → ⊥) → starter k ≡ true → ⊥
 starters k a b c d e f g z =
     let no : (n : ℕ) → (k ≡ n → ⊥) → eqb k n ≡ true → ⊥ = λ n h t. h (eqb-true k n t) in
     or-cases (eqb k 1) _ (no 1 a)
-    (or-cases (eqb k 2) _ (no 2 b) (or-cases (eqb k 66) _ (no 66 c) (or-cases (eqb k 67) _ (no 67 d) (or-cases (eqb k 22) _ (no 22 e) (or-cases (eqb k 31) _ (no 31 f) (no 20 g)))))) z
+    (or-cases (eqb k 2) _ (no 2 b) (or-cases (eqb k (fixed "true")) _ (no (fixed "true") c) (or-cases (eqb k (fixed "false")) _ (no (fixed "false") d)
+    (or-cases (eqb k (fixed "(")) _ (no (fixed "(") e) (or-cases (eqb k (fixed "|")) _ (no (fixed "|") f) (no (fixed "{") g)))))) z
 
 module _ {ts : Tokens} {s : Cursor} {x : Read Expr} {w : List ℕ} {m : Machine} (h : State false ts s x w m) where
   abbrev ready : Ready ts w (m .c)
@@ -97,18 +98,18 @@ module _ {ts : Tokens} {s : Cursor} {x : Read Expr} {w : List ℕ} {m : Machine}
     turn-numeral e = leaf-turn (Numeral (here h)) 1 refl (lit< tt) (omega arith) (starts-numeral (m .level) us (no-row none-here) (number-here 2 e))
 
     pub turn-true : kindAt w (m .c) ≡ fixed "true" → Turned ts s x w (leafWritten w m 2) m (leafOf m)
-    turn-true e = leaf-turn (Truth (here h) true) 2 refl (lit< tt) (omega arith) (starts-true (m .level) us (no-row none-here) (number-here 66 e))
+    turn-true e = leaf-turn (Truth (here h) true) 2 refl (lit< tt) (omega arith) (starts-true (m .level) us (no-row none-here) (number-here _ e))
 
     pub turn-false : kindAt w (m .c) ≡ fixed "false" → Turned ts s x w (leafWritten w m 2) m (leafOf m)
-    turn-false e = leaf-turn (Truth (here h) false) 2 refl (lit< tt) (omega arith) (starts-false (m .level) us (no-row none-here) (number-here 67 e))
+    turn-false e = leaf-turn (Truth (here h) false) 2 refl (lit< tt) (omega arith) (starts-false (m .level) us (no-row none-here) (number-here _ e))
 
     pub turn-round : kindAt w (m .c) ≡ fixed "(" → Turned ts s x w (putSlot w (m .depth) 7 (m .level) (m .c .at)) m (Next (pushedOf m (nextOf (m .c)) 17))
     turn-round e = enter-next Round 17 (record { slots = λ l t. refl; trees = λ l t. refl; credit = refl; class = lit< tt }) (λ e. omega arith, tt) (omega arith) (lit< tt) (lit< tt)
-        (starts-round (m .level) us (no-row none-here) (number-here 22 e))
+        (starts-round (m .level) us (no-row none-here) (number-here _ e))
 
     pub turn-bars : kindAt w (m .c) ≡ fixed "|" → Turned ts s x w (putSlot w (m .depth) 8 (m .level) (m .c .at)) m (Next (pushedOf m (nextOf (m .c)) 17))
     turn-bars e = enter-next Bars 17 (record { slots = λ l t. refl; trees = λ l t. refl; credit = refl; class = lit< tt }) (λ e. omega arith, tt) (omega arith) (lit< tt) (lit< tt)
-        (starts-bars (m .level) us (no-row none-here) (number-here 31 e))
+        (starts-bars (m .level) us (no-row none-here) (number-here _ e))
 
     -- no operand begins here
     pub turn-not : ((k : ℕ) → starter k ≡ true → kindAt w (m .c) ≡ k → ⊥) → Turned ts s x w w m (Ended (refusedAt w (m .c)))
@@ -123,12 +124,12 @@ module _ {ts : Tokens} {s : Cursor} {x : Read Expr} {w : List ℕ} {m : Machine}
     pub turn-name : (kindAt w (nextOf (m .c)) ≡ fixed "[" → ⊥) → Turned ts s x w (leafWritten w m 0) m (leafOf m)
     turn-name f =
         leaf-turn (Named (here h)) 0 refl (lit< tt) (omega arith)
-        (starts-name (m .level) us name-row (number-here 1 named) (next-sign (inside (omega arith)) "[" refl ∙ ne-eqb (kindAt w (nextOf (m .c))) 24 f))
+        (starts-name (m .level) us name-row (number-here 1 named) (next-sign (inside (omega arith)) "[" refl ∙ ne-eqb (kindAt w (nextOf (m .c))) _ f))
 
     pub turn-index : kindAt w (nextOf (m .c)) ≡ fixed "[" → Turned ts s x w (putSlot w (m .depth) 9 (m .level) (m .c .at)) m (Next (pushedOf m (nextOf (nextOf (m .c))) 17))
     turn-index e =
         enter-second Square 17 (record { slots = λ l t. refl; trees = λ l t. refl; credit = refl; class = lit< tt }) (λ e. omega arith, tt) (omega arith) (omega arith) (lit< tt) (lit< tt)
-        (starts-index (m .level) us name-row (number-here 1 named) (next-sign (inside (omega arith)) "[" refl ∙ eq-eqb (kindAt w (nextOf (m .c))) 24 e))
+        (starts-index (m .level) us name-row (number-here 1 named) (next-sign (inside (omega arith)) "[" refl ∙ eq-eqb (kindAt w (nextOf (m .c))) _ e))
 
   -- a set
   module _ (brace : kindAt w (m .c) ≡ fixed "{") where
@@ -142,10 +143,10 @@ module _ {ts : Tokens} {s : Cursor} {x : Read Expr} {w : List ℕ} {m : Machine}
         let n = next-inside i (omega arith) in
         completes-at h (Listed (here h) Empty) 51 refl (lit< tt) i (nextOf (nextOf (m .c))) (omega arith) refl
         (stacked-less (stacked-next (stacked-next (h .stacked) i) n) (suc (credits (h .frames))) (omega arith))
-        (starts-empty (m .level) us brace-row (number-here 20 brace) (next-sign i "}" refl ∙ eq-eqb (kindAt w (nextOf (m .c))) 21 e) ∙ ap (climbs (m .level) (Listed (here h) Empty))
+        (starts-empty (m .level) us brace-row (number-here _ brace) (next-sign i "}" refl ∙ eq-eqb (kindAt w (nextOf (m .c))) _ e) ∙ ap (climbs (m .level) (Listed (here h) Empty))
         (sym (drop-two (m .c .at) ts)))
 
     pub turn-set : (kindAt w (nextOf (m .c)) ≡ fixed "}" → ⊥) → Turned ts s x w (putSlot w (m .depth) 15 (m .level) (m .c .at)) m (Next (pushedOf m (nextOf (m .c)) 17))
     turn-set f =
         enter-next One 17 (record { slots = λ l t. refl; trees = λ l t. refl; credit = refl; class = lit< tt }) (λ e. omega arith, tt) (omega arith) (lit< tt) (lit< tt)
-        (starts-set (m .level) us brace-row (number-here 20 brace) (next-sign (inside (omega arith)) "}" refl ∙ ne-eqb (kindAt w (nextOf (m .c))) 21 f))
+        (starts-set (m .level) us brace-row (number-here _ brace) (next-sign (inside (omega arith)) "}" refl ∙ ne-eqb (kindAt w (nextOf (m .c))) _ f))

@@ -10,6 +10,7 @@ use crate::search;
 use crate::sizes;
 use crate::tables::COUNT;
 use crate::tables::ROW;
+use crate::tables::ROW_BYTES;
 use basics::u8_usize::wide;
 use language::limits;
 ghost use mathlib.Core.Path.{_≡_};
@@ -56,7 +57,7 @@ pub fn closed(kind: u32, size: usize) -> Scanned
 }
 
 // A word of the format or a name, of which this is the first byte.
-pub fn word(text: &[u8], at: usize, bytes: &[u8; 512], rows: &[u8; 1584]) -> Scanned
+pub fn word(text: &[u8], at: usize, bytes: &[u8; 512], rows: &[u8; ROW_BYTES]) -> Scanned
     requires { ⌜ Scannable (now text) at (now bytes) (now rows) × (isNameStart (getD (now text) at 0) ≡ true) ⌝ }
     ensures { λ r. ⌜ ScansAs (wordAt (drop at (now (text .entry)))) (drop at (now (text .entry))) r ⌝ }
 {
@@ -82,7 +83,7 @@ pub fn word(text: &[u8], at: usize, bytes: &[u8; 512], rows: &[u8; 1584]) -> Sca
 }
 
 // The longest sign that stands here; this byte begins no name.
-pub fn sign(text: &[u8], at: usize, bytes: &[u8; 512], rows: &[u8; 1584]) -> Scanned
+pub fn sign(text: &[u8], at: usize, bytes: &[u8; 512], rows: &[u8; ROW_BYTES]) -> Scanned
     requires { ⌜ Scannable (now text) at (now bytes) (now rows) × (isNameStart (getD (now text) at 0) ≡ false) ⌝ }
     ensures { λ r. ⌜ ScansAs (signAt signs (drop at (now (text .entry)))) (drop at (now (text .entry))) r ⌝ }
 {
@@ -102,7 +103,7 @@ pub fn sign(text: &[u8], at: usize, bytes: &[u8; 512], rows: &[u8; 1584]) -> Sca
 }
 
 // A comment or a sign, of which this is the slash.
-pub fn slash(text: &[u8], at: usize, bytes: &[u8; 512], rows: &[u8; 1584]) -> Scanned
+pub fn slash(text: &[u8], at: usize, bytes: &[u8; 512], rows: &[u8; ROW_BYTES]) -> Scanned
     requires { ⌜ Scannable (now text) at (now bytes) (now rows) × (getD (now bytes) (2 * getD (now text) at 0) 0 ≡ 3) ⌝ }
     ensures { λ r. ⌜ ((e : Bool) → Scans e (drop at (now (text .entry))) r) ⌝ }
 {
@@ -129,7 +130,7 @@ pub fn digits(
     enumerating: bool,
     k: u8,
     bytes: &[u8; 512],
-    rows: &[u8; 1584],
+    rows: &[u8; ROW_BYTES],
 ) -> Scanned
     requires { ⌜ Scannable (now text) at (now bytes) (now rows) × (k ≡ getD (now bytes) (2 * getD (now text) at 0) 0) × (4 ≤ k) × (k ≤ 6) ⌝ }
     ensures { λ r. ⌜ Scans enumerating (drop at (now (text .entry))) r ⌝ }
@@ -161,7 +162,7 @@ pub fn scan(
     at: usize,
     enumerating: bool,
     bytes: &[u8; 512],
-    rows: &[u8; 1584],
+    rows: &[u8; ROW_BYTES],
 ) -> Scanned
     requires { ⌜ Scannable (now text) at (now bytes) (now rows) ⌝ }
     ensures { λ r. ⌜ Scans enumerating (drop at (now (text .entry))) r ⌝ }

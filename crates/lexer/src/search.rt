@@ -1,6 +1,7 @@
 // The search among the signs and words of the format. The callers stand at a byte of the text, with tables that are right, and show it.
 use crate::tables::COUNT;
 use crate::tables::ROW;
+use crate::tables::ROW_BYTES;
 use basics::u8_usize::wide;
 ghost use mathlib.Core.Path.{_≡_};
 ghost use mathlib.Core.Bool.{_||_};
@@ -28,7 +29,7 @@ pub fn sized(n: usize, size: usize) -> bool
 }
 
 // Do the bytes from `at` on start with the string of row k, which has the size given (0: any)?
-pub fn fits(text: &[u8], at: usize, rows: &[u8; 1584], k: usize, size: usize) -> bool
+pub fn fits(text: &[u8], at: usize, rows: &[u8; ROW_BYTES], k: usize, size: usize) -> bool
     requires { ⌜ Comparable (now text) at (now rows) k ⌝ }
     ensures { λ r. ⌜ r ≡ fitting size (drop at (now (text .entry))) (entry k) ⌝ }
 {
@@ -51,7 +52,7 @@ pub fn fits(text: &[u8], at: usize, rows: &[u8; 1584], k: usize, size: usize) ->
 }
 
 // The first row whose string fits; COUNT if none does. Only rows that begin with the text's byte are looked at.
-pub fn find(text: &[u8], at: usize, rows: &[u8; 1584], first: usize, size: usize) -> usize
+pub fn find(text: &[u8], at: usize, rows: &[u8; ROW_BYTES], first: usize, size: usize) -> usize
     requires { ⌜ Findable (now text) at (now rows) first ⌝ }
     ensures { λ r. ⌜ r ≡ search (fitting size (drop at (now (text .entry)))) entries ⌝ }
 {

@@ -6,6 +6,8 @@ pub const COUNT: usize = 99;
 
 pub const ROW: usize = 16;
 
+pub const ROW_BYTES: usize = COUNT * ROW;
+
 // For byte b: at 2 b its class, at 2 b + 1 the first row of ROWS whose string begins with it (the number of rows if none does). Eight bytes to a line.
 const BYTES: [u8; 512] = *b"\
     \x00\x63\x00\x63\x00\x63\x00\x63\x00\x63\x00\x63\x00\x63\x00\x63\
@@ -44,7 +46,7 @@ const BYTES: [u8; 512] = *b"\
 
 // The signs, longest first, then the words of the format, 16 bytes for each: its length, the next row whose string begins with the same byte (the number of
 // rows if none does), its bytes, zeros.
-const ROWS: [u8; 1584] = *b"\
+const ROWS: [u8; ROW_BYTES] = *b"\
     \x03\x08<->\0\0\0\0\0\0\0\0\0\0\0\
     \x03\x02(*)\0\0\0\0\0\0\0\0\0\0\0\
     \x03\x03(+)\0\0\0\0\0\0\0\0\0\0\0\
@@ -152,7 +154,7 @@ pub fn byte_table() -> [u8; 512]
     BYTES
 }
 
-pub fn row_table() -> [u8; 1584]
+pub fn row_table() -> [u8; ROW_BYTES]
     ensures { λ r. ⌜ RightRows r ⌝ }
 {
     ROWS

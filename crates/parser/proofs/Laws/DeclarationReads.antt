@@ -78,9 +78,9 @@ module _ {ts : Tokens} {w : List ℕ} {c d e : Cursor} (ready : Ready ts w c) (w
 
       pub bus-unclosed : {y : Parse} {n p : ℕ} → y ≡ expected v f (fixed "]") → y ≡ NotParsed n p → Reads ts w v c flatDeclaration bus-answer y
       bus-unclosed x k =
-          reads-refused k (bind-to _ _ _ (ap expression to-tokens ∙ width .read) ∙ bind-refused _ _ _ _ (expect-not (width .took .ready) "]" refl (stopped v f 25 x k))) bus-kept
+          reads-refused k (bind-to _ _ _ (ap expression to-tokens ∙ width .read) ∙ bind-refused _ _ _ _ (expect-not (width .took .ready) "]" refl (stopped v f (fixed "]") x k))) bus-kept
 
-      module _ {b : Cursor} (k : Passed v f b 25) where
+      module _ {b : Cursor} (k : Passed v f b (fixed "]")) where
         bus-took : Took ts v c b (flat (width .value))
         bus-took = took-passed (took-then to-width (r .kept) (width .took)) k (omega arith)
 

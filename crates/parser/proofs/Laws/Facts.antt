@@ -38,19 +38,19 @@ module _ {ts : Tokens} {w : List ℕ} {c : Cursor} (ready : Ready ts w c) where
     where
       go : (a : Bool) → next "Mealy" (drop (c .at) ts) ≡ a → (b : Bool) → next "Moore" (drop (c .at) ts) ≡ b →
           (if a then Done (Mealy, rest (drop (c .at) ts)) else (if b then Done (Moore, rest (drop (c .at) ts)) else stop (drop (c .at) ts))) ≡ Done (m, us) → kindAt w c ≡ fixed "Mealy" + modelCode m
-      go true x b y z = eqb-true (kindAt w c) 46 (sym (next-number ready "Mealy" refl) ∙ x) ∙ ap (λ n. 46 + modelCode n) (done-value z)
-      go false x true y z = eqb-true (kindAt w c) 47 (sym (next-number ready "Moore" refl) ∙ y) ∙ ap (λ n. 46 + modelCode n) (done-value z)
+      go true x b y z = eqb-true (kindAt w c) _ (sym (next-number ready "Mealy" refl) ∙ x) ∙ ap (λ n. fixed "Mealy" + modelCode n) (done-value z)
+      go false x true y z = eqb-true (kindAt w c) _ (sym (next-number ready "Moore" refl) ∙ y) ∙ ap (λ n. fixed "Mealy" + modelCode n) (done-value z)
       go false x false y z = absurd (not-done z)
 
   -- the comma before Strict
-  strict-kind : {s : Bool} {us : Tokens} → strictOf (drop (c .at) ts) ≡ Done (s, us) → eqb (kindAt w c) 27 ≡ s
+  strict-kind : {s : Bool} {us : Tokens} → strictOf (drop (c .at) ts) ≡ Done (s, us) → eqb (kindAt w c) (fixed ",") ≡ s
   strict-kind {s} {us} e = sym (next-number ready "," refl) ∙ go (next "," (drop (c .at) ts)) e
     where
       go : (a : Bool) → _≡_ {A = Read Bool} (elim a [ true ↦ expect "Strict" (rest (drop (c .at) ts)) >>= λ (t, vs). Done (true, vs) | false ↦ Done (false, drop (c .at) ts) ]) (Done (s, us)) → a ≡ s
       go true z = done-value (bind-done (expect "Strict" (rest (drop (c .at) ts))) _ z .2)
       go false z = done-value z
 
-  target-strict : {s : Bool} {us : Tokens} → toTarget (drop (c .at) ts) ≡ Done (s, us) → eqb (kindAt w c) 27 ≡ s
+  target-strict : {s : Bool} {us : Tokens} → toTarget (drop (c .at) ts) ≡ Done (s, us) → eqb (kindAt w c) (fixed ",") ≡ s
   target-strict e =
       let a = bind-done (strictOf (drop (c .at) ts)) _ e in
       let b = bind-done (pairOf "TARGET" ":" (a .0 .1)) _ (a .2) in
@@ -60,7 +60,7 @@ module _ {ts : Tokens} {w : List ℕ} {c : Cursor} (ready : Ready ts w c) where
   closing-kind e =
       let a = bind-done (modelOf (drop (c .at) ts)) _ e in
       let b = bind-done (infoEnd (a .0 .1)) _ (a .2) in
-      model-kind (a .1) ∙ ap (λ n. 46 + modelCode n) (done-value (b .2))
+      model-kind (a .1) ∙ ap (λ n. fixed "Mealy" + modelCode n) (done-value (b .2))
 
 -- a refusal says nothing
 pub uninformed : {ts : Tokens} {w : List ℕ} {c : Cursor} {x : Read Info} {q : Parse} {n p : ℕ} {r : Informed} → r .next ≡ q → q ≡ NotParsed n p → Skims ts w c x q → Informs ts w c x r
@@ -88,8 +88,8 @@ module _ {ts : Tokens} {w : List ℕ} {c d e f : Cursor} {q₁ q₂ q₃ q₄ : 
     unfolding said
     said-read = bind-to _ _ _ (accepted m₁ r₁ .read) ∙ bind-to _ _ _ (semantics .read) ∙ bind-to _ _ _ (accepted m₃ r₃ .read) ∙ bind-to _ _ _ (accepted m₄ r₄ .read)
 
-    pub informed : {k k′ p : ℕ} {b : Bool} {r : Informed} → k ≡ kindAt w d → b ≡ eqb (kindAt w e) 27 → k′ ≡ kindAt w f → p ≡ placeAt w f →
-        r .next ≡ q₄ → r .facts ≡ record { semantics = k - 46; strict = b; target = k′ - 46; place = p } → Informs ts w c answer r
+    pub informed : {k k′ p : ℕ} {b : Bool} {r : Informed} → k ≡ kindAt w d → b ≡ eqb (kindAt w e) (fixed ",") → k′ ≡ kindAt w f → p ≡ placeAt w f →
+        r .next ≡ q₄ → r .facts ≡ record { semantics = k - fixed "Mealy"; strict = b; target = k′ - fixed "Mealy"; place = p } → Informs ts w c answer r
     unfolding said
     informed {k} {k′} {p} {b} {r} x y z u n o =
         record {
@@ -100,9 +100,9 @@ module _ {ts : Tokens} {w : List ℕ} {c d e f : Cursor} {q₁ q₂ q₃ q₄ : 
         made : ℕ → Bool → ℕ → ℕ → Facts
         made a s t l = record { semantics = a; strict = s; target = t; place = l }
 
-        facts : made (k - 46) b (k′ - 46) p ≡ toldOf said
+        facts : made (k - fixed "Mealy") b (k′ - fixed "Mealy") p ≡ toldOf said
         facts =
-            ap (λ a. made a b (k′ - 46) p) (omega (arith, model-kind (accepted m₁ r₁ .took .ready) (semantics .read)))
-            ∙ ap (λ s. made (modelCode (semantics .value)) s (k′ - 46) p) (y ∙ target-strict (semantics .took .ready) (accepted m₃ r₃ .read))
+            ap (λ a. made a b (k′ - fixed "Mealy") p) (omega (arith, model-kind (accepted m₁ r₁ .took .ready) (semantics .read)))
+            ∙ ap (λ s. made (modelCode (semantics .value)) s (k′ - fixed "Mealy") p) (y ∙ target-strict (semantics .took .ready) (accepted m₃ r₃ .read))
             ∙ ap (λ t. made (modelCode (semantics .value)) (accepted m₃ r₃ .value) t p) (omega (arith, closing-kind (accepted m₃ r₃ .took .ready) (accepted m₄ r₄ .read)))
             ∙ ap (made (modelCode (semantics .value)) (accepted m₃ r₃ .value) (modelCode (accepted m₄ r₄ .value))) (u ∙ ready-place (accepted m₃ r₃ .took .ready))

@@ -43,9 +43,9 @@ module _ {ts : Tokens} {w : List ℕ} {c : Cursor} (ready : Ready ts w c) where
 
     pub global-open : {y : Parse} {i p : ℕ} → y ≡ expected w b (fixed "{") → y ≡ NotParsed i p → Reads ts w w c flatGlobals answer y
     unfolding after
-    global-open x m = reads-refused m (opened ∙ bind-refused _ _ _ _ (expect-not global-ready "{" refl (stopped w b 20 x m))) (kept-same w (c .out))
+    global-open x m = reads-refused m (opened ∙ bind-refused _ _ _ _ (expect-not global-ready "{" refl (stopped w b (fixed "{") x m))) (kept-same w (c .out))
 
-    module _ {d : Cursor} (h : Passed w b d 20) {v : List ℕ} {q : Parse} (r : Reads ts w v d (each flatParameter) (optional "PARAMETERS" parameterOf (drop (d .at) ts)) q) where
+    module _ {d : Cursor} (h : Passed w b d (fixed "{")) {v : List ℕ} {q : Parse} (r : Reads ts w v d (each flatParameter) (optional "PARAMETERS" parameterOf (drop (d .at) ts)) q) where
       to-parameters : Took ts w c d []
       to-parameters = took-passed (took-past (took-none ready) n (inside ready k (omega arith))) h (omega arith)
 

@@ -99,25 +99,27 @@ heading-most k = go (rowOf headings k) refl
 -- no word has a number outside the table
 abbrev inTable : List String → Bool
 inTable [] = true
-inTable (s ∷ ss) = (leb 55 (fixed s) && leb (fixed s) 65) && inTable ss
+inTable (s ∷ ss) = (leb (fixed "INPUTS") (fixed s) && leb (fixed s) (fixed "GUARANTEES")) && inTable ss
 
-numbered-out : (ss : List String) (k : ℕ) → inTable ss ≡ true → ((n : ℕ) → 55 ≤ n → n ≤ 65 → k ≡ n → ⊥) → numbered ss k ≡ false
+numbered-out : (ss : List String) (k : ℕ) → inTable ss ≡ true → ((n : ℕ) → fixed "INPUTS" ≤ n → n ≤ fixed "GUARANTEES" → k ≡ n → ⊥) → numbered ss k ≡ false
 numbered-out [] k h out = refl
 numbered-out (s ∷ ss) k h out =
-    let b = and-left (leb 55 (fixed s) && leb (fixed s) 65) (inTable ss) h in
-    ap₂ _||_ (ne-eqb k (fixed s) (out (fixed s) (leb-true 55 (fixed s) (and-left (leb 55 (fixed s)) (leb (fixed s) 65) b)) (leb-true (fixed s) 65 (and-right (leb 55 (fixed s)) (leb (fixed s) 65) b))))
-    (numbered-out ss k (and-right (leb 55 (fixed s) && leb (fixed s) 65) (inTable ss) h) out)
+    let b = and-left (leb (fixed "INPUTS") (fixed s) && leb (fixed s) (fixed "GUARANTEES")) (inTable ss) h in
+    ap₂ _||_
+    (ne-eqb k (fixed s) (out (fixed s) (leb-true (fixed "INPUTS") (fixed s) (and-left (leb (fixed "INPUTS") (fixed s)) (leb (fixed s) (fixed "GUARANTEES")) b))
+    (leb-true (fixed s) (fixed "GUARANTEES") (and-right (leb (fixed "INPUTS") (fixed s)) (leb (fixed s) (fixed "GUARANTEES")) b))))
+    (numbered-out ss k (and-right (leb (fixed "INPUTS") (fixed s) && leb (fixed s) (fixed "GUARANTEES")) (inTable ss) h) out)
 
 abbrev allInTable : List HeadingRow → Bool
 allInTable [] = true
 allInTable (r ∷ rs) = inTable (r .names) && allInTable rs
 
-rows-out : (rs : List HeadingRow) (k : ℕ) → allInTable rs ≡ true → ((n : ℕ) → 55 ≤ n → n ≤ 65 → k ≡ n → ⊥) → rowOf rs k ≡ none
+rows-out : (rs : List HeadingRow) (k : ℕ) → allInTable rs ≡ true → ((n : ℕ) → fixed "INPUTS" ≤ n → n ≤ fixed "GUARANTEES" → k ≡ n → ⊥) → rowOf rs k ≡ none
 rows-out [] k h out = refl
 rows-out (r ∷ rs) k h out =
     leave (numbered (r .names) k) _ _ (numbered-out (r .names) k (and-left (inTable (r .names)) (allInTable rs) h) out) ∙ rows-out rs k (and-right (inTable (r .names)) (allInTable rs) h) out
 
-pub heading-out : (k : ℕ) → ((n : ℕ) → 55 ≤ n → n ≤ 65 → k ≡ n → ⊥) → 8 ≡ headingNumber k
+pub heading-out : (k : ℕ) → ((n : ℕ) → fixed "INPUTS" ≤ n → n ≤ fixed "GUARANTEES" → k ≡ n → ⊥) → 8 ≡ headingNumber k
 unfolding headingNumber
 heading-out k out = sym (ap rowNumber (rows-out headings k refl out))
 
@@ -138,9 +140,9 @@ below-at f (suc n) i h l = go (eqb i n) refl (λ m. below-at f n i (and-right (f
     go true e later = ap f (eqb-true i n e) ∙ and-left (f n) (below f n) h
     go false e later = later (eqb-false i n e)
 
-pub heading-in : (i : ℕ) → i < 11 → getD table i 0 ≡ headingNumber (55 + i)
+pub heading-in : (i : ℕ) → i < 11 → getD table i 0 ≡ headingNumber (fixed "INPUTS" + i)
 unfolding headingNumber
-heading-in i l = eqb-true (getD table i 0) (headingNumber (55 + i)) (below-at (λ j. eqb (getD table j 0) (headingNumber (55 + j))) 11 i refl l)
+heading-in i l = eqb-true (getD table i 0) (headingNumber (fixed "INPUTS" + i)) (below-at (λ j. eqb (getD table j 0) (headingNumber (fixed "INPUTS" + j))) 11 i refl l)
 
 -- how many of the first n subsections have not stood
 abbrev pub left : ℕ → List ℕ → ℕ

@@ -64,10 +64,10 @@ module _ {ts : Tokens} {w : List ℕ} {c : Cursor} (ready : Ready ts w c) {f : P
   module _ {d : Cursor} (h : Passed w c d 1) where
     pub valued-sign : {q : Parse} {n p : ℕ} → q ≡ expected w d (fixed "=") → q ≡ NotParsed n p → Reads ts w w c f (parameterOf (drop (c .at) ts)) q
     valued-sign x m =
-        reads-refused m (bind-to _ _ _ (expectOf-passed ready Name refl h) ∙ bind-refused _ _ _ _ (expect-not (passed-ready ready h (omega arith)) "=" refl (stopped w d 28 x m)))
+        reads-refused m (bind-to _ _ _ (expectOf-passed ready Name refl h) ∙ bind-refused _ _ _ _ (expect-not (passed-ready ready h (omega arith)) "=" refl (stopped w d (fixed "=") x m)))
         (kept-same w (c .out))
 
-module _ {ts : Tokens} {w v : List ℕ} {c d e : Cursor} (ready : Ready ts w c) (h : Passed w c d 1) (g : Passed w d e 28) {q : Parse} (r : Reads ts w v e flat (expression (drop (e .at) ts)) q) where
+module _ {ts : Tokens} {w v : List ℕ} {c d e : Cursor} (ready : Ready ts w c) (h : Passed w c d 1) (g : Passed w d e (fixed "=")) {q : Parse} (r : Reads ts w v e flat (expression (drop (e .at) ts)) q) where
   to-value : Took ts w c e []
   to-value = took-passed (took-passed (took-none ready) h (omega arith)) g (omega arith)
 

@@ -53,18 +53,18 @@ module _ {ts : Tokens} {w v : List ℕ} {c : Cursor} {q : Parse} (r : Reads ts w
     main-ready = globals .took .ready
 
     pub sections-main : {y : Parse} {n p : ℕ} → y ≡ expected v d (fixed "MAIN") → y ≡ NotParsed n p → Reads ts w v c flatSections answer y
-    sections-main x o = reads-refused o (bind-to _ _ _ (globals .read) ∙ bind-refused _ _ _ _ (expect-not main-ready "MAIN" refl (stopped v d 54 x o))) (r .kept)
+    sections-main x o = reads-refused o (bind-to _ _ _ (globals .read) ∙ bind-refused _ _ _ _ (expect-not main-ready "MAIN" refl (stopped v d (fixed "MAIN") x o))) (r .kept)
 
-    module _ {e : Cursor} (h : Passed v d e 54) where
+    module _ {e : Cursor} (h : Passed v d e (fixed "MAIN")) where
       pub open-ready : Ready ts v e
       open-ready = passed-ready main-ready h (omega arith)
 
       pub sections-open : {y : Parse} {n p : ℕ} → y ≡ expected v e (fixed "{") → y ≡ NotParsed n p → Reads ts w v c flatSections answer y
       sections-open x o =
-          reads-refused o (bind-to _ _ _ (globals .read) ∙ bind-to _ _ _ (expect-passed main-ready "MAIN" refl h) ∙ bind-refused _ _ _ _ (expect-not open-ready "{" refl (stopped v e 20 x o)))
+          reads-refused o (bind-to _ _ _ (globals .read) ∙ bind-to _ _ _ (expect-passed main-ready "MAIN" refl h) ∙ bind-refused _ _ _ _ (expect-not open-ready "{" refl (stopped v e (fixed "{") x o)))
           (r .kept)
 
-      module _ {f : Cursor} (g : Passed v e f 20) where
+      module _ {f : Cursor} (g : Passed v e f (fixed "{")) where
         pub subsections-ready : Ready ts v f
         subsections-ready = passed-ready open-ready g (omega arith)
 
@@ -103,17 +103,17 @@ module _ {ts : Tokens} {w : List ℕ} {count end : ℕ} (fits : Fits w (startOf 
           let none : 0 ≡ count = omega arith in
           place-end w (startOf count end) l ∙ sym (tells .last-place) ∙ ap (λ n. front (drop n ts) .at) (sym none)
 
-  first-number : next "INFO" ts ≡ eqb (kindAt w (startOf count end)) 40
-  first-number = is-number "INFO" (front ts) refl ∙ ap (λ n. eqb n 40) (sym first-kind)
+  first-number : next "INFO" ts ≡ eqb (kindAt w (startOf count end)) (fixed "INFO")
+  first-number = is-number "INFO" (front ts) refl ∙ ap (λ n. eqb n (fixed "INFO")) (sym first-kind)
 
-  pub first-refused : {n p : ℕ} → Stopped w (startOf count end) 40 n p → specOf ts ≡ Refused n p
+  pub first-refused : {n p : ℕ} → Stopped w (startOf count end) (fixed "INFO") n p → specOf ts ≡ Refused n p
   first-refused h =
       spec-parts ts ∙ bind-refused _ _ _ _ (leave (next "INFO" ts) _ _ (first-number ∙ ne-eqb _ _ (h .kind)) ∙ same (h .number) (h .place ∙ first-place))
     where
       same : {n p q : ℕ} → n ≡ 4 → p ≡ q → _≡_ {A = Read Token} (Refused 4 q) (Refused n p)
       same e f = cc
 
-  module _ {c : Cursor} (h : Passed w (startOf count end) c 40) where
+  module _ {c : Cursor} (h : Passed w (startOf count end) c (fixed "INFO")) where
     pub first-ready : Ready ts w c
     first-ready =
         let l : 0 < count = before-end w (startOf count end) (omega (arith, h .kind)) in

@@ -1,4 +1,5 @@
 -- `information` meets its contract: the four parts of INFO, and what their words say.
+use Rattle.lexer.specs.Numbers.{fixed}
 use Rattle.parser.proofs.Laws.Facts.{model-kind, closing-kind, uninformed, all-read, informed}
 use Rattle.parser.proofs.Laws.Rows.{accepted}
 use Rattle.parser.proofs.Laws.Skims.{skim-refused, skim-then}
@@ -248,7 +249,7 @@ returns-5 c =
     ready) .took .ready)) (at-p .p .given .1) (at-to-target .to-target .ensures ts (accepted (at-p .p .given .1) (at-model .model .ensures ts (accepted (at-r .r .given .1) (at-to-semantics
     .to-semantics .ensures ts ready) .took .ready)) .took .ready)) (at-q .q .given .1) (at-closing .closing .ensures ts (accepted (at-q .q .given .1) (at-to-target .to-target .ensures ts (accepted
     (at-p .p .given .1) (at-model .model .ensures ts (accepted (at-r .r .given .1) (at-to-semantics .to-semantics .ensures ts ready) .took .ready)) .took .ready)) .took .ready)) (c .enum-told4
-    .given .1) (at-kind .kind .ensures) (ap (λ n. eqb n 27) (at-kind2 .kind2 .ensures)) (at-kind3 .kind3 .ensures) (at-place .place .ensures) refl refl
+    .given .1) (at-kind .kind .ensures) (ap (λ n. eqb n (fixed ",")) (at-kind2 .kind2 .ensures)) (at-kind3 .kind3 .ensures) (at-place .place .ensures) refl refl
 
 pub information-spec : {M : Type 1} → statement M
 information-spec =

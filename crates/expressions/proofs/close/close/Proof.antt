@@ -4,6 +4,7 @@ use native.Mathlib.Omega.{arith}
 use mathlib.Core.Path.{_≡_, sym, ap, _∙_}
 use denote.Ref.{now}
 use Prim.Native.Nat.{_/_}
+use Rattle.lexer.specs.Numbers.{fixed}
 use Rattle.entries.specs.CursorLaws.{before-end}
 use Rattle.expressions.specs.Stack.{slotClass}
 use Rattle.expressions.specs.CompleteLaws.{complete-tops, complete-fits}
@@ -23,7 +24,7 @@ kind-requires c κs =
 
 next-requires : tie.Need-next-requires
 next-requires c κs =
-    let e = (let q : (c .before .before .before .kind) .result ≡ 23 = omega arith in sym ((c .before .before .before .kind) .ensures) ∙ q) in
+    let e = (let q : (c .before .before .before .kind) .result ≡ fixed ")" = omega arith in sym ((c .before .before .before .kind) .ensures) ∙ q) in
     omega (
       arith,
       before-end (now ((c .before .before .before .before .before .before .before .before .before) .args .work))
@@ -38,7 +39,7 @@ build-requires c κs =
     ((c .before .before .before .before .before .before .before .before .before .before) .pre .1)
     (let q : (c .before .before .before .before .before .before .top) .result / 8192 / 32 ≡ 7 = omega arith in
     ap slotClass (sym ((c .before .before .before .before .before .before .top) .ensures)) ∙ q)
-    (let q : (c .before .before .before .before .kind) .result ≡ 23 = omega arith in sym ((c .before .before .before .before .kind) .ensures) ∙ q) .0)
+    (let q : (c .before .before .before .before .kind) .result ≡ fixed ")" = omega arith in sym ((c .before .before .before .before .kind) .ensures) ∙ q) .0)
 
 same-length : tie.Need-same-length
 same-length c = search needs
@@ -49,7 +50,7 @@ returns c =
     (built-round h ((c .before .before .before .before .before .before .before .before .before .before .before .before .before) .pre .1)
     (let q : (c .before .before .before .before .before .before .before .before .before .top) .result / 8192 / 32 ≡ 7 = omega arith in
     ap slotClass (sym ((c .before .before .before .before .before .before .before .before .before .top) .ensures)) ∙ q)
-    (let q : (c .before .before .before .before .before .before .before .kind) .result ≡ 23 = omega arith in
+    (let q : (c .before .before .before .before .before .before .before .kind) .result ≡ fixed ")" = omega arith in
     sym ((c .before .before .before .before .before .before .before .kind) .ensures) ∙ q) .1)
 
 refuse-requires : tie.Need-refuse-requires
@@ -65,11 +66,11 @@ returns-2 c =
     λ ts s x h. rw ((c .refuse) .ensures) (unclosed-round h ((c .before .before .before .before .before .before .before .before .before .before) .pre .1)
     (let q : (c .before .before .before .before .before .before .top) .result / 8192 / 32 ≡ 7 = omega arith in
     ap slotClass (sym ((c .before .before .before .before .before .before .top) .ensures)) ∙ q)
-    (λ z. let q : (c .before .before .before .before .kind) .result ≡ 23 = (c .before .before .before .before .kind) .ensures ∙ z in omega arith))
+    (λ z. let q : (c .before .before .before .before .kind) .result ≡ fixed ")" = (c .before .before .before .before .kind) .ensures ∙ z in omega arith))
 
 next-requires-2 : tie.Need-next-requires-2
 next-requires-2 c κs =
-    let e = (let q : (c .before .before .before .before .kind) .result ≡ 31 = omega arith in sym ((c .before .before .before .before .kind) .ensures) ∙ q) in
+    let e = (let q : (c .before .before .before .before .kind) .result ≡ fixed "|" = omega arith in sym ((c .before .before .before .before .kind) .ensures) ∙ q) in
     omega (
       arith,
       before-end (now ((c .before .before .before .before .before .before .before .before .before .before) .args .work))
@@ -84,7 +85,7 @@ build-requires-2 c κs =
     ((c .before .before .before .before .before .before .before .before .before .before .before) .pre .1)
     (let q : (c .before .before .before .before .before .before .before .top) .result / 8192 / 32 ≡ 8 = omega arith in
     ap slotClass (sym ((c .before .before .before .before .before .before .before .top) .ensures)) ∙ q)
-    (let q : (c .before .before .before .before .before .kind) .result ≡ 31 = omega arith in sym ((c .before .before .before .before .before .kind) .ensures) ∙ q) .0)
+    (let q : (c .before .before .before .before .before .kind) .result ≡ fixed "|" = omega arith in sym ((c .before .before .before .before .before .kind) .ensures) ∙ q) .0)
 
 same-length-3 : tie.Need-same-length-3
 same-length-3 c = search needs
@@ -95,7 +96,7 @@ returns-3 c =
     (built-bars h ((c .before .before .before .before .before .before .before .before .before .before .before .before .before .before) .pre .1)
     (let q : (c .before .before .before .before .before .before .before .before .before .before .top) .result / 8192 / 32 ≡ 8 = omega arith in
     ap slotClass (sym ((c .before .before .before .before .before .before .before .before .before .before .top) .ensures)) ∙ q)
-    (let q : (c .before .before .before .before .before .before .before .before .kind) .result ≡ 31 = omega arith in
+    (let q : (c .before .before .before .before .before .before .before .before .kind) .result ≡ fixed "|" = omega arith in
     sym ((c .before .before .before .before .before .before .before .before .kind) .ensures) ∙ q) .1)
 
 refuse-requires-2 : tie.Need-refuse-requires-2
@@ -111,11 +112,11 @@ returns-4 c =
     λ ts s x h. rw ((c .refuse2) .ensures) (unclosed-bars h ((c .before .before .before .before .before .before .before .before .before .before .before) .pre .1)
     (let q : (c .before .before .before .before .before .before .before .top) .result / 8192 / 32 ≡ 8 = omega arith in
     ap slotClass (sym ((c .before .before .before .before .before .before .before .top) .ensures)) ∙ q)
-    (λ z. let q : (c .before .before .before .before .before .kind) .result ≡ 31 = (c .before .before .before .before .before .kind) .ensures ∙ z in omega arith))
+    (λ z. let q : (c .before .before .before .before .before .kind) .result ≡ fixed "|" = (c .before .before .before .before .before .kind) .ensures ∙ z in omega arith))
 
 next-requires-3 : tie.Need-next-requires-3
 next-requires-3 c κs =
-    let e = (let q : (c .before .before .before .before .before .kind) .result ≡ 25 = omega arith in sym ((c .before .before .before .before .before .kind) .ensures) ∙ q) in
+    let e = (let q : (c .before .before .before .before .before .kind) .result ≡ fixed "]" = omega arith in sym ((c .before .before .before .before .before .kind) .ensures) ∙ q) in
     omega (
       arith,
       before-end (now ((c .before .before .before .before .before .before .before .before .before .before .before) .args .work))
@@ -130,7 +131,7 @@ build-requires-3 c κs =
     ((c .before .before .before .before .before .before .before .before .before .before .before .before) .pre .1)
     (let q : (c .before .before .before .before .before .before .before .before .top) .result / 8192 / 32 ≡ 9 = omega arith in
     ap slotClass (sym ((c .before .before .before .before .before .before .before .before .top) .ensures)) ∙ q)
-    (let q : (c .before .before .before .before .before .before .kind) .result ≡ 25 = omega arith in sym ((c .before .before .before .before .before .before .kind) .ensures) ∙ q) .0)
+    (let q : (c .before .before .before .before .before .before .kind) .result ≡ fixed "]" = omega arith in sym ((c .before .before .before .before .before .before .kind) .ensures) ∙ q) .0)
 
 same-length-5 : tie.Need-same-length-5
 same-length-5 c = search needs
@@ -141,7 +142,7 @@ returns-5 c =
     (built-index h ((c .before .before .before .before .before .before .before .before .before .before .before .before .before .before .before) .pre .1)
     (let q : (c .before .before .before .before .before .before .before .before .before .before .before .top) .result / 8192 / 32 ≡ 9 = omega arith in
     ap slotClass (sym ((c .before .before .before .before .before .before .before .before .before .before .before .top) .ensures)) ∙ q)
-    (let q : (c .before .before .before .before .before .before .before .before .before .kind) .result ≡ 25 = omega arith in
+    (let q : (c .before .before .before .before .before .before .before .before .before .kind) .result ≡ fixed "]" = omega arith in
     sym ((c .before .before .before .before .before .before .before .before .before .kind) .ensures) ∙ q) .1)
 
 refuse-requires-3 : tie.Need-refuse-requires-3
@@ -157,11 +158,11 @@ returns-6 c =
     λ ts s x h. rw ((c .refuse3) .ensures) (unclosed-index h ((c .before .before .before .before .before .before .before .before .before .before .before .before) .pre .1)
     (let q : (c .before .before .before .before .before .before .before .before .top) .result / 8192 / 32 ≡ 9 = omega arith in
     ap slotClass (sym ((c .before .before .before .before .before .before .before .before .top) .ensures)) ∙ q)
-    (λ z. let q : (c .before .before .before .before .before .before .kind) .result ≡ 25 = (c .before .before .before .before .before .before .kind) .ensures ∙ z in omega arith))
+    (λ z. let q : (c .before .before .before .before .before .before .kind) .result ≡ fixed "]" = (c .before .before .before .before .before .before .kind) .ensures ∙ z in omega arith))
 
 next-requires-4 : tie.Need-next-requires-4
 next-requires-4 c κs =
-    let e = (let q : (c .before .before .before .before .before .kind) .result ≡ 21 = omega arith in sym ((c .before .before .before .before .before .kind) .ensures) ∙ q) in
+    let e = (let q : (c .before .before .before .before .before .kind) .result ≡ fixed "}" = omega arith in sym ((c .before .before .before .before .before .kind) .ensures) ∙ q) in
     omega (
       arith,
       before-end (now ((c .before .before .before .before .before .before .before .before .before .before .before) .args .work))
@@ -179,7 +180,7 @@ build-requires-4 c κs =
     let high = (c .before .before .before .before .before .before .before .before .before .before .before .before) .pre .3 in
     let e = ap slotClass ((c .before .before .before .before .before .before .before .before .top) .ensures) in omega arith) in
     ap slotClass (sym ((c .before .before .before .before .before .before .before .before .top) .ensures)) ∙ q)
-    (let q : (c .before .before .before .before .before .before .kind) .result ≡ 21 = omega arith in sym ((c .before .before .before .before .before .before .kind) .ensures) ∙ q) .0)
+    (let q : (c .before .before .before .before .before .before .kind) .result ≡ fixed "}" = omega arith in sym ((c .before .before .before .before .before .before .kind) .ensures) ∙ q) .0)
 
 same-length-7 : tie.Need-same-length-7
 same-length-7 c = search needs
@@ -193,7 +194,7 @@ returns-7 c =
     let high = (c .before .before .before .before .before .before .before .before .before .before .before .before .before .before .before) .pre .3 in
     let e = ap slotClass ((c .before .before .before .before .before .before .before .before .before .before .before .top) .ensures) in omega arith) in
     ap slotClass (sym ((c .before .before .before .before .before .before .before .before .before .before .before .top) .ensures)) ∙ q)
-    (let q : (c .before .before .before .before .before .before .before .before .before .kind) .result ≡ 21 = omega arith in
+    (let q : (c .before .before .before .before .before .before .before .before .before .kind) .result ≡ fixed "}" = omega arith in
     sym ((c .before .before .before .before .before .before .before .before .before .kind) .ensures) ∙ q) .1)
 
 refuse-requires-4 : tie.Need-refuse-requires-4
@@ -212,7 +213,7 @@ returns-8 c =
     let high = (c .before .before .before .before .before .before .before .before .before .before .before .before) .pre .3 in
     let e = ap slotClass ((c .before .before .before .before .before .before .before .before .top) .ensures) in omega arith) in
     ap slotClass (sym ((c .before .before .before .before .before .before .before .before .top) .ensures)) ∙ q)
-    (λ z. let q : (c .before .before .before .before .before .before .kind) .result ≡ 21 = (c .before .before .before .before .before .before .kind) .ensures ∙ z in omega arith))
+    (λ z. let q : (c .before .before .before .before .before .before .kind) .result ≡ fixed "}" = (c .before .before .before .before .before .before .kind) .ensures ∙ z in omega arith))
 
 pub close-spec : {M : Type 1} → statement M
 close-spec =

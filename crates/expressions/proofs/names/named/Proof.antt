@@ -2,6 +2,7 @@
 use borrow.Author.Needs.{needs}
 use native.Mathlib.Omega.{arith}
 use mathlib.Core.Path.{_≡_, sym, _∙_}
+use Rattle.lexer.specs.Numbers.{fixed}
 use Rattle.entries.specs.Cursors.{kindAt, emittedOf}
 use Rattle.entries.specs.CursorLaws.{before-end}
 use Rattle.expressions.specs.NameStates.{namedIn, ranged-tops, ranged-grows, named-fits, comma-inside, names-further, turn-further, turn-operand, turn-unnamed}
@@ -38,8 +39,8 @@ next-requires c κs =
     let at-binder-kind = at-grow .before in
     let at-top = at-binder-kind .before .before in
     let start = at-top .before .before .before in
-    let k : kindAt (namedIn (start .pre .state)) (emittedOf (start .args .c)) ≡ 27 =
-    (let q : (at-kind .kind) .result ≡ 27 = omega arith in sym (rw ((at-grow .grow) .ensures .0, (at-grow .grow) .ensures .1, (at-binder-kind .binder-kind) .ensures, (at-top .top) .ensures) at
+    let k : kindAt (namedIn (start .pre .state)) (emittedOf (start .args .c)) ≡ fixed "," =
+    (let q : (at-kind .kind) .result ≡ fixed "," = omega arith in sym (rw ((at-grow .grow) .ensures .0, (at-grow .grow) .ensures .1, (at-binder-kind .binder-kind) .ensures, (at-top .top) .ensures) at
     ((at-kind .kind) .ensures)) ∙ q) in let i = comma-inside (start .pre .state) k in rw ((at-grow .grow) .ensures .0) (omega (arith, named-fits (start .pre .state) .few))
 
 cast-binder : tie.Need-cast-binder
@@ -52,8 +53,8 @@ binder-requires c κs =
     let at-binder-kind = at-grow .before in
     let at-top = at-binder-kind .before .before in
     let start-2 = at-top .before .before .before in
-    let k : kindAt (namedIn (start-2 .pre .state)) (emittedOf (start-2 .args .c)) ≡ 27 =
-    (let q : (at-kind .kind) .result ≡ 27 = omega arith in sym (rw ((at-grow .grow) .ensures .0, (at-grow .grow) .ensures .1, (at-binder-kind .binder-kind) .ensures, (at-top .top) .ensures) at
+    let k : kindAt (namedIn (start-2 .pre .state)) (emittedOf (start-2 .args .c)) ≡ fixed "," =
+    (let q : (at-kind .kind) .result ≡ fixed "," = omega arith in sym (rw ((at-grow .grow) .ensures .0, (at-grow .grow) .ensures .1, (at-binder-kind .binder-kind) .ensures, (at-top .top) .ensures) at
     ((at-kind .kind) .ensures)) ∙ q) in rw ((c .next) .ensures, (at-grow .grow) .ensures .0, (at-grow .grow) .ensures .1, (at-binder-kind .binder-kind) .ensures, (at-top .top) .ensures)
     (record { tokens = start-2 .pre .tokens; start = start-2 .pre .start; answer = start-2 .pre .answer; state = names-further (start-2 .pre .state) k })
 
@@ -69,8 +70,8 @@ returns c =
     let at-binder-kind = at-grow .before in
     let at-top = at-binder-kind .before .before in
     let start = at-top .before .before .before in
-    λ ts s x h. let k : kindAt (namedIn h) (emittedOf (start .args .c)) ≡ 27 =
-    (let q : (at-kind .kind) .result ≡ 27 = omega arith in sym (rw ((at-grow .grow) .ensures .0, (at-grow .grow) .ensures .1, (at-binder-kind .binder-kind) .ensures, (at-top .top) .ensures) at
+    λ ts s x h. let k : kindAt (namedIn h) (emittedOf (start .args .c)) ≡ fixed "," =
+    (let q : (at-kind .kind) .result ≡ fixed "," = omega arith in sym (rw ((at-grow .grow) .ensures .0, (at-grow .grow) .ensures .1, (at-binder-kind .binder-kind) .ensures, (at-top .top) .ensures) at
     ((at-kind .kind) .ensures)) ∙ q) in turn-further h k (rw (
       (at-next .next) .ensures,
       (at-grow .grow) .ensures .0,
@@ -98,8 +99,8 @@ next-requires-2 c κs =
     let at-binder-kind = at-grow .before in
     let at-top = at-binder-kind .before .before in
     let start = at-top .before .before .before in
-    let k : kindAt (namedIn (start .pre .state)) (emittedOf (start .args .c)) ≡ 25 =
-    (let q : (at-kind .kind) .result ≡ 25 = omega arith in sym (rw ((at-grow .grow) .ensures .0, (at-grow .grow) .ensures .1, (at-binder-kind .binder-kind) .ensures, (at-top .top) .ensures) at
+    let k : kindAt (namedIn (start .pre .state)) (emittedOf (start .args .c)) ≡ fixed "]" =
+    (let q : (at-kind .kind) .result ≡ fixed "]" = omega arith in sym (rw ((at-grow .grow) .ensures .0, (at-grow .grow) .ensures .1, (at-binder-kind .binder-kind) .ensures, (at-top .top) .ensures) at
     ((at-kind .kind) .ensures)) ∙ q) in let i = before-end (namedIn (start .pre .state)) (emittedOf (start .args .c)) (omega arith) in
     rw ((at-grow .grow) .ensures .0) (omega (arith, named-fits (start .pre .state) .few))
 
@@ -114,8 +115,8 @@ returns-2 c =
     let at-binder-kind = at-grow .before in
     let at-top = at-binder-kind .before .before in
     let start = at-top .before .before .before in
-    λ ts s x h. let k : kindAt (namedIn h) (emittedOf (start .args .c)) ≡ 25 =
-    (let q : (at-kind .kind) .result ≡ 25 = omega arith in sym (rw ((at-grow .grow) .ensures .0, (at-grow .grow) .ensures .1, (at-binder-kind .binder-kind) .ensures, (at-top .top) .ensures) at
+    λ ts s x h. let k : kindAt (namedIn h) (emittedOf (start .args .c)) ≡ fixed "]" =
+    (let q : (at-kind .kind) .result ≡ fixed "]" = omega arith in sym (rw ((at-grow .grow) .ensures .0, (at-grow .grow) .ensures .1, (at-binder-kind .binder-kind) .ensures, (at-top .top) .ensures) at
     ((at-kind .kind) .ensures)) ∙ q) in rw (
       (c .next2) .ensures,
       (c .before .prefix) .ensures,
@@ -125,7 +126,7 @@ returns-2 c =
       (at-binder-kind .binder-kind) .ensures,
       (at-top .top) .ensures,
     )
-    (turn-operand h (λ z. let q : (at-kind .kind) .result ≡ 27 = (rw ((at-grow .grow) .ensures .0, (at-grow .grow) .ensures .1, (at-binder-kind .binder-kind) .ensures, (at-top .top) .ensures) at
+    (turn-operand h (λ z. let q : (at-kind .kind) .result ≡ fixed "," = (rw ((at-grow .grow) .ensures .0, (at-grow .grow) .ensures .1, (at-binder-kind .binder-kind) .ensures, (at-top .top) .ensures) at
     ((at-kind .kind) .ensures)) ∙ z in omega arith) k)
 
 refuse-requires : tie.Need-refuse-requires
@@ -147,8 +148,8 @@ returns-3 c =
     let at-binder-kind = at-grow .before in
     let at-top = at-binder-kind .before .before in
     λ ts s x h. rw ((c .refuse) .ensures, (at-grow .grow) .ensures .0, (at-grow .grow) .ensures .1, (at-binder-kind .binder-kind) .ensures, (at-top .top) .ensures)
-    (turn-unnamed h (λ z. let q : (at-kind .kind) .result ≡ 27 = (rw ((at-grow .grow) .ensures .0, (at-grow .grow) .ensures .1, (at-binder-kind .binder-kind) .ensures, (at-top .top) .ensures) at
-    ((at-kind .kind) .ensures)) ∙ z in omega arith) (λ z. let q : (at-kind .kind) .result ≡ 25 =
+    (turn-unnamed h (λ z. let q : (at-kind .kind) .result ≡ fixed "," = (rw ((at-grow .grow) .ensures .0, (at-grow .grow) .ensures .1, (at-binder-kind .binder-kind) .ensures, (at-top .top) .ensures) at
+    ((at-kind .kind) .ensures)) ∙ z in omega arith) (λ z. let q : (at-kind .kind) .result ≡ fixed "]" =
     (rw ((at-grow .grow) .ensures .0, (at-grow .grow) .ensures .1, (at-binder-kind .binder-kind) .ensures, (at-top .top) .ensures) at ((at-kind .kind) .ensures)) ∙ z in omega arith))
 
 pub named-spec : {M : Type 1} → statement M

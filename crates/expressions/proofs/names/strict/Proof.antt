@@ -3,6 +3,7 @@ use mathlib.Core.Path.{sym, ap}
 use lib.Dec.{eqb}
 use mathlib.Core.Bool.{_||_}
 use borrow.Author.Tests.{ne-eqb}
+use Rattle.lexer.specs.Numbers.{fixed}
 use Rattle.expressions.specs.Signs.{strictAt}
 use Rattle.expressions.proofs.names.strict.Statement.{statement}
 use Rattle.expressions.proofs.names.strict.Tie as tie
@@ -11,7 +12,7 @@ returns : tie.Need-returns
 returns c = sym (ap strictAt ((c .if1) .taken))
 
 returns-2 : tie.Need-returns-2
-returns-2 c = let n = (c .before) .args .number in sym (ap (λ b. b || eqb n 84) (ne-eqb n 37 ((c .if1) .left)))
+returns-2 c = let n = (c .before) .args .number in sym (ap (λ b. b || eqb n (fixed "LE")) (ne-eqb n _ ((c .if1) .left)))
 
 pub strict-spec : {M : Type 1} → statement M
 strict-spec =

@@ -4,6 +4,7 @@ use native.Mathlib.Omega.{arith}
 use mathlib.Core.Path.{sym, ap, _∙_}
 use lib.Dec.{lit<}
 use denote.Ref.{now}
+use Rattle.lexer.specs.Numbers.{fixed}
 use Rattle.entries.specs.Cursors.{nextOf, expected}
 use Rattle.expressions.specs.BinderStates.{expected-parsed, expected-refused, fold-inside, fold-fits, turn-unopened, fold-names, turn-fold}
 use Rattle.expressions.proofs.roles.fold.Statement.{statement}
@@ -33,8 +34,8 @@ returns c =
     let at-expect = c .before .before in
     let at-next = at-expect .before .before in
     let start = at-next .before .before .before in
-    λ ts s x h. let r = expected-refused (now (start .args .work)) (nextOf ((start .args .m) .c)) 24 _ _
-    (ap (λ d. expected (now (start .args .work)) d 24) (sym ((at-next .next) .ensures)) ∙ sym ((at-expect .expect) .ensures) ∙ (c .enum-told) .given .1) in
+    λ ts s x h. let r = expected-refused (now (start .args .work)) (nextOf ((start .args .m) .c)) (fixed "[") _ _
+    (ap (λ d. expected (now (start .args .work)) d (fixed "[")) (sym ((at-next .next) .ensures)) ∙ sym ((at-expect .expect) .ensures) ∙ (c .enum-told) .given .1) in
     rw ((c .enum-told) .given .1 ∙ r .1) (turn-unopened h (start .pre .1) (start .pre .2) (r .0))
 
 binder-requires : tie.Need-binder-requires
@@ -43,8 +44,8 @@ binder-requires c κs =
     let at-expect = at-r .before .before in
     let at-next = at-expect .before .before in
     let start = at-next .before .before .before in
-    let r = (expected-parsed (now (start .args .work)) (nextOf ((start .args .m) .c)) ((at-r .r) .given .0 .0) 24
-    (ap (λ d. expected (now (start .args .work)) d 24) (sym ((at-next .next) .ensures)) ∙ sym ((at-expect .expect) .ensures) ∙ (at-r .r) .given .1)) in
+    let r = (expected-parsed (now (start .args .work)) (nextOf ((start .args .m) .c)) ((at-r .r) .given .0 .0) (fixed "[")
+    (ap (λ d. expected (now (start .args .work)) d (fixed "[")) (sym ((at-next .next) .ensures)) ∙ sym ((at-expect .expect) .ensures) ∙ (at-r .r) .given .1)) in
     rw (r .1) (record {
       tokens = (start .pre .0) .tokens;
       start = (start .pre .0) .start;
@@ -63,8 +64,8 @@ returns-2 c =
     let at-expect = at-r .before .before in
     let at-next = at-expect .before .before in
     let start = at-next .before .before .before in
-    λ ts s x h. let r = (expected-parsed (now (start .args .work)) (nextOf ((start .args .m) .c)) ((at-r .r) .given .0 .0) 24
-    (ap (λ d. expected (now (start .args .work)) d 24) (sym ((at-next .next) .ensures)) ∙ sym ((at-expect .expect) .ensures) ∙ (at-r .r) .given .1)) in
+    λ ts s x h. let r = (expected-parsed (now (start .args .work)) (nextOf ((start .args .m) .c)) ((at-r .r) .given .0 .0) (fixed "[")
+    (ap (λ d. expected (now (start .args .work)) d (fixed "[")) (sym ((at-next .next) .ensures)) ∙ sym ((at-expect .expect) .ensures) ∙ (at-r .r) .given .1)) in
     turn-fold h (start .pre .1) (start .pre .2) (r .0) (rw (r .1) at ((at-binder .binder) .ensures ts s x (rw (r .1) (fold-names h (start .pre .1) (start .pre .2) (r .0)))))
 
 pub fold-spec : {M : Type 1} → statement M

@@ -5,6 +5,7 @@ use mathlib.Core.Path.{_≡_, sym, ap, _∙_, subst}
 use lib.Dec.{lit<}
 use denote.Ref.{now}
 use Prim.Native.Nat.{_/_, _%_, _≤_}
+use Rattle.lexer.specs.Numbers.{fixed}
 use Rattle.entries.specs.Cursors.{kindAt, nextOf}
 use Rattle.operators.specs.Tables.{prefixAt}
 use Rattle.expressions.specs.StateAsks.{asks-kind, asks-next, asks-second, asks-third, asks-push}
@@ -135,7 +136,7 @@ returns-5 c =
     λ ts s x h. let l : ((at-prefix .prefix) .result) % 32 ≤ (start .args .m) .level = omega arith in
     rw ((at-push2 .push2) .ensures .0, (at-push2 .push2) .ensures .1, (at-next .next) .ensures)
     (turn-bare h ((at-prefix .prefix) .result) ((at-prefix .prefix) .ensures ∙ ap prefixAt ((at-kind .kind) .ensures)) ((at-if1 .if1) .left) l ((at-if3 .if3) .left)
-    (λ z. let q : (at-kind2 .kind2) .result ≡ 24 = (at-kind2 .kind2) .ensures ∙ ap (kindAt (now (start .args .work))) ((at-next .next) .ensures) ∙ z in omega arith))
+    (λ z. let q : (at-kind2 .kind2) .result ≡ fixed "[" = (at-kind2 .kind2) .ensures ∙ ap (kindAt (now (start .args .work))) ((at-next .next) .ensures) ∙ z in omega arith))
 
 next-requires-2 : tie.Need-next-requires-2
 next-requires-2 c κs =
@@ -145,8 +146,8 @@ next-requires-2 c κs =
     let at-prefix = at-if1 .before in
     let at-kind = at-prefix .before in
     let start = at-kind .before .before .before .before in
-    let second : kindAt (now (start .args .work)) (nextOf ((start .args .m) .c)) ≡ 24 =
-    (let q : (at-kind2 .kind2) .result ≡ 24 = omega arith in ap (kindAt (now (start .args .work))) (sym ((at-next .next) .ensures)) ∙ sym ((at-kind2 .kind2) .ensures) ∙ q) in
+    let second : kindAt (now (start .args .work)) (nextOf ((start .args .m) .c)) ≡ fixed "[" =
+    (let q : (at-kind2 .kind2) .result ≡ fixed "[" = omega arith in ap (kindAt (now (start .args .work))) (sym ((at-next .next) .ensures)) ∙ sym ((at-kind2 .kind2) .ensures) ∙ q) in
     rw ((at-next .next) .ensures) (asks-third (start .pre) (not-end (start .pre .state) ((at-prefix .prefix) .result) ((at-prefix .prefix) .ensures ∙ ap prefixAt ((at-kind .kind) .ensures))
     ((at-if1 .if1) .left)) (omega arith))
 
@@ -174,8 +175,8 @@ returns-6 c =
     let at-kind = at-prefix .before in
     let start = at-kind .before .before .before .before in
     λ ts s x h. let l : ((at-prefix .prefix) .result) % 32 ≤ (start .args .m) .level = omega arith in
-    let second : kindAt (now (start .args .work)) (nextOf ((start .args .m) .c)) ≡ 24 =
-    (let q : (at-kind2 .kind2) .result ≡ 24 = omega arith in ap (kindAt (now (start .args .work))) (sym ((at-next .next) .ensures)) ∙ sym ((at-kind2 .kind2) .ensures) ∙ q) in
+    let second : kindAt (now (start .args .work)) (nextOf ((start .args .m) .c)) ≡ fixed "[" =
+    (let q : (at-kind2 .kind2) .result ≡ fixed "[" = omega arith in ap (kindAt (now (start .args .work))) (sym ((at-next .next) .ensures)) ∙ sym ((at-kind2 .kind2) .ensures) ∙ q) in
     rw ((at-push3 .push3) .ensures .0, (at-push3 .push3) .ensures .1, (at-next2 .next2) .ensures, (at-next .next) .ensures)
     (turn-count h ((at-prefix .prefix) .result) ((at-prefix .prefix) .ensures ∙ ap prefixAt ((at-kind .kind) .ensures)) ((at-if1 .if1) .left) l second ((at-if6 .if6) .taken))
 
@@ -187,8 +188,8 @@ next-requires-3 c κs =
     let at-prefix = at-if1 .before in
     let at-kind = at-prefix .before in
     let start = at-kind .before .before .before .before in
-    let second : kindAt (now (start .args .work)) (nextOf ((start .args .m) .c)) ≡ 24 =
-    (let q : (at-kind2 .kind2) .result ≡ 24 = omega arith in ap (kindAt (now (start .args .work))) (sym ((at-next .next) .ensures)) ∙ sym ((at-kind2 .kind2) .ensures) ∙ q) in
+    let second : kindAt (now (start .args .work)) (nextOf ((start .args .m) .c)) ≡ fixed "[" =
+    (let q : (at-kind2 .kind2) .result ≡ fixed "[" = omega arith in ap (kindAt (now (start .args .work))) (sym ((at-next .next) .ensures)) ∙ sym ((at-kind2 .kind2) .ensures) ∙ q) in
     rw ((at-next .next) .ensures) (asks-third (start .pre) (not-end (start .pre .state) ((at-prefix .prefix) .result) ((at-prefix .prefix) .ensures ∙ ap prefixAt ((at-kind .kind) .ensures))
     ((at-if1 .if1) .left)) (omega arith))
 
@@ -218,8 +219,8 @@ returns-7 c =
     let at-kind = at-prefix .before in
     let start = at-kind .before .before .before .before in
     λ ts s x h. let l : ((at-prefix .prefix) .result) % 32 ≤ (start .args .m) .level = omega arith in
-    let second : kindAt (now (start .args .work)) (nextOf ((start .args .m) .c)) ≡ 24 =
-    (let q : (at-kind2 .kind2) .result ≡ 24 = omega arith in ap (kindAt (now (start .args .work))) (sym ((at-next .next) .ensures)) ∙ sym ((at-kind2 .kind2) .ensures) ∙ q) in
+    let second : kindAt (now (start .args .work)) (nextOf ((start .args .m) .c)) ≡ fixed "[" =
+    (let q : (at-kind2 .kind2) .result ≡ fixed "[" = omega arith in ap (kindAt (now (start .args .work))) (sym ((at-next .next) .ensures)) ∙ sym ((at-kind2 .kind2) .ensures) ∙ q) in
     rw ((at-push4 .push4) .ensures .0, (at-push4 .push4) .ensures .1, (at-next3 .next3) .ensures, (at-next .next) .ensures)
     (turn-low h ((at-prefix .prefix) .result) ((at-prefix .prefix) .ensures ∙ ap prefixAt ((at-kind .kind) .ensures)) ((at-if1 .if1) .left) l second ((at-if3 .if3) .left) ((at-if4 .if4) .left)
     ((at-if6 .if6) .left))

@@ -5,6 +5,7 @@ use mathlib.Core.Path.{_≡_, sym, ap, _∙_}
 use lib.Dec.{lit<}
 use denote.Ref.{now}
 use Prim.Native.Nat.{_/_}
+use Rattle.lexer.specs.Numbers.{fixed}
 use Rattle.entries.specs.CursorLaws.{before-end}
 use Rattle.expressions.specs.Stack.{slotClass}
 use Rattle.expressions.specs.CompleteLaws.{complete-tops, complete-fits}
@@ -26,7 +27,7 @@ next-requires : tie.Need-next-requires
 next-requires c κs =
     let at-kind = c .before .before .before in
     let start = at-kind .before .before .before .before .before .before in
-    let e = (let q : (at-kind .kind) .result ≡ 29 = omega arith in sym ((at-kind .kind) .ensures) ∙ q) in
+    let e = (let q : (at-kind .kind) .result ≡ fixed ":" = omega arith in sym ((at-kind .kind) .ensures) ∙ q) in
     omega (arith, before-end (now (start .args .work)) ((start .args .m) .c) (omega arith), complete-fits (start .pre .0 .state) .few)
 
 reopen-requires : tie.Need-reopen-requires
@@ -46,7 +47,7 @@ returns c =
     let start = at-top .before .before .before .before in
     λ ts s x h. rw ((at-reopen .reopen) .ensures .0, (at-reopen .reopen) .ensures .1, (at-next .next) .ensures)
     (turn-low h (start .pre .1) (let q : (at-top .top) .result / 8192 / 32 ≡ 13 = omega arith in ap slotClass (sym ((at-top .top) .ensures)) ∙ q)
-    (let q : (at-kind .kind) .result ≡ 29 = omega arith in sym ((at-kind .kind) .ensures) ∙ q))
+    (let q : (at-kind .kind) .result ≡ fixed ":" = omega arith in sym ((at-kind .kind) .ensures) ∙ q))
 
 refuse-requires : tie.Need-refuse-requires
 refuse-requires c κs =
@@ -62,7 +63,7 @@ returns-2 c =
     let at-top = at-kind .before .before in
     let start = at-top .before .before .before .before in
     λ ts s x h. rw ((c .refuse) .ensures) (turn-unlow h (start .pre .1) (let q : (at-top .top) .result / 8192 / 32 ≡ 13 = omega arith in ap slotClass (sym ((at-top .top) .ensures)) ∙ q)
-    (λ z. let q : (at-kind .kind) .result ≡ 29 = (at-kind .kind) .ensures ∙ z in omega arith))
+    (λ z. let q : (at-kind .kind) .result ≡ fixed ":" = (at-kind .kind) .ensures ∙ z in omega arith))
 
 refuse-requires-2 : tie.Need-refuse-requires-2
 refuse-requires-2 c κs =
@@ -79,7 +80,7 @@ returns-3 c =
     let at-top = at-kind .before .before in
     let start = at-top .before .before .before .before in
     λ ts s x h. rw ((c .refuse2) .ensures) (turn-unopened h (start .pre .1) (start .pre .2) (start .pre .3) (λ z. (at-if1 .if1) .left (ap (λ y. y / 8192 / 32) ((at-top .top) .ensures) ∙ z))
-    (λ z. let q : (at-kind .kind) .result ≡ 25 = (at-kind .kind) .ensures ∙ z in omega arith))
+    (λ z. let q : (at-kind .kind) .result ≡ fixed "]" = (at-kind .kind) .ensures ∙ z in omega arith))
 
 operator-requires : tie.Need-operator-requires
 operator-requires c κs =
@@ -93,7 +94,7 @@ next-requires-2 : tie.Need-next-requires-2
 next-requires-2 c κs =
     let at-kind = c .before .before .before .before .before .before .before in
     let start = at-kind .before .before .before .before .before .before in
-    let e = (let q : (at-kind .kind) .result ≡ 25 = omega arith in sym ((at-kind .kind) .ensures) ∙ q) in
+    let e = (let q : (at-kind .kind) .result ≡ fixed "]" = omega arith in sym ((at-kind .kind) .ensures) ∙ q) in
     omega (arith, before-end (now (start .args .work)) ((start .args .m) .c) (omega arith), complete-fits (start .pre .0 .state) .few)
 
 reopen-requires-2 : tie.Need-reopen-requires-2
@@ -121,13 +122,13 @@ returns-4 c =
       (at-operator .operator) .ensures,
       (at-top .top) .ensures,
     ) (turn-counted h (start .pre .1) (let q : (at-top .top) .result / 8192 / 32 ≡ 12 = omega arith in ap slotClass (sym ((at-top .top) .ensures)) ∙ q)
-    (let q : (at-kind .kind) .result ≡ 25 = omega arith in sym ((at-kind .kind) .ensures) ∙ q))
+    (let q : (at-kind .kind) .result ≡ fixed "]" = omega arith in sym ((at-kind .kind) .ensures) ∙ q))
 
 next-requires-3 : tie.Need-next-requires-3
 next-requires-3 c κs =
     let at-kind = c .before .before .before .before .before .before .before in
     let start = at-kind .before .before .before .before .before .before in
-    let e = (let q : (at-kind .kind) .result ≡ 25 = omega arith in sym ((at-kind .kind) .ensures) ∙ q) in
+    let e = (let q : (at-kind .kind) .result ≡ fixed "]" = omega arith in sym ((at-kind .kind) .ensures) ∙ q) in
     omega (arith, before-end (now (start .args .work)) ((start .args .m) .c) (omega arith), complete-fits (start .pre .0 .state) .few)
 
 reopen-requires-3 : tie.Need-reopen-requires-3
@@ -156,7 +157,7 @@ returns-5 c =
       (at-top .top) .ensures,
     ) (turn-high h (start .pre .1) (let q : (at-top .top) .result / 8192 / 32 ≡ 14 =
     (let low = start .pre .2 in let high = start .pre .3 in let e = ap slotClass ((at-top .top) .ensures) in omega arith) in ap slotClass (sym ((at-top .top) .ensures)) ∙ q)
-    (let q : (at-kind .kind) .result ≡ 25 = omega arith in sym ((at-kind .kind) .ensures) ∙ q))
+    (let q : (at-kind .kind) .result ≡ fixed "]" = omega arith in sym ((at-kind .kind) .ensures) ∙ q))
 
 pub further-spec : {M : Type 1} → statement M
 further-spec =

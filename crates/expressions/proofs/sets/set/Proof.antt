@@ -5,6 +5,7 @@ use mathlib.Core.Path.{_≡_, sym, ap, _∙_}
 use lib.Dec.{lit<}
 use denote.Ref.{now}
 use Prim.Native.Nat.{_/_}
+use Rattle.lexer.specs.Numbers.{fixed}
 use Rattle.entries.specs.CursorLaws.{before-end}
 use Rattle.expressions.specs.Stack.{slotClass, slotLevel, slotIndex, topSlot}
 use Rattle.expressions.specs.CompleteLaws.{complete-tops, complete-fits}
@@ -26,7 +27,7 @@ kind-requires c κs =
 
 next-requires : tie.Need-next-requires
 next-requires c κs =
-    let e = (let q : (c .before .before .before .kind) .result ≡ 27 = omega arith in sym ((c .before .before .before .kind) .ensures) ∙ q) in
+    let e = (let q : (c .before .before .before .kind) .result ≡ fixed "," = omega arith in sym ((c .before .before .before .kind) .ensures) ∙ q) in
     omega (
       arith,
       before-end (now ((c .before .before .before .before .before .before .before .before .before) .args .work))
@@ -49,11 +50,11 @@ returns c =
     (turn-second h ((c .before .before .before .before .before .before .before .before .before .before .before .before .before) .pre .1)
     (let q : (c .before .before .before .before .before .before .before .before .before .top) .result / 8192 / 32 ≡ 15 = omega arith in
     ap slotClass (sym ((c .before .before .before .before .before .before .before .before .before .top) .ensures)) ∙ q)
-    (let q : (c .before .before .before .before .before .before .before .kind) .result ≡ 27 = omega arith in sym ((c .before .before .before .before .before .before .before .kind) .ensures) ∙ q))
+    (let q : (c .before .before .before .before .before .before .before .kind) .result ≡ fixed "," = omega arith in sym ((c .before .before .before .before .before .before .before .kind) .ensures) ∙ q))
 
 next-requires-2 : tie.Need-next-requires-2
 next-requires-2 c κs =
-    let e = (let q : (c .before .before .before .before .kind) .result ≡ 21 = omega arith in sym ((c .before .before .before .before .kind) .ensures) ∙ q) in
+    let e = (let q : (c .before .before .before .before .kind) .result ≡ fixed "}" = omega arith in sym ((c .before .before .before .before .kind) .ensures) ∙ q) in
     omega (
       arith,
       before-end (now ((c .before .before .before .before .before .before .before .before .before .before) .args .work))
@@ -68,7 +69,7 @@ listed-requires c κs =
     ((c .before .before .before .before .before .before .before .before .before .before .before) .pre .1)
     (let q : (c .before .before .before .before .before .before .before .top) .result / 8192 / 32 ≡ 15 = omega arith in
     ap slotClass (sym ((c .before .before .before .before .before .before .before .top) .ensures)) ∙ q)
-    (let q : (c .before .before .before .before .before .kind) .result ≡ 21 = omega arith in sym ((c .before .before .before .before .before .kind) .ensures) ∙ q) .0)
+    (let q : (c .before .before .before .before .before .kind) .result ≡ fixed "}" = omega arith in sym ((c .before .before .before .before .before .kind) .ensures) ∙ q) .0)
 
 same-length-2 : tie.Need-same-length-2
 same-length-2 c = search needs
@@ -79,7 +80,7 @@ returns-2 c =
     (set-one h ((c .before .before .before .before .before .before .before .before .before .before .before .before .before .before) .pre .1)
     (let q : (c .before .before .before .before .before .before .before .before .before .before .top) .result / 8192 / 32 ≡ 15 = omega arith in
     ap slotClass (sym ((c .before .before .before .before .before .before .before .before .before .before .top) .ensures)) ∙ q)
-    (let q : (c .before .before .before .before .before .before .before .before .kind) .result ≡ 21 = omega arith in
+    (let q : (c .before .before .before .before .before .before .before .before .kind) .result ≡ fixed "}" = omega arith in
     sym ((c .before .before .before .before .before .before .before .before .kind) .ensures) ∙ q) .1)
 
 refuse-requires : tie.Need-refuse-requires
@@ -95,8 +96,8 @@ returns-3 c =
     λ ts s x h. rw ((c .refuse) .ensures) (unclosed-one h ((c .before .before .before .before .before .before .before .before .before .before .before) .pre .1)
     (let q : (c .before .before .before .before .before .before .before .top) .result / 8192 / 32 ≡ 15 = omega arith in
     ap slotClass (sym ((c .before .before .before .before .before .before .before .top) .ensures)) ∙ q)
-    (λ z. let q : (c .before .before .before .before .before .kind) .result ≡ 27 = (c .before .before .before .before .before .kind) .ensures ∙ z in omega arith)
-    (λ z. let q : (c .before .before .before .before .before .kind) .result ≡ 21 = (c .before .before .before .before .before .kind) .ensures ∙ z in omega arith))
+    (λ z. let q : (c .before .before .before .before .before .kind) .result ≡ fixed "," = (c .before .before .before .before .before .kind) .ensures ∙ z in omega arith)
+    (λ z. let q : (c .before .before .before .before .before .kind) .result ≡ fixed "}" = (c .before .before .before .before .before .kind) .ensures ∙ z in omega arith))
 
 popped-requires : tie.Need-popped-requires
 popped-requires c κs =
@@ -132,7 +133,7 @@ returns-4 c =
 
 next-requires-3 : tie.Need-next-requires-3
 next-requires-3 c κs =
-    let e = (let q : (c .before .before .before .before .kind) .result ≡ 19 = omega arith in sym ((c .before .before .before .before .kind) .ensures) ∙ q) in
+    let e = (let q : (c .before .before .before .before .kind) .result ≡ fixed ".." = omega arith in sym ((c .before .before .before .before .kind) .ensures) ∙ q) in
     omega (
       arith,
       before-end (now ((c .before .before .before .before .before .before .before .before .before .before) .args .work))
@@ -158,7 +159,7 @@ returns-5 c =
     let high = (c .before .before .before .before .before .before .before .before .before .before .before .before .before .before) .pre .3 in
     let e = ap slotClass ((c .before .before .before .before .before .before .before .before .before .before .top) .ensures) in omega arith) in
     ap slotClass (sym ((c .before .before .before .before .before .before .before .before .before .before .top) .ensures)) ∙ q)
-    (let q : (c .before .before .before .before .before .before .before .before .kind) .result ≡ 19 = omega arith in
+    (let q : (c .before .before .before .before .before .before .before .before .kind) .result ≡ fixed ".." = omega arith in
     sym ((c .before .before .before .before .before .before .before .before .kind) .ensures) ∙ q))
 
 popped-requires-2 : tie.Need-popped-requires-2
@@ -197,7 +198,7 @@ element-requires-2 c κs =
           let high = (c .before .before .before .before .before .before .before .before .before .before .before .before .before .before .before) .pre .3 in
           let e = ap slotClass ((c .before .before .before .before .before .before .before .before .before .before .before .top) .ensures) in omega arith) in
           ap slotClass (sym ((c .before .before .before .before .before .before .before .before .before .before .before .top) .ensures)) ∙ q)
-          (λ z. let q : (c .before .before .before .before .before .before .before .before .before .kind) .result ≡ 19 =
+          (λ z. let q : (c .before .before .before .before .before .before .before .before .before .kind) .result ≡ fixed ".." =
           (c .before .before .before .before .before .before .before .before .before .kind) .ensures ∙ z in omega arith);
     })
 
@@ -235,7 +236,7 @@ returns-6 c =
     let high = (c .before .before .before .before .before .before .before .before .before .before .before .before .before .before .before .before .before .before) .pre .3 in
     let e = ap slotClass ((c .before .before .before .before .before .before .before .before .before .before .before .before .before .before .top) .ensures) in omega arith) in
     ap slotClass (sym ((c .before .before .before .before .before .before .before .before .before .before .before .before .before .before .top) .ensures)) ∙ q)
-    (λ z. let q : (c .before .before .before .before .before .before .before .before .before .before .before .before .kind) .result ≡ 19 =
+    (λ z. let q : (c .before .before .before .before .before .before .before .before .before .before .before .before .kind) .result ≡ fixed ".." =
     (c .before .before .before .before .before .before .before .before .before .before .before .before .kind) .ensures ∙ z in omega arith)))))
 
 pub set-spec : {M : Type 1} → statement M

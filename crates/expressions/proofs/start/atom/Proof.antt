@@ -4,6 +4,7 @@ use native.Mathlib.Omega.{arith}
 use mathlib.Core.Path.{_≡_, sym, _∙_}
 use lib.Dec.{lit<}
 use denote.Ref.{now}
+use Rattle.lexer.specs.Numbers.{fixed}
 use Rattle.entries.specs.Cursors.{kindAt}
 use Rattle.expressions.specs.StateAsks.{asks-kind, asks-next, asks-push, asks-leaf}
 use Rattle.expressions.specs.StartStates.{starters, turn-numeral, turn-true, turn-false, turn-round, turn-bars, turn-not}
@@ -49,7 +50,7 @@ leaf-requires-2 : tie.Need-leaf-requires-2
 leaf-requires-2 c κs =
     let at-kind = c .before .before .before .before in
     let start = at-kind .before .before .before .before in
-    let first : kindAt (now (start .args .work)) (start .args .m .c) ≡ 66 = (let q : (at-kind .kind) .result ≡ 66 = omega arith in sym ((at-kind .kind) .ensures) ∙ q) in
+    let first : kindAt (now (start .args .work)) (start .args .m .c) ≡ fixed "true" = (let q : (at-kind .kind) .result ≡ fixed "true" = omega arith in sym ((at-kind .kind) .ensures) ∙ q) in
     asks-leaf (start .pre .0) (omega arith) 2 (lit< tt)
 
 same-length-3 : tie.Need-same-length-3
@@ -60,14 +61,14 @@ returns-3 c =
     let at-leaf2 = c .before .before in
     let at-kind = at-leaf2 .before .before .before .before .before in
     let start = at-kind .before .before .before .before in
-    λ ts s x h. let first : kindAt (now (start .args .work)) (start .args .m .c) ≡ 66 = (let q : (at-kind .kind) .result ≡ 66 = omega arith in sym ((at-kind .kind) .ensures) ∙ q) in
+    λ ts s x h. let first : kindAt (now (start .args .work)) (start .args .m .c) ≡ fixed "true" = (let q : (at-kind .kind) .result ≡ fixed "true" = omega arith in sym ((at-kind .kind) .ensures) ∙ q) in
     rw ((at-leaf2 .leaf2) .ensures .0, (at-leaf2 .leaf2) .ensures .1) (turn-true h (start .pre .1) first)
 
 leaf-requires-3 : tie.Need-leaf-requires-3
 leaf-requires-3 c κs =
     let at-kind = c .before .before .before .before .before in
     let start = at-kind .before .before .before .before in
-    let first : kindAt (now (start .args .work)) (start .args .m .c) ≡ 67 = (let q : (at-kind .kind) .result ≡ 67 = omega arith in sym ((at-kind .kind) .ensures) ∙ q) in
+    let first : kindAt (now (start .args .work)) (start .args .m .c) ≡ fixed "false" = (let q : (at-kind .kind) .result ≡ fixed "false" = omega arith in sym ((at-kind .kind) .ensures) ∙ q) in
     asks-leaf (start .pre .0) (omega arith) 2 (lit< tt)
 
 same-length-4 : tie.Need-same-length-4
@@ -78,21 +79,21 @@ returns-4 c =
     let at-leaf3 = c .before .before in
     let at-kind = at-leaf3 .before .before .before .before .before .before in
     let start = at-kind .before .before .before .before in
-    λ ts s x h. let first : kindAt (now (start .args .work)) (start .args .m .c) ≡ 67 = (let q : (at-kind .kind) .result ≡ 67 = omega arith in sym ((at-kind .kind) .ensures) ∙ q) in
+    λ ts s x h. let first : kindAt (now (start .args .work)) (start .args .m .c) ≡ fixed "false" = (let q : (at-kind .kind) .result ≡ fixed "false" = omega arith in sym ((at-kind .kind) .ensures) ∙ q) in
     rw ((at-leaf3 .leaf3) .ensures .0, (at-leaf3 .leaf3) .ensures .1) (turn-false h (start .pre .1) first)
 
 next-requires : tie.Need-next-requires
 next-requires c κs =
     let at-kind = c .before .before .before .before .before .before in
     let start = at-kind .before .before .before .before in
-    let first : kindAt (now (start .args .work)) (start .args .m .c) ≡ 22 = (let q : (at-kind .kind) .result ≡ 22 = omega arith in sym ((at-kind .kind) .ensures) ∙ q) in
+    let first : kindAt (now (start .args .work)) (start .args .m .c) ≡ fixed "(" = (let q : (at-kind .kind) .result ≡ fixed "(" = omega arith in sym ((at-kind .kind) .ensures) ∙ q) in
     asks-next (start .pre .0) (omega arith)
 
 push-requires : tie.Need-push-requires
 push-requires c κs =
     let at-kind = c .before .before .before .before .before .before .before in
     let start = at-kind .before .before .before .before in
-    let first : kindAt (now (start .args .work)) (start .args .m .c) ≡ 22 = (let q : (at-kind .kind) .result ≡ 22 = omega arith in sym ((at-kind .kind) .ensures) ∙ q) in
+    let first : kindAt (now (start .args .work)) (start .args .m .c) ≡ fixed "(" = (let q : (at-kind .kind) .result ≡ fixed "(" = omega arith in sym ((at-kind .kind) .ensures) ∙ q) in
     asks-push (start .pre .0) (omega arith) 7 (lit< tt)
 
 same-length-5 : tie.Need-same-length-5
@@ -104,21 +105,21 @@ returns-5 c =
     let at-next = at-push .before in
     let at-kind = at-next .before .before .before .before .before .before .before in
     let start = at-kind .before .before .before .before in
-    λ ts s x h. let first : kindAt (now (start .args .work)) (start .args .m .c) ≡ 22 = (let q : (at-kind .kind) .result ≡ 22 = omega arith in sym ((at-kind .kind) .ensures) ∙ q) in
+    λ ts s x h. let first : kindAt (now (start .args .work)) (start .args .m .c) ≡ fixed "(" = (let q : (at-kind .kind) .result ≡ fixed "(" = omega arith in sym ((at-kind .kind) .ensures) ∙ q) in
     rw ((at-push .push) .ensures .0, (at-push .push) .ensures .1, (at-next .next) .ensures) (turn-round h (start .pre .1) first)
 
 next-requires-2 : tie.Need-next-requires-2
 next-requires-2 c κs =
     let at-kind = c .before .before .before .before .before .before .before in
     let start = at-kind .before .before .before .before in
-    let first : kindAt (now (start .args .work)) (start .args .m .c) ≡ 31 = (let q : (at-kind .kind) .result ≡ 31 = omega arith in sym ((at-kind .kind) .ensures) ∙ q) in
+    let first : kindAt (now (start .args .work)) (start .args .m .c) ≡ fixed "|" = (let q : (at-kind .kind) .result ≡ fixed "|" = omega arith in sym ((at-kind .kind) .ensures) ∙ q) in
     asks-next (start .pre .0) (omega arith)
 
 push-requires-2 : tie.Need-push-requires-2
 push-requires-2 c κs =
     let at-kind = c .before .before .before .before .before .before .before .before in
     let start = at-kind .before .before .before .before in
-    let first : kindAt (now (start .args .work)) (start .args .m .c) ≡ 31 = (let q : (at-kind .kind) .result ≡ 31 = omega arith in sym ((at-kind .kind) .ensures) ∙ q) in
+    let first : kindAt (now (start .args .work)) (start .args .m .c) ≡ fixed "|" = (let q : (at-kind .kind) .result ≡ fixed "|" = omega arith in sym ((at-kind .kind) .ensures) ∙ q) in
     asks-push (start .pre .0) (omega arith) 8 (lit< tt)
 
 same-length-6 : tie.Need-same-length-6
@@ -130,14 +131,14 @@ returns-6 c =
     let at-next2 = at-push2 .before in
     let at-kind = at-next2 .before .before .before .before .before .before .before .before in
     let start = at-kind .before .before .before .before in
-    λ ts s x h. let first : kindAt (now (start .args .work)) (start .args .m .c) ≡ 31 = (let q : (at-kind .kind) .result ≡ 31 = omega arith in sym ((at-kind .kind) .ensures) ∙ q) in
+    λ ts s x h. let first : kindAt (now (start .args .work)) (start .args .m .c) ≡ fixed "|" = (let q : (at-kind .kind) .result ≡ fixed "|" = omega arith in sym ((at-kind .kind) .ensures) ∙ q) in
     rw ((at-push2 .push2) .ensures .0, (at-push2 .push2) .ensures .1, (at-next2 .next2) .ensures) (turn-bars h (start .pre .1) first)
 
 brace-requires : tie.Need-brace-requires
 brace-requires c κs =
     let at-kind = c .before .before .before .before .before .before .before .before in
     let start = at-kind .before .before .before .before in
-    (start .pre .0, let first : kindAt (now (start .args .work)) (start .args .m .c) ≡ 20 = (let q : (at-kind .kind) .result ≡ 20 = omega arith in sym ((at-kind .kind) .ensures) ∙ q) in first)
+    (start .pre .0, let first : kindAt (now (start .args .work)) (start .args .m .c) ≡ fixed "{" = (let q : (at-kind .kind) .result ≡ fixed "{" = omega arith in sym ((at-kind .kind) .ensures) ∙ q) in first)
 
 same-length-7 : tie.Need-same-length-7
 same-length-7 c = search needs

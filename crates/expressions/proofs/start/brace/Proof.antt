@@ -4,6 +4,7 @@ use native.Mathlib.Omega.{arith}
 use mathlib.Core.Path.{_≡_, sym, ap, _∙_}
 use lib.Dec.{lit<}
 use denote.Ref.{now}
+use Rattle.lexer.specs.Numbers.{fixed}
 use Rattle.entries.specs.Cursors.{kindAt, nextOf}
 use Rattle.expressions.specs.StateAsks.{asks-next, asks-second, asks-third, asks-push, asks-leaf}
 use Rattle.expressions.specs.StartStates.{turn-empty, turn-set}
@@ -24,8 +25,8 @@ next-requires-2 : tie.Need-next-requires-2
 next-requires-2 c κs =
     let at-next = c .before .before .before in
     let start = at-next .before .before .before in
-    let second : kindAt (now (start .args .work)) (nextOf (start .args .m .c)) ≡ 21 =
-    (let q : (c .before .kind) .result ≡ 21 = omega arith in ap (kindAt (now (start .args .work))) (sym ((at-next .next) .ensures)) ∙ sym ((c .before .kind) .ensures) ∙ q) in
+    let second : kindAt (now (start .args .work)) (nextOf (start .args .m .c)) ≡ fixed "}" =
+    (let q : (c .before .kind) .result ≡ fixed "}" = omega arith in ap (kindAt (now (start .args .work))) (sym ((at-next .next) .ensures)) ∙ sym ((c .before .kind) .ensures) ∙ q) in
     rw ((at-next .next) .ensures) (asks-third (start .pre .0) (omega (arith, start .pre .1)) (omega arith))
 
 emit-requires : tie.Need-emit-requires
@@ -48,8 +49,8 @@ returns c =
     let at-kind = at-next2 .before .before in
     let at-next = at-kind .before .before in
     let start = at-next .before .before .before in
-    λ ts s x h. let second : kindAt (now (start .args .work)) (nextOf (start .args .m .c)) ≡ 21 =
-    (let q : (at-kind .kind) .result ≡ 21 = omega arith in ap (kindAt (now (start .args .work))) (sym ((at-next .next) .ensures)) ∙ sym ((at-kind .kind) .ensures) ∙ q) in
+    λ ts s x h. let second : kindAt (now (start .args .work)) (nextOf (start .args .m .c)) ≡ fixed "}" =
+    (let q : (at-kind .kind) .result ≡ fixed "}" = omega arith in ap (kindAt (now (start .args .work))) (sym ((at-next .next) .ensures)) ∙ sym ((at-kind .kind) .ensures) ∙ q) in
     rw ((c .climbing) .ensures, (at-emit .emit) .ensures .0, (at-emit .emit) .ensures .1, (at-next2 .next2) .ensures, (at-next .next) .ensures) (turn-empty h (start .pre .1) second)
 
 push-requires : tie.Need-push-requires
@@ -67,7 +68,7 @@ returns-2 c =
     let at-next = at-kind .before .before in
     let start = at-next .before .before .before in
     λ ts s x h. rw ((at-push .push) .ensures .0, (at-push .push) .ensures .1, (at-next .next) .ensures)
-    (turn-set h (start .pre .1) (λ z. let q : (at-kind .kind) .result ≡ 21 = (at-kind .kind) .ensures ∙ ap (kindAt (now (start .args .work))) ((at-next .next) .ensures) ∙ z in omega arith))
+    (turn-set h (start .pre .1) (λ z. let q : (at-kind .kind) .result ≡ fixed "}" = (at-kind .kind) .ensures ∙ ap (kindAt (now (start .args .work))) ((at-next .next) .ensures) ∙ z in omega arith))
 
 pub brace-spec : {M : Type 1} → statement M
 brace-spec =

@@ -1,5 +1,6 @@
 -- `heading` meets its contract: the table's law, and that no word lies outside the table.
 use Prim.Native.Nat.{_-_}
+use Rattle.lexer.specs.Numbers.{fixed}
 use Rattle.parser.proofs.Laws.HeadingRows.{heading-out, heading-in}
 use Rattle.parser.proofs.subsections.heading.Statement.{statement}
 use Rattle.parser.proofs.subsections.heading.Tie as tie
@@ -24,7 +25,7 @@ array-read-result c = search needs
 returns-2 : tie.Need-returns-2
 returns-2 c =
     let start = c .before .before in
-    heading-in (start .args .kind - 55) (c .if2 .taken) ∙ ap headingNumber (omega (arith, c .before .if1 .left))
+    heading-in (start .args .kind - fixed "INPUTS") (c .if2 .taken) ∙ ap headingNumber (omega (arith, c .before .if1 .left))
 
 returns-3 : tie.Need-returns-3
 returns-3 c =
