@@ -5,6 +5,7 @@ use assembly::implied::Ends;
 use basics::copy_words;
 use node::Answer;
 use node::MAX_NODES;
+use node::MAX_SIGNALS;
 use node::refusals;
 use parser::Facts;
 use ports::Signals;
@@ -47,7 +48,8 @@ fn deliver(
     Answer::Accepted(m as u32, n as u32)
 }
 
-// The whole formula of the lines, handed over with the signal list. Lines that fit their table may make a formula that does not.
+// The whole formula of the lines, handed over with the signal list. Lines that fit their table may make a formula that does not. A function that calls itself, which these two
+// never do, is not made part of its caller, whose frame would hold their tables while the text is expanded.
 fn hand_over(
     strict: bool,
     lines: &[u32],
@@ -61,6 +63,9 @@ fn hand_over(
     ensures { λ r. ⌜ HandsOver asExpanded strict (now (lines .entry)) (ends .count) (now (table .entry)) (ends .at) (now (list .entry)) (now (nodes .entry)) (now (signals .entry))
         (now (nodes .exit)) (now (signals .exit)) r ⌝ }
 {
+    if list.len() > MAX_SIGNALS {
+        return hand_over(strict, lines, ends, table, list, nodes, signals);
+    }
     let mut whole = [0u32; MAX_NODES];
     let m = assemble(strict, lines, ends.count, table, ends.at, &mut whole);
     deliver(&whole, m, list, nodes, signals)
@@ -81,6 +86,9 @@ fn hand_over_shifted(
     ensures { λ r. ⌜ HandsOver (asShifted outputs) strict (now (lines .entry)) (ends .count) (now (table .entry)) (ends .at) (now (list .entry)) (now (nodes .entry)) (now (signals .entry))
         (now (nodes .exit)) (now (signals .exit)) r ⌝ }
 {
+    if list.len() > MAX_SIGNALS {
+        return hand_over_shifted(outputs, strict, lines, ends, table, list, nodes, signals);
+    }
     let mut whole = [0u32; MAX_NODES];
     let m = assemble(strict, lines, ends.count, table, ends.at, &mut whole);
     let mut shifted = [0u32; MAX_NODES];

@@ -220,7 +220,8 @@ fn expand_checked_in(
     expand_declared(text, work, refs, memory, &mut table, named, nodes, signals)
 }
 
-// `expand_checked_in` of a text of few names and entries.
+// `expand_checked_in` of a text of few names and entries. A function that calls itself, which this one never does, is not made part of its caller, whose frame would hold the
+// memory for every text.
 fn expand_checked_short(
     text: &[u8],
     work: &[u8],
@@ -236,11 +237,13 @@ fn expand_checked_short(
         → Converts x (now (nodes .entry)) (now (signals .entry)) (now (nodes .exit)) (now (signals .exit)) r) ⌝ }
 {
     let mut memory = [0u32; LITTLE_MEMORY];
+    if tree.entries > limits::MAX_TOKENS {
+        return expand_checked_short(text, work, refs, found, tree, nodes, signals);
+    }
     expand_checked_in(text, work, refs, found, &mut memory, tree, nodes, signals)
 }
 
-// `expand_checked_in` of a text of some names. A function that calls itself, which this one never does, is not made part of its caller, whose frame would hold the memory for
-// every text.
+// `expand_checked_in` of a text of some names, in a frame of its own too.
 fn expand_checked_middle(
     text: &[u8],
     work: &[u8],
