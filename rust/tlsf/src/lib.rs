@@ -43,8 +43,8 @@
 //! ```
 //!
 //! The library has no variables of its own: any number of threads may call it at once. The stack is not checked: the deepest tables take [`rewrite`] 1.5 MB of it, the
-//! shortest text takes [`convert`] 1.7 to 1.8 MB, and one that nests some thousand levels deep or holds hundreds of sets at once more: of the 82 deepest texts that were
-//! made 25 do not pass with 2 MB, all pass with 3.5 MB. So a thread that calls them wants 4 MB (README.md, 'Stack and time'); Rust's own 2 MB are for short texts alone.
+//! shortest text takes [`convert`] 0.54 MB, the deepest ones take 0.9 MB (1.4 MB in negation form), and a text that holds as many sets of 256 elements at once as tokens
+//! allow takes 1.95 MB. So Rust's own 2 MB for a thread are enough (README.md, 'Stack and time').
 
 #![no_std]
 #![warn(missing_docs)]

@@ -1,7 +1,9 @@
 //! Answers in words: they are those of docs/REFUSALS.md and of tlsf.h, and formulas are written as they stand.
 
 use std::error::Error;
-use tlsf::{refusal_title, Answer, Formula, Refusal, Signal, Verdict, MOST_NODES, MOST_SIGNALS, WORK_BYTES};
+use tlsf::{
+    convert, refusal_title, write_basic, Answer, Formula, Refusal, Signal, Verdict, Written, MOST_NODES, MOST_SIGNALS, NEGATION_FORM, WORK_BYTES,
+};
 
 const PAGES: &str = include_str!("../../../docs/REFUSALS.md");
 const HEADER: &str = include_str!("../../../include/tlsf.h");
@@ -122,5 +124,35 @@ fn refusals_are_errors() {
 fn the_least_stack() {
     let job = || read(text("a").as_bytes()).expect("accepted");
     let thread = std::thread::Builder::new().stack_size(1 << 20).spawn(job);
+    assert!(thread.expect("a thread").join().is_ok());
+}
+
+/// A text that holds as many sets of 256 elements at once as tokens allow: 1,335 left operands, each worked out before the right one.
+fn most_sets_held() -> String {
+    let [held, each] = [1335, 120];
+    let mut definitions = String::from("t={0,1..255};s0=t;");
+    let chains = (0..held).step_by(each).map(|from| each.min(held - from));
+    for (last, nested) in chains.enumerate() {
+        let (before, after) = ("t(*)t(+)(".repeat(nested), ")".repeat(nested));
+        definitions += &format!("s{}={before}s{last}{after};", last + 1);
+    }
+    let last = held.div_ceil(each);
+    let info = "INFO{TITLE:\"\"DESCRIPTION:\"\"SEMANTICS:Mealy TARGET:Mealy}";
+    format!("{info}GLOBAL{{DEFINITIONS{{{definitions}}}}}MAIN{{INPUTS{{a}}OUTPUTS{{}}ASSERT{{1 IN s{last}}}}}")
+}
+
+#[test]
+fn two_megabytes_for_any_text() {
+    let job = || {
+        let text = most_sets_held();
+        let (mut work, mut nodes) = (vec![0; WORK_BYTES], vec![0; MOST_NODES]);
+        let mut signals = vec![0; MOST_SIGNALS];
+        let answer = convert(text.as_bytes(), NEGATION_FORM, &mut work, &mut nodes, &mut signals);
+        assert!(matches!(answer, Answer::Accepted { signals: 1, .. }), "{answer:?}");
+        let mut out = vec![0; 1 << 16];
+        let written = write_basic(text.as_bytes(), &mut work, &mut out);
+        assert!(matches!(written, Written::Bytes(_)), "{written:?}");
+    };
+    let thread = std::thread::Builder::new().stack_size(2 << 20).spawn(job);
     assert!(thread.expect("a thread").join().is_ok());
 }
