@@ -64,4 +64,5 @@ returns-2 t c =
     hands-expanded (at-assemble .assemble .ensures) (length-replicate {A = ℕ} maxNodes 0) (at-deliver .deliver .ensures)
 
 pub +hand-over-spec : {M : Type 1} → statement M
-+hand-over-spec = close μ-own λ t. own-lts.spec (own-calls t) (own-at t) own.Post (hand-over-requires t) (same-length t) (same-length-2 t) (returns t) (assemble-requires t) (deliver-requires t) (same-length-3 t) (same-length-4 t) (returns-2 t)
++hand-over-spec = close μ-own λ t. own-lts.spec (own-calls t) (own-at t) own.Post
+    (hand-over-requires t) (same-length t) (same-length-2 t) (returns t) (assemble-requires t) (deliver-requires t) (same-length-3 t) (same-length-4 t) (returns-2 t)

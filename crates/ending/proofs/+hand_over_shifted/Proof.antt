@@ -71,4 +71,5 @@ returns-2 t c =
     hands-shifted (at-assemble .assemble .ensures) zeros (start .args .outputs) zeros (at-shift .shift .ensures) (at-deliver .deliver .ensures)
 
 pub +hand-over-shifted-spec : {M : Type 1} → statement M
-+hand-over-shifted-spec = close μ-own λ t. own-lts.spec (own-calls t) (own-at t) own.Post (hand-over-shifted-requires t) (same-length t) (same-length-2 t) (returns t) (assemble-requires t) (shift-requires t) (deliver-requires t) (same-length-3 t) (same-length-4 t) (returns-2 t)
++hand-over-shifted-spec = close μ-own λ t. own-lts.spec (own-calls t) (own-at t) own.Post
+    (hand-over-shifted-requires t) (same-length t) (same-length-2 t) (returns t) (assemble-requires t) (shift-requires t) (deliver-requires t) (same-length-3 t) (same-length-4 t) (returns-2 t)
