@@ -191,7 +191,7 @@ fn a_stack_that_is_too_small_takes_no_other_file_with_it() {
         let report: serde_json::Value = serde_json::from_slice(&folder.read("report.json")).expect("JSON");
         (ran, report["summary"].clone())
     };
-    let (ran, summary) = convert("2048", "small");
+    let (ran, summary) = convert("768", "small");
     let ended = ran.told.lines().filter(|line| ended_by_its_stack(line)).count();
     assert_eq!((ran.status, &summary["broken"]), (1, &ended.into()), "{}", ran.told);
     assert!(
