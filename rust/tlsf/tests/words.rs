@@ -1,9 +1,7 @@
 //! Answers in words: they are those of docs/REFUSALS.md and of tlsf.h, and formulas are written as they stand.
 
 use std::error::Error;
-use tlsf::{
-    convert, refusal_title, write_basic, Answer, Formula, Refusal, Signal, Verdict, Written, MOST_NODES, MOST_SIGNALS, NEGATION_FORM, WORK_BYTES,
-};
+use tlsf::{convert, refusal_title, Answer, Formula, Refusal, Signal, Verdict, MOST_NODES, MOST_SIGNALS, NEGATION_FORM, WORK_BYTES};
 
 const PAGES: &str = include_str!("../../../docs/REFUSALS.md");
 const HEADER: &str = include_str!("../../../include/tlsf.h");
@@ -149,9 +147,6 @@ fn two_megabytes_for_any_text() {
         let mut signals = vec![0; MOST_SIGNALS];
         let answer = convert(text.as_bytes(), NEGATION_FORM, &mut work, &mut nodes, &mut signals);
         assert!(matches!(answer, Answer::Accepted { signals: 1, .. }), "{answer:?}");
-        let mut out = vec![0; 1 << 16];
-        let written = write_basic(text.as_bytes(), &mut work, &mut out);
-        assert!(matches!(written, Written::Bytes(_)), "{written:?}");
     };
     let thread = std::thread::Builder::new().stack_size(2 << 20).spawn(job);
     assert!(thread.expect("a thread").join().is_ok());
