@@ -125,8 +125,8 @@ fn the_least_stack() {
     assert!(thread.expect("a thread").join().is_ok());
 }
 
-/// A text that holds as many sets of 256 elements at once as tokens allow: 1,335 left operands, each worked out before the right one.
-fn most_sets_held() -> String {
+/// A text that holds 1,335 sets of 256 elements at once: left operands, each worked out before the right one.
+fn many_sets_held() -> String {
     let [held, each] = [1335, 120];
     let mut definitions = String::from("t={0,1..255};s0=t;");
     let chains = (0..held).step_by(each).map(|from| each.min(held - from));
@@ -140,9 +140,9 @@ fn most_sets_held() -> String {
 }
 
 #[test]
-fn two_megabytes_for_any_text() {
+fn two_megabytes_for_many_sets() {
     let job = || {
-        let text = most_sets_held();
+        let text = many_sets_held();
         let (mut work, mut nodes) = (vec![0; WORK_BYTES], vec![0; MOST_NODES]);
         let mut signals = vec![0; MOST_SIGNALS];
         let answer = convert(text.as_bytes(), NEGATION_FORM, &mut work, &mut nodes, &mut signals);
