@@ -12,7 +12,7 @@ use Rattle.language.specs.Declared.{Port}
 use Rattle.language.specs.Numbering.{firstOf}
 use Rattle.language.specs.Lines.{leavesUnnamed}
 use Rattle.language.specs.Expansion.{oneOf}
-use Rattle.language.specs.Laws.Values.RegularWords.{Regular}
+use Rattle.language.specs.RegularWords.{Regular}
 use Rattle.choices.specs.Entries.{identifiersEnd, Words}
 use Rattle.assembly.specs.declared.implied.Ends.{Ends}
 use Rattle.assembly.specs.declared.implied.Ports.{Ports}

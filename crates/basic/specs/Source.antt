@@ -19,10 +19,10 @@ use Rattle.language.specs.Numbering.{signalsOf, entries, signalList}
 use Rattle.language.specs.Meaning.{Atom}
 use Rattle.language.specs.Numbered.{flagOf}
 use Rattle.language.specs.Reading.{NumberedFormula, textExpansion}
+use Rattle.language.specs.Braces.{ProperDeclaration, ProperSubsection}
 use Rattle.language.specs.Laws.Basics.Lists.{All, all-more, all-append, all-left, all-right, all-both}
 use Rattle.language.specs.Laws.Basics.Tests.{split, pick, leave, and-left, and-right, some-none}
 use Rattle.language.specs.Laws.Grammar.TreeTokens.{InDeclaration, InSubsection}
-use Rattle.language.specs.Laws.Grammar.Braces.{ProperDeclaration, ProperSubsection}
 use Rattle.language.specs.Laws.Grammar.Parses.{parsed-proper}
 use Rattle.language.specs.Laws.Grammar.NameTokens.{parsed-tokens}
 use Rattle.language.specs.Listed.{declaredName, flag}

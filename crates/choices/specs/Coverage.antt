@@ -7,7 +7,7 @@ use lib.ListN.{length, getD, take}
 use lib.Seq.{slice}
 use Rattle.language.specs.Limits.{maxWords, maxMarks}
 use Rattle.language.specs.Numbering.{Mark, markOf, covered}
-use Rattle.language.specs.Laws.Basics.Lists.{All}
+use Rattle.language.specs.Lists.{All}
 
 -- 'at most 16 words of 8 marks': 16 rows, of which `count` are taken
 pub record Rows (rows : List (List ℕ)) (count : ℕ) : Type 0 where

@@ -21,7 +21,8 @@ use Rattle.entries.specs.Kinds as Kind
 use Rattle.entries.specs.Flat.{Entry, leaf, each, flatIdentifier}
 use Rattle.entries.specs.Stored.{firstEntry, kindOf, EntriesFrom}
 use Rattle.spellings.specs.Interned.{Lexed}
-use Rattle.traversal.specs.Cells.{Told, Seen, cellAt, TokensTell, entries-seen}
+use Rattle.traversal.specs.Cells.{Told, Seen, cellAt, TokensTell}
+use Rattle.traversal.specs.CellLaws.{entries-seen}
 use Rattle.enumerations.specs.Pass.{bytesAt}
 use Rattle.enumerations.specs.Given.{Spelled}
 use Rattle.enumerations.specs.SpellLaws.{spelled}

@@ -26,7 +26,8 @@ use Rattle.notes.specs.Owned.{ParameterAt}
 use Rattle.memory_notes.specs.ShortTables.{ShortTable}
 use Rattle.declarations.specs.Along.{Along}
 use Rattle.declarations.specs.Turnable.{Turnable}
-use Rattle.declarations.specs.Trees.{Tree, tree-realm, tree-expression, tree-inside, tree-before, number-small}
+use Rattle.declarations.specs.Trees.{Tree}
+use Rattle.declarations.specs.TreeLaws.{tree-realm, tree-expression, tree-inside, tree-before, number-small}
 use Rattle.declarations.specs.Expressions.{Room, Expression, Workable, Numbered}
 
 -- the parameters of x in order, their entries in `order`, and the table d before them

@@ -21,7 +21,8 @@ use Rattle.notes.specs.Owned.{DeclarationAt}
 use Rattle.declarations.specs.Along.{Along}
 use Rattle.declarations.specs.Turnable.{Turnable}
 use Rattle.declarations.specs.Trees.{Tree}
-use Rattle.declarations.specs.Enumerations.{noEntry, enumerationOf, enumerates, entry-offset}
+use Rattle.declarations.specs.Enumerations.{noEntry, enumerationOf}
+use Rattle.declarations.specs.EnumerationLaws.{enumerates, entry-offset}
 use Rattle.declarations.specs.Widths.{EnumeratedBy}
 use Rattle.declarations.specs.Turns.{PlacedFrom}
 

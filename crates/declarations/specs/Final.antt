@@ -11,10 +11,10 @@ use Rattle.language.specs.Limits.{maxBytes, offsetBits}
 use Rattle.language.specs.Tokens.{Name, code, Token, isOf, tokens}
 use Rattle.language.specs.Tree.{Declaration, OneSignal, OfWidth, OfType, Spec}
 use Rattle.language.specs.Declared.{Table, inputs, outputs}
+use Rattle.language.specs.Braces.{ProperDeclaration, ProperSubsection, ProperSpec}
 use Rattle.language.specs.Laws.Basics.Lists.{All, all-both}
 use Rattle.language.specs.Laws.Basics.Results.{value-of}
 use Rattle.language.specs.Laws.Grammar.TokenLaws.{Stands}
-use Rattle.language.specs.Laws.Grammar.Braces.{ProperDeclaration, ProperSubsection, ProperSpec}
 use Rattle.language.specs.Laws.Grammar.BracesReads.{spec-proper}
 use Rattle.language.specs.Laws.Values.NameLaws.{inputs-all, outputs-all}
 use Rattle.language.specs.Laws.Values.RegularWords.{RegularDefinition}

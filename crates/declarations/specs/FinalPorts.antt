@@ -28,7 +28,8 @@ use Rattle.ports.specs.Ports.{PortsFrom, Ported, Room}
 use Rattle.ports.specs.Firsts.{Separate, numberedFrom, firsts-told}
 use Rattle.declarations.specs.Along.{Along, along-both, pairs-length}
 use Rattle.declarations.specs.Turnable.{Turnable, signals-turnable}
-use Rattle.declarations.specs.Trees.{Tree, number-small}
+use Rattle.declarations.specs.Trees.{Tree}
+use Rattle.declarations.specs.TreeLaws.{number-small}
 use Rattle.declarations.specs.Enumerations.{Enumerates}
 use Rattle.declarations.specs.Widths.{EnumeratedBy}
 use Rattle.declarations.specs.Describing.{Described, offsetAt, placed-from, place-offset}

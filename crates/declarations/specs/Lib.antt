@@ -1,10 +1,13 @@
 pub mod Turnable
 pub mod Along
 pub mod Trees
+pub mod TreeLaws
 pub mod Expressions
+pub mod ExpressionLaws
 pub mod Constants
 pub mod ConstantsLoop
 pub mod Enumerations
+pub mod EnumerationLaws
 pub mod Widths
 pub mod Turns
 pub mod TurnsLoop

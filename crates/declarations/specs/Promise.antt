@@ -14,8 +14,8 @@ use Rattle.language.specs.Tree.{Spec}
 use Rattle.language.specs.Names.{visible}
 use Rattle.language.specs.Declared.{Port, Declarations, declarations}
 use Rattle.language.specs.Numbering.{inOrder, firstOf, signalList, tooManySignals}
-use Rattle.language.specs.Laws.Basics.Lists.{All}
-use Rattle.language.specs.Laws.Values.RegularWords.{RegularDefinition}
+use Rattle.language.specs.Lists.{All}
+use Rattle.language.specs.RegularWords.{RegularDefinition}
 use Rattle.names.specs.References.{numberIn}
 use Rattle.names.specs.Resolved.{declaredNames}
 use Rattle.name_values.specs.Worked.{worldIn}

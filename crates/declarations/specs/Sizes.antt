@@ -10,9 +10,9 @@ use Rattle.language.specs.Limits.{maxNames}
 use Rattle.language.specs.Tokens.{tokens}
 use Rattle.language.specs.Tree.{Definition, Declaration, Spec}
 use Rattle.language.specs.Declared.{Table, Port, asDeclared, Turns, turns, inputs, outputs, Declarations}
-use Rattle.language.specs.Laws.Basics.Lists.{All}
+use Rattle.language.specs.Lists.{All}
+use Rattle.language.specs.RegularWords.{RegularDefinition}
 use Rattle.language.specs.Laws.Basics.Results.{done, bind, bind-any, value-of, Within}
-use Rattle.language.specs.Laws.Values.RegularWords.{RegularDefinition}
 use Rattle.sets.specs.declared.Worked.{Worked}
 use Rattle.name_values.specs.Worked.{worldIn}
 use Rattle.notes.specs.Notes.{Notes}

@@ -25,7 +25,8 @@ use Rattle.notes.specs.ChosenLaws.{parameterChoice, portChoice}
 use Rattle.notes.specs.Owned.{DeclarationAt}
 use Rattle.declarations.specs.Turnable.{Turnable}
 use Rattle.memory_notes.specs.ShortTables.{short-first}
-use Rattle.declarations.specs.Trees.{Tree, tree-inside}
+use Rattle.declarations.specs.Trees.{Tree}
+use Rattle.declarations.specs.TreeLaws.{tree-inside}
 use Rattle.declarations.specs.Expressions.{MemoryRoom}
 use Rattle.declarations.specs.Promise.{Checked, Given}
 use Rattle.declarations.specs.Constants.{Parameters, ParametersGiven}

@@ -12,9 +12,9 @@ use Rattle.language.specs.Limits.{maxNames, maxTokens, maxWidth}
 use Rattle.language.specs.Tokens.{tokens}
 use Rattle.language.specs.Tree.{Definition, Declaration, Spec}
 use Rattle.language.specs.Declared.{Table, Port, portOf, asDeclared, Turns, turns}
-use Rattle.language.specs.Laws.Basics.Lists.{All}
+use Rattle.language.specs.Lists.{All}
 use Rattle.language.specs.Listed.{declaredName}
-use Rattle.language.specs.Laws.Values.RegularWords.{RegularDefinition}
+use Rattle.language.specs.RegularWords.{RegularDefinition}
 use Rattle.names.specs.References.{numberIn}
 use Rattle.names.specs.Resolved.{declaredNames}
 use Rattle.sets.specs.declared.Worked.{Worked}
@@ -24,7 +24,8 @@ use Rattle.notes.specs.NotesLaws.{names-distinct, notes-turn}
 use Rattle.notes.specs.Owned.{DeclarationAt}
 use Rattle.memory_notes.specs.ShortTables.{ShortTable, short-declared}
 use Rattle.declarations.specs.Turnable.{Turnable}
-use Rattle.declarations.specs.Trees.{Tree, tree-inside, number-small}
+use Rattle.declarations.specs.Trees.{Tree}
+use Rattle.declarations.specs.TreeLaws.{tree-inside, number-small}
 use Rattle.declarations.specs.Expressions.{Room}
 use Rattle.declarations.specs.Widths.{EnumeratedBy, portFor, Sizing, Sizable, Sizes, sortOf, sized-note}
 

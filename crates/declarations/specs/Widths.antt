@@ -33,9 +33,11 @@ use Rattle.name_values.specs.Worked.{worldIn}
 use Rattle.notes.specs.Notes.{Note, Notes}
 use Rattle.notes.specs.Owned.{DeclarationAt, kindOf as kindOfDeclaration}
 use Rattle.memory_notes.specs.ShortTables.{ShortTable}
-use Rattle.declarations.specs.Trees.{Tree, tree-realm, tree-expression, tree-before}
+use Rattle.declarations.specs.Trees.{Tree}
+use Rattle.declarations.specs.TreeLaws.{tree-realm, tree-expression, tree-before}
 use Rattle.declarations.specs.Expressions.{Room, Expression, Workable, Numbered}
-use Rattle.declarations.specs.Enumerations.{noEntry, Enumerates, entry-offset}
+use Rattle.declarations.specs.Enumerations.{noEntry, Enumerates}
+use Rattle.declarations.specs.EnumerationLaws.{entry-offset}
 use Rattle.language.specs.Laws.Values.NameLaws.{defined-values}
 
 -- the words of a declaration's enumeration

@@ -14,13 +14,14 @@ use Rattle.language.specs.Tokens.{Token}
 use Rattle.language.specs.Tree.{Expr, Named, Defined, Enumerated, OneSignal, OfWidth, OfType, Spec}
 use Rattle.language.specs.Grammar.{Tokens}
 use Rattle.language.specs.Places.{start, levels, first, firstIn, unless, TextLine as Line, ParameterLine, DefinitionLine, DeclarationLine, FormulaLine, allLines, deep, deepLine, tooDeep}
+use Rattle.language.specs.Braces.{Proper}
 use Rattle.language.specs.Laws.Basics.Lists.{All}
 use Rattle.language.specs.Laws.Basics.Tests.{pick, leave}
-use Rattle.language.specs.Laws.Grammar.Braces.{Proper}
 use Rattle.entries.specs.Kinds as Kind
 use Rattle.entries.specs.Flat.{Entry, flat, under, leaf, each, flatIdentifier, outline}
 use Rattle.traversal.specs.declared.Cell.{Cell}
-use Rattle.traversal.specs.Cells.{nothing, OfToken, Seen, cellAt, TokensTell, entries-seen, Offset}
+use Rattle.traversal.specs.Cells.{nothing, OfToken, Seen, cellAt, TokensTell, Offset}
+use Rattle.traversal.specs.CellLaws.{entries-seen}
 use Rattle.traversal.specs.Arity.{arities, operands, firstLine}
 use Rattle.traversal.specs.ArityLaws.{fixed-operands}
 use Rattle.traversal.specs.Parts.{Part, Whole, operandsOf, kindOf}
@@ -28,7 +29,8 @@ use Rattle.traversal.specs.Places.{first-none, firstIn-nowhere}
 use Rattle.traversal.specs.PassLaws.{run, Pass, Along, Works, expression-done}
 use Rattle.traversal.specs.LineLaws.{entriesOf, Each, firstBad, Lined, Alone, alone-done, identifiers-alone, text-holds}
 use Rattle.traversal.specs.Passed.{passed, passed-all}
-use Rattle.traversal.specs.TreeStored.{TreeStored, ProperLine, proper-lines}
+use Rattle.traversal.specs.TreeStored.{TreeStored, ProperLine}
+use Rattle.traversal.specs.ProperLaws.{proper-lines}
 use Rattle.traversal.specs.Starts.{firstOf}
 use Rattle.depth.specs.Depth.{Operand, State, capped, levelsOf, startsOf, node, faultOf, fault, stepped, step, state}
 use Rattle.depth.specs.NodeLaws.{value, values}

@@ -48,7 +48,8 @@ use Rattle.language.specs.Laws.Basics.Tests.{pick, leave}
 use Rattle.entries.specs.Kinds as Kind
 use Rattle.entries.specs.Flat.{Entry, under, leaf, flat, each, flatParameter, flatIdentifier, flatDefinition, flatDeclaration, flatLine, flatSubsection, outline}
 use Rattle.traversal.specs.declared.Cell.{Cell}
-use Rattle.traversal.specs.Cells.{Seen, cellAt, TokensTell, entries-seen}
+use Rattle.traversal.specs.Cells.{Seen, cellAt, TokensTell}
+use Rattle.traversal.specs.CellLaws.{entries-seen}
 use Rattle.traversal.specs.Arity.{firstLine}
 use Rattle.traversal.specs.ArityLaws.{truth-plain, before-plain, joining-plain, window-plain, big-plain, binder-plain, between-plain}
 use Rattle.traversal.specs.PassLaws.{run}

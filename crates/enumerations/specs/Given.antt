@@ -6,7 +6,7 @@ use mathlib.Core.Path.{_≡_}
 use lib.ListN.{length}
 use Rattle.language.specs.Tokens.{Marks, Token, isOf}
 use Rattle.language.specs.Tree.{Identifier, Definition, Defined, Enumerated}
-use Rattle.language.specs.Laws.Basics.Lists.{All}
+use Rattle.language.specs.Lists.{All}
 use Rattle.lexer.specs.Stored.{longest, offsetIn, lengthIn}
 use Rattle.enumerations.specs.Scan.{Word, wordsFrom, Ascends}
 use Rattle.enumerations.specs.Pass.{bytesAt}

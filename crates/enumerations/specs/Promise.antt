@@ -5,7 +5,7 @@ use mathlib.Core.Path.{_≡_}
 use Rattle.language.specs.Tree.{Spec}
 use Rattle.language.specs.Grammar.{Tokens}
 use Rattle.language.specs.Words.{wrongWords}
-use Rattle.language.specs.Laws.Basics.Lists.{All}
+use Rattle.language.specs.Lists.{All}
 use Rattle.traversal.specs.declared.Place.{Place}
 use Rattle.traversal.specs.Cells.{TokensTell}
 use Rattle.traversal.specs.Places.{placed}

@@ -9,7 +9,7 @@ use Rattle.language.specs.Limits.{maxWords, maxMarks}
 use Rattle.language.specs.Tokens.{Token}
 use Rattle.language.specs.Tree.{Identifier}
 use Rattle.language.specs.Words.{meet}
-use Rattle.language.specs.Laws.Basics.Lists.{All}
+use Rattle.language.specs.Lists.{All}
 
 -- a word and the number of its identifier
 pub record Word : Type 0 where

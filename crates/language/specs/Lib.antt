@@ -1,4 +1,5 @@
 pub mod Limits
+pub mod Lists
 pub mod Bytes
 pub mod Tokens
 pub mod Operators
@@ -10,9 +11,12 @@ pub mod Names
 pub mod Types
 pub mod Words
 pub mod Parsing
+pub mod Spelling
+pub mod Braces
 pub mod Sets
 pub mod Values
 pub mod Declared
+pub mod RegularWords
 pub mod Numbering
 pub mod Lines
 pub mod Expansion

@@ -14,11 +14,11 @@ use Rattle.language.specs.Tree.{Expr, Named, Identifier, Definition, Defined, E
 use Rattle.language.specs.Places.{mainLines}
 use Rattle.language.specs.Names.{Names, identifierNames, declaredAgain}
 use Rattle.language.specs.Declared.{Identifies, Table, find, identified, identifiers, wordsOfType}
+use Rattle.language.specs.Braces.{ProperDefinition, ProperSpec}
 use Rattle.language.specs.Laws.Basics.Lists.{All, all-any, all-more, all-append, all-right, all-both}
 use Rattle.language.specs.Laws.Basics.Tests.{pick, leave, same-refl}
 use Rattle.language.specs.Laws.Basics.Results.{value-of}
 use Rattle.language.specs.Laws.Values.DistinctNames.{Distinct, distinct-left, distinct-right, distinct-definitions}
-use Rattle.language.specs.Laws.Grammar.Braces.{ProperDefinition, ProperSpec}
 use Rattle.language.specs.Laws.Grammar.BracesReads.{spec-proper}
 use Rattle.entries.specs.Kinds as Kind
 use Rattle.entries.specs.Flat.{Entry, under, leaf, flat, each, flatParameter, flatIdentifier, flatDefinition, flatDeclaration, flatLine, flatSubsection, outline}

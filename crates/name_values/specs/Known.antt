@@ -7,7 +7,7 @@ use lib.ListN.{length}
 use Rattle.language.specs.Tree.{Expr}
 use Rattle.language.specs.Grammar.{Tokens}
 use Rattle.language.specs.Expansion.{Context}
-use Rattle.language.specs.Laws.Grammar.Braces.{Proper}
+use Rattle.language.specs.Braces.{Proper}
 use Rattle.entries.specs.Flat.{flat}
 use Rattle.entries.specs.Stored.{At}
 use Rattle.name_values.specs.World.{World}

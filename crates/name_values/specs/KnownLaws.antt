@@ -12,7 +12,7 @@ use Rattle.language.specs.Operators.{Infix, Prefix, Window, Big}
 use Rattle.language.specs.Tree.{Expr, Index, Paren, Prefixed, Joined, Nexts, InWindow, Each, Between, Listed, Element, Range}
 use Rattle.language.specs.Grammar.{Tokens}
 use Rattle.language.specs.Expansion.{Context, at}
-use Rattle.language.specs.Laws.Grammar.Braces.{Proper}
+use Rattle.language.specs.Braces.{Proper}
 use Rattle.entries.specs.Kinds as Kind
 use Rattle.entries.specs.Flat.{Entry, under, flat}
 use Rattle.entries.specs.Stored.{EndsAt}

@@ -35,10 +35,10 @@ use Rattle.language.specs.Tree.{
 }
 use Rattle.language.specs.Grammar.{Tokens, front, rest, expect, expectOf}
 use Rattle.language.specs.Sections.{HeadingRow, headings, headingOf, subsectionOf, infoOf, globalOf, subsectionsOf, specOf}
+use Rattle.language.specs.Braces.{Proper, ProperDefinition}
 use Rattle.language.specs.Laws.Basics.Lists.{All}
 use Rattle.language.specs.Laws.Basics.Results.{done, refused, bind, Within, bind-any}
 use Rattle.language.specs.Laws.Grammar.MainReads.{subsectionsBy}
-use Rattle.language.specs.Laws.Grammar.Braces.{Proper, ProperDefinition}
 use Rattle.entries.specs.Kinds as Kind
 use Rattle.entries.specs.Flat.{Entry, under, flat, each, flatIdentifier, flatDefinition, flatSubsection}
 

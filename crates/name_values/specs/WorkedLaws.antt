@@ -14,10 +14,10 @@ use Rattle.language.specs.Places as Places
 use Rattle.language.specs.Declared.{Table, find, Port}
 use Rattle.language.specs.Expansion.{contextOf, defineAll}
 use Rattle.language.specs.Names.{Names, hidden, nowhere, walk, walkLine, walkLines, declares, declaresSignal, over}
+use Rattle.language.specs.Braces.{Proper, ProperParameter, ProperDefinition, ProperDeclaration, ProperSubsection, ProperSpec}
 use Rattle.language.specs.Laws.Basics.Lists.{All, all-more, all-left, all-right, all-append, all-any}
 use Rattle.language.specs.Laws.Basics.NoPlace.{first-left, first-right}
 use Rattle.language.specs.Laws.Basics.Results.{value-of}
-use Rattle.language.specs.Laws.Grammar.Braces.{Proper, ProperParameter, ProperDefinition, ProperDeclaration, ProperSubsection, ProperSpec}
 use Rattle.language.specs.Laws.Grammar.BracesReads.{spec-proper}
 use Rattle.language.specs.Laws.Values.DistinctNames.{Apart, Distinct, Across, across, distinct-right, distinct-names, distinct-definitions}
 use Rattle.entries.specs.Kinds as Kind

@@ -44,7 +44,7 @@ use Rattle.entries.specs.Flat.{Entry, under, flat}
 use Rattle.entries.specs.Stored.{EndsAt, At}
 use Rattle.entries.specs.StoredLaws.{entry-kind, entry-index, ends-own, expr-size}
 use Rattle.spellings.specs.Interned.{Lexed}
-use Rattle.language.specs.Laws.Grammar.Braces.{Proper}
+use Rattle.language.specs.Braces.{Proper}
 use Rattle.operands.specs.Entries.{kindAt, sizeAt, placeAt, numberAt}
 use Rattle.operands.specs.Classes.{aFormula, aBig, aBetween, classOf, ofPrefix, ofInfix, ofExpr}
 

@@ -7,8 +7,8 @@ use mathlib.Core.Path.{_≡_, refl, sym, ap, _∙_}
 use lib.Dec.{eqb}
 use Rattle.language.specs.Tokens.{Token, tokens, is}
 use Rattle.language.specs.Operators.{Infix, Prefix, Measures, Size, Window, FinallyIn, GloballyIn, Big, Role, Plain, Counted, Windowed, Folding, InfixRow, PrefixRow}
+use Rattle.language.specs.Spelling.{infixIn, SpellsInfix, prefixIn, prefixBy, SpellsPrefix, windowIn, windowBy, SpellsWindow, bigIn, bigBy, SpellsBig, SpellsTruth, SpellsSign}
 use Rattle.language.specs.Laws.Basics.Tests.{some-none}
-use Rattle.language.specs.Laws.Grammar.Spelling.{infixIn, SpellsInfix, prefixIn, prefixBy, SpellsPrefix, windowIn, windowBy, SpellsWindow, bigIn, bigBy, SpellsBig, SpellsTruth, SpellsSign}
 use Rattle.lexer.specs.Numbers.{number, fixed, numbered}
 use Rattle.lexer.specs.NumberLaws.{is-number, named-number}
 use Rattle.entries.specs.Flat.{Entry, under}

@@ -143,10 +143,15 @@ module _ (s : Shape) where
       ∙ ap (byteSteps s rows a b c) e
 
 -- one step of the code, on n bytes: eight or one
-pub steps-more : (kind : ℕ) → 3 ≤ kind → kind < 8 → (start : List ℕ) {rows : List ℕ} (a b c j n : ℕ) → Bytes rows → a + (j + n) ≤ c → b + (j + n) ≤ c → rows ≡ byteSteps (shapeOf kind) start a b c j
-    → writeAt rows (c + j) n (bytesOf (shapeOf kind) n (readAt rows (a + j) n) (readAt rows (b + j) n)) ≡ byteSteps (shapeOf kind) start a b c (j + n)
-steps-more kind low high start {rows} a b c j n small ha hb e =
-    word-step kind low high rows small (a + j) (b + j) (c + j) n ∙ ap (λ r. byteSteps (shapeOf kind) r (a + j) (b + j) (c + j) n) e ∙ steps-join (shapeOf kind) start a b c j n ha hb
+pub steps-more : (op : Op) → Boolean op → (start : List ℕ) {rows new : List ℕ} {x y r count : ℕ} (base j n : ℕ) → Bytes rows → Bound start op base count → j + n ≤ count
+    → rows ≡ byteSteps (shapeOf (op .kind)) start (op .first) (op .second) base j → x ≡ readAt rows (op .first + j) n → y ≡ readAt rows (op .second + j) n
+    → r ≡ bytesOf (shapeOf (op .kind)) n x y → new ≡ writeAt rows (base + j) n r → new ≡ byteSteps (shapeOf (op .kind)) start (op .first) (op .second) base (j + n)
+steps-more op (low, high) start {rows} base j n small bound h e ex ey er en =
+    let s = shapeOf (op .kind) in
+    let a = op .first in
+    let b = op .second in
+    en ∙ ap (writeAt rows (base + j) n) (er ∙ ap₂ (bytesOf s n) ex ey) ∙ word-step (op .kind) low high rows small (a + j) (b + j) (base + j) n
+    ∙ ap (λ l. byteSteps s l (a + j) (b + j) (base + j) n) e ∙ steps-join s start a b base j n (omega (arith, bound .first-in)) (omega (arith, bound .second-in))
 
 -- the words of a row, then its odd bytes
 pub steps-row : (start : List ℕ) {mid new : List ℕ} (s : Shape) (a b c n count : ℕ) → n ≤ count → a + count ≤ c → b + count ≤ c → mid ≡ byteSteps s start a b c n

@@ -122,26 +122,28 @@ module _ (n base : ℕ) (f : Values) (p m v : ℕ) {mid new : List ℕ} (fits : 
       rest q (inr a) = outside q (inr (omega arith)) ∙ h .other q (inr a)
 
 -- span j of a stretch, in the rows of an operator's operands and in its own
-pub record Fits (rows : List ℕ) (op : Op) (base from size j : ℕ) : Type 0 where
-  pub few : from + size * j + size ≤ maxPositions
+pub record Fits (rows : List ℕ) (op : Op) (base : ℕ) (s : Stretch) (j : ℕ) : Type 0 where
+  pub place : Place (s .from) (s .size) (s .count) j
+  pub few : s .from + s .size * j + s .size ≤ maxPositions
   pub first-low : op .first ≤ rowsLimit
   pub second-low : op .second ≤ rowsLimit
   pub low : base ≤ rowsLimit
-  pub first : Within size (8 * op .first + (from + size * j)) rows
-  pub second : Within size (8 * op .second + (from + size * j)) rows
-  pub target : Within size (8 * base + (from + size * j)) rows
+  pub first : Within (s .size) (8 * op .first + (s .from + s .size * j)) rows
+  pub second : Within (s .size) (8 * op .second + (s .from + s .size * j)) rows
+  pub target : Within (s .size) (8 * base + (s .from + s .size * j)) rows
 
-pub fits : {rows : List ℕ} {op : Op} {base : ℕ} (from size count j : ℕ) → Aligned size from → Placed rows (from + size * count) op base → j < count → Fits rows op base from size j
-fits {rows} {op} {base} from size count j a r h =
-    let p = place from size count j a h in
+pub fits : {rows : List ℕ} {op : Op} {base : ℕ} (s : Stretch) (j : ℕ) → Regular s → Placed rows (endOf s) op base → j < s .count → Fits rows op base s j
+fits {rows} {op} {base} s j a r h =
+    let p = place (s .from) (s .size) (s .count) j a h in
     record {
+      place = p;
       few = omega arith;
       first-low = omega arith;
       second-low = omega arith;
       low = r .low;
-      first = within from size j (op .first) rows a (omega arith);
-      second = within from size j (op .second) rows a (omega arith);
-      target = within from size j base rows a (omega arith);
+      first = within (s .from) (s .size) j (op .first) rows a (omega arith);
+      second = within (s .from) (s .size) j (op .second) rows a (omega arith);
+      target = within (s .from) (s .size) j base rows a (omega arith);
     }
 
 -- a stretch of a row of n positions

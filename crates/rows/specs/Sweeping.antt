@@ -16,8 +16,8 @@ use Rattle.rows.specs.Row.{sweepFrom, sweep, around}
 use Rattle.rows.specs.RowLaws.{sweep-ext, sweep-end}
 use Rattle.rows.specs.Steps.{seedOf}
 use Rattle.rows.specs.Memory.{bitsAt, kept-trans, Part, Filled, part-none, part-from, part-as, part-before}
-use Rattle.rows.specs.Ready.{Placed, opStep, same-step, loopRow}
-use Rattle.rows.specs.Stretches.{endOf, inWords, inBytes, inBits, Place, place-back, span-row, part-down}
+use Rattle.rows.specs.Ready.{Placed, placed-still, opStep, same-step, loopRow}
+use Rattle.rows.specs.Stretches.{endOf, Regular, inWords, inBytes, inBits, Place, place-back, Fits, fits, span-row, part-down}
 use Rattle.rows.specs.declared.Stretch.{Stretch}
 use Rattle.rows.specs.SpanSteps.{Goes, span-goes}
 use Rattle.rows.specs.declared.Op.{Op}
@@ -100,6 +100,18 @@ passed-on {old} {mid} {new} {op} {base} {c = c} {r = r} from size count k seed a
 pub record Swept (n from : ℕ) (op : Op) (base : ℕ) (seed r : Bool) (old new : List ℕ) : Type 0 where
   pub value : r ≡ sweep n (opStep old op) seed from
   pub part : Part n base (sweep n (opStep old op) seed) from n old new
+
+-- span k - 1 of a stretch, where a pass has come down to span k
+pub passed-fits : {old mid : List ℕ} {op : Op} {base c : ℕ} {f : ℕ → Bool → Bool} {seed : Bool} (s : Stretch) (k : ℕ) → Regular s → Placed old (endOf s) op base → 0 < k → k ≤ s .count
+    → Passed (endOf s) base f seed c (s .from + s .size * k) old mid → Fits mid op base s (k - 1)
+passed-fits s k regular placed pos h pass = fits s (k - 1) regular (placed-still placed (pass .part .kept .size)) (omega arith)
+
+-- down to the first
+pub passed-whole : {old new : List ℕ} {op : Op} {base c : ℕ} {seed : Bool} (s : Stretch) (k : ℕ) → k ≡ 0 → Passed (endOf s) base (opStep old op) seed c (s .from + s .size * k) old new
+    → Swept (endOf s) (s .from) op base seed (eqb c 1) old new
+passed-whole {old} {op = op} {seed = seed} s k z pass =
+    let e : s .from + s .size * k ≡ s .from = ap (λ x. s .from + s .size * x) z ∙ omega arith in
+    record { value = pass .value ∙ ap (sweep (endOf s) (opStep old op) seed) e; part = part-from e (pass .part) }
 
 -- and further down
 pub swept-on : {old mid new : List ℕ} {op : Op} {base : ℕ} {seed v r : Bool} (n m from : ℕ) → Placed old n op base → m ≤ n → from ≤ m → Swept n m op base seed v old mid

@@ -1,16 +1,15 @@
 -- What a pass sees of the entries: the code's view of each, and when it is the view of an entry of the tree.
-use Prim.Native.Nat.{ℕ, suc, _+_, _/_, _%_, _<_}
+use Prim.Native.Nat.{ℕ, suc, _+_, _<_}
 use mathlib.Core.List.{List, [], _∷_}
 use mathlib.Core.Option.{Option, none, some}
-use mathlib.Core.Path.{_≡_, sym, ap, _∙_, subst}
+use mathlib.Core.Path.{_≡_}
 use lib.ListN.{length, drop}
 use Rattle.words.specs.Words.{wordAt}
 use Rattle.language.specs.Tokens.{Token}
 use Rattle.language.specs.Grammar.{Tokens, front}
 use Rattle.lexer.specs.Stored.{offsetIn}
 use Rattle.entries.specs.Flat.{Entry}
-use Rattle.entries.specs.Stored.{firstEntry, kindOf, indexOf, sizeOf, Keeps, EntryAt, EntriesFrom}
-use Rattle.entries.specs.StoredLaws.{entry-kind, entry-index, entry-size}
+use Rattle.entries.specs.Stored.{firstEntry, kindOf, indexOf, sizeOf}
 use Rattle.traversal.specs.declared.Cell.{Cell}
 
 -- what the word of a token says of it, if the entry keeps one
@@ -45,26 +44,6 @@ cellAt w i = let x = wordAt w (firstEntry + i) in record { kind = kindOf x; toke
 -- the words of the tokens say T of them
 abbrev pub TokensTell : (ℕ → Token → Type 0) → List ℕ → Tokens → Type 0
 TokensTell T w ts = (j : ℕ) → suc j < length ts → T (wordAt w j) (front (drop j ts))
-
-module _ (T : ℕ → Token → Type 0) (w : List ℕ) (ts : Tokens) (told : TokensTell T w ts) where
-  token-told : {j : ℕ} (k : ℕ) (t : Option Token) → k ≡ j → Keeps ts j t → Told T (wordAt w k) t
-  token-told k none e h = tt
-  token-told {j} k (some t) e h = subst (T (wordAt w k)) (h .0) (subst (λ l. T (wordAt w l) (front (drop j ts))) (sym e) (told j (h .1)))
-
-  pub entry-seen : (i : ℕ) (e : Entry) → EntryAt w ts i e → Sees (OfToken T tt) (cellAt w i) e
-  unfolding cellAt
-  entry-seen i e h = record { kind = entry-kind h; size = entry-size h; token = token-told (indexOf (wordAt w (firstEntry + i))) (e .token) (entry-index h) (h .keeps) }
-
-  pub entries-seen : (i : ℕ) (es : List Entry) → EntriesFrom w ts i es → Seen T (cellAt w) i es
-  entries-seen i [] h = tt
-  entries-seen i (e ∷ es) h = (entry-seen i e (h .0), entries-seen (suc i) es (h .1))
-
--- as the code reads it
-pub cell-of : (w : List ℕ) (i x y : ℕ) → x ≡ wordAt w (firstEntry + i) → y ≡ wordAt w (x / 8_192 % 8_192) → record { kind = x / 8_192 / 8_192; token = y; size = x % 8_192 } ≡ cellAt w i
-unfolding cellAt
-cell-of w i x y e d =
-    ap (λ (t : ℕ). record { kind = x / 8_192 / 8_192; token = t; size = x % 8_192 }) d
-    ∙ ap (λ (z : ℕ). record { kind = z / 8_192 / 8_192; token = wordAt w (z / 8_192 % 8_192); size = z % 8_192 }) e
 
 -- the words of tokens as the lexer stores them tell their places
 abbrev pub Offset : ℕ → Token → Type 0

@@ -1,4 +1,5 @@
 pub mod Cells
+pub mod CellLaws
 pub mod Arity
 pub mod Stretches
 pub mod Parts
@@ -9,5 +10,6 @@ pub mod PassLaws
 pub mod LineLaws
 pub mod Passed
 pub mod TreeStored
+pub mod ProperLaws
 pub mod StackLaws
 pub mod Starts

@@ -20,7 +20,8 @@ use Rattle.names.specs.Walkable.{names}
 use Rattle.names.specs.References.{reference}
 use Rattle.names.specs.Walking.{openAfter}
 use Rattle.traversal.specs.declared.Cell.{Cell}
-use Rattle.traversal.specs.Cells.{Told, SeenAlong, cellAt, TokensTell, Offset, entry-seen}
+use Rattle.traversal.specs.Cells.{Told, SeenAlong, cellAt, TokensTell, Offset}
+use Rattle.traversal.specs.CellLaws.{entry-seen}
 use Rattle.traversal.specs.Starts.{AtPlace}
 use Rattle.types.specs.Kinds.{placeOf}
 use Rattle.types.specs.Known.{Resolved}

@@ -14,8 +14,8 @@ use Rattle.language.specs.Grammar.{Tokens}
 use Rattle.language.specs.Places.{TextLine as Line, ParameterLine, DefinitionLine, DeclarationLine, FormulaLine, allLines}
 use Rattle.language.specs.Names.{Names}
 use Rattle.language.specs.Types.{ANumber, AFormula, ABus, AValue, AType, typeCode, Typings, typedValues}
+use Rattle.language.specs.Braces.{Proper}
 use Rattle.language.specs.Laws.Basics.Lists.{All}
-use Rattle.language.specs.Laws.Grammar.Braces.{Proper}
 use Rattle.language.specs.Limits.{maxNames}
 use Rattle.entries.specs.Kinds as EntryKind
 use Rattle.entries.specs.Flat.{Entry, flat, under, leaf, each, flatIdentifier, outline}
@@ -30,7 +30,8 @@ use Rattle.traversal.specs.Places.{first-none, firstIn-nowhere}
 use Rattle.traversal.specs.PassLaws.{run, Comes, Pass, Along, Works, expression-done}
 use Rattle.traversal.specs.LineLaws.{entriesOf, Each, lastly, text-holds}
 use Rattle.traversal.specs.Passed.{passed-all}
-use Rattle.traversal.specs.TreeStored.{TreeStored, ProperLine, proper-lines}
+use Rattle.traversal.specs.TreeStored.{TreeStored, ProperLine}
+use Rattle.traversal.specs.ProperLaws.{proper-lines}
 use Rattle.types.specs.Known.{Resolved}
 use Rattle.types.specs.Opened.{Shut, shut-stays, openPast, carries}
 use Rattle.types.specs.Cells.{namedCell}

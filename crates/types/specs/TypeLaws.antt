@@ -36,9 +36,9 @@ use Rattle.language.specs.Types.{
   mistypedLines,
   wrongType,
 }
+use Rattle.language.specs.Braces.{Proper}
 use Rattle.language.specs.Laws.Basics.Lists.{All}
 use Rattle.language.specs.Laws.Basics.Tests.{pick, leave}
-use Rattle.language.specs.Laws.Grammar.Braces.{Proper}
 use Rattle.entries.specs.Kinds as EntryKind
 use Rattle.entries.specs.Flat.{Entry, flat, under, leaf, each, flatIdentifier, outline}
 use Rattle.names.specs.References.{reference}
@@ -52,7 +52,8 @@ use Rattle.traversal.specs.Places.{first-none, first-assoc, first-comm}
 use Rattle.traversal.specs.PassLaws.{run, Pass, Works, expression-done}
 use Rattle.traversal.specs.LineLaws.{entriesOf, Each, firstBad, Lined, Alone, alone-done, identifiers-alone, text-holds}
 use Rattle.traversal.specs.Passed.{passed, passed-all}
-use Rattle.traversal.specs.TreeStored.{TreeStored, ProperLine, proper-lines}
+use Rattle.traversal.specs.TreeStored.{TreeStored, ProperLine}
+use Rattle.traversal.specs.ProperLaws.{proper-lines}
 use Rattle.types.specs.Kinds.{lastTakes, otherTakes, fits, misfits, indexed, placeOf, referenceOf, kindAt}
 use Rattle.types.specs.Pass.{Operand, State, kindsOf, startsOf, node, wrongAt, fault, tableOf, tableAfter, stepped, step, state}
 use Rattle.types.specs.Known.{Resolved, Known}

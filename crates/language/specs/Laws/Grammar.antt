@@ -12,9 +12,7 @@ pub mod ListReads
 pub mod SectionReads
 pub mod MainReads
 pub mod SpecReads
-pub mod Braces
 pub mod TreeReads
-pub mod Spelling
 pub mod BracesReads
 pub mod Parses
 pub mod RefusedToken

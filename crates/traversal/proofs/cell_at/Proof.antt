@@ -1,6 +1,6 @@
 -- The cell of an entry: its word, and the word of its token.
 use native.Mathlib.Omega.{arith}
-use Rattle.traversal.specs.Cells.{cell-of}
+use Rattle.traversal.specs.CellLaws.{cell-of}
 use borrow.Author.Needs.{needs}
 use Rattle.traversal.proofs.cell_at.Statement.{statement}
 use Rattle.traversal.proofs.cell_at.Tie as tie

@@ -4,7 +4,7 @@ use mathlib.Core.Path.{_≡_, refl, _∙_}
 use native.Mathlib.Omega.{arith}
 use borrow.Author.Needs.{needs}
 use lib.ListN.{length, length-set}
-use Rattle.declarations.specs.Expressions.{room-still}
+use Rattle.declarations.specs.ExpressionLaws.{room-still}
 use Rattle.declarations.specs.ConstantsLoop.{Looping, looping-starts, looping-inside, looping-small, looping-workable, looping-stopped, looping-more, looping-all}
 use Rattle.declarations.proofs.constants.parameters.Statement.{statement}
 use Rattle.declarations.proofs.constants.parameters.Tie as tie

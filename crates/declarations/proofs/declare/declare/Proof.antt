@@ -2,7 +2,7 @@
 use mathlib.Core.Path.{sym, _∙_}
 use native.Mathlib.Omega.{arith}
 use borrow.Author.Needs.{needs}
-use Rattle.declarations.specs.Expressions.{room-kept}
+use Rattle.declarations.specs.ExpressionLaws.{room-kept}
 use Rattle.declarations.specs.Closing.{stopped, constants-refused, sizes-refused, closing-room, closing, sizes-given}
 use Rattle.declarations.proofs.declare.declare.Statement.{statement}
 use Rattle.declarations.proofs.declare.declare.Tie as tie

@@ -3,7 +3,7 @@ use mathlib.Core.Path.{sym, ap, _∙_}
 use native.Mathlib.Omega.{arith}
 use borrow.Author.Needs.{needs}
 use Rattle.entries.specs.Stored.{kindOf}
-use Rattle.declarations.specs.Enumerations.{enumeration-small}
+use Rattle.declarations.specs.EnumerationLaws.{enumeration-small}
 use Rattle.declarations.specs.Describing.{enumeration-for, enumeration-none}
 use Rattle.declarations.proofs.describe.enumeration_for.Statement.{statement}
 use Rattle.declarations.proofs.describe.enumeration_for.Tie as tie

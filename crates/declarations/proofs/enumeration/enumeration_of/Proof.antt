@@ -4,7 +4,7 @@ use native.Mathlib.Omega.{arith}
 use borrow.Author.Needs.{needs}
 use lib.ListN.{getD}
 use Rattle.entries.specs.Stored.{kindOf}
-use Rattle.declarations.specs.Enumerations.{enumeration-far, enumeration-past, enumeration-other, enumeration-own}
+use Rattle.declarations.specs.EnumerationLaws.{enumeration-far, enumeration-past, enumeration-other, enumeration-own}
 use Rattle.declarations.proofs.enumeration.enumeration_of.Statement.{statement}
 use Rattle.declarations.proofs.enumeration.enumeration_of.Tie as tie
 

@@ -10,7 +10,7 @@ use Rattle.lexer.specs.Stored.{longest, lengthIn}
 use Rattle.entries.specs.Stored.{kindOf}
 use Rattle.spellings.specs.Interned.{Lexed}
 use Rattle.name_values.specs.Declaring.{EnumerationAt}
-use Rattle.declarations.specs.Enumerations.{Scanning, scanning-starts, scanning-word, scanning-more, scanning-other, scanning-past}
+use Rattle.declarations.specs.EnumerationLaws.{Scanning, scanning-starts, scanning-word, scanning-more, scanning-other, scanning-past}
 use Rattle.declarations.proofs.enumeration.word_width.Statement.{statement}
 use Rattle.declarations.proofs.enumeration.word_width.Tie as tie
 

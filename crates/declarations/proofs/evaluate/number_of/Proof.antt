@@ -1,6 +1,6 @@
 -- `number_of` meets its contract: the notes that are laid are what the machine asks for.
 use borrow.Author.Needs.{needs}
-use Rattle.declarations.specs.Expressions.{workable-runnable, told-numbered}
+use Rattle.declarations.specs.ExpressionLaws.{workable-runnable, told-numbered}
 use Rattle.declarations.proofs.evaluate.number_of.Statement.{statement}
 use Rattle.declarations.proofs.evaluate.number_of.Tie as tie
 

@@ -1,10 +1,6 @@
--- What holds of all elements of a list.
+-- Laws of what holds of all elements of a list.
 use mathlib.Core.List.{List, [], _∷_, _++_, map}
-
--- Q of every element
-abbrev pub All : {A : Type 0} → (A → Type 0) → List A → Type 0
-All Q [] = Unit {0}
-All Q (a ∷ l) = Q a × All Q l
+pub use Rattle.language.specs.Lists.{All}
 
 -- nothing is asked
 abbrev pub Any : {A : Type 0} → A → Type 0

@@ -4,9 +4,9 @@ use mathlib.Core.Bool.{true, false}
 use Rattle.language.specs.Tree.{Definition, Defined, Enumerated, Declaration, OneSignal, OfWidth, OfType, Subsection, Inputs, Outputs, Lines, Spec}
 use Rattle.language.specs.Grammar.{Tokens}
 use Rattle.language.specs.Sections.{specOf}
+use Rattle.language.specs.Braces.{Proper, ProperParameter, ProperDefinition, ProperDeclaration, ProperSubsection, ProperSpec}
 use Rattle.language.specs.Laws.Basics.Lists.{all-more}
 use Rattle.language.specs.Laws.Basics.Results.{weaken, Within}
-use Rattle.language.specs.Laws.Grammar.Braces.{Proper, ProperParameter, ProperDefinition, ProperDeclaration, ProperSubsection, ProperSpec}
 use Rattle.language.specs.Laws.Grammar.TreeReads.{Built, ReadParameter, ReadDefinition, ReadDeclaration, ReadSubsection, ReadSpec, spec-read}
 
 proper-built : Built (Proper false) (Proper true)

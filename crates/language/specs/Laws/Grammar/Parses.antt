@@ -17,9 +17,9 @@ use Rattle.language.specs.Names.{notVisible, declaredAgain, tooMany}
 use Rattle.language.specs.Types.{wrongType}
 use Rattle.language.specs.Words.{wrongWords}
 use Rattle.language.specs.Parsing.{noToken, tooManyTokens, wellFormed, parsed}
+use Rattle.language.specs.Braces.{ProperSpec}
 use Rattle.language.specs.Laws.Basics.NoPlace.{refuseAt-done}
 use Rattle.language.specs.Laws.Basics.Results.{value-of}
-use Rattle.language.specs.Laws.Grammar.Braces.{ProperSpec}
 use Rattle.language.specs.Laws.Grammar.BracesReads.{spec-proper}
 
 -- a tree that refusals 5 to 10 let pass

@@ -103,12 +103,12 @@ use Rattle.language.specs.Sections.{
   subsectionsOf,
   specOf,
 }
+use Rattle.language.specs.Spelling.{infixIn, SpellsInfix, prefixIn, prefixBy, SpellsPrefix, windowIn, windowBy, SpellsWindow, bigIn, bigBy, SpellsBig, SpellsTruth, SpellsSign}
 use Rattle.language.specs.Laws.Basics.Lists.{All}
 use Rattle.language.specs.Laws.Basics.Tests.{split, some-none}
 use Rattle.language.specs.Laws.Basics.Results.{done, refused, bind, Within, bind-any}
 use Rattle.language.specs.Laws.Grammar.TokenReads.{among}
 use Rattle.language.specs.Laws.Grammar.MainReads.{subsectionsBy}
-use Rattle.language.specs.Laws.Grammar.Spelling.{infixIn, SpellsInfix, prefixIn, prefixBy, SpellsPrefix, windowIn, windowBy, SpellsWindow, bigIn, bigBy, SpellsBig, SpellsTruth, SpellsSign}
 
 -- P of what is read, if something is
 abbrev pub Gives : {A : Type 0} → (A → Type 0) → Read A → Type 0

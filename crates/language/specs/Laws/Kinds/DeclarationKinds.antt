@@ -10,9 +10,9 @@ use Rattle.language.specs.Places.{TextLine, ParameterLine, parameterLine
 use Rattle.language.specs.Types.{ExprType, ANumber, ABus, Typings, typedAfter}
 use Rattle.language.specs.Values.{value}
 use Rattle.language.specs.Declared.{Constant, Table, declared, defining, identifiers, wordsOfType, wordWidth, Port, sized, portOf, asDeclared, turns, constants}
+use Rattle.language.specs.Braces.{ProperParameter, ProperDefinition}
 use Rattle.language.specs.Laws.Basics.Lists.{All}
 use Rattle.language.specs.Laws.Basics.Results.{done, bind}
-use Rattle.language.specs.Laws.Grammar.Braces.{ProperParameter, ProperDefinition}
 use Rattle.language.specs.Laws.Values.NameLaws.{sized-as}
 use Rattle.language.specs.Laws.Kinds.Reaching.{Reaches, next}
 use Rattle.language.specs.Laws.Kinds.KindLaws.{number-of}

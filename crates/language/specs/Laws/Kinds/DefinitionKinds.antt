@@ -15,11 +15,11 @@ use Rattle.language.specs.Types.{ExprType, AFormula, AValue, AType, Typi
 use Rattle.language.specs.Values.{Value, Scope, naming, value}
 use Rattle.language.specs.Declared.{Table, identified, identifiers, defining}
 use Rattle.language.specs.Expansion.{Context, expansion, define, defineAll}
+use Rattle.language.specs.Braces.{Proper, ProperDefinition}
 use Rattle.language.specs.Laws.Basics.Lists.{All, Any}
 use Rattle.language.specs.Laws.Basics.Tests.{split, or-left, or-right, or-cases}
 use Rattle.language.specs.Laws.Basics.NoPlace.{first-left, first-right}
 use Rattle.language.specs.Laws.Basics.Results.{refused}
-use Rattle.language.specs.Laws.Grammar.Braces.{Proper, ProperDefinition}
 use Rattle.language.specs.Laws.Values.ValueKinds.{apart}
 use Rattle.language.specs.Laws.Values.NameLaws.{defined-values}
 use Rattle.language.specs.Laws.Kinds.Reaching.{Reaches}

@@ -36,11 +36,11 @@ use Rattle.language.specs.Types.{
 use Rattle.language.specs.Values.{Value, misfit, Sized, Scope, number, value}
 use Rattle.language.specs.Declared.{Port}
 use Rattle.language.specs.Expansion.{nexts, chain, windowOperator, Context, at, against, compared, expansion}
+use Rattle.language.specs.Braces.{Proper}
 use Rattle.language.specs.Laws.Basics.Lists.{Any}
 use Rattle.language.specs.Laws.Basics.Tests.{some-none}
 use Rattle.language.specs.Laws.Basics.NoPlace.{first-left, first-right, unless-none}
 use Rattle.language.specs.Laws.Basics.Results.{done, guarded}
-use Rattle.language.specs.Laws.Grammar.Braces.{Proper}
 use Rattle.language.specs.Laws.Values.ValueKinds.{isKind-equal, apart}
 use Rattle.language.specs.Laws.Kinds.Reaching.{Reaches, next}
 use Rattle.language.specs.Laws.Kinds.KindLaws.{Evaluates, number-of, set-of, bus-of}

@@ -21,10 +21,10 @@ use Rattle.language.specs.Lines.{Line, Written, Implied, implied, lines}
 use Rattle.language.specs.Expansion.{Context, atSignals, defineAll, expandLine, expandSection, expand}
 use Rattle.language.specs.Shifting.{adapted}
 use Rattle.language.specs.Reading.{specExpansion, textExpansion}
+use Rattle.language.specs.Braces.{ProperSpec}
 use Rattle.language.specs.Laws.Basics.Lists.{All, Any, all-any}
 use Rattle.language.specs.Laws.Basics.NoPlace.{first-left}
 use Rattle.language.specs.Laws.Basics.Results.{Answers, done, guarded, placed, bind, weaken, refusal-of, gathered}
-use Rattle.language.specs.Laws.Grammar.Braces.{ProperSpec}
 use Rattle.language.specs.Laws.Grammar.Parses.{parses, parsed-proper}
 use Rattle.language.specs.Laws.Values.LineLaws.{implied-all}
 use Rattle.language.specs.Laws.Kinds.Reaching.{Reaches}

@@ -9,9 +9,9 @@ use Rattle.language.specs.Places.{TextLine, ParameterLine, DefinitionLin
 use Rattle.language.specs.Types.{ExprType, ANumber, AFormula, ABus, Typings, mistypedLine, mistypedLines, typedAfter}
 use Rattle.language.specs.Declared.{inputs, outputs}
 use Rattle.language.specs.Lines.{Line, Written, Implied, writtenLines}
+use Rattle.language.specs.Braces.{Proper, ProperDeclaration, ProperSubsection}
 use Rattle.language.specs.Laws.Basics.Lists.{All, all-append}
 use Rattle.language.specs.Laws.Basics.NoPlace.{first-left, first-right}
-use Rattle.language.specs.Laws.Grammar.Braces.{Proper, ProperDeclaration, ProperSubsection}
 use Rattle.language.specs.Laws.Kinds.TypeSoundness.{Taken, taken}
 use Rattle.language.specs.Laws.Kinds.KnownKinds.{typings, Knows}
 use Rattle.language.specs.Laws.Kinds.DefinitionKinds.{values-right, typedThrough}

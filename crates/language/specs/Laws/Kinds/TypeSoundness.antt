@@ -14,9 +14,9 @@ use Rattle.language.specs.Places.{first}
 use Rattle.language.specs.Types.{ExprType, ANumber, ASet, AFormula, ABus, Typings, typeIn, typeOf, withNumber, bigGives, wrong, mistyped, demanded}
 use Rattle.language.specs.Sets.{combine}
 use Rattle.language.specs.Values.{Value, Number, Logic, Scope, naming, value}
+use Rattle.language.specs.Braces.{Proper}
 use Rattle.language.specs.Laws.Basics.NoPlace.{first-left, first-right}
 use Rattle.language.specs.Laws.Basics.Results.{done}
-use Rattle.language.specs.Laws.Grammar.Braces.{Proper}
 use Rattle.language.specs.Laws.Kinds.Reaching.{next, late-unless}
 use Rattle.language.specs.Laws.Kinds.KindLaws.{Evaluates, reaches-evaluates, demanded-evaluates, number-of, set-of, bus-of}
 use Rattle.language.specs.Laws.Kinds.OperandLaws.{then-number, then-set, calculate-reaches, measure-reaches, limited-reaches, range-reaches, between-reaches, big-reaches}

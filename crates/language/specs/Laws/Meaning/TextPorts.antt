@@ -15,10 +15,10 @@ use Rattle.language.specs.Parsing.{parsed}
 use Rattle.language.specs.Declared.{Port, inputs, outputs, Declarations, declarations}
 use Rattle.language.specs.Numbering.{inOrder}
 use Rattle.language.specs.Numbered.{nameAt}
+use Rattle.language.specs.Braces.{ProperDeclaration, ProperSubsection}
 use Rattle.language.specs.Laws.Basics.Lists.{All, all-append, all-both}
 use Rattle.language.specs.Laws.Grammar.TokenLaws.{Stands, tokens-stand}
 use Rattle.language.specs.Laws.Grammar.TreeTokens.{InDeclaration, InSubsection, InSpec}
-use Rattle.language.specs.Laws.Grammar.Braces.{ProperDeclaration, ProperSubsection}
 use Rattle.language.specs.Laws.Grammar.Parses.{parses, parsed-proper}
 use Rattle.language.specs.Laws.Grammar.NameTokens.{NamedIn, tokens-named, parsed-tokens}
 use Rattle.language.specs.Listed.{declaredName}

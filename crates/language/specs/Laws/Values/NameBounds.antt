@@ -34,9 +34,9 @@ use Rattle.language.specs.Declared.{
   declarations,
 }
 use Rattle.language.specs.Expansion.{atSignals, defineAll}
+use Rattle.language.specs.Braces.{ProperParameter, ProperDefinition, ProperSpec}
 use Rattle.language.specs.Laws.Basics.Lists.{All}
 use Rattle.language.specs.Laws.Basics.Results.{done, bind, value-of, Within, bind-any}
-use Rattle.language.specs.Laws.Grammar.Braces.{ProperParameter, ProperDefinition, ProperSpec}
 use Rattle.language.specs.Laws.Values.NameLaws.{defined-values, defining-keeps, Visible, naming-within, Entries, declared-within, first-entries, sized-as}
 use Rattle.language.specs.Laws.Values.ValueLaws.{SaneNumber, Sane, as-number, value-sane}
 

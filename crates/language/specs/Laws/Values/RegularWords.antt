@@ -1,4 +1,4 @@
--- What refusal 10 leaves: the words of an enumeration are as wide as the first, at most 8 marks each, and at most 16.
+-- Refusal 10 leaves regular words; so are the words that a bus is declared by.
 use Prim.Native.Nat.{ℕ, zero, suc, _≤_}
 use mathlib.Core.Path.{_≡_, refl, subst}
 use mathlib.Core.Bool.{_&&_}
@@ -18,16 +18,12 @@ use Rattle.language.specs.Places.{first}
 use Rattle.language.specs.Names.{placeOfFirst}
 use Rattle.language.specs.Words.{wordsIn, wrongLength, wrongLengths, clashes, badWords, wrongWords}
 use Rattle.language.specs.Parsing.{parsed}
-use Rattle.language.specs.Declared.{wordsOfType, wordWidth, Port, sized}
+use Rattle.language.specs.Declared.{wordsOfType, wordWidth, sized}
+pub use Rattle.language.specs.RegularWords.{Regular, RegularDefinition, PortRegular}
 use Rattle.language.specs.Laws.Basics.Lists.{All, all-more}
 use Rattle.language.specs.Laws.Basics.Tests.{split, and-left, and-right, some-none}
 use Rattle.language.specs.Laws.Basics.NoPlace.{first-left, first-right, firstIn-none, unless-none}
 use Rattle.language.specs.Laws.Grammar.Parses.{parses}
-
-pub record Regular (words : List Token) : Type 0 where
-  pub equal : All (λ v. length (v .text) ≡ wordWidth words) words
-  pub narrow : wordWidth words ≤ maxMarks
-  pub few : length words ≤ maxWords
 
 no-more : (n : ℕ) (ws : List Token) → placeOfFirst (drop n ws) ≡ none → length ws ≤ n
 no-more zero [] e = omega arith
@@ -49,10 +45,6 @@ narrow-words (w ∷ ws) e =
     let n = length (w .text) in
     let h = firstIn-none (wrongLength n) (w ∷ ws) e .0 in
     leb-true n maxMarks (and-right (eqb n n) (leb n maxMarks) (unless-none (eqb n n && leb n maxMarks) (w .at) h))
-
-abbrev pub RegularDefinition : Definition → Type 0
-RegularDefinition (Defined x e) = Unit {0}
-RegularDefinition (Enumerated x is) = Regular (wordsIn is)
 
 regular-enumeration : (is : List Identifier) (n : ℕ) → n ≡ maxWords → first (wrongLengths (wordsIn is)) (first (placeOfFirst (drop n (wordsIn is))) (clashes is)) ≡ none
     → Regular (wordsIn is)
@@ -78,10 +70,6 @@ pub regular-type : (ds : List Definition) → All RegularDefinition ds → (t : 
 regular-type [] h t = record { equal = tt; narrow = omega arith; few = omega arith }
 regular-type (Defined x e ∷ ds) h t = regular-type ds (h .1) t
 regular-type (Enumerated x is ∷ ds) h t = split Regular (same (x .text) (t .text)) (λ _. h .0) (λ _. regular-type ds (h .1) t)
-
--- a port's words are as wide as it is
-abbrev pub PortRegular : Port → Type 0
-PortRegular p = All (λ v. length (v .text) ≡ p .width) (p .words)
 
 -- a bus of an enumeration has 1 to 8 bits
 pub enumerated-width : (words : List Token) → Regular words → (x : Token) (n : ℕ) → sized x (wordWidth words) ≡ Done n → (1 ≤ n) × (n ≤ maxMarks)

@@ -11,13 +11,9 @@ use native.Mathlib.Nat.{suc-mul, div-mul-le-self}
 use Rattle.language.specs.Bytes.{if_then_else_}
 use Rattle.language.specs.Operators.{Combination, Cup, Cap, Without}
 use Rattle.language.specs.Sets.{memberOf, insert, union, keep, combine, steps, rangeSize, last}
+pub use Rattle.language.specs.Lists.{Ascending}
 use Rattle.language.specs.Laws.Basics.Lists.{All}
 use Rattle.language.specs.Laws.Basics.Tests.{split, so-eqb, so-ltb}
-
--- ascending, the elements from low to high
-abbrev pub Ascending : (low high : ℕ) → List ℕ → Type 0
-Ascending low high [] = Unit {0}
-Ascending low high (x ∷ s) = (low ≤ x) × (x ≤ high) × Ascending (suc x) high s
 
 pub ascending-lower : {m n : ℕ} (high : ℕ) → m ≤ n → (s : List ℕ) → Ascending n high s → Ascending m high s
 ascending-lower high l [] h = tt

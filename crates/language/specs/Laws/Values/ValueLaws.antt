@@ -61,11 +61,12 @@ use Rattle.language.specs.Values.{
   naming,
   value,
 }
+pub use Rattle.language.specs.Lists.{Ordered}
+use Rattle.language.specs.Braces.{Proper}
 use Rattle.language.specs.Laws.Basics.Lists.{All}
 use Rattle.language.specs.Laws.Basics.Tests.{so-leb}
 use Rattle.language.specs.Laws.Basics.Results.{done, refused, guarded, bind, weaken, folds, Within}
-use Rattle.language.specs.Laws.Grammar.Braces.{Proper}
-use Rattle.language.specs.Laws.Values.SetLaws.{Ascending, ascending-all, last-high, insert-ascending, union-ascending, keep-fewer, combine-ascending}
+use Rattle.language.specs.Laws.Values.SetLaws.{ascending-all, last-high, insert-ascending, union-ascending, keep-fewer, combine-ascending}
 use Rattle.language.specs.Laws.Values.SetAnswers.{Small, rises-ascending, range-exact, Below, between-exact}
 use Rattle.language.specs.Laws.Values.Arithmetic.{inRange-exact, calculate-exact}
 use Rattle.language.specs.Laws.Values.ValueKinds.{number-as, set-as, bus-as}
@@ -73,9 +74,6 @@ use Rattle.language.specs.Laws.Values.NameLaws.{Visible, naming-within}
 
 abbrev pub SaneNumber : ℕ → Type 0
 SaneNumber n = n ≤ maxNumber
-
-abbrev pub Ordered : List ℕ → Type 0
-Ordered s = Ascending 0 maxNumber s
 
 abbrev pub SaneSet : List ℕ → Type 0
 SaneSet s = Ordered s × (length s ≤ maxElements)

@@ -1,13 +1,11 @@
 -- `sweep_again` meets its contract: as that of `sweep_spans`; where the value at a first position is the one that stood there, nothing below can change.
 use Prim.Native.Nat.{_+_, _*_, _-_, _≤_, _<_}
-use mathlib.Core.Path.{_≡_, sym, ap, _∙_}
+use mathlib.Core.Path.{sym, _∙_}
 use mathlib.Core.Logic.{inl}
 use native.Mathlib.Omega.{arith}
-use Rattle.rows.specs.Memory.{part-from}
-use Rattle.rows.specs.Row.{sweep}
-use Rattle.rows.specs.Ready.{rowStep, opStep, placed-still}
-use Rattle.rows.specs.Stretches.{Place, place-back, Fits, fits}
-use Rattle.rows.specs.Sweeping.{Passed, passed-none, passed-on, same-bit, settled}
+use Rattle.rows.specs.Ready.{rowStep}
+use Rattle.rows.specs.Stretches.{place-back, Fits}
+use Rattle.rows.specs.Sweeping.{Passed, passed-none, passed-on, passed-fits, passed-whole, same-bit, settled}
 use Rattle.rows.proofs.around.sweep_again.Statement.{statement}
 use Rattle.rows.proofs.around.sweep_again.Tie as tie
 
@@ -18,19 +16,10 @@ abbrev μ-loop : tie.MeasureT-loop
 μ-loop base v rows₀ kind first second from size count d₀ k₀ rows d k = k
 
 here : (c : tie.In-loop Inv-loop μ-loop)
-    → Fits (c .before .loop .rows) (c .before .before .before .before .args .op) (c .before .before .before .before .args .base) (c .before .before .before .before .args .s .from)
-    (c .before .before .before .before .args .s .size) (c .before .loop .k - 1)
+    → Fits (c .before .loop .rows) (c .before .before .before .before .args .op) (c .before .before .before .before .args .base) (c .before .before .before .before .args .s) (c .before .loop .k - 1)
 here c =
     let start = c .before .before .before .before in
-    let s = start .args .s in
-    let loop = c .before .loop in
-    fits (s .from) (s .size) (s .count) (loop .k - 1) (start .pre .1 .0 .1) (placed-still (start .pre .0) (loop .inv .1 .part .kept .size)) (omega arith)
-
-place : (c : tie.In-loop Inv-loop μ-loop)
-    → Place (c .before .before .before .before .args .s .from) (c .before .before .before .before .args .s .size) (c .before .before .before .before .args .s .count) (c .before .loop .k - 1)
-place c =
-    let start = c .before .before .before .before in
-    let s = start .args .s in place-back (s .from) (s .size) (s .count) (c .before .loop .k) (start .pre .1 .0 .1) (omega arith) (c .before .loop .inv .0) .1
+    let loop = c .before .loop in passed-fits (start .args .s) (loop .k) (start .pre .1 .0 .1) (start .pre .0) (omega arith) (loop .inv .0) (loop .inv .1)
 
 long-digit-requires : tie.Need-long-digit-requires Inv-loop μ-loop
 long-digit-requires c κs =
@@ -87,7 +76,7 @@ step-requires c κs =
 first-of-requires : tie.Need-first-of-requires Inv-loop μ-loop
 first-of-requires c κs =
     let body = c .before .before .before .before .before in
-    let p = place body in (p .some, p .most)
+    let p = here body .place in (p .some, p .most)
 
 mul-get-bit : tie.Need-mul-get-bit Inv-loop μ-loop
 mul-get-bit c =
@@ -102,7 +91,7 @@ add-get-bit c =
 get-bit-requires : tie.Need-get-bit-requires Inv-loop μ-loop
 get-bit-requires c κs =
     let body = c .before .before .before .before .before .before .before in
-    let h = here body in omega (arith, h .target .inside, place body .some)
+    let h = here body in omega (arith, h .target .inside, h .place .some)
 
 mul-store : tie.Need-mul-store Inv-loop μ-loop
 mul-store c =
@@ -133,7 +122,7 @@ get-bit-requires-2 : tie.Need-get-bit-requires-2 Inv-loop μ-loop
 get-bit-requires-2 c κs =
     let body = c .before .before .before .before .before .before .before .before .before .before .before .before .before .before in
     let store = c .before .before .before .before .store in
-    let h = here body in omega (arith, h .target .inside, place body .some, store .ensures .size)
+    let h = here body in omega (arith, h .target .inside, h .place .some, store .ensures .size)
 
 same-length : tie.Need-same-length Inv-loop μ-loop
 same-length c =
@@ -161,7 +150,7 @@ returns c =
     let held = start .pre .1 .1 in
     let n = s .from + s .size * s .count in
     let at = s .from + s .size * (loop .k - 1) in
-    let p = place body in
+    let p = here body .place in
     let inner : at < n = omega (arith, p .some, p .last) in
     let stood = loop .inv .1 .part .other at (inl (omega (
       arith,
@@ -200,12 +189,7 @@ same-length-2 c =
 
 returns-2 : tie.Need-returns-2 Inv-loop μ-loop
 returns-2 c =
-    let start = c .before .before .before .before in
-    let s = start .args .s in
-    let loop = c .before .loop in
-    let n = s .from + s .size * s .count in
-    let e : s .from + s .size * loop .k ≡ s .from = (let z : loop .k ≡ 0 = omega arith in ap (λ x. s .from + s .size * x) z ∙ omega arith) in
-    record { value = loop .inv .1 .value ∙ ap (sweep n (opStep (start .args .rows .now) (start .args .op)) (start .args .v)) e; part = part-from e (loop .inv .1 .part) }
+    let loop = c .before .loop in passed-whole (c .before .before .before .before .args .s) (loop .k) (omega arith) (loop .inv .1)
 
 pub sweep-again-spec : {M : Type 1} → statement M
 sweep-again-spec =

@@ -1,12 +1,9 @@
 -- `sweep_spans` meets its contract: from span k on the row has the values of the pass, and c is the one at its first position.
 use Prim.Native.Nat.{_+_, _*_, _-_, _≤_}
-use mathlib.Core.Path.{_≡_, ap, _∙_}
 use native.Mathlib.Omega.{arith}
-use Rattle.rows.specs.Memory.{part-from}
-use Rattle.rows.specs.Row.{sweep}
-use Rattle.rows.specs.Ready.{rowStep, opStep, placed-still}
-use Rattle.rows.specs.Stretches.{Place, place-back, Fits, fits}
-use Rattle.rows.specs.Sweeping.{Passed, passed-none, passed-on}
+use Rattle.rows.specs.Ready.{rowStep}
+use Rattle.rows.specs.Stretches.{Fits}
+use Rattle.rows.specs.Sweeping.{Passed, passed-none, passed-on, passed-fits, passed-whole}
 use Rattle.rows.proofs.around.sweep_spans.Statement.{statement}
 use Rattle.rows.proofs.around.sweep_spans.Tie as tie
 
@@ -17,19 +14,10 @@ abbrev μ-loop : tie.MeasureT-loop
 μ-loop base v rows₀ kind first second from size count c₀ k₀ rows c k = k
 
 here : (c : tie.In-loop Inv-loop μ-loop)
-    → Fits (c .before .loop .rows) (c .before .before .before .before .args .op) (c .before .before .before .before .args .base) (c .before .before .before .before .args .s .from)
-    (c .before .before .before .before .args .s .size) (c .before .loop .k - 1)
+    → Fits (c .before .loop .rows) (c .before .before .before .before .args .op) (c .before .before .before .before .args .base) (c .before .before .before .before .args .s) (c .before .loop .k - 1)
 here c =
     let start = c .before .before .before .before in
-    let s = start .args .s in
-    let loop = c .before .loop in
-    fits (s .from) (s .size) (s .count) (loop .k - 1) (start .pre .1 .1) (placed-still (start .pre .0) (loop .inv .1 .part .kept .size)) (omega arith)
-
-place : (c : tie.In-loop Inv-loop μ-loop)
-    → Place (c .before .before .before .before .args .s .from) (c .before .before .before .before .args .s .size) (c .before .before .before .before .args .s .count) (c .before .loop .k - 1)
-place c =
-    let start = c .before .before .before .before in
-    let s = start .args .s in place-back (s .from) (s .size) (s .count) (c .before .loop .k) (start .pre .1 .1) (omega arith) (c .before .loop .inv .0) .1
+    let loop = c .before .loop in passed-fits (start .args .s) (loop .k) (start .pre .1 .1) (start .pre .0) (omega arith) (loop .inv .0) (loop .inv .1)
 
 long-digit-requires : tie.Need-long-digit-requires Inv-loop μ-loop
 long-digit-requires c κs =
@@ -101,7 +89,7 @@ store-requires c κs =
 first-of-requires : tie.Need-first-of-requires Inv-loop μ-loop
 first-of-requires c κs =
     let body = c .before .before .before .before .before .before .before .before .before in
-    let p = place body in (p .some, p .most)
+    let p = here body .place in (p .some, p .most)
 
 loop-less : tie.Need-loop-less Inv-loop μ-loop
 loop-less c =
@@ -129,12 +117,7 @@ same-length c =
 
 returns : tie.Need-returns Inv-loop μ-loop
 returns c =
-    let start = c .before .before .before .before in
-    let s = start .args .s in
-    let loop = c .before .loop in
-    let n = s .from + s .size * s .count in
-    let e : s .from + s .size * loop .k ≡ s .from = (let z : loop .k ≡ 0 = omega arith in ap (λ x. s .from + s .size * x) z ∙ omega arith) in
-    record { value = loop .inv .1 .value ∙ ap (sweep n (opStep (start .args .rows .now) (start .args .op)) (start .args .v)) e; part = part-from e (loop .inv .1 .part) }
+    let loop = c .before .loop in passed-whole (c .before .before .before .before .args .s) (loop .k) (omega arith) (loop .inv .1)
 
 pub sweep-spans-spec : {M : Type 1} → statement M
 sweep-spans-spec =

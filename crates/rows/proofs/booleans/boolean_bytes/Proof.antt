@@ -1,10 +1,9 @@
 -- `boolean_bytes` meets its contract: after j bytes the buffer is what j byte steps make of it.
 use Prim.Native.Nat.{_+_, _-_, _≤_}
-use mathlib.Core.Path.{_≡_, ap, ap₂, _∙_}
+use mathlib.Core.Path.{_≡_, ap, _∙_}
 use native.Mathlib.Omega.{arith}
-use Rattle.words.specs.Words.{writeAt}
 use Rattle.node.specs.Kinds.{shapeOf}
-use Rattle.rows.specs.Booleans.{bytesOf, byteSteps}
+use Rattle.rows.specs.Booleans.{byteSteps}
 use Rattle.rows.specs.BooleanLaws.{Bytes, read-lt, length-steps, steps-none, steps-more}
 use lib.ListN.{length}
 use Rattle.rows.proofs.booleans.boolean_bytes.Statement.{statement}
@@ -88,14 +87,11 @@ loop-again c =
     let load-byte2 = c .before .before .before .before .before .load-byte2 in
     let store-byte = c .before .before .store-byte in
     let start = c .before .before .before .before .before .before .before .before .before .before .before .before in
-    let op = start .args .op in
     let loop = c .before .before .before .before .before .before .before .before .before .before .loop in
     let taken = loop-test .taken in
-    let b = start .pre .1 in
-    let step = byte-step .ensures ∙ ap₂ (bytesOf (shapeOf (op .kind)) 1) (load-byte .ensures) (load-byte2 .ensures) in
-    let more = steps-more (op .kind) (start .pre .0 .0) (start .pre .0 .1) (start .args .rows .now) (op .first) (op .second) (start .args .base) (loop .j) 1 (loop .inv .1 .0)
-    (omega (arith, taken, b .first-in)) (omega (arith, taken, b .second-in)) (loop .inv .1 .1) in
-    (omega (arith, taken), ((λ k. omega (arith, (c .slice-known2) .given k)), store-byte .ensures ∙ ap (writeAt (loop .rows) (start .args .base + loop .j) 1) step ∙ more))
+    let more = steps-more (start .args .op) (start .pre .0) (start .args .rows .now) (start .args .base) (loop .j) 1 (loop .inv .1 .0) (start .pre .1) (omega (arith, taken)) (loop .inv .1 .1)
+    (load-byte .ensures) (load-byte2 .ensures) (byte-step .ensures) (store-byte .ensures) in
+    (omega (arith, taken), ((λ k. omega (arith, (c .slice-known2) .given k)), more))
 
 same-length : tie.Need-same-length Inv-loop μ-loop
 same-length c =

@@ -1,10 +1,9 @@
 -- `boolean_words` meets its contract: after j bytes the buffer is what j byte steps make of it.
-use Prim.Native.Nat.{_+_, _*_, _-_, _/_, _%_, _≤_}
-use mathlib.Core.Path.{_≡_, refl, ap, ap₂, _∙_}
+use Prim.Native.Nat.{_*_, _-_, _/_, _%_, _≤_}
+use mathlib.Core.Path.{_≡_, refl, ap, _∙_}
 use native.Mathlib.Omega.{arith}
-use Rattle.words.specs.Words.{writeAt}
 use Rattle.node.specs.Kinds.{shapeOf}
-use Rattle.rows.specs.Booleans.{bytesOf, byteSteps}
+use Rattle.rows.specs.Booleans.{byteSteps}
 use Rattle.rows.specs.BooleanLaws.{Bytes, length-steps, steps-none, steps-more}
 use lib.ListN.{length}
 use Rattle.rows.proofs.booleans.boolean_words.Statement.{statement}
@@ -87,23 +86,11 @@ loop-again c =
     let load-word2 = c .before .before .before .before .before .load-word2 in
     let store-word = c .before .before .store-word in
     let start = c .before .before .before .before .before .before .before .before .before .before .before .before in
-    let op = start .args .op in
     let loop = c .before .before .before .before .before .before .before .before .before .before .loop in
     let taken = loop-test .taken in
-    let b = start .pre .1 in
-    let step = word-step .ensures ∙ ap₂ (bytesOf (shapeOf (op .kind)) 8) (load-word .ensures) (load-word2 .ensures) in
-    let more = steps-more (op .kind) (start .pre .0 .0) (start .pre .0 .1) (start .args .rows .now) (op .first) (op .second) (start .args .base) (loop .j) 8 (loop .inv .1 .1 .0)
-    (omega (arith, taken, b .first-in)) (omega (arith, taken, b .second-in)) (loop .inv .1 .1 .1) in (
-      omega (arith, loop .inv .0),
-      (
-        omega (arith, taken),
-        (
-          (λ k. omega (arith, (c .slice-known2) .given k)),
-          store-word .ensures ∙ ap
-              (writeAt (loop .rows) (start .args .base + loop .j) 8) step ∙ more,
-        ),
-      ),
-    )
+    let more = steps-more (start .args .op) (start .pre .0) (start .args .rows .now) (start .args .base) (loop .j) 8 (loop .inv .1 .1 .0) (start .pre .1) (omega (arith, taken)) (loop .inv .1 .1 .1)
+    (load-word .ensures) (load-word2 .ensures) (word-step .ensures) (store-word .ensures) in
+    (omega (arith, loop .inv .0), (omega (arith, taken), ((λ k. omega (arith, (c .slice-known2) .given k)), more)))
 
 same-length : tie.Need-same-length Inv-loop μ-loop
 same-length c =
