@@ -82,6 +82,9 @@ pub const LINE: u32 = 62;
 
 pub const HEADING: u32 = 63;
 
+// How many numbers there are for kinds.
+pub const KINDS: u32 = 64;
+
 // The first kind of lines.
 pub const LINES: u32 = PARAMETER;
 

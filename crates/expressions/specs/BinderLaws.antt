@@ -15,6 +15,7 @@ use Rattle.language.specs.Tree.{Expr, Each}
 use Rattle.language.specs.Grammar.{Tokens, Read, front, rest, stop, next, named, expect, expectOf, Binder, signOf, binderOf, bindersOf, over}
 use Rattle.language.specs.Laws.Basics.Tests.{split}
 use Rattle.operators.specs.Readers.{reads, climbs, bigOf, roleAt, levelAt, folds}
+use Rattle.expressions.specs.Classes.{boundLevel}
 use Rattle.expressions.specs.ReaderLaws.{reads-takes, rest-fits, climbs-zero}
 
 -- what is left of an accepted answer is no longer than ts
@@ -49,14 +50,14 @@ binder-shorter n ts l =
     (λ _. then-shorter (expectOf Name ts) _ (expect-shorter Name ts) λ i us a.
     let r = rest-fits us in
     then-shorter (reads loosest (rest us)) _ (reads-shorter loosest n (rest us) (omega arith)) λ s vs b. done-shorter _ vs b)
-    (λ _. then-shorter (reads 8 ts) _ (reads-shorter 8 n ts l) λ a us h.
+    (λ _. then-shorter (reads boundLevel ts) _ (reads-shorter boundLevel n ts l) λ a us h.
     then-shorter (signOf us) _ (sign-shorter us) λ low vs j.
     then-shorter (expectOf Name vs) _ (expect-shorter Name vs) λ i xs k.
     then-shorter (signOf xs) _ (sign-shorter xs) λ high ys m.
-    then-shorter (reads 8 ys) _ (reads-shorter 8 n ys (omega arith)) λ b zs o. done-shorter _ zs o)
+    then-shorter (reads boundLevel ys) _ (reads-shorter boundLevel n ys (omega arith)) λ b zs o. done-shorter _ zs o)
 
 binder-takes : (ts : Tokens) (b : Binder) (us : Tokens) → binderOf reads ts ≡ Done (b, us) → length us < length ts
-binder-takes [] b us z = let d = Results.bind-done (reads 8 []) _ z in let k = reads-takes 8 [] (d .0 .0) (d .0 .1) (d .1) in absurd (omega arith)
+binder-takes [] b us z = let d = Results.bind-done (reads boundLevel []) _ z in let k = reads-takes boundLevel [] (d .0 .0) (d .0 .1) (d .1) in absurd (omega arith)
 binder-takes (t ∷ ts) b us z = let k = binder-shorter (length ts) (t ∷ ts) (omega arith) b us z in omega arith
 
 pub binders-fuel : (f g : ℕ) (ts : Tokens) → length ts < f → length ts < g → bindersOf f reads ts ≡ bindersOf g reads ts

@@ -1,5 +1,5 @@
 -- The states where a name of a big operator begins: with its set, or with its bounds.
-use Prim.Native.Nat.{ℕ, zero, suc, _+_, _-_, _/_, _%_, _≤_, _<_}
+use Prim.Native.Nat.{ℕ, zero, suc, _+_, _-_, _/_, _%_, _≤_, _<_, _^_}
 use native.Mathlib.Omega.{arith}
 use mathlib.Core.List.{List, [], _∷_}
 use mathlib.Core.Bool.{Bool, true, false, _&&_, _||_, false≢true}
@@ -16,7 +16,7 @@ use Rattle.language.specs.Tree.{Expr, Empty}
 use Rattle.language.specs.Grammar.{Tokens, Read, front, rest, stop, next, named, expect}
 use Rattle.language.specs.Laws.Basics.Tests.{pick, leave, and-left, and-right}
 use Rattle.language.specs.Limits.{workBytes}
-use Rattle.lexer.specs.Numbers.{fixed}
+use Rattle.lexer.specs.Numbers.{fixed, classNumber as tokenNumber}
 use Rattle.entries.specs.declared.Cursor.{Cursor}
 use Rattle.entries.specs.declared.Parse.the-variants.{Parsed, Refused as NotParsed}
 use Rattle.entries.specs.Cursors.{Fits, Ready, kindAt, nextOf, refusedAt, expected}
@@ -28,9 +28,10 @@ use Rattle.entries.specs.ReadsLaws.{kept-put, kept-then}
 use Rattle.expressions.specs.declared.stack.Machine.{Machine}
 use Rattle.expressions.specs.declared.stack.Turn.the-variants.{Next, Ended}
 use Rattle.operators.specs.Readers.{reads, roleAt, bigOf, folds}
-use Rattle.expressions.specs.Frames.{Bound, Member, Frame, resume, plug}
+use Rattle.expressions.specs.Classes.{Over, Bound, Member, classNumber, boundLevel}
+use Rattle.expressions.specs.Frames.{Frame, resume, plug}
 use Rattle.expressions.specs.RoleLaws.{isMember, starts-fold, folds-member, folds-bounds}
-use Rattle.expressions.specs.Stack.{slotWord, putSlot}
+use Rattle.expressions.specs.Stack.{slotWord, putSlot, lastWord, classBits}
 use Rattle.expressions.specs.StackLaws.{stacked-apart, stacked-few, stacked-less, stacked-next, stacked-push}
 use Rattle.expressions.specs.Machines.{Pushes, pushedOf}
 use Rattle.expressions.specs.States.{slot, credits, State, Turned}
@@ -41,13 +42,13 @@ use Rattle.expressions.specs.RoleStates.{found, not-end, tight}
 use Rattle.expressions.specs.Binders.{amongAt, memberAt, Folding, Named}
 
 -- the grammar's test by numbers
-member-here : {ts : Tokens} {w : List ℕ} {c : Cursor} (max : ℕ) (t : Token) → Ready ts w c → (b : Bool) → eqb (kindAt w c) 1 ≡ b → isMember max t (drop (c .at) ts) ≡ memberAt w c
+member-here : {ts : Tokens} {w : List ℕ} {c : Cursor} (max : ℕ) (t : Token) → Ready ts w c → (b : Bool) → eqb (kindAt w c) (tokenNumber Name) ≡ b → isMember max t (drop (c .at) ts) ≡ memberAt w c
 member-here {ts} {w} {c} max t r true e =
-    let one = eqb-true (kindAt w c) 1 e in
+    let one = eqb-true (kindAt w c) (tokenNumber Name) e in
     let inside = before-end w c (omega arith) in
     ap (λ b. b && named ("IN" ∷ "ELEM" ∷ "<-" ∷ []) (front (rest (drop (c .at) ts)))) (next-class r Name refl)
-    ∙ ap (λ us. eqb (kindAt w c) 1 && named ("IN" ∷ "ELEM" ∷ "<-" ∷ []) (front us)) (sym (drop-next (c .at) ts))
-    ∙ ap (λ b. eqb (kindAt w c) 1 && b) (next-named (ready-next r inside) ("IN" ∷ "ELEM" ∷ "<-" ∷ []) refl ∙ no-more (eqb (kindAt w (nextOf c)) (fixed "IN")) (eqb (kindAt w (nextOf c)) (fixed "ELEM"))
+    ∙ ap (λ us. eqb (kindAt w c) (tokenNumber Name) && named ("IN" ∷ "ELEM" ∷ "<-" ∷ []) (front us)) (sym (drop-next (c .at) ts))
+    ∙ ap (λ b. eqb (kindAt w c) (tokenNumber Name) && b) (next-named (ready-next r inside) ("IN" ∷ "ELEM" ∷ "<-" ∷ []) refl ∙ no-more (eqb (kindAt w (nextOf c)) (fixed "IN")) (eqb (kindAt w (nextOf c)) (fixed "ELEM"))
     (eqb (kindAt w (nextOf c)) (fixed "<-")))
   where
     no-more : (p q o : Bool) → (p || (q || (o || false))) ≡ (p || (q || o))
@@ -65,19 +66,19 @@ module _ {ts : Tokens} {s : Cursor} {x : Read Expr} {w : List ℕ} {m : Machine}
   pub naming-fits : Fits w c
   naming-fits = h .stacked .ready .fits
 
-  pub naming-push : (k : ℕ) → k < 32 → Pushes w m k j
+  pub naming-push : (k : ℕ) → k < 2 ^ classBits → Pushes w m k j
   naming-push k l =
       let apart = stacked-apart (h .stacked) in
       let few = stacked-few (h .stacked) in
       record { room = naming-fits .room; deep = omega arith; class-fits = l; level-fits = h .level-fits; token-fits = h .token-fits }
 
   -- a second slot behind it, for the next token
-  pub naming-second : (k l i : ℕ) → c .at < c .count → Pushes (putSlot w (m .depth) k l i) (record { c = c; depth = m .depth + 1; level = 0; complete = false }) 20 (c .at)
+  pub naming-second : (k l i : ℕ) → c .at < c .count → Pushes (putSlot w (m .depth) k l i) (record { c = c; depth = m .depth + 1; level = 0; complete = false }) (classNumber Member) (c .at)
   naming-second k l i b =
       let apart = stacked-apart (h .stacked) in
       let few = stacked-few (h .stacked) in
       record {
-        room = subst (λ n. workBytes ≤ n) (sym (length-put w (16_383 - m .depth) (slotWord k l i))) (naming-fits .room);
+        room = subst (λ n. workBytes ≤ n) (sym (length-put w (lastWord - m .depth) (slotWord k l i))) (naming-fits .room);
         deep = omega arith;
         class-fits = lit< tt;
         level-fits = lit< tt;
@@ -89,16 +90,16 @@ module _ {ts : Tokens} {s : Cursor} {x : Read Expr} {w : List ℕ} {m : Machine}
       let apart = stacked-apart (h .stacked) in
       let few = stacked-few (h .stacked) in
       let out = h .stacked .out in
-      kept-put w (s .out) (16_383 - n) (slotWord k l i) (omega arith) (omega arith)
+      kept-put w (s .out) (lastWord - n) (slotWord k l i) (omega arith) (omega arith)
 
   -- its bounds follow
-  pub named-bounds : memberAt w c ≡ false → Named ts s x w (putSlot w (m .depth) 18 (m .level) j) m c (pushedOf m c 8)
+  pub named-bounds : memberAt w c ≡ false → Named ts s x w (putSlot w (m .depth) (classNumber Bound) (m .level) j) m c (pushedOf m c boundLevel)
   named-bounds other =
-      let test = member-here (m .level) (h .operator) (h .stacked .ready) (eqb (kindAt w c) 1) refl ∙ other in
+      let test = member-here (m .level) (h .operator) (h .stacked .ready) (eqb (kindAt w c) (tokenNumber Name)) refl ∙ other in
       record {
-        kept = slot-kept (m .depth) 18 (m .level) j (omega arith);
+        kept = slot-kept (m .depth) (classNumber Bound) (m .level) j (omega arith);
         state =
-            pushed (h .frames) Bound (m .level) j (h .operator) c (m .depth) 8 (record { slots = λ l t. refl; trees = λ l t. refl; credit = refl; class = lit< tt }) (h .marked) (h .firm) (h .keeps)
+            pushed (h .frames) Bound (m .level) j (h .operator) c (m .depth) boundLevel (record { slots = λ l t. refl; trees = λ l t. refl; credit = refl; class = lit< tt }) (h .marked) (h .firm) (h .keeps)
             (h .token-fits) (h .level-fits) (lit< tt) (lit< tt) (h .stacked)
             (h .same ∙ ap (plug (h .frames)) (folds-bounds (m .level) (h .operator) us test));
         light = omega arith;
@@ -106,14 +107,14 @@ module _ {ts : Tokens} {s : Cursor} {x : Read Expr} {w : List ℕ} {m : Machine}
 
   -- its set follows
   module _ (yes-member : memberAt w c ≡ true) where
-    is-name : kindAt w c ≡ 1
-    is-name = eqb-true (kindAt w c) 1 (and-left (eqb (kindAt w c) 1) (amongAt (kindAt w (nextOf c))) yes-member)
+    is-name : kindAt w c ≡ tokenNumber Name
+    is-name = eqb-true (kindAt w c) (tokenNumber Name) (and-left (eqb (kindAt w c) (tokenNumber Name)) (amongAt (kindAt w (nextOf c))) yes-member)
 
     pub member-inside : c .at < c .count
     member-inside = let e = is-name in before-end w c (omega arith)
 
     pub member-second : c .at + 1 < c .count
-    member-second = before-end w (nextOf c) (among-some (kindAt w (nextOf c)) (and-right (eqb (kindAt w c) 1) (amongAt (kindAt w (nextOf c))) yes-member))
+    member-second = before-end w (nextOf c) (among-some (kindAt w (nextOf c)) (and-right (eqb (kindAt w c) (tokenNumber Name)) (amongAt (kindAt w (nextOf c))) yes-member))
       where
         among-some : (k : ℕ) → amongAt k ≡ true → 0 < k
         among-some k e = go k refl
@@ -125,8 +126,8 @@ module _ {ts : Tokens} {s : Cursor} {x : Read Expr} {w : List ℕ} {m : Machine}
     abbrev setFrame : Frame
     setFrame = record { class = Member; level = m .level; token = h .operator; first = Empty; second = Empty; name = front us; low = h .operator; high = h .operator }
 
-    pub named-member : Named ts s x w (putSlot (putSlot w (m .depth) 6 (m .level) j) (m .depth + 1) 20 0 (c .at)) m c
-        (record { c = nextOf (nextOf c); depth = m .depth + 1 + 1; level = 17; complete = false })
+    pub named-member : Named ts s x w (putSlot (putSlot w (m .depth) (classNumber Over) (m .level) j) (m .depth + 1) (classNumber Member) 0 (c .at)) m c
+        (record { c = nextOf (nextOf c); depth = m .depth + 1 + 1; level = loosest; complete = false })
     unfolding plug
     named-member =
         let i = member-inside in
@@ -134,16 +135,16 @@ module _ {ts : Tokens} {s : Cursor} {x : Read Expr} {w : List ℕ} {m : Machine}
         let total = h .stacked .ready .tells .total in
         let few = h .stacked .ready .fits .few in
         let after = stacked-next (stacked-next (h .stacked) i) k in
-        let over = stacked-push after (slot 6 (m .level) (h .operator) []) j (h .keeps, tt) (h .token-fits) (lit< tt) (h .level-fits) in
-        let both = stacked-push over (slot 20 0 (front us) []) (c .at) ((refl, omega arith), tt) (omega arith) (lit< tt) (lit< tt) in
-        let test = member-here (m .level) (h .operator) (h .stacked .ready) (eqb (kindAt w c) 1) refl ∙ yes-member in
-        let v = putSlot w (m .depth) 6 (m .level) j in
+        let over = stacked-push after (slot (classNumber Over) (m .level) (h .operator) []) j (h .keeps, tt) (h .token-fits) (lit< tt) (h .level-fits) in
+        let both = stacked-push over (slot (classNumber Member) 0 (front us) []) (c .at) ((refl, omega arith), tt) (omega arith) (lit< tt) (lit< tt) in
+        let test = member-here (m .level) (h .operator) (h .stacked .ready) (eqb (kindAt w c) (tokenNumber Name)) refl ∙ yes-member in
+        let v = putSlot w (m .depth) (classNumber Over) (m .level) j in
         let apart = stacked-apart (h .stacked) in
         let out = h .stacked .out in
         record {
           kept =
-              kept-then (omega arith) (slot-kept (m .depth) 6 (m .level) j (omega arith))
-              (kept-put v (s .out) (16_383 - (m .depth + 1)) (slotWord 20 0 (c .at)) (omega (arith, stacked-few (h .stacked))) (omega arith));
+              kept-then (omega arith) (slot-kept (m .depth) (classNumber Over) (m .level) j (omega arith))
+              (kept-put v (s .out) (lastWord - (m .depth + 1)) (slotWord (classNumber Member) 0 (c .at)) (omega (arith, stacked-few (h .stacked))) (omega arith));
           state =
               record {
                 frames = setFrame ∷ h .frames;

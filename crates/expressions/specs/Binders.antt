@@ -1,25 +1,26 @@
 -- Where a name of a big operator begins: what is tested there, and the state before and after.
-use Prim.Native.Nat.{ℕ, suc, _+_, _*_, _-_, _≤_, _<_}
+use Prim.Native.Nat.{ℕ, suc, _+_, _*_, _-_, _≤_, _<_, _^_}
 use mathlib.Core.List.{List, [], _++_}
 use mathlib.Core.Bool.{Bool, false, _&&_, _||_}
 use mathlib.Core.Option.{some}
 use mathlib.Core.Path.{_≡_}
 use lib.Dec.{eqb}
 use lib.ListN.{drop}
-use Rattle.language.specs.Tokens.{Token}
+use Rattle.language.specs.Tokens.{Token, Name}
 use Rattle.language.specs.Tree.{Expr}
 use Rattle.language.specs.Grammar.{Tokens, Read}
-use Rattle.language.specs.Laws.Basics.Lists.{All as Every}
+use Rattle.language.specs.Lists.{All as Every}
 use Rattle.language.specs.Limits.{maxTokens}
-use Rattle.lexer.specs.Numbers.{fixed}
+use Rattle.lexer.specs.Numbers.{fixed, classNumber as tokenNumber}
 use Rattle.entries.specs.Stored.{Keeps}
 use Rattle.entries.specs.declared.Cursor.{Cursor}
 use Rattle.entries.specs.Cursors.{kindAt, nextOf}
 use Rattle.entries.specs.Reads.{Kept}
 use Rattle.expressions.specs.declared.stack.Machine.{Machine}
 use Rattle.operators.specs.Readers.{folds}
-use Rattle.expressions.specs.Frames.{Over, Frame, plug}
-use Rattle.expressions.specs.Stack.{Stacked}
+use Rattle.expressions.specs.Classes.{Over}
+use Rattle.expressions.specs.Frames.{Frame, plug}
+use Rattle.expressions.specs.Stack.{Stacked, levelBits}
 use Rattle.expressions.specs.States.{slotsOf, base, Firm, credits, Marked, State, weight}
 
 -- the numbers of `IN`, `ELEM` and `<-`
@@ -27,7 +28,7 @@ abbrev pub amongAt : ℕ → Bool
 amongAt n = eqb n (fixed "IN") || (eqb n (fixed "ELEM") || eqb n (fixed "<-"))
 
 abbrev pub memberAt : List ℕ → Cursor → Bool
-memberAt w c = eqb (kindAt w c) 1 && amongAt (kindAt w (nextOf c))
+memberAt w c = eqb (kindAt w c) (tokenNumber Name) && amongAt (kindAt w (nextOf c))
 
 -- before: the big operator's token has the index j
 pub record Folding (ts : Tokens) (s : Cursor) (x : Read Expr) (w : List ℕ) (m : Machine) (c : Cursor) (j : ℕ) : Type 0 where
@@ -37,7 +38,7 @@ pub record Folding (ts : Tokens) (s : Cursor) (x : Read Expr) (w : List ℕ) (m 
   pub marked : Marked Over operator
   pub keeps : Keeps ts j (some operator)
   pub token-fits : j < maxTokens
-  pub level-fits : m .level < 32
+  pub level-fits : m .level < 2 ^ levelBits
   pub stacked : Stacked ts s w c (m .depth) (slotsOf frames) (base frames ++ []) (suc (credits frames))
   pub same : x ≡ plug frames (folds (m .level) operator (drop (c .at) ts))
 

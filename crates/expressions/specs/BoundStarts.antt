@@ -17,6 +17,7 @@ use Rattle.language.specs.Tree.{Expr, Between, Empty}
 use Rattle.language.specs.Grammar.{Tokens, Read, front, rest, stop, signOf, expectOf}
 use Rattle.language.specs.Laws.Basics.Tests.{pick, leave}
 use Rattle.language.specs.Limits.{workBytes}
+use Rattle.lexer.specs.Numbers.{classNumber as tokenNumber}
 use Rattle.entries.specs.Flat.{flat}
 use Rattle.entries.specs.Stored.{Keeps}
 use Rattle.entries.specs.declared.Cursor.{Cursor}
@@ -28,8 +29,9 @@ use Rattle.expressions.specs.declared.stack.Machine.{Machine}
 use Rattle.expressions.specs.declared.stack.Turn.the-variants.{Next, Ended}
 use Rattle.operators.specs.Readers.{reads}
 use Rattle.expressions.specs.BinderLaws.{afterBinder}
-use Rattle.expressions.specs.Frames.{Bound, Upper, Frame, turned, isStrict, resume, plug}
-use Rattle.expressions.specs.Stack.{slotWord, slotClass, slotIndex, slotLevel, topSlot, putSlot, Stacked}
+use Rattle.expressions.specs.Classes.{Over, Bound, Upper, classNumber, boundLevel}
+use Rattle.expressions.specs.Frames.{Frame, turned, isStrict, resume, plug}
+use Rattle.expressions.specs.Stack.{slotWord, slotClass, slotIndex, slotLevel, topSlot, putSlot, Stacked, lastWord}
 use Rattle.expressions.specs.StackLaws.{slot-level, slot-index, stacked-apart, stacked-few, stacked-less, stacked-next, stacked-pop, stacked-push}
 use Rattle.expressions.specs.Machines.{Pushes, poppedOf}
 use Rattle.expressions.specs.States.{slot, slotsOf, base, credits, Turned}
@@ -48,17 +50,17 @@ sign-some k e = go k refl
 
 -- a name stands at the cursor, or another token
 module _ {ts : Tokens} {w : List ℕ} {c : Cursor} (ready : Ready ts w c) {B : Type 0} (K : Token × Tokens → Read B) where
-  name-here : kindAt w c ≡ 1 → (expectOf Name (drop (c .at) ts) >>= K) ≡ K (front (drop (c .at) ts), drop (c .at + 1) ts)
+  name-here : kindAt w c ≡ tokenNumber Name → (expectOf Name (drop (c .at) ts) >>= K) ≡ K (front (drop (c .at) ts), drop (c .at + 1) ts)
   name-here e =
       let us = drop (c .at) ts in
-      ap (λ (r : Read Token). r >>= K) (pick (isOf Name (front us)) (Done (front us, rest us)) (stop us) (next-class ready Name refl ∙ eq-eqb (kindAt w c) 1 e))
+      ap (λ (r : Read Token). r >>= K) (pick (isOf Name (front us)) (Done (front us, rest us)) (stop us) (next-class ready Name refl ∙ eq-eqb (kindAt w c) (tokenNumber Name) e))
       ∙ bind-at (front us, rest us) K ∙ ap (λ vs. K (front us, vs)) (sym (drop-next (c .at) ts))
 
-  name-other : (kindAt w c ≡ 1 → ⊥) → (expectOf Name (drop (c .at) ts) >>= K) ≡ stop (drop (c .at) ts)
+  name-other : (kindAt w c ≡ tokenNumber Name → ⊥) → (expectOf Name (drop (c .at) ts) >>= K) ≡ stop (drop (c .at) ts)
   unfolding _>>=_
-  name-other f = let us = drop (c .at) ts in ap (λ (r : Read Token). r >>= K) (leave (isOf Name (front us)) (Done (front us, rest us)) (stop us) (next-class ready Name refl ∙ ne-eqb (kindAt w c) 1 f))
+  name-other f = let us = drop (c .at) ts in ap (λ (r : Read Token). r >>= K) (leave (isOf Name (front us)) (Done (front us, rest us)) (stop us) (next-class ready Name refl ∙ ne-eqb (kindAt w c) (tokenNumber Name) f))
 
-module _ {ts : Tokens} {s : Cursor} {x : Read Expr} {w : List ℕ} {m : Machine} (h : Complete ts s x w m) (deep : 0 < m .depth) (e : slotClass (topSlot w (m .depth)) ≡ 18) where
+module _ {ts : Tokens} {s : Cursor} {x : Read Expr} {w : List ℕ} {m : Machine} (h : Complete ts s x w m) (deep : 0 < m .depth) (e : slotClass (topSlot w (m .depth)) ≡ classNumber Bound) where
   abbrev top : ℕ
   top = topSlot w (m .depth)
 
@@ -81,14 +83,14 @@ module _ {ts : Tokens} {s : Cursor} {x : Read Expr} {w : List ℕ} {m : Machine}
     pub low-fits : Fits w second
     low-fits = ready-next ready low-inside .fits
 
-    pub turn-no-name : (kindAt w second ≡ 1 → ⊥) → Turned ts s x w w m (Ended (refusedAt w second))
+    pub turn-no-name : (kindAt w second ≡ tokenNumber Name → ⊥) → Turned ts s x w w m (Ended (refusedAt w second))
     turn-no-name f =
         let q = popping h Bound deep e in
         let r = ready-next ready low-inside in
         refused-here (q .1) second r
         (q .2 .same ∙ ap (plug (q .1)) (sign-here ready _ low ∙ name-other r _ f))
 
-    module _ (name : kindAt w second ≡ 1) where
+    module _ (name : kindAt w second ≡ tokenNumber Name) where
       pub name-inside : m .c .at + 1 < m .c .count
       name-inside = before-end w second (omega arith)
 
@@ -99,7 +101,7 @@ module _ {ts : Tokens} {s : Cursor} {x : Read Expr} {w : List ℕ} {m : Machine}
       name-fits = ready-third .fits
 
       to-high : (F : Frame) (tree : Expr) → resume (turned Bound F) tree (drop (m .c .at) ts)
-          ≡ (signOf (drop (m .c .at + 1 + 1) ts) >>= λ (high, xs). reads 8 xs >>= λ (y, ys). afterBinder (F .level) (F .token)
+          ≡ (signOf (drop (m .c .at + 1 + 1) ts) >>= λ (high, xs). reads boundLevel xs >>= λ (y, ys). afterBinder (F .level) (F .token)
           (record { name = front (drop (m .c .at + 1) ts); range = Between (front (drop (m .c .at) ts)) (isStrict (front (drop (m .c .at) ts))) (high .1) tree y }) ys)
       to-high F tree =
           let r = ready-next ready low-inside in
@@ -114,18 +116,18 @@ module _ {ts : Tokens} {s : Cursor} {x : Read Expr} {w : List ℕ} {m : Machine}
         pub high-inside : m .c .at + 1 + 1 < m .c .count
         high-inside = before-end w third (sign-some (kindAt w third) high)
 
-        pub bound-push : Pushes w (poppedOf m (slotLevel top)) 6 (slotIndex top)
+        pub bound-push : Pushes w (poppedOf m (slotLevel top)) (classNumber Over) (slotIndex top)
         bound-push =
             let apart = stacked-apart (h .stacked) in
             let few = stacked-few (h .stacked) in
             record { room = ready .fits .room; deep = omega arith; class-fits = lit< tt; level-fits = omega arith; token-fits = omega arith }
 
-        pub bound-second : Pushes (putSlot w (m .depth - 1) 6 (slotLevel top) (slotIndex top)) (record { c = nextOf third; depth = m .depth - 1 + 1; level = 0; complete = false }) 19 (m .c .at)
+        pub bound-second : Pushes (putSlot w (m .depth - 1) (classNumber Over) (slotLevel top) (slotIndex top)) (record { c = nextOf third; depth = m .depth - 1 + 1; level = 0; complete = false }) (classNumber Upper) (m .c .at)
         bound-second =
             let apart = stacked-apart (h .stacked) in
             let few = stacked-few (h .stacked) in
             record {
-              room = subst (λ n. workBytes ≤ n) (sym (length-put w (16_383 - (m .depth - 1)) (slotWord 6 (slotLevel top) (slotIndex top)))) (ready .fits .room);
+              room = subst (λ n. workBytes ≤ n) (sym (length-put w (lastWord - (m .depth - 1)) (slotWord (classNumber Over) (slotLevel top) (slotIndex top)))) (ready .fits .room);
               deep = omega arith;
               class-fits
                   = lit< tt;
@@ -133,8 +135,8 @@ module _ {ts : Tokens} {s : Cursor} {x : Read Expr} {w : List ℕ} {m : Machine}
               token-fits = omega (arith, low-inside, ready .fits .few);
             }
 
-        pub turn-bound : Turned ts s x w (putSlot (putSlot w (m .depth - 1) 6 (slotLevel top) (slotIndex top)) (m .depth - 1 + 1) 19 0 (m .c .at)) m
-            (Next (record { c = nextOf third; depth = m .depth - 1 + 1 + 1; level = 8; complete = false }))
+        pub turn-bound : Turned ts s x w (putSlot (putSlot w (m .depth - 1) (classNumber Over) (slotLevel top) (slotIndex top)) (m .depth - 1 + 1) (classNumber Upper) 0 (m .c .at)) m
+            (Next (record { c = nextOf third; depth = m .depth - 1 + 1 + 1; level = boundLevel; complete = false }))
         unfolding plug
         turn-bound =
             let q = popping h Bound deep e in
@@ -151,21 +153,21 @@ module _ {ts : Tokens} {s : Cursor} {x : Read Expr} {w : List ℕ} {m : Machine}
             let name-token = front (drop (m .c .at + 1) ts) in
             let high-token = front (drop (m .c .at + 1 + 1) ts) in
             let G : Frame = record { class = Upper; level = F .level; token = F .token; first = p .tree; second = Empty; name = name-token; low = t; high = high-token } in
-            let after = stacked-next (stacked-next (stacked-next (stacked-pop (p .stacked) (slot 18 (F .level) (F .token) []) (slotsOf (q .1)) refl) low-inside) name-inside) high-inside in
-            let over = stacked-push after (slot 6 (F .level) (F .token) []) (at-top .index) (at-top .tokens .0, tt) (at-top .index-fits) (lit< tt) (at-top .level-fits) in
+            let after = stacked-next (stacked-next (stacked-next (stacked-pop (p .stacked) (slot (classNumber Bound) (F .level) (F .token) []) (slotsOf (q .1)) refl) low-inside) name-inside) high-inside in
+            let over = stacked-push after (slot (classNumber Over) (F .level) (F .token) []) (at-top .index) (at-top .tokens .0, tt) (at-top .index-fits) (lit< tt) (at-top .level-fits) in
             let first-at : Keeps ts (m .c .at) (some t) = (refl, omega arith) in
             let name-at : Keeps ts (suc (m .c .at)) (some name-token) = subst (λ k. Keeps ts k (some name-token)) (add-one (m .c .at)) (refl, omega arith) in
             let high-at : Keeps ts (suc (suc (m .c .at))) (some high-token) = subst (λ k. Keeps ts k (some high-token)) (let z : m .c .at + 1 + 1 ≡ suc (suc (m .c .at)) = omega arith in z)
             (refl, omega arith) in
-            let both = stacked-push over (slot 19 0 t (name-token ∷ high-token ∷ [])) (m .c .at) (first-at, (name-at, (high-at, tt))) (omega arith) (lit< tt) (lit< tt) in
-            let v = putSlot w (m .depth - 1) 6 (slotLevel top) (slotIndex top) in
-            let u = putSlot v (m .depth - 1 + 1) 19 0 (m .c .at) in
-            let same-buffer : putSlot w (m .depth - 1) 6 (F .level) (at-top .index) ≡ v =
-            ap (λ k. putSlot w (m .depth - 1) 6 k (at-top .index)) (sym (slot-level at-top)) ∙ ap (putSlot w (m .depth - 1) 6 (slotLevel top)) (sym (slot-index at-top)) in
+            let both = stacked-push over (slot (classNumber Upper) 0 t (name-token ∷ high-token ∷ [])) (m .c .at) (first-at, (name-at, (high-at, tt))) (omega arith) (lit< tt) (lit< tt) in
+            let v = putSlot w (m .depth - 1) (classNumber Over) (slotLevel top) (slotIndex top) in
+            let u = putSlot v (m .depth - 1 + 1) (classNumber Upper) 0 (m .c .at) in
+            let same-buffer : putSlot w (m .depth - 1) (classNumber Over) (F .level) (at-top .index) ≡ v =
+            ap (λ k. putSlot w (m .depth - 1) (classNumber Over) k (at-top .index)) (sym (slot-level at-top)) ∙ ap (putSlot w (m .depth - 1) (classNumber Over) (slotLevel top)) (sym (slot-index at-top)) in
             record {
               kept =
-                  kept-then (omega arith) (kept-put w (s .out) (16_383 - (m .depth - 1)) (slotWord 6 (slotLevel top) (slotIndex top)) (omega arith) (omega arith))
-                  (kept-put v (s .out) (16_383 - (m .depth - 1 + 1)) (slotWord 19 0 (m .c .at)) (omega arith) (omega arith));
+                  kept-then (omega arith) (kept-put w (s .out) (lastWord - (m .depth - 1)) (slotWord (classNumber Over) (slotLevel top) (slotIndex top)) (omega arith) (omega arith))
+                  (kept-put v (s .out) (lastWord - (m .depth - 1 + 1)) (slotWord (classNumber Upper) 0 (m .c .at)) (omega arith) (omega arith));
               after =
                   record {
                     state =
@@ -177,10 +179,10 @@ module _ {ts : Tokens} {s : Cursor} {x : Read Expr} {w : List ℕ} {m : Machine}
                           level-fits = lit< tt;
                           firm = (((p .rooted, tt), p .firm-top .1), p .firm);
                           stacked =
-                              subst (λ es. Stacked ts s u (nextOf third) (m .depth - 1 + 1 + 1) (slot 19 0 t (name-token ∷ high-token ∷ []) ∷ slot 6 (F .level) (F .token) [] ∷ slotsOf (q .1)) es
+                              subst (λ es. Stacked ts s u (nextOf third) (m .depth - 1 + 1 + 1) (slot (classNumber Upper) 0 t (name-token ∷ high-token ∷ []) ∷ slot (classNumber Over) (F .level) (F .token) [] ∷ slotsOf (q .1)) es
                               (1 + credits (q .1))) (sym (append-nil (base (q .1) ++ flat (p .tree))))
-                              (subst (λ b. Stacked ts s (putSlot b (m .depth - 1 + 1) 19 0 (m .c .at)) (nextOf third) (m .depth - 1 + 1 + 1)
-                              (slot 19 0 t (name-token ∷ high-token ∷ []) ∷ slot 6 (F .level) (F .token) [] ∷ slotsOf (q .1)) (base (q .1) ++ flat (p .tree)) (1 + credits (q .1))) same-buffer
+                              (subst (λ b. Stacked ts s (putSlot b (m .depth - 1 + 1) (classNumber Upper) 0 (m .c .at)) (nextOf third) (m .depth - 1 + 1 + 1)
+                              (slot (classNumber Upper) 0 t (name-token ∷ high-token ∷ []) ∷ slot (classNumber Over) (F .level) (F .token) [] ∷ slotsOf (q .1)) (base (q .1) ++ flat (p .tree)) (1 + credits (q .1))) same-buffer
                               (stacked-less both (1 + credits (q .1)) (omega arith)));
                           same = p .same ∙ ap (plug (q .1)) (to-high (q .0) (p .tree) ∙ sign-here ready-third _ high);
                         };

@@ -9,6 +9,7 @@ use lib.Dec.{leb, lit<}
 use lib.ListN.{drop}
 use borrow.Author.Tests.{le-leb, lt-leb}
 use Rattle.node.specs.Result.{_>>=_}
+use Rattle.language.specs.Operators.{loosest}
 use Rattle.language.specs.Tree.{Expr, Joined, Empty}
 use Rattle.language.specs.Grammar.{Tokens, Read, allowed, rightLevel}
 use Rattle.language.specs.Sections.{expression}
@@ -24,7 +25,8 @@ use Rattle.operators.specs.Readers.{reads, climbs, infixRow, operatorAt}
 use Rattle.expressions.specs.ReaderLaws.{climbs-stop, climbs-on}
 use Rattle.operators.specs.Tables.{infixAt}
 use Rattle.operators.specs.RowLaws.{InfixFound, infix-none, infix-some}
-use Rattle.expressions.specs.Frames.{Right, Frame, plug}
+use Rattle.expressions.specs.Classes.{Right, classNumber}
+use Rattle.expressions.specs.Frames.{Frame, plug}
 use Rattle.expressions.specs.Stack.{putSlot, Stacked}
 use Rattle.expressions.specs.StackLaws.{stacked-less, stacked-next, stacked-push}
 use Rattle.expressions.specs.Machines.{pushedOf}
@@ -67,7 +69,7 @@ module _ {ts : Tokens} {s : Cursor} {x : Read Expr} {w : List ℕ} {m : Machine}
       go zero e = absurd (f (row ∙ ap infixAt e))
       go (suc k) e = omega arith
 
-  pub turn-right : (q ≡ 0 → ⊥) → q % 32 ≤ m .level → Turned ts s x w (putSlot w (m .depth) 1 (m .level) (m .c .at)) m (Next (pushedOf m (nextOf (m .c)) (q / 32 % 32)))
+  pub turn-right : (q ≡ 0 → ⊥) → q % 32 ≤ m .level → Turned ts s x w (putSlot w (m .depth) (classNumber Right) (m .level) (m .c .at)) m (Next (pushedOf m (nextOf (m .c)) (q / 32 % 32)))
   unfolding plug
   turn-right f l =
       let r = found f in
@@ -76,13 +78,13 @@ module _ {ts : Tokens} {s : Cursor} {x : Read Expr} {w : List ℕ} {m : Machine}
       let fs = facts h in
       let us = drop (m .c .at) ts in
       let F : Frame = record { class = Right; level = m .level; token = t; first = h .tree; second = Empty; name = t; low = t; high = t } in
-      let v = putSlot w (m .depth) 1 (m .level) (m .c .at) in
+      let v = putSlot w (m .depth) (classNumber Right) (m .level) (m .c .at) in
       let fits : allowed (m .level) (infixRow t) ≡ some (r .row) =
       ap (allowed (m .level)) (r .here) ∙ pick (leb (r .row .level) (m .level)) (some (r .row)) none (le-leb (r .row .level) (m .level) (omega (arith, r .level))) in
-      let pushed = stacked-push (stacked-next (h .stacked) i) (slot 1 (m .level) t []) (m .c .at) (keeps-here h i, tt) (omega (arith, fs .few, i, fs .fits .few)) (lit< tt) (h .level-fits) in
+      let pushed = stacked-push (stacked-next (h .stacked) i) (slot (classNumber Right) (m .level) t []) (m .c .at) (keeps-here h i, tt) (omega (arith, fs .few, i, fs .fits .few)) (lit< tt) (h .level-fits) in
       subst (λ k. Turned ts s x w v m (Next (pushedOf m (nextOf (m .c)) k))) (sym (r .right))
       (record {
-        kept = kept-slot h 1 (m .level) (m .c .at);
+        kept = kept-slot h (classNumber Right) (m .level) (m .c .at);
         after =
             record {
               state =
@@ -93,7 +95,7 @@ module _ {ts : Tokens} {s : Cursor} {x : Read Expr} {w : List ℕ} {m : Machine}
                     good = r .right-some;
                     level-fits = r .right-fits;
                     firm = (((h .good, tt), (λ z. f (number-row ∙ z), tt)), h .firm);
-                    stacked = subst (λ es. Stacked ts s v (nextOf (m .c)) (m .depth + 1) (slot 1 (m .level) t [] ∷ slotsOf (h .frames)) es (0 + credits (h .frames)))
+                    stacked = subst (λ es. Stacked ts s v (nextOf (m .c)) (m .depth + 1) (slot (classNumber Right) (m .level) t [] ∷ slotsOf (h .frames)) es (0 + credits (h .frames)))
                         (sym (append-nil (base (h .frames) ++ flat (h .tree)))) (stacked-less pushed (0 + credits (h .frames)) (omega arith));
                     same =
                         h .same
@@ -106,7 +108,7 @@ module _ {ts : Tokens} {s : Cursor} {x : Read Expr} {w : List ℕ} {m : Machine}
       })
 
 -- where an expression begins
-pub begins : {ts : Tokens} {w : List ℕ} {c : Cursor} → Ready ts w c → State false ts c (expression (drop (c .at) ts)) w (record { c = c; depth = 0; level = 17; complete = false })
+pub begins : {ts : Tokens} {w : List ℕ} {c : Cursor} → Ready ts w c → State false ts c (expression (drop (c .at) ts)) w (record { c = c; depth = 0; level = loosest; complete = false })
 unfolding reads plug
 begins {ts} {w} {c} r =
     record {

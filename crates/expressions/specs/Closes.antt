@@ -17,6 +17,7 @@ use Rattle.language.specs.Tree.{Expr}
 use Rattle.language.specs.Grammar.{Tokens, Read, front, rest, stop, next, expect}
 use Rattle.language.specs.Laws.Basics.Tests.{pick, leave}
 use Rattle.lexer.specs.Numbers.{spellings, fixed}
+use Rattle.entries.specs.Kinds as Kind
 use Rattle.entries.specs.Flat.{under, flat}
 use Rattle.entries.specs.declared.Cursor.{Cursor}
 use Rattle.entries.specs.declared.Parse.the-variants.{Refused as NotParsed}
@@ -27,7 +28,8 @@ use Rattle.entries.specs.Reads.{Outcome}
 use Rattle.entries.specs.ReadsLaws.{kept-same}
 use Rattle.expressions.specs.declared.stack.Machine.{Machine}
 use Rattle.expressions.specs.declared.stack.Turn.the-variants.{Ended}
-use Rattle.expressions.specs.Frames.{Round, Bars, Square, Last, Frame, turned, builtBy, plug}
+use Rattle.expressions.specs.Classes.{Round, Bars, Square, Last, classNumber}
+use Rattle.expressions.specs.Frames.{Frame, turned, builtBy, plug}
 use Rattle.expressions.specs.Stack.{slotClass, topSlot}
 use Rattle.expressions.specs.StackLaws.{stacked-next}
 use Rattle.expressions.specs.States.{credits, Turned}
@@ -64,47 +66,47 @@ module _ {ts : Tokens} {s : Cursor} {x : Read Expr} {w : List ℕ} {m : Machine}
   abbrev top : ℕ
   top = topSlot w (m .depth)
 
-  pub built-round : slotClass top ≡ 7 → kindAt w (m .c) ≡ fixed ")" → Built ts s x w m (nextOf (m .c)) 5 1
+  pub built-round : slotClass top ≡ classNumber Round → kindAt w (m .c) ≡ fixed ")" → Built ts s x w m (nextOf (m .c)) Kind.paren 1
   built-round e k =
       let q = popping h Round deep e in
       let F = turned Round (q .0) in
-      built F (q .1) (q .2) (nextOf (m .c)) (suc (0 + credits (q .1))) (stacked-next (q .2 .stacked) (sign-inside h _ k (lit< tt))) (builtBy Round F (q .2 .tree)) 5 5 refl (lit< tt) (some (F .token))
+      built F (q .1) (q .2) (nextOf (m .c)) (suc (0 + credits (q .1))) (stacked-next (q .2 .stacked) (sign-inside h _ k (lit< tt))) (builtBy Round F (q .2 .tree)) Kind.paren Kind.paren refl (lit< tt) (some (F .token))
       refl (λ j z. z) (omega arith) (omega arith)
       (q .2 .same ∙ ap (plug (q .1)) (expect-here (h .stacked .ready) ")" refl _ k))
 
-  pub built-bars : slotClass top ≡ 8 → kindAt w (m .c) ≡ fixed "|" → Built ts s x w m (nextOf (m .c)) 6 1
+  pub built-bars : slotClass top ≡ classNumber Bars → kindAt w (m .c) ≡ fixed "|" → Built ts s x w m (nextOf (m .c)) Kind.measure 1
   built-bars e k =
       let q = popping h Bars deep e in
       let F = turned Bars (q .0) in
-      built F (q .1) (q .2) (nextOf (m .c)) (suc (0 + credits (q .1))) (stacked-next (q .2 .stacked) (sign-inside h _ k (lit< tt))) (builtBy Bars F (q .2 .tree)) 6 6 refl (lit< tt) (some (F .token))
+      built F (q .1) (q .2) (nextOf (m .c)) (suc (0 + credits (q .1))) (stacked-next (q .2 .stacked) (sign-inside h _ k (lit< tt))) (builtBy Bars F (q .2 .tree)) Kind.measure Kind.measure refl (lit< tt) (some (F .token))
       refl (λ j z. z) (omega arith) (omega arith)
       (q .2 .same ∙ ap (plug (q .1)) (expect-here (h .stacked .ready) "|" refl _ k))
 
-  pub built-index : slotClass top ≡ 9 → kindAt w (m .c) ≡ fixed "]" → Built ts s x w m (nextOf (m .c)) 4 1
+  pub built-index : slotClass top ≡ classNumber Square → kindAt w (m .c) ≡ fixed "]" → Built ts s x w m (nextOf (m .c)) Kind.index 1
   built-index e k =
       let q = popping h Square deep e in
       let F = turned Square (q .0) in
-      built F (q .1) (q .2) (nextOf (m .c)) (suc (0 + credits (q .1))) (stacked-next (q .2 .stacked) (sign-inside h _ k (lit< tt))) (builtBy Square F (q .2 .tree)) 4 4 refl (lit< tt)
+      built F (q .1) (q .2) (nextOf (m .c)) (suc (0 + credits (q .1))) (stacked-next (q .2 .stacked) (sign-inside h _ k (lit< tt))) (builtBy Square F (q .2 .tree)) Kind.index Kind.index refl (lit< tt)
       (some (F .token)) refl (λ j z. z) (omega arith) (omega arith)
       (q .2 .same ∙ ap (plug (q .1)) (expect-here (h .stacked .ready) "]" refl _ k))
 
-  pub built-range : slotClass top ≡ 10 → kindAt w (m .c) ≡ fixed "}" → Built ts s x w m (nextOf (m .c)) 53 3
+  pub built-range : slotClass top ≡ classNumber Last → kindAt w (m .c) ≡ fixed "}" → Built ts s x w m (nextOf (m .c)) Kind.range 3
   built-range e k =
       let q = popping h Last deep e in
       let F = turned Last (q .0) in
-      built F (q .1) (q .2) (nextOf (m .c)) (suc (0 + credits (q .1))) (stacked-next (q .2 .stacked) (sign-inside h _ k (lit< tt))) (builtBy Last F (q .2 .tree)) 53 53 refl (lit< tt) (some (F .token))
-      (ap (λ es. under 53 (some (F .token)) es) (sym (append-assoc (flat (F .first)) (flat (F .second)) (flat (q .2 .tree))))) (λ j z. z) (omega arith) (omega arith)
+      built F (q .1) (q .2) (nextOf (m .c)) (suc (0 + credits (q .1))) (stacked-next (q .2 .stacked) (sign-inside h _ k (lit< tt))) (builtBy Last F (q .2 .tree)) Kind.range Kind.range refl (lit< tt) (some (F .token))
+      (ap (λ es. under Kind.range (some (F .token)) es) (sym (append-assoc (flat (F .first)) (flat (F .second)) (flat (q .2 .tree))))) (λ j z. z) (omega arith) (omega arith)
       (q .2 .same ∙ ap (plug (q .1)) (expect-here (h .stacked .ready) "}" refl _ k))
 
   -- another sign
-  pub unclosed-round : slotClass top ≡ 7 → (kindAt w (m .c) ≡ fixed ")" → ⊥) → Turned ts s x w w m (Ended (refusedAt w (m .c)))
+  pub unclosed-round : slotClass top ≡ classNumber Round → (kindAt w (m .c) ≡ fixed ")" → ⊥) → Turned ts s x w w m (Ended (refusedAt w (m .c)))
   unclosed-round e f = let q = popping h Round deep e in refused-here (q .1) (m .c) (h .stacked .ready) (q .2 .same ∙ ap (plug (q .1)) (expect-other (h .stacked .ready) ")" refl _ f))
 
-  pub unclosed-bars : slotClass top ≡ 8 → (kindAt w (m .c) ≡ fixed "|" → ⊥) → Turned ts s x w w m (Ended (refusedAt w (m .c)))
+  pub unclosed-bars : slotClass top ≡ classNumber Bars → (kindAt w (m .c) ≡ fixed "|" → ⊥) → Turned ts s x w w m (Ended (refusedAt w (m .c)))
   unclosed-bars e f = let q = popping h Bars deep e in refused-here (q .1) (m .c) (h .stacked .ready) (q .2 .same ∙ ap (plug (q .1)) (expect-other (h .stacked .ready) "|" refl _ f))
 
-  pub unclosed-index : slotClass top ≡ 9 → (kindAt w (m .c) ≡ fixed "]" → ⊥) → Turned ts s x w w m (Ended (refusedAt w (m .c)))
+  pub unclosed-index : slotClass top ≡ classNumber Square → (kindAt w (m .c) ≡ fixed "]" → ⊥) → Turned ts s x w w m (Ended (refusedAt w (m .c)))
   unclosed-index e f = let q = popping h Square deep e in refused-here (q .1) (m .c) (h .stacked .ready) (q .2 .same ∙ ap (plug (q .1)) (expect-other (h .stacked .ready) "]" refl _ f))
 
-  pub unclosed-range : slotClass top ≡ 10 → (kindAt w (m .c) ≡ fixed "}" → ⊥) → Turned ts s x w w m (Ended (refusedAt w (m .c)))
+  pub unclosed-range : slotClass top ≡ classNumber Last → (kindAt w (m .c) ≡ fixed "}" → ⊥) → Turned ts s x w w m (Ended (refusedAt w (m .c)))
   unclosed-range e f = let q = popping h Last deep e in refused-here (q .1) (m .c) (h .stacked .ready) (q .2 .same ∙ ap (plug (q .1)) (expect-other (h .stacked .ready) "}" refl _ f))

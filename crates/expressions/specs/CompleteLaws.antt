@@ -1,19 +1,20 @@
 -- A complete expression and the last frame: its class, and the state in which its tree is complete in turn.
-use Prim.Native.Nat.{ℕ, suc, _+_, _-_, _≤_, _<_}
+use Prim.Native.Nat.{ℕ, suc, _+_, _-_, _≤_, _<_, _^_}
 use native.Mathlib.Omega.{arith}
 use mathlib.Core.List.{List, [], _∷_, _++_, append-assoc}
-use mathlib.Core.Bool.{Bool, true, false}
+use mathlib.Core.Bool.{Bool, true, false, _&&_}
 use mathlib.Core.Option.{Option, some}
 use mathlib.Core.Path.{_≡_, refl, sym, ap, _∙_, subst}
-use lib.Dec.{eqb, ltb}
+use lib.Dec.{eqb, leb, ltb}
 use lib.ListN.{length, length-append, drop, getD}
-use borrow.Author.Tests.{eqb-true, ltb-true}
+use borrow.Author.Tests.{eqb-true, leb-true, ltb-true}
 use Rattle.node.specs.Result.{Done}
 use Rattle.node.specs.ResultLaws.{bind-at}
 use Rattle.language.specs.Tokens.{Token}
 use Rattle.language.specs.Tree.{Expr}
 use Rattle.language.specs.Grammar.{Tokens, Read}
 use Rattle.language.specs.Laws.Basics.Lists.{All as Every}
+use Rattle.language.specs.Laws.Basics.Tests.{and-left, and-right}
 use Rattle.entries.specs.Flat.{Entry, under, flat}
 use Rattle.entries.specs.Stored.{firstEntry, entryWord, putEntry, Keeps}
 use Rattle.entries.specs.declared.Cursor.{Cursor}
@@ -25,44 +26,16 @@ use Rattle.entries.specs.ReadsLaws.{kept-same, kept-put}
 use Rattle.expressions.specs.declared.stack.Machine.{Machine}
 use Rattle.expressions.specs.declared.stack.Turn.the-variants.{Next, Ended}
 use Rattle.operators.specs.Readers.{climbs}
-use Rattle.expressions.specs.Frames.{
-  Class,
-  Right,
-  Sole,
-  Stepped,
-  Within,
-  Cons,
-  Over,
-  Round,
-  Bars,
-  Square,
-  Last,
-  All,
-  Count,
-  Low,
-  High,
-  One,
-  Two,
-  More,
-  Bound,
-  Upper,
-  Member,
-  Frame,
-  turned,
-  resume,
-  plug,
-}
-use Rattle.expressions.specs.Stack.{slotIndex, slotClass, topSlot, Slot, SlotsAt, Stacked, Rooted, startOf, Trees}
+use Rattle.expressions.specs.Classes.{Class, Right, Sole, Stepped, Within, Cons, Over, Round, Bars, Square, Last, All, Count, Low, High, One, Two, More, Bound, Upper, Member, classNumber, classes}
+use Rattle.expressions.specs.Frames.{Frame, turned, resume, plug}
+use Rattle.expressions.specs.Stack.{slotIndex, slotClass, topSlot, Slot, SlotsAt, Stacked, Rooted, startOf, Trees, levelBits}
 use Rattle.expressions.specs.StackLaws.{slot-class, slot-level, slot-index, stacked-apart, stacked-few, stacked-less, stacked-pop, stacked-emit}
 use Rattle.expressions.specs.Machines.{Tops}
-use Rattle.expressions.specs.States.{classNumber, slot, slotsBy, slotsOf, treesBy, behind, base, Firm, creditBy, credits, Turned}
+use Rattle.expressions.specs.States.{slot, slotsBy, slotsOf, treesBy, behind, base, Firm, creditBy, credits, Turned}
 use Rattle.expressions.specs.Complete.{Complete, Builds, builtOf, builtIn, behind-append, spans}
 
 -- the class of a number
-abbrev classes : List Class
-classes = Right ∷ Right ∷ Sole ∷ Stepped ∷ Within ∷ Cons ∷ Over ∷ Round ∷ Bars ∷ Square ∷ Last ∷ All ∷ Count ∷ Low ∷ High ∷ One ∷ Two ∷ More ∷ Bound ∷ Upper ∷ Member ∷ []
-
-class-of : (c : Class) → getD classes (classNumber c) Right ≡ c
+class-of : (c : Class) → getD (Right ∷ classes) (classNumber c) Right ≡ c
 class-of Right = refl
 class-of Sole = refl
 class-of Stepped = refl
@@ -84,55 +57,34 @@ class-of Bound = refl
 class-of Upper = refl
 class-of Member = refl
 
-numbered-from-one : (c : Class) → ltb 0 (classNumber c) ≡ true
-numbered-from-one c = elim c [
-  | Right ↦ refl
-  | Sole ↦ refl
-  | Stepped ↦ refl
-  | Within ↦ refl
-  | Cons ↦ refl
-  | Over ↦ refl
-  | Round ↦ refl
-  | Bars ↦ refl
-  | Square ↦ refl
-  | Last ↦ refl
-  | All ↦ refl
-  | Count
-      ↦ refl
-  | Low ↦ refl
-  | High ↦ refl
-  | One ↦ refl
-  | Two ↦ refl
-  | More ↦ refl
-  | Bound ↦ refl
-  | Upper ↦ refl
-  | Member ↦ refl
-]
+-- numbers go from 1 to the last class's
+numbered : (c : Class) → (ltb 0 (classNumber c) && leb (classNumber c) (classNumber Member)) ≡ true
+numbered Right = refl
+numbered Sole = refl
+numbered Stepped = refl
+numbered Within = refl
+numbered Cons = refl
+numbered Over = refl
+numbered Round = refl
+numbered Bars = refl
+numbered Square = refl
+numbered Last = refl
+numbered All = refl
+numbered Count = refl
+numbered Low = refl
+numbered High = refl
+numbered One = refl
+numbered Two = refl
+numbered More = refl
+numbered Bound = refl
+numbered Upper = refl
+numbered Member = refl
 
-numbered-to-twenty : (c : Class) → ltb (classNumber c) 21 ≡ true
-numbered-to-twenty c = elim c [
-  | Right ↦ refl
-  | Sole ↦ refl
-  | Stepped ↦ refl
-  | Within ↦ refl
-  | Cons ↦ refl
-  | Over ↦ refl
-  | Round ↦ refl
-  | Bars ↦ refl
-  | Square ↦ refl
-  | Last ↦ refl
-  | All ↦ refl
-  | Count
-      ↦ refl
-  | Low ↦ refl
-  | High ↦ refl
-  | One ↦ refl
-  | Two ↦ refl
-  | More ↦ refl
-  | Bound ↦ refl
-  | Upper ↦ refl
-  | Member ↦ refl
-]
+number-some : (c : Class) → 0 < classNumber c
+number-some c = ltb-true 0 (classNumber c) (and-left (ltb 0 (classNumber c)) (leb (classNumber c) (classNumber Member)) (numbered c))
+
+number-few : (c : Class) → classNumber c ≤ classNumber Member
+number-few c = leb-true (classNumber c) (classNumber Member) (and-right (ltb 0 (classNumber c)) (leb (classNumber c) (classNumber Member)) (numbered c))
 
 -- the last frame F, and those before it
 pub record Popping (ts : Tokens) (s : Cursor) (x : Read Expr) (w : List ℕ) (m : Machine) (F : Frame) (Gs : List Frame) : Type 0 where
@@ -145,17 +97,17 @@ pub record Popping (ts : Tokens) (s : Cursor) (x : Read Expr) (w : List ℕ) (m 
 
 -- a frame has a last slot, which has its class
 top-class : (w : List ℕ) (ts : Tokens) (depth n : ℕ) (F : Frame) (slots : List Slot) → SlotsAt w ts depth (slotsBy n F ++ slots) → (0 < depth) × (slotClass (topSlot w depth) ≡ n)
-top-class w ts depth n F slots h = go (eqb n 19) (eqb n 20) refl refl h
+top-class w ts depth n F slots h = go (eqb n (classNumber Upper)) (eqb n (classNumber Member)) refl refl h
   where
-    go : (a b : Bool) → eqb n 19 ≡ a → eqb n 20 ≡ b
+    go : (a b : Bool) → eqb n (classNumber Upper) ≡ a → eqb n (classNumber Member) ≡ b
         → SlotsAt w ts depth (elim a [
-          | true ↦ slot 19 0 (F .low) (F .name ∷ F .high ∷ []) ∷ slot 6 (F .level) (F .token) [] ∷ []
+          | true ↦ slot (classNumber Upper) 0 (F .low) (F .name ∷ F .high ∷ []) ∷ slot (classNumber Over) (F .level) (F .token) [] ∷ []
           | false ↦ elim b
-              [ true ↦ slot 20 0 (F .name) [] ∷ slot 6 (F .level) (F .token) [] ∷ [] | false ↦ slot n (F .level) (F .token) [] ∷ [] ]
+              [ true ↦ slot (classNumber Member) 0 (F .name) [] ∷ slot (classNumber Over) (F .level) (F .token) [] ∷ [] | false ↦ slot n (F .level) (F .token) [] ∷ [] ]
         ] ++ slots)
         → (0 < depth) × (slotClass (topSlot w depth) ≡ n)
-    go true b p q g = (g .0 .deep, slot-class (g .0) ∙ sym (eqb-true n 19 p))
-    go false true p q g = (g .0 .deep, slot-class (g .0) ∙ sym (eqb-true n 20 q))
+    go true b p q g = (g .0 .deep, slot-class (g .0) ∙ sym (eqb-true n (classNumber Upper) p))
+    go false true p q g = (g .0 .deep, slot-class (g .0) ∙ sym (eqb-true n (classNumber Member) q))
     go false false p q g = (g .0 .deep, slot-class (g .0))
 
 module _ {ts : Tokens} {s : Cursor} {x : Read Expr} {w : List ℕ} {m : Machine} (h : Complete ts s x w m) where
@@ -192,24 +144,19 @@ module _ {ts : Tokens} {s : Cursor} {x : Read Expr} {w : List ℕ} {m : Machine}
       let few = stacked-few (h .stacked) in
       record { room = h .stacked .ready .fits .room; some = omega arith; deep = omega arith }
 
-  -- classes are numbered from 1 on
+  -- the last slot has the number of a class
+  of-class : (P : ℕ → Type 0) → ((c : Class) → P (classNumber c)) → 0 < m .depth → P (slotClass (topSlot w (m .depth)))
+  of-class P all deep = go (h .frames) (h .stacked)
+    where
+      go : (Fs : List Frame) → Stacked ts s w (m .c) (m .depth) (slotsOf Fs) (base Fs ++ flat (h .tree)) (credits Fs) → P (slotClass (topSlot w (m .depth)))
+      go [] st = absurd (let d = st .slots-at in omega arith)
+      go (F ∷ Fs) st = subst P (sym (top-class w ts (m .depth) (classNumber (F .class)) F (slotsOf Fs) (st .slots-at) .1)) (all (F .class))
+
   pub class-some : 0 < m .depth → 0 < slotClass (topSlot w (m .depth))
-  class-some deep = go (h .frames) (h .stacked)
-    where
-      number-some : (c : Class) → 0 < classNumber c
-      number-some c = ltb-true 0 (classNumber c) (numbered-from-one c)
+  class-some deep = of-class (λ n. 0 < n) number-some deep
 
-      go : (Fs : List Frame) → Stacked ts s w (m .c) (m .depth) (slotsOf Fs) (base Fs ++ flat (h .tree)) (credits Fs) → 0 < slotClass (topSlot w (m .depth))
-      go [] st = absurd (let d = st .slots-at in omega arith)
-      go (F ∷ Fs) st = subst (λ n. 0 < n) (sym (top-class w ts (m .depth) (classNumber (F .class)) F (slotsOf Fs) (st .slots-at) .1)) (number-some (F .class))
-
-  pub class-few : 0 < m .depth → slotClass (topSlot w (m .depth)) < 21
-  class-few deep = go (h .frames) (h .stacked)
-    where
-      go : (Fs : List Frame) → Stacked ts s w (m .c) (m .depth) (slotsOf Fs) (base Fs ++ flat (h .tree)) (credits Fs) → slotClass (topSlot w (m .depth)) < 21
-      go [] st = absurd (let d = st .slots-at in omega arith)
-      go (F ∷ Fs) st = subst (λ n. n < 21) (sym (top-class w ts (m .depth) (classNumber (F .class)) F (slotsOf Fs) (st .slots-at) .1))
-          (ltb-true (classNumber (F .class)) 21 (numbered-to-twenty (F .class)))
+  pub class-few : 0 < m .depth → slotClass (topSlot w (m .depth)) ≤ classNumber Member
+  class-few deep = of-class (λ n. n ≤ classNumber Member) number-few deep
 
   -- a sign stands at the cursor
   pub sign-inside : (k : ℕ) → kindAt w (m .c) ≡ k → 0 < k → m .c .at < m .c .count
@@ -228,7 +175,7 @@ module _ {ts : Tokens} {s : Cursor} {x : Read Expr} {w : List ℕ} {m : Machine}
       go [] f st same = absurd (let d = st .slots-at in omega arith)
       go (F ∷ Fs) f st same =
           let number : classNumber (F .class) ≡ classNumber K = sym (top-class w ts (m .depth) (classNumber (F .class)) F (slotsOf Fs) (st .slots-at) .1) ∙ e in
-          let is : F .class ≡ K = sym (class-of (F .class)) ∙ ap (λ n. getD classes n Right) number ∙ class-of K in
+          let is : F .class ≡ K = sym (class-of (F .class)) ∙ ap (λ n. getD (Right ∷ classes) n Right) number ∙ class-of K in
           let whole : Popping ts s x w m (turned (F .class) F) Fs =
           record { tree = h .tree; rooted = h .rooted; firm-top = f .0; firm = f .1; stacked = st; same = same ∙ ap (plug Fs) (bind-at (h .tree, drop (m .c .at) ts) _) } in
           (F, Fs, subst (λ k. Popping ts s x w m (turned k F) Fs) is whole)
@@ -299,7 +246,7 @@ module _ {ts : Tokens} {s : Cursor} (x : Read Expr) {w : List ℕ} (m : Machine)
                         tree = e;
                         mode = refl;
                         good = (kind, t, behind [] css ++ flat tree, made);
-                        level-fits = subst (λ l. l < 32) (sym level) (top .level-fits);
+                        level-fits = subst (λ l. l < 2 ^ levelBits) (sym level) (top .level-fits);
                         firm = firm;
                         stacked =
                             subst (λ i. Stacked ts s (putEntry w (d .out) kind i (1 + (d .out - startOf w (d .out) count))) (emittedOf d) (m .depth - 1) (slotsOf Gs) (base Gs ++ flat e) (credits Gs))

@@ -10,20 +10,8 @@ use Rattle.language.specs.Operators.{Size, Measures, loosest}
 use Rattle.language.specs.Tree.{Expr, Index, Paren, Prefixed, Joined, Nexts, InWindow, Each, Between, Listed, Empty, Element, Range}
 use Rattle.language.specs.Grammar.{Tokens, Read, rest, next, named, expect, expectOf, signOf, Binder}
 use Rattle.operators.specs.Readers.{reads, climbs, operatorAt, levelAt, roleAt, soleOf, windowOf, bigOf, listed}
+use Rattle.expressions.specs.Classes.{Class, Right, Sole, Stepped, Within, Cons, Over, Round, Bars, Square, Last, All, Count, Low, High, One, Two, More, Bound, Upper, Member, boundLevel}
 use Rattle.expressions.specs.BinderLaws.{afterBinder}
-
--- what the expression read is
-pub data Class : Type 0 where
-  -- the right operand; a sole operand; that of `X[n]`; of `F[n:m]`; the rest of a set's elements; the operand of a big operator
-  Right Sole Stepped Within Cons Over : Class
-  -- in `(..)`; in `|..|`; an index; the end of a range; a set's elements from the second on
-  Round Bars Square Last All : Class
-  -- the n of `X[n]`; the n and the m of `F[n:m]`
-  Count Low High : Class
-  -- a set's first element, its second, a further one
-  One Two More : Class
-  -- the low bound of a big operator's name, its high bound, its set
-  Bound Upper Member : Class
 
 -- The expression around it reads on at `level`. Its operator or bracket is `token`; `first` and `second` are what was read of it before. A name of a big
 -- operator is `name`, with the signs `low` and `high` of its bounds.
@@ -135,7 +123,7 @@ upper F x ts = afterBinder (F .level) (F .token) (record { name = F .name; range
 -- `i <= m` after the bound x
 abbrev pub lower : Frame → Expr → Tokens → Read Expr
 lower F x ts =
-    signOf ts >>= λ (low, us). expectOf Name us >>= λ (i, vs). signOf vs >>= λ (high, ws). reads 8 ws >>= λ (y, xs).
+    signOf ts >>= λ (low, us). expectOf Name us >>= λ (i, vs). signOf vs >>= λ (high, ws). reads boundLevel ws >>= λ (y, xs).
     afterBinder (F .level) (F .token) (record { name = i; range = Between (low .0) (low .1) (high .1) x y }) xs
 
 -- what becomes of x, read up to ts

@@ -1,6 +1,7 @@
 pub mod ReaderLaws
 pub mod ListLaws
 pub mod BinderLaws
+pub mod Classes
 pub mod Frames
 pub mod StartLaws
 pub mod RoleLaws

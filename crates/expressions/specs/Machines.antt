@@ -1,18 +1,18 @@
 -- What the functions of the stack ask for and answer.
-use Prim.Native.Nat.{ℕ, _+_, _-_, _≤_, _<_}
+use Prim.Native.Nat.{ℕ, _+_, _-_, _≤_, _<_, _^_}
 use mathlib.Core.List.{List}
 use mathlib.Core.Bool.{true, false}
 use lib.ListN.{length}
 use Rattle.language.specs.Limits.{maxTokens, workBytes}
 use Rattle.entries.specs.declared.Cursor.{Cursor}
 use Rattle.expressions.specs.declared.stack.Machine.{Machine}
-use Rattle.expressions.specs.Stack.{Trees}
+use Rattle.expressions.specs.Stack.{Trees, classBits, levelBits}
 
 pub record Pushes (w : List ℕ) (m : Machine) (class token : ℕ) : Type 0 where
   pub room : workBytes ≤ length w
   pub deep : m .depth < maxTokens
-  pub class-fits : class < 32
-  pub level-fits : m .level < 32
+  pub class-fits : class < 2 ^ classBits
+  pub level-fits : m .level < 2 ^ levelBits
   pub token-fits : token < maxTokens
 
 pub record Tops (w : List ℕ) (m : Machine) : Type 0 where

@@ -20,7 +20,8 @@ use Rattle.entries.specs.Reads.{Kept}
 use Rattle.expressions.specs.declared.stack.Machine.{Machine}
 use Rattle.expressions.specs.declared.stack.Turn.{Turn}
 use Rattle.expressions.specs.declared.stack.Turn.the-variants.{Next, Ended}
-use Rattle.expressions.specs.Frames.{Upper, Member, turned, isStrict}
+use Rattle.expressions.specs.Classes.{Over, Upper, Member, classNumber}
+use Rattle.expressions.specs.Frames.{turned, isStrict}
 use Rattle.expressions.specs.Stack.{slotClass, slotIndex, topSlot, Stacked}
 use Rattle.expressions.specs.StackLaws.{slot-index, stacked-less, stacked-pop}
 use Rattle.expressions.specs.Machines.{poppedOf}
@@ -50,7 +51,7 @@ module _ {ts : Tokens} {s : Cursor} {x : Read Expr} {w : List ℕ} {m : Machine}
   top = topSlot w (m .depth)
 
   -- its set
-  pub names-member : slotClass top ≡ 20 → Ranged ts s x w (poppedOf m 0) (m .c) (slotIndex top)
+  pub names-member : slotClass top ≡ classNumber Member → Ranged ts s x w (poppedOf m 0) (m .c) (slotIndex top)
   names-member e =
       let q = popping h Member deep e in
       let F = turned Member (q .0) in
@@ -65,7 +66,7 @@ module _ {ts : Tokens} {s : Cursor} {x : Read Expr} {w : List ℕ} {m : Machine}
         marked = p .firm-top .1;
         keeps = subst (λ i. Keeps ts i (some (F .name))) (sym (slot-index at-top)) (at-top .tokens .0);
         index-fits = subst (λ i. i < maxTokens) (sym (slot-index at-top)) (at-top .index-fits);
-        stacked = stacked-less (stacked-pop (p .stacked) (slot 20 0 (F .name) []) (slot 6 (F .level) (F .token) [] ∷ slotsOf (q .1)) refl) (suc (credits (q .1))) (omega arith);
+        stacked = stacked-less (stacked-pop (p .stacked) (slot (classNumber Member) 0 (F .name) []) (slot (classNumber Over) (F .level) (F .token) [] ∷ slotsOf (q .1)) refl) (suc (credits (q .1))) (omega arith);
         same = p .same;
       }
 
@@ -73,7 +74,7 @@ module _ {ts : Tokens} {s : Cursor} {x : Read Expr} {w : List ℕ} {m : Machine}
   turn-member r b = as-light m _ (let d : m .depth - 1 + 1 ≡ m .depth = omega arith in omega arith) r (b .step)
 
   -- its high bound
-  module _ (e : slotClass top ≡ 19) where
+  module _ (e : slotClass top ≡ classNumber Upper) where
     abbrev index : ℕ
     index = slotIndex top
 
@@ -113,9 +114,9 @@ module _ {ts : Tokens} {s : Cursor} {x : Read Expr} {w : List ℕ} {m : Machine}
         let g = grown (credits (q .1)) (base (q .1)) (flat (F .first) ∷ []) (flat (p .tree)) (p .firm-top .0) (p .rooted) st kind index
         (between-small (strictAt (numberIn (wordAt w (index + 2))))) (omega (arith, upper-index)) (some (F .low)) keeps-low in
         let r = Between (F .low) (isStrict (F .low)) (isStrict (F .high)) (F .first) (p .tree) in
-        let g′ : Stacked ts s (grownIn w (m .c) kind index 2) (emittedOf (m .c)) (m .depth) (slot 19 0 (F .low) (F .name ∷ F .high ∷ []) ∷ slot 6 (F .level) (F .token) [] ∷ slotsOf (q .1))
+        let g′ : Stacked ts s (grownIn w (m .c) kind index 2) (emittedOf (m .c)) (m .depth) (slot (classNumber Upper) 0 (F .low) (F .name ∷ F .high ∷ []) ∷ slot (classNumber Over) (F .level) (F .token) [] ∷ slotsOf (q .1))
         (base (q .1) ++ flat r) (credits (q .1)) =
-        subst (λ k. Stacked ts s (grownIn w (m .c) kind index 2) (emittedOf (m .c)) (m .depth) (slot 19 0 (F .low) (F .name ∷ F .high ∷ []) ∷ slot 6 (F .level) (F .token) [] ∷ slotsOf (q .1))
+        subst (λ k. Stacked ts s (grownIn w (m .c) kind index 2) (emittedOf (m .c)) (m .depth) (slot (classNumber Upper) 0 (F .low) (F .name ∷ F .high ∷ []) ∷ slot (classNumber Over) (F .level) (F .token) [] ∷ slotsOf (q .1))
         (base (q .1) ++ under k (some (F .low)) (flat (F .first) ++ flat (p .tree))) (credits (q .1))) kind-is g in
         record {
           frame = F;
@@ -126,7 +127,7 @@ module _ {ts : Tokens} {s : Cursor} {x : Read Expr} {w : List ℕ} {m : Machine}
           marked = p .firm-top .1;
           keeps = keeps-name;
           index-fits = omega (arith, upper-index);
-          stacked = stacked-pop g′ (slot 19 0 (F .low) (F .name ∷ F .high ∷ [])) (slot 6 (F .level) (F .token) [] ∷ slotsOf (q .1)) refl;
+          stacked = stacked-pop g′ (slot (classNumber Upper) 0 (F .low) (F .name ∷ F .high ∷ [])) (slot (classNumber Over) (F .level) (F .token) [] ∷ slotsOf (q .1)) refl;
           same = p .same;
         }
 

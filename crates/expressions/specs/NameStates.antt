@@ -30,7 +30,8 @@ use Rattle.expressions.specs.declared.stack.Turn.{Turn}
 use Rattle.expressions.specs.declared.stack.Turn.the-variants.{Next, Ended}
 use Rattle.operators.specs.Readers.{reads, levelAt, folds}
 use Rattle.expressions.specs.BinderLaws.{afterBinder}
-use Rattle.expressions.specs.Frames.{Over, Frame, bound, resume, plug}
+use Rattle.expressions.specs.Classes.{Over, classNumber}
+use Rattle.expressions.specs.Frames.{Frame, bound, resume, plug}
 use Rattle.operators.specs.Tables.{prefixAt}
 use Rattle.operators.specs.RowLaws.{prefix-some}
 use Rattle.expressions.specs.Stack.{slotIndex, slotLevel, topSlot, Stacked, Rooted}
@@ -52,7 +53,7 @@ pub record Ranged (ts : Tokens) (s : Cursor) (x : Read Expr) (w : List ℕ) (m :
   pub marked : Marked Over (frame .token)
   pub keeps : Keeps ts j (some (binder .name))
   pub index-fits : j < maxTokens
-  pub stacked : Stacked ts s w c (m .depth) (slot 6 (frame .level) (frame .token) [] ∷ slotsOf frames) (base frames ++ flat (binder .range)) (suc (credits frames))
+  pub stacked : Stacked ts s w c (m .depth) (slot (classNumber Over) (frame .level) (frame .token) [] ∷ slotsOf frames) (base frames ++ flat (binder .range)) (suc (credits frames))
   pub same : x ≡ plug frames (afterBinder (frame .level) (frame .token) binder (drop (c .at) ts))
 
 pub record Ranging (w : List ℕ) (m : Machine) (c : Cursor) (j : ℕ) : Type 0 where

@@ -1,5 +1,5 @@
 -- A sign behind a part of an operator's brackets or of a set: the frame waits for the next part.
-use Prim.Native.Nat.{ℕ, suc, _+_, _-_, _%_, _≤_, _<_}
+use Prim.Native.Nat.{ℕ, suc, _+_, _-_, _%_, _≤_, _<_, _^_}
 use native.Mathlib.Omega.{arith}
 use mathlib.Core.List.{List, [], _∷_, _++_, append-nil}
 use mathlib.Core.Bool.{Bool, true, false}
@@ -24,12 +24,13 @@ use Rattle.expressions.specs.declared.stack.Machine.{Machine}
 use Rattle.expressions.specs.declared.stack.Turn.{Turn}
 use Rattle.expressions.specs.declared.stack.Turn.the-variants.{Next, Ended}
 use Rattle.operators.specs.Readers.{reads, levelAt}
-use Rattle.expressions.specs.Frames.{Stepped, Within, Last, Count, Low, High, One, Two, Frame, turned, withFirst, withSecond, resume, plug}
+use Rattle.expressions.specs.Classes.{Stepped, Within, Last, Count, Low, High, One, Two, classNumber}
+use Rattle.expressions.specs.Frames.{Frame, turned, withFirst, withSecond, resume, plug}
 use Rattle.operators.specs.Tables.{prefixAt}
 use Rattle.operators.specs.RowLaws.{prefix-some}
-use Rattle.expressions.specs.Stack.{slotWord, slotIndex, slotLevel, slotClass, topSlot, putSlot, Stacked}
+use Rattle.expressions.specs.Stack.{slotWord, slotIndex, slotLevel, slotClass, topSlot, putSlot, Stacked, lastWord, classBits, levelBits}
 use Rattle.expressions.specs.StackLaws.{slot-level, slot-index, stacked-apart, stacked-few, stacked-less, stacked-next, stacked-pop, stacked-push}
-use Rattle.expressions.specs.States.{classNumber, slot, slotsBy, slotsOf, treesBy, behind, base, Firm, creditBy, credits, Turned}
+use Rattle.expressions.specs.States.{slot, slotsBy, slotsOf, treesBy, behind, base, Firm, creditBy, credits, Turned}
 use Rattle.expressions.specs.Complete.{Complete}
 use Rattle.expressions.specs.CompleteLaws.{popping, sign-inside}
 use Rattle.expressions.specs.Wholes.{operatorIn, number-top}
@@ -47,7 +48,7 @@ module _ {ts : Tokens} {s : Cursor} {x : Read Expr} {w : List ℕ} {m : Machine}
   pub reopens : (F F′ : Frame) (Gs : List Frame) (E : List Entry) (d : Cursor) (n l : ℕ)
       → Stacked ts s w d (m .depth) (slot (classNumber (F .class)) (F .level) (F .token) [] ∷ slotsOf Gs) E n → Every Firm Gs → Firm F′
       → slotsBy (classNumber (F′ .class)) F′ ≡ slot (classNumber (F′ .class)) (F .level) (F .token) [] ∷ [] → behind (base Gs) (treesBy (F′ .class) F′) ≡ E → creditBy (F′ .class) + credits Gs ≤ n
-      → classNumber (F′ .class) < 32 → m .c .at < d .at → m .c .count ≡ s .count → m .c .out ≤ d .out → 0 < l → l < 32
+      → classNumber (F′ .class) < 2 ^ classBits → m .c .at < d .at → m .c .count ≡ s .count → m .c .out ≤ d .out → 0 < l → l < 2 ^ levelBits
       → x ≡ plug Gs (reads l (drop (d .at) ts) >>= λ (y, us). resume F′ y us)
       → Turned ts s x w (reopenedIn w m (classNumber (F′ .class))) m (reopenedOf m d l)
   unfolding plug
@@ -65,7 +66,7 @@ module _ {ts : Tokens} {s : Cursor} {x : Read Expr} {w : List ℕ} {m : Machine}
       ap (λ k. putSlot w (m .depth - 1) (classNumber (F′ .class)) k (top .index)) (sym (slot-level top)) ∙ ap (putSlot w (m .depth - 1) (classNumber (F′ .class)) (slotLevel (topSlot w (m .depth))))
       (sym (slot-index top)) in
       record {
-        kept = kept-put w (s .out) (16_383 - (m .depth - 1)) (slotWord (classNumber (F′ .class)) (slotLevel (topSlot w (m .depth))) (slotIndex (topSlot w (m .depth)))) (omega arith) (omega arith);
+        kept = kept-put w (s .out) (lastWord - (m .depth - 1)) (slotWord (classNumber (F′ .class)) (slotLevel (topSlot w (m .depth))) (slotIndex (topSlot w (m .depth)))) (omega arith) (omega arith);
         after =
             record {
               state =
@@ -93,73 +94,73 @@ module _ {ts : Tokens} {s : Cursor} {x : Read Expr} {w : List ℕ} {m : Machine}
     top = topSlot w (m .depth)
 
     -- the level of the operator's operand
-    pub turn-counted : slotClass top ≡ 12 → kindAt w (m .c) ≡ fixed "]" → Turned ts s x w (reopenedIn w m 3) m (reopenedOf m (nextOf (m .c)) (prefixAt (operatorIn w top) % 32))
+    pub turn-counted : slotClass top ≡ classNumber Count → kindAt w (m .c) ≡ fixed "]" → Turned ts s x w (reopenedIn w m (classNumber Stepped)) m (reopenedOf m (nextOf (m .c)) (prefixAt (operatorIn w top) % 32))
     turn-counted e k =
         let q = popping h Count deep e in
         let F = turned Count (q .0) in
         let p = q .2 in
         let row = prefix-some (F .token) (p .firm-top .1 .0) in
         let level : prefixAt (operatorIn w top) % 32 ≡ levelAt (F .token) = ap (λ n. prefixAt n % 32) (number-top h deep Count (q .0) (q .1) p (p .stacked)) ∙ row .level in
-        subst (λ l. Turned ts s x w (reopenedIn w m 3) m (reopenedOf m (nextOf (m .c)) l)) (sym level)
+        subst (λ l. Turned ts s x w (reopenedIn w m (classNumber Stepped)) m (reopenedOf m (nextOf (m .c)) l)) (sym level)
         (reopens F (withFirst Stepped F (p .tree)) (q .1) _ (nextOf (m .c)) (suc (0 + credits (q .1))) (levelAt (F .token)) (stacked-next (p .stacked) (sign-inside h _ k (lit< tt))) (p .firm)
         ((p .rooted, tt), (λ z. omega arith, tt)) refl refl (omega arith) (lit< tt) (omega arith) (p .stacked .count) (omega arith) (row .level-some) (row .level-fits)
         (p .same ∙ ap (plug (q .1)) (expect-here (h .stacked .ready) "]" refl _ k)))
 
-    pub turn-low : slotClass top ≡ 13 → kindAt w (m .c) ≡ fixed ":" → Turned ts s x w (reopenedIn w m 14) m (reopenedOf m (nextOf (m .c)) 17)
+    pub turn-low : slotClass top ≡ classNumber Low → kindAt w (m .c) ≡ fixed ":" → Turned ts s x w (reopenedIn w m (classNumber High)) m (reopenedOf m (nextOf (m .c)) loosest)
     turn-low e k =
         let q = popping h Low deep e in
         let F = turned Low (q .0) in
         let p = q .2 in
-        reopens F (withFirst High F (p .tree)) (q .1) _ (nextOf (m .c)) (suc (0 + credits (q .1))) 17 (stacked-next (p .stacked) (sign-inside h _ k (lit< tt))) (p .firm)
+        reopens F (withFirst High F (p .tree)) (q .1) _ (nextOf (m .c)) (suc (0 + credits (q .1))) loosest (stacked-next (p .stacked) (sign-inside h _ k (lit< tt))) (p .firm)
         ((p .rooted, tt), p .firm-top .1) refl refl (omega arith) (lit< tt) (omega arith) (p .stacked .count) (omega arith) (lit< tt) (lit< tt)
         (p .same ∙ ap (plug (q .1)) (expect-here (h .stacked .ready) ":" refl _ k))
 
-    pub turn-high : slotClass top ≡ 14 → kindAt w (m .c) ≡ fixed "]" → Turned ts s x w (reopenedIn w m 4) m (reopenedOf m (nextOf (m .c)) (prefixAt (operatorIn w top) % 32))
+    pub turn-high : slotClass top ≡ classNumber High → kindAt w (m .c) ≡ fixed "]" → Turned ts s x w (reopenedIn w m (classNumber Within)) m (reopenedOf m (nextOf (m .c)) (prefixAt (operatorIn w top) % 32))
     turn-high e k =
         let q = popping h High deep e in
         let F = turned High (q .0) in
         let p = q .2 in
         let row = prefix-some (F .token) (p .firm-top .1 .0) in
         let level : prefixAt (operatorIn w top) % 32 ≡ levelAt (F .token) = ap (λ n. prefixAt n % 32) (number-top h deep High (q .0) (q .1) p (p .stacked)) ∙ row .level in
-        subst (λ l. Turned ts s x w (reopenedIn w m 4) m (reopenedOf m (nextOf (m .c)) l)) (sym level)
+        subst (λ l. Turned ts s x w (reopenedIn w m (classNumber Within)) m (reopenedOf m (nextOf (m .c)) l)) (sym level)
         (reopens F (withSecond Within F (p .tree)) (q .1) _ (nextOf (m .c)) (suc (0 + credits (q .1))) (levelAt (F .token)) (stacked-next (p .stacked) (sign-inside h _ k (lit< tt))) (p .firm)
         ((p .firm-top .0 .0, (p .rooted, tt)), p .firm-top .1) refl refl (omega arith) (lit< tt) (omega arith) (p .stacked .count) (omega arith) (row .level-some) (row .level-fits)
         (p .same ∙ ap (plug (q .1)) (expect-here (h .stacked .ready) "]" refl _ k)))
 
-    pub turn-uncounted : slotClass top ≡ 12 → (kindAt w (m .c) ≡ fixed "]" → ⊥) → Turned ts s x w w m (Ended (refusedAt w (m .c)))
+    pub turn-uncounted : slotClass top ≡ classNumber Count → (kindAt w (m .c) ≡ fixed "]" → ⊥) → Turned ts s x w w m (Ended (refusedAt w (m .c)))
     turn-uncounted e f = let q = popping h Count deep e in refused-here (q .1) (m .c) (h .stacked .ready) (q .2 .same ∙ ap (plug (q .1)) (expect-other (h .stacked .ready) "]" refl _ f))
 
-    pub turn-unlow : slotClass top ≡ 13 → (kindAt w (m .c) ≡ fixed ":" → ⊥) → Turned ts s x w w m (Ended (refusedAt w (m .c)))
+    pub turn-unlow : slotClass top ≡ classNumber Low → (kindAt w (m .c) ≡ fixed ":" → ⊥) → Turned ts s x w w m (Ended (refusedAt w (m .c)))
     turn-unlow e f = let q = popping h Low deep e in refused-here (q .1) (m .c) (h .stacked .ready) (q .2 .same ∙ ap (plug (q .1)) (expect-other (h .stacked .ready) ":" refl _ f))
 
-    pub turn-unhigh : slotClass top ≡ 14 → (kindAt w (m .c) ≡ fixed "]" → ⊥) → Turned ts s x w w m (Ended (refusedAt w (m .c)))
+    pub turn-unhigh : slotClass top ≡ classNumber High → (kindAt w (m .c) ≡ fixed "]" → ⊥) → Turned ts s x w w m (Ended (refusedAt w (m .c)))
     turn-unhigh e f = let q = popping h High deep e in refused-here (q .1) (m .c) (h .stacked .ready) (q .2 .same ∙ ap (plug (q .1)) (expect-other (h .stacked .ready) "]" refl _ f))
 
     -- a set's first element, and a second
-    pub turn-second : slotClass top ≡ 15 → kindAt w (m .c) ≡ fixed "," → Turned ts s x w (reopenedIn w m 16) m (reopenedOf m (nextOf (m .c)) 17)
+    pub turn-second : slotClass top ≡ classNumber One → kindAt w (m .c) ≡ fixed "," → Turned ts s x w (reopenedIn w m (classNumber Two)) m (reopenedOf m (nextOf (m .c)) loosest)
     turn-second e k =
         let q = popping h One deep e in
         let F = turned One (q .0) in
         let p = q .2 in
-        reopens F (withFirst Two F (p .tree)) (q .1) _ (nextOf (m .c)) (suc (0 + credits (q .1))) 17 (stacked-next (p .stacked) (sign-inside h _ k (lit< tt))) (p .firm)
+        reopens F (withFirst Two F (p .tree)) (q .1) _ (nextOf (m .c)) (suc (0 + credits (q .1))) loosest (stacked-next (p .stacked) (sign-inside h _ k (lit< tt))) (p .firm)
         ((p .rooted, tt), (λ z. omega arith, tt)) refl refl (omega arith) (lit< tt) (omega arith) (p .stacked .count) (omega arith) (lit< tt) (lit< tt)
         (p .same ∙ ap (plug (q .1)) (pick (next "," (drop (m .c .at) ts)) _ _ (next-number (h .stacked .ready) "," refl ∙ eq-eqb (kindAt w (m .c)) _ k) ∙ ap
         (λ vs. reads loosest vs >>= λ (y, us). resume (withFirst Two F (p .tree)) y us) (sym (drop-next (m .c .at) ts))))
 
-    pub turn-range : slotClass top ≡ 16 → kindAt w (m .c) ≡ fixed ".." → Turned ts s x w (reopenedIn w m 10) m (reopenedOf m (nextOf (m .c)) 17)
+    pub turn-range : slotClass top ≡ classNumber Two → kindAt w (m .c) ≡ fixed ".." → Turned ts s x w (reopenedIn w m (classNumber Last)) m (reopenedOf m (nextOf (m .c)) loosest)
     turn-range e k =
         let q = popping h Two deep e in
         let F = turned Two (q .0) in
         let p = q .2 in
-        reopens F (withSecond Last F (p .tree)) (q .1) _ (nextOf (m .c)) (suc (1 + credits (q .1))) 17 (stacked-next (p .stacked) (sign-inside h _ k (lit< tt))) (p .firm)
+        reopens F (withSecond Last F (p .tree)) (q .1) _ (nextOf (m .c)) (suc (1 + credits (q .1))) loosest (stacked-next (p .stacked) (sign-inside h _ k (lit< tt))) (p .firm)
         ((p .firm-top .0 .0, (p .rooted, tt)), (λ z. omega arith, tt)) refl refl (omega arith) (lit< tt) (omega arith) (p .stacked .count) (omega arith) (lit< tt) (lit< tt)
         (p .same ∙ ap (plug (q .1)) (pick (next ".." (drop (m .c .at) ts)) _ _ (next-number (h .stacked .ready) ".." refl ∙ eq-eqb (kindAt w (m .c)) _ k) ∙ ap
         (λ vs. reads loosest vs >>= λ (y, us). resume (withSecond Last F (p .tree)) y us) (sym (drop-next (m .c .at) ts))))
 
     -- neither bracket of the two
-    pub turn-unopened : 12 ≤ slotClass top → slotClass top < 15 → (slotClass top ≡ 13 → ⊥) → (kindAt w (m .c) ≡ fixed "]" → ⊥) → Turned ts s x w w m (Ended (refusedAt w (m .c)))
-    turn-unopened low high other f = go (eqb (slotClass top) 12) refl
+    pub turn-unopened : classNumber Count ≤ slotClass top → slotClass top < classNumber One → (slotClass top ≡ classNumber Low → ⊥) → (kindAt w (m .c) ≡ fixed "]" → ⊥) → Turned ts s x w w m (Ended (refusedAt w (m .c)))
+    turn-unopened low high other f = go (eqb (slotClass top) (classNumber Count)) refl
       where
-        go : (b : Bool) → eqb (slotClass top) 12 ≡ b → Turned ts s x w w m (Ended (refusedAt w (m .c)))
-        go true e = turn-uncounted (eqb-true (slotClass top) 12 e) f
-        go false e = turn-unhigh (let g = eqb-false (slotClass top) 12 e in omega arith) f
+        go : (b : Bool) → eqb (slotClass top) (classNumber Count) ≡ b → Turned ts s x w w m (Ended (refusedAt w (m .c)))
+        go true e = turn-uncounted (eqb-true (slotClass top) (classNumber Count) e) f
+        go false e = turn-unhigh (let g = eqb-false (slotClass top) (classNumber Count) e in omega arith) f

@@ -20,7 +20,8 @@ use Rattle.language.specs.Laws.Grammar.ExprReads.{prefix-none}
 use Rattle.operators.specs.Readers.{reads, climbs, prefixRow, levelAt, levelIn, roleAt, roleIn, soleOf, windowOf, bigOf, folds}
 use Rattle.expressions.specs.ReaderLaws.{rest-fits}
 use Rattle.expressions.specs.BinderLaws.{binders-fuel, afterBinder, folds-step}
-use Rattle.expressions.specs.Frames.{Sole, Count, Low, Bound, frame, resume}
+use Rattle.expressions.specs.Classes.{Sole, Count, Low, Bound, boundLevel}
+use Rattle.expressions.specs.Frames.{frame, resume}
 use Rattle.expressions.specs.StartLaws.{reads-role}
 
 -- does the operator take one operand and nothing else, where a `[` follows or not?
@@ -140,13 +141,13 @@ module _ (max : ℕ) (t : Token) (ts : Tokens) where
       ∙ bind-at (front ts, rest ts) _)
       ∙ bind-again (reads loosest (rest (rest ts))) _ _ ∙ bind-where (reads loosest (rest (rest ts))) _ _ (λ (s, vs) _. bind-at (record { name = front ts; range = s }, vs) _)
 
-  pub folds-bounds : isMember ≡ false → folds max t ts ≡ (reads 8 ts >>= λ (x, us). resume (frame Bound max t) x us)
+  pub folds-bounds : isMember ≡ false → folds max t ts ≡ (reads boundLevel ts >>= λ (x, us). resume (frame Bound max t) x us)
   folds-bounds h =
       folds-step max t ts
       ∙ ap (λ (r : Read Binder). r >>= λ (b, us). afterBinder max t b us) (leave isMember (membershipOf reads ts) (boundsOf reads ts) h)
-      ∙ bind-again (reads 8 ts) _ _
-      ∙ bind-where (reads 8 ts) _ _
+      ∙ bind-again (reads boundLevel ts) _ _
+      ∙ bind-where (reads boundLevel ts) _ _
       (λ (a, us) _. bind-again (signOf us) _ _ ∙ bind-where (signOf us) _ _
       (λ (low, vs) _. bind-again (expectOf Name vs) _ _ ∙ bind-where (expectOf Name vs) _ _
       (λ (i, ws) _. bind-again (signOf ws) _ _ ∙ bind-where (signOf ws) _ _
-      (λ (high, xs) _. bind-again (reads 8 xs) _ _ ∙ bind-where (reads 8 xs) _ _ (λ (b, ys) _. bind-at (record { name = i; range = Between (low .0) (low .1) (high .1) a b }, ys) _)))))
+      (λ (high, xs) _. bind-again (reads boundLevel xs) _ _ ∙ bind-where (reads boundLevel xs) _ _ (λ (b, ys) _. bind-at (record { name = i; range = Between (low .0) (low .1) (high .1) a b }, ys) _)))))

@@ -7,7 +7,7 @@ use mathlib.Core.Path.{_≡_, refl, sym, ap, _∙_, subst}
 use lib.Dec.{leb, lit<}
 use lib.ListN.{drop}
 use borrow.Author.Tests.{eq-eqb, ne-eqb, le-leb, lt-leb}
-use Rattle.language.specs.Operators.{FinallyIn, GloballyIn, Role, Plain, Counted, Windowed, Folding}
+use Rattle.language.specs.Operators.{FinallyIn, GloballyIn, Role, Plain, Counted, Windowed, Folding, loosest}
 use Rattle.language.specs.Tree.{Expr}
 use Rattle.language.specs.Grammar.{Tokens, Read, rest, next}
 use Rattle.lexer.specs.Numbers.{number, fixed}
@@ -18,9 +18,9 @@ use Rattle.entries.specs.CursorLaws.{ready-kind}
 use Rattle.expressions.specs.declared.stack.Machine.{Machine}
 use Rattle.expressions.specs.declared.stack.Turn.the-variants.{Next, Ended}
 use Rattle.operators.specs.Readers.{levelAt, roleAt, soleOf}
-use Rattle.expressions.specs.Frames.{Sole, Count, Low}
 use Rattle.operators.specs.Tables.{roleNumber, soleKind, windowKind, prefixAt}
 use Rattle.operators.specs.RowLaws.{PrefixFound, prefix-some}
+use Rattle.expressions.specs.Classes.{Sole, Count, Low, classNumber}
 use Rattle.expressions.specs.StartLaws.{reads-loose}
 use Rattle.expressions.specs.RoleLaws.{takesOne, starts-sole, starts-count, starts-window}
 use Rattle.expressions.specs.Stack.{putSlot}
@@ -80,19 +80,19 @@ module _ {ts : Tokens} {s : Cursor} {x : Read Expr} {w : List ℕ} {m : Machine}
     level-is : p % 32 ≡ levelAt (here h)
     level-is = found .level
 
-    turn-one : takesOne (roleAt (here h)) (next "[" (rest (drop (m .c .at) ts))) ≡ true → Turned ts s x w (putSlot w (m .depth) 2 (m .level) (m .c .at)) m (Next (pushedOf m (nextOf (m .c)) (p % 32)))
+    turn-one : takesOne (roleAt (here h)) (next "[" (rest (drop (m .c .at) ts))) ≡ true → Turned ts s x w (putSlot w (m .depth) (classNumber Sole) (m .level) (m .c .at)) m (Next (pushedOf m (nextOf (m .c)) (p % 32)))
     turn-one one =
         let f = found in
-        subst (λ l. Turned ts s x w (putSlot w (m .depth) 2 (m .level) (m .c .at)) m (Next (pushedOf m (nextOf (m .c)) l))) (sym level-is)
+        subst (λ l. Turned ts s x w (putSlot w (m .depth) (classNumber Sole) (m .level) (m .c .at)) m (Next (pushedOf m (nextOf (m .c)) l))) (sym level-is)
         (enter-next h Sole (levelAt (here h)) (record { slots = λ l t. refl; trees = λ l t. refl; credit = refl; class = lit< tt }) (marked, takes-suits (roleAt (here h)) _ one) not-end
         (f .level-some) (f .level-fits)
         (starts-sole (m .level) (drop (m .c .at) ts) (f .row) (f .here) tight one))
 
-    pub turn-plain : p / 32 % 8 ≡ 1 → Turned ts s x w (putSlot w (m .depth) 2 (m .level) (m .c .at)) m (Next (pushedOf m (nextOf (m .c)) (p % 32)))
+    pub turn-plain : p / 32 % 8 ≡ 1 → Turned ts s x w (putSlot w (m .depth) (classNumber Sole) (m .level) (m .c .at)) m (Next (pushedOf m (nextOf (m .c)) (p % 32)))
     turn-plain e = turn-one (takes-plain (roleAt (here h)) _ (sym (found .role) ∙ e))
 
     -- no bracket follows
-    pub turn-bare : (p / 32 % 8 ≡ 4 → ⊥) → (kindAt w (nextOf (m .c)) ≡ fixed "[" → ⊥) → Turned ts s x w (putSlot w (m .depth) 2 (m .level) (m .c .at)) m (Next (pushedOf m (nextOf (m .c)) (p % 32)))
+    pub turn-bare : (p / 32 % 8 ≡ 4 → ⊥) → (kindAt w (nextOf (m .c)) ≡ fixed "[" → ⊥) → Turned ts s x w (putSlot w (m .depth) (classNumber Sole) (m .level) (m .c .at)) m (Next (pushedOf m (nextOf (m .c)) (p % 32)))
     turn-bare f g =
         turn-one (ap (takesOne (roleAt (here h))) (next-sign h (inside h not-end) "[" refl ∙ ne-eqb (kindAt w (nextOf (m .c))) _ g) ∙ takes-bare (roleAt (here h)) (λ e. f (found .role ∙ e)))
 
@@ -101,10 +101,10 @@ module _ {ts : Tokens} {s : Cursor} {x : Read Expr} {w : List ℕ} {m : Machine}
       bracket-here : next "[" (rest (drop (m .c .at) ts)) ≡ true
       bracket-here = next-sign h (inside h not-end) "[" refl ∙ eq-eqb (kindAt w (nextOf (m .c))) _ bracket
 
-      pub turn-count : p / 32 % 8 ≡ 2 → Turned ts s x w (putSlot w (m .depth) 12 (m .level) (m .c .at)) m (Next (pushedOf m (nextOf (nextOf (m .c))) 17))
+      pub turn-count : p / 32 % 8 ≡ 2 → Turned ts s x w (putSlot w (m .depth) (classNumber Count) (m .level) (m .c .at)) m (Next (pushedOf m (nextOf (nextOf (m .c))) loosest))
       turn-count e =
           let f = found in
-          enter-second h Count 17 (record { slots = λ l t. refl; trees = λ l t. refl; credit = refl; class = lit< tt }) (marked, tt) not-end (omega arith) (lit< tt) (lit< tt)
+          enter-second h Count loosest (record { slots = λ l t. refl; trees = λ l t. refl; credit = refl; class = lit< tt }) (marked, tt) not-end (omega arith) (lit< tt) (lit< tt)
           (starts-count (m .level) (drop (m .c .at) ts) (f .row) (f .here) tight (counted (roleAt (here h)) (sym (f .role) ∙ e)) bracket-here)
         where
           counted : (o : Role) → roleNumber o ≡ 2 → o ≡ Counted
@@ -114,15 +114,15 @@ module _ {ts : Tokens} {s : Cursor} {x : Read Expr} {w : List ℕ} {m : Machine}
           counted (Folding q) z = absurd (omega arith)
 
       pub turn-low : (p / 32 % 8 ≡ 4 → ⊥) → (p / 32 % 8 ≡ 1 → ⊥) → (p / 32 % 8 ≡ 2 → ⊥)
-          → Turned ts s x w (putSlot w (m .depth) 13 (m .level) (m .c .at)) m (Next (pushedOf m (nextOf (nextOf (m .c))) 17))
+          → Turned ts s x w (putSlot w (m .depth) (classNumber Low) (m .level) (m .c .at)) m (Next (pushedOf m (nextOf (nextOf (m .c))) loosest))
       turn-low a b d = go (roleAt (here h)) refl
         where
-          go : (o : Role) → roleAt (here h) ≡ o → Turned ts s x w (putSlot w (m .depth) 13 (m .level) (m .c .at)) m (Next (pushedOf m (nextOf (nextOf (m .c))) 17))
+          go : (o : Role) → roleAt (here h) ≡ o → Turned ts s x w (putSlot w (m .depth) (classNumber Low) (m .level) (m .c .at)) m (Next (pushedOf m (nextOf (nextOf (m .c))) loosest))
           go (Plain q) e = absurd (b (found .role ∙ ap roleNumber e))
           go Counted e = absurd (d (found .role ∙ ap roleNumber e))
           go (Folding q) e = absurd (a (found .role ∙ ap roleNumber e))
           go (Windowed q) e =
               let f = found in
-              enter-second h Low 17 (record { slots = λ l t. refl; trees = λ l t. refl; credit = refl; class = lit< tt }) (marked, ap windowKind e)
+              enter-second h Low loosest (record { slots = λ l t. refl; trees = λ l t. refl; credit = refl; class = lit< tt }) (marked, ap windowKind e)
               not-end (omega arith) (lit< tt) (lit< tt)
               (starts-window (m .level) (drop (m .c .at) ts) (f .row) (f .here) tight q e bracket-here)

@@ -4,6 +4,7 @@ use native.Mathlib.Omega.{arith}
 use mathlib.Core.List.{List}
 use mathlib.Core.Bool.{false}
 use lib.ListN.{drop}
+use Rattle.language.specs.Operators.{loosest}
 use Rattle.language.specs.Grammar.{Tokens}
 use Rattle.language.specs.Sections.{expression}
 use Rattle.entries.specs.Flat.{flat}
@@ -26,7 +27,7 @@ pub record Runs (ts : Tokens) (u : List ℕ) (s : Cursor) (w : List ℕ) (m : Ma
 abbrev pub Running : List ℕ → Cursor → List ℕ → Machine → Type 0
 Running u s w m = (ts : Tokens) → Ready ts u s → Runs ts u s w m
 
-pub runs-start : (w : List ℕ) (c : Cursor) → Running w c w (record { c = c; depth = 0; level = 17; complete = false })
+pub runs-start : (w : List ℕ) (c : Cursor) → Running w c w (record { c = c; depth = 0; level = loosest; complete = false })
 runs-start w c ts r = record { state = begins r; kept = kept-same w (c .out) }
 
 pub runs-stands : {u w : List ℕ} {s : Cursor} {m : Machine} → Readied u s → Running u s w m → Standing (m .complete) w m

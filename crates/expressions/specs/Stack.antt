@@ -1,6 +1,6 @@
 -- The stack in the work buffer: slots from its last word downwards, while entries grow upwards from below. A slot has the class of a frame, the level at which
 -- the expression around it reads on, and the index of a token.
-use Prim.Native.Nat.{ℕ, zero, suc, _+_, _-_, _≤_, _<_}
+use Prim.Native.Nat.{ℕ, zero, suc, _+_, _-_, _≤_, _<_, _^_}
 use mathlib.Core.List.{List, [], _∷_}
 use mathlib.Core.Option.{Option, some}
 use mathlib.Core.Path.{_≡_}
@@ -10,17 +10,30 @@ use Rattle.words.specs.Words.{wordAt, putWord}
 use Rattle.language.specs.Tokens.{Token}
 use Rattle.language.specs.Grammar.{Tokens}
 use Rattle.language.specs.Limits.{maxTokens}
+use Rattle.language.specs.Operators.{loosest}
 use Rattle.entries.specs.Flat.{Entry, under}
 use Rattle.entries.specs.Stored.{firstEntry, fieldBits, sizeOf, Keeps, EntriesFrom}
 use Rattle.entries.specs.Cursors.{Ready}
 use Rattle.entries.specs.declared.Cursor.{Cursor}
+use Rattle.expressions.specs.Classes.{boundLevel}
 
--- behind the last word
+-- the last word of the work buffer, and the end behind it
+abbrev pub lastWord : ℕ
+lastWord = 16_383
+
 abbrev pub stackTop : ℕ
-stackTop = 16_384
+stackTop = lastWord + 1
+
+-- the bits of a class and of a level; a token's index has as many as in an entry
+abbrev pub classBits : ℕ
+classBits = 5
 
 abbrev pub levelBits : ℕ
 levelBits = 5
+
+-- what the code's constants stand for
+abbrev pub constants : List ℕ
+constants = 2 ^ levelBits ∷ lastWord ∷ stackTop ∷ loosest ∷ boundLevel ∷ []
 
 abbrev pub slotWord : ℕ → ℕ → ℕ → ℕ
 slotWord class level index = join fieldBits (join levelBits class level) index
@@ -37,7 +50,7 @@ slotIndex x = below fieldBits x
 
 -- the buffer with one more slot, after `depth` of them; the last slot
 abbrev pub putSlot : List ℕ → ℕ → ℕ → ℕ → ℕ → List ℕ
-putSlot w depth class level index = putWord w (16_383 - depth) (slotWord class level index)
+putSlot w depth class level index = putWord w (lastWord - depth) (slotWord class level index)
 
 abbrev pub topSlot : List ℕ → ℕ → ℕ
 topSlot w depth = wordAt w (stackTop - depth)
@@ -60,8 +73,8 @@ pub record SlotAt (w : List ℕ) (ts : Tokens) (depth : ℕ) (slot : Slot) : Typ
   pub word : topSlot w depth ≡ slotWord (slot .class) (slot .level) index
   pub tokens : Follow ts index (slot .token ∷ slot .next)
   pub index-fits : index < maxTokens
-  pub class-fits : slot .class < 32
-  pub level-fits : slot .level < 32
+  pub class-fits : slot .class < 2 ^ classBits
+  pub level-fits : slot .level < 2 ^ levelBits
 
 -- the slots, the last pushed first
 abbrev pub SlotsAt : List ℕ → Tokens → ℕ → List Slot → Type 0

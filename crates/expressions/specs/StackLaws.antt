@@ -1,5 +1,5 @@
 -- One step of the stack each: past a token, a slot pushed, a slot popped, an entry written. No grammar shows.
-use Prim.Native.Nat.{ℕ, zero, suc, _+_, _-_, _≤_, _<_}
+use Prim.Native.Nat.{ℕ, zero, suc, _+_, _-_, _≤_, _<_, _^_}
 use native.Mathlib.Omega.{arith}
 use mathlib.Core.List.{List, [], _∷_, _++_}
 use mathlib.Core.Option.{Option, some}
@@ -20,7 +20,7 @@ use Rattle.entries.specs.CursorLaws.{ready-next}
 use Rattle.entries.specs.Reads.{Kept}
 use Rattle.entries.specs.ReadsLaws.{kept-put, ready-kept, ready-emitted}
 use Rattle.entries.specs.declared.Cursor.{Cursor}
-use Rattle.expressions.specs.Stack.{levelBits, slotWord, slotClass, slotLevel, slotIndex, putSlot, topSlot, Slot, Follow, SlotAt, SlotsAt, Stacked, Rooted, sizeAt, startOf, Trees}
+use Rattle.expressions.specs.Stack.{levelBits, slotWord, slotClass, slotLevel, slotIndex, putSlot, topSlot, Slot, Follow, SlotAt, SlotsAt, Stacked, Rooted, sizeAt, startOf, Trees, lastWord, stackTop, classBits}
 
 -- what a slot's word holds
 module _ {w : List ℕ} {ts : Tokens} {depth : ℕ} {slot : Slot} (h : SlotAt w ts depth slot) where
@@ -87,15 +87,15 @@ module _ {ts : Tokens} {s : Cursor} {w : List ℕ} {c : Cursor} {depth : ℕ} {s
 
 module _ {ts : Tokens} {s : Cursor} {w : List ℕ} {c : Cursor} {depth : ℕ} {slots : List Slot} {es : List Entry} {n : ℕ} (h : Stacked ts s w c depth slots es (suc n)) where
   -- one slot more
-  pub stacked-push : (slot : Slot) (j : ℕ) → Follow ts j (slot .token ∷ slot .next) → j < maxTokens → slot .class < 32 → slot .level < 32
+  pub stacked-push : (slot : Slot) (j : ℕ) → Follow ts j (slot .token ∷ slot .next) → j < maxTokens → slot .class < 2 ^ classBits → slot .level < 2 ^ levelBits
       → Stacked ts s (putSlot w depth (slot .class) (slot .level) j) c (depth + 1) (slot ∷ slots) es n
   stacked-push slot j follow small hk hl =
       let apart = stacked-apart h in
       let few = stacked-few h in
       let x = slotWord (slot .class) (slot .level) j in
-      let v = putWord w (16_383 - depth) x in
+      let v = putWord w (lastWord - depth) x in
       let room = h .ready .fits .room in
-      let kept : Kept w v (c .out) = kept-put w (c .out) (16_383 - depth) x (omega arith) (omega arith) in
+      let kept : Kept w v (c .out) = kept-put w (c .out) (lastWord - depth) x (omega arith) (omega arith) in
       record {
         ready = ready-kept kept (h .ready);
         begun = h .begun;
@@ -107,14 +107,14 @@ module _ {ts : Tokens} {s : Cursor} {w : List ℕ} {c : Cursor} {depth : ℕ} {s
           record {
             index = j;
             deep = omega arith;
-            word = ap (wordAt v) (omega arith) ∙ word-same w (16_383 - depth) x (omega arith) (omega arith);
+            word = ap (wordAt v) (omega arith) ∙ word-same w (lastWord - depth) x (omega arith) (omega arith);
             tokens = follow;
             index-fits = small;
             class-fits =
                 hk;
             level-fits = hl;
           },
-          subst (λ d. SlotsAt v ts d slots) (omega arith) (slots-kept w v ts depth slots (λ d l r. word-other w (16_383 - depth) x (16_384 - d) (omega arith)) (h .slots-at)),
+          subst (λ d. SlotsAt v ts d slots) (omega arith) (slots-kept w v ts depth slots (λ d l r. word-other w (lastWord - depth) x (stackTop - d) (omega arith)) (h .slots-at)),
         );
         entries = entries-kept w v ts (s .out) es (λ i l r. kept .words (firstEntry + i) (omega (arith, h .out))) (h .entries);
         out = h .out;
@@ -137,7 +137,7 @@ module _ {ts : Tokens} {s : Cursor} {w : List ℕ} {c : Cursor} {depth : ℕ} {s
         end = h .end;
         further = h .further;
         room = omega (arith, h .room);
-        slots-at = slots-kept w v ts depth slots (λ d l r. word-other w (firstEntry + c .out) (entryWord k j m) (16_384 - d) (omega arith)) (h .slots-at);
+        slots-at = slots-kept w v ts depth slots (λ d l r. word-other w (firstEntry + c .out) (entryWord k j m) (stackTop - d) (omega arith)) (h .slots-at);
         entries =
             entries-append v ts (s .out) es (e ∷ []) (entries-kept w v ts (s .out) es (λ i l r. kept .words (firstEntry + i) (omega (arith, h .out))) (h .entries))
             (subst (λ i. EntryAt v ts i e) (h .out) (entry-put w ts (c .out) k j m t room (omega arith) hk hj hm keeps), tt);

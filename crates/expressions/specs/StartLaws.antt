@@ -15,12 +15,13 @@ use Rattle.language.specs.Operators.{Size, Measures, PrefixRow, loosest}
 use Rattle.language.specs.Tree.{Expr, Named, Numeral, Truth, Index, Paren, Prefixed, Listed, Empty, Element, Range}
 use Rattle.language.specs.Grammar.{Tokens, Read, front, rest, stop, next, expect, closedBy, elements, setOf, afterOne, afterTwo, roleOf, nameOf, atomOf, operandBy}
 use Rattle.language.specs.Laws.Basics.Tests.{pick, leave}
-use Rattle.lexer.specs.Numbers.{number, fixed, classNumber}
+use Rattle.lexer.specs.Numbers.{number, fixed, classNumber as tokenNumber}
 use Rattle.lexer.specs.NumberLaws.{is-number, class-number}
 use Rattle.operators.specs.Readers.{reads, climbs, prefixRow, listed}
 use Rattle.expressions.specs.ReaderLaws.{reads-step, reads-takes, rest-fits}
 use Rattle.expressions.specs.ListLaws.{elements-listed}
-use Rattle.expressions.specs.Frames.{Round, Bars, Square, One, Two, frame, withFirst, resume, one, two}
+use Rattle.expressions.specs.Classes.{Round, Bars, Square, One, Two}
+use Rattle.expressions.specs.Frames.{frame, withFirst, resume, one, two}
 
 -- an expression by what Table 1 says of its first token
 module _ (max : ℕ) (ts : Tokens) where
@@ -67,7 +68,7 @@ atomBy f t ts name digits truth falsehood round bars brace =
 
 -- and by its number
 abbrev atomAt : ℕ → ℕ → Token → Tokens → Read Expr
-atomAt f n t ts = atomBy f t ts (eqb n (classNumber Name)) (eqb n (classNumber Digits)) (eqb n (fixed "true")) (eqb n (fixed "false")) (eqb n (fixed "(")) (eqb n (fixed "|")) (eqb n (fixed "{"))
+atomAt f n t ts = atomBy f t ts (eqb n (tokenNumber Name)) (eqb n (tokenNumber Digits)) (eqb n (fixed "true")) (eqb n (fixed "false")) (eqb n (fixed "(")) (eqb n (fixed "|")) (eqb n (fixed "{"))
 
 same-tests : {A : Type 0} (g : Bool → Bool → Bool → Bool → Bool → Bool → Bool → A) {a b c d e p q a′ b′ c′ d′ e′ p′ q′ : Bool} → a ≡ a′ → b ≡ b′ → c ≡ c′ → d ≡ d′ → e ≡ e′ → p ≡ p′ → q ≡ q′
     → g a b c d e p q ≡ g a′ b′ c′ d′ e′ p′ q′
@@ -80,7 +81,7 @@ atom-number f t ts =
 
 -- the numbers of the tokens that begin an operand and are no operators
 abbrev pub starter : ℕ → Bool
-starter n = eqb n 1 || (eqb n 2 || (eqb n (fixed "true") || (eqb n (fixed "false") || (eqb n (fixed "(") || (eqb n (fixed "|") || eqb n (fixed "{"))))))
+starter n = eqb n (tokenNumber Name) || (eqb n (tokenNumber Digits) || (eqb n (fixed "true") || (eqb n (fixed "false") || (eqb n (fixed "(") || (eqb n (fixed "|") || eqb n (fixed "{"))))))
 
 -- brackets around an expression
 closed-start : (max : ℕ) (s : String) (w : Expr → Expr) (ts : Tokens)
@@ -129,8 +130,8 @@ module _ (max : ℕ) (ts : Tokens) (none-here : prefixRow (front ts) ≡ none) w
       reads-atom max ts none-here
       ∙ ap (λ (r : Read Expr). r >>= λ (e, us). climbs max e us) (atom-number (length ts) (front ts) (rest ts) ∙ ap (λ k. atomAt (length ts) k (front ts) (rest ts)) h)
 
-  pub starts-numeral : number (front ts) ≡ 2 → reads max ts ≡ climbs max (Numeral (front ts)) (rest ts)
-  starts-numeral h = at-number 2 h ∙ bind-at (Numeral (front ts), rest ts) _
+  pub starts-numeral : number (front ts) ≡ tokenNumber Digits → reads max ts ≡ climbs max (Numeral (front ts)) (rest ts)
+  starts-numeral h = at-number (tokenNumber Digits) h ∙ bind-at (Numeral (front ts), rest ts) _
 
   pub starts-true : number (front ts) ≡ fixed "true" → reads max ts ≡ climbs max (Truth (front ts) true) (rest ts)
   starts-true h = at-number (fixed "true") h ∙ bind-at (Truth (front ts) true, rest ts) _
@@ -145,12 +146,12 @@ module _ (max : ℕ) (ts : Tokens) (none-here : prefixRow (front ts) ≡ none) w
   starts-bars h = at-number (fixed "|") h ∙ closed-start max "|" (λ e. Prefixed (front ts) (Measures Size) e) (rest ts)
 
   -- a name, alone or with an index
-  pub starts-name : number (front ts) ≡ 1 → next "[" (rest ts) ≡ false → reads max ts ≡ climbs max (Named (front ts)) (rest ts)
-  starts-name h b = at-number 1 h ∙ ap (λ (r : Read Expr). r >>= λ (e, us). climbs max e us) (leave (next "[" (rest ts)) _ _ b) ∙ bind-at (Named (front ts), rest ts) _
+  pub starts-name : number (front ts) ≡ tokenNumber Name → next "[" (rest ts) ≡ false → reads max ts ≡ climbs max (Named (front ts)) (rest ts)
+  starts-name h b = at-number (tokenNumber Name) h ∙ ap (λ (r : Read Expr). r >>= λ (e, us). climbs max e us) (leave (next "[" (rest ts)) _ _ b) ∙ bind-at (Named (front ts), rest ts) _
 
-  pub starts-index : number (front ts) ≡ 1 → next "[" (rest ts) ≡ true → reads max ts ≡ (reads loosest (rest (rest ts)) >>= λ (x, us). resume (frame Square max (front ts)) x us)
+  pub starts-index : number (front ts) ≡ tokenNumber Name → next "[" (rest ts) ≡ true → reads max ts ≡ (reads loosest (rest (rest ts)) >>= λ (x, us). resume (frame Square max (front ts)) x us)
   starts-index h b =
-      at-number 1 h ∙ ap (λ (r : Read Expr). r >>= λ (e, us). climbs max e us) (pick (next "[" (rest ts)) _ _ b)
+      at-number (tokenNumber Name) h ∙ ap (λ (r : Read Expr). r >>= λ (e, us). climbs max e us) (pick (next "[" (rest ts)) _ _ b)
       ∙ closed-start max "]" (λ e. Index (front ts) e) (rest (rest ts))
 
   -- a set without elements, or with some
@@ -172,5 +173,5 @@ module _ (max : ℕ) (ts : Tokens) (none-here : prefixRow (front ts) ≡ none) w
       let no : (k : ℕ) → starter k ≡ true → eqb n k ≡ false = λ k s. ne-eqb n k (h k s) in
       at-number n refl
       ∙ ap (λ (r : Read Expr). r >>= λ (e, us). climbs max e us)
-      (same-tests (atomBy (length ts) (front ts) (rest ts)) (no 1 refl) (no 2 refl) (no (fixed "true") refl) (no (fixed "false") refl) (no (fixed "(") refl) (no (fixed "|") refl)
+      (same-tests (atomBy (length ts) (front ts) (rest ts)) (no (tokenNumber Name) refl) (no (tokenNumber Digits) refl) (no (fixed "true") refl) (no (fixed "false") refl) (no (fixed "(") refl) (no (fixed "|") refl)
       (no (fixed "{") refl))

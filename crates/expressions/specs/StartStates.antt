@@ -1,5 +1,5 @@
 -- The states after an operand has begun with no operator, one law for each way; what the code tests is a token's number.
-use Prim.Native.Nat.{ℕ, suc, _+_, _<_}
+use Prim.Native.Nat.{ℕ, suc, _+_, _<_, _^_}
 use Prim.Native.String.{String}
 use native.Mathlib.Omega.{arith}
 use mathlib.Core.List.{List}
@@ -10,11 +10,14 @@ use lib.Dec.{eqb, lit<}
 use lib.ListN.{drop}
 use borrow.Author.Tests.{eq-eqb, ne-eqb, eqb-true}
 use Rattle.node.specs.Result.{_>>=_}
+use Rattle.language.specs.Operators.{loosest}
 use Rattle.language.specs.Tree.{Expr, Named, Numeral, Truth, Listed, Empty}
 use Rattle.language.specs.Grammar.{Tokens, Read, rest, next}
 use Rattle.language.specs.Laws.Basics.Tests.{or-cases}
 use Rattle.language.specs.Bytes.{ascii, isOneOf}
-use Rattle.lexer.specs.Numbers.{spellings, number, fixed}
+use Rattle.lexer.specs.Numbers.{spellings, number, fixed, classNumber as tokenNumber}
+use Rattle.language.specs.Tokens.{Name, Numeral as Digits}
+use Rattle.entries.specs.Kinds as Kind
 use Rattle.entries.specs.Flat.{leaf, flat}
 use Rattle.entries.specs.Stored.{putEntry}
 use Rattle.entries.specs.declared.Cursor.{Cursor}
@@ -24,14 +27,15 @@ use Rattle.entries.specs.TokenReads.{next-number}
 use Rattle.expressions.specs.declared.stack.Machine.{Machine}
 use Rattle.expressions.specs.declared.stack.Turn.the-variants.{Next, Ended}
 use Rattle.operators.specs.Readers.{reads, climbs, prefixRow}
-use Rattle.expressions.specs.Frames.{Class, Round, Bars, Square, One, frame, resume}
+use Rattle.expressions.specs.Classes.{Class, Round, Bars, Square, One, classNumber}
+use Rattle.expressions.specs.Frames.{frame, resume}
 use Rattle.operators.specs.Tables.{prefixAt}
 use Rattle.operators.specs.RowLaws.{prefix-none}
 use Rattle.expressions.specs.StartLaws.{starter, starts-numeral, starts-true, starts-false, starts-round, starts-bars, starts-name, starts-index, starts-empty, starts-set, starts-not}
-use Rattle.expressions.specs.Stack.{putSlot}
+use Rattle.expressions.specs.Stack.{putSlot, levelBits}
 use Rattle.expressions.specs.StackLaws.{stacked-less, stacked-next}
 use Rattle.expressions.specs.Machines.{pushedOf, climbingOf}
-use Rattle.expressions.specs.States.{classNumber, credits, Simple, Marked, State, Turned}
+use Rattle.expressions.specs.States.{credits, Simple, Marked, State, Turned}
 use Rattle.expressions.specs.StateLaws.{here, refuses, enters, completes-at}
 use Rattle.expressions.specs.Starts.{leafOf, leafWritten}
 
@@ -40,11 +44,11 @@ pub drop-two : (n : ℕ) (ts : Tokens) → drop (n + 1 + 1) ts ≡ rest (rest (d
 drop-two n ts = drop-next (n + 1) ts ∙ ap rest (drop-next n ts)
 
 -- a number that is none of those that begin an operand
-pub starters : (k : ℕ) → (k ≡ 1 → ⊥) → (k ≡ 2 → ⊥) → (k ≡ fixed "true" → ⊥) → (k ≡ fixed "false" → ⊥) → (k ≡ fixed "(" → ⊥) → (k ≡ fixed "|" → ⊥) → (k ≡ fixed "{" → ⊥) → starter k ≡ true → ⊥
+pub starters : (k : ℕ) → (k ≡ tokenNumber Name → ⊥) → (k ≡ tokenNumber Digits → ⊥) → (k ≡ fixed "true" → ⊥) → (k ≡ fixed "false" → ⊥) → (k ≡ fixed "(" → ⊥) → (k ≡ fixed "|" → ⊥) → (k ≡ fixed "{" → ⊥) → starter k ≡ true → ⊥
 starters k a b c d e f g z =
     let no : (n : ℕ) → (k ≡ n → ⊥) → eqb k n ≡ true → ⊥ = λ n h t. h (eqb-true k n t) in
-    or-cases (eqb k 1) _ (no 1 a)
-    (or-cases (eqb k 2) _ (no 2 b) (or-cases (eqb k (fixed "true")) _ (no (fixed "true") c) (or-cases (eqb k (fixed "false")) _ (no (fixed "false") d)
+    or-cases (eqb k (tokenNumber Name)) _ (no (tokenNumber Name) a)
+    (or-cases (eqb k (tokenNumber Digits)) _ (no (tokenNumber Digits) b) (or-cases (eqb k (fixed "true")) _ (no (fixed "true") c) (or-cases (eqb k (fixed "false")) _ (no (fixed "false") d)
     (or-cases (eqb k (fixed "(")) _ (no (fixed "(") e) (or-cases (eqb k (fixed "|")) _ (no (fixed "|") f) (no (fixed "{") g)))))) z
 
 module _ {ts : Tokens} {s : Cursor} {x : Read Expr} {w : List ℕ} {m : Machine} (h : State false ts s x w m) where
@@ -77,14 +81,14 @@ module _ {ts : Tokens} {s : Cursor} {x : Read Expr} {w : List ℕ} {m : Machine}
       (step ∙ ap (climbs (m .level) e) (sym (drop-next (m .c .at) ts)))
 
   -- a frame for the next token, past it or past two
-  pub enter-next : (K : Class) (l : ℕ) → Simple K → Marked K (here h) → 0 < kindAt w (m .c) → 0 < l → l < 32
+  pub enter-next : (K : Class) (l : ℕ) → Simple K → Marked K (here h) → 0 < kindAt w (m .c) → 0 < l → l < 2 ^ levelBits
       → reads (m .level) us ≡ (reads l (rest us) >>= λ (y, vs). resume (frame K (m .level) (here h)) y vs)
       → Turned ts s x w (putSlot w (m .depth) (classNumber K) (m .level) (m .c .at)) m (Next (pushedOf m (nextOf (m .c)) l))
   enter-next K l simple marked i p q step =
       enters h K (nextOf (m .c)) l simple marked (inside i) (omega arith) (stacked-next (h .stacked) (inside i)) p q
       (step ∙ ap (λ vs. reads l vs >>= λ (y, ws). resume (frame K (m .level) (here h)) y ws) (sym (drop-next (m .c .at) ts)))
 
-  pub enter-second : (K : Class) (l : ℕ) → Simple K → Marked K (here h) → 0 < kindAt w (m .c) → 0 < kindAt w (nextOf (m .c)) → 0 < l → l < 32
+  pub enter-second : (K : Class) (l : ℕ) → Simple K → Marked K (here h) → 0 < kindAt w (m .c) → 0 < kindAt w (nextOf (m .c)) → 0 < l → l < 2 ^ levelBits
       → reads (m .level) us ≡ (reads l (rest (rest us)) >>= λ (y, vs). resume (frame K (m .level) (here h)) y vs)
       → Turned ts s x w (putSlot w (m .depth) (classNumber K) (m .level) (m .c .at)) m (Next (pushedOf m (nextOf (nextOf (m .c))) l))
   enter-second K l simple marked i j p q step =
@@ -94,21 +98,21 @@ module _ {ts : Tokens} {s : Cursor} {x : Read Expr} {w : List ℕ} {m : Machine}
       (step ∙ ap (λ vs. reads l vs >>= λ (y, ws). resume (frame K (m .level) (here h)) y ws) (sym (drop-two (m .c .at) ts)))
 
   module _ (none-here : prefixAt (kindAt w (m .c)) ≡ 0) where
-    pub turn-numeral : kindAt w (m .c) ≡ 2 → Turned ts s x w (leafWritten w m 1) m (leafOf m)
-    turn-numeral e = leaf-turn (Numeral (here h)) 1 refl (lit< tt) (omega arith) (starts-numeral (m .level) us (no-row none-here) (number-here 2 e))
+    pub turn-numeral : kindAt w (m .c) ≡ tokenNumber Digits → Turned ts s x w (leafWritten w m Kind.numeral) m (leafOf m)
+    turn-numeral e = leaf-turn (Numeral (here h)) Kind.numeral refl (lit< tt) (omega arith) (starts-numeral (m .level) us (no-row none-here) (number-here (tokenNumber Digits) e))
 
-    pub turn-true : kindAt w (m .c) ≡ fixed "true" → Turned ts s x w (leafWritten w m 2) m (leafOf m)
-    turn-true e = leaf-turn (Truth (here h) true) 2 refl (lit< tt) (omega arith) (starts-true (m .level) us (no-row none-here) (number-here _ e))
+    pub turn-true : kindAt w (m .c) ≡ fixed "true" → Turned ts s x w (leafWritten w m Kind.truth) m (leafOf m)
+    turn-true e = leaf-turn (Truth (here h) true) Kind.truth refl (lit< tt) (omega arith) (starts-true (m .level) us (no-row none-here) (number-here _ e))
 
-    pub turn-false : kindAt w (m .c) ≡ fixed "false" → Turned ts s x w (leafWritten w m 2) m (leafOf m)
-    turn-false e = leaf-turn (Truth (here h) false) 2 refl (lit< tt) (omega arith) (starts-false (m .level) us (no-row none-here) (number-here _ e))
+    pub turn-false : kindAt w (m .c) ≡ fixed "false" → Turned ts s x w (leafWritten w m Kind.truth) m (leafOf m)
+    turn-false e = leaf-turn (Truth (here h) false) Kind.truth refl (lit< tt) (omega arith) (starts-false (m .level) us (no-row none-here) (number-here _ e))
 
-    pub turn-round : kindAt w (m .c) ≡ fixed "(" → Turned ts s x w (putSlot w (m .depth) 7 (m .level) (m .c .at)) m (Next (pushedOf m (nextOf (m .c)) 17))
-    turn-round e = enter-next Round 17 (record { slots = λ l t. refl; trees = λ l t. refl; credit = refl; class = lit< tt }) (λ e. omega arith, tt) (omega arith) (lit< tt) (lit< tt)
+    pub turn-round : kindAt w (m .c) ≡ fixed "(" → Turned ts s x w (putSlot w (m .depth) (classNumber Round) (m .level) (m .c .at)) m (Next (pushedOf m (nextOf (m .c)) loosest))
+    turn-round e = enter-next Round loosest (record { slots = λ l t. refl; trees = λ l t. refl; credit = refl; class = lit< tt }) (λ e. omega arith, tt) (omega arith) (lit< tt) (lit< tt)
         (starts-round (m .level) us (no-row none-here) (number-here _ e))
 
-    pub turn-bars : kindAt w (m .c) ≡ fixed "|" → Turned ts s x w (putSlot w (m .depth) 8 (m .level) (m .c .at)) m (Next (pushedOf m (nextOf (m .c)) 17))
-    turn-bars e = enter-next Bars 17 (record { slots = λ l t. refl; trees = λ l t. refl; credit = refl; class = lit< tt }) (λ e. omega arith, tt) (omega arith) (lit< tt) (lit< tt)
+    pub turn-bars : kindAt w (m .c) ≡ fixed "|" → Turned ts s x w (putSlot w (m .depth) (classNumber Bars) (m .level) (m .c .at)) m (Next (pushedOf m (nextOf (m .c)) loosest))
+    turn-bars e = enter-next Bars loosest (record { slots = λ l t. refl; trees = λ l t. refl; credit = refl; class = lit< tt }) (λ e. omega arith, tt) (omega arith) (lit< tt) (lit< tt)
         (starts-bars (m .level) us (no-row none-here) (number-here _ e))
 
     -- no operand begins here
@@ -116,20 +120,20 @@ module _ {ts : Tokens} {s : Cursor} {x : Read Expr} {w : List ℕ} {m : Machine}
     turn-not f = refuses h (starts-not (m .level) us (no-row none-here) (λ k z e. f k z (ready-kind ready ∙ e)))
 
   -- a name
-  module _ (named : kindAt w (m .c) ≡ 1) where
+  module _ (named : kindAt w (m .c) ≡ tokenNumber Name) where
     name-row : prefixRow (here h) ≡ none
     unfolding prefixAt
     name-row = no-row (ap prefixAt named)
 
-    pub turn-name : (kindAt w (nextOf (m .c)) ≡ fixed "[" → ⊥) → Turned ts s x w (leafWritten w m 0) m (leafOf m)
+    pub turn-name : (kindAt w (nextOf (m .c)) ≡ fixed "[" → ⊥) → Turned ts s x w (leafWritten w m Kind.named) m (leafOf m)
     turn-name f =
-        leaf-turn (Named (here h)) 0 refl (lit< tt) (omega arith)
-        (starts-name (m .level) us name-row (number-here 1 named) (next-sign (inside (omega arith)) "[" refl ∙ ne-eqb (kindAt w (nextOf (m .c))) _ f))
+        leaf-turn (Named (here h)) Kind.named refl (lit< tt) (omega arith)
+        (starts-name (m .level) us name-row (number-here (tokenNumber Name) named) (next-sign (inside (omega arith)) "[" refl ∙ ne-eqb (kindAt w (nextOf (m .c))) _ f))
 
-    pub turn-index : kindAt w (nextOf (m .c)) ≡ fixed "[" → Turned ts s x w (putSlot w (m .depth) 9 (m .level) (m .c .at)) m (Next (pushedOf m (nextOf (nextOf (m .c))) 17))
+    pub turn-index : kindAt w (nextOf (m .c)) ≡ fixed "[" → Turned ts s x w (putSlot w (m .depth) (classNumber Square) (m .level) (m .c .at)) m (Next (pushedOf m (nextOf (nextOf (m .c))) loosest))
     turn-index e =
-        enter-second Square 17 (record { slots = λ l t. refl; trees = λ l t. refl; credit = refl; class = lit< tt }) (λ e. omega arith, tt) (omega arith) (omega arith) (lit< tt) (lit< tt)
-        (starts-index (m .level) us name-row (number-here 1 named) (next-sign (inside (omega arith)) "[" refl ∙ eq-eqb (kindAt w (nextOf (m .c))) _ e))
+        enter-second Square loosest (record { slots = λ l t. refl; trees = λ l t. refl; credit = refl; class = lit< tt }) (λ e. omega arith, tt) (omega arith) (omega arith) (lit< tt) (lit< tt)
+        (starts-index (m .level) us name-row (number-here (tokenNumber Name) named) (next-sign (inside (omega arith)) "[" refl ∙ eq-eqb (kindAt w (nextOf (m .c))) _ e))
 
   -- a set
   module _ (brace : kindAt w (m .c) ≡ fixed "{") where
@@ -137,16 +141,16 @@ module _ {ts : Tokens} {s : Cursor} {x : Read Expr} {w : List ℕ} {m : Machine}
     unfolding prefixAt
     brace-row = no-row (ap prefixAt brace)
 
-    pub turn-empty : kindAt w (nextOf (m .c)) ≡ fixed "}" → Turned ts s x w (putEntry w (m .c .out) 51 (m .c .at) 1) m (Next (climbingOf m (emittedOf (nextOf (nextOf (m .c))))))
+    pub turn-empty : kindAt w (nextOf (m .c)) ≡ fixed "}" → Turned ts s x w (putEntry w (m .c .out) Kind.listed (m .c .at) 1) m (Next (climbingOf m (emittedOf (nextOf (nextOf (m .c))))))
     turn-empty e =
         let i = inside (omega arith) in
         let n = next-inside i (omega arith) in
-        completes-at h (Listed (here h) Empty) 51 refl (lit< tt) i (nextOf (nextOf (m .c))) (omega arith) refl
+        completes-at h (Listed (here h) Empty) Kind.listed refl (lit< tt) i (nextOf (nextOf (m .c))) (omega arith) refl
         (stacked-less (stacked-next (stacked-next (h .stacked) i) n) (suc (credits (h .frames))) (omega arith))
         (starts-empty (m .level) us brace-row (number-here _ brace) (next-sign i "}" refl ∙ eq-eqb (kindAt w (nextOf (m .c))) _ e) ∙ ap (climbs (m .level) (Listed (here h) Empty))
         (sym (drop-two (m .c .at) ts)))
 
-    pub turn-set : (kindAt w (nextOf (m .c)) ≡ fixed "}" → ⊥) → Turned ts s x w (putSlot w (m .depth) 15 (m .level) (m .c .at)) m (Next (pushedOf m (nextOf (m .c)) 17))
+    pub turn-set : (kindAt w (nextOf (m .c)) ≡ fixed "}" → ⊥) → Turned ts s x w (putSlot w (m .depth) (classNumber One) (m .level) (m .c .at)) m (Next (pushedOf m (nextOf (m .c)) loosest))
     turn-set f =
-        enter-next One 17 (record { slots = λ l t. refl; trees = λ l t. refl; credit = refl; class = lit< tt }) (λ e. omega arith, tt) (omega arith) (lit< tt) (lit< tt)
+        enter-next One loosest (record { slots = λ l t. refl; trees = λ l t. refl; credit = refl; class = lit< tt }) (λ e. omega arith, tt) (omega arith) (lit< tt) (lit< tt)
         (starts-set (m .level) us brace-row (number-here _ brace) (next-sign (inside (omega arith)) "}" refl ∙ ne-eqb (kindAt w (nextOf (m .c))) _ f))

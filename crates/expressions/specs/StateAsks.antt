@@ -1,10 +1,11 @@
 -- What a state gives to the functions that are called in it.
-use Prim.Native.Nat.{ℕ, _+_, _<_}
+use Prim.Native.Nat.{ℕ, _+_, _<_, _^_}
 use native.Mathlib.Omega.{arith}
 use mathlib.Core.List.{List}
 use mathlib.Core.Bool.{Bool}
 use Rattle.entries.specs.Cursors.{Fits, kindAt, nextOf}
 use Rattle.entries.specs.CursorLaws.{before-end}
+use Rattle.expressions.specs.Stack.{classBits}
 use Rattle.expressions.specs.declared.stack.Machine.{Machine}
 use Rattle.expressions.specs.Machines.{Pushes}
 use Rattle.expressions.specs.States.{Standing}
@@ -24,7 +25,7 @@ module _ {complete : Bool} {w : List ℕ} {m : Machine} (g : Standing complete w
     pub asks-second : Fits w (nextOf (m .c))
     asks-second = let f = asks-kind in record { room = f .room; few = f .few; short = f .short; inside = omega (arith, before-end w (m .c) l) }
 
-    pub asks-push : (k : ℕ) → k < 32 → Pushes w m k (m .c .at)
+    pub asks-push : (k : ℕ) → k < 2 ^ classBits → Pushes w m k (m .c .at)
     asks-push k h = let f = facts (g .state) in record { room = f .fits .room; deep = omega (arith, f .apart, f .few); class-fits = h; level-fits = f .level-fits; token-fits = asks-next }
 
     pub asks-leaf : (k : ℕ) → k < 64 → Leafs w m k

@@ -1,5 +1,5 @@
 -- From one state to the next: a refusal; a frame pushed where an operand begins; an operand that is complete. Each asks for an equation of the readers.
-use Prim.Native.Nat.{ℕ, suc, _+_, _-_, _≤_, _<_}
+use Prim.Native.Nat.{ℕ, suc, _+_, _-_, _≤_, _<_, _^_}
 use native.Mathlib.Nat.{zero-add}
 use native.Mathlib.Omega.{arith}
 use mathlib.Core.List.{List, [], _∷_, _++_, append-assoc}
@@ -24,11 +24,12 @@ use Rattle.entries.specs.ReadsLaws.{kept-same, kept-put}
 use Rattle.expressions.specs.declared.stack.Machine.{Machine}
 use Rattle.expressions.specs.declared.stack.Turn.the-variants.{Next, Ended}
 use Rattle.operators.specs.Readers.{reads, climbs}
-use Rattle.expressions.specs.Frames.{Class, Frame, frame, resume, plug}
-use Rattle.expressions.specs.Stack.{slotWord, putSlot, Stacked, Rooted}
+use Rattle.expressions.specs.Classes.{Class, classNumber}
+use Rattle.expressions.specs.Frames.{Frame, frame, resume, plug}
+use Rattle.expressions.specs.Stack.{slotWord, putSlot, Stacked, Rooted, lastWord, levelBits}
 use Rattle.expressions.specs.StackLaws.{stacked-apart, stacked-few, stacked-push, stacked-emit}
 use Rattle.expressions.specs.Machines.{pushedOf, climbingOf}
-use Rattle.expressions.specs.States.{classNumber, slot, slotsOf, treesBy, behind, base, Firm, creditBy, credits, current, State, Turned, Simple, Marked}
+use Rattle.expressions.specs.States.{slot, slotsOf, treesBy, behind, base, Firm, creditBy, credits, current, State, Turned, Simple, Marked}
 
 -- a refusal is what all frames make of it
 pub plug-refused : (Fs : List Frame) (n p : ℕ) → plug Fs (Refused n p) ≡ Refused n p
@@ -41,7 +42,7 @@ pub record Facts (w : List ℕ) (m : Machine) : Type 0 where
   pub fits : Fits w (m .c)
   pub apart : m .c .out + m .depth < m .c .at
   pub few : m .c .at ≤ maxTokens
-  pub level-fits : m .level < 32
+  pub level-fits : m .level < 2 ^ levelBits
 
 module _ {complete : Bool} {ts : Tokens} {s : Cursor} {x : Read Expr} {w : List ℕ} {m : Machine} (h : State complete ts s x w m) where
   pub facts : Facts w m
@@ -65,7 +66,7 @@ module _ {complete : Bool} {ts : Tokens} {s : Cursor} {x : Read Expr} {w : List 
   kept-slot k l j =
       let f = facts in
       let out = h .stacked .out in
-      kept-put w (s .out) (16_383 - m .depth) (slotWord k l j) (omega (arith, f .apart, f .few)) (omega arith)
+      kept-put w (s .out) (lastWord - m .depth) (slotWord k l j) (omega (arith, f .apart, f .few)) (omega arith)
 
   pub kept-entry : (k j n : ℕ) → Kept w (putEntry w (m .c .out) k j n) (s .out)
   kept-entry k j n =
@@ -88,7 +89,7 @@ module _ {complete : Bool} {ts : Tokens} {s : Cursor} {x : Read Expr} {w : List 
 
 -- a frame without trees and with the index j of its token is pushed; reading goes on at the cursor d, at a level
 pub pushed : {ts : Tokens} {s : Cursor} {x : Read Expr} {w : List ℕ} (Fs : List Frame) (K : Class) (max j : ℕ) (t : Token) (d : Cursor) (depth l : ℕ)
-    → Simple K → Marked K t → Every Firm Fs → Keeps ts j (some t) → j < maxTokens → max < 32 → 0 < l → l < 32
+    → Simple K → Marked K t → Every Firm Fs → Keeps ts j (some t) → j < maxTokens → max < 2 ^ levelBits → 0 < l → l < 2 ^ levelBits
     → Stacked ts s w d depth (slotsOf Fs) (base Fs ++ []) (suc (credits Fs)) → x ≡ plug Fs (reads l (drop (d .at) ts) >>= λ (y, us). resume (frame K max t) y us)
     → State false ts s x (putSlot w depth (classNumber K) max j) (record { c = d; depth = depth + 1; level = l; complete = false })
 unfolding plug
@@ -116,7 +117,7 @@ module _ {ts : Tokens} {s : Cursor} {x : Read Expr} {w : List ℕ} {m : Machine}
   -- the frame of the next token
   pub enters : (K : Class) (d : Cursor) (l : ℕ) → Simple K → Marked K (here h) → m .c .at < m .c .count → m .c .at < d .at
       → Stacked ts s w d (m .depth) (slotsOf (h .frames)) (base (h .frames) ++ []) (suc (credits (h .frames)))
-      → 0 < l → l < 32
+      → 0 < l → l < 2 ^ levelBits
       → reads (m .level) (drop (m .c .at) ts) ≡ (reads l (drop (d .at) ts) >>= λ (y, us). resume (frame K (m .level) (here h)) y us)
       → Turned ts s x w (putSlot w (m .depth) (classNumber K) (m .level) (m .c .at)) m (Next (pushedOf m d l))
   enters K d l simple marked inside onward stacked positive small step =

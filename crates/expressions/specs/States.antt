@@ -1,5 +1,5 @@
 -- The parser's state: its frames stand in the stack, their trees among the entries, and what they make of the part that is read now is the answer.
-use Prim.Native.Nat.{ℕ, _+_, _*_, _-_, _<_}
+use Prim.Native.Nat.{ℕ, _+_, _*_, _-_, _<_, _^_}
 use mathlib.Core.List.{List, [], _∷_, _++_}
 use mathlib.Core.Bool.{Bool, true, false, _||_}
 use mathlib.Core.Option.{some}
@@ -10,7 +10,7 @@ use Rattle.language.specs.Tokens.{Token}
 use Rattle.language.specs.Operators.{Role}
 use Rattle.language.specs.Tree.{Expr}
 use Rattle.language.specs.Grammar.{Tokens, Read}
-use Rattle.language.specs.Laws.Basics.Lists.{All as Every}
+use Rattle.language.specs.Lists.{All as Every}
 use Rattle.language.specs.Limits.{maxTokens}
 use Rattle.lexer.specs.Numbers.{number}
 use Rattle.entries.specs.Kinds as Kind
@@ -21,32 +21,10 @@ use Rattle.expressions.specs.declared.stack.Machine.{Machine}
 use Rattle.expressions.specs.declared.stack.Turn.{Turn}
 use Rattle.expressions.specs.declared.stack.Turn.the-variants.{Next, Ended}
 use Rattle.operators.specs.Readers.{reads, climbs, roleAt, soleOf, bigOf}
-use Rattle.expressions.specs.Frames.{Class, Right, Sole, Stepped, Within, Cons, Over, Round, Bars, Square, Last, All, Count, Low, High, One, Two, More, Bound, Upper, Member, Frame, frame, plug}
+use Rattle.expressions.specs.Classes.{Class, Right, Sole, Stepped, Within, Cons, Over, Round, Bars, Square, Last, All, Count, Low, High, One, Two, More, Bound, Upper, Member, classNumber}
+use Rattle.expressions.specs.Frames.{Frame, frame, plug}
 use Rattle.operators.specs.Tables.{soleKind, windowKind, infixAt, prefixAt}
-use Rattle.expressions.specs.Stack.{Slot, Stacked, Rooted}
-
--- the numbers of the classes, from 1 on
-abbrev pub classNumber : Class → ℕ
-classNumber Right = 1
-classNumber Sole = 2
-classNumber Stepped = 3
-classNumber Within = 4
-classNumber Cons = 5
-classNumber Over = 6
-classNumber Round = 7
-classNumber Bars = 8
-classNumber Square = 9
-classNumber Last = 10
-classNumber All = 11
-classNumber Count = 12
-classNumber Low = 13
-classNumber High = 14
-classNumber One = 15
-classNumber Two = 16
-classNumber More = 17
-classNumber Bound = 18
-classNumber Upper = 19
-classNumber Member = 20
+use Rattle.expressions.specs.Stack.{Slot, Stacked, Rooted, classBits, levelBits}
 
 abbrev pub slot : ℕ → ℕ → Token → List Token → Slot
 slot class level t us = record { class = class; level = level; token = t; next = us }
@@ -54,9 +32,9 @@ slot class level t us = record { class = class; level = level; token = t; next =
 -- the slots of a frame: while the set or the high bound of a name is read, one for it and one for the operator
 abbrev pub slotsBy : ℕ → Frame → List Slot
 slotsBy n F =
-    elim (eqb n 19) [
-      | true ↦ slot 19 0 (F .low) (F .name ∷ F .high ∷ []) ∷ slot 6 (F .level) (F .token) [] ∷ []
-      | false ↦ elim (eqb n 20) [ true ↦ slot 20 0 (F .name) [] ∷ slot 6 (F .level) (F .token) [] ∷ [] | false ↦ slot n (F .level) (F .token) [] ∷ [] ]
+    elim (eqb n (classNumber Upper)) [
+      | true ↦ slot (classNumber Upper) 0 (F .low) (F .name ∷ F .high ∷ []) ∷ slot (classNumber Over) (F .level) (F .token) [] ∷ []
+      | false ↦ elim (eqb n (classNumber Member)) [ true ↦ slot (classNumber Member) 0 (F .name) [] ∷ slot (classNumber Over) (F .level) (F .token) [] ∷ [] | false ↦ slot n (F .level) (F .token) [] ∷ [] ]
     ]
 
 abbrev pub slotsOf : List Frame → List Slot
@@ -150,7 +128,7 @@ Firm F = Every Rooted (treesBy (F .class) F) × Marked (F .class) (F .token)
 
 -- tokens that were read for a frame and have neither slot nor entry yet
 abbrev pub creditBy : Class → ℕ
-creditBy c = elim (eqb (classNumber c) 16 || eqb (classNumber c) 19) [ true ↦ 1 | false ↦ 0 ]
+creditBy c = elim (eqb (classNumber c) (classNumber Two) || eqb (classNumber c) (classNumber Upper)) [ true ↦ 1 | false ↦ 0 ]
 
 abbrev pub credits : List Frame → ℕ
 credits [] = 0
@@ -175,7 +153,7 @@ pub record State (complete : Bool) (ts : Tokens) (s : Cursor) (x : Read Expr) (w
   pub tree : Expr
   pub mode : m .complete ≡ complete
   pub good : Good complete (m .level) tree
-  pub level-fits : m .level < 32
+  pub level-fits : m .level < 2 ^ levelBits
   pub firm : Every Firm frames
   pub stacked : Stacked ts s w (m .c) (m .depth) (slotsOf frames) (base frames ++ madeBy complete tree) (credits frames)
   pub same : x ≡ plug frames (current complete (m .level) tree (drop (m .c .at) ts))
@@ -213,4 +191,4 @@ pub record Simple (K : Class) : Type 0 where
   pub slots : (l : ℕ) (t : Token) → slotsBy (classNumber K) (frame K l t) ≡ slot (classNumber K) l t [] ∷ []
   pub trees : (l : ℕ) (t : Token) → treesBy K (frame K l t) ≡ []
   pub credit : creditBy K ≡ 0
-  pub class : classNumber K < 32
+  pub class : classNumber K < 2 ^ classBits

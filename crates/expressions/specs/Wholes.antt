@@ -21,12 +21,13 @@ use Rattle.entries.specs.Cursors.{Ready}
 use Rattle.expressions.specs.declared.stack.Machine.{Machine}
 use Rattle.expressions.specs.declared.stack.Turn.the-variants.{Next}
 use Rattle.operators.specs.Readers.{climbs}
-use Rattle.expressions.specs.Frames.{Class, Right, Sole, Stepped, Within, Cons, Over, Frame, turned, builtBy, plug}
+use Rattle.expressions.specs.Classes.{Class, Right, Sole, Stepped, Within, Cons, Over, classNumber}
+use Rattle.expressions.specs.Frames.{Frame, turned, builtBy, plug}
 use Rattle.operators.specs.Tables.{infixAt, prefixAt}
 use Rattle.operators.specs.RowLaws.{PrefixFound, infix-some, prefix-some}
 use Rattle.expressions.specs.Stack.{slotIndex, slotClass, topSlot, Stacked}
 use Rattle.expressions.specs.StackLaws.{slot-index}
-use Rattle.expressions.specs.States.{classNumber, slot, slotsOf, treesBy, behind, base, credits, Turned}
+use Rattle.expressions.specs.States.{slot, slotsOf, treesBy, behind, base, credits, Turned}
 use Rattle.expressions.specs.Complete.{Complete, Builds, builtOf, builtIn}
 use Rattle.expressions.specs.CompleteLaws.{Popping, popping, builds, turn-built}
 
@@ -60,18 +61,18 @@ module _ {ts : Tokens} {s : Cursor} {x : Read Expr} {w : List ℕ} {m : Machine}
     abbrev top : ℕ
     top = topSlot w (m .depth)
 
-    pub built-stepped : slotClass top ≡ 3 → Built ts s x w m (m .c) 36 2
+    pub built-stepped : slotClass top ≡ classNumber Stepped → Built ts s x w m (m .c) Kind.nexts 2
     built-stepped e =
         let q = popping h Stepped deep e in
         let F = turned Stepped (q .0) in
-        built F (q .1) (q .2) (m .c) (0 + credits (q .1)) (q .2 .stacked) (builtBy Stepped F (q .2 .tree)) 36 36 refl (lit< tt) (some (F .token)) refl (λ j k. k) (omega arith) (omega arith)
+        built F (q .1) (q .2) (m .c) (0 + credits (q .1)) (q .2 .stacked) (builtBy Stepped F (q .2 .tree)) Kind.nexts Kind.nexts refl (lit< tt) (some (F .token)) refl (λ j k. k) (omega arith) (omega arith)
         (q .2 .same)
 
-    pub built-cons : slotClass top ≡ 5 → Built ts s x w m (m .c) 52 2
+    pub built-cons : slotClass top ≡ classNumber Cons → Built ts s x w m (m .c) Kind.element 2
     built-cons e =
         let q = popping h Cons deep e in
         let F = turned Cons (q .0) in
-        built F (q .1) (q .2) (m .c) (0 + credits (q .1)) (q .2 .stacked) (builtBy Cons F (q .2 .tree)) 52 52 refl (lit< tt) none refl (λ j k. tt) (omega arith) (omega arith) (q .2 .same)
+        built F (q .1) (q .2) (m .c) (0 + credits (q .1)) (q .2 .stacked) (builtBy Cons F (q .2 .tree)) Kind.element Kind.element refl (lit< tt) none refl (λ j k. tt) (omega arith) (omega arith) (q .2 .same)
 
     -- the operator's kind from its row
     pub number-top : (K : Class) (F : Frame) (Gs : List Frame) → (p : Popping ts s x w m (turned K F) Gs)
@@ -81,7 +82,7 @@ module _ {ts : Tokens} {s : Cursor} {x : Read Expr} {w : List ℕ} {m : Machine}
         let at-top = st .slots-at .0 in
         ap (λ j. numberIn (wordAt w j)) (slot-index at-top) ∙ stored-number (at-top .index) (F .token) (st .ready) (at-top .tokens .0)
 
-    pub built-right : slotClass top ≡ 1 → Built ts s x w m (m .c) (infixAt (operatorIn w top) / 1024 % 64) 2
+    pub built-right : slotClass top ≡ classNumber Right → Built ts s x w m (m .c) (infixAt (operatorIn w top) / 1024 % 64) 2
     built-right e =
         let q = popping h Right deep e in
         let F = turned Right (q .0) in
@@ -95,7 +96,7 @@ module _ {ts : Tokens} {s : Cursor} {x : Read Expr} {w : List ℕ} {m : Machine}
     prefix-top : (K : Class) (F : Frame) → operatorIn w top ≡ number (F .token) → (prefixAt (number (F .token)) ≡ 0 → ⊥) → PrefixFound (F .token) (prefixAt (operatorIn w top))
     prefix-top K F is f = subst (λ n. PrefixFound (F .token) (prefixAt n)) (sym is) (prefix-some (F .token) f)
 
-    pub built-sole : slotClass top ≡ 2 → Built ts s x w m (m .c) (prefixAt (operatorIn w top) / 256 % 64) 1
+    pub built-sole : slotClass top ≡ classNumber Sole → Built ts s x w m (m .c) (prefixAt (operatorIn w top) / 256 % 64) 1
     built-sole e =
         let q = popping h Sole deep e in
         let F = turned Sole (q .0) in
@@ -103,7 +104,7 @@ module _ {ts : Tokens} {s : Cursor} {x : Read Expr} {w : List ℕ} {m : Machine}
         built F (q .1) (q .2) (m .c) (0 + credits (q .1)) (q .2 .stacked) (builtBy Sole F (q .2 .tree)) _ _ (row .sole ∙ q .2 .firm-top .1 .1) (omega arith) (some (F .token)) refl (λ j k. k)
         (omega arith) (omega arith) (q .2 .same)
 
-    pub built-over : slotClass top ≡ 6 → Built ts s x w m (m .c) (prefixAt (operatorIn w top) / 256 % 64) 2
+    pub built-over : slotClass top ≡ classNumber Over → Built ts s x w m (m .c) (prefixAt (operatorIn w top) / 256 % 64) 2
     built-over e =
         let q = popping h Over deep e in
         let F = turned Over (q .0) in
@@ -111,7 +112,7 @@ module _ {ts : Tokens} {s : Cursor} {x : Read Expr} {w : List ℕ} {m : Machine}
         built F (q .1) (q .2) (m .c) (0 + credits (q .1)) (q .2 .stacked) (builtBy Over F (q .2 .tree)) _ _ (row .sole ∙ q .2 .firm-top .1 .1) (omega arith) (some (F .token)) refl (λ j k. k)
         (omega arith) (omega arith) (q .2 .same)
 
-    pub built-within : slotClass top ≡ 4 → Built ts s x w m (m .c) (prefixAt (operatorIn w top) / 16_384 % 64) 3
+    pub built-within : slotClass top ≡ classNumber Within → Built ts s x w m (m .c) (prefixAt (operatorIn w top) / 16_384 % 64) 3
     built-within e =
         let q = popping h Within deep e in
         let F = turned Within (q .0) in

@@ -1,4 +1,5 @@
 // Operators between operands, and the end of an expression.
+use crate::classes;
 use crate::close::close;
 use crate::close::whole;
 use crate::names::names;
@@ -8,10 +9,10 @@ use crate::sets::further;
 use crate::sets::set;
 use crate::stack::LEVELS;
 use crate::stack::Machine;
-use crate::stack::RIGHT;
-use crate::stack::TOKENS;
 use crate::stack::Turn;
 use entries::Parse;
+use entries::fields::TOKENS;
+use operators::infixes;
 use operators::infixes::infix;
 ghost use mathlib.Core.Path.{_≡_};
 ghost use mathlib.Core.Bool.{true, not, _&&_};
@@ -30,19 +31,19 @@ fn pop(m: Machine, work: &mut [u8]) -> Turn
         return Turn::Ended(Parse::Parsed(c));
     }
     let class = m.top(work) / TOKENS / LEVELS;
-    if class < 7 {
+    if class < classes::ROUND {
         return whole(m, work);
     }
-    if class < 11 {
+    if class < classes::ALL {
         return close(m, work);
     }
-    if class == 11 {
+    if class == classes::ALL {
         return all(m, work);
     }
-    if class < 15 {
+    if class < classes::ONE {
         return further(m, work);
     }
-    if class < 18 {
+    if class < classes::BOUND {
         return set(m, work);
     }
     names(m, work)
@@ -55,7 +56,7 @@ fn tight(row: u32, level: u32) -> bool
     if row == 0 {
         return false;
     }
-    row % 32 <= level
+    row % LEVELS <= level
 }
 
 // An operand is complete: an operator that is tight enough goes on with it.
@@ -67,7 +68,13 @@ fn climb(m: Machine, work: &mut [u8]) -> Turn
     let at = c.at;
     let q = infix(c.kind(work));
     if tight(q, m.level) {
-        return Turn::Next(m.push(work, RIGHT, at, c.next(), q / 32 % 32));
+        return Turn::Next(m.push(
+            work,
+            classes::RIGHT,
+            at,
+            c.next(),
+            q / infixes::RIGHT % LEVELS,
+        ));
     }
     pop(m, work)
 }

@@ -1,23 +1,18 @@
 // An expression is complete: its frame makes a tree of it.
-use crate::stack::BARS;
-use crate::stack::CONS;
+use crate::classes;
 use crate::stack::LEVELS;
 use crate::stack::Machine;
-use crate::stack::RIGHT;
-use crate::stack::ROUND;
-use crate::stack::SOLE;
-use crate::stack::SQUARE;
-use crate::stack::STEPPED;
-use crate::stack::TOKENS;
 use crate::stack::Turn;
-use crate::stack::WITHIN;
 use crate::stack::start_of;
 use entries::Cursor;
+use entries::fields::TOKENS;
 use entries::kinds;
 use lexer::fields::LENGTHS;
 use lexer::fields::OFFSETS;
 use lexer::numbers;
+use operators::infixes;
 use operators::infixes::infix;
+use operators::prefixes;
 use operators::prefixes::prefix;
 use words::get;
 ghost use mathlib.Core.Path.{_≡_};
@@ -25,6 +20,7 @@ ghost use Prim.Native.Nat.{_≤_, _<_};
 ghost use lib.ListN.{length};
 ghost use Rattle.language.specs.Limits.{workBytes};
 ghost use Rattle.expressions.specs.declared.stack.Turn.the-variants.{Next};
+ghost use Rattle.expressions.specs.Classes.{Round, All, classNumber};
 ghost use Rattle.expressions.specs.Stack.{topSlot, slotClass};
 ghost use Rattle.expressions.specs.Complete.{Completed, Ends, Builds, builtOf, builtIn};
 ghost use Rattle.expressions.specs.Wholes.{operatorIn};
@@ -51,53 +47,53 @@ pub fn build(m: Machine, work: &mut [u8], c: Cursor, kind: u32, operands: usize)
 
 // A frame whose tree needs no sign behind it.
 pub fn whole(m: Machine, work: &mut [u8]) -> Turn
-    requires { ⌜ Completed (now work) m × (0 < m .depth) × (slotClass (topSlot (now work) (m .depth)) < 7) ⌝ }
+    requires { ⌜ Completed (now work) m × (0 < m .depth) × (slotClass (topSlot (now work) (m .depth)) < classNumber Round) ⌝ }
     ensures { λ r. ⌜ Ends (now (work .entry)) (now (work .exit)) m r ⌝ }
 {
     let c = m.c;
     let f = m.top(work);
     let class = f / TOKENS / LEVELS;
-    if class == STEPPED {
+    if class == classes::STEPPED {
         return build(m, work, c, kinds::NEXTS, 2);
     }
-    if class == CONS {
+    if class == classes::CONS {
         return build(m, work, c, kinds::ELEMENT, 2);
     }
     let k = operator(work, f);
-    if class == RIGHT {
-        return build(m, work, c, infix(k) / 1024 % 64, 2);
+    if class == classes::RIGHT {
+        return build(m, work, c, infix(k) / infixes::KIND % kinds::KINDS, 2);
     }
-    if class == SOLE {
-        return build(m, work, c, prefix(k) / 256 % 64, 1);
+    if class == classes::SOLE {
+        return build(m, work, c, prefix(k) / prefixes::SOLE % kinds::KINDS, 1);
     }
-    if class == WITHIN {
-        return build(m, work, c, prefix(k) / 16384 % 64, 3);
+    if class == classes::WITHIN {
+        return build(m, work, c, prefix(k) / prefixes::WINDOW % kinds::KINDS, 3);
     }
-    build(m, work, c, prefix(k) / 256 % 64, 2)
+    build(m, work, c, prefix(k) / prefixes::SOLE % kinds::KINDS, 2)
 }
 
 // A frame whose tree needs a sign behind it.
 pub fn close(m: Machine, work: &mut [u8]) -> Turn
-    requires { ⌜ Completed (now work) m × (0 < m .depth) × (7 ≤ slotClass (topSlot (now work) (m .depth))) × (slotClass (topSlot (now work) (m .depth)) < 11) ⌝ }
+    requires { ⌜ Completed (now work) m × (0 < m .depth) × (classNumber Round ≤ slotClass (topSlot (now work) (m .depth))) × (slotClass (topSlot (now work) (m .depth)) < classNumber All) ⌝ }
     ensures { λ r. ⌜ Ends (now (work .entry)) (now (work .exit)) m r ⌝ }
 {
     let c = m.c;
     let f = m.top(work);
     let class = f / TOKENS / LEVELS;
     let k = c.kind(work);
-    if class == ROUND {
+    if class == classes::ROUND {
         if k == numbers::CLOSE_PAREN {
             return build(m, work, c.next(), kinds::PAREN, 1);
         }
         return Turn::Ended(c.refuse(work));
     }
-    if class == BARS {
+    if class == classes::BARS {
         if k == numbers::BAR {
             return build(m, work, c.next(), kinds::MEASURE, 1);
         }
         return Turn::Ended(c.refuse(work));
     }
-    if class == SQUARE {
+    if class == classes::SQUARE {
         if k == numbers::CLOSE_BRACKET {
             return build(m, work, c.next(), kinds::INDEX, 1);
         }

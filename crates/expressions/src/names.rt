@@ -1,16 +1,14 @@
 // The bounds or the set of a big operator's name is complete: the name is bound.
+use crate::classes;
 use crate::close::operator;
 use crate::roles::binder;
 use crate::sets::grow;
-use crate::stack::BOUND;
 use crate::stack::BOUNDS;
 use crate::stack::LEVELS;
 use crate::stack::Machine;
-use crate::stack::OVER;
-use crate::stack::TOKENS;
 use crate::stack::Turn;
-use crate::stack::UPPER;
 use entries::Cursor;
+use entries::fields::TOKENS;
 use entries::kinds;
 use lexer::fields::LENGTHS;
 use lexer::fields::OFFSETS;
@@ -23,6 +21,7 @@ ghost use lib.ListN.{length};
 ghost use Rattle.words.specs.Words.{wordAt};
 ghost use Rattle.language.specs.Limits.{workBytes, maxTokens};
 ghost use Rattle.lexer.specs.Stored.{numberIn};
+ghost use Rattle.expressions.specs.Classes.{Bound, classNumber};
 ghost use Rattle.expressions.specs.Stack.{topSlot, slotClass};
 ghost use Rattle.expressions.specs.Complete.{Completed, Ends};
 ghost use Rattle.expressions.specs.Signs.{strictAt, signAt};
@@ -98,7 +97,7 @@ fn named(m: Machine, work: &mut [u8], c: Cursor, name: usize) -> Turn
         return Turn::Next(binder(n, work, d.next(), (f % TOKENS) as usize));
     }
     if k == numbers::CLOSE_BRACKET {
-        let level = prefix(operator(work, f)) % 32;
+        let level = prefix(operator(work, f)) % LEVELS;
         let e = d.next();
         return Turn::Next(Machine {
             c: e,
@@ -112,7 +111,7 @@ fn named(m: Machine, work: &mut [u8], c: Cursor, name: usize) -> Turn
 
 // The low bound: a sign, the name and a sign must follow.
 fn low(m: Machine, work: &mut [u8]) -> Turn
-    requires { ⌜ Completed (now work) m × (0 < m .depth) × (slotClass (topSlot (now work) (m .depth)) ≡ 18) ⌝ }
+    requires { ⌜ Completed (now work) m × (0 < m .depth) × (slotClass (topSlot (now work) (m .depth)) ≡ classNumber Bound) ⌝ }
     ensures { λ r. ⌜ Ends (now (work .entry)) (now (work .exit)) m r ⌝ }
 {
     let c = m.c;
@@ -131,23 +130,23 @@ fn low(m: Machine, work: &mut [u8]) -> Turn
     let f = m.top(work);
     let g = e.next();
     let n = m.popped(f / TOKENS % LEVELS)
-        .push(work, OVER, (f % TOKENS) as usize, g, 0);
-    Turn::Next(n.push(work, UPPER, at, g, BOUNDS))
+        .push(work, classes::OVER, (f % TOKENS) as usize, g, 0);
+    Turn::Next(n.push(work, classes::UPPER, at, g, BOUNDS))
 }
 
 // A bound or a set.
 pub fn names(m: Machine, work: &mut [u8]) -> Turn
-    requires { ⌜ Completed (now work) m × (0 < m .depth) × (18 ≤ slotClass (topSlot (now work) (m .depth))) ⌝ }
+    requires { ⌜ Completed (now work) m × (0 < m .depth) × (classNumber Bound ≤ slotClass (topSlot (now work) (m .depth))) ⌝ }
     ensures { λ r. ⌜ Ends (now (work .entry)) (now (work .exit)) m r ⌝ }
 {
     let c = m.c;
     let f = m.top(work);
     let class = f / TOKENS / LEVELS;
-    if class == BOUND {
+    if class == classes::BOUND {
         return low(m, work);
     }
     let at = (f % TOKENS) as usize;
-    if class == UPPER {
+    if class == classes::UPPER {
         let kind = between(number(work, at + 2));
         let d = grow(c, work, kind, at, 2);
         return named(m.popped(0), work, d, at + 1);

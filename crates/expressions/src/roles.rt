@@ -1,18 +1,15 @@
 // How an operand begins with an operator, and how a name of a big operator does.
-use crate::stack::BOUND;
+use crate::classes;
 use crate::stack::BOUNDS;
-use crate::stack::COUNT;
+use crate::stack::LEVELS;
 use crate::stack::LOOSEST;
-use crate::stack::LOW;
-use crate::stack::MEMBER;
 use crate::stack::Machine;
-use crate::stack::OVER;
-use crate::stack::SOLE;
 use crate::stack::Turn;
 use crate::start::atom;
 use entries::Cursor;
 use entries::Parse;
 use lexer::numbers;
+use operators::prefixes;
 use operators::prefixes::prefix;
 ghost use mathlib.Core.Path.{_≡_};
 ghost use mathlib.Core.Bool.{false};
@@ -21,13 +18,6 @@ ghost use Rattle.entries.specs.Cursors.{Fits, kindAt};
 ghost use Rattle.operators.specs.Tables.{prefixAt};
 ghost use Rattle.expressions.specs.States.{Standing, Steps};
 ghost use Rattle.expressions.specs.Binders.{amongAt, memberAt, Naming, Names};
-
-// The roles of operators before their operand.
-const PLAIN: u32 = 1;
-
-const COUNTED: u32 = 2;
-
-const FOLDING: u32 = 4;
 
 fn among(number: u32) -> bool
     ensures { λ r. ⌜ r ≡ amongAt number ⌝ }
@@ -59,10 +49,10 @@ pub fn binder(m: Machine, work: &mut [u8], c: Cursor, token: usize) -> Machine
 {
     if member(c, work) {
         let name = c.at;
-        let n = m.push(work, OVER, token, c, 0);
-        return n.push(work, MEMBER, name, c.next().next(), LOOSEST);
+        let n = m.push(work, classes::OVER, token, c, 0);
+        return n.push(work, classes::MEMBER, name, c.next().next(), LOOSEST);
     }
-    m.push(work, BOUND, token, c, BOUNDS)
+    m.push(work, classes::BOUND, token, c, BOUNDS)
 }
 
 // A big operator.
@@ -90,23 +80,23 @@ pub fn operand(m: Machine, work: &mut [u8]) -> Turn
     if p == 0 {
         return atom(m, work);
     }
-    let level = p % 32;
+    let level = p % LEVELS;
     if m.level < level {
         return Turn::Ended(c.refuse(work));
     }
-    let role = p / 32 % 8;
-    if role == FOLDING {
+    let role = p / prefixes::ROLE % prefixes::ROLES;
+    if role == prefixes::FOLDING {
         return fold(m, work);
     }
     let d = c.next();
-    if role == PLAIN {
-        return Turn::Next(m.push(work, SOLE, at, d, level));
+    if role == prefixes::PLAIN {
+        return Turn::Next(m.push(work, classes::SOLE, at, d, level));
     }
     if d.kind(work) != numbers::OPEN_BRACKET {
-        return Turn::Next(m.push(work, SOLE, at, d, level));
+        return Turn::Next(m.push(work, classes::SOLE, at, d, level));
     }
-    if role == COUNTED {
-        return Turn::Next(m.push(work, COUNT, at, d.next(), LOOSEST));
+    if role == prefixes::COUNTED {
+        return Turn::Next(m.push(work, classes::COUNT, at, d.next(), LOOSEST));
     }
-    Turn::Next(m.push(work, LOW, at, d.next(), LOOSEST))
+    Turn::Next(m.push(work, classes::LOW, at, d.next(), LOOSEST))
 }

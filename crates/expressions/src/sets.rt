@@ -1,32 +1,23 @@
 // A part of an operator's brackets or of a set is complete: what follows it.
+use crate::classes;
 use crate::close::build;
 use crate::close::operator;
-use crate::stack::ALL;
-use crate::stack::CONS;
-use crate::stack::COUNT;
-use crate::stack::HIGH;
-use crate::stack::LAST;
 use crate::stack::LEVELS;
 use crate::stack::LOOSEST;
-use crate::stack::LOW;
-use crate::stack::MORE;
 use crate::stack::Machine;
-use crate::stack::ONE;
-use crate::stack::STEPPED;
-use crate::stack::TOKENS;
-use crate::stack::TWO;
 use crate::stack::Turn;
-use crate::stack::WITHIN;
 use crate::stack::start_of;
 use entries::Cursor;
+use entries::fields::TOKENS;
 use entries::kinds;
 use lexer::numbers;
 use operators::prefixes::prefix;
 ghost use mathlib.Core.Path.{_≡_};
-ghost use Prim.Native.Nat.{_≤_, _<_};
+ghost use Prim.Native.Nat.{_≤_, _<_, _^_};
 ghost use Rattle.entries.specs.Cursors.{emittedOf};
 ghost use Rattle.expressions.specs.Machines.{Tops};
-ghost use Rattle.expressions.specs.Stack.{topSlot, slotClass};
+ghost use Rattle.expressions.specs.Classes.{All, Count, One, Bound, classNumber};
+ghost use Rattle.expressions.specs.Stack.{classBits, topSlot, slotClass};
 ghost use Rattle.expressions.specs.Complete.{Completed, Ends};
 ghost use Rattle.expressions.specs.Reopens.{reopenedOf, reopenedIn};
 ghost use Rattle.expressions.specs.Grown.{Grows, grownIn};
@@ -45,7 +36,7 @@ pub fn grow(c: Cursor, work: &mut [u8], kind: u32, token: usize, operands: usize
 
 // The last frame waits for its next part, from the cursor on.
 fn reopen(m: Machine, work: &mut [u8], c: Cursor, class: u32, level: u32) -> Turn
-    requires { ⌜ Tops (now work) m × (class < 32) ⌝ }
+    requires { ⌜ Tops (now work) m × (class < 2 ^ classBits) ⌝ }
     ensures { λ r. ⌜ (r ≡ reopenedOf m c level) × (now (work .exit) ≡ reopenedIn (now (work .entry)) m class) ⌝ }
 {
     let f = m.top(work);
@@ -55,27 +46,27 @@ fn reopen(m: Machine, work: &mut [u8], c: Cursor, class: u32, level: u32) -> Tur
 
 // The n of `X[n]`, the n and the m of `F[n:m]`.
 pub fn further(m: Machine, work: &mut [u8]) -> Turn
-    requires { ⌜ Completed (now work) m × (0 < m .depth) × (12 ≤ slotClass (topSlot (now work) (m .depth))) × (slotClass (topSlot (now work) (m .depth)) < 15) ⌝ }
+    requires { ⌜ Completed (now work) m × (0 < m .depth) × (classNumber Count ≤ slotClass (topSlot (now work) (m .depth))) × (slotClass (topSlot (now work) (m .depth)) < classNumber One) ⌝ }
     ensures { λ r. ⌜ Ends (now (work .entry)) (now (work .exit)) m r ⌝ }
 {
     let c = m.c;
     let f = m.top(work);
     let class = f / TOKENS / LEVELS;
     let k = c.kind(work);
-    if class == LOW {
+    if class == classes::LOW {
         if k == numbers::COLON {
-            return reopen(m, work, c.next(), HIGH, LOOSEST);
+            return reopen(m, work, c.next(), classes::HIGH, LOOSEST);
         }
         return Turn::Ended(c.refuse(work));
     }
     if k != numbers::CLOSE_BRACKET {
         return Turn::Ended(c.refuse(work));
     }
-    let level = prefix(operator(work, f)) % 32;
-    if class == COUNT {
-        return reopen(m, work, c.next(), STEPPED, level);
+    let level = prefix(operator(work, f)) % LEVELS;
+    if class == classes::COUNT {
+        return reopen(m, work, c.next(), classes::STEPPED, level);
     }
-    reopen(m, work, c.next(), WITHIN, level)
+    reopen(m, work, c.next(), classes::WITHIN, level)
 }
 
 // The list of elements is complete, and with it the set.
@@ -95,8 +86,8 @@ fn element(m: Machine, work: &mut [u8]) -> Machine
     let c = m.c;
     let at = c.at;
     if c.kind(work) == numbers::COMMA {
-        let n = m.push(work, CONS, at, c, 0);
-        return n.push(work, MORE, at, c.next(), LOOSEST);
+        let n = m.push(work, classes::CONS, at, c, 0);
+        return n.push(work, classes::MORE, at, c.next(), LOOSEST);
     }
     let d = grow(c, work, kinds::ELEMENT, 0, 1);
     Machine {
@@ -109,36 +100,36 @@ fn element(m: Machine, work: &mut [u8]) -> Machine
 
 // The elements of a set.
 pub fn set(m: Machine, work: &mut [u8]) -> Turn
-    requires { ⌜ Completed (now work) m × (0 < m .depth) × (15 ≤ slotClass (topSlot (now work) (m .depth))) × (slotClass (topSlot (now work) (m .depth)) < 18) ⌝ }
+    requires { ⌜ Completed (now work) m × (0 < m .depth) × (classNumber One ≤ slotClass (topSlot (now work) (m .depth))) × (slotClass (topSlot (now work) (m .depth)) < classNumber Bound) ⌝ }
     ensures { λ r. ⌜ Ends (now (work .entry)) (now (work .exit)) m r ⌝ }
 {
     let c = m.c;
     let f = m.top(work);
     let class = f / TOKENS / LEVELS;
     let k = c.kind(work);
-    if class == ONE {
+    if class == classes::ONE {
         if k == numbers::COMMA {
-            return reopen(m, work, c.next(), TWO, LOOSEST);
+            return reopen(m, work, c.next(), classes::TWO, LOOSEST);
         }
         if k == numbers::CLOSE_BRACE {
             return listed(m, work, c.next(), 1);
         }
         return Turn::Ended(c.refuse(work));
     }
-    if class == MORE {
+    if class == classes::MORE {
         return Turn::Next(element(m.popped(0), work));
     }
     if k == numbers::DOTS {
-        return reopen(m, work, c.next(), LAST, LOOSEST);
+        return reopen(m, work, c.next(), classes::LAST, LOOSEST);
     }
     let n = m.popped(f / TOKENS % LEVELS)
-        .push(work, ALL, (f % TOKENS) as usize, c, 0);
+        .push(work, classes::ALL, (f % TOKENS) as usize, c, 0);
     Turn::Next(element(n, work))
 }
 
 // The elements from the second on are complete.
 pub fn all(m: Machine, work: &mut [u8]) -> Turn
-    requires { ⌜ Completed (now work) m × (0 < m .depth) × (slotClass (topSlot (now work) (m .depth)) ≡ 11) ⌝ }
+    requires { ⌜ Completed (now work) m × (0 < m .depth) × (slotClass (topSlot (now work) (m .depth)) ≡ classNumber All) ⌝ }
     ensures { λ r. ⌜ Ends (now (work .entry)) (now (work .exit)) m r ⌝ }
 {
     let c = m.c;

@@ -3,63 +3,39 @@ use entries::Cursor;
 use entries::Parse;
 use entries::fields::FIRST_ENTRY;
 use entries::fields::SIZES;
+use entries::fields::TOKENS;
 use words::get;
 use words::put;
 ghost use mathlib.Core.Path.{_≡_};
 ghost use Prim.Native.Nat.{_<_};
-ghost use Rattle.expressions.specs.Stack.{putSlot, topSlot, startOf};
+ghost use Rattle.expressions.specs.Stack.{constants as constants', putSlot, topSlot, startOf};
 ghost use Rattle.expressions.specs.Machines.{Pushes, Tops, Sizes, pushedOf, poppedOf, climbingOf};
 
-// The fields of a frame's slot, class, level and token: how many levels and tokens there are.
+// The fields of a frame's slot are class, level and token: how many levels there are. Of tokens there are as many as in an entry.
 pub const LEVELS: u32 = 32;
 
-pub const TOKENS: u32 = 8192;
+// The work buffer's last word, and the end behind it.
+const LAST_WORD: usize = 16383;
 
-// The classes of frames.
-pub const RIGHT: u32 = 1;
-
-pub const SOLE: u32 = 2;
-
-pub const STEPPED: u32 = 3;
-
-pub const WITHIN: u32 = 4;
-
-pub const CONS: u32 = 5;
-
-pub const OVER: u32 = 6;
-
-pub const ROUND: u32 = 7;
-
-pub const BARS: u32 = 8;
-
-pub const SQUARE: u32 = 9;
-
-pub const LAST: u32 = 10;
-
-pub const ALL: u32 = 11;
-
-pub const COUNT: u32 = 12;
-
-pub const LOW: u32 = 13;
-
-pub const HIGH: u32 = 14;
-
-pub const ONE: u32 = 15;
-
-pub const TWO: u32 = 16;
-
-pub const MORE: u32 = 17;
-
-pub const BOUND: u32 = 18;
-
-pub const UPPER: u32 = 19;
-
-pub const MEMBER: u32 = 20;
+const STACK_TOP: usize = LAST_WORD + 1;
 
 // The loosest level of an expression, and of a bound of a big operator's name.
 pub const LOOSEST: u32 = 17;
 
 pub const BOUNDS: u32 = 8;
+
+// What the constants stand for.
+pub fn constants() -> [usize; 5]
+    ensures { λ r. ⌜ r ≡ constants' ⌝ }
+{
+    [
+        LEVELS as usize,
+        LAST_WORD,
+        STACK_TOP,
+        LOOSEST as usize,
+        BOUNDS as usize,
+    ]
+}
 
 // Where the parser stands, how many slots there are, and the level of the expression that is read; whether an operand of it is complete.
 pub struct Machine {
@@ -84,7 +60,7 @@ impl Machine {
         let depth = self.depth;
         put(
             work,
-            16383 - depth,
+            LAST_WORD - depth,
             (class * LEVELS + self.level) * TOKENS + (token as u32),
         );
         Machine {
@@ -101,7 +77,7 @@ impl Machine {
         ensures { λ r. ⌜ r ≡ topSlot (now (work .entry)) (self .depth) ⌝ }
     {
         let depth = self.depth;
-        get(work, 16384 - depth)
+        get(work, STACK_TOP - depth)
     }
 
     // A slot less, at a level.

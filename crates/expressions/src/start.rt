@@ -1,20 +1,18 @@
 // How an operand begins.
-use crate::stack::BARS;
+use crate::classes;
 use crate::stack::LOOSEST;
 use crate::stack::Machine;
-use crate::stack::ONE;
-use crate::stack::ROUND;
-use crate::stack::SQUARE;
 use crate::stack::Turn;
 use entries::kinds;
 use lexer::numbers;
 ghost use mathlib.Core.Path.{_≡_};
 ghost use mathlib.Core.Bool.{false};
+ghost use Rattle.language.specs.Tokens.{Name};
 ghost use Rattle.entries.specs.Cursors.{kindAt};
 ghost use Rattle.operators.specs.Tables.{prefixAt};
 ghost use Rattle.expressions.specs.States.{Standing, Steps};
 ghost use Rattle.expressions.specs.Starts.{Leafs, leafOf, leafWritten};
-ghost use Rattle.lexer.specs.Numbers.{fixed};
+ghost use Rattle.lexer.specs.Numbers.{fixed, classNumber as tokenNumber};
 
 // The next token alone is an operand.
 fn leaf(m: Machine, work: &mut [u8], kind: u32) -> Turn
@@ -29,14 +27,14 @@ fn leaf(m: Machine, work: &mut [u8], kind: u32) -> Turn
 
 // A name, alone or with an index.
 fn name(m: Machine, work: &mut [u8]) -> Turn
-    requires { ⌜ Standing false (now work) m × (kindAt (now work) (m .c) ≡ 1) ⌝ }
+    requires { ⌜ Standing false (now work) m × (kindAt (now work) (m .c) ≡ tokenNumber Name) ⌝ }
     ensures { λ r. ⌜ Steps false (now (work .entry)) (now (work .exit)) m r ⌝ }
 {
     let c = m.c;
     let at = c.at;
     let d = c.next();
     if d.kind(work) == numbers::OPEN_BRACKET {
-        return Turn::Next(m.push(work, SQUARE, at, d.next(), LOOSEST));
+        return Turn::Next(m.push(work, classes::SQUARE, at, d.next(), LOOSEST));
     }
     leaf(m, work, kinds::NAMED)
 }
@@ -53,7 +51,7 @@ fn brace(m: Machine, work: &mut [u8]) -> Turn
         let e = d.next().emit(work, kinds::LISTED, at, 1);
         return Turn::Next(m.climbing(e));
     }
-    Turn::Next(m.push(work, ONE, at, d, LOOSEST))
+    Turn::Next(m.push(work, classes::ONE, at, d, LOOSEST))
 }
 
 // An operand that begins with no operator.
@@ -77,10 +75,10 @@ pub fn atom(m: Machine, work: &mut [u8]) -> Turn
         return leaf(m, work, kinds::TRUTH);
     }
     if k == numbers::OPEN_PAREN {
-        return Turn::Next(m.push(work, ROUND, at, c.next(), LOOSEST));
+        return Turn::Next(m.push(work, classes::ROUND, at, c.next(), LOOSEST));
     }
     if k == numbers::BAR {
-        return Turn::Next(m.push(work, BARS, at, c.next(), LOOSEST));
+        return Turn::Next(m.push(work, classes::BARS, at, c.next(), LOOSEST));
     }
     if k == numbers::OPEN_BRACE {
         return brace(m, work);

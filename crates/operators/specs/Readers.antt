@@ -30,12 +30,11 @@ use Rattle.language.specs.Operators.{
   loosest,
 }
 use Rattle.language.specs.Tree.{Expr, Empty, Element}
-use Rattle.language.specs.Grammar.{Tokens, Read, Reader, rest, stop, next, infixOf, prefixOf, climb, bindersOf, over}
-use Rattle.language.specs.Laws.Grammar.GrammarLaws.{upTo}
+use Rattle.language.specs.Grammar.{Tokens, Read, Reader, rest, stop, next, infixOf, prefixOf, climb, expr, bindersOf, over}
 
 -- an expression whose operators have levels up to `max`
 unfoldable pub reads : Reader
-reads max ts = upTo max ts
+reads max ts = expr (suc (length ts)) max ts
 
 -- e, and the operators of levels up to `max` after it
 unfoldable pub climbs : ℕ → Expr → Tokens → Read Expr

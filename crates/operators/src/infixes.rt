@@ -10,9 +10,9 @@ ghost use Rattle.operators.specs.Tables.{infixAt, infixCodeAt};
 // An operator between operands: its code, its entry's kind, the loosest level of its right operand, its level.
 const CODE: u32 = 65536;
 
-const KIND: u32 = 1024;
+pub const KIND: u32 = 1024;
 
-const RIGHT: u32 = 32;
+pub const RIGHT: u32 = 32;
 
 const TIMES: u32 = codes::TIMES * CODE + kinds::ARITHMETIC * KIND + 1 * RIGHT + 2;
 

@@ -9,55 +9,62 @@ ghost use Rattle.operators.specs.Tables.{prefixAt, prefixCodeAt};
 // An operator before its operand: its code, the kind of its entry with a window or a count, without, its role, its level.
 const CODE: u32 = 1048576;
 
-const WINDOW: u32 = 16384;
+pub const WINDOW: u32 = 16384;
 
-const SOLE: u32 = 256;
+pub const SOLE: u32 = 256;
 
-const ROLE: u32 = 32;
+pub const ROLE: u32 = 32;
 
-const PLAIN: u32 = 1 * ROLE;
+// The roles, and how many numbers there are for them.
+pub const ROLES: u32 = 8;
 
-const COUNTED: u32 = 2 * ROLE;
+pub const PLAIN: u32 = 1;
 
-const WINDOWED: u32 = 3 * ROLE;
+pub const COUNTED: u32 = 2;
 
-const FOLDING: u32 = 4 * ROLE;
+pub const WINDOWED: u32 = 3;
 
-const SUM: u32 = codes::PLUS * CODE + kinds::BIG_NUMBERS * SOLE + FOLDING + 1;
+pub const FOLDING: u32 = 4;
 
-const PRODUCT: u32 = codes::TIMES * CODE + kinds::BIG_NUMBERS * SOLE + FOLDING + 1;
+const SUM: u32 = codes::PLUS * CODE + kinds::BIG_NUMBERS * SOLE + FOLDING * ROLE + 1;
 
-const SIZE: u32 = codes::SIZE * CODE + kinds::MEASURE * SOLE + PLAIN + 1;
+const PRODUCT: u32 = codes::TIMES * CODE + kinds::BIG_NUMBERS * SOLE + FOLDING * ROLE + 1;
 
-const MIN: u32 = codes::MIN * CODE + kinds::MEASURE * SOLE + PLAIN + 1;
+const SIZE: u32 = codes::SIZE * CODE + kinds::MEASURE * SOLE + PLAIN * ROLE + 1;
 
-const MAX: u32 = codes::MAX * CODE + kinds::MEASURE * SOLE + PLAIN + 1;
+const MIN: u32 = codes::MIN * CODE + kinds::MEASURE * SOLE + PLAIN * ROLE + 1;
 
-const SIZEOF: u32 = kinds::WIDTH * SOLE + PLAIN + 1;
+const MAX: u32 = codes::MAX * CODE + kinds::MEASURE * SOLE + PLAIN * ROLE + 1;
 
-const BIG_CAP: u32 = codes::CAP * CODE + kinds::BIG_SETS * SOLE + FOLDING + 5;
+const SIZEOF: u32 = kinds::WIDTH * SOLE + PLAIN * ROLE + 1;
 
-const BIG_CUP: u32 = codes::CUP * CODE + kinds::BIG_SETS * SOLE + FOLDING + 5;
+const BIG_CAP: u32 = codes::CAP * CODE + kinds::BIG_SETS * SOLE + FOLDING * ROLE + 5;
 
-const NOT: u32 = Node::NOT * CODE + kinds::UNARY * SOLE + PLAIN + 11;
+const BIG_CUP: u32 = codes::CUP * CODE + kinds::BIG_SETS * SOLE + FOLDING * ROLE + 5;
 
-const NEXT: u32 = Node::NEXT * CODE + kinds::NEXTS * WINDOW + kinds::UNARY * SOLE + COUNTED + 11;
+const NOT: u32 = Node::NOT * CODE + kinds::UNARY * SOLE + PLAIN * ROLE + 11;
+
+const NEXT: u32 = Node::NEXT * CODE
+    + kinds::NEXTS * WINDOW
+    + kinds::UNARY * SOLE
+    + COUNTED * ROLE
+    + 11;
 
 const FINALLY: u32 = Node::FINALLY * CODE
     + kinds::WINDOW * WINDOW
     + kinds::UNARY * SOLE
-    + WINDOWED
+    + WINDOWED * ROLE
     + 11;
 
 const GLOBALLY: u32 = Node::GLOBALLY * CODE
     + kinds::WINDOW * WINDOW
     + kinds::UNARY * SOLE
-    + WINDOWED
+    + WINDOWED * ROLE
     + 11;
 
-const BIG_AND: u32 = Node::AND * CODE + kinds::BIG_FORMULAS * SOLE + FOLDING + 11;
+const BIG_AND: u32 = Node::AND * CODE + kinds::BIG_FORMULAS * SOLE + FOLDING * ROLE + 11;
 
-const BIG_OR: u32 = Node::OR * CODE + kinds::BIG_FORMULAS * SOLE + FOLDING + 11;
+const BIG_OR: u32 = Node::OR * CODE + kinds::BIG_FORMULAS * SOLE + FOLDING * ROLE + 11;
 
 // The row of an operator before its operand, 0 if the number is none.
 pub fn prefix(number: u32) -> u32

@@ -19,9 +19,13 @@ abbrev pub rowOf : List HeadingRow → ℕ → Option HeadingRow
 rowOf [] k = none
 rowOf (r ∷ rs) k = elim (numbered (r .names) k) [ true ↦ some r | false ↦ rowOf rs k ]
 
--- the number of a row; 8 if there is none
+-- how many subsections there are: a number that none of them has
+abbrev pub noHeading : ℕ
+noHeading = 8
+
+-- the number of a row, if there is one
 abbrev pub rowNumber : Option HeadingRow → ℕ
-rowNumber none = 8
+rowNumber none = noHeading
 rowNumber (some r) = r .number
 
 -- the subsection whose word has the number k

@@ -12,7 +12,7 @@ ghost use Rattle.language.specs.Sections.{subsectionsOf};
 ghost use Rattle.entries.specs.Flat.{each, flatSubsection};
 ghost use Rattle.entries.specs.Cursors.{Readied};
 ghost use Rattle.entries.specs.Reads.{Parses};
-ghost use Rattle.parser.specs.Headings.{headingNumber, ReadsSubsection, ReadsEnd};
+ghost use Rattle.parser.specs.Headings.{noHeading, headingNumber, ReadsSubsection, ReadsEnd};
 
 // For each word of a subsection, by its number, the subsection: 'the v1.0 names are read as their v1.1 ones'.
 const HEADINGS: [usize; 11] = [0, 1, 2, 3, 4, 5, 6, 7, 5, 6, 7];
@@ -20,7 +20,7 @@ const HEADINGS: [usize; 11] = [0, 1, 2, 3, 4, 5, 6, 7, 5, 6, 7];
 // Subsections that hold declarations come first.
 const FIRST_FORMULAS: usize = 2;
 
-// How many subsections there are; no subsection has this number.
+// How many subsections there are (specs/Headings); no subsection has this number.
 const NO_HEADING: usize = 8;
 
 // The subsection whose word has the number.
@@ -36,7 +36,7 @@ fn heading(kind: u32) -> usize
 
 // Subsection n, from its word on.
 fn subsection(c: Cursor, work: &mut [u8], n: usize) -> Parse
-    requires { ⌜ Readied (now work) c × (c .at < c .count) × (n < 8) ⌝ }
+    requires { ⌜ Readied (now work) c × (c .at < c .count) × (n < noHeading) ⌝ }
     ensures { λ r. ⌜ ReadsSubsection n (now (work .entry)) (now (work .exit)) c r ⌝ }
 {
     let d = c.next().emit(work, kinds::HEADING, 0, n);
@@ -64,7 +64,7 @@ pub fn subsections(c: Cursor, work: &mut [u8]) -> Parse
     requires { ⌜ Readied (now work) c ⌝ }
     ensures { λ r. ⌜ Parses (subsectionsOf 9 []) (each flatSubsection) (now (work .entry)) (now (work .exit)) c r ⌝ }
 {
-    let mut before = [0u8; 8];
+    let mut before = [0u8; NO_HEADING];
     let mut d = c;
     loop {
         let n = heading(d.kind(work));

@@ -13,7 +13,8 @@ use Rattle.node.specs.Result.{Done, _>>=_}
 use Rattle.node.specs.ResultLaws.{bind-refused, bind-to}
 use Rattle.language.specs.Sections.{expression, declarationOf}
 use Rattle.language.specs.Laws.Basics.Tests.{pick, leave}
-use Rattle.lexer.specs.Numbers.{fixed}
+use Rattle.lexer.specs.Numbers.{fixed, classNumber}
+use Rattle.language.specs.Limits.{maxTokens}
 use Rattle.entries.specs.Kinds as Kind
 use Rattle.entries.specs.Flat.{leaf, flat, flatDeclaration}
 use Rattle.entries.specs.Stored.{putEntry}
@@ -87,7 +88,7 @@ module _ {ts : Tokens} {w : List ℕ} {c d e : Cursor} (ready : Ready ts w c) (w
         bus-room : b .out + 1 + c .at ≤ c .out + b .at
         bus-room = omega (arith, width .took .onward .slack, h .at, h .out, g .at, g .out, k .next .at, k .next .out)
 
-        bus-near : c .at < 8192
+        bus-near : c .at < maxTokens
         bus-near = omega (arith, ready .fits .few)
 
         pub bus-writes : (c .out ≤ b .out) × Writes v b Kind.bus (c .at) (b .out - c .out + 1)
@@ -104,10 +105,10 @@ module _ {ts : Tokens} {w : List ℕ} {c : Cursor} (ready : Ready ts w c) where
   abbrev answer : Read Declaration
   answer = declarationOf (drop (c .at) ts)
 
-  pub declaration-name : {q : Parse} {n p : ℕ} → q ≡ expected w c 1 → q ≡ NotParsed n p → Reads ts w w c flatDeclaration answer q
-  declaration-name x m = reads-refused m (bind-refused _ _ _ _ (expectOf-not ready Name refl (stopped w c 1 x m))) (kept-same w (c .out))
+  pub declaration-name : {q : Parse} {n p : ℕ} → q ≡ expected w c (classNumber Name) → q ≡ NotParsed n p → Reads ts w w c flatDeclaration answer q
+  declaration-name x m = reads-refused m (bind-refused _ _ _ _ (expectOf-not ready Name refl (stopped w c (classNumber Name) x m))) (kept-same w (c .out))
 
-  module _ {d : Cursor} (h : Passed w c d 1) where
+  module _ {d : Cursor} (h : Passed w c d (classNumber Name)) where
     pub name-ready : Ready ts w d
     name-ready = passed-ready ready h (omega arith)
 
@@ -133,7 +134,7 @@ module _ {ts : Tokens} {w : List ℕ} {c : Cursor} (ready : Ready ts w c) where
       after-name = named-done _ ∙ leave (next "[" (drop (d .at) ts)) _ _ (elsewhere name-ready "[" refl open-not)
 
       -- a name: an enumeration's, then the bus's
-      module _ (k : kindAt w d ≡ 1) {e : Cursor} (g : Next d e) where
+      module _ (k : kindAt w d ≡ classNumber Name) {e : Cursor} (g : Next d e) where
         typed-within : d .at < d .count
         typed-within = inside name-ready k (omega arith)
 
@@ -166,7 +167,7 @@ module _ {ts : Tokens} {w : List ℕ} {c : Cursor} (ready : Ready ts w c) where
             (kept-emit (first-took .ready) (c .out) (omega (arith, g .out, h .next .out)) Kind.typed (d .at) 2)) second)
 
       -- anything else: a signal
-      module _ (name-not : kindAt w d ≡ 1 → ⊥) where
+      module _ (name-not : kindAt w d ≡ classNumber Name → ⊥) where
         pub signal-writes : Writes w d Kind.signal (c .at) 1
         signal-writes = writes name-ready (omega arith) (omega (arith, name-within, ready .fits .few)) (omega arith)
 

@@ -7,7 +7,7 @@ use lib.ListN.{drop}
 use Prim.Native.String.{String}
 use mathlib.Core.Bool.{true}
 use Rattle.language.specs.Bytes.{ascii, isOneOf}
-use Rattle.lexer.specs.Numbers.{spellings, fixed}
+use Rattle.lexer.specs.Numbers.{spellings, fixed, classNumber}
 use Rattle.node.specs.Result.{Done, _>>=_}
 use Rattle.node.specs.ResultLaws.{bind-refused, bind-to}
 use Rattle.language.specs.Tokens.{Token, Name, Marks, isOf}
@@ -54,13 +54,13 @@ module _ {ts : Tokens} {x : Read _} {w v z : List ℕ} {s d : Cursor} (h : Listi
   identifiers-stop m = going-refused (h .going) (r .kept) m (identifiers-parts (h .fuel) (drop (d .at) ts) ∙ bind-refused _ _ _ _ (refusal m r))
 
   module _ {e : Cursor} (m : q ≡ Parsed e) where
-    pub identifiers-end : (kindAt z e ≡ 1 → ⊥) → Reads ts w z s (each flatIdentifier) x (Parsed e)
+    pub identifiers-end : (kindAt z e ≡ classNumber Name → ⊥) → Reads ts w z s (each flatIdentifier) x (Parsed e)
     identifiers-end other =
         let a = accepted m r in
         going-last (h .going) (r .kept) (a .value)
         (identifiers-parts (h .fuel) (drop (d .at) ts) ∙ bind-to _ _ _ (a .read) ∙ leave (isOf Name (front (drop (e .at) ts))) _ _ (class-elsewhere (a .took .ready) Name refl other)) (a .took)
 
-    pub identifiers-again : kindAt z e ≡ 1 → d .at < e .at → Listing flatIdentifier 0 identifiersOf x ts w z s e
+    pub identifiers-again : kindAt z e ≡ classNumber Name → d .at < e .at → Listing flatIdentifier 0 identifiersOf x ts w z s e
     identifiers-again name l =
         let a = accepted m r in
         listing-more h (r .kept) (a .value)

@@ -16,7 +16,7 @@ use Rattle.language.specs.Laws.Basics.Lists.{All}
 use Rattle.language.specs.Laws.Basics.Tests.{pick, leave, and-left, and-right, or-left, or-right, some-none}
 use Rattle.lexer.specs.Numbers.{number, numbered, fixed}
 use Rattle.lexer.specs.NumberLaws.{known, named-number}
-use Rattle.parser.specs.Headings.{rowOf, rowNumber, headingNumber, headingCode}
+use Rattle.parser.specs.Headings.{noHeading, rowOf, rowNumber, headingNumber, headingCode}
 
 -- the row of a token's word, unless its subsection has stood
 abbrev pub fresh : List ℕ → Option HeadingRow → Option HeadingRow
@@ -44,17 +44,17 @@ rows-number (r ∷ rs) before t h =
 pub heading-number : (before : List ℕ) (t : Token) → headingOf headings before t ≡ fresh before (rowOf headings (number t))
 heading-number before t = rows-number headings before t refl
 
--- each row's number is that of its subsection, and below 8
+-- each row's number is that of its subsection, and below `noHeading`
 pub record Numbered (r : HeadingRow) : Type 0 where
-  pub small : r .number < 8
+  pub small : r .number < noHeading
   pub code : headingCode (r .heading) ≡ r .number
 
 headings-numbered : All Numbered headings
 headings-numbered =
     (row refl refl, (row refl refl, (row refl refl, (row refl refl, (row refl refl, (row refl refl, (row refl refl, (row refl refl, tt))))))))
   where
-    row : {r : HeadingRow} → ltb (r .number) 8 ≡ true → headingCode (r .heading) ≡ r .number → Numbered r
-    row {r} l e = record { small = ltb-true (r .number) 8 l; code = e }
+    row : {r : HeadingRow} → ltb (r .number) noHeading ≡ true → headingCode (r .heading) ≡ r .number → Numbered r
+    row {r} l e = record { small = ltb-true (r .number) noHeading l; code = e }
 
 row-numbered : (rs : List HeadingRow) → All Numbered rs → (k : ℕ) (r : HeadingRow) → rowOf rs k ≡ some r → Numbered r
 row-numbered [] h k r e = absurd (some-none (sym e))
@@ -75,24 +75,24 @@ rows : (k : ℕ) (o : Option HeadingRow) → rowOf headings k ≡ o → headingN
 unfolding headingNumber
 rows k o e = ap rowNumber e
 
-pub no-row : (k : ℕ) → headingNumber k ≡ 8 → rowOf headings k ≡ none
+pub no-row : (k : ℕ) → headingNumber k ≡ noHeading → rowOf headings k ≡ none
 no-row k e = go (rowOf headings k) refl
   where
     go : (o : Option HeadingRow) → rowOf headings k ≡ o → rowOf headings k ≡ none
     go none m = m
     go (some r) m = absurd (omega (arith, row-numbered headings headings-numbered k r m .small, rows k (some r) m))
 
-pub row-of : (k : ℕ) → headingNumber k < 8 → Row k
+pub row-of : (k : ℕ) → headingNumber k < noHeading → Row k
 row-of k l = go (rowOf headings k) refl
   where
     go : (o : Option HeadingRow) → rowOf headings k ≡ o → Row k
     go none m = absurd (omega (arith, rows k none m))
     go (some r) m = record { row = r; is = m; number = sym (rows k (some r) m); code = row-numbered headings headings-numbered k r m .code }
 
-pub heading-most : (k : ℕ) → headingNumber k ≤ 8
+pub heading-most : (k : ℕ) → headingNumber k ≤ noHeading
 heading-most k = go (rowOf headings k) refl
   where
-    go : (o : Option HeadingRow) → rowOf headings k ≡ o → headingNumber k ≤ 8
+    go : (o : Option HeadingRow) → rowOf headings k ≡ o → headingNumber k ≤ noHeading
     go none m = omega (arith, rows k none m)
     go (some r) m = omega (arith, row-numbered headings headings-numbered k r m .small, rows k (some r) m)
 
@@ -119,7 +119,7 @@ rows-out [] k h out = refl
 rows-out (r ∷ rs) k h out =
     leave (numbered (r .names) k) _ _ (numbered-out (r .names) k (and-left (inTable (r .names)) (allInTable rs) h) out) ∙ rows-out rs k (and-right (inTable (r .names)) (allInTable rs) h) out
 
-pub heading-out : (k : ℕ) → ((n : ℕ) → fixed "INPUTS" ≤ n → n ≤ fixed "GUARANTEES" → k ≡ n → ⊥) → 8 ≡ headingNumber k
+pub heading-out : (k : ℕ) → ((n : ℕ) → fixed "INPUTS" ≤ n → n ≤ fixed "GUARANTEES" → k ≡ n → ⊥) → noHeading ≡ headingNumber k
 unfolding headingNumber
 heading-out k out = sym (ap rowNumber (rows-out headings k refl out))
 

@@ -14,7 +14,7 @@ use Rattle.language.specs.Tree.{Model, Mealy, Moore}
 use Rattle.language.specs.Grammar.{Tokens, Read, front, rest, stop, next, expect, expectOf}
 use Rattle.language.specs.Sections.{described, modelOf, strictOf, tagOf, tagsOf, infoEnd}
 use Rattle.language.specs.Laws.Basics.Tests.{pick, leave}
-use Rattle.lexer.specs.Numbers.{fixed}
+use Rattle.lexer.specs.Numbers.{fixed, classNumber}
 use Rattle.entries.specs.declared.Cursor.{Cursor}
 use Rattle.entries.specs.declared.Parse.{Parse}
 use Rattle.entries.specs.declared.Parse.the-variants.{Parsed, Refused as NotParsed}
@@ -54,10 +54,10 @@ module _ {ts : Tokens} {w : List ℕ} {c : Cursor} (ready : Ready ts w c) where
       (skim-map ready (λ t. Moore) (expect-spelt ready "Moore" (record { known = refl; same = refl }) e))
 
   -- a tag
-  pub tag-first : {d : Cursor} → kindAt w c ≡ 1 → Next c d → Skims ts w c (tagOf (drop (c .at) ts)) (Parsed d)
+  pub tag-first : {d : Cursor} → kindAt w c ≡ classNumber Name → Next c d → Skims ts w c (tagOf (drop (c .at) ts)) (Parsed d)
   tag-first k n = past (inside ready k (omega arith)) n (front (drop (c .at) ts)) (pick (isOf Name (front (drop (c .at) ts))) _ _ (class-here ready Name refl k))
 
-  pub tag-second : {q : Parse} → (kindAt w c ≡ 1 → ⊥) → q ≡ expected w c 3 → Skims ts w c (tagOf (drop (c .at) ts)) q
+  pub tag-second : {q : Parse} → (kindAt w c ≡ classNumber Name → ⊥) → q ≡ expected w c (classNumber Quoted) → Skims ts w c (tagOf (drop (c .at) ts)) q
   tag-second k e = skims-as (leave (isOf Name (front (drop (c .at) ts))) _ _ (class-elsewhere ready Name refl k)) (expect-class ready Quoted refl (omega arith) e)
 
   -- `, Strict`

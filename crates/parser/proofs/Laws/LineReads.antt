@@ -12,7 +12,8 @@ use Rattle.node.specs.Result.{Done}
 use Rattle.node.specs.ResultLaws.{bind-refused, bind-to}
 use Rattle.language.specs.Sections.{expression, parameterOf, enumerationOf, definitionOf}
 use Rattle.language.specs.Laws.Basics.Tests.{pick, leave}
-use Rattle.lexer.specs.Numbers.{fixed}
+use Rattle.lexer.specs.Numbers.{fixed, classNumber}
+use Rattle.language.specs.Limits.{maxTokens}
 use Rattle.entries.specs.Kinds as Kind
 use Rattle.entries.specs.Flat.{Entry, under, flat, flatLine, flatDefinition}
 use Rattle.entries.specs.Stored.{putEntry, Keeps}
@@ -47,7 +48,7 @@ use Rattle.parser.proofs.Laws.Passing.{
 -- an entry that closes what was read
 pub closed : {A : Type 0} {ts : Tokens} {w v z : List ℕ} {s d : Cursor} {es : List Entry} {f : A → List Entry} {x : Read A} {q : Parse} (k j : ℕ) (t : _) (a : A) → Ready ts w s
     → x ≡ Done (a, drop (d .at) ts) → f a ≡ under k t es →
-    Kept w v (s .out) → Took ts v s d es → d .out + 1 + s .at ≤ s .out + d .at → k < 64 → j < 8192 → Keeps ts j t →
+    Kept w v (s .out) → Took ts v s d es → d .out + 1 + s .at ≤ s .out + d .at → k < 64 → j < maxTokens → Keeps ts j t →
     q ≡ Parsed (emittedOf d) → z ≡ putEntry v (d .out) k j (d .out - s .out + 1) → Reads ts w z s f x q
 closed {ts = ts} {w} {v} {z} {s} {d} {es} {f} {x} {q} k j t a ready e flats kept h room small near keeps m n =
     let u : Took ts z s (emittedOf d) (f a) =
@@ -58,16 +59,16 @@ closed {ts = ts} {w} {v} {z} {s} {d} {es} {f} {x} {q} k j t a ready e flats kept
 
 -- `name = expression`
 module _ {ts : Tokens} {w : List ℕ} {c : Cursor} (ready : Ready ts w c) {f : Parameter → List Entry} where
-  pub valued-name : {q : Parse} {n p : ℕ} → q ≡ expected w c 1 → q ≡ NotParsed n p → Reads ts w w c f (parameterOf (drop (c .at) ts)) q
-  valued-name x m = reads-refused m (bind-refused _ _ _ _ (expectOf-not ready Name refl (stopped w c 1 x m))) (kept-same w (c .out))
+  pub valued-name : {q : Parse} {n p : ℕ} → q ≡ expected w c (classNumber Name) → q ≡ NotParsed n p → Reads ts w w c f (parameterOf (drop (c .at) ts)) q
+  valued-name x m = reads-refused m (bind-refused _ _ _ _ (expectOf-not ready Name refl (stopped w c (classNumber Name) x m))) (kept-same w (c .out))
 
-  module _ {d : Cursor} (h : Passed w c d 1) where
+  module _ {d : Cursor} (h : Passed w c d (classNumber Name)) where
     pub valued-sign : {q : Parse} {n p : ℕ} → q ≡ expected w d (fixed "=") → q ≡ NotParsed n p → Reads ts w w c f (parameterOf (drop (c .at) ts)) q
     valued-sign x m =
         reads-refused m (bind-to _ _ _ (expectOf-passed ready Name refl h) ∙ bind-refused _ _ _ _ (expect-not (passed-ready ready h (omega arith)) "=" refl (stopped w d (fixed "=") x m)))
         (kept-same w (c .out))
 
-module _ {ts : Tokens} {w v : List ℕ} {c d e : Cursor} (ready : Ready ts w c) (h : Passed w c d 1) (g : Passed w d e (fixed "=")) {q : Parse} (r : Reads ts w v e flat (expression (drop (e .at) ts)) q) where
+module _ {ts : Tokens} {w v : List ℕ} {c d e : Cursor} (ready : Ready ts w c) (h : Passed w c d (classNumber Name)) (g : Passed w d e (fixed "=")) {q : Parse} (r : Reads ts w v e flat (expression (drop (e .at) ts)) q) where
   to-value : Took ts w c e []
   to-value = took-passed (took-passed (took-none ready) h (omega arith)) g (omega arith)
 
@@ -88,7 +89,7 @@ module _ {ts : Tokens} {w v : List ℕ} {c d e : Cursor} (ready : Ready ts w c) 
     room : f .out + 1 + c .at ≤ c .out + f .at
     room = omega (arith, value .took .onward .slack, h .next .at, h .next .out, g .next .at, g .next .out)
 
-    near : c .at < 8192
+    near : c .at < maxTokens
     near = omega (arith, inside ready (h .kind) (omega arith), ready .fits .few)
 
     pub valued-writes : (c .out ≤ f .out) × Writes v f kind (c .at) (f .out - c .out + 1)

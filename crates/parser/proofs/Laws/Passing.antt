@@ -16,6 +16,7 @@ use Rattle.language.specs.Grammar.{Tokens, Read, front, rest, next as nextIs, e
 use Rattle.language.specs.Laws.Basics.Tests.{pick, leave}
 use Rattle.lexer.specs.Numbers.{spellings, fixed, classNumber}
 use Rattle.lexer.specs.NumberLaws.{isPlain}
+use Rattle.language.specs.Limits.{maxTokens}
 use Rattle.entries.specs.Flat.{Entry}
 use Rattle.entries.specs.Stored.{Keeps}
 use Rattle.entries.specs.declared.Cursor.{Cursor}
@@ -122,7 +123,7 @@ module _ {ts : Tokens} {w : List ℕ} {c : Cursor} (ready : Ready ts w c) where
   keeps-here l = (refl, omega (arith, ready .tells .total))
 
   -- a token that is no end may be passed
-  pub next-fits : {k : ℕ} → kindAt w c ≡ k → 0 < k → c .at < 8192
+  pub next-fits : {k : ℕ} → kindAt w c ≡ k → 0 < k → c .at < maxTokens
   next-fits e l = omega (arith, before-end w c (omega (arith, e)), ready .fits .few)
 
   -- a turn of a loop takes a token

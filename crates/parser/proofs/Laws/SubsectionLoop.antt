@@ -24,7 +24,7 @@ use Rattle.entries.specs.CursorLaws.{ready-kind, before-end}
 use Rattle.entries.specs.Reads.{Reads}
 use Rattle.entries.specs.ReadsLaws.{kept-same}
 use Rattle.entries.specs.TokenReads.{took-none}
-use Rattle.parser.specs.Headings.{rowOf, headingNumber, headingCode, endOf, marked}
+use Rattle.parser.specs.Headings.{noHeading, rowOf, headingNumber, headingCode, endOf, marked}
 use Rattle.parser.proofs.Laws.Rows.{Accepted, accepted, refusal}
 use Rattle.parser.proofs.Laws.Loops.{Going, going-start, going-refused, going-rest, going-more}
 use Rattle.parser.proofs.Laws.HeadingRows.{below-at, heading-out, heading-most, fresh, heading-number, Row, no-row, row-of, left, left-less}
@@ -49,7 +49,7 @@ step f before o ts e = subsections-by f before (headingOf headings before (front
 
 -- the marks of those that have stood
 abbrev Flags : List ℕ → List ℕ → Type 0
-Flags marks before = (n : ℕ) → n < 8 → marked (getD marks n 0) ≡ seen before n
+Flags marks before = (n : ℕ) → n < noHeading → marked (getD marks n 0) ≡ seen before n
 
 flags-set : (marks before : List ℕ) (m : ℕ) → m < length marks → Flags marks before → Flags (set marks m 1) (m ∷ before)
 flags-set marks before m l h n k = go (eqb m n) refl
@@ -65,21 +65,21 @@ pub record Standing (x : Read (List Subsection)) (marks : List ℕ) (ts : Tokens
   pub before : List ℕ
   pub flags : Flags marks before
   pub fuel : ℕ
-  pub enough : left 8 before ≤ fuel
+  pub enough : left noHeading before ≤ fuel
   pub going : Going flatSubsection x (subsectionsOf (suc fuel) before (drop (d .at) ts)) ts w v s d
 
 -- none has stood at first
 abbrev noMarks : List ℕ
 noMarks = 0 ∷ 0 ∷ 0 ∷ 0 ∷ 0 ∷ 0 ∷ 0 ∷ 0 ∷ []
 
-pub no-marks : (n : ℕ) → n < 8 → getD noMarks n 0 ≡ 0
-no-marks n l = eqb-true (getD noMarks n 0) 0 (below-at (λ i. eqb (getD noMarks i 0) 0) 8 n refl l)
+pub no-marks : (n : ℕ) → n < noHeading → getD noMarks n 0 ≡ 0
+no-marks n l = eqb-true (getD noMarks n 0) 0 (below-at (λ i. eqb (getD noMarks i 0) 0) noHeading n refl l)
 
-pub below-eight : (k : ℕ) {n : ℕ} → n ≡ headingNumber k → (n ≡ 8 → ⊥) → n < 8
-below-eight k e m = omega (arith, heading-most k)
+pub below-none : (k : ℕ) {n : ℕ} → n ≡ headingNumber k → (n ≡ noHeading → ⊥) → n < noHeading
+below-none k e m = omega (arith, heading-most k)
 
-pub standing-start : {marks : List ℕ} {ts : Tokens} {w : List ℕ} {s : Cursor} → Ready ts w s → ((n : ℕ) → n < 8 → getD marks n 0 ≡ 0) → Standing (subsectionsOf 9 [] (drop (s .at) ts)) marks ts w w s s
-standing-start ready zeros = record { before = []; flags = λ n l. ap marked (zeros n l); fuel = 8; enough = omega arith; going = going-start ready refl }
+pub standing-start : {marks : List ℕ} {ts : Tokens} {w : List ℕ} {s : Cursor} → Ready ts w s → ((n : ℕ) → n < noHeading → getD marks n 0 ≡ 0) → Standing (subsectionsOf 9 [] (drop (s .at) ts)) marks ts w w s s
+standing-start ready zeros = record { before = []; flags = λ n l. ap marked (zeros n l); fuel = noHeading; enough = omega arith; going = going-start ready refl }
 
 -- every subsection has an entry
 flatSubsection-some : (s : Subsection) → 0 < length (flatSubsection s)
@@ -95,10 +95,10 @@ module _ {x : Read (List Subsection)} {marks : List ℕ} {ts : Tokens} {w v : Li
   word = heading-number (h .before) (front (drop (d .at) ts)) ∙ ap (λ k. fresh (h .before) (rowOf headings k)) (sym (ready-kind ready))
 
   -- no subsection's word
-  pub word-none : n ≡ 8 → headingOf headings (h .before) (front (drop (d .at) ts)) ≡ none
+  pub word-none : n ≡ noHeading → headingOf headings (h .before) (front (drop (d .at) ts)) ≡ none
   word-none e = word ∙ ap (fresh (h .before)) (no-row (kindAt v d) (sym is ∙ e))
 
-  module _ (l : n < 8) where
+  module _ (l : n < noHeading) where
     pub row : Row (kindAt v d)
     row = row-of (kindAt v d) (omega arith)
 
@@ -142,8 +142,8 @@ module _ {x : Read (List Subsection)} {marks : List ℕ} {ts : Tokens} {w v : Li
           a : Accepted ts z d f flatSubsection (subsectionOf (row .row .heading) (rest (drop (d .at) ts)))
           a = accepted m r
 
-          fewer : left 8 (h .before) ≡ suc (left 8 (row .row .number ∷ h .before))
-          fewer = left-less 8 (row .row .number) (h .before) (omega (arith, row-is)) (unseen e)
+          fewer : left noHeading (h .before) ≡ suc (left noHeading (row .row .number ∷ h .before))
+          fewer = left-less noHeading (row .row .number) (h .before) (omega (arith, row-is)) (unseen e)
 
           go : (i : ℕ) → h .fuel ≡ i → Standing x (set marks n 1) ts w z s f
           go zero o = absurd (omega (arith, fewer, h .enough))

@@ -19,11 +19,11 @@ use Rattle.entries.specs.Cursors.{Ready, Writes, emittedOf, refusedAt, expected
 use Rattle.entries.specs.Reads.{Kept, Took, Reads}
 use Rattle.entries.specs.ReadsLaws.{kept-same, read-stop}
 use Rattle.entries.specs.TokenReads.{took-none, expect-reads}
-use Rattle.parser.specs.Headings.{headingCode, endOf, marked}
+use Rattle.parser.specs.Headings.{noHeading, headingCode, endOf, marked}
 use Rattle.parser.proofs.Laws.Rows.{writes, kept-emit, took-emit, reads-tail}
 use Rattle.parser.proofs.Laws.Passing.{Next, past-ready, rest-past, took-past}
 
-module _ {ts : Tokens} {w : List ℕ} {c d : Cursor} (ready : Ready ts w c) (within : c .at < c .count) (b : Next c d) (n : ℕ) (small : n < 8) where
+module _ {ts : Tokens} {w : List ℕ} {c d : Cursor} (ready : Ready ts w c) (within : c .at < c .count) (b : Next c d) (n : ℕ) (small : n < noHeading) where
   pub heading-writes : Writes w d Kind.heading 0 n
   heading-writes = writes (past-ready ready b within) (omega arith) (omega arith) (omega arith)
 

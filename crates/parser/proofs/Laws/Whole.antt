@@ -1,5 +1,5 @@
 -- A whole text: its first token, its sections in a row, its end, and the answer.
-use Prim.Native.Nat.{ℕ, _<_}
+use Prim.Native.Nat.{ℕ, _<_, _^_}
 use native.Mathlib.Omega.{arith}
 use mathlib.Core.List.{List, [], _∷_, append-assoc}
 use mathlib.Core.Bool.{Bool, true, false}
@@ -14,9 +14,9 @@ use Rattle.language.specs.Tree.{Subsection}
 use Rattle.language.specs.Grammar.{Tokens, Read, front, rest, next, expect, expectOf}
 use Rattle.language.specs.Sections.{subsectionsOf, specOf}
 use Rattle.language.specs.Laws.Basics.Tests.{pick, leave}
-use Rattle.lexer.specs.Numbers.{number, fixed}
+use Rattle.lexer.specs.Numbers.{number, fixed, classNumber}
 use Rattle.lexer.specs.NumberLaws.{is-number, class-number}
-use Rattle.lexer.specs.Stored.{numberIn, offsetIn}
+use Rattle.lexer.specs.Stored.{offsetBits, numberIn, offsetIn}
 use Rattle.lexer.specs.StoredLaws.{number-word, offset-word}
 use Rattle.entries.specs.Flat.{each, flatParameter, flatDefinition, flatSubsection, outline}
 use Rattle.entries.specs.Stored.{EntriesFrom}
@@ -76,7 +76,7 @@ module _ {ts : Tokens} {w v : List ℕ} {c : Cursor} {q : Parse} (r : Reads ts w
 
 -- the first token, before which nothing is read
 module _ {ts : Tokens} {w : List ℕ} {count end : ℕ} (fits : Fits w (startOf count end)) (tells : Tells ts w count end) where
-  near : front ts .at < 65_536
+  near : front ts .at < 2 ^ offsetBits
   near = omega (arith, tells .places 0, fits .short)
 
   first-kind : kindAt w (startOf count end) ≡ number (front ts)
@@ -159,17 +159,17 @@ module _ {ts : Tokens} {w : List ℕ} {count end : ℕ} (fits : Fits w (startOf 
             up-to-end : specOf ts ≡ (expectOf End (drop (e .at) ts) >>= λ (t, us). Done (specWith (info .value) (body .value)))
             up-to-end = spec-parts ts ∙ bind-to _ _ _ first-read ∙ bind-to _ _ _ (info .read) ∙ bind-to _ _ _ (body .read)
 
-            pub not-end : (kindAt v e ≡ 0 → ⊥) → specOf ts ≡ Refused 4 (placeAt v e)
+            pub not-end : (kindAt v e ≡ classNumber End → ⊥) → specOf ts ≡ Refused 4 (placeAt v e)
             not-end k =
                 up-to-end ∙ bind-refused _ _ _ _ (leave (isOf End (front (drop (e .at) ts))) _ _ (class-elsewhere end-ready End refl k)) ∙ ap (Refused 4) (sym (ready-place end-ready))
 
-            at-end : kindAt v e ≡ 0 → specOf ts ≡ Done (specWith (info .value) (body .value))
+            at-end : kindAt v e ≡ classNumber End → specOf ts ≡ Done (specWith (info .value) (body .value))
             at-end k = up-to-end ∙ bind-to _ _ _ (pick (isOf End (front (drop (e .at) ts))) _ _ (class-here end-ready End refl k))
 
             written : outline (specWith (info .value) (body .value)) ≡ flatSections (body .value)
             written = sym (append-assoc (each flatParameter (body .value .0 .0)) (each flatDefinition (body .value .0 .1)) (each flatSubsection (body .value .1)))
 
-            pub outlined : {a : Outline} → kindAt v e ≡ 0 → a ≡ Answered (e .out) (s .facts) → Outlined ts w v a
+            pub outlined : {a : Outline} → kindAt v e ≡ classNumber End → a ≡ Answered (e .out) (s .facts) → Outlined ts w v a
             outlined {a} k x =
                 let size : e .out ≡ length (outline (specWith (info .value) (body .value))) = omega (arith, out-none, body .took .out, ap length written) in
                 record {

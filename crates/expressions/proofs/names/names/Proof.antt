@@ -2,7 +2,7 @@
 use borrow.Author.Needs.{needs}
 use native.Mathlib.Omega.{arith}
 use mathlib.Core.Path.{_≡_, sym, ap, _∙_}
-use Prim.Native.Nat.{_/_}
+use Rattle.expressions.specs.Classes.{Bound, Upper, Member, classNumber}
 use Rattle.expressions.specs.Stack.{slotClass}
 use Rattle.expressions.specs.CompleteLaws.{complete-tops, class-few}
 use Rattle.expressions.specs.NameStarts.{names-member, turn-member, upper-index, upper-grows, names-upper, turn-upper}
@@ -18,7 +18,7 @@ low-requires : tie.Need-low-requires
 low-requires c κs =
     let at-top = c .before .before in
     let start = at-top .before .before .before .before in
-    (start .pre .0, (start .pre .1), (let q : (at-top .top) .result / 8192 / 32 ≡ 18 = omega arith in ap slotClass (sym ((at-top .top) .ensures)) ∙ q))
+    (start .pre .0, (start .pre .1), (let q : slotClass ((at-top .top) .result) ≡ classNumber Bound = omega arith in ap slotClass (sym ((at-top .top) .ensures)) ∙ q))
 
 same-length : tie.Need-same-length
 same-length c = search needs
@@ -39,7 +39,7 @@ number-requires c κs =
     rw ((at-top .top) .ensures) (
       (start .pre .0 .state) .stacked .ready .fits .room,
       upper-index (start .pre .0 .state) (start .pre .1)
-          (let q : (at-top .top) .result / 8192 / 32 ≡ 19 = omega arith in ap slotClass (sym ((at-top .top) .ensures)) ∙ q),
+          (let q : slotClass ((at-top .top) .result) ≡ classNumber Upper = omega arith in ap slotClass (sym ((at-top .top) .ensures)) ∙ q),
     )
 
 between-requires : tie.Need-between-requires
@@ -51,7 +51,7 @@ grow-requires c κs =
     let at-top = at-number .before .before .before .before in
     let start = at-top .before .before .before .before in
     rw ((c .before .between) .ensures, (at-number .number) .ensures, (at-top .top) .ensures)
-    (upper-grows (start .pre .0 .state) (start .pre .1) (let q : (at-top .top) .result / 8192 / 32 ≡ 19 = omega arith in ap slotClass (sym ((at-top .top) .ensures)) ∙ q))
+    (upper-grows (start .pre .0 .state) (start .pre .1) (let q : slotClass ((at-top .top) .result) ≡ classNumber Upper = omega arith in ap slotClass (sym ((at-top .top) .ensures)) ∙ q))
 
 popped-requires : tie.Need-popped-requires
 popped-requires c κs =
@@ -80,7 +80,7 @@ named-requires c κs =
       start = start-2 .pre .0 .start;
       answer = start-2 .pre .0 .answer;
       state = names-upper (start-2 .pre .0 .state)
-          (start-2 .pre .1) (let q : (at-top .top) .result / 8192 / 32 ≡ 19 = omega arith in ap slotClass (sym ((at-top .top) .ensures)) ∙ q);
+          (start-2 .pre .1) (let q : slotClass ((at-top .top) .result) ≡ classNumber Upper = omega arith in ap slotClass (sym ((at-top .top) .ensures)) ∙ q);
     })
 
 same-length-2 : tie.Need-same-length-2
@@ -95,7 +95,7 @@ returns-2 c =
     let at-number = at-between .before in
     let at-top = at-number .before .before .before .before in
     let start = at-top .before .before .before .before in
-    λ ts s x h. turn-upper h (start .pre .1) (let q : (at-top .top) .result / 8192 / 32 ≡ 19 = omega arith in ap slotClass (sym ((at-top .top) .ensures)) ∙ q) ((at-named .named) .result)
+    λ ts s x h. turn-upper h (start .pre .1) (let q : slotClass ((at-top .top) .result) ≡ classNumber Upper = omega arith in ap slotClass (sym ((at-top .top) .ensures)) ∙ q) ((at-named .named) .result)
     (rw (
       (at-popped .popped) .ensures,
       (at-grow .grow) .ensures .0,
@@ -111,7 +111,7 @@ returns-2 c =
       (at-between .between) .ensures,
       (at-number .number) .ensures,
       (at-top .top) .ensures,
-    ) (names-upper h (start .pre .1) (let q : (at-top .top) .result / 8192 / 32 ≡ 19 = omega arith in ap slotClass (sym ((at-top .top) .ensures)) ∙ q)))))
+    ) (names-upper h (start .pre .1) (let q : slotClass ((at-top .top) .result) ≡ classNumber Upper = omega arith in ap slotClass (sym ((at-top .top) .ensures)) ∙ q)))))
 
 popped-requires-2 : tie.Need-popped-requires-2
 popped-requires-2 c κs =
@@ -127,7 +127,7 @@ named-requires-2 c κs =
       start = start-2 .pre .0 .start;
       answer = start-2 .pre .0 .answer;
       state = names-member (start-2 .pre .0 .state) (start-2 .pre .1)
-          (let q : (at-top .top) .result / 8192 / 32 ≡ 20 = (let low = start-2 .pre .2 in let high = class-few (start-2 .pre .0 .state) (start-2 .pre .1) in
+          (let q : slotClass ((at-top .top) .result) ≡ classNumber Member = (let low = start-2 .pre .2 in let high = class-few (start-2 .pre .0 .state) (start-2 .pre .1) in
           let e = ap slotClass ((at-top .top) .ensures) in omega arith) in ap slotClass (sym ((at-top .top) .ensures)) ∙ q);
     })
 
@@ -143,7 +143,7 @@ returns-3 c =
     λ ts s x h. turn-member h (start .pre .1) ((at-named2 .named2) .result)
     (rw ((at-popped2 .popped2) .ensures) at ((at-named2 .named2) .ensures ts s x
     (rw ((at-popped2 .popped2) .ensures, (at-top .top) .ensures) (names-member h (start .pre .1)
-    (let q : (at-top .top) .result / 8192 / 32 ≡ 20 = (let low = start .pre .2 in let high = class-few (start .pre .0 .state) (start .pre .1) in let e = ap slotClass ((at-top .top) .ensures) in
+    (let q : slotClass ((at-top .top) .result) ≡ classNumber Member = (let low = start .pre .2 in let high = class-few (start .pre .0 .state) (start .pre .1) in let e = ap slotClass ((at-top .top) .ensures) in
     omega arith) in ap slotClass (sym ((at-top .top) .ensures)) ∙ q)))))
 
 pub names-spec : {M : Type 1} → statement M

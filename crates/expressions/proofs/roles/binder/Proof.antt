@@ -3,6 +3,7 @@ use borrow.Author.Needs.{needs}
 use native.Mathlib.Omega.{arith}
 use mathlib.Core.Path.{sym, _∙_}
 use lib.Dec.{lit<}
+use Rattle.expressions.specs.Classes.{Over, Bound, classNumber}
 use Rattle.expressions.specs.BinderStates.{naming-fits, naming-push, naming-second, member-inside, member-second, named-bounds, named-member}
 use Rattle.expressions.proofs.roles.binder.Statement.{statement}
 use Rattle.expressions.proofs.roles.binder.Tie as tie
@@ -15,7 +16,7 @@ member-requires c κs =
 push-requires : tie.Need-push-requires
 push-requires c κs =
     let start = c .before .before .before .before .before in
-    naming-push (start .pre .state) 6 (lit< tt)
+    naming-push (start .pre .state) (classNumber Over) (lit< tt)
 
 next-requires : tie.Need-next-requires
 next-requires c κs =
@@ -39,7 +40,7 @@ push-requires-2 c κs =
     let start = at-member .before .before .before in
     let push = at-push .push in
     let i = member-inside (start .pre .state) (sym ((at-member .member) .ensures) ∙ (at-if1 .if1) .taken) in
-    rw (push .ensures .0, push .ensures .1) (naming-second (start .pre .state) 6 ((start .args .m) .level) (start .args .token) i)
+    rw (push .ensures .0, push .ensures .1) (naming-second (start .pre .state) (classNumber Over) ((start .args .m) .level) (start .args .token) i)
 
 same-length : tie.Need-same-length
 same-length c = search needs
@@ -60,7 +61,7 @@ returns c =
 push-requires-3 : tie.Need-push-requires-3
 push-requires-3 c κs =
     let start = c .before .before .before .before .before in
-    naming-push (start .pre .state) 18 (lit< tt)
+    naming-push (start .pre .state) (classNumber Bound) (lit< tt)
 
 same-length-2 : tie.Need-same-length-2
 same-length-2 c = search needs

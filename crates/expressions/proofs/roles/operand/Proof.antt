@@ -8,6 +8,7 @@ use Prim.Native.Nat.{_/_, _%_, _≤_}
 use Rattle.lexer.specs.Numbers.{fixed}
 use Rattle.entries.specs.Cursors.{kindAt, nextOf}
 use Rattle.operators.specs.Tables.{prefixAt}
+use Rattle.expressions.specs.Classes.{Sole, Count, Low, classNumber}
 use Rattle.expressions.specs.StateAsks.{asks-kind, asks-next, asks-second, asks-third, asks-push}
 use Rattle.expressions.specs.RoleStates.{not-end, turn-loose, turn-plain, turn-bare, turn-count, turn-low}
 use Rattle.expressions.proofs.roles.operand.Statement.{statement}
@@ -83,7 +84,7 @@ push-requires c κs =
     let at-kind = at-prefix .before in
     let start = at-kind .before .before .before .before in
     let prefixed = at-prefix .prefix in
-    asks-push (start .pre) (not-end (start .pre .state) (prefixed .result) (prefixed .ensures ∙ ap prefixAt ((at-kind .kind) .ensures)) ((at-if1 .if1) .left)) 2 (lit< tt)
+    asks-push (start .pre) (not-end (start .pre .state) (prefixed .result) (prefixed .ensures ∙ ap prefixAt ((at-kind .kind) .ensures)) ((at-if1 .if1) .left)) (classNumber Sole) (lit< tt)
 
 same-length-4 : tie.Need-same-length-4
 same-length-4 c = search needs
@@ -118,7 +119,7 @@ push-requires-2 c κs =
     let at-kind = at-prefix .before in
     let start = at-kind .before .before .before .before in
     let prefixed = at-prefix .prefix in
-    asks-push (start .pre) (not-end (start .pre .state) (prefixed .result) (prefixed .ensures ∙ ap prefixAt ((at-kind .kind) .ensures)) ((at-if1 .if1) .left)) 2 (lit< tt)
+    asks-push (start .pre) (not-end (start .pre .state) (prefixed .result) (prefixed .ensures ∙ ap prefixAt ((at-kind .kind) .ensures)) ((at-if1 .if1) .left)) (classNumber Sole) (lit< tt)
 
 same-length-5 : tie.Need-same-length-5
 same-length-5 c = search needs
@@ -158,7 +159,7 @@ push-requires-3 c κs =
     let at-kind = at-prefix .before in
     let start = at-kind .before .before .before .before in
     let prefixed = at-prefix .prefix in
-    asks-push (start .pre) (not-end (start .pre .state) (prefixed .result) (prefixed .ensures ∙ ap prefixAt ((at-kind .kind) .ensures)) ((at-if1 .if1) .left)) 12 (lit< tt)
+    asks-push (start .pre) (not-end (start .pre .state) (prefixed .result) (prefixed .ensures ∙ ap prefixAt ((at-kind .kind) .ensures)) ((at-if1 .if1) .left)) (classNumber Count) (lit< tt)
 
 same-length-6 : tie.Need-same-length-6
 same-length-6 c = search needs
@@ -200,7 +201,7 @@ push-requires-4 c κs =
     let at-kind = at-prefix .before in
     let start = at-kind .before .before .before .before in
     let prefixed = at-prefix .prefix in
-    asks-push (start .pre) (not-end (start .pre .state) (prefixed .result) (prefixed .ensures ∙ ap prefixAt ((at-kind .kind) .ensures)) ((at-if1 .if1) .left)) 13 (lit< tt)
+    asks-push (start .pre) (not-end (start .pre .state) (prefixed .result) (prefixed .ensures ∙ ap prefixAt ((at-kind .kind) .ensures)) ((at-if1 .if1) .left)) (classNumber Low) (lit< tt)
 
 same-length-7 : tie.Need-same-length-7
 same-length-7 c = search needs

@@ -3,6 +3,7 @@ use borrow.Author.Needs.{needs}
 use native.Mathlib.Omega.{arith}
 use mathlib.Core.Path.{_≡_, sym, _∙_}
 use Rattle.lexer.specs.Numbers.{fixed}
+use Rattle.expressions.specs.Classes.{Cons, classNumber}
 use Rattle.expressions.specs.Elements.{listing-fits, listing-grows, listing-ends, comma-inside, listing-push, listing-second, listing-more}
 use Rattle.expressions.proofs.sets.element.Statement.{statement}
 use Rattle.expressions.proofs.sets.element.Tie as tie
@@ -30,7 +31,7 @@ push-requires-2 c κs =
     let at-kind = at-push .before .before .before in
     let start = at-kind .before .before .before .before in
     rw ((at-push .push) .ensures .0, (at-push .push) .ensures .1)
-    (listing-second (start .pre .state) (let q : (at-kind .kind) .result ≡ fixed "," = omega arith in sym ((at-kind .kind) .ensures) ∙ q) 5 ((start .args .m) .level) ((start .args .m) .c .at))
+    (listing-second (start .pre .state) (let q : (at-kind .kind) .result ≡ fixed "," = omega arith in sym ((at-kind .kind) .ensures) ∙ q) (classNumber Cons) ((start .args .m) .level) ((start .args .m) .c .at))
 
 same-length : tie.Need-same-length
 same-length c = search needs

@@ -4,9 +4,9 @@ use native.Mathlib.Omega.{arith}
 use mathlib.Core.Path.{_≡_, sym, ap, _∙_}
 use lib.Dec.{lit<}
 use denote.Ref.{now}
-use Prim.Native.Nat.{_/_}
 use Rattle.lexer.specs.Numbers.{fixed}
 use Rattle.entries.specs.CursorLaws.{before-end}
+use Rattle.expressions.specs.Classes.{Count, Low, High, classNumber}
 use Rattle.expressions.specs.Stack.{slotClass}
 use Rattle.expressions.specs.CompleteLaws.{complete-tops, complete-fits}
 use Rattle.expressions.specs.Reopens.{turn-counted, turn-low, turn-high, turn-unlow, turn-unopened}
@@ -46,7 +46,7 @@ returns c =
     let at-top = at-kind .before .before in
     let start = at-top .before .before .before .before in
     λ ts s x h. rw ((at-reopen .reopen) .ensures .0, (at-reopen .reopen) .ensures .1, (at-next .next) .ensures)
-    (turn-low h (start .pre .1) (let q : (at-top .top) .result / 8192 / 32 ≡ 13 = omega arith in ap slotClass (sym ((at-top .top) .ensures)) ∙ q)
+    (turn-low h (start .pre .1) (let q : slotClass ((at-top .top) .result) ≡ classNumber Low = omega arith in ap slotClass (sym ((at-top .top) .ensures)) ∙ q)
     (let q : (at-kind .kind) .result ≡ fixed ":" = omega arith in sym ((at-kind .kind) .ensures) ∙ q))
 
 refuse-requires : tie.Need-refuse-requires
@@ -62,7 +62,7 @@ returns-2 c =
     let at-kind = c .before .before .before .before in
     let at-top = at-kind .before .before in
     let start = at-top .before .before .before .before in
-    λ ts s x h. rw ((c .refuse) .ensures) (turn-unlow h (start .pre .1) (let q : (at-top .top) .result / 8192 / 32 ≡ 13 = omega arith in ap slotClass (sym ((at-top .top) .ensures)) ∙ q)
+    λ ts s x h. rw ((c .refuse) .ensures) (turn-unlow h (start .pre .1) (let q : slotClass ((at-top .top) .result) ≡ classNumber Low = omega arith in ap slotClass (sym ((at-top .top) .ensures)) ∙ q)
     (λ z. let q : (at-kind .kind) .result ≡ fixed ":" = (at-kind .kind) .ensures ∙ z in omega arith))
 
 refuse-requires-2 : tie.Need-refuse-requires-2
@@ -79,7 +79,7 @@ returns-3 c =
     let at-kind = at-if1 .before in
     let at-top = at-kind .before .before in
     let start = at-top .before .before .before .before in
-    λ ts s x h. rw ((c .refuse2) .ensures) (turn-unopened h (start .pre .1) (start .pre .2) (start .pre .3) (λ z. (at-if1 .if1) .left (ap (λ y. y / 8192 / 32) ((at-top .top) .ensures) ∙ z))
+    λ ts s x h. rw ((c .refuse2) .ensures) (turn-unopened h (start .pre .1) (start .pre .2) (start .pre .3) (λ z. (at-if1 .if1) .left (ap slotClass ((at-top .top) .ensures) ∙ z))
     (λ z. let q : (at-kind .kind) .result ≡ fixed "]" = (at-kind .kind) .ensures ∙ z in omega arith))
 
 operator-requires : tie.Need-operator-requires
@@ -121,7 +121,7 @@ returns-4 c =
       (at-prefix .prefix) .ensures,
       (at-operator .operator) .ensures,
       (at-top .top) .ensures,
-    ) (turn-counted h (start .pre .1) (let q : (at-top .top) .result / 8192 / 32 ≡ 12 = omega arith in ap slotClass (sym ((at-top .top) .ensures)) ∙ q)
+    ) (turn-counted h (start .pre .1) (let q : slotClass ((at-top .top) .result) ≡ classNumber Count = omega arith in ap slotClass (sym ((at-top .top) .ensures)) ∙ q)
     (let q : (at-kind .kind) .result ≡ fixed "]" = omega arith in sym ((at-kind .kind) .ensures) ∙ q))
 
 next-requires-3 : tie.Need-next-requires-3
@@ -155,7 +155,7 @@ returns-5 c =
       (at-prefix .prefix) .ensures,
       (at-operator .operator) .ensures,
       (at-top .top) .ensures,
-    ) (turn-high h (start .pre .1) (let q : (at-top .top) .result / 8192 / 32 ≡ 14 =
+    ) (turn-high h (start .pre .1) (let q : slotClass ((at-top .top) .result) ≡ classNumber High =
     (let low = start .pre .2 in let high = start .pre .3 in let e = ap slotClass ((at-top .top) .ensures) in omega arith) in ap slotClass (sym ((at-top .top) .ensures)) ∙ q)
     (let q : (at-kind .kind) .result ≡ fixed "]" = omega arith in sym ((at-kind .kind) .ensures) ∙ q))
 

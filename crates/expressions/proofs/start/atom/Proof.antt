@@ -4,8 +4,11 @@ use native.Mathlib.Omega.{arith}
 use mathlib.Core.Path.{_≡_, sym, _∙_}
 use lib.Dec.{lit<}
 use denote.Ref.{now}
-use Rattle.lexer.specs.Numbers.{fixed}
+use Rattle.lexer.specs.Numbers.{fixed, classNumber as tokenNumber}
+use Rattle.language.specs.Tokens.{Name, Numeral as Digits}
+use Rattle.entries.specs.Kinds as Kind
 use Rattle.entries.specs.Cursors.{kindAt}
+use Rattle.expressions.specs.Classes.{Round, Bars, classNumber}
 use Rattle.expressions.specs.StateAsks.{asks-kind, asks-next, asks-push, asks-leaf}
 use Rattle.expressions.specs.StartStates.{starters, turn-numeral, turn-true, turn-false, turn-round, turn-bars, turn-not}
 use Rattle.expressions.proofs.start.atom.Statement.{statement}
@@ -20,7 +23,7 @@ name-requires : tie.Need-name-requires
 name-requires c κs =
     let at-kind = c .before .before in
     let start = at-kind .before .before .before .before in
-    (start .pre .0, let first : kindAt (now (start .args .work)) (start .args .m .c) ≡ 1 = (let q : (at-kind .kind) .result ≡ 1 = omega arith in sym ((at-kind .kind) .ensures) ∙ q) in first)
+    (start .pre .0, let first : kindAt (now (start .args .work)) (start .args .m .c) ≡ tokenNumber Name = (let q : (at-kind .kind) .result ≡ tokenNumber Name = omega arith in sym ((at-kind .kind) .ensures) ∙ q) in first)
 
 same-length : tie.Need-same-length
 same-length c = search needs
@@ -32,8 +35,8 @@ leaf-requires : tie.Need-leaf-requires
 leaf-requires c κs =
     let at-kind = c .before .before .before in
     let start = at-kind .before .before .before .before in
-    let first : kindAt (now (start .args .work)) (start .args .m .c) ≡ 2 = (let q : (at-kind .kind) .result ≡ 2 = omega arith in sym ((at-kind .kind) .ensures) ∙ q) in
-    asks-leaf (start .pre .0) (omega arith) 1 (lit< tt)
+    let first : kindAt (now (start .args .work)) (start .args .m .c) ≡ tokenNumber Digits = (let q : (at-kind .kind) .result ≡ tokenNumber Digits = omega arith in sym ((at-kind .kind) .ensures) ∙ q) in
+    asks-leaf (start .pre .0) (omega arith) Kind.numeral (lit< tt)
 
 same-length-2 : tie.Need-same-length-2
 same-length-2 c = search needs
@@ -43,7 +46,7 @@ returns-2 c =
     let at-leaf = c .before .before in
     let at-kind = at-leaf .before .before .before .before in
     let start = at-kind .before .before .before .before in
-    λ ts s x h. let first : kindAt (now (start .args .work)) (start .args .m .c) ≡ 2 = (let q : (at-kind .kind) .result ≡ 2 = omega arith in sym ((at-kind .kind) .ensures) ∙ q) in
+    λ ts s x h. let first : kindAt (now (start .args .work)) (start .args .m .c) ≡ tokenNumber Digits = (let q : (at-kind .kind) .result ≡ tokenNumber Digits = omega arith in sym ((at-kind .kind) .ensures) ∙ q) in
     rw ((at-leaf .leaf) .ensures .0, (at-leaf .leaf) .ensures .1) (turn-numeral h (start .pre .1) first)
 
 leaf-requires-2 : tie.Need-leaf-requires-2
@@ -51,7 +54,7 @@ leaf-requires-2 c κs =
     let at-kind = c .before .before .before .before in
     let start = at-kind .before .before .before .before in
     let first : kindAt (now (start .args .work)) (start .args .m .c) ≡ fixed "true" = (let q : (at-kind .kind) .result ≡ fixed "true" = omega arith in sym ((at-kind .kind) .ensures) ∙ q) in
-    asks-leaf (start .pre .0) (omega arith) 2 (lit< tt)
+    asks-leaf (start .pre .0) (omega arith) Kind.truth (lit< tt)
 
 same-length-3 : tie.Need-same-length-3
 same-length-3 c = search needs
@@ -69,7 +72,7 @@ leaf-requires-3 c κs =
     let at-kind = c .before .before .before .before .before in
     let start = at-kind .before .before .before .before in
     let first : kindAt (now (start .args .work)) (start .args .m .c) ≡ fixed "false" = (let q : (at-kind .kind) .result ≡ fixed "false" = omega arith in sym ((at-kind .kind) .ensures) ∙ q) in
-    asks-leaf (start .pre .0) (omega arith) 2 (lit< tt)
+    asks-leaf (start .pre .0) (omega arith) Kind.truth (lit< tt)
 
 same-length-4 : tie.Need-same-length-4
 same-length-4 c = search needs
@@ -94,7 +97,7 @@ push-requires c κs =
     let at-kind = c .before .before .before .before .before .before .before in
     let start = at-kind .before .before .before .before in
     let first : kindAt (now (start .args .work)) (start .args .m .c) ≡ fixed "(" = (let q : (at-kind .kind) .result ≡ fixed "(" = omega arith in sym ((at-kind .kind) .ensures) ∙ q) in
-    asks-push (start .pre .0) (omega arith) 7 (lit< tt)
+    asks-push (start .pre .0) (omega arith) (classNumber Round) (lit< tt)
 
 same-length-5 : tie.Need-same-length-5
 same-length-5 c = search needs
@@ -120,7 +123,7 @@ push-requires-2 c κs =
     let at-kind = c .before .before .before .before .before .before .before .before in
     let start = at-kind .before .before .before .before in
     let first : kindAt (now (start .args .work)) (start .args .m .c) ≡ fixed "|" = (let q : (at-kind .kind) .result ≡ fixed "|" = omega arith in sym ((at-kind .kind) .ensures) ∙ q) in
-    asks-push (start .pre .0) (omega arith) 8 (lit< tt)
+    asks-push (start .pre .0) (omega arith) (classNumber Bars) (lit< tt)
 
 same-length-6 : tie.Need-same-length-6
 same-length-6 c = search needs

@@ -5,7 +5,9 @@ use mathlib.Core.Path.{_≡_, sym, ap, _∙_}
 use lib.Dec.{lit<}
 use denote.Ref.{now}
 use Rattle.lexer.specs.Numbers.{fixed}
+use Rattle.entries.specs.Kinds as Kind
 use Rattle.entries.specs.Cursors.{kindAt, nextOf}
+use Rattle.expressions.specs.Classes.{One, classNumber}
 use Rattle.expressions.specs.StateAsks.{asks-next, asks-second, asks-third, asks-push, asks-leaf}
 use Rattle.expressions.specs.StartStates.{turn-empty, turn-set}
 use Rattle.expressions.proofs.start.brace.Statement.{statement}
@@ -33,7 +35,7 @@ emit-requires : tie.Need-emit-requires
 emit-requires c κs =
     let at-next = c .before .before .before .before .before in
     let start = at-next .before .before .before in
-    let p = asks-leaf (start .pre .0) (omega (arith, start .pre .1)) 51 (lit< tt) in
+    let p = asks-leaf (start .pre .0) (omega (arith, start .pre .1)) Kind.listed (lit< tt) in
     rw ((c .before .next2) .ensures, (at-next .next) .ensures) (record { room = p .room; few = p .out-fits; kind-fits = p .kind-fits; index-fits = p .at-fits; size-fits = lit< tt })
 
 climbing-requires : tie.Need-climbing-requires
@@ -56,7 +58,7 @@ returns c =
 push-requires : tie.Need-push-requires
 push-requires c κs =
     let start = c .before .before .before .before .before .before .before in
-    asks-push (start .pre .0) (omega (arith, start .pre .1)) 15 (lit< tt)
+    asks-push (start .pre .0) (omega (arith, start .pre .1)) (classNumber One) (lit< tt)
 
 same-length-2 : tie.Need-same-length-2
 same-length-2 c = search needs

@@ -5,7 +5,9 @@ use mathlib.Core.Path.{_≡_, sym, ap, _∙_}
 use lib.Dec.{lit<}
 use denote.Ref.{now}
 use Rattle.lexer.specs.Numbers.{fixed}
+use Rattle.entries.specs.Kinds as Kind
 use Rattle.entries.specs.Cursors.{kindAt, nextOf}
+use Rattle.expressions.specs.Classes.{Square, classNumber}
 use Rattle.expressions.specs.StateAsks.{asks-next, asks-second, asks-third, asks-push, asks-leaf}
 use Rattle.expressions.specs.StartStates.{turn-name, turn-index}
 use Rattle.expressions.proofs.start.name.Statement.{statement}
@@ -33,7 +35,7 @@ next-requires-2 c κs =
 push-requires : tie.Need-push-requires
 push-requires c κs =
     let start = c .before .before .before .before .before .before .before .before in
-    asks-push (start .pre .0) (omega (arith, start .pre .1)) 9 (lit< tt)
+    asks-push (start .pre .0) (omega (arith, start .pre .1)) (classNumber Square) (lit< tt)
 
 same-length : tie.Need-same-length
 same-length c = search needs
@@ -52,7 +54,7 @@ returns c =
 leaf-requires : tie.Need-leaf-requires
 leaf-requires c κs =
     let start = c .before .before .before .before .before .before .before in
-    asks-leaf (start .pre .0) (omega (arith, start .pre .1)) 0 (lit< tt)
+    asks-leaf (start .pre .0) (omega (arith, start .pre .1)) Kind.named (lit< tt)
 
 same-length-2 : tie.Need-same-length-2
 same-length-2 c = search needs

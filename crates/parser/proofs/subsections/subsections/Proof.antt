@@ -8,7 +8,7 @@ use Rattle.parser.proofs.Laws.Rows.{accepted}
 use Rattle.parser.proofs.Laws.SubsectionLoop.{
   Standing,
   no-marks,
-  below-eight,
+  below-none,
   standing-start,
   word-none,
   row,
@@ -23,7 +23,7 @@ use Rattle.parser.proofs.Laws.SubsectionLoop.{
 use Rattle.parser.proofs.Laws.SubsectionReads.{marked-none, marked-some}
 use Rattle.parser.proofs.subsections.subsections.Statement.{statement}
 use Rattle.parser.proofs.subsections.subsections.Tie as tie
-use Rattle.parser.specs.Headings.{headingNumber}
+use Rattle.parser.specs.Headings.{noHeading, headingNumber}
 use borrow.Author.Needs.{needs}
 use lib.ListN.{length, drop, length-set}
 use mathlib.Core.List.{[]}
@@ -32,7 +32,7 @@ use native.Mathlib.Omega.{arith}
 
 abbrev Inv-loop : tie.InvT-loop
 Inv-loop work₀ before₀ d₀ work before d =
-    (length before ≡ 8) × ((ts : Tokens) → Ready ts work₀ d₀ → Standing (subsectionsOf 9 [] (drop (d₀ .at) ts)) before ts work₀ work d₀ d)
+    (length before ≡ noHeading) × ((ts : Tokens) → Ready ts work₀ d₀ → Standing (subsectionsOf 9 [] (drop (d₀ .at) ts)) before ts work₀ work d₀ d)
 
 abbrev μ-loop : tie.MeasureT-loop
 μ-loop work₀ before₀ d₀ work before d = d .count - d .at
@@ -80,7 +80,7 @@ returns c =
 
 array-read-if2 : tie.Need-array-read-if2 Inv-loop μ-loop
 array-read-if2 c =
-    (below-eight _ (c .before .heading .ensures) (c .if1 .left))
+    (below-none _ (c .before .heading .ensures) (c .if1 .left))
 
 array-read-ending-3 : tie.Need-array-read-ending-3 Inv-loop μ-loop
 array-read-ending-3 c = omega arith
@@ -109,7 +109,7 @@ returns-2 c =
     let at-heading = at-if1 .before in
     let at-kind = at-heading .before in
     let at-loop = at-kind .before .before in
-    λ ts ready. let h = at-loop .loop .inv .1 ts ready in subsections-end h (word-seen h (at-heading .heading .ensures ∙ ap headingNumber (at-kind .kind .ensures)) (below-eight _ (at-heading
+    λ ts ready. let h = at-loop .loop .inv .1 ts ready in subsections-end h (word-seen h (at-heading .heading .ensures ∙ ap headingNumber (at-kind .kind .ensures)) (below-none _ (at-heading
     .heading .ensures) (at-if1 .if1 .left)) (marked-some _ (at-if2 .if2 .taken))) (c .ending2 .ensures ts (h .going .took .ready))
 
 subsection-requires : tie.Need-subsection-requires Inv-loop μ-loop
@@ -123,8 +123,8 @@ subsection-requires c κs =
       record { tokens = z .tokens; ready = h .going .took .ready },
       word-inside h
           (at-heading .heading .ensures ∙ ap headingNumber (at-kind .kind .ensures))
-          (below-eight _ (at-heading .heading .ensures) (at-if1 .if1 .left)),
-      (below-eight _ (at-heading .heading .ensures) (at-if1 .if1 .left)),
+          (below-none _ (at-heading .heading .ensures) (at-if1 .if1 .left)),
+      (below-none _ (at-heading .heading .ensures) (at-if1 .if1 .left)),
     )
 
 enum-known-r : tie.Need-enum-known-r Inv-loop μ-loop
@@ -143,8 +143,8 @@ same-length-3 c =
     let start = at-loop .before .before in
     let z = start .pre in
     let h = at-loop .loop .inv .1 (z .tokens) (z .ready) in
-    (at-subsection .subsection .ensures (row h (at-heading .heading .ensures ∙ ap headingNumber (at-kind .kind .ensures)) (below-eight _ (at-heading .heading .ensures) (at-if1 .if1 .left)) .row
-    .heading) (row-code h (at-heading .heading .ensures ∙ ap headingNumber (at-kind .kind .ensures)) (below-eight _ (at-heading .heading .ensures) (at-if1 .if1 .left))) (z .tokens) (h .going .took
+    (at-subsection .subsection .ensures (row h (at-heading .heading .ensures ∙ ap headingNumber (at-kind .kind .ensures)) (below-none _ (at-heading .heading .ensures) (at-if1 .if1 .left)) .row
+    .heading) (row-code h (at-heading .heading .ensures ∙ ap headingNumber (at-kind .kind .ensures)) (below-none _ (at-heading .heading .ensures) (at-if1 .if1 .left))) (z .tokens) (h .going .took
     .ready)) .kept .len ∙ h .going .kept .len
 
 returns-3 : tie.Need-returns-3 Inv-loop μ-loop
@@ -155,16 +155,16 @@ returns-3 c =
     let at-heading = at-if1 .before in
     let at-kind = at-heading .before in
     let at-loop = at-kind .before .before in
-    λ ts ready. let h = at-loop .loop .inv .1 ts ready in subsections-stop h (at-heading .heading .ensures ∙ ap headingNumber (at-kind .kind .ensures)) (below-eight _ (at-heading .heading
+    λ ts ready. let h = at-loop .loop .inv .1 ts ready in subsections-stop h (at-heading .heading .ensures ∙ ap headingNumber (at-kind .kind .ensures)) (below-none _ (at-heading .heading
     .ensures) (at-if1 .if1 .left)) (marked-none _ (at-if2 .if2 .left)) (at-subsection .subsection .ensures (row h (at-heading .heading .ensures ∙ ap headingNumber (at-kind .kind .ensures))
-    (below-eight _ (at-heading .heading .ensures) (at-if1 .if1 .left)) .row .heading) (row-code h (at-heading .heading .ensures ∙ ap headingNumber (at-kind .kind .ensures)) (below-eight _
+    (below-none _ (at-heading .heading .ensures) (at-if1 .if1 .left)) .row .heading) (row-code h (at-heading .heading .ensures ∙ ap headingNumber (at-kind .kind .ensures)) (below-none _
     (at-heading .heading .ensures) (at-if1 .if1 .left))) ts (h .going .took .ready)) (c .enum-told .given .1)
 
 array-write-before : tie.Need-array-write-before Inv-loop μ-loop
 array-write-before c =
     let at-if1 = c .before .before .before .before .before .before .before .before in
     let at-heading = at-if1 .before in
-    (below-eight _ (at-heading .heading .ensures) (at-if1 .if1 .left))
+    (below-none _ (at-heading .heading .ensures) (at-if1 .if1 .left))
 
 loop-less : tie.Need-loop-less Inv-loop μ-loop
 loop-less c =
@@ -181,26 +181,26 @@ loop-less c =
     let t = accepted (at-r .r .given .1) (at-subsection .subsection .ensures
     (row h (at-heading .heading .ensures ∙ ap headingNumber
     (at-kind .kind .ensures))
-    (below-eight _ (at-heading .heading .ensures)
+    (below-none _ (at-heading .heading .ensures)
     (at-if1 .if1 .left)) .row .heading)
     (row-code h (at-heading .heading .ensures ∙ ap headingNumber
     (at-kind .kind .ensures))
-    (below-eight _ (at-heading .heading .ensures)
+    (below-none _ (at-heading .heading .ensures)
     (at-if1 .if1 .left))) (z .tokens) (h .going .took .ready)) .took in
     omega (
       arith,
       subsection-further h (at-heading .heading .ensures ∙ ap headingNumber
           (at-kind .kind .ensures))
-          (below-eight _ (at-heading .heading .ensures)
+          (below-none _ (at-heading .heading .ensures)
           (at-if1 .if1 .left)) (marked-none _ (at-if2 .if2 .left))
           (at-subsection .subsection .ensures
           (row h (at-heading .heading .ensures ∙ ap headingNumber
           (at-kind .kind .ensures))
-          (below-eight _ (at-heading .heading .ensures)
+          (below-none _ (at-heading .heading .ensures)
           (at-if1 .if1 .left)) .row .heading)
           (row-code h (at-heading .heading .ensures ∙ ap headingNumber
           (at-kind .kind .ensures))
-          (below-eight _ (at-heading .heading .ensures)
+          (below-none _ (at-heading .heading .ensures)
           (at-if1 .if1 .left))) (z .tokens) (h .going .took .ready)) (at-r .r .given .1),
       t .onward .count,
       t .ready .fits .inside,
@@ -219,20 +219,20 @@ loop-again c =
           at-loop .loop .inv .1 ts ready in
           subsections-again h (at-heading .heading .ensures ∙ ap headingNumber
           (at-kind .kind .ensures))
-          (below-eight _ (at-heading .heading .ensures)
+          (below-none _ (at-heading .heading .ensures)
           (at-if1 .if1 .left)) (marked-none _ (at-if2 .if2 .left))
           (at-subsection .subsection .ensures
           (row h (at-heading .heading .ensures ∙ ap headingNumber
           (at-kind .kind .ensures))
-          (below-eight _ (at-heading .heading .ensures)
+          (below-none _ (at-heading .heading .ensures)
           (at-if1 .if1 .left)) .row .heading)
           (row-code h (at-heading .heading .ensures ∙ ap headingNumber
           (at-kind .kind .ensures))
-          (below-eight _ (at-heading .heading .ensures)
+          (below-none _ (at-heading .heading .ensures)
           (at-if1 .if1 .left))) ts (h .going .took .ready))
           (omega (
             arith,
-            (below-eight _ (at-heading .heading .ensures)
+            (below-none _ (at-heading .heading .ensures)
                 (at-if1 .if1 .left)),
             at-loop .loop .inv .0,
           )) (c .before .r .given .1),
