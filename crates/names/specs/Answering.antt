@@ -1,7 +1,8 @@
 -- The answer, from what the walks have found.
 use Prim.Native.Nat.{ℕ, _≤_, _<_}
 use mathlib.Core.Bool.{true, false}
-use mathlib.Core.Path.{_≡_, sym, _∙_}
+use mathlib.Core.Path.{_≡_, sym, ap, _∙_}
+use native.Mathlib.Omega.{arith}
 use lib.Dec.{ltb}
 use borrow.Author.Tests.{lt-ltb, le-ltb}
 use Rattle.language.specs.Limits.{maxNames}
@@ -26,16 +27,18 @@ module _ (hidden again count place : ℕ) where
   unfolding answerOf
   answer-hidden a = sym (pick (ltb hidden noPlace) _ _ (lt-ltb hidden noPlace a))
 
-  pub answer-again : noPlace ≤ hidden → again < noPlace → Refused 7 again ≡ answerOf hidden again count place
+  pub answer-again : {q : ℕ} → q ≡ again → noPlace ≤ hidden → q < noPlace → Refused 7 q ≡ answerOf hidden again count place
   unfolding answerOf
-  answer-again a b = sym (leave (ltb hidden noPlace) _ _ (le-ltb hidden noPlace a) ∙ pick (ltb again noPlace) _ _ (lt-ltb again noPlace b))
+  answer-again e a b = ap (Refused 7) e ∙ sym (leave (ltb hidden noPlace) _ _ (le-ltb hidden noPlace a) ∙ pick (ltb again noPlace) _ _ (lt-ltb again noPlace (omega arith)))
 
-  pub answer-many : noPlace ≤ hidden → noPlace ≤ again → maxNames < count → Refused 8 place ≡ answerOf hidden again count place
-  unfolding answerOf
-  answer-many a b c =
-      sym (leave (ltb hidden noPlace) _ _ (le-ltb hidden noPlace a) ∙ leave (ltb again noPlace) _ _ (le-ltb again noPlace b) ∙ pick (ltb maxNames count) _ _ (lt-ltb maxNames count c))
+  module _ {q : ℕ} (e : q ≡ again) (a : noPlace ≤ hidden) (b : noPlace ≤ q) where
+    -- behind 6 and 7
+    later : answerOf hidden again count place ≡ elim (ltb maxNames count) [ true ↦ Refused 8 place | false ↦ Named count ]
+    unfolding answerOf
+    later = leave (ltb hidden noPlace) _ _ (le-ltb hidden noPlace a) ∙ leave (ltb again noPlace) _ _ (le-ltb again noPlace (omega arith))
 
-  pub answer-named : noPlace ≤ hidden → noPlace ≤ again → count ≤ maxNames → Named count ≡ answerOf hidden again count place
-  unfolding answerOf
-  answer-named a b c =
-      sym (leave (ltb hidden noPlace) _ _ (le-ltb hidden noPlace a) ∙ leave (ltb again noPlace) _ _ (le-ltb again noPlace b) ∙ leave (ltb maxNames count) _ _ (le-ltb maxNames count c))
+    pub answer-many : maxNames < count → Refused 8 place ≡ answerOf hidden again count place
+    answer-many c = sym (later ∙ pick (ltb maxNames count) _ _ (lt-ltb maxNames count c))
+
+    pub answer-named : count ≤ maxNames → Named count ≡ answerOf hidden again count place
+    answer-named c = sym (later ∙ leave (ltb maxNames count) _ _ (le-ltb maxNames count c))

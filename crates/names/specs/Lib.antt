@@ -8,9 +8,11 @@ pub mod DeclaringLaws
 pub mod Tables
 pub mod TableLaws
 pub mod Walkable
+pub mod OwnName
 pub mod Meeting
 pub mod References
 pub mod Numbering
+pub mod Census
 pub mod Balanced
 pub mod Walking
 pub mod WalkLaws
@@ -18,6 +20,7 @@ pub mod RoleLaws
 pub mod WalkEntries
 pub mod WalkBinders
 pub mod States
+pub mod Short
 pub mod Resolved
 pub mod Answering
 pub mod ResolveLaws

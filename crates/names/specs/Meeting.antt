@@ -13,17 +13,17 @@ use Rattle.language.specs.Places.{first}
 use Rattle.language.specs.Names.{Names, doubled}
 use Rattle.language.specs.Laws.Basics.Lists.{All}
 use Rattle.language.specs.Laws.Basics.Tests.{pick, leave, or-right}
-use Rattle.lexer.specs.Stored.{offsetIn}
 use Rattle.entries.specs.Kinds as Kind
 use Rattle.entries.specs.Flat.{Entry}
-use Rattle.entries.specs.Stored.{firstEntry, kindOf, indexOf}
+use Rattle.entries.specs.Stored.{firstEntry, kindOf}
 use Rattle.names.specs.Roles.{uses, binds, declares}
 use Rattle.names.specs.Scan.{tokenOf}
 use Rattle.names.specs.Declaring.{declaredIn, fewer}
 use Rattle.spellings.specs.Interned.{tokenAt}
 use Rattle.names.specs.Tables.{noPlace, placeOf, least, Placed}
-use Rattle.names.specs.TableLaws.{place-none, place-min, again-least, shows-push, least-none}
-use Rattle.names.specs.Walkable.{names, Walkable, Table, entryOf, rest-at, NameAt, kind-there, name-there, place-there}
+use Rattle.names.specs.TableLaws.{place-none, place-min, again-least, least-none}
+use Rattle.names.specs.Walkable.{names, Walkable, Table, entryOf, rest-at, kind-there}
+use Rattle.names.specs.OwnName.{OwnName, own-at, own-placed, own-held, own-push}
 
 -- the names declared from entry k on, of kinds from `low` on
 abbrev pub declaredFrom : {w ids : List ℕ} {entries : ℕ} → Walkable w ids entries → ℕ → ℕ → Names
@@ -76,11 +76,6 @@ module _ {w ids : List ℕ} {entries : ℕ} (h : Walkable w ids entries) (low : 
     rest : drop k (h .es) ≡ own ∷ drop (k + 1) (h .es)
     rest = rest-at (h .es) k (let t = h .total in omega arith) ∙ ap (λ d. own ∷ drop d (h .es)) (sym (add-one k))
 
-    name-here : {j : ℕ} → declares low kind ≡ true → j ≡ indexOf (wordAt w (firstEntry + k)) → NameAt (tokens (h .text)) (h .count) j (tokenOf own)
-    name-here e ej =
-        subst (λ i. NameAt (tokens (h .text)) (h .count) i (tokenOf own)) (sym ej)
-        (name-there h k l (declares-all low (own .kind) enough (ap (declares low) (sym kinds) ∙ e)))
-
     -- an entry that declares none of them
     pub met-other : {table : List ℕ} {place : ℕ} → Met h low (k + 1) table place → declares low kind ≡ false → Met h low k table place
     met-other {table} m e =
@@ -88,26 +83,23 @@ module _ {w ids : List ℕ} {entries : ℕ} (h : Walkable w ids entries) (low : 
         record { shown = subst (λ ns. Table h table (least ns)) same (m .shown); placed = subst (All Placed) same (m .placed); doubles = m .doubles ∙ ap doubled same }
 
     -- an entry that declares one
-    pub met-more : {table : List ℕ} {place j at id seen v p : ℕ} → Met h low (k + 1) table place → declares low kind ≡ true → j ≡ indexOf (wordAt w (firstEntry + k)) → at ≡ offsetIn (wordAt w j)
-        → id ≡ getD ids j 0 → seen ≡ getD table id 0 → v ≡ min seen at → p ≡ min place (max seen at) → Met h low k (set table id v) p
-    met-more {table} {place} {j} {at} {id} {seen} {v} {p} m e ej ea ei es ev ep =
-        let n = name-here e ej in
-        let q = place-there h k l n in
+    pub met-more : {table : List ℕ} {place at id seen v p : ℕ} → Met h low (k + 1) table place → declares low kind ≡ true → OwnName w ids k at id → seen ≡ getD table id 0 → v ≡ min seen at
+        → p ≡ min place (max seen at) → Met h low k (set table id v) p
+    met-more {table} {place} {at} {id} {seen} {v} {p} m e n es ev ep =
+        let declaring : declares low (own .kind) ≡ true = ap (declares low) (sym kinds) ∙ e in
+        let y = declares-all low (own .kind) enough declaring in
         let t = tokenOf own in
         let old = declaredFrom h low (k + 1) in
-        let here : at ≡ t .at = ea ∙ q .0 in
-        let same : t ∷ old ≡ declaredFrom h low k = sym (ap (declaredIn low) rest ∙ declared-here low own (drop (k + 1) (h .es)) (ap (declares low) (sym kinds) ∙ e)) in
-        let at-id : getD table (getD ids j 0) 0 ≡ seen = sym (es ∙ ap (λ i. getD table i 0) ei) in
-        let held : seen ≡ least old t = sym at-id ∙ m .shown .holds j (n .inside) (n .name) ∙ ap (least old) (sym (n .token)) in
-        let at-own : tokenAt (tokens (h .text)) j .at ≡ t .at = ap (λ u. u .at) (sym (n .token)) in
-        let pushed = shows-push (h .interned) j (n .inside) (n .name) old v (m .shown) (omega arith) in
+        let same : t ∷ old ≡ declaredFrom h low k = sym (ap (declaredIn low) rest ∙ declared-here low own (drop (k + 1) (h .es)) declaring) in
+        let here = own-at h k l y n in
+        let held = own-held h k l y n (m .shown) es in
+        let placed = own-placed h k l y n in
         record {
-          shown = subst (λ i. Table h (set table i v) (least (declaredFrom h low k))) (sym ei)
-              (subst (λ ns. Table h (set table (getD ids j 0) v) (least ns)) (ap (λ u. u ∷ old) (sym (n .token)) ∙ same) pushed);
-          placed = subst (All Placed) same (q .1, m .placed);
+          shown = subst (λ ns. Table h (set table id v) (least ns)) same (own-push h k l y n old (m .shown) es ev);
+          placed = subst (All Placed) same (placed, m .placed);
           doubles =
               ap placeOf (ep ∙ omega arith) ∙ sym (place-min (max (least old t) (t .at)) place)
-              ∙ ap₂ first (sym (again-least old t (m .placed) (q .1))) (m .doubles) ∙ ap doubled same;
+              ∙ ap₂ first (sym (again-least old t (m .placed) placed)) (m .doubles) ∙ ap doubled same;
         }
 
 pub met-at : {w ids table : List ℕ} {entries low k d place : ℕ} {h : Walkable w ids entries} → Met h low k table place → k ≡ d → Met h low d table place

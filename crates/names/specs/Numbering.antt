@@ -14,18 +14,17 @@ use Rattle.language.specs.Limits.{maxNames}
 use Rattle.language.specs.Tokens.{Token, tokens}
 use Rattle.language.specs.Names.{Names, placeOfFirst}
 use Rattle.language.specs.Laws.Basics.Tests.{pick, leave}
-use Rattle.lexer.specs.Stored.{offsetIn}
 use Rattle.entries.specs.Kinds as Kind
 use Rattle.entries.specs.Flat.{Entry}
-use Rattle.entries.specs.Stored.{firstEntry, kindOf, indexOf}
+use Rattle.entries.specs.Stored.{firstEntry, kindOf}
 use Rattle.names.specs.Roles.{declares}
 use Rattle.names.specs.Scan.{tokenOf}
 use Rattle.names.specs.AlikeLaws.{pushed}
 use Rattle.names.specs.Declaring.{declaredIn}
 use Rattle.spellings.specs.Interned.{tokenAt}
 use Rattle.names.specs.Tables.{noPlace}
-use Rattle.names.specs.TableLaws.{shows-set}
-use Rattle.names.specs.Walkable.{Walkable, Table, entryOf, rest-at, NameAt, kind-there, name-there, place-there}
+use Rattle.names.specs.Walkable.{names, Walkable, Table, entryOf, rest-at, kind-there}
+use Rattle.names.specs.OwnName.{OwnName, own-at, own-set}
 use Rattle.names.specs.Meeting.{declaredFrom, declared-here, declared-there, declares-all}
 use Rattle.names.specs.References.{numberIn, lastFirst, DeclaresAt, Where}
 
@@ -104,24 +103,18 @@ module _ {w ids : List ℕ} {entries : ℕ} (h : Walkable w ids entries) where
       declaring : declares Kind.parameter (own .kind) ≡ true
       declaring = ap (declares Kind.parameter) (sym kinds) ∙ e
 
-      name-here : {j : ℕ} → j ≡ indexOf (wordAt w (firstEntry + k)) → NameAt (tokens (h .text)) (h .count) j (tokenOf own)
-      name-here ej =
-          subst (λ i. NameAt (tokens (h .text)) (h .count) i (tokenOf own)) (sym ej)
-          (name-there h k l (declares-all Kind.parameter (own .kind) (omega arith) declaring))
+      named : names (own .kind) ≡ true
+      named = declares-all Kind.parameter (own .kind) (omega arith) declaring
 
       more : declaredFrom h Kind.parameter k ≡ tokenOf own ∷ declaredFrom h Kind.parameter (k + 1)
       more = ap (declaredIn Kind.parameter) rest ∙ declared-here Kind.parameter own (drop (k + 1) (h .es)) declaring
 
-      -- the table with the name's number
-      shown-more : {table : List ℕ} {j id : ℕ} (ns : Names) (c : ℕ) → Table h table (numberIn ns) → c ≡ length ns → j ≡ indexOf (wordAt w (firstEntry + k)) → id ≡ getD ids j 0
-          → Table h (set table id c) (numberIn (tokenOf own ∷ ns))
-      shown-more {table} {j} {id} ns c s ec ej ei =
-          let n = name-here ej in
-          subst (λ i. Table h (set table i c) (numberIn (tokenOf own ∷ ns))) (sym ei)
-          (subst (λ u. Table h (set table (getD ids j 0) c) (numberIn (u ∷ ns))) (sym (n .token))
-          (shows-set (h .interned) j (n .inside) (n .name) c s (λ t q. number-same (tokenAt (tokens (h .text)) j) ns t q ∙ sym ec) (λ t q. number-other (tokenAt (tokens (h .text)) j) ns t q)))
+      module _ {table declared : List ℕ} {count place at id : ℕ} (n : Numbered h k table declared count place) (o : OwnName w ids k at id) where
+        -- the table with the name's number
+        shown-more : Table h (set table id count) (numberIn (tokenOf own ∷ n .passed))
+        shown-more =
+            own-set h k l named o count (n .shown) (λ t q. number-same (tokenOf own) (n .passed) t q ∙ sym (n .counted)) (λ t q. number-other (tokenOf own) (n .passed) t q)
 
-      module _ {table declared : List ℕ} {count place j id : ℕ} (n : Numbered h k table declared count place) (ej : j ≡ indexOf (wordAt w (firstEntry + k))) (ei : id ≡ getD ids j 0) where
         numbered-more : {declared′ : List ℕ} {place′ : ℕ} → Where (h .es) declared′ (tokenOf own ∷ n .passed)
             → (maxNames < count + 1 → placeOfFirst (drop maxNames (declaredFrom h Kind.parameter 0)) ≡ some place′) → Numbered h (k + 1) (set table id count) declared′ (count + 1) place′
         numbered-more f b =
@@ -130,7 +123,7 @@ module _ {w ids : List ℕ} {entries : ℕ} (h : Walkable w ids entries) where
               all = ap (λ ns. pushed ns (n .passed)) (sym more) ∙ n .all;
               counted = (let c = n .counted in omega arith);
               few = (let m = n .few in omega arith);
-              shown = shown-more (n .passed) count (n .shown) (n .counted) ej ei;
+              shown = shown-more;
               found = f;
               before = λ m. before′ m (n .before (omega arith));
               behind = b;
@@ -154,13 +147,12 @@ module _ {w ids : List ℕ} {entries : ℕ} (h : Walkable w ids entries) where
             )
             (λ m. absurd (omega arith))
 
-        pub numbered-first : {at : ℕ} → count ≡ maxNames → at ≡ offsetIn (wordAt w j) → Numbered h (k + 1) (set table id count) declared (count + 1) at
-        numbered-first {at} full ea =
+        pub numbered-first : count ≡ maxNames → Numbered h (k + 1) (set table id count) declared (count + 1) at
+        numbered-first full =
             let c = n .counted in
-            let q = place-there h k l (name-here ej) in
             let none-left : maxNames - count ≡ 0 = omega arith in
             numbered-more (λ m. absurd (omega arith), n .found)
-            (λ m. ap placeOfFirst (n .before (omega arith) ∙ ap (λ d. drop d (declaredFrom h Kind.parameter k)) none-left ∙ more) ∙ ap some (sym (ea ∙ q .0)))
+            (λ m. ap placeOfFirst (n .before (omega arith) ∙ ap (λ d. drop d (declaredFrom h Kind.parameter k)) none-left ∙ more) ∙ ap some (sym (own-at h k l named o)))
 
         pub numbered-behind : maxNames < count → Numbered h (k + 1) (set table id count) declared (count + 1) place
         numbered-behind full = let c = n .counted in numbered-more (λ m. absurd (omega arith), n .found) (λ m. n .behind full)

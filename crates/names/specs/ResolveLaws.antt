@@ -1,14 +1,12 @@
 -- What the walks have found is what refusals 6, 7 and 8 say of the tree, and what its names refer to.
 use Prim.Native.Nat.{ℕ, zero, suc, _+_, _-_, _*_, _≤_, _<_, min}
 use mathlib.Core.List.{List, []}
-use mathlib.Core.Bool.{Bool, true, false}
+use mathlib.Core.Bool.{true, false}
 use mathlib.Core.Logic.{_⊎_, inl, inr}
 use mathlib.Core.Option.{Option, none, some}
 use mathlib.Core.Path.{_≡_, refl, sym, ap, ap₂, _∙_, subst}
 use native.Mathlib.Omega.{arith}
-use lib.Dec.{ltb}
 use lib.ListN.{length, getD, drop, drop-of-length-le, replicate, length-replicate, getD-replicate}
-use borrow.Author.Tests.{ltb-true, ltb-false}
 use Rattle.node.specs.Result.{Done}
 use Rattle.language.specs.Limits.{maxTokens, maxNames}
 use Rattle.language.specs.Tokens.{Token, tokens}
@@ -27,20 +25,24 @@ use Rattle.names.specs.Balanced.{balanced-outline}
 use Rattle.names.specs.NameReads.{names-read}
 use Rattle.spellings.specs.Interned.{top, Interned}
 use Rattle.spellings.specs.TopLaws.{below-top}
-use Rattle.names.specs.Tables.{noPlace, placeOf, Blank}
-use Rattle.names.specs.TableLaws.{place-some, place-none, place-min}
+use Rattle.names.specs.Tables.{noPlace, placeOf}
+use Rattle.names.specs.TableLaws.{below-or-not, place-some, place-none, place-min}
 use Rattle.names.specs.Walkable.{Walkable, Table}
-use Rattle.names.specs.Meeting.{declaredFrom, declared-none, Met}
+use Rattle.names.specs.Meeting.{declaredFrom, declared-none}
 use Rattle.names.specs.References.{numberIn, reference, lastFirst, Where}
 use Rattle.names.specs.Numbering.{Numbered}
+use Rattle.names.specs.Census.{Blanks, Undeclared, Declared}
 use Rattle.names.specs.Walking.{visibleBefore, openBefore, refersTo, visibleAt, Walking}
+use Rattle.names.specs.States.{Begins, WalksAll}
 use Rattle.names.specs.Answering.{answerOf, answer-hidden, answer-again, answer-many, answer-named}
-use Rattle.names.specs.Resolved.{Stored, Resolved, Answers}
+use Rattle.names.specs.Resolved.{Stored, naming, Resolved, Answers}
+use Rattle.names.specs.declared.census.Census.{Census}
+use Rattle.names.specs.declared.walk.Walk.{Walk}
 use Rattle.names.specs.declared.Naming.{Naming}
 use Rattle.names.specs.declared.Naming.the-variants.{Named, Refused}
 
 -- the tree's entries, its names numbered
-abbrev pub walkable : {text w ids : List ℕ} {count entries : ℕ} {x : Spec} → Stored text w count entries x → Interned (tokens text) count ids → maxTokens ≤ length ids → Walkable w ids entries
+abbrev walkable : {text w ids : List ℕ} {count entries : ℕ} {x : Spec} → Stored text w count entries x → Interned (tokens text) count ids → maxTokens ≤ length ids → Walkable w ids entries
 walkable {text} {count = count} {x = x} s i r =
     record {
       text = text;
@@ -57,16 +59,11 @@ walkable {text} {count = count} {x = x} s i r =
       room = r;
     }
 
-pub blank-room : {text : List ℕ} (ids : List ℕ) {table : List ℕ} → top ids ≤ length text + 1 → Blank text table → top ids ≤ length table
-blank-room ids t b = let r = b .room in omega arith
-
-pub blank-table : {text w ids table : List ℕ} {entries : ℕ} (h : Walkable w ids entries) → top ids ≤ length text + 1 → Blank text table → Table h table (λ t. noPlace)
-blank-table {ids = ids} h t b =
-    let r = blank-room ids t b in
-    record { room = r; holds = λ j l y. b .empty (getD ids j 0) (let m = below-top ids j in omega arith) }
-
-pub blank-replicate : {text : List ℕ} (n : ℕ) → length text < n → Blank text (replicate n noPlace)
-blank-replicate n l = let z = length-replicate {A = ℕ} n noPlace in record { room = omega arith; empty = λ i m. getD-replicate n i noPlace 0 (omega arith) }
+-- a table that holds no place, with room for a node for each byte
+blank-table : (text : List ℕ) {w ids : List ℕ} {entries : ℕ} (h : Walkable w ids entries) (n : ℕ) → top ids ≤ length text + 1 → length text < n → Table h (replicate n noPlace) (λ t. noPlace)
+blank-table text {ids = ids} h n t l =
+    let z = length-replicate {A = ℕ} n noPlace in
+    record { room = omega arith; holds = λ j m y. getD-replicate n (getD ids j 0) noPlace 0 (let b = below-top ids j in omega arith) }
 
 module _ {w ids : List ℕ} {entries : ℕ} (h : Walkable w ids entries) where
   abbrev all : Names
@@ -79,27 +76,19 @@ module _ {w ids : List ℕ} {entries : ℕ} (h : Walkable w ids entries) where
   passed-all : {table found : List ℕ} {count place : ℕ} (n : Numbered h entries table found count place) → n .passed ≡ lastFirst all
   passed-all n = ap (λ ns. pushed ns (n .passed)) (sym (nothing-left Kind.parameter)) ∙ n .all
 
-  reference-none : (ns : Names) → reference ns [] ≡ numberIn ns
-  unfolding reference
-  reference-none ns = refl
-
-  first-open : openBefore (h .es) 0 ≡ []
-  unfolding openBefore
-  first-open = refl
-
   first-visible : visibleAt h (lastFirst all) 0 ≡ declaredFrom h Kind.signal 0
   unfolding visibleBefore
   first-visible = refl
 
   -- the walk begins
-  pub walk-begins : {seen table found stack refs : List ℕ} {place count rest : ℕ} → Met h Kind.signal 0 seen place → Numbered h entries table found count rest → 3 * entries ≤ length stack
-      → maxTokens ≤ length refs → Walking h (lastFirst all) 0 seen table stack refs 0 noPlace noPlace
+  walk-begins : {seen table found stack refs : List ℕ} {census : Census} → Declared h seen table found census → 3 * entries ≤ length stack → maxTokens ≤ length refs
+      → Walking h (lastFirst all) 0 seen table stack refs 0 noPlace noPlace
   unfolding openBefore visibleBefore reference
-  walk-begins {table = table} m n a b =
+  walk-begins {table = table} d a b =
       record {
-        placed = m .placed;
-        shown = m .shown;
-        points = subst (λ ns. Table h table (numberIn ns)) (passed-all n) (n .shown);
+        placed = d .placed;
+        shown = d .shown;
+        points = subst (λ ns. Table h table (numberIn ns)) (passed-all (d .numbered)) (d .numbered .shown);
         opened = tt;
         deep = refl;
         small = omega arith;
@@ -117,11 +106,11 @@ module _ {w ids : List ℕ} {entries : ℕ} (h : Walkable w ids entries) where
   scan-end used bound ns = ap (scan used bound ns) (drop-of-length-le (h .es) {i = entries} (let t = h .total in omega arith))
 
   module _ {seen table stack refs : List ℕ} {depth p q : ℕ} (s : Walking h (lastFirst all) entries seen table stack refs depth p q) where
-    pub walk-hides : scan hidden nowhere (declaredFrom h Kind.signal 0) (h .es) ≡ placeOf p
+    walk-hides : scan hidden nowhere (declaredFrom h Kind.signal 0) (h .es) ≡ placeOf p
     walk-hides =
         ap (λ ns. scan hidden nowhere ns (h .es)) (sym first-visible) ∙ s .hides ∙ ap (first (placeOf p)) (scan-end hidden nowhere (visibleAt h (lastFirst all) entries)) ∙ first-none (placeOf p)
 
-    pub walk-meets : scan nowhere again (declaredFrom h Kind.signal 0) (h .es) ≡ placeOf q
+    walk-meets : scan nowhere again (declaredFrom h Kind.signal 0) (h .es) ≡ placeOf q
     walk-meets =
         ap (λ ns. scan nowhere again ns (h .es)) (sym first-visible) ∙ s .meets ∙ ap (first (placeOf q)) (scan-end nowhere again (visibleAt h (lastFirst all) entries)) ∙ first-none (placeOf q)
 
@@ -133,93 +122,115 @@ module _ {w ids : List ℕ} {entries : ℕ} (h : Walkable w ids entries) where
       drop-nothing zero = refl
       drop-nothing (suc k) = refl
 
-below-or-not : (a b : ℕ) → (a < b) ⊎ (b ≤ a)
-below-or-not a b = go (ltb a b) refl
-  where
-    go : (c : Bool) → ltb a b ≡ c → (a < b) ⊎ (b ≤ a)
-    go true e = inl (ltb-true a b e)
-    go false e = inr (ltb-false a b e)
-
--- for a stored tree
-module _ {text w ids : List ℕ} {count entries : ℕ} {x : Spec} (st : Stored text w count entries x) (i : Interned (tokens text) count ids) (r : maxTokens ≤ length ids) where
-  abbrev h : Walkable w ids entries
-  h = walkable st i r
-
-  signals-are : declaredFrom h Kind.signal 0 ≡ over declaresSignal (allLines x)
-  signals-are = declared-outline true x
-
-  names-are : declaredFrom h Kind.parameter 0 ≡ over declares (allLines x)
-  names-are = declared-outline false x
-
-  module _
-      {met seen table found stack refs : List ℕ} {depth p q a c place : ℕ}
-      (m : Met h Kind.parameter 0 met a)
-      (n : Numbered h entries table found c place)
-      {table′ : List ℕ}
-      (s : Walking h (lastFirst (declaredFrom h Kind.parameter 0)) entries seen table′ stack refs depth p q)
-    where
-      not-visible : notVisible x ≡ placeOf p
-      not-visible =
-          ap (λ ns. walkLines hidden nowhere ns (allLines x)) (sym signals-are)
-          ∙ sym (scan-outline hidden nowhere steady-hidden steady-nowhere x (declaredFrom h Kind.signal 0)) ∙ walk-hides h s
-
-      declared-again : declaredAgain x ≡ placeOf (min a q)
-      declared-again =
-          ap₂ first (ap doubled (sym names-are) ∙ sym (m .doubles))
-          (ap (λ ns. walkLines nowhere again ns (allLines x)) (sym signals-are)
-          ∙ sym (scan-outline nowhere again steady-nowhere steady-again x (declaredFrom h Kind.signal 0)) ∙ walk-meets h s)
-          ∙ place-min a q
-
-      too-many-none : c ≤ maxNames → tooMany x ≡ none
-      too-many-none l = ap (λ ns. placeOfFirst (drop maxNames ns)) (sym names-are) ∙ many-none h n l
-
-      too-many-some : maxNames < c → tooMany x ≡ some place
-      too-many-some l = ap (λ ns. placeOfFirst (drop maxNames ns)) (sym names-are) ∙ n .behind l
-
-      resolved : noPlace ≤ p → noPlace ≤ min a q → c ≤ maxNames → Resolved x refs found c
-      resolved lp lq lc =
-          record {
-            count = n .counted ∙ ap length (passed-all h n ∙ ap lastFirst names-are);
-            few = lc;
-            visible = not-visible ∙ place-none p lp;
-            distinct = declared-again ∙ place-none (min a q) lq;
-            refers = λ i l y. s .refers i (let t = st .total in omega arith) y ∙ ap (λ ns. refersTo ns (outline x) i) (ap lastFirst names-are);
-            entries = subst (Where (outline x) found) (passed-all h n ∙ ap lastFirst names-are) (n .found);
-          }
-
-      pub answers : {b : ℕ} {ans : Naming} → b ≡ min a q → ans ≡ answerOf p b c place → Answers x refs found ans
-      unfolding refuseAt
-      answers {b} {ans} eb e = go (below-or-not p noPlace) (below-or-not b noPlace) (below-or-not maxNames c)
-        where
-          meets : declaredAgain x ≡ placeOf b
-          meets = declared-again ∙ ap placeOf (sym eb)
-
-          at : (o : Naming) → o ≡ answerOf p b c place → Answers x refs found o → Answers x refs found ans
-          at o f g = subst (Answers x refs found) (f ∙ sym e) g
-
-          go : (p < noPlace) ⊎ (noPlace ≤ p) → (b < noPlace) ⊎ (noPlace ≤ b) → (maxNames < c) ⊎ (c ≤ maxNames) → Answers x refs found ans
-          go (inl lp) y z =
-              at (Refused 6 p) (answer-hidden p b c place lp)
-              (record { says = ap (λ o. refuseAt 6 o (refuseAt 7 (declaredAgain x) (refuseAt 8 (tooMany x) (Done x)))) (not-visible ∙ place-some p lp) })
-          go (inr lp) (inl lb) z =
-              at (Refused 7 b) (answer-again p b c place lp lb)
-              (record { says = ap₂ (λ o u. refuseAt 6 o (refuseAt 7 u (refuseAt 8 (tooMany x) (Done x)))) (not-visible ∙ place-none p lp) (meets ∙ place-some b lb) })
-          go (inr lp) (inr lb) (inl lc) =
-              at (Refused 8 place) (answer-many p b c place lp lb lc)
-              (record {
-                says = ap₂ (λ o u. refuseAt 6 o (refuseAt 7 u (refuseAt 8 (tooMany x) (Done x)))) (not-visible ∙ place-none p lp) (meets ∙ place-none b lb) ∙ ap (λ o. refuseAt 8 o (Done x))
-                    (too-many-some lc);
-              })
-          go (inr lp) (inr lb) (inr lc) =
-              at (Named c) (answer-named p b c place lp lb lc)
-              (record {
-                says = (
-                  ap₂ (λ o u. refuseAt 6 o (refuseAt 7 u (refuseAt 8 (tooMany x) (Done x)))) (not-visible ∙ place-none p lp) (meets ∙ place-none b lb) ∙ ap (λ o. refuseAt 8 o (Done x))
-                      (too-many-none lc),
-                  resolved lp (omega arith) lc,
-                );
-              })
-
--- an array of zeros is as long as it is
+-- an array of zeros is as long as it is, also when it is written
 pub zeros-long : (n : ℕ) {m : ℕ} → m ≤ n → m ≤ length (replicate {A = ℕ} n 0)
 zeros-long n l = rw (length-replicate {A = ℕ} n 0) l
+
+zeros-kept : (n : ℕ) (ns : List ℕ) → length ns ≡ length (replicate {A = ℕ} n 0) → n ≤ length ns
+zeros-kept n ns e = let z = length-replicate {A = ℕ} n 0 in omega arith
+
+-- for a stored tree, its names numbered, and tables that held no place
+module _
+    {text w ids : List ℕ} {count entries : ℕ} {x : Spec}
+    (st : Stored text w count entries x)
+    (i : Interned (tokens text) count ids × (top ids ≤ length text + 1))
+    (e : length ids ≡ length (replicate {A = ℕ} maxTokens 0))
+    (n : ℕ)
+    (l : length text < n)
+  where
+    abbrev h : Walkable w ids entries
+    h = walkable st (i .0) (zeros-kept maxTokens ids e)
+
+    abbrev blank : List ℕ
+    blank = replicate n noPlace
+
+    signals-are : declaredFrom h Kind.signal 0 ≡ over declaresSignal (allLines x)
+    signals-are = declared-outline true x
+
+    names-are : declaredFrom h Kind.parameter 0 ≡ over declares (allLines x)
+    names-are = declared-outline false x
+
+    blanks : Blanks h blank blank blank
+    blanks = let b = blank-table text h n (i .1) l in record { met-blank = b; seen-blank = b; table-blank = b }
+
+    pub undeclared : {found : List ℕ} → maxNames ≤ length found → Undeclared w ids entries blank blank blank found
+    undeclared f = record { walkable = h; blanks = blanks; room = f }
+
+    module _ {seen table found : List ℕ} {census : Census} (read : (g : Walkable w ids entries) → Blanks g blank blank blank → Declared g seen table found census) where
+      abbrev d : Declared h seen table found census
+      d = read h blanks
+
+      pub begins : {stack refs : List ℕ} → 3 * entries ≤ length stack → maxTokens ≤ length refs → Begins w ids entries seen table stack refs
+      begins a b = record { walkable = h; declared = lastFirst (declaredFrom h Kind.parameter 0); walking = walk-begins h d a b }
+
+      module _
+          {stack refs seen′ table′ stack′ refs′ : List ℕ} {walk : Walk}
+          (walked : WalksAll w ids entries seen table stack refs seen′ table′ stack′ refs′ walk)
+          (a : 3 * entries ≤ length stack)
+          (b : maxTokens ≤ length refs)
+        where
+          s : Walking h (lastFirst (declaredFrom h Kind.parameter 0)) entries seen′ table′ stack′ refs′ (walk .depth) (walk .hidden) (walk .again)
+          s = walked .walking h (lastFirst (declaredFrom h Kind.parameter 0)) (walk-begins h d a b)
+
+          abbrev p : ℕ
+          p = walk .hidden
+
+          abbrev q : ℕ
+          q = min (census .again) (walk .again)
+
+          abbrev c : ℕ
+          c = census .count
+
+          not-visible : notVisible x ≡ placeOf p
+          not-visible =
+              ap (λ ns. walkLines hidden nowhere ns (allLines x)) (sym signals-are)
+              ∙ sym (scan-outline hidden nowhere steady-hidden steady-nowhere x (declaredFrom h Kind.signal 0)) ∙ walk-hides h s
+
+          declared-again : declaredAgain x ≡ placeOf q
+          declared-again =
+              ap₂ first (ap doubled (sym names-are) ∙ sym (d .doubles))
+              (ap (λ ns. walkLines nowhere again ns (allLines x)) (sym signals-are)
+              ∙ sym (scan-outline nowhere again steady-nowhere steady-again x (declaredFrom h Kind.signal 0)) ∙ walk-meets h s)
+              ∙ place-min (census .again) (walk .again)
+
+          too-many-none : c ≤ maxNames → tooMany x ≡ none
+          too-many-none m = ap (λ ns. placeOfFirst (drop maxNames ns)) (sym names-are) ∙ many-none h (d .numbered) m
+
+          too-many-some : maxNames < c → tooMany x ≡ some (census .place)
+          too-many-some m = ap (λ ns. placeOfFirst (drop maxNames ns)) (sym names-are) ∙ d .numbered .behind m
+
+          resolved : noPlace ≤ p → noPlace ≤ q → c ≤ maxNames → Resolved x refs′ found c
+          resolved lp lq lc =
+              record {
+                count = d .numbered .counted ∙ ap length (passed-all h (d .numbered) ∙ ap lastFirst names-are);
+                few = lc;
+                visible = not-visible ∙ place-none p lp;
+                distinct = declared-again ∙ place-none q lq;
+                refers = λ i m y. s .refers i (let t = st .total in omega arith) y ∙ ap (λ ns. refersTo ns (outline x) i) (ap lastFirst names-are);
+                entries = subst (Where (outline x) found) (passed-all h (d .numbered) ∙ ap lastFirst names-are) (d .numbered .found);
+              }
+
+          pub answers : {ans : Naming} → ans ≡ answerOf p q c (census .place) → Answers x refs′ found ans
+          unfolding refuseAt
+          answers {ans} e = go (below-or-not p noPlace) (below-or-not q noPlace) (below-or-not maxNames c)
+            where
+              at : (o : Naming) → o ≡ answerOf p q c (census .place) → Answers x refs′ found o → Answers x refs′ found ans
+              at o f g = subst (Answers x refs′ found) (f ∙ sym e) g
+
+              -- behind 6 and 7
+              later : noPlace ≤ p → noPlace ≤ q → naming x ≡ refuseAt 8 (tooMany x) (Done x)
+              later lp lq = ap₂ (λ o u. refuseAt 6 o (refuseAt 7 u (refuseAt 8 (tooMany x) (Done x)))) (not-visible ∙ place-none p lp) (declared-again ∙ place-none q lq)
+
+              go : (p < noPlace) ⊎ (noPlace ≤ p) → (q < noPlace) ⊎ (noPlace ≤ q) → (maxNames < c) ⊎ (c ≤ maxNames) → Answers x refs′ found ans
+              go (inl lp) y z =
+                  at (Refused 6 p) (answer-hidden p q c (census .place) lp)
+                  (record { says = ap (λ o. refuseAt 6 o (refuseAt 7 (declaredAgain x) (refuseAt 8 (tooMany x) (Done x)))) (not-visible ∙ place-some p lp) })
+              go (inr lp) (inl lq) z =
+                  at (Refused 7 q) (answer-again p q c (census .place) refl lp lq)
+                  (record { says = ap₂ (λ o u. refuseAt 6 o (refuseAt 7 u (refuseAt 8 (tooMany x) (Done x)))) (not-visible ∙ place-none p lp) (declared-again ∙ place-some q lq) })
+              go (inr lp) (inr lq) (inl lc) =
+                  at (Refused 8 (census .place)) (answer-many p q c (census .place) refl lp lq lc)
+                  (record { says = later lp lq ∙ ap (λ o. refuseAt 8 o (Done x)) (too-many-some lc) })
+              go (inr lp) (inr lq) (inr lc) =
+                  at (Named c) (answer-named p q c (census .place) refl lp lq lc)
+                  (record { says = (later lp lq ∙ ap (λ o. refuseAt 8 o (Done x)) (too-many-none lc), resolved lp lq lc) })

@@ -1,5 +1,5 @@
 -- A kind has one role, and the role decides what an entry does to the visible and the open names.
-use Prim.Native.Nat.{ℕ}
+use Prim.Native.Nat.{ℕ, _<_}
 use mathlib.Core.List.{_∷_}
 use mathlib.Core.Bool.{Bool, true, false, not, _&&_, _||_}
 use mathlib.Core.Option.{Option, none}
@@ -7,6 +7,7 @@ use mathlib.Core.Path.{_≡_, refl, sym, ap₂, subst}
 use native.Mathlib.Omega.{arith}
 use lib.Dec.{eqb, leb}
 use borrow.Author.Tests.{eqb-true, leb-true, lt-leb, ne-eqb}
+use Rattle.language.specs.Operators.{BigSum, BigOr}
 use Rattle.language.specs.Tokens.{Token}
 use Rattle.language.specs.Names.{Names}
 use Rattle.language.specs.Laws.Basics.Tests.{and-left, and-right, and-false, or-cases}
@@ -38,20 +39,27 @@ binds-only k y =
     (λ e. subst (λ i. Role i false true false false) (sym (eqb-true k (Kind.binder false) e)) (role refl refl refl refl))
     (λ e. subst (λ i. Role i false true false false) (sym (eqb-true k (Kind.binder true) e)) (role refl refl refl refl)) y
 
+-- a kind behind that of an index uses no name; one that is neither kind of binders brings none
+no-use : (k : ℕ) → Kind.index < k → uses k ≡ false
+no-use k l = neither (eqb k Kind.named) (eqb k Kind.index) (ne-eqb k Kind.named (λ e. omega arith)) (ne-eqb k Kind.index (λ e. omega arith))
+
+no-binder : (k : ℕ) → (k ≡ Kind.binder false → ⊥) → (k ≡ Kind.binder true → ⊥) → binds k ≡ false
+no-binder k f g = neither (eqb k (Kind.binder false)) (eqb k (Kind.binder true)) (ne-eqb k (Kind.binder false) f) (ne-eqb k (Kind.binder true) g)
+
 pub ends-only : (k : ℕ) → ends k ≡ true → Role k false false true false
 ends-only k y =
-    let low = leb-true 39 k (and-left (leb 39 k) (leb k 43) y) in
-    let high = leb-true k 43 (and-right (leb 39 k) (leb k 43) y) in
-    role (neither (eqb k 0) (eqb k 4) (ne-eqb k 0 (λ e. omega arith)) (ne-eqb k 4 (λ e. omega arith)))
-    (neither (eqb k 45) (eqb k 46) (ne-eqb k 45 (λ e. omega arith)) (ne-eqb k 46 (λ e. omega arith))) y
-    (and-false (leb 54 k && not (eqb k 58)) (leb k 61) (and-false (leb 54 k) (not (eqb k 58)) (lt-leb 54 k (omega arith))))
+    let low = leb-true (Kind.big BigSum) k (and-left (leb (Kind.big BigSum) k) (leb k (Kind.big BigOr)) y) in
+    let high = leb-true k (Kind.big BigOr) (and-right (leb (Kind.big BigSum) k) (leb k (Kind.big BigOr)) y) in
+    role (no-use k (omega arith)) (no-binder k (λ e. omega arith) (λ e. omega arith)) y
+    (and-false (leb Kind.parameter k && not (eqb k Kind.word)) (leb k Kind.typed)
+    (and-false (leb Kind.parameter k) (not (eqb k Kind.word)) (lt-leb Kind.parameter k (omega arith))))
 
 pub declares-only : (k : ℕ) → declares Kind.parameter k ≡ true → Role k false false false true
 declares-only k y =
-    let low = leb-true 54 k (and-left (leb 54 k) (not (eqb k 58)) (and-left (leb 54 k && not (eqb k 58)) (leb k 61) y)) in
-    role (neither (eqb k 0) (eqb k 4) (ne-eqb k 0 (λ e. omega arith)) (ne-eqb k 4 (λ e. omega arith)))
-    (neither (eqb k 45) (eqb k 46) (ne-eqb k 45 (λ e. omega arith)) (ne-eqb k 46 (λ e. omega arith)))
-    (last-false (leb 39 k) (leb k 43) (lt-leb k 43 (omega arith))) y
+    let low = leb-true Kind.parameter k
+    (and-left (leb Kind.parameter k) (not (eqb k Kind.word)) (and-left (leb Kind.parameter k && not (eqb k Kind.word)) (leb k Kind.typed) y)) in
+    role (no-use k (omega arith)) (no-binder k (λ e. omega arith) (λ e. omega arith))
+    (last-false (leb (Kind.big BigSum) k) (leb k (Kind.big BigOr)) (lt-leb k (Kind.big BigOr) (omega arith))) y
   where
     last-false : (a b : Bool) → b ≡ false → (a && b) ≡ false
     last-false true b e = e

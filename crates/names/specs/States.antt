@@ -8,24 +8,32 @@ use Rattle.names.specs.Walkable.{Walkable}
 use Rattle.names.specs.Walking.{Walking}
 use Rattle.names.specs.declared.walk.Walk.{Walk}
 
--- before entry k of some text
-pub record Stands (w ids : List ℕ) (entries k : ℕ) (seen table stack refs : List ℕ) (walk : Walk) : Type 0 where
-  pub inside : k < entries
+-- before the entry that is next
+abbrev pub Reaches : {w ids : List ℕ} {entries : ℕ} → Walkable w ids entries → Names → List ℕ → List ℕ → List ℕ → List ℕ → Walk → Type 0
+Reaches h declared seen table stack refs walk = Walking h declared (walk .next) seen table stack refs (walk .depth) (walk .hidden) (walk .again)
+
+-- that entry is one of some text
+pub record Stands (w ids : List ℕ) (entries : ℕ) (seen table stack refs : List ℕ) (walk : Walk) : Type 0 where
+  pub inside : walk .next < entries
   pub walkable : Walkable w ids entries
   pub declared : Names
-  pub walking : Walking walkable declared k seen table stack refs (walk .depth) (walk .hidden) (walk .again)
+  pub walking : Reaches walkable declared seen table stack refs walk
 
--- from every state before entry k to one behind it
-abbrev pub GoesOn : List ℕ → List ℕ → ℕ → ℕ → List ℕ → List ℕ → List ℕ → List ℕ → Walk → List ℕ → List ℕ → List ℕ → List ℕ → Walk → Type 0
-GoesOn w ids entries k seen table stack refs walk seen′ table′ stack′ refs′ walk′ =
-    (h : Walkable w ids entries) (declared : Names) → Walking h declared k seen table stack refs (walk .depth) (walk .hidden) (walk .again)
-    → Walking h declared (k + 1) seen′ table′ stack′ refs′ (walk′ .depth) (walk′ .hidden) (walk′ .again)
+-- from every state before it to one behind it
+pub record GoesOn (w ids : List ℕ) (entries : ℕ) (seen table stack refs : List ℕ) (walk : Walk) (seen′ table′ stack′ refs′ : List ℕ) (walk′ : Walk) : Type 0 where
+  pub next : walk′ .next ≡ walk .next + 1
+  pub walking : (h : Walkable w ids entries) (declared : Names) → Reaches h declared seen table stack refs walk → Reaches h declared seen′ table′ stack′ refs′ walk′
 
 -- before the first
 pub record Begins (w ids : List ℕ) (entries : ℕ) (seen table stack refs : List ℕ) : Type 0 where
   pub walkable : Walkable w ids entries
   pub declared : Names
   pub walking : Walking walkable declared 0 seen table stack refs 0 noPlace noPlace
+
+-- from there to behind the last
+pub record WalksAll (w ids : List ℕ) (entries : ℕ) (seen table stack refs seen′ table′ stack′ refs′ : List ℕ) (walk : Walk) : Type 0 where
+  pub walking : (h : Walkable w ids entries) (declared : Names) → Walking h declared 0 seen table stack refs 0 noPlace noPlace
+      → Walking h declared entries seen′ table′ stack′ refs′ (walk .depth) (walk .hidden) (walk .again)
 
 -- the same entry by another number
 pub walking-at : {w ids seen table stack refs : List ℕ} {entries k d depth p q : ℕ} {h : Walkable w ids entries} {declared : Names} → Walking h declared k seen table stack refs depth p q → k ≡ d

@@ -29,16 +29,16 @@ pub place-none : (v : ℕ) → noPlace ≤ v → placeOf v ≡ none
 unfolding placeOf
 place-none v l = leave (ltb v noPlace) (some v) none (le-ltb v noPlace l)
 
-below-or-not : (v : ℕ) → (v < noPlace) ⊎ (noPlace ≤ v)
-below-or-not v = go (ltb v noPlace) refl
+pub below-or-not : (a b : ℕ) → (a < b) ⊎ (b ≤ a)
+below-or-not a b = go (ltb a b) refl
   where
-    go : (b : Bool) → ltb v noPlace ≡ b → (v < noPlace) ⊎ (noPlace ≤ v)
-    go true e = inl (ltb-true v noPlace e)
-    go false e = inr (ltb-false v noPlace e)
+    go : (c : Bool) → ltb a b ≡ c → (a < b) ⊎ (b ≤ a)
+    go true e = inl (ltb-true a b e)
+    go false e = inr (ltb-false a b e)
 
 -- the smaller of two places
 pub place-min : (v w : ℕ) → first (placeOf v) (placeOf w) ≡ placeOf (min v w)
-place-min v w = go (below-or-not v) (below-or-not w)
+place-min v w = go (below-or-not v noPlace) (below-or-not w noPlace)
   where
     go : (v < noPlace) ⊎ (noPlace ≤ v) → (w < noPlace) ⊎ (noPlace ≤ w) → first (placeOf v) (placeOf w) ≡ placeOf (min v w)
     go (inl a) (inl b) = rw (place-some v a, place-some w b, place-some (min v w) (omega arith))
@@ -124,14 +124,7 @@ module _ {ts : List Token} {count : ℕ} {ids : List ℕ} (known : Interned ts c
   abbrev own : Token
   own = tokenAt ts i
 
-  -- one name more, and one name less
-  pub shows-push : {table : List ℕ} (ns : Names) (v : ℕ) → Shows ts count ids table (least ns) → v ≡ min (getD table (getD ids i 0) 0) (own .at)
-      → Shows ts count ids (set table (getD ids i 0) v) (least (own ∷ ns))
-  shows-push ns v s e =
-      shows-set v s
-      (λ t q. let a = least-same own ns t q in let b = least-text ns own t (same-equal (own .text) (t .text) q) in let d = s .holds i l name in omega arith)
-      (λ t q. least-other own ns t q)
-
+  -- one name less
   pub shows-pop : {table : List ℕ} (ns : Names) (v : ℕ) → Shows ts count ids table (least (own ∷ ns)) → v ≡ least ns own → Shows ts count ids (set table (getD ids i 0) v) (least ns)
   shows-pop ns v s e =
       shows-set v s (λ t q. least-text ns t own (sym (same-equal (own .text) (t .text) q)) ∙ sym e) (λ t q. sym (least-other own ns t q))

@@ -35,8 +35,3 @@ Placed t = t .at < noPlace
 pub record Shows (ts : List Token) (count : ℕ) (ids table : List ℕ) (m : Token → ℕ) : Type 0 where
   pub room : top ids ≤ length table
   pub holds : (j : ℕ) → j < count → IsName ts j → getD table (getD ids j 0) 0 ≡ m (tokenAt ts j)
-
--- a table over the spellings of a text that holds no place
-pub record Blank (text table : List ℕ) : Type 0 where
-  pub room : length text < length table
-  pub empty : (i : ℕ) → i < length table → getD table i 0 ≡ noPlace

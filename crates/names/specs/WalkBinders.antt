@@ -1,7 +1,7 @@
 -- The walk over a big operator's name, and over the end of a big operator.
 use Prim.Native.Nat.{ℕ, _+_, _-_, _*_, _≤_, _<_, min, max}
 use mathlib.Core.List.{List, [], _∷_}
-use mathlib.Core.Bool.{Bool, true, false, _||_, false≢true}
+use mathlib.Core.Bool.{Bool, true, false}
 use mathlib.Core.Path.{_≡_, refl, sym, ap, ap₂, _∙_, subst}
 use native.Mathlib.Omega.{arith}
 use native.Mathlib.Numerals.{add-one}
@@ -15,24 +15,23 @@ use Rattle.language.specs.Places.{first}
 use Rattle.language.specs.Names.{Names, hidden, again, nowhere}
 use Rattle.language.specs.Laws.Basics.Lists.{All}
 use Rattle.language.specs.Laws.Basics.Tests.{pick, leave, same-refl, same-equal}
-use Rattle.lexer.specs.Stored.{offsetIn}
-use Rattle.entries.specs.Kinds as Kind
 use Rattle.entries.specs.Flat.{Entry}
 use Rattle.entries.specs.Stored.{firstEntry, kindOf, indexOf}
-use Rattle.names.specs.Roles.{uses, binds, ends, declares}
+use Rattle.names.specs.Roles.{binds, ends}
 use Rattle.names.specs.RoleLaws.{Role, binds-only, ends-only, after-role, open-role, here-role}
 use Rattle.names.specs.Scan.{tokenOf, outer, after}
-use Rattle.names.specs.ScanLaws.{first-none, neither}
+use Rattle.names.specs.ScanLaws.{first-none}
 use Rattle.names.specs.Balanced.{Balanced, after-binder, after-end}
 use Rattle.spellings.specs.Interned.{tokenAt, top}
 use Rattle.spellings.specs.TopLaws.{below-top}
 use Rattle.names.specs.Tables.{placeOf, least, Placed}
-use Rattle.names.specs.TableLaws.{place-min, again-least, shows-set, shows-push, shows-pop}
-use Rattle.names.specs.Walkable.{binds-names, Walkable, Table, entryOf, NameAt, place-there}
+use Rattle.names.specs.TableLaws.{place-min, again-least, shows-set, shows-pop}
+use Rattle.names.specs.Walkable.{names, binds-names, Walkable, Table, entryOf}
+use Rattle.names.specs.OwnName.{OwnName, own-token, own-at, own-placed, own-held, own-set, own-push}
 use Rattle.names.specs.References.{reference, numberIn}
 use Rattle.names.specs.Walking.{openAfter, openBefore, Held, Open, visibleAt, Walking}
 use Rattle.names.specs.WalkLaws.{walk-on}
-use Rattle.names.specs.WalkEntries.{own-kind, own-name, own-held, balanced-own}
+use Rattle.names.specs.WalkEntries.{nameless, own-kind, own-named, balanced-own}
 
 pub reference-same : (declared : Names) (b : Token) (bs : Names) (t : Token) → same (b .text) (t .text) ≡ true → reference declared (b ∷ bs) t ≡ maxNames + length bs
 unfolding reference
@@ -104,13 +103,12 @@ module _ {w ids : List ℕ} {entries : ℕ} (h : Walkable w ids entries) (declar
     bs = openBefore (h .es) k
 
     -- a big operator's name, which may meet one that is visible
-    module _ {j at id v x : ℕ} (y : binds kind ≡ true) (ej : j ≡ indexOf (wordAt w (firstEntry + k))) (ea : at ≡ offsetIn (wordAt w j)) (ei : id ≡ getD ids j 0) (ev : v ≡ getD seen id 0)
-        (ex : x ≡ getD table id 0) where
+    module _ {at id v x : ℕ} (e : binds kind ≡ true) (n : OwnName w ids k at id) (ev : v ≡ getD seen id 0) (ex : x ≡ getD table id 0) where
       role-of : Role (own .kind) false true false false
-      role-of = binds-only (own .kind) (ap binds (sym (own-kind h k l said)) ∙ y)
+      role-of = binds-only (own .kind) (ap binds (sym (own-kind h k l said)) ∙ e)
 
-      name : NameAt (tokens (h .text)) (h .count) j (tokenOf own)
-      name = own-name h k l said (binds-names kind y) ej
+      y : names (own .kind) ≡ true
+      y = own-named h k l said (binds-names kind e)
 
       abbrev opening : List ℕ
       opening = set (set (set stack (3 * depth) id) (3 * depth + 1) v) (3 * depth + 2) x
@@ -145,37 +143,30 @@ module _ {w ids : List ℕ} {entries : ℕ} (h : Walkable w ids entries) (declar
       held =
           let d = s .deep in
           record {
-            index = j;
-            name = name;
-            own = ap (λ m. getD opening (3 * m) 0) (sym d) ∙ opening-own ∙ ei;
-            place = ap (λ m. getD opening (3 * m + 1) 0) (sym d) ∙ opening-place ∙ own-held h k l said (s .shown) name ei ev;
-            refers = ap (λ m. getD opening (3 * m + 2) 0) (sym d) ∙ opening-refers ∙ own-held h k l said (s .points) name ei ex;
+            index = indexOf (wordAt w (firstEntry + k));
+            name = own-token h k l y n;
+            own = ap (λ m. getD opening (3 * m) 0) (sym d) ∙ opening-own ∙ n .number;
+            place = ap (λ m. getD opening (3 * m + 1) 0) (sym d) ∙ opening-place ∙ own-held h k l y n (s .shown) ev;
+            refers = ap (λ m. getD opening (3 * m + 2) 0) (sym d) ∙ opening-refers ∙ own-held h k l y n (s .points) ex;
           }
 
       pub walk-bind : {v′ r q′ : ℕ} → v′ ≡ min v at → r ≡ maxNames + depth → q′ ≡ min q (max v at)
           → Walking h declared (k + 1) (set seen id v′) (set table id r) opening (set refs k r) (depth + 1) p q′
       walk-bind {v′} {r} {q′} evs er eq =
-          let c = place-there h k l name in
           let t = tokenOf own in
+          let placed = own-placed h k l y n in
           let vis : t ∷ ns ≡ after ns own = sym (after-role own role-of ns) in
           let o : t ∷ bs ≡ openAfter bs own = sym (open-role own role-of bs) in
-          let hv : v ≡ least ns t = own-held h k l said (s .shown) name ei ev in
-          let at-own : tokenAt (tokens (h .text)) j .at ≡ at = ap (λ u. u .at) (sym (name .token)) ∙ sym (ea ∙ c .0) in
-          let at-id : getD seen (getD ids j 0) 0 ≡ v = sym (ev ∙ ap (λ i. getD seen i 0) ei) in
+          let hv : v ≡ least ns t = own-held h k l y n (s .shown) ev in
           let d = s .deep in
-          let seen-more = shows-push (h .interned) j (name .inside) (name .name) ns v′ (s .shown) (omega arith) in
-          let own-token = tokenAt (tokens (h .text)) j in
-          let table-more : Table h (set table (getD ids j 0) r) (reference declared (own-token ∷ bs)) =
-          shows-set (h .interned) j (name .inside) (name .name) r (s .points) (λ u e. let z = reference-same declared own-token bs u e in omega arith)
-          (λ u e. reference-other declared own-token bs u e) in
+          let table-more : Table h (set table id r) (reference declared (t ∷ bs)) =
+          own-set h k l y n r (s .points) (λ u z. let same = reference-same declared t bs u z in omega arith) (λ u z. reference-other declared t bs u z) in
           let small-depth : depth + 1 ≤ k + 1 = (let m = s .small in omega arith) in
           walk-on h declared k l s
           (record {
-            placed = subst (All Placed) vis (c .1, s .placed);
-            shown = subst (λ i. Table h (set seen i v′) (least (after ns own))) (sym ei)
-                (subst (λ u. Table h (set seen (getD ids j 0) v′) (least u)) (ap (λ u. u ∷ ns) (sym (name .token)) ∙ vis) seen-more);
-            points = subst (λ i. Table h (set table i r) (reference declared (openAfter bs own))) (sym ei)
-                (subst (λ u. Table h (set table (getD ids j 0) r) (reference declared u)) (ap (λ u. u ∷ bs) (sym (name .token)) ∙ o) table-more);
+            placed = subst (All Placed) vis (placed, s .placed);
+            shown = subst (λ u. Table h (set seen id v′) (least u)) vis (own-push h k l y n ns (s .shown) ev evs);
+            points = subst (λ u. Table h (set table id r) (reference declared u)) o table-more;
             opened = subst (λ u. Open h declared opening u (openAfter bs own)) vis
                 (subst (Open h declared opening (t ∷ ns)) o (refl, held, open-kept stack opening ns bs (λ i m. opening-below i (omega arith)) (s .opened)));
             deep = (let z : length (t ∷ bs) ≡ length (openAfter bs own) = ap length o in omega arith);
@@ -183,8 +174,8 @@ module _ {w ids : List ℕ} {entries : ℕ} (h : Walkable w ids entries) (declar
             balanced = subst (λ m. Balanced m (drop (k + 1) (h .es))) (sym (add-one depth)) (after-binder depth own (drop (k + 1) (h .es)) (role-of .bind-is) (balanced-own h k l said declared s));
             hides = sym (first-none (placeOf p)) ∙ ap (first (placeOf p)) (sym (here-role own role-of hidden nowhere ns));
             meets =
-                ap placeOf (eq ∙ ap₂ (λ a b. min q (max a b)) hv (ea ∙ c .0)) ∙ sym (place-min q (max (least ns t) (t .at)))
-                ∙ ap (first (placeOf q)) (sym (again-least ns t (s .placed) (c .1)) ∙ sym (here-role own role-of nowhere again ns));
+                ap placeOf (eq ∙ ap₂ (λ a b. min q (max a b)) hv (own-at h k l y n)) ∙ sym (place-min q (max (least ns t) (t .at)))
+                ∙ ap (first (placeOf q)) (sym (again-least ns t (s .placed) placed) ∙ sym (here-role own role-of nowhere again ns));
             refers = λ _. getD-set-same refs k r 0 (let a = s .refs-room in let m = h .few in omega arith) ∙ er ∙ ap (λ m. maxNames + m) d ∙ sym (reference-same declared t bs t (same-refl (t .text)))
                 ∙ ap (λ m. reference declared m t) o;
             others = λ i m. getD-set-other refs k i r 0 (λ e. omega arith);
@@ -208,9 +199,6 @@ module _ {w ids : List ℕ} {entries : ℕ} (h : Walkable w ids entries) (declar
 
       pub some-open : 0 < depth
       some-open = before .0
-
-      pub stack-inside : 3 * (depth - 1) + 2 < length stack
-      stack-inside = let a = s .stack-room in let b = s .small in let c = h .few in let d = some-open in omega arith
 
       -- its number is a node's
       held-own : {id : ℕ} → id ≡ getD stack (3 * (depth - 1)) 0 → id ≡ getD ids (last .held .index) 0
@@ -251,8 +239,7 @@ module _ {w ids : List ℕ} {entries : ℕ} (h : Walkable w ids entries) (declar
             balanced = before .1;
             hides = sym (first-none (placeOf p)) ∙ ap (first (placeOf p)) (sym (here-role own end-role hidden nowhere ns));
             meets = sym (first-none (placeOf q)) ∙ ap (first (placeOf q)) (sym (here-role own end-role nowhere again ns));
-            refers = λ z. absurd (false≢true (sym (neither (uses (own .kind) || binds (own .kind)) (declares Kind.parameter (own .kind))
-                (neither (uses (own .kind)) (binds (own .kind)) (end-role .use-is) (end-role .bind-is)) (end-role .declare-is)) ∙ z));
+            refers = nameless end-role;
             others = λ i m. refl;
             stack-room = s .stack-room;
             refs-room = s .refs-room;

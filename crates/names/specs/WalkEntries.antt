@@ -8,26 +8,28 @@ use native.Mathlib.Omega.{arith}
 use lib.ListN.{length, getD, drop, set, length-set}
 use lib.Seq.{getD-set-same, getD-set-other}
 use Rattle.words.specs.Words.{wordAt}
-use Rattle.language.specs.Tokens.{Token, tokens}
 use Rattle.language.specs.Places.{first}
 use Rattle.language.specs.Names.{Names, hidden, again, nowhere}
 use Rattle.language.specs.Laws.Basics.Lists.{All}
-use Rattle.lexer.specs.Stored.{offsetIn}
 use Rattle.entries.specs.Kinds as Kind
 use Rattle.entries.specs.Flat.{Entry}
-use Rattle.entries.specs.Stored.{firstEntry, kindOf, indexOf}
+use Rattle.entries.specs.Stored.{firstEntry, kindOf}
 use Rattle.names.specs.Roles.{uses, binds, ends, declares}
 use Rattle.names.specs.RoleLaws.{Role, uses-only, declares-only, after-role, open-role, here-role}
 use Rattle.names.specs.Scan.{tokenOf, after}
 use Rattle.names.specs.ScanLaws.{first-none, neither}
 use Rattle.names.specs.Balanced.{Balanced, after-declared, after-quiet}
-use Rattle.spellings.specs.Interned.{tokenAt}
 use Rattle.names.specs.Tables.{placeOf, least, Placed, hiddenPlace}
-use Rattle.names.specs.TableLaws.{place-min, hidden-least, shows-push}
-use Rattle.names.specs.Walkable.{names, uses-names, declares-names, Walkable, Table, entryOf, NameAt, kind-there, name-there, place-there}
+use Rattle.names.specs.TableLaws.{place-min, hidden-least}
+use Rattle.names.specs.Walkable.{names, uses-names, declares-names, Walkable, Table, entryOf, kind-there}
+use Rattle.names.specs.OwnName.{OwnName, own-at, own-placed, own-held, own-push}
 use Rattle.names.specs.References.{reference}
 use Rattle.names.specs.Walking.{openAfter, openBefore, Open, visibleAt, Walking}
 use Rattle.names.specs.WalkLaws.{walk-on, rest}
+
+-- an entry that neither uses nor brings nor declares a name has none
+pub nameless : {A : Type 0} {k : ℕ} {e : Bool} → Role k false false e false → names k ≡ true → A
+nameless {k = k} r y = absurd (false≢true (sym (neither (uses k || binds k) (declares Kind.parameter k) (neither (uses k) (binds k) (r .use-is) (r .bind-is)) (r .declare-is)) ∙ y))
 
 module _ {w ids : List ℕ} {entries : ℕ} (h : Walkable w ids entries) (k : ℕ) (l : k < entries) {kind : ℕ} (said : kind ≡ kindOf (wordAt w (firstEntry + k))) where
   abbrev own : Entry
@@ -36,13 +38,8 @@ module _ {w ids : List ℕ} {entries : ℕ} (h : Walkable w ids entries) (k : �
   pub own-kind : kind ≡ own .kind
   own-kind = said ∙ kind-there h k l
 
-  -- the name of an entry that has one
-  pub own-name : {j : ℕ} → names kind ≡ true → j ≡ indexOf (wordAt w (firstEntry + k)) → NameAt (tokens (h .text)) (h .count) j (tokenOf own)
-  own-name y e = subst (λ i. NameAt (tokens (h .text)) (h .count) i (tokenOf own)) (sym e) (name-there h k l (ap names (sym own-kind) ∙ y))
-
-  -- what a table holds for it
-  pub own-held : {table : List ℕ} {m : Token → ℕ} {j id v : ℕ} → Table h table m → NameAt (tokens (h .text)) (h .count) j (tokenOf own) → id ≡ getD ids j 0 → v ≡ getD table id 0 → v ≡ m (tokenOf own)
-  own-held {table} {m} {j} s n ei ev = ev ∙ ap (λ i. getD table i 0) ei ∙ s .holds j (n .inside) (n .name) ∙ ap m (sym (n .token))
+  pub own-named : names kind ≡ true → names (own .kind) ≡ true
+  own-named y = ap names (sym own-kind) ∙ y
 
   module _ (declared : Names) {seen table stack refs : List ℕ} {depth p q : ℕ} (s : Walking h declared k seen table stack refs depth p q) where
     pub balanced-own : Balanced depth (own ∷ drop (k + 1) (h .es))
@@ -81,47 +78,40 @@ module _ {w ids : List ℕ} {entries : ℕ} (h : Walkable w ids entries) (k : �
     walk-quiet a b c d =
         let r : Role (own .kind) false false false false = subst (λ i. Role i false false false false) own-kind (record { use-is = a; bind-is = b; end-is = c; declare-is = d }) in
         unchanged r (sym (first-none (placeOf p)))
-        (λ y. absurd (false≢true (sym (neither (uses (own .kind) || binds (own .kind)) (declares Kind.parameter (own .kind)) (neither (uses (own .kind)) (binds (own .kind)) (r .use-is) (r .bind-is))
-        (r .declare-is)) ∙ y)))
-        (λ i m. refl) refl
+        (nameless r) (λ i m. refl) refl
 
     -- a name that is used: hidden if no name of its spelling is visible
-    pub walk-use : {j at id v x p′ : ℕ} → uses kind ≡ true → j ≡ indexOf (wordAt w (firstEntry + k)) → at ≡ offsetIn (wordAt w j) → id ≡ getD ids j 0 → v ≡ getD seen id 0 → x ≡ getD table id 0
-        → p′ ≡ min p (hiddenPlace v at) → Walking h declared (k + 1) seen table stack (set refs k x) depth p′ q
-    walk-use {j} {at} {id} {v} {x} {p′} y ej ea ei ev ex ep =
-        let n = own-name (uses-names kind y) ej in
-        let c = place-there h k l n in
+    pub walk-use : {at id v x p′ : ℕ} → uses kind ≡ true → OwnName w ids k at id → v ≡ getD seen id 0 → x ≡ getD table id 0 → p′ ≡ min p (hiddenPlace v at)
+        → Walking h declared (k + 1) seen table stack (set refs k x) depth p′ q
+    walk-use {x = x} e n ev ex ep =
+        let y = own-named (uses-names kind e) in
         let ns = visibleAt h declared k in
-        let r = uses-only (own .kind) (ap uses (sym own-kind) ∙ y) in
-        let hv : v ≡ least ns (tokenOf own) = own-held (s .shown) n ei ev in
-        let hx : x ≡ reference declared (openBefore (h .es) k) (tokenOf own) = own-held (s .points) n ei ex in
+        let r = uses-only (own .kind) (ap uses (sym own-kind) ∙ e) in
+        let hv : _ ≡ least ns (tokenOf own) = own-held h k l y n (s .shown) ev in
+        let hx : x ≡ reference declared (openBefore (h .es) k) (tokenOf own) = own-held h k l y n (s .points) ex in
         unchanged r
-        (ap placeOf (ep ∙ ap₂ (λ a b. min p (hiddenPlace a b)) hv (ea ∙ c .0)) ∙ sym (place-min p (hiddenPlace (least ns (tokenOf own)) (tokenOf own .at)))
-        ∙ ap (first (placeOf p)) (sym (hidden-least ns (tokenOf own) (s .placed) (c .1))))
+        (ap placeOf (ep ∙ ap₂ (λ a b. min p (hiddenPlace a b)) hv (own-at h k l y n)) ∙ sym (place-min p (hiddenPlace (least ns (tokenOf own)) (tokenOf own .at)))
+        ∙ ap (first (placeOf p)) (sym (hidden-least ns (tokenOf own) (s .placed) (own-placed h k l y n))))
         (λ _. getD-set-same refs k x 0 (let a = s .refs-room in let b = h .few in omega arith) ∙ hx)
         (λ i m. getD-set-other refs k i x 0 (λ e. omega arith)) (length-set refs k x)
 
     -- a name that is declared, outside every big operator
-    pub walk-declare : {j at id v x v′ : ℕ} → declares Kind.parameter kind ≡ true → j ≡ indexOf (wordAt w (firstEntry + k)) → at ≡ offsetIn (wordAt w j) → id ≡ getD ids j 0 → v ≡ getD seen id 0
-        → x ≡ getD table id 0 → v′ ≡ min v at → Walking h declared (k + 1) (set seen id v′) table stack (set refs k x) depth p q
-    walk-declare {j} {at} {id} {v} {x} {v′} y ej ea ei ev ex ep =
-        let n = own-name (declares-names kind y) ej in
-        let c = place-there h k l n in
+    pub walk-declare : {at id v x v′ : ℕ} → declares Kind.parameter kind ≡ true → OwnName w ids k at id → v ≡ getD seen id 0 → x ≡ getD table id 0 → v′ ≡ min v at
+        → Walking h declared (k + 1) (set seen id v′) table stack (set refs k x) depth p q
+    walk-declare {id = id} {x = x} {v′ = v′} e n ev ex ep =
+        let y = own-named (declares-names kind e) in
         let ns = visibleAt h declared k in
         let bs = openBefore (h .es) k in
-        let r = declares-only (own .kind) (ap (declares Kind.parameter) (sym own-kind) ∙ y) in
+        let r = declares-only (own .kind) (ap (declares Kind.parameter) (sym own-kind) ∙ e) in
         let vis : tokenOf own ∷ ns ≡ after ns own = sym (after-role own r ns) in
         let o : bs ≡ openAfter bs own = sym (open-role own r bs) in
         let b = after-declared depth own (drop (k + 1) (h .es)) (r .bind-is) (r .end-is) (r .declare-is) balanced-own in
         let none-open : [] ≡ bs = empty bs (sym (s .deep) ∙ b .0) in
-        let hx : x ≡ reference declared bs (tokenOf own) = own-held (s .points) n ei ex in
-        let at-own : tokenAt (tokens (h .text)) j .at ≡ at = ap (λ u. u .at) (sym (n .token)) ∙ sym (ea ∙ c .0) in
-        let at-id : getD seen (getD ids j 0) 0 ≡ v = sym (ev ∙ ap (λ i. getD seen i 0) ei) in
-        let pushed = shows-push (h .interned) j (n .inside) (n .name) ns v′ (s .shown) (omega arith) in
+        let hx : x ≡ reference declared bs (tokenOf own) = own-held h k l y n (s .points) ex in
         walk-on h declared k l s
         (record {
-          placed = subst (All Placed) vis (c .1, s .placed);
-          shown = subst (λ i. Table h (set seen i v′) (least (after ns own))) (sym ei) (subst (λ u. Table h (set seen (getD ids j 0) v′) (least u)) (ap (λ u. u ∷ ns) (sym (n .token)) ∙ vis) pushed);
+          placed = subst (All Placed) vis (own-placed h k l y n, s .placed);
+          shown = subst (λ u. Table h (set seen id v′) (least u)) vis (own-push h k l y n ns (s .shown) ev ep);
           points = subst (λ m. Table h table (reference declared m)) o (s .points);
           opened = subst (Open h declared stack (after ns own)) (none-open ∙ o) tt;
           deep = s .deep ∙ ap length o;

@@ -9,7 +9,7 @@ use Rattle.language.specs.Limits.{maxTokens}
 use Rattle.language.specs.Tokens.{Token, tokens}
 use Rattle.language.specs.Places.{first}
 use Rattle.language.specs.Names.{Names, hidden, again, nowhere}
-use Rattle.language.specs.Laws.Basics.Lists.{All}
+use Rattle.language.specs.Lists.{All}
 use Rattle.entries.specs.Kinds as Kind
 use Rattle.entries.specs.Flat.{Entry}
 use Rattle.names.specs.Roles.{binds, ends}

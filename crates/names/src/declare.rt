@@ -1,9 +1,8 @@
 // Declared names and those of their spelling: refusal 7 among them.
+use crate::entry::Name;
 use crate::entry::declares;
 use crate::entry::kind_at;
-use crate::entry::place_at;
-use crate::entry::token_at;
-use basics::u16_usize::wide;
+use crate::entry::name_at;
 ghost use mathlib.Core.Path.{_≡_};
 ghost use Prim.Native.Nat.{_+_, _≤_, _<_, min, max};
 ghost use lib.ListN.{length};
@@ -52,9 +51,7 @@ fn declare_one(
     if !declares(low, kind) {
         return place;
     }
-    let j = token_at(work, k);
-    let at = place_at(work, j);
-    let id = wide(ids[j]);
+    let Name { at, id } = name_at(work, ids, k);
     let seen = word(table[id]);
     table[id] = smaller(seen, at) as u16;
     smaller(place, larger(seen, at))

@@ -1,4 +1,5 @@
 // What a stored entry says, and what it does to names (specs/Roles).
+use basics::u16_usize::wide;
 use entries::fields::FIRST_ENTRY;
 use entries::fields::SIZES;
 use entries::fields::TOKENS;
@@ -14,6 +15,7 @@ ghost use Rattle.language.specs.Limits.{maxTokens, workBytes};
 ghost use Rattle.lexer.specs.Stored.{offsetIn};
 ghost use Rattle.entries.specs.Stored.{firstEntry, kindOf, indexOf};
 ghost use Rattle.names.specs.Roles as Roles;
+ghost use Rattle.names.specs.OwnName.{OwnName};
 
 // Entry k's kind. Like the other readers here it is called with entries and tokens that are there.
 pub fn kind_at(work: &[u8], k: usize) -> u32
@@ -37,6 +39,24 @@ pub fn place_at(work: &[u8], j: usize) -> u32
     ensures { λ r. ⌜ r ≡ offsetIn (wordAt (now (work .entry)) j) ⌝ }
 {
     get(work, j) / LENGTHS % OFFSETS
+}
+
+// An entry's name: where it stands in the text, and the number of its spelling.
+pub struct Name {
+    pub at: u32,
+    pub id: usize,
+}
+
+// The name of entry k, which has one.
+pub fn name_at(work: &[u8], ids: &[u16], k: usize) -> Name
+    requires { ⌜ (k < maxTokens) × (workBytes ≤ length (now work)) × (maxTokens ≤ length (now ids)) ⌝ }
+    ensures { λ r. ⌜ OwnName (now (work .entry)) (now (ids .entry)) k (r .at) (r .id) ⌝ }
+{
+    let j = token_at(work, k);
+    Name {
+        at: place_at(work, j),
+        id: wide(ids[j]),
+    }
 }
 
 pub fn uses(kind: u32) -> bool

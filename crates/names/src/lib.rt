@@ -1,34 +1,34 @@
 // Names over the stored tree: refusals 6, 7 and 8, and each name resolved once.
-// `resolve` and its parts ask for a stored outline and for arrays of full length, which `resolve` itself makes.
+// `resolve` and its parts ask for a stored outline and for arrays of full length, which `resolve` itself makes: the tree of spellings and the numbers of names; tables
+// that hold no place, for declared names, for visible names and for what names refer to; and the open names of big operators.
+mod census;
 mod declare;
 mod entry;
 mod numbering;
 mod walk;
 
+use crate::census::Census;
+use crate::census::declare_all;
 use crate::declare::NOWHERE;
-use crate::declare::declare;
 use crate::declare::smaller;
-use crate::numbering::Tally;
-use crate::numbering::number_declared;
+use crate::walk::Walk;
 use crate::walk::walk_all;
-use entries::kinds;
 use language::limits;
 use node::refusals;
 use spellings::intern::intern;
 ghost use mathlib.Core.Path.{_≡_};
-ghost use Prim.Native.Nat.{_*_, _≤_};
+ghost use Prim.Native.Nat.{_≤_, min};
 ghost use lib.ListN.{length};
 ghost use Rattle.language.specs.Limits.{maxTokens, maxNames};
 ghost use Rattle.language.specs.Tree.{Spec};
 ghost use Rattle.names.specs.Answering.{answerOf};
-ghost use Rattle.spellings.specs.Interned.{Begun};
-ghost use Rattle.names.specs.Tables.{Blank};
+ghost use Rattle.names.specs.Short.{shortBytes, shortEntries};
 ghost use Rattle.names.specs.Resolved.{Stored, TreeStored, Answers};
 
-// The empty spelling, and one node for each byte of the longest text (specs/Trie, maxNodes).
-const NODES: usize = 32769;
+// The empty spelling, and one node for each byte of the longest text.
+const NODES: usize = limits::MAX_BYTES + 1;
 
-// A short text: at most so many bytes and so many entries, which take a tenth of the arrays of the longest.
+// A short text: at most so many bytes and so many entries (specs/Short), which take a tenth of the arrays of the longest.
 const SHORT: usize = 4096;
 
 const SHORT_NODES: usize = SHORT + 1;
@@ -44,48 +44,20 @@ pub enum Naming {
     Refused(u32, u32),
 }
 
-fn answer(hidden: u32, again: u32, tally: Tally) -> Naming
-    ensures { λ r. ⌜ r ≡ answerOf hidden again (tally .count) (tally .place) ⌝ }
+fn answer(census: Census, walk: Walk) -> Naming
+    ensures { λ r. ⌜ r ≡ answerOf (walk .hidden) (min (census .again) (walk .again)) (census .count) (census .place) ⌝ }
 {
-    if hidden < NOWHERE {
-        return Naming::Refused(refusals::NOT_VISIBLE, hidden);
+    if walk.hidden < NOWHERE {
+        return Naming::Refused(refusals::NOT_VISIBLE, walk.hidden);
     }
+    let again = smaller(census.again, walk.again);
     if again < NOWHERE {
         return Naming::Refused(refusals::DECLARED_AGAIN, again);
     }
-    if tally.count > limits::MAX_NAMES {
-        return Naming::Refused(refusals::TOO_MANY_NAMES, tally.place);
+    if census.count > limits::MAX_NAMES {
+        return Naming::Refused(refusals::TOO_MANY_NAMES, census.place);
     }
-    Naming::Named(tally.count)
-}
-
-// `resolve` with the arrays that it lends: the tree of spellings and the numbers of names; tables that hold no place, for declared names, for visible names and for
-// what names refer to; and the open names of big operators. It is called by `resolve_short` and `resolve_long` alone, which make them so.
-fn resolve_in(
-    text: &[u8],
-    work: &[u8],
-    count: usize,
-    entries: usize,
-    links: &mut [u16],
-    byte: &mut [u8],
-    ids: &mut [u16],
-    met: &mut [u16],
-    seen: &mut [u16],
-    table: &mut [u16],
-    stack: &mut [u16],
-    refs: &mut [u16],
-    declared: &mut [u16],
-) -> Naming
-    requires { ⌜ TreeStored (now text) (now work) count entries × Begun (now text) (now links) (now byte) (now ids) × Blank (now text) (now met) × Blank (now text) (now seen) × Blank (now text)
-        (now table) × (3 * entries ≤ length (now stack)) × (maxTokens ≤ length (now refs)) × (maxNames ≤ length (now declared)) ⌝ }
-    ensures { λ r. ⌜ ((x : Spec) → Stored (now (text .entry)) (now (work .entry)) count entries x → Answers x (now (refs .exit)) (now (declared .exit)) r) ⌝ }
-{
-    intern(text, work, count, links, byte, ids);
-    let again = declare(work, ids, entries, kinds::PARAMETER, met);
-    declare(work, ids, entries, kinds::SIGNAL, seen);
-    let tally = number_declared(work, ids, entries, table, declared);
-    let walk = walk_all(work, ids, entries, seen, table, stack, refs);
-    answer(walk.hidden, smaller(again, walk.again), tally)
+    Naming::Named(census.count)
 }
 
 // `resolve` of a short text: most of the time of the shortest would go into clearing arrays for the longest.
@@ -97,7 +69,7 @@ fn resolve_short(
     refs: &mut [u16],
     declared: &mut [u16],
 ) -> Naming
-    requires { ⌜ TreeStored (now text) (now work) count entries × (length (now text) ≤ 4096) × (entries ≤ 1024) × (maxTokens ≤ length (now refs)) × (maxNames ≤ length (now declared)) ⌝ }
+    requires { ⌜ TreeStored (now text) (now work) count entries × (length (now text) ≤ shortBytes) × (entries ≤ shortEntries) × (maxTokens ≤ length (now refs)) × (maxNames ≤ length (now declared)) ⌝ }
     ensures { λ r. ⌜ ((x : Spec) → Stored (now (text .entry)) (now (work .entry)) count entries x → Answers x (now (refs .exit)) (now (declared .exit)) r) ⌝ }
 {
     let mut links = [0u16; 3 * SHORT_NODES];
@@ -107,21 +79,18 @@ fn resolve_short(
     let mut seen = [NO_PLACE; SHORT_NODES];
     let mut table = [NO_PLACE; SHORT_NODES];
     let mut stack = [0u16; 3 * SHORT_ENTRIES];
-    resolve_in(
-        text,
+    intern(text, work, count, &mut links, &mut byte, &mut ids);
+    let census = declare_all(
         work,
-        count,
+        &ids,
         entries,
-        &mut links,
-        &mut byte,
-        &mut ids,
         &mut met,
         &mut seen,
         &mut table,
-        &mut stack,
-        refs,
         declared,
-    )
+    );
+    let walk = walk_all(work, &ids, entries, &mut seen, &mut table, &mut stack, refs);
+    answer(census, walk)
 }
 
 // `resolve` of any text.
@@ -143,21 +112,18 @@ fn resolve_long(
     let mut seen = [NO_PLACE; NODES];
     let mut table = [NO_PLACE; NODES];
     let mut stack = [0u16; 3 * limits::MAX_TOKENS];
-    resolve_in(
-        text,
+    intern(text, work, count, &mut links, &mut byte, &mut ids);
+    let census = declare_all(
         work,
-        count,
+        &ids,
         entries,
-        &mut links,
-        &mut byte,
-        &mut ids,
         &mut met,
         &mut seen,
         &mut table,
-        &mut stack,
-        refs,
         declared,
-    )
+    );
+    let walk = walk_all(work, &ids, entries, &mut seen, &mut table, &mut stack, refs);
+    answer(census, walk)
 }
 
 // Refusals 6, 7 and 8 of a stored tree; or, of a tree that they let pass, what each of its names refers to: `refs` by entry, for every entry that uses, brings or

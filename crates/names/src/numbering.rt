@@ -1,9 +1,8 @@
 // Declared names by their numbers in the text's order: refusal 8.
+use crate::entry::Name;
 use crate::entry::declares;
 use crate::entry::kind_at;
-use crate::entry::place_at;
-use crate::entry::token_at;
-use basics::u16_usize::wide;
+use crate::entry::name_at;
 use entries::kinds;
 use language::limits;
 ghost use Prim.Native.Nat.{_+_, _≤_, _<_};
@@ -39,8 +38,7 @@ fn number_one(
     if !declares(kinds::PARAMETER, kind) {
         return before;
     }
-    let j = token_at(work, k);
-    let id = wide(ids[j]);
+    let Name { at, id } = name_at(work, ids, k);
     let count = before.count;
     let place = before.place;
     table[id] = count as u16;
@@ -54,7 +52,7 @@ fn number_one(
     if count == limits::MAX_NAMES {
         return Tally {
             count: count + 1,
-            place: place_at(work, j),
+            place: at,
         };
     }
     Tally {

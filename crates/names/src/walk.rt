@@ -4,12 +4,12 @@ use crate::declare::NOWHERE;
 use crate::declare::larger;
 use crate::declare::smaller;
 use crate::declare::word;
+use crate::entry::Name;
 use crate::entry::binds;
 use crate::entry::declares;
 use crate::entry::ends;
 use crate::entry::kind_at;
-use crate::entry::place_at;
-use crate::entry::token_at;
+use crate::entry::name_at;
 use crate::entry::uses;
 use basics::u16_usize::wide;
 use entries::kinds;
@@ -18,17 +18,15 @@ ghost use mathlib.Core.Path.{_≡_};
 ghost use mathlib.Core.Bool.{true};
 ghost use Prim.Native.Nat.{_+_};
 ghost use Rattle.words.specs.Words.{wordAt};
-ghost use Rattle.language.specs.Names.{Names};
 ghost use Rattle.entries.specs.Kinds as Kind;
 ghost use Rattle.entries.specs.Stored.{firstEntry, kindOf};
 ghost use Rattle.names.specs.Roles as Roles;
-ghost use Rattle.names.specs.Tables.{hiddenPlace, noPlace};
-ghost use Rattle.names.specs.Walkable.{Walkable};
-ghost use Rattle.names.specs.Walking.{Walking};
-ghost use Rattle.names.specs.States.{Stands, GoesOn, Begins};
+ghost use Rattle.names.specs.Tables.{hiddenPlace};
+ghost use Rattle.names.specs.States.{Stands, GoesOn, Begins, WalksAll};
 
-// How many names of big operators are open, and the first places that 6 and 7 have found.
+// The entry that is next, how many names of big operators are open, and the first places that 6 and 7 have found.
 pub struct Walk {
+    pub next: usize,
     pub depth: usize,
     pub hidden: u32,
     pub again: u32,
@@ -40,31 +38,29 @@ fn hidden_place(seen: u32, at: u32) -> u32
     if seen < NOWHERE { NOWHERE } else { at }
 }
 
-// The functions below take entry k, and are called by `visit` alone, in a state that the walk has reached; each goes on behind the entry.
+// The functions below take the entry that is next, and are called by `visit` alone, in a state that the walk has reached; each goes on behind the entry.
 fn use_name(
     work: &[u8],
     ids: &[u16],
     entries: usize,
-    k: usize,
     walk: Walk,
     seen: &mut [u16],
     table: &mut [u16],
     stack: &mut [u16],
     refs: &mut [u16],
 ) -> Walk
-    requires { ⌜ Stands (now work) (now ids) entries k (now seen) (now table) (now stack) (now refs) walk × (Roles.uses (kindOf (wordAt (now work) (firstEntry + k))) ≡ true) ⌝ }
-    ensures { λ r. ⌜ GoesOn (now (work .entry)) (now (ids .entry)) entries k (now (seen .entry)) (now (table .entry)) (now (stack .entry)) (now (refs .entry)) walk (now (seen .exit))
+    requires { ⌜ Stands (now work) (now ids) entries (now seen) (now table) (now stack) (now refs) walk × (Roles.uses (kindOf (wordAt (now work) (firstEntry + walk .next))) ≡ true) ⌝ }
+    ensures { λ r. ⌜ GoesOn (now (work .entry)) (now (ids .entry)) entries (now (seen .entry)) (now (table .entry)) (now (stack .entry)) (now (refs .entry)) walk (now (seen .exit))
         (now (table .exit)) (now (stack .exit)) (now (refs .exit)) r ⌝ }
 {
-    let j = token_at(work, k);
-    let at = place_at(work, j);
-    let id = wide(ids[j]);
+    let k = walk.next;
+    let Name { at, id } = name_at(work, ids, k);
     let hidden = hidden_place(word(seen[id]), at);
     refs[k] = table[id];
     Walk {
-        depth: walk.depth,
+        next: k + 1,
         hidden: smaller(walk.hidden, hidden),
-        again: walk.again,
+        ..walk
     }
 }
 
@@ -72,43 +68,42 @@ fn declare_name(
     work: &[u8],
     ids: &[u16],
     entries: usize,
-    k: usize,
     walk: Walk,
     seen: &mut [u16],
     table: &mut [u16],
     stack: &mut [u16],
     refs: &mut [u16],
 ) -> Walk
-    requires { ⌜ Stands (now work) (now ids) entries k (now seen) (now table) (now stack) (now refs) walk × (Roles.declares Kind.parameter (kindOf (wordAt (now work) (firstEntry + k))) ≡ true) ⌝ }
-    ensures { λ r. ⌜ GoesOn (now (work .entry)) (now (ids .entry)) entries k (now (seen .entry)) (now (table .entry)) (now (stack .entry)) (now (refs .entry)) walk (now (seen .exit))
+    requires { ⌜ Stands (now work) (now ids) entries (now seen) (now table) (now stack) (now refs) walk × (Roles.declares Kind.parameter (kindOf (wordAt (now work) (firstEntry + walk .next))) ≡ true) ⌝ }
+    ensures { λ r. ⌜ GoesOn (now (work .entry)) (now (ids .entry)) entries (now (seen .entry)) (now (table .entry)) (now (stack .entry)) (now (refs .entry)) walk (now (seen .exit))
         (now (table .exit)) (now (stack .exit)) (now (refs .exit)) r ⌝ }
 {
-    let j = token_at(work, k);
-    let at = place_at(work, j);
-    let id = wide(ids[j]);
+    let k = walk.next;
+    let Name { at, id } = name_at(work, ids, k);
     refs[k] = table[id];
     seen[id] = smaller(word(seen[id]), at) as u16;
-    walk
+    Walk {
+        next: k + 1,
+        ..walk
+    }
 }
 
 fn bind_name(
     work: &[u8],
     ids: &[u16],
     entries: usize,
-    k: usize,
     walk: Walk,
     seen: &mut [u16],
     table: &mut [u16],
     stack: &mut [u16],
     refs: &mut [u16],
 ) -> Walk
-    requires { ⌜ Stands (now work) (now ids) entries k (now seen) (now table) (now stack) (now refs) walk × (Roles.binds (kindOf (wordAt (now work) (firstEntry + k))) ≡ true) ⌝ }
-    ensures { λ r. ⌜ GoesOn (now (work .entry)) (now (ids .entry)) entries k (now (seen .entry)) (now (table .entry)) (now (stack .entry)) (now (refs .entry)) walk (now (seen .exit))
+    requires { ⌜ Stands (now work) (now ids) entries (now seen) (now table) (now stack) (now refs) walk × (Roles.binds (kindOf (wordAt (now work) (firstEntry + walk .next))) ≡ true) ⌝ }
+    ensures { λ r. ⌜ GoesOn (now (work .entry)) (now (ids .entry)) entries (now (seen .entry)) (now (table .entry)) (now (stack .entry)) (now (refs .entry)) walk (now (seen .exit))
         (now (table .exit)) (now (stack .exit)) (now (refs .exit)) r ⌝ }
 {
-    let j = token_at(work, k);
-    let at = place_at(work, j);
-    let id = wide(ids[j]);
+    let k = walk.next;
+    let Name { at, id } = name_at(work, ids, k);
     let depth = walk.depth;
     let place = word(seen[id]);
     let top = 3 * depth;
@@ -120,9 +115,10 @@ fn bind_name(
     table[id] = slot;
     refs[k] = slot;
     Walk {
+        next: k + 1,
         depth: depth + 1,
-        hidden: walk.hidden,
         again: smaller(walk.again, larger(place, at)),
+        ..walk
     }
 }
 
@@ -130,15 +126,14 @@ fn end_name(
     work: &[u8],
     ids: &[u16],
     entries: usize,
-    k: usize,
     walk: Walk,
     seen: &mut [u16],
     table: &mut [u16],
     stack: &mut [u16],
     refs: &mut [u16],
 ) -> Walk
-    requires { ⌜ Stands (now work) (now ids) entries k (now seen) (now table) (now stack) (now refs) walk × (Roles.ends (kindOf (wordAt (now work) (firstEntry + k))) ≡ true) ⌝ }
-    ensures { λ r. ⌜ GoesOn (now (work .entry)) (now (ids .entry)) entries k (now (seen .entry)) (now (table .entry)) (now (stack .entry)) (now (refs .entry)) walk (now (seen .exit))
+    requires { ⌜ Stands (now work) (now ids) entries (now seen) (now table) (now stack) (now refs) walk × (Roles.ends (kindOf (wordAt (now work) (firstEntry + walk .next))) ≡ true) ⌝ }
+    ensures { λ r. ⌜ GoesOn (now (work .entry)) (now (ids .entry)) entries (now (seen .entry)) (now (table .entry)) (now (stack .entry)) (now (refs .entry)) walk (now (seen .exit))
         (now (table .exit)) (now (stack .exit)) (now (refs .exit)) r ⌝ }
 {
     let depth = walk.depth - 1;
@@ -147,42 +142,44 @@ fn end_name(
     seen[id] = stack[top + 1];
     table[id] = stack[top + 2];
     Walk {
+        next: walk.next + 1,
         depth,
-        hidden: walk.hidden,
-        again: walk.again,
+        ..walk
     }
 }
 
-// Entry k, whatever it does to names.
+// The entry that is next, whatever it does to names.
 fn visit(
     work: &[u8],
     ids: &[u16],
     entries: usize,
-    k: usize,
     walk: Walk,
     seen: &mut [u16],
     table: &mut [u16],
     stack: &mut [u16],
     refs: &mut [u16],
 ) -> Walk
-    requires { ⌜ Stands (now work) (now ids) entries k (now seen) (now table) (now stack) (now refs) walk ⌝ }
-    ensures { λ r. ⌜ GoesOn (now (work .entry)) (now (ids .entry)) entries k (now (seen .entry)) (now (table .entry)) (now (stack .entry)) (now (refs .entry)) walk (now (seen .exit))
+    requires { ⌜ Stands (now work) (now ids) entries (now seen) (now table) (now stack) (now refs) walk ⌝ }
+    ensures { λ r. ⌜ GoesOn (now (work .entry)) (now (ids .entry)) entries (now (seen .entry)) (now (table .entry)) (now (stack .entry)) (now (refs .entry)) walk (now (seen .exit))
         (now (table .exit)) (now (stack .exit)) (now (refs .exit)) r ⌝ }
 {
-    let kind = kind_at(work, k);
+    let kind = kind_at(work, walk.next);
     if uses(kind) {
-        return use_name(work, ids, entries, k, walk, seen, table, stack, refs);
+        return use_name(work, ids, entries, walk, seen, table, stack, refs);
     }
     if binds(kind) {
-        return bind_name(work, ids, entries, k, walk, seen, table, stack, refs);
+        return bind_name(work, ids, entries, walk, seen, table, stack, refs);
     }
     if ends(kind) {
-        return end_name(work, ids, entries, k, walk, seen, table, stack, refs);
+        return end_name(work, ids, entries, walk, seen, table, stack, refs);
     }
     if declares(kinds::PARAMETER, kind) {
-        return declare_name(work, ids, entries, k, walk, seen, table, stack, refs);
+        return declare_name(work, ids, entries, walk, seen, table, stack, refs);
     }
-    walk
+    Walk {
+        next: walk.next + 1,
+        ..walk
+    }
 }
 
 // The whole walk. It is called by `resolve` alone: `seen` holds the signals and buses, `table` what declared names refer to.
@@ -196,19 +193,17 @@ pub fn walk_all(
     refs: &mut [u16],
 ) -> Walk
     requires { ⌜ Begins (now work) (now ids) entries (now seen) (now table) (now stack) (now refs) ⌝ }
-    ensures { λ r. ⌜ ((h : Walkable (now (work .entry)) (now (ids .entry)) entries) (declared : Names)
-        → Walking h declared 0 (now (seen .entry)) (now (table .entry)) (now (stack .entry)) (now (refs .entry)) 0 noPlace noPlace
-        → Walking h declared entries (now (seen .exit)) (now (table .exit)) (now (stack .exit)) (now (refs .exit)) (r .depth) (r .hidden) (r .again)) ⌝ }
+    ensures { λ r. ⌜ WalksAll (now (work .entry)) (now (ids .entry)) entries (now (seen .entry)) (now (table .entry)) (now (stack .entry)) (now (refs .entry)) (now (seen .exit))
+        (now (table .exit)) (now (stack .exit)) (now (refs .exit)) r ⌝ }
 {
     let mut walk = Walk {
+        next: 0,
         depth: 0,
         hidden: NOWHERE,
         again: NOWHERE,
     };
-    let mut k = 0;
-    while k < entries {
-        walk = visit(work, ids, entries, k, walk, seen, table, stack, refs);
-        k += 1;
+    while walk.next < entries {
+        walk = visit(work, ids, entries, walk, seen, table, stack, refs);
     }
     walk
 }

@@ -35,7 +35,7 @@ fn number(
 }
 
 // The numbers of all tokens that are names, in a tree of spellings that holds the empty one alone. It asks for what the lexer leaves and for arrays as `resolve`
-// makes them, and is called by `resolve_in` alone.
+// makes them, and is called by `resolve_short` and `resolve_long` alone.
 pub fn intern(
     text: &[u8],
     work: &[u8],

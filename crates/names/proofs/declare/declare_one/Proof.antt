@@ -1,9 +1,7 @@
 -- `names::declare::declare_one` meets its contract: the table and the place with one entry more.
 use Prim.Native.Nat.{min}
 use mathlib.Core.Path.{sym, ap, _∙_}
-use native.Mathlib.Omega.{arith}
 use borrow.Author.Tests.{not-true, not-false}
-use Rattle.spellings.specs.TopLaws.{inside-top}
 use Rattle.names.specs.Meeting.{met-other, met-more}
 use borrow.Author.Needs.{needs}
 use Rattle.names.proofs.declare.declare_one.Statement.{statement}
@@ -21,32 +19,14 @@ returns c =
     let start = at-kind-at .before .before .before .before in
     λ h m. met-other h _ (start .pre .2) _ (start .pre .1) ((at-kind-at .kind-at) .ensures) m (sym ((c .before .declares) .ensures) ∙ not-true _ ((c .if1) .taken))
 
-token-at-requires : tie.Need-token-at-requires
-token-at-requires c κs = search needs
-
-place-at-requires : tie.Need-place-at-requires
-place-at-requires c κs = search needs
-
-mul-wide : tie.Need-mul-wide
-mul-wide c = search needs
-
-shared-slice-read-wide : tie.Need-shared-slice-read-wide
-shared-slice-read-wide c = search needs
-
-wide-requires : tie.Need-wide-requires
-wide-requires c κs = search needs
+name-at-requires : tie.Need-name-at-requires
+name-at-requires c κs = search needs
 
 mul-word : tie.Need-mul-word
 mul-word c = search needs
 
 slice-read-word : tie.Need-slice-read-word
-slice-read-word c =
-    let at-declares = c .before .before .before .before .before .before in
-    let at-kind-at = at-declares .before in
-    let start = at-kind-at .before .before .before .before in
-    let kind-at = at-kind-at .kind-at in
-    let declares = at-declares .declares in
-    let f = inside-top _ _ (start .pre .3) ((c .before .wide) .ensures .0) in omega arith
+slice-read-word c = search needs
 
 word-requires : tie.Need-word-requires
 word-requires c κs = search needs
@@ -61,18 +41,7 @@ mul-table : tie.Need-mul-table
 mul-table c = search needs
 
 slice-write-table : tie.Need-slice-write-table
-slice-write-table c =
-    let at-wide = c .before .before .before in
-    let at-token-at = at-wide .before .before .before in
-    let at-if1 = at-token-at .before in
-    let at-declares = at-if1 .before in
-    let at-kind-at = at-declares .before in
-    let start = at-kind-at .before .before .before .before in
-    let kind-at = at-kind-at .kind-at in
-    let declares = at-declares .declares in
-    let if1 = at-if1 .if1 in
-    let token-at = at-token-at .token-at in
-    let f = inside-top _ _ (start .pre .3) ((at-wide .wide) .ensures .0) in omega arith
+slice-write-table c = search needs
 
 larger-requires : tie.Need-larger-requires
 larger-requires c κs = search needs
@@ -87,20 +56,13 @@ returns-2 : tie.Need-returns-2
 returns-2 c =
     let at-smaller = c .before .before in
     let at-word = at-smaller .before in
-    let at-wide = at-word .before .before in
-    let at-place-at = at-wide .before .before in
-    let at-token-at = at-place-at .before in
-    let at-if1 = at-token-at .before in
+    let at-name-at = at-word .before .before in
+    let at-if1 = at-name-at .before in
     let at-declares = at-if1 .before in
     let at-kind-at = at-declares .before in
     let start = at-kind-at .before .before .before .before in
-    let kind-at = at-kind-at .kind-at in
-    let declares = at-declares .declares in
-    let if1 = at-if1 .if1 in
-    let token-at = at-token-at .token-at in
-    let place-at = at-place-at .place-at in
-    λ h m. met-more h _ (start .pre .2) _ (start .pre .1) (kind-at .ensures) m (sym (declares .ensures) ∙ not-false _ (if1 .left)) (token-at .ensures) (place-at .ensures)
-    ((at-wide .wide) .ensures .0) ((at-word .word) .ensures .0) ((at-smaller .smaller) .ensures) ((c .smaller2) .ensures ∙ ap (min _) ((c .before .larger) .ensures))
+    λ h m. met-more h _ (start .pre .2) _ (start .pre .1) ((at-kind-at .kind-at) .ensures) m (sym ((at-declares .declares) .ensures) ∙ not-false _ ((at-if1 .if1) .left))
+    ((at-name-at .name-at) .ensures) ((at-word .word) .ensures .0) ((at-smaller .smaller) .ensures) ((c .smaller2) .ensures ∙ ap (min _) ((c .before .larger) .ensures))
 
 pub declare-one-spec : {M : Type 1} → statement M
 declare-one-spec =
@@ -109,11 +71,7 @@ declare-one-spec =
     kind-at-requires
     declares-requires
     returns
-    token-at-requires
-    place-at-requires
-    mul-wide
-    shared-slice-read-wide
-    wide-requires
+    name-at-requires
     mul-word
     slice-read-word
     word-requires

@@ -3,34 +3,19 @@ use Prim.Native.Nat.{min, max}
 use mathlib.Core.Path.{refl, ap, _∙_}
 use native.Mathlib.Omega.{arith}
 use lib.ListN.{length-set}
-use Rattle.spellings.specs.TopLaws.{inside-top}
 use Rattle.names.specs.WalkBinders.{walk-bind}
 use borrow.Author.Needs.{needs}
 use Rattle.names.proofs.walk.bind_name.Statement.{statement}
 use Rattle.names.proofs.walk.bind_name.Tie as tie
 
-token-at-requires : tie.Need-token-at-requires
-token-at-requires c κs = search needs
-
-place-at-requires : tie.Need-place-at-requires
-place-at-requires c κs = search needs
-
-mul-wide : tie.Need-mul-wide
-mul-wide c = search needs
-
-shared-slice-read-wide : tie.Need-shared-slice-read-wide
-shared-slice-read-wide c = search needs
-
-wide-requires : tie.Need-wide-requires
-wide-requires c κs = search needs
+name-at-requires : tie.Need-name-at-requires
+name-at-requires c κs = search needs
 
 mul-word : tie.Need-mul-word
 mul-word c = search needs
 
 slice-read-word : tie.Need-slice-read-word
-slice-read-word c =
-    let start = c .before .before .before .before .before .before .before .before .before .before .before in
-    let f = inside-top _ _ (start .pre .0 .walking .shown .room) ((c .before .wide) .ensures .0) in omega arith
+slice-read-word c = search needs
 
 word-requires : tie.Need-word-requires
 word-requires c κs = search needs
@@ -57,12 +42,7 @@ mul-stack-2 : tie.Need-mul-stack-2
 mul-stack-2 c = search needs
 
 slice-read-stack : tie.Need-slice-read-stack
-slice-read-stack c =
-    let at-wide = c .before .before .before in
-    let at-token-at = at-wide .before .before .before in
-    let start = at-token-at .before .before .before .before .before .before .before in
-    let token-at = at-token-at .token-at in
-    let f = inside-top _ _ (start .pre .0 .walking .shown .room) ((at-wide .wide) .ensures .0) in omega arith
+slice-read-stack c = search needs
 
 add-stack : tie.Need-add-stack
 add-stack c = search needs
@@ -72,19 +52,14 @@ mul-stack-3 c = search needs
 
 slice-write-stack-2 : tie.Need-slice-write-stack-2
 slice-write-stack-2 c =
-    let start = c .before .before .before .before .before .before .before .before .before .before .before .before .before in
-    simp length-set (let a = start .pre .0 .walking .stack-room in let b = start .pre .0 .walking .small in let m = start .pre .0 .walkable .few in let i = start .pre .0 .inside in omega arith)
+    let start = c .before .before .before .before .before .before .before .before .before .before in
+    simp length-set (let a = start .pre .0 .walking .stack-room in let b = start .pre .0 .walking .small in let i = start .pre .0 .inside in omega arith)
 
 mul-stack-4 : tie.Need-mul-stack-4
 mul-stack-4 c = search needs
 
 slice-read-stack-2 : tie.Need-slice-read-stack-2
-slice-read-stack-2 c =
-    let at-wide = c .before .before .before .before in
-    let at-token-at = at-wide .before .before .before in
-    let start = at-token-at .before .before .before .before .before .before .before in
-    let token-at = at-token-at .token-at in
-    let f = inside-top _ _ (start .pre .0 .walking .points .room) ((at-wide .wide) .ensures .0) in omega arith
+slice-read-stack-2 c = search needs
 
 add-stack-2 : tie.Need-add-stack-2
 add-stack-2 c = search needs
@@ -94,8 +69,8 @@ mul-stack-5 c = search needs
 
 slice-write-stack-3 : tie.Need-slice-write-stack-3
 slice-write-stack-3 c =
-    let start = c .before .before .before .before .before .before .before .before .before .before .before .before .before .before in
-    simp length-set (let a = start .pre .0 .walking .stack-room in let b = start .pre .0 .walking .small in let m = start .pre .0 .walkable .few in let i = start .pre .0 .inside in omega arith)
+    let start = c .before .before .before .before .before .before .before .before .before .before .before in
+    simp length-set (let a = start .pre .0 .walking .stack-room in let b = start .pre .0 .walking .small in let i = start .pre .0 .inside in omega arith)
 
 smaller-requires : tie.Need-smaller-requires
 smaller-requires c κs = search needs
@@ -107,23 +82,13 @@ mul-seen : tie.Need-mul-seen
 mul-seen c = search needs
 
 slice-write-seen : tie.Need-slice-write-seen
-slice-write-seen c =
-    let at-wide = c .before .before .before .before .before in
-    let at-token-at = at-wide .before .before .before in
-    let start = at-token-at .before .before .before .before .before .before .before in
-    let token-at = at-token-at .token-at in
-    let f = inside-top _ _ (start .pre .0 .walking .shown .room) ((at-wide .wide) .ensures .0) in omega arith
+slice-write-seen c = search needs
 
 mul-table : tie.Need-mul-table
 mul-table c = search needs
 
 slice-write-table : tie.Need-slice-write-table
-slice-write-table c =
-    let at-wide = c .before .before .before .before .before in
-    let at-token-at = at-wide .before .before .before in
-    let start = at-token-at .before .before .before .before .before .before .before in
-    let token-at = at-token-at .token-at in
-    let f = inside-top _ _ (start .pre .0 .walking .points .room) ((at-wide .wide) .ensures .0) in omega arith
+slice-write-table c = search needs
 
 mul-refs : tie.Need-mul-refs
 mul-refs c = search needs
@@ -131,8 +96,11 @@ mul-refs c = search needs
 slice-write-refs : tie.Need-slice-write-refs
 slice-write-refs c = search needs
 
-add-t24 : tie.Need-add-t24
-add-t24 c = search needs
+add-t23 : tie.Need-add-t23
+add-t23 c = search needs
+
+add-t17 : tie.Need-add-t17
+add-t17 c = search needs
 
 larger-requires : tie.Need-larger-requires
 larger-requires c κs = search needs
@@ -156,26 +124,21 @@ returns : tie.Need-returns
 returns c =
     let at-smaller = c .before .before in
     let at-word = at-smaller .before .before .before in
-    let at-wide = at-word .before .before in
-    let at-place-at = at-wide .before .before in
-    let at-token-at = at-place-at .before in
-    let start = at-token-at .before .before .before .before .before .before .before in
-    let token-at = at-token-at .token-at in
-    let place-at = at-place-at .place-at in
-    let wide = at-wide .wide in
-    λ h d s. walk-bind h d _ (start .pre .0 .inside) refl s (start .pre .1) (token-at .ensures) (place-at .ensures) (wide .ensures .0) refl refl
-    ((at-smaller .smaller) .ensures ∙ ap (λ v. min v (place-at .result)) ((at-word .word) .ensures .0)) refl
-    ((c .smaller2) .ensures ∙ ap (min _) ((c .before .larger) .ensures ∙ ap (λ v. max v (place-at .result)) ((at-word .word) .ensures .0)))
+    let at-name-at = at-word .before .before in
+    let start = at-name-at .before .before .before .before .before .before .before in
+    let at = (at-name-at .name-at) .result .at in
+    record {
+      next = refl;
+      walking = λ h d s. walk-bind h d _ (start .pre .0 .inside) refl s (start .pre .1) ((at-name-at .name-at) .ensures) refl refl
+          ((at-smaller .smaller) .ensures ∙ ap (λ v. min v at) ((at-word .word) .ensures .0)) refl
+          ((c .smaller2) .ensures ∙ ap (min _) ((c .before .larger) .ensures ∙ ap (λ v. max v at) ((at-word .word) .ensures .0)));
+    }
 
 pub bind-name-spec : {M : Type 1} → statement M
 bind-name-spec =
     tie.close
     (tie.spec
-    token-at-requires
-    place-at-requires
-    mul-wide
-    shared-slice-read-wide
-    wide-requires
+    name-at-requires
     mul-word
     slice-read-word
     word-requires
@@ -203,7 +166,8 @@ bind-name-spec =
     slice-write-table
     mul-refs
     slice-write-refs
-    add-t24
+    add-t23
+    add-t17
     larger-requires
     smaller-requires-2
     same-length

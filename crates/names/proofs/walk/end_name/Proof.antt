@@ -60,6 +60,9 @@ slice-write-table c =
     let f = end-inside (start .pre .0 .walkable) (start .pre .0 .declared) _ (start .pre .0 .inside) refl (start .pre .0 .walking) (start .pre .1) ((at-wide .wide) .ensures .0) in
     let r = start .pre .0 .walking .points .room in omega arith
 
+add-t12 : tie.Need-add-t12
+add-t12 c = search needs
+
 same-length : tie.Need-same-length
 same-length c = search needs
 
@@ -68,9 +71,9 @@ same-length-2 c = search needs
 
 returns : tie.Need-returns
 returns c =
-    let at-wide = c .before .before in
+    let at-wide = c .before .before .before in
     let start = at-wide .before .before .before .before .before .before .before .before .before in
-    λ h d s. walk-end h d _ (start .pre .0 .inside) refl s (start .pre .1) ((at-wide .wide) .ensures .0) refl refl
+    record { next = refl; walking = λ h d s. walk-end h d _ (start .pre .0 .inside) refl s (start .pre .1) ((at-wide .wide) .ensures .0) refl refl }
 
 pub end-name-spec : {M : Type 1} → statement M
 end-name-spec =
@@ -91,6 +94,7 @@ end-name-spec =
     slice-read-table
     mul-table-2
     slice-write-table
+    add-t12
     same-length
     same-length-2
     returns)

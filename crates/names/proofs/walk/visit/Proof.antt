@@ -1,5 +1,5 @@
 -- `names::walk::visit` meets its contract: the entry's kind decides what is done.
-use mathlib.Core.Path.{sym, ap, _∙_}
+use mathlib.Core.Path.{refl, sym, ap, _∙_}
 use Rattle.entries.specs.Kinds as Kind
 use Rattle.names.specs.Roles as Roles
 use Rattle.names.specs.WalkEntries.{walk-quiet}
@@ -118,9 +118,13 @@ same-length-16 c = search needs
 returns-4 : tie.Need-returns-4
 returns-4 c = search needs
 
+add-t46 : tie.Need-add-t46
+add-t46 c = search needs
+
 returns-5 : tie.Need-returns-5
 returns-5 c =
-    let at-if3 = c .before .before in
+    let at-if4 = c .before in
+    let at-if3 = at-if4 .before .before in
     let at-ends = at-if3 .before in
     let at-if2 = at-ends .before in
     let at-binds = at-if2 .before in
@@ -130,8 +134,11 @@ returns-5 c =
     let start = at-kind-at .before .before .before .before .before .before .before in
     let kind-at = at-kind-at .kind-at in
     let uses = at-uses .uses in
-    λ h d s. walk-quiet h _ (start .pre .inside) (kind-at .ensures) d s (sym (uses .ensures) ∙ (at-if1 .if1) .left) (sym ((at-binds .binds) .ensures) ∙ (at-if2 .if2) .left)
-    (sym ((at-ends .ends) .ensures) ∙ (at-if3 .if3) .left) (sym ((c .before .declares) .ensures) ∙ (c .if4) .left)
+    record {
+      next = refl;
+      walking = λ h d s. walk-quiet h _ (start .pre .inside) (kind-at .ensures) d s (sym (uses .ensures) ∙ (at-if1 .if1) .left) (sym ((at-binds .binds) .ensures) ∙ (at-if2 .if2) .left)
+          (sym ((at-ends .ends) .ensures) ∙ (at-if3 .if3) .left) (sym ((at-if4 .before .declares) .ensures) ∙ (at-if4 .if4) .left);
+    }
 
 pub visit-spec : {M : Type 1} → statement M
 visit-spec =
@@ -166,4 +173,5 @@ visit-spec =
     same-length-15
     same-length-16
     returns-4
+    add-t46
     returns-5)
