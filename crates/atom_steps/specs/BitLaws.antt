@@ -26,7 +26,7 @@ use Rattle.name_values.specs.KnownLaws.{known-index, own-more}
 use Rattle.name_values.specs.UsedLaws.{used-value}
 use Rattle.name_values.specs.Sorts as Sort
 use Rattle.operands.specs.Entries.{kindAt, placeAt}
-use Rattle.operands.specs.ClassLaws.{has-entry, place-is}
+use Rattle.operands.specs.ClassLaws.{place-is}
 use Rattle.operands.specs.Operands.{below}
 use Rattle.operands.specs.Working.{Source}
 use Rattle.operands.specs.Shapes.{shapeOf}
@@ -39,19 +39,16 @@ use Rattle.machine.specs.MemoryLaws.{held-none, slotted-none, agree-same}
 use Rattle.machine.specs.Notes.{Fact}
 use Rattle.machine.specs.Telling.{isNumber}
 use Rattle.machine.specs.Table.{Began}
-use Rattle.machine.specs.States.{modeOf, Ready, Steps, Turned, TopOf, ToppedToWrite, TakesToWrite}
-use Rattle.machine.specs.StateLaws.{entered}
+use Rattle.machine.specs.States.{modeOf, Turned, TopOf, ToppedToWrite, TakesToWrite}
 use Rattle.machine.specs.Moves.{wrote, popped}
-use Rattle.machine.specs.ComeLaws.{IsNumber, came-number, not-number, misfit-then}
+use Rattle.machine.specs.ComeLaws.{IsNumber, came-number}
 use Rattle.machine.specs.FrameViews.{by-phase}
 use Rattle.machine.specs.TakeLaws.{words, entry-word, room-under, refuses, goes, top-phase, top-as, note-under}
-use Rattle.machine.specs.Openings.{Opened}
-use Rattle.machine.specs.OpenLaws.{opens}
+use Rattle.machine.specs.StartLaws.{StartsOne}
 use Rattle.machine.specs.FlatLaws.{flat-top, flat-scope, flat-depth, flat-laid, weight-falls}
 use Rattle.machine.specs.BindLaws.{take-number, then-nodes}
-use Rattle.machine.specs.OperandLaws.{operand-as, alongside, topped-to-write-entry}
+use Rattle.machine.specs.OperandLaws.{topped-to-write-entry, operand-as, one-operand}
 use Rattle.machine.specs.declared.Machine.{Machine}
-use Rattle.machine.specs.declared.Move.{Move}
 use Rattle.machine.specs.declared.Move.the-variants.{Next, Refused as Refuses}
 use Rattle.machine.specs.Entering.{Expands, Waiting}
 use Rattle.machine.specs.EnteringLaws.{works-formula, operand-shape}
@@ -64,52 +61,41 @@ use Rattle.atom_steps.specs.Signals.{Signalled}
 index-same : (ps : List Port) (a v : Result Value) → ((a >>= number >>= λ i. v >>= bus >>= bitAt ps i) >>= nodes) ≡ ((a >>= worth) >>= λ u. asNumber u >>= λ i. v >>= bus >>= bitAt ps i >>= nodes)
 index-same ps a v = then-nodes (a >>= number) _ (λ i. v >>= bus >>= bitAt ps i >>= nodes) (λ i. refl) ∙ sym (take-number a (λ i. v >>= bus >>= bitAt ps i >>= nodes))
 
--- the index stands before the entry
-pub index-inside : {s : Source} {mem : List ℕ} {m : Machine} → Ready s mem m → Expands (s .work) m Kind.index Kind.paren → 0 < m .value
-index-inside {s} {m = m} r k =
+-- the entry: the index is worked out first
+pub index-starts : {s : Source} {mem : List ℕ} {m : Machine} → Expands (s .work) m Kind.index Kind.paren → StartsOne s mem m Phase.indexed Evaluate
+index-starts {s} {mem} {m} k =
     let e0 = k .mode in
     let k0 = k .from in
     let k1 = k .until in
-    let n = entered (r .state) (omega arith) in
-    let kind : kindAt (s .work) (m .value) ≡ 4 = omega arith in
-    let v = operand-shape (n .at .operand) (ap shapeOf kind) in
-    let p = operand-as (n .at .operand) {d = Index (v .0) (v .1)} (v .2) in
-    let l = below Kind.index (some (v .0)) (flat (v .1)) (p .known .at) in
-    let y = has-entry (v .1) (known-index (v .0) (v .1) (p .known) .proper) in
-    omega arith
-
--- the entry: the index is worked out first
-pub index-steps : {s : Source} {mem mem' : List ℕ} {m : Machine} {r : Move} → Ready s mem m → Expands (s .work) m Kind.index Kind.paren → Opened mem mem' m Phase.indexed (modeOf Evaluate) (m .value - 1) r → Steps s mem mem' m r
-index-steps {s} {mem} {mem'} {m} {r} y k q = record {
-  turns = λ R x o out h.
-      let e0 = k .mode in
-      let k0 = k .from in
-      let k1 = k .until in
-      let n = entered h (omega arith) in
-      let c = n .context in
-      let kind : kindAt (s .work) (m .value) ≡ 4 = omega arith in
-      let v = operand-shape (n .at .operand) (ap shapeOf kind) in
-      let t = v .0 in
-      let a = v .1 in
-      let p = operand-as (n .at .operand) {d = Index t a} (v .2) in
-      let ins = index-inside y k in
-      opens n {F = Indexed c t} {phase = Phase.indexed} {a = Evaluate} {e = a} {j = m .value - 1} (record {
-        holds-nothing = refl;
-        few-turns = omega arith;
-        below = omega arith;
-        operand = alongside p (known-index t a (p .known));
-        holds = tt;
-        waits = record {
-          limit = p .known .limit;
-          before = (let l = p .known .within in let z = own-more Kind.index (some t) (flat a) in omega arith);
-          uses = p .known .agrees .0;
-          place = place-is (R .lexed) Kind.index t (flat a) (p .known .at);
-          ports = p .ports;
-        };
-        kept = tt;
-        same = works-formula n e0 ∙ ap (λ (d : Expr). expansion c d >>= nodes) (v .2) ∙ index-same (c .ports) (value (c .values) a) (c .values t);
-      }) r q;
-}
+    let kind : kindAt (s .work) (m .value) ≡ Kind.index = omega arith in
+    record {
+      entry = omega arith;
+      few-turns = omega arith;
+      starting = λ R x o out n.
+          let c = n .context in
+          let v = operand-shape (n .at .operand) (ap shapeOf kind) in
+          let t = v .0 in
+          let a = v .1 in
+          let p = operand-as (n .at .operand) {d = Index t a} (v .2) in
+          let one = one-operand p Kind.index t a (p .known .at) (known-index t a (p .known)) in
+          record {
+            frame = Indexed c t;
+            first = a;
+            holds-nothing = refl;
+            inside = one .inside;
+            operand = one .operand;
+            holds = tt;
+            waits = record {
+              limit = p .known .limit;
+              before = (let l = p .known .within in let z = own-more Kind.index (some t) (flat a) in omega arith);
+              uses = p .known .agrees .0;
+              place = place-is (R .lexed) Kind.index t (flat a) (p .known .at);
+              ports = p .ports;
+            };
+            kept = tt;
+            same = works-formula n e0 ∙ ap (λ (d : Expr). expansion c d >>= nodes) (v .2) ∙ index-same (c .ports) (value (c .values) a) (c .values t);
+          };
+    }
 
 -- the body of a definition for its name
 body-same : (ps : List Port) (i : ℕ) (v : Result Value) → (v >>= bus >>= bitAt ps i >>= nodes) ≡ ((v >>= worth) >>= λ u. asValue u >>= bus >>= bitAt ps i >>= nodes)
@@ -124,14 +110,6 @@ within-body m n =
 
 -- the index has come
 module _ {s : Source} {mem out : List ℕ} {m : Machine} (w : Waiting mem m Phase.indexed) where
-  pub indexed-misfits : (m .mode ≡ isNumber → ⊥) → TakesToWrite s mem mem out out m (Refuses 9 0)
-  indexed-misfits e = record {
-    turns = λ R x o t.
-        let v = by-phase (t .frame) Phase.indexed (top-phase t ∙ w .phase) in
-        let h = top-as t (v .2) in
-        refuses h (misfit-then _ (not-number R o mem m (h .came) (h .come) e));
-  }
-
   -- the scope can be noted in a word
   pub indexed-scope : ToppedToWrite s mem out m → m .scope < 2 ^ 32
   indexed-scope t =

@@ -1,5 +1,5 @@
 -- A comparison: its left operand, its right operand.
-use Prim.Native.Nat.{ℕ, suc, _+_, _-_, _≤_, min}
+use Prim.Native.Nat.{ℕ, suc, _+_, min}
 use mathlib.Core.Bool.{Bool}
 use mathlib.Core.List.{List}
 use mathlib.Core.Path.{_≡_, refl, sym, ap, ap₂, _∙_, subst}
@@ -11,7 +11,7 @@ use Rattle.node.specs.Result.{Result, Done, Refused, _>>=_}
 use Rattle.node.specs.ResultLaws.{bind-at, bind-again, bind-to, bind-refused}
 use Rattle.writing.specs.Writing.{Wrote}
 use Rattle.writing.specs.Writing as Writing
-use Rattle.language.specs.Operators.{Comparison, Compares}
+use Rattle.language.specs.Operators.{Comparison}
 use Rattle.language.specs.Tree.{Expr}
 use Rattle.language.specs.Values.{Value, number, bus, choice, value}
 use Rattle.language.specs.Declared.{Port}
@@ -20,35 +20,30 @@ use Rattle.entries.specs.Kinds as Kind
 use Rattle.sets.specs.Operators.{comparison}
 use Rattle.name_values.specs.World.{nameAt}
 use Rattle.operators.specs.Tables.{infixCodeAt}
-use Rattle.operands.specs.Entries.{kindAt, sizeAt, numberAt}
+use Rattle.operands.specs.Entries.{kindAt, numberAt}
 use Rattle.operands.specs.ShapeLaws.{comparison-shape}
 use Rattle.operands.specs.Working.{Source}
 use Rattle.machine.specs.Phases as Phase
 use Rattle.machine.specs.Came.{Evaluate, Came, worth, nodes, works, asValue}
 use Rattle.machine.specs.Frames.{LeftCompared, RightCompared, comparing, apply}
-use Rattle.machine.specs.Realm.{Operand, Realm}
-use Rattle.machine.specs.Operators.{Between, OpAt}
+use Rattle.machine.specs.Realm.{Realm}
 use Rattle.machine.specs.OperatorLaws.{op-comparison}
-use Rattle.machine.specs.Memory.{Framed}
 use Rattle.machine.specs.Telling.{isNumber, isBus, isUnsized, isChoice, isNodes, Tells}
 use Rattle.machine.specs.Table.{Began}
-use Rattle.machine.specs.States.{modeOf, Ready, Steps, TopOf, Topped, Takes, TakesToWrite}
-use Rattle.machine.specs.StateLaws.{entered}
+use Rattle.machine.specs.States.{modeOf, written, TopOf, Topped, Takes, TakesToWrite}
 use Rattle.machine.specs.Moves.{came, wrote, popped}
-use Rattle.machine.specs.ComeLaws.{misfit-then}
 use Rattle.machine.specs.FrameViews.{by-phase}
 use Rattle.machine.specs.TakeLaws.{words, entry-word, at-word, value-word, other-word, refuses, top-phase, top-as}
-use Rattle.machine.specs.Openings.{Opened}
-use Rattle.machine.specs.OpenLaws.{opens}
-use Rattle.machine.specs.FlatLaws.{renews}
+use Rattle.machine.specs.Openings.{Renewed}
+use Rattle.machine.specs.StartLaws.{StartsTwo}
+use Rattle.machine.specs.RenewLaws.{follows-last}
 use Rattle.machine.specs.BindLaws.{take-value, then-nodes}
 use Rattle.machine.specs.declared.Machine.{Machine}
-use Rattle.machine.specs.declared.Move.{Move}
 use Rattle.machine.specs.declared.Move.the-variants.{Next, Refused as Refuses}
 use Rattle.machine.specs.Entering.{Expands, Waiting}
 use Rattle.machine.specs.EnteringLaws.{works-formula, operand-shape}
 use Rattle.machine.specs.SameLaws.{same-truth}
-use Rattle.atom_steps.specs.JoinedLaws.{joined-two, joined-op}
+use Rattle.machine.specs.JoinedLaws.{joined-two, joined-op}
 use Rattle.atom_steps.specs.WriteLaws.{writes-after}
 use Rattle.machine.specs.TellLaws.{
   tells-number,
@@ -62,7 +57,6 @@ use Rattle.machine.specs.TellLaws.{
   tells-again,
   IsValue,
   came-value,
-  not-value,
 }
 use Rattle.atom_steps.specs.Comparing.{Nameable, NameOf, Comparing, Faces}
 
@@ -73,50 +67,35 @@ comparison-same c o a b =
     (λ x. bind-again b (compared (c .ports) o x) nodes ∙ sym (take-value b (λ y. compared (c .ports) o x y >>= nodes)))
     ∙ sym (take-value a (λ x. (b >>= worth) >>= comparing o c x))
 
--- both operands stand before the entry
-pub comparison-inside : {s : Source} {mem : List ℕ} {m : Machine} → Ready s mem m → Expands (s .work) m Kind.equality Kind.membership → 1 + sizeAt (s .work) (m .value - 1) ≤ m .value
-comparison-inside {s} {m = m} r k =
-    let e0 = k .mode in
-    let n = entered (r .state) (omega arith) in
-    let v = operand-shape (n .at .operand) (comparison-shape (kindAt (s .work) (m .value)) (k .from) (k .until)) in
-    joined-two (r .realm) (n .at .operand) (v .4) .inside
-
 -- the entry: its left operand is worked out first
-pub comparison-steps : {s : Source} {mem mem' : List ℕ} {m : Machine} {j : ℕ} {r : Move} → Expands (s .work) m Kind.equality Kind.membership → j ≡ m .value - 1 - sizeAt (s .work) (m .value - 1)
-    → Opened mem mem' m Phase.leftCompared (modeOf Evaluate) j r → Steps s mem mem' m r
-comparison-steps {s} {mem} {mem'} {m} {j} {r} k ej w = record {
-  turns = λ R x o out h.
-      let e0 = k .mode in
-      let n = entered h (omega arith) in
-      let v = operand-shape (n .at .operand) (comparison-shape (kindAt (s .work) (m .value)) (k .from) (k .until)) in
-      let t = v .0 in
-      let op = v .1 in
-      let a = v .2 in
-      let b = v .3 in
-      let two = joined-two R (n .at .operand) (v .4) in
-      let ins = two .inside in
-      opens n {F = LeftCompared op (n .context) b} {phase = Phase.leftCompared} {a = Evaluate} {e = a} {j = j} (record {
-        holds-nothing = refl;
-        few-turns = omega arith;
-        below = omega arith;
-        operand = subst (λ (i : ℕ). Operand s (R .W) (R .ports) (n .at .env) (n .context) i a) (sym ej) (two .left);
-        holds = tt;
-        waits = (t .at, joined-op R (n .at .operand) (v .4), two .right);
-        kept = tt;
-        same = works-formula n e0 ∙ ap (λ (d : Expr). expansion (n .context) d >>= nodes) (v .4) ∙ comparison-same (n .context) op (value (n .context .values) a) (value (n .context .values) b);
-      }) r w;
-}
+pub comparison-starts : {s : Source} {mem : List ℕ} {m : Machine} → Expands (s .work) m Kind.equality Kind.membership → StartsTwo s mem m Phase.leftCompared 0 Evaluate
+comparison-starts {s} {mem} {m} k =
+    let e0 = k .mode in
+    record {
+      entry = omega arith;
+      few-turns = omega arith;
+      starting = λ R x o out n.
+          let v = operand-shape (n .at .operand) (comparison-shape (kindAt (s .work) (m .value)) (k .from) (k .until)) in
+          let t = v .0 in
+          let op = v .1 in
+          let a = v .2 in
+          let b = v .3 in
+          let two = joined-two R (n .at .operand) (v .4) in
+          record {
+            frame = LeftCompared op (n .context) b;
+            first = a;
+            holds-nothing = refl;
+            inside = two .inside;
+            operand = two .left;
+            holds = tt;
+            waits = (t .at, joined-op R (n .at .operand) (v .4), two .right);
+            kept = tt;
+            same = works-formula n e0 ∙ ap (λ (d : Expr). expansion (n .context) d >>= nodes) (v .4) ∙ comparison-same (n .context) op (value (n .context .values) a) (value (n .context .values) b);
+          };
+    }
 
 -- the left operand has come
 module _ {s : Source} {mem : List ℕ} {m : Machine} (w : Waiting mem m Phase.leftCompared) where
-  pub left-misfits : m .mode ≡ isNodes → Takes s mem mem m (Refuses 9 0)
-  left-misfits e = record {
-    turns = λ R x o out t.
-        let v = by-phase (t .frame) Phase.leftCompared (top-phase t ∙ w .phase) in
-        let h = top-as t (v .3) in
-        refuses h (misfit-then _ (not-value R o mem m (h .came) (h .come) e));
-  }
-
   module _ (e : m .mode ≡ isNodes → ⊥) where
     pub left-nameable : Topped s mem m → Nameable m
     left-nameable t =
@@ -128,10 +107,8 @@ module _ {s : Source} {mem : List ℕ} {m : Machine} (w : Waiting mem m Phase.le
           choice = λ z. tells-choice W (m .mode) (m .value) (m .from) (g .value) (g .tells) z .declared;
         }
 
-    pub left-steps : {mem' : List ℕ} {k mode r : ℕ} → k ≡ getD mem (m .frames + 1) 0 → mode ≡ m .mode → NameOf m r
-        → Framed mem mem' (m .frames) (record { phase = Phase.rightCompared; entry = k; base = m .top; at = mode; count = 0; value = m .value; other = r })
-        → Takes s mem mem' m (Next (came m (modeOf Evaluate) (k - 1) 0))
-    left-steps {mem'} {k} {mode} {r} ek em q f = record {
+    pub left-steps : {mem' : List ℕ} {r : ℕ} {n : Machine} → NameOf m r → Renewed mem mem' m Phase.rightCompared (m .mode) (m .value) r (modeOf Evaluate) n → Takes s mem mem' m (Next n)
+    left-steps {mem'} {r} z q = record {
       turns = λ R x o out t.
           let v = by-phase (t .frame) Phase.leftCompared (top-phase t ∙ w .phase) in
           let op = v .0 in
@@ -139,35 +116,20 @@ module _ {s : Source} {mem : List ℕ} {m : Machine} (w : Waiting mem m Phase.le
           let b = v .2 in
           let h = top-as t (v .3) in
           let g = came-value R o mem m (h .came) (h .come) e in
-          let p = h .at .waits .0 in
-          let same-entry : k ≡ words h .entry = ek ∙ entry-word h in
-          let some = h .at .some in
-          let at = h .at .entry in
-          renews h {phase = Phase.leftCompared} refl {G = RightCompared op c (g .value)} {a = Evaluate} {c = c} {e = b} (g .same) (record {
-            holds-nothing = refl;
-            framed = f;
-            entry-is = same-entry;
-            base-is = refl;
-            count-is = refl;
+          follows-last h {G = RightCompared op c (g .value)} {a = Evaluate} {c = c} {e = b} q (record {
+            held-nothing = refl;
+            holds-no-words = refl;
+            keeps-formula = ap (written (m .nodes)) (g .same);
             fewer = omega arith;
-            below = omega arith;
-            operand = subst (λ (i : ℕ). Operand s (R .W) (R .ports) (h .ground .env) c (i - 1) b) (sym same-entry) (h .at .waits .2);
-            holds = subst (λ (i : ℕ). Tells (R .W) i (m .value) r (g .value)) (sym em) (tells-again (R .W) (m .mode) (m .value) (m .from) (g .value) (g .tells) r (q .bus) (q .choice));
-            waits = (p, subst (λ (i : ℕ). OpAt s i (Between (Compares op)) p) (sym same-entry) (h .at .waits .1), h .at .waits .2 .ports);
+            operand = h .at .waits .2;
+            holds = tells-again (R .W) (m .mode) (m .value) (m .from) (g .value) (g .tells) r (z .bus) (z .choice);
+            waits = (h .at .waits .0, h .at .waits .1, h .at .waits .2 .ports);
             kept = tt;
             same = ap (apply (LeftCompared op c b)) (g .same) ∙ bind-at (g .value) (λ y. works Evaluate c b >>= comparing op c y);
           });
     }
 
 module _ {s : Source} {mem out : List ℕ} {m : Machine} (w : Waiting mem m Phase.rightCompared) where
-  pub right-misfits : m .mode ≡ isNodes → TakesToWrite s mem mem out out m (Refuses 9 0)
-  right-misfits e = record {
-    turns = λ R x o t.
-        let v = by-phase (t .frame) Phase.rightCompared (top-phase t ∙ w .phase) in
-        let h = top-as t (v .3) in
-        refuses h (misfit-then _ (not-value R o mem m (h .came) (h .come) e));
-  }
-
   module _ (e : m .mode ≡ isNodes → ⊥) where
     module _ {R : Realm s} {x : Result Came} {o : Began} {op : Comparison} {c : Context} {u : Value} (h : TopOf R mem out m x o (RightCompared op c u)) where
       right : IsValue R m (h .came)

@@ -1,4 +1,3 @@
-pub mod JoinedLaws
 pub mod WriteLaws
 pub mod NoteLaws
 pub mod MembershipLaws

@@ -5,16 +5,13 @@ use choices::words_end;
 use machine::Machine;
 use machine::Move;
 use machine::NOTE;
-use machine::Words;
 use machine::capped;
-use machine::frame;
 use machine::modes;
 use machine::phases;
 use node::MAX_NODES;
 use node::Node;
 use node::refusals;
 use operands::entry::infix_at;
-use operands::entry::size_at;
 use operators::codes;
 use sets::numbers::compare;
 use writing::cap;
@@ -33,9 +30,7 @@ pub fn comparison(text: &[u8], work: &[u8], refs: &[u16], memory: &mut [u32], m:
     requires { ⌜ Expands (now work) m Kind.equality Kind.membership ⌝ }
     ensures { λ r. ⌜ Steps (source (now (text .entry)) (now (work .entry)) (now (refs .entry))) (now (memory .entry)) (now (memory .exit)) m r ⌝ }
 {
-    let k = m.value as usize;
-    let j = k - 1 - size_at(work, k - 1);
-    m.push(memory, phases::LEFT_COMPARED, modes::EVALUATE, j as u32)
+    m.push_first(work, memory, phases::LEFT_COMPARED, modes::EVALUATE, 0)
 }
 
 // The number of a bus's or an identifier's name; of another value nothing but its mode and its number is kept.
@@ -61,23 +56,15 @@ pub fn left(text: &[u8], work: &[u8], refs: &[u16], memory: &mut [u32], m: Machi
     if m.mode == modes::NODES {
         return Move::Refused(refusals::WRONG_TYPE, 0);
     }
-    let at = m.frames;
-    let k = memory[at + 1];
-    let name = name_of(m);
-    frame(
+    let name = name_of(m) as u32;
+    Move::Next(m.renew(
         memory,
-        at,
-        Words {
-            phase: phases::RIGHT_COMPARED,
-            entry: k,
-            base: m.top,
-            at: m.mode as usize,
-            count: 0,
-            value: m.value,
-            other: name,
-        },
-    );
-    Move::Next(m.came(modes::EVALUATE, k - 1, 0))
+        phases::RIGHT_COMPARED,
+        m.mode,
+        m.value,
+        name,
+        modes::EVALUATE,
+    ))
 }
 
 // The right operand has come: the left one is held in the frame by its mode and two numbers.
@@ -155,8 +142,13 @@ fn with_bus(
     }
     let at = m.frames;
     let place = memory[at + 5];
-    let b = memory[at + 6] as usize;
-    against(text, work, refs, memory, table, m, place, b, m.from)
+    let bus = memory[at + 6] as usize;
+    let facing = Facing {
+        place,
+        bus,
+        identifier: m.from,
+    };
+    against(text, work, refs, memory, table, m, facing)
 }
 
 // An identifier on the left.
@@ -179,11 +171,23 @@ fn with_identifier(
         return Move::Refused(refusals::WRONG_TYPE, 0);
     }
     let at = m.frames;
-    let i = memory[at + 6] as usize;
-    against(text, work, refs, memory, table, m, m.value, m.from, i)
+    let identifier = memory[at + 6] as usize;
+    let facing = Facing {
+        place: m.value,
+        bus: m.from,
+        identifier,
+    };
+    against(text, work, refs, memory, table, m, facing)
 }
 
-// The bus b, whose name stands at `place`, against the identifier i.
+// A bus, whose name stands at `place`, and an identifier.
+struct Facing {
+    place: u32,
+    bus: usize,
+    identifier: usize,
+}
+
+// The one against the other.
 fn against(
     text: &[u8],
     work: &[u8],
@@ -191,12 +195,10 @@ fn against(
     memory: &[u32],
     table: &mut [u32; MAX_NODES],
     m: Machine,
-    place: u32,
-    b: usize,
-    i: usize,
+    facing: Facing,
 ) -> Move
     requires { ⌜ ToppedToWrite (source (now text) (now work) (now refs)) (now memory) (now table) m ⌝ }
-    requires { ⌜ Faces (source (now text) (now work) (now refs)) (now memory) (now table) m place b i ⌝ }
+    requires { ⌜ Faces (source (now text) (now work) (now refs)) (now memory) (now table) m (facing .place) (facing .bus) (facing .identifier) ⌝ }
     ensures { λ r. ⌜ TakesToWrite (source (now (text .entry)) (now (work .entry)) (now (refs .entry))) (now (memory .entry)) (now (memory .entry)) (now (table .entry)) (now (table .exit)) m r ⌝ }
 {
     let at = m.frames;
@@ -205,9 +207,9 @@ fn against(
     if codes::UNEQUAL < operator {
         return Move::Refused(refusals::WRONG_TYPE, 0);
     }
-    let width = memory[NOTE * b + 1];
-    let first = memory[NOTE * b + 2];
-    let entry = memory[NOTE * i + 1] as usize;
+    let width = memory[NOTE * facing.bus + 1];
+    let first = memory[NOTE * facing.bus + 2];
+    let entry = memory[NOTE * facing.identifier + 1] as usize;
     let end = words_end(work, entry);
     if widths_are(work, entry + 1, end, width) {
         let n = one_of(text, work, entry + 1, end, first, table, m.nodes);
@@ -217,5 +219,5 @@ fn against(
         let r = cap(Node::NOT, n, table);
         return Move::Next(m.popped().wrote(capped(r)));
     }
-    Move::Refused(refusals::WRONG_WIDTH, place)
+    Move::Refused(refusals::WRONG_WIDTH, facing.place)
 }

@@ -1,16 +1,13 @@
 // IN: a number and a set.
 use machine::Machine;
 use machine::Move;
-use machine::Words;
 use machine::capped;
-use machine::frame;
 use machine::modes;
 use machine::phases;
 use memory_sets::Span;
 use memory_sets::one::contains;
 use node::MAX_NODES;
 use node::refusals;
-use operands::entry::size_at;
 use writing::constant;
 ghost use Rattle.entries.specs.Kinds as Kind;
 ghost use Rattle.machine.specs.Phases as Phase;
@@ -24,9 +21,7 @@ pub fn membership(text: &[u8], work: &[u8], refs: &[u16], memory: &mut [u32], m:
     requires { ⌜ Expands (now work) m Kind.membership Kind.binary ⌝ }
     ensures { λ r. ⌜ Steps (source (now (text .entry)) (now (work .entry)) (now (refs .entry))) (now (memory .entry)) (now (memory .exit)) m r ⌝ }
 {
-    let k = m.value as usize;
-    let j = k - 1 - size_at(work, k - 1);
-    m.push(memory, phases::MEMBER, modes::EVALUATE, j as u32)
+    m.push_first(work, memory, phases::MEMBER, modes::EVALUATE, 0)
 }
 
 // The number has come: the set is worked out.
@@ -38,22 +33,7 @@ pub fn number(text: &[u8], work: &[u8], refs: &[u16], memory: &mut [u32], m: Mac
     if m.mode != modes::NUMBER {
         return Move::Refused(refusals::WRONG_TYPE, 0);
     }
-    let at = m.frames;
-    let k = memory[at + 1];
-    frame(
-        memory,
-        at,
-        Words {
-            phase: phases::AMONG,
-            entry: k,
-            base: m.top,
-            at: 0,
-            count: 0,
-            value: m.value,
-            other: 0,
-        },
-    );
-    Move::Next(m.came(modes::EVALUATE, k - 1, 0))
+    Move::Next(m.renew(memory, phases::AMONG, 0, m.value, 0, modes::EVALUATE))
 }
 
 // The set has come: it is searched where it stands.

@@ -35,7 +35,7 @@ use Rattle.machine.specs.Telling.{isSet, isNodes}
 use Rattle.machine.specs.Table.{Began}
 use Rattle.machine.specs.TableLaws.{laid-more, laid-last, laid-end, wrote-capped}
 use Rattle.machine.specs.States.{modeOf, TopOf, Topped, Takes, ToppedToWrite, TakesToWrite}
-use Rattle.machine.specs.ComeLaws.{came-set, not-set, came-formula, not-formula, misfit-then}
+use Rattle.machine.specs.ComeLaws.{came-set, came-formula, misfit-then}
 use Rattle.machine.specs.FrameViews.{by-phase}
 use Rattle.machine.specs.TakeLaws.{entry-word, value-word, refuses, top-phase, top-as}
 use Rattle.machine.specs.FlatLaws.{flat-laid}
@@ -54,14 +54,6 @@ use Rattle.each_steps.specs.GatherLaws.{connective-code, no-formulas, ov
 
 -- the operand at the first element was written
 module _ {s : Source} {mem : List ℕ} {m : Machine} (w : Waiting mem m Phase.firstEach) where
-  pub first-misfits : (m .mode ≡ isNodes → ⊥) → Takes s mem mem m (Refuses 9 0)
-  first-misfits e = record {
-    turns = λ R x o out t.
-        let v = by-phase (t .frame) Phase.firstEach (top-phase t ∙ w .phase) in
-        let h = top-as t (v .5) in
-        refuses h (misfit-then _ (not-formula R o mem m (h .came) (h .come) e));
-  }
-
   pub first-turnable : Topped s mem m → Turnable mem m (m .nodes)
   first-turnable t =
       let v = by-phase (t .top .frame) Phase.firstEach (top-phase (t .top) ∙ w .phase) in
@@ -94,14 +86,6 @@ module _ {s : Source} {mem : List ℕ} {m : Machine} (w : Waiting mem m Phase.fi
 
 -- the operand at a further element was written
 module _ {s : Source} {mem out : List ℕ} {m : Machine} (w : Waiting mem m Phase.nextEach) where
-  pub next-misfits : (m .mode ≡ isNodes → ⊥) → TakesToWrite s mem mem out out m (Refuses 9 0)
-  next-misfits e = record {
-    turns = λ R x o t.
-        let v = by-phase (t .frame) Phase.nextEach (top-phase t ∙ w .phase) in
-        let h = top-as t (v .7) in
-        refuses h (misfit-then _ (not-formula R o mem m (h .came) (h .come) e));
-  }
-
   pub next-turnable : ToppedToWrite s mem out m → {n : ℕ} → n ≤ suc maxNodes → Turnable mem m n
   next-turnable t few =
       let v = by-phase (t .top .frame) Phase.nextEach (top-phase (t .top) ∙ w .phase) in
@@ -152,14 +136,6 @@ module _ {s : Source} {mem out : List ℕ} {m : Machine} (w : Waiting mem m Phas
 
 -- the set has come
 module _ {s : Source} {mem out : List ℕ} {m : Machine} (w : Waiting mem m Phase.overEach) where
-  pub elements-misfits : (m .mode ≡ isSet → ⊥) → TakesToWrite s mem mem out out m (Refuses 9 0)
-  elements-misfits e = record {
-    turns = λ R x o t.
-        let v = by-phase (t .frame) Phase.overEach (top-phase t ∙ w .phase) in
-        let h = top-as t (v .4) in
-        refuses h (misfit-then _ (not-set R o mem m (h .came) (h .come) e));
-  }
-
   module _ (e : m .mode ≡ isSet) where
     pub elements-beginning : ToppedToWrite s mem out m → (m .value ≡ 0 → ⊥) → Beginning mem m
     elements-beginning t some' =

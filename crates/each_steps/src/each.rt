@@ -13,7 +13,6 @@ use node::Node;
 use node::refusals;
 use operands::entry::kind_at;
 use operands::entry::prefix_at;
-use operands::entry::size_at;
 use writing::constant;
 use writing::join;
 ghost use mathlib.Core.Bool.{false};
@@ -27,15 +26,13 @@ ghost use Rattle.operands.specs.Working.{source};
 ghost use Rattle.machine.specs.Entering.{Expands, Waiting};
 ghost use Rattle.each_steps.specs.Onward.{closed as closed', Turnable, Onward};
 
-// The set is worked out first.
+// The set is worked out first: the entry of the operator's name stands between it and the operand.
 pub fn over_each(text: &[u8], work: &[u8], refs: &[u16], memory: &mut [u32], m: Machine) -> Move
     requires { ⌜ Ready (source (now text) (now work) (now refs)) (now memory) m ⌝ }
     requires { ⌜ Expands (now work) m Kind.bigNumbers (Kind.binder false) ⌝ }
     ensures { λ r. ⌜ Steps (source (now (text .entry)) (now (work .entry)) (now (refs .entry))) (now (memory .entry)) (now (memory .exit)) m r ⌝ }
 {
-    let k = m.value as usize;
-    let j = k - 2 - size_at(work, k - 1);
-    m.push(memory, phases::OVER_EACH, modes::EVALUATE, j as u32)
+    m.push_first(work, memory, phases::OVER_EACH, modes::EVALUATE, 1)
 }
 
 // The set has come: the operand at its first element is worked out. Numbers and sets make no formula.

@@ -34,7 +34,7 @@ use Rattle.machine.specs.Table.{Began}
 use Rattle.machine.specs.Cost.{turns}
 use Rattle.machine.specs.Stack.{EachOf, OfNumbers}
 use Rattle.machine.specs.States.{Turned, TopOf, Top, Topped, Takes}
-use Rattle.machine.specs.ComeLaws.{IsNumber, came-number, not-number, misfit-then}
+use Rattle.machine.specs.ComeLaws.{IsNumber, came-number}
 use Rattle.machine.specs.FrameViews.{by-phase}
 use Rattle.machine.specs.TakeLaws.{words, entry-word, base-word, count-word, value-word, refuses, top-phase, top-as}
 use Rattle.machine.specs.BindLaws.{take-number}
@@ -173,14 +173,6 @@ module _ {s : Source} {R : Realm s} {mem out : List ℕ} {m : Machine} {x : Resu
 
 -- the operand at the first element has come
 module _ {s : Source} {mem : List ℕ} {m : Machine} (w : Waiting mem m Phase.firstNumber) where
-  pub first-misfits : (m .mode ≡ isNumber → ⊥) → Takes s mem mem m (Refuses 9 0)
-  first-misfits e = record {
-    turns = λ R x o out t.
-        let y = at-first t w in
-        let h = y .top in
-        refuses h (misfit-then (onwardNumbers (y .place) (y .op) (y .context) (y .name) (y .operand) (y .rest)) (not-number R o mem m (h .came) (h .come) e));
-  }
-
   pub first-foldable : Topped s mem m → Foldable mem m
   first-foldable t = let y = at-first (t .top) w in foldable (y .top) {phase = Phase.firstNumber} {l = y .rest} refl (t .lent .small)
 
@@ -220,15 +212,6 @@ record Added {s : Source} {R : Realm s} {mem out : List ℕ} {m : Machine} {x : 
 
 -- the operand at a further element has come
 module _ {s : Source} {mem : List ℕ} {m : Machine} (w : Waiting mem m Phase.nextNumber) where
-  pub next-misfits : (m .mode ≡ isNumber → ⊥) → Takes s mem mem m (Refuses 9 0)
-  next-misfits e = record {
-    turns = λ R x o out t.
-        let y = at-next t w in
-        let h = y .top in
-        refuses h (misfit-then (λ b. calculate (y .place) (numeric (y .op)) (y .sum) b >>= onwardNumbers (y .place) (y .op) (y .context) (y .name) (y .operand) (y .rest))
-        (not-number R o mem m (h .came) (h .come) e));
-  }
-
   pub next-foldable : Topped s mem m → Foldable mem m
   next-foldable t = let y = at-next (t .top) w in foldable (y .top) {phase = Phase.nextNumber} {l = y .rest} refl (t .lent .small)
 

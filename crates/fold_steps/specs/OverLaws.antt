@@ -1,5 +1,5 @@
 -- A big operator: its set is worked out; then its operand at the first element.
-use Prim.Native.Nat.{ℕ, suc, _+_, _-_, _≤_, _<_}
+use Prim.Native.Nat.{ℕ, suc, _+_, _≤_, _<_}
 use mathlib.Core.Bool.{false}
 use mathlib.Core.List.{List, [], _∷_}
 use mathlib.Core.Path.{_≡_, refl, sym, ap, ap₂, _∙_, subst}
@@ -14,13 +14,13 @@ use Rattle.language.specs.Values.{Value, Number, Set, Logic, number, set, calcu
 use Rattle.language.specs.Expansion.{Context, at}
 use Rattle.entries.specs.Kinds as Kind
 use Rattle.operators.specs.Tables.{prefixCodeAt}
-use Rattle.operands.specs.Entries.{kindAt, sizeAt, placeAt, numberAt as tokenNumber}
+use Rattle.operands.specs.Entries.{kindAt, placeAt, numberAt as tokenNumber}
 use Rattle.operands.specs.KindLaws.{big-class}
 use Rattle.operands.specs.Working.{Source}
 use Rattle.machine.specs.Phases as Phase
 use Rattle.machine.specs.Came.{Evaluate, Came, Worth, worth, works, asNumber, asSet}
 use Rattle.machine.specs.Frames.{Over, FirstNumber, FirstSet, merging, numberAt, setAt, apply}
-use Rattle.machine.specs.Realm.{Operand, Realm}
+use Rattle.machine.specs.Realm.{Realm}
 use Rattle.machine.specs.Operators.{Folds, OpAt}
 use Rattle.machine.specs.Memory.{onTop}
 use Rattle.machine.specs.MemoryLaws.{held-none}
@@ -29,19 +29,16 @@ use Rattle.machine.specs.Moves.{above, came, popped}
 use Rattle.machine.specs.Telling.{isSet, isLogic}
 use Rattle.machine.specs.Table.{Began}
 use Rattle.machine.specs.Stack.{OfNumbers, OfSets, OfFormulas}
-use Rattle.machine.specs.States.{modeOf, Ready, Steps, Turned, TopOf, Top, Topped, Takes}
-use Rattle.machine.specs.StateLaws.{entered}
-use Rattle.machine.specs.ComeLaws.{came-set, not-set, misfit-then}
+use Rattle.machine.specs.States.{modeOf, Turned, TopOf, Top, Topped, Takes}
+use Rattle.machine.specs.ComeLaws.{came-set}
 use Rattle.machine.specs.FrameViews.{by-phase}
 use Rattle.machine.specs.TakeLaws.{entry-word, room-under, refuses, top-phase, top-as}
 use Rattle.machine.specs.FlatLaws.{flat-top, yields}
-use Rattle.machine.specs.Openings.{Opened}
-use Rattle.machine.specs.OpenLaws.{opens}
+use Rattle.machine.specs.StartLaws.{StartsTwo}
 use Rattle.machine.specs.BindLaws.{take-number, take-set, then-worth, number-last, set-last}
 use Rattle.machine.specs.OperandLaws.{operand-view, operand-as}
 use Rattle.machine.specs.declared.Machine.{Machine}
-use Rattle.machine.specs.declared.Move.{Move}
-use Rattle.machine.specs.declared.Move.the-variants.{Next, Refused as Refuses}
+use Rattle.machine.specs.declared.Move.the-variants.{Next}
 use Rattle.machine.specs.Entering.{Evaluates, Waiting}
 use Rattle.machine.specs.EnteringLaws.{works-value}
 use Rattle.fold_steps.specs.Turning.{Turns, begun, Beginning}
@@ -53,43 +50,34 @@ use Rattle.fold_steps.specs.ElementLaws.{split, no-element, beginning, b
 over-same : (r : Result Value) (k : List ℕ → Result Value) → ((r >>= set >>= k) >>= worth) ≡ ((r >>= worth) >>= λ v. asSet v >>= λ l. k l >>= worth)
 over-same r k = then-worth (r >>= set) k (λ l. k l >>= worth) (λ l. refl) ∙ sym (take-set r (λ l. k l >>= worth))
 
--- the set stands before the entry
-pub over-inside : {s : Source} {mem : List ℕ} {m : Machine} → Ready s mem m → Evaluates (s .work) m Kind.bigNumbers (Kind.binder false) → 2 + sizeAt (s .work) (m .value - 1) ≤ m .value
-over-inside {s} {m = m} r k =
-    let e0 = k .mode in
-    let n = entered (r .state) (omega arith) in
-    let kind = kindAt (s .work) (m .value) in
-    let v = operand-view (n .at .operand) (big-class kind (k .from) (k .until)) in
-    parts-of (v .0) (v .1) (v .2) (v .3) (v .4) (v .5) (operand-as (n .at .operand) {d = Each (v .0) (v .1) (v .2) (v .3) (v .4) (v .5)} (v .6)) .inside
-
 -- the entry: its set is worked out first
-pub over-steps : {s : Source} {mem mem' : List ℕ} {m : Machine} {j : ℕ} {r : Move} → Evaluates (s .work) m Kind.bigNumbers (Kind.binder false) → j ≡ m .value - 2 - sizeAt (s .work) (m .value - 1)
-    → Opened mem mem' m Phase.over (modeOf Evaluate) j r → Steps s mem mem' m r
-over-steps {s} {mem} {mem'} {m} {j} {r} k ej q = record {
-  turns = λ R x o out h.
-      let e0 = k .mode in
-      let n = entered h (omega arith) in
-      let kind = kindAt (s .work) (m .value) in
-      let v = operand-view (n .at .operand) (big-class kind (k .from) (k .until)) in
-      let t = v .0 in
-      let op = v .1 in
-      let i = v .3 in
-      let y = v .4 in
-      let a = v .5 in
-      let c = n .context in
-      let p = parts-of t op (v .2) i y a (operand-as (n .at .operand) {d = Each t op (v .2) i y a} (v .6)) in
-      let ins = p .inside in
-      opens n {F = Over (t .at) op c i a} {phase = Phase.over} {a = Evaluate} {e = y} {j = j} (record {
-        holds-nothing = refl;
-        few-turns = omega arith;
-        below = omega arith;
-        operand = subst (λ (z : ℕ). Operand s (R .W) (R .ports) (n .at .env) c z y) (sym ej) (p .set);
-        holds = tt;
-        waits = (p .here (R .count) (R .lexed), p .each);
-        kept = tt;
-        same = works-value n e0 ∙ ap (λ (d : Expr). value (c .values) d >>= worth) (v .6) ∙ over-same (value (c .values) y) (big (t .at) op (λ z. value (at c i z .values) a));
-      }) r q;
-}
+pub over-starts : {s : Source} {mem : List ℕ} {m : Machine} → Evaluates (s .work) m Kind.bigNumbers (Kind.binder false) → StartsTwo s mem m Phase.over 1 Evaluate
+over-starts {s} {mem} {m} k =
+    let e0 = k .mode in
+    record {
+      entry = omega arith;
+      few-turns = omega arith;
+      starting = λ R x o out n.
+          let v = operand-view (n .at .operand) (big-class (kindAt (s .work) (m .value)) (k .from) (k .until)) in
+          let t = v .0 in
+          let op = v .1 in
+          let i = v .3 in
+          let y = v .4 in
+          let a = v .5 in
+          let c = n .context in
+          let p = parts-of t op (v .2) i y a (operand-as (n .at .operand) {d = Each t op (v .2) i y a} (v .6)) in
+          record {
+            frame = Over (t .at) op c i a;
+            first = y;
+            holds-nothing = refl;
+            inside = p .inside;
+            operand = p .set;
+            holds = tt;
+            waits = (p .here (R .count) (R .lexed), p .each);
+            kept = tt;
+            same = works-value n e0 ∙ ap (λ (d : Expr). value (c .values) d >>= worth) (v .6) ∙ over-same (value (c .values) y) (big (t .at) op (λ z. value (at c i z .values) a));
+          };
+    }
 
 -- the set has come
 record AtOver {s : Source} (R : Realm s) (mem out : List ℕ) (m : Machine) (x : Result Came) (o : Began) : Type 0 where
@@ -167,14 +155,6 @@ nothing-turns BigAnd h g q = yields h {phase = Phase.over} refl g Logic q refl t
 nothing-turns BigOr h g q = yields h {phase = Phase.over} refl g Logic q refl tt
 
 module _ {s : Source} {mem : List ℕ} {m : Machine} (w : Waiting mem m Phase.over) where
-  pub over-misfits : (m .mode ≡ isSet → ⊥) → Takes s mem mem m (Refuses 9 0)
-  over-misfits e = record {
-    turns = λ R x o out t.
-        let y = at-over t w in
-        let h = y .top in
-        refuses h (misfit-then (λ l. big (y .place) (y .op) (λ k. value (at (y .context) (y .name) k .values) (y .operand)) l >>= worth) (not-set R o mem m (h .came) (h .come) e));
-  }
-
   module _ (e : m .mode ≡ isSet) where
     pub over-beginning : Topped s mem m → (m .value ≡ 0 → ⊥) → Beginning mem m
     over-beginning t n =

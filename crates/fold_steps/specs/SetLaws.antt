@@ -12,7 +12,7 @@ use Rattle.language.specs.Tokens.{Token}
 use Rattle.language.specs.Operators.{Combination, Big}
 use Rattle.language.specs.Tree.{Expr}
 use Rattle.language.specs.Sets.{combine}
-use Rattle.language.specs.Values.{Value, Set, set, limited, value}
+use Rattle.language.specs.Values.{Set, limited}
 use Rattle.language.specs.Expansion.{Context, at}
 use Rattle.language.specs.Laws.Basics.Results.{value-of}
 use Rattle.sets.specs.Operators.{combination}
@@ -34,9 +34,9 @@ use Rattle.machine.specs.Telling.{isSet}
 use Rattle.machine.specs.Table.{Began}
 use Rattle.machine.specs.Cost.{turns}
 use Rattle.machine.specs.States.{TopOf, Top, Topped, Takes}
-use Rattle.machine.specs.ComeLaws.{IsSet, came-set, not-set, misfit-then}
+use Rattle.machine.specs.ComeLaws.{IsSet, came-set}
 use Rattle.machine.specs.FrameViews.{by-phase}
-use Rattle.machine.specs.TakeLaws.{entry-word, value-word, other-word, refuses, refuses-late, top-phase, top-as}
+use Rattle.machine.specs.TakeLaws.{entry-word, value-word, other-word, refuses-late, top-phase, top-as}
 use Rattle.machine.specs.declared.Machine.{Machine}
 use Rattle.machine.specs.declared.Move.{Move}
 use Rattle.machine.specs.declared.Move.the-variants.{Refused as Refuses}
@@ -89,14 +89,6 @@ module _ {s : Source} {R : Realm s} {mem out : List ℕ} {m : Machine} {x : Resu
 
 -- the operand at the first element has come
 module _ {s : Source} {mem : List ℕ} {m : Machine} (w : Waiting mem m Phase.firstSet) where
-  pub first-misfits : (m .mode ≡ isSet → ⊥) → Takes s mem mem m (Refuses 9 0)
-  first-misfits e = record {
-    turns = λ R x o out t.
-        let y = at-first t w in
-        let h = y .top in
-        refuses h (misfit-then (onwardSets (y .place) (y .op) (y .context) (y .name) (y .operand) (y .rest)) (not-set R o mem m (h .came) (h .come) e));
-  }
-
   module _ (e : m .mode ≡ isSet) where
     folded-first : {R : Realm s} {out : List ℕ} {x : Result Came} {o : Began} (y : AtFirst R mem out m x o) (g : IsSet mem m (y .top .came))
         → Folding (y .top) {phase = Phase.firstSet} {l = y .rest} {fold = []} refl (y .place) (y .op) (y .context) (y .name) (y .operand) (g .set) mem (m .from) (m .value)
@@ -151,14 +143,6 @@ answer mem m la lc i p = limited p (combine (combination i) (elementsAt mem (rec
 
 -- the operand at a further element has come
 module _ {s : Source} {mem : List ℕ} {m : Machine} (w : Waiting mem m Phase.nextSet) where
-  pub next-misfits : (m .mode ≡ isSet → ⊥) → Takes s mem mem m (Refuses 9 0)
-  next-misfits e = record {
-    turns = λ R x o out t.
-        let y = at-next t w in
-        let h = y .top in
-        refuses h (misfit-then (λ b. merging (y .place) (y .op) (y .sum) b >>= onwardSets (y .place) (y .op) (y .context) (y .name) (y .operand) (y .rest)) (not-set R o mem m (h .came) (h .come) e));
-  }
-
   module _ (e : m .mode ≡ isSet) {la lc to : ℕ} (ea : la ≡ getD mem (m .frames + 6) 0) (ec : lc ≡ getD mem (m .frames + 5) 0) (et : to ≡ m .frames - setWords) where
     -- both sets, and the place below the frames
     record Both {R : Realm s} {out : List ℕ} {x : Result Came} {o : Began} (y : AtNext R mem out m x o) (g : IsSet mem m (y .top .came)) : Type 0 where

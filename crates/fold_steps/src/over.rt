@@ -8,7 +8,6 @@ use node::refusals;
 use operands::entry::kind_at;
 use operands::entry::place_at;
 use operands::entry::prefix_at;
-use operands::entry::size_at;
 use operators::codes;
 ghost use mathlib.Core.Bool.{false};
 ghost use mathlib.Core.Path.{_≡_};
@@ -26,9 +25,7 @@ pub fn over(text: &[u8], work: &[u8], refs: &[u16], memory: &mut [u32], m: Machi
     requires { ⌜ Evaluates (now work) m Kind.bigNumbers (Kind.binder false) ⌝ }
     ensures { λ r. ⌜ Steps (source (now (text .entry)) (now (work .entry)) (now (refs .entry))) (now (memory .entry)) (now (memory .exit)) m r ⌝ }
 {
-    let k = m.value as usize;
-    let j = k - 2 - size_at(work, k - 1);
-    m.push(memory, phases::OVER, modes::EVALUATE, j as u32)
+    m.push_first(work, memory, phases::OVER, modes::EVALUATE, 1)
 }
 
 // Over nothing `+` is 0, `*` 1, `(+)` empty; `(*)` is refused.

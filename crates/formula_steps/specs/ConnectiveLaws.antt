@@ -1,5 +1,5 @@
 -- A connective: its left operand, its right operand.
-use Prim.Native.Nat.{ℕ, suc, _+_, _-_, _≤_, _<_, min}
+use Prim.Native.Nat.{ℕ, suc, _+_, _<_, min}
 use mathlib.Core.List.{List}
 use mathlib.Core.Path.{_≡_, refl, sym, ap, _∙_, subst}
 use native.Mathlib.Omega.{arith}
@@ -12,38 +12,32 @@ use Rattle.node.specs.Result.{Result, Done, _>>=_}
 use Rattle.node.specs.ResultLaws.{bind-at}
 use Rattle.writing.specs.Writing.{Wrote, Joins}
 use Rattle.writing.specs.StayLaws.{two-stays}
-use Rattle.language.specs.Operators.{Connects}
 use Rattle.language.specs.Tree.{Expr}
 use Rattle.language.specs.Expansion.{expansion}
 use Rattle.entries.specs.Kinds as Kind
-use Rattle.name_values.specs.KnownLaws.{known-joined}
 use Rattle.operators.specs.Tables.{infixCodeAt}
-use Rattle.operands.specs.Entries.{kindAt, sizeAt, numberAt}
+use Rattle.operands.specs.Entries.{kindAt, numberAt}
 use Rattle.operands.specs.ShapeLaws.{connective-shape}
 use Rattle.operands.specs.Working.{Source}
 use Rattle.machine.specs.Phases as Phase
 use Rattle.machine.specs.Came.{Expand, nodes, works, asFormula}
 use Rattle.machine.specs.Frames.{LeftFormula, RightFormula, connected, apply}
-use Rattle.machine.specs.Realm.{Operand}
-use Rattle.machine.specs.Operators.{Between, OpAt}
-use Rattle.machine.specs.OperatorLaws.{joined-at, binary-small}
-use Rattle.machine.specs.Memory.{Framed}
+use Rattle.machine.specs.OperatorLaws.{binary-small}
 use Rattle.machine.specs.Telling.{isNodes}
 use Rattle.machine.specs.TableLaws.{laid-last, laid-end, wrote-capped}
-use Rattle.machine.specs.States.{modeOf, Ready, Steps, Takes, ToppedToWrite, TakesToWrite}
-use Rattle.machine.specs.StateLaws.{entered}
-use Rattle.machine.specs.Moves.{came, wrote, popped}
-use Rattle.machine.specs.ComeLaws.{came-formula, not-formula, misfit-then}
+use Rattle.machine.specs.States.{modeOf, written, Takes, ToppedToWrite, TakesToWrite}
+use Rattle.machine.specs.Moves.{wrote, popped}
+use Rattle.machine.specs.ComeLaws.{came-formula}
 use Rattle.machine.specs.FrameViews.{by-phase}
-use Rattle.machine.specs.TakeLaws.{words, entry-word, value-word, refuses, top-phase, top-as}
-use Rattle.machine.specs.Openings.{Opened}
-use Rattle.machine.specs.OpenLaws.{opens}
-use Rattle.machine.specs.FormulaLaws.{formula-laid, retains, finishes}
+use Rattle.machine.specs.TakeLaws.{entry-word, value-word, top-phase, top-as}
+use Rattle.machine.specs.Openings.{Renewed}
+use Rattle.machine.specs.StartLaws.{StartsTwo}
+use Rattle.machine.specs.JoinedLaws.{joined-two, joined-op}
+use Rattle.machine.specs.RenewLaws.{follows-last}
+use Rattle.machine.specs.FormulaLaws.{formula-laid, finishes}
 use Rattle.machine.specs.BindLaws.{take-formula, then-nodes}
-use Rattle.machine.specs.OperandLaws.{operand-as, two-operands}
 use Rattle.machine.specs.declared.Machine.{Machine}
-use Rattle.machine.specs.declared.Move.{Move}
-use Rattle.machine.specs.declared.Move.the-variants.{Next, Refused as Refuses}
+use Rattle.machine.specs.declared.Move.the-variants.{Next}
 use Rattle.machine.specs.Entering.{Expands, Waiting}
 use Rattle.machine.specs.EnteringLaws.{works-formula, operand-shape}
 
@@ -54,54 +48,36 @@ connective-same o a b =
     ∙ sym (take-formula a (λ f. (b >>= nodes) >>= connected o f))
 
 -- the entry: its left operand is worked out first
-pub connective-inside : {s : Source} {mem : List ℕ} {m : Machine} → Ready s mem m → Expands (s .work) m Kind.binary Kind.nexts → 1 + sizeAt (s .work) (m .value - 1) ≤ m .value
-connective-inside {s} {m = m} r k =
+pub connective-starts : {s : Source} {mem : List ℕ} {m : Machine} → Expands (s .work) m Kind.binary Kind.nexts → StartsTwo s mem m Phase.leftFormula 0 Expand
+connective-starts {s} {mem} {m} k =
     let e0 = k .mode in
-    let n = entered (r .state) (omega arith) in
-    let v = operand-shape (n .at .operand) (connective-shape (kindAt (s .work) (m .value)) (k .from) (k .until)) in
-    let op = v .1 in
-    let p = operand-as (n .at .operand) (v .4) in
-    two-operands p (Kind.joining (Connects op)) (v .0) (v .2) (v .3) (p .known .at) (known-joined (v .0) (Connects op) (v .2) (v .3) (p .known)) .inside
-
-pub connective-steps : {s : Source} {mem mem' : List ℕ} {m : Machine} {j : ℕ} {r : Move} → Expands (s .work) m Kind.binary Kind.nexts → j ≡ m .value - 1 - sizeAt (s .work) (m .value - 1)
-    → Opened mem mem' m Phase.leftFormula (modeOf Expand) j r → Steps s mem mem' m r
-connective-steps {s} {mem} {mem'} {m} {j} {r} k ej w = record {
-  turns = λ R x o out h.
-      let e0 = k .mode in
-      let n = entered h (omega arith) in
-      let v = operand-shape (n .at .operand) (connective-shape (kindAt (s .work) (m .value)) (k .from) (k .until)) in
-      let t = v .0 in
-      let op = v .1 in
-      let a = v .2 in
-      let b = v .3 in
-      let p = operand-as (n .at .operand) (v .4) in
-      let two = two-operands p (Kind.joining (Connects op)) t a b (p .known .at) (known-joined t (Connects op) a b (p .known)) in
-      let ins = two .inside in
-      opens n {F = LeftFormula op (n .context) b} {phase = Phase.leftFormula} {a = Expand} {e = a} {j = j} (record {
-        holds-nothing = refl;
-        few-turns = omega arith;
-        below = omega arith;
-        operand = subst (λ (i : ℕ). Operand s (R .W) (R .ports) (n .at .env) (n .context) i a) (sym ej) (two .left);
-        holds = tt;
-        waits = (t .at, joined-at (R .lexed) t (Connects op) a b p, two .right);
-        kept = tt;
-        same = works-formula n e0 ∙ ap (λ (d : Expr). expansion (n .context) d >>= nodes) (v .4) ∙ connective-same op (expansion (n .context) a) (expansion (n .context) b);
-      }) r w;
-}
+    record {
+      entry = omega arith;
+      few-turns = omega arith;
+      starting = λ R x o out n.
+          let v = operand-shape (n .at .operand) (connective-shape (kindAt (s .work) (m .value)) (k .from) (k .until)) in
+          let t = v .0 in
+          let op = v .1 in
+          let a = v .2 in
+          let b = v .3 in
+          let two = joined-two R (n .at .operand) (v .4) in
+          record {
+            frame = LeftFormula op (n .context) b;
+            first = a;
+            holds-nothing = refl;
+            inside = two .inside;
+            operand = two .left;
+            holds = tt;
+            waits = (t .at, joined-op R (n .at .operand) (v .4), two .right);
+            kept = tt;
+            same = works-formula n e0 ∙ ap (λ (d : Expr). expansion (n .context) d >>= nodes) (v .4) ∙ connective-same op (expansion (n .context) a) (expansion (n .context) b);
+          };
+    }
 
 -- the left operand has come
 module _ {s : Source} {mem : List ℕ} {m : Machine} (w : Waiting mem m Phase.leftFormula) where
-  pub left-misfits : (m .mode ≡ isNodes → ⊥) → Takes s mem mem m (Refuses 9 0)
-  left-misfits e = record {
-    turns = λ R x o out t.
-        let v = by-phase (t .frame) Phase.leftFormula (top-phase t ∙ w .phase) in
-        let h = top-as t (v .3) in
-        refuses h (misfit-then _ (not-formula R o mem m (h .came) (h .come) e));
-  }
-
-  pub left-steps : m .mode ≡ isNodes → {mem' : List ℕ} {k n : ℕ} → k ≡ getD mem (m .frames + 1) 0 → n ≡ m .nodes
-      → Framed mem mem' (m .frames) (record { phase = Phase.rightFormula; entry = k; base = m .top; at = 0; count = 0; value = n; other = 0 }) → Takes s mem mem' m (Next (came m (modeOf Expand) (k - 1) 0))
-  left-steps e {mem'} {k} {n} ek en f = record {
+  pub left-steps : m .mode ≡ isNodes → {mem' : List ℕ} {i : ℕ} {n : Machine} → i ≡ m .nodes → Renewed mem mem' m Phase.rightFormula 0 i 0 (modeOf Expand) n → Takes s mem mem' m (Next n)
+  left-steps e en q = record {
     turns = λ R x o out t.
         let v = by-phase (t .frame) Phase.leftFormula (top-phase t ∙ w .phase) in
         let op = v .0 in
@@ -109,21 +85,14 @@ module _ {s : Source} {mem : List ℕ} {m : Machine} (w : Waiting mem m Phase.le
         let b = v .2 in
         let h = top-as t (v .3) in
         let g = came-formula R o mem m (h .came) (h .come) e in
-        let same-entry : k ≡ words h .entry = ek ∙ entry-word h in
-        let some' = h .at .some in
-        let at = h .at .entry in
-        retains h {G = RightFormula op (g .formula) (m .nodes)} {phase = Phase.leftFormula} {c = c} {e = b} (g .same) (record {
-          nothing = refl;
-          holds-one = refl;
-          framed = f;
-          entry-is = same-entry;
-          base-is = refl;
-          count-is = refl;
+        follows-last h {G = RightFormula op (g .formula) (m .nodes)} {a = Expand} {c = c} {e = b} q (record {
+          held-nothing = refl;
+          holds-no-words = refl;
+          keeps-formula = ap (written (m .nodes)) (g .same);
           fewer = omega arith;
-          below = omega arith;
-          operand = subst (λ (i : ℕ). Operand s (R .W) (R .ports) (h .ground .env) c (i - 1) b) (sym same-entry) (h .at .waits .2);
+          operand = h .at .waits .2;
           holds = en;
-          waits = (h .at .waits .0, subst (λ (i : ℕ). OpAt s i (Between (Connects op)) (h .at .waits .0)) (sym same-entry) (h .at .waits .1));
+          waits = (h .at .waits .0, h .at .waits .1);
           kept = tt;
           same = ap (apply (LeftFormula op c b)) (g .same) ∙ bind-at (g .formula) (λ y. works Expand c b >>= connected op y);
         });
@@ -131,14 +100,6 @@ module _ {s : Source} {mem : List ℕ} {m : Machine} (w : Waiting mem m Phase.le
 
 -- the right operand has come
 module _ {s : Source} {mem out : List ℕ} {m : Machine} (w : Waiting mem m Phase.rightFormula) where
-  pub right-misfits : (m .mode ≡ isNodes → ⊥) → TakesToWrite s mem mem out out m (Refuses 9 0)
-  right-misfits e = record {
-    turns = λ R x o t.
-        let v = by-phase (t .frame) Phase.rightFormula (top-phase t ∙ w .phase) in
-        let h = top-as t (v .3) in
-        refuses h (misfit-then _ (not-formula R o mem m (h .came) (h .come) e));
-  }
-
   pub right-small : ToppedToWrite s mem out m → infixCodeAt (numberAt (s .work) (getD mem (m .frames + 1) 0)) < 16
   right-small t =
       let v = by-phase (t .top .frame) Phase.rightFormula (top-phase (t .top) ∙ w .phase) in

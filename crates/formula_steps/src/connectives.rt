@@ -1,15 +1,12 @@
 // Operators between two formulas.
 use machine::Machine;
 use machine::Move;
-use machine::Words;
 use machine::capped;
-use machine::frame;
 use machine::modes;
 use machine::phases;
 use node::MAX_NODES;
 use node::refusals;
 use operands::entry::infix_at;
-use operands::entry::size_at;
 use writing::join;
 ghost use Rattle.entries.specs.Kinds as Kind;
 ghost use Rattle.machine.specs.Phases as Phase;
@@ -23,9 +20,7 @@ pub fn connective(text: &[u8], work: &[u8], refs: &[u16], memory: &mut [u32], m:
     requires { ⌜ Expands (now work) m Kind.binary Kind.nexts ⌝ }
     ensures { λ r. ⌜ Steps (source (now (text .entry)) (now (work .entry)) (now (refs .entry))) (now (memory .entry)) (now (memory .exit)) m r ⌝ }
 {
-    let k = m.value as usize;
-    let j = k - 1 - size_at(work, k - 1);
-    m.push(memory, phases::LEFT_FORMULA, modes::EXPAND, j as u32)
+    m.push_first(work, memory, phases::LEFT_FORMULA, modes::EXPAND, 0)
 }
 
 // The left operand is written: the right one is worked out.
@@ -37,22 +32,8 @@ pub fn left(text: &[u8], work: &[u8], refs: &[u16], memory: &mut [u32], m: Machi
     if m.mode != modes::NODES {
         return Move::Refused(refusals::WRONG_TYPE, 0);
     }
-    let at = m.frames;
-    let k = memory[at + 1];
-    frame(
-        memory,
-        at,
-        Words {
-            phase: phases::RIGHT_FORMULA,
-            entry: k,
-            base: m.top,
-            at: 0,
-            count: 0,
-            value: m.nodes as u32,
-            other: 0,
-        },
-    );
-    Move::Next(m.came(modes::EXPAND, k - 1, 0))
+    let end = m.nodes as u32;
+    Move::Next(m.renew(memory, phases::RIGHT_FORMULA, 0, end, 0, modes::EXPAND))
 }
 
 // The right operand is written behind the left one.

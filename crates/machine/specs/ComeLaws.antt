@@ -1,11 +1,12 @@
 -- What has come, by the machine's mode; and a value of another kind than is taken.
 use Prim.Native.Nat.{ℕ, _≤_}
 use mathlib.Core.List.{List}
-use mathlib.Core.Path.{_≡_, refl, sym, ap}
+use mathlib.Core.Path.{_≡_, refl, sym, ap, _∙_}
 use native.Mathlib.Omega.{arith}
 use lib.ListN.{length}
 use Rattle.node.specs.Ltl.{Formula}
 use Rattle.node.specs.Result.{Result, _>>=_}
+use Rattle.node.specs.ResultLaws.{bind-at}
 use Rattle.language.specs.Limits.{maxNumber}
 use Rattle.language.specs.Values.{Number, Set, Logic, Bus, Unsized, Choice, misfit}
 use Rattle.operands.specs.Working.{Source}
@@ -37,6 +38,10 @@ pub record IsFormula (v : Came) : Type 0 where
 pub misfit-then : {A B : Type 0} {r : Result A} (k : A → Result B) → r ≡ misfit → (r >>= k) ≡ misfit
 unfolding _>>=_
 misfit-then k e = rw e
+
+-- what is done with a number
+pub number-then : {B : Type 0} {m : Machine} {v : Came} → IsNumber m v → (k : ℕ → Result B) → (asNumber v >>= k) ≡ k (m .value)
+number-then {m = m} n k = ap (λ (y : Came). asNumber y >>= k) (n .same) ∙ bind-at (m .value) k
 
 module _ {s : Source} (R : Realm s) (o : Began) (mem : List ℕ) (m : Machine) where
   pub came-number : (v : Came) → Come R o mem m v → m .mode ≡ isNumber → IsNumber m v

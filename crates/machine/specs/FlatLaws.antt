@@ -1,32 +1,27 @@
--- Frames that hold no words: they take a value and are popped with the memory as it is, or written anew as another such frame.
+-- Frames that hold no words: the state above one is as under it; it takes a value and is popped with the memory as it is.
 use Prim.Native.Nat.{ℕ, suc, _+_, _<_}
 use mathlib.Core.Bool.{false}
 use mathlib.Core.List.{List, [], _++_}
-use mathlib.Core.Path.{_≡_, refl, sym, ap, _∙_, subst}
+use mathlib.Core.Path.{_≡_, refl, ap, _∙_}
 use native.Mathlib.Omega.{arith}
 use native.Mathlib.Decide.{decLt}
 use native.Mathlib.Nat.{add-zero}
-use lib.ListN.{length}
-use Rattle.node.specs.Result.{Result, Done, _>>=_}
-use Rattle.language.specs.Tree.{Expr}
+use Rattle.node.specs.Result.{Result, Done}
 use Rattle.language.specs.Values.{Value}
-use Rattle.language.specs.Expansion.{Context}
 use Rattle.operands.specs.Working.{Source}
-use Rattle.machine.specs.Came.{Aim, Came, Worth, works}
-use Rattle.machine.specs.Frames.{Frame, apply, Kept}
-use Rattle.machine.specs.Realm.{Operand, Realm}
-use Rattle.machine.specs.Memory.{Held, Slotted, nowhere, Framed}
-use Rattle.machine.specs.MemoryLaws.{held-none, agree-same}
-use Rattle.machine.specs.Holding.{Holding, Laying, holding, empty, elements, folded, slotsOf, formsOf}
+use Rattle.machine.specs.Came.{Came, Worth}
+use Rattle.machine.specs.Frames.{Frame, apply}
+use Rattle.machine.specs.Realm.{Realm}
+use Rattle.machine.specs.MemoryLaws.{agree-same}
+use Rattle.machine.specs.Holding.{Holding, Laying, holding, empty, slotsOf, formsOf}
 use Rattle.machine.specs.Telling.{Tells}
-use Rattle.machine.specs.Table.{Began, Laid, endOf}
+use Rattle.machine.specs.Table.{Began, Laid}
 use Rattle.machine.specs.TableLaws.{laid-as}
 use Rattle.machine.specs.Cost.{price, price-some, times, times-suc, turns, weight}
-use Rattle.machine.specs.Stack.{scopeAbove, Holds, Waits}
-use Rattle.machine.specs.States.{modeOf, Standing, written, Turned, TopOf}
-use Rattle.machine.specs.TakeLaws.{words, room-under, pops, renewed, goes}
+use Rattle.machine.specs.Stack.{scopeAbove}
+use Rattle.machine.specs.States.{Standing, written, Turned, TopOf}
+use Rattle.machine.specs.TakeLaws.{words, pops}
 use Rattle.machine.specs.Moves.{popped, came}
-use Rattle.machine.specs.declared.Words.{Words}
 use Rattle.machine.specs.declared.Machine.{Machine}
 use Rattle.machine.specs.declared.Move.the-variants.{Next}
 
@@ -78,68 +73,3 @@ module _ {s : Source} {R : Realm s} {mem out : List ℕ} {m : Machine} {x : Resu
     noted = h .noted;
     lasting = h .lasting;
   })
-
-  -- written anew, as G, which waits for e, the operand at entry j
-  pub record Renewing (G : Frame) (new : Words) (a : Aim) (c : Context) (e : Expr) (mem' : List ℕ) (j : ℕ) : Type 0 where
-    pub holds-nothing : holding G ≡ empty (new .phase) false
-    pub framed : Framed mem mem' (m .frames) new
-    pub entry-is : new .entry ≡ words h .entry
-    pub base-is : new .base ≡ m .top
-    pub count-is : new .count ≡ 0
-    pub fewer : turns (new .phase) 0 < turns phase 0
-    pub below : j < words h .entry
-    pub operand : Operand s (R .W) (R .ports) (h .ground .env) c j e
-    pub holds : Holds (R .W) (endOf o (formsOf (h .rest))) (renewed h new) G
-    pub waits : Waits R (renewed h new) G
-    pub kept : Kept G (works a c e)
-    pub same : apply F (h .came) ≡ (works a c e >>= apply G)
-
-  pub renews : {G : Frame} {new : Words} {a : Aim} {c : Context} {e : Expr} {mem' : List ℕ} {j : ℕ} {v : Value} → h .came ≡ Worth v → Renewing G new a c e mem' j
-      → Turned R mem mem' out out m x o (Next (came m (modeOf a) j 0))
-  renews {G} {new} {a} {c} {e} {mem'} {j} cv r =
-      let z = r .holds-nothing in
-      let e0 : elements G ≡ [] = ap (λ (y : Holding). y .elements) z in
-      let e1 : folded G ≡ [] = ap (λ (y : Holding). y .folded) z in
-      let e2 : holding G .forms ≡ [] = ap (λ (y : Holding). y .forms) z in
-      let u = room-under h in
-      let be = r .below in
-      let ei = r .entry-is in
-      let ft = flat-top in
-      let w0 : words h .phase ≡ phase = h .at .phased ∙ ap (λ (y : Holding). y .phase) f in
-      let w1 : words h .count ≡ 0 = h .at .counted ∙ ap (λ (y : Holding). length (y .elements)) f in
-      goes h {G = G} {a = a} {c = c} {e = e} {mem₁ = mem} (record {
-        new = new;
-        framed = r .framed;
-        phased = ap (λ (y : Holding). y .phase) (sym z);
-        base-is = r .base-is ∙ flat-top;
-        some = omega arith;
-        down = omega arith;
-        agree = agree-same;
-        frames-is = refl;
-        scope-is = flat-scope ∙ ap (λ (y : Holding). scopeAbove (y .inside) (renewed h new)) (sym z);
-        deep = flat-depth ∙ sym (ap (λ (y : Holding). h .ground .depth + slotsOf (y .binds)) z ∙ add-zero (h .ground .depth));
-        lower = omega arith;
-        high = omega arith;
-        level = λ y. flat-top;
-        counted = r .count-is ∙ sym (ap length e0);
-        held = subst (Held mem (new .at)) (sym e0) (held-none mem (new .at));
-        lies = nowhere (ap length e0);
-        held-fold = subst (Held mem (new .other)) (sym e1) (held-none mem (new .other));
-        lies-fold = nowhere (ap length e1);
-        holds = r .holds;
-        waits = r .waits;
-        mode-is = refl;
-        below = omega arith;
-        env = h .ground .env;
-        first = let y = h .at .first in let y' = flat-scope in omega arith;
-        width = flat-depth ∙ h .at .width ∙ ap (λ (i : ℕ). i + length (h .ground .env)) (sym flat-scope);
-        slotted = subst (λ (i : ℕ). Slotted mem i (h .ground .env)) (sym flat-scope) (h .at .seen);
-        operand = r .operand;
-        laid = laid-as (ap (λ (y : List Laying). y ++ formsOf (h .rest)) (sym e2)) (flat-laid cv);
-        few = h .few;
-        noted = h .noted;
-        lasting = h .lasting;
-        less = weight-less (new .phase) phase (words h .entry) (r .fewer) (r .entry-is) (r .count-is) w0 w1;
-        kept = r .kept;
-        same = r .same;
-      })

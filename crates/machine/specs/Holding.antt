@@ -77,8 +77,12 @@ listing p s = record { phase = p; elements = s; folded = []; forms = []; binds =
 abbrev pub turning : ℕ → (rest folded : List ℕ) → List Laying → Holding
 turning p s a fs = record { phase = p; elements = s; folded = a; forms = fs; binds = true; inside = false; flat = false }
 
+-- a frame that holds formulas alone
+abbrev pub noting : ℕ → List Laying → Holding
+noting p fs = record { phase = p; elements = []; folded = []; forms = fs; binds = false; inside = false; flat = true }
+
 abbrev pub writing : ℕ → Formula → ℕ → Holding
-writing p f n = record { phase = p; elements = []; folded = []; forms = record { formula = f; end = n } ∷ []; binds = false; inside = false; flat = true }
+writing p f n = noting p (record { formula = f; end = n } ∷ [])
 
 abbrev keeping : ℕ → Holding
 keeping p = empty p true

@@ -32,10 +32,14 @@ pub mod OpenLaws
 pub mod FlatLaws
 pub mod NumberLaws
 pub mod OperandLaws
+pub mod RenewLaws
 pub mod OperatorLaws
+pub mod JoinedLaws
 pub mod BindLaws
 pub mod ContractLaws
 pub mod FormulaLaws
 pub mod SetLaws
 pub mod Entering
 pub mod EnteringLaws
+pub mod MisfitLaws
+pub mod StartLaws

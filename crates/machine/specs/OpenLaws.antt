@@ -27,6 +27,10 @@ use Rattle.machine.specs.declared.Machine.{Machine}
 use Rattle.machine.specs.declared.Move.{Move}
 use Rattle.machine.specs.declared.Move.the-variants.{Next, Short, Refused as Refuses}
 
+-- of another entry that is the same
+pub opened-as : {mem mem' : List ℕ} {m : Machine} {phase mode i j : ℕ} {r : Move} → i ≡ j → Opened mem mem' m phase mode i r → Opened mem mem' m phase mode j r
+opened-as {mem} {mem'} {m} {phase} {mode} {r = r} e q = subst (λ (k : ℕ). Opened mem mem' m phase mode k r) e q
+
 pub ready-open : {s : Source} {mem : List ℕ} {m : Machine} → Ready s mem m → m .mode ≤ 1 → Openable (length mem) m
 ready-open h l =
     let r = stack-room (h .state .stack) in

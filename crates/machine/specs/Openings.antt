@@ -1,8 +1,12 @@
--- An operator's frame is pushed, if there is room for it.
+-- An operator's frame is pushed, if there is room for it; it is written anew, where one operand has come and the next is worked out.
 use Prim.Native.Nat.{ℕ, _+_, _-_, _≤_, _<_}
 use mathlib.Core.List.{List}
 use mathlib.Core.Path.{_≡_}
+use lib.ListN.{length, getD}
+use Rattle.language.specs.Limits.{maxTokens, workBytes}
+use Rattle.operands.specs.Entries.{sizeAt}
 use Rattle.machine.specs.Memory.{frameWords, spare, reserve, Framed}
+use Rattle.machine.specs.Moves.{came}
 use Rattle.machine.specs.declared.Words.{Words}
 use Rattle.machine.specs.declared.Machine.{Machine}
 use Rattle.machine.specs.declared.Move.{Move}
@@ -61,3 +65,30 @@ Encloses mem mem' m phase at r mode j Short = Lacks mem mem' m
 
 pub record Enclosed (mem mem' : List ℕ) (m : Machine) (phase at r mode j : ℕ) (u : Move) : Type 0 where
   pub encloses : Encloses mem mem' m phase at r mode j u
+
+-- the first operand of the operator at entry k: some entries stand between it and the last one, whose entries end before k
+abbrev pub firstOf : List ℕ → (k between : ℕ) → ℕ
+firstOf work k between = k - (1 + between) - sizeAt work (k - 1)
+
+pub record Preceded (work : List ℕ) (k between : ℕ) : Type 0 where
+  pub few : k < maxTokens
+  pub lent : workBytes ≤ length work
+  pub inside : 1 + between + sizeAt work (k - 1) ≤ k
+
+-- the entry of the last frame, which is written anew with what it keeps; the operand at the entry before is worked out
+abbrev pub entryAt : List ℕ → Machine → ℕ
+entryAt mem m = getD mem (m .frames + 1) 0
+
+abbrev pub keptWords : Machine → (phase k at value other : ℕ) → Words
+keptWords m phase k at value other = record { phase = phase; entry = k; base = m .top; at = at; count = 0; value = value; other = other }
+
+pub record Renewed (mem mem' : List ℕ) (m : Machine) (phase at value other mode : ℕ) (n : Machine) : Type 0 where
+  pub framed : Framed mem mem' (m .frames) (keptWords m phase (entryAt mem m) at value other)
+  pub next : n ≡ came m mode (entryAt mem m - 1) 0
+
+-- there is a frame, of an entry that has an operand
+pub record Renewable (mem : List ℕ) (m : Machine) : Type 0 where
+  pub inside : m .frames + frameWords ≤ length mem
+  pub small : length mem < 4_294_967_296
+  pub below : m .top ≤ m .frames
+  pub some : 0 < entryAt mem m

@@ -10,7 +10,7 @@ use Rattle.language.specs.Tree.{Expr}
 use Rattle.language.specs.Values.{Number, Set, misfit}
 use Rattle.language.specs.Declared.{Port, Identifies}
 use Rattle.language.specs.Expansion.{Context}
-use Rattle.language.specs.Laws.Basics.Lists.{All}
+use Rattle.language.specs.Lists.{All}
 use Rattle.spellings.specs.Interned.{Lexed}
 use Rattle.name_values.specs.World.{World, Stands, Defines, meaningAt}
 use Rattle.name_values.specs.Known.{Known}

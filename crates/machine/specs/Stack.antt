@@ -9,7 +9,7 @@ use Rattle.language.specs.Tokens.{Token}
 use Rattle.language.specs.Operators.{Big, BigSum, BigProduct, BigCap, BigCup, BigAnd, BigOr, Calculates, Combines, Compares, Connects, Measures, Applies}
 use Rattle.language.specs.Tree.{Expr, Empty}
 use Rattle.language.specs.Expansion.{Context, at}
-use Rattle.language.specs.Laws.Basics.Lists.{All}
+use Rattle.language.specs.Lists.{All}
 use Rattle.entries.specs.Kinds as Kind
 use Rattle.name_values.specs.World.{World, Defines, meaningAt}
 use Rattle.name_values.specs.Agrees.{Uses}

@@ -7,7 +7,7 @@ use Rattle.language.specs.Limits.{maxNames, maxNumber, maxElements, maxWidth}
 use Rattle.language.specs.Tokens.{Token}
 use Rattle.language.specs.Declared.{BusOf, Identifies}
 use Rattle.language.specs.Values.{Value, Number, Set, Logic, Bus, Unsized, Choice}
-use Rattle.language.specs.Laws.Values.ValueLaws.{Ordered}
+use Rattle.language.specs.Lists.{Ordered}
 use Rattle.name_values.specs.World.{World, Stands, nameAt, meaningAt}
 
 -- the modes (src): two for entries that are worked out, then one for each kind of value, and one for a formula that was written

@@ -10,8 +10,9 @@ ghost use lib.ListN.{length};
 ghost use Rattle.node.specs.Limits.{maxNodes};
 ghost use Rattle.machine.specs.Memory.{frameWords, Framed};
 ghost use Rattle.machine.specs.Moves.{came as came', wrote as wrote', popped as popped', numbered as numbered', above as above'};
-ghost use Rattle.machine.specs.Openings.{Openable, Opened, Enclosed};
+ghost use Rattle.machine.specs.Openings.{Openable, Opened, Enclosed, Preceded, firstOf, Renewable, Renewed};
 use language::limits;
+use operands::entry::size_at;
 use sets::Worked;
 use writing::TOO_MANY;
 
@@ -190,6 +191,54 @@ impl Machine {
             frames: at,
             nodes: self.nodes,
         })
+    }
+
+    // An operator's frame is pushed, if there is room, and its first operand is worked out; as many entries as said stand between that one and the last.
+    pub fn push_first(
+        self,
+        work: &[u8],
+        memory: &mut [u32],
+        phase: u32,
+        mode: u32,
+        between: usize,
+    ) -> Move
+        requires { ⌜ Openable (length (now memory)) self ⌝ }
+        requires { ⌜ Preceded (now work) (self .value) between ⌝ }
+        ensures { λ r. ⌜ Opened (now (memory .entry)) (now (memory .exit)) self phase mode (firstOf (now (work .entry)) (self .value) between) r ⌝ }
+    {
+        let k = self.value as usize;
+        let j = k - 1 - between - size_at(work, k - 1);
+        self.push(memory, phase, mode, j as u32)
+    }
+
+    // The last frame is written anew, with another phase and what it is to keep; its last operand, at the entry before its own, is worked out, as the mode says.
+    pub fn renew(
+        self,
+        memory: &mut [u32],
+        phase: u32,
+        at: u32,
+        value: u32,
+        other: u32,
+        mode: u32,
+    ) -> Machine
+        requires { ⌜ Renewable (now memory) self ⌝ }
+        ensures { λ r. ⌜ Renewed (now (memory .entry)) (now (memory .exit)) self phase at value other mode r ⌝ }
+    {
+        let k = memory[self.frames + 1];
+        frame(
+            memory,
+            self.frames,
+            Words {
+                phase,
+                entry: k,
+                base: self.top,
+                at: at as usize,
+                count: 0,
+                value,
+                other: other as usize,
+            },
+        );
+        self.came(mode, k - 1, 0)
     }
 
     // The frame of definition r is pushed, if there is room, and its body at entry j is worked out, where no big operator's name is visible.

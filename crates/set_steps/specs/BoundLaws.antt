@@ -1,5 +1,5 @@
 -- The numbers between two bounds: the low bound, then the high one.
-use Prim.Native.Nat.{ℕ, _+_, _-_, _≤_}
+use Prim.Native.Nat.{ℕ, _+_}
 use mathlib.Core.Bool.{Bool, true, false, _||_}
 use mathlib.Core.List.{List, [], _∷_}
 use mathlib.Core.Path.{_≡_, refl, sym, ap, ap₂, _∙_, subst}
@@ -8,7 +8,7 @@ use lib.Dec.{eqb}
 use lib.ListN.{getD}
 use borrow.Author.Tests.{eq-eqb, ne-eqb}
 use Rattle.node.specs.Result.{Result, Done, _>>=_}
-use Rattle.node.specs.ResultLaws.{bind-again, bind-at}
+use Rattle.node.specs.ResultLaws.{bind-again}
 use Rattle.language.specs.Tree.{Expr}
 use Rattle.language.specs.Values.{Value, Number, Set, number, between, value}
 use Rattle.language.specs.Laws.Values.ValueLaws.{between-sane}
@@ -16,32 +16,28 @@ use Rattle.lexer.specs.Numbers.{fixed, numbered}
 use Rattle.entries.specs.Kinds as Kind
 use Rattle.name_values.specs.KnownLaws.{known-between}
 use Rattle.sets.specs.declared.Worked.{Worked}
-use Rattle.operands.specs.Entries.{kindAt, sizeAt, placeAt, numberAt}
+use Rattle.operands.specs.Entries.{kindAt, placeAt, numberAt}
 use Rattle.operands.specs.KindLaws.{between-class}
 use Rattle.operands.specs.Working.{Source}
 use Rattle.memory_sets.specs.Places.{SetAt}
 use Rattle.machine.specs.Phases as Phase
 use Rattle.machine.specs.Came.{Evaluate, worth, works, asNumber}
-use Rattle.machine.specs.Frames.{Low, High, bounded, apply}
-use Rattle.machine.specs.Realm.{Operand}
+use Rattle.machine.specs.Frames.{Low, High, bounded}
 use Rattle.machine.specs.Operators.{Bounds, OpAt}
 use Rattle.machine.specs.OperatorLaws.{bounds-at}
-use Rattle.machine.specs.Memory.{Framed}
 use Rattle.machine.specs.Telling.{isNumber}
-use Rattle.machine.specs.States.{modeOf, Ready, Steps, Takes}
-use Rattle.machine.specs.StateLaws.{entered}
-use Rattle.machine.specs.Moves.{came}
-use Rattle.machine.specs.ComeLaws.{came-number, not-number, misfit-then}
+use Rattle.machine.specs.States.{modeOf, written, Takes}
+use Rattle.machine.specs.ComeLaws.{came-number, number-then}
 use Rattle.machine.specs.FrameViews.{by-phase}
-use Rattle.machine.specs.TakeLaws.{words, entry-word, value-word, refuses, top-phase, top-as}
-use Rattle.machine.specs.Openings.{Opened}
-use Rattle.machine.specs.OpenLaws.{opens}
-use Rattle.machine.specs.FlatLaws.{flat-top, renews}
+use Rattle.machine.specs.TakeLaws.{entry-word, value-word, top-phase, top-as}
+use Rattle.machine.specs.Openings.{Renewed}
+use Rattle.machine.specs.StartLaws.{StartsTwo}
+use Rattle.machine.specs.RenewLaws.{follows-last}
+use Rattle.machine.specs.FlatLaws.{flat-top}
 use Rattle.machine.specs.BindLaws.{take-number, then-worth, set-last}
 use Rattle.machine.specs.OperandLaws.{operand-view, operand-as, two-operands}
 use Rattle.machine.specs.declared.Machine.{Machine}
-use Rattle.machine.specs.declared.Move.{Move}
-use Rattle.machine.specs.declared.Move.the-variants.{Next, Refused as Refuses}
+use Rattle.machine.specs.declared.Move.the-variants.{Next}
 use Rattle.machine.specs.Entering.{Evaluates, Waiting}
 use Rattle.machine.specs.EnteringLaws.{works-value}
 use Rattle.set_steps.specs.MakingLaws.{makes}
@@ -75,60 +71,40 @@ high-of : (h : Bool) → without-high (Kind.between h) ≡ h
 high-of true = refl
 high-of false = refl
 
--- both bounds stand before the entry
-pub bounds-inside : {s : Source} {mem : List ℕ} {m : Machine} → Ready s mem m → Evaluates (s .work) m (Kind.between false) Kind.listed → 1 + sizeAt (s .work) (m .value - 1) ≤ m .value
-bounds-inside {s} {m = m} r k =
+-- the entry: its low bound is worked out first
+pub bounds-starts : {s : Source} {mem : List ℕ} {m : Machine} → Evaluates (s .work) m (Kind.between false) Kind.listed → StartsTwo s mem m Phase.low 0 Evaluate
+bounds-starts {s} {mem} {m} k =
     let e0 = k .mode in
     let e1 = k .from in
-    let n = entered (r .state) (omega arith) in
-    let kind = kindAt (s .work) (m .value) in
-    let v = operand-view (n .at .operand) (between-class kind (omega arith) (k .until)) in
-    let p = operand-as (n .at .operand) (v .5) in
-    two-operands p (Kind.between (v .2)) (v .0) (v .3) (v .4) (p .known .at) (known-between (v .0) (v .1) (v .2) (v .3) (v .4) (p .known)) .inside
-
--- the entry: its low bound is worked out first
-pub bounds-steps : {s : Source} {mem mem' : List ℕ} {m : Machine} {j : ℕ} {r : Move} → Evaluates (s .work) m (Kind.between false) Kind.listed → j ≡ m .value - 1 - sizeAt (s .work) (m .value - 1)
-    → Opened mem mem' m Phase.low (modeOf Evaluate) j r → Steps s mem mem' m r
-bounds-steps {s} {mem} {mem'} {m} {j} {r} k ej q = record {
-  turns = λ R x o out y.
-      let e0 = k .mode in
-      let e1 = k .from in
-      let n = entered y (omega arith) in
-      let kind = kindAt (s .work) (m .value) in
-      let v = operand-view (n .at .operand) (between-class kind (omega arith) (k .until)) in
-      let t = v .0 in
-      let l = v .1 in
-      let h = v .2 in
-      let a = v .3 in
-      let b = v .4 in
-      let p = operand-as (n .at .operand) (v .5) in
-      let two = two-operands p (Kind.between h) t a b (p .known .at) (known-between t l h a b (p .known)) in
-      let ins = two .inside in
-      opens n {F = Low (t .at) l h (n .context) b} {phase = Phase.low} {a = Evaluate} {e = a} {j = j} (record {
-        holds-nothing = refl;
-        few-turns = omega arith;
-        below = omega arith;
-        operand = subst (λ (i : ℕ). Operand s (R .W) (R .ports) (n .at .env) (n .context) i a) (sym ej) (two .left);
-        holds = tt;
-        waits = (bounds-at (R .lexed) t l h a b p, two .right);
-        kept = tt;
-        same = works-value n e0 ∙ ap (λ (d : Expr). value (n .context .values) d >>= worth) (v .5) ∙ bounds-same (t .at) l h (value (n .context .values) a) (value (n .context .values) b);
-      }) r q;
-}
+    record {
+      entry = omega arith;
+      few-turns = omega arith;
+      starting = λ R x o out n.
+          let v = operand-view (n .at .operand) (between-class (kindAt (s .work) (m .value)) (omega arith) (k .until)) in
+          let t = v .0 in
+          let l = v .1 in
+          let h = v .2 in
+          let a = v .3 in
+          let b = v .4 in
+          let p = operand-as (n .at .operand) (v .5) in
+          let two = two-operands p (Kind.between h) t a b (p .known .at) (known-between t l h a b (p .known)) in
+          record {
+            frame = Low (t .at) l h (n .context) b;
+            first = a;
+            holds-nothing = refl;
+            inside = two .inside;
+            operand = two .left;
+            holds = tt;
+            waits = (bounds-at (R .lexed) t l h a b p, two .right);
+            kept = tt;
+            same = works-value n e0 ∙ ap (λ (d : Expr). value (n .context .values) d >>= worth) (v .5) ∙ bounds-same (t .at) l h (value (n .context .values) a) (value (n .context .values) b);
+          };
+    }
 
 -- the low bound has come
 module _ {s : Source} {mem : List ℕ} {m : Machine} (w : Waiting mem m Phase.low) where
-  pub low-misfits : (m .mode ≡ isNumber → ⊥) → Takes s mem mem m (Refuses 9 0)
-  low-misfits e = record {
-    turns = λ R x o out t.
-        let v = by-phase (t .frame) Phase.low (top-phase t ∙ w .phase) in
-        let h = top-as t (v .5) in
-        refuses h (misfit-then _ (not-number R o mem m (h .came) (h .come) e));
-  }
-
-  pub low-steps : m .mode ≡ isNumber → {mem' : List ℕ} {k : ℕ} → k ≡ getD mem (m .frames + 1) 0
-      → Framed mem mem' (m .frames) (record { phase = Phase.high; entry = k; base = m .top; at = 0; count = 0; value = m .value; other = 0 }) → Takes s mem mem' m (Next (came m (modeOf Evaluate) (k - 1) 0))
-  low-steps e {mem'} {k} ek f = record {
+  pub low-steps : m .mode ≡ isNumber → {mem' : List ℕ} {n : Machine} → Renewed mem mem' m Phase.high 0 (m .value) 0 (modeOf Evaluate) n → Takes s mem mem' m (Next n)
+  low-steps e q = record {
     turns = λ R x o out t.
         let v = by-phase (t .frame) Phase.low (top-phase t ∙ w .phase) in
         let p = v .0 in
@@ -138,35 +114,21 @@ module _ {s : Source} {mem : List ℕ} {m : Machine} (w : Waiting mem m Phase.lo
         let b = v .4 in
         let h = top-as t (v .5) in
         let n = came-number R o mem m (h .came) (h .come) e in
-        let same-entry : k ≡ words h .entry = ek ∙ entry-word h in
-        let some = h .at .some in
-        let at = h .at .entry in
-        renews h {phase = Phase.low} refl {G = High p l u (m .value)} {a = Evaluate} {c = c} {e = b} (n .same) (record {
-          holds-nothing = refl;
-          framed = f;
-          entry-is = same-entry;
-          base-is = refl;
-          count-is = refl;
+        follows-last h {G = High p l u (m .value)} {a = Evaluate} {c = c} {e = b} q (record {
+          held-nothing = refl;
+          holds-no-words = refl;
+          keeps-formula = ap (written (m .nodes)) (n .same);
           fewer = omega arith;
-          below = omega arith;
-          operand = subst (λ (i : ℕ). Operand s (R .W) (R .ports) (h .ground .env) c (i - 1) b) (sym same-entry) (h .at .waits .1);
+          operand = h .at .waits .1;
           holds = record { here = refl; small = n .small };
-          waits = subst (λ (i : ℕ). OpAt s i (Bounds l u) p) (sym same-entry) (h .at .waits .0);
+          waits = h .at .waits .0;
           kept = tt;
-          same = ap (apply (Low p l u c b)) (n .same) ∙ bind-at (m .value) (λ i. works Evaluate c b >>= bounded p l u i);
+          same = number-then n (λ i. works Evaluate c b >>= bounded p l u i);
         });
   }
 
 -- the high bound has come
 module _ {s : Source} {mem : List ℕ} {m : Machine} (w : Waiting mem m Phase.high) where
-  pub high-misfits : (m .mode ≡ isNumber → ⊥) → Takes s mem mem m (Refuses 9 0)
-  high-misfits e = record {
-    turns = λ R x o out t.
-        let v = by-phase (t .frame) Phase.high (top-phase t ∙ w .phase) in
-        let h = top-as t (v .4) in
-        refuses h (misfit-then _ (not-number R o mem m (h .came) (h .come) e));
-  }
-
   pub high-steps : m .mode ≡ isNumber → {mem' : List ℕ} {k j i p a : ℕ} {low : Bool} (r : Worked) → k ≡ getD mem (m .frames + 1) 0 → j ≡ numberAt (s .work) k → low ≡ without-low j
       → i ≡ kindAt (s .work) k → p ≡ placeAt (s .work) k → a ≡ getD mem (m .frames + 5) 0 → SetAt mem mem' (m .top) r (between p low (without-high i) a (m .value)) → Takes s mem mem' m (made m (m .top) r)
   high-steps e {mem'} {k} {j} {i} {p} {a} {low} r ek ej el ei ep ea g = record {
@@ -196,6 +158,6 @@ module _ {s : Source} {mem : List ℕ} {m : Machine} (w : Waiting mem m Phase.hi
           kept = g .kept;
           room = omega arith;
           sane = between-sane p low (without-high i) a (m .value) (n .small);
-          same = ap (apply (High (v .0) l u (v .3))) (n .same) ∙ bind-at (m .value) (λ j. between (v .0) l u (v .3) j >>= λ y. worth (Set y)) ∙ ap (λ y. y >>= λ y. worth (Set y)) (sym same-set);
+          same = number-then n (λ j. between (v .0) l u (v .3) j >>= λ y. worth (Set y)) ∙ ap (λ y. y >>= λ y. worth (Set y)) (sym same-set);
         });
   }

@@ -4,5 +4,8 @@ pub mod MeasureLaws
 pub mod BoundLaws
 pub mod RangeLaws
 pub mod Braces
-pub mod BraceLaws
+pub mod InnerLaws
+pub mod ListingLaws
+pub mod PutLaws
+pub mod ElementLaws
 pub mod WidthLaws

@@ -1,7 +1,6 @@
 -- A measure of a set: the set, then the number.
-use Prim.Native.Nat.{ℕ, _+_, _-_, _<_}
+use Prim.Native.Nat.{ℕ, _+_}
 use mathlib.Core.List.{List}
-use mathlib.Core.Option.{some}
 use mathlib.Core.Path.{_≡_, refl, sym, ap, ap₂, _∙_, subst}
 use native.Mathlib.Omega.{arith}
 use lib.ListN.{getD}
@@ -12,16 +11,13 @@ use Rattle.language.specs.Tree.{Expr}
 use Rattle.language.specs.Values.{Value, Number, set, measure, value}
 use Rattle.language.specs.Laws.Values.ValueLaws.{measure-sane}
 use Rattle.entries.specs.Kinds as Kind
-use Rattle.entries.specs.Flat.{flat}
 use Rattle.name_values.specs.KnownLaws.{known-prefixed}
 use Rattle.sets.specs.Answers.{says}
 use Rattle.sets.specs.Operators.{measurement}
 use Rattle.sets.specs.declared.Worked.{Worked}
 use Rattle.operators.specs.Tables.{prefixCodeAt}
 use Rattle.operands.specs.Entries.{kindAt, placeAt, numberAt}
-use Rattle.operands.specs.ClassLaws.{has-entry}
 use Rattle.operands.specs.KindLaws.{measure-class}
-use Rattle.operands.specs.Operands.{below}
 use Rattle.operands.specs.Working.{Source}
 use Rattle.memory_sets.specs.Places.{elementsAt, Placed}
 use Rattle.machine.specs.Phases as Phase
@@ -30,20 +26,16 @@ use Rattle.machine.specs.Frames.{Measured, apply}
 use Rattle.machine.specs.Operators.{Before, OpAt}
 use Rattle.machine.specs.OperatorLaws.{prefixed-at, op-measure}
 use Rattle.machine.specs.Telling.{isSet}
-use Rattle.machine.specs.States.{modeOf, Ready, Steps, Topped, Takes}
-use Rattle.machine.specs.StateLaws.{entered}
-use Rattle.machine.specs.ComeLaws.{came-set, not-set, misfit-then}
+use Rattle.machine.specs.States.{Topped, Takes}
+use Rattle.machine.specs.ComeLaws.{came-set}
 use Rattle.machine.specs.FrameViews.{by-phase}
-use Rattle.machine.specs.TakeLaws.{entry-word, refuses, top-phase, top-as}
-use Rattle.machine.specs.Openings.{Opened}
-use Rattle.machine.specs.OpenLaws.{opens}
+use Rattle.machine.specs.TakeLaws.{entry-word, top-phase, top-as}
+use Rattle.machine.specs.StartLaws.{StartsOne}
 use Rattle.machine.specs.Moves.{popped, numbered}
 use Rattle.machine.specs.NumberLaws.{yields-number}
 use Rattle.machine.specs.BindLaws.{take-set, number-last}
-use Rattle.machine.specs.OperandLaws.{operand-view, operand-as, alongside}
+use Rattle.machine.specs.OperandLaws.{operand-view, operand-as, one-operand}
 use Rattle.machine.specs.declared.Machine.{Machine}
-use Rattle.machine.specs.declared.Move.{Move}
-use Rattle.machine.specs.declared.Move.the-variants.{Refused as Refuses}
 use Rattle.machine.specs.Entering.{Evaluates, Waiting}
 use Rattle.machine.specs.EnteringLaws.{works-value}
 use Rattle.value_steps.specs.PlacedLaws.{elements-are, placed, spanOf, set-under}
@@ -53,54 +45,35 @@ measure-same : (p : ℕ) (o : Measure) (a : Result Value) → ((a >>= set >>= me
     ≡ ((a >>= worth) >>= λ v. asSet v >>= λ s. measure p o s >>= λ n. worth (Number n))
 measure-same p o a = number-last (a >>= set >>= measure p o) ∙ bind-again (a >>= set) (measure p o) _ ∙ sym (take-set a (λ s. measure p o s >>= λ n. worth (Number n)))
 
--- the operand stands before the entry
-pub measurement-inside : {s : Source} {mem : List ℕ} {m : Machine} → Ready s mem m → Evaluates (s .work) m Kind.measure Kind.width → 0 < m .value
-measurement-inside {s} {m = m} r k =
-    let e0 = k .mode in
-    let n = entered (r .state) (omega arith) in
-    let kind = kindAt (s .work) (m .value) in
-    let v = operand-view (n .at .operand) (measure-class kind (k .from) (k .until)) in
-    let p = operand-as (n .at .operand) (v .3) in
-    let l = below (Kind.before (Measures (v .1))) (some (v .0)) (flat (v .2)) (p .known .at) in
-    let y = has-entry (v .2) (known-prefixed (v .0) (Measures (v .1)) (v .2) (p .known) .proper) in
-    omega arith
-
 -- the entry: the set is worked out first
-pub measurement-steps : {s : Source} {mem mem' : List ℕ} {m : Machine} {r : Move} → Ready s mem m → Evaluates (s .work) m Kind.measure Kind.width
-    → Opened mem mem' m Phase.measured (modeOf Evaluate) (m .value - 1) r → Steps s mem mem' m r
-measurement-steps {s} {mem} {mem'} {m} {r} y k q = record {
-  turns = λ R x o out h.
-      let e0 = k .mode in
-      let n = entered h (omega arith) in
-      let kind = kindAt (s .work) (m .value) in
-      let v = operand-view (n .at .operand) (measure-class kind (k .from) (k .until)) in
-      let t = v .0 in
-      let op = v .1 in
-      let a = v .2 in
-      let p = operand-as (n .at .operand) (v .3) in
-      let ins = measurement-inside y k in
-      opens n {F = Measured (t .at) op} {phase = Phase.measured} {a = Evaluate} {e = a} {j = m .value - 1} (record {
-        holds-nothing = refl;
-        few-turns = omega arith;
-        below = omega arith;
-        operand = alongside p (known-prefixed t (Measures op) a (p .known));
-        holds = tt;
-        waits = prefixed-at (R .lexed) t (Measures op) a p;
-        kept = tt;
-        same = works-value n e0 ∙ ap (λ (d : Expr). value (n .context .values) d >>= worth) (v .3) ∙ measure-same (t .at) op (value (n .context .values) a);
-      }) r q;
-}
+pub measurement-starts : {s : Source} {mem : List ℕ} {m : Machine} → Evaluates (s .work) m Kind.measure Kind.width → StartsOne s mem m Phase.measured Evaluate
+measurement-starts {s} {mem} {m} k =
+    let e0 = k .mode in
+    record {
+      entry = omega arith;
+      few-turns = omega arith;
+      starting = λ R x o out n.
+          let v = operand-view (n .at .operand) (measure-class (kindAt (s .work) (m .value)) (k .from) (k .until)) in
+          let t = v .0 in
+          let op = v .1 in
+          let a = v .2 in
+          let p = operand-as (n .at .operand) (v .3) in
+          let one = one-operand p (Kind.before (Measures op)) t a (p .known .at) (known-prefixed t (Measures op) a (p .known)) in
+          record {
+            frame = Measured (t .at) op;
+            first = a;
+            holds-nothing = refl;
+            inside = one .inside;
+            operand = one .operand;
+            holds = tt;
+            waits = prefixed-at (R .lexed) t (Measures op) a p;
+            kept = tt;
+            same = works-value n e0 ∙ ap (λ (d : Expr). value (n .context .values) d >>= worth) (v .3) ∙ measure-same (t .at) op (value (n .context .values) a);
+          };
+    }
 
 -- the set has come
 module _ {s : Source} {mem : List ℕ} {m : Machine} (w : Waiting mem m Phase.measured) where
-  pub measured-misfits : (m .mode ≡ isSet → ⊥) → Takes s mem mem m (Refuses 9 0)
-  measured-misfits e = record {
-    turns = λ R x o out t.
-        let v = by-phase (t .frame) Phase.measured (top-phase t ∙ w .phase) in
-        let h = top-as t (v .2) in
-        refuses h (misfit-then _ (not-set R o mem m (h .came) (h .come) e));
-  }
-
   module _ (e : m .mode ≡ isSet) where
     pub measured-placed : Topped s mem m → Placed mem (spanOf m)
     measured-placed t =

@@ -1,7 +1,6 @@
 -- SIZEOF: the bus, then its width.
-use Prim.Native.Nat.{ℕ, _+_, _-_, _*_, _<_}
+use Prim.Native.Nat.{ℕ, _+_, _*_, _<_}
 use mathlib.Core.List.{List}
-use mathlib.Core.Option.{some}
 use mathlib.Core.Path.{_≡_, refl, sym, ap, _∙_}
 use native.Mathlib.Omega.{arith}
 use lib.ListN.{length}
@@ -11,12 +10,9 @@ use Rattle.language.specs.Operators.{WidthOf}
 use Rattle.language.specs.Tree.{Expr, Prefixed}
 use Rattle.language.specs.Values.{Value, Number, Bus, Sized, misfit, bus, value}
 use Rattle.entries.specs.Kinds as Kind
-use Rattle.entries.specs.Flat.{flat}
 use Rattle.name_values.specs.KnownLaws.{known-prefixed}
 use Rattle.operands.specs.Entries.{kindAt}
 use Rattle.operands.specs.Classes.{classOf}
-use Rattle.operands.specs.ClassLaws.{has-entry}
-use Rattle.operands.specs.Operands.{below}
 use Rattle.operands.specs.Working.{Source}
 use Rattle.machine.specs.Phases as Phase
 use Rattle.machine.specs.Came.{Evaluate, Came, Worth, Nodes, worth, asValue}
@@ -25,18 +21,15 @@ use Rattle.machine.specs.Realm.{Realm}
 use Rattle.machine.specs.Memory.{noteWords, noteAt}
 use Rattle.machine.specs.Telling.{isNumber, isBus, isUnsized}
 use Rattle.machine.specs.Table.{Began}
-use Rattle.machine.specs.States.{modeOf, Ready, Steps, Come, Topped, Takes}
-use Rattle.machine.specs.StateLaws.{entered}
+use Rattle.machine.specs.States.{Come, Topped, Takes}
 use Rattle.machine.specs.FrameViews.{by-phase}
 use Rattle.machine.specs.Moves.{came, popped}
 use Rattle.machine.specs.TakeLaws.{refuses, top-phase, top-as, note-under}
-use Rattle.machine.specs.Openings.{Opened}
-use Rattle.machine.specs.OpenLaws.{opens}
+use Rattle.machine.specs.StartLaws.{StartsOne}
 use Rattle.machine.specs.FlatLaws.{yields}
 use Rattle.machine.specs.ContractLaws.{takes-next}
-use Rattle.machine.specs.OperandLaws.{operand-view, operand-as, alongside}
+use Rattle.machine.specs.OperandLaws.{operand-view, operand-as, one-operand}
 use Rattle.machine.specs.declared.Machine.{Machine}
-use Rattle.machine.specs.declared.Move.{Move}
 use Rattle.machine.specs.declared.Move.the-variants.{Next, Refused as Refuses}
 use Rattle.machine.specs.Entering.{Evaluates, Waiting}
 use Rattle.machine.specs.EnteringLaws.{works-value}
@@ -53,46 +46,34 @@ width-same (Done v) = go (bus v)
     go (Refused n p) = refl
 width-same (Refused n p) = refl
 
--- the bus stands before the entry
-pub width-inside : {s : Source} {mem : List ℕ} {m : Machine} → Ready s mem m → Evaluates (s .work) m Kind.width Kind.unary → 0 < m .value
-width-inside {s} {m = m} r k =
+-- the entry: the bus is worked out first
+pub width-starts : {s : Source} {mem : List ℕ} {m : Machine} → Evaluates (s .work) m Kind.width Kind.unary → StartsOne s mem m Phase.width Evaluate
+width-starts {s} {mem} {m} k =
     let e0 = k .mode in
     let l0 = k .from in
     let u0 = k .until in
-    let n = entered (r .state) (omega arith) in
-    let kind : kindAt (s .work) (m .value) ≡ 9 = omega arith in
-    let v = operand-view (n .at .operand) (ap classOf kind) in
-    let p = operand-as (n .at .operand) {d = Prefixed (v .0) WidthOf (v .1)} (v .2) in
-    let l = below (Kind.before WidthOf) (some (v .0)) (flat (v .1)) (p .known .at) in
-    let y = has-entry (v .1) (known-prefixed (v .0) WidthOf (v .1) (p .known) .proper) in
-    omega arith
-
--- the entry: the bus is worked out first
-pub width-steps : {s : Source} {mem mem' : List ℕ} {m : Machine} {r : Move} → Ready s mem m → Evaluates (s .work) m Kind.width Kind.unary → Opened mem mem' m Phase.width (modeOf Evaluate) (m .value - 1) r
-    → Steps s mem mem' m r
-width-steps {s} {mem} {mem'} {m} {r} y k q = record {
-  turns = λ R x o out h.
-      let e0 = k .mode in
-      let l0 = k .from in
-      let u0 = k .until in
-      let n = entered h (omega arith) in
-      let kind : kindAt (s .work) (m .value) ≡ 9 = omega arith in
-      let v = operand-view (n .at .operand) (ap classOf kind) in
-      let t = v .0 in
-      let a = v .1 in
-      let p = operand-as (n .at .operand) {d = Prefixed (v .0) WidthOf (v .1)} (v .2) in
-      let ins = width-inside y k in
-      opens n {F = Width} {phase = Phase.width} {a = Evaluate} {e = a} {j = m .value - 1} (record {
-        holds-nothing = refl;
-        few-turns = omega arith;
-        below = omega arith;
-        operand = alongside p (known-prefixed t WidthOf a (p .known));
-        holds = tt;
-        waits = tt;
-        kept = tt;
-        same = works-value n e0 ∙ ap (λ (d : Expr). value (n .context .values) d >>= worth) (v .2) ∙ width-same (value (n .context .values) a);
-      }) r q;
-}
+    let kind : kindAt (s .work) (m .value) ≡ Kind.width = omega arith in
+    record {
+      entry = omega arith;
+      few-turns = omega arith;
+      starting = λ R x o out n.
+          let v = operand-view (n .at .operand) (ap classOf kind) in
+          let t = v .0 in
+          let a = v .1 in
+          let p = operand-as (n .at .operand) {d = Prefixed t WidthOf a} (v .2) in
+          let one = one-operand p (Kind.before WidthOf) t a (p .known .at) (known-prefixed t WidthOf a (p .known)) in
+          record {
+            frame = Width;
+            first = a;
+            holds-nothing = refl;
+            inside = one .inside;
+            operand = one .operand;
+            holds = tt;
+            waits = tt;
+            kept = tt;
+            same = works-value n e0 ∙ ap (λ (d : Expr). value (n .context .values) d >>= worth) (v .2) ∙ width-same (value (n .context .values) a);
+          };
+    }
 
 -- a bus before its turn, and whatever is no bus
 module _ {s : Source} (R : Realm s) (o : Began) (mem : List ℕ) (m : Machine) where

@@ -3,8 +3,6 @@ use entries::kinds;
 use lexer::numbers;
 use machine::Machine;
 use machine::Move;
-use machine::Words;
-use machine::frame;
 use machine::modes;
 use machine::phases;
 use memory_sets::one::between;
@@ -12,7 +10,6 @@ use node::refusals;
 use operands::entry::kind_at;
 use operands::entry::number_at;
 use operands::entry::place_at;
-use operands::entry::size_at;
 ghost use mathlib.Core.Bool.{false};
 ghost use mathlib.Core.List.{[], _∷_};
 ghost use mathlib.Core.Path.{_≡_};
@@ -30,9 +27,7 @@ pub fn bounds(text: &[u8], work: &[u8], refs: &[u16], memory: &mut [u32], m: Mac
     requires { ⌜ Evaluates (now work) m (Kind.between false) Kind.listed ⌝ }
     ensures { λ r. ⌜ Steps (source (now (text .entry)) (now (work .entry)) (now (refs .entry))) (now (memory .entry)) (now (memory .exit)) m r ⌝ }
 {
-    let k = m.value as usize;
-    let j = k - 1 - size_at(work, k - 1);
-    m.push(memory, phases::LOW, modes::EVALUATE, j as u32)
+    m.push_first(work, memory, phases::LOW, modes::EVALUATE, 0)
 }
 
 // The low bound has come: the high one is worked out.
@@ -44,22 +39,7 @@ pub fn low(text: &[u8], work: &[u8], refs: &[u16], memory: &mut [u32], m: Machin
     if m.mode != modes::NUMBER {
         return Move::Refused(refusals::WRONG_TYPE, 0);
     }
-    let at = m.frames;
-    let k = memory[at + 1];
-    frame(
-        memory,
-        at,
-        Words {
-            phase: phases::HIGH,
-            entry: k,
-            base: m.top,
-            at: 0,
-            count: 0,
-            value: m.value,
-            other: 0,
-        },
-    );
-    Move::Next(m.came(modes::EVALUATE, k - 1, 0))
+    Move::Next(m.renew(memory, phases::HIGH, 0, m.value, 0, modes::EVALUATE))
 }
 
 // Does the sign of the low bound leave it out?

@@ -1,8 +1,6 @@
 // The numbers from one on by steps: {x, y .. z}.
 use machine::Machine;
 use machine::Move;
-use machine::Words;
-use machine::frame;
 use machine::modes;
 use machine::phases;
 use memory_sets::one::range;
@@ -37,23 +35,10 @@ pub fn first(text: &[u8], work: &[u8], refs: &[u16], memory: &mut [u32], m: Mach
     if m.mode != modes::NUMBER {
         return Move::Refused(refusals::WRONG_TYPE, 0);
     }
-    let at = m.frames;
-    let k = memory[at + 1] as usize;
-    let j = k - 1 - size_at(work, k - 1);
-    frame(
-        memory,
-        at,
-        Words {
-            phase: phases::RANGE_SECOND,
-            entry: k as u32,
-            base: m.top,
-            at: 0,
-            count: 0,
-            value: m.value,
-            other: 0,
-        },
-    );
-    Move::Next(m.came(modes::EVALUATE, j as u32, 0))
+    let n = m.renew(memory, phases::RANGE_SECOND, 0, m.value, 0, modes::EVALUATE);
+    let last = n.value as usize;
+    let j = last - size_at(work, last);
+    Move::Next(n.came(modes::EVALUATE, j as u32, 0))
 }
 
 // The second number has come: the last is worked out.
@@ -65,23 +50,8 @@ pub fn second(text: &[u8], work: &[u8], refs: &[u16], memory: &mut [u32], m: Mac
     if m.mode != modes::NUMBER {
         return Move::Refused(refusals::WRONG_TYPE, 0);
     }
-    let at = m.frames;
-    let k = memory[at + 1];
-    let x = memory[at + 5];
-    frame(
-        memory,
-        at,
-        Words {
-            phase: phases::RANGE_LAST,
-            entry: k,
-            base: m.top,
-            at: 0,
-            count: 0,
-            value: x,
-            other: m.value as usize,
-        },
-    );
-    Move::Next(m.came(modes::EVALUATE, k - 1, 0))
+    let x = memory[m.frames + 5];
+    Move::Next(m.renew(memory, phases::RANGE_LAST, 0, x, m.value, modes::EVALUATE))
 }
 
 // The last number has come.

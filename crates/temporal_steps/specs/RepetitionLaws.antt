@@ -1,7 +1,7 @@
 -- X[n]: its number, its formula, then the nodes of X.
-use Prim.Native.Nat.{ℕ, suc, _+_, _-_, _≤_, min}
+use Prim.Native.Nat.{ℕ, suc, _+_, min}
 use mathlib.Core.List.{List}
-use mathlib.Core.Path.{_≡_, refl, sym, ap, _∙_, subst}
+use mathlib.Core.Path.{_≡_, refl, sym, ap, _∙_}
 use native.Mathlib.Omega.{arith}
 use lib.ListN.{getD}
 use Rattle.node.specs.Limits.{maxNodes}
@@ -16,31 +16,27 @@ use Rattle.language.specs.Values.{Value, number, value}
 use Rattle.language.specs.Expansion.{expansion, nexts}
 use Rattle.entries.specs.Kinds as Kind
 use Rattle.name_values.specs.KnownLaws.{known-nexts}
-use Rattle.operands.specs.Entries.{kindAt, sizeAt}
+use Rattle.operands.specs.Entries.{kindAt}
 use Rattle.operands.specs.Shapes.{aRepetition, shapeOf}
 use Rattle.operands.specs.Working.{Source}
 use Rattle.machine.specs.Phases as Phase
 use Rattle.machine.specs.Came.{Evaluate, Expand, Nodes, nodes, worth, works, asNumber}
 use Rattle.machine.specs.Frames.{Repeat, Repeated, repeated, apply}
-use Rattle.machine.specs.Realm.{Operand}
-use Rattle.machine.specs.Memory.{Framed}
 use Rattle.machine.specs.Telling.{isNumber, isNodes}
 use Rattle.machine.specs.TableLaws.{laid-last, wrote-capped}
-use Rattle.machine.specs.States.{modeOf, Ready, Steps, Takes, TakesToWrite}
-use Rattle.machine.specs.StateLaws.{entered}
-use Rattle.machine.specs.Moves.{came, wrote, popped}
-use Rattle.machine.specs.ComeLaws.{came-number, not-number, came-formula, not-formula, misfit-then}
+use Rattle.machine.specs.States.{modeOf, written, Takes, TakesToWrite}
+use Rattle.machine.specs.Moves.{wrote, popped}
+use Rattle.machine.specs.ComeLaws.{came-number, number-then, came-formula}
 use Rattle.machine.specs.FrameViews.{by-phase}
-use Rattle.machine.specs.TakeLaws.{words, entry-word, value-word, refuses, top-phase, top-as}
-use Rattle.machine.specs.Openings.{Opened}
-use Rattle.machine.specs.OpenLaws.{opens}
-use Rattle.machine.specs.FlatLaws.{renews}
+use Rattle.machine.specs.TakeLaws.{value-word, top-phase, top-as}
+use Rattle.machine.specs.Openings.{Renewed}
+use Rattle.machine.specs.StartLaws.{StartsTwo}
+use Rattle.machine.specs.RenewLaws.{follows-last}
 use Rattle.machine.specs.FormulaLaws.{formula-laid, finishes}
 use Rattle.machine.specs.BindLaws.{take-number, take-formula, then-nodes}
 use Rattle.machine.specs.OperandLaws.{operand-as, two-operands}
 use Rattle.machine.specs.declared.Machine.{Machine}
-use Rattle.machine.specs.declared.Move.{Move}
-use Rattle.machine.specs.declared.Move.the-variants.{Next, Refused as Refuses}
+use Rattle.machine.specs.declared.Move.the-variants.{Next}
 use Rattle.machine.specs.Entering.{Expands, Waiting}
 use Rattle.machine.specs.EnteringLaws.{works-formula, operand-shape}
 use Rattle.machine.specs.SameLaws.{same-nexts}
@@ -56,87 +52,57 @@ shape-nexts : {work : List ℕ} {m : Machine} → Expands work m Kind.nexts Kind
 shape-nexts {work} {m} k = let l = k .from in let u = k .until in let e : kindAt work (m .value) ≡ Kind.nexts = omega arith in ap shapeOf e
 
 -- the entry: its number is worked out first
-pub repetition-inside : {s : Source} {mem : List ℕ} {m : Machine} → Ready s mem m → Expands (s .work) m Kind.nexts Kind.window → 1 + sizeAt (s .work) (m .value - 1) ≤ m .value
-repetition-inside r k =
+pub repetition-starts : {s : Source} {mem : List ℕ} {m : Machine} → Expands (s .work) m Kind.nexts Kind.window → StartsTwo s mem m Phase.repeat 0 Evaluate
+repetition-starts {s} {mem} {m} k =
     let e0 = k .mode in
-    let n = entered (r .state) (omega arith) in
-    let v = operand-shape (n .at .operand) (shape-nexts k) in
-    let p = operand-as (n .at .operand) (v .3) in
-    two-operands p Kind.nexts (v .0) (v .1) (v .2) (p .known .at) (known-nexts (v .0) (v .1) (v .2) (p .known)) .inside
-
-pub repetition-steps : {s : Source} {mem mem' : List ℕ} {m : Machine} {j : ℕ} {r : Move} → Expands (s .work) m Kind.nexts Kind.window → j ≡ m .value - 1 - sizeAt (s .work) (m .value - 1)
-    → Opened mem mem' m Phase.repeat (modeOf Evaluate) j r → Steps s mem mem' m r
-repetition-steps {s} {mem} {mem'} {m} {j} {r} k ej w = record {
-  turns = λ R x o out h.
-      let e0 = k .mode in
-      let n = entered h (omega arith) in
-      let v = operand-shape (n .at .operand) (shape-nexts k) in
-      let t = v .0 in
-      let a = v .1 in
-      let b = v .2 in
-      let p = operand-as (n .at .operand) (v .3) in
-      let two = two-operands p Kind.nexts t a b (p .known .at) (known-nexts t a b (p .known)) in
-      let ins = two .inside in
-      opens n {F = Repeat (n .context) b} {phase = Phase.repeat} {a = Evaluate} {e = a} {j = j} (record {
-        holds-nothing = refl;
-        few-turns = omega arith;
-        below = omega arith;
-        operand = subst (λ (i : ℕ). Operand s (R .W) (R .ports) (n .at .env) (n .context) i a) (sym ej) (two .left);
-        holds = tt;
-        waits = two .right;
-        kept = tt;
-        same = works-formula n e0 ∙ ap (λ (d : Expr). expansion (n .context) d >>= nodes) (v .3) ∙ repetition-same (value (n .context .values) a) (expansion (n .context) b);
-      }) r w;
-}
+    record {
+      entry = omega arith;
+      few-turns = omega arith;
+      starting = λ R x o out n.
+          let v = operand-shape (n .at .operand) (shape-nexts k) in
+          let t = v .0 in
+          let a = v .1 in
+          let b = v .2 in
+          let p = operand-as (n .at .operand) (v .3) in
+          let two = two-operands p Kind.nexts t a b (p .known .at) (known-nexts t a b (p .known)) in
+          record {
+            frame = Repeat (n .context) b;
+            first = a;
+            holds-nothing = refl;
+            inside = two .inside;
+            operand = two .left;
+            holds = tt;
+            waits = two .right;
+            kept = tt;
+            same = works-formula n e0 ∙ ap (λ (d : Expr). expansion (n .context) d >>= nodes) (v .3) ∙ repetition-same (value (n .context .values) a) (expansion (n .context) b);
+          };
+    }
 
 -- the number has come
 module _ {s : Source} {mem : List ℕ} {m : Machine} (w : Waiting mem m Phase.repeat) where
-  pub number-misfits : (m .mode ≡ isNumber → ⊥) → Takes s mem mem m (Refuses 9 0)
-  number-misfits e = record {
-    turns = λ R x o out t.
-        let v = by-phase (t .frame) Phase.repeat (top-phase t ∙ w .phase) in
-        let h = top-as t (v .2) in
-        refuses h (misfit-then _ (not-number R o mem m (h .came) (h .come) e));
-  }
-
-  pub number-steps : m .mode ≡ isNumber → {mem' : List ℕ} {k : ℕ} → k ≡ getD mem (m .frames + 1) 0
-      → Framed mem mem' (m .frames) (record { phase = Phase.repeated; entry = k; base = m .top; at = 0; count = 0; value = m .value; other = 0 }) → Takes s mem mem' m (Next (came m (modeOf Expand) (k - 1) 0))
-  number-steps e {mem'} {k} ek f = record {
+  pub number-steps : m .mode ≡ isNumber → {mem' : List ℕ} {n : Machine} → Renewed mem mem' m Phase.repeated 0 (m .value) 0 (modeOf Expand) n → Takes s mem mem' m (Next n)
+  number-steps e q = record {
     turns = λ R x o out t.
         let v = by-phase (t .frame) Phase.repeat (top-phase t ∙ w .phase) in
         let c = v .0 in
         let b = v .1 in
         let h = top-as t (v .2) in
         let n = came-number R o mem m (h .came) (h .come) e in
-        let same-entry : k ≡ words h .entry = ek ∙ entry-word h in
-        let some = h .at .some in
-        let at = h .at .entry in
-        renews h {phase = Phase.repeat} refl {G = Repeated (m .value)} {a = Expand} {c = c} {e = b} (n .same) (record {
-          holds-nothing = refl;
-          framed = f;
-          entry-is = same-entry;
-          base-is = refl;
-          count-is = refl;
+        follows-last h {G = Repeated (m .value)} {a = Expand} {c = c} {e = b} q (record {
+          held-nothing = refl;
+          holds-no-words = refl;
+          keeps-formula = ap (written (m .nodes)) (n .same);
           fewer = omega arith;
-          below = omega arith;
-          operand = subst (λ (i : ℕ). Operand s (R .W) (R .ports) (h .ground .env) c (i - 1) b) (sym same-entry) (h .at .waits);
+          operand = h .at .waits;
           holds = record { here = refl; small = n .small };
           waits = tt;
           kept = tt;
-          same = ap (apply (Repeat c b)) (n .same) ∙ bind-at (m .value) (λ i. works Expand c b >>= repeated i);
+          same = number-then n (λ i. works Expand c b >>= repeated i);
         });
   }
 
 -- the formula has come
 module _ {s : Source} {mem out : List ℕ} {m : Machine} (w : Waiting mem m Phase.repeated) where
-  pub repeated-misfits : (m .mode ≡ isNodes → ⊥) → TakesToWrite s mem mem out out m (Refuses 9 0)
-  repeated-misfits e = record {
-    turns = λ R x o t.
-        let v = by-phase (t .frame) Phase.repeated (top-phase t ∙ w .phase) in
-        let h = top-as t (v .1) in
-        refuses h (misfit-then _ (not-formula R o mem m (h .came) (h .come) e));
-  }
-
   pub repeated-steps : m .mode ≡ isNodes → {a r n : ℕ} {out' : List ℕ} → a ≡ getD mem (m .frames + 5) 0 → Nexts a out out' (m .nodes) r → n ≡ min r (suc maxNodes)
       → TakesToWrite s mem mem out out' m (Next (wrote (popped m) n))
   repeated-steps e {a} {r} {n} {out'} ea j en = record {

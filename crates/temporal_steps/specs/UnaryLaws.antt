@@ -1,5 +1,5 @@
 -- An operator of one formula: its operand, then its node.
-use Prim.Native.Nat.{ℕ, suc, _+_, _-_, _≤_, _<_, min}
+use Prim.Native.Nat.{ℕ, suc, _+_, _<_, min}
 use mathlib.Core.List.{List}
 use mathlib.Core.Path.{_≡_, refl, sym, ap, _∙_, subst}
 use native.Mathlib.Omega.{arith}
@@ -24,24 +24,20 @@ use Rattle.operands.specs.Working.{Source}
 use Rattle.machine.specs.Phases as Phase
 use Rattle.machine.specs.Came.{Expand, nodes, asFormula}
 use Rattle.machine.specs.Frames.{Capping, apply}
-use Rattle.machine.specs.Realm.{Operand}
 use Rattle.machine.specs.OperatorLaws.{prefixed-at, unary-small}
 use Rattle.machine.specs.Telling.{isNodes}
 use Rattle.machine.specs.TableLaws.{laid-last, wrote-capped}
-use Rattle.machine.specs.States.{modeOf, Ready, Steps, ToppedToWrite, TakesToWrite}
-use Rattle.machine.specs.StateLaws.{entered}
+use Rattle.machine.specs.States.{ToppedToWrite, TakesToWrite}
 use Rattle.machine.specs.Moves.{wrote, popped}
-use Rattle.machine.specs.ComeLaws.{came-formula, not-formula, misfit-then}
+use Rattle.machine.specs.ComeLaws.{came-formula}
 use Rattle.machine.specs.FrameViews.{by-phase}
-use Rattle.machine.specs.TakeLaws.{entry-word, refuses, top-phase, top-as}
-use Rattle.machine.specs.Openings.{Opened}
-use Rattle.machine.specs.OpenLaws.{opens}
+use Rattle.machine.specs.TakeLaws.{entry-word, top-phase, top-as}
+use Rattle.machine.specs.StartLaws.{StartsOne}
 use Rattle.machine.specs.FormulaLaws.{formula-laid, finishes}
 use Rattle.machine.specs.BindLaws.{take-formula, then-nodes}
 use Rattle.machine.specs.OperandLaws.{operand-as, one-operand}
 use Rattle.machine.specs.declared.Machine.{Machine}
-use Rattle.machine.specs.declared.Move.{Move}
-use Rattle.machine.specs.declared.Move.the-variants.{Next, Refused as Refuses}
+use Rattle.machine.specs.declared.Move.the-variants.{Next}
 use Rattle.machine.specs.Entering.{Expands, Waiting}
 use Rattle.machine.specs.EnteringLaws.{works-formula, operand-shape}
 
@@ -49,50 +45,35 @@ use Rattle.machine.specs.EnteringLaws.{works-formula, operand-shape}
 unary-same : (o : Unary) (a : Result Formula) → ((a >>= λ f. Done (One o f)) >>= nodes) ≡ ((a >>= nodes) >>= λ v. asFormula v >>= λ f. nodes (One o f))
 unary-same o a = then-nodes a _ (λ f. nodes (One o f)) (λ f. bind-at (One o f) nodes) ∙ sym (take-formula a (λ f. nodes (One o f)))
 
--- the operand stands before the entry
-pub unary-inside : {s : Source} {mem : List ℕ} {m : Machine} → Ready s mem m → Expands (s .work) m Kind.unary Kind.arithmetic → 1 ≤ m .value
-unary-inside {s} {m = m} r k =
+-- the entry: its operand is worked out first
+pub unary-starts : {s : Source} {mem : List ℕ} {m : Machine} → Expands (s .work) m Kind.unary Kind.arithmetic → StartsOne s mem m Phase.capping Expand
+unary-starts {s} {mem} {m} k =
     let e0 = k .mode in
-    let n = entered (r .state) (omega arith) in
-    let v = operand-shape (n .at .operand) (unary-shape (kindAt (s .work) (m .value)) (k .from) (k .until)) in
-    let op = v .1 in
-    let p = operand-as (n .at .operand) (v .3) in
-    one-operand p (Kind.before (Applies op)) (v .0) (v .2) (p .known .at) (known-prefixed (v .0) (Applies op) (v .2) (p .known)) .inside
-
-pub unary-steps : {s : Source} {mem mem' : List ℕ} {m : Machine} {j : ℕ} {r : Move} → Expands (s .work) m Kind.unary Kind.arithmetic → j ≡ m .value - 1 → Opened mem mem' m Phase.capping (modeOf Expand) j r → Steps s mem mem' m r
-unary-steps {s} {mem} {mem'} {m} {j} {r} k ej w = record {
-  turns = λ R x o out h.
-      let e0 = k .mode in
-      let n = entered h (omega arith) in
-      let v = operand-shape (n .at .operand) (unary-shape (kindAt (s .work) (m .value)) (k .from) (k .until)) in
-      let t = v .0 in
-      let op = v .1 in
-      let a = v .2 in
-      let p = operand-as (n .at .operand) (v .3) in
-      let one = one-operand p (Kind.before (Applies op)) t a (p .known .at) (known-prefixed t (Applies op) a (p .known)) in
-      let ins = one .inside in
-      opens n {F = Capping op} {phase = Phase.capping} {a = Expand} {e = a} {j = j} (record {
-        holds-nothing = refl;
-        few-turns = omega arith;
-        below = omega arith;
-        operand = subst (λ (i : ℕ). Operand s (R .W) (R .ports) (n .at .env) (n .context) i a) (sym ej) (one .operand);
-        holds = tt;
-        waits = (t .at, prefixed-at (R .lexed) t (Applies op) a p);
-        kept = tt;
-        same = works-formula n e0 ∙ ap (λ (d : Expr). expansion (n .context) d >>= nodes) (v .3) ∙ unary-same op (expansion (n .context) a);
-      }) r w;
-}
+    record {
+      entry = omega arith;
+      few-turns = omega arith;
+      starting = λ R x o out n.
+          let v = operand-shape (n .at .operand) (unary-shape (kindAt (s .work) (m .value)) (k .from) (k .until)) in
+          let t = v .0 in
+          let op = v .1 in
+          let a = v .2 in
+          let p = operand-as (n .at .operand) (v .3) in
+          let one = one-operand p (Kind.before (Applies op)) t a (p .known .at) (known-prefixed t (Applies op) a (p .known)) in
+          record {
+            frame = Capping op;
+            first = a;
+            holds-nothing = refl;
+            inside = one .inside;
+            operand = one .operand;
+            holds = tt;
+            waits = (t .at, prefixed-at (R .lexed) t (Applies op) a p);
+            kept = tt;
+            same = works-formula n e0 ∙ ap (λ (d : Expr). expansion (n .context) d >>= nodes) (v .3) ∙ unary-same op (expansion (n .context) a);
+          };
+    }
 
 -- the operand has come
 module _ {s : Source} {mem out : List ℕ} {m : Machine} (w : Waiting mem m Phase.capping) where
-  pub capping-misfits : (m .mode ≡ isNodes → ⊥) → TakesToWrite s mem mem out out m (Refuses 9 0)
-  capping-misfits e = record {
-    turns = λ R x o t.
-        let v = by-phase (t .frame) Phase.capping (top-phase t ∙ w .phase) in
-        let h = top-as t (v .1) in
-        refuses h (misfit-then _ (not-formula R o mem m (h .came) (h .come) e));
-  }
-
   pub capping-small : ToppedToWrite s mem out m → prefixCodeAt (numberAt (s .work) (getD mem (m .frames + 1) 0)) < 16
   capping-small t =
       let v = by-phase (t .top .frame) Phase.capping (top-phase (t .top) ∙ w .phase) in

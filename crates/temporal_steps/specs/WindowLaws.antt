@@ -31,27 +31,23 @@ use Rattle.operands.specs.Working.{Source}
 use Rattle.machine.specs.Phases as Phase
 use Rattle.machine.specs.Came.{Evaluate, Expand, Came, Nodes, nodes, worth, works, asNumber}
 use Rattle.machine.specs.Frames.{WindowFrom, WindowTo, Windowed, windowing, windowed, apply}
-use Rattle.machine.specs.Realm.{Operand}
-use Rattle.machine.specs.Operators.{Within, OpAt}
 use Rattle.machine.specs.OperatorLaws.{window-at}
-use Rattle.machine.specs.Memory.{Framed}
 use Rattle.machine.specs.Holding.{formsOf}
 use Rattle.machine.specs.Telling.{isNumber, isNodes}
 use Rattle.machine.specs.TableLaws.{laid-last, laid-end, wrote-capped, laid-sized}
-use Rattle.machine.specs.States.{modeOf, Ready, Steps, Topped, Takes, ToppedToWrite, TakesToWrite}
-use Rattle.machine.specs.StateLaws.{entered}
+use Rattle.machine.specs.States.{modeOf, written, Topped, Takes, ToppedToWrite, TakesToWrite}
 use Rattle.machine.specs.Moves.{came, wrote, popped}
-use Rattle.machine.specs.ComeLaws.{came-number, not-number, came-formula, not-formula, misfit-then}
+use Rattle.machine.specs.ComeLaws.{came-number, number-then, came-formula}
 use Rattle.machine.specs.FrameViews.{by-phase}
-use Rattle.machine.specs.TakeLaws.{words, entry-word, at-word, value-word, other-word, refuses, top-phase, top-as}
-use Rattle.machine.specs.Openings.{Opened}
-use Rattle.machine.specs.OpenLaws.{opens}
-use Rattle.machine.specs.FlatLaws.{flat-laid, renews}
+use Rattle.machine.specs.TakeLaws.{entry-word, at-word, value-word, other-word, refuses, top-phase, top-as}
+use Rattle.machine.specs.Openings.{Renewed}
+use Rattle.machine.specs.StartLaws.{StartsThree}
+use Rattle.machine.specs.RenewLaws.{follows-last, follows-before}
+use Rattle.machine.specs.FlatLaws.{flat-laid}
 use Rattle.machine.specs.FormulaLaws.{formula-laid, finishes}
 use Rattle.machine.specs.BindLaws.{take-number, take-formula, then-nodes}
 use Rattle.machine.specs.OperandLaws.{operand-as, three-operands}
 use Rattle.machine.specs.declared.Machine.{Machine}
-use Rattle.machine.specs.declared.Move.{Move}
 use Rattle.machine.specs.declared.Move.the-variants.{Next, Refused as Refuses}
 use Rattle.machine.specs.Entering.{Expands, Waiting}
 use Rattle.machine.specs.EnteringLaws.{works-formula, operand-shape}
@@ -95,73 +91,48 @@ window-code : (o : Window) → windowBy (roleCode (InBrackets o)) ≡ o
 window-code FinallyIn = refl
 window-code GloballyIn = refl
 
--- the operands stand before the entry: the last one and the one before it take x and y entries
-pub windowing-inside : {s : Source} {mem : List ℕ} {m : Machine} → Ready s mem m → Expands (s .work) m Kind.window Kind.bigNumbers → {x y : ℕ} → x ≡ sizeAt (s .work) (m .value - 1)
-    → y ≡ sizeAt (s .work) (m .value - 1 - x) → 1 + x + y ≤ m .value
-windowing-inside {s} {m = m} r k ex ey =
-    let e0 = k .mode in
-    let n = entered (r .state) (omega arith) in
-    let kind = kindAt (s .work) (m .value) in
-    let v = operand-shape (n .at .operand) (window-shape kind (k .from) (k .until)) in
-    let p = operand-as (n .at .operand) (v .5) in
-    let i = three-operands p Kind.window (v .0) (v .2) (v .3) (v .4) (p .known .at) (known-window (v .0) (v .1) (v .2) (v .3) (v .4) (p .known)) .inside in
-    let same = ey ∙ ap (λ (j : ℕ). sizeAt (s .work) (m .value - 1 - j)) ex in
-    omega arith
-
-pub last-inside : {s : Source} {mem : List ℕ} {m : Machine} → Ready s mem m → Expands (s .work) m Kind.window Kind.bigNumbers → 1 + sizeAt (s .work) (m .value - 1) ≤ m .value
-last-inside r k = let i = windowing-inside r k refl refl in omega arith
-
 -- the entry: the first number is worked out first
-pub windowing-steps : {s : Source} {mem mem' : List ℕ} {m : Machine} {j x y : ℕ} {r : Move} → Expands (s .work) m Kind.window Kind.bigNumbers → x ≡ sizeAt (s .work) (m .value - 1)
-    → y ≡ sizeAt (s .work) (m .value - 1 - x) → j ≡ m .value - 1 - x - y → Opened mem mem' m Phase.windowFrom (modeOf Evaluate) j r → Steps s mem mem' m r
-windowing-steps {s} {mem} {mem'} {m} {j} {x} {y} {r} k ex ey ej w = record {
-  turns = λ R u o out h.
-      let e0 = k .mode in
-      let n = entered h (omega arith) in
-      let kind = kindAt (s .work) (m .value) in
-      let v = operand-shape (n .at .operand) (window-shape kind (k .from) (k .until)) in
-      let t = v .0 in
-      let op = v .1 in
-      let a = v .2 in
-      let b = v .3 in
-      let d = v .4 in
-      let p = operand-as (n .at .operand) (v .5) in
-      let three = three-operands p Kind.window t a b d (p .known .at) (known-window t op a b d (p .known)) in
-      let ins = three .inside in
-      let c = n .context in
-      let same-size = ey ∙ ap (λ (i : ℕ). sizeAt (s .work) (m .value - 1 - i)) ex in
-      let same-entry : m .value - 1 - sizeAt (s .work) (m .value - 1) - sizeAt (s .work) (m .value - 1 - sizeAt (s .work) (m .value - 1)) ≡ j = omega arith in
-      opens n {F = WindowFrom (t .at) op c b d} {phase = Phase.windowFrom} {a = Evaluate} {e = a} {j = j} (record {
-        holds-nothing = refl;
-        few-turns = omega arith;
-        below = omega arith;
-        operand = subst (λ (i : ℕ). Operand s (R .W) (R .ports) (n .at .env) c i a) same-entry (three .first);
-        holds = tt;
-        waits = (window-at (R .lexed) t op a b d p, (omega arith, three .middle), three .last);
-        kept = tt;
-        same = works-formula n e0 ∙ ap (λ (z : Expr). expansion c z >>= nodes) (v .5) ∙ window-same (t .at) op (value (c .values) a) (value (c .values) b) (expansion c d);
-      }) r w;
-}
+pub windowing-starts : {s : Source} {mem : List ℕ} {m : Machine} → Expands (s .work) m Kind.window Kind.bigNumbers → StartsThree s mem m Phase.windowFrom Evaluate
+windowing-starts {s} {mem} {m} k =
+    let e0 = k .mode in
+    record {
+      entry = omega arith;
+      few-turns = omega arith;
+      starting = λ R u o out n.
+          let v = operand-shape (n .at .operand) (window-shape (kindAt (s .work) (m .value)) (k .from) (k .until)) in
+          let t = v .0 in
+          let op = v .1 in
+          let a = v .2 in
+          let b = v .3 in
+          let d = v .4 in
+          let p = operand-as (n .at .operand) (v .5) in
+          let three = three-operands p Kind.window t a b d (p .known .at) (known-window t op a b d (p .known)) in
+          let ins = three .inside in
+          let c = n .context in
+          record {
+            frame = WindowFrom (t .at) op c b d;
+            first = a;
+            holds-nothing = refl;
+            inside = three .inside;
+            operand = three .first;
+            holds = tt;
+            waits = (window-at (R .lexed) t op a b d p, (omega arith, three .middle), three .last);
+            kept = tt;
+            same = works-formula n e0 ∙ ap (λ (z : Expr). expansion c z >>= nodes) (v .5) ∙ window-same (t .at) op (value (c .values) a) (value (c .values) b) (expansion c d);
+          };
+    }
 
 -- the first number has come
 module _ {s : Source} {mem : List ℕ} {m : Machine} (w : Waiting mem m Phase.windowFrom) where
-  pub from-misfits : (m .mode ≡ isNumber → ⊥) → Takes s mem mem m (Refuses 9 0)
-  from-misfits e = record {
-    turns = λ R x o out t.
-        let v = by-phase (t .frame) Phase.windowFrom (top-phase t ∙ w .phase) in
-        let h = top-as t (v .5) in
-        refuses h (misfit-then _ (not-number R o mem m (h .came) (h .come) e));
-  }
-
   pub from-inside : Topped s mem m → sizeAt (s .work) (getD mem (m .frames + 1) 0 - 1) < getD mem (m .frames + 1) 0
   from-inside t =
       let v = by-phase (t .top .frame) Phase.windowFrom (top-phase (t .top) ∙ w .phase) in
       let h = top-as (t .top) (v .5) in
       subst (λ (j : ℕ). sizeAt (s .work) (j - 1) < j) (sym (entry-word h)) (h .at .waits .1 .0)
 
-  pub from-steps : m .mode ≡ isNumber → {mem' : List ℕ} {k j y : ℕ} → k ≡ getD mem (m .frames + 1) 0 → y ≡ sizeAt (s .work) (k - 1) → j ≡ k - 1 - y
-      → Framed mem mem' (m .frames) (record { phase = Phase.windowTo; entry = k; base = m .top; at = 0; count = 0; value = m .value; other = 0 }) → Takes s mem mem' m (Next (came m (modeOf Evaluate) j 0))
-  from-steps e {mem'} {k} {j} {y} ek ey ej f = record {
+  pub from-steps : m .mode ≡ isNumber → {mem' : List ℕ} {z : ℕ} {n u : Machine} → Renewed mem mem' m Phase.windowTo 0 (m .value) 0 (modeOf Evaluate) n
+      → z ≡ sizeAt (s .work) (n .value) → u ≡ came n (modeOf Evaluate) (n .value - z) 0 → Takes s mem mem' m (Next u)
+  from-steps e q ez eu = record {
     turns = λ R x o out t.
         let v = by-phase (t .frame) Phase.windowFrom (top-phase t ∙ w .phase) in
         let p = v .0 in
@@ -171,39 +142,21 @@ module _ {s : Source} {mem : List ℕ} {m : Machine} (w : Waiting mem m Phase.wi
         let d = v .4 in
         let h = top-as t (v .5) in
         let n = came-number R o mem m (h .came) (h .come) e in
-        let same-entry : k ≡ words h .entry = ek ∙ entry-word h in
-        let same-operand : words h .entry - 1 - sizeAt (s .work) (words h .entry - 1) ≡ j = ap (λ (i : ℕ). i - 1 - sizeAt (s .work) (i - 1)) (sym same-entry) ∙ ap (λ (i : ℕ). k - 1 - i) (sym ey) ∙ sym ej in
-        let some' = h .at .some in
-        let at = h .at .entry in
-        renews h {phase = Phase.windowFrom} refl {G = WindowTo p op c d (m .value)} {a = Evaluate} {c = c} {e = b} (n .same) (record {
-          holds-nothing = refl;
-          framed = f;
-          entry-is = same-entry;
-          base-is = refl;
-          count-is = refl;
+        follows-before h {G = WindowTo p op c d (m .value)} {a = Evaluate} {c = c} {e = b} q ez eu (record {
+          held-nothing = refl;
+          holds-no-words = refl;
+          keeps-formula = ap (written (m .nodes)) (n .same);
           fewer = omega arith;
-          below = omega arith;
-          operand = subst (λ (i : ℕ). Operand s (R .W) (R .ports) (h .ground .env) c i b) same-operand (h .at .waits .1 .1);
+          operand = h .at .waits .1 .1;
           holds = record { here = refl; small = n .small };
-          waits = (
-            subst (λ (i : ℕ). OpAt s i (Within op) p) (sym same-entry) (h .at .waits .0),
-            subst (λ (i : ℕ). Operand s (R .W) (R .ports) (h .ground .env) c (i - 1) d) (sym same-entry) (h .at .waits .2),
-          );
+          waits = (h .at .waits .0, h .at .waits .2);
           kept = tt;
-          same = ap (apply (WindowFrom p op c b d)) (n .same) ∙ bind-at (m .value) (λ i. works Evaluate c b >>= windowing p op c d i);
+          same = number-then n (λ i. works Evaluate c b >>= windowing p op c d i);
         });
   }
 
 -- the second number has come
 module _ {s : Source} {mem : List ℕ} {m : Machine} (w : Waiting mem m Phase.windowTo) where
-  pub to-misfits : (m .mode ≡ isNumber → ⊥) → Takes s mem mem m (Refuses 9 0)
-  to-misfits e = record {
-    turns = λ R x o out t.
-        let v = by-phase (t .frame) Phase.windowTo (top-phase t ∙ w .phase) in
-        let h = top-as t (v .5) in
-        refuses h (misfit-then _ (not-number R o mem m (h .came) (h .come) e));
-  }
-
   -- below the first
   pub to-refuses : m .mode ≡ isNumber → {k p a : ℕ} → k ≡ getD mem (m .frames + 1) 0 → p ≡ placeAt (s .work) k → a ≡ getD mem (m .frames + 5) 0 → m .value < a → Takes s mem mem m (Refuses 11 p)
   to-refuses e {k} {p} {a} ek ep ea l = record {
@@ -218,13 +171,13 @@ module _ {s : Source} {mem : List ℕ} {m : Machine} (w : Waiting mem m Phase.wi
         let same-place : v .0 ≡ p = sym (ep ∙ ap (placeAt (s .work)) (ek ∙ entry-word h) ∙ h .at .waits .0 .place) in
         let same-number : a ≡ j = ea ∙ value-word h ∙ h .at .holds .here in
         refuses h
-        (ap (apply (WindowTo (v .0) op c d j)) (n .same) ∙ bind-at (m .value) (λ i. guard (leb j i) 11 (v .0) (works Expand c d >>= windowed op j i))
+        (number-then n (λ i. guard (leb j i) 11 (v .0) (works Expand c d >>= windowed op j i))
         ∙ guard-stop 11 (v .0) (works Expand c d >>= windowed op j (m .value)) (lt-leb j (m .value) (omega arith)) ∙ ap (Refused 11) same-place);
   }
 
-  pub to-steps : m .mode ≡ isNumber → {mem' : List ℕ} {k a n end : ℕ} → k ≡ getD mem (m .frames + 1) 0 → a ≡ getD mem (m .frames + 5) 0 → a ≤ m .value → n ≡ m .nodes → end ≡ m .value
-      → Framed mem mem' (m .frames) (record { phase = Phase.windowed; entry = k; base = m .top; at = n; count = 0; value = a; other = end }) → Takes s mem mem' m (Next (came m (modeOf Expand) (k - 1) 0))
-  to-steps e {mem'} {k} {a} {n} {end} ek ea l en ee f = record {
+  pub to-steps : m .mode ≡ isNumber → {mem' : List ℕ} {a i : ℕ} {n : Machine} → a ≡ getD mem (m .frames + 5) 0 → a ≤ m .value → i ≡ m .nodes
+      → Renewed mem mem' m Phase.windowed i a (m .value) (modeOf Expand) n → Takes s mem mem' m (Next n)
+  to-steps e {mem'} {a} ea l en q = record {
     turns = λ R x o out t.
         let v = by-phase (t .frame) Phase.windowTo (top-phase t ∙ w .phase) in
         let p = v .0 in
@@ -234,41 +187,27 @@ module _ {s : Source} {mem : List ℕ} {m : Machine} (w : Waiting mem m Phase.wi
         let j = v .4 in
         let h = top-as t (v .5) in
         let z = came-number R o mem m (h .came) (h .come) e in
-        let same-entry : k ≡ words h .entry = ek ∙ entry-word h in
         let same-number : a ≡ j = ea ∙ value-word h ∙ h .at .holds .here in
-        let some' = h .at .some in
-        let at = h .at .entry in
-        renews h {phase = Phase.windowTo} refl {G = Windowed op j (m .value)} {a = Expand} {c = c} {e = d} (z .same) (record {
-          holds-nothing = refl;
-          framed = f;
-          entry-is = same-entry;
-          base-is = refl;
-          count-is = refl;
+        follows-last h {G = Windowed op j (m .value)} {a = Expand} {c = c} {e = d} q (record {
+          held-nothing = refl;
+          holds-no-words = refl;
+          keeps-formula = ap (written (m .nodes)) (z .same);
           fewer = omega arith;
-          below = omega arith;
-          operand = subst (λ (i : ℕ). Operand s (R .W) (R .ports) (h .ground .env) c (i - 1) d) (sym same-entry) (h .at .waits .1);
+          operand = h .at .waits .1;
           holds = (
-            record { first = record { here = same-number; small = h .at .holds .small }; here = ee; small = z .small },
+            record { first = record { here = same-number; small = h .at .holds .small }; here = refl; small = z .small },
             omega arith,
             en ∙ laid-end (formsOf (h .rest)) (flat-laid h {phase = Phase.windowTo} refl (z .same)),
           );
-          waits = (p, subst (λ (i : ℕ). OpAt s i (Within op) p) (sym same-entry) (h .at .waits .0));
+          waits = (p, h .at .waits .0);
           kept = tt;
-          same = ap (apply (WindowTo p op c d j)) (z .same) ∙ bind-at (m .value) (λ i. guard (leb j i) 11 p (works Expand c d >>= windowed op j i))
+          same = number-then z (λ i. guard (leb j i) 11 p (works Expand c d >>= windowed op j i))
               ∙ guard-pass 11 p (works Expand c d >>= windowed op j (m .value)) (le-leb j (m .value) (omega arith));
         });
   }
 
 -- the formula has come
 module _ {s : Source} {mem out : List ℕ} {m : Machine} (w : Waiting mem m Phase.windowed) where
-  pub windowed-misfits : (m .mode ≡ isNodes → ⊥) → TakesToWrite s mem mem out out m (Refuses 9 0)
-  windowed-misfits e = record {
-    turns = λ R x o t.
-        let v = by-phase (t .frame) Phase.windowed (top-phase t ∙ w .phase) in
-        let h = top-as t (v .3) in
-        refuses h (misfit-then _ (not-formula R o mem m (h .came) (h .come) e));
-  }
-
   pub windowed-order : ToppedToWrite s mem out m → getD mem (m .frames + 5) 0 ≤ getD mem (m .frames + 6) 0
   windowed-order t =
       let v = by-phase (t .top .frame) Phase.windowed (top-phase (t .top) ∙ w .phase) in

@@ -1,14 +1,11 @@
 // X[n]: the number first, then the formula.
 use machine::Machine;
 use machine::Move;
-use machine::Words;
 use machine::capped;
-use machine::frame;
 use machine::modes;
 use machine::phases;
 use node::MAX_NODES;
 use node::refusals;
-use operands::entry::size_at;
 use writing::nexts;
 ghost use Rattle.entries.specs.Kinds as Kind;
 ghost use Rattle.machine.specs.Phases as Phase;
@@ -21,9 +18,7 @@ pub fn repetition(text: &[u8], work: &[u8], refs: &[u16], memory: &mut [u32], m:
     requires { ⌜ Expands (now work) m Kind.nexts Kind.window ⌝ }
     ensures { λ r. ⌜ Steps (source (now (text .entry)) (now (work .entry)) (now (refs .entry))) (now (memory .entry)) (now (memory .exit)) m r ⌝ }
 {
-    let k = m.value as usize;
-    let j = k - 1 - size_at(work, k - 1);
-    m.push(memory, phases::REPEAT, modes::EVALUATE, j as u32)
+    m.push_first(work, memory, phases::REPEAT, modes::EVALUATE, 0)
 }
 
 // The number has come: the formula is worked out.
@@ -35,22 +30,7 @@ pub fn number(text: &[u8], work: &[u8], refs: &[u16], memory: &mut [u32], m: Mac
     if m.mode != modes::NUMBER {
         return Move::Refused(refusals::WRONG_TYPE, 0);
     }
-    let at = m.frames;
-    let k = memory[at + 1];
-    frame(
-        memory,
-        at,
-        Words {
-            phase: phases::REPEATED,
-            entry: k,
-            base: m.top,
-            at: 0,
-            count: 0,
-            value: m.value,
-            other: 0,
-        },
-    );
-    Move::Next(m.came(modes::EXPAND, k - 1, 0))
+    Move::Next(m.renew(memory, phases::REPEATED, 0, m.value, 0, modes::EXPAND))
 }
 
 // The formula is written: as many X as the number says go behind it.

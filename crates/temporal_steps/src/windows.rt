@@ -1,9 +1,7 @@
 // F[n:m] and G[n:m]: the two numbers first, then the formula.
 use machine::Machine;
 use machine::Move;
-use machine::Words;
 use machine::capped;
-use machine::frame;
 use machine::modes;
 use machine::phases;
 use node::MAX_NODES;
@@ -45,23 +43,10 @@ pub fn from(text: &[u8], work: &[u8], refs: &[u16], memory: &mut [u32], m: Machi
     if m.mode != modes::NUMBER {
         return Move::Refused(refusals::WRONG_TYPE, 0);
     }
-    let at = m.frames;
-    let k = memory[at + 1] as usize;
-    let second = k - 1 - size_at(work, k - 1);
-    frame(
-        memory,
-        at,
-        Words {
-            phase: phases::WINDOW_TO,
-            entry: k as u32,
-            base: m.top,
-            at: 0,
-            count: 0,
-            value: m.value,
-            other: 0,
-        },
-    );
-    Move::Next(m.came(modes::EVALUATE, second as u32, 0))
+    let n = m.renew(memory, phases::WINDOW_TO, 0, m.value, 0, modes::EVALUATE);
+    let last = n.value as usize;
+    let j = last - size_at(work, last);
+    Move::Next(n.came(modes::EVALUATE, j as u32, 0))
 }
 
 // It has come: a window that ends before it begins is refused, else the formula is worked out.
@@ -74,25 +59,19 @@ pub fn to(text: &[u8], work: &[u8], refs: &[u16], memory: &mut [u32], m: Machine
         return Move::Refused(refusals::WRONG_TYPE, 0);
     }
     let at = m.frames;
-    let k = memory[at + 1];
     let begin = memory[at + 5];
     if m.value < begin {
-        return Move::Refused(refusals::OUT_OF_RANGE, place_at(work, k as usize));
+        let k = memory[at + 1] as usize;
+        return Move::Refused(refusals::OUT_OF_RANGE, place_at(work, k));
     }
-    frame(
+    Move::Next(m.renew(
         memory,
-        at,
-        Words {
-            phase: phases::WINDOWED,
-            entry: k,
-            base: m.top,
-            at: m.nodes,
-            count: 0,
-            value: begin,
-            other: m.value as usize,
-        },
-    );
-    Move::Next(m.came(modes::EXPAND, k - 1, 0))
+        phases::WINDOWED,
+        m.nodes as u32,
+        begin,
+        m.value,
+        modes::EXPAND,
+    ))
 }
 
 // F[n:m] is a chain of `||`, G[n:m] of `&&`: by the code of F and G, their nodes' kind.

@@ -3,6 +3,7 @@ pub mod ArithmeticLaws
 pub mod PlacedLaws
 pub mod Moves
 pub mod CombinationLaws
+pub mod CombinedLaws
 pub mod Named
 pub mod NameLaws
 pub mod NotingLaws

@@ -12,7 +12,6 @@ use memory_sets::two::combine;
 use node::refusals;
 use operands::entry::infix_at;
 use operands::entry::place_at;
-use operands::entry::size_at;
 use sets::Worked;
 ghost use Rattle.entries.specs.Kinds as Kind;
 ghost use Rattle.machine.specs.Phases as Phase;
@@ -26,9 +25,7 @@ pub fn combination(text: &[u8], work: &[u8], refs: &[u16], memory: &mut [u32], m
     requires { ⌜ Evaluates (now work) m Kind.combination Kind.equality ⌝ }
     ensures { λ r. ⌜ Steps (source (now (text .entry)) (now (work .entry)) (now (refs .entry))) (now (memory .entry)) (now (memory .exit)) m r ⌝ }
 {
-    let k = m.value as usize;
-    let j = k - 1 - size_at(work, k - 1);
-    m.push(memory, phases::LEFT_SET, modes::EVALUATE, j as u32)
+    m.push_first(work, memory, phases::LEFT_SET, modes::EVALUATE, 0)
 }
 
 // The left operand has come: the right one is worked out above it.

@@ -1,14 +1,11 @@
 // Numerals, and operators between two numbers.
 use machine::Machine;
 use machine::Move;
-use machine::Words;
-use machine::frame;
 use machine::modes;
 use machine::phases;
 use node::refusals;
 use operands::entry::infix_at;
 use operands::entry::place_at;
-use operands::entry::size_at;
 use sets::numbers;
 ghost use Rattle.entries.specs.Kinds as Kind;
 ghost use Rattle.machine.specs.Phases as Phase;
@@ -31,9 +28,7 @@ pub fn calculation(text: &[u8], work: &[u8], refs: &[u16], memory: &mut [u32], m
     requires { ⌜ Evaluates (now work) m Kind.arithmetic Kind.combination ⌝ }
     ensures { λ r. ⌜ Steps (source (now (text .entry)) (now (work .entry)) (now (refs .entry))) (now (memory .entry)) (now (memory .exit)) m r ⌝ }
 {
-    let k = m.value as usize;
-    let j = k - 1 - size_at(work, k - 1);
-    m.push(memory, phases::LEFT, modes::EVALUATE, j as u32)
+    m.push_first(work, memory, phases::LEFT, modes::EVALUATE, 0)
 }
 
 // The left operand has come: the right one is worked out.
@@ -45,22 +40,7 @@ pub fn left(text: &[u8], work: &[u8], refs: &[u16], memory: &mut [u32], m: Machi
     if m.mode != modes::NUMBER {
         return Move::Refused(refusals::WRONG_TYPE, 0);
     }
-    let at = m.frames;
-    let k = memory[at + 1];
-    frame(
-        memory,
-        at,
-        Words {
-            phase: phases::RIGHT,
-            entry: k,
-            base: m.top,
-            at: 0,
-            count: 0,
-            value: m.value,
-            other: 0,
-        },
-    );
-    Move::Next(m.came(modes::EVALUATE, k - 1, 0))
+    Move::Next(m.renew(memory, phases::RIGHT, 0, m.value, 0, modes::EVALUATE))
 }
 
 // The right operand has come.

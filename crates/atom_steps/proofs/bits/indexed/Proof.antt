@@ -2,8 +2,9 @@ use native.Mathlib.Omega.{arith}
 use Prim.Native.Nat.{_+_}
 use lib.ListN.{getD}
 use mathlib.Core.Path.{refl}
-use Rattle.atom_steps.specs.BitLaws.{indexed-misfits, indexed-scope, element-misfits, body-steps, reference-inside}
+use Rattle.atom_steps.specs.BitLaws.{indexed-scope, element-misfits, body-steps, reference-inside}
 use Rattle.machine.specs.OperandLaws.{topped-to-write-entry}
+use Rattle.machine.specs.MisfitLaws.{number-misfits, misfits-still}
 use borrow.Author.Needs.{needs}
 use Rattle.atom_steps.proofs.bits.indexed.Statement.{statement}
 use Rattle.atom_steps.proofs.bits.indexed.Tie as tie
@@ -12,7 +13,7 @@ returns : tie.Need-returns
 returns c =
     let start = c .before .before .before .before .before .before in
     let at-if1 = c .if1 in
-    indexed-misfits (start .pre .1) (at-if1 .taken)
+    misfits-still (number-misfits (start .pre .1) refl (at-if1 .taken))
 
 add-k : tie.Need-add-k
 add-k c = search needs

@@ -47,98 +47,102 @@ returns c =
 
 mul-width : tie.Need-mul-width
 mul-width c =
-    let start = c .before .before .before .before .before .before .before in
+    let start = c .before .before .before .before .before .before .before .before in
     let n = against-notes (start .pre .1) (start .pre .0) in let l = n .bus-name in omega arith
 
 add-width : tie.Need-add-width
 add-width c =
-    let start = c .before .before .before .before .before .before .before in
+    let start = c .before .before .before .before .before .before .before .before in
     let n = against-notes (start .pre .1) (start .pre .0) in let l = n .bus-name in omega arith
 
 mul-width-2 : tie.Need-mul-width-2
 mul-width-2 c =
-    let start = c .before .before .before .before .before .before .before in
+    let start = c .before .before .before .before .before .before .before .before in
     let n = against-notes (start .pre .1) (start .pre .0) in let l = n .bus in omega arith
 
 shared-slice-read-width : tie.Need-shared-slice-read-width
 shared-slice-read-width c =
-    let start = c .before .before .before .before .before .before .before .before in
+    let start = c .before .before .before .before .before .before .before .before .before in
     let n = against-notes (start .pre .1) (start .pre .0) in let l = n .bus in omega arith
 
 mul-first : tie.Need-mul-first
 mul-first c =
-    let start = c .before .before .before .before .before .before .before .before in
+    let start = c .before .before .before .before .before .before .before .before .before .before in
     let n = against-notes (start .pre .1) (start .pre .0) in let l = n .bus-name in omega arith
 
 add-first : tie.Need-add-first
 add-first c =
-    let start = c .before .before .before .before .before .before .before .before in
+    let start = c .before .before .before .before .before .before .before .before .before .before in
     let n = against-notes (start .pre .1) (start .pre .0) in let l = n .bus-name in omega arith
 
 mul-first-2 : tie.Need-mul-first-2
 mul-first-2 c =
-    let start = c .before .before .before .before .before .before .before .before in
+    let start = c .before .before .before .before .before .before .before .before .before .before in
     let n = against-notes (start .pre .1) (start .pre .0) in let l = n .bus in omega arith
 
 shared-slice-read-first : tie.Need-shared-slice-read-first
 shared-slice-read-first c =
-    let start = c .before .before .before .before .before .before .before .before .before in
+    let start = c .before .before .before .before .before .before .before .before .before .before .before in
     let n = against-notes (start .pre .1) (start .pre .0) in let l = n .bus in omega arith
 
 mul-entry : tie.Need-mul-entry
 mul-entry c =
-    let start = c .before .before .before .before .before .before .before .before .before in
+    let start = c .before .before .before .before .before .before .before .before .before .before .before .before in
     let n = against-notes (start .pre .1) (start .pre .0) in let l = n .choice-name in omega arith
 
 add-entry : tie.Need-add-entry
 add-entry c =
-    let start = c .before .before .before .before .before .before .before .before .before in
+    let start = c .before .before .before .before .before .before .before .before .before .before .before .before in
     let n = against-notes (start .pre .1) (start .pre .0) in let l = n .choice-name in omega arith
 
 mul-entry-2 : tie.Need-mul-entry-2
 mul-entry-2 c =
-    let start = c .before .before .before .before .before .before .before .before .before in
+    let start = c .before .before .before .before .before .before .before .before .before .before .before .before in
     let n = against-notes (start .pre .1) (start .pre .0) in let l = n .choice in omega arith
 
 shared-slice-read-entry : tie.Need-shared-slice-read-entry
 shared-slice-read-entry c =
-    let start = c .before .before .before .before .before .before .before .before .before .before in
+    let start = c .before .before .before .before .before .before .before .before .before .before .before .before .before in
     let n = against-notes (start .pre .1) (start .pre .0) in let l = n .choice in omega arith
 
 cast-entry : tie.Need-cast-entry
 cast-entry c =
-    let start = c .before .before .before .before .before .before .before .before .before .before in
+    let start = c .before .before .before .before .before .before .before .before .before .before .before .before .before in
     let l = against-entry (start .pre .1) (start .pre .0) refl in omega arith
 
 words-end-requires : tie.Need-words-end-requires
 words-end-requires c κs =
-    let start = c .before .before .before .before .before .before .before .before .before .before in
+    let start = c .before .before .before .before .before .before .before .before .before .before .before .before .before in
     (start .pre .0 .lent .work, against-entry (start .pre .1) (start .pre .0) refl)
 
 add-widths-are : tie.Need-add-widths-are
 add-widths-are c =
-    let start = c .before .before .before .before .before .before .before .before .before .before .before in
+    let start = c .before .before .before .before .before .before .before .before .before .before .before .before .before .before in
     let l = against-entry (start .pre .1) (start .pre .0) refl in omega arith
 
 widths-are-requires : tie.Need-widths-are-requires
 widths-are-requires c κs =
-    let start = c .before .before .before .before .before .before .before .before .before .before .before in
+    let start = c .before .before .before .before .before .before .before .before .before .before .before .before .before .before in
     let at-words-end = c .words-end in
     against-readable (start .pre .1) (start .pre .0) refl (at-words-end .ensures)
 
 add-one-of : tie.Need-add-one-of
 add-one-of c =
-    let start = c .before .before .before .before .before .before .before .before .before .before .before .before .before in
+    let start = c .before .before .before .before .before .before .before .before .before .before .before .before .before .before .before .before in
     let l = against-entry (start .pre .1) (start .pre .0) refl in omega arith
 
 one-of-requires : tie.Need-one-of-requires
 one-of-requires c κs =
-    let start = c .before .before .before .before .before .before .before .before .before .before .before .before .before .before in
+    let start = c .before .before .before .before .before .before .before .before .before .before .before .before .before .before .before .before .before in
     let at-words-end = c .before .before .before .words-end in
     (against-readable (start .pre .1) (start .pre .0) refl (at-words-end .ensures), against-first (start .pre .1) (start .pre .0) refl)
 
 popped-requires : tie.Need-popped-requires
-popped-requires c κs = search needs
+popped-requires c κs =
+    let start = c .before .before .before .before .before .before .before .before .before .before .before .before .before .before .before .before .before .before .before in
+    let i = start .pre .0 .top .top .at .inside in
+    let l = start .pre .0 .lent .small in
+    omega arith
 
 capped-requires : tie.Need-capped-requires
 capped-requires c κs = search needs
@@ -148,9 +152,9 @@ wrote-requires c κs = search needs
 
 returns-2 : tie.Need-returns-2
 returns-2 c =
-    let start = c .before .before .before .before .before .before .before .before .before .before .before .before .before .before .before .before .before .before .before in
-    let at-infix-at = c .before .before .before .before .before .before .before .before .before .before .before .before .before .infix-at in
-    let at-if1 = c .before .before .before .before .before .before .before .before .before .before .before .before .if1 in
+    let start = c .before .before .before .before .before .before .before .before .before .before .before .before .before .before .before .before .before .before .before .before .before .before in
+    let at-infix-at = c .before .before .before .before .before .before .before .before .before .before .before .before .before .before .before .before .infix-at in
+    let at-if1 = c .before .before .before .before .before .before .before .before .before .before .before .before .before .before .before .if1 in
     let at-words-end = c .before .before .before .before .before .before .before .before .words-end in
     let at-widths-are = c .before .before .before .before .before .before .before .widths-are in
     let at-if2 = c .before .before .before .before .before .before .if2 in
@@ -167,7 +171,11 @@ cap-requires : tie.Need-cap-requires
 cap-requires c κs = search needs
 
 popped-requires-2 : tie.Need-popped-requires-2
-popped-requires-2 c κs = search needs
+popped-requires-2 c κs =
+    let start = c .before .before .before .before .before .before .before .before .before .before .before .before .before .before .before .before .before .before .before .before .before in
+    let i = start .pre .0 .top .top .at .inside in
+    let l = start .pre .0 .lent .small in
+    omega arith
 
 capped-requires-2 : tie.Need-capped-requires-2
 capped-requires-2 c κs = search needs
@@ -177,9 +185,9 @@ wrote-requires-2 c κs = search needs
 
 returns-3 : tie.Need-returns-3
 returns-3 c =
-    let start = c .before .before .before .before .before .before .before .before .before .before .before .before .before .before .before .before .before .before .before .before .before in
-    let at-infix-at = c .before .before .before .before .before .before .before .before .before .before .before .before .before .before .before .infix-at in
-    let at-if1 = c .before .before .before .before .before .before .before .before .before .before .before .before .before .before .if1 in
+    let start = c .before .before .before .before .before .before .before .before .before .before .before .before .before .before .before .before .before .before .before .before .before .before .before .before in
+    let at-infix-at = c .before .before .before .before .before .before .before .before .before .before .before .before .before .before .before .before .before .before .infix-at in
+    let at-if1 = c .before .before .before .before .before .before .before .before .before .before .before .before .before .before .before .before .before .if1 in
     let at-words-end = c .before .before .before .before .before .before .before .before .before .before .words-end in
     let at-widths-are = c .before .before .before .before .before .before .before .before .before .widths-are in
     let at-if2 = c .before .before .before .before .before .before .before .before .if2 in
@@ -195,9 +203,9 @@ returns-3 c =
 
 returns-4 : tie.Need-returns-4
 returns-4 c =
-    let start = c .before .before .before .before .before .before .before .before .before .before .before .before .before in
-    let at-infix-at = c .before .before .before .before .before .before .before .infix-at in
-    let at-if1 = c .before .before .before .before .before .before .if1 in
+    let start = c .before .before .before .before .before .before .before .before .before .before .before .before .before .before .before .before in
+    let at-infix-at = c .before .before .before .before .before .before .before .before .before .before .infix-at in
+    let at-if1 = c .before .before .before .before .before .before .before .before .before .if1 in
     let at-words-end = c .before .before .words-end in
     let at-widths-are = c .before .widths-are in
     let at-if2 = c .if2 in

@@ -1,5 +1,6 @@
 use mathlib.Core.Path.{refl}
-use Rattle.atom_steps.specs.ComparisonLaws.{right-misfits, right-unsized, right-uncompared}
+use Rattle.atom_steps.specs.ComparisonLaws.{right-unsized, right-uncompared}
+use Rattle.machine.specs.MisfitLaws.{value-misfits, misfits-still}
 use borrow.Author.Needs.{needs}
 use Rattle.atom_steps.proofs.comparisons.right.Statement.{statement}
 use Rattle.atom_steps.proofs.comparisons.right.Tie as tie
@@ -8,7 +9,7 @@ returns : tie.Need-returns
 returns c =
     let start = c .before .before .before .before .before .before in
     let at-if1 = c .if1 in
-    right-misfits (start .pre .1) (at-if1 .taken)
+    misfits-still (value-misfits (start .pre .1) refl (at-if1 .taken))
 
 add-mode : tie.Need-add-mode
 add-mode c = search needs

@@ -21,17 +21,17 @@ mul-place c = search needs
 shared-slice-read-place : tie.Need-shared-slice-read-place
 shared-slice-read-place c = search needs
 
-add-b : tie.Need-add-b
-add-b c = search needs
+add-bus : tie.Need-add-bus
+add-bus c = search needs
 
-mul-b : tie.Need-mul-b
-mul-b c = search needs
+mul-bus : tie.Need-mul-bus
+mul-bus c = search needs
 
-shared-slice-read-b : tie.Need-shared-slice-read-b
-shared-slice-read-b c = search needs
+shared-slice-read-bus : tie.Need-shared-slice-read-bus
+shared-slice-read-bus c = search needs
 
-cast-b : tie.Need-cast-b
-cast-b c =
+cast-bus : tie.Need-cast-bus
+cast-bus c =
     let start = c .before .before .before .before .before .before .before .before in
     let at-shared-slice-known6 = c .shared-slice-known6 in
     omega (arith, at-shared-slice-known6 .given (start .args .m .frames + 6))
@@ -53,9 +53,9 @@ with-bus-spec =
     add-place
     mul-place
     shared-slice-read-place
-    add-b
-    mul-b
-    shared-slice-read-b
-    cast-b
+    add-bus
+    mul-bus
+    shared-slice-read-bus
+    cast-bus
     against-requires
     returns-2)

@@ -19,17 +19,17 @@ returns-2 c =
     let at-if2 = c .if2 in
     identifier-misfits (start .pre .1) (at-if1 .left) (at-if2 .taken)
 
-add-i : tie.Need-add-i
-add-i c = search needs
+add-identifier : tie.Need-add-identifier
+add-identifier c = search needs
 
-mul-i : tie.Need-mul-i
-mul-i c = search needs
+mul-identifier : tie.Need-mul-identifier
+mul-identifier c = search needs
 
-shared-slice-read-i : tie.Need-shared-slice-read-i
-shared-slice-read-i c = search needs
+shared-slice-read-identifier : tie.Need-shared-slice-read-identifier
+shared-slice-read-identifier c = search needs
 
-cast-i : tie.Need-cast-i
-cast-i c =
+cast-identifier : tie.Need-cast-identifier
+cast-identifier c =
     let start = c .before .before .before .before .before .before .before .before .before in
     let at-shared-slice-known5 = c .shared-slice-known5 in
     omega (arith, at-shared-slice-known5 .given (start .args .m .frames + 6))
@@ -46,4 +46,4 @@ returns-3 c = search needs
 pub with-identifier-spec : {M : Type 1} → statement M
 with-identifier-spec =
     tie.close
-    (tie.spec returns returns-2 add-i mul-i shared-slice-read-i cast-i against-requires returns-3)
+    (tie.spec returns returns-2 add-identifier mul-identifier shared-slice-read-identifier cast-identifier against-requires returns-3)

@@ -1,9 +1,10 @@
 use mathlib.Core.Path.{refl, ap, _∙_}
-use Rattle.atom_steps.specs.MembershipLaws.{among-misfits, among-placed, among-steps}
+use Rattle.atom_steps.specs.MembershipLaws.{among-placed, among-steps}
 use Rattle.machine.specs.declared.Move.the-variants.{Next}
 use Rattle.machine.specs.declared.Machine.{Machine}
 use Rattle.machine.specs.Moves.{wrote}
 use Rattle.machine.specs.ContractLaws.{takes-to-write-as}
+use Rattle.machine.specs.MisfitLaws.{set-misfits, misfits-still}
 use borrow.Author.Needs.{needs}
 use Rattle.atom_steps.proofs.membership.among.Statement.{statement}
 use Rattle.atom_steps.proofs.membership.among.Tie as tie
@@ -12,7 +13,7 @@ returns : tie.Need-returns
 returns c =
     let start = c .before .before .before .before .before .before in
     let at-if1 = c .if1 in
-    among-misfits (start .pre .1) (at-if1 .taken)
+    misfits-still (set-misfits (start .pre .1) refl (at-if1 .taken))
 
 add-x : tie.Need-add-x
 add-x c = search needs

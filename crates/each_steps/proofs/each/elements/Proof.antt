@@ -5,7 +5,8 @@ use Rattle.machine.specs.declared.Move.the-variants.{Next}
 use Rattle.machine.specs.Moves.{wrote}
 use Rattle.machine.specs.ContractLaws.{takes-to-write-as}
 use Rattle.machine.specs.OperandLaws.{topped-to-write-entry}
-use Rattle.each_steps.specs.EachLaws.{elements-misfits, elements-formless, elements-none, elements-beginning, elements-steps}
+use Rattle.each_steps.specs.EachLaws.{elements-formless, elements-none, elements-beginning, elements-steps}
+use Rattle.machine.specs.MisfitLaws.{set-misfits, misfits-still}
 use borrow.Author.Needs.{needs}
 use Rattle.each_steps.proofs.each.elements.Statement.{statement}
 use Rattle.each_steps.proofs.each.elements.Tie as tie
@@ -14,7 +15,7 @@ returns : tie.Need-returns
 returns c =
     let start = c .before .before .before .before .before .before in
     let at-if1 = c .if1 in
-    elements-misfits (start .pre .1) (at-if1 .taken)
+    misfits-still (set-misfits (start .pre .1) refl (at-if1 .taken))
 
 add-k : tie.Need-add-k
 add-k c = search needs

@@ -1,4 +1,6 @@
-use Rattle.each_steps.specs.EachLaws.{first-misfits, first-turnable, first-steps}
+use mathlib.Core.Path.{refl}
+use Rattle.each_steps.specs.EachLaws.{first-turnable, first-steps}
+use Rattle.machine.specs.MisfitLaws.{formula-misfits}
 use borrow.Author.Needs.{needs}
 use Rattle.each_steps.proofs.each.first.Statement.{statement}
 use Rattle.each_steps.proofs.each.first.Tie as tie
@@ -7,7 +9,7 @@ returns : tie.Need-returns
 returns c =
     let start = c .before .before .before .before .before .before in
     let at-if1 = c .if1 in
-    first-misfits (start .pre .1) (at-if1 .taken)
+    formula-misfits (start .pre .1) refl (at-if1 .taken)
 
 onward-requires : tie.Need-onward-requires
 onward-requires c κs =

@@ -2,7 +2,8 @@ use Prim.Native.Nat.{_+_}
 use mathlib.Core.Path.{refl}
 use native.Mathlib.Omega.{arith}
 use Rattle.machine.specs.OperandLaws.{topped-to-write-entry}
-use Rattle.each_steps.specs.EachLaws.{next-misfits, next-turnable, next-small, next-steps}
+use Rattle.each_steps.specs.EachLaws.{next-turnable, next-small, next-steps}
+use Rattle.machine.specs.MisfitLaws.{formula-misfits, misfits-still}
 use borrow.Author.Needs.{needs}
 use Rattle.each_steps.proofs.each.next.Statement.{statement}
 use Rattle.each_steps.proofs.each.next.Tie as tie
@@ -11,7 +12,7 @@ returns : tie.Need-returns
 returns c =
     let start = c .before .before .before .before .before .before in
     let at-if1 = c .if1 in
-    next-misfits (start .pre .1) (at-if1 .taken)
+    misfits-still (formula-misfits (start .pre .1) refl (at-if1 .taken))
 
 add-k : tie.Need-add-k
 add-k c = search needs

@@ -1,4 +1,6 @@
-use Rattle.fold_steps.specs.NumberLaws.{first-misfits, first-foldable, first-steps}
+use mathlib.Core.Path.{refl}
+use Rattle.fold_steps.specs.NumberLaws.{first-foldable, first-steps}
+use Rattle.machine.specs.MisfitLaws.{number-misfits}
 use borrow.Author.Needs.{needs}
 use Rattle.fold_steps.proofs.numbers.first.Statement.{statement}
 use Rattle.fold_steps.proofs.numbers.first.Tie as tie
@@ -7,7 +9,7 @@ returns : tie.Need-returns
 returns c =
     let start = c .before .before .before .before .before .before in
     let at-if1 = c .if1 in
-    first-misfits (start .pre .1) (at-if1 .taken)
+    number-misfits (start .pre .1) refl (at-if1 .taken)
 
 onward-requires : tie.Need-onward-requires
 onward-requires c κs =

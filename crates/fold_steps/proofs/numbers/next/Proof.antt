@@ -1,7 +1,8 @@
 use mathlib.Core.Path.{refl}
 use native.Mathlib.Omega.{arith}
-use Rattle.fold_steps.specs.NumberLaws.{next-misfits, next-foldable, next-refuses, next-steps}
+use Rattle.fold_steps.specs.NumberLaws.{next-foldable, next-refuses, next-steps}
 use Rattle.machine.specs.OperandLaws.{topped-entry}
+use Rattle.machine.specs.MisfitLaws.{number-misfits}
 use borrow.Author.Needs.{needs}
 use Rattle.fold_steps.proofs.numbers.next.Statement.{statement}
 use Rattle.fold_steps.proofs.numbers.next.Tie as tie
@@ -10,7 +11,7 @@ returns : tie.Need-returns
 returns c =
     let start = c .before .before .before .before .before .before in
     let at-if1 = c .if1 in
-    next-misfits (start .pre .1) (at-if1 .taken)
+    number-misfits (start .pre .1) refl (at-if1 .taken)
 
 add-k : tie.Need-add-k
 add-k c = search needs

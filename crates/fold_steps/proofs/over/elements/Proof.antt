@@ -6,7 +6,8 @@ use Rattle.machine.specs.Moves.{came}
 use Rattle.machine.specs.ContractLaws.{takes-as, takes-next}
 use Rattle.machine.specs.OperandLaws.{topped-entry}
 use Rattle.fold_steps.specs.Bigs.{bigBy, overNothing}
-use Rattle.fold_steps.specs.OverLaws.{over-misfits, over-beginning, over-logic, over-nothing, over-numbers, over-sets}
+use Rattle.fold_steps.specs.OverLaws.{over-beginning, over-logic, over-nothing, over-numbers, over-sets}
+use Rattle.machine.specs.MisfitLaws.{set-misfits}
 use borrow.Author.Needs.{needs}
 use Rattle.fold_steps.proofs.over.elements.Statement.{statement}
 use Rattle.fold_steps.proofs.over.elements.Tie as tie
@@ -15,7 +16,7 @@ returns : tie.Need-returns
 returns c =
     let start = c .before .before .before .before .before .before in
     let at-if1 = c .if1 in
-    over-misfits (start .pre .1) (at-if1 .taken)
+    set-misfits (start .pre .1) refl (at-if1 .taken)
 
 add-k : tie.Need-add-k
 add-k c = search needs

@@ -2,7 +2,8 @@ use native.Mathlib.Omega.{arith}
 use Prim.Native.Nat.{_+_}
 use mathlib.Core.Path.{refl}
 use Rattle.machine.specs.OperandLaws.{topped-entry}
-use Rattle.fold_steps.specs.SetLaws.{next-misfits, next-two, next-foldable, next-refuses, next-steps}
+use Rattle.fold_steps.specs.SetLaws.{next-two, next-foldable, next-refuses, next-steps}
+use Rattle.machine.specs.MisfitLaws.{set-misfits}
 use borrow.Author.Needs.{needs}
 use Rattle.fold_steps.proofs.set_folds.next.Statement.{statement}
 use Rattle.fold_steps.proofs.set_folds.next.Tie as tie
@@ -11,7 +12,7 @@ returns : tie.Need-returns
 returns c =
     let start = c .before .before .before .before .before .before in
     let at-if1 = c .if1 in
-    next-misfits (start .pre .1) (at-if1 .taken)
+    set-misfits (start .pre .1) refl (at-if1 .taken)
 
 add-k : tie.Need-add-k
 add-k c = search needs

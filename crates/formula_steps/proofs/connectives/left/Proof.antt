@@ -1,7 +1,7 @@
 use mathlib.Core.Path.{refl}
-use Rattle.formula_steps.specs.ConnectiveLaws.{left-misfits, left-steps}
-use Rattle.machine.specs.ContractLaws.{takes-next}
-use Rattle.machine.specs.OperandLaws.{topped-entry}
+use Rattle.formula_steps.specs.ConnectiveLaws.{left-steps}
+use Rattle.machine.specs.MisfitLaws.{formula-misfits}
+use Rattle.machine.specs.RenewLaws.{topped-renewable}
 use borrow.Author.Needs.{needs}
 use Rattle.formula_steps.proofs.connectives.left.Statement.{statement}
 use Rattle.formula_steps.proofs.connectives.left.Tie as tie
@@ -10,53 +10,25 @@ returns : tie.Need-returns
 returns c =
     let start = c .before .before .before .before .before .before in
     let at-if1 = c .if1 in
-    left-misfits (start .pre .1) (at-if1 .taken)
+    formula-misfits (start .pre .1) refl (at-if1 .taken)
 
-add-k : tie.Need-add-k
-add-k c = search needs
+cast-end : tie.Need-cast-end
+cast-end c = search needs
 
-mul-k : tie.Need-mul-k
-mul-k c = search needs
-
-slice-read-k : tie.Need-slice-read-k
-slice-read-k c = search needs
-
-cast-came : tie.Need-cast-came
-cast-came c = search needs
-
-frame-requires : tie.Need-frame-requires
-frame-requires c κs = search needs
-
-sub-came : tie.Need-sub-came
-sub-came c =
-    let start = c .before .before .before .before .before .before .before .before .before .before .before .before in
-    topped-entry (start .pre .0) .some
-
-came-requires : tie.Need-came-requires
-came-requires c κs = search needs
+renew-requires : tie.Need-renew-requires
+renew-requires c κs =
+    let start = c .before .before .before .before .before .before .before .before in
+    topped-renewable (start .pre .0)
 
 same-length : tie.Need-same-length
 same-length c = search needs
 
 returns-2 : tie.Need-returns-2
 returns-2 c =
-    let start = c .before .before .before .before .before .before .before .before .before .before .before .before .before in
-    let at-if1 = c .before .before .before .before .before .before .before .if1 in
-    let at-frame = c .before .before .before .frame in
-    let at-came = c .came in
-    takes-next (at-came .ensures) (left-steps (start .pre .1) (at-if1 .left) refl refl (at-frame .ensures))
+    let start = c .before .before .before .before .before .before .before .before .before .before .before in
+    let at-if1 = c .before .before .before .before .before .if1 in
+    let at-renew = c .before .before .renew in
+    left-steps (start .pre .1) (at-if1 .left) refl (at-renew .ensures)
 
 pub left-spec : {M : Type 1} → statement M
-left-spec =
-    tie.close
-    (tie.spec
-    returns
-    add-k
-    mul-k
-    slice-read-k
-    cast-came
-    frame-requires
-    sub-came
-    came-requires
-    same-length
-    returns-2)
+left-spec = tie.close (tie.spec returns cast-end renew-requires same-length returns-2)

@@ -1,12 +1,13 @@
 use native.Mathlib.Omega.{arith}
 use mathlib.Core.Path.{refl, ap, _∙_}
 use Prim.Native.Nat.{_+_}
-use Rattle.formula_steps.specs.ConnectiveLaws.{right-misfits, right-small, right-steps}
+use Rattle.formula_steps.specs.ConnectiveLaws.{right-small, right-steps}
 use Rattle.machine.specs.declared.Move.the-variants.{Next}
 use Rattle.machine.specs.declared.Machine.{Machine}
 use Rattle.machine.specs.Moves.{wrote}
 use Rattle.machine.specs.ContractLaws.{takes-to-write-as}
 use Rattle.machine.specs.OperandLaws.{topped-to-write-entry}
+use Rattle.machine.specs.MisfitLaws.{formula-misfits, misfits-still}
 use borrow.Author.Needs.{needs}
 use Rattle.formula_steps.proofs.connectives.right.Statement.{statement}
 use Rattle.formula_steps.proofs.connectives.right.Tie as tie
@@ -15,7 +16,7 @@ returns : tie.Need-returns
 returns c =
     let start = c .before .before .before .before .before .before in
     let at-if1 = c .if1 in
-    right-misfits (start .pre .1) (at-if1 .taken)
+    misfits-still (formula-misfits (start .pre .1) refl (at-if1 .taken))
 
 add-k : tie.Need-add-k
 add-k c = search needs

@@ -2,10 +2,11 @@ use lib.ListN.{getD, length-set}
 use native.Mathlib.Omega.{arith}
 use Prim.Native.Nat.{ℕ, _+_, _≤_}
 use mathlib.Core.Path.{refl, sym, _∙_, subst}
-use Rattle.set_steps.specs.BraceLaws.{element-misfits, element-fits, element-few, element-elementary, element-numbers, element-ends, element-goes}
+use Rattle.set_steps.specs.ElementLaws.{element-fits, element-few, element-elementary, element-numbers, element-ends, element-goes}
 use Rattle.machine.specs.ContractLaws.{takes-as}
 use Rattle.machine.specs.OperandLaws.{topped-entry}
 use Rattle.machine.specs.Memory.{frameWords}
+use Rattle.machine.specs.MisfitLaws.{number-misfits}
 use borrow.Author.Needs.{needs}
 use Rattle.set_steps.proofs.braces.element.Statement.{statement}
 use Rattle.set_steps.proofs.braces.element.Tie as tie
@@ -14,7 +15,7 @@ returns : tie.Need-returns
 returns c =
     let start = c .before .before .before .before .before .before in
     let at-if1 = c .if1 in
-    element-misfits (start .pre .1) (at-if1 .taken)
+    number-misfits (start .pre .1) refl (at-if1 .taken)
 
 add-j : tie.Need-add-j
 add-j c = search needs

@@ -1,6 +1,6 @@
 use native.Mathlib.Omega.{arith}
 use mathlib.Core.Path.{sym, _∙_}
-use Rattle.set_steps.specs.BraceLaws.{expression-followed, expression-last}
+use Rattle.set_steps.specs.InnerLaws.{expression-followed, expression-last}
 use borrow.Author.Needs.{needs}
 use Rattle.set_steps.proofs.braces.expression.Statement.{statement}
 use Rattle.set_steps.proofs.braces.expression.Tie as tie

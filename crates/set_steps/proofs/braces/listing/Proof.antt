@@ -1,6 +1,7 @@
 use native.Mathlib.Omega.{arith}
 use mathlib.Core.Path.{sym, ap, _∙_}
-use Rattle.set_steps.specs.BraceLaws.{element-small, listing-empty, listing-short, listing-elementary, listing-steps}
+use Rattle.set_steps.specs.InnerLaws.{element-small}
+use Rattle.set_steps.specs.ListingLaws.{listing-empty, listing-short, listing-elementary, listing-steps}
 use Rattle.machine.specs.Openings.{opened}
 use Rattle.machine.specs.ContractLaws.{steps-next}
 use Rattle.machine.specs.OpenLaws.{ready-open}

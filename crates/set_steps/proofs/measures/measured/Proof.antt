@@ -1,10 +1,11 @@
 use native.Mathlib.Omega.{arith}
 use mathlib.Core.Path.{refl, ap, _∙_}
-use Rattle.set_steps.specs.MeasureLaws.{measured-misfits, measured-placed, measured-steps}
+use Rattle.set_steps.specs.MeasureLaws.{measured-placed, measured-steps}
 use Rattle.machine.specs.declared.Machine.{Machine}
 use Rattle.machine.specs.Moves.{numbered}
 use Rattle.machine.specs.ContractLaws.{takes-as}
 use Rattle.machine.specs.OperandLaws.{topped-entry}
+use Rattle.machine.specs.MisfitLaws.{set-misfits}
 use borrow.Author.Needs.{needs}
 use Rattle.set_steps.proofs.measures.measured.Statement.{statement}
 use Rattle.set_steps.proofs.measures.measured.Tie as tie
@@ -13,7 +14,7 @@ returns : tie.Need-returns
 returns c =
     let start = c .before .before .before .before .before .before in
     let at-if1 = c .if1 in
-    measured-misfits (start .pre .1) (at-if1 .taken)
+    set-misfits (start .pre .1) refl (at-if1 .taken)
 
 add-k : tie.Need-add-k
 add-k c = search needs

@@ -1,8 +1,9 @@
 use native.Mathlib.Omega.{arith}
 use mathlib.Core.Path.{refl}
-use Rattle.set_steps.specs.RangeLaws.{last-misfits, last-steps}
+use Rattle.set_steps.specs.RangeLaws.{last-steps}
 use Rattle.machine.specs.ContractLaws.{takes-as}
 use Rattle.machine.specs.OperandLaws.{topped-entry}
+use Rattle.machine.specs.MisfitLaws.{number-misfits}
 use borrow.Author.Needs.{needs}
 use Rattle.set_steps.proofs.ranges.last.Statement.{statement}
 use Rattle.set_steps.proofs.ranges.last.Tie as tie
@@ -11,7 +12,7 @@ returns : tie.Need-returns
 returns c =
     let start = c .before .before .before .before .before .before in
     let at-if1 = c .if1 in
-    last-misfits (start .pre .1) (at-if1 .taken)
+    number-misfits (start .pre .1) refl (at-if1 .taken)
 
 add-k : tie.Need-add-k
 add-k c = search needs

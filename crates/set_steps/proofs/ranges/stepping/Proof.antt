@@ -1,7 +1,7 @@
 use native.Mathlib.Omega.{arith}
 use mathlib.Core.Path.{refl}
-use Rattle.set_steps.specs.RangeLaws.{stepping-inside, stepping-steps}
-use Rattle.machine.specs.OpenLaws.{ready-open}
+use Rattle.set_steps.specs.RangeLaws.{stepping-starts}
+use Rattle.machine.specs.StartLaws.{starts-ready, three-inside, three-steps}
 use Rattle.machine.specs.OperandLaws.{ready-entry}
 use borrow.Author.Needs.{needs}
 use Rattle.set_steps.proofs.ranges.stepping.Statement.{statement}
@@ -13,12 +13,12 @@ cast-k c = search needs
 sub-second : tie.Need-sub-second
 sub-second c =
     let start = c .before .before .before .before .before in
-    let i = stepping-inside (start .pre .0) (start .pre .1) refl in omega arith
+    let i = three-inside (stepping-starts (start .pre .1)) refl refl (start .pre .0) in omega arith
 
 sub-size-at : tie.Need-sub-size-at
 sub-size-at c =
     let start = c .before .before .before .before .before in
-    let i = stepping-inside (start .pre .0) (start .pre .1) refl in omega arith
+    let i = three-inside (stepping-starts (start .pre .1)) refl refl (start .pre .0) in omega arith
 
 size-at-requires : tie.Need-size-at-requires
 size-at-requires c κs =
@@ -29,7 +29,7 @@ sub-second-2 : tie.Need-sub-second-2
 sub-second-2 c =
     let start = c .before .before .before .before .before .before in
     let at-size-at = c .size-at in
-    let i = stepping-inside (start .pre .0) (start .pre .1) (at-size-at .ensures) in omega arith
+    let i = three-inside (stepping-starts (start .pre .1)) (at-size-at .ensures) refl (start .pre .0) in omega arith
 
 size-at-requires-2 : tie.Need-size-at-requires-2
 size-at-requires-2 c κs =
@@ -41,7 +41,7 @@ sub-first c =
     let start = c .before .before .before .before .before .before .before in
     let at-size-at = c .before .size-at in
     let at-size-at2 = c .size-at2 in
-    let i = stepping-inside (start .pre .0) (start .pre .1) (at-size-at .ensures) in let z = at-size-at2 .ensures in omega arith
+    let i = three-inside (stepping-starts (start .pre .1)) (at-size-at .ensures) (at-size-at2 .ensures) (start .pre .0) in omega arith
 
 cast-push : tie.Need-cast-push
 cast-push c = search needs
@@ -49,7 +49,7 @@ cast-push c = search needs
 push-requires : tie.Need-push-requires
 push-requires c κs =
     let start = c .before .before .before .before .before .before .before .before in
-    ready-open (start .pre .0) (let e = start .pre .1 .mode in omega arith)
+    starts-ready (stepping-starts (start .pre .1)) (start .pre .0)
 
 same-length : tie.Need-same-length
 same-length c = search needs
@@ -60,7 +60,7 @@ returns c =
     let at-size-at = c .before .before .before .before .before .size-at in
     let at-size-at2 = c .before .before .before .before .size-at2 in
     let at-push = c .before .before .push in
-    stepping-steps (start .pre .1) (at-size-at .ensures) (at-size-at2 .ensures) (at-push .ensures)
+    three-steps (stepping-starts (start .pre .1)) (at-size-at .ensures) (at-size-at2 .ensures) (at-push .ensures)
 
 pub stepping-spec : {M : Type 1} → statement M
 stepping-spec =

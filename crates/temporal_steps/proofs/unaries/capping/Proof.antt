@@ -1,17 +1,18 @@
 use native.Mathlib.Omega.{arith}
 use mathlib.Core.Path.{refl, ap, _∙_}
-use Rattle.temporal_steps.specs.UnaryLaws.{capping-misfits, capping-small, capping-steps}
+use Rattle.temporal_steps.specs.UnaryLaws.{capping-small, capping-steps}
 use Rattle.machine.specs.declared.Move.the-variants.{Next}
 use Rattle.machine.specs.declared.Machine.{Machine}
 use Rattle.machine.specs.Moves.{wrote}
 use Rattle.machine.specs.ContractLaws.{takes-to-write-as}
 use Rattle.machine.specs.OperandLaws.{topped-to-write-entry}
+use Rattle.machine.specs.MisfitLaws.{formula-misfits, misfits-still}
 use borrow.Author.Needs.{needs}
 use Rattle.temporal_steps.proofs.unaries.capping.Statement.{statement}
 use Rattle.temporal_steps.proofs.unaries.capping.Tie as tie
 
 returns : tie.Need-returns
-returns c = capping-misfits (c .before .before .before .before .before .before .pre .1) (c .if1 .taken)
+returns c = misfits-still (formula-misfits (c .before .before .before .before .before .before .pre .1) refl (c .if1 .taken))
 
 add-k : tie.Need-add-k
 add-k c = search needs

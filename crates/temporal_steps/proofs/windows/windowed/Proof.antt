@@ -1,7 +1,7 @@
 use native.Mathlib.Omega.{arith}
 use mathlib.Core.Path.{refl, ap, _∙_}
 use Prim.Native.Nat.{_+_}
-use Rattle.temporal_steps.specs.WindowLaws.{windowed-misfits, windowed-order, windowed-steps}
+use Rattle.temporal_steps.specs.WindowLaws.{windowed-order, windowed-steps}
 use Rattle.language.specs.Expansion.{windowOperator}
 use Rattle.temporal_steps.specs.Windows.{windowBy}
 use Rattle.machine.specs.OperatorLaws.{binary-small}
@@ -10,12 +10,13 @@ use Rattle.machine.specs.declared.Machine.{Machine}
 use Rattle.machine.specs.Moves.{wrote}
 use Rattle.machine.specs.ContractLaws.{takes-to-write-as}
 use Rattle.machine.specs.OperandLaws.{topped-to-write-entry}
+use Rattle.machine.specs.MisfitLaws.{formula-misfits, misfits-still}
 use borrow.Author.Needs.{needs}
 use Rattle.temporal_steps.proofs.windows.windowed.Statement.{statement}
 use Rattle.temporal_steps.proofs.windows.windowed.Tie as tie
 
 returns : tie.Need-returns
-returns c = windowed-misfits (c .before .before .before .before .before .before .pre .1) (c .if1 .taken)
+returns c = misfits-still (formula-misfits (c .before .before .before .before .before .before .pre .1) refl (c .if1 .taken))
 
 add-k : tie.Need-add-k
 add-k c = search needs

@@ -1,73 +1,66 @@
 use native.Mathlib.Omega.{arith}
 use mathlib.Core.Path.{refl}
-use Rattle.temporal_steps.specs.WindowLaws.{windowing-inside, last-inside, windowing-steps}
-use Rattle.machine.specs.EnteringLaws.{expands-open}
+use Rattle.temporal_steps.specs.WindowLaws.{windowing-starts}
+use Rattle.machine.specs.StartLaws.{starts-ready, three-inside, three-steps}
 use Rattle.machine.specs.OperandLaws.{ready-entry}
 use borrow.Author.Needs.{needs}
 use Rattle.temporal_steps.proofs.windows.windowing.Statement.{statement}
 use Rattle.temporal_steps.proofs.windows.windowing.Tie as tie
-use Rattle.temporal_steps.proofs.windows.windowing.Reads as reads
-use Rattle.temporal_steps.proofs.windows.windowing.Lts as lts
-use Rattle.machine.proofs.Machine.push.Reads as push-reads
-use Rattle.operands.proofs.entry.size_at.Reads as size-at-reads
 
--- src/windows.rt:27:13
 cast-k : tie.Need-cast-k
 cast-k c = search needs
 
--- src/windows.rt:28:18
 sub-second : tie.Need-sub-second
-sub-second c = let s = c .before .before .before .before .before in let i = last-inside (s .pre .0) (s .pre .1) in omega arith
+sub-second c =
+    let start = c .before .before .before .before .before in
+    let i = three-inside (windowing-starts (start .pre .1)) refl refl (start .pre .0) in omega arith
 
--- src/windows.rt:28:40
 sub-size-at : tie.Need-sub-size-at
-sub-size-at c = let s = c .before .before .before .before .before in let i = last-inside (s .pre .0) (s .pre .1) in omega arith
+sub-size-at c =
+    let start = c .before .before .before .before .before in
+    let i = three-inside (windowing-starts (start .pre .1)) refl refl (start .pre .0) in omega arith
 
--- src/windows.rt:28:26
 size-at-requires : tie.Need-size-at-requires
 size-at-requires c κs =
-    let s = c .before .before .before .before .before in
-    let e = s .pre .1 .mode in
-    let r = ready-entry (s .pre .0) (omega arith) in
-    let l = r .0 in
-    (omega arith, r .1)
+    let start = c .before .before .before .before .before in
+    let r = ready-entry (start .pre .0) (let e = start .pre .1 .mode in omega arith) in ((let l = r .0 in omega arith), r .1)
 
--- src/windows.rt:28:18
 sub-second-2 : tie.Need-sub-second-2
-sub-second-2 c = let s = c .before .before .before .before .before .before in let i = last-inside (s .pre .0) (s .pre .1) in let z = c .size-at .ensures in omega arith
+sub-second-2 c =
+    let start = c .before .before .before .before .before .before in
+    let at-size-at = c .size-at in
+    let i = three-inside (windowing-starts (start .pre .1)) (at-size-at .ensures) refl (start .pre .0) in omega arith
 
--- src/windows.rt:29:26
 size-at-requires-2 : tie.Need-size-at-requires-2
 size-at-requires-2 c κs =
-    let s = c .before .before .before .before .before .before in
-    let e = s .pre .1 .mode in
-    let r = ready-entry (s .pre .0) (omega arith) in
-    let l = r .0 in
-    (omega arith, r .1)
+    let start = c .before .before .before .before .before .before in
+    let r = ready-entry (start .pre .0) (let e = start .pre .1 .mode in omega arith) in ((let l = r .0 in omega arith), r .1)
 
--- src/windows.rt:29:17
 sub-first : tie.Need-sub-first
-sub-first c = let s = c .before .before .before .before .before .before .before in let i = windowing-inside (s .pre .0) (s .pre .1) (c .before .size-at .ensures) (c .size-at2 .ensures) in omega arith
+sub-first c =
+    let start = c .before .before .before .before .before .before .before in
+    let at-size-at = c .before .size-at in
+    let at-size-at2 = c .size-at2 in
+    let i = three-inside (windowing-starts (start .pre .1)) (at-size-at .ensures) (at-size-at2 .ensures) (start .pre .0) in omega arith
 
--- src/windows.rt:30:58
 cast-push : tie.Need-cast-push
 cast-push c = search needs
 
--- src/windows.rt:30:5
 push-requires : tie.Need-push-requires
-push-requires c κs = let s = c .before .before .before .before .before .before .before .before in expands-open (s .pre .0) (s .pre .1)
+push-requires c κs =
+    let start = c .before .before .before .before .before .before .before .before in
+    starts-ready (windowing-starts (start .pre .1)) (start .pre .0)
 
--- src/windows.rt:22:1
 same-length : tie.Need-same-length
 same-length c = search needs
 
--- src/windows.rt:22:1
 returns : tie.Need-returns
 returns c =
-    let s = c .before .before .before .before .before .before .before .before .before .before .before in
-    let last = c .before .before .before .before .before .size-at .ensures in
-    let second = c .before .before .before .before .size-at2 .ensures in
-    windowing-steps (s .pre .1) last second refl (c .before .before .push .ensures)
+    let start = c .before .before .before .before .before .before .before .before .before .before .before in
+    let at-size-at = c .before .before .before .before .before .size-at in
+    let at-size-at2 = c .before .before .before .before .size-at2 in
+    let at-push = c .before .before .push in
+    three-steps (windowing-starts (start .pre .1)) (at-size-at .ensures) (at-size-at2 .ensures) (at-push .ensures)
 
 pub windowing-spec : {M : Type 1} → statement M
 windowing-spec =

@@ -1,6 +1,7 @@
 use native.Mathlib.Omega.{arith}
 use mathlib.Core.Path.{refl}
-use Rattle.value_steps.specs.CombinationLaws.{set-numbered, left-misfits, left-steps}
+use Rattle.value_steps.specs.CombinationLaws.{set-numbered, left-steps}
+use Rattle.machine.specs.MisfitLaws.{set-misfits}
 use Rattle.machine.specs.OperandLaws.{topped-entry}
 use borrow.Author.Needs.{needs}
 use Rattle.value_steps.proofs.combinations.left.Statement.{statement}
@@ -10,7 +11,7 @@ returns : tie.Need-returns
 returns c =
     let start = c .before .before .before .before .before .before in
     let at-if1 = c .if1 in
-    left-misfits (start .pre .1) (at-if1 .taken)
+    set-misfits (start .pre .1) refl (at-if1 .taken)
 
 above-requires : tie.Need-above-requires
 above-requires c κs = search needs

@@ -1,7 +1,8 @@
 use native.Mathlib.Omega.{arith}
 use mathlib.Core.Path.{refl}
 use Prim.Native.Nat.{_+_}
-use Rattle.value_steps.specs.CombinationLaws.{right-misfits, right-two, right-lowers, right-makes, right-refuses}
+use Rattle.value_steps.specs.CombinedLaws.{right-two, right-lowers, right-makes, right-refuses}
+use Rattle.machine.specs.MisfitLaws.{set-misfits}
 use Rattle.machine.specs.OperandLaws.{topped-entry}
 use borrow.Author.Needs.{needs}
 use Rattle.value_steps.proofs.combinations.right.Statement.{statement}
@@ -11,7 +12,7 @@ returns : tie.Need-returns
 returns c =
     let start = c .before .before .before .before .before .before in
     let at-if1 = c .if1 in
-    right-misfits (start .pre .1) (at-if1 .taken)
+    set-misfits (start .pre .1) refl (at-if1 .taken)
 
 add-k : tie.Need-add-k
 add-k c = search needs

@@ -1,9 +1,10 @@
 use native.Mathlib.Omega.{arith}
 use mathlib.Core.Path.{refl, ap, _∙_}
-use Rattle.value_steps.specs.ArithmeticLaws.{right-misfits, right-steps}
+use Rattle.value_steps.specs.ArithmeticLaws.{right-steps}
 use Rattle.machine.specs.declared.Machine.{Machine}
 use Rattle.machine.specs.Moves.{numbered}
 use Rattle.machine.specs.ContractLaws.{takes-as}
+use Rattle.machine.specs.MisfitLaws.{number-misfits}
 use Rattle.machine.specs.OperandLaws.{topped-entry}
 use borrow.Author.Needs.{needs}
 use Rattle.value_steps.proofs.numbers.right.Statement.{statement}
@@ -13,7 +14,7 @@ returns : tie.Need-returns
 returns c =
     let start = c .before .before .before .before .before .before in
     let at-if1 = c .if1 in
-    right-misfits (start .pre .1) (at-if1 .taken)
+    number-misfits (start .pre .1) refl (at-if1 .taken)
 
 add-k : tie.Need-add-k
 add-k c = search needs
