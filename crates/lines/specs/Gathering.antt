@@ -12,7 +12,7 @@ use Rattle.language.specs.Tree.{Expr, Part, partCode, Spec}
 use Rattle.language.specs.Declared.{Declarations}
 use Rattle.language.specs.Numbering.{inOrder}
 use Rattle.language.specs.Expansion.{Context, atSignals, defineAll, expansion}
-use Rattle.language.specs.Laws.Basics.Lists.{All}
+use Rattle.language.specs.Lists.{All}
 use Rattle.entries.specs.Stored.{EntriesFrom}
 use Rattle.names.specs.Resolved.{Stored, Resolved}
 use Rattle.name_values.specs.Worked.{Worked}
@@ -20,7 +20,7 @@ use Rattle.operands.specs.Working.{Source}
 use Rattle.machine.specs.Memory.{slotsWord, frameWords, reserve, spare}
 use Rattle.machine.specs.Realm.{Realm}
 use Rattle.machine.specs.Notes.{Noted, Lasting}
-use Rattle.machine_run.specs.Running.{maxMemory, regionsOf}
+use Rattle.machine_run.specs.Running.{maxMemory, smaller, regionsOf}
 use Rattle.memory_notes.specs.ShortTables.{ShortTable}
 use Rattle.memory_notes.specs.RealmLaws.{realm}
 use Rattle.assembly.specs.Gathered.{GatheredFrom}
@@ -69,7 +69,7 @@ pub record Reached {s : Source} (R : Realm s) (b : Buffers) (e : Ends) (entries 
 pub record Sizes (s : Source) (memory words : List ℕ) (entries : ℕ) : Type 0 where
   pub work : workBytes ≤ length (s .work)
   pub refs : maxTokens ≤ length (s .refs)
-  pub room : getD memory slotsWord 0 + entries + (frameWords + reserve + spare + entries) ≤ length memory
+  pub room : getD memory slotsWord 0 + entries + (frameWords + reserve + spare + entries) ≤ smaller (length memory)
   pub most : length memory ≤ maxMemory
   pub lines : maxNodes ≤ length words
 

@@ -16,7 +16,8 @@ use Rattle.language.specs.Expansion.{expansion}
 use Rattle.entries.specs.Kinds as Kind
 use Rattle.entries.specs.Flat.{Entry}
 use Rattle.entries.specs.Stored.{EntryAt, EntriesFrom}
-use Rattle.traversal.specs.Cells.{Sees, cellAt, entry-seen, OfToken}
+use Rattle.traversal.specs.Cells.{Sees, cellAt, OfToken}
+use Rattle.traversal.specs.CellLaws.{entry-seen}
 use Rattle.traversal.specs.declared.Cell.{Cell}
 use Rattle.name_values.specs.WorkedLaws.{tree-worked}
 use Rattle.operands.specs.Working.{Source}

@@ -30,7 +30,7 @@ use Rattle.machine.specs.EnterLaws.{cost-here, costs-frame, entry-few}
 use Rattle.machine.specs.declared.Machine.{Machine}
 use Rattle.machine.specs.declared.Move.{Move}
 use Rattle.machine.specs.declared.Move.the-variants.{Next, Short, Refused as Refuses}
-use Rattle.machine_run.specs.Running.{maxMemory}
+use Rattle.machine_run.specs.Running.{apartMemory, smaller}
 use Rattle.machine_run.specs.Bringing.{outset, Bringable, Brought}
 use Rattle.machine_run.specs.Evaluating.{Done as Finish, Going, Finished, Roomy, Stands, Bare, Arrives, Ended, Evaluated, moved}
 use Rattle.machine_run.specs.StartLaws.{beganAt, Starting, starts, noted-at}
@@ -64,8 +64,8 @@ pub takes-steps : {s : Source} {mem mem' out out' : List ℕ} {m : Machine} {r :
 takes-steps g l t = record { turns = λ R x o h. t .turns R x o (top-of h l (g .going l)) }
 
 -- where an entry finds no room there is a frame
-stack-some : {s : Source} {R : Realm s} {o : Began} {mem : List ℕ} {Fs : List Frame} {scope depth top at k j : ℕ} → Stack R o mem Fs scope depth top at k → Roomy (o .regions) (length mem) → j < k
-    → at < top + (frameWords + reserve + spare + j) → 0 < costs (drop at mem)
+stack-some : {s : Source} {R : Realm s} {o : Began} {mem : List ℕ} {Fs : List Frame} {scope depth top at k j : ℕ} → Stack R o mem Fs scope depth top at k → Roomy (o .regions) (smaller (length mem))
+    → j < k → at < top + (frameWords + reserve + spare + j) → 0 < costs (drop at mem)
 stack-some (bottom b) r l u =
     let e = b .end in
     let t = b .start in
@@ -110,7 +110,7 @@ module _ {s : Source} {mem0 out0 mem out : List ℕ} {m0 m : Machine} (b : Stand
         answer = b .answer;
         began = b .began;
         state = here;
-        roomy = subst (Roomy (b .began .regions)) (sym (g .len)) (b .roomy);
+        roomy = subst (λ (n : ℕ). Roomy (b .began .regions) (smaller n)) (sym (g .len)) (b .roomy);
       }
 
   -- the answer has come
@@ -157,7 +157,7 @@ module _ {s : Source} {mem0 out0 mem out : List ℕ} {m0 m : Machine} (b : Stand
   apart-less e l t =
       let h = entered here l in
       let c = cost-here h in
-      let z = stack-some (h .stack) (subst (Roomy (b .began .regions)) (sym (g .len)) (b .roomy)) (h .at .below) t in
+      let z = stack-some (h .stack) (subst (λ (n : ℕ). Roomy (b .began .regions) (smaller n)) (sym (g .len)) (b .roomy)) (h .at .below) t in
       let q = g .bound in
       omega arith
 
@@ -177,6 +177,10 @@ pub record SlotsFit (mem : List ℕ) (m : Machine) : Type 0 where
   pub inside : m .depth ≤ length mem
   pub visible : m .scope ≤ m .depth
 
+-- the entry and the slots below it leave room for an operator in a memory apart
+abbrev pub ApartFits : Machine → Type 0
+ApartFits m = m .depth + m .value + 1 + (frameWords + reserve + spare) ≤ apartMemory
+
 module _ {s : Source} {mem out : List ℕ} {m : Machine} (b : Stands s mem out m) (e : m .mode ≤ 1) where
   pub slots-fit : SlotsFit mem m
   slots-fit =
@@ -188,6 +192,15 @@ module _ {s : Source} {mem out : List ℕ} {m : Machine} (b : Stands s mem out m
       let i = r .inside in
       let p = y .at .deep in
       record { inside = omega arith; visible = omega arith }
+
+  pub apart-fits : ApartFits m
+  apart-fits =
+      let y = entered (b .state) e in
+      let w = stack-room (y .stack) .slots in
+      let r = b .roomy .room in
+      let i = b .roomy .wide in
+      let k = y .at .below in
+      omega arith
 
   pub outset-fits : m .depth + m .value < 2 ^ 33
   outset-fits =
@@ -214,9 +227,9 @@ module _ {s : Source} (R : Realm s) (o : Began) (mem : List ℕ) (n : Machine) (
   set-fits (Worth (Unsized i)) c e = let z = c .tells .mode-is in absurd (omega arith)
   set-fits (Worth (Choice ws)) c e = let z = c .tells .mode-is in absurd (omega arith)
 
-module _ {s : Source} {mem out zeros free : List ℕ} (m : Machine) (long : maxMemory ≡ length zeros) (c : Copied mem 0 zeros free 0 (m .depth)) (most : length mem ≤ maxMemory) where
+module _ {s : Source} {mem out zeros free : List ℕ} (m : Machine) (long : apartMemory ≡ length zeros) (c : Copied mem 0 zeros free 0 (m .depth)) (fits : ApartFits m) where
   module _ {R : Realm s} {x : Result Came} {o : Began} (y : Entered R mem out m x o) where
-    pub starting : Starting R (regionsAt m o) free out (outset m maxMemory) (y .aim) (y .context) (y .tree)
+    pub starting : Starting R (regionsAt m o) free out (outset m apartMemory) (y .aim) (y .context) (y .tree)
     starting =
         let ro = stack-room (y .stack) in
         let f = ro .first in
@@ -248,7 +261,7 @@ module _ {s : Source} {mem out zeros free : List ℕ} (m : Machine) (long : maxM
           lasting = lasting-kept mem free (m .depth) (copied c) (omega arith) (omega arith) (y .lasting);
         }
 
-    fresh-roomy : Roomy (o .regions) (length mem) → Roomy (regionsAt m o) (length free)
+    fresh-roomy : Roomy (o .regions) (smaller (length mem)) → Roomy (regionsAt m o) (smaller (length free))
     fresh-roomy r =
         let ro = stack-room (y .stack) in
         let f = ro .first in
@@ -260,7 +273,7 @@ module _ {s : Source} {mem out zeros free : List ℕ} (m : Machine) (long : maxM
         record { entries = m .depth + m .value + 1 - o .regions .slots; wide = omega arith; room = omega arith }
 
   module _ (b : Stands s mem out m) (e : m .mode ≤ 1) where
-    fresh-stands : Stands s free out (outset m maxMemory)
+    fresh-stands : Stands s free out (outset m apartMemory)
     fresh-stands =
         let l = c .kept .len in
         let y = entered (b .state) e in
@@ -274,11 +287,11 @@ module _ {s : Source} {mem out zeros free : List ℕ} (m : Machine) (long : maxM
           roomy = fresh-roomy y (b .roomy);
         }
 
-    pub fresh-begins : {r : Machine} → r ≡ outset m maxMemory → Stands s free out r × Bare r (length free)
+    pub fresh-begins : {r : Machine} → r ≡ outset m apartMemory → Stands s free out r × Bare r (length free)
     fresh-begins q = rw q (fresh-stands, record { mode = e; bare = long ∙ sym (c .kept .len) })
 
     -- what has come there
-    module _ {free' out' : List ℕ} {k : Machine} {r : Outcome} (ek : k ≡ outset m maxMemory) (v : Evaluated s free free' out out' k r) where
+    module _ {free' out' : List ℕ} {k : Machine} {r : Outcome} (ek : k ≡ outset m apartMemory) (v : Evaluated s free free' out out' k r) where
       ends-there : {R : Realm s} {x : Result Came} {o : Began} (y : Entered R mem out m x o)
           → Ended R free free' out' (works (y .aim) (y .context) (y .tree)) (beganAt (regionsAt m o) out (m .nodes) (laid-sized (y .laid))) r
       ends-there {R} {x} {o} y = (rw ek at v) .tells R (works (y .aim) (y .context) (y .tree)) (beganAt (regionsAt m o) out (m .nodes) (laid-sized (y .laid))) (starts (laid-sized (y .laid)) (starting y))
@@ -336,5 +349,5 @@ module _ {s : Source} {mem out zeros free : List ℕ} (m : Machine) (long : maxM
       apart-fails q = subst (λ (i : Outcome). Writes s mem mem out out' m (moved i)) (sym q) (refused-there q)
 
 -- the entry is the same there
-pub outset-less : (m : Machine) {k : Machine} {t : ℕ} → 2 * price (suc (m .value)) + 1 ≡ t → k ≡ outset m maxMemory → 2 * price (suc (k .value)) < t
+pub outset-less : (m : Machine) {k : Machine} {t : ℕ} → 2 * price (suc (m .value)) + 1 ≡ t → k ≡ outset m apartMemory → 2 * price (suc (k .value)) < t
 outset-less m e q = let z = ap (λ (i : Machine). price (suc (i .value))) q in omega arith

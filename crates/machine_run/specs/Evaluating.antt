@@ -14,7 +14,7 @@ use Rattle.machine.specs.States.{modeOf, Lent, State}
 use Rattle.machine.specs.declared.Machine.{Machine}
 use Rattle.machine.specs.declared.Move.{Move}
 use Rattle.machine.specs.declared.Move.the-variants.{Next, Refused as Refuses}
-use Rattle.machine_run.specs.Running.{maxMemory}
+use Rattle.machine_run.specs.Running.{maxMemory, smaller}
 use Rattle.machine_run.specs.declared.cycle.Outcome.{Outcome}
 use Rattle.machine_run.specs.declared.cycle.Outcome.the-variants.{Came as Comes, Refused as Fails}
 
@@ -43,7 +43,7 @@ pub record Stands (s : Source) (mem out : List ℕ) (m : Machine) : Type 0 where
   pub answer : Result Came
   pub began : Began
   pub state : State realm mem out m answer began
-  pub roomy : Roomy (began .regions) (length mem)
+  pub roomy : Roomy (began .regions) (smaller (length mem))
 
 -- an entry is worked out on an empty stack
 pub record Bare (m : Machine) (words : ℕ) : Type 0 where

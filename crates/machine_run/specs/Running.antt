@@ -1,5 +1,5 @@
 -- What is asked for and promised where the expression at an entry is worked out by the machine.
-use Prim.Native.Nat.{ℕ, suc, _+_, _≤_, _<_}
+use Prim.Native.Nat.{ℕ, suc, min, _+_, _≤_, _<_}
 use mathlib.Core.List.{List, []}
 use mathlib.Core.Path.{_≡_}
 use lib.ListN.{length, getD}
@@ -22,22 +22,28 @@ use Rattle.machine.specs.declared.Machine.{Machine}
 use Rattle.machine_run.specs.declared.Written.{Written}
 use Rattle.machine_run.specs.declared.Written.the-variants.{At}
 
--- the words of the largest memory
+-- the words of the largest memory, of one in which an entry is worked out apart, and of the smaller one: a memory of n words, or one apart
 abbrev pub maxMemory : ℕ
-maxMemory = 131_072
+maxMemory = 458_752
+
+abbrev pub apartMemory : ℕ
+apartMemory = 131_072
+
+abbrev pub smaller : ℕ → ℕ
+smaller n = min n apartMemory
 
 -- slots begin where the memory says; there is one for each entry of the text, and behind them values begin
 abbrev pub regionsOf : List ℕ → ℕ → Regions
 regionsOf mem entries = record { slots = getD mem slotsWord 0; floor = getD mem slotsWord 0 + entries }
 
--- the buffers' sizes: an operator finds room on an empty stack
+-- the buffers' sizes: an operator finds room on an empty stack, apart too
 pub record Room (s : Source) (mem table : List ℕ) (entries k at : ℕ) : Type 0 where
   pub lent : Lent s mem
   pub below : k < entries
   pub few : entries ≤ maxTokens
   pub index : at ≤ suc maxNodes
   pub sized : length table ≡ maxNodes
-  pub room : getD mem slotsWord 0 + entries + (frameWords + reserve + spare + entries) ≤ length mem
+  pub room : getD mem slotsWord 0 + entries + (frameWords + reserve + spare + entries) ≤ smaller (length mem)
   pub most : length mem ≤ maxMemory
 
 -- the expression e at entry k, in the context c, with what the memory notes of the names; nodes are written from `at` on

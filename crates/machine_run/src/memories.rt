@@ -12,14 +12,14 @@ ghost use Prim.Native.Nat.{_+_, _≤_, _<_, _^_};
 ghost use lib.ListN.{length};
 ghost use Rattle.language.specs.Limits.{maxNames};
 ghost use Rattle.machine.specs.Memory.{freeWord};
-ghost use Rattle.machine_run.specs.Running.{maxMemory};
+ghost use Rattle.machine_run.specs.Running.{apartMemory};
 ghost use Rattle.machine_run.specs.Bringing.{Renoted, NoteBrought, Bringable, Brought, returned as returned', outset as outset'};
 
 // The words of such a memory.
 pub const WORDS: usize = 131072;
 
 pub fn room() -> [u32; WORDS]
-    ensures { λ r. ⌜ maxMemory ≡ length r ⌝ }
+    ensures { λ r. ⌜ apartMemory ≡ length r ⌝ }
 {
     [0; WORDS]
 }
@@ -83,7 +83,7 @@ fn returned(m: Machine, n: Machine, from: usize) -> Machine
 // The entry of m at the start of such a memory: there is a slot for each entry up to its own.
 pub fn outset(m: Machine) -> Machine
     requires { ⌜ m .depth + m .value < 2 ^ 33 ⌝ }
-    ensures { λ r. ⌜ r ≡ outset' m maxMemory ⌝ }
+    ensures { λ r. ⌜ r ≡ outset' m apartMemory ⌝ }
 {
     Machine {
         mode: m.mode,

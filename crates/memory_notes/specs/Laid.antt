@@ -1,5 +1,5 @@
 -- The notes of declared names in the machine's memory, where nothing is kept and no definition is marked.
-use Prim.Native.Nat.{ℕ, _+_, _≤_, _<_, _/_}
+use Prim.Native.Nat.{ℕ, min, _+_, _≤_, _<_, _/_}
 use mathlib.Core.List.{List}
 use mathlib.Core.Path.{_≡_}
 use lib.ListN.{length, getD}
@@ -9,9 +9,12 @@ use Rattle.language.specs.Numbering.{firstOf}
 use Rattle.name_values.specs.World.{World, Stands, nameAt, meaningAt}
 use Rattle.machine.specs.Memory.{firstKept, slotsWord, noteAt, freeOf}
 
--- slots begin in the middle of the memory at the latest: what lies before has room for the notes and for a full set of nearly every name
+-- slots begin in the middle of the memory at the latest, and not behind this word: what lies before it has room for the notes and for a full set of nearly every name
+abbrev pub mostSlots : ℕ
+mostSlots = 65_536
+
 abbrev pub lastSlots : ℕ → ℕ
-lastSlots n = n / 2
+lastSlots n = min (n / 2) mostSlots
 
 -- each name's sort, number and first signal, by its number
 pub record Laid (mem sorts numbers firsts : List ℕ) : Type 0 where

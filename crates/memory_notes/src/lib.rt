@@ -19,8 +19,10 @@ const SLOTS: usize = FREE + 1;
 
 const FIRST_KEPT: usize = SLOTS + 1;
 
-// Kept sets have at most this part of the memory.
+// Kept sets have at most this part of the memory, and end before this word.
 const SHARE: usize = 2;
+
+const MOST_SLOTS: usize = 65_536;
 
 // Where kept sets end if a name of that sort comes too: a definition may be a set.
 fn behind(kept: usize, sort: u8) -> usize
@@ -50,7 +52,8 @@ pub fn lay(sorts: &[u8], numbers: &[u32], firsts: &[u32], memory: &mut [u32])
         kept = behind(kept, sorts[r]);
         r += 1;
     }
-    let slots = least(kept, memory.len() / SHARE);
+    let last = least(memory.len() / SHARE, MOST_SLOTS);
+    let slots = least(kept, last);
     memory[FREE] = FIRST_KEPT as u32;
     memory[SLOTS] = slots as u32;
 }

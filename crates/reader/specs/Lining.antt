@@ -13,7 +13,7 @@ use Rattle.language.specs.Reading.{delivered}
 use Rattle.parser.specs.Outlines.{factsOf}
 use Rattle.operands.specs.Working.{source}
 use Rattle.machine.specs.Memory.{slotsWord, frameWords, reserve, spare}
-use Rattle.machine_run.specs.Running.{maxMemory}
+use Rattle.machine_run.specs.Running.{maxMemory, smaller}
 use Rattle.assembly.specs.Gathered.{GatheredFrom}
 use Rattle.assembly.specs.ExpandLaws.{linesInTurn, expand-refused}
 use Rattle.lines.specs.declared.Plan.{Plan}
@@ -48,7 +48,7 @@ pub record SomeReady (text w refs memory table : List ℕ) (a : Named) : Type 0 
 pub record Sized (w refs memory : List ℕ) (a : Named) : Type 0 where
   pub work-room : workBytes ≤ length w
   pub refs-room : maxTokens ≤ length refs
-  pub room : getD memory slotsWord 0 + a .entries + (frameWords + reserve + spare + a .entries) ≤ length memory
+  pub room : getD memory slotsWord 0 + a .entries + (frameWords + reserve + spare + a .entries) ≤ smaller (length memory)
   pub most : length memory ≤ maxMemory
   pub list-size : maxSignals ≡ length (a .list)
 

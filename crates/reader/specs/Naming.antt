@@ -19,7 +19,7 @@ use Rattle.parser.specs.Outlines.{factsOf}
 use Rattle.ports.specs.declared.Signals.{Signals}
 use Rattle.ports.specs.declared.Signals.the-variants.{Listed, TooMany}
 use Rattle.machine.specs.Memory.{firstKept, frameWords, reserve, spare}
-use Rattle.machine_run.specs.Running.{maxMemory}
+use Rattle.machine_run.specs.Running.{maxMemory, apartMemory, smaller}
 use Rattle.memory_notes.specs.Laid.{lastSlots}
 use Rattle.assembly.specs.declared.implied.Ports.{Ports}
 use Rattle.declarations.specs.declared.Declared.{Declared}
@@ -64,7 +64,7 @@ someMemory = 65_536
 
 -- a memory with room for a text of so many entries
 pub record Roomy (memory : List ℕ) (entries : ℕ) : Type 0 where
-  pub room : lastSlots (length memory) + entries + (frameWords + reserve + spare + entries) ≤ length memory
+  pub room : lastSlots (length memory) + entries + (frameWords + reserve + spare + entries) ≤ smaller (length memory)
   pub kept : firstKept ≤ lastSlots (length memory)
   pub most : length memory ≤ maxMemory
 
@@ -80,11 +80,20 @@ module _ {text w refs found : List ℕ} {t : CheckedTree} where
 pub few-roomy : {memory : List ℕ} {entries : ℕ} → length memory ≡ littleMemory → entries ≤ fewEntries → Roomy memory entries
 few-roomy l h = let q = ap lastSlots l in record { room = omega (arith, q); kept = omega (arith, q); most = omega arith }
 
-pub all-roomy : {text w refs found memory : List ℕ} {t : CheckedTree} → SomeParsed text w refs found t → someMemory ≤ length memory → length memory ≤ maxMemory
-    → Roomy memory (t .entries)
-all-roomy h l m =
-    let few = h .parsed .checked .tree .stored .few in
-    record { room = omega (arith, few); kept = omega arith; most = m }
+module _ {text w refs found memory : List ℕ} {t : CheckedTree} (h : SomeParsed text w refs found t) where
+  all-roomy : (n : ℕ) → someMemory ≤ n → n ≤ maxMemory → length memory ≡ n → Roomy memory (t .entries)
+  all-roomy n l m e =
+      let few = h .parsed .checked .tree .stored .few in
+      record { room = omega (arith, few); kept = omega arith; most = omega arith }
+
+  pub some-roomy : length memory ≡ someMemory → Roomy memory (t .entries)
+  some-roomy = all-roomy someMemory (omega arith) (omega arith)
+
+  pub long-roomy : length memory ≡ apartMemory → Roomy memory (t .entries)
+  long-roomy = all-roomy apartMemory (omega arith) (omega arith)
+
+  pub full-roomy : length memory ≡ maxMemory → Roomy memory (t .entries)
+  full-roomy = all-roomy maxMemory (omega arith) (omega arith)
 
 pub memory-room : {memory table : List ℕ} {entries : ℕ} → Roomy memory entries → length table ≡ maxNodes → MemoryRoom memory table entries
 memory-room h t = record { sized = t; kept = h .kept; room = h .room; most = h .most }

@@ -1,4 +1,7 @@
 // The reader: from a text's bytes to its nodes and its signal list in the lent buffers (document 01, 'Reader order').
+mod holders;
+
+use crate::holders::holders;
 use assembly::implied::Ends;
 use assembly::implied::Ports;
 use checked::Checked;
@@ -37,8 +40,13 @@ ghost use Rattle.reader.specs.Counting.{Finishes};
 ghost use Rattle.reader.specs.Lining.{Ready, SomeReady, Sized};
 ghost use Rattle.reader.specs.Naming.{fewEntries, Roomy, Parsed, SomeParsed, Converts};
 
-// The words of the machine's memory: enough for any text, for one of some names, for one of few names and entries. Half of it holds the notes and the sets of definitions, so
-// that none is worked out twice; clearing more than that would take more time than a short text.
+// The words of the machine's memory: for a text of many operators that may hold sets and more than few names, for any other one, for one of some names, for one of few names and
+// entries. Up to half of it holds the notes and the sets of definitions, so that none is worked out twice; clearing more than that would take more time than a short text. A
+// memory apart has room for them too, so that with many names few sets are left to it: such a text has a large first memory instead.
+const FULL_MEMORY: usize = 458_752;
+
+const MANY_HOLDERS: usize = 512;
+
 const MEMORY: usize = 131_072;
 
 const SOME_MEMORY: usize = 65_536;
@@ -285,6 +293,27 @@ fn expand_checked_long(
     expand_checked_in(text, work, refs, found, &mut memory, tree, nodes, signals)
 }
 
+// `expand_checked_in` of a text of many operators that may hold sets, in a frame of its own too.
+fn expand_checked_full(
+    text: &[u8],
+    work: &[u8],
+    refs: &[u16],
+    found: &[u16],
+    tree: CheckedTree,
+    nodes: &mut [u32],
+    signals: &mut [u32],
+) -> Counted
+    requires { ⌜ SomeParsed (now text) (now work) (now refs) (now found) tree ⌝ }
+    ensures { λ r. ⌜ ((x : Spec) → Parsed (now (text .entry)) (now (work .entry)) (now (refs .entry)) (now (found .entry)) tree x
+        → Converts x (now (nodes .entry)) (now (signals .entry)) (now (nodes .exit)) (now (signals .exit)) r) ⌝ }
+{
+    let mut memory = [0u32; FULL_MEMORY];
+    if tree.entries > limits::MAX_TOKENS {
+        return expand_checked_full(text, work, refs, found, tree, nodes, signals);
+    }
+    expand_checked_in(text, work, refs, found, &mut memory, tree, nodes, signals)
+}
+
 // `expand_checked_in` with a memory for the text.
 fn expand_checked(
     text: &[u8],
@@ -299,16 +328,21 @@ fn expand_checked(
     ensures { λ r. ⌜ ((x : Spec) → Parsed (now (text .entry)) (now (work .entry)) (now (refs .entry)) (now (found .entry)) tree x
         → Converts x (now (nodes .entry)) (now (signals .entry)) (now (nodes .exit)) (now (signals .exit)) r) ⌝ }
 {
-    if tree.names > SOME_NAMES {
-        return expand_checked_long(text, work, refs, found, tree, nodes, signals);
-    }
-    if tree.names > FEW_NAMES {
+    if tree.names <= FEW_NAMES {
+        if tree.entries <= FEW_ENTRIES {
+            return expand_checked_short(text, work, refs, found, tree, nodes, signals);
+        }
         return expand_checked_middle(text, work, refs, found, tree, nodes, signals);
     }
     if tree.entries > FEW_ENTRIES {
-        return expand_checked_middle(text, work, refs, found, tree, nodes, signals);
+        if holders(work, tree.entries) > MANY_HOLDERS {
+            return expand_checked_full(text, work, refs, found, tree, nodes, signals);
+        }
     }
-    expand_checked_short(text, work, refs, found, tree, nodes, signals)
+    if tree.names > SOME_NAMES {
+        return expand_checked_long(text, work, refs, found, tree, nodes, signals);
+    }
+    expand_checked_middle(text, work, refs, found, tree, nodes, signals)
 }
 
 // A text's answer, what its INFO says, and how many lines the sections have that promise something.

@@ -125,29 +125,63 @@ fn the_least_stack() {
     assert!(thread.expect("a thread").join().is_ok());
 }
 
-/// A text that holds 1,335 sets of 256 elements at once: left operands, each worked out before the right one.
-fn many_sets_held() -> String {
-    let [held, each] = [1335, 120];
-    let mut definitions = String::from("t={0,1..255};s0=t;");
-    let chains = (0..held).step_by(each).map(|from| each.min(held - from));
-    for (last, nested) in chains.enumerate() {
-        let (before, after) = ("t(*)t(+)(".repeat(nested), ")".repeat(nested));
-        definitions += &format!("s{}={before}s{last}{after};", last + 1);
-    }
-    let last = held.div_ceil(each);
+fn with_definitions(definitions: &str, last: usize) -> String {
     let info = "INFO{TITLE:\"\"DESCRIPTION:\"\"SEMANTICS:Mealy TARGET:Mealy}";
-    format!("{info}GLOBAL{{DEFINITIONS{{{definitions}}}}}MAIN{{INPUTS{{a}}OUTPUTS{{}}ASSERT{{1 IN s{last}}}}}")
+    format!("{info}GLOBAL{{DEFINITIONS{{t={{0,1..255}};s0=t;{definitions}}}}}MAIN{{INPUTS{{a}}OUTPUTS{{}}ASSERT{{1 IN s{last}}}}}")
+}
+
+/// How many levels each of so many definitions has.
+fn shares(levels: usize, definitions: usize) -> impl Iterator<Item = (usize, usize)> {
+    (0..definitions).map(move |at| (at, levels / definitions + usize::from(at < levels % definitions)))
+}
+
+/// A text that holds so many sets of 256 elements at once: left operands, each worked out before the right one.
+fn many_sets_held(held: usize, definitions: usize) -> String {
+    let chain: String = shares(held, definitions)
+        .map(|(last, nested)| {
+            let (before, after) = ("t(*)t(+)(".repeat(nested), ")".repeat(nested));
+            format!("s{}={before}s{last}{after};", last + 1)
+        })
+        .collect();
+    with_definitions(&chain, definitions)
+}
+
+/// A text that holds two such sets for each name of a big operator, the one that the name goes through and the union so far, beside so many other definitions: at the first
+/// element the next name has one element, at the second one 256. It is refused where a set would have 511.
+fn two_sets_a_name(names: usize, definitions: usize, others: usize) -> String {
+    let chain: String = shares(names, definitions)
+        .map(|(last, names)| {
+            let bound: String = (1..names).map(|i| format!(",0<=i{i}<=i{}*255", i - 1)).collect();
+            format!("s{}=(+)[0<=i0<=1{bound}](t(+)(+)[0<z<=i{}]s{last});", last + 1, names - 1)
+        })
+        .collect();
+    let others: String = (0..others).map(|other| format!("u{other}=t;")).collect();
+    with_definitions(&(chain + &others), definitions)
+}
+
+/// The answer to a call in a thread with so many megabytes of stack.
+fn converted_with(megabytes: usize, text: String) -> Answer {
+    let job = move || {
+        let (mut work, mut nodes) = (vec![0; WORK_BYTES], vec![0; MOST_NODES]);
+        let mut signals = vec![0; MOST_SIGNALS];
+        convert(text.as_bytes(), NEGATION_FORM, &mut work, &mut nodes, &mut signals)
+    };
+    let thread = std::thread::Builder::new().stack_size(megabytes << 20).spawn(job);
+    thread.expect("a thread").join().expect("an answer")
 }
 
 #[test]
 fn two_megabytes_for_many_sets() {
-    let job = || {
-        let text = many_sets_held();
-        let (mut work, mut nodes) = (vec![0; WORK_BYTES], vec![0; MOST_NODES]);
-        let mut signals = vec![0; MOST_SIGNALS];
-        let answer = convert(text.as_bytes(), NEGATION_FORM, &mut work, &mut nodes, &mut signals);
-        assert!(matches!(answer, Answer::Accepted { signals: 1, .. }), "{answer:?}");
-    };
-    let thread = std::thread::Builder::new().stack_size(2 << 20).spawn(job);
-    assert!(thread.expect("a thread").join().is_ok());
+    for (held, definitions) in [(1335, 12), (1271, 126), (1188, 250)] {
+        let answer = converted_with(2, many_sets_held(held, definitions));
+        assert!(matches!(answer, Answer::Accepted { signals: 1, .. }), "{held}: {answer:?}");
+    }
+}
+
+#[test]
+fn four_megabytes_for_the_most_sets() {
+    for (names, others) in [(1000, 0), (940, 110), (880, 240)] {
+        let answer = converted_with(4, two_sets_a_name(names, 5, others));
+        assert!(matches!(answer, Answer::Refused { number: 12, .. }), "{names}: {answer:?}");
+    }
 }

@@ -172,41 +172,45 @@ loop-again c =
 least-requires : tie.Need-least-requires Inv-loop μ-loop
 least-requires c κs = search needs
 
+least-requires-2 : tie.Need-least-requires-2 Inv-loop μ-loop
+least-requires-2 c κs = search needs
+
 cast-memory : tie.Need-cast-memory Inv-loop μ-loop
 cast-memory c =
-    let at-loop = c .before .before in
+    let at-loop = c .before .before .before in
     let start = at-loop .before .before .before .before .before in
     omega (arith, at-loop .loop .inv .0, start .pre .1)
 
 slice-write-memory-5 : tie.Need-slice-write-memory-5 Inv-loop μ-loop
 slice-write-memory-5 c =
-    let at-loop = c .before .before in
+    let at-loop = c .before .before .before in
     let start = at-loop .before .before .before .before .before in
     omega (arith, at-loop .loop .inv .0, start .pre .1)
 
 cast-memory-2 : tie.Need-cast-memory-2 Inv-loop μ-loop
 cast-memory-2 c =
-    let at-loop = c .before .before in
+    let at-loop = c .before .before .before in
     let start = at-loop .before .before .before .before .before in
-    omega (arith, c .least .ensures, at-loop .loop .inv .0, start .pre .1)
+    omega (arith, c .before .least .ensures, c .least2 .ensures, at-loop .loop .inv .0, start .pre .1)
 
 slice-write-memory-6 : tie.Need-slice-write-memory-6 Inv-loop μ-loop
 slice-write-memory-6 c =
-    let at-loop = c .before .before in
+    let at-loop = c .before .before .before in
     let start = at-loop .before .before .before .before .before in
     simp length-set (omega (arith, at-loop .loop .inv .0, start .pre .1))
 
 same-length : tie.Need-same-length Inv-loop μ-loop
 same-length c =
-    let at-loop = c .before .before in
+    let at-loop = c .before .before .before in
     length-set (set (at-loop .loop .memory) freeWord firstKept) slotsWord _ ∙ length-set (at-loop .loop .memory) freeWord firstKept ∙ at-loop .loop .inv .0 .0 .1
 
 returns : tie.Need-returns Inv-loop μ-loop
 returns c =
-    let at-test = c .before in
+    let at-test = c .before .before in
     let at-loop = at-test .before in
     let start = at-loop .before .before .before .before .before in
-    let at-least = c .least .ensures in (
+    let last = c .before .least .ensures in
+    let slots = c .least2 .ensures in (
       length-set (set (at-loop .loop .memory) freeWord firstKept) slotsWord _ ∙ length-set (at-loop .loop .memory) freeWord firstKept ∙ at-loop .loop .inv .0 .0 .1,
       laid-whole (at-loop .loop .memory) _ _ _ (at-loop .loop .r) _ (omega (arith, at-test .loop-test .left)) (omega (arith, at-loop .loop .inv .0 .0 .1, start .pre .1 .0))
           (omega arith) (omega arith) (at-loop .loop .inv .1),
@@ -243,6 +247,7 @@ lay-spec =
     loop-less
     loop-again
     least-requires
+    least-requires-2
     cast-memory
     slice-write-memory-5
     cast-memory-2

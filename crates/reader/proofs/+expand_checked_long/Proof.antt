@@ -5,8 +5,8 @@ use lib.ListN.{length-replicate}
 use borrow.Author.Needs.{needs}
 use borrow.Fn.Kinds.{In}
 use borrow.Fn.PlainCycle.{Measures, is, falls, and}
-use Rattle.machine_run.specs.Running.{maxMemory}
-use Rattle.reader.specs.Naming.{all-roomy}
+use Rattle.machine_run.specs.Running.{apartMemory}
+use Rattle.reader.specs.Naming.{long-roomy}
 use Rattle.reader.proofs.expand_checked_in.Reads as in-reads
 use Rattle.reader.proofs.expand_checked_long.Reads as apart
 use Rattle.reader.proofs.expand_checked_long.Kinds as apart-kinds
@@ -50,8 +50,7 @@ slice-aggregate-expand-checked-in t c = search needs
 expand-checked-in-requires : (t : ℕ) → apart-lts.Need-expand-checked-in-requires (apart-calls t) (apart-at t) apart.Post
 expand-checked-in-requires t c κs =
     let start = c .before .before .before .before .before .before .before .before .before .before .before in
-    let l = length-replicate {A = ℕ} maxMemory 0 in
-    (start .pre .1, all-roomy (start .pre .1) (omega arith) (omega arith))
+    (start .pre .1, long-roomy (start .pre .1) (length-replicate {A = ℕ} apartMemory 0))
 
 same-length-3 : (t : ℕ) → apart-lts.Need-same-length-3 (apart-calls t) (apart-at t) apart.Post
 same-length-3 t c = search needs

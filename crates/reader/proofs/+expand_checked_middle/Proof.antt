@@ -5,7 +5,7 @@ use lib.ListN.{length-replicate}
 use borrow.Author.Needs.{needs}
 use borrow.Fn.Kinds.{In}
 use borrow.Fn.PlainCycle.{Measures, is, falls, and}
-use Rattle.reader.specs.Naming.{someMemory, all-roomy}
+use Rattle.reader.specs.Naming.{someMemory, some-roomy}
 use Rattle.reader.proofs.expand_checked_in.Reads as in-reads
 use Rattle.reader.proofs.expand_checked_middle.Reads as apart
 use Rattle.reader.proofs.expand_checked_middle.Kinds as apart-kinds
@@ -49,8 +49,7 @@ slice-aggregate-expand-checked-in t c = search needs
 expand-checked-in-requires : (t : ℕ) → apart-lts.Need-expand-checked-in-requires (apart-calls t) (apart-at t) apart.Post
 expand-checked-in-requires t c κs =
     let start = c .before .before .before .before .before .before .before .before .before .before .before in
-    let l = length-replicate {A = ℕ} someMemory 0 in
-    (start .pre .1, all-roomy (start .pre .1) (omega arith) (omega arith))
+    (start .pre .1, some-roomy (start .pre .1) (length-replicate {A = ℕ} someMemory 0))
 
 same-length-3 : (t : ℕ) → apart-lts.Need-same-length-3 (apart-calls t) (apart-at t) apart.Post
 same-length-3 t c = search needs

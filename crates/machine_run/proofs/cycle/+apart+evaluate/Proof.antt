@@ -77,7 +77,7 @@ apart-copy-requires t c κs =
     let start = at-room .before .before .before .before .before in
     let f = cycles.slots-fit (start .pre .1 .0) (start .pre .1 .1) in
     let l = at-room .room .ensures in
-    let t = start .pre .1 .0 .most in
+    let t = cycles.apart-fits (start .pre .1 .0) (start .pre .1 .1) in
     (omega arith, omega arith)
 
 apart-slice-aggregate-evaluate : (t : ℕ) → apart-lts.Need-slice-aggregate-evaluate (apart-calls t) (apart-at t) apart.Post
@@ -95,7 +95,7 @@ apart-evaluate-requires t c κs =
     let at-room = at-copy .before .before .before .before .before in
     let start = at-room .before .before .before .before .before in (
       cycles.outset-less (start .args .m) (start .pre .0) (at-outset .outset .ensures),
-      cycles.fresh-begins (start .args .m) (at-room .room .ensures) (at-copy .copy .ensures) (start .pre .1 .0 .most) (start .pre .1 .0) (start .pre .1 .1) (at-outset .outset .ensures),
+      cycles.fresh-begins (start .args .m) (at-room .room .ensures) (at-copy .copy .ensures) (cycles.apart-fits (start .pre .1 .0) (start .pre .1 .1)) (start .pre .1 .0) (start .pre .1 .1) (at-outset .outset .ensures),
     )
 
 apart-enum-known-r : (t : ℕ) → apart-lts.Need-enum-known-r (apart-calls t) (apart-at t) apart.Post
@@ -114,7 +114,7 @@ apart-returns-2 t c =
     let at-copy = at-outset .before .before .before .before in
     let at-room = at-copy .before .before .before .before .before in
     let start = at-room .before .before .before .before .before in
-    cycles.apart-fails (start .args .m) (at-room .room .ensures) (at-copy .copy .ensures) (start .pre .1 .0 .most) (start .pre .1 .0) (start .pre .1 .1) (at-outset .outset .ensures)
+    cycles.apart-fails (start .args .m) (at-room .room .ensures) (at-copy .copy .ensures) (cycles.apart-fits (start .pre .1 .0) (start .pre .1 .1)) (start .pre .1 .0) (start .pre .1 .1) (at-outset .outset .ensures)
     (at-evaluate .evaluate .ensures) (c .enum-told .given .1)
 
 apart-slice-aggregate-bring : (t : ℕ) → apart-lts.Need-slice-aggregate-bring (apart-calls t) (apart-at t) apart.Post
@@ -128,7 +128,7 @@ apart-bring-requires t c κs =
     let at-copy = at-outset .before .before .before .before in
     let at-room = at-copy .before .before .before .before .before in
     let start = at-room .before .before .before .before .before in
-    cycles.apart-bringable (start .args .m) (at-room .room .ensures) (at-copy .copy .ensures) (start .pre .1 .0 .most) (start .pre .1 .0) (start .pre .1 .1) (at-outset .outset .ensures)
+    cycles.apart-bringable (start .args .m) (at-room .room .ensures) (at-copy .copy .ensures) (cycles.apart-fits (start .pre .1 .0) (start .pre .1 .1)) (start .pre .1 .0) (start .pre .1 .1) (at-outset .outset .ensures)
     (at-evaluate .evaluate .ensures) (at-r .r .given .1)
 
 apart-same-length-2 : (t : ℕ) → apart-lts.Need-same-length-2 (apart-calls t) (apart-at t) apart.Post
@@ -143,7 +143,7 @@ apart-returns-3 t c =
     let at-copy = at-outset .before .before .before .before in
     let at-room = at-copy .before .before .before .before .before in
     let start = at-room .before .before .before .before .before in
-    cycles.apart-comes (start .args .m) (at-room .room .ensures) (at-copy .copy .ensures) (start .pre .1 .0 .most) (start .pre .1 .0) (start .pre .1 .1) (at-outset .outset .ensures)
+    cycles.apart-comes (start .args .m) (at-room .room .ensures) (at-copy .copy .ensures) (cycles.apart-fits (start .pre .1 .0) (start .pre .1 .1)) (start .pre .1 .0) (start .pre .1 .1) (at-outset .outset .ensures)
     (at-evaluate .evaluate .ensures) (at-r .r .given .1) (at-bring .bring .ensures)
 
 abbrev evaluate-Inv-loop : evaluate-lts.InvT-loop
