@@ -24,7 +24,7 @@ use Rattle.machine_run.specs.declared.Written.the-variants.{At}
 
 -- the words of the largest memory, of one in which an entry is worked out apart, and of the smaller one: a memory of n words, or one apart
 abbrev pub maxMemory : ℕ
-maxMemory = 458_752
+maxMemory = 434_176
 
 abbrev pub apartMemory : ℕ
 apartMemory = 131_072

@@ -43,7 +43,7 @@ ghost use Rattle.reader.specs.Naming.{fewEntries, Roomy, Parsed, SomePar
 // The words of the machine's memory: for a text of many operators that may hold sets and more than few names, for any other one, for one of some names, for one of few names and
 // entries. Up to half of it holds the notes and the sets of definitions, so that none is worked out twice; clearing more than that would take more time than a short text. A
 // memory apart has room for them too, so that with many names few sets are left to it: such a text has a large first memory instead.
-const FULL_MEMORY: usize = 458_752;
+const FULL_MEMORY: usize = 434_176;
 
 const MANY_HOLDERS: usize = 512;
 
