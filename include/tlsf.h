@@ -9,7 +9,7 @@
    Memory and threads. The library has no variables of its own, allocates nothing and calls nothing but memcpy and memset: any number of threads may call it at once,
    each with buffers of its own. The stack is not checked: the deepest tables take tlsf_rewrite 1.5 MB of it, the shortest text takes tlsf_convert 0.54 MB, the deepest
    ones take 0.9 MB (1.4 MB in negation form), one that holds 1,335 sets of 256 elements at once takes 1.95 MB, and two such sets for each of 880 names of big operators
-   3.0 MB, the most that was made. So a thread that reads texts of strangers wants 4 MB (README.md, 'Stack and time'). */
+   2.9 MB, the most that was made. So a thread that reads texts of strangers wants 4 MB (README.md, 'Stack and time'). */
 #ifndef TLSF_H
 #define TLSF_H
 
