@@ -1,0 +1,14 @@
+pub mod Templates
+pub mod Forming
+pub mod Building
+pub mod Promise
+pub mod TemplateLaws
+pub mod RecipeLaws
+pub mod PartLaws
+pub mod MarkLaws
+pub mod StepLaws
+pub mod WordLaws
+pub mod PutLaws
+pub mod PromiseLaws
+pub mod BuildLaws
+pub mod ComposeLaws
