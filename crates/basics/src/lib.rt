@@ -1,6 +1,10 @@
 // Small helpers below all other crates: a number in a wider type, with what its own type says of it; the least of two; what an answer can tell; copying words.
+pub mod u16_u32;
 pub mod u16_usize;
+pub mod u32_u64;
+pub mod u32_usize;
 pub mod u8_u32;
+pub mod u8_u64;
 pub mod u8_usize;
 
 ghost use mathlib.Core.Path.{_≡_};

@@ -1,5 +1,5 @@
 -- What the cursor's methods answer of the tokens that the buffer holds.
-use Prim.Native.Nat.{ℕ, zero, suc, _+_, _≤_, _<_}
+use Prim.Native.Nat.{ℕ, zero, suc, _+_, _≤_, _<_, _^_}
 use mathlib.Core.List.{List, [], _∷_}
 use mathlib.Core.Bool.{Bool, true, false}
 use mathlib.Core.Path.{_≡_, refl, sym, ap, _∙_}
@@ -14,18 +14,18 @@ use Rattle.language.specs.Laws.Basics.Tests.{pick, leave}
 use Rattle.language.specs.Grammar.{Tokens, front, rest}
 use Rattle.lexer.specs.Numbers.{number}
 use Rattle.lexer.specs.NumberLaws.{class-number}
-use Rattle.lexer.specs.Stored.{tokenWord, numberIn, offsetIn}
+use Rattle.lexer.specs.Stored.{offsetBits, tokenWord, numberIn, offsetIn}
 use Rattle.lexer.specs.StoredLaws.{number-word, offset-word}
 use Rattle.entries.specs.declared.Cursor.{Cursor}
 use Rattle.entries.specs.declared.Parse.the-variants.{Parsed}
-use Rattle.entries.specs.Cursors.{Ready, kindAt, placeAt, nextOf, refusedAt, expected}
+use Rattle.entries.specs.Cursors.{Ready, numberAt, placeAt, nextOf, refusedAt, expected}
 
 -- a token, or the text's end
-pub kind-stored : (w : List ℕ) (c : Cursor) → c .at < c .count → kindAt w c ≡ numberIn (wordAt w (c .at))
-kind-stored w c h = pick (ltb (c .at) (c .count)) _ _ (lt-ltb (c .at) (c .count) h)
+pub number-stored : (w : List ℕ) (c : Cursor) → c .at < c .count → numberAt w c ≡ numberIn (wordAt w (c .at))
+number-stored w c h = pick (ltb (c .at) (c .count)) _ _ (lt-ltb (c .at) (c .count) h)
 
-pub kind-end : (w : List ℕ) (c : Cursor) → c .count ≤ c .at → kindAt w c ≡ 0
-kind-end w c h = leave (ltb (c .at) (c .count)) _ _ (le-ltb (c .at) (c .count) h)
+pub number-end : (w : List ℕ) (c : Cursor) → c .count ≤ c .at → numberAt w c ≡ 0
+number-end w c h = leave (ltb (c .at) (c .count)) _ _ (le-ltb (c .at) (c .count) h)
 
 pub place-stored : (w : List ℕ) (c : Cursor) → c .at < c .count → placeAt w c ≡ offsetIn (wordAt w (c .at))
 place-stored w c h = pick (ltb (c .at) (c .count)) _ _ (lt-ltb (c .at) (c .count) h)
@@ -34,19 +34,19 @@ pub place-end : (w : List ℕ) (c : Cursor) → c .count ≤ c .at → placeAt w
 place-end w c h = leave (ltb (c .at) (c .count)) _ _ (le-ltb (c .at) (c .count) h)
 
 -- a token with a number other than 0 is not the text's end
-pub before-end : (w : List ℕ) (c : Cursor) → 0 < kindAt w c → c .at < c .count
+pub before-end : (w : List ℕ) (c : Cursor) → 0 < numberAt w c → c .at < c .count
 before-end w c h = go (ltb (c .at) (c .count)) refl
   where
     go : (b : Bool) → ltb (c .at) (c .count) ≡ b → c .at < c .count
     go true e = ltb-true (c .at) (c .count) e
-    go false e = let z : kindAt w c ≡ 0 = kind-end w c (ltb-false (c .at) (c .count) e) in absurd (omega arith)
+    go false e = let z : numberAt w c ≡ 0 = number-end w c (ltb-false (c .at) (c .count) e) in absurd (omega arith)
 
 -- the number asked for, or another one
-pub expected-here : (w : List ℕ) (c : Cursor) (k : ℕ) → kindAt w c ≡ k → expected w c k ≡ Parsed (nextOf c)
-expected-here w c k e = pick (eqb (kindAt w c) k) _ _ (eq-eqb (kindAt w c) k e)
+pub expected-here : (w : List ℕ) (c : Cursor) (k : ℕ) → numberAt w c ≡ k → expected w c k ≡ Parsed (nextOf c)
+expected-here w c k e = pick (eqb (numberAt w c) k) _ _ (eq-eqb (numberAt w c) k e)
 
-pub expected-not : (w : List ℕ) (c : Cursor) (k : ℕ) → (kindAt w c ≡ k → ⊥) → expected w c k ≡ refusedAt w c
-expected-not w c k e = leave (eqb (kindAt w c) k) _ _ (ne-eqb (kindAt w c) k e)
+pub expected-not : (w : List ℕ) (c : Cursor) (k : ℕ) → (numberAt w c ≡ k → ⊥) → expected w c k ≡ refusedAt w c
+expected-not w c k e = leave (eqb (numberAt w c) k) _ _ (ne-eqb (numberAt w c) k e)
 
 -- the token behind
 pub drop-next : (n : ℕ) (ts : Tokens) → drop (n + 1) ts ≡ rest (drop n ts)
@@ -62,24 +62,24 @@ module _ {ts : Tokens} {w : List ℕ} {c : Cursor} (ready : Ready ts w c) where
   abbrev here : Token
   here = front (drop (c .at) ts)
 
-  near : here .at < 65_536
+  near : here .at < 2 ^ offsetBits
   near = omega (arith, ready .tells .places (c .at), ready .fits .short)
 
   stored : c .at < c .count → wordAt w (c .at) ≡ tokenWord here
   stored h = ready .tells .stored .words (c .at) (omega (arith, ready .tells .total))
 
   -- the number and the place of the next token
-  pub ready-kind : kindAt w c ≡ number here
-  ready-kind = go (ltb (c .at) (c .count)) refl
+  pub ready-number : numberAt w c ≡ number here
+  ready-number = go (ltb (c .at) (c .count)) refl
     where
-      go : (b : Bool) → ltb (c .at) (c .count) ≡ b → kindAt w c ≡ number here
+      go : (b : Bool) → ltb (c .at) (c .count) ≡ b → numberAt w c ≡ number here
       go true e =
           let h = ltb-true (c .at) (c .count) e in
-          kind-stored w c h ∙ ap numberIn (stored h) ∙ number-word here near
+          number-stored w c h ∙ ap numberIn (stored h) ∙ number-word here near
       go false e =
           let h = ltb-false (c .at) (c .count) e in
           let last : c .at ≡ c .count = omega (arith, ready .fits .inside) in
-          kind-end w c h ∙ sym (eqb-true (number here) 0 (sym (class-number End here refl) ∙ ap (λ n. isOf End (front (drop n ts))) last ∙ ready .tells .last))
+          number-end w c h ∙ sym (eqb-true (number here) 0 (sym (class-number End here refl) ∙ ap (λ n. isOf End (front (drop n ts))) last ∙ ready .tells .last))
 
   pub ready-place : placeAt w c ≡ here .at
   ready-place = go (ltb (c .at) (c .count)) refl

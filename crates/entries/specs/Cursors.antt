@@ -11,6 +11,7 @@ use Rattle.language.specs.Limits.{maxBytes, maxTokens, workBytes}
 use Rattle.language.specs.Tokens.{End, isOf}
 use Rattle.language.specs.Grammar.{Tokens, front}
 use Rattle.lexer.specs.Stored.{TokensStored, numberIn, offsetIn}
+use Rattle.entries.specs.Kinds as Kind
 use Rattle.entries.specs.declared.Cursor.{Cursor}
 use Rattle.entries.specs.declared.Parse.{Parse}
 use Rattle.entries.specs.declared.Parse.the-variants.{Parsed, Refused}
@@ -42,8 +43,8 @@ pub record Readied (w : List ℕ) (c : Cursor) : Type 0 where
   pub ready : Ready tokens w c
 
 -- the number of the next token, 0 at the text's end
-abbrev pub kindAt : List ℕ → Cursor → ℕ
-kindAt w c = if ltb (c .at) (c .count) then numberIn (wordAt w (c .at)) else 0
+abbrev pub numberAt : List ℕ → Cursor → ℕ
+numberAt w c = if ltb (c .at) (c .count) then numberIn (wordAt w (c .at)) else 0
 
 -- its place
 abbrev pub placeAt : List ℕ → Cursor → ℕ
@@ -61,12 +62,12 @@ refusedAt w c = Refused 4 (placeAt w c)
 
 -- past the next token if it has the number, else refused
 abbrev pub expected : List ℕ → Cursor → ℕ → Parse
-expected w c k = if eqb (kindAt w c) k then Parsed (nextOf c) else refusedAt w c
+expected w c k = if eqb (numberAt w c) k then Parsed (nextOf c) else refusedAt w c
 
 -- what an entry asks for
 pub record Writes (w : List ℕ) (c : Cursor) (kind index size : ℕ) : Type 0 where
   pub room : workBytes ≤ length w
   pub few : c .out < maxTokens
-  pub kind-fits : kind < 64
+  pub kind-fits : kind < Kind.limit
   pub index-fits : index < maxTokens
   pub size-fits : size < maxTokens

@@ -1,6 +1,6 @@
 -- The kinds of the entries that hold a text's tree: numbers of six bits, the code's own. Operators of one group have one kind; which of them stands there is told by
 -- the entry's token (crate operators). Numbers that are not named here are free.
-use Prim.Native.Nat.{ℕ}
+use Prim.Native.Nat.{ℕ, _^_}
 use mathlib.Core.Bool.{Bool, true, false}
 use mathlib.Core.List.{List, [], _∷_}
 use Rattle.language.specs.Operators.{
@@ -29,6 +29,14 @@ use Rattle.language.specs.Operators.{
   WidthOf,
   Applies,
 }
+
+-- the bits of a kind: what an entry's word leaves beside two fields of 13 (specs/Stored)
+abbrev pub kindBits : ℕ
+kindBits = 6
+
+-- how many numbers there are for kinds
+abbrev pub limit : ℕ
+limit = 2 ^ kindBits
 
 -- leaves, an index and a parenthesis
 abbrev pub named : ℕ
@@ -171,9 +179,9 @@ line = 62
 abbrev pub heading : ℕ
 heading = 63
 
--- all kinds in their order
+-- all kinds in their order, and their limit
 abbrev pub kinds : List ℕ
 kinds =
     named ∷ numeral ∷ truth ∷ index ∷ paren ∷ measure ∷ width ∷ unary ∷ arithmetic ∷ combination ∷ equality ∷ order ∷ membership ∷ binary ∷ nexts ∷ window ∷
     bigNumbers ∷ bigSets ∷ bigFormulas ∷ binder false ∷ binder true ∷ between false ∷ between true ∷
-    listed ∷ element ∷ range ∷ parameter ∷ definition ∷ enumeration ∷ identifier ∷ word ∷ signal ∷ bus ∷ typed ∷ line ∷ heading ∷ []
+    listed ∷ element ∷ range ∷ parameter ∷ definition ∷ enumeration ∷ identifier ∷ word ∷ signal ∷ bus ∷ typed ∷ line ∷ heading ∷ limit ∷ []

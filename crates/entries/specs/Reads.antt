@@ -1,6 +1,6 @@
 -- One contract for every function of the parser: it reads what a definition of the grammar reads, and writes the entries of what is read.
 use Prim.Native.Nat.{ℕ, _+_, _≤_, _<_}
-use mathlib.Core.List.{List}
+use mathlib.Core.List.{List, []}
 use mathlib.Core.Path.{_≡_}
 use lib.ListN.{length, drop}
 use Rattle.node.specs.Result.{Done, Refused}
@@ -54,3 +54,7 @@ pub record Reads {A : Type 0} (ts : Tokens) (w v : List ℕ) (s : Cursor) (f : A
 -- a function's contract, whatever the tokens are: it reads as the definition D does
 abbrev pub Parses : {A : Type 0} → (Tokens → Read A) → (A → List Entry) → List ℕ → List ℕ → Cursor → Parse → Type 0
 Parses D f w v c r = (ts : Tokens) → Ready ts w c → Reads ts w v c f (D (drop (c .at) ts)) r
+
+-- a token alone has no entries
+abbrev pub noEntries : {A : Type 0} → A → List Entry
+noEntries a = []

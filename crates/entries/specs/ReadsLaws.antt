@@ -11,7 +11,7 @@ use Rattle.words.specs.WordLaws.{length-put, word-other, past-put}
 use Rattle.language.specs.Limits.{workBytes}
 use Rattle.language.specs.Grammar.{Tokens, Read, rest, stop}
 use Rattle.entries.specs.Flat.{Entry}
-use Rattle.entries.specs.Stored.{firstEntry, entryWord, putEntry}
+use Rattle.entries.specs.Stored.{workWords, firstEntry, entryWord, putEntry}
 use Rattle.entries.specs.declared.Cursor.{Cursor}
 use Rattle.entries.specs.declared.Parse.{Parse}
 use Rattle.entries.specs.declared.Parse.the-variants.{Parsed, Refused as NotParsed}
@@ -29,7 +29,7 @@ kept-then l h g = record { len = g .len ∙ h .len; beyond = g .beyond ∙ h .be
 pub kept-fewer : {w v : List ℕ} {m n : ℕ} → m ≤ n → Kept w v n → Kept w v m
 kept-fewer l h = record { len = h .len; beyond = h .beyond; words = λ i b. h .words i (omega arith) }
 
-pub kept-put : (w : List ℕ) (out i v : ℕ) → firstEntry + out ≤ i → i < 16_384 → Kept w (putWord w i v) out
+pub kept-put : (w : List ℕ) (out i v : ℕ) → firstEntry + out ≤ i → i < workWords → Kept w (putWord w i v) out
 kept-put w out i v l h =
     record { len = length-put w i v; beyond = past-put workBytes w i v (omega arith); words = λ j b. word-other w i v j (omega arith) }
 

@@ -1,16 +1,20 @@
 -- Entries as words of the work buffer, behind the tokens' words: an entry's kind, the index of its token, its size.
-use Prim.Native.Nat.{ℕ, suc, _+_, _<_, _^_}
+use Prim.Native.Nat.{ℕ, suc, _+_, _/_, _<_, _^_}
 use mathlib.Core.List.{List, [], _∷_}
 use mathlib.Core.Option.{Option, none, some}
 use mathlib.Core.Path.{_≡_}
 use lib.ListN.{length, drop}
 use Rattle.node.specs.BitFields.{join, above, below}
 use Rattle.words.specs.Words.{wordAt, putWord}
-use Rattle.language.specs.Limits.{maxTokens}
+use Rattle.language.specs.Limits.{maxTokens, workBytes}
 use Rattle.language.specs.Tokens.{Token}
 use Rattle.language.specs.Tree.{Expr}
 use Rattle.language.specs.Grammar.{Tokens, front}
 use Rattle.entries.specs.Flat.{Entry, flat}
+
+-- the words of the work buffer, of four bytes each
+abbrev pub workWords : ℕ
+workWords = workBytes / 4
 
 -- the word of entry 0
 abbrev pub firstEntry : ℕ

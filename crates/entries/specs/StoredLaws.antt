@@ -31,7 +31,7 @@ module _ {w : List ℕ} {ts : Tokens} {i : ℕ} {e : Entry} (h : EntryAt w ts i 
   entry-size = ap sizeOf (h .word) ∙ below-join fieldBits _ (h .size-fits)
 
 -- an entry just written
-pub entry-put : (w : List ℕ) (ts : Tokens) (out k j n : ℕ) (t : Option Token) → workBytes ≤ length w → out < maxTokens → k < 64 → j < 2 ^ fieldBits → n < 2 ^ fieldBits → Keeps ts j t
+pub entry-put : (w : List ℕ) (ts : Tokens) (out k j n : ℕ) (t : Option Token) → workBytes ≤ length w → out < maxTokens → k < Kind.limit → j < 2 ^ fieldBits → n < 2 ^ fieldBits → Keeps ts j t
     → EntryAt (putEntry w out k j n) ts out (record { kind = k; token = t; size = n })
 entry-put w ts out k j n t room few hk hj hn keeps =
     record { index = j; word = word-same w (firstEntry + out) (entryWord k j n) (omega arith) (omega arith); keeps = keeps; index-fits = hj; size-fits = hn }

@@ -89,7 +89,7 @@ pub const KINDS: u32 = 64;
 pub const LINES: u32 = PARAMETER;
 
 // What the constants stand for.
-pub fn kinds() -> [u32; 36]
+pub fn kinds() -> [u32; 37]
     ensures { λ r. ⌜ r ≡ kinds' ⌝ }
 {
     [
@@ -129,5 +129,6 @@ pub fn kinds() -> [u32; 36]
         TYPED,
         LINE,
         HEADING,
+        KINDS,
     ]
 }

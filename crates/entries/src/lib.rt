@@ -15,7 +15,7 @@ ghost use mathlib.Core.Path.{_≡_};
 ghost use Prim.Native.Nat.{_<_};
 ghost use Rattle.language.specs.Limits.{maxTokens};
 ghost use Rattle.entries.specs.Stored.{putEntry};
-ghost use Rattle.entries.specs.Cursors.{Fits, Writes, kindAt, placeAt, nextOf, emittedOf, refusedAt, expected};
+ghost use Rattle.entries.specs.Cursors.{Fits, Writes, numberAt, placeAt, nextOf, emittedOf, refusedAt, expected};
 
 // The next token's index, how many entries are written; how many tokens there are, and the text's length.
 pub struct Cursor {
@@ -32,10 +32,10 @@ pub enum Parse {
 
 // The functions of the parser have requirements: none is called but by the reader, whose own contract asks for nothing.
 impl Cursor {
-    // The number of the next token, 0 at the text's end.
-    pub fn kind(self, work: &[u8]) -> u32
+    // The number of the next token (crate lexer, specs/Numbers), 0 at the text's end.
+    pub fn number(self, work: &[u8]) -> u32
         requires { ⌜ Fits (now work) self ⌝ }
-        ensures { λ r. ⌜ r ≡ kindAt (now (work .entry)) self ⌝ }
+        ensures { λ r. ⌜ r ≡ numberAt (now (work .entry)) self ⌝ }
     {
         let at = self.at;
         if at < self.count {
@@ -96,11 +96,11 @@ impl Cursor {
     }
 
     // Past the next token, which must have this number; the text's end has none behind it.
-    pub fn expect(self, work: &[u8], kind: u32) -> Parse
-        requires { ⌜ Fits (now work) self × (0 < kind) ⌝ }
-        ensures { λ r. ⌜ r ≡ expected (now (work .entry)) self kind ⌝ }
+    pub fn expect(self, work: &[u8], number: u32) -> Parse
+        requires { ⌜ Fits (now work) self × (0 < number) ⌝ }
+        ensures { λ r. ⌜ r ≡ expected (now (work .entry)) self number ⌝ }
     {
-        if self.kind(work) == kind {
+        if self.number(work) == number {
             return Parse::Parsed(self.next());
         }
         self.refuse(work)

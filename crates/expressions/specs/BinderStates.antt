@@ -1,5 +1,5 @@
 -- The states where a name of a big operator begins: with its set, or with its bounds.
-use Prim.Native.Nat.{ℕ, zero, suc, _+_, _-_, _/_, _%_, _≤_, _<_, _^_}
+use Prim.Native.Nat.{ℕ, zero, suc, _+_, _-_, _≤_, _<_, _^_}
 use native.Mathlib.Omega.{arith}
 use mathlib.Core.List.{List, [], _∷_}
 use mathlib.Core.Bool.{Bool, true, false, _&&_, _||_, false≢true}
@@ -19,12 +19,13 @@ use Rattle.language.specs.Limits.{workBytes}
 use Rattle.lexer.specs.Numbers.{fixed, classNumber as tokenNumber}
 use Rattle.entries.specs.declared.Cursor.{Cursor}
 use Rattle.entries.specs.declared.Parse.the-variants.{Parsed, Refused as NotParsed}
-use Rattle.entries.specs.Cursors.{Fits, Ready, kindAt, nextOf, refusedAt, expected}
-use Rattle.entries.specs.CursorLaws.{ready-kind, ready-next, before-end, drop-next}
+use Rattle.entries.specs.Cursors.{Fits, Ready, numberAt, nextOf, refusedAt, expected}
+use Rattle.entries.specs.CursorLaws.{ready-number, ready-next, before-end, drop-next}
 use Rattle.entries.specs.TokenReads.{next-class, next-named}
 use Rattle.entries.specs.Kinds as Kind
 use Rattle.entries.specs.Reads.{Kept}
 use Rattle.entries.specs.ReadsLaws.{kept-put, kept-then}
+use Rattle.operators.specs.Fields.{levelField, roleField, foldingRole}
 use Rattle.expressions.specs.declared.stack.Machine.{Machine}
 use Rattle.expressions.specs.declared.stack.Turn.the-variants.{Next, Ended}
 use Rattle.operators.specs.Readers.{reads, roleAt, bigOf, folds}
@@ -42,14 +43,14 @@ use Rattle.expressions.specs.RoleStates.{found, not-end, tight}
 use Rattle.expressions.specs.Binders.{amongAt, memberAt, Folding, Named}
 
 -- the grammar's test by numbers
-member-here : {ts : Tokens} {w : List ℕ} {c : Cursor} (max : ℕ) (t : Token) → Ready ts w c → (b : Bool) → eqb (kindAt w c) (tokenNumber Name) ≡ b → isMember max t (drop (c .at) ts) ≡ memberAt w c
+member-here : {ts : Tokens} {w : List ℕ} {c : Cursor} (max : ℕ) (t : Token) → Ready ts w c → (b : Bool) → eqb (numberAt w c) (tokenNumber Name) ≡ b → isMember max t (drop (c .at) ts) ≡ memberAt w c
 member-here {ts} {w} {c} max t r true e =
-    let one = eqb-true (kindAt w c) (tokenNumber Name) e in
+    let one = eqb-true (numberAt w c) (tokenNumber Name) e in
     let inside = before-end w c (omega arith) in
     ap (λ b. b && named ("IN" ∷ "ELEM" ∷ "<-" ∷ []) (front (rest (drop (c .at) ts)))) (next-class r Name refl)
-    ∙ ap (λ us. eqb (kindAt w c) (tokenNumber Name) && named ("IN" ∷ "ELEM" ∷ "<-" ∷ []) (front us)) (sym (drop-next (c .at) ts))
-    ∙ ap (λ b. eqb (kindAt w c) (tokenNumber Name) && b) (next-named (ready-next r inside) ("IN" ∷ "ELEM" ∷ "<-" ∷ []) refl ∙ no-more (eqb (kindAt w (nextOf c)) (fixed "IN")) (eqb (kindAt w (nextOf c)) (fixed "ELEM"))
-    (eqb (kindAt w (nextOf c)) (fixed "<-")))
+    ∙ ap (λ us. eqb (numberAt w c) (tokenNumber Name) && named ("IN" ∷ "ELEM" ∷ "<-" ∷ []) (front us)) (sym (drop-next (c .at) ts))
+    ∙ ap (λ b. eqb (numberAt w c) (tokenNumber Name) && b) (next-named (ready-next r inside) ("IN" ∷ "ELEM" ∷ "<-" ∷ []) refl ∙ no-more (eqb (numberAt w (nextOf c)) (fixed "IN")) (eqb (numberAt w (nextOf c)) (fixed "ELEM"))
+    (eqb (numberAt w (nextOf c)) (fixed "<-")))
   where
     no-more : (p q o : Bool) → (p || (q || (o || false))) ≡ (p || (q || o))
     no-more true q o = refl
@@ -57,7 +58,7 @@ member-here {ts} {w} {c} max t r true e =
     no-more false false true = refl
     no-more false false false = refl
 member-here {ts} {w} {c} max t r false e =
-    ap (λ b. b && named ("IN" ∷ "ELEM" ∷ "<-" ∷ []) (front (rest (drop (c .at) ts)))) (next-class r Name refl ∙ e) ∙ ap (λ b. b && amongAt (kindAt w (nextOf c))) (sym e)
+    ap (λ b. b && named ("IN" ∷ "ELEM" ∷ "<-" ∷ []) (front (rest (drop (c .at) ts)))) (next-class r Name refl ∙ e) ∙ ap (λ b. b && amongAt (numberAt w (nextOf c))) (sym e)
 
 module _ {ts : Tokens} {s : Cursor} {x : Read Expr} {w : List ℕ} {m : Machine} {c : Cursor} {j : ℕ} (h : Folding ts s x w m c j) where
   abbrev us : Tokens
@@ -95,7 +96,7 @@ module _ {ts : Tokens} {s : Cursor} {x : Read Expr} {w : List ℕ} {m : Machine}
   -- its bounds follow
   pub named-bounds : memberAt w c ≡ false → Named ts s x w (putSlot w (m .depth) (classNumber Bound) (m .level) j) m c (pushedOf m c boundLevel)
   named-bounds other =
-      let test = member-here (m .level) (h .operator) (h .stacked .ready) (eqb (kindAt w c) (tokenNumber Name)) refl ∙ other in
+      let test = member-here (m .level) (h .operator) (h .stacked .ready) (eqb (numberAt w c) (tokenNumber Name)) refl ∙ other in
       record {
         kept = slot-kept (m .depth) (classNumber Bound) (m .level) j (omega arith);
         state =
@@ -107,14 +108,14 @@ module _ {ts : Tokens} {s : Cursor} {x : Read Expr} {w : List ℕ} {m : Machine}
 
   -- its set follows
   module _ (yes-member : memberAt w c ≡ true) where
-    is-name : kindAt w c ≡ tokenNumber Name
-    is-name = eqb-true (kindAt w c) (tokenNumber Name) (and-left (eqb (kindAt w c) (tokenNumber Name)) (amongAt (kindAt w (nextOf c))) yes-member)
+    is-name : numberAt w c ≡ tokenNumber Name
+    is-name = eqb-true (numberAt w c) (tokenNumber Name) (and-left (eqb (numberAt w c) (tokenNumber Name)) (amongAt (numberAt w (nextOf c))) yes-member)
 
     pub member-inside : c .at < c .count
     member-inside = let e = is-name in before-end w c (omega arith)
 
     pub member-second : c .at + 1 < c .count
-    member-second = before-end w (nextOf c) (among-some (kindAt w (nextOf c)) (and-right (eqb (kindAt w c) (tokenNumber Name)) (amongAt (kindAt w (nextOf c))) yes-member))
+    member-second = before-end w (nextOf c) (among-some (numberAt w (nextOf c)) (and-right (eqb (numberAt w c) (tokenNumber Name)) (amongAt (numberAt w (nextOf c))) yes-member))
       where
         among-some : (k : ℕ) → amongAt k ≡ true → 0 < k
         among-some k e = go k refl
@@ -137,7 +138,7 @@ module _ {ts : Tokens} {s : Cursor} {x : Read Expr} {w : List ℕ} {m : Machine}
         let after = stacked-next (stacked-next (h .stacked) i) k in
         let over = stacked-push after (slot (classNumber Over) (m .level) (h .operator) []) j (h .keeps, tt) (h .token-fits) (lit< tt) (h .level-fits) in
         let both = stacked-push over (slot (classNumber Member) 0 (front us) []) (c .at) ((refl, omega arith), tt) (omega arith) (lit< tt) (lit< tt) in
-        let test = member-here (m .level) (h .operator) (h .stacked .ready) (eqb (kindAt w c) (tokenNumber Name)) refl ∙ yes-member in
+        let test = member-here (m .level) (h .operator) (h .stacked .ready) (eqb (numberAt w c) (tokenNumber Name)) refl ∙ yes-member in
         let v = putSlot w (m .depth) (classNumber Over) (m .level) j in
         let apart = stacked-apart (h .stacked) in
         let out = h .stacked .out in
@@ -163,25 +164,25 @@ module _ {ts : Tokens} {s : Cursor} {x : Read Expr} {w : List ℕ} {m : Machine}
         }
 
 -- what was expected stands there, or not
-pub expected-parsed : (w : List ℕ) (c d : Cursor) (k : ℕ) → expected w c k ≡ Parsed d → (kindAt w c ≡ k) × (d ≡ nextOf c)
-expected-parsed w c d k e = go (eqb (kindAt w c) k) refl e
+pub expected-parsed : (w : List ℕ) (c d : Cursor) (k : ℕ) → expected w c k ≡ Parsed d → (numberAt w c ≡ k) × (d ≡ nextOf c)
+expected-parsed w c d k e = go (eqb (numberAt w c) k) refl e
   where
-    go : (b : Bool) → eqb (kindAt w c) k ≡ b → elim b [ true ↦ Parsed (nextOf c) | false ↦ refusedAt w c ] ≡ Parsed d → (kindAt w c ≡ k) × (d ≡ nextOf c)
-    go true z f = let same : nextOf c ≡ d = cc in (eqb-true (kindAt w c) k z, sym same)
+    go : (b : Bool) → eqb (numberAt w c) k ≡ b → elim b [ true ↦ Parsed (nextOf c) | false ↦ refusedAt w c ] ≡ Parsed d → (numberAt w c ≡ k) × (d ≡ nextOf c)
+    go true z f = let same : nextOf c ≡ d = cc in (eqb-true (numberAt w c) k z, sym same)
     go false z f = let n : _≡_ {A = ℕ} 0 1 = cc in absurd (omega arith)
 
-pub expected-refused : (w : List ℕ) (c : Cursor) (k n p : ℕ) → expected w c k ≡ NotParsed n p → (kindAt w c ≡ k → ⊥) × (NotParsed n p ≡ refusedAt w c)
-expected-refused w c k n p e = go (eqb (kindAt w c) k) refl e
+pub expected-refused : (w : List ℕ) (c : Cursor) (k n p : ℕ) → expected w c k ≡ NotParsed n p → (numberAt w c ≡ k → ⊥) × (NotParsed n p ≡ refusedAt w c)
+expected-refused w c k n p e = go (eqb (numberAt w c) k) refl e
   where
-    go : (b : Bool) → eqb (kindAt w c) k ≡ b → elim b [ true ↦ Parsed (nextOf c) | false ↦ refusedAt w c ] ≡ NotParsed n p → (kindAt w c ≡ k → ⊥) × (NotParsed n p ≡ refusedAt w c)
+    go : (b : Bool) → eqb (numberAt w c) k ≡ b → elim b [ true ↦ Parsed (nextOf c) | false ↦ refusedAt w c ] ≡ NotParsed n p → (numberAt w c ≡ k → ⊥) × (NotParsed n p ≡ refusedAt w c)
     go true z f = let o : _≡_ {A = ℕ} 0 1 = cc in absurd (omega arith)
-    go false z f = (eqb-false (kindAt w c) k z, sym f)
+    go false z f = (eqb-false (numberAt w c) k z, sym f)
 
 -- a big operator
 module _ {ts : Tokens} {s : Cursor} {x : Read Expr} {w : List ℕ} {m : Machine} (h : State false ts s x w m)
-    (folding : prefixAt (kindAt w (m .c)) / 32 % 8 ≡ 4) (fits : prefixAt (kindAt w (m .c)) % 32 ≤ m .level) where
+    (folding : roleField (prefixAt (numberAt w (m .c))) ≡ foldingRole) (fits : levelField (prefixAt (numberAt w (m .c))) ≤ m .level) where
   abbrev row : ℕ
-  row = prefixAt (kindAt w (m .c))
+  row = prefixAt (numberAt w (m .c))
 
   some-row : row ≡ 0 → ⊥
   some-row e = omega arith
@@ -192,7 +193,7 @@ module _ {ts : Tokens} {s : Cursor} {x : Read Expr} {w : List ℕ} {m : Machine}
   pub fold-fits : Fits w (nextOf (m .c))
   fold-fits = let f = h .stacked .ready .fits in record { room = f .room; few = f .few; short = f .short; inside = omega (arith, fold-inside) }
 
-  folded : (o : Role) → roleNumber o ≡ 4 → (b : Big) × (o ≡ Folds b)
+  folded : (o : Role) → roleNumber o ≡ foldingRole → (b : Big) × (o ≡ Folds b)
   folded (Plain q) z = absurd (omega arith)
   folded Counted z = absurd (omega arith)
   folded (Windowed q) z = absurd (omega arith)
@@ -207,16 +208,16 @@ module _ {ts : Tokens} {s : Cursor} {x : Read Expr} {w : List ℕ} {m : Machine}
       let o = kind-role in
       starts-fold (m .level) (drop (m .c .at) ts) (f .row) (f .here) (tight h row refl some-row fits) (o .0) (o .1) (ne-eqb (m .level) 0 (λ e. let l = h .good in omega arith))
 
-  pub turn-unopened : (kindAt w (nextOf (m .c)) ≡ fixed "[" → ⊥) → Turned ts s x w w m (Ended (refusedAt w (nextOf (m .c))))
+  pub turn-unopened : (numberAt w (nextOf (m .c)) ≡ fixed "[" → ⊥) → Turned ts s x w w m (Ended (refusedAt w (nextOf (m .c))))
   unfolding _>>=_
   turn-unopened f =
       refuses-at h (nextOf (m .c)) (ready-next (h .stacked .ready) fold-inside)
       (reads-fold ∙ ap (λ (r : Read Token). r >>= λ (c, vs). folds (m .level) (here h) vs)
       (leave (next "[" (rest (drop (m .c .at) ts))) (Done (front (rest (drop (m .c .at) ts)), rest (rest (drop (m .c .at) ts)))) (stop (rest (drop (m .c .at) ts)))
-      (next-sign h fold-inside "[" refl ∙ ne-eqb (kindAt w (nextOf (m .c))) _ f))
+      (next-sign h fold-inside "[" refl ∙ ne-eqb (numberAt w (nextOf (m .c))) _ f))
       ∙ ap stop (sym (drop-next (m .c .at) ts)))
 
-  module _ (bracket : kindAt w (nextOf (m .c)) ≡ fixed "[") where
+  module _ (bracket : numberAt w (nextOf (m .c)) ≡ fixed "[") where
     second : m .c .at + 1 < m .c .count
     second = before-end w (nextOf (m .c)) (omega arith)
 
@@ -226,7 +227,7 @@ module _ {ts : Tokens} {s : Cursor} {x : Read Expr} {w : List ℕ} {m : Machine}
           frames = h .frames;
           operator = here h;
           firm = h .firm;
-          marked = (λ z. some-row (ap prefixAt (ready-kind (h .stacked .ready)) ∙ z), ap soleKind (kind-role .1) ∙ ap (λ o. Kind.big (bigOf o)) (sym (kind-role .1)));
+          marked = (λ z. some-row (ap prefixAt (ready-number (h .stacked .ready)) ∙ z), ap soleKind (kind-role .1) ∙ ap (λ o. Kind.big (bigOf o)) (sym (kind-role .1)));
           keeps = keeps-here h fold-inside;
           token-fits = omega (arith, fold-inside, h .stacked .ready .fits .few);
           level-fits = h .level-fits;
@@ -236,7 +237,7 @@ module _ {ts : Tokens} {s : Cursor} {x : Read Expr} {w : List ℕ} {m : Machine}
               ∙ ap (plug (h .frames))
               (reads-fold ∙ ap (λ (r : Read Token). r >>= λ (c, vs). folds (m .level) (here h) vs)
               (pick (next "[" (rest (drop (m .c .at) ts))) (Done (front (rest (drop (m .c .at) ts)), rest (rest (drop (m .c .at) ts)))) (stop (rest (drop (m .c .at) ts)))
-              (next-sign h fold-inside "[" refl ∙ eq-eqb (kindAt w (nextOf (m .c))) _ bracket))
+              (next-sign h fold-inside "[" refl ∙ eq-eqb (numberAt w (nextOf (m .c))) _ bracket))
               ∙ bind-at (front (rest (drop (m .c .at) ts)), rest (rest (drop (m .c .at) ts))) _ ∙ ap (folds (m .level) (here h)) (sym (drop-two (m .c .at) ts)));
         }
 

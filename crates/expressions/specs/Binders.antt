@@ -14,13 +14,14 @@ use Rattle.language.specs.Limits.{maxTokens}
 use Rattle.lexer.specs.Numbers.{fixed, classNumber as tokenNumber}
 use Rattle.entries.specs.Stored.{Keeps}
 use Rattle.entries.specs.declared.Cursor.{Cursor}
-use Rattle.entries.specs.Cursors.{kindAt, nextOf}
+use Rattle.entries.specs.Cursors.{numberAt, nextOf}
 use Rattle.entries.specs.Reads.{Kept}
+use Rattle.operators.specs.Fields.{levelBits}
 use Rattle.expressions.specs.declared.stack.Machine.{Machine}
 use Rattle.operators.specs.Readers.{folds}
 use Rattle.expressions.specs.Classes.{Over}
 use Rattle.expressions.specs.Frames.{Frame, plug}
-use Rattle.expressions.specs.Stack.{Stacked, levelBits}
+use Rattle.expressions.specs.Stack.{Stacked}
 use Rattle.expressions.specs.States.{slotsOf, base, Firm, credits, Marked, State, weight}
 
 -- the numbers of `IN`, `ELEM` and `<-`
@@ -28,7 +29,7 @@ abbrev pub amongAt : ℕ → Bool
 amongAt n = eqb n (fixed "IN") || (eqb n (fixed "ELEM") || eqb n (fixed "<-"))
 
 abbrev pub memberAt : List ℕ → Cursor → Bool
-memberAt w c = eqb (kindAt w c) (tokenNumber Name) && amongAt (kindAt w (nextOf c))
+memberAt w c = eqb (numberAt w c) (tokenNumber Name) && amongAt (numberAt w (nextOf c))
 
 -- before: the big operator's token has the index j
 pub record Folding (ts : Tokens) (s : Cursor) (x : Read Expr) (w : List ℕ) (m : Machine) (c : Cursor) (j : ℕ) : Type 0 where

@@ -21,7 +21,7 @@ use Rattle.lexer.specs.Numbers.{classNumber as tokenNumber}
 use Rattle.entries.specs.Flat.{flat}
 use Rattle.entries.specs.Stored.{Keeps}
 use Rattle.entries.specs.declared.Cursor.{Cursor}
-use Rattle.entries.specs.Cursors.{Fits, Ready, kindAt, nextOf, refusedAt}
+use Rattle.entries.specs.Cursors.{Fits, Ready, numberAt, nextOf, refusedAt}
 use Rattle.entries.specs.CursorLaws.{ready-next, before-end, drop-next}
 use Rattle.entries.specs.TokenReads.{next-class}
 use Rattle.entries.specs.ReadsLaws.{kept-put, kept-then}
@@ -38,7 +38,8 @@ use Rattle.expressions.specs.States.{slot, slotsOf, base, credits, Turne
 use Rattle.expressions.specs.Complete.{Complete}
 use Rattle.expressions.specs.CompleteLaws.{popping}
 use Rattle.expressions.specs.Closes.{refused-here}
-use Rattle.expressions.specs.Signs.{signAt, sign-here, sign-other}
+use Rattle.expressions.specs.Signs.{signAt}
+use Rattle.expressions.specs.SignLaws.{sign-here, sign-other}
 
 -- a sign is not the text's end
 sign-some : (k : ℕ) → signAt k ≡ true → 0 < k
@@ -50,15 +51,15 @@ sign-some k e = go k refl
 
 -- a name stands at the cursor, or another token
 module _ {ts : Tokens} {w : List ℕ} {c : Cursor} (ready : Ready ts w c) {B : Type 0} (K : Token × Tokens → Read B) where
-  name-here : kindAt w c ≡ tokenNumber Name → (expectOf Name (drop (c .at) ts) >>= K) ≡ K (front (drop (c .at) ts), drop (c .at + 1) ts)
+  name-here : numberAt w c ≡ tokenNumber Name → (expectOf Name (drop (c .at) ts) >>= K) ≡ K (front (drop (c .at) ts), drop (c .at + 1) ts)
   name-here e =
       let us = drop (c .at) ts in
-      ap (λ (r : Read Token). r >>= K) (pick (isOf Name (front us)) (Done (front us, rest us)) (stop us) (next-class ready Name refl ∙ eq-eqb (kindAt w c) (tokenNumber Name) e))
+      ap (λ (r : Read Token). r >>= K) (pick (isOf Name (front us)) (Done (front us, rest us)) (stop us) (next-class ready Name refl ∙ eq-eqb (numberAt w c) (tokenNumber Name) e))
       ∙ bind-at (front us, rest us) K ∙ ap (λ vs. K (front us, vs)) (sym (drop-next (c .at) ts))
 
-  name-other : (kindAt w c ≡ tokenNumber Name → ⊥) → (expectOf Name (drop (c .at) ts) >>= K) ≡ stop (drop (c .at) ts)
+  name-other : (numberAt w c ≡ tokenNumber Name → ⊥) → (expectOf Name (drop (c .at) ts) >>= K) ≡ stop (drop (c .at) ts)
   unfolding _>>=_
-  name-other f = let us = drop (c .at) ts in ap (λ (r : Read Token). r >>= K) (leave (isOf Name (front us)) (Done (front us, rest us)) (stop us) (next-class ready Name refl ∙ ne-eqb (kindAt w c) (tokenNumber Name) f))
+  name-other f = let us = drop (c .at) ts in ap (λ (r : Read Token). r >>= K) (leave (isOf Name (front us)) (Done (front us, rest us)) (stop us) (next-class ready Name refl ∙ ne-eqb (numberAt w c) (tokenNumber Name) f))
 
 module _ {ts : Tokens} {s : Cursor} {x : Read Expr} {w : List ℕ} {m : Machine} (h : Complete ts s x w m) (deep : 0 < m .depth) (e : slotClass (topSlot w (m .depth)) ≡ classNumber Bound) where
   abbrev top : ℕ
@@ -73,24 +74,24 @@ module _ {ts : Tokens} {s : Cursor} {x : Read Expr} {w : List ℕ} {m : Machine}
   ready : Ready ts w (m .c)
   ready = h .stacked .ready
 
-  pub turn-no-low : signAt (kindAt w (m .c)) ≡ false → Turned ts s x w w m (Ended (refusedAt w (m .c)))
+  pub turn-no-low : signAt (numberAt w (m .c)) ≡ false → Turned ts s x w w m (Ended (refusedAt w (m .c)))
   turn-no-low f = let q = popping h Bound deep e in refused-here (q .1) (m .c) ready (q .2 .same ∙ ap (plug (q .1)) (sign-other ready _ f))
 
-  module _ (low : signAt (kindAt w (m .c)) ≡ true) where
+  module _ (low : signAt (numberAt w (m .c)) ≡ true) where
     pub low-inside : m .c .at < m .c .count
-    low-inside = before-end w (m .c) (sign-some (kindAt w (m .c)) low)
+    low-inside = before-end w (m .c) (sign-some (numberAt w (m .c)) low)
 
     pub low-fits : Fits w second
     low-fits = ready-next ready low-inside .fits
 
-    pub turn-no-name : (kindAt w second ≡ tokenNumber Name → ⊥) → Turned ts s x w w m (Ended (refusedAt w second))
+    pub turn-no-name : (numberAt w second ≡ tokenNumber Name → ⊥) → Turned ts s x w w m (Ended (refusedAt w second))
     turn-no-name f =
         let q = popping h Bound deep e in
         let r = ready-next ready low-inside in
         refused-here (q .1) second r
         (q .2 .same ∙ ap (plug (q .1)) (sign-here ready _ low ∙ name-other r _ f))
 
-    module _ (name : kindAt w second ≡ tokenNumber Name) where
+    module _ (name : numberAt w second ≡ tokenNumber Name) where
       pub name-inside : m .c .at + 1 < m .c .count
       name-inside = before-end w second (omega arith)
 
@@ -107,14 +108,14 @@ module _ {ts : Tokens} {s : Cursor} {x : Read Expr} {w : List ℕ} {m : Machine}
           let r = ready-next ready low-inside in
           sign-here ready _ low ∙ name-here r _ name
 
-      pub turn-no-high : signAt (kindAt w third) ≡ false → Turned ts s x w w m (Ended (refusedAt w third))
+      pub turn-no-high : signAt (numberAt w third) ≡ false → Turned ts s x w w m (Ended (refusedAt w third))
       turn-no-high f =
           let q = popping h Bound deep e in
           refused-here (q .1) third ready-third (q .2 .same ∙ ap (plug (q .1)) (to-high (q .0) (q .2 .tree) ∙ sign-other ready-third _ f))
 
-      module _ (high : signAt (kindAt w third) ≡ true) where
+      module _ (high : signAt (numberAt w third) ≡ true) where
         pub high-inside : m .c .at + 1 + 1 < m .c .count
-        high-inside = before-end w third (sign-some (kindAt w third) high)
+        high-inside = before-end w third (sign-some (numberAt w third) high)
 
         pub bound-push : Pushes w (poppedOf m (slotLevel top)) (classNumber Over) (slotIndex top)
         bound-push =

@@ -1,5 +1,5 @@
 -- A complete operand: an operator goes on with it, or the expression is complete. And where the reading of an expression begins.
-use Prim.Native.Nat.{ℕ, zero, suc, _+_, _/_, _%_, _≤_, _<_}
+use Prim.Native.Nat.{ℕ, zero, suc, _+_, _≤_, _<_}
 use native.Mathlib.Omega.{arith}
 use mathlib.Core.List.{List, [], _∷_, _++_, append-nil}
 use mathlib.Core.Bool.{true, false}
@@ -17,8 +17,9 @@ use Rattle.language.specs.Laws.Basics.Tests.{pick, leave}
 use Rattle.lexer.specs.Numbers.{number}
 use Rattle.entries.specs.Flat.{flat}
 use Rattle.entries.specs.declared.Cursor.{Cursor}
-use Rattle.entries.specs.Cursors.{Ready, kindAt, nextOf}
-use Rattle.entries.specs.CursorLaws.{ready-kind, before-end, drop-next}
+use Rattle.entries.specs.Cursors.{Ready, numberAt, nextOf}
+use Rattle.entries.specs.CursorLaws.{ready-number, before-end, drop-next}
+use Rattle.operators.specs.Fields.{levelField, rightField}
 use Rattle.expressions.specs.declared.stack.Machine.{Machine}
 use Rattle.expressions.specs.declared.stack.Turn.the-variants.{Next}
 use Rattle.operators.specs.Readers.{reads, climbs, infixRow, operatorAt}
@@ -34,9 +35,9 @@ use Rattle.expressions.specs.States.{slot, slotsOf, base, credits, State
 use Rattle.expressions.specs.StateLaws.{facts, here, keeps-here, kept-slot}
 use Rattle.expressions.specs.Complete.{Complete}
 
-module _ {ts : Tokens} {s : Cursor} {x : Read Expr} {w : List ℕ} {m : Machine} (h : State true ts s x w m) (q : ℕ) (row : q ≡ infixAt (kindAt w (m .c))) where
+module _ {ts : Tokens} {s : Cursor} {x : Read Expr} {w : List ℕ} {m : Machine} (h : State true ts s x w m) (q : ℕ) (row : q ≡ infixAt (numberAt w (m .c))) where
   number-row : q ≡ infixAt (number (here h))
-  number-row = row ∙ ap infixAt (ready-kind (h .stacked .ready))
+  number-row = row ∙ ap infixAt (ready-number (h .stacked .ready))
 
   no-operator : allowed (m .level) (infixRow (here h)) ≡ none → Complete ts s x w m
   no-operator e =
@@ -55,7 +56,7 @@ module _ {ts : Tokens} {s : Cursor} {x : Read Expr} {w : List ℕ} {m : Machine}
   found : (q ≡ 0 → ⊥) → InfixFound (here h) q
   found f = subst (InfixFound (here h)) (sym number-row) (infix-some (here h) (λ z. f (number-row ∙ z)))
 
-  pub ends-loose : (q ≡ 0 → ⊥) → m .level < q % 32 → Complete ts s x w m
+  pub ends-loose : (q ≡ 0 → ⊥) → m .level < levelField q → Complete ts s x w m
   ends-loose f l =
       let r = found f in
       no-operator (ap (allowed (m .level)) (r .here) ∙ leave (leb (r .row .level) (m .level)) (some (r .row)) none (lt-leb (r .row .level) (m .level) (omega (arith, r .level))))
@@ -63,13 +64,13 @@ module _ {ts : Tokens} {s : Cursor} {x : Read Expr} {w : List ℕ} {m : Machine}
   -- no operator has the number 0
   pub operator-inside : (q ≡ 0 → ⊥) → m .c .at < m .c .count
   unfolding infixAt
-  operator-inside f = before-end w (m .c) (go (kindAt w (m .c)) refl)
+  operator-inside f = before-end w (m .c) (go (numberAt w (m .c)) refl)
     where
-      go : (k : ℕ) → kindAt w (m .c) ≡ k → 0 < k
+      go : (k : ℕ) → numberAt w (m .c) ≡ k → 0 < k
       go zero e = absurd (f (row ∙ ap infixAt e))
       go (suc k) e = omega arith
 
-  pub turn-right : (q ≡ 0 → ⊥) → q % 32 ≤ m .level → Turned ts s x w (putSlot w (m .depth) (classNumber Right) (m .level) (m .c .at)) m (Next (pushedOf m (nextOf (m .c)) (q / 32 % 32)))
+  pub turn-right : (q ≡ 0 → ⊥) → levelField q ≤ m .level → Turned ts s x w (putSlot w (m .depth) (classNumber Right) (m .level) (m .c .at)) m (Next (pushedOf m (nextOf (m .c)) (rightField q)))
   unfolding plug
   turn-right f l =
       let r = found f in

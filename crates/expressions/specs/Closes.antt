@@ -21,7 +21,7 @@ use Rattle.entries.specs.Kinds as Kind
 use Rattle.entries.specs.Flat.{under, flat}
 use Rattle.entries.specs.declared.Cursor.{Cursor}
 use Rattle.entries.specs.declared.Parse.the-variants.{Refused as NotParsed}
-use Rattle.entries.specs.Cursors.{Ready, kindAt, nextOf, refusedAt}
+use Rattle.entries.specs.Cursors.{Ready, numberAt, nextOf, refusedAt}
 use Rattle.entries.specs.CursorLaws.{ready-place, drop-next}
 use Rattle.entries.specs.TokenReads.{next-number}
 use Rattle.entries.specs.Reads.{Outcome}
@@ -36,21 +36,22 @@ use Rattle.expressions.specs.States.{credits, Turned}
 use Rattle.expressions.specs.StateLaws.{plug-refused}
 use Rattle.expressions.specs.Complete.{Complete}
 use Rattle.expressions.specs.CompleteLaws.{popping, sign-inside}
-use Rattle.expressions.specs.Wholes.{Built, built}
+use Rattle.expressions.specs.Wholes.{Built}
+use Rattle.expressions.specs.WholeLaws.{built}
 
 -- the sign that is expected stands at the cursor, or another
 module _ {ts : Tokens} {w : List ℕ} {c : Cursor} (ready : Ready ts w c) {B : Type 0} (sign : String) (known : isOneOf spellings (ascii sign) ≡ true) (K : Token × Tokens → Read B) where
   abbrev us : Tokens
   us = drop (c .at) ts
 
-  pub expect-here : kindAt w c ≡ fixed sign → (expect sign us >>= K) ≡ K (front us, drop (c .at + 1) ts)
+  pub expect-here : numberAt w c ≡ fixed sign → (expect sign us >>= K) ≡ K (front us, drop (c .at + 1) ts)
   expect-here e =
-      ap (λ (r : Read Token). r >>= K) (pick (next sign us) (Done (front us, rest us)) (stop us) (next-number ready sign known ∙ eq-eqb (kindAt w c) (fixed sign) e))
+      ap (λ (r : Read Token). r >>= K) (pick (next sign us) (Done (front us, rest us)) (stop us) (next-number ready sign known ∙ eq-eqb (numberAt w c) (fixed sign) e))
       ∙ bind-at (front us, rest us) K ∙ ap (λ vs. K (front us, vs)) (sym (drop-next (c .at) ts))
 
-  pub expect-other : (kindAt w c ≡ fixed sign → ⊥) → (expect sign us >>= K) ≡ stop us
+  pub expect-other : (numberAt w c ≡ fixed sign → ⊥) → (expect sign us >>= K) ≡ stop us
   unfolding _>>=_
-  expect-other f = ap (λ (r : Read Token). r >>= K) (leave (next sign us) (Done (front us, rest us)) (stop us) (next-number ready sign known ∙ ne-eqb (kindAt w c) (fixed sign) f))
+  expect-other f = ap (λ (r : Read Token). r >>= K) (leave (next sign us) (Done (front us, rest us)) (stop us) (next-number ready sign known ∙ ne-eqb (numberAt w c) (fixed sign) f))
 
 -- nothing continues here
 pub refused-here : {ts : Tokens} {s : Cursor} {x : Read Expr} {w : List ℕ} {m : Machine} (Gs : List Frame) (c : Cursor) → Ready ts w c → x ≡ plug Gs (stop (drop (c .at) ts))
@@ -66,7 +67,7 @@ module _ {ts : Tokens} {s : Cursor} {x : Read Expr} {w : List ℕ} {m : Machine}
   abbrev top : ℕ
   top = topSlot w (m .depth)
 
-  pub built-round : slotClass top ≡ classNumber Round → kindAt w (m .c) ≡ fixed ")" → Built ts s x w m (nextOf (m .c)) Kind.paren 1
+  pub built-round : slotClass top ≡ classNumber Round → numberAt w (m .c) ≡ fixed ")" → Built ts s x w m (nextOf (m .c)) Kind.paren 1
   built-round e k =
       let q = popping h Round deep e in
       let F = turned Round (q .0) in
@@ -74,7 +75,7 @@ module _ {ts : Tokens} {s : Cursor} {x : Read Expr} {w : List ℕ} {m : Machine}
       refl (λ j z. z) (omega arith) (omega arith)
       (q .2 .same ∙ ap (plug (q .1)) (expect-here (h .stacked .ready) ")" refl _ k))
 
-  pub built-bars : slotClass top ≡ classNumber Bars → kindAt w (m .c) ≡ fixed "|" → Built ts s x w m (nextOf (m .c)) Kind.measure 1
+  pub built-bars : slotClass top ≡ classNumber Bars → numberAt w (m .c) ≡ fixed "|" → Built ts s x w m (nextOf (m .c)) Kind.measure 1
   built-bars e k =
       let q = popping h Bars deep e in
       let F = turned Bars (q .0) in
@@ -82,7 +83,7 @@ module _ {ts : Tokens} {s : Cursor} {x : Read Expr} {w : List ℕ} {m : Machine}
       refl (λ j z. z) (omega arith) (omega arith)
       (q .2 .same ∙ ap (plug (q .1)) (expect-here (h .stacked .ready) "|" refl _ k))
 
-  pub built-index : slotClass top ≡ classNumber Square → kindAt w (m .c) ≡ fixed "]" → Built ts s x w m (nextOf (m .c)) Kind.index 1
+  pub built-index : slotClass top ≡ classNumber Square → numberAt w (m .c) ≡ fixed "]" → Built ts s x w m (nextOf (m .c)) Kind.index 1
   built-index e k =
       let q = popping h Square deep e in
       let F = turned Square (q .0) in
@@ -90,7 +91,7 @@ module _ {ts : Tokens} {s : Cursor} {x : Read Expr} {w : List ℕ} {m : Machine}
       (some (F .token)) refl (λ j z. z) (omega arith) (omega arith)
       (q .2 .same ∙ ap (plug (q .1)) (expect-here (h .stacked .ready) "]" refl _ k))
 
-  pub built-range : slotClass top ≡ classNumber Last → kindAt w (m .c) ≡ fixed "}" → Built ts s x w m (nextOf (m .c)) Kind.range 3
+  pub built-range : slotClass top ≡ classNumber Last → numberAt w (m .c) ≡ fixed "}" → Built ts s x w m (nextOf (m .c)) Kind.range 3
   built-range e k =
       let q = popping h Last deep e in
       let F = turned Last (q .0) in
@@ -99,14 +100,14 @@ module _ {ts : Tokens} {s : Cursor} {x : Read Expr} {w : List ℕ} {m : Machine}
       (q .2 .same ∙ ap (plug (q .1)) (expect-here (h .stacked .ready) "}" refl _ k))
 
   -- another sign
-  pub unclosed-round : slotClass top ≡ classNumber Round → (kindAt w (m .c) ≡ fixed ")" → ⊥) → Turned ts s x w w m (Ended (refusedAt w (m .c)))
+  pub unclosed-round : slotClass top ≡ classNumber Round → (numberAt w (m .c) ≡ fixed ")" → ⊥) → Turned ts s x w w m (Ended (refusedAt w (m .c)))
   unclosed-round e f = let q = popping h Round deep e in refused-here (q .1) (m .c) (h .stacked .ready) (q .2 .same ∙ ap (plug (q .1)) (expect-other (h .stacked .ready) ")" refl _ f))
 
-  pub unclosed-bars : slotClass top ≡ classNumber Bars → (kindAt w (m .c) ≡ fixed "|" → ⊥) → Turned ts s x w w m (Ended (refusedAt w (m .c)))
+  pub unclosed-bars : slotClass top ≡ classNumber Bars → (numberAt w (m .c) ≡ fixed "|" → ⊥) → Turned ts s x w w m (Ended (refusedAt w (m .c)))
   unclosed-bars e f = let q = popping h Bars deep e in refused-here (q .1) (m .c) (h .stacked .ready) (q .2 .same ∙ ap (plug (q .1)) (expect-other (h .stacked .ready) "|" refl _ f))
 
-  pub unclosed-index : slotClass top ≡ classNumber Square → (kindAt w (m .c) ≡ fixed "]" → ⊥) → Turned ts s x w w m (Ended (refusedAt w (m .c)))
+  pub unclosed-index : slotClass top ≡ classNumber Square → (numberAt w (m .c) ≡ fixed "]" → ⊥) → Turned ts s x w w m (Ended (refusedAt w (m .c)))
   unclosed-index e f = let q = popping h Square deep e in refused-here (q .1) (m .c) (h .stacked .ready) (q .2 .same ∙ ap (plug (q .1)) (expect-other (h .stacked .ready) "]" refl _ f))
 
-  pub unclosed-range : slotClass top ≡ classNumber Last → (kindAt w (m .c) ≡ fixed "}" → ⊥) → Turned ts s x w w m (Ended (refusedAt w (m .c)))
+  pub unclosed-range : slotClass top ≡ classNumber Last → (numberAt w (m .c) ≡ fixed "}" → ⊥) → Turned ts s x w w m (Ended (refusedAt w (m .c)))
   unclosed-range e f = let q = popping h Last deep e in refused-here (q .1) (m .c) (h .stacked .ready) (q .2 .same ∙ ap (plug (q .1)) (expect-other (h .stacked .ready) "}" refl _ f))

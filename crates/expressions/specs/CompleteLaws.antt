@@ -15,24 +15,27 @@ use Rattle.language.specs.Tree.{Expr}
 use Rattle.language.specs.Grammar.{Tokens, Read}
 use Rattle.language.specs.Laws.Basics.Lists.{All as Every}
 use Rattle.language.specs.Laws.Basics.Tests.{and-left, and-right}
+use Rattle.entries.specs.Kinds as Kind
 use Rattle.entries.specs.Flat.{Entry, under, flat}
 use Rattle.entries.specs.Stored.{firstEntry, entryWord, putEntry, Keeps}
 use Rattle.entries.specs.declared.Cursor.{Cursor}
 use Rattle.entries.specs.declared.Parse.the-variants.{Parsed}
-use Rattle.entries.specs.Cursors.{Fits, kindAt, emittedOf}
+use Rattle.entries.specs.Cursors.{Fits, numberAt, emittedOf}
 use Rattle.entries.specs.CursorLaws.{before-end}
 use Rattle.entries.specs.Reads.{Outcome}
 use Rattle.entries.specs.ReadsLaws.{kept-same, kept-put}
+use Rattle.operators.specs.Fields.{levelBits}
 use Rattle.expressions.specs.declared.stack.Machine.{Machine}
 use Rattle.expressions.specs.declared.stack.Turn.the-variants.{Next, Ended}
 use Rattle.operators.specs.Readers.{climbs}
 use Rattle.expressions.specs.Classes.{Class, Right, Sole, Stepped, Within, Cons, Over, Round, Bars, Square, Last, All, Count, Low, High, One, Two, More, Bound, Upper, Member, classNumber, classes}
 use Rattle.expressions.specs.Frames.{Frame, turned, resume, plug}
-use Rattle.expressions.specs.Stack.{slotIndex, slotClass, topSlot, Slot, SlotsAt, Stacked, Rooted, startOf, Trees, levelBits}
+use Rattle.expressions.specs.Stack.{slotIndex, slotClass, topSlot, Slot, SlotsAt, Stacked, Rooted, startOf, Trees}
 use Rattle.expressions.specs.StackLaws.{slot-class, slot-level, slot-index, stacked-apart, stacked-few, stacked-less, stacked-pop, stacked-emit}
 use Rattle.expressions.specs.Machines.{Tops}
 use Rattle.expressions.specs.States.{slot, slotsBy, slotsOf, treesBy, behind, base, Firm, creditBy, credits, Turned}
-use Rattle.expressions.specs.Complete.{Complete, Builds, builtOf, builtIn, behind-append, spans}
+use Rattle.expressions.specs.Complete.{Complete, Builds, builtOf, builtIn}
+use Rattle.expressions.specs.SpanLaws.{behind-append, spans}
 
 -- the class of a number
 class-of : (c : Class) → getD (Right ∷ classes) (classNumber c) Right ≡ c
@@ -159,7 +162,7 @@ module _ {ts : Tokens} {s : Cursor} {x : Read Expr} {w : List ℕ} {m : Machine}
   class-few deep = of-class (λ n. n ≤ classNumber Member) number-few deep
 
   -- a sign stands at the cursor
-  pub sign-inside : (k : ℕ) → kindAt w (m .c) ≡ k → 0 < k → m .c .at < m .c .count
+  pub sign-inside : (k : ℕ) → numberAt w (m .c) ≡ k → 0 < k → m .c .at < m .c .count
   sign-inside k e l = before-end w (m .c) (omega arith)
 
   pub complete-fits : Fits w (m .c)
@@ -184,7 +187,7 @@ module _ {ts : Tokens} {s : Cursor} {x : Read Expr} {w : List ℕ} {m : Machine}
 module _ {ts : Tokens} {s : Cursor} (x : Read Expr) {w : List ℕ} (m : Machine) (cls lev : ℕ) (tok : Token) (css : List (List Entry)) (firm-css : Every Rooted css) (Gs : List Frame)
     (firm : Every Firm Gs) (tree : Expr) (rooted : Rooted (flat tree))
     (d : Cursor) (n : ℕ) (at-d : Stacked ts s w d (m .depth) (slot cls lev tok [] ∷ slotsOf Gs) (behind (base Gs) css ++ flat tree) n)
-    (e : Expr) (kind : ℕ) (small : kind < 64) (t : Option Token) (made : flat e ≡ under kind t (behind [] css ++ flat tree))
+    (e : Expr) (kind : ℕ) (small : kind < Kind.limit) (t : Option Token) (made : flat e ≡ under kind t (behind [] css ++ flat tree))
   where
     abbrev count : ℕ
     count = suc (length css)

@@ -5,8 +5,9 @@ use mathlib.Core.Bool.{true, false}
 use lib.ListN.{length}
 use Rattle.language.specs.Limits.{maxTokens, workBytes}
 use Rattle.entries.specs.declared.Cursor.{Cursor}
+use Rattle.operators.specs.Fields.{levelBits}
 use Rattle.expressions.specs.declared.stack.Machine.{Machine}
-use Rattle.expressions.specs.Stack.{Trees, classBits, levelBits}
+use Rattle.expressions.specs.Stack.{Trees, classBits}
 
 pub record Pushes (w : List ℕ) (m : Machine) (class token : ℕ) : Type 0 where
   pub room : workBytes ≤ length w

@@ -12,28 +12,26 @@ use Rattle.language.specs.Grammar.{Tokens}
 use Rattle.language.specs.Limits.{maxTokens}
 use Rattle.language.specs.Operators.{loosest}
 use Rattle.entries.specs.Flat.{Entry, under}
-use Rattle.entries.specs.Stored.{firstEntry, fieldBits, sizeOf, Keeps, EntriesFrom}
+use Rattle.entries.specs.Stored.{workWords, firstEntry, fieldBits, sizeOf, Keeps, EntriesFrom}
 use Rattle.entries.specs.Cursors.{Ready}
 use Rattle.entries.specs.declared.Cursor.{Cursor}
+use Rattle.operators.specs.Fields.{levelBits}
 use Rattle.expressions.specs.Classes.{boundLevel}
 
 -- the last word of the work buffer, and the end behind it
 abbrev pub lastWord : ℕ
-lastWord = 16_383
+lastWord = workWords - 1
 
 abbrev pub stackTop : ℕ
 stackTop = lastWord + 1
 
--- the bits of a class and of a level; a token's index has as many as in an entry
+-- the bits of a class; a level has as many as in an operator's row, a token's index as in an entry
 abbrev pub classBits : ℕ
 classBits = 5
 
-abbrev pub levelBits : ℕ
-levelBits = 5
-
 -- what the code's constants stand for
 abbrev pub constants : List ℕ
-constants = 2 ^ levelBits ∷ lastWord ∷ stackTop ∷ loosest ∷ boundLevel ∷ []
+constants = lastWord ∷ stackTop ∷ loosest ∷ boundLevel ∷ []
 
 abbrev pub slotWord : ℕ → ℕ → ℕ → ℕ
 slotWord class level index = join fieldBits (join levelBits class level) index

@@ -12,6 +12,7 @@ use Rattle.words.specs.WordLaws.{word-same, word-other}
 use Rattle.language.specs.Tokens.{Token}
 use Rattle.language.specs.Grammar.{Tokens}
 use Rattle.language.specs.Limits.{maxTokens}
+use Rattle.entries.specs.Kinds as Kind
 use Rattle.entries.specs.Flat.{Entry}
 use Rattle.entries.specs.Stored.{firstEntry, fieldBits, entryWord, putEntry, Keeps, EntryAt, EntriesFrom}
 use Rattle.entries.specs.StoredLaws.{entry-put, entries-kept, entries-append, entries-right, under-size}
@@ -20,7 +21,8 @@ use Rattle.entries.specs.CursorLaws.{ready-next}
 use Rattle.entries.specs.Reads.{Kept}
 use Rattle.entries.specs.ReadsLaws.{kept-put, ready-kept, ready-emitted}
 use Rattle.entries.specs.declared.Cursor.{Cursor}
-use Rattle.expressions.specs.Stack.{levelBits, slotWord, slotClass, slotLevel, slotIndex, putSlot, topSlot, Slot, Follow, SlotAt, SlotsAt, Stacked, Rooted, sizeAt, startOf, Trees, lastWord, stackTop, classBits}
+use Rattle.operators.specs.Fields.{levelBits}
+use Rattle.expressions.specs.Stack.{slotWord, slotClass, slotLevel, slotIndex, putSlot, topSlot, Slot, Follow, SlotAt, SlotsAt, Stacked, Rooted, sizeAt, startOf, Trees, lastWord, stackTop, classBits}
 
 -- what a slot's word holds
 module _ {w : List ℕ} {ts : Tokens} {depth : ℕ} {slot : Slot} (h : SlotAt w ts depth slot) where
@@ -121,7 +123,7 @@ module _ {ts : Tokens} {s : Cursor} {w : List ℕ} {c : Cursor} {depth : ℕ} {s
       }
 
   -- one entry more
-  pub stacked-emit : (k j m : ℕ) (t : Option Token) → Keeps ts j t → k < 64 → j < maxTokens → m < maxTokens
+  pub stacked-emit : (k j m : ℕ) (t : Option Token) → Keeps ts j t → k < Kind.limit → j < maxTokens → m < maxTokens
       → Stacked ts s (putEntry w (c .out) k j m) (emittedOf c) depth slots (es ++ (record { kind = k; token = t; size = m } ∷ [])) n
   stacked-emit k j m t keeps hk hj hm =
       let apart = stacked-apart h in

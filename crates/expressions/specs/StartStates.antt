@@ -21,9 +21,10 @@ use Rattle.entries.specs.Kinds as Kind
 use Rattle.entries.specs.Flat.{leaf, flat}
 use Rattle.entries.specs.Stored.{putEntry}
 use Rattle.entries.specs.declared.Cursor.{Cursor}
-use Rattle.entries.specs.Cursors.{Ready, kindAt, refusedAt, nextOf, emittedOf}
-use Rattle.entries.specs.CursorLaws.{ready-kind, ready-next, before-end, drop-next}
+use Rattle.entries.specs.Cursors.{Ready, numberAt, refusedAt, nextOf, emittedOf}
+use Rattle.entries.specs.CursorLaws.{ready-number, ready-next, before-end, drop-next}
 use Rattle.entries.specs.TokenReads.{next-number}
+use Rattle.operators.specs.Fields.{levelBits}
 use Rattle.expressions.specs.declared.stack.Machine.{Machine}
 use Rattle.expressions.specs.declared.stack.Turn.the-variants.{Next, Ended}
 use Rattle.operators.specs.Readers.{reads, climbs, prefixRow}
@@ -32,7 +33,7 @@ use Rattle.expressions.specs.Frames.{frame, resume}
 use Rattle.operators.specs.Tables.{prefixAt}
 use Rattle.operators.specs.RowLaws.{prefix-none}
 use Rattle.expressions.specs.StartLaws.{starter, starts-numeral, starts-true, starts-false, starts-round, starts-bars, starts-name, starts-index, starts-empty, starts-set, starts-not}
-use Rattle.expressions.specs.Stack.{putSlot, levelBits}
+use Rattle.expressions.specs.Stack.{putSlot}
 use Rattle.expressions.specs.StackLaws.{stacked-less, stacked-next}
 use Rattle.expressions.specs.Machines.{pushedOf, climbingOf}
 use Rattle.expressions.specs.States.{credits, Simple, Marked, State, Turned}
@@ -59,36 +60,36 @@ module _ {ts : Tokens} {s : Cursor} {x : Read Expr} {w : List ℕ} {m : Machine}
   us = drop (m .c .at) ts
 
   -- the next token by its number
-  pub number-here : (k : ℕ) → kindAt w (m .c) ≡ k → number (here h) ≡ k
-  number-here k e = sym (ready-kind ready) ∙ e
+  pub number-here : (k : ℕ) → numberAt w (m .c) ≡ k → number (here h) ≡ k
+  number-here k e = sym (ready-number ready) ∙ e
 
-  pub inside : 0 < kindAt w (m .c) → m .c .at < m .c .count
+  pub inside : 0 < numberAt w (m .c) → m .c .at < m .c .count
   inside l = before-end w (m .c) l
 
   -- what follows it
-  pub next-sign : (l : m .c .at < m .c .count) (sign : String) → isOneOf spellings (ascii sign) ≡ true → next sign (rest us) ≡ eqb (kindAt w (nextOf (m .c))) (fixed sign)
+  pub next-sign : (l : m .c .at < m .c .count) (sign : String) → isOneOf spellings (ascii sign) ≡ true → next sign (rest us) ≡ eqb (numberAt w (nextOf (m .c))) (fixed sign)
   next-sign l sign known = ap (next sign) (sym (drop-next (m .c .at) ts)) ∙ next-number (ready-next ready l) sign known
 
-  next-inside : (l : m .c .at < m .c .count) → 0 < kindAt w (nextOf (m .c)) → m .c .at + 1 < m .c .count
+  next-inside : (l : m .c .at < m .c .count) → 0 < numberAt w (nextOf (m .c)) → m .c .at + 1 < m .c .count
   next-inside l k = before-end w (nextOf (m .c)) k
 
-  no-row : prefixAt (kindAt w (m .c)) ≡ 0 → prefixRow (here h) ≡ none
-  no-row e = prefix-none (here h) (ap prefixAt (sym (ready-kind ready)) ∙ e)
+  no-row : prefixAt (numberAt w (m .c)) ≡ 0 → prefixRow (here h) ≡ none
+  no-row e = prefix-none (here h) (ap prefixAt (sym (ready-number ready)) ∙ e)
 
   -- an entry for the next token
-  leaf-turn : (e : Expr) (k : ℕ) → flat e ≡ leaf k (here h) → k < 64 → 0 < kindAt w (m .c) → reads (m .level) us ≡ climbs (m .level) e (rest us) → Turned ts s x w (leafWritten w m k) m (leafOf m)
+  leaf-turn : (e : Expr) (k : ℕ) → flat e ≡ leaf k (here h) → k < Kind.limit → 0 < numberAt w (m .c) → reads (m .level) us ≡ climbs (m .level) e (rest us) → Turned ts s x w (leafWritten w m k) m (leafOf m)
   leaf-turn e k one small l step = completes-at h e k one small (inside l) (nextOf (m .c)) (omega arith) refl (stacked-next (h .stacked) (inside l))
       (step ∙ ap (climbs (m .level) e) (sym (drop-next (m .c .at) ts)))
 
   -- a frame for the next token, past it or past two
-  pub enter-next : (K : Class) (l : ℕ) → Simple K → Marked K (here h) → 0 < kindAt w (m .c) → 0 < l → l < 2 ^ levelBits
+  pub enter-next : (K : Class) (l : ℕ) → Simple K → Marked K (here h) → 0 < numberAt w (m .c) → 0 < l → l < 2 ^ levelBits
       → reads (m .level) us ≡ (reads l (rest us) >>= λ (y, vs). resume (frame K (m .level) (here h)) y vs)
       → Turned ts s x w (putSlot w (m .depth) (classNumber K) (m .level) (m .c .at)) m (Next (pushedOf m (nextOf (m .c)) l))
   enter-next K l simple marked i p q step =
       enters h K (nextOf (m .c)) l simple marked (inside i) (omega arith) (stacked-next (h .stacked) (inside i)) p q
       (step ∙ ap (λ vs. reads l vs >>= λ (y, ws). resume (frame K (m .level) (here h)) y ws) (sym (drop-next (m .c .at) ts)))
 
-  pub enter-second : (K : Class) (l : ℕ) → Simple K → Marked K (here h) → 0 < kindAt w (m .c) → 0 < kindAt w (nextOf (m .c)) → 0 < l → l < 2 ^ levelBits
+  pub enter-second : (K : Class) (l : ℕ) → Simple K → Marked K (here h) → 0 < numberAt w (m .c) → 0 < numberAt w (nextOf (m .c)) → 0 < l → l < 2 ^ levelBits
       → reads (m .level) us ≡ (reads l (rest (rest us)) >>= λ (y, vs). resume (frame K (m .level) (here h)) y vs)
       → Turned ts s x w (putSlot w (m .depth) (classNumber K) (m .level) (m .c .at)) m (Next (pushedOf m (nextOf (nextOf (m .c))) l))
   enter-second K l simple marked i j p q step =
@@ -97,60 +98,60 @@ module _ {ts : Tokens} {s : Cursor} {x : Read Expr} {w : List ℕ} {m : Machine}
       (stacked-less (stacked-next (stacked-next (h .stacked) (inside i)) n) (suc (credits (h .frames))) (omega arith)) p q
       (step ∙ ap (λ vs. reads l vs >>= λ (y, ws). resume (frame K (m .level) (here h)) y ws) (sym (drop-two (m .c .at) ts)))
 
-  module _ (none-here : prefixAt (kindAt w (m .c)) ≡ 0) where
-    pub turn-numeral : kindAt w (m .c) ≡ tokenNumber Digits → Turned ts s x w (leafWritten w m Kind.numeral) m (leafOf m)
+  module _ (none-here : prefixAt (numberAt w (m .c)) ≡ 0) where
+    pub turn-numeral : numberAt w (m .c) ≡ tokenNumber Digits → Turned ts s x w (leafWritten w m Kind.numeral) m (leafOf m)
     turn-numeral e = leaf-turn (Numeral (here h)) Kind.numeral refl (lit< tt) (omega arith) (starts-numeral (m .level) us (no-row none-here) (number-here (tokenNumber Digits) e))
 
-    pub turn-true : kindAt w (m .c) ≡ fixed "true" → Turned ts s x w (leafWritten w m Kind.truth) m (leafOf m)
+    pub turn-true : numberAt w (m .c) ≡ fixed "true" → Turned ts s x w (leafWritten w m Kind.truth) m (leafOf m)
     turn-true e = leaf-turn (Truth (here h) true) Kind.truth refl (lit< tt) (omega arith) (starts-true (m .level) us (no-row none-here) (number-here _ e))
 
-    pub turn-false : kindAt w (m .c) ≡ fixed "false" → Turned ts s x w (leafWritten w m Kind.truth) m (leafOf m)
+    pub turn-false : numberAt w (m .c) ≡ fixed "false" → Turned ts s x w (leafWritten w m Kind.truth) m (leafOf m)
     turn-false e = leaf-turn (Truth (here h) false) Kind.truth refl (lit< tt) (omega arith) (starts-false (m .level) us (no-row none-here) (number-here _ e))
 
-    pub turn-round : kindAt w (m .c) ≡ fixed "(" → Turned ts s x w (putSlot w (m .depth) (classNumber Round) (m .level) (m .c .at)) m (Next (pushedOf m (nextOf (m .c)) loosest))
+    pub turn-round : numberAt w (m .c) ≡ fixed "(" → Turned ts s x w (putSlot w (m .depth) (classNumber Round) (m .level) (m .c .at)) m (Next (pushedOf m (nextOf (m .c)) loosest))
     turn-round e = enter-next Round loosest (record { slots = λ l t. refl; trees = λ l t. refl; credit = refl; class = lit< tt }) (λ e. omega arith, tt) (omega arith) (lit< tt) (lit< tt)
         (starts-round (m .level) us (no-row none-here) (number-here _ e))
 
-    pub turn-bars : kindAt w (m .c) ≡ fixed "|" → Turned ts s x w (putSlot w (m .depth) (classNumber Bars) (m .level) (m .c .at)) m (Next (pushedOf m (nextOf (m .c)) loosest))
+    pub turn-bars : numberAt w (m .c) ≡ fixed "|" → Turned ts s x w (putSlot w (m .depth) (classNumber Bars) (m .level) (m .c .at)) m (Next (pushedOf m (nextOf (m .c)) loosest))
     turn-bars e = enter-next Bars loosest (record { slots = λ l t. refl; trees = λ l t. refl; credit = refl; class = lit< tt }) (λ e. omega arith, tt) (omega arith) (lit< tt) (lit< tt)
         (starts-bars (m .level) us (no-row none-here) (number-here _ e))
 
     -- no operand begins here
-    pub turn-not : ((k : ℕ) → starter k ≡ true → kindAt w (m .c) ≡ k → ⊥) → Turned ts s x w w m (Ended (refusedAt w (m .c)))
-    turn-not f = refuses h (starts-not (m .level) us (no-row none-here) (λ k z e. f k z (ready-kind ready ∙ e)))
+    pub turn-not : ((k : ℕ) → starter k ≡ true → numberAt w (m .c) ≡ k → ⊥) → Turned ts s x w w m (Ended (refusedAt w (m .c)))
+    turn-not f = refuses h (starts-not (m .level) us (no-row none-here) (λ k z e. f k z (ready-number ready ∙ e)))
 
   -- a name
-  module _ (named : kindAt w (m .c) ≡ tokenNumber Name) where
+  module _ (named : numberAt w (m .c) ≡ tokenNumber Name) where
     name-row : prefixRow (here h) ≡ none
     unfolding prefixAt
     name-row = no-row (ap prefixAt named)
 
-    pub turn-name : (kindAt w (nextOf (m .c)) ≡ fixed "[" → ⊥) → Turned ts s x w (leafWritten w m Kind.named) m (leafOf m)
+    pub turn-name : (numberAt w (nextOf (m .c)) ≡ fixed "[" → ⊥) → Turned ts s x w (leafWritten w m Kind.named) m (leafOf m)
     turn-name f =
         leaf-turn (Named (here h)) Kind.named refl (lit< tt) (omega arith)
-        (starts-name (m .level) us name-row (number-here (tokenNumber Name) named) (next-sign (inside (omega arith)) "[" refl ∙ ne-eqb (kindAt w (nextOf (m .c))) _ f))
+        (starts-name (m .level) us name-row (number-here (tokenNumber Name) named) (next-sign (inside (omega arith)) "[" refl ∙ ne-eqb (numberAt w (nextOf (m .c))) _ f))
 
-    pub turn-index : kindAt w (nextOf (m .c)) ≡ fixed "[" → Turned ts s x w (putSlot w (m .depth) (classNumber Square) (m .level) (m .c .at)) m (Next (pushedOf m (nextOf (nextOf (m .c))) loosest))
+    pub turn-index : numberAt w (nextOf (m .c)) ≡ fixed "[" → Turned ts s x w (putSlot w (m .depth) (classNumber Square) (m .level) (m .c .at)) m (Next (pushedOf m (nextOf (nextOf (m .c))) loosest))
     turn-index e =
         enter-second Square loosest (record { slots = λ l t. refl; trees = λ l t. refl; credit = refl; class = lit< tt }) (λ e. omega arith, tt) (omega arith) (omega arith) (lit< tt) (lit< tt)
-        (starts-index (m .level) us name-row (number-here (tokenNumber Name) named) (next-sign (inside (omega arith)) "[" refl ∙ eq-eqb (kindAt w (nextOf (m .c))) _ e))
+        (starts-index (m .level) us name-row (number-here (tokenNumber Name) named) (next-sign (inside (omega arith)) "[" refl ∙ eq-eqb (numberAt w (nextOf (m .c))) _ e))
 
   -- a set
-  module _ (brace : kindAt w (m .c) ≡ fixed "{") where
+  module _ (brace : numberAt w (m .c) ≡ fixed "{") where
     brace-row : prefixRow (here h) ≡ none
     unfolding prefixAt
     brace-row = no-row (ap prefixAt brace)
 
-    pub turn-empty : kindAt w (nextOf (m .c)) ≡ fixed "}" → Turned ts s x w (putEntry w (m .c .out) Kind.listed (m .c .at) 1) m (Next (climbingOf m (emittedOf (nextOf (nextOf (m .c))))))
+    pub turn-empty : numberAt w (nextOf (m .c)) ≡ fixed "}" → Turned ts s x w (putEntry w (m .c .out) Kind.listed (m .c .at) 1) m (Next (climbingOf m (emittedOf (nextOf (nextOf (m .c))))))
     turn-empty e =
         let i = inside (omega arith) in
         let n = next-inside i (omega arith) in
         completes-at h (Listed (here h) Empty) Kind.listed refl (lit< tt) i (nextOf (nextOf (m .c))) (omega arith) refl
         (stacked-less (stacked-next (stacked-next (h .stacked) i) n) (suc (credits (h .frames))) (omega arith))
-        (starts-empty (m .level) us brace-row (number-here _ brace) (next-sign i "}" refl ∙ eq-eqb (kindAt w (nextOf (m .c))) _ e) ∙ ap (climbs (m .level) (Listed (here h) Empty))
+        (starts-empty (m .level) us brace-row (number-here _ brace) (next-sign i "}" refl ∙ eq-eqb (numberAt w (nextOf (m .c))) _ e) ∙ ap (climbs (m .level) (Listed (here h) Empty))
         (sym (drop-two (m .c .at) ts)))
 
-    pub turn-set : (kindAt w (nextOf (m .c)) ≡ fixed "}" → ⊥) → Turned ts s x w (putSlot w (m .depth) (classNumber One) (m .level) (m .c .at)) m (Next (pushedOf m (nextOf (m .c)) loosest))
+    pub turn-set : (numberAt w (nextOf (m .c)) ≡ fixed "}" → ⊥) → Turned ts s x w (putSlot w (m .depth) (classNumber One) (m .level) (m .c .at)) m (Next (pushedOf m (nextOf (m .c)) loosest))
     turn-set f =
         enter-next One loosest (record { slots = λ l t. refl; trees = λ l t. refl; credit = refl; class = lit< tt }) (λ e. omega arith, tt) (omega arith) (lit< tt) (lit< tt)
-        (starts-set (m .level) us brace-row (number-here _ brace) (next-sign (inside (omega arith)) "}" refl ∙ ne-eqb (kindAt w (nextOf (m .c))) _ f))
+        (starts-set (m .level) us brace-row (number-here _ brace) (next-sign (inside (omega arith)) "}" refl ∙ ne-eqb (numberAt w (nextOf (m .c))) _ f))

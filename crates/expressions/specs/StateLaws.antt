@@ -13,6 +13,7 @@ use Rattle.language.specs.Tree.{Expr, Empty}
 use Rattle.language.specs.Grammar.{Tokens, Read, front, stop}
 use Rattle.language.specs.Laws.Basics.Lists.{All as Every}
 use Rattle.language.specs.Limits.{maxTokens}
+use Rattle.entries.specs.Kinds as Kind
 use Rattle.entries.specs.Flat.{leaf, flat}
 use Rattle.entries.specs.Stored.{firstEntry, entryWord, putEntry, Keeps}
 use Rattle.entries.specs.declared.Cursor.{Cursor}
@@ -21,12 +22,13 @@ use Rattle.entries.specs.Cursors.{Fits, Ready, refusedAt, emittedOf}
 use Rattle.entries.specs.CursorLaws.{ready-place}
 use Rattle.entries.specs.Reads.{Kept, Outcome}
 use Rattle.entries.specs.ReadsLaws.{kept-same, kept-put}
+use Rattle.operators.specs.Fields.{levelBits}
 use Rattle.expressions.specs.declared.stack.Machine.{Machine}
 use Rattle.expressions.specs.declared.stack.Turn.the-variants.{Next, Ended}
 use Rattle.operators.specs.Readers.{reads, climbs}
 use Rattle.expressions.specs.Classes.{Class, classNumber}
 use Rattle.expressions.specs.Frames.{Frame, frame, resume, plug}
-use Rattle.expressions.specs.Stack.{slotWord, putSlot, Stacked, Rooted, lastWord, levelBits}
+use Rattle.expressions.specs.Stack.{slotWord, putSlot, Stacked, Rooted, lastWord}
 use Rattle.expressions.specs.StackLaws.{stacked-apart, stacked-few, stacked-push, stacked-emit}
 use Rattle.expressions.specs.Machines.{pushedOf, climbingOf}
 use Rattle.expressions.specs.States.{slot, slotsOf, treesBy, behind, base, Firm, creditBy, credits, current, State, Turned, Simple, Marked}
@@ -133,7 +135,7 @@ module _ {ts : Tokens} {s : Cursor} {x : Read Expr} {w : List ℕ} {m : Machine}
       }
 
   -- the next token makes an operand e without others, up to the cursor d
-  pub completes-at : (e : Expr) (k : ℕ) → flat e ≡ leaf k (here h) → k < 64 → m .c .at < m .c .count → (d : Cursor) → m .c .at < d .at → d .out ≡ m .c .out
+  pub completes-at : (e : Expr) (k : ℕ) → flat e ≡ leaf k (here h) → k < Kind.limit → m .c .at < m .c .count → (d : Cursor) → m .c .at < d .at → d .out ≡ m .c .out
       → Stacked ts s w d (m .depth) (slotsOf (h .frames)) (base (h .frames) ++ []) (suc (credits (h .frames)))
       → reads (m .level) (drop (m .c .at) ts) ≡ climbs (m .level) e (drop (d .at) ts)
       → Turned ts s x w (putEntry w (m .c .out) k (m .c .at) 1) m (Next (climbingOf m (emittedOf d)))

@@ -17,6 +17,7 @@ use Rattle.entries.specs.Kinds as Kind
 use Rattle.entries.specs.Flat.{Entry, under, flat}
 use Rattle.entries.specs.declared.Cursor.{Cursor}
 use Rattle.entries.specs.Reads.{Kept, Outcome}
+use Rattle.operators.specs.Fields.{levelBits}
 use Rattle.expressions.specs.declared.stack.Machine.{Machine}
 use Rattle.expressions.specs.declared.stack.Turn.{Turn}
 use Rattle.expressions.specs.declared.stack.Turn.the-variants.{Next, Ended}
@@ -24,7 +25,7 @@ use Rattle.operators.specs.Readers.{reads, climbs, roleAt, soleOf, bigOf}
 use Rattle.expressions.specs.Classes.{Class, Right, Sole, Stepped, Within, Cons, Over, Round, Bars, Square, Last, All, Count, Low, High, One, Two, More, Bound, Upper, Member, classNumber}
 use Rattle.expressions.specs.Frames.{Frame, frame, plug}
 use Rattle.operators.specs.Tables.{soleKind, windowKind, infixAt, prefixAt}
-use Rattle.expressions.specs.Stack.{Slot, Stacked, Rooted, classBits, levelBits}
+use Rattle.expressions.specs.Stack.{Slot, Stacked, Rooted, classBits}
 
 abbrev pub slot : ℕ → ℕ → Token → List Token → Slot
 slot class level t us = record { class = class; level = level; token = t; next = us }

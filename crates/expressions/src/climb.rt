@@ -7,17 +7,17 @@ use crate::roles::operand;
 use crate::sets::all;
 use crate::sets::further;
 use crate::sets::set;
-use crate::stack::LEVELS;
 use crate::stack::Machine;
 use crate::stack::Turn;
 use entries::Parse;
 use entries::fields::TOKENS;
+use operators::fields::LEVELS;
 use operators::infixes;
 use operators::infixes::infix;
 ghost use mathlib.Core.Path.{_≡_};
 ghost use mathlib.Core.Bool.{true, not, _&&_};
-ghost use Prim.Native.Nat.{_%_};
 ghost use lib.Dec.{eqb, leb};
+ghost use Rattle.operators.specs.Fields.{levelField};
 ghost use Rattle.expressions.specs.States.{Standing, Steps};
 ghost use Rattle.expressions.specs.Complete.{Completed, Ends};
 
@@ -51,7 +51,7 @@ fn pop(m: Machine, work: &mut [u8]) -> Turn
 
 // The row is that of an operator, of a level up to this one.
 fn tight(row: u32, level: u32) -> bool
-    ensures { λ r. ⌜ r ≡ (not (eqb row 0) && leb (row % 32) level) ⌝ }
+    ensures { λ r. ⌜ r ≡ (not (eqb row 0) && leb (levelField row) level) ⌝ }
 {
     if row == 0 {
         return false;
@@ -66,7 +66,7 @@ fn climb(m: Machine, work: &mut [u8]) -> Turn
 {
     let c = m.c;
     let at = c.at;
-    let q = infix(c.kind(work));
+    let q = infix(c.number(work));
     if tight(q, m.level) {
         return Turn::Next(m.push(
             work,

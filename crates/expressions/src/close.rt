@@ -1,6 +1,5 @@
 // An expression is complete: its frame makes a tree of it.
 use crate::classes;
-use crate::stack::LEVELS;
 use crate::stack::Machine;
 use crate::stack::Turn;
 use crate::stack::start_of;
@@ -10,6 +9,7 @@ use entries::kinds;
 use lexer::fields::LENGTHS;
 use lexer::fields::OFFSETS;
 use lexer::numbers;
+use operators::fields::LEVELS;
 use operators::infixes;
 use operators::infixes::infix;
 use operators::prefixes;
@@ -80,7 +80,7 @@ pub fn close(m: Machine, work: &mut [u8]) -> Turn
     let c = m.c;
     let f = m.top(work);
     let class = f / TOKENS / LEVELS;
-    let k = c.kind(work);
+    let k = c.number(work);
     if class == classes::ROUND {
         if k == numbers::CLOSE_PAREN {
             return build(m, work, c.next(), kinds::PAREN, 1);

@@ -4,7 +4,6 @@ use crate::close::operator;
 use crate::roles::binder;
 use crate::sets::grow;
 use crate::stack::BOUNDS;
-use crate::stack::LEVELS;
 use crate::stack::Machine;
 use crate::stack::Turn;
 use entries::Cursor;
@@ -13,7 +12,9 @@ use entries::kinds;
 use lexer::fields::LENGTHS;
 use lexer::fields::OFFSETS;
 use lexer::numbers;
+use operators::fields::LEVELS;
 use operators::prefixes::prefix;
+use operators::signs::strict;
 use words::get;
 ghost use mathlib.Core.Path.{_≡_};
 ghost use Prim.Native.Nat.{_≤_, _<_};
@@ -24,19 +25,9 @@ ghost use Rattle.lexer.specs.Stored.{numberIn};
 ghost use Rattle.expressions.specs.Classes.{Bound, classNumber};
 ghost use Rattle.expressions.specs.Stack.{topSlot, slotClass};
 ghost use Rattle.expressions.specs.Complete.{Completed, Ends};
-ghost use Rattle.expressions.specs.Signs.{strictAt, signAt};
+ghost use Rattle.expressions.specs.Signs.{signAt};
 ghost use Rattle.expressions.specs.NameStates.{Ranging, Binds, binderKind};
 ghost use Rattle.expressions.specs.NameStarts.{betweenAt};
-
-// Does the sign leave its bound out?
-fn strict(number: u32) -> bool
-    ensures { λ r. ⌜ r ≡ strictAt number ⌝ }
-{
-    if number == numbers::LESS {
-        return true;
-    }
-    number == numbers::LE
-}
 
 // Is it a sign of bounds?
 fn sign(number: u32) -> bool
@@ -86,7 +77,7 @@ fn named(m: Machine, work: &mut [u8], c: Cursor, name: usize) -> Turn
 {
     let f = m.top(work);
     let d = grow(c, work, binder_kind(f / TOKENS % LEVELS), name, 1);
-    let k = d.kind(work);
+    let k = d.number(work);
     if k == numbers::COMMA {
         let n = Machine {
             c: d,
@@ -116,15 +107,15 @@ fn low(m: Machine, work: &mut [u8]) -> Turn
 {
     let c = m.c;
     let at = c.at;
-    if !sign(c.kind(work)) {
+    if !sign(c.number(work)) {
         return Turn::Ended(c.refuse(work));
     }
     let d = c.next();
-    if d.kind(work) != numbers::NAME {
+    if d.number(work) != numbers::NAME {
         return Turn::Ended(d.refuse(work));
     }
     let e = d.next();
-    if !sign(e.kind(work)) {
+    if !sign(e.number(work)) {
         return Turn::Ended(e.refuse(work));
     }
     let f = m.top(work);

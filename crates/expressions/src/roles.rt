@@ -1,7 +1,6 @@
 // How an operand begins with an operator, and how a name of a big operator does.
 use crate::classes;
 use crate::stack::BOUNDS;
-use crate::stack::LEVELS;
 use crate::stack::LOOSEST;
 use crate::stack::Machine;
 use crate::stack::Turn;
@@ -9,12 +8,14 @@ use crate::start::atom;
 use entries::Cursor;
 use entries::Parse;
 use lexer::numbers;
+use operators::fields::LEVELS;
 use operators::prefixes;
 use operators::prefixes::prefix;
 ghost use mathlib.Core.Path.{_≡_};
 ghost use mathlib.Core.Bool.{false};
-ghost use Prim.Native.Nat.{_/_, _%_, _≤_};
-ghost use Rattle.entries.specs.Cursors.{Fits, kindAt};
+ghost use Prim.Native.Nat.{_≤_};
+ghost use Rattle.entries.specs.Cursors.{Fits, numberAt};
+ghost use Rattle.operators.specs.Fields.{levelField, roleField, foldingRole};
 ghost use Rattle.operators.specs.Tables.{prefixAt};
 ghost use Rattle.expressions.specs.States.{Standing, Steps};
 ghost use Rattle.expressions.specs.Binders.{amongAt, memberAt, Naming, Names};
@@ -36,8 +37,8 @@ fn member(c: Cursor, work: &[u8]) -> bool
     requires { ⌜ Fits (now work) c ⌝ }
     ensures { λ r. ⌜ r ≡ memberAt (now (work .entry)) c ⌝ }
 {
-    if c.kind(work) == numbers::NAME {
-        return among(c.next().kind(work));
+    if c.number(work) == numbers::NAME {
+        return among(c.next().number(work));
     }
     false
 }
@@ -57,7 +58,7 @@ pub fn binder(m: Machine, work: &mut [u8], c: Cursor, token: usize) -> Machine
 
 // A big operator.
 fn fold(m: Machine, work: &mut [u8]) -> Turn
-    requires { ⌜ Standing false (now work) m × (prefixAt (kindAt (now work) (m .c)) / 32 % 8 ≡ 4) × (prefixAt (kindAt (now work) (m .c)) % 32 ≤ m .level) ⌝ }
+    requires { ⌜ Standing false (now work) m × (roleField (prefixAt (numberAt (now work) (m .c))) ≡ foldingRole) × (levelField (prefixAt (numberAt (now work) (m .c))) ≤ m .level) ⌝ }
     ensures { λ r. ⌜ Steps false (now (work .entry)) (now (work .exit)) m r ⌝ }
 {
     let c = m.c;
@@ -76,7 +77,7 @@ pub fn operand(m: Machine, work: &mut [u8]) -> Turn
 {
     let c = m.c;
     let at = c.at;
-    let p = prefix(c.kind(work));
+    let p = prefix(c.number(work));
     if p == 0 {
         return atom(m, work);
     }
@@ -92,7 +93,7 @@ pub fn operand(m: Machine, work: &mut [u8]) -> Turn
     if role == prefixes::PLAIN {
         return Turn::Next(m.push(work, classes::SOLE, at, d, level));
     }
-    if d.kind(work) != numbers::OPEN_BRACKET {
+    if d.number(work) != numbers::OPEN_BRACKET {
         return Turn::Next(m.push(work, classes::SOLE, at, d, level));
     }
     if role == prefixes::COUNTED {

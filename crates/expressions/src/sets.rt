@@ -2,7 +2,6 @@
 use crate::classes;
 use crate::close::build;
 use crate::close::operator;
-use crate::stack::LEVELS;
 use crate::stack::LOOSEST;
 use crate::stack::Machine;
 use crate::stack::Turn;
@@ -11,6 +10,7 @@ use entries::Cursor;
 use entries::fields::TOKENS;
 use entries::kinds;
 use lexer::numbers;
+use operators::fields::LEVELS;
 use operators::prefixes::prefix;
 ghost use mathlib.Core.Path.{_≡_};
 ghost use Prim.Native.Nat.{_≤_, _<_, _^_};
@@ -52,7 +52,7 @@ pub fn further(m: Machine, work: &mut [u8]) -> Turn
     let c = m.c;
     let f = m.top(work);
     let class = f / TOKENS / LEVELS;
-    let k = c.kind(work);
+    let k = c.number(work);
     if class == classes::LOW {
         if k == numbers::COLON {
             return reopen(m, work, c.next(), classes::HIGH, LOOSEST);
@@ -85,7 +85,7 @@ fn element(m: Machine, work: &mut [u8]) -> Machine
 {
     let c = m.c;
     let at = c.at;
-    if c.kind(work) == numbers::COMMA {
+    if c.number(work) == numbers::COMMA {
         let n = m.push(work, classes::CONS, at, c, 0);
         return n.push(work, classes::MORE, at, c.next(), LOOSEST);
     }
@@ -106,7 +106,7 @@ pub fn set(m: Machine, work: &mut [u8]) -> Turn
     let c = m.c;
     let f = m.top(work);
     let class = f / TOKENS / LEVELS;
-    let k = c.kind(work);
+    let k = c.number(work);
     if class == classes::ONE {
         if k == numbers::COMMA {
             return reopen(m, work, c.next(), classes::TWO, LOOSEST);
@@ -133,7 +133,7 @@ pub fn all(m: Machine, work: &mut [u8]) -> Turn
     ensures { λ r. ⌜ Ends (now (work .entry)) (now (work .exit)) m r ⌝ }
 {
     let c = m.c;
-    if c.kind(work) == numbers::CLOSE_BRACE {
+    if c.number(work) == numbers::CLOSE_BRACE {
         return listed(m, work, c.next(), 2);
     }
     Turn::Ended(c.refuse(work))

@@ -1,9 +1,12 @@
-// The stack of the expression parser: slots from the work buffer's last word downwards.
+// The stack of the expression parser: slots from the work buffer's last word downwards. The fields of a slot are class, level and token: of levels there are as many as in
+// an operator's row, of tokens as in an entry.
 use entries::Cursor;
 use entries::Parse;
 use entries::fields::FIRST_ENTRY;
 use entries::fields::SIZES;
 use entries::fields::TOKENS;
+use language::limits;
+use operators::fields::LEVELS;
 use words::get;
 use words::put;
 ghost use mathlib.Core.Path.{_≡_};
@@ -11,11 +14,8 @@ ghost use Prim.Native.Nat.{_<_};
 ghost use Rattle.expressions.specs.Stack.{constants as constants', putSlot, topSlot, startOf};
 ghost use Rattle.expressions.specs.Machines.{Pushes, Tops, Sizes, pushedOf, poppedOf, climbingOf};
 
-// The fields of a frame's slot are class, level and token: how many levels there are. Of tokens there are as many as in an entry.
-pub const LEVELS: u32 = 32;
-
 // The work buffer's last word, and the end behind it.
-const LAST_WORD: usize = 16383;
+const LAST_WORD: usize = limits::WORK_BYTES / 4 - 1;
 
 const STACK_TOP: usize = LAST_WORD + 1;
 
@@ -25,16 +25,10 @@ pub const LOOSEST: u32 = 17;
 pub const BOUNDS: u32 = 8;
 
 // What the constants stand for.
-pub fn constants() -> [usize; 5]
+pub fn constants() -> [usize; 4]
     ensures { λ r. ⌜ r ≡ constants' ⌝ }
 {
-    [
-        LEVELS as usize,
-        LAST_WORD,
-        STACK_TOP,
-        LOOSEST as usize,
-        BOUNDS as usize,
-    ]
+    [LAST_WORD, STACK_TOP, LOOSEST as usize, BOUNDS as usize]
 }
 
 // Where the parser stands, how many slots there are, and the level of the expression that is read; whether an operand of it is complete.

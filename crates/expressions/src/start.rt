@@ -8,7 +8,7 @@ use lexer::numbers;
 ghost use mathlib.Core.Path.{_≡_};
 ghost use mathlib.Core.Bool.{false};
 ghost use Rattle.language.specs.Tokens.{Name};
-ghost use Rattle.entries.specs.Cursors.{kindAt};
+ghost use Rattle.entries.specs.Cursors.{numberAt};
 ghost use Rattle.operators.specs.Tables.{prefixAt};
 ghost use Rattle.expressions.specs.States.{Standing, Steps};
 ghost use Rattle.expressions.specs.Starts.{Leafs, leafOf, leafWritten};
@@ -27,13 +27,13 @@ fn leaf(m: Machine, work: &mut [u8], kind: u32) -> Turn
 
 // A name, alone or with an index.
 fn name(m: Machine, work: &mut [u8]) -> Turn
-    requires { ⌜ Standing false (now work) m × (kindAt (now work) (m .c) ≡ tokenNumber Name) ⌝ }
+    requires { ⌜ Standing false (now work) m × (numberAt (now work) (m .c) ≡ tokenNumber Name) ⌝ }
     ensures { λ r. ⌜ Steps false (now (work .entry)) (now (work .exit)) m r ⌝ }
 {
     let c = m.c;
     let at = c.at;
     let d = c.next();
-    if d.kind(work) == numbers::OPEN_BRACKET {
+    if d.number(work) == numbers::OPEN_BRACKET {
         return Turn::Next(m.push(work, classes::SQUARE, at, d.next(), LOOSEST));
     }
     leaf(m, work, kinds::NAMED)
@@ -41,13 +41,13 @@ fn name(m: Machine, work: &mut [u8]) -> Turn
 
 // A set, after its `{`.
 fn brace(m: Machine, work: &mut [u8]) -> Turn
-    requires { ⌜ Standing false (now work) m × (kindAt (now work) (m .c) ≡ fixed "{") ⌝ }
+    requires { ⌜ Standing false (now work) m × (numberAt (now work) (m .c) ≡ fixed "{") ⌝ }
     ensures { λ r. ⌜ Steps false (now (work .entry)) (now (work .exit)) m r ⌝ }
 {
     let c = m.c;
     let at = c.at;
     let d = c.next();
-    if d.kind(work) == numbers::CLOSE_BRACE {
+    if d.number(work) == numbers::CLOSE_BRACE {
         let e = d.next().emit(work, kinds::LISTED, at, 1);
         return Turn::Next(m.climbing(e));
     }
@@ -56,12 +56,12 @@ fn brace(m: Machine, work: &mut [u8]) -> Turn
 
 // An operand that begins with no operator.
 pub fn atom(m: Machine, work: &mut [u8]) -> Turn
-    requires { ⌜ Standing false (now work) m × (prefixAt (kindAt (now work) (m .c)) ≡ 0) ⌝ }
+    requires { ⌜ Standing false (now work) m × (prefixAt (numberAt (now work) (m .c)) ≡ 0) ⌝ }
     ensures { λ r. ⌜ Steps false (now (work .entry)) (now (work .exit)) m r ⌝ }
 {
     let c = m.c;
     let at = c.at;
-    let k = c.kind(work);
+    let k = c.number(work);
     if k == numbers::NAME {
         return name(m, work);
     }

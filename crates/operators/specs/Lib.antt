@@ -1,5 +1,9 @@
 pub mod Readers
+pub mod Tokens
 pub mod Codes
+pub mod Fields
 pub mod Tables
 pub mod TableLaws
 pub mod RowLaws
+pub mod Signs
+pub mod SignLaws

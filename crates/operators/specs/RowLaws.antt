@@ -1,5 +1,5 @@
 -- What the word of an operator's row says: levels, role, kinds of entries, code, as the grammar has them for the token.
-use Prim.Native.Nat.{ℕ, _+_, _*_, _/_, _%_, _<_}
+use Prim.Native.Nat.{ℕ, _<_, _^_}
 use Prim.Native.String.{String}
 use native.Mathlib.Omega.{arith}
 use mathlib.Core.List.{List, [], _∷_}
@@ -8,6 +8,7 @@ use mathlib.Core.Option.{Option, none, some}
 use mathlib.Core.Path.{_≡_, refl, sym, ap, _∙_, subst}
 use lib.Dec.{ltb, lit<}
 use borrow.Author.Tests.{ltb-true}
+use Rattle.node.specs.BitFields.{join, above, below}
 use Rattle.node.specs.FieldLaws.{below-join}
 use Rattle.language.specs.Tokens.{Token}
 use Rattle.language.specs.Operators.{Role, Plain, Counted, Windowed, Folding, InfixRow, infixes, PrefixRow, prefixes}
@@ -17,6 +18,22 @@ use Rattle.lexer.specs.Numbers.{number, numbered}
 use Rattle.entries.specs.Kinds as Kind
 use Rattle.operators.specs.Readers.{infixRow, prefixRow, operatorIn, operatorAt, levelIn, levelAt, roleIn, roleAt}
 use Rattle.operators.specs.Codes.{infixCode, roleCode}
+use Rattle.operators.specs.Fields.{
+  levelBits,
+  roleBits,
+  kindShift,
+  roleShift,
+  soleShift,
+  windowShift,
+  levelField,
+  rightField,
+  kindField,
+  infixField,
+  roleField,
+  soleField,
+  windowField,
+  prefixField,
+}
 use Rattle.operators.specs.Tables.{rowBy, infixBy, prefixBy, infixWord, prefixWord, roleNumber, windowKind, soleKind, infixAt, prefixAt}
 use Rattle.operators.specs.TableLaws.{infix-number, prefix-number}
 
@@ -37,35 +54,35 @@ row-has names p n (q ∷ rs) h r e = go (numbered (names q) n) refl e (λ f. row
 -- an operator between operands
 abbrev infix-test : InfixRow → Bool
 infix-test r =
-    (ltb 0 (r .level) && ltb (r .level) 32) && ((ltb 0 (rightLevel r) && ltb (rightLevel r) 32) && (ltb 0 (Kind.joining (r .operator)) && ltb (Kind.joining (r .operator)) 64))
+    (ltb 0 (r .level) && ltb (r .level) (2 ^ levelBits)) && ((ltb 0 (rightLevel r) && ltb (rightLevel r) (2 ^ levelBits)) && (ltb 0 (Kind.joining (r .operator)) && ltb (Kind.joining (r .operator)) Kind.limit))
 
 pub record InfixFound (t : Token) (x : ℕ) : Type 0 where
   pub row : InfixRow
   pub here : infixRow t ≡ some row
-  pub level : x % 32 ≡ row .level
-  pub right : x / 32 % 32 ≡ rightLevel row
-  pub kind : x / 1024 % 64 ≡ Kind.joining (operatorAt t)
-  pub code : x / 65_536 ≡ infixCode (operatorAt t)
+  pub level : levelField x ≡ row .level
+  pub right : rightField x ≡ rightLevel row
+  pub kind : kindField x ≡ Kind.joining (operatorAt t)
+  pub code : infixField x ≡ infixCode (operatorAt t)
   pub right-some : 0 < rightLevel row
-  pub right-fits : rightLevel row < 32
-  pub kind-fits : x / 1024 % 64 < 64
+  pub right-fits : rightLevel row < 2 ^ levelBits
+  pub kind-fits : kindField x < Kind.limit
 
 infix-found : (t : Token) (r : InfixRow) → infixBy (number t) ≡ some r → InfixFound t (infixWord (some r))
 unfolding operatorAt every
 infix-found t r e =
     let row = infix-number t ∙ e in
     let tests = row-has (λ (q : InfixRow). q .names) infix-test (number t) infixes refl r e in
-    let levels = and-left (ltb 0 (r .level) && ltb (r .level) 32) _ tests in
-    let others = and-right (ltb 0 (r .level) && ltb (r .level) 32) _ tests in
-    let rights = and-left (ltb 0 (rightLevel r) && ltb (rightLevel r) 32) _ others in
-    let kinds = and-right (ltb 0 (rightLevel r) && ltb (rightLevel r) 32) _ others in
-    let a = ltb-true (r .level) 32 (and-right (ltb 0 (r .level)) _ levels) in
-    let b = ltb-true (rightLevel r) 32 (and-right (ltb 0 (rightLevel r)) _ rights) in
-    let k = ltb-true (Kind.joining (r .operator)) 64 (and-right (ltb 0 (Kind.joining (r .operator))) _ kinds) in
+    let levels = and-left (ltb 0 (r .level) && ltb (r .level) (2 ^ levelBits)) _ tests in
+    let others = and-right (ltb 0 (r .level) && ltb (r .level) (2 ^ levelBits)) _ tests in
+    let rights = and-left (ltb 0 (rightLevel r) && ltb (rightLevel r) (2 ^ levelBits)) _ others in
+    let kinds = and-right (ltb 0 (rightLevel r) && ltb (rightLevel r) (2 ^ levelBits)) _ others in
+    let a = ltb-true (r .level) (2 ^ levelBits) (and-right (ltb 0 (r .level)) _ levels) in
+    let b = ltb-true (rightLevel r) (2 ^ levelBits) (and-right (ltb 0 (rightLevel r)) _ rights) in
+    let k = ltb-true (Kind.joining (r .operator)) Kind.limit (and-right (ltb 0 (Kind.joining (r .operator))) _ kinds) in
     let x = infixWord (some r) in
-    let high : x / 1024 ≡ infixCode (r .operator) * 64 + Kind.joining (r .operator) = omega arith in
-    let dk : x / 1024 % 64 ≡ Kind.joining (r .operator) = ap (λ y. y % 64) high ∙ below-join 6 (infixCode (r .operator)) k in
-    let dc : x / 65_536 ≡ infixCode (r .operator) = omega arith in
+    let high : above kindShift x ≡ join Kind.kindBits (infixCode (r .operator)) (Kind.joining (r .operator)) = omega arith in
+    let dk : kindField x ≡ Kind.joining (r .operator) = ap (below Kind.kindBits) high ∙ below-join Kind.kindBits (infixCode (r .operator)) k in
+    let dc : infixField x ≡ infixCode (r .operator) = omega arith in
     record {
       row = r;
       here = row;
@@ -86,7 +103,7 @@ module _ (t : Token) where
   by-infix (some r) e =
       let found = infix-found t r e in (
         λ z. let tests = row-has (λ (q : InfixRow). q .names) infix-test (number t) infixes refl r e in
-            let some-level = ltb-true 0 (r .level) (and-left (ltb 0 (r .level)) _ (and-left (ltb 0 (r .level) && ltb (r .level) 32) _ tests)) in
+            let some-level = ltb-true 0 (r .level) (and-left (ltb 0 (r .level)) _ (and-left (ltb 0 (r .level) && ltb (r .level) (2 ^ levelBits)) _ tests)) in
             absurd (omega (arith, found .level)),
         λ f. found,
       )
@@ -101,22 +118,22 @@ module _ (t : Token) where
 
 -- an operator before its operand
 abbrev prefix-test : PrefixRow → Bool
-prefix-test r = (ltb 0 (r .level) && ltb (r .level) 32) && (ltb (soleKind (r .role)) 64 && ltb (windowKind (r .role)) 64)
+prefix-test r = (ltb 0 (r .level) && ltb (r .level) (2 ^ levelBits)) && (ltb (soleKind (r .role)) Kind.limit && ltb (windowKind (r .role)) Kind.limit)
 
 pub record PrefixFound (t : Token) (x : ℕ) : Type 0 where
   pub row : PrefixRow
   pub here : prefixRow t ≡ some row
   pub same-level : row .level ≡ levelAt t
-  pub level : x % 32 ≡ levelAt t
-  pub role : x / 32 % 8 ≡ roleNumber (roleAt t)
-  pub sole : x / 256 % 64 ≡ soleKind (roleAt t)
-  pub window : x / 16_384 % 64 ≡ windowKind (roleAt t)
-  pub code : x / 1_048_576 ≡ roleCode (roleAt t)
+  pub level : levelField x ≡ levelAt t
+  pub role : roleField x ≡ roleNumber (roleAt t)
+  pub sole : soleField x ≡ soleKind (roleAt t)
+  pub window : windowField x ≡ windowKind (roleAt t)
+  pub code : prefixField x ≡ roleCode (roleAt t)
   pub level-some : 0 < levelAt t
-  pub level-fits : levelAt t < 32
-  pub window-fits : x / 16_384 % 64 < 64
+  pub level-fits : levelAt t < 2 ^ levelBits
+  pub window-fits : windowField x < Kind.limit
 
-role-small : (o : Role) → roleNumber o < 8
+role-small : (o : Role) → roleNumber o < 2 ^ roleBits
 role-small o = elim o [ Plain p ↦ lit< tt | Counted ↦ lit< tt | Windowed q ↦ lit< tt | Folding q ↦ lit< tt ]
 
 prefix-found : (t : Token) (r : PrefixRow) → prefixBy (number t) ≡ some r → PrefixFound t (prefixWord (some r))
@@ -124,25 +141,26 @@ unfolding levelAt roleAt every
 prefix-found t r e =
     let row = prefix-number t ∙ e in
     let tests = row-has (λ (q : PrefixRow). q .names) prefix-test (number t) prefixes refl r e in
-    let levels = and-left (ltb 0 (r .level) && ltb (r .level) 32) _ tests in
-    let kinds = and-right (ltb 0 (r .level) && ltb (r .level) 32) _ tests in
+    let levels = and-left (ltb 0 (r .level) && ltb (r .level) (2 ^ levelBits)) _ tests in
+    let kinds = and-right (ltb 0 (r .level) && ltb (r .level) (2 ^ levelBits)) _ tests in
     let z = ltb-true 0 (r .level) (and-left (ltb 0 (r .level)) _ levels) in
-    let a = ltb-true (r .level) 32 (and-right (ltb 0 (r .level)) _ levels) in
+    let a = ltb-true (r .level) (2 ^ levelBits) (and-right (ltb 0 (r .level)) _ levels) in
     let b = role-small (r .role) in
-    let k = ltb-true (soleKind (r .role)) 64 (and-left (ltb (soleKind (r .role)) 64) _ kinds) in
-    let v = ltb-true (windowKind (r .role)) 64 (and-right (ltb (soleKind (r .role)) 64) _ kinds) in
+    let k = ltb-true (soleKind (r .role)) Kind.limit (and-left (ltb (soleKind (r .role)) Kind.limit) _ kinds) in
+    let v = ltb-true (windowKind (r .role)) Kind.limit (and-right (ltb (soleKind (r .role)) Kind.limit) _ kinds) in
     let x = prefixWord (some r) in
     let same : r .level ≡ levelIn (prefixRow t) = ap levelIn (sym row) in
     let role-same : r .role ≡ roleIn (prefixRow t) = ap roleIn (sym row) in
-    let dl : x % 32 ≡ r .level = omega arith in
-    let two = roleCode (r .role) * 64 + windowKind (r .role) in
-    let next : x / 32 ≡ (two * 64 + soleKind (r .role)) * 8 + roleNumber (r .role) = omega arith in
-    let dr : x / 32 % 8 ≡ roleNumber (r .role) = ap (λ y. y % 8) next ∙ below-join 3 (two * 64 + soleKind (r .role)) b in
-    let high : x / 256 ≡ two * 64 + soleKind (r .role) = omega arith in
-    let ds : x / 256 % 64 ≡ soleKind (r .role) = ap (λ y. y % 64) high ∙ below-join 6 two k in
-    let higher : x / 16_384 ≡ two = omega arith in
-    let dw : x / 16_384 % 64 ≡ windowKind (r .role) = ap (λ y. y % 64) higher ∙ below-join 6 (roleCode (r .role)) v in
-    let dc : x / 1_048_576 ≡ roleCode (r .role) = omega arith in
+    let dl : levelField x ≡ r .level = omega arith in
+    let two = join Kind.kindBits (roleCode (r .role)) (windowKind (r .role)) in
+    let three = join Kind.kindBits two (soleKind (r .role)) in
+    let next : above roleShift x ≡ join roleBits three (roleNumber (r .role)) = omega arith in
+    let dr : roleField x ≡ roleNumber (r .role) = ap (below roleBits) next ∙ below-join roleBits three b in
+    let high : above soleShift x ≡ three = omega arith in
+    let ds : soleField x ≡ soleKind (r .role) = ap (below Kind.kindBits) high ∙ below-join Kind.kindBits two k in
+    let higher : above windowShift x ≡ two = omega arith in
+    let dw : windowField x ≡ windowKind (r .role) = ap (below Kind.kindBits) higher ∙ below-join Kind.kindBits (roleCode (r .role)) v in
+    let dc : prefixField x ≡ roleCode (r .role) = omega arith in
     record {
       row = r;
       here = row;
@@ -153,7 +171,7 @@ prefix-found t r e =
       window = dw ∙ ap windowKind role-same;
       code = dc ∙ ap roleCode role-same;
       level-some = subst (λ n. 0 < n) same z;
-      level-fits = subst (λ n. n < 32) same a;
+      level-fits = subst (λ n. n < 2 ^ levelBits) same a;
       window-fits = omega arith;
     }
 

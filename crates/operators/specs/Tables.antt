@@ -1,16 +1,16 @@
 -- Table 1's rows by the numbers of tokens, packed into words as the code has them.
-use Prim.Native.Nat.{ℕ, _/_}
+use Prim.Native.Nat.{ℕ}
 use Prim.Native.String.{String}
 use mathlib.Core.List.{List, [], _∷_}
 use mathlib.Core.Bool.{true, false}
 use mathlib.Core.Option.{Option, none, some}
-use Rattle.node.specs.BitFields.{join}
 use Rattle.language.specs.Operators.{Role, Plain, Counted, Windowed, Folding, InfixRow, infixes, PrefixRow, prefixes}
 use Rattle.language.specs.Grammar.{rightLevel}
 use Rattle.lexer.specs.Numbers.{numbered}
 use Rattle.entries.specs.Kinds as Kind
 use Rattle.operators.specs.Readers.{soleOf}
 use Rattle.operators.specs.Codes.{infixCode, roleCode}
+use Rattle.operators.specs.Fields.{packInfix, packPrefix, infixField, prefixField, plainRole, countedRole, windowedRole, foldingRole}
 
 -- the first row that has a token of this number among its names
 abbrev pub rowBy : {R : Type 0} → (R → List String) → List R → ℕ → Option R
@@ -23,18 +23,17 @@ infixBy n = rowBy (λ (r : InfixRow). r .names) infixes n
 abbrev pub prefixBy : ℕ → Option PrefixRow
 prefixBy n = rowBy (λ (r : PrefixRow). r .names) prefixes n
 
--- the code, the entry's kind, the right operand's level, the level
 abbrev pub infixWord : Option InfixRow → ℕ
 infixWord none = 0
-infixWord (some r) = join 5 (join 5 (join 6 (infixCode (r .operator)) (Kind.joining (r .operator))) (rightLevel r)) (r .level)
+infixWord (some r) = packInfix (infixCode (r .operator)) (Kind.joining (r .operator)) (rightLevel r) (r .level)
 
 abbrev pub roleNumber : Role → ℕ
-roleNumber (Plain p) = 1
-roleNumber Counted = 2
-roleNumber (Windowed o) = 3
-roleNumber (Folding o) = 4
+roleNumber (Plain p) = plainRole
+roleNumber Counted = countedRole
+roleNumber (Windowed o) = windowedRole
+roleNumber (Folding o) = foldingRole
 
--- the kind of the entry with a count or a window; without, or of the big operator; before both the code
+-- the kind of the entry with a count or a window; without, or of the big operator
 abbrev pub windowKind : Role → ℕ
 windowKind (Plain p) = 0
 windowKind Counted = Kind.nexts
@@ -49,7 +48,7 @@ soleKind (Folding o) = Kind.big o
 
 abbrev pub prefixWord : Option PrefixRow → ℕ
 prefixWord none = 0
-prefixWord (some r) = join 5 (join 3 (join 6 (join 6 (roleCode (r .role)) (windowKind (r .role))) (soleKind (r .role))) (roleNumber (r .role))) (r .level)
+prefixWord (some r) = packPrefix (roleCode (r .role)) (windowKind (r .role)) (soleKind (r .role)) (roleNumber (r .role)) (r .level)
 
 unfoldable pub infixAt : ℕ → ℕ
 infixAt n = infixWord (infixBy n)
@@ -59,7 +58,7 @@ prefixAt n = prefixWord (prefixBy n)
 
 -- the codes alone
 abbrev pub infixCodeAt : ℕ → ℕ
-infixCodeAt n = infixAt n / 65_536
+infixCodeAt n = infixField (infixAt n)
 
 abbrev pub prefixCodeAt : ℕ → ℕ
-prefixCodeAt n = prefixAt n / 1_048_576
+prefixCodeAt n = prefixField (prefixAt n)

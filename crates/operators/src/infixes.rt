@@ -1,5 +1,6 @@
 // Table 1 of document 001 by the numbers of tokens, operators between operands: a new one is a constant and an arm here, at its place in the order of specs/Operators of crate language.
 use crate::codes;
+use crate::fields::LEVELS;
 use crate::tokens;
 use entries::kinds;
 use lexer::numbers;
@@ -8,11 +9,11 @@ ghost use mathlib.Core.Path.{_≡_};
 ghost use Rattle.operators.specs.Tables.{infixAt, infixCodeAt};
 
 // An operator between operands: its code, its entry's kind, the loosest level of its right operand, its level.
-const CODE: u32 = 65536;
+pub const CODE: u32 = KIND * kinds::KINDS;
 
-pub const KIND: u32 = 1024;
+pub const KIND: u32 = RIGHT * LEVELS;
 
-pub const RIGHT: u32 = 32;
+pub const RIGHT: u32 = LEVELS;
 
 const TIMES: u32 = codes::TIMES * CODE + kinds::ARITHMETIC * KIND + 1 * RIGHT + 2;
 

@@ -1,5 +1,6 @@
 // Table 1 of document 001 by the numbers of tokens, operators before their operand: a new one is a constant and an arm here, at its place in the order of specs/Operators of crate language.
 use crate::codes;
+use crate::fields::LEVELS;
 use crate::tokens;
 use entries::kinds;
 use node::Node;
@@ -7,13 +8,13 @@ ghost use mathlib.Core.Path.{_≡_};
 ghost use Rattle.operators.specs.Tables.{prefixAt, prefixCodeAt};
 
 // An operator before its operand: its code, the kind of its entry with a window or a count, without, its role, its level.
-const CODE: u32 = 1048576;
+pub const CODE: u32 = WINDOW * kinds::KINDS;
 
-pub const WINDOW: u32 = 16384;
+pub const WINDOW: u32 = SOLE * kinds::KINDS;
 
-pub const SOLE: u32 = 256;
+pub const SOLE: u32 = ROLE * ROLES;
 
-pub const ROLE: u32 = 32;
+pub const ROLE: u32 = LEVELS;
 
 // The roles, and how many numbers there are for them.
 pub const ROLES: u32 = 8;

@@ -1,4 +1,6 @@
 // The numbers of the tokens that are operators (crate lexer, specs/Numbers) and have no name in lexer::numbers: signs, then words.
+ghost use mathlib.Core.Path.{_≡_};
+ghost use Rattle.operators.specs.Tokens.{tokens as tokens'};
 
 // `<->`
 pub const EQUIVALENCE: u32 = 5;
@@ -120,3 +122,62 @@ pub const W: u32 = 101;
 pub const U: u32 = 102;
 
 pub const R: u32 = 103;
+
+// What the constants stand for.
+pub fn tokens() -> [u32; 51]
+    ensures { λ r. ⌜ r ≡ tokens' ⌝ }
+{
+    [
+        EQUIVALENCE,
+        CIRCLED_STAR,
+        CIRCLED_PLUS,
+        CIRCLED_BACKSLASH,
+        CIRCLED_MINUS,
+        DOUBLE_EQUALS,
+        BANG_EQUALS,
+        SLASH_EQUALS,
+        AT_LEAST,
+        IMPLICATION,
+        CONJUNCTION,
+        DISJUNCTION,
+        STAR,
+        SLASH,
+        PERCENT,
+        PLUS_SIGN,
+        MINUS_SIGN,
+        GREATER,
+        BANG,
+        SUM,
+        PROD,
+        SIZE,
+        MIN,
+        MAX,
+        SIZEOF,
+        MUL,
+        DIV,
+        MOD,
+        PLUS,
+        MINUS,
+        CAP,
+        CUP,
+        SETMINUS,
+        EQ,
+        NEQ,
+        GE,
+        GEG,
+        GEQ,
+        NOT,
+        X,
+        F,
+        G,
+        AND,
+        FORALL,
+        OR,
+        EXISTS,
+        IMPLIES,
+        EQUIV,
+        W,
+        U,
+        R,
+    ]
+}

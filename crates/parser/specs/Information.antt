@@ -10,8 +10,7 @@ use Rattle.language.specs.Grammar.{Tokens, Read, front, expect}
 use Rattle.language.specs.Sections.{described, modelOf, strictOf, infoEnd}
 use Rattle.entries.specs.declared.Cursor.{Cursor}
 use Rattle.entries.specs.declared.Parse.{Parse}
-use Rattle.entries.specs.Reads.{Parses}
-use Rattle.entries.specs.TokenReads.{noEntries}
+use Rattle.entries.specs.Reads.{Parses, noEntries}
 use Rattle.parser.specs.Spelling.{Spells}
 
 -- a sign or word, then another

@@ -1,5 +1,6 @@
 pub mod Spelling
 pub mod Parts
+pub mod PartLaws
 pub mod Lines
 pub mod Headings
 pub mod Information

@@ -12,8 +12,7 @@ use Rattle.entries.specs.Flat.{Entry, each, flatSubsection, outline}
 use Rattle.entries.specs.Stored.{EntriesFrom}
 use Rattle.entries.specs.declared.Cursor.{Cursor}
 use Rattle.entries.specs.Cursors.{Fits, Tells, Ready}
-use Rattle.entries.specs.Reads.{Kept, Reads}
-use Rattle.entries.specs.TokenReads.{noEntries}
+use Rattle.entries.specs.Reads.{Kept, Reads, noEntries}
 use Rattle.entries.specs.declared.Parse.{Parse}
 use Rattle.entries.specs.declared.Parse.the-variants.{Parsed, Refused as NotParsed}
 use Rattle.parser.specs.declared.Facts.{Facts}

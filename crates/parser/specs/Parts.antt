@@ -1,16 +1,14 @@
--- The grammar of a text in the parts that the code reads one by one, and that together they are the grammar.
-use Prim.Native.Nat.{ℕ, suc}
-use mathlib.Core.List.{List, [], _∷_, _++_}
+-- The grammar of a text in the parts that the code reads one by one.
+use Prim.Native.Nat.{ℕ}
+use mathlib.Core.List.{List, [], _++_}
 use mathlib.Core.Bool.{true, false}
 use mathlib.Core.Option.{some}
-use mathlib.Core.Path.{_≡_, sym, _∙_}
 use lib.ListN.{length}
 use Rattle.node.specs.Result.{Done, _>>=_}
-use Rattle.node.specs.ResultLaws.{bind-again, bind-at, bind-same}
-use Rattle.language.specs.Tokens.{Token, Name, isOf}
+use Rattle.language.specs.Tokens.{Token, Name}
 use Rattle.language.specs.Tree.{Identifier, Parameter, Definition, Declaration, OfWidth}
-use Rattle.language.specs.Grammar.{Tokens, Read, front, rest, next, expect, expectOf}
-use Rattle.language.specs.Sections.{expression, wordsOf, identifiersOf, parameterOf, definitionOf, optional}
+use Rattle.language.specs.Grammar.{Tokens, Read, rest, next, expect, expectOf}
+use Rattle.language.specs.Sections.{expression, wordsOf, parameterOf, definitionOf, optional}
 use Rattle.entries.specs.Kinds as Kind
 use Rattle.entries.specs.Flat.{Entry, leaf, under, flat, each, flatParameter, flatDefinition}
 
@@ -52,14 +50,3 @@ globalsOf ts =
 
 abbrev pub flatGlobals : Globals → List Entry
 flatGlobals g = each flatParameter (g .0) ++ each flatDefinition (g .1)
-
--- an identifier, and further ones as long as a name follows
-pub identifiers-parts : (f : ℕ) (ts : Tokens) →
-    identifiersOf (suc f) ts ≡
-    (identifierOf ts >>= λ (i, us).
-    elim (isOf Name (front us)) [ true ↦ identifiersOf f us >>= λ (is, vs). Done (i ∷ is, vs) | false ↦ Done (i ∷ [], us) ])
-identifiers-parts f ts =
-    sym
-    (bind-again (expectOf Name ts) _ _ ∙ bind-same (expectOf Name ts) _ _ (λ (x, us).
-    bind-again (expect ":" us) _ _ ∙ bind-same (expect ":" us) _ _ (λ (c, vs).
-    bind-again (wordsOf (length vs) vs) _ _ ∙ bind-same (wordsOf (length vs) vs) _ _ (λ z. bind-at _ _))))

@@ -22,14 +22,14 @@ fn lines(c: Cursor, work: &mut [u8], which: Line) -> Parse
     let mut d = c;
     loop {
         let e = d.next();
-        if e.kind(work) == numbers::CLOSE_BRACE {
+        if e.number(work) == numbers::CLOSE_BRACE {
             return Parse::Parsed(e.next());
         }
         let r = line(d, work, which);
         let Parse::Parsed(f) = r else {
             return r;
         };
-        if f.kind(work) != numbers::SEMICOLON {
+        if f.number(work) != numbers::SEMICOLON {
             return f.expect(work, numbers::CLOSE_BRACE);
         }
         d = f;
@@ -41,7 +41,7 @@ pub fn block(c: Cursor, work: &mut [u8], which: Line) -> Parse
     requires { ⌜ Readied (now work) c ⌝ }
     ensures { λ r. ⌜ Parses (blockOf (lineOf which)) (each (flatOf which)) (now (work .entry)) (now (work .exit)) c r ⌝ }
 {
-    if c.kind(work) != numbers::OPEN_BRACE {
+    if c.number(work) != numbers::OPEN_BRACE {
         return c.refuse(work);
     }
     lines(c, work, which)
@@ -52,7 +52,7 @@ fn optional(c: Cursor, work: &mut [u8], word: u32, which: Line) -> Parse
     requires { ⌜ Readied (now work) c × (0 < word) ⌝ }
     ensures { λ r. ⌜ ReadsOptional word which (now (work .entry)) (now (work .exit)) c r ⌝ }
 {
-    if c.kind(work) != word {
+    if c.number(work) != word {
         return Parse::Parsed(c);
     }
     block(c.next(), work, which)
@@ -63,7 +63,7 @@ pub fn global(c: Cursor, work: &mut [u8]) -> Parse
     requires { ⌜ Readied (now work) c ⌝ }
     ensures { λ r. ⌜ Parses globalsOf flatGlobals (now (work .entry)) (now (work .exit)) c r ⌝ }
 {
-    if c.kind(work) != numbers::GLOBAL {
+    if c.number(work) != numbers::GLOBAL {
         return Parse::Parsed(c);
     }
     let r = c.next().expect(work, numbers::OPEN_BRACE);

@@ -22,7 +22,7 @@ fn words(c: Cursor, work: &mut [u8]) -> Parse
         let Parse::Parsed(e) = r else {
             return r;
         };
-        if e.kind(work) != numbers::COMMA {
+        if e.number(work) != numbers::COMMA {
             return Parse::Parsed(e);
         }
         d = e.next();
@@ -56,7 +56,7 @@ fn identifiers(c: Cursor, work: &mut [u8]) -> Parse
         let Parse::Parsed(e) = r else {
             return r;
         };
-        if e.kind(work) != numbers::NAME {
+        if e.number(work) != numbers::NAME {
             return Parse::Parsed(e);
         }
         d = e;

@@ -6,8 +6,7 @@ ghost use Prim.Native.Nat.{_<_};
 ghost use lib.ListN.{length};
 ghost use Rattle.language.specs.Sections.{modelOf, strictOf, tagOf, tagsOf, infoEnd};
 ghost use Rattle.entries.specs.Cursors.{Readied};
-ghost use Rattle.entries.specs.Reads.{Parses};
-ghost use Rattle.entries.specs.TokenReads.{noEntries};
+ghost use Rattle.entries.specs.Reads.{Parses, noEntries};
 ghost use Rattle.parser.specs.Spelling.{Spelt};
 ghost use Rattle.parser.specs.Information.{ReadsPair, ReadsDescribed, titlesOf, toSemantics, toTarget, closingOf};
 
@@ -66,7 +65,7 @@ pub fn model(c: Cursor, work: &[u8]) -> Parse
     requires { ⌜ Readied (now work) c ⌝ }
     ensures { λ r. ⌜ Parses modelOf noEntries (now (work .entry)) (now (work .entry)) c r ⌝ }
 {
-    if c.kind(work) == numbers::MEALY {
+    if c.number(work) == numbers::MEALY {
         return Parse::Parsed(c.next());
     }
     c.expect(work, numbers::MOORE)
@@ -77,7 +76,7 @@ fn strict(c: Cursor, work: &[u8]) -> Parse
     requires { ⌜ Readied (now work) c ⌝ }
     ensures { λ r. ⌜ Parses strictOf noEntries (now (work .entry)) (now (work .entry)) c r ⌝ }
 {
-    if c.kind(work) != numbers::COMMA {
+    if c.number(work) != numbers::COMMA {
         return Parse::Parsed(c);
     }
     c.next().expect(work, numbers::STRICT)
@@ -99,7 +98,7 @@ fn tag(c: Cursor, work: &[u8]) -> Parse
     requires { ⌜ Readied (now work) c ⌝ }
     ensures { λ r. ⌜ Parses tagOf noEntries (now (work .entry)) (now (work .entry)) c r ⌝ }
 {
-    if c.kind(work) == numbers::NAME {
+    if c.number(work) == numbers::NAME {
         return Parse::Parsed(c.next());
     }
     c.expect(work, numbers::QUOTED)
@@ -116,7 +115,7 @@ fn tags(c: Cursor, work: &[u8]) -> Parse
         let Parse::Parsed(e) = r else {
             return r;
         };
-        if e.kind(work) != numbers::COMMA {
+        if e.number(work) != numbers::COMMA {
             return Parse::Parsed(e);
         }
         d = e.next();
@@ -128,7 +127,7 @@ fn info_end(c: Cursor, work: &[u8]) -> Parse
     requires { ⌜ Readied (now work) c ⌝ }
     ensures { λ r. ⌜ Parses infoEnd noEntries (now (work .entry)) (now (work .entry)) c r ⌝ }
 {
-    if c.kind(work) != numbers::TAGS {
+    if c.number(work) != numbers::TAGS {
         return c.expect(work, numbers::CLOSE_BRACE);
     }
     let r = c.next().expect(work, numbers::COLON);

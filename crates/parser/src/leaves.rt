@@ -5,6 +5,7 @@ ghost use mathlib.Core.Path.{_≡_};
 ghost use Prim.Native.Nat.{_+_, _-_, _<_, _≤_};
 ghost use Rattle.language.specs.Tokens.{Class};
 ghost use Rattle.language.specs.Grammar.{expectOf};
+ghost use Rattle.entries.specs.Kinds as Kind;
 ghost use Rattle.entries.specs.Flat.{leaf as flatLeaf};
 ghost use Rattle.entries.specs.Cursors.{Readied, Writes, emittedOf};
 ghost use Rattle.entries.specs.Stored.{putEntry};
@@ -13,7 +14,7 @@ ghost use Rattle.parser.specs.Spelling.{Numbers};
 
 // A token of a class, by the class's number. The parser's functions ask of their callers that the buffer holds tokens: none is called but by `parse`.
 pub fn leaf(c: Cursor, work: &mut [u8], number: u32, kind: u32) -> Parse
-    requires { ⌜ Readied (now work) c × (0 < number) × (kind < 64) ⌝ }
+    requires { ⌜ Readied (now work) c × (0 < number) × (kind < Kind.limit) ⌝ }
     ensures { λ r. ⌜ ((k : Class) → Numbers k number → Parses (expectOf k) (flatLeaf kind) (now (work .entry)) (now (work .exit)) c r) ⌝ }
 {
     let token = c.at;

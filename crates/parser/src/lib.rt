@@ -37,7 +37,7 @@ pub struct Facts {
     pub place: u32,
 }
 
-// What INFO says, and where the parser stands behind it. Behind a refusal the facts mean nothing.
+// What INFO says, and where the parser stands behind it. After a refusal the facts mean nothing.
 pub struct Informed {
     pub facts: Facts,
     pub next: Parse,
@@ -82,17 +82,17 @@ fn information(c: Cursor, work: &[u8]) -> Informed
     let Parse::Parsed(d) = r else {
         return uninformed(r);
     };
-    let semantics = d.kind(work);
+    let semantics = d.number(work);
     let p = model(d, work);
     let Parse::Parsed(e) = p else {
         return uninformed(p);
     };
-    let strict = e.kind(work) == numbers::COMMA;
+    let strict = e.number(work) == numbers::COMMA;
     let q = to_target(e, work);
     let Parse::Parsed(f) = q else {
         return uninformed(q);
     };
-    let target = f.kind(work);
+    let target = f.number(work);
     let place = f.place(work);
     let s = closing(f, work);
     let Parse::Parsed(_) = s else {
@@ -154,7 +154,7 @@ pub fn parse(work: &mut [u8], count: usize, end: usize) -> Outline
     let Parse::Parsed(e) = q else {
         return refused(q);
     };
-    if e.kind(work) != 0 {
+    if e.number(work) != 0 {
         return refused(e.refuse(work));
     }
     Outline::Accepted(e.out, facts)

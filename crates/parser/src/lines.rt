@@ -10,6 +10,7 @@ use lexer::numbers;
 ghost use Prim.Native.Nat.{_<_, _+_};
 ghost use Rattle.language.specs.Grammar.{front, rest};
 ghost use Rattle.language.specs.Sections.{expression as expressionOf, parameterOf, definitionOf, declarationOf};
+ghost use Rattle.entries.specs.Kinds as Kind;
 ghost use Rattle.entries.specs.Flat.{flatLine, flatDefinition, flatDeclaration};
 ghost use Rattle.entries.specs.Cursors.{Readied};
 ghost use Rattle.entries.specs.Reads.{Parses};
@@ -18,7 +19,7 @@ ghost use Rattle.parser.specs.Lines.{lineOf, flatOf};
 
 // `name = expression`, with an entry of the kind.
 fn valued(c: Cursor, work: &mut [u8], kind: u32) -> Parse
-    requires { ⌜ Readied (now work) c × (kind < 64) ⌝ }
+    requires { ⌜ Readied (now work) c × (kind < Kind.limit) ⌝ }
     ensures { λ r. ⌜ Parses parameterOf (flatValued kind) (now (work .entry)) (now (work .exit)) c r ⌝ }
 {
     let token = c.at;
@@ -41,7 +42,7 @@ fn definition(c: Cursor, work: &mut [u8]) -> Parse
     requires { ⌜ Readied (now work) c ⌝ }
     ensures { λ r. ⌜ Parses definitionOf flatDefinition (now (work .entry)) (now (work .exit)) c r ⌝ }
 {
-    if c.kind(work) == numbers::ENUM {
+    if c.number(work) == numbers::ENUM {
         return enumeration(c.next(), work);
     }
     valued(c, work, kinds::DEFINITION)
@@ -74,11 +75,11 @@ fn declaration(c: Cursor, work: &mut [u8]) -> Parse
     let Parse::Parsed(d) = r else {
         return r;
     };
-    let kind = d.kind(work);
-    if kind == numbers::OPEN_BRACKET {
+    let number = d.number(work);
+    if number == numbers::OPEN_BRACKET {
         return bus(c, work);
     }
-    if kind == numbers::NAME {
+    if number == numbers::NAME {
         let name = d.at;
         let e = d.next().emit(work, kinds::NAMED, token, 1);
         return Parse::Parsed(e.emit(work, kinds::TYPED, name, 2));

@@ -24,13 +24,13 @@ const FIRST_FORMULAS: usize = 2;
 const NO_HEADING: usize = 8;
 
 // The subsection whose word has the number.
-fn heading(kind: u32) -> usize
-    ensures { λ r. ⌜ r ≡ headingNumber kind ⌝ }
+fn heading(number: u32) -> usize
+    ensures { λ r. ⌜ r ≡ headingNumber number ⌝ }
 {
-    if kind < numbers::INPUTS {
+    if number < numbers::INPUTS {
         return NO_HEADING;
     }
-    let i = (kind - numbers::INPUTS) as usize;
+    let i = (number - numbers::INPUTS) as usize;
     if i < 11 { HEADINGS[i] } else { NO_HEADING }
 }
 
@@ -67,7 +67,7 @@ pub fn subsections(c: Cursor, work: &mut [u8]) -> Parse
     let mut before = [0u8; NO_HEADING];
     let mut d = c;
     loop {
-        let n = heading(d.kind(work));
+        let n = heading(d.number(work));
         if n == NO_HEADING {
             return ending(d, work, before[0], before[1]);
         }

@@ -24,9 +24,9 @@ use Rattle.ending.specs.Hands.{hands-as, hands-refused}
 use Rattle.reader.specs.Answers.{Answers}
 use Rattle.checked.specs.AnswerLaws.{accepted, refused, tree-parsed as only-tree}
 use Rattle.line_counts.specs.Counting.{CountsOf}
-use Rattle.reader.specs.declared.CheckedTree.{CheckedTree}
-use Rattle.reader.specs.declared.Counted.{Counted}
-use Rattle.reader.specs.Naming.{Parsed, SomeParsed, Converts}
+use Rattle.reader.specs.declared.expansion.CheckedTree.{CheckedTree}
+use Rattle.reader.specs.declared.expansion.Counted.{Counted}
+use Rattle.reader.specs.Naming.{Parsed, SomeParsed, Expands}
 
 -- the text
 module _ {text work used refs found : List ℕ} {r : Answered} (c : Checks text work used refs found r) where
@@ -54,11 +54,11 @@ module _ {text work used refs found : List ℕ} {r : Answered} (c : Checks text 
     pub some-parsed : workBytes ≤ length work → maxTokens ≤ length refs → maxNames ≤ length found → SomeParsed text used refs found counted
     some-parsed a b d = let z = c .size in record { x = tree .tree; parsed = tree-parsed; work-room = omega arith; refs-room = b; found-room = d }
 
-    module _ {nodes signals nodes′ signals′ : List ℕ} {a : Counted} (g : (x : Spec) → Parsed text used refs found counted x → Converts x nodes signals nodes′ signals′ a) where
+    module _ {nodes signals nodes′ signals′ : List ℕ} {a : Counted} (g : Expands text used refs found counted nodes signals nodes′ signals′ a) where
       pub tree-answers : Answers text work nodes signals used nodes′ signals′ (a .answer)
       tree-answers =
-          record { hands = hands-as (text-parsed (delivered (length nodes) (length signals)) text (tree .read)) (g (tree .tree) tree-parsed .hands); size = c .size; beyond = c .beyond }
+          record { hands = hands-as (text-parsed (delivered (length nodes) (length signals)) text (tree .read)) (g .converts (tree .tree) tree-parsed .hands); size = c .size; beyond = c .beyond }
 
       pub tree-counts : (n s : ℕ) → a .answer ≡ Accepted n s → (x : Spec) (d : Declarations) → parsed text ≡ Done x → declarations x ≡ Done d → CountsOf x d (a .lines)
       tree-counts n s e x d p =
-          subst (λ y. declarations y ≡ Done d → CountsOf y d (a .lines)) (only-tree tree p) (g (tree .tree) tree-parsed .lines n s e d)
+          subst (λ y. declarations y ≡ Done d → CountsOf y d (a .lines)) (only-tree tree p) (g .converts (tree .tree) tree-parsed .lines n s e d)

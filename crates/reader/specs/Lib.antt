@@ -1,7 +1,14 @@
 pub mod Answers
+pub mod AnswersLaws
 pub mod Beginning
 pub mod Counting
+pub mod CountingLaws
 pub mod Lining
+pub mod LiningLaws
 pub mod Naming
+pub mod NamingLaws
+pub mod Memories
+pub mod MemoriesLaws
 pub mod Checking
-pub mod Telling
+pub mod Promise
+pub mod TellingLaws

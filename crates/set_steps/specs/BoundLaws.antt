@@ -1,19 +1,18 @@
 -- The numbers between two bounds: the low bound, then the high one.
 use Prim.Native.Nat.{ℕ, _+_}
-use mathlib.Core.Bool.{Bool, true, false, _||_}
-use mathlib.Core.List.{List, [], _∷_}
+use mathlib.Core.Bool.{Bool, true, false}
+use mathlib.Core.List.{List}
 use mathlib.Core.Path.{_≡_, refl, sym, ap, ap₂, _∙_, subst}
 use native.Mathlib.Omega.{arith}
 use lib.Dec.{eqb}
 use lib.ListN.{getD}
-use borrow.Author.Tests.{eq-eqb, ne-eqb}
 use Rattle.node.specs.Result.{Result, Done, _>>=_}
 use Rattle.node.specs.ResultLaws.{bind-again}
 use Rattle.language.specs.Tree.{Expr}
 use Rattle.language.specs.Values.{Value, Number, Set, number, between, value}
 use Rattle.language.specs.Laws.Values.ValueLaws.{between-sane}
-use Rattle.lexer.specs.Numbers.{fixed, numbered}
 use Rattle.entries.specs.Kinds as Kind
+use Rattle.operators.specs.Signs.{strictAt}
 use Rattle.name_values.specs.KnownLaws.{known-between}
 use Rattle.sets.specs.declared.Worked.{Worked}
 use Rattle.operands.specs.Entries.{kindAt, placeAt, numberAt}
@@ -50,22 +49,9 @@ bounds-same p l h a b =
     then-worth (a >>= number) _ (λ m. (b >>= worth) >>= bounded p l h m) (λ m. set-last (b >>= number >>= between p l h m) ∙ bind-again (b >>= number) (between p l h m) _
     ∙ sym (take-number b (λ n. between p l h m n >>= λ s. worth (Set s)))) ∙ sym (take-number a (λ m. (b >>= worth) >>= bounded p l h m))
 
--- is the low bound left out, by the number of the entry's token? the high one, by the entry's kind?
-abbrev without-low : ℕ → Bool
-without-low n = numbered ("<" ∷ "LE" ∷ []) n
-
+-- is the high bound left out, by the entry's kind?
 abbrev without-high : ℕ → Bool
 without-high i = eqb i (Kind.between true)
-
-pub strict-sign : (n : ℕ) → n ≡ fixed "<" → true ≡ without-low n
-strict-sign n e = ap (λ (b : Bool). b || (eqb n (fixed "LE") || false)) (sym (eq-eqb n (fixed "<") e))
-
-pub other-sign : (n : ℕ) → (n ≡ fixed "<" → ⊥) → eqb n (fixed "LE") ≡ without-low n
-other-sign n e = sym (or-false (eqb n (fixed "LE"))) ∙ ap (λ (b : Bool). b || (eqb n (fixed "LE") || false)) (sym (ne-eqb n (fixed "<") e))
-  where
-    or-false : (b : Bool) → (b || false) ≡ b
-    or-false true = refl
-    or-false false = refl
 
 high-of : (h : Bool) → without-high (Kind.between h) ≡ h
 high-of true = refl
@@ -129,7 +115,7 @@ module _ {s : Source} {mem : List ℕ} {m : Machine} (w : Waiting mem m Phase.lo
 
 -- the high bound has come
 module _ {s : Source} {mem : List ℕ} {m : Machine} (w : Waiting mem m Phase.high) where
-  pub high-steps : m .mode ≡ isNumber → {mem' : List ℕ} {k j i p a : ℕ} {low : Bool} (r : Worked) → k ≡ getD mem (m .frames + 1) 0 → j ≡ numberAt (s .work) k → low ≡ without-low j
+  pub high-steps : m .mode ≡ isNumber → {mem' : List ℕ} {k j i p a : ℕ} {low : Bool} (r : Worked) → k ≡ getD mem (m .frames + 1) 0 → j ≡ numberAt (s .work) k → low ≡ strictAt j
       → i ≡ kindAt (s .work) k → p ≡ placeAt (s .work) k → a ≡ getD mem (m .frames + 5) 0 → SetAt mem mem' (m .top) r (between p low (without-high i) a (m .value)) → Takes s mem mem' m (made m (m .top) r)
   high-steps e {mem'} {k} {j} {i} {p} {a} {low} r ek ej el ei ep ea g = record {
     turns = λ R x o out t.
@@ -141,7 +127,7 @@ module _ {s : Source} {mem : List ℕ} {m : Machine} (w : Waiting mem m Phase.hi
         let at : OpAt s k (Bounds l u) (v .0) = subst (λ (j : ℕ). OpAt s j (Bounds l u) (v .0)) (sym (ek ∙ entry-word h)) (h .at .waits) in
         let same-place : p ≡ v .0 = ep ∙ at .place in
         let same-number : a ≡ v .3 = ea ∙ value-word h ∙ h .at .holds .here in
-        let same-low : low ≡ l = el ∙ ap without-low ej ∙ sym (at .spelt) in
+        let same-low : low ≡ l = el ∙ ap strictAt ej ∙ sym (at .spelt) in
         let same-high : without-high i ≡ u = ap without-high (ei ∙ at .kind) ∙ high-of u in
         let hi = h .at .high in
         let ro = h .at .room in

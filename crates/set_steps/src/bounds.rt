@@ -1,6 +1,5 @@
 // The numbers between two bounds.
 use entries::kinds;
-use lexer::numbers;
 use machine::Machine;
 use machine::Move;
 use machine::modes;
@@ -10,10 +9,8 @@ use node::refusals;
 use operands::entry::kind_at;
 use operands::entry::number_at;
 use operands::entry::place_at;
+use operators::signs::strict;
 ghost use mathlib.Core.Bool.{false};
-ghost use mathlib.Core.List.{[], _∷_};
-ghost use mathlib.Core.Path.{_≡_};
-ghost use Rattle.lexer.specs.Numbers.{numbered};
 ghost use Rattle.entries.specs.Kinds as Kind;
 ghost use Rattle.machine.specs.Phases as Phase;
 ghost use Rattle.machine.specs.States.{Ready, Steps, Topped, Takes};
@@ -40,16 +37,6 @@ pub fn low(text: &[u8], work: &[u8], refs: &[u16], memory: &mut [u32], m: Machin
         return Move::Refused(refusals::WRONG_TYPE, 0);
     }
     Move::Next(m.renew(memory, phases::HIGH, 0, m.value, 0, modes::EVALUATE))
-}
-
-// Does the sign of the low bound leave it out?
-fn strict(number: u32) -> bool
-    ensures { λ r. ⌜ r ≡ numbered ("<" ∷ "LE" ∷ []) number ⌝ }
-{
-    if number == numbers::LESS {
-        return true;
-    }
-    number == numbers::LE
 }
 
 // The high bound has come.

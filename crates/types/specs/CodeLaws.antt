@@ -14,13 +14,16 @@ use Rattle.language.specs.Bytes.{if_then_else_}
 use Rattle.language.specs.Places.{first, unless}
 use Rattle.language.specs.Laws.Basics.Tests.{pick, leave}
 use Rattle.language.specs.Limits.{maxNames}
+use Rattle.language.specs.Types.{ANumber, ABus, AValue, typeCode}
 use Rattle.entries.specs.Kinds as Kind
 use Rattle.traversal.specs.declared.Place.{Place}
 use Rattle.traversal.specs.declared.Place.the-variants.{At, Nowhere}
-use Rattle.traversal.specs.Places.{placed, placeIn, place-placed, placed-place, first-none, first-assoc}
+use Rattle.traversal.specs.Places.{placed, placeIn}
+use Rattle.traversal.specs.PlaceLaws.{place-placed, placed-place, first-none, first-assoc}
 use Rattle.traversal.specs.StackLaws.{no-part}
 use Rattle.traversal.specs.Starts.{firstOf}
-use Rattle.types.specs.Kinds.{giving, lastTakes, otherTakes, givesOf, fits, takesLast, demand, misfits, sidesOf, indexed, kindAt}
+use Rattle.types.specs.Codes.{givesName, givesOperand, takesAny, takesDefinable, firstUndefinable, takesSides, takesIndex}
+use Rattle.types.specs.Kinds.{giving, lastTakes, otherTakes, givesOf, fits, takesLast, demand, misfits, sidesOf, indexed, typeAt}
 use Rattle.types.specs.Pass.{wrongAt}
 
 -- places
@@ -35,53 +38,53 @@ here true p e = ap (λ b. placed (unless b p)) (sym e)
 here false p e = refl
 
 -- names
-pub declared-kind : (table : List ℕ) (r : ℕ) → r < maxNames → getD table r 0 ≡ kindAt table r
-unfolding kindAt
-declared-kind table r h = sym (pick (ltb r maxNames) _ _ (lt-ltb _ _ h))
+pub declared-type : (table : List ℕ) (r : ℕ) → r < maxNames → getD table r 0 ≡ typeAt table r
+unfolding typeAt
+declared-type table r h = sym (pick (ltb r maxNames) _ _ (lt-ltb _ _ h))
 
-pub bound-kind : (table : List ℕ) (r : ℕ) → maxNames ≤ r → 0 ≡ kindAt table r
-unfolding kindAt
-bound-kind table r h = sym (leave (ltb r maxNames) _ _ (le-ltb _ _ h))
+pub bound-type : (table : List ℕ) (r : ℕ) → maxNames ≤ r → typeCode ANumber ≡ typeAt table r
+unfolding typeAt
+bound-type table r h = sym (leave (ltb r maxNames) _ _ (le-ltb _ _ h))
 
 -- what an entry gives
 module _ (k name operand : ℕ) where
-  pub gives-by : (v : ℕ) → v ≡ getD giving k 0 → (if eqb v 6 then name else (if eqb v 7 then operand else v)) ≡ givesOf k name operand
+  pub gives-by : (v : ℕ) → v ≡ getD giving k 0 → (if eqb v givesName then name else (if eqb v givesOperand then operand else v)) ≡ givesOf k name operand
   unfolding givesOf
-  gives-by v e = ap (λ u. if eqb u 6 then name else (if eqb u 7 then operand else u)) e
+  gives-by v e = ap (λ u. if eqb u givesName then name else (if eqb u givesOperand then operand else u)) e
 
 -- does it fit?
 module _ (d k : ℕ) where
-  pub fits-any : d ≡ 8 → fits d k ≡ true
+  pub fits-any : d ≡ takesAny → fits d k ≡ true
   unfolding fits
-  fits-any e = pick (eqb d 8) _ _ (eq-eqb _ _ e)
+  fits-any e = pick (eqb d takesAny) _ _ (eq-eqb _ _ e)
 
-  other-demand : (d ≡ 8 → ⊥) → d ≡ 9 → fits d k ≡ ltb k 3
+  other-demand : (d ≡ takesAny → ⊥) → d ≡ takesDefinable → fits d k ≡ ltb k firstUndefinable
   unfolding fits
-  other-demand e h = leave (eqb d 8) _ _ (ne-eqb _ _ e) ∙ pick (eqb d 9) _ _ (eq-eqb _ _ h)
+  other-demand e h = leave (eqb d takesAny) _ _ (ne-eqb _ _ e) ∙ pick (eqb d takesDefinable) _ _ (eq-eqb _ _ h)
 
-  pub fits-definable : (d ≡ 8 → ⊥) → d ≡ 9 → k < 3 → fits d k ≡ true
+  pub fits-definable : (d ≡ takesAny → ⊥) → d ≡ takesDefinable → k < firstUndefinable → fits d k ≡ true
   fits-definable e h l = other-demand e h ∙ lt-ltb _ _ l
 
-  pub not-definable : (d ≡ 8 → ⊥) → d ≡ 9 → 3 ≤ k → fits d k ≡ false
+  pub not-definable : (d ≡ takesAny → ⊥) → d ≡ takesDefinable → firstUndefinable ≤ k → fits d k ≡ false
   not-definable e h l = other-demand e h ∙ le-ltb _ _ l
 
-  one-demand : (d ≡ 8 → ⊥) → (d ≡ 9 → ⊥) → fits d k ≡ eqb d k
+  one-demand : (d ≡ takesAny → ⊥) → (d ≡ takesDefinable → ⊥) → fits d k ≡ eqb d k
   unfolding fits
-  one-demand e h = leave (eqb d 8) _ _ (ne-eqb _ _ e) ∙ leave (eqb d 9) _ _ (ne-eqb _ _ h)
+  one-demand e h = leave (eqb d takesAny) _ _ (ne-eqb _ _ e) ∙ leave (eqb d takesDefinable) _ _ (ne-eqb _ _ h)
 
-  pub fits-one : (d ≡ 8 → ⊥) → (d ≡ 9 → ⊥) → d ≡ k → fits d k ≡ true
+  pub fits-one : (d ≡ takesAny → ⊥) → (d ≡ takesDefinable → ⊥) → d ≡ k → fits d k ≡ true
   fits-one e h z = one-demand e h ∙ eq-eqb _ _ z
 
-  pub not-one : (d ≡ 8 → ⊥) → (d ≡ 9 → ⊥) → (d ≡ k → ⊥) → fits d k ≡ false
+  pub not-one : (d ≡ takesAny → ⊥) → (d ≡ takesDefinable → ⊥) → (d ≡ k → ⊥) → fits d k ≡ false
   not-one e h z = one-demand e h ∙ ne-eqb _ _ z
 
 -- the last operand
 module _ (k n : ℕ) where
-  pub last-more : k ≡ Kind.element → n ≡ 2 → 8 ≡ takesLast k n
+  pub last-more : k ≡ Kind.element → n ≡ 2 → takesAny ≡ takesLast k n
   unfolding takesLast
   last-more e h = sym (pick (eqb k Kind.element) _ _ (eq-eqb _ _ e) ∙ pick (eqb n 2) _ _ (eq-eqb _ _ h))
 
-  pub last-one : k ≡ Kind.element → (n ≡ 2 → ⊥) → 0 ≡ takesLast k n
+  pub last-one : k ≡ Kind.element → (n ≡ 2 → ⊥) → typeCode ANumber ≡ takesLast k n
   unfolding takesLast
   last-one e h = sym (pick (eqb k Kind.element) _ _ (eq-eqb _ _ e) ∙ leave (eqb n 2) _ _ (ne-eqb _ _ h))
 
@@ -91,41 +94,41 @@ module _ (k n : ℕ) where
 
 -- the sides of an equation
 module _ (a b s t : ℕ) where
-  pub number-side : a ≡ 0 → placed (unless (fits 0 b) t) ≡ placed (sidesOf a b s t)
+  pub number-side : a ≡ typeCode ANumber → placed (unless (fits (typeCode ANumber) b) t) ≡ placed (sidesOf a b s t)
   unfolding sidesOf
-  number-side e = ap placed (sym (pick (eqb a 0) _ _ (eq-eqb _ _ e)))
+  number-side e = ap placed (sym (pick (eqb a (typeCode ANumber)) _ _ (eq-eqb _ _ e)))
 
-  pub bus-side : (a ≡ 0 → ⊥) → a ≡ 3 → placed (unless (fits 4 b) t) ≡ placed (sidesOf a b s t)
+  pub bus-side : (a ≡ typeCode ANumber → ⊥) → a ≡ typeCode ABus → placed (unless (fits (typeCode AValue) b) t) ≡ placed (sidesOf a b s t)
   unfolding sidesOf
-  bus-side d e = ap placed (sym (leave (eqb a 0) _ _ (ne-eqb _ _ d) ∙ pick (eqb a 3) _ _ (eq-eqb _ _ e)))
+  bus-side d e = ap placed (sym (leave (eqb a (typeCode ANumber)) _ _ (ne-eqb _ _ d) ∙ pick (eqb a (typeCode ABus)) _ _ (eq-eqb _ _ e)))
 
-  pub value-side : (a ≡ 0 → ⊥) → (a ≡ 3 → ⊥) → a ≡ 4 → placed (unless (fits 3 b) t) ≡ placed (sidesOf a b s t)
+  pub value-side : (a ≡ typeCode ANumber → ⊥) → (a ≡ typeCode ABus → ⊥) → a ≡ typeCode AValue → placed (unless (fits (typeCode ABus) b) t) ≡ placed (sidesOf a b s t)
   unfolding sidesOf
-  value-side d h e = ap placed (sym (leave (eqb a 0) _ _ (ne-eqb _ _ d) ∙ leave (eqb a 3) _ _ (ne-eqb _ _ h) ∙ pick (eqb a 4) _ _ (eq-eqb _ _ e)))
+  value-side d h e = ap placed (sym (leave (eqb a (typeCode ANumber)) _ _ (ne-eqb _ _ d) ∙ leave (eqb a (typeCode ABus)) _ _ (ne-eqb _ _ h) ∙ pick (eqb a (typeCode AValue)) _ _ (eq-eqb _ _ e)))
 
-  pub no-side : (a ≡ 0 → ⊥) → (a ≡ 3 → ⊥) → (a ≡ 4 → ⊥) → At s ≡ placed (sidesOf a b s t)
+  pub no-side : (a ≡ typeCode ANumber → ⊥) → (a ≡ typeCode ABus → ⊥) → (a ≡ typeCode AValue → ⊥) → At s ≡ placed (sidesOf a b s t)
   unfolding sidesOf placed
-  no-side d h e = ap placed (sym (leave (eqb a 0) _ _ (ne-eqb _ _ d) ∙ leave (eqb a 3) _ _ (ne-eqb _ _ h) ∙ leave (eqb a 4) _ _ (ne-eqb _ _ e)))
+  no-side d h e = ap placed (sym (leave (eqb a (typeCode ANumber)) _ _ (ne-eqb _ _ d) ∙ leave (eqb a (typeCode ABus)) _ _ (ne-eqb _ _ h) ∙ leave (eqb a (typeCode AValue)) _ _ (ne-eqb _ _ e)))
 
 -- an index
 module _ (k name place : ℕ) where
-  pub index-bus : getD otherTakes k 0 ≡ 11 → placed (unless (fits 3 name) place) ≡ placed (indexed k name place)
+  pub index-bus : getD otherTakes k 0 ≡ takesIndex → placed (unless (fits (typeCode ABus) name) place) ≡ placed (indexed k name place)
   unfolding indexed
-  index-bus e = ap placed (sym (pick (eqb (getD otherTakes k 0) 11) _ _ (eq-eqb _ _ e)))
+  index-bus e = ap placed (sym (pick (eqb (getD otherTakes k 0) takesIndex) _ _ (eq-eqb _ _ e)))
 
-  pub no-index : (getD otherTakes k 0 ≡ 11 → ⊥) → Nowhere ≡ placed (indexed k name place)
+  pub no-index : (getD otherTakes k 0 ≡ takesIndex → ⊥) → Nowhere ≡ placed (indexed k name place)
   unfolding indexed placed
-  no-index e = ap placed (sym (leave (eqb (getD otherTakes k 0) 11) _ _ (ne-eqb _ _ e)))
+  no-index e = ap placed (sym (leave (eqb (getD otherTakes k 0) takesIndex) _ _ (ne-eqb _ _ e)))
 
 -- the operands
 module _ (k : ℕ) (ks ss : List ℕ) where
-  pub sides-wrong : getD otherTakes k 0 ≡ 10 → sidesOf (firstOf ks) (firstOf (drop 1 ks)) (firstOf ss) (firstOf (drop 1 ss)) ≡ wrongAt k ks ss
+  pub sides-wrong : getD otherTakes k 0 ≡ takesSides → sidesOf (firstOf ks) (firstOf (drop 1 ks)) (firstOf ss) (firstOf (drop 1 ss)) ≡ wrongAt k ks ss
   unfolding wrongAt
-  sides-wrong e = sym (pick (eqb (getD otherTakes k 0) 10) _ _ (eq-eqb _ _ e))
+  sides-wrong e = sym (pick (eqb (getD otherTakes k 0) takesSides) _ _ (eq-eqb _ _ e))
 
-  pub misfits-wrong : (getD otherTakes k 0 ≡ 10 → ⊥) → misfits (getD otherTakes k 0) (takesLast k (length ks)) ks ss ≡ wrongAt k ks ss
+  pub misfits-wrong : (getD otherTakes k 0 ≡ takesSides → ⊥) → misfits (getD otherTakes k 0) (takesLast k (length ks)) ks ss ≡ wrongAt k ks ss
   unfolding wrongAt
-  misfits-wrong e = sym (leave (eqb (getD otherTakes k 0) 10) _ _ (ne-eqb _ _ e))
+  misfits-wrong e = sym (leave (eqb (getD otherTakes k 0) takesSides) _ _ (ne-eqb _ _ e))
 
 -- one operand after the other
 module _ (other last : ℕ) (ks ss : List ℕ) (i to : ℕ) (few : to ≤ length ks) (few′ : to ≤ length ss) where
@@ -170,7 +173,7 @@ module _ (k : ℕ) (ks ss : List ℕ) (from to : ℕ) where
   second : (ls : List ℕ) → drop 1 (slice from to ls) ≡ slice (from + 1) to ls
   second ls = drop-drop 1 from (take to ls)
 
-  pub wrong-sides : {a b s t : ℕ} (r : Place) → getD otherTakes k 0 ≡ 10 → a ≡ firstOf (slice from to ks) → b ≡ firstOf (slice (from + 1) to ks) → s ≡ firstOf (slice from to ss)
+  pub wrong-sides : {a b s t : ℕ} (r : Place) → getD otherTakes k 0 ≡ takesSides → a ≡ firstOf (slice from to ks) → b ≡ firstOf (slice (from + 1) to ks) → s ≡ firstOf (slice from to ss)
       → t ≡ firstOf (slice (from + 1) to ss)
       → r ≡ placed (sidesOf a b s t) → r ≡ placed (wrongAt k (slice from to ks) (slice from to ss))
   wrong-sides {a} {b} {s} {t} r e ha hb hs ht hr =
@@ -178,7 +181,7 @@ module _ (k : ℕ) (ks ss : List ℕ) (from to : ℕ) where
       (ht ∙ ap firstOf (sym (second ss)))
       ∙ ap placed (sides-wrong k (slice from to ks) (slice from to ss) e)
 
-  pub wrong-misfits : {o l : ℕ} (r : Place) → (getD otherTakes k 0 ≡ 10 → ⊥) → to ≤ length ks → o ≡ getD otherTakes k 0 → l ≡ takesLast k (to - from)
+  pub wrong-misfits : {o l : ℕ} (r : Place) → (getD otherTakes k 0 ≡ takesSides → ⊥) → to ≤ length ks → o ≡ getD otherTakes k 0 → l ≡ takesLast k (to - from)
       → r ≡ placed (misfits o l (slice from to ks) (slice from to ss)) → r ≡ placed (wrongAt k (slice from to ks) (slice from to ss))
   wrong-misfits r e few ho hl hr =
       hr ∙ ap₂ (λ x y. placed (misfits x y (slice from to ks) (slice from to ss))) ho (hl ∙ ap (takesLast k) (sym (length-slice from to ks few))) ∙ ap placed

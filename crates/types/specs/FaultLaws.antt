@@ -18,27 +18,28 @@ use Rattle.traversal.specs.Cells.{Sees}
 use Rattle.traversal.specs.Parts.{Part, Whole, Binder, operandsOf, kindOf}
 use Rattle.traversal.specs.PartLaws.{unless-cases}
 use Rattle.traversal.specs.PassLaws.{ownEntry}
-use Rattle.traversal.specs.Places.{first-none, first-assoc, first-comm}
+use Rattle.traversal.specs.PlaceLaws.{first-none, first-assoc, first-comm}
 use Rattle.traversal.specs.Starts.{startPart}
-use Rattle.types.specs.Kinds.{lastTakes, otherTakes, indexed, placeOf, referenceOf, kindAt}
+use Rattle.types.specs.Codes.{takesAny, takesIndex}
+use Rattle.types.specs.Kinds.{lastTakes, otherTakes, indexed, placeOf, referenceOf, typeAt}
 use Rattle.types.specs.Pass.{Operand, wrongAt, fault}
 use Rattle.types.specs.Known.{Resolved}
 use Rattle.types.specs.Opened.{openPast}
 use Rattle.types.specs.TakeLaws.{Takes, none-wrong, any-wrong, one-wrong, two-wrong, three-wrong, second-wrong, last-wrong, more-wrong, unindexed, on-bus}
 use Rattle.types.specs.OperatorLaws.{truth-takes, before-takes, window-takes, big-takes, binder-takes, between-takes, joining-wrong, joining-unindexed}
-use Rattle.types.specs.NodeLaws.{kindPart, value, bad, Good, name-known, one-place, two-places, three-places}
+use Rattle.types.specs.NodeLaws.{typePart, value, bad, Good, name-known, one-place, two-places, three-places}
 
 -- a kind that takes anything
-free : (k : ℕ) → getD otherTakes k 0 ≡ 8 → getD lastTakes k 0 ≡ 8 → eqb k EntryKind.element ≡ false → Takes k 8 8
+free : (k : ℕ) → getD otherTakes k 0 ≡ takesAny → getD lastTakes k 0 ≡ takesAny → eqb k EntryKind.element ≡ false → Takes k takesAny takesAny
 free k o l e = record { others = o; final = l; plain = e }
 
-index : Takes EntryKind.index 11 0
+index : Takes EntryKind.index takesIndex (typeCode ANumber)
 index = record { others = refl; final = refl; plain = refl }
 
-nexts : Takes EntryKind.nexts 0 2
+nexts : Takes EntryKind.nexts (typeCode ANumber) (typeCode AFormula)
 nexts = record { others = refl; final = refl; plain = refl }
 
-range : Takes EntryKind.range 0 0
+range : Takes EntryKind.range (typeCode ANumber) (typeCode ANumber)
 range = record { others = refl; final = refl; plain = refl }
 
 abbrev code : Typings → Expr → ℕ
@@ -48,19 +49,19 @@ both-places : (m n w : Option ℕ) → first (first m (first n none)) w ≡ firs
 both-places m n w = ap (λ l. first (first m l) w) (first-none n) ∙ first-comm (first m n) w
 
 module _ (declared : Names) (table : List ℕ) where
-  abbrev nameKind : ℕ → ℕ
-  nameKind x = kindAt table (referenceOf x)
+  abbrev nameType : ℕ → ℕ
+  nameType x = typeAt table (referenceOf x)
 
   -- an entry that is no index
-  quiet : (x : ℕ) {k o l : ℕ} {w v : Option ℕ} → Takes k o l → (o ≡ 11 → ⊥) → w ≡ v → first (indexed k (nameKind x) (placeOf x)) w ≡ v
-  quiet x {k} h n e = ap₂ first (unindexed k (nameKind x) (placeOf x) (λ z. n (sym (h .others) ∙ z))) e
+  quiet : (x : ℕ) {k o l : ℕ} {w v : Option ℕ} → Takes k o l → (o ≡ takesIndex → ⊥) → w ≡ v → first (indexed k (nameType x) (placeOf x)) w ≡ v
+  quiet x {k} h n e = ap₂ first (unindexed k (nameType x) (placeOf x) (λ z. n (sym (h .others) ∙ z))) e
 
-  loud : (x : ℕ) {w v : Option ℕ} → w ≡ v → first (indexed EntryKind.element (nameKind x) (placeOf x)) w ≡ v
-  loud x e = ap₂ first (unindexed EntryKind.element (nameKind x) (placeOf x) (λ z. omega arith)) e
+  loud : (x : ℕ) {w v : Option ℕ} → w ≡ v → first (indexed EntryKind.element (nameType x) (placeOf x)) w ≡ v
+  loud x e = ap₂ first (unindexed EntryKind.element (nameType x) (placeOf x) (λ z. omega arith)) e
 
   -- what the entry of a part with these operands finds, and what stands in the operands
   abbrev finds : ℕ → ℕ → List (Part Typings) → Option ℕ
-  finds k x qs = first (firstIn bad qs) (first (indexed k (nameKind x) (placeOf x)) (wrongAt k (map kindPart qs) (map startPart qs)))
+  finds k x qs = first (firstIn bad qs) (first (indexed k (nameType x) (placeOf x)) (wrongAt k (map typePart qs) (map startPart qs)))
 
   part-fault : (bs : Names) (q : Part Typings) (x : ℕ) → Good declared table bs q → Resolved declared (openPast bs q) x (ownEntry withNumber q) → ltb (kindOf q) firstLine ≡ true
       → finds (kindOf q) x (operandsOf withNumber q) ≡ bad q
@@ -69,7 +70,7 @@ module _ (declared : Names) (table : List ℕ) where
   part-fault bs (Whole ys (Truth t b)) x g h i = quiet x truth-takes (λ z. omega arith) (none-wrong truth-takes (λ z. omega arith))
   part-fault bs (Whole ys (Index t e)) x g h i =
       let b : Option ℕ = unless (isType ABus (typeIn ys t)) (t .at) in
-      ap (first (first (mistyped ys e) none)) (ap₂ first (on-bus (nameKind x) (placeOf x) ∙ ap₂ (λ j p. unless (eqb 3 j) p) (name-known declared table ys h refl (g .0)) (h .place))
+      ap (first (first (mistyped ys e) none)) (ap₂ first (on-bus (nameType x) (placeOf x) ∙ ap₂ (λ j p. unless (eqb (typeCode ABus) j) p) (name-known declared table ys h refl (g .0)) (h .place))
       (one-wrong ANumber (code ys e) (start e) index (λ z. omega arith)))
       ∙ one-place (mistyped ys e) (first b (wrong ANumber ys e)) ∙ first-assoc b (wrong ANumber ys e) (mistyped ys e)
   part-fault bs (Whole ys (Paren t e)) x g h i = ap (first (first (mistyped ys e) none))
@@ -79,7 +80,7 @@ module _ (declared : Names) (table : List ℕ) where
       ap (first (first (mistyped ys e) none)) (quiet x (before-takes o) (λ z. omega arith) (one-wrong (prefixTakes o) (code ys e) (start e) (before-takes o) (λ z. omega arith))) ∙ one-place
       (mistyped ys e) (wrong (prefixTakes o) ys e)
   part-fault bs (Whole ys (Joined t o a b)) x g h i =
-      ap (first (first (mistyped ys a) (first (mistyped ys b) none))) (ap₂ first (unindexed (EntryKind.joining o) (nameKind x) (placeOf x) (joining-unindexed o)) (joining-wrong ys o a b))
+      ap (first (first (mistyped ys a) (first (mistyped ys b) none))) (ap₂ first (unindexed (EntryKind.joining o) (nameType x) (placeOf x) (joining-unindexed o)) (joining-wrong ys o a b))
       ∙ both-places (mistyped ys a) (mistyped ys b) (wrongOperands ys o a b)
   part-fault bs (Whole ys (Nexts t n e)) x g h i =
       ap (first (first (mistyped ys n) (first (mistyped ys e) none))) (quiet x nexts (λ z. omega arith) (two-wrong ANumber AFormula (code ys n) (code ys e) (start n) (start e) nexts))
@@ -125,7 +126,7 @@ module _ (declared : Names) (table : List ℕ) where
   faults bs q c g z i =
       let qs = operandsOf withNumber q in
       ap (first (firstIn bad qs))
-      (ap₂ (λ ks ss. first (indexed (c .kind) (nameKind (c .token)) (placeOf (c .token))) (wrongAt (c .kind) ks ss)) (map-map (λ (x : Operand). x .kind) value qs)
+      (ap₂ (λ ks ss. first (indexed (c .kind) (nameType (c .token)) (placeOf (c .token))) (wrongAt (c .kind) ks ss)) (map-map (λ (x : Operand). x .kind) value qs)
       (map-map (λ (x : Operand). x .start) value qs)
-      ∙ ap (λ k. first (indexed k (nameKind (c .token)) (placeOf (c .token))) (wrongAt k (map kindPart qs) (map startPart qs))) (z .kind))
+      ∙ ap (λ k. first (indexed k (nameType (c .token)) (placeOf (c .token))) (wrongAt k (map typePart qs) (map startPart qs))) (z .kind))
       ∙ part-fault bs q (c .token) g (z .token) i

@@ -13,7 +13,7 @@ use Rattle.names.specs.Walkable.{names}
 use Rattle.names.specs.References.{reference}
 use Rattle.traversal.specs.Cells.{Told}
 use Rattle.traversal.specs.Starts.{AtPlace}
-use Rattle.types.specs.Kinds.{placeOf, referenceOf, kindAt}
+use Rattle.types.specs.Kinds.{placeOf, referenceOf, typeAt}
 
 -- the word of an entry, behind which the big operators' names bs are open
 pub record Resolved (declared bs : Names) (x : ℕ) (e : Entry) : Type 0 where
@@ -21,7 +21,7 @@ pub record Resolved (declared bs : Names) (x : ℕ) (e : Entry) : Type 0 where
   pub refers : names (e .kind) ≡ true → referenceOf x ≡ reference declared bs (tokenOf e)
 
 abbrev pub KnownName : Names → Names → List ℕ → Typings → Token → Type 0
-KnownName declared bs table ys t = kindAt table (reference declared bs t) ≡ typeCode (typeIn ys t)
+KnownName declared bs table ys t = typeAt table (reference declared bs t) ≡ typeCode (typeIn ys t)
 
 -- 'a big operator's name in the rest of its operator'
 abbrev pub Known : Names → Names → List ℕ → Typings → Expr → Type 0

@@ -37,7 +37,7 @@ use Rattle.language.specs.Tree.{
 }
 use Rattle.language.specs.Places.{first, TextLine as Line, ParameterLine, DefinitionLine, DeclarationLine, FormulaLine}
 use Rattle.language.specs.Names.{Names, visible, hidden, nowhere, walk, identifierNames, declares, declaresSignal, over}
-use Rattle.language.specs.Types.{ExprType, AFormula, ABus, AValue, typeCode, Typings, withNumber, typedValues, typedSignals}
+use Rattle.language.specs.Types.{ExprType, AFormula, ABus, AValue, typeCode, Typings, withNumber, typedValues, typedSignals, ANumber}
 use Rattle.language.specs.Laws.Basics.Lists.{All, all-more, all-right, all-append, all-both}
 use Rattle.language.specs.Laws.Basics.NoPlace.{first-left, first-right, unless-none}
 use Rattle.language.specs.Laws.Basics.Tests.{pick, leave, or-cases, same-equal}
@@ -45,7 +45,7 @@ use Rattle.language.specs.Laws.Values.DistinctNames.{Apart, apart-sym, Distinct
 use Rattle.names.specs.References.{reference}
 use Rattle.names.specs.WalkBinders.{reference-same, reference-other, reference-text}
 use Rattle.names.specs.VisibleLaws.{In, visible-text, of-signals}
-use Rattle.types.specs.Kinds.{kindAt}
+use Rattle.types.specs.Kinds.{typeAt}
 use Rattle.types.specs.Known.{KnownName, Known}
 use Rattle.types.specs.TableLaws.{allFixed}
 use Rattle.types.specs.PutLaws.{Has}
@@ -85,16 +85,16 @@ module _ (declared : Names) (table : List ℕ) where
   Fits bs ns ys = (t : Token) → visible ns t ≡ true → KnownName declared bs table ys t
 
   -- a big operator's name is a number
-  kind-bound : (r d : ℕ) → r ≡ maxNames + d → kindAt table r ≡ 0
-  unfolding kindAt
-  kind-bound r d e = leave (ltb r maxNames) _ _ (le-ltb r maxNames (omega arith))
+  type-bound : (r d : ℕ) → r ≡ maxNames + d → typeAt table r ≡ typeCode ANumber
+  unfolding typeAt
+  type-bound r d e = leave (ltb r maxNames) _ _ (le-ltb r maxNames (omega arith))
 
   fits-bound : (bs ns : Names) (ys : Typings) (i : Token) → Fits bs ns ys → Fits (i ∷ bs) (i ∷ ns) (withNumber i ys)
   fits-bound bs ns ys i f t y = go (same (i .text) (t .text)) refl y
     where
       go : (b : Bool) → same (i .text) (t .text) ≡ b → (b || visible ns t) ≡ true → KnownName declared (i ∷ bs) table (withNumber i ys) t
-      go true e v = kind-bound (reference declared (i ∷ bs) t) (length bs) (reference-same declared i bs t e) ∙ sym (ap typeCode (pick (same (i .text) (t .text)) _ _ e))
-      go false e v = ap (kindAt table) (reference-other declared i bs t e) ∙ f t v ∙ sym (ap typeCode (leave (same (i .text) (t .text)) _ _ e))
+      go true e v = type-bound (reference declared (i ∷ bs) t) (length bs) (reference-same declared i bs t e) ∙ sym (ap typeCode (pick (same (i .text) (t .text)) _ _ e))
+      go false e v = ap (typeAt table) (reference-other declared i bs t e) ∙ f t v ∙ sym (ap typeCode (leave (same (i .text) (t .text)) _ _ e))
 
   pub known : (bs ns : Names) (ys : Typings) → Fits bs ns ys → (e : Expr) → walk hidden nowhere ns e ≡ none → Known declared bs table ys e
   known bs ns ys f (Named t) y = f t (unless-none (visible ns t) (t .at) y)
@@ -131,7 +131,7 @@ module _ (declared : Names) (table : List ℕ) where
   fits-one ns ys x k h f t y = go (same (x .text) (t .text)) refl y
     where
       go : (b : Bool) → same (x .text) (t .text) ≡ b → (b || visible ns t) ≡ true → KnownName declared [] table (record { name = x; kind = k } ∷ ys) t
-      go true e v = ap (kindAt table) (reference-text declared [] t x (sym (same-equal (x .text) (t .text) e))) ∙ h ∙ sym (ap typeCode (pick (same (x .text) (t .text)) _ _ e))
+      go true e v = ap (typeAt table) (reference-text declared [] t x (sym (same-equal (x .text) (t .text) e))) ∙ h ∙ sym (ap typeCode (pick (same (x .text) (t .text)) _ _ e))
       go false e v = f t v ∙ sym (ap typeCode (leave (same (x .text) (t .text)) _ _ e))
 
   pub fits-values : (is : List Identifier) (ns : Names) (ys zs : Typings) → All (Has declared table) (typedValues is zs) → Fits [] ns ys → Fits [] (identifierNames is ++ ns) (typedValues is ys)

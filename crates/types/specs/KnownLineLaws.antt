@@ -17,9 +17,9 @@ use Rattle.names.specs.References.{reference}
 use Rattle.names.specs.Resolved.{declaredNames, Resolved}
 use Rattle.names.specs.VisibleLaws.{In, Among, visible-right, visible-apart, in-own, in-declared, among-more, among-all, of-signals}
 use Rattle.traversal.specs.LineLaws.{Each}
-use Rattle.types.specs.Lines.{Context, next, KnownLine, KindsKnown}
+use Rattle.types.specs.Lines.{Context, next, KnownLine, TypesKnown}
 use Rattle.types.specs.TableLaws.{allFixed, put}
-use Rattle.types.specs.PutLaws.{Has, kind-other, put-length, Beside, others, apart-references, has-kept, fixed-names, has-set, fixed-put}
+use Rattle.types.specs.PutLaws.{Has, type-other, put-length, Beside, others, apart-references, has-kept, fixed-names, has-set, fixed-put}
 use Rattle.types.specs.KnownLaws.{defines, of-defined, signals-apart, Fits, known, fits-one, fits-values, behind-values, fits-signals, fits-again}
 
 module _ (declared : Names) (few : length declared ≤ maxNames) where
@@ -68,7 +68,7 @@ module _ (declared : Names) (few : length declared ≤ maxNames) where
       let kind = typeOf (k .names) e in
       let r = reference declared [] x in
       let table = set (k .table) r (typeCode kind) in
-      let seen : Fits declared table [] ns (k .names) = λ t v. kind-other (k .table) r (typeCode kind) (reference declared [] t)
+      let seen : Fits declared table [] ns (k .names) = λ t v. type-other (k .table) r (typeCode kind) (reference declared [] t)
       (apart-references declared t x (b .among t v) (b .own .0) (visible-apart ns (over defines (DefinitionLine (Defined x e) ∷ ls)) (b .apart) t v .0)) ∙ b .fits t v in
       onward _ (DefinitionLine (Defined x e)) ls ns b (length-set (k .table) r (typeCode kind) ∙ b .size)
       (fits-one declared table ns (k .names) x kind (has-set declared few (k .table) x kind (b .own .0) (b .size)) seen)
@@ -92,9 +92,9 @@ module _ (declared : Names) (few : length declared ≤ maxNames) where
   lines-known k (l ∷ ls) ns b = (line-known k l ls ns b, lines-known (next declared k l) ls (declares l ++ ns) (before-next k l ls ns b))
 
 -- all names of a text
-pub kinds-known : {x : Spec} {refs found : List ℕ} {n : ℕ} → Resolved x refs found n → (table : List ℕ) → table ≡ put (declaredNames x) (replicate maxNames 0) (allFixed (allLines x))
-    → KindsKnown (declaredNames x) table x
-kinds-known {x} r table e =
+pub types-known : {x : Spec} {refs found : List ℕ} {n : ℕ} → Resolved x refs found n → (table : List ℕ) → table ≡ put (declaredNames x) (replicate maxNames 0) (allFixed (allLines x))
+    → TypesKnown (declaredNames x) table x
+types-known {x} r table e =
     let declared = declaredNames x in
     let ls = allLines x in
     let signals = over declaresSignal ls in

@@ -1,3 +1,4 @@
+pub mod Codes
 pub mod Kinds
 pub mod Pass
 pub mod TakeLaws
@@ -5,16 +6,20 @@ pub mod OperatorLaws
 pub mod Known
 pub mod Opened
 pub mod Cells
+pub mod CellLaws
 pub mod NodeLaws
 pub mod FaultLaws
 pub mod Lines
 pub mod TypeLaws
 pub mod CodeLaws
 pub mod Progress
+pub mod ProgressLaws
 pub mod Declaring
+pub mod DeclaringLaws
 pub mod TableLaws
 pub mod PutLaws
 pub mod KnownLaws
 pub mod KnownLineLaws
 pub mod Resolving
 pub mod Running
+pub mod RunningLaws

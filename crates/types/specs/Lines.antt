@@ -37,5 +37,5 @@ KnownLine declared k (DeclarationLine (OfType u x)) = KnownName declared [] (k .
 KnownLine declared k (FormulaLine e) = Known declared [] (k .table) (k .names) e
 
 -- from this table on every line's names are known: the signals' and buses' first, then a parameter's, an enumeration's or a definition's after its line
-pub record KindsKnown (declared : Names) (table : List ℕ) (x : Spec) : Type 0 where
+pub record TypesKnown (declared : Names) (table : List ℕ) (x : Spec) : Type 0 where
   pub lines : Each (next declared) (KnownLine declared) (record { table = table; names = typedSignals (allLines x) }) (allLines x)

@@ -11,7 +11,7 @@ use borrow.Author.Tests.{ne-eqb}
 use Rattle.language.specs.Operators.{Infix, Calculates, Combines, Compares, Membership, Connects, Prefix, Measures, WidthOf, Applies, Big, BigSum, BigProduct, BigCap, BigCup, BigAnd, BigOr}
 use Rattle.language.specs.Tree.{Named, Numeral, Truth, Index, Paren, Prefixed, Joined, Nexts, InWindow, Each, Between, Listed, Empty, Element, Range}
 use Rattle.language.specs.Places.{start, first}
-use Rattle.language.specs.Types.{ASet, typeCode, Typings, typeIn, prefixGives, infixGives, bigGives, withNumber, typeOf, wrong, mistyped}
+use Rattle.language.specs.Types.{ASet, typeCode, Typings, typeIn, prefixGives, infixGives, bigGives, withNumber, typeOf, wrong, mistyped, ANumber, AFormula, AType}
 use Rattle.language.specs.Names.{Names}
 use Rattle.language.specs.Laws.Basics.Tests.{leave}
 use Rattle.entries.specs.Kinds as EntryKind
@@ -23,20 +23,22 @@ use Rattle.traversal.specs.Arity.{firstLine}
 use Rattle.traversal.specs.Cells.{Sees}
 use Rattle.traversal.specs.Parts.{Part, Whole, Binder, operandsOf, kindOf}
 use Rattle.traversal.specs.PassLaws.{ownEntry, Along, unless-along}
-use Rattle.traversal.specs.Places.{first-none, first-assoc, first-comm}
-use Rattle.traversal.specs.Starts.{startOf, firstOf, startPart, starts}
-use Rattle.types.specs.Kinds.{giving, givesOf, placeOf, referenceOf, kindAt}
+use Rattle.traversal.specs.PlaceLaws.{first-none, first-assoc, first-comm}
+use Rattle.traversal.specs.Starts.{startOf, firstOf, startPart}
+use Rattle.traversal.specs.StartLaws.{starts}
+use Rattle.types.specs.Codes.{givesName, givesOperand}
+use Rattle.types.specs.Kinds.{giving, givesOf, placeOf, referenceOf, typeAt}
 use Rattle.types.specs.Pass.{Operand, node}
 use Rattle.types.specs.Known.{Resolved, KnownName, Known}
 use Rattle.types.specs.Opened.{openPast}
 use Rattle.types.specs.OperatorLaws.{truth-gives, before-gives, joining-gives, window-gives, big-gives, binder-gives, between-gives}
 
-abbrev pub kindPart : Part Typings → ℕ
-kindPart (Whole ys e) = typeCode (typeOf ys e)
-kindPart (Binder ys further i s) = typeCode ASet
+abbrev pub typePart : Part Typings → ℕ
+typePart (Whole ys e) = typeCode (typeOf ys e)
+typePart (Binder ys further i s) = typeCode ASet
 
 abbrev pub value : Part Typings → Operand
-value q = record { kind = kindPart q; start = startPart q }
+value q = record { kind = typePart q; start = startPart q }
 
 -- a big operator's name asks for a set
 abbrev pub bad : Part Typings → Option ℕ
@@ -44,24 +46,24 @@ bad (Whole ys e) = mistyped ys e
 bad (Binder ys further i s) = first (wrong ASet ys s) (mistyped ys s)
 
 -- what an entry gives
-given : (k name operand n : ℕ) → getD giving k 0 ≡ n → n ≤ 5 → givesOf k name operand ≡ n
+given : (k name operand n : ℕ) → getD giving k 0 ≡ n → n ≤ typeCode AType → givesOf k name operand ≡ n
 unfolding givesOf
 given k name operand n e h =
-    leave (eqb (getD giving k 0) 6) _ _ (ne-eqb (getD giving k 0) 6 (λ z. omega arith)) ∙ leave (eqb (getD giving k 0) 7) _ _ (ne-eqb (getD giving k 0) 7 (λ z. omega arith)) ∙ e
+    leave (eqb (getD giving k 0) givesName) _ _ (ne-eqb (getD giving k 0) givesName (λ z. omega arith)) ∙ leave (eqb (getD giving k 0) givesOperand) _ _ (ne-eqb (getD giving k 0) givesOperand (λ z. omega arith)) ∙ e
 
-prefix-small : (o : Prefix) → typeCode (prefixGives o) ≤ 5
+prefix-small : (o : Prefix) → typeCode (prefixGives o) ≤ typeCode AType
 prefix-small (Measures m) = omega arith
 prefix-small WidthOf = omega arith
 prefix-small (Applies o) = omega arith
 
-infix-small : (o : Infix) → typeCode (infixGives o) ≤ 5
+infix-small : (o : Infix) → typeCode (infixGives o) ≤ typeCode AType
 infix-small (Calculates o) = omega arith
 infix-small (Combines o) = omega arith
 infix-small (Compares o) = omega arith
 infix-small Membership = omega arith
 infix-small (Connects o) = omega arith
 
-big-small : (o : Big) → typeCode (bigGives o) ≤ 5
+big-small : (o : Big) → typeCode (bigGives o) ≤ typeCode AType
 big-small BigSum = omega arith
 big-small BigProduct = omega arith
 big-small BigCap = omega arith
@@ -114,37 +116,37 @@ module _ (declared : Names) (table : List ℕ) where
   inherits bs (Whole ys (Range t a b c)) g = (g .0, (g .1, (g .2, tt)))
   inherits bs (Binder ys further i s) g = (g, tt)
 
-  abbrev nameKind : ℕ → ℕ
-  nameKind x = kindAt table (referenceOf x)
+  abbrev nameType : ℕ → ℕ
+  nameType x = typeAt table (referenceOf x)
 
   pub name-known : {bs : Names} {x : ℕ} {e : Entry} (ys : Typings) → Resolved declared bs x e → names (e .kind) ≡ true → KnownName declared bs table ys (nameOf e)
-      → nameKind x ≡ typeCode (typeIn ys (nameOf e))
-  name-known ys r n g = ap (kindAt table) (r .refers n) ∙ g
+      → nameType x ≡ typeCode (typeIn ys (nameOf e))
+  name-known ys r n g = ap (typeAt table) (r .refers n) ∙ g
 
-  abbrev kindParts : List (Part Typings) → List ℕ
-  kindParts qs = map kindPart qs
+  abbrev typeParts : List (Part Typings) → List ℕ
+  typeParts qs = map typePart qs
 
   abbrev startParts : List (Part Typings) → List ℕ
   startParts qs = map startPart qs
 
-  part-kind : (bs : Names) (q : Part Typings) (x : ℕ) → Good bs q → Resolved declared (openPast bs q) x (ownEntry withNumber q) → ltb (kindOf q) firstLine ≡ true
-      → givesOf (kindOf q) (nameKind x) (firstOf (kindParts (operandsOf withNumber q))) ≡ kindPart q
-  part-kind bs (Whole ys (Named t)) x g h i = by-name _ _ ∙ name-known ys h refl g
-  part-kind bs (Whole ys (Numeral t)) x g h i = given EntryKind.numeral _ _ 0 refl (omega arith)
-  part-kind bs (Whole ys (Truth t b)) x g h i = given EntryKind.truth _ _ 2 truth-gives (omega arith)
-  part-kind bs (Whole ys (Index t e)) x g h i = given EntryKind.index _ _ 2 refl (omega arith)
-  part-kind bs (Whole ys (Paren t e)) x g h i = by-operand _ _
-  part-kind bs (Whole ys (Prefixed t o e)) x g h i = given (EntryKind.before o) _ _ _ (before-gives o) (prefix-small o)
-  part-kind bs (Whole ys (Joined t o a b)) x g h i = given (EntryKind.joining o) _ _ _ (joining-gives o) (infix-small o)
-  part-kind bs (Whole ys (Nexts t n e)) x g h i = given EntryKind.nexts _ _ 2 refl (omega arith)
-  part-kind bs (Whole ys (InWindow t o n m e)) x g h i = given EntryKind.window _ _ 2 window-gives (omega arith)
-  part-kind bs (Whole ys (Each t o further j s e)) x g h i = given (EntryKind.big o) _ _ _ (big-gives o) (big-small o)
-  part-kind bs (Whole ys (Between t l u a b)) x g h i = given (EntryKind.between u) _ _ 1 (between-gives u) (omega arith)
-  part-kind bs (Whole ys (Listed t es)) x g h i = given EntryKind.listed _ _ 1 refl (omega arith)
-  part-kind bs (Whole ys Empty) x g h i = absurd (false≢true i)
-  part-kind bs (Whole ys (Element e es)) x g h i = given EntryKind.element _ _ 1 refl (omega arith)
-  part-kind bs (Whole ys (Range t a b c)) x g h i = given EntryKind.range _ _ 1 refl (omega arith)
-  part-kind bs (Binder ys further j s) x g h i = given (EntryKind.binder further) _ _ 1 (binder-gives further) (omega arith)
+  part-type : (bs : Names) (q : Part Typings) (x : ℕ) → Good bs q → Resolved declared (openPast bs q) x (ownEntry withNumber q) → ltb (kindOf q) firstLine ≡ true
+      → givesOf (kindOf q) (nameType x) (firstOf (typeParts (operandsOf withNumber q))) ≡ typePart q
+  part-type bs (Whole ys (Named t)) x g h i = by-name _ _ ∙ name-known ys h refl g
+  part-type bs (Whole ys (Numeral t)) x g h i = given EntryKind.numeral _ _ (typeCode ANumber) refl (omega arith)
+  part-type bs (Whole ys (Truth t b)) x g h i = given EntryKind.truth _ _ (typeCode AFormula) truth-gives (omega arith)
+  part-type bs (Whole ys (Index t e)) x g h i = given EntryKind.index _ _ (typeCode AFormula) refl (omega arith)
+  part-type bs (Whole ys (Paren t e)) x g h i = by-operand _ _
+  part-type bs (Whole ys (Prefixed t o e)) x g h i = given (EntryKind.before o) _ _ _ (before-gives o) (prefix-small o)
+  part-type bs (Whole ys (Joined t o a b)) x g h i = given (EntryKind.joining o) _ _ _ (joining-gives o) (infix-small o)
+  part-type bs (Whole ys (Nexts t n e)) x g h i = given EntryKind.nexts _ _ (typeCode AFormula) refl (omega arith)
+  part-type bs (Whole ys (InWindow t o n m e)) x g h i = given EntryKind.window _ _ (typeCode AFormula) window-gives (omega arith)
+  part-type bs (Whole ys (Each t o further j s e)) x g h i = given (EntryKind.big o) _ _ _ (big-gives o) (big-small o)
+  part-type bs (Whole ys (Between t l u a b)) x g h i = given (EntryKind.between u) _ _ (typeCode ASet) (between-gives u) (omega arith)
+  part-type bs (Whole ys (Listed t es)) x g h i = given EntryKind.listed _ _ (typeCode ASet) refl (omega arith)
+  part-type bs (Whole ys Empty) x g h i = absurd (false≢true i)
+  part-type bs (Whole ys (Element e es)) x g h i = given EntryKind.element _ _ (typeCode ASet) refl (omega arith)
+  part-type bs (Whole ys (Range t a b c)) x g h i = given EntryKind.range _ _ (typeCode ASet) refl (omega arith)
+  part-type bs (Binder ys further j s) x g h i = given (EntryKind.binder further) _ _ (typeCode ASet) (binder-gives further) (omega arith)
 
   pub values : (bs : Names) (q : Part Typings) (c : Cell) → Good bs q → Sees (Resolved declared (openPast bs q)) c (ownEntry withNumber q) → ltb (kindOf q) firstLine ≡ true
       → node table c (map value (operandsOf withNumber q)) ≡ value q
@@ -152,7 +154,7 @@ module _ (declared : Names) (table : List ℕ) where
   values bs q c g z i =
       let qs = operandsOf withNumber q in
       ap₂ (λ (k s : ℕ). record { kind = k; start = s })
-      (ap (λ ks. givesOf (c .kind) (nameKind (c .token)) (firstOf ks)) (map-map (λ (x : Operand). x .kind) value qs) ∙ ap (λ k. givesOf k (nameKind (c .token)) (firstOf (kindParts qs))) (z .kind) ∙
-      part-kind bs q (c .token) g (z .token) i)
+      (ap (λ ks. givesOf (c .kind) (nameType (c .token)) (firstOf ks)) (map-map (λ (x : Operand). x .kind) value qs) ∙ ap (λ k. givesOf k (nameType (c .token)) (firstOf (typeParts qs))) (z .kind) ∙
+      part-type bs q (c .token) g (z .token) i)
       (ap (λ ss. startOf (c .kind) (placeOf (c .token)) (firstOf ss)) (map-map (λ (x : Operand). x .start) value qs) ∙ ap (λ k. startOf k (placeOf (c .token)) (firstOf (startParts qs))) (z .kind) ∙
       starts withNumber q (placeOf (c .token)) (z .token .place) i)

@@ -7,7 +7,8 @@ use Rattle.language.specs.Tokens.{Token}
 use Rattle.language.specs.Tree.{Expr, Named, Numeral, Truth, Index, Paren, Prefixed, Joined, Nexts, InWindow, Each, Between, Listed, Empty, Element, Range}
 use Rattle.language.specs.Names.{Names}
 use Rattle.entries.specs.Flat.{Entry}
-use Rattle.names.specs.Roles.{binds, ends, quiet-truth, quiet-before, quiet-joining, quiet-window, quiet-between, ending-big}
+use Rattle.names.specs.Roles.{binds, ends}
+use Rattle.names.specs.QuietLaws.{quiet-truth, quiet-before, quiet-joining, quiet-window, quiet-between, ending-big}
 use Rattle.names.specs.Walking.{openAfter}
 use Rattle.names.specs.RefersLaws.{open-kept, open-more, open-less, binding}
 use Rattle.traversal.specs.Parts.{Part, Whole, Binder, unlessEmpty, operandsOf}

@@ -33,6 +33,7 @@ use Rattle.language.specs.Types.{
 }
 use Rattle.language.specs.Laws.Basics.Tests.{pick}
 use Rattle.entries.specs.Kinds as EntryKind
+use Rattle.types.specs.Codes.{takesAny, takesSides, takesIndex}
 use Rattle.types.specs.Kinds.{giving, otherTakes, fits, sidesOf}
 use Rattle.types.specs.Pass.{wrongAt}
 use Rattle.types.specs.TakeLaws.{Takes, two-wrong}
@@ -79,18 +80,18 @@ pub between-gives : (h : Bool) → Gives (EntryKind.between h) ASet
 between-gives true = refl
 between-gives false = refl
 
-pub truth-takes : Takes EntryKind.truth 8 8
+pub truth-takes : Takes EntryKind.truth takesAny takesAny
 truth-takes = record { others = refl; final = refl; plain = refl }
 
-pub before-takes : (o : Prefix) → Takes (EntryKind.before o) 8 (typeCode (prefixTakes o))
+pub before-takes : (o : Prefix) → Takes (EntryKind.before o) takesAny (typeCode (prefixTakes o))
 before-takes (Measures m) = record { others = refl; final = refl; plain = refl }
 before-takes WidthOf = record { others = refl; final = refl; plain = refl }
 before-takes (Applies o) = record { others = refl; final = refl; plain = refl }
 
-pub window-takes : Takes EntryKind.window 0 2
+pub window-takes : Takes EntryKind.window (typeCode ANumber) (typeCode AFormula)
 window-takes = record { others = refl; final = refl; plain = refl }
 
-pub big-takes : (o : Big) → Takes (EntryKind.big o) 8 (typeCode (bigGives o))
+pub big-takes : (o : Big) → Takes (EntryKind.big o) takesAny (typeCode (bigGives o))
 big-takes BigSum = record { others = refl; final = refl; plain = refl }
 big-takes BigProduct = record { others = refl; final = refl; plain = refl }
 big-takes BigCap = record { others = refl; final = refl; plain = refl }
@@ -98,11 +99,11 @@ big-takes BigCup = record { others = refl; final = refl; plain = refl }
 big-takes BigAnd = record { others = refl; final = refl; plain = refl }
 big-takes BigOr = record { others = refl; final = refl; plain = refl }
 
-pub binder-takes : (further : Bool) → Takes (EntryKind.binder further) 8 1
+pub binder-takes : (further : Bool) → Takes (EntryKind.binder further) takesAny (typeCode ASet)
 binder-takes true = record { others = refl; final = refl; plain = refl }
 binder-takes false = record { others = refl; final = refl; plain = refl }
 
-pub between-takes : (h : Bool) → Takes (EntryKind.between h) 0 0
+pub between-takes : (h : Bool) → Takes (EntryKind.between h) (typeCode ANumber) (typeCode ANumber)
 between-takes true = record { others = refl; final = refl; plain = refl }
 between-takes false = record { others = refl; final = refl; plain = refl }
 
@@ -159,9 +160,9 @@ sides Unknown AValue s t = refl
 sides Unknown AType s t = refl
 sides Unknown Unknown s t = refl
 
-equation : (k : ℕ) (a b s t : ℕ) → getD otherTakes k 0 ≡ 10 → wrongAt k (a ∷ b ∷ []) (s ∷ t ∷ []) ≡ sidesOf a b s t
+equation : (k : ℕ) (a b s t : ℕ) → getD otherTakes k 0 ≡ takesSides → wrongAt k (a ∷ b ∷ []) (s ∷ t ∷ []) ≡ sidesOf a b s t
 unfolding wrongAt
-equation k a b s t e = pick (eqb (getD otherTakes k 0) 10) _ _ (eq-eqb _ _ e)
+equation k a b s t e = pick (eqb (getD otherTakes k 0) takesSides) _ _ (eq-eqb _ _ e)
 
 -- the operands of an operator between them
 pub joining-wrong : (ys : Typings) (o : Infix) (a b : Expr) →
@@ -177,7 +178,7 @@ joining-wrong ys (Compares AtLeast) a b = two-wrong ANumber ANumber _ _ _ _ (rec
 joining-wrong ys Membership a b = two-wrong ANumber ASet _ _ _ _ (record { others = refl; final = refl; plain = refl })
 joining-wrong ys (Connects o) a b = two-wrong AFormula AFormula _ _ _ _ (record { others = refl; final = refl; plain = refl })
 
-pub joining-unindexed : (o : Infix) → getD otherTakes (EntryKind.joining o) 0 ≡ 11 → ⊥
+pub joining-unindexed : (o : Infix) → getD otherTakes (EntryKind.joining o) 0 ≡ takesIndex → ⊥
 joining-unindexed (Calculates o) e = omega arith
 joining-unindexed (Combines o) e = omega arith
 joining-unindexed (Compares Equal) e = omega arith

@@ -10,7 +10,8 @@ use Rattle.entries.specs.Kinds as Kind
 use Rattle.traversal.specs.declared.Cell.{Cell}
 use Rattle.traversal.specs.Arity.{operands, firstLine}
 use Rattle.traversal.specs.Starts.{startOf, firstOf}
-use Rattle.types.specs.Kinds.{otherTakes, givesOf, takesLast, misfits, sidesOf, indexed, placeOf, referenceOf, kindAt}
+use Rattle.types.specs.Codes.{takesSides}
+use Rattle.types.specs.Kinds.{otherTakes, givesOf, takesLast, misfits, sidesOf, indexed, placeOf, referenceOf, typeAt}
 
 pub record Operand : Type 0 where
   pub kind : ℕ
@@ -23,8 +24,8 @@ pub record State : Type 0 where
   pub found : Option ℕ
   pub table : List ℕ
 
-abbrev pub kindsOf : List Operand → List ℕ
-kindsOf xs = map (λ (x : Operand). x .kind) xs
+abbrev pub typesOf : List Operand → List ℕ
+typesOf xs = map (λ (x : Operand). x .kind) xs
 
 abbrev pub startsOf : List Operand → List ℕ
 startsOf xs = map (λ (x : Operand). x .start) xs
@@ -32,25 +33,25 @@ startsOf xs = map (λ (x : Operand). x .start) xs
 unfoldable pub node : List ℕ → Cell → List Operand → Operand
 node table c xs =
     record {
-      kind = givesOf (c .kind) (kindAt table (referenceOf (c .token))) (firstOf (kindsOf xs));
+      kind = givesOf (c .kind) (typeAt table (referenceOf (c .token))) (firstOf (typesOf xs));
       start = startOf (c .kind) (placeOf (c .token)) (firstOf (startsOf xs));
     }
 
 -- what is wrong with the operands of types ks that start at ss
 unfoldable pub wrongAt : ℕ → List ℕ → List ℕ → Option ℕ
 wrongAt k ks ss =
-    if eqb (getD otherTakes k 0) 10 then sidesOf (firstOf ks) (firstOf (drop 1 ks)) (firstOf ss) (firstOf (drop 1 ss)) else misfits (getD otherTakes k 0) (takesLast k (length ks)) ks ss
+    if eqb (getD otherTakes k 0) takesSides then sidesOf (firstOf ks) (firstOf (drop 1 ks)) (firstOf ss) (firstOf (drop 1 ss)) else misfits (getD otherTakes k 0) (takesLast k (length ks)) ks ss
 
 abbrev pub fault : List ℕ → Cell → List Operand → Option ℕ
 fault table c xs =
-    first (indexed (c .kind) (kindAt table (referenceOf (c .token))) (placeOf (c .token))) (wrongAt (c .kind) (kindsOf xs) (startsOf xs))
+    first (indexed (c .kind) (typeAt table (referenceOf (c .token))) (placeOf (c .token))) (wrongAt (c .kind) (typesOf xs) (startsOf xs))
 
 -- a definition has the type of its expression
 unfoldable pub tableOf : List ℕ → ℕ → ℕ → ℕ → List ℕ
 tableOf table k token kind = if eqb k Kind.definition then set table (referenceOf token) kind else table
 
 abbrev pub tableAfter : List ℕ → Cell → List Operand → List ℕ
-tableAfter table c xs = tableOf table (c .kind) (c .token) (firstOf (kindsOf xs))
+tableAfter table c xs = tableOf table (c .kind) (c .token) (firstOf (typesOf xs))
 
 -- the state after an entry whose operands stand from m on; a line leaves nothing on the stack
 abbrev pub stepped : Cell → State → ℕ → State

@@ -22,20 +22,20 @@ use Rattle.names.specs.References.{reference}
 use Rattle.names.specs.WalkBinders.{reference-outside}
 use Rattle.names.specs.ResolvedLaws.{number-below, number-apart}
 use Rattle.names.specs.VisibleLaws.{In}
-use Rattle.types.specs.Kinds.{kindAt}
+use Rattle.types.specs.Kinds.{typeAt}
 use Rattle.types.specs.TableLaws.{allFixed, put}
 
 -- the table has the name's type
 abbrev pub Has : Names → List ℕ → Typing → Type 0
-Has declared table y = kindAt table (reference declared [] (y .name)) ≡ typeCode (y .kind)
+Has declared table y = typeAt table (reference declared [] (y .name)) ≡ typeCode (y .kind)
 
-pub kind-other : (table : List ℕ) (r v q : ℕ) → (q ≡ r → ⊥) → kindAt (set table r v) q ≡ kindAt table q
-unfolding kindAt
-kind-other table r v q n = ap (λ d. if ltb q maxNames then d else 0) (getD-set-other table r q v 0 n)
+pub type-other : (table : List ℕ) (r v q : ℕ) → (q ≡ r → ⊥) → typeAt (set table r v) q ≡ typeAt table q
+unfolding typeAt
+type-other table r v q n = ap (λ d. if ltb q maxNames then d else typeCode ANumber) (getD-set-other table r q v 0 n)
 
-kind-same : (table : List ℕ) (r v : ℕ) → r < maxNames → length table ≡ maxNames → kindAt (set table r v) r ≡ v
-unfolding kindAt
-kind-same table r v l n = pick (ltb r maxNames) _ _ (lt-ltb r maxNames l) ∙ getD-set-same table r v 0 (omega arith)
+type-same : (table : List ℕ) (r v : ℕ) → r < maxNames → length table ≡ maxNames → typeAt (set table r v) r ≡ v
+unfolding typeAt
+type-same table r v l n = pick (ltb r maxNames) _ _ (lt-ltb r maxNames l) ∙ getD-set-same table r v 0 (omega arith)
 
 pub put-length : (declared : Names) (ys : Typings) (table : List ℕ) → length (put declared table ys) ≡ length table
 put-length declared [] table = refl
@@ -56,7 +56,7 @@ module _ (declared : Names) where
 
   -- so that its type is kept
   pub has-kept : (table : List ℕ) (x : Token) (v : ℕ) (y : Typing) → In declared x → Beside x (y .name) → Has declared table y → Has declared (set table (reference declared [] x) v) y
-  has-kept table x v y i j h = kind-other table (reference declared [] x) v (reference declared [] (y .name)) (apart-references (y .name) x (j .0) i (j .1)) ∙ h
+  has-kept table x v y i j h = type-other table (reference declared [] x) v (reference declared [] (y .name)) (apart-references (y .name) x (j .0) i (j .1)) ∙ h
 
   has-put : (ys : Typings) (table : List ℕ) (y : Typing) → In declared (y .name) → All (λ (z : Typing). Beside (y .name) (z .name)) ys → Has declared table y → Has declared (put declared table ys) y
   has-put [] table y i a h = h
@@ -123,7 +123,7 @@ module _ (declared : Names) (few : length declared ≤ maxNames) where
   has-set table x k i l =
       let b = number-below declared x i in
       let e = reference-outside declared x in
-      kind-same table (reference declared [] x) (typeCode k) (omega arith) l
+      type-same table (reference declared [] x) (typeCode k) (omega arith) l
 
   put-has : (ys : Typings) (table : List ℕ) → length table ≡ maxNames → Spread declared ys → All (Has declared (put declared table ys)) ys
   put-has [] table l h = tt

@@ -19,11 +19,12 @@ use Rattle.names.specs.ResolvedLaws.{run-begins}
 use Rattle.traversal.specs.Cells.{SeenAlong}
 use Rattle.traversal.specs.TreeStored.{TreeStored}
 use Rattle.types.specs.Known as Known
-use Rattle.types.specs.Cells.{namedCell, Referring, named-seen}
-use Rattle.types.specs.Lines.{KindsKnown}
+use Rattle.types.specs.Cells.{namedCell, Referring}
+use Rattle.types.specs.CellLaws.{named-seen}
+use Rattle.types.specs.Lines.{TypesKnown}
 use Rattle.types.specs.Declaring.{declaredTable}
 use Rattle.types.specs.TableLaws.{table-first}
-use Rattle.types.specs.KnownLineLaws.{kinds-known}
+use Rattle.types.specs.KnownLineLaws.{types-known}
 
 -- as a pass asks for it
 pub tree-stored : {text w : List ℕ} {count entries : ℕ} {x : Spec} → Stored text w count entries x → TreeStored w (tokens text) entries x
@@ -41,5 +42,5 @@ module _ {text w refs found : List ℕ} {count entries n : ℕ} {x : Spec} (s : 
   pub names-seen : SeenAlong openAfter (Known.Resolved (declaredNames x)) (namedCell refs w) [] 0 (outline x)
   names-seen = named-seen (declaredNames x) refs w (tokens text) (offset-at (s .lexed .lexical) (s .lexed .stored)) [] 0 (outline x) (s .stored) (referring [] 0 (outline x) (run-begins x))
 
-  pub names-known : KindsKnown (declaredNames x) (declaredTable refs w entries) x
-  names-known = kinds-known r (declaredTable refs w entries) (table-first (declaredNames x) refs w (tokens text) entries x names-seen (tree-stored s))
+  pub names-known : TypesKnown (declaredNames x) (declaredTable refs w entries) x
+  names-known = types-known r (declaredTable refs w entries) (table-first (declaredNames x) refs w (tokens text) entries x names-seen (tree-stored s))

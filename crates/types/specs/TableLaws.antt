@@ -26,16 +26,18 @@ use Rattle.traversal.specs.declared.Cell.{Cell}
 use Rattle.traversal.specs.Cells.{Sees, SeenAlong}
 use Rattle.traversal.specs.Arity.{firstLine}
 use Rattle.traversal.specs.Parts.{Part, operandsOf}
-use Rattle.traversal.specs.Places.{first-none, firstIn-nowhere}
+use Rattle.traversal.specs.PlaceLaws.{first-none, firstIn-nowhere}
 use Rattle.traversal.specs.PassLaws.{run, Comes, Pass, Along, Works, expression-done}
 use Rattle.traversal.specs.LineLaws.{entriesOf, Each, lastly, text-holds}
-use Rattle.traversal.specs.Passed.{passed-all}
+use Rattle.traversal.specs.PassedLaws.{passed-all}
 use Rattle.traversal.specs.TreeStored.{TreeStored, ProperLine}
 use Rattle.traversal.specs.ProperLaws.{proper-lines}
+use Rattle.types.specs.Codes.{undeclared}
 use Rattle.types.specs.Known.{Resolved}
 use Rattle.types.specs.Opened.{Shut, shut-stays, openPast, carries}
 use Rattle.types.specs.Cells.{namedCell}
-use Rattle.types.specs.Declaring.{declaring, declare, declaredTable, declares-none, declares-set}
+use Rattle.types.specs.Declaring.{declaring, declare, declaredTable}
+use Rattle.types.specs.DeclaringLaws.{declares-none, declares-set}
 
 -- a line's names and their types, before those of the lines behind it; a definition's is not among them
 abbrev pub fixed : Line → Typings → Typings
@@ -57,10 +59,10 @@ put declared table [] = table
 put declared table (y ∷ ys) = put declared (set table (reference declared [] (y .name)) (typeCode (y .kind))) ys
 
 -- no entry of an expression declares a name
-inner-none : (k : ℕ) → ltb k firstLine ≡ true → getD declaring k 0 ≡ 8
+inner-none : (k : ℕ) → ltb k firstLine ≡ true → getD declaring k 0 ≡ undeclared
 inner-none k i =
     let low : k < firstLine = ltb-true k firstLine i in
-    List·getD-append (replicate firstLine 8) (drop firstLine declaring) 0 k (omega (arith, length-replicate {A = ℕ} firstLine 8)) ∙ getD-replicate firstLine k 8 0 low
+    List·getD-append (replicate firstLine undeclared) (drop firstLine declaring) 0 k (omega (arith, length-replicate {A = ℕ} firstLine undeclared)) ∙ getD-replicate firstLine k undeclared 0 low
 
 abbrev kept : Token → Unit {0} → Unit {0}
 kept t y = y
@@ -103,13 +105,13 @@ module _ (declared : Names) (cell : ℕ → Cell) where
   To es i table rs table′ = Comes openAfter (Resolved declared) declare cell es i table [] rs table′
 
   -- what an entry with this kind puts down
-  sets : {c : Cell} {k n : ℕ} {t : Token} (v : ℕ) (table : List ℕ) → getD declaring k 0 ≡ v → (v ≡ 8 → ⊥) → names k ≡ true
+  sets : {c : Cell} {k n : ℕ} {t : Token} (v : ℕ) (table : List ℕ) → getD declaring k 0 ≡ v → (v ≡ undeclared → ⊥) → names k ≡ true
       → Sees (Resolved declared []) c (record { kind = k; token = some t; size = n }) → declare c table ≡ set table (reference declared [] t) v
   sets {c} v table q u n z =
       let e : getD declaring (c .kind) 0 ≡ v = ap (λ j. getD declaring j 0) (z .kind) ∙ q in
       sym (declares-set c table v (λ w. u (sym e ∙ w)) (sym e)) ∙ ap (λ r. set table r v) (z .token .refers n)
 
-  skips : {c : Cell} {e : Entry} (table : List ℕ) → getD declaring (e .kind) 0 ≡ 8 → Sees (Resolved declared []) c e → declare c table ≡ table
+  skips : {c : Cell} {e : Entry} (table : List ℕ) → getD declaring (e .kind) 0 ≡ undeclared → Sees (Resolved declared []) c e → declare c table ≡ table
   skips {c} table q z = sym (declares-none c table (ap (λ j. getD declaring j 0) (z .kind) ∙ q))
 
   abbrev Puts : Entry → List ℕ → List ℕ → Type 0

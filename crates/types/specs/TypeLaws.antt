@@ -48,17 +48,19 @@ use Rattle.traversal.specs.Cells.{Sees, SeenAlong}
 use Rattle.traversal.specs.Arity.{arities, operands, firstLine}
 use Rattle.traversal.specs.ArityLaws.{fixed-operands}
 use Rattle.traversal.specs.Parts.{Whole, kindOf}
-use Rattle.traversal.specs.Places.{first-none, first-assoc, first-comm}
+use Rattle.traversal.specs.PlaceLaws.{first-none, first-assoc, first-comm}
 use Rattle.traversal.specs.PassLaws.{run, Pass, Works, expression-done}
 use Rattle.traversal.specs.LineLaws.{entriesOf, Each, firstBad, Lined, Alone, alone-done, identifiers-alone, text-holds}
-use Rattle.traversal.specs.Passed.{passed, passed-all}
+use Rattle.traversal.specs.Passed.{passed}
+use Rattle.traversal.specs.PassedLaws.{passed-all}
 use Rattle.traversal.specs.TreeStored.{TreeStored, ProperLine}
 use Rattle.traversal.specs.ProperLaws.{proper-lines}
-use Rattle.types.specs.Kinds.{lastTakes, otherTakes, fits, misfits, indexed, placeOf, referenceOf, kindAt}
-use Rattle.types.specs.Pass.{Operand, State, kindsOf, startsOf, node, wrongAt, fault, tableOf, tableAfter, stepped, step, state}
+use Rattle.types.specs.Codes.{takesAny, takesDefinable}
+use Rattle.types.specs.Kinds.{lastTakes, otherTakes, fits, misfits, indexed, placeOf, referenceOf, typeAt}
+use Rattle.types.specs.Pass.{Operand, State, typesOf, startsOf, node, wrongAt, fault, tableOf, tableAfter, stepped, step, state}
 use Rattle.types.specs.Known.{Resolved, Known}
 use Rattle.types.specs.Opened.{Shut, shut-stays, openPast, carries}
-use Rattle.types.specs.Lines.{Context, next, KnownLine, KindsKnown}
+use Rattle.types.specs.Lines.{Context, next, KnownLine, TypesKnown}
 use Rattle.types.specs.TakeLaws.{Takes, none-wrong, one-wrong, by-misfits, last-takes, unindexed}
 use Rattle.types.specs.NodeLaws.{value, bad, Good, inherits, values}
 use Rattle.types.specs.FaultLaws.{faults}
@@ -113,7 +115,7 @@ module _ (declared : Names) (table : List ℕ) where
   works = record { steps = part-steps table; inherits = inherits declared table; carries = carries withNumber; values = values declared table; faults = faults declared table }
 
 -- a definition 'is a number, a set or a formula'
-definable-fits : (k : ExprType) → fits 9 (typeCode k) ≡ definable k
+definable-fits : (k : ExprType) → fits takesDefinable (typeCode k) ≡ definable k
 unfolding fits
 definable-fits ANumber = refl
 definable-fits ASet = refl
@@ -123,12 +125,12 @@ definable-fits AValue = refl
 definable-fits AType = refl
 definable-fits Unknown = refl
 
-definition-takes : Takes EntryKind.definition 8 9
+definition-takes : Takes EntryKind.definition takesAny takesDefinable
 definition-takes = record { others = refl; final = refl; plain = refl }
 
 definition-wrong : (k : ExprType) (s : ℕ) → wrongAt EntryKind.definition (typeCode k ∷ []) (s ∷ []) ≡ unless (definable k) s
 definition-wrong k s =
-    by-misfits EntryKind.definition 8 (typeCode k ∷ []) (s ∷ []) refl (λ e. omega arith) ∙ ap (λ l. misfits 8 l (typeCode k ∷ []) (s ∷ [])) (last-takes definition-takes 1)
+    by-misfits EntryKind.definition takesAny (typeCode k ∷ []) (s ∷ []) refl (λ e. omega arith) ∙ ap (λ l. misfits takesAny l (typeCode k ∷ []) (s ∷ [])) (last-takes definition-takes 1)
     ∙ ap (λ b. first (unless b s) none) (definable-fits k) ∙ first-none (unless (definable k) s)
 
 module _ (declared : Names) (cell : ℕ → Cell) where
@@ -148,14 +150,14 @@ module _ (declared : Names) (cell : ℕ → Cell) where
   Sight i es = SeenAlong openAfter (Resolved declared) cell [] i es
 
   -- an entry that is no index
-  quiet : (table : List ℕ) (c : Cell) (k : ℕ) (xs : List Operand) → c .kind ≡ k → getD otherTakes k 0 ≡ 8 → fault table c xs ≡ wrongAt k (kindsOf xs) (startsOf xs)
+  quiet : (table : List ℕ) (c : Cell) (k : ℕ) (xs : List Operand) → c .kind ≡ k → getD otherTakes k 0 ≡ takesAny → fault table c xs ≡ wrongAt k (typesOf xs) (startsOf xs)
   quiet table c k xs e o =
-      ap (λ j. first (indexed j (kindAt table (referenceOf (c .token))) (placeOf (c .token))) (wrongAt j (kindsOf xs) (startsOf xs))) e
-      ∙ ap (λ m. first m (wrongAt k (kindsOf xs) (startsOf xs))) (unindexed k (kindAt table (referenceOf (c .token))) (placeOf (c .token)) (λ z. omega (arith, o)))
+      ap (λ j. first (indexed j (typeAt table (referenceOf (c .token))) (placeOf (c .token))) (wrongAt j (typesOf xs) (startsOf xs))) e
+      ∙ ap (λ m. first m (wrongAt k (typesOf xs) (startsOf xs))) (unindexed k (typeAt table (referenceOf (c .token))) (placeOf (c .token)) (λ z. omega (arith, o)))
 
   -- a line with an expression
   held : (k : ℕ) (t : Option Token) (x y : Context) (e : Expr) (w : Option ℕ) → Shut k → ltb k firstLine ≡ false → eqb k EntryKind.element ≡ false → eqb k EntryKind.listed ≡ false
-      → getD arities k 0 ≡ 1 → getD otherTakes k 0 ≡ 8
+      → getD arities k 0 ≡ 1 → getD otherTakes k 0 ≡ takesAny
       → wrongAt k (typeCode (typeOf (x .names) e) ∷ []) (start e ∷ []) ≡ w
       → ((c : Cell) → Sees (Resolved declared []) c (record { kind = k; token = t; size = suc (length (flat e)) }) → tableAfter (x .table) c (value (Whole (x .names) e) ∷ []) ≡ y .table)
       → Proper false e → Known declared [] (x .table) (x .names) e
@@ -189,7 +191,7 @@ module _ (declared : Names) (cell : ℕ → Cell) where
   abbrev Lonely : ℕ → Type 0
   Lonely j = Alone openAfter (Resolved declared) [] cell step idle (next declared) badLine GoodLine j
 
-  alone : (j : ℕ) → Shut j → ltb j firstLine ≡ false → eqb j EntryKind.element ≡ false → eqb j EntryKind.listed ≡ false → getD arities j 0 ≡ 0 → Takes j 8 8 → eqb j EntryKind.definition ≡ false
+  alone : (j : ℕ) → Shut j → ltb j firstLine ≡ false → eqb j EntryKind.element ≡ false → eqb j EntryKind.listed ≡ false → getD arities j 0 ≡ 0 → Takes j takesAny takesAny → eqb j EntryKind.definition ≡ false
       → Lonely j
   alone j shut out other unlisted arity free plain = record { steps = steps′; stays = shut-stays shut }
     where
@@ -215,7 +217,7 @@ module _ (declared : Names) (cell : ℕ → Cell) where
   by k us es a i before f h = subst (Comes (us ++ es) i (idle k before f) es k) (sym (first-none f))
       (alone-done openAfter (Resolved declared) [] cell step idle (next declared) badLine GoodLine us es a k i before f h)
 
-  free : (k : ℕ) → getD otherTakes k 0 ≡ 8 → getD lastTakes k 0 ≡ 8 → eqb k EntryKind.element ≡ false → Takes k 8 8
+  free : (k : ℕ) → getD otherTakes k 0 ≡ takesAny → getD lastTakes k 0 ≡ takesAny → eqb k EntryKind.element ≡ false → Takes k takesAny takesAny
   free k o l e = record { others = o; final = l; plain = e }
 
   names-alone : (is : List Identifier) → All (λ e. Lonely (e .kind)) (each flatIdentifier is)
@@ -225,7 +227,7 @@ module _ (declared : Names) (cell : ℕ → Cell) where
 
   -- a line whose expression must have the type K
   demands : (k : ℕ) (t : Option Token) (x y : Context) (e : Expr) (K : ExprType) → Shut k → ltb k firstLine ≡ false → eqb k EntryKind.element ≡ false → eqb k EntryKind.listed ≡ false
-      → getD arities k 0 ≡ 1 → Takes k 8 (typeCode K)
+      → getD arities k 0 ≡ 1 → Takes k takesAny (typeCode K)
       → eqb k EntryKind.definition ≡ false → x .table ≡ y .table → Proper false e → Known declared [] (x .table) (x .names) e
       → (es : List Entry) (i before : ℕ) (f : Option ℕ) → Sight i (under k t (flat e) ++ es) → Comes (under k t (flat e) ++ es) i (idle x before f) es y (first f (demanded K (x .names) e))
   demands k t x y e K shut out other unlisted arity takes plain same p g =
@@ -263,7 +265,7 @@ first-wrong declared k (l ∷ ls) = ap (first (mistypedLine (k .names) l)) (firs
 
 -- refusal 9
 pub finds-wrong : (declared : Names) (cell : ℕ → Cell) (w : List ℕ) (ts : Tokens) (n : ℕ) (x : Spec) (table : List ℕ) → SeenAlong openAfter (Resolved declared) cell [] 0 (outline x)
-    → TreeStored w ts n x → KindsKnown declared table x →
+    → TreeStored w ts n x → TypesKnown declared table x →
     passed step cell (state table 0 [] none) n .found ≡ wrongType x
 finds-wrong declared cell w ts n x table seen t known =
     let k : Context = record { table = table; names = typedSignals (allLines x) } in

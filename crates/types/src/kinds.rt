@@ -7,11 +7,13 @@ ghost use Prim.Native.Nat.{_≤_, _<_};
 ghost use lib.ListN.{length, getD};
 ghost use lib.Seq.{slice};
 ghost use Rattle.language.specs.Places.{unless};
+ghost use Rattle.entries.specs.Kinds as Kind;
 ghost use Rattle.traversal.specs.Places.{placed};
+ghost use Rattle.types.specs.Codes.{codes as codes'};
 ghost use Rattle.types.specs.Kinds.{lastTakes, otherTakes, givesOf, fits, takesLast, misfits as misfits', sidesOf, indexed as indexed'};
 ghost use Rattle.types.specs.Pass.{wrongAt};
 
-// Types as numbers.
+// Types as numbers (specs/Codes).
 pub const NUMBER: u32 = 0;
 
 const SET: u32 = 1;
@@ -39,9 +41,33 @@ const EQUATION: u32 = 10;
 
 const INDEX: u32 = 11;
 
+// What an entry declares that declares no name, or a definition's.
+pub const UNDECLARED: u32 = 8;
+
+// What the constants stand for.
+pub fn codes() -> [u32; 13]
+    ensures { λ r. ⌜ r ≡ codes' ⌝ }
+{
+    [
+        NUMBER,
+        SET,
+        FORMULA,
+        BUS,
+        VALUE,
+        ENUMERATION,
+        NOTHING,
+        ANY,
+        DEFINABLE,
+        UNDEFINABLE,
+        EQUATION,
+        INDEX,
+        UNDECLARED,
+    ]
+}
+
 // The type of what an entry gives, with that of its name and of its operand.
 pub fn gives_of(kind: u32, name: u32, operand: u32) -> u32
-    requires { ⌜ kind < 64 ⌝ }
+    requires { ⌜ kind < Kind.limit ⌝ }
     ensures { λ r. ⌜ r ≡ givesOf kind name operand ⌝ }
 {
     if kind < kinds::NUMERAL {
@@ -76,19 +102,19 @@ pub fn gives_of(kind: u32, name: u32, operand: u32) -> u32
 }
 
 // An operand that does not fit what is taken.
-fn misfit(takes: u32, kind: u32, start: u32) -> Place
-    ensures { λ r. ⌜ r ≡ placed (unless (fits takes kind) start) ⌝ }
+fn misfit(takes: u32, given: u32, start: u32) -> Place
+    ensures { λ r. ⌜ r ≡ placed (unless (fits takes given) start) ⌝ }
 {
     if takes == ANY {
         return Place::Nowhere;
     }
     if takes == DEFINABLE {
-        if kind < UNDEFINABLE {
+        if given < UNDEFINABLE {
             return Place::Nowhere;
         }
         return Place::At(start);
     }
-    if takes == kind {
+    if takes == given {
         return Place::Nowhere;
     }
     Place::At(start)
@@ -96,7 +122,7 @@ fn misfit(takes: u32, kind: u32, start: u32) -> Place
 
 // The type of the last operand, by an entry's kind.
 fn last_takes(kind: u32) -> u32
-    requires { ⌜ kind < 64 ⌝ }
+    requires { ⌜ kind < Kind.limit ⌝ }
     ensures { λ r. ⌜ r ≡ getD lastTakes kind 0 ⌝ }
 {
     if kind < kinds::INDEX {
@@ -154,7 +180,7 @@ fn last_takes(kind: u32) -> u32
 
 // And of those before it.
 fn others_take(kind: u32) -> u32
-    requires { ⌜ kind < 64 ⌝ }
+    requires { ⌜ kind < Kind.limit ⌝ }
     ensures { λ r. ⌜ r ≡ getD otherTakes kind 0 ⌝ }
 {
     if kind < kinds::INDEX {
@@ -189,7 +215,7 @@ fn others_take(kind: u32) -> u32
 }
 
 fn takes_last(kind: u32, n: usize) -> u32
-    requires { ⌜ kind < 64 ⌝ }
+    requires { ⌜ kind < Kind.limit ⌝ }
     ensures { λ r. ⌜ r ≡ takesLast kind n ⌝ }
 {
     if kind == kinds::ELEMENT {
@@ -202,17 +228,17 @@ fn takes_last(kind: u32, n: usize) -> u32
 }
 
 // The first of the operands that does not fit.
-fn misfits(other: u32, last: u32, kinds: &[u32], starts: &[u32], from: usize, to: usize) -> Place
-    requires { ⌜ (to ≤ length (now kinds)) × (to ≤ length (now starts)) ⌝ }
-    ensures { λ r. ⌜ r ≡ placed (misfits' other last (slice from to (now (kinds .entry))) (slice from to (now (starts .entry)))) ⌝ }
+fn misfits(other: u32, last: u32, types: &[u32], starts: &[u32], from: usize, to: usize) -> Place
+    requires { ⌜ (to ≤ length (now types)) × (to ≤ length (now starts)) ⌝ }
+    ensures { λ r. ⌜ r ≡ placed (misfits' other last (slice from to (now (types .entry))) (slice from to (now (starts .entry)))) ⌝ }
 {
     let mut found = Place::Nowhere;
     let mut i = from;
     while i < to {
         if i + 1 == to {
-            return found.first(misfit(last, kinds[i], starts[i]));
+            return found.first(misfit(last, types[i], starts[i]));
         }
-        found = found.first(misfit(other, kinds[i], starts[i]));
+        found = found.first(misfit(other, types[i], starts[i]));
         i += 1;
     }
     found
@@ -235,7 +261,7 @@ fn sides_of(left: u32, right: u32, start: u32, other: u32) -> Place
 }
 
 pub fn indexed(kind: u32, name: u32, place: u32) -> Place
-    requires { ⌜ kind < 64 ⌝ }
+    requires { ⌜ kind < Kind.limit ⌝ }
     ensures { λ r. ⌜ r ≡ placed (indexed' kind name place) ⌝ }
 {
     if others_take(kind) == INDEX {
@@ -245,16 +271,16 @@ pub fn indexed(kind: u32, name: u32, place: u32) -> Place
 }
 
 // The first operand of a wrong type, of those from `from` up to `to`.
-pub fn wrong_at(kind: u32, kinds: &[u32], starts: &[u32], from: usize, to: usize) -> Place
-    requires { ⌜ (kind < 64) × (to ≤ length (now kinds)) × (to ≤ length (now starts)) × (from ≤ to) ⌝ }
-    ensures { λ r. ⌜ r ≡ placed (wrongAt kind (slice from to (now (kinds .entry))) (slice from to (now (starts .entry)))) ⌝ }
+pub fn wrong_at(kind: u32, types: &[u32], starts: &[u32], from: usize, to: usize) -> Place
+    requires { ⌜ (kind < Kind.limit) × (to ≤ length (now types)) × (to ≤ length (now starts)) × (from ≤ to) ⌝ }
+    ensures { λ r. ⌜ r ≡ placed (wrongAt kind (slice from to (now (types .entry))) (slice from to (now (starts .entry)))) ⌝ }
 {
     let other = others_take(kind);
     if other == EQUATION {
-        let left = first_of(kinds, from, to);
-        let right = first_of(kinds, from + 1, to);
+        let left = first_of(types, from, to);
+        let right = first_of(types, from + 1, to);
         let start = first_of(starts, from, to);
         return sides_of(left, right, start, first_of(starts, from + 1, to));
     }
-    misfits(other, takes_last(kind, to - from), kinds, starts, from, to)
+    misfits(other, takes_last(kind, to - from), types, starts, from, to)
 }

@@ -1,5 +1,5 @@
 // Refusal 9 over the stored tree: 'operand, width, declaring type or a line's expression of a wrong type'. One pass, with a stack of the operands' types and starts.
-// `wrong_type` asks for buffers of full length and entries within them.
+// An inner stage: `wrong_type` asks for a work buffer of full length, which the reader has tested (17), and for as many entries as the parser counted.
 mod kinds;
 mod table;
 
@@ -8,8 +8,8 @@ use crate::kinds::indexed;
 use crate::kinds::wrong_at;
 use crate::table::declare_all;
 use crate::table::define;
-use crate::table::kind_at;
 use crate::table::named_cell;
+use crate::table::type_at;
 use entries::kinds::LINES;
 use language::limits;
 use lexer::fields::OFFSETS;
@@ -46,12 +46,12 @@ fn pass(
     refs: &[u16],
     i: usize,
     p: Progress,
-    kinds: &mut [u32],
+    types: &mut [u32],
     starts: &mut [u32],
     table: &mut [u32],
 ) -> Progress
-    requires { ⌜ Sized (now work) i p (now kinds) (now starts) (now table) × (i < maxTokens) × (maxTokens ≤ length (now refs)) ⌝ }
-    ensures { λ r. ⌜ Passes (now (work .entry)) i (namedCell (now (refs .entry)) (now (work .entry)) i) p r (now (kinds .entry)) (now (starts .entry)) (now (table .entry)) (now (kinds .exit))
+    requires { ⌜ Sized (now work) i p (now types) (now starts) (now table) × (i < maxTokens) × (maxTokens ≤ length (now refs)) ⌝ }
+    ensures { λ r. ⌜ Passes (now (work .entry)) i (namedCell (now (refs .entry)) (now (work .entry)) i) p r (now (types .entry)) (now (starts .entry)) (now (table .entry)) (now (types .exit))
         (now (starts .exit)) (now (table .exit)) ⌝ }
 {
     let c = named_cell(work, refs, i);
@@ -59,17 +59,17 @@ fn pass(
     let token = c.token;
     let top = p.top;
     let below = less(top, operand_count(p.before, c));
-    let name = kind_at(table, token);
+    let name = type_at(table, token);
     let place = place_of(token);
-    let operand = first_of(kinds, below, top);
+    let operand = first_of(types, below, top);
     let start = first_of(starts, below, top);
     let unbound = indexed(kind, name, place);
-    let wrong = unbound.first(wrong_at(kind, kinds, starts, below, top));
+    let wrong = unbound.first(wrong_at(kind, types, starts, below, top));
     let before = p.found;
     let found = before.first(wrong);
     define(table, kind, token, operand);
     if kind < LINES {
-        kinds[below] = gives_of(kind, name, operand);
+        types[below] = gives_of(kind, name, operand);
         starts[below] = start_of(kind, place, start);
         return Progress {
             before: kind,
@@ -84,12 +84,12 @@ fn pass(
     }
 }
 
-// The first place of refusal 9, if there is one; `refs` has the reference of each entry's name. An inner stage: the reader has tested the buffer's length, and the parser counted the entries.
+// The first place of refusal 9, if there is one; `refs` has the reference of each entry's name.
 pub fn wrong_type(work: &[u8], refs: &[u16], entries: usize) -> Place
     requires { ⌜ (workBytes ≤ length (now work)) × (entries ≤ maxTokens) × (maxTokens ≤ length (now refs)) ⌝ }
     ensures { λ r. ⌜ WrongType (now (refs .entry)) (now (work .entry)) entries r ⌝ }
 {
-    let mut kinds = [0u32; limits::MAX_TOKENS];
+    let mut types = [0u32; limits::MAX_TOKENS];
     let mut starts = [0u32; limits::MAX_TOKENS];
     let mut table = [0u32; limits::MAX_NAMES];
     declare_all(work, refs, entries, &mut table);
@@ -100,7 +100,7 @@ pub fn wrong_type(work: &[u8], refs: &[u16], entries: usize) -> Place
     };
     let mut i = 0;
     while i < entries {
-        p = pass(work, refs, i, p, &mut kinds, &mut starts, &mut table);
+        p = pass(work, refs, i, p, &mut types, &mut starts, &mut table);
         i += 1;
     }
     p.found

@@ -3,7 +3,9 @@ use crate::kinds::BUS;
 use crate::kinds::ENUMERATION;
 use crate::kinds::FORMULA;
 use crate::kinds::NUMBER;
+use crate::kinds::UNDECLARED;
 use crate::kinds::VALUE;
+use basics::u16_u32::wide;
 use entries::kinds;
 use language::limits;
 use lexer::fields::LENGTHS;
@@ -14,18 +16,16 @@ ghost use mathlib.Core.Path.{_≡_};
 ghost use Prim.Native.Nat.{_≤_, _<_};
 ghost use lib.ListN.{length, getD};
 ghost use Rattle.language.specs.Limits.{maxTokens, maxNames, workBytes};
+ghost use Rattle.entries.specs.Kinds as Kind;
 ghost use Rattle.traversal.specs.Passed.{passed};
 ghost use Rattle.types.specs.Cells.{namedCell};
-ghost use Rattle.types.specs.Kinds.{referenceOf, kindAt};
+ghost use Rattle.types.specs.Kinds.{referenceOf, typeAt};
 ghost use Rattle.types.specs.Pass.{tableOf};
 ghost use Rattle.types.specs.Declaring.{declaring, declare as declare'};
 
-// No name, or a definition's.
-const UNDECLARED: u32 = 8;
-
 // The type of the name that an entry declares, by its kind.
 fn declared(kind: u32) -> u32
-    requires { ⌜ kind < 64 ⌝ }
+    requires { ⌜ kind < Kind.limit ⌝ }
     ensures { λ r. ⌜ r ≡ getD declaring kind 0 ⌝ }
 {
     if kind < kinds::PARAMETER {
@@ -49,19 +49,13 @@ fn declared(kind: u32) -> u32
     }
 }
 
-fn wide_reference(x: u16) -> u32
-    ensures { λ r. ⌜ (r ≡ x) × (r < 65536) ⌝ }
-{
-    x as u32
-}
-
 // An entry with the reference of its name above the place of its token.
 pub fn named_cell(work: &[u8], refs: &[u16], i: usize) -> Cell
     requires { ⌜ (workBytes ≤ length (now work)) × (i < maxTokens) × (maxTokens ≤ length (now refs)) ⌝ }
-    ensures { λ r. ⌜ (r ≡ namedCell (now (refs .entry)) (now (work .entry)) i) × (r .kind < 64) ⌝ }
+    ensures { λ r. ⌜ (r ≡ namedCell (now (refs .entry)) (now (work .entry)) i) × (r .kind < Kind.limit) ⌝ }
 {
     let c = cell_at(work, i);
-    let reference = wide_reference(refs[i]);
+    let reference = wide(refs[i]);
     Cell {
         kind: c.kind,
         token: reference * OFFSETS + c.token / LENGTHS % OFFSETS,
@@ -69,9 +63,10 @@ pub fn named_cell(work: &[u8], refs: &[u16], i: usize) -> Cell
     }
 }
 
-pub fn kind_at(table: &[u32], word: u32) -> u32
+// The type of a name: of a declared one from the table, of a big operator's a number.
+pub fn type_at(table: &[u32], word: u32) -> u32
     requires { ⌜ length (now table) ≡ maxNames ⌝ }
-    ensures { λ r. ⌜ r ≡ kindAt (now (table .entry)) (referenceOf word) ⌝ }
+    ensures { λ r. ⌜ r ≡ typeAt (now (table .entry)) (referenceOf word) ⌝ }
 {
     let reference = (word / OFFSETS) as usize;
     if reference < limits::MAX_NAMES {
@@ -96,16 +91,16 @@ pub fn define(table: &mut [u32], kind: u32, word: u32, operand: u32)
 
 // Puts down the type of the name that an entry declares.
 fn declare(c: Cell, table: &mut [u32])
-    requires { ⌜ (c .kind < 64) × (length (now table) ≡ maxNames) ⌝ }
+    requires { ⌜ (c .kind < Kind.limit) × (length (now table) ≡ maxNames) ⌝ }
     ensures { λ _. ⌜ now (table .exit) ≡ declare' c (now (table .entry)) ⌝ }
 {
-    let kind = declared(c.kind);
-    if kind == UNDECLARED {
+    let own = declared(c.kind);
+    if own == UNDECLARED {
         return;
     }
     let reference = (c.token / OFFSETS) as usize;
     if reference < limits::MAX_NAMES {
-        table[reference] = kind;
+        table[reference] = own;
     }
 }
 

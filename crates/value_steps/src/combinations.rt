@@ -1,4 +1,5 @@
 // Operators between two sets. A set that a frame holds stays where it stands; the result is made above both and moved to where the frame's values begin.
+use crate::unworked;
 use machine::FRAME;
 use machine::Machine;
 use machine::Move;
@@ -89,20 +90,18 @@ pub fn right(text: &[u8], work: &[u8], refs: &[u16], memory: &mut [u32], m: Mach
     let operator = infix_at(work, k);
     let place = place_at(work, k);
     let r = combine(place, operator, memory, left, right, to);
-    match r {
-        Worked::Value(n) => {
-            lower(memory, to, base, n as usize);
-            Move::Next(Machine {
-                mode: modes::SET,
-                value: n,
-                from: base,
-                scope: m.scope,
-                depth: m.depth,
-                top: base,
-                frames: at + FRAME,
-                nodes: m.nodes,
-            })
-        }
-        Worked::Refused(n, p) => Move::Refused(n, p),
-    }
+    let Worked::Value(n) = r else {
+        return unworked(r);
+    };
+    lower(memory, to, base, n as usize);
+    Move::Next(Machine {
+        mode: modes::SET,
+        value: n,
+        from: base,
+        scope: m.scope,
+        depth: m.depth,
+        top: base,
+        frames: at + FRAME,
+        nodes: m.nodes,
+    })
 }

@@ -17,7 +17,7 @@ use Rattle.entries.specs.Flat.{Entry, each, flat, under}
 use Rattle.entries.specs.declared.Cursor.{Cursor}
 use Rattle.entries.specs.declared.Parse.{Parse}
 use Rattle.entries.specs.declared.Parse.the-variants.{Parsed, Refused as NotParsed}
-use Rattle.entries.specs.Cursors.{Ready, kindAt, refusedAt, expected}
+use Rattle.entries.specs.Cursors.{Ready, numberAt, refusedAt, expected}
 use Rattle.entries.specs.CursorLaws.{ready-place}
 use Rattle.entries.specs.Reads.{Reads}
 use Rattle.entries.specs.ReadsLaws.{kept-same}
@@ -72,13 +72,13 @@ module _ (l : Line) where
     tokens-behind : behind (suc (h .fuel)) (drop (d .at) ts) ≡ linesOf (suc (h .fuel)) (lineOf l) (drop (e .at) ts)
     tokens-behind = ap (linesOf (suc (h .fuel)) (lineOf l)) (rest-past ts b)
 
-    pub lines-close : {f : Cursor} → kindAt v e ≡ fixed "}" → Next e f → Reads ts w v s (each (flatOf l)) x (Parsed f)
+    pub lines-close : {f : Cursor} → numberAt v e ≡ fixed "}" → Next e f → Reads ts w v s (each (flatOf l)) x (Parsed f)
     lines-close k g =
         going-done (h .going) (kept-same v (d .out)) []
         (tokens-behind ∙ lines-end (lineOf l) (h .fuel) (drop (e .at) ts) (here behind-ready "}" refl k) ∙ ap (λ us. Done ([], us)) (rest-past ts g))
         (took-past (took-past (took-none ready) b within) g (inside behind-ready k (omega arith)))
 
-    module _ (more : kindAt v e ≡ fixed "}" → ⊥) {z : List ℕ} {q : Parse} (r : Reads ts v z d (flatOf l) (lineOf l (rest (drop (d .at) ts))) q) where
+    module _ (more : numberAt v e ≡ fixed "}" → ⊥) {z : List ℕ} {q : Parse} (r : Reads ts v z d (flatOf l) (lineOf l (rest (drop (d .at) ts))) q) where
       unclosed : next "}" (rest (drop (d .at) ts)) ≡ false
       unclosed = ap (next "}") (rest-past ts b) ∙ elsewhere behind-ready "}" refl more
 
@@ -86,7 +86,7 @@ module _ (l : Line) where
       lines-stop m = going-refused (h .going) (r .kept) m (lines-refused (lineOf l) (h .fuel) (rest (drop (d .at) ts)) unclosed (refusal m r))
 
       module _ {f : Cursor} (m : q ≡ Parsed f) where
-        pub lines-tail : {y : Parse} → (kindAt z f ≡ fixed ";" → ⊥) → y ≡ expected z f (fixed "}") → Reads ts w z s (each (flatOf l)) x y
+        pub lines-tail : {y : Parse} → (numberAt z f ≡ fixed ";" → ⊥) → y ≡ expected z f (fixed "}") → Reads ts w z s (each (flatOf l)) x y
         lines-tail {y} k g =
             let a = accepted m r in
             subst (Reads ts w z s (each (flatOf l)) x) (sym g)
@@ -97,7 +97,7 @@ module _ (l : Line) where
         pub line-further : d .at < f .at
         line-further = let a = accepted m r in omega (arith, flatOf-some l (a .value), a .took .out, a .took .onward .slack)
 
-        pub lines-again : kindAt z f ≡ fixed ";" → Listing (flatOf l) 1 behind x ts w z s f
+        pub lines-again : numberAt z f ≡ fixed ";" → Listing (flatOf l) 1 behind x ts w z s f
         lines-again k =
             let a = accepted m r in
             listing-more h (r .kept) (a .value)
@@ -106,21 +106,21 @@ module _ (l : Line) where
 
   -- the braces
   module _ {ts : Tokens} {w : List ℕ} {c : Cursor} (ready : Ready ts w c) where
-    pub block-refused : {y : Parse} → (kindAt w c ≡ fixed "{" → ⊥) → y ≡ refusedAt w c → Reads ts w w c (each (flatOf l)) (blockOf (lineOf l) (drop (c .at) ts)) y
+    pub block-refused : {y : Parse} → (numberAt w c ≡ fixed "{" → ⊥) → y ≡ refusedAt w c → Reads ts w w c (each (flatOf l)) (blockOf (lineOf l) (drop (c .at) ts)) y
     block-refused k e =
         reads-refused (e ∙ ap (NotParsed 4) (ready-place ready)) (bind-refused _ _ _ _ (leave (next "{" (drop (c .at) ts)) _ _ (elsewhere ready "{" refl k))) (kept-same w (c .out))
 
-    pub block-read : {v : List ℕ} {q : Parse} → kindAt w c ≡ fixed "{" → Reads ts w v c (each (flatOf l)) (linesOf (length (rest (drop (c .at) ts))) (lineOf l) (rest (drop (c .at) ts))) q
+    pub block-read : {v : List ℕ} {q : Parse} → numberAt w c ≡ fixed "{" → Reads ts w v c (each (flatOf l)) (linesOf (length (rest (drop (c .at) ts))) (lineOf l) (rest (drop (c .at) ts))) q
         → Reads ts w v c (each (flatOf l)) (blockOf (lineOf l) (drop (c .at) ts)) q
     block-read {v} {q} k r = subst (λ x. Reads ts w v c (each (flatOf l)) x q) (sym (bind-to _ _ _ (pick (next "{" (drop (c .at) ts)) _ _ (here ready "{" refl k)))) r
 
     -- a subsection that may be missing
     module _ (s : String) {word : ℕ} (spells : Spells s word) where
-      pub optional-missing : (kindAt w c ≡ word → ⊥) → Reads ts w w c (each (flatOf l)) (optional s (lineOf l) (drop (c .at) ts)) (Parsed c)
+      pub optional-missing : (numberAt w c ≡ word → ⊥) → Reads ts w w c (each (flatOf l)) (optional s (lineOf l) (drop (c .at) ts)) (Parsed c)
       optional-missing k =
           reads-done [] (leave (next s (drop (c .at) ts)) _ _ (elsewhere ready s (spells .known) (λ e. k (e ∙ spells .same)))) (kept-same w (c .out)) (took-none ready)
 
-      pub optional-read : {v : List ℕ} {d : Cursor} {q : Parse} → kindAt w c ≡ word → 0 < word → Next c d → Reads ts w v d (each (flatOf l)) (blockOf (lineOf l) (drop (d .at) ts)) q
+      pub optional-read : {v : List ℕ} {d : Cursor} {q : Parse} → numberAt w c ≡ word → 0 < word → Next c d → Reads ts w v d (each (flatOf l)) (blockOf (lineOf l) (drop (d .at) ts)) q
           → Reads ts w v c (each (flatOf l)) (optional s (lineOf l) (drop (c .at) ts)) q
       optional-read k p h r =
           reads-behind ready h (inside ready k p) (pick (next s (drop (c .at) ts)) _ _ (here ready s (spells .known) (k ∙ sym (spells .same))) ∙ ap (blockOf (lineOf l)) (rest-past ts h)) r

@@ -21,7 +21,7 @@ use Rattle.entries.specs.Stored.{putEntry}
 use Rattle.entries.specs.declared.Cursor.{Cursor}
 use Rattle.entries.specs.declared.Parse.{Parse}
 use Rattle.entries.specs.declared.Parse.the-variants.{Parsed, Refused as NotParsed}
-use Rattle.entries.specs.Cursors.{Ready, Writes, kindAt, emittedOf, expected}
+use Rattle.entries.specs.Cursors.{Ready, Writes, numberAt, emittedOf, expected}
 use Rattle.entries.specs.Reads.{Kept, Took, Reads}
 use Rattle.entries.specs.ReadsLaws.{kept-same, kept-then}
 use Rattle.entries.specs.TokenReads.{took-none}
@@ -116,25 +116,25 @@ module _ {ts : Tokens} {w : List ℕ} {c : Cursor} (ready : Ready ts w c) where
     named-done k = bind-to _ _ k (expectOf-passed ready Name refl h)
 
     name-within : c .at < c .count
-    name-within = inside ready (h .kind) (omega arith)
+    name-within = inside ready (h .token) (omega arith)
 
     -- `[`
-    pub bus-within : kindAt w d ≡ fixed "[" → c .at + 1 < c .count
+    pub bus-within : numberAt w d ≡ fixed "[" → c .at + 1 < c .count
     bus-within k = omega (arith, inside name-ready k (omega arith), h .next .at, h .next .count)
 
-    pub declaration-bus : {v : List ℕ} {q : Parse} → kindAt w d ≡ fixed "[" → Reads ts w v c flatDeclaration (widthOf (front (drop (c .at) ts)) (rest (rest (drop (c .at) ts)))) q
+    pub declaration-bus : {v : List ℕ} {q : Parse} → numberAt w d ≡ fixed "[" → Reads ts w v c flatDeclaration (widthOf (front (drop (c .at) ts)) (rest (rest (drop (c .at) ts)))) q
         → Reads ts w v c flatDeclaration answer q
     declaration-bus {v} {q} k r =
         subst (λ x. Reads ts w v c flatDeclaration x q)
         (sym (named-done _ ∙ pick (next "[" (drop (d .at) ts)) _ _ (here name-ready "[" refl k) ∙ ap (λ us. widthOf (front (drop (c .at) ts)) (rest us)) (sym (rest-past ts (h .next))))) r
 
-    module _ (open-not : kindAt w d ≡ fixed "[" → ⊥) where
+    module _ (open-not : numberAt w d ≡ fixed "[" → ⊥) where
       after-name : answer ≡ elim (isOf Name (front (drop (d .at) ts)))
           [ true ↦ Done (OfType (front (drop (c .at) ts)) (front (drop (d .at) ts)), rest (drop (d .at) ts)) | false ↦ Done (OneSignal (front (drop (c .at) ts)), drop (d .at) ts) ]
       after-name = named-done _ ∙ leave (next "[" (drop (d .at) ts)) _ _ (elsewhere name-ready "[" refl open-not)
 
       -- a name: an enumeration's, then the bus's
-      module _ (k : kindAt w d ≡ classNumber Name) {e : Cursor} (g : Next d e) where
+      module _ (k : numberAt w d ≡ classNumber Name) {e : Cursor} (g : Next d e) where
         typed-within : d .at < d .count
         typed-within = inside name-ready k (omega arith)
 
@@ -167,7 +167,7 @@ module _ {ts : Tokens} {w : List ℕ} {c : Cursor} (ready : Ready ts w c) where
             (kept-emit (first-took .ready) (c .out) (omega (arith, g .out, h .next .out)) Kind.typed (d .at) 2)) second)
 
       -- anything else: a signal
-      module _ (name-not : kindAt w d ≡ classNumber Name → ⊥) where
+      module _ (name-not : numberAt w d ≡ classNumber Name → ⊥) where
         pub signal-writes : Writes w d Kind.signal (c .at) 1
         signal-writes = writes name-ready (omega arith) (omega (arith, name-within, ready .fits .few)) (omega arith)
 

@@ -18,10 +18,11 @@ use Rattle.entries.specs.Flat.{Entry, leaf, each, flatIdentifier}
 use Rattle.entries.specs.declared.Cursor.{Cursor}
 use Rattle.entries.specs.declared.Parse.{Parse}
 use Rattle.entries.specs.declared.Parse.the-variants.{Parsed, Refused as NotParsed}
-use Rattle.entries.specs.Cursors.{kindAt, nextOf, expected}
+use Rattle.entries.specs.Cursors.{numberAt, nextOf, expected}
 use Rattle.entries.specs.CursorLaws.{before-end}
 use Rattle.entries.specs.Reads.{Reads}
-use Rattle.parser.specs.Parts.{flatWord, identifierOf, identifiers-parts}
+use Rattle.parser.specs.Parts.{flatWord, identifierOf}
+use Rattle.parser.specs.PartLaws.{identifiers-parts}
 use Rattle.parser.specs.Steps.{words-refused, words-last, words-more}
 use Rattle.parser.proofs.Laws.Rows.{accepted, refusal, took-next, reads-refused, reads-tail}
 use Rattle.parser.proofs.Laws.Passing.{passed, stopped, expect-passed, took-passed, expect-not, here, elsewhere, class-here, class-elsewhere, rest-next}
@@ -32,12 +33,12 @@ module _ {ts : Tokens} {x : Read _} {w v z : List ℕ} {s d : Cursor} (h : Listi
   words-stop m = going-refused (h .going) (r .kept) m (words-refused (h .fuel) (drop (d .at) ts) (refusal m r))
 
   module _ {e : Cursor} (m : q ≡ Parsed e) where
-    pub words-end : (kindAt z e ≡ fixed "," → ⊥) → Reads ts w z s (each flatWord) x (Parsed e)
+    pub words-end : (numberAt z e ≡ fixed "," → ⊥) → Reads ts w z s (each flatWord) x (Parsed e)
     words-end other =
         let a = accepted m r in
         going-last (h .going) (r .kept) (a .value) (words-last (h .fuel) (drop (d .at) ts) (a .value) (drop (e .at) ts) (a .read) (elsewhere (a .took .ready) "," refl other)) (a .took)
 
-    pub words-again : {f : Cursor} → kindAt z e ≡ fixed "," → f ≡ nextOf e → Listing flatWord 0 wordsOf x ts w z s f
+    pub words-again : {f : Cursor} → numberAt z e ≡ fixed "," → f ≡ nextOf e → Listing flatWord 0 wordsOf x ts w z s f
     words-again comma past =
         let a = accepted m r in
         let t = took-next (a .took) (before-end z e (omega arith)) in
@@ -54,13 +55,13 @@ module _ {ts : Tokens} {x : Read _} {w v z : List ℕ} {s d : Cursor} (h : Listi
   identifiers-stop m = going-refused (h .going) (r .kept) m (identifiers-parts (h .fuel) (drop (d .at) ts) ∙ bind-refused _ _ _ _ (refusal m r))
 
   module _ {e : Cursor} (m : q ≡ Parsed e) where
-    pub identifiers-end : (kindAt z e ≡ classNumber Name → ⊥) → Reads ts w z s (each flatIdentifier) x (Parsed e)
+    pub identifiers-end : (numberAt z e ≡ classNumber Name → ⊥) → Reads ts w z s (each flatIdentifier) x (Parsed e)
     identifiers-end other =
         let a = accepted m r in
         going-last (h .going) (r .kept) (a .value)
         (identifiers-parts (h .fuel) (drop (d .at) ts) ∙ bind-to _ _ _ (a .read) ∙ leave (isOf Name (front (drop (e .at) ts))) _ _ (class-elsewhere (a .took .ready) Name refl other)) (a .took)
 
-    pub identifiers-again : kindAt z e ≡ classNumber Name → d .at < e .at → Listing flatIdentifier 0 identifiersOf x ts w z s e
+    pub identifiers-again : numberAt z e ≡ classNumber Name → d .at < e .at → Listing flatIdentifier 0 identifiersOf x ts w z s e
     identifiers-again name l =
         let a = accepted m r in
         listing-more h (r .kept) (a .value)

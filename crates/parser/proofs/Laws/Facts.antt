@@ -17,7 +17,7 @@ use Rattle.lexer.specs.Numbers.{fixed}
 use Rattle.entries.specs.declared.Cursor.{Cursor}
 use Rattle.entries.specs.declared.Parse.{Parse}
 use Rattle.entries.specs.declared.Parse.the-variants.{Parsed, Refused as NotParsed}
-use Rattle.entries.specs.Cursors.{Ready, kindAt, placeAt}
+use Rattle.entries.specs.Cursors.{Ready, numberAt, placeAt}
 use Rattle.entries.specs.CursorLaws.{ready-place}
 use Rattle.entries.specs.TokenReads.{next-number}
 use Rattle.parser.specs.declared.Facts.{Facts}
@@ -33,34 +33,34 @@ done-value {A} {B} {a} {b} {u} {v} e = let p : _≡_ {A = A × B} (a, u) (b, v) 
 
 module _ {ts : Tokens} {w : List ℕ} {c : Cursor} (ready : Ready ts w c) where
   -- the model's word
-  pub model-kind : {m : Model} {us : Tokens} → modelOf (drop (c .at) ts) ≡ Done (m, us) → kindAt w c ≡ fixed "Mealy" + modelCode m
-  model-kind {m} {us} e = go (next "Mealy" (drop (c .at) ts)) refl (next "Moore" (drop (c .at) ts)) refl e
+  pub model-number : {m : Model} {us : Tokens} → modelOf (drop (c .at) ts) ≡ Done (m, us) → numberAt w c ≡ fixed "Mealy" + modelCode m
+  model-number {m} {us} e = go (next "Mealy" (drop (c .at) ts)) refl (next "Moore" (drop (c .at) ts)) refl e
     where
       go : (a : Bool) → next "Mealy" (drop (c .at) ts) ≡ a → (b : Bool) → next "Moore" (drop (c .at) ts) ≡ b →
-          (if a then Done (Mealy, rest (drop (c .at) ts)) else (if b then Done (Moore, rest (drop (c .at) ts)) else stop (drop (c .at) ts))) ≡ Done (m, us) → kindAt w c ≡ fixed "Mealy" + modelCode m
-      go true x b y z = eqb-true (kindAt w c) _ (sym (next-number ready "Mealy" refl) ∙ x) ∙ ap (λ n. fixed "Mealy" + modelCode n) (done-value z)
-      go false x true y z = eqb-true (kindAt w c) _ (sym (next-number ready "Moore" refl) ∙ y) ∙ ap (λ n. fixed "Mealy" + modelCode n) (done-value z)
+          (if a then Done (Mealy, rest (drop (c .at) ts)) else (if b then Done (Moore, rest (drop (c .at) ts)) else stop (drop (c .at) ts))) ≡ Done (m, us) → numberAt w c ≡ fixed "Mealy" + modelCode m
+      go true x b y z = eqb-true (numberAt w c) _ (sym (next-number ready "Mealy" refl) ∙ x) ∙ ap (λ n. fixed "Mealy" + modelCode n) (done-value z)
+      go false x true y z = eqb-true (numberAt w c) _ (sym (next-number ready "Moore" refl) ∙ y) ∙ ap (λ n. fixed "Mealy" + modelCode n) (done-value z)
       go false x false y z = absurd (not-done z)
 
   -- the comma before Strict
-  strict-kind : {s : Bool} {us : Tokens} → strictOf (drop (c .at) ts) ≡ Done (s, us) → eqb (kindAt w c) (fixed ",") ≡ s
-  strict-kind {s} {us} e = sym (next-number ready "," refl) ∙ go (next "," (drop (c .at) ts)) e
+  strictness-number : {s : Bool} {us : Tokens} → strictOf (drop (c .at) ts) ≡ Done (s, us) → eqb (numberAt w c) (fixed ",") ≡ s
+  strictness-number {s} {us} e = sym (next-number ready "," refl) ∙ go (next "," (drop (c .at) ts)) e
     where
       go : (a : Bool) → _≡_ {A = Read Bool} (elim a [ true ↦ expect "Strict" (rest (drop (c .at) ts)) >>= λ (t, vs). Done (true, vs) | false ↦ Done (false, drop (c .at) ts) ]) (Done (s, us)) → a ≡ s
       go true z = done-value (bind-done (expect "Strict" (rest (drop (c .at) ts))) _ z .2)
       go false z = done-value z
 
-  target-strict : {s : Bool} {us : Tokens} → toTarget (drop (c .at) ts) ≡ Done (s, us) → eqb (kindAt w c) (fixed ",") ≡ s
+  target-strict : {s : Bool} {us : Tokens} → toTarget (drop (c .at) ts) ≡ Done (s, us) → eqb (numberAt w c) (fixed ",") ≡ s
   target-strict e =
       let a = bind-done (strictOf (drop (c .at) ts)) _ e in
       let b = bind-done (pairOf "TARGET" ":" (a .0 .1)) _ (a .2) in
-      strict-kind (a .1) ∙ done-value (b .2)
+      strictness-number (a .1) ∙ done-value (b .2)
 
-  pub closing-kind : {m : Model} {us : Tokens} → closingOf (drop (c .at) ts) ≡ Done (m, us) → kindAt w c ≡ fixed "Mealy" + modelCode m
-  closing-kind e =
+  pub closing-number : {m : Model} {us : Tokens} → closingOf (drop (c .at) ts) ≡ Done (m, us) → numberAt w c ≡ fixed "Mealy" + modelCode m
+  closing-number e =
       let a = bind-done (modelOf (drop (c .at) ts)) _ e in
       let b = bind-done (infoEnd (a .0 .1)) _ (a .2) in
-      model-kind (a .1) ∙ ap (λ n. fixed "Mealy" + modelCode n) (done-value (b .2))
+      model-number (a .1) ∙ ap (λ n. fixed "Mealy" + modelCode n) (done-value (b .2))
 
 -- a refusal says nothing
 pub uninformed : {ts : Tokens} {w : List ℕ} {c : Cursor} {x : Read Info} {q : Parse} {n p : ℕ} {r : Informed} → r .next ≡ q → q ≡ NotParsed n p → Skims ts w c x q → Informs ts w c x r
@@ -88,7 +88,7 @@ module _ {ts : Tokens} {w : List ℕ} {c d e f : Cursor} {q₁ q₂ q₃ q₄ : 
     unfolding said
     said-read = bind-to _ _ _ (accepted m₁ r₁ .read) ∙ bind-to _ _ _ (semantics .read) ∙ bind-to _ _ _ (accepted m₃ r₃ .read) ∙ bind-to _ _ _ (accepted m₄ r₄ .read)
 
-    pub informed : {k k′ p : ℕ} {b : Bool} {r : Informed} → k ≡ kindAt w d → b ≡ eqb (kindAt w e) (fixed ",") → k′ ≡ kindAt w f → p ≡ placeAt w f →
+    pub informed : {k k′ p : ℕ} {b : Bool} {r : Informed} → k ≡ numberAt w d → b ≡ eqb (numberAt w e) (fixed ",") → k′ ≡ numberAt w f → p ≡ placeAt w f →
         r .next ≡ q₄ → r .facts ≡ record { semantics = k - fixed "Mealy"; strict = b; target = k′ - fixed "Mealy"; place = p } → Informs ts w c answer r
     unfolding said
     informed {k} {k′} {p} {b} {r} x y z u n o =
@@ -102,7 +102,7 @@ module _ {ts : Tokens} {w : List ℕ} {c d e f : Cursor} {q₁ q₂ q₃ q₄ : 
 
         facts : made (k - fixed "Mealy") b (k′ - fixed "Mealy") p ≡ toldOf said
         facts =
-            ap (λ a. made a b (k′ - fixed "Mealy") p) (omega (arith, model-kind (accepted m₁ r₁ .took .ready) (semantics .read)))
+            ap (λ a. made a b (k′ - fixed "Mealy") p) (omega (arith, model-number (accepted m₁ r₁ .took .ready) (semantics .read)))
             ∙ ap (λ s. made (modelCode (semantics .value)) s (k′ - fixed "Mealy") p) (y ∙ target-strict (semantics .took .ready) (accepted m₃ r₃ .read))
-            ∙ ap (λ t. made (modelCode (semantics .value)) (accepted m₃ r₃ .value) t p) (omega (arith, closing-kind (accepted m₃ r₃ .took .ready) (accepted m₄ r₄ .read)))
+            ∙ ap (λ t. made (modelCode (semantics .value)) (accepted m₃ r₃ .value) t p) (omega (arith, closing-number (accepted m₃ r₃ .took .ready) (accepted m₄ r₄ .read)))
             ∙ ap (made (modelCode (semantics .value)) (accepted m₃ r₃ .value) (modelCode (accepted m₄ r₄ .value))) (u ∙ ready-place (accepted m₃ r₃ .took .ready))

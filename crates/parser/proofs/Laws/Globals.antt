@@ -14,7 +14,7 @@ use Rattle.entries.specs.Flat.{each, flatParameter, flatDefinition}
 use Rattle.entries.specs.declared.Cursor.{Cursor}
 use Rattle.entries.specs.declared.Parse.{Parse}
 use Rattle.entries.specs.declared.Parse.the-variants.{Parsed, Refused as NotParsed}
-use Rattle.entries.specs.Cursors.{Ready, kindAt, expected}
+use Rattle.entries.specs.Cursors.{Ready, numberAt, expected}
 use Rattle.entries.specs.Reads.{Kept, Took, Reads}
 use Rattle.entries.specs.ReadsLaws.{kept-same, kept-then}
 use Rattle.entries.specs.TokenReads.{took-none, expect-reads}
@@ -26,10 +26,10 @@ module _ {ts : Tokens} {w : List ℕ} {c : Cursor} (ready : Ready ts w c) where
   abbrev answer : Read Globals
   answer = globalsOf (drop (c .at) ts)
 
-  pub global-missing : (kindAt w c ≡ fixed "GLOBAL" → ⊥) → Reads ts w w c flatGlobals answer (Parsed c)
+  pub global-missing : (numberAt w c ≡ fixed "GLOBAL" → ⊥) → Reads ts w w c flatGlobals answer (Parsed c)
   global-missing k = reads-done ([], []) (leave (next "GLOBAL" (drop (c .at) ts)) _ _ (elsewhere ready "GLOBAL" refl k)) (kept-same w (c .out)) (took-none ready)
 
-  module _ (k : kindAt w c ≡ fixed "GLOBAL") {b : Cursor} (n : Next c b) where
+  module _ (k : numberAt w c ≡ fixed "GLOBAL") {b : Cursor} (n : Next c b) where
     pub global-ready : Ready ts w b
     global-ready = past-ready ready n (inside ready k (omega arith))
 

@@ -18,7 +18,7 @@ use Rattle.lexer.specs.Numbers.{fixed, classNumber}
 use Rattle.entries.specs.declared.Cursor.{Cursor}
 use Rattle.entries.specs.declared.Parse.{Parse}
 use Rattle.entries.specs.declared.Parse.the-variants.{Parsed, Refused as NotParsed}
-use Rattle.entries.specs.Cursors.{Ready, kindAt, expected}
+use Rattle.entries.specs.Cursors.{Ready, numberAt, expected}
 use Rattle.entries.specs.Reads.{Took}
 use Rattle.entries.specs.ReadsLaws.{kept-same}
 use Rattle.entries.specs.TokenReads.{took-none}
@@ -45,26 +45,26 @@ module _ {ts : Tokens} {w : List ℕ} {c : Cursor} (ready : Ready ts w c) where
     past a e = reads-done a (e ∙ ap (λ us. Done (a, us)) (rest-past ts n)) (kept-same w (c .out)) (took-past (took-none ready) n within)
 
   -- the model
-  pub model-first : {d : Cursor} → kindAt w c ≡ fixed "Mealy" → Next c d → Skims ts w c (modelOf (drop (c .at) ts)) (Parsed d)
+  pub model-first : {d : Cursor} → numberAt w c ≡ fixed "Mealy" → Next c d → Skims ts w c (modelOf (drop (c .at) ts)) (Parsed d)
   model-first k n = past (inside ready k (omega arith)) n Mealy (pick (next "Mealy" (drop (c .at) ts)) _ _ (here ready "Mealy" refl k))
 
-  pub model-second : {q : Parse} → (kindAt w c ≡ fixed "Mealy" → ⊥) → q ≡ expected w c (fixed "Moore") → Skims ts w c (modelOf (drop (c .at) ts)) q
+  pub model-second : {q : Parse} → (numberAt w c ≡ fixed "Mealy" → ⊥) → q ≡ expected w c (fixed "Moore") → Skims ts w c (modelOf (drop (c .at) ts)) q
   model-second k e =
       skims-as (leave (next "Mealy" (drop (c .at) ts)) _ _ (elsewhere ready "Mealy" refl k) ∙ valued (next "Moore" (drop (c .at) ts)) (drop (c .at) ts))
       (skim-map ready (λ t. Moore) (expect-spelt ready "Moore" (record { known = refl; same = refl }) e))
 
   -- a tag
-  pub tag-first : {d : Cursor} → kindAt w c ≡ classNumber Name → Next c d → Skims ts w c (tagOf (drop (c .at) ts)) (Parsed d)
+  pub tag-first : {d : Cursor} → numberAt w c ≡ classNumber Name → Next c d → Skims ts w c (tagOf (drop (c .at) ts)) (Parsed d)
   tag-first k n = past (inside ready k (omega arith)) n (front (drop (c .at) ts)) (pick (isOf Name (front (drop (c .at) ts))) _ _ (class-here ready Name refl k))
 
-  pub tag-second : {q : Parse} → (kindAt w c ≡ classNumber Name → ⊥) → q ≡ expected w c (classNumber Quoted) → Skims ts w c (tagOf (drop (c .at) ts)) q
+  pub tag-second : {q : Parse} → (numberAt w c ≡ classNumber Name → ⊥) → q ≡ expected w c (classNumber Quoted) → Skims ts w c (tagOf (drop (c .at) ts)) q
   tag-second k e = skims-as (leave (isOf Name (front (drop (c .at) ts))) _ _ (class-elsewhere ready Name refl k)) (expect-class ready Quoted refl (omega arith) e)
 
   -- `, Strict`
-  pub strict-none : (kindAt w c ≡ fixed "," → ⊥) → Skims ts w c (strictOf (drop (c .at) ts)) (Parsed c)
+  pub strict-none : (numberAt w c ≡ fixed "," → ⊥) → Skims ts w c (strictOf (drop (c .at) ts)) (Parsed c)
   strict-none k = reads-done false (leave (next "," (drop (c .at) ts)) _ _ (elsewhere ready "," refl k)) (kept-same w (c .out)) (took-none ready)
 
-  pub strict-some : {d : Cursor} {q : Parse} → kindAt w c ≡ fixed "," → Next c d → q ≡ expected w d (fixed "Strict") → Skims ts w c (strictOf (drop (c .at) ts)) q
+  pub strict-some : {d : Cursor} {q : Parse} → numberAt w c ≡ fixed "," → Next c d → q ≡ expected w d (fixed "Strict") → Skims ts w c (strictOf (drop (c .at) ts)) q
   strict-some k n e =
       let within = inside ready k (omega arith) in
       let later = past-ready ready n within in
@@ -72,10 +72,10 @@ module _ {ts : Tokens} {w : List ℕ} {c : Cursor} (ready : Ready ts w c) where
       (skim-map later (λ t. true) (expect-spelt later "Strict" (record { known = refl; same = refl }) e))
 
   -- TAGS or the end of INFO
-  pub no-tags : {q : Parse} → (kindAt w c ≡ fixed "TAGS" → ⊥) → q ≡ expected w c (fixed "}") → Skims ts w c (infoEnd (drop (c .at) ts)) q
+  pub no-tags : {q : Parse} → (numberAt w c ≡ fixed "TAGS" → ⊥) → q ≡ expected w c (fixed "}") → Skims ts w c (infoEnd (drop (c .at) ts)) q
   no-tags k e = skims-as (leave (next "TAGS" (drop (c .at) ts)) _ _ (elsewhere ready "TAGS" refl k)) (expect-spelt ready "}" (record { known = refl; same = refl }) e)
 
-  pub with-tags : {d : Cursor} {q : Parse} → kindAt w c ≡ fixed "TAGS" → Next c d → Skims ts w d (expect ":" (drop (d .at) ts) >>= λ (o, us). tagsOf (length us) us >>= λ (t, us). expect "}" us) q
+  pub with-tags : {d : Cursor} {q : Parse} → numberAt w c ≡ fixed "TAGS" → Next c d → Skims ts w d (expect ":" (drop (d .at) ts) >>= λ (o, us). tagsOf (length us) us >>= λ (t, us). expect "}" us) q
       → Skims ts w c (infoEnd (drop (c .at) ts)) q
   with-tags k n r =
       reads-behind ready n (inside ready k (omega arith))
@@ -100,13 +100,13 @@ module _ {x : Read Token} {ts : Tokens} {w : List ℕ} {s d : Cursor} (h : Taggi
   tags-stop m = reads-refused m (h .answer ∙ tags-refused (h .fuel) (drop (d .at) ts) (refusal m r)) (kept-same w (s .out))
 
   module _ {e : Cursor} (m : q ≡ Parsed e) where
-    pub tags-end : (kindAt w e ≡ fixed "," → ⊥) → Skims ts w s x (Parsed e)
+    pub tags-end : (numberAt w e ≡ fixed "," → ⊥) → Skims ts w s x (Parsed e)
     tags-end k =
         let a = accepted m r in
         reads-done (a .value) (h .answer ∙ tags-last (h .fuel) (drop (d .at) ts) (a .value) (drop (e .at) ts) (a .read) (elsewhere (a .took .ready) "," refl k)) (kept-same w (s .out))
         (took-then (h .took) (kept-same w (d .out)) (a .took))
 
-    pub tags-again : {f : Cursor} → kindAt w e ≡ fixed "," → Next e f → Tagging x ts w s f
+    pub tags-again : {f : Cursor} → numberAt w e ≡ fixed "," → Next e f → Tagging x ts w s f
     tags-again {f} k n = go (h .fuel) refl
       where
         t : Took ts w d f []

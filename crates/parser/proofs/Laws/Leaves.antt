@@ -7,6 +7,7 @@ use mathlib.Core.Path.{_≡_, sym, _∙_, subst}
 use lib.ListN.{drop}
 use Rattle.language.specs.Tokens.{Class}
 use Rattle.language.specs.Grammar.{Tokens, front, expectOf}
+use Rattle.entries.specs.Kinds as Kind
 use Rattle.entries.specs.Flat.{Entry, leaf}
 use Rattle.entries.specs.Stored.{firstEntry, entryWord, putEntry}
 use Rattle.entries.specs.declared.Cursor.{Cursor}
@@ -25,13 +26,13 @@ module _ {ts : Tokens} {w : List ℕ} {c : Cursor} (ready : Ready ts w c) {k : C
   pub leaf-refused : {f : _ → List Entry} {q : Parse} {n p : ℕ} → q ≡ expected w c number → q ≡ NotParsed n p → Reads ts w w c f (expectOf k (drop (c .at) ts)) q
   leaf-refused {n = n} {p} x m = reads-refused m (expectOf-not ready k (names .plain) (subst (λ m. Stopped w c m n p) (sym (names .same)) (stopped w c number x m))) (kept-same w (c .out))
 
-  module _ (kind : ℕ) (small : kind < 64) (positive : 0 < number) {d : Cursor} (h : Passed w c d number) where
+  module _ (kind : ℕ) (small : kind < Kind.limit) (positive : 0 < number) {d : Cursor} (h : Passed w c d number) where
     pub leaf-read : {v : List ℕ} {e : Cursor} → v ≡ putEntry w (d .out) kind (c .at) 1 → e ≡ emittedOf d → Reads ts w v c (leaf kind) (expectOf k (drop (c .at) ts)) (Parsed e)
     leaf-read {v} {e} u f =
-        let inside : c .at < c .count = before-end w c (omega (arith, h .kind)) in
+        let inside : c .at < c .count = before-end w c (omega (arith, h .token)) in
         let token = took-token ready inside in
         let t = took-emit kind (c .at) 1 (some (front (drop (c .at) ts))) (ready .less) token (omega arith) small (omega (arith, ready .fits .few)) (omega arith) (keeps-here ready inside) in
-        let read = expectOf-here ready k (names .plain) (h .kind ∙ sym (names .same)) in
+        let read = expectOf-here ready k (names .plain) (h .token ∙ sym (names .same)) in
         subst (λ x. Reads ts w v c (leaf kind) (expectOf k (drop (c .at) ts)) (Parsed x)) (sym f)
         (subst (λ x. Reads ts w x c (leaf kind) (expectOf k (drop (c .at) ts)) (Parsed (emittedOf d))) (sym u)
         (subst (λ (x : Cursor). Reads ts w (putEntry w (x .out) kind (c .at) 1) c (leaf kind) (expectOf k (drop (c .at) ts)) (Parsed (emittedOf x))) (sym (h .next .cursor))
@@ -39,9 +40,9 @@ module _ {ts : Tokens} {w : List ℕ} {c : Cursor} (ready : Ready ts w c) {k : C
         (omega (arith, ready .less, ready .fits .few, ready .fits .inside))) t)))
 
 -- what writing the entry asks for
-pub leaf-writes : {ts : Tokens} {w : List ℕ} {c d : Cursor} {kind number : ℕ} → Ready ts w c → kind < 64 → 0 < number → Passed w c d number → Writes w d kind (c .at) 1
+pub leaf-writes : {ts : Tokens} {w : List ℕ} {c d : Cursor} {kind number : ℕ} → Ready ts w c → kind < Kind.limit → 0 < number → Passed w c d number → Writes w d kind (c .at) 1
 leaf-writes {w = w} {c} {d} ready small positive h =
-    let inside : c .at < c .count = before-end w c (omega (arith, h .kind)) in
+    let inside : c .at < c .count = before-end w c (omega (arith, h .token)) in
     record {
       room = ready .fits .room;
       few = omega (arith, h .next .out, ready .less, ready .fits .few);

@@ -20,7 +20,7 @@ use Rattle.entries.specs.Stored.{putEntry, Keeps}
 use Rattle.entries.specs.declared.Cursor.{Cursor}
 use Rattle.entries.specs.declared.Parse.{Parse}
 use Rattle.entries.specs.declared.Parse.the-variants.{Parsed, Refused as NotParsed}
-use Rattle.entries.specs.Cursors.{Ready, Writes, kindAt, emittedOf, expected}
+use Rattle.entries.specs.Cursors.{Ready, Writes, numberAt, emittedOf, expected}
 use Rattle.entries.specs.Reads.{Kept, Took, Reads}
 use Rattle.entries.specs.ReadsLaws.{kept-same, kept-then}
 use Rattle.entries.specs.TokenReads.{took-none}
@@ -48,7 +48,7 @@ use Rattle.parser.proofs.Laws.Passing.{
 -- an entry that closes what was read
 pub closed : {A : Type 0} {ts : Tokens} {w v z : List ℕ} {s d : Cursor} {es : List Entry} {f : A → List Entry} {x : Read A} {q : Parse} (k j : ℕ) (t : _) (a : A) → Ready ts w s
     → x ≡ Done (a, drop (d .at) ts) → f a ≡ under k t es →
-    Kept w v (s .out) → Took ts v s d es → d .out + 1 + s .at ≤ s .out + d .at → k < 64 → j < maxTokens → Keeps ts j t →
+    Kept w v (s .out) → Took ts v s d es → d .out + 1 + s .at ≤ s .out + d .at → k < Kind.limit → j < maxTokens → Keeps ts j t →
     q ≡ Parsed (emittedOf d) → z ≡ putEntry v (d .out) k j (d .out - s .out + 1) → Reads ts w z s f x q
 closed {ts = ts} {w} {v} {z} {s} {d} {es} {f} {x} {q} k j t a ready e flats kept h room small near keeps m n =
     let u : Took ts z s (emittedOf d) (f a) =
@@ -79,7 +79,7 @@ module _ {ts : Tokens} {w v : List ℕ} {c d e : Cursor} (ready : Ready ts w c) 
   valued-refused m =
       reads-refused m (bind-to _ _ _ (expectOf-passed ready Name refl h) ∙ bind-to _ _ _ (expect-passed (passed-ready ready h (omega arith)) "=" refl g) ∙ bind-refused _ _ _ _ (refusal m r)) kept
 
-  module _ {f : Cursor} (m : q ≡ Parsed f) (kind : ℕ) (small : kind < 64) where
+  module _ {f : Cursor} (m : q ≡ Parsed f) (kind : ℕ) (small : kind < Kind.limit) where
     value : Accepted ts v e f flat (expression (drop (e .at) ts))
     value = accepted m r
 
@@ -90,7 +90,7 @@ module _ {ts : Tokens} {w v : List ℕ} {c d e : Cursor} (ready : Ready ts w c) 
     room = omega (arith, value .took .onward .slack, h .next .at, h .next .out, g .next .at, g .next .out)
 
     near : c .at < maxTokens
-    near = omega (arith, inside ready (h .kind) (omega arith), ready .fits .few)
+    near = omega (arith, inside ready (h .token) (omega arith), ready .fits .few)
 
     pub valued-writes : (c .out ≤ f .out) × Writes v f kind (c .at) (f .out - c .out + 1)
     valued-writes = under-writes kind (c .at) (ready .less) took room small near
@@ -100,7 +100,7 @@ module _ {ts : Tokens} {w v : List ℕ} {c d e : Cursor} (ready : Ready ts w c) 
     valued-read =
         closed kind (c .at) (some (front (drop (c .at) ts))) (record { name = front (drop (c .at) ts); value = value .value }) ready
         (bind-to _ _ _ (expectOf-passed ready Name refl h) ∙ bind-to _ _ _ (expect-passed (passed-ready ready h (omega arith)) "=" refl g) ∙ bind-to _ _ _ (value .read))
-        refl kept took room small near (keeps-here ready (inside ready (h .kind) (omega arith)))
+        refl kept took room small near (keeps-here ready (inside ready (h .token) (omega arith)))
 
 -- a formula behind the token before it
 module _ {ts : Tokens} {w v : List ℕ} {c d : Cursor} (ready : Ready ts w c) (within : c .at < c .count) (h : Next c d) {q : Parse} (r : Reads ts w v d flat (expression (drop (d .at) ts)) q) where
@@ -129,12 +129,12 @@ module _ {ts : Tokens} {w v : List ℕ} {c d : Cursor} (ready : Ready ts w c) (w
 
 -- a definition: an enumeration, or a name and its value
 module _ {ts : Tokens} {w v : List ℕ} {c : Cursor} (ready : Ready ts w c) {q : Parse} where
-  pub definition-enum : {d : Cursor} → kindAt w c ≡ fixed "enum" → Next c d → Reads ts w v d flatDefinition (enumerationOf (drop (d .at) ts)) q
+  pub definition-enum : {d : Cursor} → numberAt w c ≡ fixed "enum" → Next c d → Reads ts w v d flatDefinition (enumerationOf (drop (d .at) ts)) q
       → Reads ts w v c flatDefinition (definitionOf (drop (c .at) ts)) q
   definition-enum k h r =
       reads-behind ready h (inside ready k (omega arith)) (pick (next "enum" (drop (c .at) ts)) _ _ (here ready "enum" refl k) ∙ ap enumerationOf (rest-past ts h)) r
 
-  pub definition-valued : (kindAt w c ≡ fixed "enum" → ⊥) → Reads ts w v c (flatValued Kind.definition) (parameterOf (drop (c .at) ts)) q
+  pub definition-valued : (numberAt w c ≡ fixed "enum" → ⊥) → Reads ts w v c (flatValued Kind.definition) (parameterOf (drop (c .at) ts)) q
       → Reads ts w v c flatDefinition (definitionOf (drop (c .at) ts)) q
   definition-valued k r =
       reads-tail (λ (p : Parameter). Defined (p .name) (p .value)) (leave (next "enum" (drop (c .at) ts)) _ _ (elsewhere ready "enum" refl k)) (λ p. refl) (kept-same w (c .out)) (took-none ready) r

@@ -12,9 +12,9 @@ use Rattle.entries.specs.declared.Cursor.{Cursor}
 use Rattle.entries.specs.declared.Parse.{Parse}
 use Rattle.entries.specs.declared.Parse.the-variants.{Parsed, Refused as NotParsed}
 use Rattle.entries.specs.Cursors.{Ready, Readied}
-use Rattle.entries.specs.Reads.{Kept, Took, Reads}
+use Rattle.entries.specs.Reads.{Kept, Took, Reads, noEntries}
 use Rattle.entries.specs.ReadsLaws.{kept-same, kept-then, ready-kept}
-use Rattle.entries.specs.TokenReads.{noEntries, took-none}
+use Rattle.entries.specs.TokenReads.{took-none}
 use Rattle.parser.specs.Steps.{onto, onto-done, onto-refused, onto-none, onto-more}
 use Rattle.parser.proofs.Laws.Rows.{took-then, took-as, reads-done, reads-refused, reads-tail}
 

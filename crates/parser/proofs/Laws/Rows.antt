@@ -9,6 +9,7 @@ use Rattle.node.specs.Result.{Done, Refused, _>>=_}
 use Rattle.language.specs.Tokens.{Token}
 use Rattle.language.specs.Grammar.{Tokens, Read}
 use Rattle.language.specs.Limits.{maxTokens}
+use Rattle.entries.specs.Kinds as Kind
 use Rattle.entries.specs.Flat.{Entry, under}
 use Rattle.entries.specs.Stored.{firstEntry, entryWord, putEntry, Keeps, EntryAt, EntriesFrom}
 use Rattle.entries.specs.StoredLaws.{entry-put, entries-kept, entries-append}
@@ -25,7 +26,7 @@ module _ {ts : Tokens} {w : List ℕ} {c : Cursor} (ready : Ready ts w c) where
   few-out : c .out < maxTokens
   few-out = omega (arith, ready .less, ready .fits .few, ready .fits .inside)
 
-  pub writes : {k j n : ℕ} → k < 64 → j < maxTokens → n < maxTokens → Writes w c k j n
+  pub writes : {k j n : ℕ} → k < Kind.limit → j < maxTokens → n < maxTokens → Writes w c k j n
   writes hk hj hn = record { room = ready .fits .room; few = few-out; kind-fits = hk; index-fits = hj; size-fits = hn }
 
   pub kept-emit : (out : ℕ) → out ≤ c .out → (k j n : ℕ) → Kept w (putEntry w (c .out) k j n) out
@@ -58,7 +59,7 @@ module _ {ts : Tokens} where
 
   -- one entry more, for a token that has none yet
   module _ {w : List ℕ} {s c : Cursor} {es : List Entry} (k j n : ℕ) (t : Option Token) where
-    pub took-emit : s .out < s .at → Took ts w s c es → c .out + 1 + s .at ≤ s .out + c .at → k < 64 → j < maxTokens → n < maxTokens → Keeps ts j t →
+    pub took-emit : s .out < s .at → Took ts w s c es → c .out + 1 + s .at ≤ s .out + c .at → k < Kind.limit → j < maxTokens → n < maxTokens → Keeps ts j t →
         Took ts (putEntry w (c .out) k j n) s (emittedOf c) (es ++ (record { kind = k; token = t; size = n } ∷ []))
     took-emit l h room hk hj hn keeps =
         let ready = ready-emitted k j n (h .ready) (omega (arith, h .ready .less)) in
@@ -74,7 +75,7 @@ module _ {ts : Tokens} where
         }
 
   -- an entry behind those of its operands
-  module _ {w : List ℕ} {s c : Cursor} {es : List Entry} (k j : ℕ) (less : s .out < s .at) (h : Took ts w s c es) (room : c .out + 1 + s .at ≤ s .out + c .at) (small : k < 64) (near : j < maxTokens) where
+  module _ {w : List ℕ} {s c : Cursor} {es : List Entry} (k j : ℕ) (less : s .out < s .at) (h : Took ts w s c es) (room : c .out + 1 + s .at ≤ s .out + c .at) (small : k < Kind.limit) (near : j < maxTokens) where
     pub under-writes : (s .out ≤ c .out) × Writes w c k j (c .out - s .out + 1)
     under-writes =
         (omega (arith, h .out), writes (h .ready) small near (omega (arith, h .out, h .ready .less, h .ready .fits .few, h .ready .fits .inside)))

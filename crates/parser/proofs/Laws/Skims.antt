@@ -15,9 +15,9 @@ use Rattle.entries.specs.declared.Cursor.{Cursor}
 use Rattle.entries.specs.declared.Parse.{Parse}
 use Rattle.entries.specs.declared.Parse.the-variants.{Parsed, Refused as NotParsed}
 use Rattle.entries.specs.Cursors.{Ready, expected}
-use Rattle.entries.specs.Reads.{Reads}
+use Rattle.entries.specs.Reads.{Reads, noEntries}
 use Rattle.entries.specs.ReadsLaws.{kept-same}
-use Rattle.entries.specs.TokenReads.{noEntries, took-none, expect-reads, expectOf-reads}
+use Rattle.entries.specs.TokenReads.{took-none, expect-reads, expectOf-reads}
 use Rattle.parser.specs.Spelling.{Spells}
 use Rattle.parser.specs.Steps.{then-id}
 use Rattle.parser.proofs.Laws.Rows.{accepted, refusal, reads-refused, reads-tail}

@@ -19,8 +19,8 @@ use Rattle.entries.specs.Flat.{each, flatSubsection}
 use Rattle.entries.specs.declared.Cursor.{Cursor}
 use Rattle.entries.specs.declared.Parse.{Parse}
 use Rattle.entries.specs.declared.Parse.the-variants.{Parsed, Refused as NotParsed}
-use Rattle.entries.specs.Cursors.{Ready, kindAt}
-use Rattle.entries.specs.CursorLaws.{ready-kind, before-end}
+use Rattle.entries.specs.Cursors.{Ready, numberAt}
+use Rattle.entries.specs.CursorLaws.{ready-number, before-end}
 use Rattle.entries.specs.Reads.{Reads}
 use Rattle.entries.specs.ReadsLaws.{kept-same}
 use Rattle.entries.specs.TokenReads.{took-none}
@@ -87,20 +87,20 @@ flatSubsection-some (Inputs ds) = omega arith
 flatSubsection-some (Outputs ds) = omega arith
 flatSubsection-some (Lines p es) = omega arith
 
-module _ {x : Read (List Subsection)} {marks : List ℕ} {ts : Tokens} {w v : List ℕ} {s d : Cursor} (h : Standing x marks ts w v s d) {n : ℕ} (is : n ≡ headingNumber (kindAt v d)) where
+module _ {x : Read (List Subsection)} {marks : List ℕ} {ts : Tokens} {w v : List ℕ} {s d : Cursor} (h : Standing x marks ts w v s d) {n : ℕ} (is : n ≡ headingNumber (numberAt v d)) where
   ready : Ready ts v d
   ready = h .going .took .ready
 
-  word : headingOf headings (h .before) (front (drop (d .at) ts)) ≡ fresh (h .before) (rowOf headings (kindAt v d))
-  word = heading-number (h .before) (front (drop (d .at) ts)) ∙ ap (λ k. fresh (h .before) (rowOf headings k)) (sym (ready-kind ready))
+  word : headingOf headings (h .before) (front (drop (d .at) ts)) ≡ fresh (h .before) (rowOf headings (numberAt v d))
+  word = heading-number (h .before) (front (drop (d .at) ts)) ∙ ap (λ k. fresh (h .before) (rowOf headings k)) (sym (ready-number ready))
 
   -- no subsection's word
   pub word-none : n ≡ noHeading → headingOf headings (h .before) (front (drop (d .at) ts)) ≡ none
-  word-none e = word ∙ ap (fresh (h .before)) (no-row (kindAt v d) (sym is ∙ e))
+  word-none e = word ∙ ap (fresh (h .before)) (no-row (numberAt v d) (sym is ∙ e))
 
   module _ (l : n < noHeading) where
-    pub row : Row (kindAt v d)
-    row = row-of (kindAt v d) (omega arith)
+    pub row : Row (numberAt v d)
+    row = row-of (numberAt v d) (omega arith)
 
     row-is : row .row .number ≡ n
     row-is = row .number ∙ sym is
@@ -110,9 +110,9 @@ module _ {x : Read (List Subsection)} {marks : List ℕ} {ts : Tokens} {w v : Li
 
     -- a word is no end
     pub word-inside : d .at < d .count
-    word-inside = go (kindAt v d) refl
+    word-inside = go (numberAt v d) refl
       where
-        go : (k : ℕ) → kindAt v d ≡ k → d .at < d .count
+        go : (k : ℕ) → numberAt v d ≡ k → d .at < d .count
         go zero e = absurd (omega (arith, heading-out 0 (λ i a b c. omega arith), is ∙ ap headingNumber e))
         go (suc k) e = before-end v d (omega arith)
 

@@ -23,8 +23,8 @@ use Rattle.entries.specs.Stored.{EntriesFrom}
 use Rattle.entries.specs.declared.Cursor.{Cursor}
 use Rattle.entries.specs.declared.Parse.{Parse}
 use Rattle.entries.specs.declared.Parse.the-variants.{Parsed, Refused as NotParsed}
-use Rattle.entries.specs.Cursors.{Fits, Tells, Ready, kindAt, placeAt, expected}
-use Rattle.entries.specs.CursorLaws.{kind-stored, kind-end, place-stored, place-end, before-end, ready-place}
+use Rattle.entries.specs.Cursors.{Fits, Tells, Ready, numberAt, placeAt, expected}
+use Rattle.entries.specs.CursorLaws.{number-stored, number-end, place-stored, place-end, before-end, ready-place}
 use Rattle.entries.specs.Reads.{Kept, Reads}
 use Rattle.entries.specs.ReadsLaws.{kept-fewer}
 use Rattle.parser.specs.declared.Informed.{Informed}
@@ -79,17 +79,17 @@ module _ {ts : Tokens} {w : List ℕ} {count end : ℕ} (fits : Fits w (startOf 
   near : front ts .at < 2 ^ offsetBits
   near = omega (arith, tells .places 0, fits .short)
 
-  first-kind : kindAt w (startOf count end) ≡ number (front ts)
-  first-kind = go (ltb 0 count) refl
+  first-stored : numberAt w (startOf count end) ≡ number (front ts)
+  first-stored = go (ltb 0 count) refl
     where
-      go : (b : Bool) → ltb 0 count ≡ b → kindAt w (startOf count end) ≡ number (front ts)
+      go : (b : Bool) → ltb 0 count ≡ b → numberAt w (startOf count end) ≡ number (front ts)
       go true e =
           let l = ltb-true 0 count e in
-          kind-stored w (startOf count end) l ∙ ap numberIn (tells .stored .words 0 (omega (arith, tells .total))) ∙ number-word (front ts) near
+          number-stored w (startOf count end) l ∙ ap numberIn (tells .stored .words 0 (omega (arith, tells .total))) ∙ number-word (front ts) near
       go false e =
           let l = ltb-false 0 count e in
           let none : 0 ≡ count = omega arith in
-          kind-end w (startOf count end) l ∙ sym (eqb-true (number (front ts)) 0 (sym (class-number End (front ts) refl) ∙ ap (λ n. isOf End (front (drop n ts))) none ∙ tells .last))
+          number-end w (startOf count end) l ∙ sym (eqb-true (number (front ts)) 0 (sym (class-number End (front ts) refl) ∙ ap (λ n. isOf End (front (drop n ts))) none ∙ tells .last))
 
   first-place : placeAt w (startOf count end) ≡ front ts .at
   first-place = go (ltb 0 count) refl
@@ -103,12 +103,12 @@ module _ {ts : Tokens} {w : List ℕ} {count end : ℕ} (fits : Fits w (startOf 
           let none : 0 ≡ count = omega arith in
           place-end w (startOf count end) l ∙ sym (tells .last-place) ∙ ap (λ n. front (drop n ts) .at) (sym none)
 
-  first-number : next "INFO" ts ≡ eqb (kindAt w (startOf count end)) (fixed "INFO")
-  first-number = is-number "INFO" (front ts) refl ∙ ap (λ n. eqb n (fixed "INFO")) (sym first-kind)
+  first-number : next "INFO" ts ≡ eqb (numberAt w (startOf count end)) (fixed "INFO")
+  first-number = is-number "INFO" (front ts) refl ∙ ap (λ n. eqb n (fixed "INFO")) (sym first-stored)
 
   pub first-refused : {n p : ℕ} → Stopped w (startOf count end) (fixed "INFO") n p → specOf ts ≡ Refused n p
   first-refused h =
-      spec-parts ts ∙ bind-refused _ _ _ _ (leave (next "INFO" ts) _ _ (first-number ∙ ne-eqb _ _ (h .kind)) ∙ same (h .number) (h .place ∙ first-place))
+      spec-parts ts ∙ bind-refused _ _ _ _ (leave (next "INFO" ts) _ _ (first-number ∙ ne-eqb _ _ (h .token)) ∙ same (h .number) (h .place ∙ first-place))
     where
       same : {n p q : ℕ} → n ≡ 4 → p ≡ q → _≡_ {A = Read Token} (Refused 4 q) (Refused n p)
       same e f = cc
@@ -116,13 +116,13 @@ module _ {ts : Tokens} {w : List ℕ} {count end : ℕ} (fits : Fits w (startOf 
   module _ {c : Cursor} (h : Passed w (startOf count end) c (fixed "INFO")) where
     pub first-ready : Ready ts w c
     first-ready =
-        let l : 0 < count = before-end w (startOf count end) (omega (arith, h .kind)) in
+        let l : 0 < count = before-end w (startOf count end) (omega (arith, h .token)) in
         subst (Ready ts w) (sym (h .next .cursor))
         (record { fits = record { room = fits .room; few = fits .few; short = fits .short; inside = omega arith }; tells = tells; less = omega arith })
 
     first-read : expect "INFO" ts ≡ Done (front ts, drop (c .at) ts)
     first-read =
-        pick (next "INFO" ts) _ _ (first-number ∙ eq-eqb _ _ (h .kind)) ∙ ap (λ us. Done (front ts, us)) (sym (ap (λ n. drop n ts) (h .next .at) ∙ one ts))
+        pick (next "INFO" ts) _ _ (first-number ∙ eq-eqb _ _ (h .token)) ∙ ap (λ us. Done (front ts, us)) (sym (ap (λ n. drop n ts) (h .next .at) ∙ one ts))
       where
         one : (us : Tokens) → drop 1 us ≡ rest us
         one [] = refl
@@ -159,17 +159,17 @@ module _ {ts : Tokens} {w : List ℕ} {count end : ℕ} (fits : Fits w (startOf 
             up-to-end : specOf ts ≡ (expectOf End (drop (e .at) ts) >>= λ (t, us). Done (specWith (info .value) (body .value)))
             up-to-end = spec-parts ts ∙ bind-to _ _ _ first-read ∙ bind-to _ _ _ (info .read) ∙ bind-to _ _ _ (body .read)
 
-            pub not-end : (kindAt v e ≡ classNumber End → ⊥) → specOf ts ≡ Refused 4 (placeAt v e)
+            pub not-end : (numberAt v e ≡ classNumber End → ⊥) → specOf ts ≡ Refused 4 (placeAt v e)
             not-end k =
                 up-to-end ∙ bind-refused _ _ _ _ (leave (isOf End (front (drop (e .at) ts))) _ _ (class-elsewhere end-ready End refl k)) ∙ ap (Refused 4) (sym (ready-place end-ready))
 
-            at-end : kindAt v e ≡ classNumber End → specOf ts ≡ Done (specWith (info .value) (body .value))
+            at-end : numberAt v e ≡ classNumber End → specOf ts ≡ Done (specWith (info .value) (body .value))
             at-end k = up-to-end ∙ bind-to _ _ _ (pick (isOf End (front (drop (e .at) ts))) _ _ (class-here end-ready End refl k))
 
             written : outline (specWith (info .value) (body .value)) ≡ flatSections (body .value)
             written = sym (append-assoc (each flatParameter (body .value .0 .0)) (each flatDefinition (body .value .0 .1)) (each flatSubsection (body .value .1)))
 
-            pub outlined : {a : Outline} → kindAt v e ≡ classNumber End → a ≡ Answered (e .out) (s .facts) → Outlined ts w v a
+            pub outlined : {a : Outline} → numberAt v e ≡ classNumber End → a ≡ Answered (e .out) (s .facts) → Outlined ts w v a
             outlined {a} k x =
                 let size : e .out ≡ length (outline (specWith (info .value) (body .value))) = omega (arith, out-none, body .took .out, ap length written) in
                 record {

@@ -1,6 +1,6 @@
 -- `information` meets its contract: the four parts of INFO, and what their words say.
 use Rattle.lexer.specs.Numbers.{fixed}
-use Rattle.parser.proofs.Laws.Facts.{model-kind, closing-kind, uninformed, all-read, informed}
+use Rattle.parser.proofs.Laws.Facts.{model-number, closing-number, uninformed, all-read, informed}
 use Rattle.parser.proofs.Laws.Rows.{accepted}
 use Rattle.parser.proofs.Laws.Skims.{skim-refused, skim-then}
 use Rattle.parser.proofs.information.Statement.{statement}
@@ -28,8 +28,8 @@ returns c =
     let at-to-semantics = at-enum-told .before .before in
     λ ts ready. uninformed (c .uninformed .ensures) (at-enum-told .enum-told .given .1) (skim-refused (at-to-semantics .to-semantics .ensures ts ready) _ (at-enum-told .enum-told .given .1))
 
-kind-requires : tie.Need-kind-requires
-kind-requires c κs =
+number-requires : tie.Need-number-requires
+number-requires c κs =
     let at-to-semantics = c .before .before .before in
     let start = at-to-semantics .before .before in
     let z = start .pre in (accepted (c .before .r .given .1) (at-to-semantics .to-semantics .ensures (z .tokens) (z .ready)) .took .ready) .fits
@@ -60,8 +60,8 @@ returns-2 c =
     λ ts ready. uninformed (c .uninformed2 .ensures) (at-enum-told2 .enum-told2 .given .1) (skim-then (at-to-semantics .to-semantics .ensures ts ready) _ (at-r .r .given .1) (λ a. skim-refused
     (at-model .model .ensures ts (accepted (at-r .r .given .1) (at-to-semantics .to-semantics .ensures ts ready) .took .ready)) _ (at-enum-told2 .enum-told2 .given .1)))
 
-kind-requires-2 : tie.Need-kind-requires-2
-kind-requires-2 c κs =
+number-requires-2 : tie.Need-number-requires-2
+number-requires-2 c κs =
     let at-model = c .before .before .before in
     let at-r = at-model .before .before .before in
     let at-to-semantics = at-r .before .before in
@@ -108,8 +108,8 @@ returns-3 c =
     .ensures ts (accepted (at-p .p .given .1) (at-model .model .ensures ts (accepted (at-r .r .given .1) (at-to-semantics .to-semantics .ensures ts ready) .took .ready)) .took .ready)) _
     (at-enum-told3 .enum-told3 .given .1))))
 
-kind-requires-3 : tie.Need-kind-requires-3
-kind-requires-3 c κs =
+number-requires-3 : tie.Need-number-requires-3
+number-requires-3 c κs =
     let at-to-target = c .before .before .before in
     let at-p = at-to-target .before .before .before in
     let at-model = at-p .before .before in
@@ -182,15 +182,15 @@ sub-t14 : tie.Need-sub-t14
 sub-t14 c =
     let at-p = c .before .before .before .before .before .before .before .before .before .before .before in
     let at-model = at-p .before .before in
-    let at-kind = at-model .before in
-    let at-r = at-kind .before .before in
+    let at-number = at-model .before in
+    let at-r = at-number .before .before in
     let at-to-semantics = at-r .before .before in
     let start = at-to-semantics .before .before in
     let z = start .pre in
     omega (
       arith,
-      at-kind .kind .ensures,
-      model-kind
+      at-number .number .ensures,
+      model-number
           (accepted (at-r .r .given .1)
           (at-to-semantics .to-semantics .ensures (z .tokens)
           (z .ready)) .took .ready) (accepted (at-p .p .given .1)
@@ -203,8 +203,8 @@ sub-t14 c =
 sub-t15 : tie.Need-sub-t15
 sub-t15 c =
     let at-closing = c .before .before in
-    let at-kind3 = at-closing .before .before in
-    let at-q = at-kind3 .before .before in
+    let at-number3 = at-closing .before .before in
+    let at-q = at-number3 .before .before in
     let at-to-target = at-q .before .before in
     let at-p = at-to-target .before .before .before in
     let at-model = at-p .before .before in
@@ -214,8 +214,8 @@ sub-t15 c =
     let z = start .pre in
     omega (
       arith,
-      at-kind3 .kind3 .ensures,
-      closing-kind
+      at-number3 .number3 .ensures,
+      closing-number
           (accepted (at-q .q .given .1)
           (at-to-target .to-target .ensures (z .tokens)
           (accepted (at-p .p .given .1)
@@ -236,20 +236,20 @@ returns-5 : tie.Need-returns-5
 returns-5 c =
     let at-closing = c .before .before in
     let at-place = at-closing .before in
-    let at-kind3 = at-place .before in
-    let at-q = at-kind3 .before .before in
+    let at-number3 = at-place .before in
+    let at-q = at-number3 .before .before in
     let at-to-target = at-q .before .before in
-    let at-kind2 = at-to-target .before in
-    let at-p = at-kind2 .before .before in
+    let at-number2 = at-to-target .before in
+    let at-p = at-number2 .before .before in
     let at-model = at-p .before .before in
-    let at-kind = at-model .before in
-    let at-r = at-kind .before .before in
+    let at-number = at-model .before in
+    let at-r = at-number .before .before in
     let at-to-semantics = at-r .before .before in
     λ ts ready. informed (at-to-semantics .to-semantics .ensures ts ready) (at-r .r .given .1) (at-model .model .ensures ts (accepted (at-r .r .given .1) (at-to-semantics .to-semantics .ensures ts
     ready) .took .ready)) (at-p .p .given .1) (at-to-target .to-target .ensures ts (accepted (at-p .p .given .1) (at-model .model .ensures ts (accepted (at-r .r .given .1) (at-to-semantics
     .to-semantics .ensures ts ready) .took .ready)) .took .ready)) (at-q .q .given .1) (at-closing .closing .ensures ts (accepted (at-q .q .given .1) (at-to-target .to-target .ensures ts (accepted
     (at-p .p .given .1) (at-model .model .ensures ts (accepted (at-r .r .given .1) (at-to-semantics .to-semantics .ensures ts ready) .took .ready)) .took .ready)) .took .ready)) (c .enum-told4
-    .given .1) (at-kind .kind .ensures) (ap (λ n. eqb n (fixed ",")) (at-kind2 .kind2 .ensures)) (at-kind3 .kind3 .ensures) (at-place .place .ensures) refl refl
+    .given .1) (at-number .number .ensures) (ap (λ n. eqb n (fixed ",")) (at-number2 .number2 .ensures)) (at-number3 .number3 .ensures) (at-place .place .ensures) refl refl
 
 pub information-spec : {M : Type 1} → statement M
 information-spec =
@@ -260,19 +260,19 @@ information-spec =
     enum-told
     uninformed-requires
     returns
-    kind-requires
+    number-requires
     model-requires
     enum-known-p
     enum-told-2
     uninformed-requires-2
     returns-2
-    kind-requires-2
+    number-requires-2
     to-target-requires
     enum-known-q
     enum-told-3
     uninformed-requires-3
     returns-3
-    kind-requires-3
+    number-requires-3
     place-requires
     closing-requires
     enum-told-4

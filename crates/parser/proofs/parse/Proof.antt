@@ -113,8 +113,8 @@ returns-3 c =
     (info-ready (start .pre .fits) tells (passed _ _ _ (at-expect .expect .ensures) (at-r .r .given .1)) (at-information .information .ensures ts (first-ready (start .pre .fits) tells (passed _ _
     _ (at-expect .expect .ensures) (at-r .r .given .1)))) (at-p .p .given .1)))) (c .refused3 .ensures) (at-enum-told3 .enum-told3 .given .1)
 
-kind-requires : tie.Need-kind-requires
-kind-requires c κs =
+number-requires : tie.Need-number-requires
+number-requires c κs =
     let at-q = c .before .before in
     let at-sections = at-q .before .before .before .before in
     let at-p = at-sections .before .before .before in
@@ -151,8 +151,8 @@ same-length-4 c = search needs
 returns-4 : tie.Need-returns-4
 returns-4 c =
     let at-if1 = c .before .before .before in
-    let at-kind = at-if1 .before in
-    let at-q = at-kind .before .before .before in
+    let at-number = at-if1 .before in
+    let at-q = at-number .before .before .before in
     let at-sections = at-q .before .before .before .before in
     let at-p = at-sections .before .before .before in
     let at-information = at-p .before .before .before in
@@ -162,7 +162,7 @@ returns-4 c =
     λ ts tells. outlined-refused (not-end (start .pre .fits) tells (passed _ _ _ (at-expect .expect .ensures) (at-r .r .given .1)) (at-information .information .ensures ts (first-ready (start .pre
     .fits) tells (passed _ _ _ (at-expect .expect .ensures) (at-r .r .given .1)))) (at-p .p .given .1) (at-sections .sections .ensures ts (info-ready (start .pre .fits) tells (passed _ _ _
     (at-expect .expect .ensures) (at-r .r .given .1)) (at-information .information .ensures ts (first-ready (start .pre .fits) tells (passed _ _ _ (at-expect .expect .ensures) (at-r .r .given
-    .1)))) (at-p .p .given .1))) (at-q .q .given .1) (λ e. at-if1 .if1 .taken (at-kind .kind .ensures ∙ e))) (all-kept (start .pre .fits) tells (passed _ _ _ (at-expect .expect .ensures) (at-r .r
+    .1)))) (at-p .p .given .1))) (at-q .q .given .1) (λ e. at-if1 .if1 .taken (at-number .number .ensures ∙ e))) (all-kept (start .pre .fits) tells (passed _ _ _ (at-expect .expect .ensures) (at-r .r
     .given .1)) (at-information .information .ensures ts (first-ready (start .pre .fits) tells (passed _ _ _ (at-expect .expect .ensures) (at-r .r .given .1)))) (at-p .p .given .1) (at-sections
     .sections .ensures ts (info-ready (start .pre .fits) tells (passed _ _ _ (at-expect .expect .ensures) (at-r .r .given .1)) (at-information .information .ensures ts (first-ready (start .pre
     .fits) tells (passed _ _ _ (at-expect .expect .ensures) (at-r .r .given .1)))) (at-p .p .given .1)))) (c .refused4 .ensures) (c .before .refuse .ensures)
@@ -182,7 +182,7 @@ returns-5 c =
     λ ts tells. outlined (start .pre .fits) tells (passed _ _ _ (at-expect .expect .ensures) (at-r .r .given .1)) (at-information .information .ensures ts (first-ready (start .pre .fits) tells
     (passed _ _ _ (at-expect .expect .ensures) (at-r .r .given .1)))) (at-p .p .given .1) (at-sections .sections .ensures ts (info-ready (start .pre .fits) tells (passed _ _ _ (at-expect .expect
     .ensures) (at-r .r .given .1)) (at-information .information .ensures ts (first-ready (start .pre .fits) tells (passed _ _ _ (at-expect .expect .ensures) (at-r .r .given .1)))) (at-p .p .given
-    .1))) (at-q .q .given .1) (sym (c .before .kind .ensures) ∙ c .if1 .left) refl
+    .1))) (at-q .q .given .1) (sym (c .before .number .ensures) ∙ c .if1 .left) refl
 
 pub parse-spec : {M : Type 1} → statement M
 parse-spec =
@@ -206,7 +206,7 @@ parse-spec =
     refused-requires-3
     same-length-3
     returns-3
-    kind-requires
+    number-requires
     refuse-requires
     refused-requires-4
     same-length-4

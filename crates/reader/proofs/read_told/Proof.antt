@@ -1,32 +1,14 @@
 -- `read_told` meets its contract: 17, or the answer on the text with the work buffer cleared.
 use native.Mathlib.Omega.{arith}
-use Rattle.reader.specs.Telling.{told-short, told-long}
+use Rattle.reader.specs.TellingLaws.{told-short, told-long}
 use borrow.Author.Needs.{needs}
 use Rattle.reader.proofs.read_told.Statement.{statement}
 use Rattle.reader.proofs.read_told.Tie as tie
-
-untold-requires : tie.Need-untold-requires
-untold-requires c κs = search needs
 
 returns : tie.Need-returns
 returns c =
     let if1-at = c .before in
     told-short _ (omega (arith, if1-at .if1 .taken)) (c .untold .ensures)
-
-answer-requires : tie.Need-answer-requires
-answer-requires c κs = search needs
-
-clear-requires : tie.Need-clear-requires
-clear-requires c κs = search needs
-
-same-length : tie.Need-same-length
-same-length c = search needs
-
-same-length-2 : tie.Need-same-length-2
-same-length-2 c = search needs
-
-same-length-3 : tie.Need-same-length-3
-same-length-3 c = search needs
 
 returns-2 : tie.Need-returns-2
 returns-2 c =
@@ -39,11 +21,11 @@ pub read-told-spec : {M : Type 1} → statement M
 read-told-spec =
     tie.close
     (tie.spec
-    untold-requires
+    (λ c κs. search needs)
     returns
-    answer-requires
-    clear-requires
-    same-length
-    same-length-2
-    same-length-3
+    (λ c κs. search needs)
+    (λ c κs. search needs)
+    (λ c. search needs)
+    (λ c. search needs)
+    (λ c. search needs)
     returns-2)

@@ -1,6 +1,6 @@
 -- One entry: an expression's part is pushed in place of its operands, a line takes them away.
 use native.Mathlib.Omega.{arith}
-use Rattle.types.specs.Progress.{passes-part, passes-line}
+use Rattle.types.specs.ProgressLaws.{passes-part, passes-line}
 use borrow.Author.Needs.{needs}
 use Rattle.types.proofs.pass.Statement.{statement}
 use Rattle.types.proofs.pass.Tie as tie
@@ -14,8 +14,8 @@ operand-count-requires c κs = search needs
 less-requires : tie.Need-less-requires
 less-requires c κs = search needs
 
-kind-at-requires : tie.Need-kind-at-requires
-kind-at-requires c κs = search needs
+type-at-requires : tie.Need-type-at-requires
+type-at-requires c κs = search needs
 
 place-of-requires : tie.Need-place-of-requires
 place-of-requires c κs = search needs
@@ -46,17 +46,17 @@ define-requires c κs =
 gives-of-requires : tie.Need-gives-of-requires
 gives-of-requires c κs = search needs
 
-mul-kinds : tie.Need-mul-kinds
-mul-kinds c =
+mul-types : tie.Need-mul-types
+mul-types c =
     let at-less = c .before .before .before .before .before .before .before .before .before .before .before .before .before .before .before .before .before .before .before in
     let start = at-less .before .before .before .before .before .before .before .before in
     omega (arith, (at-less .less) .ensures, start .pre .0 .few, start .pre .1)
 
-slice-write-kinds : tie.Need-slice-write-kinds
-slice-write-kinds c =
+slice-write-types : tie.Need-slice-write-types
+slice-write-types c =
     let at-less = c .before .before .before .before .before .before .before .before .before .before .before .before .before .before .before .before .before .before .before in
     let start = at-less .before .before .before .before .before .before .before .before in
-    omega (arith, (at-less .less) .ensures, start .pre .0 .few, start .pre .1, start .pre .0 .kinds)
+    omega (arith, (at-less .less) .ensures, start .pre .0 .few, start .pre .1, start .pre .0 .types)
 
 start-of-requires : tie.Need-start-of-requires
 start-of-requires c κs = search needs
@@ -99,12 +99,12 @@ returns c =
     let at-first-of2 = at-indexed .before in
     let at-first-of = at-first-of2 .before .before in
     let at-place-of = at-first-of .before .before in
-    let at-kind-at = at-place-of .before in
-    let at-less = at-kind-at .before .before in
+    let at-type-at = at-place-of .before in
+    let at-less = at-type-at .before .before in
     let at-operand-count = at-less .before in
     let at-named-cell = at-operand-count .before in
     let start = at-named-cell .before .before .before .before .before .before in
-    passes-part (start .pre .0) (start .pre .1) ((at-named-cell .named-cell) .ensures .0) ((at-operand-count .operand-count) .ensures) ((at-less .less) .ensures) ((at-kind-at .kind-at) .ensures)
+    passes-part (start .pre .0) (start .pre .1) ((at-named-cell .named-cell) .ensures .0) ((at-operand-count .operand-count) .ensures) ((at-less .less) .ensures) ((at-type-at .type-at) .ensures)
     ((at-place-of .place-of) .ensures) ((at-first-of .first-of) .ensures) ((at-first-of2 .first-of2) .ensures) ((at-indexed .indexed) .ensures) ((at-wrong-at .wrong-at) .ensures)
     ((at-first .first) .ensures) ((at-first2 .first2) .ensures) ((at-define .define) .ensures) ((at-if1 .if1) .taken) ((c .before .gives-of) .ensures) ((c .start-of) .ensures)
 
@@ -127,12 +127,12 @@ returns-2 c =
     let at-first-of2 = at-indexed .before in
     let at-first-of = at-first-of2 .before .before in
     let at-place-of = at-first-of .before .before in
-    let at-kind-at = at-place-of .before in
-    let at-less = at-kind-at .before .before in
+    let at-type-at = at-place-of .before in
+    let at-less = at-type-at .before .before in
     let at-operand-count = at-less .before in
     let at-named-cell = at-operand-count .before in
     let start = at-named-cell .before .before .before .before .before .before in
-    passes-line (start .pre .0) (start .pre .1) ((at-named-cell .named-cell) .ensures .0) ((at-operand-count .operand-count) .ensures) ((at-less .less) .ensures) ((at-kind-at .kind-at) .ensures)
+    passes-line (start .pre .0) (start .pre .1) ((at-named-cell .named-cell) .ensures .0) ((at-operand-count .operand-count) .ensures) ((at-less .less) .ensures) ((at-type-at .type-at) .ensures)
     ((at-place-of .place-of) .ensures) ((at-first-of .first-of) .ensures) ((at-first-of2 .first-of2) .ensures) ((at-indexed .indexed) .ensures) ((at-wrong-at .wrong-at) .ensures)
     ((at-first .first) .ensures) ((at-first2 .first2) .ensures) ((at-define .define) .ensures) ((c .if1) .left)
 
@@ -143,7 +143,7 @@ pass-spec =
     named-cell-requires
     operand-count-requires
     less-requires
-    kind-at-requires
+    type-at-requires
     place-of-requires
     first-of-requires
     first-of-requires-2
@@ -153,8 +153,8 @@ pass-spec =
     first-requires-2
     define-requires
     gives-of-requires
-    mul-kinds
-    slice-write-kinds
+    mul-types
+    slice-write-types
     start-of-requires
     mul-starts
     slice-write-starts

@@ -4,15 +4,16 @@ use mathlib.Core.Path.{refl}
 use native.Mathlib.Omega.{arith}
 use borrow.Author.Needs.{needs}
 use Rattle.traversal.specs.Places.{placed}
-use Rattle.types.specs.Running.{Ran, ran-none, ran-more, ran-all}
+use Rattle.types.specs.Running.{Ran}
+use Rattle.types.specs.RunningLaws.{ran-none, ran-more, ran-all}
 use Rattle.types.proofs.wrong_type.Statement.{statement}
 use Rattle.types.proofs.wrong_type.Tie as tie
 
 abbrev Inv-loop : tie.InvT-loop
-Inv-loop work refs entries kinds₀ starts₀ table₀ p₀ i₀ kinds starts table p i = Ran refs work entries i p kinds starts table
+Inv-loop work refs entries types₀ starts₀ table₀ p₀ i₀ types starts table p i = Ran refs work entries i p types starts table
 
 abbrev μ-loop : tie.MeasureT-loop
-μ-loop work refs entries kinds₀ starts₀ table₀ p₀ i₀ kinds starts table p i = entries - i
+μ-loop work refs entries types₀ starts₀ table₀ p₀ i₀ types starts table p i = entries - i
 
 slice-aggregate-declare-all : tie.Need-slice-aggregate-declare-all Inv-loop μ-loop
 slice-aggregate-declare-all c = search needs

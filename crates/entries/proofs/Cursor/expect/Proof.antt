@@ -8,8 +8,8 @@ use Rattle.entries.specs.CursorLaws.{before-end, expected-here, expected
 use Rattle.entries.proofs.Cursor.expect.Statement.{statement}
 use Rattle.entries.proofs.Cursor.expect.Tie as tie
 
-kind-requires : tie.Need-kind-requires
-kind-requires c κs = search needs
+number-requires : tie.Need-number-requires
+number-requires c κs = search needs
 
 next-requires : tie.Need-next-requires
 next-requires c κs =
@@ -19,7 +19,7 @@ next-requires c κs =
 returns : tie.Need-returns
 returns c =
     let start = c .before .before .before .before in
-    ap Parsed (c .next .ensures) ∙ sym (expected-here (now (start .args .work)) (start .args .self) (start .args .kind) (omega arith))
+    ap Parsed (c .next .ensures) ∙ sym (expected-here (now (start .args .work)) (start .args .self) (start .args .number) (omega arith))
 
 refuse-requires : tie.Need-refuse-requires
 refuse-requires c κs = search needs
@@ -27,7 +27,7 @@ refuse-requires c κs = search needs
 returns-2 : tie.Need-returns-2
 returns-2 c =
     let start = c .before .before .before .before in
-    c .refuse .ensures ∙ sym (expected-not (now (start .args .work)) (start .args .self) (start .args .kind) (omega arith))
+    c .refuse .ensures ∙ sym (expected-not (now (start .args .work)) (start .args .self) (start .args .number) (omega arith))
 
 pub expect-spec : {M : Type 1} → statement M
-expect-spec = tie.close (tie.spec kind-requires next-requires returns refuse-requires returns-2)
+expect-spec = tie.close (tie.spec number-requires next-requires returns refuse-requires returns-2)

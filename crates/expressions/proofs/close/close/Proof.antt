@@ -6,7 +6,7 @@ use mathlib.Core.Path.{_≡_, sym, ap, _∙_}
 use denote.Ref.{now}
 use Rattle.language.specs.Limits.{maxTokens}
 use Rattle.lexer.specs.Numbers.{fixed}
-use Rattle.entries.specs.Cursors.{kindAt}
+use Rattle.entries.specs.Cursors.{numberAt}
 use Rattle.entries.specs.CursorLaws.{before-end}
 use Rattle.expressions.specs.Classes.{Round, Bars, Square, Last, classNumber}
 use Rattle.expressions.specs.Stack.{slotClass, topSlot}
@@ -16,20 +16,20 @@ use Rattle.expressions.proofs.close.close.Statement.{statement}
 use Rattle.expressions.proofs.close.close.Tie as tie
 
 -- the entry; the class of the last frame and the next token's number there
-abbrev entry : tie.After-kind → tie.Start
+abbrev entry : tie.After-number → tie.Start
 entry at = at .before .before .before .before .before .before
 
-abbrev class : tie.After-kind → ℕ
+abbrev class : tie.After-number → ℕ
 class at = slotClass (topSlot (now (entry at .args .work)) (entry at .args .m .depth))
 
-abbrev sign : tie.After-kind → ℕ
-sign at = kindAt (now (entry at .args .work)) (entry at .args .m .c)
+abbrev sign : tie.After-number → ℕ
+sign at = numberAt (now (entry at .args .work)) (entry at .args .m .c)
 
-class-read : (at : tie.After-kind) → class at ≡ slotClass ((at .before .before .top) .result)
+class-read : (at : tie.After-number) → class at ≡ slotClass ((at .before .before .top) .result)
 class-read at = ap slotClass (sym ((at .before .before .top) .ensures))
 
 -- a token that is not the text's end may be passed
-passed : (at : tie.After-kind) → 0 < sign at → (entry at .args .m .c) .at < maxTokens
+passed : (at : tie.After-number) → 0 < sign at → (entry at .args .m .c) .at < maxTokens
 passed at l = omega (arith, before-end (now (entry at .args .work)) (entry at .args .m .c) l, complete-fits (entry at .pre .0 .state) .few)
 
 -- the class and the sign, as each test leaves them
@@ -37,50 +37,50 @@ is-round : (at : tie.Then1) → class (at .before) ≡ classNumber Round
 is-round at = class-read (at .before) ∙ (at .if1) .taken
 
 closed-round : (at : tie.Then2) → sign (at .before .before) ≡ fixed ")"
-closed-round at = sym ((at .before .before .kind) .ensures) ∙ (at .if2) .taken
+closed-round at = sym ((at .before .before .number) .ensures) ∙ (at .if2) .taken
 
 open-round : (at : tie.Else2) → sign (at .before .before) ≡ fixed ")" → ⊥
-open-round at e = (at .if2) .left ((at .before .before .kind) .ensures ∙ e)
+open-round at e = (at .if2) .left ((at .before .before .number) .ensures ∙ e)
 
 is-bars : (at : tie.Then3) → class (at .before .before) ≡ classNumber Bars
 is-bars at = class-read (at .before .before) ∙ (at .if3) .taken
 
 closed-bars : (at : tie.Then4) → sign (at .before .before .before) ≡ fixed "|"
-closed-bars at = sym ((at .before .before .before .kind) .ensures) ∙ (at .if4) .taken
+closed-bars at = sym ((at .before .before .before .number) .ensures) ∙ (at .if4) .taken
 
 open-bars : (at : tie.Else4) → sign (at .before .before .before) ≡ fixed "|" → ⊥
-open-bars at e = (at .if4) .left ((at .before .before .before .kind) .ensures ∙ e)
+open-bars at e = (at .if4) .left ((at .before .before .before .number) .ensures ∙ e)
 
 is-square : (at : tie.Then5) → class (at .before .before .before) ≡ classNumber Square
 is-square at = class-read (at .before .before .before) ∙ (at .if5) .taken
 
 closed-square : (at : tie.Then6) → sign (at .before .before .before .before) ≡ fixed "]"
-closed-square at = sym ((at .before .before .before .before .kind) .ensures) ∙ (at .if6) .taken
+closed-square at = sym ((at .before .before .before .before .number) .ensures) ∙ (at .if6) .taken
 
 open-square : (at : tie.Else6) → sign (at .before .before .before .before) ≡ fixed "]" → ⊥
-open-square at e = (at .if6) .left ((at .before .before .before .before .kind) .ensures ∙ e)
+open-square at e = (at .if6) .left ((at .before .before .before .before .number) .ensures ∙ e)
 
 is-last : (at : tie.Else5) → class (at .before .before .before) ≡ classNumber Last
 is-last at =
-    let at-kind = at .before .before .before in
-    let low = entry at-kind .pre .2 in
-    let high = entry at-kind .pre .3 in
-    let e = class-read at-kind in
+    let at-number = at .before .before .before in
+    let low = entry at-number .pre .2 in
+    let high = entry at-number .pre .3 in
+    let e = class-read at-number in
     omega arith
 
 closed-last : (at : tie.Then7) → sign (at .before .before .before .before) ≡ fixed "}"
-closed-last at = sym ((at .before .before .before .before .kind) .ensures) ∙ (at .if7) .taken
+closed-last at = sym ((at .before .before .before .before .number) .ensures) ∙ (at .if7) .taken
 
 open-last : (at : tie.Else7) → sign (at .before .before .before .before) ≡ fixed "}" → ⊥
-open-last at e = (at .if7) .left ((at .before .before .before .before .kind) .ensures ∙ e)
+open-last at e = (at .if7) .left ((at .before .before .before .before .number) .ensures ∙ e)
 
 top-requires : tie.Need-top-requires
 top-requires c κs =
     let start = c .before .before .before in
     complete-tops (start .pre .0 .state) (λ e. omega (arith, start .pre .1))
 
-kind-requires : tie.Need-kind-requires
-kind-requires c κs =
+number-requires : tie.Need-number-requires
+number-requires c κs =
     let start = c .before .before .before .before .before in
     complete-fits (start .pre .0 .state)
 
@@ -245,7 +245,7 @@ close-spec =
     tie.close
     (tie.spec
     top-requires
-    kind-requires
+    number-requires
     next-requires
     build-requires
     same-length

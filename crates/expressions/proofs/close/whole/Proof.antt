@@ -7,7 +7,7 @@ use denote.Ref.{now}
 use Rattle.expressions.specs.Classes.{Right, Sole, Stepped, Within, Cons, Over, classNumber}
 use Rattle.expressions.specs.Stack.{slotClass, topSlot}
 use Rattle.expressions.specs.CompleteLaws.{complete-tops, class-some}
-use Rattle.expressions.specs.Wholes.{built-stepped, built-cons, built-right, built-sole, built-within, built-over}
+use Rattle.expressions.specs.WholeLaws.{built-stepped, built-cons, built-right, built-sole, built-within, built-over}
 use Rattle.expressions.proofs.close.whole.Statement.{statement}
 use Rattle.expressions.proofs.close.whole.Tie as tie
 

@@ -3,11 +3,11 @@ use borrow.Author.Needs.{needs}
 use native.Mathlib.Omega.{arith}
 use mathlib.Core.Path.{_≡_, sym, ap, _∙_}
 use denote.Ref.{now}
-use mathlib.Core.Bool.{true, false}
+use mathlib.Core.Bool.{true}
 use borrow.Author.Tests.{not-true, not-false}
 use Rattle.language.specs.Tokens.{Name}
 use Rattle.lexer.specs.Numbers.{classNumber as tokenNumber}
-use Rattle.entries.specs.Cursors.{kindAt, nextOf}
+use Rattle.entries.specs.Cursors.{numberAt, nextOf}
 use Rattle.expressions.specs.Signs.{signAt}
 use Rattle.expressions.specs.CompleteLaws.{complete-tops, complete-fits}
 use Rattle.expressions.specs.BoundStarts.{turn-no-low, low-inside, low-fits, turn-no-name, name-inside, name-fits, turn-no-high, high-inside, bound-push, bound-second, turn-bound}
@@ -25,28 +25,28 @@ abbrev from-high : tie.After-sign2 → tie.Start
 from-high at = from-name (at .before .before .before .before)
 
 -- what the tests said of the three tokens
-low-sign : (at : tie.After-sign) → signAt (kindAt (now (from-low at .args .work)) (from-low at .args .m .c)) ≡ (at .sign) .result
-low-sign at = ap signAt (sym ((at .before .kind) .ensures)) ∙ sym ((at .sign) .ensures)
+low-sign : (at : tie.After-sign) → signAt (numberAt (now (from-low at .args .work)) (from-low at .args .m .c)) ≡ (at .sign) .result
+low-sign at = ap signAt (sym ((at .before .number) .ensures)) ∙ sym ((at .sign) .ensures)
 
-low-here : (at : tie.Else1) → signAt (kindAt (now (from-low (at .before) .args .work)) (from-low (at .before) .args .m .c)) ≡ true
+low-here : (at : tie.Else1) → signAt (numberAt (now (from-low (at .before) .args .work)) (from-low (at .before) .args .m .c)) ≡ true
 low-here at = low-sign (at .before) ∙ not-false _ ((at .if1) .left)
 
-name-here : (at : tie.Else2) → kindAt (now (from-name at .args .work)) (nextOf (from-name at .args .m .c)) ≡ tokenNumber Name
+name-here : (at : tie.Else2) → numberAt (now (from-name at .args .work)) (nextOf (from-name at .args .m .c)) ≡ tokenNumber Name
 name-here at =
     let next = at .before .before .before .next in
-    ap (kindAt (now (from-name at .args .work))) (sym (next .ensures)) ∙ sym ((at .before .kind2) .ensures) ∙ (at .if2) .left
+    ap (numberAt (now (from-name at .args .work))) (sym (next .ensures)) ∙ sym ((at .before .number2) .ensures) ∙ (at .if2) .left
 
-high-sign : (at : tie.After-sign2) → signAt (kindAt (now (from-high at .args .work)) (nextOf (nextOf (from-high at .args .m .c)))) ≡ (at .sign2) .result
+high-sign : (at : tie.After-sign2) → signAt (numberAt (now (from-high at .args .work)) (nextOf (nextOf (from-high at .args .m .c)))) ≡ (at .sign2) .result
 high-sign at =
     let next2 = at .before .before .before .next2 in
     let next = at .before .before .before .before .before .before .before .next in
-    ap signAt (ap (kindAt (now (from-high at .args .work))) (sym (next2 .ensures ∙ ap nextOf (next .ensures))) ∙ sym ((at .before .kind3) .ensures)) ∙ sym ((at .sign2) .ensures)
+    ap signAt (ap (numberAt (now (from-high at .args .work))) (sym (next2 .ensures ∙ ap nextOf (next .ensures))) ∙ sym ((at .before .number3) .ensures)) ∙ sym ((at .sign2) .ensures)
 
-high-here : (at : tie.Else3) → signAt (kindAt (now (from-high (at .before) .args .work)) (nextOf (nextOf (from-high (at .before) .args .m .c)))) ≡ true
+high-here : (at : tie.Else3) → signAt (numberAt (now (from-high (at .before) .args .work)) (nextOf (nextOf (from-high (at .before) .args .m .c)))) ≡ true
 high-here at = high-sign (at .before) ∙ not-false _ ((at .if3) .left)
 
-kind-requires : tie.Need-kind-requires
-kind-requires c κs =
+number-requires : tie.Need-number-requires
+number-requires c κs =
     let start = c .before .before .before in
     complete-fits (start .pre .0 .state)
 
@@ -73,8 +73,8 @@ next-requires c κs =
     let i = low-inside (start .pre .0 .state) (start .pre .1) (start .pre .2) (low-here c) in
     omega (arith, complete-fits (start .pre .0 .state) .few)
 
-kind-requires-2 : tie.Need-kind-requires-2
-kind-requires-2 c κs =
+number-requires-2 : tie.Need-number-requires-2
+number-requires-2 c κs =
     let at-if1 = c .before .before in
     let start = from-low (at-if1 .before) in
     rw ((c .before .next) .ensures) (low-fits (start .pre .0 .state) (start .pre .1) (start .pre .2) (low-here at-if1))
@@ -90,12 +90,12 @@ same-length-2 c = search needs
 
 returns-2 : tie.Need-returns-2
 returns-2 c =
-    let at-kind2 = c .before .before .before in
-    let at-next = at-kind2 .before .before in
+    let at-number2 = c .before .before .before in
+    let at-next = at-number2 .before .before in
     let start = from-low (at-next .before .before) in
     λ ts s x h. rw ((c .refuse2) .ensures, (at-next .next) .ensures)
     (turn-no-name h (start .pre .1) (start .pre .2) (low-here (at-next .before))
-    (λ z. let q : (at-kind2 .kind2) .result ≡ tokenNumber Name = (at-kind2 .kind2) .ensures ∙ ap (kindAt (now (start .args .work))) ((at-next .next) .ensures) ∙ z in omega arith))
+    (λ z. let q : (at-number2 .number2) .result ≡ tokenNumber Name = (at-number2 .number2) .ensures ∙ ap (numberAt (now (start .args .work))) ((at-next .next) .ensures) ∙ z in omega arith))
 
 next-requires-2 : tie.Need-next-requires-2
 next-requires-2 c κs =
@@ -104,8 +104,8 @@ next-requires-2 c κs =
     let i = name-inside (start .pre .0 .state) (start .pre .1) (start .pre .2) (low-here (at-next .before)) (name-here c) in
     rw ((at-next .next) .ensures) (omega (arith, complete-fits (start .pre .0 .state) .few))
 
-kind-requires-3 : tie.Need-kind-requires-3
-kind-requires-3 c κs =
+number-requires-3 : tie.Need-number-requires-3
+number-requires-3 c κs =
     let at-if2 = c .before .before in
     let at-next = at-if2 .before .before .before in
     let start = from-name at-if2 in
@@ -215,18 +215,18 @@ pub low-spec : {M : Type 1} → statement M
 low-spec =
     tie.close
     (tie.spec
-    kind-requires
+    number-requires
     sign-requires
     refuse-requires
     same-length
     returns
     next-requires
-    kind-requires-2
+    number-requires-2
     refuse-requires-2
     same-length-2
     returns-2
     next-requires-2
-    kind-requires-3
+    number-requires-3
     sign-requires-2
     refuse-requires-3
     same-length-3

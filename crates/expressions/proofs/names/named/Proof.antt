@@ -3,9 +3,9 @@ use borrow.Author.Needs.{needs}
 use native.Mathlib.Omega.{arith}
 use mathlib.Core.Path.{_≡_, sym, _∙_}
 use Rattle.lexer.specs.Numbers.{fixed}
-use Rattle.entries.specs.Cursors.{kindAt, emittedOf}
+use Rattle.entries.specs.Cursors.{numberAt, emittedOf}
 use Rattle.entries.specs.CursorLaws.{before-end}
-use Rattle.expressions.specs.NameStates.{namedIn, ranged-tops, ranged-grows, named-fits, comma-inside, names-further, turn-further, turn-operand, turn-unnamed}
+use Rattle.expressions.specs.NameStateLaws.{namedIn, ranged-tops, ranged-grows, named-fits, comma-inside, names-further, turn-further, turn-operand, turn-unnamed}
 use Rattle.expressions.proofs.names.named.Statement.{statement}
 use Rattle.expressions.proofs.names.named.Tie as tie
 
@@ -23,8 +23,8 @@ grow-requires c κs =
     let start = at-top .before .before .before in
     rw ((c .binder-kind) .ensures, (at-top .top) .ensures) (ranged-grows (start .pre .state))
 
-kind-requires : tie.Need-kind-requires
-kind-requires c κs =
+number-requires : tie.Need-number-requires
+number-requires c κs =
     let at-grow = c .before .before .before in
     let at-binder-kind = at-grow .before in
     let at-top = at-binder-kind .before .before in
@@ -34,28 +34,28 @@ kind-requires c κs =
 
 next-requires : tie.Need-next-requires
 next-requires c κs =
-    let at-kind = c .before .before in
-    let at-grow = at-kind .before .before .before .before in
+    let at-number = c .before .before in
+    let at-grow = at-number .before .before .before .before in
     let at-binder-kind = at-grow .before in
     let at-top = at-binder-kind .before .before in
     let start = at-top .before .before .before in
-    let k : kindAt (namedIn (start .pre .state)) (emittedOf (start .args .c)) ≡ fixed "," =
-    (let q : (at-kind .kind) .result ≡ fixed "," = omega arith in sym (rw ((at-grow .grow) .ensures .0, (at-grow .grow) .ensures .1, (at-binder-kind .binder-kind) .ensures, (at-top .top) .ensures) at
-    ((at-kind .kind) .ensures)) ∙ q) in let i = comma-inside (start .pre .state) k in rw ((at-grow .grow) .ensures .0) (omega (arith, named-fits (start .pre .state) .few))
+    let k : numberAt (namedIn (start .pre .state)) (emittedOf (start .args .c)) ≡ fixed "," =
+    (let q : (at-number .number) .result ≡ fixed "," = omega arith in sym (rw ((at-grow .grow) .ensures .0, (at-grow .grow) .ensures .1, (at-binder-kind .binder-kind) .ensures, (at-top .top) .ensures) at
+    ((at-number .number) .ensures)) ∙ q) in let i = comma-inside (start .pre .state) k in rw ((at-grow .grow) .ensures .0) (omega (arith, named-fits (start .pre .state) .few))
 
 cast-binder : tie.Need-cast-binder
 cast-binder c = omega arith
 
 binder-requires : tie.Need-binder-requires
 binder-requires c κs =
-    let at-kind = c .before .before .before in
-    let at-grow = at-kind .before .before .before .before in
+    let at-number = c .before .before .before in
+    let at-grow = at-number .before .before .before .before in
     let at-binder-kind = at-grow .before in
     let at-top = at-binder-kind .before .before in
     let start-2 = at-top .before .before .before in
-    let k : kindAt (namedIn (start-2 .pre .state)) (emittedOf (start-2 .args .c)) ≡ fixed "," =
-    (let q : (at-kind .kind) .result ≡ fixed "," = omega arith in sym (rw ((at-grow .grow) .ensures .0, (at-grow .grow) .ensures .1, (at-binder-kind .binder-kind) .ensures, (at-top .top) .ensures) at
-    ((at-kind .kind) .ensures)) ∙ q) in rw ((c .next) .ensures, (at-grow .grow) .ensures .0, (at-grow .grow) .ensures .1, (at-binder-kind .binder-kind) .ensures, (at-top .top) .ensures)
+    let k : numberAt (namedIn (start-2 .pre .state)) (emittedOf (start-2 .args .c)) ≡ fixed "," =
+    (let q : (at-number .number) .result ≡ fixed "," = omega arith in sym (rw ((at-grow .grow) .ensures .0, (at-grow .grow) .ensures .1, (at-binder-kind .binder-kind) .ensures, (at-top .top) .ensures) at
+    ((at-number .number) .ensures)) ∙ q) in rw ((c .next) .ensures, (at-grow .grow) .ensures .0, (at-grow .grow) .ensures .1, (at-binder-kind .binder-kind) .ensures, (at-top .top) .ensures)
     (record { tokens = start-2 .pre .tokens; start = start-2 .pre .start; answer = start-2 .pre .answer; state = names-further (start-2 .pre .state) k })
 
 same-length : tie.Need-same-length
@@ -65,14 +65,14 @@ returns : tie.Need-returns
 returns c =
     let at-binder = c .before .before in
     let at-next = at-binder .before in
-    let at-kind = at-next .before .before .before in
-    let at-grow = at-kind .before .before .before .before in
+    let at-number = at-next .before .before .before in
+    let at-grow = at-number .before .before .before .before in
     let at-binder-kind = at-grow .before in
     let at-top = at-binder-kind .before .before in
     let start = at-top .before .before .before in
-    λ ts s x h. let k : kindAt (namedIn h) (emittedOf (start .args .c)) ≡ fixed "," =
-    (let q : (at-kind .kind) .result ≡ fixed "," = omega arith in sym (rw ((at-grow .grow) .ensures .0, (at-grow .grow) .ensures .1, (at-binder-kind .binder-kind) .ensures, (at-top .top) .ensures) at
-    ((at-kind .kind) .ensures)) ∙ q) in turn-further h k (rw (
+    λ ts s x h. let k : numberAt (namedIn h) (emittedOf (start .args .c)) ≡ fixed "," =
+    (let q : (at-number .number) .result ≡ fixed "," = omega arith in sym (rw ((at-grow .grow) .ensures .0, (at-grow .grow) .ensures .1, (at-binder-kind .binder-kind) .ensures, (at-top .top) .ensures) at
+    ((at-number .number) .ensures)) ∙ q) in turn-further h k (rw (
       (at-next .next) .ensures,
       (at-grow .grow) .ensures .0,
       (at-grow .grow) .ensures .1,
@@ -94,14 +94,14 @@ prefix-requires c κs = search needs
 
 next-requires-2 : tie.Need-next-requires-2
 next-requires-2 c κs =
-    let at-kind = c .before .before .before .before .before in
-    let at-grow = at-kind .before .before .before .before in
+    let at-number = c .before .before .before .before .before in
+    let at-grow = at-number .before .before .before .before in
     let at-binder-kind = at-grow .before in
     let at-top = at-binder-kind .before .before in
     let start = at-top .before .before .before in
-    let k : kindAt (namedIn (start .pre .state)) (emittedOf (start .args .c)) ≡ fixed "]" =
-    (let q : (at-kind .kind) .result ≡ fixed "]" = omega arith in sym (rw ((at-grow .grow) .ensures .0, (at-grow .grow) .ensures .1, (at-binder-kind .binder-kind) .ensures, (at-top .top) .ensures) at
-    ((at-kind .kind) .ensures)) ∙ q) in let i = before-end (namedIn (start .pre .state)) (emittedOf (start .args .c)) (omega arith) in
+    let k : numberAt (namedIn (start .pre .state)) (emittedOf (start .args .c)) ≡ fixed "]" =
+    (let q : (at-number .number) .result ≡ fixed "]" = omega arith in sym (rw ((at-grow .grow) .ensures .0, (at-grow .grow) .ensures .1, (at-binder-kind .binder-kind) .ensures, (at-top .top) .ensures) at
+    ((at-number .number) .ensures)) ∙ q) in let i = before-end (namedIn (start .pre .state)) (emittedOf (start .args .c)) (omega arith) in
     rw ((at-grow .grow) .ensures .0) (omega (arith, named-fits (start .pre .state) .few))
 
 same-length-2 : tie.Need-same-length-2
@@ -110,14 +110,14 @@ same-length-2 c = search needs
 returns-2 : tie.Need-returns-2
 returns-2 c =
     let at-operator = c .before .before in
-    let at-kind = at-operator .before .before .before .before in
-    let at-grow = at-kind .before .before .before .before in
+    let at-number = at-operator .before .before .before .before in
+    let at-grow = at-number .before .before .before .before in
     let at-binder-kind = at-grow .before in
     let at-top = at-binder-kind .before .before in
     let start = at-top .before .before .before in
-    λ ts s x h. let k : kindAt (namedIn h) (emittedOf (start .args .c)) ≡ fixed "]" =
-    (let q : (at-kind .kind) .result ≡ fixed "]" = omega arith in sym (rw ((at-grow .grow) .ensures .0, (at-grow .grow) .ensures .1, (at-binder-kind .binder-kind) .ensures, (at-top .top) .ensures) at
-    ((at-kind .kind) .ensures)) ∙ q) in rw (
+    λ ts s x h. let k : numberAt (namedIn h) (emittedOf (start .args .c)) ≡ fixed "]" =
+    (let q : (at-number .number) .result ≡ fixed "]" = omega arith in sym (rw ((at-grow .grow) .ensures .0, (at-grow .grow) .ensures .1, (at-binder-kind .binder-kind) .ensures, (at-top .top) .ensures) at
+    ((at-number .number) .ensures)) ∙ q) in rw (
       (c .next2) .ensures,
       (c .before .prefix) .ensures,
       (at-operator .operator) .ensures,
@@ -126,8 +126,8 @@ returns-2 c =
       (at-binder-kind .binder-kind) .ensures,
       (at-top .top) .ensures,
     )
-    (turn-operand h (λ z. let q : (at-kind .kind) .result ≡ fixed "," = (rw ((at-grow .grow) .ensures .0, (at-grow .grow) .ensures .1, (at-binder-kind .binder-kind) .ensures, (at-top .top) .ensures) at
-    ((at-kind .kind) .ensures)) ∙ z in omega arith) k)
+    (turn-operand h (λ z. let q : (at-number .number) .result ≡ fixed "," = (rw ((at-grow .grow) .ensures .0, (at-grow .grow) .ensures .1, (at-binder-kind .binder-kind) .ensures, (at-top .top) .ensures) at
+    ((at-number .number) .ensures)) ∙ z in omega arith) k)
 
 refuse-requires : tie.Need-refuse-requires
 refuse-requires c κs =
@@ -143,14 +143,14 @@ same-length-3 c = search needs
 
 returns-3 : tie.Need-returns-3
 returns-3 c =
-    let at-kind = c .before .before .before .before in
-    let at-grow = at-kind .before .before .before .before in
+    let at-number = c .before .before .before .before in
+    let at-grow = at-number .before .before .before .before in
     let at-binder-kind = at-grow .before in
     let at-top = at-binder-kind .before .before in
     λ ts s x h. rw ((c .refuse) .ensures, (at-grow .grow) .ensures .0, (at-grow .grow) .ensures .1, (at-binder-kind .binder-kind) .ensures, (at-top .top) .ensures)
-    (turn-unnamed h (λ z. let q : (at-kind .kind) .result ≡ fixed "," = (rw ((at-grow .grow) .ensures .0, (at-grow .grow) .ensures .1, (at-binder-kind .binder-kind) .ensures, (at-top .top) .ensures) at
-    ((at-kind .kind) .ensures)) ∙ z in omega arith) (λ z. let q : (at-kind .kind) .result ≡ fixed "]" =
-    (rw ((at-grow .grow) .ensures .0, (at-grow .grow) .ensures .1, (at-binder-kind .binder-kind) .ensures, (at-top .top) .ensures) at ((at-kind .kind) .ensures)) ∙ z in omega arith))
+    (turn-unnamed h (λ z. let q : (at-number .number) .result ≡ fixed "," = (rw ((at-grow .grow) .ensures .0, (at-grow .grow) .ensures .1, (at-binder-kind .binder-kind) .ensures, (at-top .top) .ensures) at
+    ((at-number .number) .ensures)) ∙ z in omega arith) (λ z. let q : (at-number .number) .result ≡ fixed "]" =
+    (rw ((at-grow .grow) .ensures .0, (at-grow .grow) .ensures .1, (at-binder-kind .binder-kind) .ensures, (at-top .top) .ensures) at ((at-number .number) .ensures)) ∙ z in omega arith))
 
 pub named-spec : {M : Type 1} → statement M
 named-spec =
@@ -159,7 +159,7 @@ named-spec =
     top-requires
     binder-kind-requires
     grow-requires
-    kind-requires
+    number-requires
     next-requires
     cast-binder
     binder-requires

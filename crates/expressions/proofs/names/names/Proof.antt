@@ -5,7 +5,7 @@ use mathlib.Core.Path.{_≡_, sym, ap, _∙_}
 use Rattle.expressions.specs.Classes.{Bound, Upper, Member, classNumber}
 use Rattle.expressions.specs.Stack.{slotClass}
 use Rattle.expressions.specs.CompleteLaws.{complete-tops, class-few}
-use Rattle.expressions.specs.NameStarts.{names-member, turn-member, upper-index, upper-grows, names-upper, turn-upper}
+use Rattle.expressions.specs.NameStartLaws.{names-member, turn-member, upper-index, upper-grows, names-upper, turn-upper}
 use Rattle.expressions.proofs.names.names.Statement.{statement}
 use Rattle.expressions.proofs.names.names.Tie as tie
 

@@ -9,7 +9,7 @@ use Rattle.entries.specs.CursorLaws.{before-end}
 use Rattle.expressions.specs.Classes.{Count, Low, High, classNumber}
 use Rattle.expressions.specs.Stack.{slotClass}
 use Rattle.expressions.specs.CompleteLaws.{complete-tops, complete-fits}
-use Rattle.expressions.specs.Reopens.{turn-counted, turn-low, turn-high, turn-unlow, turn-unopened}
+use Rattle.expressions.specs.ReopenLaws.{turn-counted, turn-low, turn-high, turn-unlow, turn-unopened}
 use Rattle.expressions.proofs.sets.further.Statement.{statement}
 use Rattle.expressions.proofs.sets.further.Tie as tie
 
@@ -18,16 +18,16 @@ top-requires c κs =
     let start = c .before .before .before in
     (complete-tops (start .pre .0 .state) (λ e. omega (arith, start .pre .1)))
 
-kind-requires : tie.Need-kind-requires
-kind-requires c κs =
+number-requires : tie.Need-number-requires
+number-requires c κs =
     let start = c .before .before .before .before .before in
     complete-fits (start .pre .0 .state)
 
 next-requires : tie.Need-next-requires
 next-requires c κs =
-    let at-kind = c .before .before .before in
-    let start = at-kind .before .before .before .before .before .before in
-    let e = (let q : (at-kind .kind) .result ≡ fixed ":" = omega arith in sym ((at-kind .kind) .ensures) ∙ q) in
+    let at-number = c .before .before .before in
+    let start = at-number .before .before .before .before .before .before in
+    let e = (let q : (at-number .number) .result ≡ fixed ":" = omega arith in sym ((at-number .number) .ensures) ∙ q) in
     omega (arith, before-end (now (start .args .work)) ((start .args .m) .c) (omega arith), complete-fits (start .pre .0 .state) .few)
 
 reopen-requires : tie.Need-reopen-requires
@@ -42,12 +42,12 @@ returns : tie.Need-returns
 returns c =
     let at-reopen = c .before .before in
     let at-next = at-reopen .before in
-    let at-kind = at-next .before .before .before .before in
-    let at-top = at-kind .before .before in
+    let at-number = at-next .before .before .before .before in
+    let at-top = at-number .before .before in
     let start = at-top .before .before .before .before in
     λ ts s x h. rw ((at-reopen .reopen) .ensures .0, (at-reopen .reopen) .ensures .1, (at-next .next) .ensures)
     (turn-low h (start .pre .1) (let q : slotClass ((at-top .top) .result) ≡ classNumber Low = omega arith in ap slotClass (sym ((at-top .top) .ensures)) ∙ q)
-    (let q : (at-kind .kind) .result ≡ fixed ":" = omega arith in sym ((at-kind .kind) .ensures) ∙ q))
+    (let q : (at-number .number) .result ≡ fixed ":" = omega arith in sym ((at-number .number) .ensures) ∙ q))
 
 refuse-requires : tie.Need-refuse-requires
 refuse-requires c κs =
@@ -59,11 +59,11 @@ same-length-2 c = search needs
 
 returns-2 : tie.Need-returns-2
 returns-2 c =
-    let at-kind = c .before .before .before .before in
-    let at-top = at-kind .before .before in
+    let at-number = c .before .before .before .before in
+    let at-top = at-number .before .before in
     let start = at-top .before .before .before .before in
     λ ts s x h. rw ((c .refuse) .ensures) (turn-unlow h (start .pre .1) (let q : slotClass ((at-top .top) .result) ≡ classNumber Low = omega arith in ap slotClass (sym ((at-top .top) .ensures)) ∙ q)
-    (λ z. let q : (at-kind .kind) .result ≡ fixed ":" = (at-kind .kind) .ensures ∙ z in omega arith))
+    (λ z. let q : (at-number .number) .result ≡ fixed ":" = (at-number .number) .ensures ∙ z in omega arith))
 
 refuse-requires-2 : tie.Need-refuse-requires-2
 refuse-requires-2 c κs =
@@ -76,11 +76,11 @@ same-length-3 c = search needs
 returns-3 : tie.Need-returns-3
 returns-3 c =
     let at-if1 = c .before .before .before in
-    let at-kind = at-if1 .before in
-    let at-top = at-kind .before .before in
+    let at-number = at-if1 .before in
+    let at-top = at-number .before .before in
     let start = at-top .before .before .before .before in
     λ ts s x h. rw ((c .refuse2) .ensures) (turn-unopened h (start .pre .1) (start .pre .2) (start .pre .3) (λ z. (at-if1 .if1) .left (ap slotClass ((at-top .top) .ensures) ∙ z))
-    (λ z. let q : (at-kind .kind) .result ≡ fixed "]" = (at-kind .kind) .ensures ∙ z in omega arith))
+    (λ z. let q : (at-number .number) .result ≡ fixed "]" = (at-number .number) .ensures ∙ z in omega arith))
 
 operator-requires : tie.Need-operator-requires
 operator-requires c κs =
@@ -92,9 +92,9 @@ prefix-requires c κs = search needs
 
 next-requires-2 : tie.Need-next-requires-2
 next-requires-2 c κs =
-    let at-kind = c .before .before .before .before .before .before .before in
-    let start = at-kind .before .before .before .before .before .before in
-    let e = (let q : (at-kind .kind) .result ≡ fixed "]" = omega arith in sym ((at-kind .kind) .ensures) ∙ q) in
+    let at-number = c .before .before .before .before .before .before .before in
+    let start = at-number .before .before .before .before .before .before in
+    let e = (let q : (at-number .number) .result ≡ fixed "]" = omega arith in sym ((at-number .number) .ensures) ∙ q) in
     omega (arith, before-end (now (start .args .work)) ((start .args .m) .c) (omega arith), complete-fits (start .pre .0 .state) .few)
 
 reopen-requires-2 : tie.Need-reopen-requires-2
@@ -111,8 +111,8 @@ returns-4 c =
     let at-next2 = at-reopen2 .before in
     let at-prefix = at-next2 .before .before .before in
     let at-operator = at-prefix .before in
-    let at-kind = at-operator .before .before .before .before in
-    let at-top = at-kind .before .before in
+    let at-number = at-operator .before .before .before .before in
+    let at-top = at-number .before .before in
     let start = at-top .before .before .before .before in
     λ ts s x h. rw (
       (at-reopen2 .reopen2) .ensures .0,
@@ -122,13 +122,13 @@ returns-4 c =
       (at-operator .operator) .ensures,
       (at-top .top) .ensures,
     ) (turn-counted h (start .pre .1) (let q : slotClass ((at-top .top) .result) ≡ classNumber Count = omega arith in ap slotClass (sym ((at-top .top) .ensures)) ∙ q)
-    (let q : (at-kind .kind) .result ≡ fixed "]" = omega arith in sym ((at-kind .kind) .ensures) ∙ q))
+    (let q : (at-number .number) .result ≡ fixed "]" = omega arith in sym ((at-number .number) .ensures) ∙ q))
 
 next-requires-3 : tie.Need-next-requires-3
 next-requires-3 c κs =
-    let at-kind = c .before .before .before .before .before .before .before in
-    let start = at-kind .before .before .before .before .before .before in
-    let e = (let q : (at-kind .kind) .result ≡ fixed "]" = omega arith in sym ((at-kind .kind) .ensures) ∙ q) in
+    let at-number = c .before .before .before .before .before .before .before in
+    let start = at-number .before .before .before .before .before .before in
+    let e = (let q : (at-number .number) .result ≡ fixed "]" = omega arith in sym ((at-number .number) .ensures) ∙ q) in
     omega (arith, before-end (now (start .args .work)) ((start .args .m) .c) (omega arith), complete-fits (start .pre .0 .state) .few)
 
 reopen-requires-3 : tie.Need-reopen-requires-3
@@ -145,8 +145,8 @@ returns-5 c =
     let at-next3 = at-reopen3 .before in
     let at-prefix = at-next3 .before .before .before in
     let at-operator = at-prefix .before in
-    let at-kind = at-operator .before .before .before .before in
-    let at-top = at-kind .before .before in
+    let at-number = at-operator .before .before .before .before in
+    let at-top = at-number .before .before in
     let start = at-top .before .before .before .before in
     λ ts s x h. rw (
       (at-reopen3 .reopen3) .ensures .0,
@@ -157,14 +157,14 @@ returns-5 c =
       (at-top .top) .ensures,
     ) (turn-high h (start .pre .1) (let q : slotClass ((at-top .top) .result) ≡ classNumber High =
     (let low = start .pre .2 in let high = start .pre .3 in let e = ap slotClass ((at-top .top) .ensures) in omega arith) in ap slotClass (sym ((at-top .top) .ensures)) ∙ q)
-    (let q : (at-kind .kind) .result ≡ fixed "]" = omega arith in sym ((at-kind .kind) .ensures) ∙ q))
+    (let q : (at-number .number) .result ≡ fixed "]" = omega arith in sym ((at-number .number) .ensures) ∙ q))
 
 pub further-spec : {M : Type 1} → statement M
 further-spec =
     tie.close
     (tie.spec
     top-requires
-    kind-requires
+    number-requires
     next-requires
     reopen-requires
     same-length

@@ -7,32 +7,32 @@ use lib.Dec.{lit<}
 use denote.Ref.{now}
 use Rattle.language.specs.Limits.{maxTokens}
 use Rattle.lexer.specs.Numbers.{fixed}
-use Rattle.entries.specs.Cursors.{kindAt}
+use Rattle.entries.specs.Cursors.{numberAt}
 use Rattle.entries.specs.CursorLaws.{before-end}
 use Rattle.expressions.specs.Classes.{All, One, Two, More, classNumber}
 use Rattle.expressions.specs.Stack.{slotClass, slotLevel, slotIndex, topSlot}
 use Rattle.expressions.specs.CompleteLaws.{complete-tops, complete-fits}
-use Rattle.expressions.specs.Reopens.{turn-second, turn-range}
-use Rattle.expressions.specs.Sets.{set-one, unclosed-one}
-use Rattle.expressions.specs.Elements.{lists-more, lists-two, kept-two, turn-more, turn-two}
+use Rattle.expressions.specs.ReopenLaws.{turn-second, turn-range}
+use Rattle.expressions.specs.SetLaws.{set-one, unclosed-one}
+use Rattle.expressions.specs.ElementLaws.{lists-more, lists-two, kept-two, turn-more, turn-two}
 use Rattle.expressions.proofs.sets.set.Statement.{statement}
 use Rattle.expressions.proofs.sets.set.Tie as tie
 
 -- the entry; the last slot, its class and the next token's number there
-abbrev entry : tie.After-kind → tie.Start
+abbrev entry : tie.After-number → tie.Start
 entry at = at .before .before .before .before .before .before
 
-abbrev slot : tie.After-kind → ℕ
+abbrev slot : tie.After-number → ℕ
 slot at = topSlot (now (entry at .args .work)) (entry at .args .m .depth)
 
-abbrev sign : tie.After-kind → ℕ
-sign at = kindAt (now (entry at .args .work)) (entry at .args .m .c)
+abbrev sign : tie.After-number → ℕ
+sign at = numberAt (now (entry at .args .work)) (entry at .args .m .c)
 
-class-read : (at : tie.After-kind) → slotClass (slot at) ≡ slotClass ((at .before .before .top) .result)
+class-read : (at : tie.After-number) → slotClass (slot at) ≡ slotClass ((at .before .before .top) .result)
 class-read at = ap slotClass (sym ((at .before .before .top) .ensures))
 
 -- a token that is not the text's end may be passed
-passed : (at : tie.After-kind) → 0 < sign at → (entry at .args .m .c) .at < maxTokens
+passed : (at : tie.After-number) → 0 < sign at → (entry at .args .m .c) .at < maxTokens
 passed at l = omega (arith, before-end (now (entry at .args .work)) (entry at .args .m .c) l, complete-fits (entry at .pre .0 .state) .few)
 
 -- the class and the sign, as each test leaves them
@@ -40,41 +40,41 @@ is-one : (at : tie.Then1) → slotClass (slot (at .before)) ≡ classNumber One
 is-one at = class-read (at .before) ∙ (at .if1) .taken
 
 comma : (at : tie.Then2) → sign (at .before .before) ≡ fixed ","
-comma at = sym ((at .before .before .kind) .ensures) ∙ (at .if2) .taken
+comma at = sym ((at .before .before .number) .ensures) ∙ (at .if2) .taken
 
 no-comma : (at : tie.Else2) → sign (at .before .before) ≡ fixed "," → ⊥
-no-comma at e = (at .if2) .left ((at .before .before .kind) .ensures ∙ e)
+no-comma at e = (at .if2) .left ((at .before .before .number) .ensures ∙ e)
 
 closed : (at : tie.Then3) → sign (at .before .before .before) ≡ fixed "}"
-closed at = sym ((at .before .before .before .kind) .ensures) ∙ (at .if3) .taken
+closed at = sym ((at .before .before .before .number) .ensures) ∙ (at .if3) .taken
 
 unclosed : (at : tie.Else3) → sign (at .before .before .before) ≡ fixed "}" → ⊥
-unclosed at e = (at .if3) .left ((at .before .before .before .kind) .ensures ∙ e)
+unclosed at e = (at .if3) .left ((at .before .before .before .number) .ensures ∙ e)
 
 is-more : (at : tie.Then4) → slotClass (slot (at .before .before)) ≡ classNumber More
 is-more at = class-read (at .before .before) ∙ (at .if4) .taken
 
 is-two : (at : tie.Else4) → slotClass (slot (at .before .before)) ≡ classNumber Two
 is-two at =
-    let at-kind = at .before .before in
-    let low = entry at-kind .pre .2 in
-    let high = entry at-kind .pre .3 in
-    let e = class-read at-kind in
+    let at-number = at .before .before in
+    let low = entry at-number .pre .2 in
+    let high = entry at-number .pre .3 in
+    let e = class-read at-number in
     omega arith
 
 dots : (at : tie.Then5) → sign (at .before .before .before) ≡ fixed ".."
-dots at = sym ((at .before .before .before .kind) .ensures) ∙ (at .if5) .taken
+dots at = sym ((at .before .before .before .number) .ensures) ∙ (at .if5) .taken
 
 no-dots : (at : tie.Else5) → sign (at .before .before .before) ≡ fixed ".." → ⊥
-no-dots at e = (at .if5) .left ((at .before .before .before .kind) .ensures ∙ e)
+no-dots at e = (at .if5) .left ((at .before .before .before .number) .ensures ∙ e)
 
 top-requires : tie.Need-top-requires
 top-requires c κs =
     let start = c .before .before .before in
     (complete-tops (start .pre .0 .state) (λ e. omega (arith, start .pre .1)))
 
-kind-requires : tie.Need-kind-requires
-kind-requires c κs =
+number-requires : tie.Need-number-requires
+number-requires c κs =
     let start = c .before .before .before .before .before in
     complete-fits (start .pre .0 .state)
 
@@ -211,10 +211,10 @@ element-requires-2 c κs =
     let at-push = c .before .before .before in
     let at-popped2 = at-push .before .before in
     let at-sign = at-popped2 .before in
-    let at-kind = at-sign .before .before .before in
-    let g = entry at-kind .pre in
+    let at-number = at-sign .before .before .before in
+    let g = entry at-number .pre in
     let push = at-push .push in
-    rw (push .ensures .0, push .ensures .1, (at-popped2 .popped2) .ensures, (at-kind .before .before .top) .ensures)
+    rw (push .ensures .0, push .ensures .1, (at-popped2 .popped2) .ensures, (at-number .before .before .top) .ensures)
     (record { tokens = g .0 .tokens; start = g .0 .start; answer = g .0 .answer; state = lists-two (g .0 .state) (g .1) (is-two (at-sign .before)) (no-dots at-sign) })
 
 same-length-6 : tie.Need-same-length-6
@@ -226,12 +226,12 @@ returns-6 c =
     let at-push = at-element2 .before .before .before .before in
     let at-popped2 = at-push .before .before in
     let at-sign = at-popped2 .before in
-    let at-kind = at-sign .before .before .before in
-    let start = entry at-kind in
+    let at-number = at-sign .before .before .before in
+    let start = entry at-number in
     let push = at-push .push in
     let popped2 = at-popped2 .popped2 in
-    let top = at-kind .before .before .top in
-    λ ts s x h. turn-two h (start .pre .1) (kept-two h (start .pre .1) (is-two (at-sign .before)) (classNumber All) (slotLevel (slot at-kind)) (slotIndex (slot at-kind)))
+    let top = at-number .before .before .top in
+    λ ts s x h. turn-two h (start .pre .1) (kept-two h (start .pre .1) (is-two (at-sign .before)) (classNumber All) (slotLevel (slot at-number)) (slotIndex (slot at-number)))
     (rw (push .ensures .0, push .ensures .1, popped2 .ensures, top .ensures) at
     ((at-element2 .element2) .ensures ts s x
     (rw (push .ensures .0, push .ensures .1, popped2 .ensures, top .ensures) (lists-two h (start .pre .1) (is-two (at-sign .before)) (no-dots at-sign)))))
@@ -241,7 +241,7 @@ set-spec =
     tie.close
     (tie.spec
     top-requires
-    kind-requires
+    number-requires
     next-requires
     reopen-requires
     same-length

@@ -6,7 +6,7 @@ use lib.Dec.{lit<}
 use denote.Ref.{now}
 use Rattle.lexer.specs.Numbers.{fixed}
 use Rattle.entries.specs.Kinds as Kind
-use Rattle.entries.specs.Cursors.{kindAt, nextOf}
+use Rattle.entries.specs.Cursors.{numberAt, nextOf}
 use Rattle.expressions.specs.Classes.{One, classNumber}
 use Rattle.expressions.specs.StateAsks.{asks-next, asks-second, asks-third, asks-push, asks-leaf}
 use Rattle.expressions.specs.StartStates.{turn-empty, turn-set}
@@ -18,8 +18,8 @@ next-requires c κs =
     let start = c .before .before in
     asks-next (start .pre .0) (omega (arith, start .pre .1))
 
-kind-requires : tie.Need-kind-requires
-kind-requires c κs =
+number-requires : tie.Need-number-requires
+number-requires c κs =
     let start = c .before .before .before .before in
     rw ((c .before .next) .ensures) (asks-second (start .pre .0) (omega (arith, start .pre .1)))
 
@@ -27,8 +27,8 @@ next-requires-2 : tie.Need-next-requires-2
 next-requires-2 c κs =
     let at-next = c .before .before .before in
     let start = at-next .before .before .before in
-    let second : kindAt (now (start .args .work)) (nextOf (start .args .m .c)) ≡ fixed "}" =
-    (let q : (c .before .kind) .result ≡ fixed "}" = omega arith in ap (kindAt (now (start .args .work))) (sym ((at-next .next) .ensures)) ∙ sym ((c .before .kind) .ensures) ∙ q) in
+    let second : numberAt (now (start .args .work)) (nextOf (start .args .m .c)) ≡ fixed "}" =
+    (let q : (c .before .number) .result ≡ fixed "}" = omega arith in ap (numberAt (now (start .args .work))) (sym ((at-next .next) .ensures)) ∙ sym ((c .before .number) .ensures) ∙ q) in
     rw ((at-next .next) .ensures) (asks-third (start .pre .0) (omega (arith, start .pre .1)) (omega arith))
 
 emit-requires : tie.Need-emit-requires
@@ -48,11 +48,11 @@ returns : tie.Need-returns
 returns c =
     let at-emit = c .before .before .before in
     let at-next2 = at-emit .before .before in
-    let at-kind = at-next2 .before .before in
-    let at-next = at-kind .before .before in
+    let at-number = at-next2 .before .before in
+    let at-next = at-number .before .before in
     let start = at-next .before .before .before in
-    λ ts s x h. let second : kindAt (now (start .args .work)) (nextOf (start .args .m .c)) ≡ fixed "}" =
-    (let q : (at-kind .kind) .result ≡ fixed "}" = omega arith in ap (kindAt (now (start .args .work))) (sym ((at-next .next) .ensures)) ∙ sym ((at-kind .kind) .ensures) ∙ q) in
+    λ ts s x h. let second : numberAt (now (start .args .work)) (nextOf (start .args .m .c)) ≡ fixed "}" =
+    (let q : (at-number .number) .result ≡ fixed "}" = omega arith in ap (numberAt (now (start .args .work))) (sym ((at-next .next) .ensures)) ∙ sym ((at-number .number) .ensures) ∙ q) in
     rw ((c .climbing) .ensures, (at-emit .emit) .ensures .0, (at-emit .emit) .ensures .1, (at-next2 .next2) .ensures, (at-next .next) .ensures) (turn-empty h (start .pre .1) second)
 
 push-requires : tie.Need-push-requires
@@ -66,18 +66,18 @@ same-length-2 c = search needs
 returns-2 : tie.Need-returns-2
 returns-2 c =
     let at-push = c .before .before in
-    let at-kind = at-push .before .before .before in
-    let at-next = at-kind .before .before in
+    let at-number = at-push .before .before .before in
+    let at-next = at-number .before .before in
     let start = at-next .before .before .before in
     λ ts s x h. rw ((at-push .push) .ensures .0, (at-push .push) .ensures .1, (at-next .next) .ensures)
-    (turn-set h (start .pre .1) (λ z. let q : (at-kind .kind) .result ≡ fixed "}" = (at-kind .kind) .ensures ∙ ap (kindAt (now (start .args .work))) ((at-next .next) .ensures) ∙ z in omega arith))
+    (turn-set h (start .pre .1) (λ z. let q : (at-number .number) .result ≡ fixed "}" = (at-number .number) .ensures ∙ ap (numberAt (now (start .args .work))) ((at-next .next) .ensures) ∙ z in omega arith))
 
 pub brace-spec : {M : Type 1} → statement M
 brace-spec =
     tie.close
     (tie.spec
     next-requires
-    kind-requires
+    number-requires
     next-requires-2
     emit-requires
     climbing-requires

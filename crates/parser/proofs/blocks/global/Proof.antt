@@ -8,28 +8,28 @@ use borrow.Author.Needs.{needs}
 use mathlib.Core.Path.{refl, sym, _∙_}
 use native.Mathlib.Omega.{arith}
 
-kind-requires : tie.Need-kind-requires
-kind-requires c κs = search needs
+number-requires : tie.Need-number-requires
+number-requires c κs = search needs
 
 same-length : tie.Need-same-length
 same-length c = search needs
 
 returns : tie.Need-returns
 returns c =
-    λ ts ready. global-missing ready (λ e. c .if1 .taken (c .before .kind .ensures ∙ e))
+    λ ts ready. global-missing ready (λ e. c .if1 .taken (c .before .number .ensures ∙ e))
 
 next-requires : tie.Need-next-requires
 next-requires c κs =
     let start = c .before .before .before .before in
-    let z = start .pre in next-fits (z .ready) (sym (c .before .kind .ensures) ∙ c .if1 .left) (omega arith)
+    let z = start .pre in next-fits (z .ready) (sym (c .before .number .ensures) ∙ c .if1 .left) (omega arith)
 
 expect-requires : tie.Need-expect-requires
 expect-requires c κs =
     let at-if1 = c .before .before in
-    let at-kind = at-if1 .before in
-    let start = at-kind .before .before .before in
+    let at-number = at-if1 .before in
+    let start = at-number .before .before .before in
     let z = start .pre in
-    (global-ready (z .ready) (sym (at-kind .kind .ensures) ∙ at-if1 .if1 .left) (next-of (c .before .next .ensures)) .fits, omega arith)
+    (global-ready (z .ready) (sym (at-number .number .ensures) ∙ at-if1 .if1 .left) (next-of (c .before .next .ensures)) .fits, omega arith)
 
 enum-known-r : tie.Need-enum-known-r
 enum-known-r c = search needs
@@ -45,8 +45,8 @@ returns-2 c =
     let at-expect = c .before .before in
     let at-next = at-expect .before .before in
     let at-if1 = at-next .before in
-    let at-kind = at-if1 .before in
-    λ ts ready. global-open ready (sym (at-kind .kind .ensures) ∙ at-if1 .if1 .left) (next-of (at-next .next .ensures)) (at-expect .expect .ensures) (c .enum-told .given .1)
+    let at-number = at-if1 .before in
+    λ ts ready. global-open ready (sym (at-number .number .ensures) ∙ at-if1 .if1 .left) (next-of (at-next .next .ensures)) (at-expect .expect .ensures) (c .enum-told .given .1)
 
 optional-requires : tie.Need-optional-requires
 optional-requires c κs =
@@ -54,13 +54,13 @@ optional-requires c κs =
     let at-expect = at-r .before .before in
     let at-next = at-expect .before .before in
     let at-if1 = at-next .before in
-    let at-kind = at-if1 .before in
-    let start = at-kind .before .before .before in
+    let at-number = at-if1 .before in
+    let start = at-number .before .before .before in
     let z = start .pre in (
       record {
         tokens = z .tokens;
         ready = passed-ready (global-ready (z .ready)
-            (sym (at-kind .kind .ensures) ∙ at-if1 .if1 .left)
+            (sym (at-number .number .ensures) ∙ at-if1 .if1 .left)
             (next-of (at-next .next .ensures))) (passed _ _ _ (at-expect .expect .ensures) (at-r .r .given .1))
             (omega arith);
       },
@@ -83,9 +83,9 @@ returns-3 c =
     let at-expect = at-r .before .before in
     let at-next = at-expect .before .before in
     let at-if1 = at-next .before in
-    let at-kind = at-if1 .before in
-    λ ts ready. global-parameters ready (sym (at-kind .kind .ensures) ∙ at-if1 .if1 .left) (next-of (at-next .next .ensures)) (passed _ _ _ (at-expect .expect .ensures) (at-r .r .given .1))
-    (at-optional .optional .ensures "PARAMETERS" (record { known = refl; same = refl }) ts (passed-ready (global-ready ready (sym (at-kind .kind .ensures) ∙ at-if1 .if1 .left) (next-of (at-next
+    let at-number = at-if1 .before in
+    λ ts ready. global-parameters ready (sym (at-number .number .ensures) ∙ at-if1 .if1 .left) (next-of (at-next .next .ensures)) (passed _ _ _ (at-expect .expect .ensures) (at-r .r .given .1))
+    (at-optional .optional .ensures "PARAMETERS" (record { known = refl; same = refl }) ts (passed-ready (global-ready ready (sym (at-number .number .ensures) ∙ at-if1 .if1 .left) (next-of (at-next
     .next .ensures))) (passed _ _ _ (at-expect .expect .ensures) (at-r .r .given .1)) (omega arith))) (c .enum-told2 .given .1)
 
 optional-requires-2 : tie.Need-optional-requires-2
@@ -96,14 +96,14 @@ optional-requires-2 c κs =
     let at-expect = at-r .before .before in
     let at-next = at-expect .before .before in
     let at-if1 = at-next .before in
-    let at-kind = at-if1 .before in
-    let start = at-kind .before .before .before in
+    let at-number = at-if1 .before in
+    let start = at-number .before .before .before in
     let z = start .pre in (
       record {
         tokens = z .tokens;
         ready = accepted (at-p .p .given .1)
             (at-optional .optional .ensures "PARAMETERS" (record { known = refl; same = refl }) (z .tokens)
-            (passed-ready (global-ready (z .ready) (sym (at-kind .kind .ensures) ∙
+            (passed-ready (global-ready (z .ready) (sym (at-number .number .ensures) ∙
             at-if1 .if1 .left)
             (next-of (at-next .next .ensures)))
             (passed _ _ _ (at-expect .expect .ensures)
@@ -130,13 +130,13 @@ returns-4 c =
     let at-expect = at-r .before .before in
     let at-next = at-expect .before .before in
     let at-if1 = at-next .before in
-    let at-kind = at-if1 .before in
-    λ ts ready. global-definitions ready (sym (at-kind .kind .ensures) ∙ at-if1 .if1 .left) (next-of (at-next .next .ensures)) (passed _ _ _ (at-expect .expect .ensures) (at-r .r .given .1))
-    (at-optional .optional .ensures "PARAMETERS" (record { known = refl; same = refl }) ts (passed-ready (global-ready ready (sym (at-kind .kind .ensures) ∙ at-if1 .if1 .left) (next-of (at-next
+    let at-number = at-if1 .before in
+    λ ts ready. global-definitions ready (sym (at-number .number .ensures) ∙ at-if1 .if1 .left) (next-of (at-next .next .ensures)) (passed _ _ _ (at-expect .expect .ensures) (at-r .r .given .1))
+    (at-optional .optional .ensures "PARAMETERS" (record { known = refl; same = refl }) ts (passed-ready (global-ready ready (sym (at-number .number .ensures) ∙ at-if1 .if1 .left) (next-of (at-next
     .next .ensures))) (passed _ _ _ (at-expect .expect .ensures) (at-r .r .given .1)) (omega arith))) (at-p .p .given .1) (at-optional2 .optional2 .ensures "DEFINITIONS" (record {
       known = refl;
       same = refl;
-    }) ts (accepted (at-p .p .given .1) (at-optional .optional .ensures "PARAMETERS" (record { known = refl; same = refl }) ts (passed-ready (global-ready ready (sym (at-kind .kind
+    }) ts (accepted (at-p .p .given .1) (at-optional .optional .ensures "PARAMETERS" (record { known = refl; same = refl }) ts (passed-ready (global-ready ready (sym (at-number .number
     .ensures) ∙ at-if1 .if1 .left) (next-of (at-next .next .ensures))) (passed _ _ _ (at-expect .expect .ensures) (at-r .r .given .1)) (omega arith))) .took .ready)) (c .enum-told3 .given .1)
 
 expect-requires-2 : tie.Need-expect-requires-2
@@ -149,14 +149,14 @@ expect-requires-2 c κs =
     let at-expect = at-r .before .before in
     let at-next = at-expect .before .before in
     let at-if1 = at-next .before in
-    let at-kind = at-if1 .before in
-    let start = at-kind .before .before .before in
+    let at-number = at-if1 .before in
+    let start = at-number .before .before .before in
     let z = start .pre in (
       accepted (at-q .q .given .1)
           (at-optional2 .optional2 .ensures "DEFINITIONS" (record { known = refl; same = refl }) (z .tokens)
           (accepted (at-p .p .given .1)
           (at-optional .optional .ensures "PARAMETERS" (record { known = refl; same = refl }) (z .tokens)
-          (passed-ready (global-ready (z .ready) (sym (at-kind .kind .ensures) ∙ at-if1 .if1 .left) (next-of (at-next .next .ensures))) (passed _ _ _
+          (passed-ready (global-ready (z .ready) (sym (at-number .number .ensures) ∙ at-if1 .if1 .left) (next-of (at-next .next .ensures))) (passed _ _ _
           (at-expect .expect .ensures)
           (at-r .r .given .1))
           (omega arith))) .took .ready)) .took .ready .fits,
@@ -176,14 +176,14 @@ returns-5 c =
     let at-expect = at-r .before .before in
     let at-next = at-expect .before .before in
     let at-if1 = at-next .before in
-    let at-kind = at-if1 .before in
-    λ ts ready. global-tail ready (sym (at-kind .kind .ensures) ∙ at-if1 .if1 .left) (next-of (at-next .next .ensures)) (passed _ _ _ (at-expect .expect .ensures) (at-r .r .given .1)) (at-optional
-    .optional .ensures "PARAMETERS" (record { known = refl; same = refl }) ts (passed-ready (global-ready ready (sym (at-kind .kind .ensures) ∙ at-if1 .if1 .left) (next-of (at-next .next
+    let at-number = at-if1 .before in
+    λ ts ready. global-tail ready (sym (at-number .number .ensures) ∙ at-if1 .if1 .left) (next-of (at-next .next .ensures)) (passed _ _ _ (at-expect .expect .ensures) (at-r .r .given .1)) (at-optional
+    .optional .ensures "PARAMETERS" (record { known = refl; same = refl }) ts (passed-ready (global-ready ready (sym (at-number .number .ensures) ∙ at-if1 .if1 .left) (next-of (at-next .next
     .ensures))) (passed _ _ _ (at-expect .expect .ensures) (at-r .r .given .1)) (omega arith))) (at-p .p .given .1) (at-optional2 .optional2 .ensures "DEFINITIONS" (record {
       known = refl;
       same =
           refl;
-    }) ts (accepted (at-p .p .given .1) (at-optional .optional .ensures "PARAMETERS" (record { known = refl; same = refl }) ts (passed-ready (global-ready ready (sym (at-kind .kind .ensures)
+    }) ts (accepted (at-p .p .given .1) (at-optional .optional .ensures "PARAMETERS" (record { known = refl; same = refl }) ts (passed-ready (global-ready ready (sym (at-number .number .ensures)
     ∙ at-if1 .if1 .left) (next-of (at-next .next .ensures))) (passed _ _ _ (at-expect .expect .ensures) (at-r .r .given .1)) (omega arith))) .took .ready)) (at-q .q .given .1) (c .expect2
     .ensures)
 
@@ -191,7 +191,7 @@ pub global-spec : {M : Type 1} → statement M
 global-spec =
     tie.close
     (tie.spec
-    kind-requires
+    number-requires
     same-length
     returns
     next-requires

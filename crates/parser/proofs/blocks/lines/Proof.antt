@@ -32,8 +32,8 @@ next-requires c κs =
     let start = c .before .before in
     let z = start .pre .0 in let h = c .loop .inv .1 (z .tokens) (z .ready) in omega (arith, (c .loop .inv .0), h .going .took .ready .fits .few)
 
-kind-requires : tie.Need-kind-requires Inv-loop μ-loop
-kind-requires c κs =
+number-requires : tie.Need-number-requires Inv-loop μ-loop
+number-requires c κs =
     let at-loop = c .before .before in
     let start = at-loop .before .before in
     let z = start .pre .0 in let h = at-loop .loop .inv .1 (z .tokens) (z .ready) in
@@ -45,7 +45,7 @@ next-requires-2 c κs =
     let at-loop = at-next .before in
     let start = at-loop .before .before in
     let z = start .pre .0 in let h = at-loop .loop .inv .1 (z .tokens) (z .ready) in
-    next-fits (behind-ready (start .args .which) h (at-loop .loop .inv .0) (next-of (at-next .next .ensures))) (sym (c .before .kind .ensures) ∙ c .if1 .taken) (omega arith)
+    next-fits (behind-ready (start .args .which) h (at-loop .loop .inv .0) (next-of (at-next .next .ensures))) (sym (c .before .number .ensures) ∙ c .if1 .taken) (omega arith)
 
 same-length : tie.Need-same-length Inv-loop μ-loop
 same-length c =
@@ -55,11 +55,11 @@ same-length c =
 
 returns : tie.Need-returns Inv-loop μ-loop
 returns c =
-    let at-kind = c .before .before in
-    let at-next = at-kind .before .before in
+    let at-number = c .before .before in
+    let at-next = at-number .before .before in
     let at-loop = at-next .before in
     let start = at-loop .before .before in
-    λ ts ready. let h = at-loop .loop .inv .1 ts ready in lines-close (start .args .which) h (at-loop .loop .inv .0) (next-of (at-next .next .ensures)) (sym (at-kind .kind .ensures) ∙ c .before
+    λ ts ready. let h = at-loop .loop .inv .1 ts ready in lines-close (start .args .which) h (at-loop .loop .inv .0) (next-of (at-next .next .ensures)) (sym (at-number .number .ensures) ∙ c .before
     .if1 .taken) (next-of (c .next2 .ensures))
 
 line-requires : tie.Need-line-requires Inv-loop μ-loop
@@ -88,15 +88,15 @@ returns-2 : tie.Need-returns-2 Inv-loop μ-loop
 returns-2 c =
     let at-line = c .before .before .before .before in
     let at-if1 = at-line .before .before in
-    let at-kind = at-if1 .before in
-    let at-next = at-kind .before .before in
+    let at-number = at-if1 .before in
+    let at-next = at-number .before .before in
     let at-loop = at-next .before in
     let start = at-loop .before .before in
-    λ ts ready. let h = at-loop .loop .inv .1 ts ready in lines-stop (start .args .which) h (at-loop .loop .inv .0) (next-of (at-next .next .ensures)) (λ e. at-if1 .if1 .left (at-kind .kind
+    λ ts ready. let h = at-loop .loop .inv .1 ts ready in lines-stop (start .args .which) h (at-loop .loop .inv .0) (next-of (at-next .next .ensures)) (λ e. at-if1 .if1 .left (at-number .number
     .ensures ∙ e)) (at-line .line .ensures ts (h .going .took .ready)) (c .enum-told .given .1)
 
-kind-requires-2 : tie.Need-kind-requires-2 Inv-loop μ-loop
-kind-requires-2 c κs =
+number-requires-2 : tie.Need-number-requires-2 Inv-loop μ-loop
+number-requires-2 c κs =
     let at-r = c .before .before in
     let at-line = at-r .before .before .before .before in
     let at-loop = at-line .before .before .before .before .before .before in
@@ -130,24 +130,24 @@ same-length-3 c =
 returns-3 : tie.Need-returns-3 Inv-loop μ-loop
 returns-3 c =
     let at-if2 = c .before .before in
-    let at-kind2 = at-if2 .before in
-    let at-r = at-kind2 .before .before .before in
+    let at-number2 = at-if2 .before in
+    let at-r = at-number2 .before .before .before in
     let at-line = at-r .before .before .before .before in
     let at-if1 = at-line .before .before in
-    let at-kind = at-if1 .before in
-    let at-next = at-kind .before .before in
+    let at-number = at-if1 .before in
+    let at-next = at-number .before .before in
     let at-loop = at-next .before in
     let start = at-loop .before .before in
-    λ ts ready. let h = at-loop .loop .inv .1 ts ready in lines-tail (start .args .which) h (at-loop .loop .inv .0) (next-of (at-next .next .ensures)) (λ e. at-if1 .if1 .left (at-kind .kind
-    .ensures ∙ e)) (at-line .line .ensures ts (h .going .took .ready)) (at-r .r .given .1) (λ e. at-if2 .if2 .taken (at-kind2 .kind2 .ensures ∙ e)) (c .expect .ensures)
+    λ ts ready. let h = at-loop .loop .inv .1 ts ready in lines-tail (start .args .which) h (at-loop .loop .inv .0) (next-of (at-next .next .ensures)) (λ e. at-if1 .if1 .left (at-number .number
+    .ensures ∙ e)) (at-line .line .ensures ts (h .going .took .ready)) (at-r .r .given .1) (λ e. at-if2 .if2 .taken (at-number2 .number2 .ensures ∙ e)) (c .expect .ensures)
 
 loop-less : tie.Need-loop-less Inv-loop μ-loop
 loop-less c =
     let at-r = c .before .before .before .before in
     let at-line = at-r .before .before .before .before in
     let at-if1 = at-line .before .before in
-    let at-kind = at-if1 .before in
-    let at-next = at-kind .before .before in
+    let at-number = at-if1 .before in
+    let at-next = at-number .before .before in
     let at-loop = at-next .before in
     let start = at-loop .before .before in
     let z = start .pre .0 in
@@ -160,7 +160,7 @@ loop-less c =
           (at-loop .loop .inv .0)
           (next-of (at-next .next .ensures))
           (λ e. at-if1 .if1 .left
-          (at-kind .kind .ensures ∙ e))
+          (at-number .number .ensures ∙ e))
           (at-line .line .ensures (z .tokens) (h .going .took .ready)) (at-r .r .given .1),
       t .onward .count,
       t .ready .fits .inside,
@@ -168,27 +168,27 @@ loop-less c =
 
 loop-again : tie.Need-loop-again Inv-loop μ-loop
 loop-again c =
-    let at-kind2 = c .before in
-    let at-r = at-kind2 .before .before .before in
+    let at-number2 = c .before in
+    let at-r = at-number2 .before .before .before in
     let at-line = at-r .before .before .before .before in
     let at-if1 = at-line .before .before in
-    let at-kind = at-if1 .before in
-    let at-next = at-kind .before .before in
+    let at-number = at-if1 .before in
+    let at-next = at-number .before .before in
     let at-loop = at-next .before in
     let start = at-loop .before .before in (
       let z = start .pre .0 in
           let h = at-loop .loop .inv .1 (z .tokens) (z .ready) in
           inside (accepted (at-r .r .given .1)
-          (at-line .line .ensures (z .tokens) (h .going .took .ready)) .took .ready) (sym (at-kind2 .kind2 .ensures) ∙ c .if2 .left)
+          (at-line .line .ensures (z .tokens) (h .going .took .ready)) .took .ready) (sym (at-number2 .number2 .ensures) ∙ c .if2 .left)
           (omega arith),
       λ ts ready. let h = at-loop .loop .inv .1 ts ready in
           lines-again (start .args .which) h
           (at-loop .loop .inv .0)
           (next-of (at-next .next .ensures))
           (λ e. at-if1 .if1 .left
-          (at-kind .kind .ensures ∙ e))
+          (at-number .number .ensures ∙ e))
           (at-line .line .ensures ts (h .going .took .ready)) (at-r .r .given .1)
-          (sym (at-kind2 .kind2 .ensures) ∙ c .if2 .left),
+          (sym (at-number2 .number2 .ensures) ∙ c .if2 .left),
     )
 
 pub lines-spec : {M : Type 1} → statement M
@@ -199,7 +199,7 @@ lines-spec =
     μ-loop
     loop-holds
     next-requires
-    kind-requires
+    number-requires
     next-requires-2
     same-length
     returns
@@ -208,7 +208,7 @@ lines-spec =
     enum-told
     same-length-2
     returns-2
-    kind-requires-2
+    number-requires-2
     expect-requires
     same-length-3
     returns-3

@@ -6,8 +6,8 @@ use Rattle.parser.proofs.blocks.optional.Tie as tie
 use borrow.Author.Needs.{needs}
 use mathlib.Core.Path.{sym, _∙_}
 
-kind-requires : tie.Need-kind-requires
-kind-requires c κs = search needs
+number-requires : tie.Need-number-requires
+number-requires c κs = search needs
 
 same-length : tie.Need-same-length
 same-length c = search needs
@@ -15,23 +15,23 @@ same-length c = search needs
 returns : tie.Need-returns
 returns c =
     let start = c .before .before .before .before in
-    λ s spells ts ready. optional-missing (start .args .which) ready s spells (λ e. c .if1 .taken (c .before .kind .ensures ∙ e))
+    λ s spells ts ready. optional-missing (start .args .which) ready s spells (λ e. c .if1 .taken (c .before .number .ensures ∙ e))
 
 next-requires : tie.Need-next-requires
 next-requires c κs =
     let start = c .before .before .before .before in
-    next-fits (start .pre .0 .ready) (sym (c .before .kind .ensures) ∙ c .if1 .left) (start .pre .1)
+    next-fits (start .pre .0 .ready) (sym (c .before .number .ensures) ∙ c .if1 .left) (start .pre .1)
 
 block-requires : tie.Need-block-requires
 block-requires c κs =
     let at-if1 = c .before .before in
-    let at-kind = at-if1 .before in
-    let start = at-kind .before .before .before in
+    let at-number = at-if1 .before in
+    let start = at-number .before .before .before in
     record {
       tokens = start .pre .0 .tokens;
       ready = past-ready (start .pre .0 .ready)
           (next-of (c .before .next .ensures)) (inside (start .pre .0 .ready)
-          (sym (at-kind .kind .ensures) ∙ at-if1 .if1 .left) (start .pre .1));
+          (sym (at-number .number .ensures) ∙ at-if1 .if1 .left) (start .pre .1));
     }
 
 same-length-2 : tie.Need-same-length-2
@@ -42,16 +42,16 @@ returns-2 c =
     let at-block = c .before .before in
     let at-next = at-block .before .before in
     let at-if1 = at-next .before in
-    let at-kind = at-if1 .before in
-    let start = at-kind .before .before .before in
-    λ s spells ts ready. optional-read (start .args .which) ready s spells (sym (at-kind .kind .ensures) ∙ at-if1 .if1 .left) (start .pre .1) (next-of (at-next .next .ensures)) (at-block .block
-    .ensures ts (past-ready ready (next-of (at-next .next .ensures)) (inside ready (sym (at-kind .kind .ensures) ∙ at-if1 .if1 .left) (start .pre .1))))
+    let at-number = at-if1 .before in
+    let start = at-number .before .before .before in
+    λ s spells ts ready. optional-read (start .args .which) ready s spells (sym (at-number .number .ensures) ∙ at-if1 .if1 .left) (start .pre .1) (next-of (at-next .next .ensures)) (at-block .block
+    .ensures ts (past-ready ready (next-of (at-next .next .ensures)) (inside ready (sym (at-number .number .ensures) ∙ at-if1 .if1 .left) (start .pre .1))))
 
 pub optional-spec : {M : Type 1} → statement M
 optional-spec =
     tie.close
     (tie.spec
-    kind-requires
+    number-requires
     same-length
     returns
     next-requires

@@ -49,8 +49,8 @@ returns c =
     let at-loop = at-identifier .before .before in
     λ ts ready. let h = at-loop .loop .inv ts ready in let r = at-identifier .identifier .ensures ts (h .going .took .ready) in identifiers-stop h r (c .enum-told .given .1)
 
-kind-requires : tie.Need-kind-requires Inv-loop μ-loop
-kind-requires c κs =
+number-requires : tie.Need-number-requires Inv-loop μ-loop
+number-requires c κs =
     let at-r = c .before .before in
     let at-identifier = at-r .before .before .before .before in
     let at-loop = at-identifier .before .before in
@@ -74,7 +74,7 @@ returns-2 c =
     let at-identifier = at-r .before .before .before .before in
     let at-loop = at-identifier .before .before in
     λ ts ready. let h = at-loop .loop .inv ts ready in let r = at-identifier .identifier .ensures ts (h .going .took .ready) in identifiers-end h r (at-r .r .given .1) (λ e. c .if1 .taken (c
-    .before .kind .ensures ∙ e))
+    .before .number .ensures ∙ e))
 
 loop-less : tie.Need-loop-less Inv-loop μ-loop
 loop-less c =
@@ -92,7 +92,7 @@ loop-again c =
     let at-r = c .before .before .before .before in
     let at-identifier = at-r .before .before .before .before in
     let at-loop = at-identifier .before .before in
-    λ ts ready. let h = at-loop .loop .inv ts ready in let r = at-identifier .identifier .ensures ts (h .going .took .ready) in identifiers-again h r (at-r .r .given .1) (sym (c .before .kind
+    λ ts ready. let h = at-loop .loop .inv ts ready in let r = at-identifier .identifier .ensures ts (h .going .took .ready) in identifiers-again h r (at-r .r .given .1) (sym (c .before .number
     .ensures) ∙ c .if1 .left) (took-some (accepted (at-r .r .given .1) r .took))
 
 pub identifiers-spec : {M : Type 1} → statement M
@@ -107,7 +107,7 @@ identifiers-spec =
     enum-told
     same-length
     returns
-    kind-requires
+    number-requires
     same-length-2
     returns-2
     loop-less

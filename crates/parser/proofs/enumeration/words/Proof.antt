@@ -51,8 +51,8 @@ returns c =
     let at-loop = at-leaf .before .before in
     λ ts ready. let h = at-loop .loop .inv ts ready in let r = at-leaf .leaf .ensures Marks (record { plain = refl; same = refl }) ts (h .going .took .ready) in words-stop h r (c .enum-told .given .1)
 
-kind-requires : tie.Need-kind-requires Inv-loop μ-loop
-kind-requires c κs =
+number-requires : tie.Need-number-requires Inv-loop μ-loop
+number-requires c κs =
     let at-r = c .before .before in
     let at-leaf = at-r .before .before .before .before in
     let at-loop = at-leaf .before .before in
@@ -78,7 +78,7 @@ returns-2 c =
     let at-leaf = at-r .before .before .before .before in
     let at-loop = at-leaf .before .before in
     λ ts ready. let h = at-loop .loop .inv ts ready in let r = at-leaf .leaf .ensures Marks (record { plain = refl; same = refl }) ts (h .going .took .ready) in words-end h r (at-r .r .given .1)
-    (λ e. c .if1 .taken (c .before .kind .ensures ∙ e))
+    (λ e. c .if1 .taken (c .before .number .ensures ∙ e))
 
 next-requires : tie.Need-next-requires Inv-loop μ-loop
 next-requires c κs =
@@ -89,12 +89,12 @@ next-requires c κs =
     let p = start .pre in
     let h = at-loop .loop .inv (p .tokens) (p .ready) in
     let r = at-leaf .leaf .ensures Marks (record { plain = refl; same = refl }) (p .tokens) (h .going .took .ready) in
-    next-fits (accepted (at-r .r .given .1) r .took .ready) (sym (c .before .kind .ensures) ∙ c .if1 .left) (omega arith)
+    next-fits (accepted (at-r .r .given .1) r .took .ready) (sym (c .before .number .ensures) ∙ c .if1 .left) (omega arith)
 
 loop-less : tie.Need-loop-less Inv-loop μ-loop
 loop-less c =
-    let at-kind = c .before .before in
-    let at-r = at-kind .before .before .before in
+    let at-number = c .before .before in
+    let at-r = at-number .before .before .before in
     let at-leaf = at-r .before .before .before .before in
     let at-loop = at-leaf .before .before in
     let start = at-loop .before .before in
@@ -102,16 +102,16 @@ loop-less c =
     let h = at-loop .loop .inv (p .tokens) (p .ready) in
     let r = at-leaf .leaf .ensures Marks (record { plain = refl; same = refl }) (p .tokens) (h .going .took .ready) in
     let t = accepted (at-r .r .given .1) r .took in
-    turn-falls (t .ready) (t .onward) (sym (at-kind .kind .ensures) ∙ c .before .if1 .left) (omega arith) (c .next .ensures)
+    turn-falls (t .ready) (t .onward) (sym (at-number .number .ensures) ∙ c .before .if1 .left) (omega arith) (c .next .ensures)
 
 loop-again : tie.Need-loop-again Inv-loop μ-loop
 loop-again c =
-    let at-kind = c .before .before in
-    let at-r = at-kind .before .before .before in
+    let at-number = c .before .before in
+    let at-r = at-number .before .before .before in
     let at-leaf = at-r .before .before .before .before in
     let at-loop = at-leaf .before .before in
     λ ts ready. let h = at-loop .loop .inv ts ready in let r = at-leaf .leaf .ensures Marks (record { plain = refl; same = refl }) ts (h .going .took .ready) in words-again h r (at-r .r .given .1)
-    (sym (at-kind .kind .ensures) ∙ c .before .if1 .left) (c .next .ensures)
+    (sym (at-number .number .ensures) ∙ c .before .if1 .left) (c .next .ensures)
 
 pub words-spec : {M : Type 1} → statement M
 words-spec =
@@ -125,7 +125,7 @@ words-spec =
     enum-told
     same-length
     returns
-    kind-requires
+    number-requires
     same-length-2
     returns-2
     next-requires

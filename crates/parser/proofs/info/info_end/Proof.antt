@@ -9,29 +9,29 @@ use borrow.Author.Needs.{needs}
 use mathlib.Core.Path.{refl, sym, _∙_}
 use native.Mathlib.Omega.{arith}
 
-kind-requires : tie.Need-kind-requires
-kind-requires c κs = search needs
+number-requires : tie.Need-number-requires
+number-requires c κs = search needs
 
 expect-requires : tie.Need-expect-requires
 expect-requires c κs = search needs
 
 returns : tie.Need-returns
 returns c =
-    let at-kind = c .before .before in
-    λ ts ready. no-tags ready (λ e. c .before .if1 .taken (at-kind .kind .ensures ∙ e)) (c .expect .ensures)
+    let at-number = c .before .before in
+    λ ts ready. no-tags ready (λ e. c .before .if1 .taken (at-number .number .ensures ∙ e)) (c .expect .ensures)
 
 next-requires : tie.Need-next-requires
 next-requires c κs =
     let start = c .before .before .before in
-    let z = start .pre in next-fits (z .ready) (sym (c .before .kind .ensures) ∙ c .if1 .left) (omega arith)
+    let z = start .pre in next-fits (z .ready) (sym (c .before .number .ensures) ∙ c .if1 .left) (omega arith)
 
 expect-requires-2 : tie.Need-expect-requires-2
 expect-requires-2 c κs =
-    let at-kind = c .before .before in
-    let start = at-kind .before .before in
+    let at-number = c .before .before in
+    let start = at-number .before .before in
     let z = start .pre in (
       (past-ready (z .ready) (next-of (c .next .ensures))
-          (inside (z .ready) (sym (at-kind .kind .ensures) ∙ c .before .if1 .left) (omega arith))) .fits,
+          (inside (z .ready) (sym (at-number .number .ensures) ∙ c .before .if1 .left) (omega arith))) .fits,
       omega arith,
     )
 
@@ -46,9 +46,9 @@ returns-2 c =
     let at-expect2 = c .before .before in
     let at-next = at-expect2 .before in
     let at-if1 = at-next .before in
-    let at-kind = at-if1 .before in
-    λ ts ready. with-tags ready (sym (at-kind .kind .ensures) ∙ at-if1 .if1 .left) (next-of (at-next .next .ensures)) (skim-refused (expect-spelt (past-ready ready (next-of (at-next .next
-    .ensures)) (inside ready (sym (at-kind .kind .ensures) ∙ at-if1 .if1 .left) (omega arith))) ":" (record { known = refl; same = refl }) (at-expect2 .expect2 .ensures)) _ (c .enum-told .given
+    let at-number = at-if1 .before in
+    λ ts ready. with-tags ready (sym (at-number .number .ensures) ∙ at-if1 .if1 .left) (next-of (at-next .next .ensures)) (skim-refused (expect-spelt (past-ready ready (next-of (at-next .next
+    .ensures)) (inside ready (sym (at-number .number .ensures) ∙ at-if1 .if1 .left) (omega arith))) ":" (record { known = refl; same = refl }) (at-expect2 .expect2 .ensures)) _ (c .enum-told .given
     .1))
 
 tags-requires : tie.Need-tags-requires
@@ -56,13 +56,13 @@ tags-requires c κs =
     let at-expect2 = c .before .before .before in
     let at-next = at-expect2 .before in
     let at-if1 = at-next .before in
-    let at-kind = at-if1 .before in
-    let start = at-kind .before .before in
+    let at-number = at-if1 .before in
+    let start = at-number .before .before in
     let z = start .pre in
     record {
       tokens = z .tokens;
       ready = passed-ready (past-ready (z .ready) (next-of (at-next .next .ensures))
-          (inside (z .ready) (sym (at-kind .kind .ensures) ∙ at-if1 .if1 .left) (omega arith)))
+          (inside (z .ready) (sym (at-number .number .ensures) ∙ at-if1 .if1 .left) (omega arith)))
           (passed _ _ _ (at-expect2 .expect2 .ensures) (c .before .r .given .1)) (omega arith);
     }
 
@@ -79,10 +79,10 @@ returns-3 c =
     let at-expect2 = at-r .before .before in
     let at-next = at-expect2 .before in
     let at-if1 = at-next .before in
-    let at-kind = at-if1 .before in
-    λ ts ready. with-tags ready (sym (at-kind .kind .ensures) ∙ at-if1 .if1 .left) (next-of (at-next .next .ensures)) (skim-then (expect-spelt (past-ready ready (next-of (at-next .next .ensures))
-    (inside ready (sym (at-kind .kind .ensures) ∙ at-if1 .if1 .left) (omega arith))) ":" (record { known = refl; same = refl }) (at-expect2 .expect2 .ensures)) _ (at-r .r .given .1) (λ a.
-    skim-refused (at-tags .tags .ensures ts (passed-ready (past-ready ready (next-of (at-next .next .ensures)) (inside ready (sym (at-kind .kind .ensures) ∙ at-if1 .if1 .left) (omega arith)))
+    let at-number = at-if1 .before in
+    λ ts ready. with-tags ready (sym (at-number .number .ensures) ∙ at-if1 .if1 .left) (next-of (at-next .next .ensures)) (skim-then (expect-spelt (past-ready ready (next-of (at-next .next .ensures))
+    (inside ready (sym (at-number .number .ensures) ∙ at-if1 .if1 .left) (omega arith))) ":" (record { known = refl; same = refl }) (at-expect2 .expect2 .ensures)) _ (at-r .r .given .1) (λ a.
+    skim-refused (at-tags .tags .ensures ts (passed-ready (past-ready ready (next-of (at-next .next .ensures)) (inside ready (sym (at-number .number .ensures) ∙ at-if1 .if1 .left) (omega arith)))
     (passed _ _ _ (at-expect2 .expect2 .ensures) (at-r .r .given .1)) (omega arith))) _ (c .enum-told2 .given .1)))
 
 expect-requires-3 : tie.Need-expect-requires-3
@@ -92,12 +92,12 @@ expect-requires-3 c κs =
     let at-expect2 = at-r .before .before in
     let at-next = at-expect2 .before in
     let at-if1 = at-next .before in
-    let at-kind = at-if1 .before in
-    let start = at-kind .before .before in
+    let at-number = at-if1 .before in
+    let start = at-number .before .before in
     let z = start .pre in (
       accepted (c .before .q .given .1) (at-tags .tags .ensures (z .tokens)
           (passed-ready (past-ready (z .ready) (next-of (at-next .next .ensures))
-          (inside (z .ready) (sym (at-kind .kind .ensures) ∙
+          (inside (z .ready) (sym (at-number .number .ensures) ∙
           at-if1 .if1 .left) (omega arith)))
           (passed _ _ _ (at-expect2 .expect2 .ensures) (at-r .r .given .1)) (omega arith))) .took .ready .fits,
       omega arith,
@@ -111,19 +111,19 @@ returns-4 c =
     let at-expect2 = at-r .before .before in
     let at-next = at-expect2 .before in
     let at-if1 = at-next .before in
-    let at-kind = at-if1 .before in
-    λ ts ready. with-tags ready (sym (at-kind .kind .ensures) ∙ at-if1 .if1 .left) (next-of (at-next .next .ensures)) (skim-then (expect-spelt (past-ready ready (next-of (at-next .next .ensures))
-    (inside ready (sym (at-kind .kind .ensures) ∙ at-if1 .if1 .left) (omega arith))) ":" (record { known = refl; same = refl }) (at-expect2 .expect2 .ensures)) _ (at-r .r .given .1) (λ a.
-    skim-then (at-tags .tags .ensures ts (passed-ready (past-ready ready (next-of (at-next .next .ensures)) (inside ready (sym (at-kind .kind .ensures) ∙ at-if1 .if1 .left) (omega arith))) (passed
+    let at-number = at-if1 .before in
+    λ ts ready. with-tags ready (sym (at-number .number .ensures) ∙ at-if1 .if1 .left) (next-of (at-next .next .ensures)) (skim-then (expect-spelt (past-ready ready (next-of (at-next .next .ensures))
+    (inside ready (sym (at-number .number .ensures) ∙ at-if1 .if1 .left) (omega arith))) ":" (record { known = refl; same = refl }) (at-expect2 .expect2 .ensures)) _ (at-r .r .given .1) (λ a.
+    skim-then (at-tags .tags .ensures ts (passed-ready (past-ready ready (next-of (at-next .next .ensures)) (inside ready (sym (at-number .number .ensures) ∙ at-if1 .if1 .left) (omega arith))) (passed
     _ _ _ (at-expect2 .expect2 .ensures) (at-r .r .given .1)) (omega arith))) _ (at-q .q .given .1) (λ b. expect-spelt (accepted (at-q .q .given .1) (at-tags .tags .ensures ts (passed-ready
-    (past-ready ready (next-of (at-next .next .ensures)) (inside ready (sym (at-kind .kind .ensures) ∙ at-if1 .if1 .left) (omega arith))) (passed _ _ _ (at-expect2 .expect2 .ensures) (at-r .r
+    (past-ready ready (next-of (at-next .next .ensures)) (inside ready (sym (at-number .number .ensures) ∙ at-if1 .if1 .left) (omega arith))) (passed _ _ _ (at-expect2 .expect2 .ensures) (at-r .r
     .given .1)) (omega arith))) .took .ready) "}" (record { known = refl; same = refl }) (c .expect3 .ensures))))
 
 pub info-end-spec : {M : Type 1} → statement M
 info-end-spec =
     tie.close
     (tie.spec
-    kind-requires
+    number-requires
     expect-requires
     returns
     next-requires

@@ -7,33 +7,33 @@ use borrow.Author.Needs.{needs}
 use mathlib.Core.Path.{sym, _∙_}
 use native.Mathlib.Omega.{arith}
 
-kind-requires : tie.Need-kind-requires
-kind-requires c κs = search needs
+number-requires : tie.Need-number-requires
+number-requires c κs = search needs
 
 returns : tie.Need-returns
 returns c =
-    λ ts ready. strict-none ready (λ e. c .if1 .taken (c .before .kind .ensures ∙ e))
+    λ ts ready. strict-none ready (λ e. c .if1 .taken (c .before .number .ensures ∙ e))
 
 next-requires : tie.Need-next-requires
 next-requires c κs =
     let start = c .before .before .before in
-    let z = start .pre in next-fits (z .ready) (sym (c .before .kind .ensures) ∙ c .if1 .left) (omega arith)
+    let z = start .pre in next-fits (z .ready) (sym (c .before .number .ensures) ∙ c .if1 .left) (omega arith)
 
 expect-requires : tie.Need-expect-requires
 expect-requires c κs =
-    let at-kind = c .before .before in
-    let start = at-kind .before .before in
+    let at-number = c .before .before in
+    let start = at-number .before .before in
     let z = start .pre in (
       past-ready (z .ready) (next-of (c .next .ensures))
-          (inside (z .ready) (sym (at-kind .kind .ensures) ∙ c .before .if1 .left) (omega arith)) .fits,
+          (inside (z .ready) (sym (at-number .number .ensures) ∙ c .before .if1 .left) (omega arith)) .fits,
       omega arith,
     )
 
 returns-2 : tie.Need-returns-2
 returns-2 c =
     let at-if1 = c .before .before in
-    let at-kind = at-if1 .before in
-    λ ts ready. strict-some ready (sym (at-kind .kind .ensures) ∙ at-if1 .if1 .left) (next-of (c .before .next .ensures)) (c .expect .ensures)
+    let at-number = at-if1 .before in
+    λ ts ready. strict-some ready (sym (at-number .number .ensures) ∙ at-if1 .if1 .left) (next-of (c .before .next .ensures)) (c .expect .ensures)
 
 pub strict-spec : {M : Type 1} → statement M
-strict-spec = tie.close (tie.spec kind-requires returns next-requires expect-requires returns-2)
+strict-spec = tie.close (tie.spec number-requires returns next-requires expect-requires returns-2)

@@ -7,26 +7,26 @@ use borrow.Author.Needs.{needs}
 use mathlib.Core.Path.{sym, _∙_}
 use native.Mathlib.Omega.{arith}
 
-kind-requires : tie.Need-kind-requires
-kind-requires c κs = search needs
+number-requires : tie.Need-number-requires
+number-requires c κs = search needs
 
 next-requires : tie.Need-next-requires
 next-requires c κs =
     let start = c .before .before .before in
-    let z = start .pre in next-fits (z .ready) (sym (c .before .kind .ensures) ∙ c .if1 .taken) (omega arith)
+    let z = start .pre in next-fits (z .ready) (sym (c .before .number .ensures) ∙ c .if1 .taken) (omega arith)
 
 returns : tie.Need-returns
 returns c =
-    let at-kind = c .before .before in
-    λ ts ready. tag-first ready (sym (at-kind .kind .ensures) ∙ c .before .if1 .taken) (next-of (c .next .ensures))
+    let at-number = c .before .before in
+    λ ts ready. tag-first ready (sym (at-number .number .ensures) ∙ c .before .if1 .taken) (next-of (c .next .ensures))
 
 expect-requires : tie.Need-expect-requires
 expect-requires c κs = search needs
 
 returns-2 : tie.Need-returns-2
 returns-2 c =
-    let at-kind = c .before .before in
-    λ ts ready. tag-second ready (λ e. c .before .if1 .left (at-kind .kind .ensures ∙ e)) (c .expect .ensures)
+    let at-number = c .before .before in
+    λ ts ready. tag-second ready (λ e. c .before .if1 .left (at-number .number .ensures ∙ e)) (c .expect .ensures)
 
 pub tag-spec : {M : Type 1} → statement M
-tag-spec = tie.close (tie.spec kind-requires next-requires returns expect-requires returns-2)
+tag-spec = tie.close (tie.spec number-requires next-requires returns expect-requires returns-2)

@@ -41,8 +41,8 @@ returns c =
     let at-loop = at-tag .before in
     λ ts ready. let h = at-loop .loop .inv ts ready in let r = at-tag .tag .ensures ts (h .took .ready) in tags-stop h r (c .enum-told .given .1)
 
-kind-requires : tie.Need-kind-requires Inv-loop μ-loop
-kind-requires c κs =
+number-requires : tie.Need-number-requires Inv-loop μ-loop
+number-requires c κs =
     let at-tag = c .before .before .before in
     let at-loop = at-tag .before in
     let start = at-loop .before .before in
@@ -54,7 +54,7 @@ returns-2 c =
     let at-r = c .before .before .before in
     let at-tag = at-r .before .before in
     let at-loop = at-tag .before in
-    λ ts ready. let h = at-loop .loop .inv ts ready in let r = at-tag .tag .ensures ts (h .took .ready) in tags-end h r (at-r .r .given .1) (λ e. c .if1 .taken (c .before .kind .ensures ∙ e))
+    λ ts ready. let h = at-loop .loop .inv ts ready in let r = at-tag .tag .ensures ts (h .took .ready) in tags-end h r (at-r .r .given .1) (λ e. c .if1 .taken (c .before .number .ensures ∙ e))
 
 next-requires : tie.Need-next-requires Inv-loop μ-loop
 next-requires c κs =
@@ -64,27 +64,27 @@ next-requires c κs =
     let start = at-loop .before .before in
     let z = start .pre in let h = at-loop .loop .inv (z .tokens) (z .ready) in
     let r = at-tag .tag .ensures (z .tokens) (h .took .ready) in
-    next-fits (accepted (at-r .r .given .1) r .took .ready) (sym (c .before .kind .ensures) ∙ c .if1 .left) (omega arith)
+    next-fits (accepted (at-r .r .given .1) r .took .ready) (sym (c .before .number .ensures) ∙ c .if1 .left) (omega arith)
 
 loop-less : tie.Need-loop-less Inv-loop μ-loop
 loop-less c =
-    let at-kind = c .before .before in
-    let at-r = at-kind .before .before in
+    let at-number = c .before .before in
+    let at-r = at-number .before .before in
     let at-tag = at-r .before .before in
     let at-loop = at-tag .before in
     let start = at-loop .before .before in
     let z = start .pre in
     let h = at-loop .loop .inv (z .tokens) (z .ready) in
     let r = at-tag .tag .ensures (z .tokens) (h .took .ready) in let t = accepted (at-r .r .given .1) r .took in
-    turn-falls (t .ready) (t .onward) (sym (at-kind .kind .ensures) ∙ c .before .if1 .left) (omega arith) (c .next .ensures)
+    turn-falls (t .ready) (t .onward) (sym (at-number .number .ensures) ∙ c .before .if1 .left) (omega arith) (c .next .ensures)
 
 loop-again : tie.Need-loop-again Inv-loop μ-loop
 loop-again c =
-    let at-kind = c .before .before in
-    let at-r = at-kind .before .before in
+    let at-number = c .before .before in
+    let at-r = at-number .before .before in
     let at-tag = at-r .before .before in
     let at-loop = at-tag .before in
-    λ ts ready. let h = at-loop .loop .inv ts ready in let r = at-tag .tag .ensures ts (h .took .ready) in tags-again h r (at-r .r .given .1) (sym (at-kind .kind .ensures) ∙ c .before .if1 .left)
+    λ ts ready. let h = at-loop .loop .inv ts ready in let r = at-tag .tag .ensures ts (h .took .ready) in tags-again h r (at-r .r .given .1) (sym (at-number .number .ensures) ∙ c .before .if1 .left)
     (next-of (c .next .ensures))
 
 pub tags-spec : {M : Type 1} → statement M
@@ -98,7 +98,7 @@ tags-spec =
     enum-known-r
     enum-told
     returns
-    kind-requires
+    number-requires
     returns-2
     next-requires
     loop-less

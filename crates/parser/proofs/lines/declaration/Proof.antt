@@ -24,8 +24,8 @@ returns c =
     let at-expect = c .before .before in
     λ ts ready. declaration-name ready (at-expect .expect .ensures) (c .enum-told .given .1)
 
-kind-requires : tie.Need-kind-requires
-kind-requires c κs =
+number-requires : tie.Need-number-requires
+number-requires c κs =
     let at-r = c .before .before in
     let at-expect = at-r .before .before in
     let start = at-expect .before .before .before in
@@ -34,14 +34,14 @@ kind-requires c κs =
 
 bus-requires : tie.Need-bus-requires
 bus-requires c κs =
-    let at-kind = c .before .before in
-    let at-r = at-kind .before .before .before in
+    let at-number = c .before .before in
+    let at-r = at-number .before .before .before in
     let at-expect = at-r .before .before in
     let start = at-expect .before .before .before in
     let z = start .pre in (
       z,
       bus-within (z .ready) (passed _ _ _ (at-expect .expect .ensures) (at-r .r .given .1))
-          (sym (at-kind .kind .ensures) ∙ c .before .if1 .taken),
+          (sym (at-number .number .ensures) ∙ c .before .if1 .taken),
     )
 
 same-length-2 : tie.Need-same-length-2
@@ -51,30 +51,30 @@ returns-2 : tie.Need-returns-2
 returns-2 c =
     let at-bus = c .before .before in
     let at-if1 = at-bus .before .before in
-    let at-kind = at-if1 .before in
-    let at-r = at-kind .before .before .before in
+    let at-number = at-if1 .before in
+    let at-r = at-number .before .before .before in
     let at-expect = at-r .before .before in
-    λ ts ready. declaration-bus ready (passed _ _ _ (at-expect .expect .ensures) (at-r .r .given .1)) (sym (at-kind .kind .ensures) ∙ at-if1 .if1 .taken) (at-bus .bus .ensures ts ready)
+    λ ts ready. declaration-bus ready (passed _ _ _ (at-expect .expect .ensures) (at-r .r .given .1)) (sym (at-number .number .ensures) ∙ at-if1 .if1 .taken) (at-bus .bus .ensures ts ready)
 
 next-requires : tie.Need-next-requires
 next-requires c κs =
-    let at-kind = c .before .before in
-    let at-r = at-kind .before .before .before in
+    let at-number = c .before .before in
+    let at-r = at-number .before .before .before in
     let at-expect = at-r .before .before in
     let start = at-expect .before .before .before in
     let z = start .pre in
-    next-fits (name-ready (z .ready) (passed _ _ _ (at-expect .expect .ensures) (at-r .r .given .1))) (sym (at-kind .kind .ensures) ∙ c .if2 .taken) (omega arith)
+    next-fits (name-ready (z .ready) (passed _ _ _ (at-expect .expect .ensures) (at-r .r .given .1))) (sym (at-number .number .ensures) ∙ c .if2 .taken) (omega arith)
 
 emit-requires : tie.Need-emit-requires
 emit-requires c κs =
     let at-if2 = c .before .before in
     let at-if1 = at-if2 .before in
-    let at-kind = at-if1 .before in
-    let at-r = at-kind .before .before .before in
+    let at-number = at-if1 .before in
+    let at-r = at-number .before .before .before in
     let at-expect = at-r .before .before in
     let start = at-expect .before .before .before in
     let z = start .pre in
-    first-writes (z .ready) (passed _ _ _ (at-expect .expect .ensures) (at-r .r .given .1)) (λ e. at-if1 .if1 .left (at-kind .kind .ensures ∙ e)) (sym (at-kind .kind .ensures) ∙ at-if2 .if2
+    first-writes (z .ready) (passed _ _ _ (at-expect .expect .ensures) (at-r .r .given .1)) (λ e. at-if1 .if1 .left (at-number .number .ensures ∙ e)) (sym (at-number .number .ensures) ∙ at-if2 .if2
     .taken) (next-of (c .before .next .ensures))
 
 emit-requires-2 : tie.Need-emit-requires-2
@@ -83,12 +83,12 @@ emit-requires-2 c κs =
     let at-next = at-emit .before .before in
     let at-if2 = at-next .before in
     let at-if1 = at-if2 .before in
-    let at-kind = at-if1 .before in
-    let at-r = at-kind .before .before .before in
+    let at-number = at-if1 .before in
+    let at-r = at-number .before .before .before in
     let at-expect = at-r .before .before in
     let start = at-expect .before .before .before in
     let z = start .pre in
-    second-writes (z .ready) (passed _ _ _ (at-expect .expect .ensures) (at-r .r .given .1)) (λ e. at-if1 .if1 .left (at-kind .kind .ensures ∙ e)) (sym (at-kind .kind .ensures) ∙ at-if2 .if2
+    second-writes (z .ready) (passed _ _ _ (at-expect .expect .ensures) (at-r .r .given .1)) (λ e. at-if1 .if1 .left (at-number .number .ensures ∙ e)) (sym (at-number .number .ensures) ∙ at-if2 .if2
     .taken) (next-of (at-next .next .ensures)) (at-emit .emit .ensures .0) (at-emit .emit .ensures .1)
 
 same-length-3 : tie.Need-same-length-3
@@ -101,21 +101,21 @@ returns-3 c =
     let at-next = at-emit .before .before in
     let at-if2 = at-next .before in
     let at-if1 = at-if2 .before in
-    let at-kind = at-if1 .before in
-    let at-r = at-kind .before .before .before in
+    let at-number = at-if1 .before in
+    let at-r = at-number .before .before .before in
     let at-expect = at-r .before .before in
-    λ ts ready. declaration-typed ready (passed _ _ _ (at-expect .expect .ensures) (at-r .r .given .1)) (λ e. at-if1 .if1 .left (at-kind .kind .ensures ∙ e)) (sym (at-kind .kind .ensures) ∙ at-if2
+    λ ts ready. declaration-typed ready (passed _ _ _ (at-expect .expect .ensures) (at-r .r .given .1)) (λ e. at-if1 .if1 .left (at-number .number .ensures ∙ e)) (sym (at-number .number .ensures) ∙ at-if2
     .if2 .taken) (next-of (at-next .next .ensures)) (at-emit .emit .ensures .0) (at-emit .emit .ensures .1) (at-emit2 .emit2 .ensures .0) (at-emit2 .emit2 .ensures .1)
 
 emit-requires-3 : tie.Need-emit-requires-3
 emit-requires-3 c κs =
     let at-if1 = c .before .before in
-    let at-kind = at-if1 .before in
-    let at-r = at-kind .before .before .before in
+    let at-number = at-if1 .before in
+    let at-r = at-number .before .before .before in
     let at-expect = at-r .before .before in
     let start = at-expect .before .before .before in
     let z = start .pre in
-    signal-writes (z .ready) (passed _ _ _ (at-expect .expect .ensures) (at-r .r .given .1)) (λ e. at-if1 .if1 .left (at-kind .kind .ensures ∙ e)) (λ e. c .before .if2 .left (at-kind .kind
+    signal-writes (z .ready) (passed _ _ _ (at-expect .expect .ensures) (at-r .r .given .1)) (λ e. at-if1 .if1 .left (at-number .number .ensures ∙ e)) (λ e. c .before .if2 .left (at-number .number
     .ensures ∙ e))
 
 same-length-4 : tie.Need-same-length-4
@@ -126,11 +126,11 @@ returns-4 c =
     let at-emit3 = c .before .before in
     let at-if2 = at-emit3 .before .before in
     let at-if1 = at-if2 .before in
-    let at-kind = at-if1 .before in
-    let at-r = at-kind .before .before .before in
+    let at-number = at-if1 .before in
+    let at-r = at-number .before .before .before in
     let at-expect = at-r .before .before in
-    λ ts ready. declaration-signal ready (passed _ _ _ (at-expect .expect .ensures) (at-r .r .given .1)) (λ e. at-if1 .if1 .left (at-kind .kind .ensures ∙ e)) (λ e. at-if2 .if2 .left (at-kind
-    .kind .ensures ∙ e)) (at-emit3 .emit3 .ensures .0) (at-emit3 .emit3 .ensures .1)
+    λ ts ready. declaration-signal ready (passed _ _ _ (at-expect .expect .ensures) (at-r .r .given .1)) (λ e. at-if1 .if1 .left (at-number .number .ensures ∙ e)) (λ e. at-if2 .if2 .left (at-number
+    .number .ensures ∙ e)) (at-emit3 .emit3 .ensures .0) (at-emit3 .emit3 .ensures .1)
 
 pub declaration-spec : {M : Type 1} → statement M
 declaration-spec =
@@ -141,7 +141,7 @@ declaration-spec =
     enum-told
     same-length
     returns
-    kind-requires
+    number-requires
     bus-requires
     same-length-2
     returns-2

@@ -11,7 +11,7 @@ use native.Mathlib.Omega.{arith}
 
 returns : tie.Need-returns
 returns c =
-    heading-out (c .before .args .kind) (λ n l h e. omega (arith, c .if1 .taken))
+    heading-out (c .before .args .number) (λ n l h e. omega (arith, c .if1 .taken))
 
 cast-i : tie.Need-cast-i
 cast-i c = search needs
@@ -25,12 +25,12 @@ array-read-result c = search needs
 returns-2 : tie.Need-returns-2
 returns-2 c =
     let start = c .before .before in
-    heading-in (start .args .kind - fixed "INPUTS") (c .if2 .taken) ∙ ap headingNumber (omega (arith, c .before .if1 .left))
+    heading-in (start .args .number - fixed "INPUTS") (c .if2 .taken) ∙ ap headingNumber (omega (arith, c .before .if1 .left))
 
 returns-3 : tie.Need-returns-3
 returns-3 c =
     let start = c .before .before in
-    heading-out (start .args .kind) (λ n l h e. omega (arith, c .before .if1 .left, c .if2 .left))
+    heading-out (start .args .number) (λ n l h e. omega (arith, c .before .if1 .left, c .if2 .left))
 
 pub heading-spec : {M : Type 1} → statement M
 heading-spec = tie.close (tie.spec returns cast-i mul-result array-read-result returns-2 returns-3)

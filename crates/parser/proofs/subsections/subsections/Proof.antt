@@ -41,8 +41,8 @@ loop-holds : tie.Need-loop-holds Inv-loop μ-loop
 loop-holds c =
     (refl, λ ts ready. standing-start ready no-marks)
 
-kind-requires : tie.Need-kind-requires Inv-loop μ-loop
-kind-requires c κs =
+number-requires : tie.Need-number-requires Inv-loop μ-loop
+number-requires c κs =
     let start = c .before .before .before in
     let z = start .pre in let h = c .before .loop .inv .1 (z .tokens) (z .ready) in h .going .took .ready .fits
 
@@ -73,9 +73,9 @@ returns : tie.Need-returns Inv-loop μ-loop
 returns c =
     let at-if1 = c .before .before in
     let at-heading = at-if1 .before in
-    let at-kind = at-heading .before in
-    let at-loop = at-kind .before .before in
-    λ ts ready. let h = at-loop .loop .inv .1 ts ready in subsections-end h (word-none h (at-heading .heading .ensures ∙ ap headingNumber (at-kind .kind .ensures)) (at-if1 .if1 .taken)) (c .ending
+    let at-number = at-heading .before in
+    let at-loop = at-number .before .before in
+    λ ts ready. let h = at-loop .loop .inv .1 ts ready in subsections-end h (word-none h (at-heading .heading .ensures ∙ ap headingNumber (at-number .number .ensures)) (at-if1 .if1 .taken)) (c .ending
     .ensures ts (h .going .took .ready))
 
 array-read-if2 : tie.Need-array-read-if2 Inv-loop μ-loop
@@ -107,22 +107,22 @@ returns-2 c =
     let at-if2 = c .before .before in
     let at-if1 = at-if2 .before in
     let at-heading = at-if1 .before in
-    let at-kind = at-heading .before in
-    let at-loop = at-kind .before .before in
-    λ ts ready. let h = at-loop .loop .inv .1 ts ready in subsections-end h (word-seen h (at-heading .heading .ensures ∙ ap headingNumber (at-kind .kind .ensures)) (below-none _ (at-heading
+    let at-number = at-heading .before in
+    let at-loop = at-number .before .before in
+    λ ts ready. let h = at-loop .loop .inv .1 ts ready in subsections-end h (word-seen h (at-heading .heading .ensures ∙ ap headingNumber (at-number .number .ensures)) (below-none _ (at-heading
     .heading .ensures) (at-if1 .if1 .left)) (marked-some _ (at-if2 .if2 .taken))) (c .ending2 .ensures ts (h .going .took .ready))
 
 subsection-requires : tie.Need-subsection-requires Inv-loop μ-loop
 subsection-requires c κs =
     let at-if1 = c .before .before in
     let at-heading = at-if1 .before in
-    let at-kind = at-heading .before in
-    let at-loop = at-kind .before .before in
+    let at-number = at-heading .before in
+    let at-loop = at-number .before .before in
     let start = at-loop .before .before in
     let z = start .pre in let h = at-loop .loop .inv .1 (z .tokens) (z .ready) in (
       record { tokens = z .tokens; ready = h .going .took .ready },
       word-inside h
-          (at-heading .heading .ensures ∙ ap headingNumber (at-kind .kind .ensures))
+          (at-heading .heading .ensures ∙ ap headingNumber (at-number .number .ensures))
           (below-none _ (at-heading .heading .ensures) (at-if1 .if1 .left)),
       (below-none _ (at-heading .heading .ensures) (at-if1 .if1 .left)),
     )
@@ -138,13 +138,13 @@ same-length-3 c =
     let at-subsection = c .before .before .before .before in
     let at-if1 = at-subsection .before .before .before in
     let at-heading = at-if1 .before in
-    let at-kind = at-heading .before in
-    let at-loop = at-kind .before .before in
+    let at-number = at-heading .before in
+    let at-loop = at-number .before .before in
     let start = at-loop .before .before in
     let z = start .pre in
     let h = at-loop .loop .inv .1 (z .tokens) (z .ready) in
-    (at-subsection .subsection .ensures (row h (at-heading .heading .ensures ∙ ap headingNumber (at-kind .kind .ensures)) (below-none _ (at-heading .heading .ensures) (at-if1 .if1 .left)) .row
-    .heading) (row-code h (at-heading .heading .ensures ∙ ap headingNumber (at-kind .kind .ensures)) (below-none _ (at-heading .heading .ensures) (at-if1 .if1 .left))) (z .tokens) (h .going .took
+    (at-subsection .subsection .ensures (row h (at-heading .heading .ensures ∙ ap headingNumber (at-number .number .ensures)) (below-none _ (at-heading .heading .ensures) (at-if1 .if1 .left)) .row
+    .heading) (row-code h (at-heading .heading .ensures ∙ ap headingNumber (at-number .number .ensures)) (below-none _ (at-heading .heading .ensures) (at-if1 .if1 .left))) (z .tokens) (h .going .took
     .ready)) .kept .len ∙ h .going .kept .len
 
 returns-3 : tie.Need-returns-3 Inv-loop μ-loop
@@ -153,11 +153,11 @@ returns-3 c =
     let at-if2 = at-subsection .before .before in
     let at-if1 = at-if2 .before in
     let at-heading = at-if1 .before in
-    let at-kind = at-heading .before in
-    let at-loop = at-kind .before .before in
-    λ ts ready. let h = at-loop .loop .inv .1 ts ready in subsections-stop h (at-heading .heading .ensures ∙ ap headingNumber (at-kind .kind .ensures)) (below-none _ (at-heading .heading
-    .ensures) (at-if1 .if1 .left)) (marked-none _ (at-if2 .if2 .left)) (at-subsection .subsection .ensures (row h (at-heading .heading .ensures ∙ ap headingNumber (at-kind .kind .ensures))
-    (below-none _ (at-heading .heading .ensures) (at-if1 .if1 .left)) .row .heading) (row-code h (at-heading .heading .ensures ∙ ap headingNumber (at-kind .kind .ensures)) (below-none _
+    let at-number = at-heading .before in
+    let at-loop = at-number .before .before in
+    λ ts ready. let h = at-loop .loop .inv .1 ts ready in subsections-stop h (at-heading .heading .ensures ∙ ap headingNumber (at-number .number .ensures)) (below-none _ (at-heading .heading
+    .ensures) (at-if1 .if1 .left)) (marked-none _ (at-if2 .if2 .left)) (at-subsection .subsection .ensures (row h (at-heading .heading .ensures ∙ ap headingNumber (at-number .number .ensures))
+    (below-none _ (at-heading .heading .ensures) (at-if1 .if1 .left)) .row .heading) (row-code h (at-heading .heading .ensures ∙ ap headingNumber (at-number .number .ensures)) (below-none _
     (at-heading .heading .ensures) (at-if1 .if1 .left))) ts (h .going .took .ready)) (c .enum-told .given .1)
 
 array-write-before : tie.Need-array-write-before Inv-loop μ-loop
@@ -173,33 +173,33 @@ loop-less c =
     let at-if2 = at-subsection .before .before in
     let at-if1 = at-if2 .before in
     let at-heading = at-if1 .before in
-    let at-kind = at-heading .before in
-    let at-loop = at-kind .before .before in
+    let at-number = at-heading .before in
+    let at-loop = at-number .before .before in
     let start = at-loop .before .before in
     let z = start .pre in
     let h = at-loop .loop .inv .1 (z .tokens) (z .ready) in
     let t = accepted (at-r .r .given .1) (at-subsection .subsection .ensures
     (row h (at-heading .heading .ensures ∙ ap headingNumber
-    (at-kind .kind .ensures))
+    (at-number .number .ensures))
     (below-none _ (at-heading .heading .ensures)
     (at-if1 .if1 .left)) .row .heading)
     (row-code h (at-heading .heading .ensures ∙ ap headingNumber
-    (at-kind .kind .ensures))
+    (at-number .number .ensures))
     (below-none _ (at-heading .heading .ensures)
     (at-if1 .if1 .left))) (z .tokens) (h .going .took .ready)) .took in
     omega (
       arith,
       subsection-further h (at-heading .heading .ensures ∙ ap headingNumber
-          (at-kind .kind .ensures))
+          (at-number .number .ensures))
           (below-none _ (at-heading .heading .ensures)
           (at-if1 .if1 .left)) (marked-none _ (at-if2 .if2 .left))
           (at-subsection .subsection .ensures
           (row h (at-heading .heading .ensures ∙ ap headingNumber
-          (at-kind .kind .ensures))
+          (at-number .number .ensures))
           (below-none _ (at-heading .heading .ensures)
           (at-if1 .if1 .left)) .row .heading)
           (row-code h (at-heading .heading .ensures ∙ ap headingNumber
-          (at-kind .kind .ensures))
+          (at-number .number .ensures))
           (below-none _ (at-heading .heading .ensures)
           (at-if1 .if1 .left))) (z .tokens) (h .going .took .ready)) (at-r .r .given .1),
       t .onward .count,
@@ -212,22 +212,22 @@ loop-again c =
     let at-if2 = at-subsection .before .before in
     let at-if1 = at-if2 .before in
     let at-heading = at-if1 .before in
-    let at-kind = at-heading .before in
-    let at-loop = at-kind .before .before in (
+    let at-number = at-heading .before in
+    let at-loop = at-number .before .before in (
       simp length-set (at-loop .loop .inv .0),
       λ ts ready. let h =
           at-loop .loop .inv .1 ts ready in
           subsections-again h (at-heading .heading .ensures ∙ ap headingNumber
-          (at-kind .kind .ensures))
+          (at-number .number .ensures))
           (below-none _ (at-heading .heading .ensures)
           (at-if1 .if1 .left)) (marked-none _ (at-if2 .if2 .left))
           (at-subsection .subsection .ensures
           (row h (at-heading .heading .ensures ∙ ap headingNumber
-          (at-kind .kind .ensures))
+          (at-number .number .ensures))
           (below-none _ (at-heading .heading .ensures)
           (at-if1 .if1 .left)) .row .heading)
           (row-code h (at-heading .heading .ensures ∙ ap headingNumber
-          (at-kind .kind .ensures))
+          (at-number .number .ensures))
           (below-none _ (at-heading .heading .ensures)
           (at-if1 .if1 .left))) ts (h .going .took .ready))
           (omega (
@@ -245,7 +245,7 @@ subsections-spec =
     Inv-loop
     μ-loop
     loop-holds
-    kind-requires
+    number-requires
     heading-requires
     array-read-ending
     array-read-ending-2

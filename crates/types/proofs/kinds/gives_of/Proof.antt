@@ -2,6 +2,7 @@
 use borrow.Author.Needs.{zero≤}
 use native.Mathlib.Omega.{arith}
 use mathlib.Core.Path.{refl}
+use Rattle.entries.specs.Kinds as Kind
 use Rattle.traversal.specs.Stretches.{stretch}
 use Rattle.types.specs.Kinds.{giving}
 use Rattle.types.specs.CodeLaws.{gives-by}
@@ -25,4 +26,4 @@ gives-of-spec =
     (λ c. gives-by _ _ _ 1 (stretch giving (c .before .if10 .left) (c .if11 .taken) refl))
     (λ c. gives-by _ _ _ 2 (stretch giving (c .before .if11 .left) (c .if12 .taken) refl))
     (λ c. gives-by _ _ _ 1 (stretch giving (c .before .if12 .left) (c .if13 .taken) refl))
-    (λ c. gives-by _ _ _ 8 (stretch giving {b = 64} (c .if13 .left) (omega arith) refl)))
+    (λ c. gives-by _ _ _ 8 (stretch giving {b = Kind.limit} (c .if13 .left) (omega arith) refl)))

@@ -2,6 +2,7 @@
 use borrow.Author.Needs.{zero≤}
 use native.Mathlib.Omega.{arith}
 use mathlib.Core.Path.{refl}
+use Rattle.entries.specs.Kinds as Kind
 use Rattle.traversal.specs.Stretches.{stretch}
 use Rattle.types.specs.Kinds.{lastTakes}
 use Rattle.types.proofs.kinds.last_takes.Statement.{statement}
@@ -35,4 +36,4 @@ last-takes-spec =
     (λ c. stretch lastTakes (c .before .if21 .left) (c .if22 .taken) refl)
     (λ c. stretch lastTakes (c .before .if22 .left) (c .if23 .taken) refl)
     (λ c. stretch lastTakes (c .before .if23 .left) (c .if24 .taken) refl)
-    (λ c. stretch lastTakes {b = 64} (c .if24 .left) (omega arith) refl))
+    (λ c. stretch lastTakes {b = Kind.limit} (c .if24 .left) (omega arith) refl))

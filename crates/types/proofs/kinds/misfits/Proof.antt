@@ -12,11 +12,11 @@ use Rattle.types.proofs.kinds.misfits.Statement.{statement}
 use Rattle.types.proofs.kinds.misfits.Tie as tie
 
 abbrev Inv-loop : tie.InvT-loop
-Inv-loop other last kinds starts from to found₀ i₀ found i = first (placeIn found) (misfits other last (slice i to kinds) (slice i to starts)) ≡ misfits other last (slice from to kinds)
+Inv-loop other last types starts from to found₀ i₀ found i = first (placeIn found) (misfits other last (slice i to types) (slice i to starts)) ≡ misfits other last (slice from to types)
     (slice from to starts)
 
 abbrev μ-loop : tie.MeasureT-loop
-μ-loop other last kinds starts from to found₀ i₀ found i = to - i
+μ-loop other last types starts from to found₀ i₀ found i = to - i
 
 loop-holds : tie.Need-loop-holds Inv-loop μ-loop
 unfolding placeIn
@@ -48,7 +48,7 @@ returns c =
     let at-if1 = c .before .before .before .before in
     let at-loop = at-if1 .before .before in
     let start = at-loop .before .before .before in
-    found-last (start .args .other) (start .args .last) (start .args .kinds .now) (start .args .starts .now) ((at-loop .loop) .i) (start .args .to) (start .pre .0) (start .pre .1)
+    found-last (start .args .other) (start .args .last) (start .args .types .now) (start .args .starts .now) ((at-loop .loop) .i) (start .args .to) (start .pre .0) (start .pre .1)
     ((at-loop .loop) .found) _ ((at-loop .loop) .inv) ((c .before .misfit) .result) _ ((c .first) .ensures) ((at-if1 .if1) .taken) ((c .before .misfit) .ensures)
 
 mul-misfit-3 : tie.Need-mul-misfit-3 Inv-loop μ-loop
@@ -81,14 +81,14 @@ loop-again c =
     let at-loop-test = at-if1 .before in
     let at-loop = at-loop-test .before in
     let start = at-loop .before .before .before in
-    found-other (start .args .other) (start .args .last) (start .args .kinds .now) (start .args .starts .now) ((at-loop .loop) .i) (start .args .to) (start .pre .0) (start .pre .1)
+    found-other (start .args .other) (start .args .last) (start .args .types .now) (start .args .starts .now) ((at-loop .loop) .i) (start .args .to) (start .pre .0) (start .pre .1)
     ((at-loop .loop) .found) _ ((at-loop .loop) .inv) ((c .before .misfit2) .result) _ ((c .first2) .ensures) ((at-loop-test .loop-test) .taken) ((at-if1 .if1) .left)
     ((c .before .misfit2) .ensures)
 
 returns-2 : tie.Need-returns-2 Inv-loop μ-loop
 returns-2 c =
     let start = c .before .before .before .before in
-    found-all (start .args .other) (start .args .last) (start .args .kinds .now) (start .args .starts .now) ((c .before .loop) .i) (start .args .to) (start .pre .0) (start .pre .1)
+    found-all (start .args .other) (start .args .last) (start .args .types .now) (start .args .starts .now) ((c .before .loop) .i) (start .args .to) (start .pre .0) (start .pre .1)
     ((c .before .loop) .found) _ ((c .before .loop) .inv) ((c .loop-test) .left)
 
 pub misfits-spec : {M : Type 1} → statement M

@@ -2,6 +2,7 @@
 use borrow.Author.Needs.{zero≤}
 use native.Mathlib.Omega.{arith}
 use mathlib.Core.Path.{refl}
+use Rattle.entries.specs.Kinds as Kind
 use Rattle.traversal.specs.Stretches.{stretch}
 use Rattle.types.specs.Kinds.{otherTakes}
 use Rattle.types.proofs.kinds.others_take.Statement.{statement}
@@ -24,4 +25,4 @@ others-take-spec =
     (λ c. stretch otherTakes (c .before .if10 .left) (c .if11 .taken) refl)
     (λ c. stretch otherTakes (c .before .if11 .left) (c .if12 .taken) refl)
     (λ c. stretch otherTakes (c .before .if12 .left) (c .if13 .taken) refl)
-    (λ c. stretch otherTakes {b = 64} (c .if13 .left) (omega arith) refl))
+    (λ c. stretch otherTakes {b = Kind.limit} (c .if13 .left) (omega arith) refl))

@@ -38,7 +38,7 @@ returns c =
     let at-takes = at-if1 .before in
     let start = at-takes .before .before .before in
     let sides = sym ((at-takes .others-take) .ensures) ∙ (at-if1 .if1) .taken in
-    wrong-sides (start .args .kind) (start .args .kinds .now) (start .args .starts .now) (start .args .from) (start .args .to) _ sides ((at-first-of .first-of) .ensures)
+    wrong-sides (start .args .kind) (start .args .types .now) (start .args .starts .now) (start .args .from) (start .args .to) _ sides ((at-first-of .first-of) .ensures)
     ((at-first-of2 .first-of2) .ensures) ((at-first-of3 .first-of3) .ensures) ((c .before .first-of4) .ensures) ((c .sides-of) .ensures)
 
 sub-takes-last : tie.Need-sub-takes-last
@@ -56,7 +56,7 @@ returns-2 c =
     let at-takes = at-if1 .before in
     let start = at-takes .before .before .before in
     let takes = (at-takes .others-take) .ensures in
-    wrong-misfits (start .args .kind) (start .args .kinds .now) (start .args .starts .now) (start .args .from) (start .args .to) _ (λ e. (at-if1 .if1) .left (takes ∙ e)) (start .pre .1) takes
+    wrong-misfits (start .args .kind) (start .args .types .now) (start .args .starts .now) (start .args .from) (start .args .to) _ (λ e. (at-if1 .if1) .left (takes ∙ e)) (start .pre .1) takes
     ((c .before .takes-last) .ensures) ((c .misfits) .ensures)
 
 pub wrong-at-spec : {M : Type 1} → statement M

@@ -1,6 +1,6 @@
 -- A declared name's type is put down where its reference points; a reference past the table stores nothing.
 use mathlib.Core.Path.{sym, _∙_}
-use Rattle.types.specs.Declaring.{declares-none, declares-set, declares-out}
+use Rattle.types.specs.DeclaringLaws.{declares-none, declares-set, declares-out}
 use borrow.Author.Needs.{needs}
 use Rattle.types.proofs.table.declare.Statement.{statement}
 use Rattle.types.proofs.table.declare.Tie as tie

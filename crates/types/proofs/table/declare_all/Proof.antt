@@ -3,7 +3,8 @@ use Prim.Native.Nat.{_≤_, _-_}
 use mathlib.Core.Path.{sym, _∙_}
 use native.Mathlib.Omega.{arith}
 use borrow.Author.Needs.{needs}
-use Rattle.types.specs.Declaring.{Declared, declared-none, declared-more, declared-all}
+use Rattle.types.specs.Declaring.{Declared}
+use Rattle.types.specs.DeclaringLaws.{declared-none, declared-more, declared-all}
 use Rattle.types.proofs.table.declare_all.Statement.{statement}
 use Rattle.types.proofs.table.declare_all.Tie as tie
 

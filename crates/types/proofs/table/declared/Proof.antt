@@ -2,6 +2,7 @@
 use borrow.Author.Needs.{zero≤}
 use native.Mathlib.Omega.{arith}
 use mathlib.Core.Path.{refl}
+use Rattle.entries.specs.Kinds as Kind
 use Rattle.traversal.specs.Stretches.{stretch}
 use Rattle.types.specs.Declaring.{declaring}
 use Rattle.types.proofs.table.declared.Statement.{statement}
@@ -19,4 +20,4 @@ declared-spec =
     (λ c. stretch declaring (c .before .if5 .left) (c .if6 .taken) refl)
     (λ c. stretch declaring (c .before .if6 .left) (c .if7 .taken) refl)
     (λ c. stretch declaring (c .before .if7 .left) (c .if8 .taken) refl)
-    (λ c. stretch declaring {b = 64} (c .if8 .left) (omega arith) refl))
+    (λ c. stretch declaring {b = Kind.limit} (c .if8 .left) (omega arith) refl))

@@ -1,5 +1,5 @@
 -- A definition's type is put down where its reference points; a reference past the table stores nothing.
-use Rattle.types.specs.Progress.{table-set, table-out, table-same}
+use Rattle.types.specs.ProgressLaws.{table-set, table-out, table-same}
 use borrow.Author.Needs.{needs}
 use Rattle.types.proofs.table.define.Statement.{statement}
 use Rattle.types.proofs.table.define.Tie as tie

@@ -1,3 +1,4 @@
+-- `right` meets its contract: what the two sets are combined to is lowered to where the frame's values begin, or a refusal is handed up.
 use native.Mathlib.Omega.{arith}
 use mathlib.Core.Path.{refl}
 use Prim.Native.Nat.{_+_}
@@ -11,8 +12,7 @@ use Rattle.value_steps.proofs.combinations.right.Tie as tie
 returns : tie.Need-returns
 returns c =
     let start = c .before .before .before .before .before .before in
-    let at-if1 = c .if1 in
-    set-misfits (start .pre .1) refl (at-if1 .taken)
+    set-misfits (start .pre .1) refl (c .if1 .taken)
 
 add-k : tie.Need-add-k
 add-k c = search needs
@@ -40,41 +40,38 @@ slice-read-base c = search needs
 cast-base : tie.Need-cast-base
 cast-base c =
     let start = c .before .before .before .before .before .before .before .before in
-    let at-slice-known3 = c .slice-known3 in
-    omega (arith, at-slice-known3 .given (start .args .m .frames + 2))
+    omega (arith, c .slice-known3 .given (start .args .m .frames + 2))
 
-add-t19 : tie.Need-add-t19
-add-t19 c = search needs
+add-t17 : tie.Need-add-t17
+add-t17 c = search needs
 
-mul-t20 : tie.Need-mul-t20
-mul-t20 c = search needs
+mul-t18 : tie.Need-mul-t18
+mul-t18 c = search needs
 
-slice-read-t22 : tie.Need-slice-read-t22
-slice-read-t22 c = search needs
+slice-read-t20 : tie.Need-slice-read-t20
+slice-read-t20 c = search needs
 
-cast-t25 : tie.Need-cast-t25
-cast-t25 c =
+cast-t23 : tie.Need-cast-t23
+cast-t23 c =
     let start = c .before .before .before .before .before .before .before .before .before in
-    let at-slice-known4 = c .slice-known4 in
-    omega (arith, at-slice-known4 .given (start .args .m .frames + 3))
+    omega (arith, c .slice-known4 .given (start .args .m .frames + 3))
 
-add-t26 : tie.Need-add-t26
-add-t26 c = search needs
+add-lower : tie.Need-add-lower
+add-lower c = search needs
 
-mul-t27 : tie.Need-mul-t27
-mul-t27 c = search needs
+mul-lower : tie.Need-mul-lower
+mul-lower c = search needs
 
-slice-read-t29 : tie.Need-slice-read-t29
-slice-read-t29 c = search needs
+slice-read-lower : tie.Need-slice-read-lower
+slice-read-lower c = search needs
 
-cast-t30 : tie.Need-cast-t30
-cast-t30 c =
+cast-lower : tie.Need-cast-lower
+cast-lower c =
     let start = c .before .before .before .before .before .before .before .before .before .before in
-    let at-slice-known5 = c .slice-known5 in
-    omega (arith, at-slice-known5 .given (start .args .m .frames + 4))
+    omega (arith, c .slice-known5 .given (start .args .m .frames + 4))
 
-cast-t19 : tie.Need-cast-t19
-cast-t19 c = search needs
+cast-t17 : tie.Need-cast-t17
+cast-t17 c = search needs
 
 above-requires : tie.Need-above-requires
 above-requires c κs = search needs
@@ -91,69 +88,73 @@ place-at-requires c κs =
 
 combine-requires : tie.Need-combine-requires
 combine-requires c κs =
-    let start = c .before .before .before .before .before .before .before .before .before .before .before .before .before .before .before in
-    let at-if1 = c .before .before .before .before .before .before .before .before .before .if1 in
-    let at-above = c .before .before .before .above in
-    right-two (start .pre .1) (at-if1 .left) (start .pre .0) refl refl (at-above .ensures)
+    let above-at = c .before .before .before in
+    let if1-at = above-at .before .before .before .before .before .before in
+    let start = if1-at .before .before .before .before .before .before in
+    right-two (start .pre .1) (if1-at .if1 .left) (start .pre .0) refl refl (above-at .above .ensures)
 
 enum-known-r : tie.Need-enum-known-r
 enum-known-r c = search needs
 
-cast-lower : tie.Need-cast-lower
-cast-lower c = search needs
+enum-told : tie.Need-enum-told
+enum-told c = search needs
 
-lower-requires : tie.Need-lower-requires
-lower-requires c κs =
-    let start = c .before .before .before .before .before .before .before .before .before .before .before .before .before .before .before .before .before .before .before .before .before .before in
-    let at-if1 = c .before .before .before .before .before .before .before .before .before .before .before .before .before .before .before .before .if1 in
-    let at-above = c .before .before .before .before .before .before .before .before .before .before .above in
-    let at-combine = c .before .before .before .before .before .before .combine in
-    let at-r = c .before .before .r in
-    let g = rw (at-r .given .1) at (at-combine .ensures) in
-    let l = right-lowers (start .pre .1) (at-if1 .left) (start .pre .0) refl (at-above .ensures) (g .set .few) in
-    let z = g .kept .len in
-    (l .down, (let i = l .inside in omega arith))
-
-add-t37 : tie.Need-add-t37
-add-t37 c =
-    let start = c .before .before .before .before .before .before .before .before .before .before .before .before .before .before .before .before .before .before .before .before .before .before .before .before .before in
-    let i = start .pre .0 .top .top .at .inside in let s = start .pre .0 .lent .small in omega arith
-
-enum-known-r-2 : tie.Need-enum-known-r-2
-enum-known-r-2 c = search needs
+unworked-requires : tie.Need-unworked-requires
+unworked-requires c κs = search needs
 
 same-length : tie.Need-same-length
 same-length c = search needs
 
 returns-2 : tie.Need-returns-2
 returns-2 c =
+    let enum-told-at = c .before in
+    let combine-at = enum-told-at .before .before .before .before in
+    let place-at-at = combine-at .before .before in
+    let infix-at-at = place-at-at .before in
+    let above-at = infix-at-at .before in
+    let if1-at = above-at .before .before .before .before .before .before in
+    let start = if1-at .before .before .before .before .before .before in
+    rw (c .unworked .ensures _ _ (enum-told-at .enum-told .given .1))
+    (right-refuses (start .pre .1) (if1-at .if1 .left)
+    (record { entry = refl; base-is = refl; left-at = refl; left-count = refl; to-is = above-at .above .ensures; operator = infix-at-at .infix-at .ensures; place = place-at-at .place-at .ensures })
+    (rw (enum-told-at .enum-told .given .1) at (combine-at .combine .ensures)))
+
+cast-lower-2 : tie.Need-cast-lower-2
+cast-lower-2 c = search needs
+
+lower-requires : tie.Need-lower-requires
+lower-requires c κs =
+    let r-at = c .before .before in
+    let combine-at = r-at .before .before .before .before in
+    let above-at = combine-at .before .before .before .before in
+    let if1-at = above-at .before .before .before .before .before .before in
+    let start = if1-at .before .before .before .before .before .before in
+    let g = rw (r-at .r .given .1) at (combine-at .combine .ensures) in
+    let l = right-lowers (start .pre .1) (if1-at .if1 .left) (start .pre .0) refl (above-at .above .ensures) (g .set .few) in
+    let z = g .kept .len in
+    (l .down, (let i = l .inside in omega arith))
+
+add-t17-2 : tie.Need-add-t17-2
+add-t17-2 c =
     let start = c .before .before .before .before .before .before .before .before .before .before .before .before .before .before .before .before .before .before .before .before .before .before .before .before .before in
-    let at-if1 = c .before .before .before .before .before .before .before .before .before .before .before .before .before .before .before .before .before .before .before .if1 in
-    let at-above = c .before .before .before .before .before .before .before .before .before .before .before .before .before .above in
-    let at-infix-at = c .before .before .before .before .before .before .before .before .before .before .before .before .infix-at in
-    let at-place-at = c .before .before .before .before .before .before .before .before .before .before .before .place-at in
-    let at-combine = c .before .before .before .before .before .before .before .before .before .combine in
-    let at-r = c .before .before .before .before .before .r in
-    let at-lower = c .before .before .lower in
-    right-makes (start .pre .1) (at-if1 .left)
-    (record { entry = refl; base-is = refl; left-at = refl; left-count = refl; to-is = at-above .ensures; operator = at-infix-at .ensures; place = at-place-at .ensures })
-    (rw (at-r .given .1) at (at-combine .ensures)) (at-lower .ensures)
+    let i = start .pre .0 .top .top .at .inside in let s = start .pre .0 .lent .small in omega arith
 
 same-length-2 : tie.Need-same-length-2
 same-length-2 c = search needs
 
 returns-3 : tie.Need-returns-3
 returns-3 c =
-    let start = c .before .before .before .before .before .before .before .before .before .before .before .before .before .before .before .before .before .before .before .before .before in
-    let at-if1 = c .before .before .before .before .before .before .before .before .before .before .before .before .before .before .before .if1 in
-    let at-above = c .before .before .before .before .before .before .before .before .before .above in
-    let at-infix-at = c .before .before .before .before .before .before .before .before .infix-at in
-    let at-place-at = c .before .before .before .before .before .before .before .place-at in
-    let at-combine = c .before .before .before .before .before .combine in
-    let at-r2 = c .before .r2 in
-    right-refuses (start .pre .1) (at-if1 .left)
-    (record { entry = refl; base-is = refl; left-at = refl; left-count = refl; to-is = at-above .ensures; operator = at-infix-at .ensures; place = at-place-at .ensures })
-    (rw (at-r2 .given .1) at (at-combine .ensures))
+    let lower-at = c .before .before in
+    let r-at = lower-at .before .before .before in
+    let combine-at = r-at .before .before .before .before in
+    let place-at-at = combine-at .before .before in
+    let infix-at-at = place-at-at .before in
+    let above-at = infix-at-at .before in
+    let if1-at = above-at .before .before .before .before .before .before in
+    let start = if1-at .before .before .before .before .before .before in
+    right-makes (start .pre .1) (if1-at .if1 .left)
+    (record { entry = refl; base-is = refl; left-at = refl; left-count = refl; to-is = above-at .above .ensures; operator = infix-at-at .infix-at .ensures; place = place-at-at .place-at .ensures })
+    (rw (r-at .r .given .1) at (combine-at .combine .ensures)) (lower-at .lower .ensures)
 
 pub right-spec : {M : Type 1} → statement M
 right-spec =
@@ -168,25 +169,26 @@ right-spec =
     mul-base
     slice-read-base
     cast-base
-    add-t19
-    mul-t20
-    slice-read-t22
-    cast-t25
-    add-t26
-    mul-t27
-    slice-read-t29
-    cast-t30
-    cast-t19
+    add-t17
+    mul-t18
+    slice-read-t20
+    cast-t23
+    add-lower
+    mul-lower
+    slice-read-lower
+    cast-lower
+    cast-t17
     above-requires
     infix-at-requires
     place-at-requires
     combine-requires
     enum-known-r
-    cast-lower
-    lower-requires
-    add-t37
-    enum-known-r-2
+    enum-told
+    unworked-requires
     same-length
     returns-2
+    cast-lower-2
+    lower-requires
+    add-t17-2
     same-length-2
     returns-3)

@@ -1,0 +1,13 @@
+-- How large a memory is enough for a text. Laws in MemoriesLaws.
+use Prim.Native.Nat.{ℕ}
+
+-- few entries, and the words of a memory for a text of so few
+abbrev pub fewEntries : ℕ
+fewEntries = 2_048
+
+abbrev pub littleMemory : ℕ
+littleMemory = 16_384
+
+-- and of one for the entries of any text
+abbrev pub someMemory : ℕ
+someMemory = 65_536
