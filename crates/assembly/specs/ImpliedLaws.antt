@@ -26,9 +26,9 @@ use Rattle.spellings.specs.Interned.{Lexed}
 use Rattle.writing.specs.Writing.{Wrote}
 use Rattle.choices.specs.Entries.{identifiersEnd, Words}
 use Rattle.choices.specs.EntryLaws.{end-bound}
-use Rattle.choices.specs.Promises.{Readable, Tabled, Unnamed, OneOf}
+use Rattle.choices.specs.Promise.{Readable, Tabled, Unnamed, OneOf}
 use Rattle.choices.specs.PromiseLaws.{tabled}
-use Rattle.choices.specs.StoredWords.{enumeration-words}
+use Rattle.choices.specs.StoredWordsLaws.{enumeration-words}
 use Rattle.assembly.specs.declared.implied.Ends.{Ends}
 use Rattle.assembly.specs.declared.implied.Ports.{Ports}
 use Rattle.assembly.specs.Gathered.{extent, Adds, LineRoom}

@@ -2,8 +2,8 @@
 use Prim.Native.Nat.{ℕ}
 use mathlib.Core.Bool.{Bool, true, false}
 use mathlib.Core.List.{List}
-use Rattle.node.specs.Ltl.{Not, G, And, Implies, W, Formula, One, Two}
-use Rattle.language.specs.Tree.{Part, Initially, Preset, Require, Assert, Assume, Guarantee}
+use Rattle.node.specs.Ltl.{Not, G, And, W, Formula, One, Two}
+use Rattle.language.specs.Tree.{Part, Preset, Require, Assert, Assume, Guarantee}
 use Rattle.language.specs.Expansion.{Sections, section, whole}
 use Rattle.writing.specs.Writing.{Wrote}
 use Rattle.assembly.specs.Gathered.{inTurn, Lined, Gathered}
@@ -29,10 +29,3 @@ Writes g words count table out out′ at r = (ss : Sections) → Lined (inTurn s
 -- the same where the lines may not fit the table, in which they end at m
 abbrev pub Assembles : Bool → List ℕ → ℕ → List ℕ → ℕ → List ℕ → List ℕ → ℕ → Type 0
 Assembles strict words count table m out out′ r = (ss : Sections) → Gathered (inTurn ss) words count table m → Wrote (whole strict (section ss)) out out′ 0 r
-
--- the layout put together
-pub assembled : (strict : Bool) (f : Part → Formula) {out out′ : List ℕ} {r : ℕ}
-    → Wrote (Two Implies (f Initially) (Two And (preset strict f) (Two Implies (assumed f) (promised strict f)))) out out′ 0 r
-    → Wrote (whole strict f) out out′ 0 r
-assembled false f w = w
-assembled true f w = w

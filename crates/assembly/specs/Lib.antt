@@ -1,5 +1,6 @@
 pub mod Gathered
 pub mod Layout
+pub mod LayoutLaws
 pub mod Folding
 pub mod GatheredLaws
 pub mod FoldingLaws

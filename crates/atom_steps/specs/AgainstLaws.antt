@@ -22,7 +22,7 @@ use Rattle.entries.specs.Kinds as Kind
 use Rattle.sets.specs.Operators.{comparison}
 use Rattle.choices.specs.Entries.{wordsEnd, Words}
 use Rattle.choices.specs.EntryLaws.{end-bound}
-use Rattle.choices.specs.Promises.{Readable, OneOf, WidthsAre}
+use Rattle.choices.specs.Promise.{Readable, OneOf, WidthsAre}
 use Rattle.name_values.specs.World.{nameAt}
 use Rattle.operators.specs.Tables.{infixCodeAt}
 use Rattle.operands.specs.Entries.{numberAt}

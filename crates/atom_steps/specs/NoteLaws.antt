@@ -8,7 +8,7 @@ use Rattle.node.specs.Result.{Result}
 use Rattle.language.specs.Tokens.{Token, tokens}
 use Rattle.language.specs.Declared.{Identifies}
 use Rattle.choices.specs.Entries.{wordsEnd, Words}
-use Rattle.choices.specs.StoredWords.{identifier-words}
+use Rattle.choices.specs.StoredWordsLaws.{identifier-words}
 use Rattle.name_values.specs.World.{Stands, meaningAt}
 use Rattle.name_values.specs.Facts.{IsIdentifier}
 use Rattle.operands.specs.Working.{Source}

@@ -8,18 +8,13 @@ ghost use Rattle.bits.specs.Ripple.{ripple as ripple'};
 ghost use Rattle.bits.specs.Spans.{Span, Within, Stored, ahead as ahead'};
 use crate::get_bit;
 use crate::set_bit;
+use basics::u8_u64::wide;
 
 // All 64 bits.
 pub const ONES: u64 = 18446744073709551615;
 
 // The highest of them.
 const HIGH: u64 = 9223372036854775808;
-
-fn long(x: u8) -> u64
-    ensures { λ r. ⌜ (r ≡ x) × (r < 256) ⌝ }
-{
-    x as u64
-}
 
 // A bit as a number, 0 or 1.
 pub fn long_digit(v: bool) -> u64
@@ -32,7 +27,7 @@ pub fn load_byte(bytes: &[u8], at: usize) -> u64
     requires { ⌜ at + 1 ≤ length (now bytes) ⌝ }
     ensures { λ r. ⌜ r ≡ readAt (now (bytes .entry)) at 1 ⌝ }
 {
-    long(bytes[at])
+    wide(bytes[at])
 }
 
 // Eight bytes as one word.
@@ -40,14 +35,14 @@ pub fn load_word(bytes: &[u8], at: usize) -> u64
     requires { ⌜ at + 8 ≤ length (now bytes) ⌝ }
     ensures { λ r. ⌜ r ≡ readAt (now (bytes .entry)) at 8 ⌝ }
 {
-    let a = long(bytes[at]);
-    let b = long(bytes[at + 1]);
-    let c = long(bytes[at + 2]);
-    let d = long(bytes[at + 3]);
-    let e = long(bytes[at + 4]);
-    let f = long(bytes[at + 5]);
-    let g = long(bytes[at + 6]);
-    let h = long(bytes[at + 7]);
+    let a = wide(bytes[at]);
+    let b = wide(bytes[at + 1]);
+    let c = wide(bytes[at + 2]);
+    let d = wide(bytes[at + 3]);
+    let e = wide(bytes[at + 4]);
+    let f = wide(bytes[at + 5]);
+    let g = wide(bytes[at + 6]);
+    let h = wide(bytes[at + 7]);
     ((((((a * 256 + b) * 256 + c) * 256 + d) * 256 + e) * 256 + f) * 256 + g) * 256 + h
 }
 

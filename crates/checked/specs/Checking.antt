@@ -10,8 +10,8 @@ use Rattle.language.specs.Tree.{Spec}
 use Rattle.language.specs.Parsing.{wellFormed, parsed}
 use Rattle.parser.specs.declared.Facts.{Facts}
 use Rattle.parser.specs.Outlines.{factsOf}
-use Rattle.outline.specs.declared.Text.{Text}
-use Rattle.outline.specs.declared.Text.the-variants.{Refused as NotDrawn}
+use Rattle.outline.specs.declared.TextOutline.{TextOutline}
+use Rattle.outline.specs.declared.TextOutline.the-variants.{Refused as NotDrawn}
 use Rattle.names.specs.declared.Naming.{Naming}
 use Rattle.names.specs.declared.Naming.the-variants.{Named, Refused as NotNamed}
 use Rattle.names.specs.Resolved.{Stored, Resolved}
@@ -33,9 +33,9 @@ answer n m f (Named k) = Accepted (record { tokens = n; entries = m; names = k }
 answer n m f (NotNamed number place) = Refused number place
 
 -- a refusal of the outline, 'handed up unchanged': 0 where there is none, which no caller asks
-abbrev pub unchecked : Text → Checked
+abbrev pub unchecked : TextOutline → Checked
 unchecked (NotDrawn number place) = Refused number place
-unchecked (Text.Accepted tokens entries facts) = Refused 0 0
+unchecked (TextOutline.Accepted tokens entries facts) = Refused 0 0
 
 -- an accepted text's tree: it stands in the buffer v, its names are resolved, the facts are its INFO's
 pub record Tree (text v refs found : List ℕ) (c : Counts) (f : Facts) : Type 0 where

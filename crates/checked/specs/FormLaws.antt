@@ -12,7 +12,8 @@ use Rattle.language.specs.Words.{wrongWords}
 use Rattle.language.specs.Parsing.{wellFormed}
 use Rattle.traversal.specs.declared.Place.{Place}
 use Rattle.traversal.specs.declared.Place.the-variants.{At, Nowhere}
-use Rattle.traversal.specs.Places.{placed, placeIn, place-placed}
+use Rattle.traversal.specs.Places.{placed, placeIn}
+use Rattle.traversal.specs.PlaceLaws.{place-placed}
 use Rattle.names.specs.Resolved.{naming}
 
 -- what a stage has found

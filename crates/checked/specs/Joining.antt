@@ -12,8 +12,8 @@ use Rattle.language.specs.Sections.{specOf}
 use Rattle.language.specs.Parsing.{wellFormed, parsed}
 use Rattle.lexer.specs.Lexing.{lexing, parsed-lexed}
 use Rattle.parser.specs.declared.Facts.{Facts}
-use Rattle.outline.specs.declared.Text.{Text}
-use Rattle.outline.specs.declared.Text.the-variants.{Accepted as Drawn, Refused as NotDrawn}
+use Rattle.outline.specs.declared.TextOutline.{TextOutline}
+use Rattle.outline.specs.declared.TextOutline.the-variants.{Accepted as Drawn, Refused as NotDrawn}
 use Rattle.outline.specs.Outlining.{Outlined, Says as Draws, Outlining}
 use Rattle.names.specs.declared.Naming.{Naming}
 use Rattle.names.specs.declared.Naming.the-variants.{Named, Refused as NotNamed}
@@ -34,7 +34,7 @@ outlined : (text : List ℕ) {x : Spec} → lexing text ≡ Done (tokens text) �
 unfolding _>>=_
 outlined text e d = parsed-formed text ∙ ap (λ r. (r >>= specOf) >>= wellFormed) e ∙ ap (λ r. r >>= wellFormed) d
 
-module _ {text w v : List ℕ} {t : Text} (o : Outlining text w v t) where
+module _ {text w v : List ℕ} {t : TextOutline} (o : Outlining text w v t) where
   refused : {n p : ℕ} (refs found : List ℕ) → t ≡ NotDrawn n p → Checks text w v refs found (NotAccepted n p)
   refused refs found e = record { says = not-outlined text (subst (Draws text v) e (o .says)); size = o .size; beyond = o .beyond }
 

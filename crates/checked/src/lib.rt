@@ -6,7 +6,7 @@ use language::limits;
 use names::Naming;
 use names::resolve;
 use node::refusals;
-use outline::Text;
+use outline::TextOutline;
 use outline::outlined;
 use parser::Facts;
 use traversal::Place;
@@ -99,12 +99,12 @@ fn answer(tokens: usize, entries: usize, facts: Facts, naming: Naming) -> Checke
 }
 
 // A refusal of the outline.
-fn unchecked(outline: Text) -> Checked
+fn unchecked(outline: TextOutline) -> Checked
     ensures { λ r. ⌜ r ≡ unchecked' outline ⌝ }
 {
     match outline {
-        Text::Refused(number, place) => Checked::Refused(number, place),
-        Text::Accepted(_, _, _) => Checked::Refused(0, 0),
+        TextOutline::Refused(number, place) => Checked::Refused(number, place),
+        TextOutline::Accepted(_, _, _) => Checked::Refused(0, 0),
     }
 }
 
@@ -115,7 +115,7 @@ pub fn check(text: &[u8], work: &mut [u8], refs: &mut [u16], found: &mut [u16]) 
     ensures { λ r. ⌜ Checks (now (text .entry)) (now (work .entry)) (now (work .exit)) (now (refs .exit)) (now (found .exit)) r ⌝ }
 {
     let outline = outlined(text, work);
-    let Text::Accepted(tokens, entries, facts) = outline else {
+    let TextOutline::Accepted(tokens, entries, facts) = outline else {
         return unchecked(outline);
     };
     let naming = well_formed_apart(text, work, tokens, entries, refs, found);

@@ -9,11 +9,11 @@ use Rattle.language.specs.Limits.{maxWords, maxMarks}
 use Rattle.language.specs.Numbering.{Mark, markOf, covered}
 use Rattle.language.specs.Lists.{All}
 
--- 'at most 16 words of 8 marks': 16 rows, of which `count` are taken
+-- 'at most 16 words of 8 marks': as many rows, of which `count` are taken
 pub record Rows (rows : List (List ℕ)) (count : ℕ) : Type 0 where
-  pub few : count ≤ 16
-  pub all : length rows ≡ 16
-  pub each : (j : ℕ) → j < length rows → length (getD rows j []) ≡ 8
+  pub few : count ≤ maxWords
+  pub all : length rows ≡ maxWords
+  pub each : (j : ℕ) → j < length rows → length (getD rows j []) ≡ maxMarks
 
 -- the marks of a row's bits i to width
 abbrev pub rest : ℕ → ℕ → List ℕ → List Mark

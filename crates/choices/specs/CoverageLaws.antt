@@ -9,6 +9,7 @@ use lib.Dec.{eqb, ltb}
 use lib.ListN.{length, getD, take, set, replicate, length-set, length-replicate, getD-replicate}
 use lib.Seq.{slice-cons, take-suc, take-suc-set, getD-set-same, getD-set-other}
 use borrow.Author.Tests.{eqb-true, eqb-false, lt-ltb}
+use Rattle.language.specs.Limits.{maxWords, maxMarks}
 use Rattle.language.specs.Numbering.{Mark, markOf, admits, after, covered}
 use Rattle.choices.specs.Coverage.{Rows, rest, rests, Kept, widthOf, unnamed}
 
@@ -32,24 +33,24 @@ rest-cons i width row h l = ap (map markOf) (slice-cons i width row 0 h l) ∙ a
 
 -- a row of no marks; an empty array, and one of which nothing is taken
 abbrev blank : List ℕ
-blank = replicate 8 0
+blank = replicate maxMarks 0
 
-pub rows-blank : (rows : List (List ℕ)) → rows ≡ replicate 16 blank → Rows rows 0
+pub rows-blank : (rows : List (List ℕ)) → rows ≡ replicate maxWords blank → Rows rows 0
 rows-blank rows e = record {
   few = omega arith;
-  all = ap length e ∙ length-replicate 16 blank;
-  each = λ j h. ap (λ (l : List (List ℕ)). length (getD l j [])) e ∙ ap length (getD-replicate 16 j blank [] (omega (arith, h, ap length e))) ∙ length-replicate {A = ℕ} 8 0;
+  all = ap length e ∙ length-replicate maxWords blank;
+  each = λ j h. ap (λ (l : List (List ℕ)). length (getD l j [])) e ∙ ap length (getD-replicate maxWords j blank [] (omega (arith, h, ap length e))) ∙ length-replicate {A = ℕ} maxMarks 0;
 }
 
 pub rows-none : (rows : List (List ℕ)) (k : ℕ) → Rows rows k → Rows rows 0
 rows-none rows k h = record { few = omega arith; all = h .all; each = h .each }
 
 -- one row more in an array
-pub rows-more : (rows : List (List ℕ)) (k : ℕ) (row : List ℕ) → Rows rows k → k < 16 → length row ≡ 8 → Rows (set rows k row) (k + 1)
+pub rows-more : (rows : List (List ℕ)) (k : ℕ) (row : List ℕ) → Rows rows k → k < maxWords → length row ≡ maxMarks → Rows (set rows k row) (k + 1)
 rows-more rows k row h l full =
     record { few = omega arith; all = length-set rows k row ∙ h .all; each = λ j g. go j g (eqb j k) refl }
   where
-    go : (j : ℕ) → j < length (set rows k row) → (b : Bool) → eqb j k ≡ b → length (getD (set rows k row) j []) ≡ 8
+    go : (j : ℕ) → j < length (set rows k row) → (b : Bool) → eqb j k ≡ b → length (getD (set rows k row) j []) ≡ maxMarks
     go j g true e =
         ap (λ (i : ℕ). length (getD (set rows k row) i [])) (eqb-true j k e) ∙ ap length (getD-set-same rows k row [] (omega (arith, l, h .all))) ∙ full
     go j g false e = ap length (getD-set-other rows k j row [] (eqb-false j k e)) ∙ h .each j (omega (arith, g, length-set rows k row))
@@ -65,12 +66,12 @@ pub keeping-none : (holds : Bool) (rows : List (List ℕ)) (count i width : ℕ)
 unfolding rests
 keeping-none holds rows count i width kept h = record { filled = h; fewer = omega arith; inside = omega arith; same = refl }
 
-module _ {holds : Bool} {rows : List (List ℕ)} {count i width j : ℕ} {kept : List (List ℕ)} {k : ℕ} (table : Rows rows count) (bit : i < width) (narrow : width ≤ 8)
+module _ {holds : Bool} {rows : List (List ℕ)} {count i width j : ℕ} {kept : List (List ℕ)} {k : ℕ} (table : Rows rows count) (bit : i < width) (narrow : width ≤ maxMarks)
     (h : Keeping holds rows count i width j kept k) (more : j < count) where
   row : List ℕ
   row = getD rows j []
 
-  pub row-full : length (getD rows j []) ≡ 8
+  pub row-full : length (getD rows j []) ≡ maxMarks
   row-full = table .each j (omega (arith, more, table .few, table .all))
 
   passed : after holds (rests i width (take (j + 1) rows)) ≡ rests (i + 1) width (take k kept) ++ remaining holds (markOf (getD (getD rows j []) i 0)) (rest (i + 1) width (getD rows j []))
@@ -87,7 +88,7 @@ module _ {holds : Bool} {rows : List (List ℕ)} {count i width j : ℕ} {kept :
   unfolding rests
   keeping-row e =
       let f = h .fewer in
-      let room : k < 16 = omega (arith, more, table .few) in
+      let room : k < maxWords = omega (arith, more, table .few) in
       record {
         filled = rows-more kept k (getD rows j []) (h .filled) room row-full;
         fewer = omega arith;

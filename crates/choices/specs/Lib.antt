@@ -6,6 +6,7 @@ pub mod Folds
 pub mod FoldLaws
 pub mod Coverage
 pub mod CoverageLaws
-pub mod Promises
+pub mod Promise
 pub mod PromiseLaws
 pub mod StoredWords
+pub mod StoredWordsLaws

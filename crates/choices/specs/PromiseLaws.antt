@@ -10,6 +10,7 @@ use lib.ListN.{length, getD, take, set, length-append, length-map}
 use lib.Seq.{take-suc-set}
 use borrow.Author.Tests.{eq-eqb, ne-eqb}
 use Rattle.node.specs.Limits.{maxNodes}
+use Rattle.language.specs.Limits.{maxWords, maxMarks}
 use Rattle.node.specs.Ltl.{Formula}
 use Rattle.language.specs.Tokens.{Token}
 use Rattle.language.specs.Declared.{Port, wordWidth}
@@ -35,7 +36,7 @@ use Rattle.choices.specs.Folds.{Folded, Furthers, Finishes}
 use Rattle.choices.specs.FoldLaws.{folded-none}
 use Rattle.choices.specs.Coverage.{Rows, rests, widthOf, Regular, unnamed}
 use Rattle.choices.specs.CoverageLaws.{rows-more, rests-all, unnamed-some}
-use Rattle.choices.specs.Promises.{Readable, Tabled, Matches, OneOf, WidthsAre, Unnamed}
+use Rattle.choices.specs.Promise.{Readable, Tabled, Matches, OneOf, WidthsAre, Unnamed}
 
 -- widths
 abbrev sizesAre : ℕ → List ℕ → Bool
@@ -183,10 +184,10 @@ module _ {text w : List ℕ} {from to i : ℕ} {rows : List (List ℕ)} {count w
         (subst (All (λ (r : List ℕ). length r ≡ widthOf (rowsAt text w from to))) (sym split) (regular .equal)) in
         sym (length-bytes text (offsetIn (c .token)) (lengthIn (c .token))) ∙ a .0
 
-    pub tabling-narrow : lengthIn (c .token) ≤ 8
+    pub tabling-narrow : lengthIn (c .token) ≤ maxMarks
     tabling-narrow = let e = tabling-width in let n = regular .narrow in omega arith
 
-    pub tabling-room : count < 16
+    pub tabling-room : count < maxWords
     tabling-room =
         let e = ap length split in
         let l = length-append (map (rowIn text) (t .done)) (rowIn text (c .token) ∷ map (rowIn text) (wordsAt w (i + 1) (to - (i + 1)))) in
@@ -195,7 +196,7 @@ module _ {text w : List ℕ} {from to i : ℕ} {rows : List (List ℕ)} {count w
         let f = regular .few in
         omega arith
 
-    pub tabling-word : (row : List ℕ) → take (lengthIn (c .token)) row ≡ rowIn text (c .token) → length row ≡ 8 → Tabling text w from to (i + 1) (set rows count row) (count + 1) (lengthIn (c .token))
+    pub tabling-word : (row : List ℕ) → take (lengthIn (c .token)) row ≡ rowIn text (c .token) → length row ≡ maxMarks → Tabling text w from to (i + 1) (set rows count row) (count + 1) (lengthIn (c .token))
     tabling-word row e full =
         let z = tabling-room in
         let k = t .counted in
@@ -216,7 +217,7 @@ module _ {text w : List ℕ} {from to i : ℕ} {rows : List (List ℕ)} {count w
         }
 
 pub tabling-wide : {text w : List ℕ} {from to i : ℕ} {rows : List (List ℕ)} {count width : ℕ} → Regular (rowsAt text w from to) → Tabling text w from to i rows count width → (count ≡ 0 → ⊥)
-    → width ≤ 8
+    → width ≤ maxMarks
 tabling-wide r t h = let e = t .wide (omega arith) in let n = r .narrow in omega arith
 
 -- the words' rows are all there

@@ -20,7 +20,7 @@ ghost use Rattle.language.specs.Numbering.{markOf};
 ghost use Rattle.writing.specs.Writing.{Wrote};
 ghost use Rattle.choices.specs.Entries.{endFrom, wordsEnd, identifiersEnd};
 ghost use Rattle.choices.specs.Literals.{isStar, literal as literal'};
-ghost use Rattle.choices.specs.Promises.{Readable, Matches, OneOf, WidthsAre};
+ghost use Rattle.choices.specs.Promise.{Readable, Matches, OneOf, WidthsAre};
 use folds::Fold;
 use folds::finish;
 use folds::further;

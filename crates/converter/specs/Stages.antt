@@ -26,7 +26,8 @@ use Rattle.claim.specs.Converting.{inForm, formed, conversion}
 use Rattle.claim.specs.ConvertingLaws.{converting-reads, formed-done}
 use Rattle.claim.specs.Converts.{Converts}
 use Rattle.claim.specs.ConvertsLaws.{converts}
-use Rattle.converter.specs.Room.{room, withSignals, formed-told}
+use Rattle.converter.specs.Room.{room, withSignals}
+use Rattle.converter.specs.RoomLaws.{formed-told}
 use Rattle.converter.specs.WritingOut.{listLeft, WritesOut}
 
 -- what is at hand once the text is read: its nodes in the table, its signals in the list

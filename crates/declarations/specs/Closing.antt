@@ -4,6 +4,7 @@ use mathlib.Core.List.{List, []}
 use mathlib.Core.Path.{_≡_, sym, _∙_, subst}
 use lib.ListN.{length, getD}
 use Rattle.node.specs.Result.{Result, Done, Refused}
+use Rattle.node.specs.ResultLaws.{bind-to, bind-refused}
 use Rattle.language.specs.Limits.{maxNames, maxSignals}
 use Rattle.language.specs.Tokens.{Token, tokens}
 use Rattle.language.specs.Tree.{Spec}
@@ -26,7 +27,7 @@ use Rattle.declarations.specs.Expressions.{MemoryRoom, Room}
 use Rattle.declarations.specs.Constants.{ConstantsTold}
 use Rattle.declarations.specs.Describing.{Described}
 use Rattle.declarations.specs.Placing.{PortsPlaced}
-use Rattle.declarations.specs.Sizes.{Sizings, SizesGiven, SizesTold, sizedAll, after, over}
+use Rattle.declarations.specs.Sizes.{Sizings, SizesGiven, SizesTold, sizedAll}
 use Rattle.declarations.specs.Promise.{Checked, Given, SignalsAre, WorkedOut, Answer, Declares}
 use Rattle.declarations.specs.Final.{sizings, numberOf}
 use Rattle.declarations.specs.FinalPorts.{inputs-are, ports-are, ports-ported, ports-noted, list-room, firsts-are}
@@ -43,7 +44,7 @@ module _ {text w refs found : List ℕ} {entries names : ℕ} {x : Spec} (k : Ch
   pub constants-refused : {n p : ℕ} → v ≡ Worked.Refused n p → declarations x ≡ Result.Refused n p
   constants-refused {n} {p} q =
       let g : ConstantsTold text w x (firstTable x) sorts numbers (Worked.Refused n p) = subst (ConstantsTold text w x (firstTable x) sorts numbers) q f in
-      over (constants (x .parameters) (firstTable x)) (sizedAll x) n p (g .told)
+      bind-refused (constants (x .parameters) (firstTable x)) n p (sizedAll x) (g .told)
 
   -- behind the parameters
   module _ {n : ℕ} (q : v ≡ Worked.Value n) {places order enumerations offsets : List ℕ} {ins count : ℕ} (p : PortsPlaced (k .tree) places ins count)
@@ -62,7 +63,7 @@ module _ {text w refs found : List ℕ} {entries names : ℕ} {x : Spec} (k : Ch
 
     unrolled : declarations x ≡ sizedAll x tableAfter
     unfolding tableAfter
-    unrolled = after (constants (x .parameters) (firstTable x)) (sizedAll x) (constant .told .0) (constant .told .1)
+    unrolled = bind-to (constants (x .parameters) (firstTable x)) (constant .told .0) (sizedAll x) (constant .told .1)
 
     module _ {sorts′ numbers′ widths : List ℕ} {r : Worked} (s : (d : Table) → Sizings text w refs found entries names places enumerations ins count sorts numbers x d
         → SizesTold text w x d ins sorts′ numbers′ widths r) where

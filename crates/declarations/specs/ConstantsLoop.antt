@@ -10,20 +10,8 @@ use Rattle.language.specs.Declared.{Table}
 use Rattle.sets.specs.declared.Worked.{Worked}
 use Rattle.name_values.specs.Sorts as Sort
 use Rattle.declarations.specs.Expressions.{Room, Workable, Numbered}
-use Rattle.declarations.specs.Constants.{
-  Parameters,
-  ParametersGiven,
-  ConstantsTold,
-  Turning,
-  turning-starts,
-  next-inside,
-  next-small,
-  next-workable,
-  next-told,
-  turning-stopped,
-  turning-more,
-  turning-all,
-}
+use Rattle.declarations.specs.Constants.{Parameters, ParametersGiven, ConstantsTold}
+use Rattle.declarations.specs.ConstantsLaws.{Turning, turning-starts, next-inside, next-small, next-workable, next-told, turning-stopped, turning-more, turning-all}
 
 pub record Looping (text w refs order : List ℕ) (count entries : ℕ) (sorts₀ numbers₀ : List ℕ) (j : ℕ) (sorts numbers : List ℕ) : Type 0 where
   pub turning : (found : List ℕ) (names : ℕ) (x : Spec) (d : Table) → Parameters text w refs found entries names order count sorts₀ numbers₀ x d

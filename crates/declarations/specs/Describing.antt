@@ -1,41 +1,19 @@
 -- Ports by position, as far as no width is needed: the number and the offset of each one's name, and the entry of its enumeration.
-use Prim.Native.Nat.{ℕ, suc, _+_, _≤_, _<_}
-use mathlib.Core.Bool.{Bool, true, false}
-use mathlib.Core.List.{List, [], _∷_}
-use mathlib.Core.Path.{_≡_, refl, sym, _∙_, subst}
-use native.Mathlib.Omega.{arith}
-use lib.Dec.{eqb, ltb}
-use lib.ListN.{length, getD, set}
-use lib.Seq.{getD-set-same, getD-set-other}
-use borrow.Author.Tests.{ltb-true, ltb-false, eq-eqb, ne-eqb}
+use Prim.Native.Nat.{ℕ, _+_, _<_}
+use mathlib.Core.Bool.{true, false}
+use mathlib.Core.List.{List}
+use mathlib.Core.Path.{_≡_}
+use lib.Dec.{eqb}
+use lib.ListN.{getD}
 use Rattle.words.specs.Words.{wordAt}
-use Rattle.language.specs.Tokens.{tokens}
-use Rattle.language.specs.Tree.{Declaration, OneSignal, OfWidth, OfType, Spec}
-use Rattle.language.specs.Laws.Basics.Tests.{pick, leave}
-use Rattle.language.specs.Listed.{declaredName}
 use Rattle.lexer.specs.Stored.{offsetIn}
 use Rattle.entries.specs.Kinds as Kind
 use Rattle.entries.specs.Stored.{firstEntry, kindOf, indexOf}
-use Rattle.entries.specs.StoredLaws.{entry-kind}
-use Rattle.notes.specs.Owned.{DeclarationAt}
-use Rattle.declarations.specs.Along.{Along}
-use Rattle.declarations.specs.Turnable.{Turnable}
-use Rattle.declarations.specs.Trees.{Tree}
 use Rattle.declarations.specs.Enumerations.{noEntry, enumerationOf}
-use Rattle.declarations.specs.EnumerationLaws.{enumerates, entry-offset}
-use Rattle.declarations.specs.Widths.{EnumeratedBy}
-use Rattle.declarations.specs.Turns.{PlacedFrom}
 
 -- the first n elements are those of f
 abbrev pub Filled : (ℕ → ℕ) → List ℕ → ℕ → Type 0
 Filled f xs n = (i : ℕ) → i < n → getD xs i 0 ≡ f i
-
-pub filled-more : (f : ℕ → ℕ) (xs : List ℕ) (n v : ℕ) → n < length xs → v ≡ f n → Filled f xs n → Filled f (set xs n v) (n + 1)
-filled-more f xs n v l e h i m = go (ltb i n) refl
-  where
-    go : (b : Bool) → ltb i n ≡ b → getD (set xs n v) i 0 ≡ f i
-    go true q = getD-set-other xs n i v 0 (λ d. omega (arith, ltb-true i n q)) ∙ h i (ltb-true i n q)
-    go false q = let r : i ≡ n = omega (arith, ltb-false i n q) in subst (λ j. getD (set xs n v) j 0 ≡ f j) (sym r) (getD-set-same xs n v 0 l ∙ e)
 
 -- what a port's own entry k says
 abbrev pub offsetAt : List ℕ → ℕ → ℕ
@@ -44,35 +22,8 @@ offsetAt w k = offsetIn (wordAt w (indexOf (wordAt w (firstEntry + k))))
 abbrev pub enumerationFor : List ℕ → List ℕ → List ℕ → ℕ → ℕ
 enumerationFor w refs found k = elim (eqb (kindOf (wordAt w (firstEntry + k))) Kind.typed) [ true ↦ enumerationOf w refs found k | false ↦ noEntry ]
 
-pub enumeration-for : (w refs found : List ℕ) (k : ℕ) → kindOf (wordAt w (firstEntry + k)) ≡ Kind.typed → enumerationOf w refs found k ≡ enumerationFor w refs found k
-enumeration-for w refs found k e = sym (pick (eqb (kindOf (wordAt w (firstEntry + k))) Kind.typed) _ _ (eq-eqb _ _ e))
-
-pub enumeration-none : (w refs found : List ℕ) (k : ℕ) → (kindOf (wordAt w (firstEntry + k)) ≡ Kind.typed → ⊥) → noEntry ≡ enumerationFor w refs found k
-enumeration-none w refs found k e = sym (leave (eqb (kindOf (wordAt w (firstEntry + k))) Kind.typed) _ _ (ne-eqb _ _ e))
-
 -- the ports' entries are in `places`
 pub record Described (w refs found places : List ℕ) (count : ℕ) (order enumerations offsets : List ℕ) : Type 0 where
   pub numbers : Filled (λ i. getD refs (getD places i 0) 0) order count
   pub enumerated : Filled (λ i. enumerationFor w refs found (getD places i 0)) enumerations count
   pub placed : Filled (λ i. offsetAt w (getD places i 0)) offsets count
-
-module _ {text w refs found : List ℕ} {entries names : ℕ} {x : Spec} (t : Tree text w refs found entries names x) where
-  by-kind : (m : Declaration) (k : ℕ) → DeclarationAt x text w refs m k → EnumeratedBy (tokens text) w (x .definitions) m (enumerationFor w refs found k)
-  by-kind (OneSignal n) k h = sym (enumeration-none w refs found k (λ e. let z = entry-kind (h .own .entry) in omega arith))
-  by-kind (OfWidth n b) k h = sym (enumeration-none w refs found k (λ e. let z = entry-kind (h .own .entry) in omega arith))
-  by-kind (OfType u n) k h = subst (λ e. EnumeratedBy (tokens text) w (x .definitions) (OfType u n) e) (enumeration-for w refs found k (entry-kind (h .own .entry))) (enumerates t u n k h)
-
-  abbrev At : Declaration → ℕ → Type 0
-  At m k = DeclarationAt x text w refs m k × Turnable x (declaredName m)
-
-  pub placed-from : (places enumerations : List ℕ) (count j : ℕ) (ms : List Declaration) → j + length ms ≤ count → Filled (λ i. enumerationFor w refs found (getD places i 0)) enumerations count
-      → Along (λ m k. DeclarationAt x text w refs m k × Turnable x (declaredName m)) places j ms → PlacedFrom x text w refs places enumerations j ms
-  placed-from places enumerations count j [] l f h = tt
-  placed-from places enumerations count j (m ∷ ms) l f h = (
-    record { there = h .0 .0; turnable = h .0 .1; enumerated = subst (EnumeratedBy (tokens text) w (x .definitions) m) (sym (f j (omega arith))) (by-kind m (getD places j 0) (h .0 .0)) },
-    placed-from places enumerations count (suc j) ms (omega arith) f (h .1),
-  )
-
-  -- a port's offset and number
-  pub place-offset : (m : Declaration) (k : ℕ) → DeclarationAt x text w refs m k → offsetAt w k ≡ declaredName m .at
-  place-offset m k h = entry-offset (t .stored .lexed) (h .own .entry)

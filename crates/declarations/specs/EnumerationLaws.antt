@@ -27,16 +27,17 @@ use Rattle.entries.specs.StoredLaws.{entry-kind, entry-index}
 use Rattle.spellings.specs.Interned.{Lexed}
 use Rattle.names.specs.Tables.{noPlace}
 use Rattle.names.specs.Scan.{tokenOf}
-use Rattle.names.specs.Walkable.{entryOf, stored-at}
+use Rattle.names.specs.Walkable.{entryOf}
+use Rattle.names.specs.WalkableLaws.{stored-at}
 use Rattle.names.specs.References.{numberIn}
-use Rattle.names.specs.Numbering.{number-other}
+use Rattle.names.specs.NumberingLaws.{number-other}
 use Rattle.names.specs.WalkBinders.{reference-outside}
 use Rattle.names.specs.Resolved.{declaredNames}
 use Rattle.names.specs.ResolvedLaws.{Found, number-found}
 use Rattle.name_values.specs.Declaring.{EnumerationAt}
 use Rattle.name_values.specs.IdentifierLaws.{enumeration-at}
 use Rattle.notes.specs.Owned.{DeclarationAt}
-use Rattle.notes.specs.FirstTable.{first-at}
+use Rattle.notes.specs.FirstTableLaws.{first-at}
 use Rattle.declarations.specs.Trees.{Tree}
 use Rattle.declarations.specs.Enumerations.{noEntry, isEnumeration, enumerationBy, enumerationOf, Enumerates}
 

@@ -27,7 +27,8 @@ use Rattle.notes.specs.Notes.{Notes}
 use Rattle.notes.specs.Owned.{DeclarationAt}
 use Rattle.memory_notes.specs.ShortTables.{ShortTable}
 use Rattle.declarations.specs.Trees.{Tree}
-use Rattle.declarations.specs.Describing.{Described, placed-from}
+use Rattle.declarations.specs.Describing.{Described}
+use Rattle.declarations.specs.DescribingLaws.{placed-from}
 use Rattle.declarations.specs.Placing.{PortsPlaced}
 use Rattle.declarations.specs.Sizes.{Sizings}
 

@@ -26,15 +26,19 @@ use Rattle.names.specs.Resolved.{declaredNames}
 use Rattle.notes.specs.Owned.{DeclarationAt}
 use Rattle.ports.specs.Ports.{PortsFrom, Ported, Room}
 use Rattle.ports.specs.Firsts.{Separate, numberedFrom, firsts-told}
-use Rattle.declarations.specs.Along.{Along, along-both, pairs-length}
-use Rattle.declarations.specs.Turnable.{Turnable, signals-turnable}
+use Rattle.declarations.specs.Along.{Along}
+use Rattle.declarations.specs.AlongLaws.{along-both, pairs-length}
+use Rattle.declarations.specs.Turnable.{Turnable}
+use Rattle.declarations.specs.TurnableLaws.{signals-turnable}
 use Rattle.declarations.specs.Trees.{Tree}
 use Rattle.declarations.specs.TreeLaws.{number-small}
 use Rattle.declarations.specs.Enumerations.{Enumerates}
 use Rattle.declarations.specs.Widths.{EnumeratedBy}
-use Rattle.declarations.specs.Describing.{Described, offsetAt, placed-from, place-offset}
+use Rattle.declarations.specs.Describing.{Described, offsetAt}
+use Rattle.declarations.specs.DescribingLaws.{placed-from, place-offset}
 use Rattle.declarations.specs.Turns.{PlacedFrom, WidthsFrom}
-use Rattle.declarations.specs.Placing.{PortsPlaced, along-each}
+use Rattle.declarations.specs.Placing.{PortsPlaced}
+use Rattle.declarations.specs.PlacingLaws.{along-each}
 use Rattle.declarations.specs.Promise.{PortsNoted}
 use Rattle.declarations.specs.Final.{numberOf, names-proper, near}
 

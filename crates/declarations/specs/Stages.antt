@@ -31,7 +31,8 @@ use Rattle.declarations.specs.Expressions.{MemoryRoom}
 use Rattle.declarations.specs.Promise.{Checked, Given}
 use Rattle.declarations.specs.Constants.{Parameters, ParametersGiven}
 use Rattle.declarations.specs.DescribingRoom.{DescribeRoom}
-use Rattle.declarations.specs.Placing.{PortsPlaced, parameters-few, parameters-placed, ins-few, ports-placed, along-each}
+use Rattle.declarations.specs.Placing.{PortsPlaced}
+use Rattle.declarations.specs.PlacingLaws.{parameters-few, parameters-placed, ins-few, ports-placed, along-each}
 
 -- what `choose` and `note_names` answer
 abbrev pub Choosing : List ℕ → ℕ → Choice → List ℕ → ℕ → List ℕ → ℕ → Type 0

@@ -11,19 +11,8 @@ use Rattle.language.specs.Declared.{Table}
 use Rattle.sets.specs.declared.Worked.{Worked}
 use Rattle.declarations.specs.Expressions.{Room}
 use Rattle.declarations.specs.Widths.{Sizing, Sizable, Sizes, sortOf}
-use Rattle.declarations.specs.Turns.{
-  Declared,
-  TurnsGiven,
-  TurnsTold,
-  Turning,
-  turning-starts,
-  next-inside,
-  next-small,
-  next-sizable,
-  turning-stopped,
-  turning-more,
-  turning-all,
-}
+use Rattle.declarations.specs.Turns.{Declared, TurnsGiven, TurnsTold}
+use Rattle.declarations.specs.TurnsLaws.{Turning, turning-starts, next-inside, next-small, next-sizable, turning-stopped, turning-more, turning-all}
 
 pub record Looping (text w refs places enumerations : List ℕ) (from to entries : ℕ) (sorts₀ numbers₀ : List ℕ) (j : ℕ) (sorts numbers widths : List ℕ) : Type 0 where
   pub turning : (found : List ℕ) (names : ℕ) (x : Spec) (output : Bool) (ds : List Declaration) (d : Table)

@@ -14,7 +14,7 @@ ghost use Rattle.language.specs.Declared.{Table};
 ghost use Rattle.declarations.specs.Expressions.{Lengths};
 ghost use Rattle.declarations.specs.Constants.{Parameters, ParametersGiven, ConstantsTold};
 
-// The own entries of the parameters, in order.
+// The entries that declare the parameters, in order.
 pub struct Chosen {
     pub places: [u16; limits::MAX_NAMES],
     pub count: usize,

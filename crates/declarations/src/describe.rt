@@ -1,4 +1,5 @@
 // Ports by position, as far as no width is needed.
+use crate::enumeration;
 use crate::enumeration::enumeration_of;
 use crate::enumeration::token_word;
 use basics::u16_usize::wide;
@@ -15,10 +16,10 @@ ghost use Rattle.language.specs.Limits.{workBytes, maxTokens, maxNames};
 ghost use Rattle.declarations.specs.Describing.{enumerationFor, Described};
 ghost use Rattle.declarations.specs.DescribingRoom.{DescribeRoom};
 
-// No entry has this number.
-const NO_ENTRY: u16 = 65535;
+// No entry has this number, as the slices hold it.
+const NO_ENTRY: u16 = enumeration::NO_ENTRY as u16;
 
-// The entry of the enumeration that a port is declared by; its own entry is entry k.
+// The entry of the enumeration that a port is declared by; entry k declares the port.
 fn enumeration_for(work: &[u8], refs: &[u16], found: &[u16], k: usize) -> u16
     requires { ⌜ (workBytes ≤ length (now work)) × ((k < maxTokens) × ((maxTokens ≤ length (now refs)) × (maxNames ≤ length (now found)))) ⌝ }
     ensures { λ r. ⌜ r ≡ enumerationFor (now (work .entry)) (now (refs .entry)) (now (found .entry)) k ⌝ }
@@ -30,7 +31,7 @@ fn enumeration_for(work: &[u8], refs: &[u16], found: &[u16], k: usize) -> u16
     NO_ENTRY
 }
 
-// The names' numbers, the enumerations' entries and the names' offsets of the ports whose own entries are in `places`.
+// The names' numbers, the enumerations' entries and the names' offsets of the ports that the entries in `places` declare.
 pub fn describe(
     work: &[u8],
     refs: &[u16],

@@ -22,7 +22,7 @@ ghost use Rattle.spellings.specs.Interned.{Lexed};
 ghost use Rattle.name_values.specs.Declaring.{EnumerationAt};
 ghost use Rattle.declarations.specs.Enumerations.{enumerationOf};
 
-// No entry has this number.
+// No entry has this number (specs/Enumerations).
 pub const NO_ENTRY: usize = 65535;
 
 // The word of the token of entry k.
@@ -35,7 +35,7 @@ pub fn token_word(work: &[u8], k: usize) -> u32
     get(work, token)
 }
 
-// The own entry of the enumeration that the entry before k names.
+// The entry that declares the enumeration that the entry before k names.
 pub fn enumeration_of(work: &[u8], refs: &[u16], found: &[u16], k: usize) -> usize
     requires { ⌜ (workBytes ≤ length (now work)) × ((k < maxTokens) × ((maxTokens ≤ length (now refs)) × (maxNames ≤ length (now found)))) ⌝ }
     ensures { λ r. ⌜ r ≡ enumerationOf (now (work .entry)) (now (refs .entry)) (now (found .entry)) k ⌝ }

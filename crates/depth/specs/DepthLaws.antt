@@ -25,10 +25,11 @@ use Rattle.traversal.specs.CellLaws.{entries-seen}
 use Rattle.traversal.specs.Arity.{arities, operands, firstLine}
 use Rattle.traversal.specs.ArityLaws.{fixed-operands}
 use Rattle.traversal.specs.Parts.{Part, Whole, operandsOf, kindOf}
-use Rattle.traversal.specs.Places.{first-none, firstIn-nowhere}
+use Rattle.traversal.specs.PlaceLaws.{first-none, firstIn-nowhere}
 use Rattle.traversal.specs.PassLaws.{run, Pass, Along, Works, expression-done}
 use Rattle.traversal.specs.LineLaws.{entriesOf, Each, firstBad, Lined, Alone, alone-done, identifiers-alone, text-holds}
-use Rattle.traversal.specs.Passed.{passed, passed-all}
+use Rattle.traversal.specs.Passed.{passed}
+use Rattle.traversal.specs.PassedLaws.{passed-all}
 use Rattle.traversal.specs.TreeStored.{TreeStored, ProperLine}
 use Rattle.traversal.specs.ProperLaws.{proper-lines}
 use Rattle.traversal.specs.Starts.{firstOf}

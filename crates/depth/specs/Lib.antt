@@ -4,4 +4,5 @@ pub mod LevelLaws
 pub mod NodeLaws
 pub mod DepthLaws
 pub mod Progress
+pub mod ReachedLaws
 pub mod ProgressLaws

@@ -15,7 +15,8 @@ use Rattle.lexer.specs.Stored.{offsetIn}
 use Rattle.entries.specs.Kinds as Kind
 use Rattle.traversal.specs.declared.Cell.{Cell}
 use Rattle.traversal.specs.Cells.{Told, Sees, OfToken, Offset}
-use Rattle.traversal.specs.Starts.{startOf, firstOf, startPart, AtPlace, starts}
+use Rattle.traversal.specs.Starts.{startOf, firstOf, startPart, AtPlace}
+use Rattle.traversal.specs.StartLaws.{starts}
 use Rattle.traversal.specs.Arity.{firstLine}
 use Rattle.traversal.specs.Parts.{Part, Whole, Binder, unlessEmpty, operandsOf, kindOf, tokenOf}
 use Rattle.traversal.specs.PartLaws.{unless-cases}

@@ -18,7 +18,8 @@ use Rattle.traversal.specs.Starts.{firstOf, startOf}
 use Rattle.depth.specs.Depth.{highest, levelOf, faultOf, step}
 use Rattle.depth.specs.DepthLaws.{finds-deep}
 use Rattle.depth.specs.Promise.{TooDeep}
-use Rattle.depth.specs.Progress.{after, Agrees, Reached, part-agrees, line-agrees, reached-more}
+use Rattle.depth.specs.Progress.{after, Agrees, Reached}
+use Rattle.depth.specs.ReachedLaws.{part-agrees, line-agrees, reached-more}
 
 module _ {w : List ℕ} {i : ℕ} {p : Progress} {ls ss : List ℕ} (r : Reached w i p ls ss) (small : i < maxTokens) {c : Cell} (hc : c ≡ cellAt w i) {n below start level : ℕ} {f g : Place}
     (hn : n ≡ operands (p .before) c) (hb : below ≡ p .top - n) (hs : start ≡ firstOf (slice below (p .top) ss)) (hv : level ≡ firstOf (slice below (p .top) ls))

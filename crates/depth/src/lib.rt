@@ -1,5 +1,5 @@
 // Refusal 5 over the stored tree: 'tree too deep', at the outermost expression's first token. One pass, with a stack of the operands' levels and starts.
-// `too_deep` asks for a work buffer of full length and entries within it.
+// An inner stage: `too_deep` asks for a work buffer of full length, which the reader has tested (17), and for as many entries as the parser counted.
 use entries::kinds;
 use language::limits;
 use lexer::fields::LENGTHS;
@@ -15,6 +15,7 @@ ghost use Prim.Native.Nat.{_+_, _≤_, _<_, max};
 ghost use lib.ListN.{length};
 ghost use lib.Seq.{slice};
 ghost use Rattle.language.specs.Limits.{maxTokens, workBytes};
+ghost use Rattle.entries.specs.Kinds as Kind;
 ghost use Rattle.traversal.specs.Places.{placed};
 ghost use Rattle.depth.specs.Progress.{Reached};
 ghost use Rattle.depth.specs.Promise.{TooDeep};
@@ -60,7 +61,7 @@ fn raised(n: u32) -> u32
 
 // One more than its operands' for an expression; a big operator is one level however many names it has, which its first name's entry counts.
 fn level_of(kind: u32, most: u32, start: u32) -> u32
-    requires { ⌜ kind < 64 ⌝ }
+    requires { ⌜ kind < Kind.limit ⌝ }
     ensures { λ r. ⌜ r ≡ levelOf kind most start ⌝ }
 {
     if kind < kinds::BIG_NUMBERS {
@@ -126,7 +127,7 @@ fn pass(work: &[u8], i: usize, p: Progress, levels: &mut [u32], starts: &mut [u3
     }
 }
 
-// The first place of refusal 5, if there is one. An inner stage: the reader has tested the buffer's length, and the parser counted the entries.
+// The first place of refusal 5, if there is one.
 pub fn too_deep(work: &[u8], entries: usize) -> Place
     requires { ⌜ (workBytes ≤ length (now work)) × (entries ≤ maxTokens) ⌝ }
     ensures { λ r. ⌜ TooDeep (now (work .entry)) entries r ⌝ }

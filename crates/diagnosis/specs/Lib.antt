@@ -1,3 +1,4 @@
 pub mod Promise
 pub mod Tables
+pub mod TablesLaws
 pub mod Stages

@@ -33,7 +33,7 @@ use Rattle.claim.specs.ClaimLaws.{text-few, text-small}
 use Rattle.claim.specs.YieldsLaws.{accepted, refused}
 use Rattle.parser.specs.declared.Facts.{Facts}
 use Rattle.reader.specs.declared.Told.{Told}
-use Rattle.reader.specs.Telling.{ReadsTold}
+use Rattle.reader.specs.Promise.{ReadsTold}
 use Rattle.faults.specs.Naming.{lineNamed}
 use Rattle.faults.specs.Diagnosing.{Lined, lined, linedBy, lineRows, finding, diagnosing, rowsLeft, rowsAfter}
 use Rattle.faults.specs.TextLaws.{lines-of, diagnosed-holds, diagnosed-fault}
@@ -44,7 +44,8 @@ use Rattle.line_counts.specs.Counting.{countsOf}
 use Rattle.diagnosis.specs.declared.Diagnosis.{Diagnosis}
 use Rattle.diagnosis.specs.Promise.{tells, Diagnoses}
 use Rattle.line_search.specs.FoundLaws.{Given, found-named}
-use Rattle.diagnosis.specs.Tables.{foundBy, DiagnosesTable, judged-opens}
+use Rattle.diagnosis.specs.Tables.{foundBy, DiagnosesTable}
+use Rattle.diagnosis.specs.TablesLaws.{judged-opens}
 
 -- the promise follows from the answer and the buffers
 diagnosed : {text recording work rows work′ rows′ : List ℕ} {r : Diagnosis} → tells r ≡ diagnosing text recording (length work) (length rows)

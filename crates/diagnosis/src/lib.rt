@@ -1,10 +1,12 @@
 // Which line of a text failed on a recording (document 02, F-7): the line is found from a table's root by operands, and the bits of its row tell where it is false.
 ghost use mathlib.Core.Path.{_≡_};
-ghost use Prim.Native.Nat.{_≤_, _<_};
+ghost use Prim.Native.Nat.{ℕ, _≤_, _<_};
 ghost use Rattle.recordings.specs.Limits.{maxPositions};
 ghost use Rattle.line_search.specs.Walking.{lineFound};
 ghost use Rattle.diagnosis.specs.Promise.{tells, Diagnoses};
 ghost use Rattle.diagnosis.specs.Tables.{DiagnosesTable};
+ghost use Rattle.diagnosis.specs.declared.Diagnosis.{Diagnosis as NotDiagnosed};
+ghost use Rattle.node.specs.declared.Answer.{Answer as NotRead};
 ghost use Rattle.node.specs.Result.{Done};
 ghost use Rattle.node.specs.Limits.{maxNodes};
 ghost use lib.ListN.{length};
@@ -73,6 +75,16 @@ fn diagnose_table(
     }
 }
 
+// A refusal of the reader's handed up.
+fn unread(answer: Answer) -> Diagnosis
+    ensures { λ r. ⌜ ((n p : ℕ) → answer ≡ NotRead.Refused n p → r ≡ NotDiagnosed.Refused n p) ⌝ }
+{
+    let Answer::Refused(number, place) = answer else {
+        return Diagnosis::Refused(0, 0);
+    };
+    Diagnosis::Refused(number, place)
+}
+
 // Which line of a text failed on a recording? Refused by 17, then 1 to 16 for the text, then 20, 23 and 18 for the recording and the rows. `rows` has a row for every node
 // of the text afterwards, unless the call is refused: then it is as it was. The first 65,536 bytes of `work` are zero afterwards, unless it is shorter.
 pub fn diagnose(text: &[u8], recording: &[u8], work: &mut [u8], rows: &mut [u8]) -> Diagnosis
@@ -84,11 +96,9 @@ pub fn diagnose(text: &[u8], recording: &[u8], work: &mut [u8], rows: &mut [u8])
     let answer = told.answer;
     let facts = told.facts;
     let lines = told.lines;
-    match answer {
-        Answer::Refused(number, place) => Diagnosis::Refused(number, place),
-        Answer::Accepted(count, listed) => {
-            let n = count as usize;
-            diagnose_table(&table[..n], listed, recording, facts.strict, lines, rows)
-        }
-    }
+    let Answer::Accepted(count, listed) = answer else {
+        return unread(answer);
+    };
+    let n = count as usize;
+    diagnose_table(&table[..n], listed, recording, facts.strict, lines, rows)
 }

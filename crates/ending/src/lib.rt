@@ -19,7 +19,7 @@ ghost use Rattle.language.specs.Declared.{Declarations};
 ghost use Rattle.ending.specs.Handing.{Assemblable, Delivers, asExpanded, asShifted, HandsOver};
 ghost use Rattle.ending.specs.Finishing.{Complete, SomeComplete, Finishes};
 
-// The model Moore in what INFO says.
+// The model Moore in what INFO says (crate parser, specs/Outlines).
 const MOORE: u32 = 1;
 
 // 16 and 18, or a formula's nodes, which were written to a table up to m, and the signal list.

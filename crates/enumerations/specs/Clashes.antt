@@ -5,6 +5,7 @@ use mathlib.Core.Bool.{Bool, false, _&&_, _||_, not}
 use mathlib.Core.Path.{_≡_}
 use lib.Dec.{eqb}
 use lib.ListN.{length, getD, take}
+use Rattle.language.specs.Limits.{maxWords, maxMarks}
 use Rattle.language.specs.Words.{meet}
 
 -- does the word v of identifier o share a valuation with one of another identifier?
@@ -15,9 +16,9 @@ clashRows n o v (k ∷ ks) (r ∷ rs) = (not (eqb k o) && meet (take n r) v) || 
 
 -- the arrays, and a word of n marks
 pub record Clashable (owners : List ℕ) (rows : List (List ℕ)) (count : ℕ) (row : List ℕ) (n : ℕ) : Type 0 where
-  pub short : n ≤ 8
-  pub full : length row ≡ 8
-  pub small : count ≤ 16
+  pub short : n ≤ maxMarks
+  pub full : length row ≡ maxMarks
+  pub small : count ≤ maxWords
   pub few : count ≤ length owners
   pub few′ : count ≤ length rows
-  pub each : (j : ℕ) → j < length rows → length (getD rows j []) ≡ 8
+  pub each : (j : ℕ) → j < length rows → length (getD rows j []) ≡ maxMarks

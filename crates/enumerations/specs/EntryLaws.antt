@@ -53,9 +53,10 @@ use Rattle.traversal.specs.CellLaws.{entries-seen}
 use Rattle.traversal.specs.Arity.{firstLine}
 use Rattle.traversal.specs.ArityLaws.{truth-plain, before-plain, joining-plain, window-plain, big-plain, binder-plain, between-plain}
 use Rattle.traversal.specs.PassLaws.{run}
-use Rattle.traversal.specs.Passed.{passed-all}
+use Rattle.traversal.specs.PassedLaws.{passed-all}
 use Rattle.traversal.specs.declared.Place.{Place}
-use Rattle.traversal.specs.Places.{placed, first-none, first-assoc}
+use Rattle.traversal.specs.Places.{placed}
+use Rattle.traversal.specs.PlaceLaws.{first-none, first-assoc}
 use Rattle.traversal.specs.TreeStored.{TreeStored}
 use Rattle.enumerations.specs.Given.{Spells, GoodDefinition}
 use Rattle.enumerations.specs.Promise.{WrongWords}

@@ -4,6 +4,7 @@ pub mod EntryLaws
 pub mod Given
 pub mod Pass
 pub mod Progress
+pub mod ProgressLaws
 pub mod Promise
 pub mod RowLaws
 pub mod Running

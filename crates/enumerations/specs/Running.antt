@@ -6,9 +6,11 @@ use mathlib.Core.Option.{none}
 use mathlib.Core.Path.{_≡_, refl, sym, ap, _∙_, subst}
 use lib.ListN.{length, getD, replicate, length-replicate, getD-replicate}
 use native.Mathlib.Omega.{arith}
+use Rattle.language.specs.Limits.{maxWords, maxMarks}
 use Rattle.traversal.specs.Cells.{cellAt}
 use Rattle.traversal.specs.Places.{placed}
-use Rattle.traversal.specs.Passed.{passed, passed-none, passed-more}
+use Rattle.traversal.specs.Passed.{passed}
+use Rattle.traversal.specs.PassedLaws.{passed-none, passed-more}
 use Rattle.enumerations.specs.declared.Progress.{Progress}
 use Rattle.enumerations.specs.Pass.{State, step}
 use Rattle.enumerations.specs.Progress.{Agrees, Sized, Passes}
@@ -17,7 +19,7 @@ abbrev pub begin : State
 begin = record { owner = 0; size = 0; closed = false; rows = []; found = none }
 
 abbrev blank : List ℕ
-blank = replicate 8 0
+blank = replicate maxMarks 0
 
 -- the state after i entries of the buffer w
 abbrev pub after : List ℕ → List ℕ → ℕ → State
@@ -29,15 +31,15 @@ pub record Ran (text w : List ℕ) (n i : ℕ) (p : Progress) (os : List ℕ) (r
   pub owner : p .owner ≤ i
   pub few : i ≤ n
 
-pub ran-none : (text w : List ℕ) (n : ℕ) (os : List ℕ) (rs : List (List ℕ)) (p : Progress) → length os ≡ 16 → rs ≡ replicate 16 blank
+pub ran-none : (text w : List ℕ) (n : ℕ) (os : List ℕ) (rs : List (List ℕ)) (p : Progress) → length os ≡ maxWords → rs ≡ replicate maxWords blank
     → p ≡ record { owner = 0; count = 0; size = 0; closed = false; found = placed none } → Ran text w n 0 p os rs
 ran-none text w n os rs p l r e =
     record {
       sized = record {
         few = omega (arith, ap (λ (q : Progress). q .count) e);
         owners = l;
-        rows = ap length r ∙ length-replicate 16 blank;
-        each = λ j h. ap (λ l. length (getD l j [])) r ∙ ap length (getD-replicate 16 j blank [] (omega (arith, h, ap length r))) ∙ length-replicate {A = ℕ} 8 0;
+        rows = ap length r ∙ length-replicate maxWords blank;
+        each = λ j h. ap (λ l. length (getD l j [])) r ∙ ap length (getD-replicate maxWords j blank [] (omega (arith, h, ap length r))) ∙ length-replicate {A = ℕ} maxMarks 0;
       };
       agrees = subst (λ (s : State). Agrees s p os rs) (sym (passed-none (step text) (cellAt w) begin))
           (subst (λ q. Agrees begin q os rs) (sym e) (record { owner = refl; size = refl; closed = refl; count = refl; owners = refl; rows = refl; found = refl }));

@@ -12,7 +12,7 @@ use Rattle.language.specs.Limits.{maxWords, maxMarks}
 use Rattle.language.specs.Places.{first}
 use Rattle.language.specs.Laws.Basics.Tests.{pick, leave, and-left, and-right}
 use Rattle.lexer.specs.Stored.{longest, offsetIn, lengthIn}
-use Rattle.traversal.specs.Places.{first-none}
+use Rattle.traversal.specs.PlaceLaws.{first-none}
 use Rattle.enumerations.specs.Given.{Spelled}
 use Rattle.enumerations.specs.Scan.{Word, meets, anyMeets, good, scan, scanAll}
 use Rattle.enumerations.specs.Pass.{Row, State, bytesAt, anyClash, sizeOf, shut, opened, tested, word, begun, named}

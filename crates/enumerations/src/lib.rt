@@ -1,6 +1,6 @@
 // Refusal 10 over the stored tree: 'words unequal, too long or many, or one valuation under two identifiers', at 'the later word'. One pass, with the words of one
-// enumeration in 16 rows of 8 marks.
-// `wrong_words` asks for a work buffer of full length, entries within it, and no more.
+// enumeration in an array of rows.
+// `wrong_words` is an inner stage: the reader has tested the buffer's length, and the parser counted the entries.
 use entries::kinds;
 use language::limits;
 use lexer::fields::LENGTHS;
@@ -8,15 +8,19 @@ use lexer::fields::OFFSETS;
 use traversal::Place;
 use traversal::cell_at;
 ghost use mathlib.Core.Path.{_≡_};
-ghost use Prim.Native.Nat.{_≤_, _<_};
+ghost use Prim.Native.Nat.{_≤_, _<_, _^_};
 ghost use lib.ListN.{length, getD, take};
-ghost use Rattle.language.specs.Limits.{maxTokens, workBytes};
+ghost use Rattle.language.specs.Limits.{maxTokens, maxMarks, workBytes};
 ghost use Rattle.language.specs.Words.{meet};
 ghost use Rattle.enumerations.specs.Pass.{bytesAt, sizeOf, word as word', step};
+ghost use Rattle.lexer.specs.Stored.{offsetBits};
 ghost use Rattle.traversal.specs.Cells.{cellAt};
 ghost use Rattle.enumerations.specs.Promise.{WrongWords};
 ghost use Rattle.enumerations.specs.Progress.{Sized, Passes, shutAt};
 ghost use Rattle.enumerations.specs.Clashes.{clashRows, Clashable};
+
+// The marks of a row: as many as a word has at most.
+pub const MARKS: usize = limits::MAX_MARKS as usize;
 
 // The mark that matches both.
 const STAR: u8 = 42;
@@ -43,12 +47,12 @@ fn size_of(count: usize, size: u32, n: u32) -> u32
     if count == 0 { n } else { size }
 }
 
-// The functions below are the pass's own: it has bounded what they ask for. A word's marks, at most 8.
-pub fn marks(text: &[u8], at: usize, n: usize) -> [u8; 8]
-    requires { ⌜ (n ≤ 8) × (at < 65536) ⌝ }
-    ensures { λ r. ⌜ (take n r ≡ bytesAt (now (text .entry)) at n) × (length r ≡ 8) ⌝ }
+// The functions below are the pass's own: it has bounded what they ask for. A word's marks in a row.
+pub fn marks(text: &[u8], at: usize, n: usize) -> [u8; MARKS]
+    requires { ⌜ (n ≤ maxMarks) × (at < 2 ^ offsetBits) ⌝ }
+    ensures { λ r. ⌜ (take n r ≡ bytesAt (now (text .entry)) at n) × (length r ≡ maxMarks) ⌝ }
 {
-    let mut row = [0u8; 8];
+    let mut row = [0u8; MARKS];
     let mut i = 0;
     while i < n {
         row[i] = byte_at(text, at + i);
@@ -58,8 +62,8 @@ pub fn marks(text: &[u8], at: usize, n: usize) -> [u8; 8]
 }
 
 // Do two words of n marks match one valuation?
-fn meets(a: [u8; 8], b: [u8; 8], n: usize) -> bool
-    requires { ⌜ (n ≤ 8) × (length a ≡ 8) × (length b ≡ 8) ⌝ }
+fn meets(a: [u8; MARKS], b: [u8; MARKS], n: usize) -> bool
+    requires { ⌜ (n ≤ maxMarks) × (length a ≡ maxMarks) × (length b ≡ maxMarks) ⌝ }
     ensures { λ r. ⌜ r ≡ meet (take n a) (take n b) ⌝ }
 {
     let mut i = 0;
@@ -86,10 +90,10 @@ fn meets(a: [u8; 8], b: [u8; 8], n: usize) -> bool
 // Does the word share a valuation with one of the first `count` rows that is of another identifier?
 fn clashes(
     owners: &[u32],
-    rows: &[[u8; 8]],
+    rows: &[[u8; MARKS]],
     count: usize,
     owner: u32,
-    row: [u8; 8],
+    row: [u8; MARKS],
     n: usize,
 ) -> bool
     requires { ⌜ Clashable (now owners) (now rows) count row n ⌝ }
@@ -125,8 +129,14 @@ fn shut(p: Progress, place: u32) -> Progress
     }
 }
 
-// One word, whose token has this word.
-fn word(text: &[u8], token: u32, p: Progress, owners: &mut [u32], rows: &mut [[u8; 8]]) -> Progress
+// One word of an enumeration, by its token's word in the buffer.
+fn word(
+    text: &[u8],
+    token: u32,
+    p: Progress,
+    owners: &mut [u32],
+    rows: &mut [[u8; MARKS]],
+) -> Progress
     requires { ⌜ Sized p (now owners) (now rows) ⌝ }
     ensures { λ r. ⌜ Passes (word' (now (text .entry)) token) p r (now (owners .entry)) (now (rows .entry)) (now (owners .exit)) (now (rows .exit)) ⌝ }
 {
@@ -170,7 +180,7 @@ fn pass(
     i: usize,
     p: Progress,
     owners: &mut [u32],
-    rows: &mut [[u8; 8]],
+    rows: &mut [[u8; MARKS]],
 ) -> Progress
     requires { ⌜ Sized p (now owners) (now rows) × (workBytes ≤ length (now work)) × (i < maxTokens) × (p .owner ≤ i) ⌝ }
     ensures { λ r. ⌜ Passes (step (now (text .entry)) (cellAt (now (work .entry)) i)) p r (now (owners .entry)) (now (rows .entry)) (now (owners .exit)) (now (rows .exit)) ⌝ }
@@ -202,13 +212,13 @@ fn pass(
     p
 }
 
-// The first place of refusal 10, if there is one. An inner stage: the reader has tested the buffer's length, and the parser counted the entries.
+// The first place of refusal 10, if there is one.
 pub fn wrong_words(text: &[u8], work: &[u8], entries: usize) -> Place
     requires { ⌜ (workBytes ≤ length (now work)) × (entries ≤ maxTokens) ⌝ }
     ensures { λ r. ⌜ WrongWords (now (text .entry)) (now (work .entry)) entries r ⌝ }
 {
-    let mut owners = [0u32; 16];
-    let mut rows = [[0u8; 8]; 16];
+    let mut owners = [0u32; limits::MAX_WORDS];
+    let mut rows = [[0u8; MARKS]; limits::MAX_WORDS];
     let mut p = Progress {
         owner: 0,
         count: 0,

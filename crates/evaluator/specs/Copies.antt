@@ -11,7 +11,8 @@ use Rattle.bits.specs.Bits.{width}
 use Rattle.recordings.specs.Recording.{letterOf}
 use Rattle.recordings.specs.declared.Lasso.{Lasso}
 use Rattle.rows.specs.Row.{row, shown}
-use Rattle.rows.specs.Memory.{Copied, copied-bit}
+use Rattle.rows.specs.Memory.{Copied}
+use Rattle.rows.specs.MemoryLaws.{copied-bit}
 use Rattle.evaluator.specs.Evaluated.{Trees, Turn, RowDone}
 
 -- the same word, the same formula

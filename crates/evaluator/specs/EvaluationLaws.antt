@@ -26,7 +26,8 @@ use Rattle.rows.specs.Row.{nodeRow}
 use Rattle.rows.specs.RowLaws.{shown-in}
 use Rattle.rows.specs.Agreement.{row-right}
 use Rattle.recordings.specs.Promise.{Recorded}
-use Rattle.evaluator.specs.Evaluated.{Evaluated, Table, trees-of, offset-fits, before-row}
+use Rattle.evaluator.specs.Evaluated.{Evaluated, Table}
+use Rattle.evaluator.specs.EvaluatedLaws.{trees-of, offset-fits, before-row}
 use Rattle.evaluator.specs.Listed.{listed}
 use Rattle.evaluator.specs.Evaluation.{rowsSize, whole, evaluation, left, finds, unjudged, verdictOf}
 use Rattle.evaluator.specs.Promise.{bitOfRow, RowsHold, Evaluates, Judges}

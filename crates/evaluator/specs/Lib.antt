@@ -1,6 +1,7 @@
 pub mod Evaluation
 pub mod Promise
 pub mod Evaluated
+pub mod EvaluatedLaws
 pub mod Copies
 pub mod Listed
 pub mod EvaluationLaws

@@ -1,6 +1,5 @@
 // What the program prints: verdicts and bytes, a line each.
-ghost use mathlib.Core.Path.{_≡_};
-ghost use Prim.Native.Nat.{_<_};
+use basics::u8_u64::wide;
 use evaluator::Verdict;
 use libc::STDOUT_FILENO;
 
@@ -26,12 +25,6 @@ pub fn verdict(verdict: Verdict) {
         Verdict::Fails => text(b"fails"),
         Verdict::Refused(number, place) => counts(b"refused ", number, place),
     }
-}
-
-fn wide(x: u8) -> u64
-    ensures { λ r. ⌜ (r ≡ x) × (r < 256) ⌝ }
-{
-    x as u64
 }
 
 // Writes the bytes, two hexadecimal digits each.

@@ -69,7 +69,7 @@ unfolding diagnosing lined lineNamed firstFalse allTrue brokenFrom textExpansion
     formulas number bitAt next sweepFrom around row
 broken = refl
 
--- 'A recording that holds yields "holds"': INITIALLY fails, ASSUME fails, REQUIRE is broken behind ASSERT
+-- 'A recording that holds yields "holds"': INITIALLY fails, ASSUME fails, REQUIRE is broken after ASSERT
 initially-fails : standard (0xe0 ∷ []) ≡ Done NoFault
 unfolding diagnosing lined lineNamed firstFalse allTrue brokenFrom textExpansion parsed specExpansion refuseAt count size nodesOf nodesFrom verdictOf evaluation _>>=_ guard checked scanned readable filled blank treeAt
     formulas number bitAt next sweepFrom around row

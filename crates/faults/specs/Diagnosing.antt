@@ -3,7 +3,7 @@ use Prim.Native.Nat.{ℕ, suc, _≤_, _<_}
 use mathlib.Core.Path.{_≡_}
 use mathlib.Core.Bool.{Bool, true, false}
 use mathlib.Core.List.{List, [], _∷_, _++_, map}
-use lib.Dec.{eqb, leb}
+use lib.Dec.{leb}
 use lib.ListN.{length}
 use Rattle.node.specs.Ltl.{Formula}
 use Rattle.node.specs.Result.{Result, Done, Refused, _>>=_, guard}
@@ -14,14 +14,15 @@ use Rattle.recordings.specs.Recording.{lassoOf, letterOf}
 use Rattle.rows.specs.Row.{row}
 use Rattle.evaluator.specs.Evaluation.{evaluation, left, verdictOf}
 use Rattle.language.specs.Limits.{workBytes}
-use Rattle.language.specs.Tree.{Part, Initially, Preset, Require, Assert, Assume, Guarantee, partCode, Spec}
+use Rattle.language.specs.Tree.{Part, Initially, Preset, Require, Assert, Assume, Guarantee, Spec}
 use Rattle.language.specs.Parsing.{parsed}
 use Rattle.language.specs.Declared.{Declarations, declarations}
 use Rattle.language.specs.Numbering.{inOrder, signalList}
-use Rattle.language.specs.Lines.{Line, Written, Implied, lines}
+use Rattle.language.specs.Lines.{lines}
 use Rattle.language.specs.Expansion.{gather, atSignals, defineAll, expandSection, Sections, linesOf}
 use Rattle.language.specs.Shifting.{adapted}
-use Rattle.language.specs.Meaning.{Word, MatchesOne, Sense, Means, present, meaningAll, namesOf, readAs, SectionMeans}
+use Rattle.language.specs.Meaning.{Word, Sense, present, meaningAll, namesOf, readAs, SectionMeans}
+use Rattle.language.specs.LineMeaning.{LineMeans, partLines}
 use Rattle.language.specs.Reading.{NumberedFormula, textExpansion}
 use Rattle.faults.specs.Naming.{Finding, NoFault, lineNamed}
 
@@ -104,16 +105,6 @@ pub record FaultAt {A : Type 0} (strict : Bool) (P : Part → Property) (M : A �
   pub placed : Placed P q p
   pub first : FirstFails M ls k p
   pub assumed : Assumed strict P q p
-
--- a line's own meaning: a written one's is its expression's, an implied one's that the bus has one of its words
-abbrev pub LineMeans : Sense → Line → Word → Property
-LineMeans s (Written e) w t = Means s e w t
-LineMeans s (Implied p) w t = MatchesOne (p .name .text) (p .words) w t
-
--- the lines of a section
-abbrev pub partLines : Part → List (Part × List Line) → List Line
-partLines q [] = []
-partLines q (s ∷ ss) = elim (eqb (partCode q) (partCode (s .0))) [ true ↦ s .1 ++ partLines q ss | false ↦ partLines q ss ]
 
 -- the names of a text's lines, and where its sections hold: the source's own meaning
 abbrev pub senseOf : Spec → Sense

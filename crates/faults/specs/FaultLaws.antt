@@ -93,7 +93,7 @@ module _ {A : Type 0} (M : A → Property) (ls : Part → List A) (rows : Part �
             let low : p < n = place-lt n l t inside in
             told Assert t .1 (at Assert p low .0 (kept-within p low (λ e j y. r e j (omega arith))))
 
-  -- behind PRESET
+  -- after PRESET
   behind-standard : P Initially 0 → P Preset 0 → ¬ (Conditions → (Always (P Assert) 0 × P Guarantee 0)) → (o : Option ℕ) → Found false (all Require) (all Assert) 0 n o
       → Blames false (afterPreset (rows Assert) (rows Guarantee) o)
   behind-standard i s h (some p) b =

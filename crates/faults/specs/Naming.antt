@@ -1,6 +1,6 @@
 -- Which line is named, from the rows of each section's lines (document 02, F-7: 'For a recording that fails, name a line'). Laws in NamingLaws and FaultLaws.
 use Prim.Native.Nat.{ℕ, zero, suc}
-use mathlib.Core.Bool.{Bool, true, false, not, _&&_}
+use mathlib.Core.Bool.{Bool, true, not, _&&_}
 use mathlib.Core.List.{List, [], _∷_}
 use mathlib.Core.Option.{Option, none, some}
 use Rattle.bits.specs.Bits.{Values}

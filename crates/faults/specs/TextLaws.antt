@@ -32,17 +32,19 @@ use Rattle.language.specs.Lines.{Line, lines}
 use Rattle.language.specs.Expansion.{Sections, linesOf, section, conjunction, whole}
 use Rattle.language.specs.Shifting.{adapted}
 use Rattle.language.specs.Meaning.{Word, WholeMeans, OfSpec, TextMeans}
+use Rattle.language.specs.LineMeaning.{LineMeans, partLines}
 use Rattle.language.specs.Numbered.{numbered}
 use Rattle.language.specs.Reading.{NumberedFormula, textExpansion}
 use Rattle.language.specs.Laws.Basics.Lists.{All}
+use Rattle.language.specs.Laws.Values.PortLaws.{Pairs}
 use Rattle.language.specs.Laws.Meaning.TextAgreement.{LinesHold}
 use Rattle.language.specs.Laws.Meaning.ShiftedWords.{adapted-holds}
 use Rattle.language.specs.Laws.Meaning.Acceptance.{accepts, text-agrees, text-signals}
-use Rattle.language.specs.Laws.Meaning.LineAgreement.{Pairs, section-lines, lines-told}
+use Rattle.language.specs.Laws.Meaning.LineAgreement.{section-lines, lines-told}
 use Rattle.claim.specs.Claim.{Gives}
 use Rattle.claim.specs.ClaimLaws.{text-few, text-small}
 use Rattle.faults.specs.Naming.{Finding, NoFault, FaultIn, lineNamed}
-use Rattle.faults.specs.Diagnosing.{sectionsOf, linedBy, lined, lineRows, finding, diagnosing, Assumed, Placed, Every, LineMeans, partLines, senseOf, SectionOf, readOn, Fault}
+use Rattle.faults.specs.Diagnosing.{sectionsOf, linedBy, lined, lineRows, finding, diagnosing, Assumed, Placed, Every, senseOf, SectionOf, readOn, Fault}
 use Rattle.faults.specs.NamingLaws.{Right}
 use Rattle.faults.specs.FaultLaws.{Blames, named-fault}
 use Rattle.faults.specs.WholeLaws.{adapted-rebuilds, rebuilt-conjunction, rebuilt-whole, whole-below, conjunction-below, whole-same}

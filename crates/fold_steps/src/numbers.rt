@@ -9,6 +9,7 @@ use operands::entry::place_at;
 use operands::entry::prefix_at;
 use sets::Worked;
 use sets::numbers;
+use value_steps::unworked;
 ghost use Rattle.machine.specs.Phases as Phase;
 ghost use Rattle.machine.specs.States.{Topped, Takes};
 ghost use Rattle.operands.specs.Working.{source};
@@ -70,8 +71,8 @@ pub fn next(text: &[u8], work: &[u8], refs: &[u16], memory: &mut [u32], m: Machi
     let k = memory[at + 1] as usize;
     let a = memory[at + 5];
     let r = numbers::calculate(place_at(work, k), prefix_at(work, k), a, m.value);
-    match r {
-        Worked::Value(n) => onward(memory, m, n),
-        Worked::Refused(n, p) => Move::Refused(n, p),
-    }
+    let Worked::Value(n) = r else {
+        return unworked(r);
+    };
+    onward(memory, m, n)
 }

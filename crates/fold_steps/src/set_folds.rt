@@ -12,6 +12,7 @@ use node::refusals;
 use operands::entry::place_at;
 use operands::entry::prefix_at;
 use sets::Worked;
+use value_steps::unworked;
 ghost use mathlib.Core.Path.{_≡_};
 ghost use Prim.Native.Nat.{_+_, _-_, _<_, _^_};
 ghost use Rattle.machine.specs.Phases as Phase;
@@ -120,8 +121,8 @@ pub fn next(text: &[u8], work: &[u8], refs: &[u16], memory: &mut [u32], m: Machi
     let operator = prefix_at(work, k);
     let place = place_at(work, k);
     let r = combine(place, operator, memory, folded, operand, to);
-    match r {
-        Worked::Value(n) => onward(memory, m, to, n),
-        Worked::Refused(n, p) => Move::Refused(n, p),
-    }
+    let Worked::Value(n) = r else {
+        return unworked(r);
+    };
+    onward(memory, m, to, n)
 }

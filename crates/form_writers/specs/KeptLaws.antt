@@ -6,8 +6,8 @@ use mathlib.Core.List.{List}
 use native.Mathlib.Decide.{decLt}
 use native.Mathlib.Omega.{arith}
 use Rattle.node.specs.Limits.{fieldLimit}
-use Rattle.node.specs.Ltl.{Not, Formula, One, Two}
-use Rattle.node.specs.Kinds.{UnaryOf, BinaryOf, Unused, shapeOf, unaryKind, binaryKind}
+use Rattle.node.specs.Ltl.{Not, X, And, Or, Implies, Iff, U, R, W, Formula, One, Two}
+use Rattle.node.specs.Kinds.{UnaryOf, BinaryOf, Unused, shapeOf, kindCount, unaryKind, binaryKind}
 use Rattle.node.specs.KindLaws.{no-shape, Each, each-below}
 use Rattle.node.specs.Table.{treeAt}
 use Rattle.node.specs.Formed.{NodeIs}
@@ -22,10 +22,10 @@ each-from P from n e k h l =
 
 -- X, G and F; the kinds of two operands, from `&&` to `<->` and from U to W
 abbrev pub OfOne : ℕ → Type 0
-OfOne k = (8 ≤ k) × (k < 11)
+OfOne k = (unaryKind X ≤ k) × (k < binaryKind U)
 
 abbrev pub OfTwo : ℕ → Type 0
-OfTwo k = ((4 ≤ k) × (k < 8)) ⊎ ((11 ≤ k) × (k < 14))
+OfTwo k = ((binaryKind And ≤ k) × (k < unaryKind X)) ⊎ ((binaryKind U ≤ k) × (k < kindCount))
 
 each-one : (P : ℕ → Type 0) → P 8 → P 9 → P 10 → (k : ℕ) → OfOne k → P k
 each-one P p8 p9 p10 k h = each-from P 8 3 (((tt, p8), p9), p10) k (h .0) (h .1)
@@ -72,9 +72,9 @@ module _ {f : Formula → Formula} {ws : List ℕ} {i a b k op : ℕ} where
 module _ {ws : List ℕ} {i a b k : ℕ} where
   pub of-two : NodeIs fieldLimit ws i (shapeOf k) a b → 4 ≤ k → (k < 8) ⊎ (10 < k) → OfTwo k
   of-two n h (inl l) = inl (h, l)
-  of-two n h (inr l) = go (decLt k 14)
+  of-two n h (inr l) = go (decLt k kindCount)
     where
-      go : Dec (k < 14) → OfTwo k
+      go : Dec (k < kindCount) → OfTwo k
       go (yes m) = inr (l, m)
       go (no m) =
           let e : shapeOf k ≡ Unused = no-shape {kind = k} (omega arith) in
@@ -118,10 +118,10 @@ plain-one =
     (turns-one (omega arith) refl (λ g. refl))
     (turns-one (omega arith) refl (λ g. refl))
 
-pub plain-two : (k : ℕ) → OfTwo k → (k ≡ 6 → ⊥) → (k ≡ 7 → ⊥) → TurnsTwo plain k k
+pub plain-two : (k : ℕ) → OfTwo k → (k ≡ binaryKind Implies → ⊥) → (k ≡ binaryKind Iff → ⊥) → TurnsTwo plain k k
 unfolding plain negated
 plain-two =
-    each-two (λ k. (k ≡ 6 → ⊥) → (k ≡ 7 → ⊥) → TurnsTwo plain k k)
+    each-two (λ k. (k ≡ binaryKind Implies → ⊥) → (k ≡ binaryKind Iff → ⊥) → TurnsTwo plain k k)
     (λ x y. turns-two (omega arith) refl (λ g h. refl))
     (λ x y. turns-two (omega arith) refl (λ g h. refl))
     (λ x y. absurd (x refl))
@@ -139,10 +139,10 @@ negated-one =
     (turns-one (omega arith) refl (λ g. refl))
     (turns-one (omega arith) refl (λ g. refl))
 
-pub negated-two : (k : ℕ) → OfTwo k → (k ≡ 6 → ⊥) → (k ≡ 7 → ⊥) → (k ≡ 13 → ⊥) → TurnsTwo negated k (dualKind k)
+pub negated-two : (k : ℕ) → OfTwo k → (k ≡ binaryKind Implies → ⊥) → (k ≡ binaryKind Iff → ⊥) → (k ≡ binaryKind W → ⊥) → TurnsTwo negated k (dualKind k)
 unfolding plain negated
 negated-two =
-    each-two (λ k. (k ≡ 6 → ⊥) → (k ≡ 7 → ⊥) → (k ≡ 13 → ⊥) → TurnsTwo negated k (dualKind k))
+    each-two (λ k. (k ≡ binaryKind Implies → ⊥) → (k ≡ binaryKind Iff → ⊥) → (k ≡ binaryKind W → ⊥) → TurnsTwo negated k (dualKind k))
     (λ x y z. turns-two (omega arith) refl (λ g h. refl))
     (λ x y z. turns-two (omega arith) refl (λ g h. refl))
     (λ x y z. absurd (x refl))
@@ -162,21 +162,21 @@ one-of P j l x y k (inl e) = subst P (sym e) x
 one-of P j l x y k (inr e) = subst P (sym e) y
 
 module _ {ws : List ℕ} {i a b : ℕ} where
-  pub core-one : (k : ℕ) → (k ≡ 3) ⊎ (k ≡ 8) → NodeIs fieldLimit ws i (shapeOf k) a b → OneStep core ws i a k
+  pub core-one : (k : ℕ) → (k ≡ unaryKind Not) ⊎ (k ≡ unaryKind X) → NodeIs fieldLimit ws i (shapeOf k) a b → OneStep core ws i a k
   unfolding core
   core-one =
       one-of (λ k. NodeIs fieldLimit ws i (shapeOf k) a b → OneStep core ws i a k) 3 8
       (λ n. record { operator = record { small = omega arith; number = refl }; below = n .lower; tree = ap core (n .tree) })
       (λ n. record { operator = record { small = omega arith; number = refl }; below = n .lower; tree = ap core (n .tree) })
 
-  pub core-two : (k : ℕ) → (k ≡ 5) ⊎ (k ≡ 11) → NodeIs fieldLimit ws i (shapeOf k) a b → TwoStep core ws i a b k
+  pub core-two : (k : ℕ) → (k ≡ binaryKind Or) ⊎ (k ≡ binaryKind U) → NodeIs fieldLimit ws i (shapeOf k) a b → TwoStep core ws i a b k
   unfolding core
   core-two =
       one-of (λ k. NodeIs fieldLimit ws i (shapeOf k) a b → TwoStep core ws i a b k) 5 11
       (λ n. record { operator = record { small = omega arith; number = refl }; below = n .lower; tree = ap core (n .tree) })
       (λ n. record { operator = record { small = omega arith; number = refl }; below = n .lower; tree = ap core (n .tree) })
 
-  pub core-dual : (k : ℕ) → (k ≡ 4) ⊎ (k ≡ 12) → NodeIs fieldLimit ws i (shapeOf k) a b → DualStep ws i a b (baseKind k)
+  pub core-dual : (k : ℕ) → (k ≡ binaryKind And) ⊎ (k ≡ binaryKind R) → NodeIs fieldLimit ws i (shapeOf k) a b → DualStep ws i a b (baseKind k)
   unfolding core
   core-dual =
       one-of (λ k. NodeIs fieldLimit ws i (shapeOf k) a b → DualStep ws i a b (baseKind k)) 4 12

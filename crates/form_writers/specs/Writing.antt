@@ -35,8 +35,11 @@ pub record IsBinary (op : ℕ) : Type 0 where
 
 -- the kind of the dual operator
 abbrev pub dualKind : ℕ → ℕ
-dualKind k = cond (eqb k 4) 5 (cond (eqb k 5) 4 (cond (eqb k 9) 10 (cond (eqb k 10) 9 (cond (eqb k 11) 12 (cond (eqb k 12) 11 k)))))
+dualKind k =
+    cond (eqb k (binaryKind And)) (binaryKind Or) (cond (eqb k (binaryKind Or)) (binaryKind And)
+    (cond (eqb k (unaryKind G)) (unaryKind F) (cond (eqb k (unaryKind F)) (unaryKind G)
+    (cond (eqb k (binaryKind U)) (binaryKind R) (cond (eqb k (binaryKind R)) (binaryKind U) k)))))
 
 -- `||` for `&&`, U for R: the operators that core form derives them from
 abbrev pub baseKind : ℕ → ℕ
-baseKind k = cond (eqb k 4) 5 11
+baseKind k = cond (eqb k (binaryKind And)) (binaryKind Or) (binaryKind U)

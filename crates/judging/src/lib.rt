@@ -15,7 +15,7 @@ use recordings::LONGEST;
 use recordings::MAX_POSITIONS;
 
 // The longest row for each of the most nodes: 2 MB.
-const ROWS: usize = (MAX_POSITIONS + 7) / 8 * MAX_NODES;
+pub const ROWS: usize = (MAX_POSITIONS + 7) / 8 * MAX_NODES;
 
 // Room for the rows. A function of its own, so that the callers' proofs do not write the array out.
 fn room() -> [u8; ROWS]

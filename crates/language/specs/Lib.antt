@@ -22,6 +22,7 @@ pub mod Lines
 pub mod Expansion
 pub mod Shifting
 pub mod Meaning
+pub mod LineMeaning
 pub mod Numbered
 pub mod Listed
 pub mod Reading

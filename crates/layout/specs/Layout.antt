@@ -1,4 +1,4 @@
--- A formula's text as it is written: each token with the blank behind it, piece by piece before, between and behind a node's operands.
+-- A formula's text as it is written: each token with the blank after it, piece by piece before, between and after a node's operands.
 use Prim.Native.Nat.{ℕ, zero, suc, _+_}
 use mathlib.Core.List.{List, [], _∷_, _++_}
 use lib.ListN.{length, getD}
@@ -42,12 +42,12 @@ layout name (Signal k) = ascii "( " ++ (name k ++ ascii " ) ")
 layout name (One o a) = piece (UnaryOf o) 0 ++ (layout name a ++ ascii ") ")
 layout name (Two o a b) = ascii "( " ++ (layout name a ++ (piece (BinaryOf o) 1 ++ (layout name b ++ ascii ") ")))
 
--- what is left of it behind the first operand of two, and behind the second
+-- what is left of it after the first operand of two, and after the second
 abbrev pub leftOfTwo : (name : ℕ → List ℕ) → ℕ → Binary → Formula → List ℕ
 leftOfTwo name zero o b = piece (BinaryOf o) 1 ++ (layout name b ++ ascii ") ")
 leftOfTwo name (suc k) o b = ascii ") "
 
--- what is left of it behind k operands
+-- what is left of it after k operands
 unfoldable pub left : (name : ℕ → List ℕ) → ℕ → Formula → List ℕ
 left name zero f = layout name f
 left name (suc k) True = []
@@ -56,7 +56,7 @@ left name (suc k) (Signal n) = []
 left name (suc k) (One o a) = ascii ") "
 left name (suc k) (Two o a b) = leftOfTwo name k o b
 
--- the piece behind k operands; a signal's whole text
+-- the piece after k operands; a signal's whole text
 abbrev pub pieceOf : (name : ℕ → List ℕ) → Shape → ℕ → ℕ → List ℕ
 pieceOf name Truth k a = piece Truth k
 pieceOf name Falsehood k a = piece Falsehood k

@@ -24,7 +24,7 @@ use Rattle.signal_names.specs.Turns.{names-length, name-is}
 use Rattle.layout.specs.Layout.{layout}
 use Rattle.layout.specs.Text.{headText, outputsText, guaranteeText, endText, linesFrom, textOf, handed, outcome}
 
--- each token with a blank behind it
+-- each token with a blank after it
 unfoldable spaced : List (List ℕ) → List ℕ
 spaced [] = []
 spaced (t ∷ ts) = t ++ (32 ∷ spaced ts)
@@ -34,7 +34,7 @@ unfolding spaced
 spaced-append [] t = refl
 spaced-append (x ∷ s) t = ap (λ (y : List ℕ). x ++ (32 ∷ y)) (spaced-append s t) ∙ sym (append-assoc x (32 ∷ spaced s) (spaced t))
 
--- tokens before others have each a blank behind them
+-- tokens before others have each a blank after them
 parted-append : (s t : List (List ℕ)) → 0 < length t → parted (s ++ t) ≡ spaced s ++ parted t
 unfolding parted spaced
 parted-append [] t h = refl
@@ -62,9 +62,6 @@ module _ (name : ℕ → List ℕ) (ns : List (List ℕ)) (same : (k : ℕ) → 
       ∙ sym (spaced-append (formulaTokens ns a) (sign ∷ (formulaTokens ns b ++ (ascii ")" ∷ [])))))
 
 -- the lines of a direction
-flagNumber : Bool → ℕ
-flagNumber output = if output then 1 else 0
-
 module _ (name : ℕ → List ℕ) (text : List ℕ) (output : Bool) where
   lines-are : (k : ℕ) (es : List ℕ) → ((j : ℕ) → j < length es → name (k + j) ≡ spelled text (getD es j 0))
       → linesFrom name (if output then 1 else 0) k es ≡ spaced (lineTokens (sideOf output text es))

@@ -10,7 +10,7 @@ use Rattle.node.specs.Kinds.{kindCount, shapeOf}
 use Rattle.node.specs.Formed.{Below}
 use Rattle.language.specs.Limits.{maxName}
 use Rattle.layout.specs.Layout.{piece, sized, nth}
-use Rattle.layout.specs.Table.{following, ofSignal, ofOperand, Measurable}
+use Rattle.layout.specs.Table.{following, signalKind, ofSignal, ofOperand, Measurable}
 use Rattle.layout.specs.SizeLaws.{kind-below, atom-below, first-below, second-below, summed-is}
 
 module _ {sizes : List ℕ} {n word k a b : ℕ} (m : Measurable sizes n word) (ek : k ≡ kindOf word) (ea : a ≡ firstOf word) (eb : b ≡ secondOf word) where
@@ -20,7 +20,7 @@ module _ {sizes : List ℕ} {n word k a b : ℕ} (m : Measurable sizes n word) (
   pub kind-told : k < kindCount
   kind-told = kind-below (m .limit) n a b k below
 
-  pub name-told : k ≡ 2 → (a < length sizes) × (getD sizes a 0 ≤ maxName)
+  pub name-told : k ≡ signalKind → (a < length sizes) × (getD sizes a 0 ≤ maxName)
   name-told e = let l = atom-below (m .limit) n a b k below e in (omega (arith, m .listed), m .small a l)
 
   pub left-told : {t : Bool} → t ≡ following (shapeOf k) 0 → t ≡ true → a < n

@@ -13,12 +13,12 @@ use Rattle.language.specs.Bytes.{ascii}
 use Rattle.signal_names.specs.Runs.{part-length, puts-after}
 use Rattle.signal_names.specs.Promise.{slotBytes, slot, part, Puts}
 use Rattle.layout.specs.Layout.{piece, pieceOf}
-use Rattle.layout.specs.Table.{Writable}
+use Rattle.layout.specs.Table.{signalKind, Writable}
 
 -- of every other kind it is the table's
-other-piece : (name : ℕ → List ℕ) (k done a : ℕ) → (k ≡ 2 → ⊥) → pieceOf name (shapeOf k) done a ≡ piece (shapeOf k) done
+other-piece : (name : ℕ → List ℕ) (k done a : ℕ) → (k ≡ signalKind → ⊥) → pieceOf name (shapeOf k) done a ≡ piece (shapeOf k) done
 other-piece name k done a =
-    by-kind (λ k. (k ≡ 2 → ⊥) → pieceOf name (shapeOf k) done a ≡ piece (shapeOf k) done)
+    by-kind (λ k. (k ≡ signalKind → ⊥) → pieceOf name (shapeOf k) done a ≡ piece (shapeOf k) done)
     ((((((((((((((tt, λ _. refl), λ _. refl), λ h. absurd (h refl)), λ _. refl), λ _. refl), λ _. refl), λ _. refl), λ _. refl), λ _. refl), λ _. refl), λ _. refl), λ _. refl), λ _. refl), λ _. refl)
     (λ k h _. rw (no-shape h)) k
 
@@ -26,7 +26,7 @@ module _ {names sizes : List ℕ} {kind first done : ℕ} (w : Writable names si
   abbrev whole : List ℕ
   whole = pieceOf (slot names sizes) (shapeOf kind) done first
 
-  module _ (e : kind ≡ 2) where
+  module _ (e : kind ≡ signalKind) where
     lead : length (piece (shapeOf kind) done) ≡ 2
     lead = ap₂ (λ (k d : ℕ). length (piece (shapeOf k) d)) e (w .start e)
 
@@ -44,7 +44,7 @@ module _ {names sizes : List ℕ} {kind first done : ℕ} (w : Writable names si
         ap length signal-is ∙ length-append (ascii "( ") (slot names sizes first ++ ascii " ) ")
         ∙ ap (λ (n : ℕ). 2 + n) (length-append (slot names sizes first) (ascii " ) ") ∙ ap (λ (n : ℕ). n + 3) (part-length names (slotBytes * first) (getD sizes first 0) name-room))
 
-    -- room behind the first piece, and behind the name
+    -- room after the first piece, and after the name
     module _ (at room : ℕ) {m : ℕ} (fits : at + length whole ≤ room) (next : m ≡ at + length (piece (shapeOf kind) done)) where
       pub name-fits : m + getD sizes first 0 ≤ room
       name-fits = omega (arith, signal-size, lead)
@@ -67,5 +67,5 @@ module _ {names sizes : List ℕ} {kind first done : ℕ} (w : Writable names si
       go true e = let k = eqb-true kind 2 e in omega (arith, lead k, signal-size k)
       go false e = omega (arith, ap length (other-piece (slot names sizes) kind done first (eqb-false kind 2 e)))
 
-  pub piece-puts : {out o1 : List ℕ} {at m : ℕ} → (kind ≡ 2 → ⊥) → Puts (piece (shapeOf kind) done) out o1 at m → Puts whole out o1 at m
+  pub piece-puts : {out o1 : List ℕ} {at m : ℕ} → (kind ≡ signalKind → ⊥) → Puts (piece (shapeOf kind) done) out o1 at m → Puts whole out o1 at m
   piece-puts e p = rw (other-piece (slot names sizes) kind done first e) p

@@ -13,7 +13,7 @@ use Rattle.node.specs.Ltl.{Formula}
 use Rattle.node.specs.Formed.{Below}
 use Rattle.language.specs.Laws.Basics.Tests.{pick, leave}
 use Rattle.layout.specs.Layout.{piece, sized, weight}
-use Rattle.layout.specs.Table.{following, ofSignal, ofOperand}
+use Rattle.layout.specs.Table.{following, signalKind, ofSignal, ofOperand}
 
 module _ (limit n a b : ℕ) where
   -- a node that fits has one of the fourteen kinds
@@ -25,7 +25,7 @@ module _ (limit n a b : ℕ) where
       go (no l) = let above : kindCount ≤ k = omega arith in let e : shapeOf k ≡ Unused = no-shape above in let g : Below limit Unused n a b = rw e at h in absurd g
 
   -- a signal's number lies below the limit, operands before the node
-  pub atom-below : (k : ℕ) → Below limit (shapeOf k) n a b → k ≡ 2 → a < limit
+  pub atom-below : (k : ℕ) → Below limit (shapeOf k) n a b → k ≡ signalKind → a < limit
   atom-below k h e = let g : Below limit Atom n a b = rw e at h in g
 
   pub first-below : (s : Shape) → Below limit s n a b → following s 0 ≡ true → a < n
@@ -67,11 +67,11 @@ module _ (limit n a b : ℕ) where
 pub operand-is : (b t : Bool) (n : ℕ) → b ≡ t → ofOperand t n ≡ ofOperand b n
 operand-is b t n e = ap (λ (u : Bool). ofOperand u n) (sym e)
 
-pub signal-is : (kind n : ℕ) → kind ≡ 2 → ofSignal kind n ≡ n
-signal-is kind n e = pick (eqb kind 2) n 0 (eq-eqb kind 2 e)
+pub signal-is : (kind n : ℕ) → kind ≡ signalKind → ofSignal kind n ≡ n
+signal-is kind n e = pick (eqb kind signalKind) n 0 (eq-eqb kind signalKind e)
 
-pub signal-not : (kind n : ℕ) → (kind ≡ 2 → ⊥) → ofSignal kind n ≡ 0
-signal-not kind n e = leave (eqb kind 2) n 0 (ne-eqb kind 2 e)
+pub signal-not : (kind n : ℕ) → (kind ≡ signalKind → ⊥) → ofSignal kind n ≡ 0
+signal-not kind n e = leave (eqb kind signalKind) n 0 (ne-eqb kind signalKind e)
 
 -- the sum that the code makes
 module _ (size operand : ℕ → ℕ) (a b : ℕ) where

@@ -33,7 +33,7 @@ pub operand-second : (k a b : ℕ) → (k ≡ 0 → ⊥) → b ≡ operandAt k a
 operand-second zero a b e = absurd (e refl)
 operand-second (suc k) a b e = refl
 
--- a node's text behind k operands: the next piece, then the next operand and the rest; or the last piece
+-- a node's text after k operands: the next piece, then the next operand and the rest; or the last piece
 module _ (name : ℕ → List ℕ) (tree : ℕ → Formula) (limit n a b : ℕ) where
   left-last : (s : Shape) (k : ℕ) → Below limit s n a b → k ≤ operands s → following s k ≡ false → left name k (build s tree a b) ≡ pieceOf name s k a
   unfolding left layout

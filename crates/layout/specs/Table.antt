@@ -17,7 +17,7 @@ use Rattle.layout.specs.Layout.{piece, operands}
 abbrev pub following : Shape → ℕ → Bool
 following s k = ltb k (operands s)
 
--- so many bytes, zeros behind
+-- so many bytes, zeros after
 abbrev padded : ℕ → List ℕ → List ℕ
 padded zero s = []
 padded (suc n) [] = 0 ∷ padded n []
@@ -36,9 +36,13 @@ table = rows shapes
 abbrev pub rowAt : ℕ → ℕ → ℕ
 rowAt kind done = 36 * kind + 12 * done
 
+-- the kind of a signal's node
+abbrev pub signalKind : ℕ
+signalKind = 2
+
 -- a signal's name, and an operand, in the size of a node
 abbrev pub ofSignal : ℕ → ℕ → ℕ
-ofSignal kind n = if eqb kind 2 then n else 0
+ofSignal kind n = if eqb kind signalKind then n else 0
 
 abbrev pub ofOperand : Bool → ℕ → ℕ
 ofOperand b n = if b then n else 0
@@ -52,7 +56,7 @@ pub record Measurable (sizes : List ℕ) (n word : ℕ) : Type 0 where
 
 -- a piece that can be written: a signal's name is in its slot
 pub record Writable (names sizes : List ℕ) (kind first done : ℕ) : Type 0 where
-  pub start : kind ≡ 2 → done ≡ 0
-  pub listed : kind ≡ 2 → first < length sizes
-  pub small : kind ≡ 2 → getD sizes first 0 ≤ maxName
-  pub room : kind ≡ 2 → slotBytes * first + maxName ≤ length names
+  pub start : kind ≡ signalKind → done ≡ 0
+  pub listed : kind ≡ signalKind → first < length sizes
+  pub small : kind ≡ signalKind → getD sizes first 0 ≤ maxName
+  pub room : kind ≡ signalKind → slotBytes * first + maxName ≤ length names

@@ -40,7 +40,7 @@ guaranteeText = ascii "} GUARANTEE { "
 abbrev pub endText : List ℕ
 endText = ascii "; } }"
 
--- what stands behind a name
+-- what stands after a name
 abbrev pub lineEnd : List ℕ
 lineEnd = ascii " ; "
 

@@ -57,7 +57,7 @@ module _ (m : Model) (name : ℕ → List ℕ) (list : List ℕ) (f : Formula) w
       let g = length-append (layout name f) endText in
       omega (arith, head-length)
 
--- the parts, one behind the other, each with room for those behind it
+-- the parts, one after the other, each with room for those after it
 module _ (m : Model) (name : ℕ → List ℕ) (list : List ℕ) (f : Formula) (out : List ℕ) (fits : length (textOf m name list f) ≤ length out) where
   whole : length (textOf m name list f) ≡ fixedSize + length (linesFrom name 0 0 list) + length (linesFrom name 1 0 list) + length (layout name f)
   whole = text-length m name list f

@@ -34,7 +34,7 @@ pub fn measure(nodes: &[u32], names: &[u8], sizes: &[usize], pieces: &[u8]) -> u
 // One more than the number of a node can be: a stack's entry is the node's number, and so many times this as operands are written.
 const OPERAND: u32 = MAX_NODES as u32;
 
-// How many entries are on the stack, and the place behind what is written.
+// How many entries are on the stack, and the place after what is written.
 pub struct Turn {
     pub height: usize,
     pub at: usize,

@@ -1,4 +1,4 @@
-// The pieces of a written formula: what stands before, between and behind a node's operands, in a table by kinds.
+// The pieces of a written formula: what stands before, between and after a node's operands, in a table by kinds.
 ghost use mathlib.Core.Path.{_≡_};
 ghost use mathlib.Core.Bool.{true};
 ghost use Prim.Native.Nat.{_+_, _<_, _≤_, min};
@@ -9,7 +9,7 @@ ghost use Rattle.language.specs.Limits.{maxName};
 ghost use Rattle.basics.specs.Told.{maxTold};
 ghost use Rattle.signal_names.specs.Promise.{slot, Puts};
 ghost use Rattle.layout.specs.Layout.{piece, pieceOf, sized, nth};
-ghost use Rattle.layout.specs.Table.{table, following, ofSignal, ofOperand, Measurable, Writable};
+ghost use Rattle.layout.specs.Table.{table, following, signalKind, ofSignal, ofOperand, Measurable, Writable};
 use basics::told;
 use basics::u8_usize::wide;
 use language::limits::MAX_NAME;
@@ -92,7 +92,7 @@ pub fn put_piece(
 
 // The size of a signal's name, or 0 for another kind.
 fn name_size(kind: u32, sizes: &[usize], first: usize) -> usize
-    requires { ⌜ (kind ≡ 2 → (first < length (now sizes)) × (getD (now sizes) first 0 ≤ maxName)) ⌝ }
+    requires { ⌜ (kind ≡ signalKind → (first < length (now sizes)) × (getD (now sizes) first 0 ≤ maxName)) ⌝ }
     ensures { λ r. ⌜ (r ≡ ofSignal kind (getD (now (sizes .entry)) first 0)) × (r ≤ maxName) ⌝ }
 {
     if kind != Node::SIGNAL {

@@ -27,7 +27,7 @@ use signal_names::spell;
 // The bytes of all signals' slots, with room for a name that is too long.
 const NAMES: usize = MAX_SIGNALS * MAX_NAME + MAX_NAME + 4;
 
-// The sizes of the fixed texts: INFO to the first input, between the lists, from the lists to the formula, behind it; and behind a name.
+// The sizes of the fixed texts: INFO to the first input, between the lists, from the lists to the formula, after it; and after a name.
 const HEAD: usize = 104;
 
 const OUTPUTS: usize = 12;

@@ -1,5 +1,5 @@
 // The lexer: a text's bytes to one word for each token in a lent buffer (refusals 1 to 3).
-// `lex` asks for a buffer with room for the token words; `read` refuses a shorter one (17). The pieces ask for a place within the text.
+// An inner stage: `lex` asks for a buffer with room for the tokens' words, and the reader refuses a shorter one (17). The pieces ask for a place within the text.
 pub mod fields;
 pub mod numbers;
 mod piece;
@@ -76,7 +76,7 @@ fn store(work: &mut [u8], n: usize, kind: u32, at: usize, size: usize)
     }
 }
 
-// The tokens of a text. It is an inner stage: the reader has tested the length of the work buffer (refusal 17), and shows that the tokens have room.
+// The tokens of a text.
 pub fn lex(text: &[u8], work: &mut [u8]) -> Lexed
     requires { ⌜ tokenBytes ≤ length (now work) ⌝ }
     ensures { λ r. ⌜ Lexes (now (text .entry)) (now (work .entry)) (now (work .exit)) r ⌝ }

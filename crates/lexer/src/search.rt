@@ -1,4 +1,4 @@
-// The search among the signs and words of the format. The callers stand at a byte of the text, with tables that are right, and show it.
+// The search among the signs and words of the format, by the tables of crate::tables. The functions ask for a place within the text and for tables that hold what specs/Tables says.
 use crate::tables::COUNT;
 use crate::tables::ROW;
 use crate::tables::ROW_BYTES;

@@ -9,9 +9,9 @@ use lib.Dec.{ltb, eqb}
 use lib.ListN.{length, getD}
 use borrow.Author.Tests.{ltb-true, eqb-true, le-leb, lt-leb, lt-ltb, le-ltb, eq-eqb, ne-eqb}
 use Rattle.node.specs.Limits.{maxNodes}
-use Rattle.node.specs.Ltl.{Formula}
+use Rattle.node.specs.Ltl.{Not, X, F, Formula}
 use Rattle.node.specs.Fields.{kindOf, firstOf, secondOf}
-use Rattle.node.specs.Kinds.{Shape, Truth, Falsehood, Atom, UnaryOf, BinaryOf, Unused, shapeOf, build}
+use Rattle.node.specs.Kinds.{Shape, Truth, Falsehood, Atom, UnaryOf, BinaryOf, Unused, shapeOf, kindCount, unaryKind, build}
 use Rattle.node.specs.KindLaws.{each-below, by-kind, no-shape}
 use Rattle.node.specs.Result.{Done}
 use Rattle.node.specs.Table.{treeAt, root, fits}
@@ -90,9 +90,9 @@ module _ (n : ℕ) (few : n ≤ maxNodes) (m p x y : ℕ) (s t : Span) (lm : m <
   both : Coded n (max x y) (wider s t)
   both = coded-wider n few x y s t (low-more n s (omega arith) ls) (low-more n t (omega arith) lt) one (coded-more n few p y t (omega arith) cy)
 
-  code-kind : (kind : ℕ) → kind < 14 → Coded n (codeOf kind x y) (shapeSpan (shapeOf kind) s t)
+  code-kind : (kind : ℕ) → kind < kindCount → Coded n (codeOf kind x y) (shapeSpan (shapeOf kind) s t)
   code-kind =
-      by-kind (λ k. k < 14 → Coded n (codeOf k x y) (shapeSpan (shapeOf k) s t)) (
+      by-kind (λ k. k < kindCount → Coded n (codeOf k x y) (shapeSpan (shapeOf k) s t)) (
         (
           (
             (
@@ -124,9 +124,9 @@ operands-lower limit n Falsehood a b ok u = absurd u
 operands-lower limit n Atom a b ok u = absurd u
 operands-lower limit n Unused a b ok u = absurd u
 
-kind-operator : (kind : ℕ) → kind < 14 → 3 ≤ kind → Operator (shapeOf kind)
+kind-operator : (kind : ℕ) → kind < kindCount → unaryKind Not ≤ kind → Operator (shapeOf kind)
 kind-operator =
-    by-kind (λ k. k < 14 → 3 ≤ k → Operator (shapeOf k)) (
+    by-kind (λ k. k < kindCount → unaryKind Not ≤ k → Operator (shapeOf k)) (
       (
         ((((((((((((tt, λ b o. omega arith), λ b o. omega arith), λ b o. omega arith), λ b o. tt), λ b o. tt), λ b o. tt), λ b o. tt), λ b o. tt), λ b o. tt), λ b o. tt), λ b o. tt), λ b o. tt),
         λ b o.
@@ -137,8 +137,8 @@ kind-operator =
     (λ k above below o. absurd (omega arith))
 
 -- constants and signals look at nothing else
-code-leaf : (n x y : ℕ) (s t : Span) (kind : ℕ) → kind < 3 → Coded n (codeOf kind x y) (shapeSpan (shapeOf kind) s t)
-code-leaf n x y s t = each-below (λ k. Coded n (codeOf k x y) (shapeSpan (shapeOf k) s t)) 3 (((tt, omega arith), omega arith), refl)
+code-leaf : (n x y : ℕ) (s t : Span) (kind : ℕ) → kind < unaryKind Not → Coded n (codeOf kind x y) (shapeSpan (shapeOf kind) s t)
+code-leaf n x y s t = each-below (λ k. Coded n (codeOf k x y) (shapeSpan (shapeOf k) s t)) (unaryKind Not) (((tt, omega arith), omega arith), refl)
 
 -- node i of a table of the format
 module _ {limit : ℕ} {ws : List ℕ} (f : Formed limit ws) (i : ℕ) (h : i < length ws) where
@@ -148,16 +148,16 @@ module _ {limit : ℕ} {ws : List ℕ} (f : Formed limit ws) (i : ℕ) (h : i < 
   is : NodeIs limit ws i (shapeOf (kindOf word)) (firstOf word) (secondOf word)
   is = node-is i (kindOf word) (firstOf word) (secondOf word) f h refl refl refl
 
-  known : kindOf word < 14
-  known = go (decLt (kindOf word) 14)
+  known : kindOf word < kindCount
+  known = go (decLt (kindOf word) kindCount)
     where
-      go : Dec (kindOf word < 14) → kindOf word < 14
+      go : Dec (kindOf word < kindCount) → kindOf word < kindCount
       go (yes l) = l
       go (no l) =
           let e : shapeOf (kindOf word) ≡ Unused = no-shape {kind = kindOf word} (omega arith) in
           let n : NodeIs limit ws i Unused (firstOf word) (secondOf word) = rw e at is in absurd (n .lower)
 
-  lower : 3 ≤ kindOf word → (firstOf word < i) × (secondOf word < i)
+  lower : unaryKind Not ≤ kindOf word → (firstOf word < i) × (secondOf word < i)
   lower o = operands-lower limit i (shapeOf (kindOf word)) (firstOf word) (secondOf word) (f .each i h) (kind-operator (kindOf word) known o)
 
   pub in-table : {bytes words : List ℕ} → Spanned ws i bytes words → InTable word (numberAt bytes words)
@@ -175,7 +175,7 @@ module _ {limit : ℕ} {ws : List ℕ} (f : Formed limit ws) (i : ℕ) (h : i < 
 
   node-code : {bytes words : List ℕ} → Spanned ws i bytes words → Coded i (nodeCode word (numberAt bytes words)) (span (treeAt ws i))
   node-code {bytes} {words} e =
-      rw (is .tree, span-build (shapeOf (kindOf word)) (treeAt ws) (firstOf word) (secondOf word)) (go (decLt (kindOf word) 3))
+      rw (is .tree, span-build (shapeOf (kindOf word)) (treeAt ws) (firstOf word) (secondOf word)) (go (decLt (kindOf word) (unaryKind Not)))
     where
       s : Span
       s = span (treeAt ws (firstOf word))
@@ -183,7 +183,7 @@ module _ {limit : ℕ} {ws : List ℕ} (f : Formed limit ws) (i : ℕ) (h : i < 
       t : Span
       t = span (treeAt ws (secondOf word))
 
-      go : Dec (kindOf word < 3) → Coded i (nodeCode word (numberAt bytes words)) (shapeSpan (shapeOf (kindOf word)) s t)
+      go : Dec (kindOf word < unaryKind Not) → Coded i (nodeCode word (numberAt bytes words)) (shapeSpan (shapeOf (kindOf word)) s t)
       go (yes l) = code-leaf i (numberAt bytes words (firstOf word)) (numberAt bytes words (secondOf word)) s t (kindOf word) l
       go (no l) =
           let p = lower (omega arith) in
@@ -234,30 +234,30 @@ module _ (w : ℕ) {k : ℕ} (at : ℕ → ℕ) (e : k ≡ kindOf w) where
   pub node-constant : k < 2 → 0 ≡ nodeCode w at
   node-constant h = rw (← e, lt-ltb k 2 h)
 
-  pub node-signal : 2 ≤ k → k < 3 → here ≡ nodeCode w at
-  node-signal l h = rw (← e, le-ltb k 2 l, lt-ltb k 3 h)
+  pub node-signal : 2 ≤ k → k < unaryKind Not → here ≡ nodeCode w at
+  node-signal l h = rw (← e, le-ltb k 2 l, lt-ltb k (unaryKind Not) h)
 
-  module _ {x : ℕ} (o : 3 ≤ k) (ex : x ≡ firstOf w) where
-    pub node-next : k ≡ 8 → at x + 1 ≡ nodeCode w at
-    node-next n = rw (← e, ← ex, le-ltb k 2 (omega arith), le-ltb k 3 o, eq-eqb k 8 n)
+  module _ {x : ℕ} (o : unaryKind Not ≤ k) (ex : x ≡ firstOf w) where
+    pub node-next : k ≡ unaryKind X → at x + 1 ≡ nodeCode w at
+    node-next n = rw (← e, ← ex, le-ltb k 2 (omega arith), le-ltb k (unaryKind Not) o, eq-eqb k (unaryKind X) n)
 
-    pub node-not : (k ≡ 8 → ⊥) → k ≡ 3 → at x ≡ nodeCode w at
-    node-not n q = rw (← e, ← ex, le-ltb k 2 (omega arith), le-ltb k 3 o, ne-eqb k 8 n, eq-eqb k 3 q)
+    pub node-not : (k ≡ unaryKind X → ⊥) → k ≡ unaryKind Not → at x ≡ nodeCode w at
+    node-not n q = rw (← e, ← ex, le-ltb k 2 (omega arith), le-ltb k (unaryKind Not) o, ne-eqb k (unaryKind X) n, eq-eqb k (unaryKind Not) q)
 
-    module _ {y : ℕ} (n : k ≡ 8 → ⊥) (q : k ≡ 3 → ⊥) (ey : y ≡ secondOf w) where
+    module _ {y : ℕ} (n : k ≡ unaryKind X → ⊥) (q : k ≡ unaryKind Not → ⊥) (ey : y ≡ secondOf w) where
       pub node-joined : joinedCode k (at x) (at y) ≡ nodeCode w at
-      node-joined = rw (← e, ← ex, ← ey, le-ltb k 2 (omega arith), le-ltb k 3 o, ne-eqb k 8 n, ne-eqb k 3 q)
+      node-joined = rw (← e, ← ex, ← ey, le-ltb k 2 (omega arith), le-ltb k (unaryKind Not) o, ne-eqb k (unaryKind X) n, ne-eqb k (unaryKind Not) q)
 
 -- the ways of an operator other than X and !
 module _ (k a b : ℕ) where
-  pub joined-boolean : k < 8 → max a b ≡ joinedCode k a b
-  joined-boolean h = rw (lt-ltb k 8 h)
+  pub joined-boolean : k < unaryKind X → max a b ≡ joinedCode k a b
+  joined-boolean h = rw (lt-ltb k (unaryKind X) h)
 
-  pub joined-one : 8 ≤ k → k ≤ 10 → foreverCode a ≡ joinedCode k a b
-  joined-one l h = rw (le-ltb k 8 l, le-leb k 10 h)
+  pub joined-one : unaryKind X ≤ k → k ≤ unaryKind F → foreverCode a ≡ joinedCode k a b
+  joined-one l h = rw (le-ltb k (unaryKind X) l, le-leb k (unaryKind F) h)
 
-  pub joined-two : 8 ≤ k → 10 < k → foreverCode (max a b) ≡ joinedCode k a b
-  joined-two l h = rw (le-ltb k 8 l, lt-leb k 10 h)
+  pub joined-two : unaryKind X ≤ k → unaryKind F < k → foreverCode (max a b) ≡ joinedCode k a b
+  joined-two l h = rw (le-ltb k (unaryKind X) l, lt-leb k (unaryKind F) h)
 
 -- no node yet
 pub spanned-none : (ws : List ℕ) {bytes words : List ℕ} → Sized bytes words → Spanned ws 0 bytes words

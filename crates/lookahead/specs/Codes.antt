@@ -6,6 +6,8 @@ use mathlib.Core.Bool.{cond}
 use lib.Dec.{ltb, leb, eqb}
 use lib.ListN.{length, getD}
 use Rattle.node.specs.Limits.{maxNodes}
+use Rattle.node.specs.Ltl.{Not, X, F}
+use Rattle.node.specs.Kinds.{unaryKind}
 use Rattle.node.specs.Fields.{kindOf, firstOf, secondOf}
 use Rattle.node.specs.Result.{Result, Done}
 use Rattle.node.specs.Table.{treeAt}
@@ -31,11 +33,12 @@ foreverCode s = cond (ltb s here) s endless
 
 -- an operator other than X and !
 abbrev pub joinedCode : ℕ → ℕ → ℕ → ℕ
-joinedCode kind a b = cond (ltb kind 8) (max a b) (cond (leb kind 10) (foreverCode a) (foreverCode (max a b)))
+joinedCode kind a b = cond (ltb kind (unaryKind X)) (max a b) (cond (leb kind (unaryKind F)) (foreverCode a) (foreverCode (max a b)))
 
 -- the number of a node of a kind, from those of its operands
 abbrev pub codeOf : ℕ → ℕ → ℕ → ℕ
-codeOf kind a b = cond (ltb kind 2) 0 (cond (ltb kind 3) here (cond (eqb kind 8) (a + 1) (cond (eqb kind 3) a (joinedCode kind a b))))
+codeOf kind a b =
+    cond (ltb kind 2) 0 (cond (ltb kind (unaryKind Not)) here (cond (eqb kind (unaryKind X)) (a + 1) (cond (eqb kind (unaryKind Not)) a (joinedCode kind a b))))
 
 -- a node's number, from those of the nodes before it
 abbrev pub nodeCode : ℕ → (ℕ → ℕ) → ℕ
@@ -70,7 +73,7 @@ Narrow s = s < endless → s < here + nearCount
 
 -- the operands of a node lie in a table, with room for one letter more
 abbrev pub InTable : ℕ → (ℕ → ℕ) → Type 0
-InTable word at = 3 ≤ kindOf word → (firstOf word < maxNodes) × (secondOf word < maxNodes) × (at (firstOf word) ≤ endless + maxNodes)
+InTable word at = unaryKind Not ≤ kindOf word → (firstOf word < maxNodes) × (secondOf word < maxNodes) × (at (firstOf word) ≤ endless + maxNodes)
 
 -- the reach that a number stands for
 abbrev pub toldCode : ℕ → Result Distance

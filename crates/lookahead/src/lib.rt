@@ -12,6 +12,7 @@ use basics::least;
 use node::Answer;
 use node::MAX_NODES;
 use node::Node;
+use rewriter::SIGNAL_LIMIT;
 
 // The reach of a table's root: letters 0 to so many decide, no number of letters does, or a refusal with number and place.
 pub enum Reach {
@@ -47,9 +48,6 @@ const NEAR: usize = 254;
 const FAR: usize = MAX_NODES - NEAR;
 
 const NEAR_ENDLESS: u8 = 255;
-
-// A table may have any signal number that a field holds.
-const SIGNAL_LIMIT: u32 = node::FIELD_LIMIT;
 
 fn larger(a: u16, b: u16) -> u16
     ensures { λ r. ⌜ r ≡ max a b ⌝ }

@@ -1,9 +1,7 @@
--- An entry of a kind: its frame can be pushed; what it is worked out to, as a value or as a formula; the expression that stands there.
+-- An entry of a kind: what it is worked out to, as a value or as a formula; the expression that stands there.
 use Prim.Native.Nat.{ℕ}
 use mathlib.Core.List.{List}
 use mathlib.Core.Path.{_≡_, sym, ap, _∙_, subst}
-use native.Mathlib.Omega.{arith}
-use lib.ListN.{length}
 use Rattle.node.specs.Result.{Result, _>>=_}
 use Rattle.language.specs.Tree.{Expr}
 use Rattle.language.specs.Values.{value}
@@ -18,16 +16,9 @@ use Rattle.operands.specs.ShapeLaws.{expr-shape}
 use Rattle.machine.specs.Came.{Aim, Evaluate, Expand, Came, worth, nodes, works}
 use Rattle.machine.specs.Realm.{Operand, Realm}
 use Rattle.machine.specs.Table.{Began}
-use Rattle.machine.specs.States.{modeOf, Ready}
+use Rattle.machine.specs.States.{modeOf}
 use Rattle.machine.specs.StateLaws.{Entered, aim-evaluate, aim-expand}
-use Rattle.machine.specs.Openings.{Openable}
-use Rattle.machine.specs.OpenLaws.{ready-open}
-use Rattle.machine.specs.Entering.{Expands}
 use Rattle.machine.specs.declared.Machine.{Machine}
-
--- its frame can be pushed
-pub expands-open : {s : Source} {mem : List ℕ} {m : Machine} {low high : ℕ} → Ready s mem m → Expands (s .work) m low high → Openable (length mem) m
-expands-open h k = let e = k .mode in ready-open h (omega arith)
 
 pub works-value : {s : Source} {R : Realm s} {mem out : List ℕ} {m : Machine} {x : Result Came} {o : Began} (h : Entered R mem out m x o) → m .mode ≡ modeOf Evaluate
     → works (h .aim) (h .context) (h .tree) ≡ (value (h .context .values) (h .tree) >>= worth)

@@ -1,4 +1,4 @@
--- Formulas: one that has come stands behind those that its frame keeps, and a frame makes one of them all.
+-- Formulas: one that has come stands after those that its frame keeps, and a frame makes one of them all.
 use Prim.Native.Nat.{ℕ, suc, _+_, _≤_}
 use mathlib.Core.Bool.{true, false}
 use mathlib.Core.List.{List, _∷_, _++_}
@@ -25,11 +25,11 @@ use Rattle.machine.specs.declared.Machine.{Machine}
 use Rattle.machine.specs.declared.Move.the-variants.{Next}
 
 module _ {s : Source} {R : Realm s} {mem out : List ℕ} {m : Machine} {x : Result Came} {o : Began} {F : Frame} (h : TopOf R mem out m x o F) where
-  -- the formula that has come stands behind those that the frame keeps
+  -- the formula that has come stands after those that the frame keeps
   pub formula-laid : {f : Formula} → h .came ≡ Nodes f → Laid o (record { formula = f; end = m .nodes } ∷ (holding F .forms ++ formsOf (h .rest))) out (m .nodes)
   formula-laid e = laid-as (ap (λ (y : Came). written (m .nodes) y ++ (holding F .forms ++ formsOf (h .rest))) e) (h .laid)
 
-  -- popped with a formula that was written behind those of the other frames
+  -- popped with a formula that was written after those of the other frames
   pub finishes : (f : Formula) {before out' : List ℕ} {at r : ℕ} → holding F .flat ≡ true → holding F .inside ≡ false → holding F .binds ≡ false → apply F (h .came) ≡ Done (Nodes f)
       → Laid o (formsOf (h .rest)) before at → Wrote f before out' at r → r ≤ suc maxNodes → Stays out out' (m .nodes) r → Turned R mem mem out out' m x o (Next (wrote (popped m) r))
   finishes f {before} {out'} {at} {r} fl fi fb e l w few st = pops h {v = Nodes f} (record {

@@ -17,7 +17,7 @@ use Rattle.language.specs.Expansion.{Context, at, expansion, compared, truth, b
 use Rattle.machine.specs.Came.{Evaluate, Expand, Came, worth, nodes, works, asValue, asNumber, asSet, asFormula}
 
 -- place, operator, context and the operands that are left to be worked out; then what has come before. `Elements` waits for an element of braces, others are left
--- and some numbers have come; a formula that was written is kept with the index behind its nodes; `Keep` waits for the body of the definition numbered r, `BitOf`
+-- and some numbers have come; a formula that was written is kept with the index after its nodes; `Keep` waits for the body of the definition numbered r, `BitOf`
 -- for that of a definition of which bit i is taken.
 pub data Frame : Type 0 where
   Measured : (place : ℕ) → Measure → Frame

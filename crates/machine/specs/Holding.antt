@@ -1,4 +1,4 @@
--- What a frame holds in the memory: its phase by number; lists of numbers, formulas with the index behind their nodes; and which names are seen above it.
+-- What a frame holds in the memory: its phase by number; lists of numbers, formulas with the index after their nodes; and which names are seen above it.
 use Prim.Native.Nat.{ℕ}
 use mathlib.Core.Bool.{Bool, true, false}
 use mathlib.Core.List.{List, [], _∷_, _++_}
@@ -44,7 +44,7 @@ use Rattle.machine.specs.Frames.{
   BitOf,
 }
 
--- a formula whose nodes are written, and the index behind them
+-- a formula whose nodes are written, and the index after them
 pub record Laying : Type 0 where
   pub formula : Formula
   pub end : ℕ

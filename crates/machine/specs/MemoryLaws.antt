@@ -8,6 +8,7 @@ use native.Mathlib.Nat.{add-zero}
 use native.Mathlib.Numerals.{unary-clauses}
 use lib.ListN.{length, getD, drop, take, set, length-set}
 use lib.Seq.{drop-drop, getD-drop, getD-set-other, drop-set-lt, sets, sets-eq, length-sets, drop-at, length-take-le}
+use Rattle.basics.specs.Lists.{getD-sets-below}
 use Rattle.name_values.specs.World.{numbered}
 use Rattle.name_values.specs.AgreesLaws.{numbered-last, numbered-before}
 use Rattle.machine.specs.Memory.{Regions, firstKept, frameWords, freeOf, freeWord, Held, Slotted, Lies, nowhere, keptSet, value, Keeps, Agree, Framed, spread}
@@ -158,10 +159,6 @@ module _ {mem mem' : List ℕ} {at : ℕ} {w : Words} (f : Framed mem mem' at w)
 pub word-of : (mem : List ℕ) (at j : ℕ) {ws : List ℕ} → drop at mem ≡ ws → getD mem (at + j) 0 ≡ getD ws j 0
 word-of mem at j e = sym (getD-drop at mem j 0) ∙ ap (λ (l : List ℕ). getD l j 0) e
 
-sets-below : (l : List ℕ) (i : ℕ) (vs : List ℕ) (k : ℕ) → k < i → getD (sets l i vs) k 0 ≡ getD l k 0
-sets-below l i [] k h = refl
-sets-below l i (v ∷ vs) k h = sets-below (set l i v) (suc i) vs k (omega arith) ∙ getD-set-other l i k v 0 (λ e. omega arith)
-
 -- the seven stores
 pub framed-seven : (mem : List ℕ) (at : ℕ) (w : Words) → at + frameWords ≤ length mem
     → Framed mem (set (set (set (set (set (set (set mem at (w .phase)) (at + 1) (w .entry)) (at + 2) (w .base)) (at + 3) (w .at)) (at + 4) (w .count)) (at + 5) (w .value)) (at + 6) (w .other)) at w
@@ -174,5 +171,5 @@ framed-seven mem at w h =
       len = length-sets mem at vs;
       words = ap (drop at) (sets-eq vs mem at h ∙ append-assoc (take at mem) vs (drop (at + frameWords) mem))
           ∙ drop-at (take at mem) (vs ++ drop (at + frameWords) mem) at (length-take-le at mem (omega arith));
-      below = λ i l. sets-below mem at vs i l;
+      below = λ i l. getD-sets-below mem at vs i l;
     })

@@ -88,7 +88,7 @@ module _ {s : Source} {W : World} {ps : List Port} {env : List ℕ} {c : Context
         inside = omega arith;
       }
 
-  -- three, the last at the entry before, the others one behind another before it
+  -- three, the last at the entry before, the others one after another before it
   pub record Three (x y z : Expr) : Type 0 where
     pub first : Operand s W ps env c (k - 1 - sizeAt (s .work) (k - 1) - sizeAt (s .work) (k - 1 - sizeAt (s .work) (k - 1))) x
     pub middle : Operand s W ps env c (k - 1 - sizeAt (s .work) (k - 1)) y

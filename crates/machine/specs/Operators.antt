@@ -1,12 +1,11 @@
 -- Which operator stands at an entry. All that the machine knows of the kinds of entries and of the numbers of their tokens is said here and in OperatorLaws.
 use Prim.Native.Nat.{ℕ}
 use mathlib.Core.Bool.{Bool}
-use mathlib.Core.List.{[], _∷_}
 use mathlib.Core.Path.{_≡_}
 use Rattle.language.specs.Operators.{Infix, Prefix, Big, Window, Windowed}
-use Rattle.lexer.specs.Numbers.{numbered}
 use Rattle.entries.specs.Kinds as Kind
 use Rattle.operators.specs.Codes.{infixCode, prefixCode, bigCode, roleCode}
+use Rattle.operators.specs.Signs.{strictAt}
 use Rattle.operators.specs.Tables.{infixCodeAt, prefixCodeAt}
 use Rattle.operands.specs.Entries.{kindAt, placeAt, numberAt}
 use Rattle.operands.specs.Working.{Source}
@@ -38,7 +37,7 @@ kindOf Using = Kind.named
 abbrev pub Spelt : ℕ → Operator → Type 0
 Spelt n (Before o) = prefixCodeAt n ≡ prefixCode o
 Spelt n (Between o) = infixCodeAt n ≡ infixCode o
-Spelt n (Bounds l h) = l ≡ numbered ("<" ∷ "LE" ∷ []) n
+Spelt n (Bounds l h) = l ≡ strictAt n
 Spelt n Stepping = Unit {0}
 Spelt n (Folds o) = prefixCodeAt n ≡ bigCode o
 Spelt n Bit = Unit {0}

@@ -1,4 +1,4 @@
--- The table of nodes: formulas written one behind another.
+-- The table of nodes: formulas written one after another.
 use Prim.Native.Nat.{ℕ, _≤_}
 use mathlib.Core.List.{List, [], _∷_}
 use mathlib.Core.Path.{_≡_}
@@ -15,7 +15,7 @@ pub record Began : Type 0 where
   pub index : ℕ
   pub sized : index ≤ maxNodes → length table ≡ maxNodes
 
--- the last formula stands behind the others, which were written into `before` up to `at`
+-- the last formula stands after the others, which were written into `before` up to `at`
 pub record Last (L : List ℕ → ℕ → Type 0) (l : Laying) (out : List ℕ) (n : ℕ) : Type 0 where
   pub before : List ℕ
   pub at : ℕ
@@ -31,7 +31,7 @@ Lays o (l ∷ ls) out n = Last (Lays o ls) l out n
 pub record Laid (o : Began) (ls : List Laying) (out : List ℕ) (n : ℕ) : Type 0 where
   pub lays : Lays o ls out n
 
--- the index behind them
+-- the index after them
 abbrev pub endOf : Began → List Laying → ℕ
 endOf o [] = o .index
 endOf o (l ∷ ls) = l .end

@@ -56,7 +56,7 @@ pub const ROOM: usize = FRAME + 4 * limits::SET_ROOM;
 // The words of a note: the sort of a declared name, a number, an address, a mark.
 pub const NOTE: usize = 4;
 
-// The word behind the notes, which says where the next kept set goes; and the one that says where slots begin.
+// The word after the notes, which says where the next kept set goes; and the one that says where slots begin.
 pub const FREE_WORD: usize = NOTE * limits::MAX_NAMES;
 
 pub const SLOTS_WORD: usize = FREE_WORD + 1;

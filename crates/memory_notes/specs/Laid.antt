@@ -9,7 +9,7 @@ use Rattle.language.specs.Numbering.{firstOf}
 use Rattle.name_values.specs.World.{World, Stands, nameAt, meaningAt}
 use Rattle.machine.specs.Memory.{firstKept, slotsWord, noteAt, freeOf}
 
--- slots begin in the middle of the memory at the latest, and not behind this word: what lies before it has room for the notes and for a full set of nearly every name
+-- slots begin in the middle of the memory at the latest, and not after this word: what lies before it has room for the notes and for a full set of nearly every name
 abbrev pub mostSlots : ℕ
 mostSlots = 65_536
 

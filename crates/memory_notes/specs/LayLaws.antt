@@ -1,4 +1,4 @@
--- Notes are laid one after the other, then the two words behind them.
+-- Notes are laid one after the other, then the two words after them.
 use Prim.Native.Nat.{ℕ, _+_, _*_, _≤_, _<_}
 use mathlib.Core.Bool.{Bool, true, false}
 use mathlib.Core.List.{List}
@@ -112,7 +112,7 @@ laid-more mem sorts numbers firsts i k a q e room h = record { note = λ r l. go
         let z : r ≡ i = omega arith in
         subst (λ (j : ℕ). NoteIs (four mem k a (getD numbers i 0) (getD firsts i 0)) j (getD sorts j 0) (getD numbers j 0) (getD firsts j 0)) (sym z) own
 
--- the two words behind the notes
+-- the two words after the notes
 pub laid-whole : (mem sorts numbers firsts : List ℕ) (i n : ℕ) → maxNames ≤ i → firstKept ≤ length mem → firstKept ≤ n → n ≤ lastSlots (length mem) → LaidTo mem sorts numbers firsts i
     → Laid (set (set mem freeWord firstKept) slotsWord n) sorts numbers firsts
 laid-whole mem sorts numbers firsts i n l room low high h =

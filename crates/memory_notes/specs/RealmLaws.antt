@@ -34,7 +34,7 @@ sound-found : (r : Result Declared) → Within ShortWords r → Sound (inTable r
 sound-found (Done v) h = h .says
 sound-found (Refused n p) h = tt
 
--- what holds of a name before the definitions, and of a definition, holds behind them; C is kept from context to context
+-- what holds of a name before the definitions, and of a definition, holds after them; C is kept from context to context
 pub behind-keeps : (Q : Meaning → Type 0) (C : Context → Type 0) → ((c : Context) (y : Token) (e : Expr) → C c → C (define c y e)) → ((k : ℕ) (c : Context) (e : Expr) → C c → Q (Defines k c e))
     → (n : Token) (ds : List Definition) (c : Context) → C c → (start : ℕ) (m : Meaning) → Q m → Q (behind c start ds n m)
 behind-keeps Q C f g n [] c p start m h = h
@@ -62,7 +62,7 @@ module _ (x : Spec) (ps : List Port) (d : Table) where
     abbrev pub realm : Realm (source text w refs)
     realm = record { W = worldIn x ps d; ports = ps; count = count; lexed = stored .lexed; bodies = world-bodies; short = world-short short }
 
-  -- an expression that is worked behind some of the definitions
+  -- an expression that is worked after some of the definitions
   pub operand : {text w refs : List ℕ} {before : List Definition} {k : ℕ} {e : Expr} → Worked x text w refs before k e
       → Operand (source text w refs) (worldIn x ps d) ps [] (defineAll (contextOf ps d) before) k e
   operand {before = before} h = record {

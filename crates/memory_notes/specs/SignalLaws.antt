@@ -23,7 +23,7 @@ use Rattle.language.specs.Laws.Values.NameLaws.{find-named}
 use Rattle.language.specs.Laws.Values.PortLaws.{NamesPort, EntryPorted, ports-distinct, table-ported}
 use Rattle.language.specs.Laws.Values.SignalLaws.{PortListed, ports-listed, signals-few}
 use Rattle.names.specs.References.{numberIn}
-use Rattle.names.specs.Numbering.{number-same, number-other}
+use Rattle.names.specs.NumberingLaws.{number-same, number-other}
 use Rattle.names.specs.Resolved.{declaredNames}
 use Rattle.name_values.specs.World.{Meaning, Stands, Defines, NoValue, World, numbered, nameAt, meaningAt}
 use Rattle.name_values.specs.Worlds.{inTable, meaning}

@@ -3,7 +3,9 @@
 use basics::least;
 use basics::u8_u32::wide;
 use language::limits;
+use machine::FREE_WORD;
 use machine::NOTE;
+use machine::SLOTS_WORD;
 use name_values::sorts;
 ghost use mathlib.Core.Path.{_≡_};
 ghost use Prim.Native.Nat.{suc, _+_, _≤_, _<_, _^_};
@@ -12,12 +14,8 @@ ghost use Rattle.language.specs.Limits.{maxNames, maxElements};
 ghost use Rattle.machine.specs.Memory.{firstKept};
 ghost use Rattle.memory_notes.specs.Laid.{lastSlots, Laid};
 
-// The words that say where the next kept set goes and where slots begin, and the first word of kept sets.
-const FREE: usize = NOTE * limits::MAX_NAMES;
-
-const SLOTS: usize = FREE + 1;
-
-const FIRST_KEPT: usize = SLOTS + 1;
+// The first word of kept sets.
+const FIRST_KEPT: usize = SLOTS_WORD + 1;
 
 // Kept sets have at most this part of the memory, and end before this word.
 const SHARE: usize = 2;
@@ -54,6 +52,6 @@ pub fn lay(sorts: &[u8], numbers: &[u32], firsts: &[u32], memory: &mut [u32])
     }
     let last = least(memory.len() / SHARE, MOST_SLOTS);
     let slots = least(kept, last);
-    memory[FREE] = FIRST_KEPT as u32;
-    memory[SLOTS] = slots as u32;
+    memory[FREE_WORD] = FIRST_KEPT as u32;
+    memory[SLOTS_WORD] = slots as u32;
 }

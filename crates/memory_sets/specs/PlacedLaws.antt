@@ -1,5 +1,5 @@
 -- What stands at the place of an answer is a set again: its elements ascend; and a set word by word.
-use Prim.Native.Nat.{ℕ, suc, _+_, _-_, _≤_, _<_}
+use Prim.Native.Nat.{ℕ, _+_, _≤_, _<_}
 use mathlib.Core.Path.{_≡_, sym, ap, _∙_}
 use mathlib.Core.List.{List, [], _∷_}
 use lib.ListN.{length, getD, take, drop, length-take, length-drop}
@@ -19,9 +19,8 @@ use Rattle.language.specs.Laws.Values.ValueLaws.{SaneNumber, SaneSet, limited-s
 use Rattle.sets.specs.Answers.{SetIs}
 use Rattle.sets.specs.declared.Worked.the-variants.{Value}
 use Rattle.memory_sets.specs.declared.Span.{Span}
-use Rattle.memory_sets.specs.Places.{Outside, Copied, elementsAt, Room, Placed, Two, SetAt}
-use Rattle.memory_sets.specs.PlaceLaws.{outside-both, outside-within, copied-words}
-use Rattle.memory_sets.specs.Sorting.{setOf, SortedAt}
+use Rattle.memory_sets.specs.Places.{elementsAt, Room, Placed, Two, SetAt}
+use Rattle.memory_sets.specs.Sorting.{setOf}
 
 -- a set's words from its elements, and its elements from its words
 pub words-of : (mem : List ℕ) (s : Span) (l : List ℕ) → elementsAt mem s ≡ l → (i : ℕ) → i < length l → getD mem (s .at + i) 0 ≡ getD l i 0
@@ -52,9 +51,6 @@ there mem mem' at n r len room h sane = record { few = h .few; room = rw length-
 pub answer-placed : {mem mem' : List ℕ} {at n : ℕ} {r : Result (List ℕ)} → SetAt mem mem' at (Value n) r → Room mem at → Within SaneSet r → Placed mem' (record { at = at; count = n })
 answer-placed {mem} {mem'} {at} {n} {r} h room sane = there mem mem' at n r (h .kept .len) room (h .set) sane
 
-pub sorted-placed : {mem mem' : List ℕ} {at m n : ℕ} {r : Result (List ℕ)} → SortedAt mem mem' at m (Value n) r → Room mem at → Within SaneSet r → Placed mem' (record { at = at; count = n })
-sorted-placed {mem} {mem'} {at} {m} {n} {r} h room sane = there mem mem' at n r (h .kept .len) room (h .set) sane
-
 -- the definitions' sets are (ranges and bounds: the language's `range-sane` and `between-sane`)
 pub combine-sane : (place : ℕ) (o : Combination) {mem : List ℕ} {l r : Span} {to : ℕ} → Two mem l r to → Within SaneSet (limited place (combine o (elementsAt mem l) (elementsAt mem r)))
 combine-sane place o {mem} {l} {r} two =
@@ -68,24 +64,3 @@ setOf-ascending (x ∷ s) h = insert-ascending 0 maxNumber x (setOf s) (omega ar
 
 pub setOf-sane : (place : ℕ) (s : List ℕ) → All SaneNumber s → Within SaneSet (limited place (setOf s))
 setOf-sane place s h = limited-sane place (setOf s) (setOf-ascending s h)
-
--- an answer moved down to another place, as an operator's result is to that of its operands
-pub record Lowered (mem mem'' : List ℕ) (base to n : ℕ) (r : Result (List ℕ)) : Type 0 where
-  pub set : SetIs (Value n) (drop base mem'') r
-  pub kept : Outside mem mem'' base (to + suc maxElements - base)
-
-pub answer-lowered : {mem mem' mem'' : List ℕ} {base to n : ℕ} {r : Result (List ℕ)} → base ≤ to → Room mem to → SetAt mem mem' to (Value n) r → Copied mem' to mem' mem'' base n →
-    Lowered mem mem'' base to n r
-answer-lowered {mem} {mem'} {mem''} {base} {to} {n} {r} l room h c =
-    let len = h .kept .len in
-    let few = h .set .few in
-    let fits = room .room in
-    record {
-      set = record { says = ap Done (copied-words c (omega arith) (omega arith)) ∙ h .set .says; few = few };
-      kept = outside-both (outside-within l (omega arith) (h .kept)) (outside-within (omega arith) (omega arith) (c .kept));
-    }
-
-pub lowered-placed : {mem mem'' : List ℕ} {base to n : ℕ} {r : Result (List ℕ)} → base ≤ to → Room mem to → Lowered mem mem'' base to n r → Within SaneSet r →
-    Placed mem'' (record { at = base; count = n })
-lowered-placed {mem} {mem''} {base} {to} {n} {r} l room h sane =
-    there mem mem'' base n r (h .kept .len) (record { room = omega (arith, room .room) }) (h .set) sane

@@ -10,7 +10,7 @@ ghost use Rattle.name_steps.specs.Marks.{Marked, Copyable, Again};
 // Past the last node any number but 0 serves: nothing is copied there.
 const BEYOND: u32 = 1;
 
-// The nodes [at, m), which are some.
+// The nodes [at, m), at least one.
 pub fn mark(at: usize, m: usize) -> u32
     requires { ⌜ (m ≤ maxNodes → at < m) ⌝ }
     ensures { λ v. ⌜ Marked at m v ⌝ }

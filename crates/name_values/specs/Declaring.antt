@@ -35,7 +35,7 @@ pub record DeclaredBy (x : Spec) (ps : List Port) (d : Table) (r k : ℕ) : Type
   pub spelt : nameAt (worldIn x ps d) r ≡ tokenOf (entryOf (outline x) k) .text
   pub means : MeansBy d k (entryOf (outline x) k) (meaningAt (worldIn x ps d) r)
 
--- the identifiers and words behind an enumeration's own entry k, up to an entry of another kind
+-- the identifiers and words after an enumeration's own entry k, up to an entry of another kind
 pub record EnumerationAt (ts : Tokens) (w : List ℕ) (k : ℕ) (words : List Token) : Type 0 where
   pub identifiers : List Identifier
   pub all : wordsIn identifiers ≡ words

@@ -42,7 +42,7 @@ pub words-inner : (ws : List Token) → All Inner (each (leaf Kind.word) ws)
 words-inner [] = tt
 words-inner (v ∷ ws) = (refl, words-inner ws)
 
--- a name behind the definition of it, and later ones that define others
+-- a name after its definition, and later ones that define others
 behind-here : (x : Token) (e : Expr) (later : List Definition) → All (Elsewhere x) later → (before : List Definition) (c : Context) (start at : ℕ) (m : Meaning)
     → start + length (each flatDefinition before) ≡ at → behind c start (before ++ Defined x e ∷ later) x m ≡ Defines (at + length (flat e) - 1) (defineAll c before) e
 behind-here x e later h [] c start at m q =
@@ -71,7 +71,7 @@ module _ (x : Spec) (ps : List Port) (d : Table) where
   inner-told [] h start = tt
   inner-told (n ∷ es) h start = ((λ y. absurd (false≢true (sym (h .0) ∙ y))), inner-told es (h .1) (suc start))
 
-  -- a line's own entry behind its expression
+  -- a line's entry after its expression
   line-told : (k : ℕ) (t : Option Token) (e : Expr) (start : ℕ) → Told (start + length (flat e)) (record { kind = k; token = t; size = suc (length (flat e)) }) → Every Told start (under k t (flat e))
   line-told k t e start h = every-append Told start (start + length (flat e)) (flat e) _ refl (inner-told (flat e) (inner-flat e) start) (h, tt)
 
@@ -117,7 +117,7 @@ module _ (x : Spec) (ps : List Port) (d : Table) where
   line-inner : (e : Expr) (start : ℕ) → Every Told start (flatLine e)
   line-inner e start = line-told Kind.line none e start (λ y. absurd (false≢true y))
 
-  -- the names of a section's lines, and of those behind them
+  -- the names of a section's lines, and of those after them
   declarations-free : (ds : List Declaration) (ls : List Line) → All Free (over declaresLine (declarationLines ds ls)) → All (λ m. Free (declaredName m)) ds × All Free (over declaresLine ls)
   declarations-free [] ls h = (tt, h)
   declarations-free (OneSignal n ∷ ds) ls h = let r = declarations-free ds ls (h .1) in ((h .0, r .0), r .1)

@@ -67,7 +67,7 @@ signals-apart x h =
     subst (λ l. Across l F) (sym (signals-parameters (x .parameters) _ ∙ signals-definitions (x .definitions) _))
     (of-signals (λ n. All (Apart n) F) (mainLines (x .main)) (main-apart x h))
 
--- names among the definitions: behind a definition no other defines its name, and none defines a name of an enumeration
+-- names among the definitions: after a definition no other defines its name, and none defines a name of an enumeration
 module _ (before later : List Definition) where
   own-names : (d : Definition) → Distinct (ownNames (before ++ d ∷ later)) → Distinct (ownNames before ++ (declares (DefinitionLine d) ++ ownNames later))
   own-names d h = subst Distinct (own-append before (d ∷ later)) h

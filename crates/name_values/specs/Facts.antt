@@ -34,7 +34,7 @@ pub record IsBus (m : Meaning) (n : ℕ) : Type 0 where
   pub sized : 0 < n → m ≡ Stands (BusOf n)
   pub small : n ≤ maxWidth
 
--- the identifier's entry; its words are the entries behind it, up to one of another kind
+-- the identifier's entry; its words are the entries after it, up to one of another kind
 pub record IsIdentifier (ts : Tokens) (w : List ℕ) (m : Meaning) (n : ℕ) : Type 0 where
   pub words : List Token
   pub identifies : m ≡ Stands (Identifies words)

@@ -1,4 +1,4 @@
--- The enumerations and identifiers of a stored tree: what is behind the entry of each, and that an entry of another kind follows.
+-- The enumerations and identifiers of a stored tree: what is after the entry of each, and that an entry of another kind follows.
 use Prim.Native.Nat.{ℕ, suc, _+_, _≤_, _<_}
 use mathlib.Core.Bool.{false≢true}
 use mathlib.Core.List.{List, [], _∷_, _++_, append-assoc}

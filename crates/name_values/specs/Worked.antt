@@ -26,7 +26,7 @@ mainStart x = definitionsStart x + length (each flatDefinition (x .definitions))
 abbrev pub worldIn : Spec → List Port → Table → World
 worldIn x ps d = worldOf ps d (definitionsStart x) (x .definitions) (declaredNames x)
 
--- the expression at entry k, behind some of the definitions
+-- the expression at entry k, after some of the definitions
 pub record Worked (x : Spec) (text w refs : List ℕ) (before : List Definition) (k : ℕ) (e : Expr) : Type 0 where
   pub here : Here x text w refs k e
   pub known : (ps : List Port) (d : Table) → Known (tokens text) w refs (worldIn x ps d) [] (defineAll (contextOf ps d) before) false k e

@@ -8,7 +8,7 @@ use native.Mathlib.Omega.{arith}
 use lib.ListN.{length, length-append}
 use Rattle.language.specs.Limits.{maxNames}
 use Rattle.language.specs.Tokens.{Token, tokens}
-use Rattle.language.specs.Tree.{Expr, Named, Identifier, Parameter, Definition, Defined, Enumerated, Declaration, OneSignal, OfWidth, OfType, Subsection, Inputs, Outputs, Lines, Spec}
+use Rattle.language.specs.Tree.{Expr, Named, Parameter, Definition, Defined, Enumerated, Declaration, OneSignal, OfWidth, OfType, Subsection, Inputs, Outputs, Lines, Spec}
 use Rattle.language.specs.Places.{ParameterLine, DefinitionLine, DeclarationLine, FormulaLine, parameterLines, definitionLines, declarationLines, formulaLines, mainLines, allLines}
 use Rattle.language.specs.Places as Places
 use Rattle.language.specs.Declared.{Table, find, Port}
@@ -21,19 +21,18 @@ use Rattle.language.specs.Laws.Basics.Results.{value-of}
 use Rattle.language.specs.Laws.Grammar.BracesReads.{spec-proper}
 use Rattle.language.specs.Laws.Values.DistinctNames.{Apart, Distinct, Across, across, distinct-right, distinct-names, distinct-definitions}
 use Rattle.entries.specs.Kinds as Kind
-use Rattle.entries.specs.Flat.{Entry, leaf, flat, each, flatParameter, flatIdentifier, flatDefinition, flatDeclaration, flatLine, flatSubsection}
-use Rattle.names.specs.Roles.{binds, ends}
+use Rattle.entries.specs.Flat.{Entry, flat, each, flatParameter, flatDefinition, flatDeclaration, flatLine, flatSubsection}
 use Rattle.names.specs.Resolved.{Stored, declaredNames, Resolved}
 use Rattle.name_values.specs.AgreesLaws.{Fits, agrees}
 use Rattle.name_values.specs.World.{Before}
 use Rattle.name_values.specs.Worlds.{meaning, worldOf}
 use Rattle.name_values.specs.WorldsLaws.{table-before, behind-before, fits-between}
-use Rattle.name_values.specs.Passing.{Left, Here, left-same, left-all, pass-entry, pass-line}
+use Rattle.name_values.specs.Passing.{Left, Here, plain-identifiers, left-same, left-at, left-all, pass-entry, pass-plain, pass-line}
 use Rattle.names.specs.VisibleLaws.{In, Among, in-declared, among-more, among-all, of-signals}
 use Rattle.name_values.specs.ElsewhereLaws.{ownNames, visible-elsewhere, behind-parameters, of-definitions, signals-apart}
 use Rattle.name_values.specs.Worked.{worldIn, Worked, EachFrom, Parameterwise, Definitionwise, Linewise, Declarationwise, Subsectionwise, definitionsStart, mainStart, TreeWorked}
 
--- at the lines ls, behind others, with the definitions `later` still to come: the names visible there
+-- at the lines ls, after others, with the definitions `later` still to come: the names visible there
 pub record Seen (x : Spec) (ls : List Places.TextLine) (later : List Definition) (ns : Names) : Type 0 where
   pub shown : walkLines hidden nowhere ns ls ≡ none
   pub distinct : Distinct (over declares ls)
@@ -71,18 +70,6 @@ record Passed (x : Spec) (text w : List ℕ) (Q : Type 0) (start : ℕ) (es : Li
   pub left : Left x text w start es
   pub seen : Seen x ls later names
 
--- an entry that neither opens nor ends a big operator
-abbrev Plain : Entry → Type 0
-Plain m = (binds (m .kind) ≡ false) × (ends (m .kind) ≡ false)
-
-plain-words : (ws : List Token) → All Plain (each (leaf Kind.word) ws)
-plain-words [] = tt
-plain-words (v ∷ ws) = ((refl, refl), plain-words ws)
-
-plain-identifiers : (is : List Identifier) → All Plain (each flatIdentifier is)
-plain-identifiers [] = tt
-plain-identifiers (i ∷ is) = ((refl, refl), all-append Plain (each (leaf Kind.word) (i .words)) (each flatIdentifier is) (plain-words (i .words)) (plain-identifiers is))
-
 later-definition : {x : Spec} (d : Definition) (ds : List Definition) (ls : List Places.TextLine) (ns : Names) → Seen x (DefinitionLine d ∷ definitionLines ds ls) (d ∷ ds) ns
     → Seen x (definitionLines ds ls) ds (declares (DefinitionLine d) ++ ns)
 later-definition d ds ls ns v =
@@ -95,13 +82,6 @@ later-definition d ds ls ns v =
 module _ {x : Spec} {text w refs found : List ℕ} {count entries n : ℕ} (s : Stored text w count entries x) (r : Resolved x refs found n) where
   few : length (declaredNames x) ≤ maxNames
   few = let a = r .count in let b = r .few in omega arith
-
-  left-at : {start at : ℕ} {es : List Entry} → start ≡ at → Left x text w start es → Left x text w at es
-  left-at {es = es} e h = subst (λ m. Left x text w m es) e h
-
-  pass-plain : (ms : List Entry) → All Plain ms → (start : ℕ) (es : List Entry) → Left x text w start (ms ++ es) → Left x text w (start + length ms) es
-  pass-plain [] a start es h = left-at (omega arith) h
-  pass-plain (m ∷ ms) a start es h = left-at (omega arith) (pass-plain ms (a .1) (suc start) es (pass-entry s r m (a .0 .0) (a .0 .1) start (ms ++ es) h))
 
   -- an expression that is passed, with the names visible there
   worked : (before later : List Definition) → x .definitions ≡ before ++ later → (limit : ℕ) → ((ps : List Port) (d : Table) (m : Token) → Before limit (meaning ps d (definitionsStart x) before m))
@@ -138,7 +118,7 @@ module _ {x : Spec} {text w refs found : List ℕ} {count entries n : ℕ} (s : 
         let z = length-append (flatten a) (each flatten l) in
         record { done = (p .0, q .done); names = q .names; left = left-at (omega arith) (q .left); seen = q .seen }
 
-  -- the sections, each behind the one before
+  -- the sections, each after the one before
   parameters-worked : (ds : List Definition) → x .definitions ≡ ds → (es : List Entry) (ls : List Places.TextLine) (ps : List Parameter) (start : ℕ) (ns : Names) → All ProperParameter ps
       → Left x text w start (each flatParameter ps ++ es) → Seen x (parameterLines ps (definitionLines ds ls)) ds ns →
       Passed x text w (EachFrom flatParameter (Parameterwise x text w refs) start ps) (start + length (each flatParameter ps)) es (definitionLines ds ls) ds
@@ -177,7 +157,7 @@ module _ {x : Spec} {text w refs found : List ℕ} {count entries n : ℕ} (s : 
       }
   definitions-worked es ls before (Enumerated m is ∷ ds) q start a ns f h v =
       let d = Enumerated m is in
-      let g = pass-plain (flatDefinition d) ((refl, refl), plain-identifiers is) start (each flatDefinition ds ++ es) (left-same (append-assoc (flatDefinition d) (each flatDefinition ds) es) h) in
+      let g = pass-plain s r (flatDefinition d) ((refl, refl), plain-identifiers is) start (each flatDefinition ds ++ es) (left-same (append-assoc (flatDefinition d) (each flatDefinition ds) es) h) in
       let p = definitions-worked es ls (before ++ d ∷ []) ds (q ∙ sym (append-assoc before (d ∷ []) ds)) (start + length (flatDefinition d)) (starts-next x before d start a)
       (declares (DefinitionLine d) ++ ns) (f .1) g (later-definition d ds ls ns v) in
       let z = length-append (flatDefinition d) (each flatDefinition ds) in
@@ -200,7 +180,7 @@ module _ {x : Spec} {text w refs found : List ℕ} {count entries n : ℕ} (s : 
       step : (d : Declaration) (l : List Declaration) (at : ℕ) (rest : List Entry) (ms : Names) → ProperDeclaration d → mainStart x ≤ at → Left x text w at (flatDeclaration d ++ rest)
           → Seen x (DeclarationLine d ∷ declarationLines l ls) [] ms → Declarationwise x text w refs at d × Left x text w (at + length (flatDeclaration d)) rest × Across
           (declares (DeclarationLine d)) []
-      step (OneSignal m) l at rest ms f b k u = (tt, pass-plain (flatDeclaration (OneSignal m)) ((refl, refl), tt) at rest k, across-none (m ∷ []))
+      step (OneSignal m) l at rest ms f b k u = (tt, pass-plain s r (flatDeclaration (OneSignal m)) ((refl, refl), tt) at rest k, across-none (m ∷ []))
       step (OfWidth m e) l at rest ms f b k u =
           let g = pass-line s r Kind.bus (some m) e refl refl at rest k in
           (main-worked ms _ u _ e (omega arith) (f .1) (first-left (walk hidden nowhere ms e) _ (u .shown)) (g .0), g .1, across-none (m ∷ []))

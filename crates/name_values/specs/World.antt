@@ -32,7 +32,7 @@ formed ps (Stands v) t = signalOf ps t v
 formed ps (Defines k c e) t = expansion c e
 formed ps NoValue t = Refused 6 0
 
--- number r of a list of which the last stands first: how many stand behind it
+-- number r of a list of which the last stands first: how many stand after it
 unfoldable pub numbered : {A : Type 0} → A → List A → ℕ → A
 numbered other [] r = other
 numbered other (a ∷ l) r = elim (eqb r (length l)) [ true ↦ a | false ↦ numbered other l r ]
@@ -47,7 +47,7 @@ nameAt W r = numbered ([], NoValue) W r .0
 abbrev pub meaningAt : World → ℕ → Meaning
 meaningAt W r = numbered ([], NoValue) W r .1
 
--- a reference of crate names: a declared name's number; behind those numbers that of a big operator's name, whose element is in `env`, the innermost first
+-- a reference of crate names: a declared name's number; after those numbers that of a big operator's name, whose element is in `env`, the innermost first
 unfoldable pub denote : World → (env : List ℕ) → ℕ → Token → Result Value
 denote W env r t = elim (ltb r maxNames) [ true ↦ nameValue (meaningAt W r) t | false ↦ Done (Number (numbered 0 env (r - maxNames))) ]
 

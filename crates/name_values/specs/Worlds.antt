@@ -17,7 +17,7 @@ abbrev pub inTable : Result Declared → Meaning
 inTable (Done v) = Stands v
 inTable (Refused n p) = NoValue
 
--- what the name n is behind some definitions, of which the first starts with entry `start`, if it is m before them
+-- what the name n is after some definitions, of which the first starts with entry `start`, if it is m before them
 abbrev pub behind : Context → ℕ → List Definition → Token → Meaning → Meaning
 behind c start [] n m = m
 behind c start (Defined x e ∷ ds) n m =

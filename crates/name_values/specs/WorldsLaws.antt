@@ -20,7 +20,7 @@ use Rattle.language.specs.Laws.Basics.Tests.{split, leave, same-equal}
 use Rattle.entries.specs.Kinds as Kind
 use Rattle.entries.specs.Flat.{flat, each, flatDefinition}
 use Rattle.names.specs.References.{numberIn, reference}
-use Rattle.names.specs.Numbering.{number-same, number-other}
+use Rattle.names.specs.NumberingLaws.{number-same, number-other}
 use Rattle.names.specs.WalkBinders.{reference-outside}
 use Rattle.names.specs.VisibleLaws.{Among}
 use Rattle.name_values.specs.World.{Meaning, Stands, Defines, NoValue, nameValue, formed, numbered, World, meaningAt, Before}
@@ -43,7 +43,7 @@ unfolding _>>=_
 find-formed ps [] x t = refl
 find-formed ps (e ∷ d) x t = split (λ r. (r >>= signalOf ps t) ≡ formed ps (inTable r) t) (same (e .0) x) (λ _. refl) (λ _. find-formed ps d x t)
 
--- behind a definition
+-- after a definition
 defined-meant : (b : Bool) (c : Context) (k : ℕ) (e : Expr) (t : Token) (m : Meaning) → c .values t ≡ nameValue m t
     → elim b [ true ↦ value (c .values) e | false ↦ c .values t ] ≡ nameValue (elim b [ true ↦ Defines k c e | false ↦ m ]) t
 defined-meant true c k e t m h = refl
@@ -140,13 +140,13 @@ behind-elsewhere (Defined x e ∷ ds) c start n m h =
     behind-elsewhere ds (define c x e) (start + length (flatDefinition (Defined x e))) n _ (h .1) ∙ leave (same (x .text) (n .text)) _ _ (h .0)
 behind-elsewhere (Enumerated x is ∷ ds) c start n m h = behind-elsewhere ds c (start + length (flatDefinition (Enumerated x is))) n m (h .1)
 
--- definitions that define another name, behind some
+-- definitions that define another name, after some
 behind-then : (ds later : List Definition) (c : Context) (start : ℕ) (n : Token) (m : Meaning) → All (Elsewhere n) later → behind c start (ds ++ later) n m ≡ behind c start ds n m
 behind-then [] later c start n m h = behind-elsewhere later c start n m h
 behind-then (Defined x e ∷ ds) later c start n m h = behind-then ds later (define c x e) (start + length (flatDefinition (Defined x e))) n _ h
 behind-then (Enumerated x is ∷ ds) later c start n m h = behind-then ds later c (start + length (flatDefinition (Enumerated x is))) n m h
 
--- the context behind some of the definitions, where the names that the later ones define are not visible; before the first of them too, as parameters are
+-- the context after some of the definitions, where the names that the later ones define are not visible; before the first of them too, as parameters are
 module _ (ps : List Port) (d : Table) (start : ℕ) (before later : List Definition) (names ns : Names) (limit : ℕ) (few : length names ≤ maxNames) (among : Among ns names)
     (apart : (t : Token) → visible ns t ≡ true → All (Elsewhere t) later) (early : (n : Token) → Before limit (meaning ps d start before n)) where
   abbrev W : World

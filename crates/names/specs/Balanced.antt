@@ -42,7 +42,8 @@ use Rattle.language.specs.Tree.{
 }
 use Rattle.entries.specs.Kinds as Kind
 use Rattle.entries.specs.Flat.{Entry, under, leaf, flat, each, flatParameter, flatIdentifier, flatDefinition, flatDeclaration, flatLine, flatSubsection, outline}
-use Rattle.names.specs.Roles.{binds, ends, declares, Quiet, quiet-truth, quiet-before, quiet-joining, quiet-window, quiet-between, ending-big}
+use Rattle.names.specs.Roles.{binds, ends, declares, Quiet}
+use Rattle.names.specs.QuietLaws.{quiet-truth, quiet-before, quiet-joining, quiet-window, quiet-between, ending-big}
 
 -- with d names of big operators open
 unfoldable pub Balanced : ℕ → List Entry → Type 0

@@ -14,7 +14,8 @@ use Rattle.language.specs.Names.{Names}
 use Rattle.language.specs.Laws.Basics.Lists.{All, all-append}
 use Rattle.entries.specs.Kinds as Kind
 use Rattle.entries.specs.Flat.{Entry, under, flat}
-use Rattle.names.specs.Roles.{declares, quiet-truth, quiet-before, quiet-joining, quiet-window, quiet-between, ending-big}
+use Rattle.names.specs.Roles.{declares}
+use Rattle.names.specs.QuietLaws.{quiet-truth, quiet-before, quiet-joining, quiet-window, quiet-between, ending-big}
 use Rattle.names.specs.Scan.{tokenOf}
 
 -- the names of the entries that declare one, of the kinds from `low` on

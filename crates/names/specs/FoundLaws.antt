@@ -19,8 +19,9 @@ use Rattle.names.specs.Scan.{tokenOf}
 use Rattle.names.specs.Declaring.{declaredIn}
 use Rattle.names.specs.DeclaringLaws.{declared-outline}
 use Rattle.names.specs.Balanced.{Balanced, after-binder, after-end, after-declared, after-quiet, balanced-outline}
-use Rattle.names.specs.Walkable.{declares-names, entryOf, rest-at}
-use Rattle.names.specs.Meeting.{declared-here, declared-there}
+use Rattle.names.specs.Walkable.{entryOf}
+use Rattle.names.specs.WalkableLaws.{declares-names, rest-at}
+use Rattle.names.specs.MeetingLaws.{declared-here, declared-there}
 use Rattle.names.specs.References.{numberIn, reference}
 use Rattle.names.specs.Walking.{openAfter, openBefore}
 use Rattle.names.specs.RoleLaws.{declares-only}

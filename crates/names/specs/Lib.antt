@@ -1,4 +1,5 @@
 pub mod Roles
+pub mod QuietLaws
 pub mod Scan
 pub mod ScanLaws
 pub mod AlikeLaws
@@ -8,10 +9,14 @@ pub mod DeclaringLaws
 pub mod Tables
 pub mod TableLaws
 pub mod Walkable
+pub mod WalkableLaws
 pub mod OwnName
+pub mod OwnNameLaws
 pub mod Meeting
+pub mod MeetingLaws
 pub mod References
 pub mod Numbering
+pub mod NumberingLaws
 pub mod Census
 pub mod Balanced
 pub mod Walking
@@ -20,9 +25,11 @@ pub mod RoleLaws
 pub mod WalkEntries
 pub mod WalkBinders
 pub mod States
+pub mod StateLaws
 pub mod Short
 pub mod Resolved
 pub mod Answering
+pub mod AnsweringLaws
 pub mod ResolveLaws
 pub mod NameTokens
 pub mod NameReads

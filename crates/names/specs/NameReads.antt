@@ -6,7 +6,8 @@ use Rattle.language.specs.Grammar.{Tokens}
 use Rattle.language.specs.Sections.{specOf}
 use Rattle.language.specs.Laws.Basics.Lists.{All}
 use Rattle.language.specs.Laws.Basics.Results.{value-of}
-use Rattle.language.specs.Laws.Grammar.TreeReads.{Built, spec-read}
+use Rattle.language.specs.Laws.Grammar.BuiltReads.{Built}
+use Rattle.language.specs.Laws.Grammar.TreeReads.{spec-read}
 use Rattle.entries.specs.Flat.{outline}
 use Rattle.names.specs.Walkable.{NamesName}
 use Rattle.names.specs.NameTokens.{NameExpr, names-outline}

@@ -1,7 +1,7 @@
 -- Trees whose names are tokens of names: the grammar gives no others (NameReads). Every entry of such a tree that has a name keeps a token of one.
 use Prim.Native.Nat.{ℕ}
 use mathlib.Core.List.{List, [], _∷_, _++_}
-use mathlib.Core.Bool.{true, false, _||_, false≢true}
+use mathlib.Core.Bool.{false, _||_, false≢true}
 use mathlib.Core.Option.{Option, none, some}
 use mathlib.Core.Path.{_≡_, refl, sym, _∙_}
 use Rattle.language.specs.Tokens.{Token}
@@ -37,10 +37,12 @@ use Rattle.language.specs.Tree.{
   Spec,
 }
 use Rattle.language.specs.Laws.Basics.Lists.{All, all-append}
-use Rattle.language.specs.Laws.Grammar.TreeReads.{IsName, ReadParameter, ReadIdentifier, ReadDefinition, ReadDeclaration, ReadSubsection, ReadSpec}
+use Rattle.language.specs.Laws.Grammar.BuiltReads.{IsName}
+use Rattle.language.specs.Laws.Grammar.TreeReads.{ReadParameter, ReadIdentifier, ReadDefinition, ReadDeclaration, ReadSubsection, ReadSpec}
 use Rattle.entries.specs.Kinds as Kind
 use Rattle.entries.specs.Flat.{Entry, under, leaf, flat, each, flatParameter, flatIdentifier, flatDefinition, flatDeclaration, flatLine, flatSubsection, outline}
-use Rattle.names.specs.Roles.{uses, binds, declares, Quiet, quiet-truth, quiet-before, quiet-joining, quiet-window, quiet-between, ending-big}
+use Rattle.names.specs.Roles.{uses, binds, declares, Quiet}
+use Rattle.names.specs.QuietLaws.{quiet-truth, quiet-before, quiet-joining, quiet-window, quiet-between, ending-big}
 use Rattle.names.specs.ScanLaws.{neither}
 use Rattle.names.specs.Walkable.{NamesName}
 

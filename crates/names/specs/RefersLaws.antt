@@ -13,7 +13,8 @@ use Rattle.language.specs.Names.{Names}
 use Rattle.language.specs.Laws.Basics.Tests.{pick, leave, same-refl}
 use Rattle.entries.specs.Kinds as Kind
 use Rattle.entries.specs.Flat.{Entry, under, flat}
-use Rattle.names.specs.Roles.{binds, ends, quiet-truth, quiet-before, quiet-joining, quiet-window, quiet-between, ending-big}
+use Rattle.names.specs.Roles.{binds, ends}
+use Rattle.names.specs.QuietLaws.{quiet-truth, quiet-before, quiet-joining, quiet-window, quiet-between, ending-big}
 use Rattle.names.specs.Scan.{tokenOf}
 use Rattle.names.specs.Walkable.{names, entryOf}
 use Rattle.names.specs.References.{reference}

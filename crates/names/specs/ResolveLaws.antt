@@ -8,7 +8,7 @@ use mathlib.Core.Path.{_≡_, refl, sym, ap, ap₂, _∙_, subst}
 use native.Mathlib.Omega.{arith}
 use lib.ListN.{length, getD, drop, drop-of-length-le, replicate, length-replicate, getD-replicate}
 use Rattle.node.specs.Result.{Done}
-use Rattle.language.specs.Limits.{maxTokens, maxNames}
+use Rattle.language.specs.Limits.{maxBytes, maxTokens, maxNames}
 use Rattle.language.specs.Tokens.{Token, tokens}
 use Rattle.language.specs.Tree.{Spec}
 use Rattle.language.specs.Places.{first, refuseAt, allLines}
@@ -23,19 +23,23 @@ use Rattle.names.specs.Declaring.{declaredIn}
 use Rattle.names.specs.DeclaringLaws.{declared-outline}
 use Rattle.names.specs.Balanced.{balanced-outline}
 use Rattle.names.specs.NameReads.{names-read}
-use Rattle.spellings.specs.Interned.{top, Interned}
+use Rattle.spellings.specs.Interned.{top, Lexed, Interned, Begun}
+use Rattle.spellings.specs.InternLaws.{begun-zeros}
 use Rattle.spellings.specs.TopLaws.{below-top}
 use Rattle.names.specs.Tables.{noPlace, placeOf}
 use Rattle.names.specs.TableLaws.{below-or-not, place-some, place-none, place-min}
 use Rattle.names.specs.Walkable.{Walkable, Table}
-use Rattle.names.specs.Meeting.{declaredFrom, declared-none}
+use Rattle.names.specs.Meeting.{declaredFrom}
+use Rattle.names.specs.MeetingLaws.{declared-none}
 use Rattle.names.specs.References.{numberIn, reference, lastFirst, Where}
 use Rattle.names.specs.Numbering.{Numbered}
 use Rattle.names.specs.Census.{Blanks, Undeclared, Declared}
 use Rattle.names.specs.Walking.{visibleBefore, openBefore, refersTo, visibleAt, Walking}
 use Rattle.names.specs.States.{Begins, WalksAll}
-use Rattle.names.specs.Answering.{answerOf, answer-hidden, answer-again, answer-many, answer-named}
-use Rattle.names.specs.Resolved.{Stored, naming, Resolved, Answers}
+use Rattle.names.specs.Answering.{answerOf}
+use Rattle.names.specs.AnsweringLaws.{answer-hidden, answer-again, answer-many, answer-named}
+use Rattle.names.specs.Short.{shortBytes, shortEntries}
+use Rattle.names.specs.Resolved.{Stored, TreeStored, naming, Resolved, Answers}
 use Rattle.names.specs.declared.census.Census.{Census}
 use Rattle.names.specs.declared.walk.Walk.{Walk}
 use Rattle.names.specs.declared.Naming.{Naming}
@@ -122,8 +126,24 @@ module _ {w ids : List ℕ} {entries : ℕ} (h : Walkable w ids entries) where
       drop-nothing zero = refl
       drop-nothing (suc k) = refl
 
+-- a stored tree of fewer than n bytes and at most m entries: arrays for so many will do
+pub record Fits (text w : List ℕ) (count entries n m : ℕ) : Type 0 where
+  pub tree : TreeStored text w count entries
+  pub bytes : length text < n
+  pub few : entries ≤ m
+
+module _ {text w : List ℕ} {count entries : ℕ} where
+  pub short-fits : TreeStored text w count entries → length text ≤ shortBytes → entries ≤ shortEntries → Fits text w count entries (shortBytes + 1) shortEntries
+  short-fits s b e = record { tree = s; bytes = omega arith; few = e }
+
+  pub long-fits : TreeStored text w count entries → Fits text w count entries (maxBytes + 1) maxTokens
+  long-fits s = record { tree = s; bytes = omega (arith, s .stored .lexed .lexical .short); few = s .stored .few }
+
+  pub begun : {n m : ℕ} → Fits text w count entries n m → Lexed text w count × Begun text (replicate (3 * n) 0) (replicate n 0) (replicate maxTokens 0)
+  begun {n} f = (f .tree .stored .lexed, begun-zeros (3 * n) n maxTokens (omega arith) (f .bytes) (omega arith))
+
 -- an array of zeros is as long as it is, also when it is written
-pub zeros-long : (n : ℕ) {m : ℕ} → m ≤ n → m ≤ length (replicate {A = ℕ} n 0)
+zeros-long : (n : ℕ) {m : ℕ} → m ≤ n → m ≤ length (replicate {A = ℕ} n 0)
 zeros-long n l = rw (length-replicate {A = ℕ} n 0) l
 
 zeros-kept : (n : ℕ) (ns : List ℕ) → length ns ≡ length (replicate {A = ℕ} n 0) → n ≤ length ns
@@ -131,12 +151,12 @@ zeros-kept n ns e = let z = length-replicate {A = ℕ} n 0 in omega arith
 
 -- for a stored tree, its names numbered, and tables that held no place
 module _
-    {text w ids : List ℕ} {count entries : ℕ} {x : Spec}
+    {text w ids : List ℕ} {count entries n m : ℕ}
+    (f : Fits text w count entries n m)
+    {x : Spec}
     (st : Stored text w count entries x)
     (i : Interned (tokens text) count ids × (top ids ≤ length text + 1))
     (e : length ids ≡ length (replicate {A = ℕ} maxTokens 0))
-    (n : ℕ)
-    (l : length text < n)
   where
     abbrev h : Walkable w ids entries
     h = walkable st (i .0) (zeros-kept maxTokens ids e)
@@ -151,26 +171,28 @@ module _
     names-are = declared-outline false x
 
     blanks : Blanks h blank blank blank
-    blanks = let b = blank-table text h n (i .1) l in record { met-blank = b; seen-blank = b; table-blank = b }
+    blanks = let b = blank-table text h n (i .1) (f .bytes) in record { met-blank = b; seen-blank = b; table-blank = b }
 
     pub undeclared : {found : List ℕ} → maxNames ≤ length found → Undeclared w ids entries blank blank blank found
-    undeclared f = record { walkable = h; blanks = blanks; room = f }
+    undeclared r = record { walkable = h; blanks = blanks; room = r }
 
     module _ {seen table found : List ℕ} {census : Census} (read : (g : Walkable w ids entries) → Blanks g blank blank blank → Declared g seen table found census) where
       abbrev d : Declared h seen table found census
       d = read h blanks
 
-      pub begins : {stack refs : List ℕ} → 3 * entries ≤ length stack → maxTokens ≤ length refs → Begins w ids entries seen table stack refs
-      begins a b = record { walkable = h; declared = lastFirst (declaredFrom h Kind.parameter 0); walking = walk-begins h d a b }
+      walking : {refs : List ℕ} → maxTokens ≤ length refs → Walking h (lastFirst (declaredFrom h Kind.parameter 0)) 0 seen table (replicate (3 * m) 0) refs 0 noPlace noPlace
+      walking r = walk-begins h d (zeros-long (3 * m) (let l = f .few in omega arith)) r
+
+      pub begins : {refs : List ℕ} → maxTokens ≤ length refs → Begins w ids entries seen table (replicate (3 * m) 0) refs
+      begins r = record { walkable = h; declared = lastFirst (declaredFrom h Kind.parameter 0); walking = walking r }
 
       module _
-          {stack refs seen′ table′ stack′ refs′ : List ℕ} {walk : Walk}
-          (walked : WalksAll w ids entries seen table stack refs seen′ table′ stack′ refs′ walk)
-          (a : 3 * entries ≤ length stack)
-          (b : maxTokens ≤ length refs)
+          {refs seen′ table′ stack′ refs′ : List ℕ} {walk : Walk}
+          (walked : WalksAll w ids entries seen table (replicate (3 * m) 0) refs seen′ table′ stack′ refs′ walk)
+          (r : maxTokens ≤ length refs)
         where
           s : Walking h (lastFirst (declaredFrom h Kind.parameter 0)) entries seen′ table′ stack′ refs′ (walk .depth) (walk .hidden) (walk .again)
-          s = walked .walking h (lastFirst (declaredFrom h Kind.parameter 0)) (walk-begins h d a b)
+          s = walked .walking h (lastFirst (declaredFrom h Kind.parameter 0)) (walking r)
 
           abbrev p : ℕ
           p = walk .hidden

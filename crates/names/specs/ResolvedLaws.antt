@@ -16,7 +16,7 @@ use Rattle.names.specs.Roles.{binds, ends}
 use Rattle.names.specs.Scan.{tokenOf}
 use Rattle.names.specs.Walkable.{names}
 use Rattle.names.specs.Walking.{openBefore}
-use Rattle.names.specs.Numbering.{number-same, number-other}
+use Rattle.names.specs.NumberingLaws.{number-same, number-other}
 use Rattle.names.specs.References.{numberIn, reference, DeclaresAt, Where}
 use Rattle.names.specs.Refers.{Run}
 use Rattle.names.specs.RefersLaws.{Gone, expr-goes, entry-goes}

@@ -14,7 +14,8 @@ use Rattle.language.specs.Names.{Names, walk}
 use Rattle.language.specs.Laws.Basics.Tests.{pick, leave}
 use Rattle.entries.specs.Kinds as Kind
 use Rattle.entries.specs.Flat.{Entry, under, flat}
-use Rattle.names.specs.Roles.{uses, binds, ends, declares, Quiet, quiet-truth, quiet-before, quiet-joining, quiet-window, quiet-between, Ending, ending-big}
+use Rattle.names.specs.Roles.{uses, binds, ends, declares, Quiet, Ending}
+use Rattle.names.specs.QuietLaws.{quiet-truth, quiet-before, quiet-joining, quiet-window, quiet-between, ending-big}
 use Rattle.names.specs.Scan.{outer, after, here, scan}
 
 -- the smaller of several places, in any order

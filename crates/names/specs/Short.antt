@@ -1,8 +1,17 @@
--- A short text: for as many bytes and as many entries as these a tenth of the arrays of the longest text will do.
-use Prim.Native.Nat.{ℕ}
+-- A short text: arrays an eighth as long as those of the longest text will do.
+use Prim.Native.Nat.{ℕ, _/_}
+use mathlib.Core.List.{List, [], _∷_}
+use Rattle.language.specs.Limits.{maxBytes, maxTokens}
+use Rattle.spellings.specs.Trie.{maxNodes}
+use Rattle.names.specs.Tables.{noPlace}
 
+-- 4,096 bytes and 1,024 entries
 abbrev pub shortBytes : ℕ
-shortBytes = 4_096
+shortBytes = maxBytes / 8
 
 abbrev pub shortEntries : ℕ
-shortEntries = 1_024
+shortEntries = maxTokens / 8
+
+-- what the code's constants stand for
+abbrev pub constants : List ℕ
+constants = maxNodes ∷ shortBytes ∷ shortEntries ∷ noPlace ∷ noPlace ∷ []

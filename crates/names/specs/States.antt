@@ -1,7 +1,7 @@
 -- What the functions of the walk have in common: they ask for some state of the walk, and go from any state to the next.
 use Prim.Native.Nat.{ℕ, _+_, _<_}
 use mathlib.Core.List.{List}
-use mathlib.Core.Path.{_≡_, sym}
+use mathlib.Core.Path.{_≡_}
 use Rattle.language.specs.Names.{Names}
 use Rattle.names.specs.Tables.{noPlace}
 use Rattle.names.specs.Walkable.{Walkable}
@@ -34,8 +34,3 @@ pub record Begins (w ids : List ℕ) (entries : ℕ) (seen table stack refs : Li
 pub record WalksAll (w ids : List ℕ) (entries : ℕ) (seen table stack refs seen′ table′ stack′ refs′ : List ℕ) (walk : Walk) : Type 0 where
   pub walking : (h : Walkable w ids entries) (declared : Names) → Walking h declared 0 seen table stack refs 0 noPlace noPlace
       → Walking h declared entries seen′ table′ stack′ refs′ (walk .depth) (walk .hidden) (walk .again)
-
--- the same entry by another number
-pub walking-at : {w ids seen table stack refs : List ℕ} {entries k d depth p q : ℕ} {h : Walkable w ids entries} {declared : Names} → Walking h declared k seen table stack refs depth p q → k ≡ d
-    → Walking h declared d seen table stack refs depth p q
-walking-at s e = rw (sym e) s

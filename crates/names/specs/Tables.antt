@@ -1,6 +1,6 @@
 -- Visible names as a table over spellings: at the number of a spelling stands the smallest place of a visible name of that spelling. One number stands for no
 -- place; it is above all places, so that the smaller of two places, and the later of two names, are plain minima and maxima.
-use Prim.Native.Nat.{ℕ, _≤_, _<_, min}
+use Prim.Native.Nat.{ℕ, _-_, _≤_, _<_, _^_, min}
 use mathlib.Core.List.{List, [], _∷_}
 use mathlib.Core.Bool.{true, false}
 use mathlib.Core.Option.{Option, none, some}
@@ -12,8 +12,12 @@ use Rattle.language.specs.Tokens.{Token}
 use Rattle.language.specs.Names.{Names}
 use Rattle.spellings.specs.Interned.{tokenAt, IsName, top}
 
+-- what tables hold has so many bits
+abbrev pub tableBits : ℕ
+tableBits = 16
+
 abbrev pub noPlace : ℕ
-noPlace = 65_535
+noPlace = 2 ^ tableBits - 1
 
 unfoldable pub placeOf : ℕ → Option ℕ
 placeOf v = elim (ltb v noPlace) [ true ↦ some v | false ↦ none ]

@@ -26,8 +26,10 @@ use Rattle.spellings.specs.Interned.{tokenAt, top}
 use Rattle.spellings.specs.TopLaws.{below-top}
 use Rattle.names.specs.Tables.{placeOf, least, Placed}
 use Rattle.names.specs.TableLaws.{place-min, again-least, shows-set, shows-pop}
-use Rattle.names.specs.Walkable.{names, binds-names, Walkable, Table, entryOf}
-use Rattle.names.specs.OwnName.{OwnName, own-token, own-at, own-placed, own-held, own-set, own-push}
+use Rattle.names.specs.Walkable.{names, Walkable, Table, entryOf}
+use Rattle.names.specs.WalkableLaws.{binds-names}
+use Rattle.names.specs.OwnName.{OwnName}
+use Rattle.names.specs.OwnNameLaws.{own-token, own-at, own-placed, own-held, own-set, own-push}
 use Rattle.names.specs.References.{reference, numberIn}
 use Rattle.names.specs.Walking.{openAfter, openBefore, Held, Open, visibleAt, Walking}
 use Rattle.names.specs.WalkLaws.{walk-on}

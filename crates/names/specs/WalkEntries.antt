@@ -21,8 +21,10 @@ use Rattle.names.specs.ScanLaws.{first-none, neither}
 use Rattle.names.specs.Balanced.{Balanced, after-declared, after-quiet}
 use Rattle.names.specs.Tables.{placeOf, least, Placed, hiddenPlace}
 use Rattle.names.specs.TableLaws.{place-min, hidden-least}
-use Rattle.names.specs.Walkable.{names, uses-names, declares-names, Walkable, Table, entryOf, kind-there}
-use Rattle.names.specs.OwnName.{OwnName, own-at, own-placed, own-held, own-push}
+use Rattle.names.specs.Walkable.{names, Walkable, Table, entryOf}
+use Rattle.names.specs.WalkableLaws.{uses-names, declares-names, kind-there}
+use Rattle.names.specs.OwnName.{OwnName}
+use Rattle.names.specs.OwnNameLaws.{own-at, own-placed, own-held, own-push}
 use Rattle.names.specs.References.{reference}
 use Rattle.names.specs.Walking.{openAfter, openBefore, Open, visibleAt, Walking}
 use Rattle.names.specs.WalkLaws.{walk-on, rest}

@@ -19,7 +19,8 @@ use Rattle.names.specs.Scan.{tokenOf, after, here, scan}
 use Rattle.names.specs.ScanLaws.{first-group}
 use Rattle.names.specs.Balanced.{Balanced}
 use Rattle.names.specs.Tables.{placeOf, least, Placed}
-use Rattle.names.specs.Walkable.{names, Walkable, Table, entryOf, rest-at}
+use Rattle.names.specs.Walkable.{names, Walkable, Table, entryOf}
+use Rattle.names.specs.WalkableLaws.{rest-at}
 use Rattle.names.specs.References.{reference}
 use Rattle.names.specs.Walking.{visibleBefore, openAfter, openBefore, refersTo, Open, visibleAt, Walking}
 

@@ -12,7 +12,7 @@ pub struct Census {
     pub place: u32,
 }
 
-// The smallest places of all declared names in `met`, and of signals and buses in `seen`; the numbers of all in `table`, and their entries in `declared`. It asks for
+// The smallest places of all declared names in `met`, and of signals and buses in `seen`; the numbers of all in `table`, and their entries in `found`. It asks for
 // the entries that `resolve` was given, and for tables that hold no place.
 pub fn declare_all(
     work: &[u8],
@@ -21,15 +21,15 @@ pub fn declare_all(
     met: &mut [u16],
     seen: &mut [u16],
     table: &mut [u16],
-    declared: &mut [u16],
+    found: &mut [u16],
 ) -> Census
-    requires { ⌜ Undeclared (now work) (now ids) entries (now met) (now seen) (now table) (now declared) ⌝ }
+    requires { ⌜ Undeclared (now work) (now ids) entries (now met) (now seen) (now table) (now found) ⌝ }
     ensures { λ r. ⌜ ((h : Walkable (now (work .entry)) (now (ids .entry)) entries) → Blanks h (now (met .entry)) (now (seen .entry)) (now (table .entry))
-        → Declared h (now (seen .exit)) (now (table .exit)) (now (declared .exit)) r) ⌝ }
+        → Declared h (now (seen .exit)) (now (table .exit)) (now (found .exit)) r) ⌝ }
 {
     let again = declare(work, ids, entries, kinds::PARAMETER, met);
     declare(work, ids, entries, kinds::SIGNAL, seen);
-    let tally = number_declared(work, ids, entries, table, declared);
+    let tally = number_declared(work, ids, entries, table, found);
     Census {
         again,
         count: tally.count,

@@ -3,6 +3,7 @@ use crate::entry::Name;
 use crate::entry::declares;
 use crate::entry::kind_at;
 use crate::entry::name_at;
+use basics::u16_u32::wide;
 ghost use mathlib.Core.Path.{_≡_};
 ghost use Prim.Native.Nat.{_+_, _≤_, _<_, min, max};
 ghost use lib.ListN.{length};
@@ -12,8 +13,10 @@ ghost use Rattle.names.specs.Tables.{noPlace};
 ghost use Rattle.names.specs.Walkable.{Walkable, Table};
 ghost use Rattle.names.specs.Meeting.{Met};
 
-// Above every place: no place (specs/Tables).
-pub const NOWHERE: u32 = 65535;
+// Above every place: no place (specs/Tables), as tables hold it where no name is, and as a number of its own.
+pub const NO_PLACE: u16 = 65535;
+
+pub const NOWHERE: u32 = NO_PLACE as u32;
 
 pub fn smaller(a: u32, b: u32) -> u32
     ensures { λ r. ⌜ r ≡ min a b ⌝ }
@@ -25,12 +28,6 @@ pub fn larger(a: u32, b: u32) -> u32
     ensures { λ r. ⌜ r ≡ max a b ⌝ }
 {
     if a < b { b } else { a }
-}
-
-pub fn word(x: u16) -> u32
-    ensures { λ r. ⌜ (r ≡ x) × (r < 65536) ⌝ }
-{
-    x as u32
 }
 
 // Entry k before those behind it, of which `place` is the first place where two names meet: the first place with it. It asks for what `declare` was given, and is
@@ -52,7 +49,7 @@ fn declare_one(
         return place;
     }
     let Name { at, id } = name_at(work, ids, k);
-    let seen = word(table[id]);
+    let seen = wide(table[id]);
     table[id] = smaller(seen, at) as u16;
     smaller(place, larger(seen, at))
 }

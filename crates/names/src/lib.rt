@@ -9,6 +9,7 @@ mod walk;
 
 use crate::census::Census;
 use crate::census::declare_all;
+use crate::declare::NO_PLACE;
 use crate::declare::NOWHERE;
 use crate::declare::smaller;
 use crate::walk::Walk;
@@ -22,21 +23,31 @@ ghost use lib.ListN.{length};
 ghost use Rattle.language.specs.Limits.{maxTokens, maxNames};
 ghost use Rattle.language.specs.Tree.{Spec};
 ghost use Rattle.names.specs.Answering.{answerOf};
-ghost use Rattle.names.specs.Short.{shortBytes, shortEntries};
+ghost use Rattle.names.specs.Short.{shortBytes, shortEntries, constants as constants'};
 ghost use Rattle.names.specs.Resolved.{Stored, TreeStored, Answers};
 
 // The empty spelling, and one node for each byte of the longest text.
 const NODES: usize = limits::MAX_BYTES + 1;
 
-// A short text: at most so many bytes and so many entries (specs/Short), which take a tenth of the arrays of the longest.
+// A short text: at most 4,096 of 32,768 bytes and 1,024 of 8,192 entries (specs/Short), so that arrays an eighth as long as those of the longest will do.
 const SHORT: usize = 4096;
 
 const SHORT_NODES: usize = SHORT + 1;
 
 const SHORT_ENTRIES: usize = 1024;
 
-// What a table holds where no name is: NOWHERE.
-const NO_PLACE: u16 = 65535;
+// What the constants stand for.
+pub fn constants() -> [usize; 5]
+    ensures { λ r. ⌜ r ≡ constants' ⌝ }
+{
+    [
+        NODES,
+        SHORT,
+        SHORT_ENTRIES,
+        NO_PLACE as usize,
+        NOWHERE as usize,
+    ]
+}
 
 // How many names are declared; or a refusal's number and place.
 pub enum Naming {
@@ -67,10 +78,10 @@ fn resolve_short(
     count: usize,
     entries: usize,
     refs: &mut [u16],
-    declared: &mut [u16],
+    found: &mut [u16],
 ) -> Naming
-    requires { ⌜ TreeStored (now text) (now work) count entries × (length (now text) ≤ shortBytes) × (entries ≤ shortEntries) × (maxTokens ≤ length (now refs)) × (maxNames ≤ length (now declared)) ⌝ }
-    ensures { λ r. ⌜ ((x : Spec) → Stored (now (text .entry)) (now (work .entry)) count entries x → Answers x (now (refs .exit)) (now (declared .exit)) r) ⌝ }
+    requires { ⌜ TreeStored (now text) (now work) count entries × (length (now text) ≤ shortBytes) × (entries ≤ shortEntries) × (maxTokens ≤ length (now refs)) × (maxNames ≤ length (now found)) ⌝ }
+    ensures { λ r. ⌜ ((x : Spec) → Stored (now (text .entry)) (now (work .entry)) count entries x → Answers x (now (refs .exit)) (now (found .exit)) r) ⌝ }
 {
     let mut links = [0u16; 3 * SHORT_NODES];
     let mut byte = [0u8; SHORT_NODES];
@@ -80,15 +91,7 @@ fn resolve_short(
     let mut table = [NO_PLACE; SHORT_NODES];
     let mut stack = [0u16; 3 * SHORT_ENTRIES];
     intern(text, work, count, &mut links, &mut byte, &mut ids);
-    let census = declare_all(
-        work,
-        &ids,
-        entries,
-        &mut met,
-        &mut seen,
-        &mut table,
-        declared,
-    );
+    let census = declare_all(work, &ids, entries, &mut met, &mut seen, &mut table, found);
     let walk = walk_all(work, &ids, entries, &mut seen, &mut table, &mut stack, refs);
     answer(census, walk)
 }
@@ -100,10 +103,10 @@ fn resolve_long(
     count: usize,
     entries: usize,
     refs: &mut [u16],
-    declared: &mut [u16],
+    found: &mut [u16],
 ) -> Naming
-    requires { ⌜ TreeStored (now text) (now work) count entries × (maxTokens ≤ length (now refs)) × (maxNames ≤ length (now declared)) ⌝ }
-    ensures { λ r. ⌜ ((x : Spec) → Stored (now (text .entry)) (now (work .entry)) count entries x → Answers x (now (refs .exit)) (now (declared .exit)) r) ⌝ }
+    requires { ⌜ TreeStored (now text) (now work) count entries × (maxTokens ≤ length (now refs)) × (maxNames ≤ length (now found)) ⌝ }
+    ensures { λ r. ⌜ ((x : Spec) → Stored (now (text .entry)) (now (work .entry)) count entries x → Answers x (now (refs .exit)) (now (found .exit)) r) ⌝ }
 {
     let mut links = [0u16; 3 * NODES];
     let mut byte = [0u8; NODES];
@@ -113,21 +116,13 @@ fn resolve_long(
     let mut table = [NO_PLACE; NODES];
     let mut stack = [0u16; 3 * limits::MAX_TOKENS];
     intern(text, work, count, &mut links, &mut byte, &mut ids);
-    let census = declare_all(
-        work,
-        &ids,
-        entries,
-        &mut met,
-        &mut seen,
-        &mut table,
-        declared,
-    );
+    let census = declare_all(work, &ids, entries, &mut met, &mut seen, &mut table, found);
     let walk = walk_all(work, &ids, entries, &mut seen, &mut table, &mut stack, refs);
     answer(census, walk)
 }
 
 // Refusals 6, 7 and 8 of a stored tree; or, of a tree that they let pass, what each of its names refers to: `refs` by entry, for every entry that uses, brings or
-// declares a name, and `declared` the entry of each declared name by its number. The work buffer is read only. This is a stage of the reader and no entry point: it
+// declares a name, and `found` the entry of each declared name by its number. The work buffer is read only. This is a stage of the reader and no entry point: it
 // asks for what the parser leaves, which the reader has at hand.
 pub fn resolve(
     text: &[u8],
@@ -135,13 +130,13 @@ pub fn resolve(
     count: usize,
     entries: usize,
     refs: &mut [u16],
-    declared: &mut [u16],
+    found: &mut [u16],
 ) -> Naming
-    requires { ⌜ TreeStored (now text) (now work) count entries × (maxTokens ≤ length (now refs)) × (maxNames ≤ length (now declared)) ⌝ }
-    ensures { λ r. ⌜ ((x : Spec) → Stored (now (text .entry)) (now (work .entry)) count entries x → Answers x (now (refs .exit)) (now (declared .exit)) r) ⌝ }
+    requires { ⌜ TreeStored (now text) (now work) count entries × (maxTokens ≤ length (now refs)) × (maxNames ≤ length (now found)) ⌝ }
+    ensures { λ r. ⌜ ((x : Spec) → Stored (now (text .entry)) (now (work .entry)) count entries x → Answers x (now (refs .exit)) (now (found .exit)) r) ⌝ }
 {
     if text.len() <= SHORT && entries <= SHORT_ENTRIES {
-        return resolve_short(text, work, count, entries, refs, declared);
+        return resolve_short(text, work, count, entries, refs, found);
     }
-    resolve_long(text, work, count, entries, refs, declared)
+    resolve_long(text, work, count, entries, refs, found)
 }

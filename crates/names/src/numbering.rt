@@ -19,8 +19,7 @@ pub struct Tally {
     pub place: u32,
 }
 
-// Entry k behind those before it. The entry of a name that has a number is noted in `declared`. It asks for what `number_declared` was given, and is called by
-// nobody else.
+// One entry more, k: a name that it declares gets the next number, and `found` holds the entry at that number. Only `number_declared` calls it, with what it was given itself.
 fn number_one(
     work: &[u8],
     ids: &[u16],
@@ -28,11 +27,11 @@ fn number_one(
     k: usize,
     before: Tally,
     table: &mut [u16],
-    declared: &mut [u16],
+    found: &mut [u16],
 ) -> Tally
-    requires { ⌜ Walkable (now work) (now ids) entries × (k < entries) × (before .count ≤ k) × (top (now ids) ≤ length (now table)) × (maxNames ≤ length (now declared)) ⌝ }
-    ensures { λ r. ⌜ ((h : Walkable (now (work .entry)) (now (ids .entry)) entries) → Numbered h k (now (table .entry)) (now (declared .entry)) (before .count) (before .place)
-        → Numbered h (k + 1) (now (table .exit)) (now (declared .exit)) (r .count) (r .place)) × (r .count ≤ k + 1) ⌝ }
+    requires { ⌜ Walkable (now work) (now ids) entries × (k < entries) × (before .count ≤ k) × (top (now ids) ≤ length (now table)) × (maxNames ≤ length (now found)) ⌝ }
+    ensures { λ r. ⌜ ((h : Walkable (now (work .entry)) (now (ids .entry)) entries) → Numbered h k (now (table .entry)) (now (found .entry)) (before .count) (before .place)
+        → Numbered h (k + 1) (now (table .exit)) (now (found .exit)) (r .count) (r .place)) × (r .count ≤ k + 1) ⌝ }
 {
     let kind = kind_at(work, k);
     if !declares(kinds::PARAMETER, kind) {
@@ -43,7 +42,7 @@ fn number_one(
     let place = before.place;
     table[id] = count as u16;
     if count < limits::MAX_NAMES {
-        declared[count] = k as u16;
+        found[count] = k as u16;
         return Tally {
             count: count + 1,
             place,
@@ -67,16 +66,16 @@ pub fn number_declared(
     ids: &[u16],
     entries: usize,
     table: &mut [u16],
-    declared: &mut [u16],
+    found: &mut [u16],
 ) -> Tally
-    requires { ⌜ Walkable (now work) (now ids) entries × (top (now ids) ≤ length (now table)) × (maxNames ≤ length (now declared)) ⌝ }
+    requires { ⌜ Walkable (now work) (now ids) entries × (top (now ids) ≤ length (now table)) × (maxNames ≤ length (now found)) ⌝ }
     ensures { λ r. ⌜ ((h : Walkable (now (work .entry)) (now (ids .entry)) entries) → Table h (now (table .entry)) (λ t. noPlace)
-        → Numbered h entries (now (table .exit)) (now (declared .exit)) (r .count) (r .place)) ⌝ }
+        → Numbered h entries (now (table .exit)) (now (found .exit)) (r .count) (r .place)) ⌝ }
 {
     let mut tally = Tally { count: 0, place: 0 };
     let mut k = 0;
     while k < entries {
-        tally = number_one(work, ids, entries, k, tally, table, declared);
+        tally = number_one(work, ids, entries, k, tally, table, found);
         k += 1;
     }
     tally

@@ -3,7 +3,6 @@
 use crate::declare::NOWHERE;
 use crate::declare::larger;
 use crate::declare::smaller;
-use crate::declare::word;
 use crate::entry::Name;
 use crate::entry::binds;
 use crate::entry::declares;
@@ -11,7 +10,8 @@ use crate::entry::ends;
 use crate::entry::kind_at;
 use crate::entry::name_at;
 use crate::entry::uses;
-use basics::u16_usize::wide;
+use basics::u16_u32;
+use basics::u16_usize;
 use entries::kinds;
 use language::limits;
 ghost use mathlib.Core.Path.{_≡_};
@@ -55,7 +55,7 @@ fn use_name(
 {
     let k = walk.next;
     let Name { at, id } = name_at(work, ids, k);
-    let hidden = hidden_place(word(seen[id]), at);
+    let hidden = hidden_place(u16_u32::wide(seen[id]), at);
     refs[k] = table[id];
     Walk {
         next: k + 1,
@@ -81,7 +81,7 @@ fn declare_name(
     let k = walk.next;
     let Name { at, id } = name_at(work, ids, k);
     refs[k] = table[id];
-    seen[id] = smaller(word(seen[id]), at) as u16;
+    seen[id] = smaller(u16_u32::wide(seen[id]), at) as u16;
     Walk {
         next: k + 1,
         ..walk
@@ -105,7 +105,7 @@ fn bind_name(
     let k = walk.next;
     let Name { at, id } = name_at(work, ids, k);
     let depth = walk.depth;
-    let place = word(seen[id]);
+    let place = u16_u32::wide(seen[id]);
     let top = 3 * depth;
     let slot = (limits::MAX_NAMES + depth) as u16;
     stack[top] = id as u16;
@@ -138,7 +138,7 @@ fn end_name(
 {
     let depth = walk.depth - 1;
     let top = 3 * depth;
-    let id = wide(stack[top]);
+    let id = u16_usize::wide(stack[top]);
     seen[id] = stack[top + 1];
     table[id] = stack[top + 2];
     Walk {

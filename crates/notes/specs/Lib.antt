@@ -5,6 +5,10 @@ pub mod Inside
 pub mod Chosen
 pub mod ChosenLaws
 pub mod Choosing
+pub mod ChoosingLaws
 pub mod Owned
+pub mod OwnedLaws
 pub mod FirstTable
+pub mod FirstTableLaws
 pub mod Noting
+pub mod NotingLaws

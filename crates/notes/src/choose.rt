@@ -1,4 +1,4 @@
-// The own entries of parameters, of inputs, of outputs, in the text's order.
+// The entries that declare parameters, inputs and outputs, in the text's order.
 use entries::fields::FIRST_ENTRY;
 use entries::fields::SIZES;
 use entries::fields::TOKENS;

@@ -1,7 +1,7 @@
 -- The number of an entry's token gives the code of the operator that the token spells (crate operators).
-use Prim.Native.Nat.{ℕ, _/_}
+use Prim.Native.Nat.{ℕ}
 use mathlib.Core.Bool.{Bool, true, false}
-use mathlib.Core.List.{List, [], _∷_}
+use mathlib.Core.List.{List}
 use mathlib.Core.Option.{Option, none, some}
 use mathlib.Core.Path.{_≡_, refl, sym, ap, _∙_}
 use lib.Dec.{eqb}
@@ -9,13 +9,16 @@ use Rattle.language.specs.Tokens.{Token, tokens, is}
 use Rattle.language.specs.Operators.{Infix, Prefix, Measures, Size, Window, FinallyIn, GloballyIn, Big, Role, Plain, Counted, Windowed, Folding, InfixRow, PrefixRow}
 use Rattle.language.specs.Spelling.{infixIn, SpellsInfix, prefixIn, prefixBy, SpellsPrefix, windowIn, windowBy, SpellsWindow, bigIn, bigBy, SpellsBig, SpellsTruth, SpellsSign}
 use Rattle.language.specs.Laws.Basics.Tests.{some-none}
-use Rattle.lexer.specs.Numbers.{number, fixed, numbered}
-use Rattle.lexer.specs.NumberLaws.{is-number, named-number}
+use Rattle.lexer.specs.Numbers.{number, fixed}
+use Rattle.lexer.specs.NumberLaws.{is-number}
 use Rattle.entries.specs.Flat.{Entry, under}
 use Rattle.entries.specs.Stored.{EndsAt}
 use Rattle.spellings.specs.Interned.{Lexed}
 use Rattle.operators.specs.Readers.{infixRow, operatorIn, operatorAt, prefixRow, roleIn, roleAt}
 use Rattle.operators.specs.Codes.{infixCode, prefixCode, bigCode, roleCode}
+use Rattle.operators.specs.Fields.{prefixField}
+use Rattle.operators.specs.Signs.{strictAt}
+use Rattle.operators.specs.SignLaws.{strict-number}
 use Rattle.operators.specs.Tables.{prefixWord, prefixAt, infixCodeAt, prefixCodeAt}
 use Rattle.operators.specs.TableLaws.{prefix-number}
 use Rattle.operators.specs.RowLaws.{infix-none, infix-some, prefix-none, prefix-some}
@@ -65,7 +68,7 @@ module _ (t : Token) where
   -- a bar is none, and has the code of a size
   bar-code : prefixRow t ≡ none → prefixCodeAt (number t) ≡ 0
   unfolding prefixAt
-  bar-code e = ap (λ (y : Option PrefixRow). prefixWord y / 1_048_576) (sym (prefix-number t) ∙ e)
+  bar-code e = ap (λ (y : Option PrefixRow). prefixField (prefixWord y)) (sym (prefix-number t) ∙ e)
 
   prefix-code : {o : Prefix} → SpellsPrefix t o → prefixCodeAt (number t) ≡ prefixCode o
   unfolding prefixRow
@@ -112,5 +115,5 @@ module _ {text w : List ℕ} {count k : ℕ} (x : Lexed text w count) (n : ℕ) 
   pub truth-is : {b : Bool} → SpellsTruth t b → b ≡ eqb (numberAt w k) (fixed "true")
   truth-is e = e ∙ is-number "true" t refl ∙ ap (λ (i : ℕ). eqb i (fixed "true")) (sym (number-is x n t es h))
 
-  pub sign-is : {b : Bool} → SpellsSign t b → b ≡ numbered ("<" ∷ "LE" ∷ []) (numberAt w k)
-  sign-is e = e ∙ named-number ("<" ∷ "LE" ∷ []) t refl ∙ ap (numbered ("<" ∷ "LE" ∷ [])) (sym (number-is x n t es h))
+  pub sign-is : {b : Bool} → SpellsSign t b → b ≡ strictAt (numberAt w k)
+  sign-is e = e ∙ strict-number t ∙ ap strictAt (sym (number-is x n t es h))

@@ -19,16 +19,16 @@ use Rattle.parser.specs.declared.Facts.{Facts}
 use Rattle.parser.specs.declared.Outline.{Outline}
 use Rattle.parser.specs.declared.Outline.the-variants.{Accepted as Drawn, Refused as NotDrawn}
 use Rattle.parser.specs.Outlines.{factsOf}
-use Rattle.outline.specs.declared.Text.{Text}
-use Rattle.outline.specs.declared.Text.the-variants.{Accepted, Refused}
+use Rattle.outline.specs.declared.TextOutline.{TextOutline}
+use Rattle.outline.specs.declared.TextOutline.the-variants.{Accepted, Refused}
 
 -- the parser's answer, with the number of tokens
-abbrev pub counted : ℕ → Outline → Text
+abbrev pub counted : ℕ → Outline → TextOutline
 counted n (Drawn m f) = Accepted n m f
 counted n (NotDrawn number place) = Refused number place
 
 -- a refusal of the lexer, 'handed up unchanged': 0 where there is none, which no caller asks
-abbrev pub unread : Lexed → Text
+abbrev pub unread : Lexed → TextOutline
 unread (NotLexed number place) = Refused number place
 unread (Lexed.Tokens count) = Refused 0 0
 
@@ -42,12 +42,12 @@ pub record Outlined (text v : List ℕ) (n m : ℕ) (f : Facts) : Type 0 where
   pub stored : EntriesFrom v (tokens text) 0 (outline tree)
   pub facts : f ≡ factsOf tree
 
-abbrev pub Says : List ℕ → List ℕ → Text → Type 0
+abbrev pub Says : List ℕ → List ℕ → TextOutline → Type 0
 Says text v (Accepted n m f) = Outlined text v n m f
 Says text v (Refused number place) = lexing text >>= specOf ≡ RefusedAt number place
 
 -- from the buffer w to the buffer v
-pub record Outlining (text w v : List ℕ) (r : Text) : Type 0 where
+pub record Outlining (text w v : List ℕ) (r : TextOutline) : Type 0 where
   pub says : Says text v r
   pub size : length v ≡ length w
   pub beyond : past workBytes v ≡ past workBytes w

@@ -23,8 +23,8 @@ use Rattle.entries.specs.Cursors.{Tells}
 use Rattle.entries.specs.Reads.{Kept}
 use Rattle.parser.specs.declared.Outline.{Outline}
 use Rattle.parser.specs.Outlines.{Lexed, Outlined, Answer}
-use Rattle.outline.specs.declared.Text.{Text}
-use Rattle.outline.specs.declared.Text.the-variants.{Refused as NotAccepted}
+use Rattle.outline.specs.declared.TextOutline.{TextOutline}
+use Rattle.outline.specs.declared.TextOutline.the-variants.{Refused as NotAccepted}
 use Rattle.outline.specs.Outlining.{counted, unread, Says, Outlining}
 
 -- the last token is the text's end
@@ -86,7 +86,7 @@ module _ {text v : List ℕ} {n : ℕ} (h : Tokenized text v n) where
       (record { tree = x; lexed = still k; read = e; total = refl; few = d .few; stored = d .entries; facts = refl })
   says {z} (Refused number place) o e k d = subst (λ o. Says text z (counted n o)) (sym d) (then-done ∙ e)
 
-  pub outlined : {w z : List ℕ} {o : Outline} {r : Text} → length v ≡ length w → past tokenBytes v ≡ past tokenBytes w → ((ts : Tokens) → Tells ts v n (length text) → Outlined ts v z o)
+  pub outlined : {w z : List ℕ} {o : Outline} {r : TextOutline} → length v ≡ length w → past tokenBytes v ≡ past tokenBytes w → ((ts : Tokens) → Tells ts v n (length text) → Outlined ts v z o)
       → r ≡ counted n o → Outlining text w z r
   outlined {w} {z} {o} size kept f e =
       let told = f (tokens text) tells in
@@ -109,5 +109,5 @@ unfolding _>>=_
 not-lexed {text} {w} {v} {n} {p} e size kept = record { says = ap (λ r. r >>= specOf) e; size = size; beyond = past-later tokenBytes workBytes v w (omega arith) kept }
 
 -- a refusal of the lexer, handed up
-pub handed-up : {text w v : List ℕ} {l : Lexing} → Lexes text w v l → {r : Text} {n p : ℕ} → l ≡ NotStored n p → r ≡ unread l → Outlining text w v r
+pub handed-up : {text w v : List ℕ} {l : Lexing} → Lexes text w v l → {r : TextOutline} {n p : ℕ} → l ≡ NotStored n p → r ≡ unread l → Outlining text w v r
 handed-up {text} {w} {v} h e u = subst (Outlining text w v) (sym (u ∙ ap unread e)) (not-lexed (refused h e) (h .size) (h .kept))

@@ -1,5 +1,5 @@
 // A text's bytes to its outline: lexer, then parser (refusals 1 to 4).
-// `outlined` asks for a work buffer of full length; `read` refuses a shorter one (17).
+// An inner stage: `outlined` asks for a work buffer of full length, and the reader refuses a shorter one (17).
 use lexer::Lexed;
 use lexer::lex;
 use parser::Facts;
@@ -12,33 +12,33 @@ ghost use Rattle.language.specs.Limits.{workBytes};
 ghost use Rattle.outline.specs.Outlining.{counted as counted', unread as unread', Outlining};
 
 // An accepted text's numbers of tokens and of entries and what its INFO says, or a refusal's number and place.
-pub enum Text {
+pub enum TextOutline {
     Accepted(usize, usize, Facts),
     Refused(u32, u32),
 }
 
 // The parser's answer, with the number of tokens.
-fn counted(tokens: usize, outline: Outline) -> Text
+fn counted(tokens: usize, outline: Outline) -> TextOutline
     ensures { λ r. ⌜ r ≡ counted' tokens outline ⌝ }
 {
     match outline {
-        Outline::Accepted(entries, facts) => Text::Accepted(tokens, entries, facts),
-        Outline::Refused(number, place) => Text::Refused(number, place),
+        Outline::Accepted(entries, facts) => TextOutline::Accepted(tokens, entries, facts),
+        Outline::Refused(number, place) => TextOutline::Refused(number, place),
     }
 }
 
 // A refusal of the lexer.
-fn unread(lexed: Lexed) -> Text
+fn unread(lexed: Lexed) -> TextOutline
     ensures { λ r. ⌜ r ≡ unread' lexed ⌝ }
 {
     match lexed {
-        Lexed::Refused(number, place) => Text::Refused(number, place),
-        Lexed::Tokens(_) => Text::Refused(0, 0),
+        Lexed::Refused(number, place) => TextOutline::Refused(number, place),
+        Lexed::Tokens(_) => TextOutline::Refused(0, 0),
     }
 }
 
-// An inner stage: the reader has tested the length of the work buffer (refusal 17).
-pub fn outlined(text: &[u8], work: &mut [u8]) -> Text
+// The outline of a text.
+pub fn outlined(text: &[u8], work: &mut [u8]) -> TextOutline
     requires { ⌜ workBytes ≤ length (now work) ⌝ }
     ensures { λ r. ⌜ Outlining (now (text .entry)) (now (work .entry)) (now (work .exit)) r ⌝ }
 {

@@ -2,4 +2,5 @@ pub mod Ports
 pub mod Firsts
 pub mod Listing
 pub mod EntryRuns
+pub mod EntryRunLaws
 pub mod ListingLaws

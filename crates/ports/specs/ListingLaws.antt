@@ -18,7 +18,8 @@ use Rattle.language.specs.Listed.{flag}
 use Rattle.language.specs.Laws.Values.SignalLaws.{list-length, length-entries}
 use Rattle.ports.specs.Ports.{PortsFrom, Ported}
 use Rattle.ports.specs.Firsts.{numberedFrom}
-use Rattle.ports.specs.EntryRuns.{run, entries-run}
+use Rattle.ports.specs.EntryRuns.{run}
+use Rattle.ports.specs.EntryRunLaws.{entries-run}
 use Rattle.ports.specs.Listing.{Lists}
 use Rattle.ports.specs.declared.Signals.the-variants.{Listed, TooMany}
 use Rattle.basics.specs.Lists.{sets-append}

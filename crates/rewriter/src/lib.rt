@@ -23,8 +23,8 @@ pub const NEGATION_FORM: u32 = 1;
 
 pub const CORE_FORM: u32 = 2;
 
-// The rewriter is told no signals: a table may have any signal number that a field holds.
-const SIGNAL_LIMIT: u32 = node::FIELD_LIMIT;
+// Where no signals are told, a table may have any signal number that a field holds.
+pub const SIGNAL_LIMIT: u32 = node::FIELD_LIMIT;
 
 // A table of at most 256 nodes is rewritten by way of a table of 1,024: few forms are more than four times as long.
 const SMALL_TABLE: usize = 256;

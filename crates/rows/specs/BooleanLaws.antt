@@ -21,7 +21,8 @@ use Rattle.rows.specs.Row.{shown}
 use Rattle.rows.specs.RowLaws.{shown-in, shown-out}
 use Rattle.rows.specs.Steps.{pairOf}
 use Rattle.rows.specs.Memory.{rowsLimit, bitsAt, Written}
-use Rattle.rows.specs.Ready.{boolean, Placed, Boolean, pairRow}
+use Rattle.rows.specs.Ready.{Placed, Boolean, pairRow}
+use Rattle.rows.specs.ReadyLaws.{boolean}
 use Rattle.rows.specs.Booleans.{flip, bytesOf, byteSteps, blanked, Bound}
 use Rattle.rows.specs.declared.Op.{Op}
 

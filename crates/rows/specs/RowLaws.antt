@@ -10,6 +10,7 @@ use Rattle.bits.specs.Bits.{Values}
 use Rattle.recordings.specs.Lasso.{next}
 use Rattle.recordings.specs.LassoLaws.{next-lt}
 use Rattle.rows.specs.Row.{sweepFrom, sweep, around, rowUnary, rowBinary, row, shown}
+use Rattle.rows.specs.Shapes.{Uses, shapeRow, Agree}
 
 pub sweep-end : (n : ℕ) (f : ℕ → Bool → Bool) (s : Bool) → sweep n f s n ≡ s
 unfolding sweepFrom
@@ -45,15 +46,6 @@ pub around-dual : (n l : ℕ) (s : Bool) (f : ℕ → Bool → Bool) (p : ℕ) �
 unfolding around
 around-dual n l s f p = sweep-dual f (sweep n f s l) p (n - p) ∙ ap (λ x. sweep n (dual f) x p) (sweep-dual f s l (n - l))
 
--- the row of a node, from its operands' rows
-abbrev pub shapeRow : ℕ → ℕ → (ℕ → ℕ → Bool) → Shape → ℕ → Values → Values → Values
-shapeRow n l letter Truth x a b p = true
-shapeRow n l letter Falsehood x a b p = false
-shapeRow n l letter Atom x a b p = letter p x
-shapeRow n l letter (UnaryOf o) x a b p = rowUnary n l o a p
-shapeRow n l letter (BinaryOf o) x a b p = rowBinary n l o a b p
-shapeRow n l letter Unused x a b p = true
-
 pub row-build : (n l : ℕ) (letter : ℕ → ℕ → Bool) (s : Shape) (t : ℕ → Formula) (x y p : ℕ)
     → row n l letter (build s t x y) p ≡ shapeRow n l letter s x (row n l letter (t x)) (row n l letter (t y)) p
 unfolding row
@@ -64,15 +56,6 @@ row-build n l letter (UnaryOf o) t x y p = refl
 row-build n l letter (BinaryOf o) t x y p = refl
 row-build n l letter Unused t x y p = refl
 
--- what a shape has of operands
-abbrev pub Uses : Shape → Type 0 → Type 0 → Type 0
-Uses Truth A B = Unit {0}
-Uses Falsehood A B = Unit {0}
-Uses Atom A B = Unit {0}
-Uses (UnaryOf o) A B = A
-Uses (BinaryOf o) A B = A × B
-Uses Unused A B = ⊥
-
 pub uses-map : (s : Shape) {A B C D : Type 0} → (A → C) → (B → D) → Uses s A B → Uses s C D
 uses-map Truth f g u = tt
 uses-map Falsehood f g u = tt
@@ -80,10 +63,6 @@ uses-map Atom f g u = tt
 uses-map (UnaryOf o) f g u = f u
 uses-map (BinaryOf o) f g u = (f (u .0), g (u .1))
 uses-map Unused f g u = u
-
--- two rows agree at the positions of the lasso
-abbrev pub Agree : ℕ → Values → Values → Type 0
-Agree n a b = (q : ℕ) → q < n → a q ≡ b q
 
 row-unary-ext : (n l : ℕ) (o : Unary) (a c : Values) → l < n → Agree n a c → Agree n (rowUnary n l o a) (rowUnary n l o c)
 row-unary-ext n l Not a c h e p m = ap not (e p m)

@@ -1,10 +1,10 @@
 // The rows of G, F, U, R and W: all are v = g || (p && v one position later), from the value at the loop's start.
 ghost use mathlib.Core.Path.{_≡_};
-ghost use Prim.Native.Nat.{_≤_, _<_};
+ghost use Prim.Native.Nat.{_<_};
 ghost use Rattle.node.specs.Kinds.{shapeOf};
 ghost use Rattle.rows.specs.Steps.{seedOf};
 ghost use Rattle.rows.specs.Memory.{Filled};
-ghost use Rattle.rows.specs.Ready.{Placed, Temporal, loopRow};
+ghost use Rattle.rows.specs.Ready.{Placed, TemporalKind, Temporal, loopRow};
 ghost use Rattle.rows.specs.Stretches.{endOf, Regular};
 ghost use Rattle.rows.specs.SpanSteps.{Goes};
 ghost use Rattle.rows.specs.Sweeping.{Swept, Held};
@@ -25,7 +25,7 @@ use recordings::Lasso;
 
 // The values of an operator at the positions of a span, from its operands' a and b there; c is its value after them.
 fn step(kind: u32, a: u64, b: u64, c: u64) -> u64
-    requires { ⌜ (9 ≤ kind) × (kind < 14) ⌝ }
+    requires { ⌜ TemporalKind kind ⌝ }
     requires { ⌜ c < 2 ⌝ }
     ensures { λ r. ⌜ Goes kind a b c r ⌝ }
 {
@@ -40,7 +40,7 @@ fn step(kind: u32, a: u64, b: u64, c: u64) -> u64
 
 // An operator's value in a loop where nothing is ever decided.
 fn seed_of(kind: u32) -> bool
-    requires { ⌜ (9 ≤ kind) × (kind < 14) ⌝ }
+    requires { ⌜ TemporalKind kind ⌝ }
     ensures { λ r. ⌜ r ≡ seedOf (shapeOf kind) ⌝ }
 {
     match kind {

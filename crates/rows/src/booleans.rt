@@ -1,10 +1,10 @@
 // The rows of `!`, `&&`, `||`, `->` and `<->`: eight bytes as one word, the odd bytes at the row's end singly (document 02, F-4).
 ghost use mathlib.Core.Path.{_≡_};
-ghost use Prim.Native.Nat.{_+_, _*_, _/_, _≤_, _<_};
+ghost use Prim.Native.Nat.{_+_, _*_, _/_, _<_};
 ghost use lib.ListN.{length, getD, set};
 ghost use Rattle.node.specs.Kinds.{shapeOf};
 ghost use Rattle.rows.specs.Memory.{Written};
-ghost use Rattle.rows.specs.Ready.{Placed, Boolean, pairRow};
+ghost use Rattle.rows.specs.Ready.{Placed, BooleanKind, Boolean, pairRow};
 ghost use Rattle.rows.specs.Booleans.{bytesOf, byteSteps, blanked, Bound};
 use crate::Op;
 use basics::u8_u32::wide;
@@ -17,7 +17,7 @@ use node::Node;
 
 // What an operator makes of eight bytes of its operands.
 fn word_step(kind: u32, x: u64, y: u64) -> u64
-    requires { ⌜ (3 ≤ kind) × (kind < 8) ⌝ }
+    requires { ⌜ BooleanKind kind ⌝ }
     ensures { λ r. ⌜ r ≡ bytesOf (shapeOf kind) 8 x y ⌝ }
 {
     match kind {
@@ -31,7 +31,7 @@ fn word_step(kind: u32, x: u64, y: u64) -> u64
 
 // And of one.
 fn byte_step(kind: u32, x: u64, y: u64) -> u64
-    requires { ⌜ (3 ≤ kind) × (kind < 8) ⌝ }
+    requires { ⌜ BooleanKind kind ⌝ }
     requires { ⌜ (x < 256) × (y < 256) ⌝ }
     ensures { λ r. ⌜ r ≡ bytesOf (shapeOf kind) 1 x y ⌝ }
 {

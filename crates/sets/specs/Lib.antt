@@ -5,8 +5,6 @@ pub mod Listing
 pub mod Combined
 pub mod NumberLaws
 pub mod RangeLaws
-pub mod ArrayLaws
 pub mod ListingLaws
 pub mod UnionLaws
 pub mod SelectionLaws
-pub mod InsertLaws

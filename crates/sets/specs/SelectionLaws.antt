@@ -2,10 +2,10 @@
 use Prim.Native.Nat.{ℕ, zero, suc, _≤_, _<_}
 use mathlib.Core.Path.{_≡_, refl, sym, ap, ap₂, _∙_}
 use mathlib.Core.Bool.{Bool, true, false, not, _||_}
-use mathlib.Core.List.{List, [], _∷_, _++_, append-assoc, append-nil}
+use mathlib.Core.List.{List, [], _∷_}
 use lib.Dec.{eqb}
-use lib.ListN.{length, getD, take, drop, set, length-take, drop-of-length-le}
-use lib.Seq.{take-suc-set, drop-cons, drop-set-lt, getD-take, length-take-le}
+use lib.ListN.{length, getD, take, length-take}
+use lib.Seq.{getD-take, length-take-le}
 use native.Mathlib.Omega.{arith}
 use borrow.Author.Tests.{eq-eqb, ne-eqb, le-leb}
 use Rattle.node.specs.Result.{Done}
@@ -13,10 +13,9 @@ use Rattle.node.specs.ResultLaws.{guard-pass}
 use Rattle.language.specs.Limits.{maxNumber, maxElements}
 use Rattle.language.specs.Sets.{memberOf, keep, combine}
 use Rattle.language.specs.Values.{limited}
-use Rattle.language.specs.Laws.Basics.Tests.{pick, leave, or-left, or-right}
+use Rattle.language.specs.Laws.Basics.Tests.{or-left, or-right}
 use Rattle.language.specs.Laws.Values.SetLaws.{Ascending}
 use Rattle.sets.specs.Answers.{SetIs}
-use Rattle.sets.specs.ArrayLaws.{drop-further, drop-here}
 use Rattle.sets.specs.Operators.{combination}
 use Rattle.sets.specs.Listing.{Parted}
 use Rattle.sets.specs.Combined.{Ordered, selection, passing, Selected}
@@ -85,59 +84,6 @@ ascends-at a n i h l =
     let next = getD-take n a (suc i) 0 l in
     let less = neighbours 0 maxNumber (take n a) i (h .ascends) (omega arith) in
     omega arith
-
--- a selection: k of the first i entries are kept
-module _ (a : List ℕ) (n : ℕ) (q : ℕ → Bool) where
-  pub record Selecting (c : List ℕ) (i k : ℕ) : Type 0 where
-    pub all : keep q (take n a) ≡ take k c ++ keep q (drop i (take n a))
-    pub unread : drop i c ≡ drop i a
-    pub fewer : k ≤ i
-
-  pub selecting-none : Selecting a 0 0
-  selecting-none = record { all = refl; unread = refl; fewer = omega arith }
-
-  module _ (c : List ℕ) (i k x : ℕ) (h : Selecting c i k) (ordered : Ordered a n) (l : i < n) (e : x ≡ getD c i 0) where
-    next : drop i (take n a) ≡ x ∷ drop (suc i) (take n a)
-    next =
-        drop-cons (take n a) i 0 (omega (arith, length-take-le n a (omega (arith, ordered .few, ordered .room)))) ∙
-        ap (λ y. y ∷ drop (suc i) (take n a)) (getD-take n a i 0 l ∙ sym (e ∙ drop-here c a i (h .unread)))
-
-    pub selecting-kept : k < length c → true ≡ q x → Selecting (set c k x) (suc i) (suc k)
-    selecting-kept room passed = record {
-      all =
-          h .all ∙ ap (λ s. take k c ++ keep q s) next ∙ ap (λ s. take k c ++ s) (pick (q x) _ _ (sym passed)) ∙
-          sym (append-assoc (take k c) (x ∷ []) _) ∙ ap (λ s. s ++ keep q (drop (suc i) (take n a))) (sym (take-suc-set c k x room));
-      unread = drop-set-lt (suc i) c k x (omega (arith, h .fewer)) ∙ drop-further c a i (h .unread);
-      fewer = omega (arith, h .fewer);
-    }
-
-    pub selecting-left : false ≡ q x → Selecting c (suc i) k
-    selecting-left passed = record {
-      all = h .all ∙ ap (λ s. take k c ++ keep q s) next ∙ ap (λ s. take k c ++ s) (leave (q x) _ _ (sym passed));
-      unread = drop-further c a i (h .unread);
-      fewer = omega (arith, h .fewer);
-    }
-
-  pub selected : (c : List ℕ) (i k : ℕ) → Selecting c i k → Ordered a n → n ≤ i → i ≤ n → take k c ≡ keep q (take n a)
-  selected c i k h ordered l m =
-      sym (h .all ∙ ap (λ s. take k c ++ keep q s) (drop-of-length-le (take n a) {i = i} (omega (arith, length-take-le n a (omega (arith, ordered .few, ordered .room))))) ∙ append-nil (take k c))
-
--- the first j entries of the right set are below the left set's next element
-pub record Reached (a : List ℕ) (n : ℕ) (b : List ℕ) (m i j : ℕ) : Type 0 where
-  pub parted : i < n → Parted b j m (getD a i 0)
-
-pub reached-here : (a : List ℕ) (n : ℕ) (q : ℕ → Bool) (b : List ℕ) (m : ℕ) (c : List ℕ) (i j k : ℕ) → Selecting a n q c i k → Reached a n b m i j → i < n → Parted b j m (getD c i 0)
-reached-here a n q b m c i j k h r l = rw (drop-here c a i (h .unread)) (r .parted l)
-
-pub reached-on : (a : List ℕ) (n : ℕ) (q : ℕ → Bool) (b : List ℕ) (m : ℕ) (c : List ℕ) (i j k : ℕ) → Selecting a n q c i k → Ordered a n → Parted b j m (getD c i 0) → Reached a n b m (suc i) j
-reached-on a n q b m c i j k h ordered parted =
-    let here = drop-here c a i (h .unread) in
-    record {
-      parted = λ l. record {
-        bound = parted .bound;
-        lower = λ e f. let less = parted .lower e f in let more = ascends-at a n i ordered l in omega arith;
-      };
-    }
 
 -- the operator by its number; what is selected is within the limit
 pub selection-of : (k : ℕ) → ¬ (k ≡ 0) → selection (eqb k 1) ≡ combination k

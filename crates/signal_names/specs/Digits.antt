@@ -24,7 +24,7 @@ two-digits f n h l = more-digits (suc f) n h ∙ ap (λ (s : List ℕ). s ++ ((4
 pub three-digits : (f n : ℕ) → 100 ≤ n → n < 1000 → digitsOf (suc (suc (suc f))) n ≡ (48 + n / 10 / 10) ∷ (48 + n / 10 % 10) ∷ (48 + n % 10) ∷ []
 three-digits f n h l = more-digits (suc (suc f)) n (omega arith) ∙ ap (λ (s : List ℕ). s ++ ((48 + n % 10) ∷ [])) (two-digits f (n / 10) (omega arith) (omega arith))
 
--- the digits of an index, each written behind the other
+-- the digits of an index, each written after the other
 module _ {out o1 : List ℕ} {at m : ℕ} (n : ℕ) where
   pub put-one : n < 10 → Puts ((48 + n) ∷ []) out o1 at m → Puts (digitsOf (suc n) n) out o1 at m
   put-one h p = rw (one-digit n n h) p

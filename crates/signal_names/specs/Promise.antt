@@ -13,7 +13,7 @@ use Rattle.basic.specs.Writing.{faultFrom}
 abbrev pub part : List ℕ → ℕ → ℕ → List ℕ
 part l start n = take n (drop start l)
 
--- the bytes `vs` stored from index `at` on; r is the place behind them
+-- the bytes `vs` stored from index `at` on; r is the place after them
 pub record Puts (vs out out′ : List ℕ) (at r : ℕ) : Type 0 where
   pub next : r ≡ at + length vs
   pub bytes : out′ ≡ sets out at vs

@@ -1,4 +1,4 @@
--- Runs of bytes written into a lent slice, one behind the other.
+-- Runs of bytes written into a lent slice, one after the other.
 use Prim.Native.Nat.{ℕ, _+_, _-_, _<_, _≤_}
 use mathlib.Core.Path.{_≡_, refl, ap, ap₂, _∙_, sym}
 use mathlib.Core.List.{List, [], _∷_, _++_}
@@ -21,7 +21,7 @@ puts-nothing out at = record { next = omega arith; bytes = refl }
 pub puts-byte : (out : List ℕ) (at b : ℕ) → Puts (b ∷ []) out (set out at b) at (at + 1)
 puts-byte out at b = record { next = refl; bytes = refl }
 
--- one run behind another
+-- one run after another
 pub puts-after : {us vs out o1 o2 : List ℕ} {at m r : ℕ} → Puts us out o1 at m → Puts vs o1 o2 m r → Puts (us ++ vs) out o2 at r
 puts-after {us} {vs} {out} {o1} {o2} {at} {m} {r} p q =
     record {

@@ -16,7 +16,7 @@ use language::limits::MAX_NAME;
 use language::limits::OFFSETS;
 use language::limits::WIDTHS;
 
-// Copies n bytes, and yields the place behind them. An inner function: its callers show that both slices have as many.
+// Copies n bytes, and yields the place after them. An inner function: its callers show that both slices have as many.
 pub fn put_bytes(from: &[u8], start: usize, n: usize, out: &mut [u8], at: usize) -> usize
     requires { ⌜ (n ≤ length (now from) - start) × (at + n ≤ length (now out)) ⌝ }
     ensures { λ r. ⌜ Puts (part (now (from .entry)) start n) (now (out .entry)) (now (out .exit)) at r ⌝ }
@@ -178,8 +178,7 @@ pub fn spell(text: &[u8], list: &[u32], names: &mut [u8], sizes: &mut [usize]) -
             return k;
         }
         if taken(names, sizes, k, size) {
-            let later = k;
-            return later;
+            return k;
         }
         sizes[k] = size;
         k += 1;

@@ -1,5 +1,5 @@
 -- How the numbers of names are made, one token after the other.
-use Prim.Native.Nat.{ℕ, zero, suc, _+_, _*_, _/_, _%_, _≤_, _<_}
+use Prim.Native.Nat.{ℕ, zero, suc, _+_, _*_, _≤_, _<_}
 use mathlib.Core.List.{List, [], _∷_}
 use mathlib.Core.Bool.{Bool, true, false, false≢true}
 use mathlib.Core.Logic.{_≢_}
@@ -15,7 +15,7 @@ use Rattle.language.specs.Limits.{maxTokens, workBytes}
 use Rattle.language.specs.Tokens.{Token, Name, isOf, tokens}
 use Rattle.language.specs.Laws.Basics.Tests.{same-equal, same-refl}
 use Rattle.language.specs.Laws.Grammar.TokenLaws.{Rising, tokens-rise}
-use Rattle.lexer.specs.Numbers.{number}
+use Rattle.lexer.specs.Numbers.{number, classNumber}
 use Rattle.lexer.specs.NumberLaws.{class-number}
 use Rattle.lexer.specs.Answer.{Tokenized}
 use Rattle.lexer.specs.LexingLaws.{lexical, token-stands, number-at, offset-at, length-at}
@@ -41,11 +41,11 @@ module _ {text w : List ℕ} {count : ℕ} (h : Lexed text w count) (j : ℕ) (l
   before : suc j < length (tokens text)
   before = let e = h .total in omega arith
 
-  pub name-number : numberIn (wordAt w j) ≡ 1 → IsName (tokens text) j
-  name-number e = class-number Name t refl ∙ eq-eqb (number t) 1 (sym (number-at (h .lexical) (h .stored) j before) ∙ e)
+  pub name-number : numberIn (wordAt w j) ≡ classNumber Name → IsName (tokens text) j
+  name-number e = class-number Name t refl ∙ eq-eqb (number t) (classNumber Name) (sym (number-at (h .lexical) (h .stored) j before) ∙ e)
 
-  pub no-name : numberIn (wordAt w j) ≢ 1 → isOf Name t ≡ false
-  no-name d = class-number Name t refl ∙ ne-eqb (number t) 1 (λ e. d (number-at (h .lexical) (h .stored) j before ∙ e))
+  pub no-name : numberIn (wordAt w j) ≢ classNumber Name → isOf Name t ≡ false
+  no-name d = class-number Name t refl ∙ ne-eqb (number t) (classNumber Name) (λ e. d (number-at (h .lexical) (h .stored) j before ∙ e))
 
   pub name-length : IsName (tokens text) j → lengthIn (wordAt w j) ≡ length (t .text)
   name-length n = let s = token-stands (h .lexical) j (omega (arith, before)) .short n in let e = length-at (h .lexical) (h .stored) j before in omega arith
@@ -156,30 +156,30 @@ module _ {ts : List Token} {j : ℕ} {links byte ids : List ℕ} {n : ℕ} (x : 
 
 -- one token, by its word
 module _ {text w : List ℕ} {count j word : ℕ} (h : Lexed text w count) (l : j < count) (e : word ≡ wordAt w j) {links byte ids : List ℕ} {n : ℕ} (x : Indexed (tokens text) j links byte n ids) where
-  is-name : word / 256 / 65_536 ≡ 1 → IsName (tokens text) j
+  is-name : numberIn word ≡ classNumber Name → IsName (tokens text) j
   is-name y = name-number h j l (ap numberIn (sym e) ∙ y)
 
-  pub numbered-other : word / 256 / 65_536 ≢ 1 → Indexed (tokens text) (j + 1) links byte n ids
+  pub numbered-other : numberIn word ≢ classNumber Name → Indexed (tokens text) (j + 1) links byte n ids
   numbered-other d = rw add-one (indexed-other x (next-place h j l) (no-name h j l (λ y. d (ap numberIn e ∙ y))))
 
   -- its bytes lie in the text, and there is room for a node for each
-  pub name-bounds : word / 256 / 65_536 ≡ 1 → (word / 256 % 65_536 + word % 256 ≤ length text) × (n + word % 256 ≤ maxNodes) × (n + word % 256 ≤ length text + 1)
+  pub name-bounds : numberIn word ≡ classNumber Name → (offsetIn word + lengthIn word ≤ length text) × (n + lengthIn word ≤ maxNodes) × (n + lengthIn word ≤ length text + 1)
   name-bounds y = let b = name-room h j l (x .few) (is-name y) in let s = h .lexical .short in rw (e) (name-inside h j l (is-name y), omega arith, b)
 
   few-enough : j < maxTokens
   few-enough = let t = h .total in let f = h .lexical .few in omega arith
 
-  pub numbered-name : word / 256 / 65_536 ≡ 1 → {links′ byte′ : List ℕ} {m r : ℕ} → Spells (x .trie) links′ byte′ (part (word / 256 % 65_536) (word % 256) text) m r
+  pub numbered-name : numberIn word ≡ classNumber Name → {links′ byte′ : List ℕ} {m r : ℕ} → Spells (x .trie) links′ byte′ (part (offsetIn word) (lengthIn word) text) m r
       → Indexed (tokens text) (j + 1) links′ byte′ m (set ids j r)
   numbered-name y {links′} {byte′} {m} {r} s =
       rw add-one
       (indexed-name x (next-place h j l) few-enough
       (subst (λ u. Spells (x .trie) links′ byte′ u m r) (ap (λ v. part (offsetIn v) (lengthIn v) text) e ∙ name-part h j l (is-name y)) s))
 
-  pub node-small : word / 256 / 65_536 ≡ 1 → {links′ byte′ : List ℕ} {m r : ℕ} → Spells (x .trie) links′ byte′ (part (word / 256 % 65_536) (word % 256) text) m r → r < maxNodes
+  pub node-small : numberIn word ≡ classNumber Name → {links′ byte′ : List ℕ} {m r : ℕ} → Spells (x .trie) links′ byte′ (part (offsetIn word) (lengthIn word) text) m r → r < maxNodes
   node-small y s =
       let b = name-bounds y in
-      let f = spells-few (word / 256 % 65_536) (word % 256) text s (b .0) in
+      let f = spells-few (offsetIn word) (lengthIn word) text s (b .0) in
       omega (arith, s .inside, b .1)
 
 -- there are at most as many numbers as bytes, and one

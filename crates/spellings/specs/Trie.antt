@@ -8,10 +8,11 @@ use mathlib.Core.Logic.{_≢_}
 use mathlib.Core.Path.{_≡_}
 use lib.Dec.{eqb}
 use lib.ListN.{length, getD, take, drop}
+use Rattle.language.specs.Limits.{maxBytes}
 
 -- node 0, and one for each byte of the longest text
 abbrev pub maxNodes : ℕ
-maxNodes = 32_769
+maxNodes = maxBytes + 1
 
 -- a spelling with one byte more
 abbrev pub more : List ℕ → ℕ → List ℕ

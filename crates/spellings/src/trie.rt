@@ -1,6 +1,7 @@
 // A tree of spellings in two arrays (specs/Trie): a name's node stands for its bytes, so that two names are equal where their nodes are. The children of a node stand in
 // a search tree by the bits of their bytes. Two bytes that agree in all eight are equal: no choice of names has a step pass more than eight other children.
-use basics::u16_usize::wide;
+use basics::u8_usize;
+use basics::u16_usize;
 ghost use mathlib.Core.Path.{_≡_};
 ghost use Prim.Native.Nat.{_+_, _≤_, _<_};
 ghost use lib.ListN.{length};
@@ -9,12 +10,6 @@ ghost use Rattle.spellings.specs.Trie.{maxNodes, Trie, Sought, nodesWith
 // Of the three links of a node, the one to its first child; the others lead to further children of its parent, by a bit of the byte that is sought.
 const CHILD: usize = 2;
 
-fn wide_byte(x: u8) -> usize
-    ensures { λ r. ⌜ r ≡ x ⌝ }
-{
-    x as usize
-}
-
 // The link to the child of a node by one byte, or the link where it is to stand if there is none. Like `step` it asks for the tree that `intern` makes, and is called
 // by nobody else.
 fn seek(links: &[u16], byte: &[u8], nodes: usize, node: usize, b: u8) -> usize
@@ -22,15 +17,15 @@ fn seek(links: &[u16], byte: &[u8], nodes: usize, node: usize, b: u8) -> usize
     ensures { λ r. ⌜ ((t : Trie (now (links .entry)) (now (byte .entry)) nodes) → Sought t node b r) ⌝ }
 {
     let mut link = 3 * node + CHILD;
-    let mut bits = wide_byte(b);
-    let mut at = wide(links[link]);
+    let mut bits = u8_usize::wide(b);
+    let mut at = u16_usize::wide(links[link]);
     while at != 0 {
         if byte[at] == b {
             return link;
         }
         link = 3 * at + bits % 2;
         bits = bits / 2;
-        at = wide(links[link]);
+        at = u16_usize::wide(links[link]);
     }
     link
 }
@@ -41,7 +36,7 @@ pub fn step(links: &mut [u16], byte: &mut [u8], nodes: usize, node: usize, b: u8
     ensures { λ r. ⌜ ((t : Trie (now (links .entry)) (now (byte .entry)) nodes) → Steps t node b (now (links .exit)) (now (byte .exit)) r) ⌝ }
 {
     let link = seek(links, byte, nodes, node, b);
-    let old = wide(links[link]);
+    let old = u16_usize::wide(links[link]);
     if old != 0 {
         return old;
     }

@@ -1,3 +1,4 @@
 pub mod Pieces
 pub mod Checksum
 pub mod Calling
+pub mod CallingLaws

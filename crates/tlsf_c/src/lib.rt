@@ -11,18 +11,13 @@ ghost use Rattle.writer.specs.Promise.{Writes};
 ghost use Rattle.diagnosis.specs.Promise.{valued, Diagnoses};
 ghost use Rattle.tlsf_c.specs.Promise.{Packs, EvaluatesTo, ReachesTo, counted as counted', PacksBytes, paired, PacksLine};
 use basic::Written;
+use basics::u32_u64::wide;
 use diagnosis::Diagnosis;
 use node::Answer;
 
 const HIGH: u64 = 4294967296;
 
 const REFUSED: u64 = 9223372036854775808;
-
-fn wide(x: u32) -> u64
-    ensures { λ r. ⌜ r ≡ x ⌝ }
-{
-    x as u64
-}
 
 // An answer in one word: accepted = nodes * 2^32 + signals; refused = 2^63 + number * 2^32 + place.
 fn pack(answer: Answer) -> u64

@@ -1,5 +1,5 @@
 -- The code's view of stored entries is the view of the tree's.
-use Prim.Native.Nat.{ℕ, suc, _+_, _/_, _%_}
+use Prim.Native.Nat.{ℕ, suc, _+_, _/_, _%_, _^_}
 use mathlib.Core.List.{List, [], _∷_}
 use mathlib.Core.Option.{Option, none, some}
 use mathlib.Core.Path.{_≡_, sym, ap, _∙_, subst}
@@ -8,7 +8,7 @@ use Rattle.words.specs.Words.{wordAt}
 use Rattle.language.specs.Tokens.{Token}
 use Rattle.language.specs.Grammar.{Tokens, front}
 use Rattle.entries.specs.Flat.{Entry}
-use Rattle.entries.specs.Stored.{firstEntry, indexOf, Keeps, EntryAt, EntriesFrom}
+use Rattle.entries.specs.Stored.{firstEntry, fieldBits, indexOf, Keeps, EntryAt, EntriesFrom}
 use Rattle.entries.specs.StoredLaws.{entry-kind, entry-index, entry-size}
 use Rattle.traversal.specs.Cells.{Told, Sees, OfToken, Seen, cellAt, TokensTell}
 
@@ -26,8 +26,8 @@ module _ (T : ℕ → Token → Type 0) (w : List ℕ) (ts : Tokens) (told : Tok
   entries-seen i (e ∷ es) h = (entry-seen i e (h .0), entries-seen (suc i) es (h .1))
 
 -- as the code reads it
-pub cell-of : (w : List ℕ) (i x y : ℕ) → x ≡ wordAt w (firstEntry + i) → y ≡ wordAt w (x / 8_192 % 8_192) → record { kind = x / 8_192 / 8_192; token = y; size = x % 8_192 } ≡ cellAt w i
+pub cell-of : (w : List ℕ) (i x y : ℕ) → x ≡ wordAt w (firstEntry + i) → y ≡ wordAt w (x / 2 ^ fieldBits % 2 ^ fieldBits) → record { kind = x / 2 ^ fieldBits / 2 ^ fieldBits; token = y; size = x % 2 ^ fieldBits } ≡ cellAt w i
 unfolding cellAt
 cell-of w i x y e d =
-    ap (λ (t : ℕ). record { kind = x / 8_192 / 8_192; token = t; size = x % 8_192 }) d
-    ∙ ap (λ (z : ℕ). record { kind = z / 8_192 / 8_192; token = wordAt w (z / 8_192 % 8_192); size = z % 8_192 }) e
+    ap (λ (t : ℕ). record { kind = x / 2 ^ fieldBits / 2 ^ fieldBits; token = t; size = x % 2 ^ fieldBits }) d
+    ∙ ap (λ (z : ℕ). record { kind = z / 2 ^ fieldBits / 2 ^ fieldBits; token = wordAt w (z / 2 ^ fieldBits % 2 ^ fieldBits); size = z % 2 ^ fieldBits }) e

@@ -4,12 +4,15 @@ pub mod Arity
 pub mod Stretches
 pub mod Parts
 pub mod Places
+pub mod PlaceLaws
 pub mod ArityLaws
 pub mod PartLaws
 pub mod PassLaws
 pub mod LineLaws
 pub mod Passed
+pub mod PassedLaws
 pub mod TreeStored
 pub mod ProperLaws
 pub mod StackLaws
 pub mod Starts
+pub mod StartLaws

@@ -25,7 +25,7 @@ use Rattle.entries.specs.Flat.{Entry, flat, under, each, leaf, flatIdentifier, 
 use Rattle.traversal.specs.declared.Cell.{Cell}
 use Rattle.traversal.specs.Cells.{SeenAlong}
 use Rattle.traversal.specs.PassLaws.{run, Comes}
-use Rattle.traversal.specs.Places.{first-none, first-assoc}
+use Rattle.traversal.specs.PlaceLaws.{first-none, first-assoc}
 
 -- the entries of a line
 abbrev pub entriesOf : Line → List Entry

@@ -18,7 +18,7 @@ use Rattle.traversal.specs.Cells.{Sees, SeenAlong}
 use Rattle.traversal.specs.Arity.{operands, firstLine}
 use Rattle.traversal.specs.Parts.{Part, Whole, Binder, flatPart, unlessEmpty, operandsOf, kindOf, tokenOf}
 use Rattle.traversal.specs.PartLaws.{unless-cases, outside, kindAfter, Regular, regular, regular-binder}
-use Rattle.traversal.specs.Places.{first-none, first-assoc}
+use Rattle.traversal.specs.PlaceLaws.{first-none, first-assoc}
 
 -- the states of a pass over the cells of some entries
 abbrev pub run : {State : Type 0} → (Cell → State → State) → (ℕ → Cell) → List Entry → ℕ → State → State

@@ -1,10 +1,6 @@
--- The first of several places, whatever their order; the code's places.
-use Prim.Native.Nat.{ℕ, _≤_, _<_, min}
-use mathlib.Core.List.{List, [], _∷_, _++_}
+-- Places as the code has them.
+use Prim.Native.Nat.{ℕ}
 use mathlib.Core.Option.{Option, none, some}
-use mathlib.Core.Path.{_≡_, refl, sym, ap, ap₂, _∙_}
-use native.Mathlib.Omega.{arith}
-use Rattle.language.specs.Places.{first, firstIn}
 use Rattle.traversal.specs.declared.Place.{Place}
 use Rattle.traversal.specs.declared.Place.the-variants.{At, Nowhere}
 
@@ -17,61 +13,3 @@ placed (some p) = At p
 unfoldable pub placeIn : Place → Option ℕ
 placeIn Nowhere = none
 placeIn (At p) = some p
-
-pub place-placed : (o : Option ℕ) → placeIn (placed o) ≡ o
-unfolding placed placeIn
-place-placed none = refl
-place-placed (some p) = refl
-
-pub placed-place : (r : Place) → placed (placeIn r) ≡ r
-unfolding placed placeIn
-placed-place Nowhere = refl
-placed-place (At p) = refl
-
-pub first-none : (a : Option ℕ) → first a none ≡ a
-first-none none = refl
-first-none (some p) = refl
-
-pub first-assoc : (a b c : Option ℕ) → first (first a b) c ≡ first a (first b c)
-first-assoc none b c = refl
-first-assoc (some p) none c = refl
-first-assoc (some p) (some q) none = refl
-first-assoc (some p) (some q) (some r) = ap some (omega arith)
-
-pub first-comm : (a b : Option ℕ) → first a b ≡ first b a
-first-comm none none = refl
-first-comm none (some q) = refl
-first-comm (some p) none = refl
-first-comm (some p) (some q) = ap some (omega arith)
-
-pub firstIn-nowhere : {A : Type 0} (xs : List A) → firstIn (λ _. none) xs ≡ none
-firstIn-nowhere [] = refl
-firstIn-nowhere (x ∷ xs) = firstIn-nowhere xs
-
-pub firstIn-append : {A : Type 0} (f : A → Option ℕ) (xs ys : List A) → firstIn f (xs ++ ys) ≡ first (firstIn f xs) (firstIn f ys)
-firstIn-append f [] ys = refl
-firstIn-append f (x ∷ xs) ys = ap (first (f x)) (firstIn-append f xs ys) ∙ sym (first-assoc (f x) (firstIn f xs) (firstIn f ys))
-
--- the first of two answers
-module _ (r s : Place) where
-  pub first-nowhere : r ≡ Nowhere → s ≡ placed (first (placeIn r) (placeIn s))
-  unfolding placeIn
-  first-nowhere e = sym (placed-place s) ∙ ap (λ u. placed (first (placeIn u) (placeIn s))) (sym e)
-
-  module _ {p : ℕ} (e : r ≡ At p) where
-    pub first-only : s ≡ Nowhere → At p ≡ placed (first (placeIn r) (placeIn s))
-    unfolding placeIn placed
-    first-only d = ap₂ (λ u v. placed (first (placeIn u) (placeIn v))) (sym e) (sym d)
-
-    module _ {q : ℕ} (d : s ≡ At q) where
-      both : placed (some (min p q)) ≡ placed (first (placeIn r) (placeIn s))
-      unfolding placeIn
-      both = ap₂ (λ u v. placed (first (placeIn u) (placeIn v))) (sym e) (sym d)
-
-      pub first-left : p < q → At p ≡ placed (first (placeIn r) (placeIn s))
-      unfolding placed
-      first-left h = let m : p ≡ min p q = omega arith in ap At m ∙ both
-
-      pub first-right : q ≤ p → At q ≡ placed (first (placeIn r) (placeIn s))
-      unfolding placed
-      first-right h = let m : q ≡ min p q = omega arith in ap At m ∙ both

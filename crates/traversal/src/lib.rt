@@ -10,6 +10,7 @@ ghost use lib.ListN.{length, getD};
 ghost use lib.Seq.{slice};
 ghost use Rattle.language.specs.Limits.{workBytes, maxTokens};
 ghost use Rattle.language.specs.Places.{first};
+ghost use Rattle.entries.specs.Kinds as Kind;
 ghost use Rattle.traversal.specs.Cells.{cellAt};
 ghost use Rattle.traversal.specs.Arity.{arities, operands};
 ghost use Rattle.traversal.specs.Starts.{firstOf, startOf};
@@ -46,7 +47,7 @@ impl Place {
 // Inner functions: the pass that calls them has bounded the index by the number of entries, and a kind is a field of six bits.
 pub fn cell_at(work: &[u8], i: usize) -> Cell
     requires { ⌜ (workBytes ≤ length (now work)) × (i < maxTokens) ⌝ }
-    ensures { λ r. ⌜ (r ≡ cellAt (now (work .entry)) i) × (r .kind < 64) ⌝ }
+    ensures { λ r. ⌜ (r ≡ cellAt (now (work .entry)) i) × (r .kind < Kind.limit) ⌝ }
 {
     let x = get(work, entries::fields::FIRST_ENTRY + i);
     let token = (x / SIZES % TOKENS) as usize;
@@ -60,7 +61,7 @@ pub fn cell_at(work: &[u8], i: usize) -> Cell
 
 // How many operands a kind has.
 fn arity(kind: u32) -> usize
-    requires { ⌜ kind < 64 ⌝ }
+    requires { ⌜ kind < Kind.limit ⌝ }
     ensures { λ r. ⌜ r ≡ getD arities kind 0 ⌝ }
 {
     if kind < kinds::INDEX {
@@ -94,7 +95,7 @@ fn arity(kind: u32) -> usize
 
 // The number of an entry's operands; `before` is the kind of the entry before it.
 pub fn operand_count(before: u32, c: Cell) -> usize
-    requires { ⌜ c .kind < 64 ⌝ }
+    requires { ⌜ c .kind < Kind.limit ⌝ }
     ensures { λ r. ⌜ r ≡ operands before c ⌝ }
 {
     let kind = c.kind;
@@ -122,7 +123,7 @@ pub fn less(n: usize, m: usize) -> usize
 
 // Where an entry starts: with its first operand, or at its token's place; a big operator's name has its kind there.
 pub fn start_of(kind: u32, place: u32, start: u32) -> u32
-    requires { ⌜ kind < 64 ⌝ }
+    requires { ⌜ kind < Kind.limit ⌝ }
     ensures { λ r. ⌜ r ≡ startOf kind place start ⌝ }
 {
     if kind < kinds::ARITHMETIC {

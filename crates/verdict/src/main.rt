@@ -3,19 +3,15 @@
 use diagnosis::Diagnosis;
 use diagnosis::diagnose;
 use evaluator::Verdict;
+use judging::ROWS;
 use libc::STDERR_FILENO;
 use libc::STDIN_FILENO;
 use libc::STDOUT_FILENO;
 use node::Answer;
-use node::MAX_NODES;
 use recordings::LONGEST;
-use recordings::MAX_POSITIONS;
 
 // What is read of a recording: one byte more than the longest has, so that a longer one shows.
 const START: usize = LONGEST + 1;
-
-// A row of the longest recording for each node of the largest table.
-const ROWS: usize = MAX_NODES * ((MAX_POSITIONS + 7) / 8);
 
 // Functions of their own, so that the callers' proofs do not write the arrays out.
 fn start_buffer() -> [u8; START] {

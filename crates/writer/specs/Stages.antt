@@ -30,7 +30,7 @@ use Rattle.claim.specs.ClaimLaws.{text-few, text-small}
 use Rattle.claim.specs.DeliveredLaws.{all-delivered, taken-room}
 use Rattle.claim.specs.YieldsLaws.{accepted, refused}
 use Rattle.reader.specs.declared.Told.{Told}
-use Rattle.reader.specs.Telling.{ReadsTold}
+use Rattle.reader.specs.Promise.{ReadsTold}
 use Rattle.basic.specs.Spelling.{namesOf}
 use Rattle.basic.specs.Basic.{basicText}
 use Rattle.basic.specs.Writing.{written, writing, faultFrom}

@@ -1,7 +1,7 @@
 // Runs the writer on the texts that its arguments name, and the reader on what it wrote: names of 64 and 65 bytes, written texts of 32,768 bytes, 8,192 tokens and 256
 // levels and one beyond, every sign, both models, a table of 8,191 levels. A written text is told by its bytes and a sum of them.
-ghost use Prim.Native.Nat.{_<_};
 use basic::Written;
+use basics::u8_u64::wide;
 use libc::STDOUT_FILENO;
 use node::Answer;
 use node::MAX_NODES;
@@ -11,12 +11,6 @@ const ROOM: usize = 600000;
 
 // What a sum is taken modulo.
 const MODULUS: u64 = 4294967291;
-
-fn wide(b: u8) -> u64
-    ensures { λ r. ⌜ r < 256 ⌝ }
-{
-    b as u64
-}
 
 fn number(word: &[u8], n: u64) {
     io::write_all(STDOUT_FILENO, word);

@@ -5,7 +5,7 @@ use borrow.Author.Needs.{needs}
 use Rattle.node.specs.Operators.{And, Implies}
 use Rattle.language.specs.Tree.{Initially}
 use Rattle.language.specs.Expansion.{section}
-use Rattle.assembly.specs.Layout.{assembled}
+use Rattle.assembly.specs.LayoutLaws.{assembled}
 use Rattle.assembly.specs.WholeLaws.{assembled-many}
 use Rattle.assembly.proofs.assemble.Statement.{statement}
 use Rattle.assembly.proofs.assemble.Tie as tie

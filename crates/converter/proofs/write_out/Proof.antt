@@ -2,7 +2,7 @@
 use mathlib.Core.Path.{refl, sym}
 use native.Mathlib.Omega.{arith}
 use lib.Seq.{length-take-le}
-use Rattle.converter.specs.WritingOut.{out-refused, list-fits, out-accepted}
+use Rattle.converter.specs.WritingOutLaws.{out-refused, list-fits, out-accepted}
 use borrow.Author.Needs.{needs}
 use Rattle.converter.proofs.write_out.Statement.{statement}
 use Rattle.converter.proofs.write_out.Tie as tie

@@ -5,6 +5,7 @@ use native.Mathlib.Numerals.{add-one}
 use Prim.Native.Nat.{ℕ, _+_}
 use mathlib.Core.Path.{_≡_, refl, sym, ap, _∙_}
 use lib.ListN.{getD}
+use Rattle.entries.specs.Kinds as Kind
 use Rattle.traversal.specs.Stretches.{stretch}
 use Rattle.depth.specs.Depth.{capped, ownLevels, levelOf}
 use Rattle.depth.specs.LevelLaws.{level-by, first-level, further-level}
@@ -31,4 +32,4 @@ level-of-spec =
     (λ c. higher _ _ _ (c .raised3 .ensures) (stretch ownLevels (c .before .before .if4 .left) (c .before .if5 .taken) refl))
     (λ c. level-by _ _ _ 0 (stretch ownLevels (c .before .if5 .left) (c .if6 .taken) refl))
     (λ c. higher _ _ _ (c .raised4 .ensures) (stretch ownLevels (c .before .before .if6 .left) (c .before .if7 .taken) refl))
-    (λ c. level-by _ _ _ 0 (stretch ownLevels {b = 64} (c .if7 .left) (omega arith) refl)))
+    (λ c. level-by _ _ _ 0 (stretch ownLevels {b = Kind.limit} (c .if7 .left) (omega arith) refl)))

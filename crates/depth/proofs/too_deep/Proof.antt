@@ -4,7 +4,8 @@ use mathlib.Core.Path.{refl}
 use native.Mathlib.Omega.{arith}
 use borrow.Author.Needs.{needs}
 use Rattle.traversal.specs.Places.{placed}
-use Rattle.depth.specs.Progress.{Reached, reached-none}
+use Rattle.depth.specs.Progress.{Reached}
+use Rattle.depth.specs.ReachedLaws.{reached-none}
 use Rattle.depth.specs.ProgressLaws.{passed-all}
 use Rattle.depth.proofs.too_deep.Statement.{statement}
 use Rattle.depth.proofs.too_deep.Tie as tie

@@ -20,8 +20,22 @@ read-told-requires c κs = search needs
 enum-known-answer : tie.Need-enum-known-answer
 enum-known-answer c = search needs
 
-enum-known-answer-2 : tie.Need-enum-known-answer-2
-enum-known-answer-2 c = search needs
+enum-told : tie.Need-enum-told
+enum-told c = search needs
+
+unread-requires : tie.Need-unread-requires
+unread-requires c κs = search needs
+
+same-length : tie.Need-same-length
+same-length c = search needs
+
+returns : tie.Need-returns
+returns c =
+    let enum-told-at = c .before in
+    let read-told-at = enum-told-at .before .before .before .before .before .before .before .before in
+    let told = enum-told-at .enum-told .given .1 in
+    rw (c .unread .ensures _ _ told)
+    (read-refused (read-told-at .read-told .ensures) (length-replicate {A = ℕ} _ 0) (length-replicate {A = ℕ} _ 0) _ _ told)
 
 cast-n : tie.Need-cast-n
 cast-n c = search needs
@@ -30,22 +44,13 @@ array-share-prefix-table : tie.Need-array-share-prefix-table
 array-share-prefix-table c =
     let answer-at = c .before in
     let read-told-at = answer-at .before .before .before .before .before .before .before .before in
-    read-accepted (read-told-at .read-told .ensures) (length-replicate {A = ℕ} _ 0) (length-replicate {A = ℕ} _ 0) (answer-at .answer2 .given .1) .room
+    read-accepted (read-told-at .read-told .ensures) (length-replicate {A = ℕ} _ 0) (length-replicate {A = ℕ} _ 0) (answer-at .answer .given .1) .room
 
 slice-aggregate-diagnose-table : tie.Need-slice-aggregate-diagnose-table
 slice-aggregate-diagnose-table c = sym (length-take-le _ _ (array-share-prefix-table (c .before)))
 
 diagnose-table-requires : tie.Need-diagnose-table-requires
 diagnose-table-requires c κs = search needs
-
-same-length : tie.Need-same-length
-same-length c = search needs
-
-returns : tie.Need-returns
-returns c =
-    let answer-at = c .before in
-    let read-told-at = answer-at .before .before .before .before .before .before .before .before in
-    read-refused (read-told-at .read-told .ensures) (length-replicate {A = ℕ} _ 0) (length-replicate {A = ℕ} _ 0) _ _ (answer-at .answer .given .1)
 
 same-length-2 : tie.Need-same-length-2
 same-length-2 c = search needs
@@ -58,7 +63,7 @@ returns-2 c =
     let table-at = c .before .before in
     let answer-at = table-at .before .before .before .before in
     let read-told-at = answer-at .before .before .before .before .before .before .before .before in
-    let hand = read-accepted (read-told-at .read-told .ensures) (length-replicate {A = ℕ} _ 0) (length-replicate {A = ℕ} _ 0) (answer-at .answer2 .given .1) in
+    let hand = read-accepted (read-told-at .read-told .ensures) (length-replicate {A = ℕ} _ 0) (length-replicate {A = ℕ} _ 0) (answer-at .answer .given .1) in
     read-diagnosed hand (table-at .diagnose-table .ensures)
 
 pub diagnose-spec : {M : Type 1} → statement M
@@ -69,13 +74,14 @@ diagnose-spec =
     slice-aggregate-read-told-2
     read-told-requires
     enum-known-answer
-    enum-known-answer-2
+    enum-told
+    unread-requires
+    same-length
+    returns
     cast-n
     array-share-prefix-table
     slice-aggregate-diagnose-table
     diagnose-table-requires
-    same-length
-    returns
     same-length-2
     same-length-3
     returns-2)

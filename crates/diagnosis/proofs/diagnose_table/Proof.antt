@@ -1,5 +1,5 @@
 -- `diagnose_table` meets its contract: a law for each verdict; where it fails, the table and the recording are what the search asks for.
-use Rattle.diagnosis.specs.Tables.{table-refused, table-holds, table-fails, fails-opens, fails-searched}
+use Rattle.diagnosis.specs.TablesLaws.{table-refused, table-holds, table-fails, fails-opens, fails-searched}
 use borrow.Author.Needs.{needs}
 use Rattle.diagnosis.proofs.diagnose_table.Statement.{statement}
 use Rattle.diagnosis.proofs.diagnose_table.Tie as tie

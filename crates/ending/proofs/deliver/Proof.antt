@@ -1,7 +1,7 @@
 -- `deliver` meets its contract: the formula does not fit the table or a buffer, or it is handed over.
 use native.Mathlib.Omega.{arith}
 use borrow.Author.Needs.{needs}
-use Rattle.ending.specs.Handing.{deliver-large, deliver-nodes, deliver-signals, deliver-all}
+use Rattle.ending.specs.HandingLaws.{deliver-large, deliver-nodes, deliver-signals, deliver-all}
 use Rattle.ending.proofs.deliver.Statement.{statement}
 use Rattle.ending.proofs.deliver.Tie as tie
 

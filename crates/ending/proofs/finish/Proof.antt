@@ -2,7 +2,7 @@
 use mathlib.Core.Path.{refl, sym}
 use lib.Seq.{length-take-le}
 use borrow.Author.Needs.{needs}
-use Rattle.ending.specs.Finishing.{finish-many, finish-few, finish-shifted, finish-gathering, finish-listed}
+use Rattle.ending.specs.FinishingLaws.{finish-many, finish-few, finish-shifted, finish-gathering, finish-listed}
 use Rattle.ending.proofs.finish.Statement.{statement}
 use Rattle.ending.proofs.finish.Tie as tie
 

@@ -5,12 +5,13 @@ use mathlib.Core.Path.{_≡_, refl, _∙_}
 use native.Mathlib.Omega.{arith}
 use borrow.Author.Needs.{needs}
 use lib.ListN.{length, take, length-set}
+use Rattle.language.specs.Limits.{maxMarks}
 use Rattle.enumerations.specs.Pass.{bytesAt}
 use Rattle.enumerations.proofs.marks.Statement.{statement}
 use Rattle.enumerations.proofs.marks.Tie as tie
 
 abbrev Inv-loop : tie.InvT-loop
-Inv-loop text at n row₀ i₀ row i = (take i row ≡ bytesAt text at i) × (length row ≡ 8) × (i ≤ n)
+Inv-loop text at n row₀ i₀ row i = (take i row ≡ bytesAt text at i) × (length row ≡ maxMarks) × (i ≤ n)
 
 abbrev μ-loop : tie.MeasureT-loop
 μ-loop text at n row₀ i₀ row i = n - i

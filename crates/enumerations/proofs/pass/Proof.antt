@@ -1,5 +1,5 @@
 -- One entry: an enumeration begins, an identifier comes, a word is tested; others are passed by.
-use Rattle.enumerations.specs.Progress.{passes-begun, passes-named, passes-word, passes-by}
+use Rattle.enumerations.specs.ProgressLaws.{passes-begun, passes-named, passes-word, passes-by}
 use borrow.Author.Needs.{needs}
 use Rattle.enumerations.proofs.pass.Statement.{statement}
 use Rattle.enumerations.proofs.pass.Tie as tie

@@ -1,5 +1,5 @@
 -- One word: each way through the definition.
-use Rattle.enumerations.specs.Progress.{as-told, passes-closed, passes-unequal, passes-long, passes-many, passes-clash, passes-open}
+use Rattle.enumerations.specs.ProgressLaws.{as-told, passes-closed, passes-unequal, passes-long, passes-many, passes-clash, passes-open}
 use borrow.Author.Needs.{needs}
 use Rattle.enumerations.proofs.word.Statement.{statement}
 use Rattle.enumerations.proofs.word.Tie as tie

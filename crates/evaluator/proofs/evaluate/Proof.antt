@@ -9,8 +9,8 @@ use Rattle.evaluator.proofs.evaluate.Statement.{statement}
 use Rattle.evaluator.proofs.evaluate.Tie as tie
 
 opened : (c : tie.After-enum-told)
-    → Opens (c .before .before .before .before .before .before .args .nodes .now) (c .before .before .before .before .before .before .args .signals)
-    (c .before .before .before .before .before .before .args .recording .now) (length (c .before .before .before .before .before .before .args .rows .now))
+    → let start = c .before .before .before .before .before .before in
+    Opens (start .args .nodes .now) (start .args .signals) (start .args .recording .now) (length (start .args .rows .now))
 opened c = opens _ _ _ _ (sym (c .before .before .examine .ensures) ∙ ap says (c .enum-told .given .1))
 
 examine-requires : tie.Need-examine-requires

@@ -5,7 +5,8 @@ use native.Mathlib.Omega.{arith}
 use borrow.Author.Needs.{needs}
 use lib.ListN.{length, length-set}
 use Rattle.node.specs.Limits.{maxSignals}
-use Rattle.evaluator.specs.Evaluated.{Evaluated, evaluated-none, evaluated-more, turn-of}
+use Rattle.evaluator.specs.Evaluated.{Evaluated}
+use Rattle.evaluator.specs.EvaluatedLaws.{evaluated-none, evaluated-more, turn-of}
 use Rattle.evaluator.proofs.fill.Statement.{statement}
 use Rattle.evaluator.proofs.fill.Tie as tie
 

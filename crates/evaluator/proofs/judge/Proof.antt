@@ -11,14 +11,13 @@ use Rattle.evaluator.proofs.judge.Tie as tie
 
 -- where `evaluate` accepts, the recording has a header and the root's row lies in the buffer
 opened : (c : tie.After-enum-told)
-    → Opens (c .before .before .before .before .before .before .before .before .before .args .nodes .now) (c .before .before .before .before .before .before .before .before .before .args .signals)
-    (c .before .before .before .before .before .before .before .before .before .args .recording .now)
-    (length (c .before .before .before .before .before .before .before .before .before .args .rows .now))
+    → let start = c .before .before .before .before .before .before .before .before .before in
+    Opens (start .args .nodes .now) (start .args .signals) (start .args .recording .now) (length (start .args .rows .now))
 opened c = opens _ _ _ _ (sym (c .before .before .before .before .evaluate .ensures .answer) ∙ ap says (c .enum-told .given .1))
 
 root : (c : tie.After-read-lasso)
-    → RootIn (c .before .before .before .before .before .before .before .before .before .before .args .nodes .now)
-    (length (c .before .before .before .before .before .before .before .before .before .before .args .rows .now)) (c .read-lasso .result)
+    → let start = c .before .before .before .before .before .before .before .before .before .before in
+    RootIn (start .args .nodes .now) (length (start .args .rows .now)) (c .read-lasso .result)
 root c = root-in _ _ _ _ (opened (c .before)) (c .read-lasso .ensures)
 
 evaluate-requires : tie.Need-evaluate-requires
@@ -55,7 +54,10 @@ mul-get-bit-2 : tie.Need-mul-get-bit-2
 mul-get-bit-2 c = let i = root (c .before .before) in record { fits = omega arith }
 
 get-bit-requires : tie.Need-get-bit-requires
-get-bit-requires c κs = let i = root (c .before .before) in omega (arith, c .before .before .before .before .before .before .rows .given)
+get-bit-requires c κs =
+    let read-lasso-at = c .before .before in
+    let rows-at = read-lasso-at .before .before .before .before in
+    let i = root read-lasso-at in omega (arith, rows-at .rows .given)
 
 same-length-2 : tie.Need-same-length-2
 same-length-2 c = search needs

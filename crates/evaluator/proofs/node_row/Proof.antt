@@ -5,13 +5,15 @@ use lib.ListN.{length}
 use Rattle.node.specs.Kinds.{shapeOf}
 use Rattle.bits.specs.Bits.{width}
 use Rattle.rows.specs.Memory.{rowsLimit}
-use Rattle.evaluator.specs.Evaluated.{NodeOf, row-room, offset-fits, ready-of, row-done}
+use Rattle.evaluator.specs.Evaluated.{NodeOf}
+use Rattle.evaluator.specs.EvaluatedLaws.{row-room, offset-fits, ready-of, row-done}
 use borrow.Author.Needs.{needs}
 use Rattle.evaluator.proofs.node_row.Statement.{statement}
 use Rattle.evaluator.proofs.node_row.Tie as tie
 
-node-of : (c : tie.After-second) → NodeOf (c .before .before .before .before .before .before .before .args .nodes .now) (c .before .before .before .before .before .before .before .args .i)
-    (shapeOf (c .before .before .kind .result)) (c .before .first .result) (c .second .result)
+node-of : (c : tie.After-second)
+    → let start = c .before .before .before .before .before .before .before in
+    NodeOf (start .args .nodes .now) (start .args .i) (shapeOf (c .before .before .kind .result)) (c .before .first .result) (c .second .result)
 node-of c =
     let s = c .before .before .before .before .before .before .before in
     rw (c .before .before .kind .ensures, c .before .first .ensures, c .second .ensures) (s .pre .trees .each (s .args .i) (s .pre .here))

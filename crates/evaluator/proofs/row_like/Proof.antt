@@ -4,7 +4,7 @@ use native.Mathlib.Omega.{arith}
 use lib.ListN.{length}
 use Rattle.rows.specs.Memory.{rowsLimit}
 use Rattle.bits.specs.Bits.{width}
-use Rattle.evaluator.specs.Evaluated.{before-row, row-room, offset-fits}
+use Rattle.evaluator.specs.EvaluatedLaws.{before-row, row-room, offset-fits}
 use Rattle.evaluator.specs.Copies.{copy-done}
 use borrow.Author.Needs.{needs}
 use Rattle.evaluator.proofs.row_like.Statement.{statement}
@@ -51,9 +51,11 @@ same-length c = search needs
 
 returns : tie.Need-returns
 returns c =
-    let s = c .before .before .before .before .before .before .before .before .before .before .before .before in
-    copy-done (s .args .nodes .now) (s .args .recording .now) (s .args .lasso) (s .args .i) (s .args .j) (s .pre)
-    (c .before .before .before .before .before .before .before .before .if1 .taken) (c .before .before .before .before .before .if2 .taken) (c .before .before .copy-row .ensures)
+    let copy-row-at = c .before .before in
+    let if2-at = copy-row-at .before .before .before in
+    let if1-at = if2-at .before .before .before in
+    let s = if1-at .before .before .before .before in
+    copy-done (s .args .nodes .now) (s .args .recording .now) (s .args .lasso) (s .args .i) (s .args .j) (s .pre) (if1-at .if1 .taken) (if2-at .if2 .taken) (copy-row-at .copy-row .ensures)
 
 node-row-requires : tie.Need-node-row-requires
 node-row-requires c κs = search needs

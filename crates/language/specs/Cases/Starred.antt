@@ -1,7 +1,7 @@
 -- The starred cases of document 01 that speak of texts, in one table with one statement that covers it; and the limits that it says pass.
 use Prim.Native.Nat.{ℕ, _-_, _≤_, _∣_}
 use Prim.Native.String.{String}
-use mathlib.Core.Bool.{Bool, false, So, false≢true, _&&_}
+use mathlib.Core.Bool.{Bool, false, So, false≢true}
 use mathlib.Core.List.{List, [], _∷_, _++_, map, List·Mem}
 use mathlib.Core.Logic.{_↔_}
 use mathlib.Core.Path.{_≡_, refl, ap}

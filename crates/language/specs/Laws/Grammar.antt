@@ -12,6 +12,7 @@ pub mod ListReads
 pub mod SectionReads
 pub mod MainReads
 pub mod SpecReads
+pub mod BuiltReads
 pub mod TreeReads
 pub mod BracesReads
 pub mod Parses

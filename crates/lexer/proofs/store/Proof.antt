@@ -1,6 +1,7 @@
 -- `lexer::store` meets its contract: the word is packed as `wordOf` packs it.
 use borrow.Author.Tests.{lt-ltb, le-ltb}
 use borrow.Author.Needs.{needs}
+use Rattle.language.specs.Limits.{maxTokens}
 use Rattle.lexer.proofs.store.Statement.{statement}
 use Rattle.lexer.proofs.store.Tie as tie
 
@@ -37,12 +38,12 @@ returns c =
     let if1 = at-if1 .if1 in
     let capped = at-capped .capped in
     let put = at-put .put in
-    rw (lt-ltb (start .args .n) 8192 (if1 .taken), ← capped .ensures) (put .ensures)
+    rw (lt-ltb (start .args .n) maxTokens (if1 .taken), ← capped .ensures) (put .ensures)
 
 returns-2 : tie.Need-returns-2
 returns-2 c =
     let start = c .before .before in
-    rw (le-ltb (start .args .n) 8192 (c .if1 .left))
+    rw (le-ltb (start .args .n) maxTokens (c .if1 .left))
 
 pub store-spec : {M : Type 1} → statement M
 store-spec =

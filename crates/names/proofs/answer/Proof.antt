@@ -1,5 +1,5 @@
 -- `names::answer` meets its contract: the tests are those of the definition.
-use Rattle.names.specs.Answering.{answer-hidden, answer-again, answer-many, answer-named}
+use Rattle.names.specs.AnsweringLaws.{answer-hidden, answer-again, answer-many, answer-named}
 use borrow.Author.Needs.{needs}
 use Rattle.names.proofs.answer.Statement.{statement}
 use Rattle.names.proofs.answer.Tie as tie

@@ -1,75 +1,26 @@
 -- `names::resolve_long` meets its contract: the arrays that it makes are long enough, and the tables hold no place.
-use Prim.Native.Nat.{_+_, _*_}
-use native.Mathlib.Omega.{arith}
-use Rattle.language.specs.Limits.{maxBytes, maxTokens}
-use Rattle.spellings.specs.InternLaws.{begun-zeros}
-use Rattle.names.specs.ResolveLaws.{zeros-long, undeclared, begins, answers}
 use borrow.Author.Needs.{needs}
+use Rattle.names.specs.ResolveLaws.{long-fits, begun, undeclared, begins, answers}
 use Rattle.names.proofs.resolve_long.Statement.{statement}
 use Rattle.names.proofs.resolve_long.Tie as tie
 
-slice-aggregate-intern : tie.Need-slice-aggregate-intern
-slice-aggregate-intern c = search needs
-
-slice-aggregate-intern-2 : tie.Need-slice-aggregate-intern-2
-slice-aggregate-intern-2 c = search needs
-
-slice-aggregate-intern-3 : tie.Need-slice-aggregate-intern-3
-slice-aggregate-intern-3 c = search needs
-
 intern-requires : tie.Need-intern-requires
-intern-requires c κs =
-    let start = c .before .before .before .before .before .before .before in
-    (start .pre .0 .stored .lexed, begun-zeros (3 * (maxBytes + 1)) (maxBytes + 1) maxTokens (omega arith) (omega (arith, start .pre .0 .stored .lexed .lexical .short)) (omega arith))
-
-slice-aggregate-declare-all : tie.Need-slice-aggregate-declare-all
-slice-aggregate-declare-all c = search needs
-
-slice-aggregate-declare-all-2 : tie.Need-slice-aggregate-declare-all-2
-slice-aggregate-declare-all-2 c = search needs
-
-slice-aggregate-declare-all-3 : tie.Need-slice-aggregate-declare-all-3
-slice-aggregate-declare-all-3 c = search needs
-
-slice-aggregate-declare-all-4 : tie.Need-slice-aggregate-declare-all-4
-slice-aggregate-declare-all-4 c = search needs
+intern-requires c κs = let start = c .before .before .before .before .before .before .before in begun (long-fits (start .pre .0))
 
 declare-all-requires : tie.Need-declare-all-requires
 declare-all-requires c κs =
     let at-intern = c .before .before .before .before .before .before .before .before in
     let start = at-intern .before .before .before .before .before .before .before .before in
-    let intern = at-intern .intern in
-    undeclared (start .pre .0 .stored) (intern .ensures) (intern .kept .1 .1 .1 .1 .1 .0) (maxBytes + 1) (omega (arith, start .pre .0 .stored .lexed .lexical .short)) (start .pre .2)
-
-slice-aggregate-walk-all : tie.Need-slice-aggregate-walk-all
-slice-aggregate-walk-all c = search needs
-
-slice-aggregate-walk-all-2 : tie.Need-slice-aggregate-walk-all-2
-slice-aggregate-walk-all-2 c = search needs
-
-slice-aggregate-walk-all-3 : tie.Need-slice-aggregate-walk-all-3
-slice-aggregate-walk-all-3 c = search needs
-
-slice-aggregate-walk-all-4 : tie.Need-slice-aggregate-walk-all-4
-slice-aggregate-walk-all-4 c = search needs
+    let fits = long-fits (start .pre .0) in
+    undeclared fits (fits .tree .stored) (at-intern .intern .ensures) (at-intern .intern .kept .1 .1 .1 .1 .1 .0) (start .pre .2)
 
 walk-all-requires : tie.Need-walk-all-requires
 walk-all-requires c κs =
     let at-declare-all = c .before .before .before .before .before .before .before .before .before .before in
     let at-intern = at-declare-all .before .before .before .before .before .before .before .before .before in
     let start = at-intern .before .before .before .before .before .before .before .before in
-    let intern = at-intern .intern in
-    begins (start .pre .0 .stored) (intern .ensures) (intern .kept .1 .1 .1 .1 .1 .0) (maxBytes + 1) (omega (arith, start .pre .0 .stored .lexed .lexical .short)) ((at-declare-all .declare-all) .ensures)
-    (zeros-long (3 * maxTokens) (omega (arith, start .pre .0 .stored .few))) (start .pre .1)
-
-answer-requires : tie.Need-answer-requires
-answer-requires c κs = search needs
-
-same-length : tie.Need-same-length
-same-length c = search needs
-
-same-length-2 : tie.Need-same-length-2
-same-length-2 c = search needs
+    let fits = long-fits (start .pre .0) in
+    begins fits (fits .tree .stored) (at-intern .intern .ensures) (at-intern .intern .kept .1 .1 .1 .1 .1 .0) (at-declare-all .declare-all .ensures) (start .pre .1)
 
 returns : tie.Need-returns
 returns c =
@@ -77,29 +28,29 @@ returns c =
     let at-declare-all = at-walk-all .before .before .before .before .before .before .before .before .before .before .before in
     let at-intern = at-declare-all .before .before .before .before .before .before .before .before .before in
     let start = at-intern .before .before .before .before .before .before .before .before in
-    let intern = at-intern .intern in
-    λ x st. answers st (intern .ensures) (intern .kept .1 .1 .1 .1 .1 .0) (maxBytes + 1) (omega (arith, start .pre .0 .stored .lexed .lexical .short)) ((at-declare-all .declare-all) .ensures)
-    ((at-walk-all .walk-all) .ensures) (zeros-long (3 * maxTokens) (omega (arith, start .pre .0 .stored .few))) (start .pre .1) ((c .answer) .ensures)
+    let fits = long-fits (start .pre .0) in
+    λ x st. answers fits st (at-intern .intern .ensures) (at-intern .intern .kept .1 .1 .1 .1 .1 .0) (at-declare-all .declare-all .ensures)
+    (at-walk-all .walk-all .ensures) (start .pre .1) (c .answer .ensures)
 
 pub resolve-long-spec : {M : Type 1} → statement M
 resolve-long-spec =
     tie.close
     (tie.spec
-    slice-aggregate-intern
-    slice-aggregate-intern-2
-    slice-aggregate-intern-3
+    (λ c. search needs)
+    (λ c. search needs)
+    (λ c. search needs)
     intern-requires
-    slice-aggregate-declare-all
-    slice-aggregate-declare-all-2
-    slice-aggregate-declare-all-3
-    slice-aggregate-declare-all-4
+    (λ c. search needs)
+    (λ c. search needs)
+    (λ c. search needs)
+    (λ c. search needs)
     declare-all-requires
-    slice-aggregate-walk-all
-    slice-aggregate-walk-all-2
-    slice-aggregate-walk-all-3
-    slice-aggregate-walk-all-4
+    (λ c. search needs)
+    (λ c. search needs)
+    (λ c. search needs)
+    (λ c. search needs)
     walk-all-requires
-    answer-requires
-    same-length
-    same-length-2
+    (λ c κs. search needs)
+    (λ c. search needs)
+    (λ c. search needs)
     returns)

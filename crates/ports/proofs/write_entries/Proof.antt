@@ -2,7 +2,8 @@
 use Prim.Native.Nat.{_-_}
 use mathlib.Core.Path.{refl}
 use native.Mathlib.Omega.{arith}
-use Rattle.ports.specs.EntryRuns.{Stores, stores-none, stores-more, stores-all}
+use Rattle.ports.specs.EntryRuns.{Stores}
+use Rattle.ports.specs.EntryRunLaws.{stores-none, stores-more, stores-all}
 use Rattle.ports.proofs.write_entries.Statement.{statement}
 use Rattle.ports.proofs.write_entries.Tie as tie
 

@@ -3,7 +3,7 @@ use Prim.Native.Nat.{ℕ}
 use native.Mathlib.Omega.{arith}
 use lib.ListN.{length-replicate}
 use Rattle.storing.specs.StoringLaws.{stored-length}
-use Rattle.rewriter.specs.Fitting.{root-ready, fitted-over}
+use Rattle.rewriter.specs.FittingLaws.{root-ready, fitted-over}
 use borrow.Author.Needs.{needs}
 use Rattle.rewriter.proofs.fit_small.Statement.{statement}
 use Rattle.rewriter.proofs.fit_small.Tie as tie

@@ -1,8 +1,8 @@
 -- `boolean` meets its contract: the values at one position are those of the row.
 use mathlib.Core.Logic.{inl}
 use native.Mathlib.Omega.{arith}
-use Rattle.rows.specs.Memory.{written-as}
-use Rattle.rows.specs.Ready.{boolean-placed, boolean-is}
+use Rattle.rows.specs.MemoryLaws.{written-as}
+use Rattle.rows.specs.ReadyLaws.{boolean-placed, boolean-is}
 use borrow.Author.Needs.{needs}
 use Rattle.rows.proofs.boolean.Statement.{statement}
 use Rattle.rows.proofs.boolean.Tie as tie

@@ -2,7 +2,8 @@
 use Prim.Native.Nat.{_-_, _≤_}
 use mathlib.Core.Path.{_≡_}
 use native.Mathlib.Omega.{arith}
-use Rattle.rows.specs.Memory.{Copied, copied-none, copied-more}
+use Rattle.rows.specs.Memory.{Copied}
+use Rattle.rows.specs.MemoryLaws.{copied-none, copied-more}
 use Rattle.rows.proofs.copy_row.Statement.{statement}
 use Rattle.rows.proofs.copy_row.Tie as tie
 

@@ -2,7 +2,7 @@
 use Prim.Native.Nat.{_+_, _≤_}
 use mathlib.Core.Logic.{inl}
 use Rattle.bits.specs.Bits.{width}
-use Rattle.rows.specs.Ready.{kind-lt, late}
+use Rattle.rows.specs.ReadyLaws.{kind-lt, late}
 use borrow.Author.Needs.{needs}
 use Rattle.rows.proofs.fill_row.Statement.{statement}
 use Rattle.rows.proofs.fill_row.Tie as tie

@@ -5,8 +5,8 @@ use mathlib.Core.Logic.{inr}
 use native.Mathlib.Omega.{arith}
 use lib.ListN.{set, length-set}
 use Rattle.bits.specs.Bits.{width}
-use Rattle.rows.specs.Memory.{part-as}
-use Rattle.rows.specs.Ready.{ready-cleared, temporal-placed, temporal-is, other-written, is-plain, is-temporal}
+use Rattle.rows.specs.MemoryLaws.{part-as}
+use Rattle.rows.specs.ReadyLaws.{ready-cleared, temporal-placed, temporal-is, other-written, is-plain, is-temporal}
 use Rattle.rows.proofs.other.Statement.{statement}
 use Rattle.rows.proofs.other.Tie as tie
 

@@ -1,7 +1,7 @@
 -- `paired` meets its contract: an operator of two operands has its own second.
 use mathlib.Core.Path.{refl}
 use native.Mathlib.Omega.{arith}
-use Rattle.rows.specs.Ready.{pair-two}
+use Rattle.rows.specs.ReadyLaws.{pair-two}
 use Rattle.rows.proofs.paired.Statement.{statement}
 use Rattle.rows.proofs.paired.Tie as tie
 

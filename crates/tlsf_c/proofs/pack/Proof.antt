@@ -40,15 +40,15 @@ add-result-2 c = search needs
 add-result-3 : tie.Need-add-result-3
 add-result-3 c =
     let h = rw (c .before .before .before .answer2 .given .1) at (c .before .before .before .before .before .pre) in
-    let e = c .before .wide3 .ensures in
+    let e = c .before .wide3 .ensures .0 in
     omega arith
 
 returns : tie.Need-returns
-returns c = rw (c .before .before .before .answer .given .1) (ap₂ (join 32) (c .before .wide .ensures) (c .wide2 .ensures))
+returns c = rw (c .before .before .before .answer .given .1) (ap₂ (join 32) (c .before .wide .ensures .0) (c .wide2 .ensures .0))
 
 returns-2 : tie.Need-returns-2
 returns-2 c =
-    rw (c .before .before .before .answer2 .given .1) (ap₂ (λ (n p : ℕ). 2 ^ 63 + join 32 n p) (c .before .wide3 .ensures) (c .wide4 .ensures))
+    rw (c .before .before .before .answer2 .given .1) (ap₂ (λ (n p : ℕ). 2 ^ 63 + join 32 n p) (c .before .wide3 .ensures .0) (c .wide4 .ensures .0))
 
 pub pack-spec : {M : Type 1} → statement M
 pack-spec =

@@ -2,6 +2,7 @@
 use borrow.Author.Needs.{zero≤}
 use native.Mathlib.Omega.{arith}
 use mathlib.Core.Path.{refl}
+use Rattle.entries.specs.Kinds as Kind
 use Rattle.traversal.specs.Arity.{arities}
 use Rattle.traversal.specs.Stretches.{stretch}
 use Rattle.traversal.proofs.arity.Statement.{statement}
@@ -23,4 +24,4 @@ arity-spec =
     (λ c. stretch arities (c .before .if9 .left) (c .if10 .taken) refl)
     (λ c. stretch arities (c .before .if10 .left) (c .if11 .taken) refl)
     (λ c. stretch arities (c .before .if11 .left) (c .if12 .taken) refl)
-    (λ c. stretch arities {b = 64} (c .if12 .left) (omega arith) refl))
+    (λ c. stretch arities {b = Kind.limit} (c .if12 .left) (omega arith) refl))

@@ -2,7 +2,9 @@
 use borrow.Author.Needs.{zero≤}
 use native.Mathlib.Omega.{arith}
 use mathlib.Core.Path.{refl}
-use Rattle.traversal.specs.Starts.{starting, start-by}
+use Rattle.entries.specs.Kinds as Kind
+use Rattle.traversal.specs.Starts.{starting}
+use Rattle.traversal.specs.StartLaws.{start-by}
 use Rattle.traversal.specs.Stretches.{stretch}
 use Rattle.traversal.proofs.start_of.Statement.{statement}
 use Rattle.traversal.proofs.start_of.Tie as tie
@@ -18,4 +20,4 @@ start-of-spec =
     (λ c. start-by _ _ _ 1 (stretch starting (c .before .if4 .left) (c .if5 .taken) refl))
     (λ c. start-by _ _ _ 0 (stretch starting (c .before .if5 .left) (c .if6 .taken) refl))
     (λ c. start-by _ _ _ 1 (stretch starting (c .before .if6 .left) (c .if7 .taken) refl))
-    (λ c. start-by _ _ _ 0 (stretch starting {b = 64} (c .if7 .left) (omega arith) refl)))
+    (λ c. start-by _ _ _ 0 (stretch starting {b = Kind.limit} (c .if7 .left) (omega arith) refl)))

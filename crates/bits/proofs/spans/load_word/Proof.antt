@@ -6,74 +6,74 @@ use borrow.Author.Needs.{needs}
 use Rattle.bits.proofs.spans.load_word.Statement.{statement}
 use Rattle.bits.proofs.spans.load_word.Tie as tie
 
-shared-slice-read-long : tie.Need-shared-slice-read-long
-shared-slice-read-long c = search needs
+shared-slice-read-wide : tie.Need-shared-slice-read-wide
+shared-slice-read-wide c = search needs
 
-long-requires : tie.Need-long-requires
-long-requires c κs = search needs
+wide-requires : tie.Need-wide-requires
+wide-requires c κs = search needs
 
-add-long : tie.Need-add-long
-add-long c = search needs
+add-wide : tie.Need-add-wide
+add-wide c = search needs
 
-shared-slice-read-long-2 : tie.Need-shared-slice-read-long-2
-shared-slice-read-long-2 c = search needs
+shared-slice-read-wide-2 : tie.Need-shared-slice-read-wide-2
+shared-slice-read-wide-2 c = search needs
 
-long-requires-2 : tie.Need-long-requires-2
-long-requires-2 c κs = search needs
+wide-requires-2 : tie.Need-wide-requires-2
+wide-requires-2 c κs = search needs
 
-add-long-2 : tie.Need-add-long-2
-add-long-2 c = search needs
+add-wide-2 : tie.Need-add-wide-2
+add-wide-2 c = search needs
 
-shared-slice-read-long-3 : tie.Need-shared-slice-read-long-3
-shared-slice-read-long-3 c = search needs
+shared-slice-read-wide-3 : tie.Need-shared-slice-read-wide-3
+shared-slice-read-wide-3 c = search needs
 
-long-requires-3 : tie.Need-long-requires-3
-long-requires-3 c κs = search needs
+wide-requires-3 : tie.Need-wide-requires-3
+wide-requires-3 c κs = search needs
 
-add-long-3 : tie.Need-add-long-3
-add-long-3 c = search needs
+add-wide-3 : tie.Need-add-wide-3
+add-wide-3 c = search needs
 
-shared-slice-read-long-4 : tie.Need-shared-slice-read-long-4
-shared-slice-read-long-4 c = search needs
+shared-slice-read-wide-4 : tie.Need-shared-slice-read-wide-4
+shared-slice-read-wide-4 c = search needs
 
-long-requires-4 : tie.Need-long-requires-4
-long-requires-4 c κs = search needs
+wide-requires-4 : tie.Need-wide-requires-4
+wide-requires-4 c κs = search needs
 
-add-long-4 : tie.Need-add-long-4
-add-long-4 c = search needs
+add-wide-4 : tie.Need-add-wide-4
+add-wide-4 c = search needs
 
-shared-slice-read-long-5 : tie.Need-shared-slice-read-long-5
-shared-slice-read-long-5 c = search needs
+shared-slice-read-wide-5 : tie.Need-shared-slice-read-wide-5
+shared-slice-read-wide-5 c = search needs
 
-long-requires-5 : tie.Need-long-requires-5
-long-requires-5 c κs = search needs
+wide-requires-5 : tie.Need-wide-requires-5
+wide-requires-5 c κs = search needs
 
-add-long-5 : tie.Need-add-long-5
-add-long-5 c = search needs
+add-wide-5 : tie.Need-add-wide-5
+add-wide-5 c = search needs
 
-shared-slice-read-long-6 : tie.Need-shared-slice-read-long-6
-shared-slice-read-long-6 c = search needs
+shared-slice-read-wide-6 : tie.Need-shared-slice-read-wide-6
+shared-slice-read-wide-6 c = search needs
 
-long-requires-6 : tie.Need-long-requires-6
-long-requires-6 c κs = search needs
+wide-requires-6 : tie.Need-wide-requires-6
+wide-requires-6 c κs = search needs
 
-add-long-6 : tie.Need-add-long-6
-add-long-6 c = search needs
+add-wide-6 : tie.Need-add-wide-6
+add-wide-6 c = search needs
 
-shared-slice-read-long-7 : tie.Need-shared-slice-read-long-7
-shared-slice-read-long-7 c = search needs
+shared-slice-read-wide-7 : tie.Need-shared-slice-read-wide-7
+shared-slice-read-wide-7 c = search needs
 
-long-requires-7 : tie.Need-long-requires-7
-long-requires-7 c κs = search needs
+wide-requires-7 : tie.Need-wide-requires-7
+wide-requires-7 c κs = search needs
 
-add-long-7 : tie.Need-add-long-7
-add-long-7 c = search needs
+add-wide-7 : tie.Need-add-wide-7
+add-wide-7 c = search needs
 
-shared-slice-read-long-8 : tie.Need-shared-slice-read-long-8
-shared-slice-read-long-8 c = search needs
+shared-slice-read-wide-8 : tie.Need-shared-slice-read-wide-8
+shared-slice-read-wide-8 c = search needs
 
-long-requires-8 : tie.Need-long-requires-8
-long-requires-8 c κs = search needs
+wide-requires-8 : tie.Need-wide-requires-8
+wide-requires-8 c κs = search needs
 
 mul-result : tie.Need-mul-result
 mul-result c = search needs
@@ -125,29 +125,29 @@ pub load-word-spec : {M : Type 1} → statement M
 load-word-spec =
     tie.close
     (tie.spec
-    shared-slice-read-long
-    long-requires
-    add-long
-    shared-slice-read-long-2
-    long-requires-2
-    add-long-2
-    shared-slice-read-long-3
-    long-requires-3
-    add-long-3
-    shared-slice-read-long-4
-    long-requires-4
-    add-long-4
-    shared-slice-read-long-5
-    long-requires-5
-    add-long-5
-    shared-slice-read-long-6
-    long-requires-6
-    add-long-6
-    shared-slice-read-long-7
-    long-requires-7
-    add-long-7
-    shared-slice-read-long-8
-    long-requires-8
+    shared-slice-read-wide
+    wide-requires
+    add-wide
+    shared-slice-read-wide-2
+    wide-requires-2
+    add-wide-2
+    shared-slice-read-wide-3
+    wide-requires-3
+    add-wide-3
+    shared-slice-read-wide-4
+    wide-requires-4
+    add-wide-4
+    shared-slice-read-wide-5
+    wide-requires-5
+    add-wide-5
+    shared-slice-read-wide-6
+    wide-requires-6
+    add-wide-6
+    shared-slice-read-wide-7
+    wide-requires-7
+    add-wide-7
+    shared-slice-read-wide-8
+    wide-requires-8
     mul-result
     add-result
     mul-result-2

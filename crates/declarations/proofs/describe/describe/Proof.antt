@@ -6,7 +6,8 @@ use borrow.Author.Needs.{needs}
 use lib.ListN.{length, getD, length-set}
 use Rattle.language.specs.Limits.{maxTokens}
 use Rattle.lexer.specs.Stored.{offsetIn}
-use Rattle.declarations.specs.Describing.{Filled, filled-more, offsetAt, enumerationFor}
+use Rattle.declarations.specs.Describing.{Filled, offsetAt, enumerationFor}
+use Rattle.declarations.specs.DescribingLaws.{filled-more}
 use Rattle.declarations.proofs.describe.describe.Statement.{statement}
 use Rattle.declarations.proofs.describe.describe.Tie as tie
 
@@ -23,152 +24,163 @@ loop-holds : tie.Need-loop-holds Inv-loop μ-loop
 loop-holds c = (omega arith, (refl, (refl, (refl, ((λ i l. absurd (omega arith)), ((λ i l. absurd (omega arith)), (λ i l. absurd (omega arith))))))))
 
 mul-wide : tie.Need-mul-wide Inv-loop μ-loop
-mul-wide c = omega (arith, (c .loop-test) .taken, (c .before .before .before .before .before .before .before .before .before) .pre .few)
+mul-wide c =
+    let start = c .before .before .before .before .before .before .before .before .before in
+    omega (arith, c .loop-test .taken, start .pre .few)
 
 shared-slice-read-wide : tie.Need-shared-slice-read-wide Inv-loop μ-loop
-shared-slice-read-wide c = omega (arith, (c .before .loop-test) .taken, (c .before .before .before .before .before .before .before .before .before .before) .pre .places-room)
+shared-slice-read-wide c =
+    let loop-test-at = c .before in
+    let start = loop-test-at .before .before .before .before .before .before .before .before .before in
+    omega (arith, loop-test-at .loop-test .taken, start .pre .places-room)
 
 wide-requires : tie.Need-wide-requires Inv-loop μ-loop
 wide-requires c κs = search needs
 
 mul-order : tie.Need-mul-order Inv-loop μ-loop
-mul-order c = let i : (c .wide) .result < maxTokens = subst (λ n. n < maxTokens) (sym ((c .wide) .ensures .0))
-    ((c .before .before .before .before .before .before .before .before .before .before .before) .pre .inside ((c .before .before .before .loop) .j) ((c .before .before .loop-test) .taken)) in
+mul-order c =
+    let loop-test-at = c .before .before in
+    let loop-at = loop-test-at .before in
+    let start = loop-at .before .before .before .before .before .before .before .before in
+    let i : c .wide .result < maxTokens = subst (λ n. n < maxTokens) (sym (c .wide .ensures .0))
+    (start .pre .inside (loop-at .loop .j) (loop-test-at .loop-test .taken)) in
     omega arith
 
 shared-slice-read-order : tie.Need-shared-slice-read-order Inv-loop μ-loop
-shared-slice-read-order c = let i : (c .before .wide) .result < maxTokens = subst (λ n. n < maxTokens) (sym ((c .before .wide) .ensures .0))
-    ((c .before .before .before .before .before .before .before .before .before .before .before .before) .pre .inside ((c .before .before .before .before .loop) .j)
-    ((c .before .before .before .loop-test) .taken)) in omega (arith, (c .before .before .before .before .before .before .before .before .before .before .before .before) .pre .refs-room)
+shared-slice-read-order c =
+    let wide-at = c .before in
+    let loop-test-at = wide-at .before .before in
+    let loop-at = loop-test-at .before in
+    let start = loop-at .before .before .before .before .before .before .before .before in
+    let i : wide-at .wide .result < maxTokens = subst (λ n. n < maxTokens) (sym (wide-at .wide .ensures .0))
+    (start .pre .inside (loop-at .loop .j)
+    (loop-test-at .loop-test .taken)) in omega (arith, start .pre .refs-room)
 
 mul-order-2 : tie.Need-mul-order-2 Inv-loop μ-loop
-mul-order-2 c = omega (arith, (c .before .before .before .loop-test) .taken, (c .before .before .before .before .before .before .before .before .before .before .before .before) .pre .few)
+mul-order-2 c =
+    let loop-test-at = c .before .before .before in
+    let start = loop-test-at .before .before .before .before .before .before .before .before .before in
+    omega (arith, loop-test-at .loop-test .taken, start .pre .few)
 
 slice-write-order : tie.Need-slice-write-order Inv-loop μ-loop
-slice-write-order c = omega (
-  arith,
-  (c .before .before .before .loop-test) .taken,
-  (c .before .before .before .before .loop) .inv .1 .0,
-  (c .before .before .before .before .before .before .before .before .before .before .before .before) .pre .order-room,
-)
+slice-write-order c =
+    let loop-test-at = c .before .before .before in
+    let loop-at = loop-test-at .before in
+    let start = loop-at .before .before .before .before .before .before .before .before in
+    omega (arith, loop-test-at .loop-test .taken, loop-at .loop .inv .1 .0, start .pre .order-room)
 
 enumeration-for-requires : tie.Need-enumeration-for-requires Inv-loop μ-loop
-enumeration-for-requires c κs = (
-  (c .before .before .before .before .before .before .before .before .before .before .before .before) .pre .work,
-  (
-    subst (λ n. n < maxTokens) (sym ((c .before .wide) .ensures .0))
-        ((c .before .before .before .before .before .before .before .before .before .before .before .before) .pre .inside ((c .before .before .before .before .loop) .j)
-        ((c .before .before .before .loop-test) .taken)),
-    (
-      (c .before .before .before .before .before .before .before .before .before .before .before .before) .pre .refs-room,
-      (c .before .before .before .before .before .before .before .before .before .before .before .before) .pre .found-room,
-    ),
-  ),
-)
+enumeration-for-requires c κs =
+    let wide-at = c .before in
+    let loop-test-at = wide-at .before .before in
+    let loop-at = loop-test-at .before in
+    let start = loop-at .before .before .before .before .before .before .before .before in (
+      start .pre .work,
+      (
+        subst (λ n. n < maxTokens) (sym (wide-at .wide .ensures .0))
+            (start .pre .inside (loop-at .loop .j)
+            (loop-test-at .loop-test .taken)),
+        (
+          start .pre .refs-room,
+          start .pre .found-room,
+        ),
+      ),
+    )
 
 mul-enumerations : tie.Need-mul-enumerations Inv-loop μ-loop
-mul-enumerations c = omega (
-  arith,
-  (c .before .before .before .before .loop-test) .taken,
-  (c .before .before .before .before .before .before .before .before .before .before .before .before .before) .pre .few,
-)
+mul-enumerations c =
+    let loop-test-at = c .before .before .before .before in
+    let start = loop-test-at .before .before .before .before .before .before .before .before .before in
+    omega (arith, loop-test-at .loop-test .taken, start .pre .few)
 
 slice-write-enumerations : tie.Need-slice-write-enumerations Inv-loop μ-loop
-slice-write-enumerations c = omega (
-  arith,
-  (c .before .before .before .before .loop-test) .taken,
-  (c .before .before .before .before .before .loop) .inv .1 .1 .0,
-  (c .before .before .before .before .before .before .before .before .before .before .before .before .before) .pre .enumerations-room,
-)
+slice-write-enumerations c =
+    let loop-test-at = c .before .before .before .before in
+    let loop-at = loop-test-at .before in
+    let start = loop-at .before .before .before .before .before .before .before .before in
+    omega (arith, loop-test-at .loop-test .taken, loop-at .loop .inv .1 .1 .0, start .pre .enumerations-room)
 
 token-word-requires : tie.Need-token-word-requires Inv-loop μ-loop
-token-word-requires c κs = (
-  (c .before .before .before .before .before .before .before .before .before .before .before .before .before) .pre .work,
-  subst (λ n. n < maxTokens)
-      (sym ((c .before .before .wide) .ensures .0)) ((c .before .before .before .before .before .before .before .before .before .before .before .before .before) .pre .inside
-      ((c .before .before .before .before .before .loop) .j) ((c .before .before .before .before .loop-test) .taken)),
-)
+token-word-requires c κs =
+    let wide-at = c .before .before in
+    let loop-test-at = wide-at .before .before in
+    let loop-at = loop-test-at .before in
+    let start = loop-at .before .before .before .before .before .before .before .before in (
+      start .pre .work,
+      subst (λ n. n < maxTokens)
+          (sym (wide-at .wide .ensures .0)) (start .pre .inside
+          (loop-at .loop .j) (loop-test-at .loop-test .taken)),
+    )
 
 mul-offsets : tie.Need-mul-offsets Inv-loop μ-loop
-mul-offsets c = omega (
-  arith,
-  (c .before .before .before .before .before .loop-test) .taken,
-  (c .before .before .before .before .before .before .before .before .before .before .before .before .before .before) .pre .few,
-)
+mul-offsets c =
+    let loop-test-at = c .before .before .before .before .before in
+    let start = loop-test-at .before .before .before .before .before .before .before .before .before in
+    omega (arith, loop-test-at .loop-test .taken, start .pre .few)
 
 slice-write-offsets : tie.Need-slice-write-offsets Inv-loop μ-loop
-slice-write-offsets c = omega (
-  arith,
-  (c .before .before .before .before .before .loop-test) .taken,
-  (c .before .before .before .before .before .before .loop) .inv .1 .1 .1 .0,
-  (c .before .before .before .before .before .before .before .before .before .before .before .before .before .before) .pre .offsets-room,
-)
+slice-write-offsets c =
+    let loop-test-at = c .before .before .before .before .before in
+    let loop-at = loop-test-at .before in
+    let start = loop-at .before .before .before .before .before .before .before .before in
+    omega (arith, loop-test-at .loop-test .taken, loop-at .loop .inv .1 .1 .1 .0, start .pre .offsets-room)
 
 add-j : tie.Need-add-j Inv-loop μ-loop
-add-j c = omega (
-  arith,
-  (c .before .before .before .before .before .loop-test) .taken,
-  (c .before .before .before .before .before .before .before .before .before .before .before .before .before .before) .pre .few,
-)
+add-j c =
+    let loop-test-at = c .before .before .before .before .before in
+    let start = loop-test-at .before .before .before .before .before .before .before .before .before in
+    omega (arith, loop-test-at .loop-test .taken, start .pre .few)
 
 loop-less : tie.Need-loop-less Inv-loop μ-loop
-loop-less c = omega (arith, (c .before .before .before .before .before .loop-test) .taken)
+loop-less c =
+    let loop-test-at = c .before .before .before .before .before in
+    omega (arith, loop-test-at .loop-test .taken)
 
 loop-again : tie.Need-loop-again Inv-loop μ-loop
-loop-again c = (
-  omega (arith, (c .before .before .before .before .before .loop-test) .taken),
-  (
-    simp length-set ((c .before .before .before .before .before .before .loop) .inv .1 .0),
-    (
-      simp length-set ((c .before .before .before .before .before .before .loop) .inv .1 .1 .0),
+loop-again c =
+    let enumeration-for-at = c .before in
+    let wide-at = enumeration-for-at .before .before in
+    let loop-test-at = wide-at .before .before in
+    let loop-at = loop-test-at .before in
+    let start = loop-at .before .before .before .before .before .before .before .before in (
+      omega (arith, loop-test-at .loop-test .taken),
       (
-        simp length-set ((c .before .before .before .before .before .before .loop) .inv .1 .1 .1 .0),
+        simp length-set (loop-at .loop .inv .1 .0),
         (
-          filled-more (λ i. getD ((c .before .before .before .before .before .before .before .before .before .before .before .before .before .before) .args .refs .now)
-              (getD ((c .before .before .before .before .before .before .before .before .before .before .before .before .before .before) .args .places .now) i 0) 0)
-              ((c .before .before .before .before .before .before .loop) .order) ((c .before .before .before .before .before .before .loop) .j) _
-              (omega (
-                arith,
-                (c .before .before .before .before .before .loop-test) .taken,
-                (c .before .before .before .before .before .before .loop) .inv .1 .0,
-                (c .before .before .before .before .before .before .before .before .before .before .before .before .before .before) .pre .order-room,
-              ))
-              (ap (λ k. getD ((c .before .before .before .before .before .before .before .before .before .before .before .before .before .before) .args .refs .now) k 0)
-              ((c .before .before .before .wide) .ensures .0)) ((c .before .before .before .before .before .before .loop) .inv .1 .1 .1 .1 .0),
+          simp length-set (loop-at .loop .inv .1 .1 .0),
           (
-            filled-more (λ i. enumerationFor ((c .before .before .before .before .before .before .before .before .before .before .before .before .before .before) .args .work .now)
-                ((c .before .before .before .before .before .before .before .before .before .before .before .before .before .before) .args .refs .now)
-                ((c .before .before .before .before .before .before .before .before .before .before .before .before .before .before) .args .found .now)
-                (getD ((c .before .before .before .before .before .before .before .before .before .before .before .before .before .before) .args .places .now) i 0))
-                ((c .before .before .before .before .before .before .loop) .enumerations) ((c .before .before .before .before .before .before .loop) .j) _
-                (omega (
-                  arith,
-                  (c .before .before .before .before .before .loop-test) .taken,
-                  (c .before .before .before .before .before .before .loop) .inv .1 .1 .0,
-                  (c .before .before .before .before .before .before .before .before .before .before .before .before .before .before) .pre .enumerations-room,
-                ))
-                ((c .before .enumeration-for) .ensures ∙ ap (enumerationFor ((c .before .before .before .before .before .before .before .before .before .before .before .before .before .before) .args .work .now)
-                ((c .before .before .before .before .before .before .before .before .before .before .before .before .before .before) .args .refs .now)
-                ((c .before .before .before .before .before .before .before .before .before .before .before .before .before .before) .args .found .now)) ((c .before .before .before .wide) .ensures .0))
-                ((c .before .before .before .before .before .before .loop) .inv .1 .1 .1 .1 .1 .0),
-            filled-more
-                (λ i. offsetAt ((c .before .before .before .before .before .before .before .before .before .before .before .before .before .before) .args .work .now)
-                (getD ((c .before .before .before .before .before .before .before .before .before .before .before .before .before .before) .args .places .now) i 0))
-                ((c .before .before .before .before .before .before .loop) .offsets) ((c .before .before .before .before .before .before .loop) .j) _
-                (omega (
-                  arith,
-                  (c .before .before .before .before .before .loop-test) .taken,
-                  (c .before .before .before .before .before .before .loop) .inv .1 .1 .1 .0,
-                  (c .before .before .before .before .before .before .before .before .before .before .before .before .before .before) .pre .offsets-room,
-                ))
-                (ap offsetIn ((c .token-word) .ensures) ∙ ap (offsetAt ((c .before .before .before .before .before .before .before .before .before .before .before .before .before .before) .args .work .now))
-                ((c .before .before .before .wide) .ensures .0)) ((c .before .before .before .before .before .before .loop) .inv .1 .1 .1 .1 .1 .1),
+            simp length-set (loop-at .loop .inv .1 .1 .1 .0),
+            (
+              filled-more (λ i. getD (start .args .refs .now)
+                  (getD (start .args .places .now) i 0) 0)
+                  (loop-at .loop .order) (loop-at .loop .j) _
+                  (omega (arith, loop-test-at .loop-test .taken, loop-at .loop .inv .1 .0, start .pre .order-room))
+                  (ap (λ k. getD (start .args .refs .now) k 0)
+                  (wide-at .wide .ensures .0)) (loop-at .loop .inv .1 .1 .1 .1 .0),
+              (
+                filled-more (λ i. enumerationFor (start .args .work .now)
+                    (start .args .refs .now)
+                    (start .args .found .now)
+                    (getD (start .args .places .now) i 0))
+                    (loop-at .loop .enumerations) (loop-at .loop .j) _
+                    (omega (arith, loop-test-at .loop-test .taken, loop-at .loop .inv .1 .1 .0, start .pre .enumerations-room))
+                    (enumeration-for-at .enumeration-for .ensures ∙ ap (enumerationFor (start .args .work .now)
+                    (start .args .refs .now)
+                    (start .args .found .now)) (wide-at .wide .ensures .0))
+                    (loop-at .loop .inv .1 .1 .1 .1 .1 .0),
+                filled-more
+                    (λ i. offsetAt (start .args .work .now)
+                    (getD (start .args .places .now) i 0))
+                    (loop-at .loop .offsets) (loop-at .loop .j) _
+                    (omega (arith, loop-test-at .loop-test .taken, loop-at .loop .inv .1 .1 .1 .0, start .pre .offsets-room))
+                    (ap offsetIn (c .token-word .ensures) ∙ ap (offsetAt (start .args .work .now))
+                    (wide-at .wide .ensures .0)) (loop-at .loop .inv .1 .1 .1 .1 .1 .1),
+              ),
+            ),
           ),
         ),
       ),
-    ),
-  ),
-)
+    )
 
 same-length : tie.Need-same-length Inv-loop μ-loop
 same-length c = (c .before .loop) .inv .1 .0

@@ -4,7 +4,7 @@ use native.Mathlib.Omega.{arith}
 use borrow.Author.Needs.{needs}
 use Rattle.entries.specs.Stored.{kindOf}
 use Rattle.declarations.specs.EnumerationLaws.{enumeration-small}
-use Rattle.declarations.specs.Describing.{enumeration-for, enumeration-none}
+use Rattle.declarations.specs.DescribingLaws.{enumeration-for, enumeration-none}
 use Rattle.declarations.proofs.describe.enumeration_for.Statement.{statement}
 use Rattle.declarations.proofs.describe.enumeration_for.Tie as tie
 
@@ -15,22 +15,25 @@ enumeration-of-requires : tie.Need-enumeration-of-requires
 enumeration-of-requires c κs = search needs
 
 cast-result : tie.Need-cast-result
-cast-result c = omega (
-  arith,
-  (c .enumeration-of) .ensures,
-  enumeration-small ((c .before .before .before .before .before .before) .args .work .now)
-      ((c .before .before .before .before .before .before) .args .refs .now) ((c .before .before .before .before .before .before) .args .found .now)
-      ((c .before .before .before .before .before .before) .args .k),
-)
+cast-result c =
+    let start = c .before .before .before .before .before .before in
+    omega (arith, c .enumeration-of .ensures, enumeration-small (start .args .work .now) (start .args .refs .now) (start .args .found .now) (start .args .k))
 
 returns : tie.Need-returns
-returns c = (c .enumeration-of) .ensures ∙ enumeration-for ((c .before .before .before .before .before .before) .args .work .now)
-    ((c .before .before .before .before .before .before) .args .refs .now) ((c .before .before .before .before .before .before) .args .found .now)
-    ((c .before .before .before .before .before .before) .args .k) (ap kindOf (sym ((c .before .before .entry-word) .ensures)) ∙ (c .before .if1) .taken)
+returns c =
+    let if1-at = c .before in
+    let entry-word-at = if1-at .before in
+    let start = entry-word-at .before .before .before .before in
+    c .enumeration-of .ensures ∙ enumeration-for (start .args .work .now)
+    (start .args .refs .now) (start .args .found .now)
+    (start .args .k) (ap kindOf (sym (entry-word-at .entry-word .ensures)) ∙ if1-at .if1 .taken)
 
 returns-2 : tie.Need-returns-2
-returns-2 c = enumeration-none ((c .before .before .before .before .before) .args .work .now) ((c .before .before .before .before .before) .args .refs .now)
-    ((c .before .before .before .before .before) .args .found .now) ((c .before .before .before .before .before) .args .k) (λ e. (c .if1) .left (ap kindOf ((c .before .entry-word) .ensures) ∙ e))
+returns-2 c =
+    let entry-word-at = c .before in
+    let start = entry-word-at .before .before .before .before in
+    enumeration-none (start .args .work .now) (start .args .refs .now)
+    (start .args .found .now) (start .args .k) (λ e. c .if1 .left (ap kindOf (entry-word-at .entry-word .ensures) ∙ e))
 
 pub enumeration-for-spec : {M : Type 1} → statement M
 enumeration-for-spec =

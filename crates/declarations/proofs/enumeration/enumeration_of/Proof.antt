@@ -21,10 +21,14 @@ wide-requires : tie.Need-wide-requires
 wide-requires c κs = search needs
 
 returns : tie.Need-returns
-returns c = enumeration-far ((c .before .before .before .before .before .before .before) .args .work .now) ((c .before .before .before .before .before .before .before) .args .refs .now)
-    ((c .before .before .before .before .before .before .before) .args .found .now) ((c .before .before .before .before .before .before .before) .args .k) ((c .before .wide) .result)
-    ((c .before .wide) .ensures .0 ∙ ap (λ i. getD ((c .before .before .before .before .before .before .before) .args .refs .now) i 0) ((c .before .before .before .before2) .ensures))
-    ((c .if1) .taken)
+returns c =
+    let wide-at = c .before in
+    let before2-at = wide-at .before .before in
+    let start = before2-at .before .before .before .before in
+    enumeration-far (start .args .work .now) (start .args .refs .now)
+    (start .args .found .now) (start .args .k) (wide-at .wide .result)
+    (wide-at .wide .ensures .0 ∙ ap (λ i. getD (start .args .refs .now) i 0) (before2-at .before2 .ensures))
+    (c .if1 .taken)
 
 mul-wide-2 : tie.Need-mul-wide-2
 mul-wide-2 c = search needs
@@ -36,36 +40,58 @@ wide-requires-2 : tie.Need-wide-requires-2
 wide-requires-2 c κs = search needs
 
 returns-2 : tie.Need-returns-2
-returns-2 c = enumeration-past ((c .before .before .before .before .before .before .before .before .before .before) .args .work .now)
-    ((c .before .before .before .before .before .before .before .before .before .before) .args .refs .now)
-    ((c .before .before .before .before .before .before .before .before .before .before) .args .found .now)
-    ((c .before .before .before .before .before .before .before .before .before .before) .args .k) ((c .before .before .before .before .wide) .result)
-    ((c .before .before .before .before .wide) .ensures .0 ∙ ap (λ i. getD ((c .before .before .before .before .before .before .before .before .before .before) .args .refs .now) i 0)
-    ((c .before .before .before .before .before .before .before2) .ensures)) ((c .before .wide2) .result) ((c .before .wide2) .ensures .0) (omega (arith, (c .before .before .before .if1) .left))
-    ((c .if2) .taken)
+returns-2 c =
+    let wide2-at = c .before in
+    let if1-at = wide2-at .before .before in
+    let wide-at = if1-at .before in
+    let before2-at = wide-at .before .before in
+    let start = before2-at .before .before .before .before in
+    enumeration-past (start .args .work .now)
+    (start .args .refs .now)
+    (start .args .found .now)
+    (start .args .k) (wide-at .wide .result)
+    (wide-at .wide .ensures .0 ∙ ap (λ i. getD (start .args .refs .now) i 0)
+    (before2-at .before2 .ensures)) (wide2-at .wide2 .result) (wide2-at .wide2 .ensures .0) (omega (arith, if1-at .if1 .left))
+    (c .if2 .taken)
 
 entry-word-requires : tie.Need-entry-word-requires
 entry-word-requires c κs = search needs
 
 returns-3 : tie.Need-returns-3
-returns-3 c = enumeration-own ((c .before .before .before .before .before .before .before .before .before .before .before .before) .args .work .now)
-    ((c .before .before .before .before .before .before .before .before .before .before .before .before) .args .refs .now)
-    ((c .before .before .before .before .before .before .before .before .before .before .before .before) .args .found .now)
-    ((c .before .before .before .before .before .before .before .before .before .before .before .before) .args .k) ((c .before .before .before .before .before .before .wide) .result)
-    ((c .before .before .before .before .before .before .wide) .ensures .0 ∙ ap
-    (λ i. getD ((c .before .before .before .before .before .before .before .before .before .before .before .before) .args .refs .now) i 0)
-    ((c .before .before .before .before .before .before .before .before .before2) .ensures)) ((c .before .before .before .wide2) .result) ((c .before .before .before .wide2) .ensures .0)
-    (omega (arith, (c .before .before .before .before .before .if1) .left)) (omega (arith, (c .before .before .if2) .left)) (ap kindOf (sym ((c .before .entry-word) .ensures)) ∙ (c .if3) .taken)
+returns-3 c =
+    let entry-word-at = c .before in
+    let if2-at = entry-word-at .before in
+    let wide2-at = if2-at .before in
+    let if1-at = wide2-at .before .before in
+    let wide-at = if1-at .before in
+    let before2-at = wide-at .before .before in
+    let start = before2-at .before .before .before .before in
+    enumeration-own (start .args .work .now)
+    (start .args .refs .now)
+    (start .args .found .now)
+    (start .args .k) (wide-at .wide .result)
+    (wide-at .wide .ensures .0 ∙ ap
+    (λ i. getD (start .args .refs .now) i 0)
+    (before2-at .before2 .ensures)) (wide2-at .wide2 .result) (wide2-at .wide2 .ensures .0)
+    (omega (arith, if1-at .if1 .left)) (omega (arith, if2-at .if2 .left)) (ap kindOf (sym (entry-word-at .entry-word .ensures)) ∙ c .if3 .taken)
 
 returns-4 : tie.Need-returns-4
-returns-4 c = enumeration-other ((c .before .before .before .before .before .before .before .before .before .before .before .before) .args .work .now)
-    ((c .before .before .before .before .before .before .before .before .before .before .before .before) .args .refs .now)
-    ((c .before .before .before .before .before .before .before .before .before .before .before .before) .args .found .now)
-    ((c .before .before .before .before .before .before .before .before .before .before .before .before) .args .k) ((c .before .before .before .before .before .before .wide) .result)
-    ((c .before .before .before .before .before .before .wide) .ensures .0 ∙ ap
-    (λ i. getD ((c .before .before .before .before .before .before .before .before .before .before .before .before) .args .refs .now) i 0)
-    ((c .before .before .before .before .before .before .before .before .before2) .ensures)) ((c .before .before .before .wide2) .result) ((c .before .before .before .wide2) .ensures .0)
-    (omega (arith, (c .before .before .before .before .before .if1) .left)) (omega (arith, (c .before .before .if2) .left)) (λ e. (c .if3) .left (ap kindOf ((c .before .entry-word) .ensures) ∙ e))
+returns-4 c =
+    let entry-word-at = c .before in
+    let if2-at = entry-word-at .before in
+    let wide2-at = if2-at .before in
+    let if1-at = wide2-at .before .before in
+    let wide-at = if1-at .before in
+    let before2-at = wide-at .before .before in
+    let start = before2-at .before .before .before .before in
+    enumeration-other (start .args .work .now)
+    (start .args .refs .now)
+    (start .args .found .now)
+    (start .args .k) (wide-at .wide .result)
+    (wide-at .wide .ensures .0 ∙ ap
+    (λ i. getD (start .args .refs .now) i 0)
+    (before2-at .before2 .ensures)) (wide2-at .wide2 .result) (wide2-at .wide2 .ensures .0)
+    (omega (arith, if1-at .if1 .left)) (omega (arith, if2-at .if2 .left)) (λ e. c .if3 .left (ap kindOf (entry-word-at .entry-word .ensures) ∙ e))
 
 pub enumeration-of-spec : {M : Type 1} → statement M
 enumeration-of-spec =

@@ -4,7 +4,7 @@ use mathlib.Core.Path.{_∙_}
 use native.Mathlib.Omega.{arith}
 use borrow.Author.Needs.{needs}
 use Rattle.declarations.specs.ExpressionLaws.{room-kept}
-use Rattle.declarations.specs.Sizes.{ins-given, outs-given, outs-declared, sizes-stopped, sizes-told}
+use Rattle.declarations.specs.SizesLaws.{ins-given, outs-given, outs-declared, sizes-stopped, sizes-told}
 use Rattle.declarations.proofs.sizes.sizes.Statement.{statement}
 use Rattle.declarations.proofs.sizes.sizes.Tie as tie
 

@@ -5,7 +5,8 @@ use native.Mathlib.Omega.{arith}
 use borrow.Author.Needs.{needs}
 use lib.ListN.{length, length-set}
 use Rattle.declarations.specs.ExpressionLaws.{room-still}
-use Rattle.declarations.specs.Turns.{Before, before-set}
+use Rattle.declarations.specs.Turns.{Before}
+use Rattle.declarations.specs.TurnsLaws.{before-set}
 use Rattle.declarations.specs.TurnsLoop.{Looping, looping-starts, looping-inside, looping-small, looping-sizable, looping-stopped, looping-more, looping-all}
 use Rattle.declarations.proofs.turns.turns.Statement.{statement}
 use Rattle.declarations.proofs.turns.turns.Tie as tie

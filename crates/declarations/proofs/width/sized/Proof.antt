@@ -1,6 +1,6 @@
 -- `sized` meets its contract.
 use native.Mathlib.Omega.{arith}
-use Rattle.declarations.specs.Widths.{sized-none, sized-wide, sized-fits}
+use Rattle.declarations.specs.WidthsLaws.{sized-none, sized-wide, sized-fits}
 use Rattle.declarations.proofs.width.sized.Statement.{statement}
 use Rattle.declarations.proofs.width.sized.Tie as tie
 

@@ -1,6 +1,6 @@
 -- `sort_of` meets its contract.
 use borrow.Author.Needs.{needs}
-use Rattle.declarations.specs.Widths.{sort-bus}
+use Rattle.declarations.specs.WidthsLaws.{sort-bus}
 use Rattle.declarations.proofs.width.sort_of.Statement.{statement}
 use Rattle.declarations.proofs.width.sort_of.Tie as tie
 

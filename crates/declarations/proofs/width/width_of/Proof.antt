@@ -3,7 +3,8 @@ use mathlib.Core.Path.{refl, sym, ap, _∙_, subst}
 use borrow.Author.Needs.{needs}
 use Rattle.lexer.specs.Stored.{offsetIn}
 use Rattle.entries.specs.Stored.{kindOf}
-use Rattle.declarations.specs.Widths.{IsSized, sizing-place, sizes-signal, typed-there, sizes-typed, sizes-untyped, sizing-workable, sizes-refused, sizes-bus}
+use Rattle.declarations.specs.Widths.{IsSized}
+use Rattle.declarations.specs.WidthsLaws.{sizing-place, sizes-signal, typed-there, sizes-typed, sizes-untyped, sizing-workable, sizes-refused, sizes-bus}
 use Rattle.declarations.proofs.width.width_of.Statement.{statement}
 use Rattle.declarations.proofs.width.width_of.Tie as tie
 

@@ -1,3 +1,4 @@
+-- `next` meets its contract: what was folded and what has come are calculated together, or a refusal is handed up.
 use mathlib.Core.Path.{refl}
 use native.Mathlib.Omega.{arith}
 use Rattle.fold_steps.specs.NumberLaws.{next-foldable, next-refuses, next-steps}
@@ -10,8 +11,7 @@ use Rattle.fold_steps.proofs.numbers.next.Tie as tie
 returns : tie.Need-returns
 returns c =
     let start = c .before .before .before .before .before .before in
-    let at-if1 = c .if1 in
-    number-misfits (start .pre .1) refl (at-if1 .taken)
+    number-misfits (start .pre .1) refl (c .if1 .taken)
 
 add-k : tie.Need-add-k
 add-k c = search needs
@@ -52,40 +52,44 @@ calculate-requires c κs = search needs
 enum-known-r : tie.Need-enum-known-r
 enum-known-r c = search needs
 
+enum-told : tie.Need-enum-told
+enum-told c = search needs
+
+unworked-requires : tie.Need-unworked-requires
+unworked-requires c κs = search needs
+
+returns-2 : tie.Need-returns-2
+returns-2 c =
+    let enum-told-at = c .before in
+    let calculate-at = enum-told-at .before .before in
+    let prefix-at-at = calculate-at .before in
+    let place-at-at = prefix-at-at .before in
+    let if1-at = place-at-at .before .before .before in
+    let start = if1-at .before .before .before .before .before .before in
+    rw (c .unworked .ensures _ _ (enum-told-at .enum-told .given .1))
+    (next-refuses (start .pre .1) (if1-at .if1 .left) {i = prefix-at-at .prefix-at .result}
+    (record { entry = refl; operator = prefix-at-at .prefix-at .ensures; place = place-at-at .place-at .ensures; folded = refl; answer = rw (enum-told-at .enum-told .given .1) at (calculate-at .calculate .ensures) }))
+
 onward-requires : tie.Need-onward-requires
 onward-requires c κs =
     let start = c .before .before .before .before .before .before .before .before .before .before .before .before .before .before .before in
     next-foldable (start .pre .1) (start .pre .0)
 
-enum-known-r-2 : tie.Need-enum-known-r-2
-enum-known-r-2 c = search needs
-
 same-length : tie.Need-same-length
 same-length c = search needs
 
-returns-2 : tie.Need-returns-2
-returns-2 c =
-    let start = c .before .before .before .before .before .before .before .before .before .before .before .before .before .before .before .before .before .before in
-    let at-if1 = c .before .before .before .before .before .before .before .before .before .before .before .before .if1 in
-    let at-place-at = c .before .before .before .before .before .before .before .before .before .place-at in
-    let at-prefix-at = c .before .before .before .before .before .before .before .before .prefix-at in
-    let at-calculate = c .before .before .before .before .before .before .before .calculate in
-    let at-r = c .before .before .before .before .before .r in
-    let at-onward = c .before .before .onward in
-    next-steps (start .pre .1) (at-if1 .left) {i = at-prefix-at .result}
-    (record { entry = refl; operator = at-prefix-at .ensures; place = at-place-at .ensures; folded = refl; answer = rw (at-r .given .1) at (at-calculate .ensures) })
-    (at-onward .result) (at-onward .ensures)
-
 returns-3 : tie.Need-returns-3
 returns-3 c =
-    let start = c .before .before .before .before .before .before .before .before .before .before .before .before .before .before in
-    let at-if1 = c .before .before .before .before .before .before .before .before .if1 in
-    let at-place-at = c .before .before .before .before .before .place-at in
-    let at-prefix-at = c .before .before .before .before .prefix-at in
-    let at-calculate = c .before .before .before .calculate in
-    let at-r2 = c .before .r2 in
-    next-refuses (start .pre .1) (at-if1 .left) {i = at-prefix-at .result}
-    (record { entry = refl; operator = at-prefix-at .ensures; place = at-place-at .ensures; folded = refl; answer = rw (at-r2 .given .1) at (at-calculate .ensures) })
+    let onward-at = c .before .before in
+    let r-at = onward-at .before .before .before in
+    let calculate-at = r-at .before .before in
+    let prefix-at-at = calculate-at .before in
+    let place-at-at = prefix-at-at .before in
+    let if1-at = place-at-at .before .before .before in
+    let start = if1-at .before .before .before .before .before .before in
+    next-steps (start .pre .1) (if1-at .if1 .left) {i = prefix-at-at .prefix-at .result}
+    (record { entry = refl; operator = prefix-at-at .prefix-at .ensures; place = place-at-at .place-at .ensures; folded = refl; answer = rw (r-at .r .given .1) at (calculate-at .calculate .ensures) })
+    (onward-at .onward .result) (onward-at .onward .ensures)
 
 pub next-spec : {M : Type 1} → statement M
 next-spec =
@@ -103,8 +107,9 @@ next-spec =
     prefix-at-requires
     calculate-requires
     enum-known-r
-    onward-requires
-    enum-known-r-2
-    same-length
+    enum-told
+    unworked-requires
     returns-2
+    onward-requires
+    same-length
     returns-3)

@@ -7,7 +7,8 @@ use Rattle.language.specs.Sections.{specOf}
 use Rattle.language.specs.Braces.{Proper, ProperParameter, ProperDefinition, ProperDeclaration, ProperSubsection, ProperSpec}
 use Rattle.language.specs.Laws.Basics.Lists.{all-more}
 use Rattle.language.specs.Laws.Basics.Results.{weaken, Within}
-use Rattle.language.specs.Laws.Grammar.TreeReads.{Built, ReadParameter, ReadDefinition, ReadDeclaration, ReadSubsection, ReadSpec, spec-read}
+use Rattle.language.specs.Laws.Grammar.BuiltReads.{Built}
+use Rattle.language.specs.Laws.Grammar.TreeReads.{ReadParameter, ReadDefinition, ReadDeclaration, ReadSubsection, ReadSpec, spec-read}
 
 proper-built : Built (Proper false) (Proper true)
 proper-built = record {

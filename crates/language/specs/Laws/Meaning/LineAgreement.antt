@@ -17,26 +17,17 @@ use Rattle.language.specs.Numbering.{inOrder, signalList}
 use Rattle.language.specs.Lines.{Line, lines}
 use Rattle.language.specs.Expansion.{gather, Context, atSignals, defineAll, expandLine, Sections, expandSection, linesOf}
 use Rattle.language.specs.Meaning.{Word, Sense, present, meaningAll, SectionMeans, namesOf}
+use Rattle.language.specs.LineMeaning.{LineMeans, partLines}
 use Rattle.language.specs.Numbered.{numbered}
 use Rattle.language.specs.Laws.Basics.Lists.{All}
 use Rattle.language.specs.Laws.Values.NameLaws.{defined-ports}
+use Rattle.language.specs.Laws.Values.PortLaws.{Pairs}
 use Rattle.language.specs.Laws.Meaning.Agreement.{Agrees}
 use Rattle.language.specs.Laws.Meaning.ExpressionAgreement.{Matched}
-use Rattle.language.specs.Laws.Meaning.TextAgreement.{LineMeans, LinesHold, ListedMeans, LineAgrees, AllAgree, signals-matched, definitions-matched, line-agrees}
+use Rattle.language.specs.Laws.Meaning.TextAgreement.{LinesHold, ListedMeans, LineAgrees, AllAgree, signals-matched, definitions-matched, line-agrees}
 use Rattle.language.specs.Laws.Meaning.SpecAgreement.{names-are, word, met}
 
--- the lines of a part, in the order of their sections
-abbrev pub partLines : Part → List (Part × List Line) → List Line
-partLines q [] = []
-partLines q (s ∷ ss) = elim (eqb (partCode q) (partCode (s .0))) [ true ↦ s .1 ++ partLines q ss | false ↦ partLines q ss ]
-
--- lines and formulas in pairs that are alike
-abbrev pub Pairs : {A B : Type 0} → (A → B → Type 0) → List A → List B → Type 0
-Pairs R [] [] = Unit {0}
-Pairs R [] (b ∷ bs) = ⊥
-Pairs R (a ∷ us) [] = ⊥
-Pairs R (a ∷ us) (b ∷ bs) = R a b × Pairs R us bs
-
+-- lists in pairs that are alike
 pub pairs-append : {A B : Type 0} (R : A → B → Type 0) (us xs : List A) (bs ys : List B) → Pairs R us bs → Pairs R xs ys → Pairs R (us ++ xs) (bs ++ ys)
 pairs-append R [] xs [] ys h k = k
 pairs-append R (a ∷ us) xs (b ∷ bs) ys h k = (h .0, pairs-append R us xs bs ys (h .1) k)

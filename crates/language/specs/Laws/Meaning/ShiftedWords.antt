@@ -1,6 +1,6 @@
 -- The word that a converted text is read on, numbered: it is the numbered word, one position later at the signals that the expansion puts an X above. The meaning goes by
 -- the names in OUTPUTS, the expansion by the flags of the signal list.
-use Prim.Native.Nat.{ℕ, zero, suc, _+_, _^_, _≤_, _<_}
+use Prim.Native.Nat.{ℕ, zero, suc, _^_, _≤_, _<_}
 use mathlib.Core.Path.{_≡_, refl, ap, sym, _∙_}
 use mathlib.Core.Bool.{Bool, true, false, not, _||_}
 use mathlib.Core.List.{List, [], _∷_, _++_}

@@ -21,7 +21,8 @@ use Rattle.language.specs.Declared.{Declared, Constant, Single, BusOf, I
 use Rattle.language.specs.Numbering.{inOrder}
 use Rattle.language.specs.Lines.{Line, Written, Implied}
 use Rattle.language.specs.Expansion.{gather, Context, expansion, signalOf, atSignals, define, defineAll, expandLine, Sections, expandSection, linesOf, section, whole, expand}
-use Rattle.language.specs.Meaning.{SignalOf, Word, Holding, MatchesOne, Sense, Means, present, meaning, meaningAll, WholeMeans}
+use Rattle.language.specs.Meaning.{SignalOf, Word, Holding, Sense, Means, present, meaning, meaningAll, WholeMeans}
+use Rattle.language.specs.LineMeaning.{LineMeans}
 use Rattle.language.specs.Laws.Basics.Lists.{All, all-more}
 use Rattle.language.specs.Laws.Basics.Results.{Within}
 use Rattle.language.specs.Laws.Values.RegularWords.{PortRegular}
@@ -34,11 +35,7 @@ use Rattle.language.specs.Laws.Meaning.Agreement.{Agrees, ListAgrees}
 use Rattle.language.specs.Laws.Meaning.AtomAgreement.{implied-agrees, signal-agrees}
 use Rattle.language.specs.Laws.Meaning.ExpressionAgreement.{Matched, agrees}
 
--- a line's meaning, and that of lines listed by part, as the expansion lists them
-abbrev pub LineMeans : Sense → Line → Word → Property
-LineMeans s (Written e) w t = Means s e w t
-LineMeans s (Implied p) w t = MatchesOne (p .name .text) (p .words) w t
-
+-- the meaning of lines listed by part, as the expansion lists them
 abbrev pub LinesHold : Sense → List Line → Word → Property
 LinesHold s [] w t = Unit {0}
 LinesHold s (l ∷ ls) w t = LineMeans s l w t × LinesHold s ls w t

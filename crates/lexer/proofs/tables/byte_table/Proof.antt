@@ -4,8 +4,6 @@ use Rattle.lexer.specs.Spelling.{entries, entry}
 use Rattle.lexer.proofs.TableLaws.{right-bytes}
 use Rattle.lexer.proofs.tables.byte_table.Statement.{statement}
 use Rattle.lexer.proofs.tables.byte_table.Tie as tie
-use Rattle.lexer.proofs.tables.byte_table.Reads as reads
-use Rattle.lexer.proofs.tables.byte_table.Lts as lts
 
 returns : tie.Need-returns
 unfolding entries entry

@@ -4,8 +4,6 @@ use Rattle.lexer.specs.Spelling.{entries, entry}
 use Rattle.lexer.proofs.TableLaws.{right-rows}
 use Rattle.lexer.proofs.tables.row_table.Statement.{statement}
 use Rattle.lexer.proofs.tables.row_table.Tie as tie
-use Rattle.lexer.proofs.tables.row_table.Reads as reads
-use Rattle.lexer.proofs.tables.row_table.Lts as lts
 
 returns : tie.Need-returns
 unfolding entries entry

@@ -6,7 +6,8 @@ use borrow.Author.Needs.{needs}
 use lib.ListN.{length}
 use Rattle.names.specs.Tables.{noPlace}
 use Rattle.names.specs.Walkable.{Walkable, Table}
-use Rattle.names.specs.Meeting.{Met, met-none, met-at}
+use Rattle.names.specs.Meeting.{Met}
+use Rattle.names.specs.MeetingLaws.{met-none, met-at}
 use Rattle.names.proofs.declare.declare.Statement.{statement}
 use Rattle.names.proofs.declare.declare.Tie as tie
 

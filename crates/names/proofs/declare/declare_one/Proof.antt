@@ -2,7 +2,7 @@
 use Prim.Native.Nat.{min}
 use mathlib.Core.Path.{sym, ap, _∙_}
 use borrow.Author.Tests.{not-true, not-false}
-use Rattle.names.specs.Meeting.{met-other, met-more}
+use Rattle.names.specs.MeetingLaws.{met-other, met-more}
 use borrow.Author.Needs.{needs}
 use Rattle.names.proofs.declare.declare_one.Statement.{statement}
 use Rattle.names.proofs.declare.declare_one.Tie as tie
@@ -22,14 +22,14 @@ returns c =
 name-at-requires : tie.Need-name-at-requires
 name-at-requires c κs = search needs
 
-mul-word : tie.Need-mul-word
-mul-word c = search needs
+mul-wide : tie.Need-mul-wide
+mul-wide c = search needs
 
-slice-read-word : tie.Need-slice-read-word
-slice-read-word c = search needs
+slice-read-wide : tie.Need-slice-read-wide
+slice-read-wide c = search needs
 
-word-requires : tie.Need-word-requires
-word-requires c κs = search needs
+wide-requires : tie.Need-wide-requires
+wide-requires c κs = search needs
 
 smaller-requires : tie.Need-smaller-requires
 smaller-requires c κs = search needs
@@ -55,14 +55,14 @@ same-length c = search needs
 returns-2 : tie.Need-returns-2
 returns-2 c =
     let at-smaller = c .before .before in
-    let at-word = at-smaller .before in
-    let at-name-at = at-word .before .before in
+    let at-wide = at-smaller .before in
+    let at-name-at = at-wide .before .before in
     let at-if1 = at-name-at .before in
     let at-declares = at-if1 .before in
     let at-kind-at = at-declares .before in
     let start = at-kind-at .before .before .before .before in
     λ h m. met-more h _ (start .pre .2) _ (start .pre .1) ((at-kind-at .kind-at) .ensures) m (sym ((at-declares .declares) .ensures) ∙ not-false _ ((at-if1 .if1) .left))
-    ((at-name-at .name-at) .ensures) ((at-word .word) .ensures .0) ((at-smaller .smaller) .ensures) ((c .smaller2) .ensures ∙ ap (min _) ((c .before .larger) .ensures))
+    ((at-name-at .name-at) .ensures) ((at-wide .wide) .ensures .0) ((at-smaller .smaller) .ensures) ((c .smaller2) .ensures ∙ ap (min _) ((c .before .larger) .ensures))
 
 pub declare-one-spec : {M : Type 1} → statement M
 declare-one-spec =
@@ -72,9 +72,9 @@ declare-one-spec =
     declares-requires
     returns
     name-at-requires
-    mul-word
-    slice-read-word
-    word-requires
+    mul-wide
+    slice-read-wide
+    wide-requires
     smaller-requires
     cast-table
     mul-table

@@ -1,5 +1,5 @@
 -- `names::entry::name_at` meets its contract: the token, its place and its number, each as it is read.
-use Rattle.names.specs.OwnName.{own-name}
+use Rattle.names.specs.OwnNameLaws.{own-name}
 use borrow.Author.Needs.{needs}
 use Rattle.names.proofs.entry.name_at.Statement.{statement}
 use Rattle.names.proofs.entry.name_at.Tie as tie

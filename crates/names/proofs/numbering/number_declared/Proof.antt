@@ -6,7 +6,8 @@ use borrow.Author.Needs.{needs}
 use lib.ListN.{length}
 use Rattle.names.specs.Tables.{noPlace}
 use Rattle.names.specs.Walkable.{Walkable, Table}
-use Rattle.names.specs.Numbering.{Numbered, numbered-none, numbered-at}
+use Rattle.names.specs.Numbering.{Numbered}
+use Rattle.names.specs.NumberingLaws.{numbered-none, numbered-at}
 use Rattle.names.proofs.numbering.number_declared.Statement.{statement}
 use Rattle.names.proofs.numbering.number_declared.Tie as tie
 

@@ -2,7 +2,7 @@
 use mathlib.Core.Path.{sym, _∙_}
 use native.Mathlib.Omega.{arith}
 use borrow.Author.Tests.{not-true, not-false}
-use Rattle.names.specs.Numbering.{numbered-other, numbered-name, numbered-first, numbered-behind}
+use Rattle.names.specs.NumberingLaws.{numbered-other, numbered-name, numbered-first, numbered-behind}
 use borrow.Author.Needs.{needs}
 use Rattle.names.proofs.numbering.number_one.Statement.{statement}
 use Rattle.names.proofs.numbering.number_one.Tie as tie
@@ -31,14 +31,14 @@ mul-table c = search needs
 slice-write-table : tie.Need-slice-write-table
 slice-write-table c = search needs
 
-cast-declared : tie.Need-cast-declared
-cast-declared c = search needs
+cast-found : tie.Need-cast-found
+cast-found c = search needs
 
-mul-declared : tie.Need-mul-declared
-mul-declared c = search needs
+mul-found : tie.Need-mul-found
+mul-found c = search needs
 
-slice-write-declared : tie.Need-slice-write-declared
-slice-write-declared c = search needs
+slice-write-found : tie.Need-slice-write-found
+slice-write-found c = search needs
 
 add-t20 : tie.Need-add-t20
 add-t20 c = search needs
@@ -108,9 +108,9 @@ number-one-spec =
     cast-table
     mul-table
     slice-write-table
-    cast-declared
-    mul-declared
-    slice-write-declared
+    cast-found
+    mul-found
+    slice-write-found
     add-t20
     same-length
     same-length-2

@@ -11,14 +11,14 @@ use Rattle.names.proofs.walk.bind_name.Tie as tie
 name-at-requires : tie.Need-name-at-requires
 name-at-requires c κs = search needs
 
-mul-word : tie.Need-mul-word
-mul-word c = search needs
+mul-wide : tie.Need-mul-wide
+mul-wide c = search needs
 
-slice-read-word : tie.Need-slice-read-word
-slice-read-word c = search needs
+slice-read-wide : tie.Need-slice-read-wide
+slice-read-wide c = search needs
 
-word-requires : tie.Need-word-requires
-word-requires c κs = search needs
+wide-requires : tie.Need-wide-requires
+wide-requires c κs = search needs
 
 mul-top : tie.Need-mul-top
 mul-top c = search needs
@@ -123,15 +123,15 @@ same-length-4 c = search needs
 returns : tie.Need-returns
 returns c =
     let at-smaller = c .before .before in
-    let at-word = at-smaller .before .before .before in
-    let at-name-at = at-word .before .before in
+    let at-wide = at-smaller .before .before .before in
+    let at-name-at = at-wide .before .before in
     let start = at-name-at .before .before .before .before .before .before .before in
     let at = (at-name-at .name-at) .result .at in
     record {
       next = refl;
       walking = λ h d s. walk-bind h d _ (start .pre .0 .inside) refl s (start .pre .1) ((at-name-at .name-at) .ensures) refl refl
-          ((at-smaller .smaller) .ensures ∙ ap (λ v. min v at) ((at-word .word) .ensures .0)) refl
-          ((c .smaller2) .ensures ∙ ap (min _) ((c .before .larger) .ensures ∙ ap (λ v. max v at) ((at-word .word) .ensures .0)));
+          ((at-smaller .smaller) .ensures ∙ ap (λ v. min v at) ((at-wide .wide) .ensures .0)) refl
+          ((c .smaller2) .ensures ∙ ap (min _) ((c .before .larger) .ensures ∙ ap (λ v. max v at) ((at-wide .wide) .ensures .0)));
     }
 
 pub bind-name-spec : {M : Type 1} → statement M
@@ -139,9 +139,9 @@ bind-name-spec =
     tie.close
     (tie.spec
     name-at-requires
-    mul-word
-    slice-read-word
-    word-requires
+    mul-wide
+    slice-read-wide
+    wide-requires
     mul-top
     add-slot
     cast-slot

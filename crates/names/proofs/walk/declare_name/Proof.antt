@@ -20,14 +20,14 @@ mul-refs-2 c = search needs
 slice-write-refs : tie.Need-slice-write-refs
 slice-write-refs c = search needs
 
-mul-word : tie.Need-mul-word
-mul-word c = search needs
+mul-wide : tie.Need-mul-wide
+mul-wide c = search needs
 
-slice-read-word : tie.Need-slice-read-word
-slice-read-word c = search needs
+slice-read-wide : tie.Need-slice-read-wide
+slice-read-wide c = search needs
 
-word-requires : tie.Need-word-requires
-word-requires c κs = search needs
+wide-requires : tie.Need-wide-requires
+wide-requires c κs = search needs
 
 smaller-requires : tie.Need-smaller-requires
 smaller-requires c κs = search needs
@@ -56,7 +56,7 @@ returns c =
     let start = at-name-at .before .before .before .before .before .before .before in
     record {
       next = refl;
-      walking = λ h d s. walk-declare h _ (start .pre .0 .inside) refl d s (start .pre .1) ((at-name-at .name-at) .ensures) ((c .before .word) .ensures .0) refl ((c .smaller) .ensures);
+      walking = λ h d s. walk-declare h _ (start .pre .0 .inside) refl d s (start .pre .1) ((at-name-at .name-at) .ensures) ((c .before .wide) .ensures .0) refl ((c .smaller) .ensures);
     }
 
 pub declare-name-spec : {M : Type 1} → statement M
@@ -68,9 +68,9 @@ declare-name-spec =
     slice-read-refs
     mul-refs-2
     slice-write-refs
-    mul-word
-    slice-read-word
-    word-requires
+    mul-wide
+    slice-read-wide
+    wide-requires
     smaller-requires
     cast-seen
     mul-seen

@@ -9,14 +9,14 @@ use Rattle.names.proofs.walk.use_name.Tie as tie
 name-at-requires : tie.Need-name-at-requires
 name-at-requires c κs = search needs
 
-mul-word : tie.Need-mul-word
-mul-word c = search needs
+mul-wide : tie.Need-mul-wide
+mul-wide c = search needs
 
-slice-read-word : tie.Need-slice-read-word
-slice-read-word c = search needs
+slice-read-wide : tie.Need-slice-read-wide
+slice-read-wide c = search needs
 
-word-requires : tie.Need-word-requires
-word-requires c κs = search needs
+wide-requires : tie.Need-wide-requires
+wide-requires c κs = search needs
 
 hidden-place-requires : tie.Need-hidden-place-requires
 hidden-place-requires c κs = search needs
@@ -45,12 +45,12 @@ same-length c = search needs
 returns : tie.Need-returns
 returns c =
     let at-hidden-place = c .before .before in
-    let at-word = at-hidden-place .before in
-    let at-name-at = at-word .before .before in
+    let at-wide = at-hidden-place .before in
+    let at-name-at = at-wide .before .before in
     let start = at-name-at .before .before .before .before .before .before .before in
     record {
       next = refl;
-      walking = λ h d s. walk-use h _ (start .pre .0 .inside) refl d s (start .pre .1) ((at-name-at .name-at) .ensures) ((at-word .word) .ensures .0) refl
+      walking = λ h d s. walk-use h _ (start .pre .0 .inside) refl d s (start .pre .1) ((at-name-at .name-at) .ensures) ((at-wide .wide) .ensures .0) refl
           ((c .smaller) .ensures ∙ ap (min _) ((at-hidden-place .hidden-place) .ensures));
     }
 
@@ -59,9 +59,9 @@ use-name-spec =
     tie.close
     (tie.spec
     name-at-requires
-    mul-word
-    slice-read-word
-    word-requires
+    mul-wide
+    slice-read-wide
+    wide-requires
     hidden-place-requires
     mul-refs
     slice-read-refs

@@ -8,7 +8,8 @@ use Rattle.language.specs.Names.{Names}
 use Rattle.names.specs.Tables.{noPlace}
 use Rattle.names.specs.Walkable.{Walkable}
 use Rattle.names.specs.Walking.{Walking}
-use Rattle.names.specs.States.{Reaches, walking-at}
+use Rattle.names.specs.States.{Reaches}
+use Rattle.names.specs.StateLaws.{walking-at}
 use Rattle.names.proofs.walk.walk_all.Statement.{statement}
 use Rattle.names.proofs.walk.walk_all.Tie as tie
 

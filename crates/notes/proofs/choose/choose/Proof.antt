@@ -9,7 +9,7 @@ use Rattle.language.specs.Grammar.{Tokens}
 use Rattle.entries.specs.Flat.{Entry}
 use Rattle.entries.specs.Stored.{kindOf, sizeOf, EntriesFrom}
 use Rattle.notes.specs.Chosen.{choice, takes}
-use Rattle.notes.specs.Choosing.{Choosing, choosing-starts, choosing-heading, choosing-skip, choosing-take, choosing-all}
+use Rattle.notes.specs.ChoosingLaws.{Choosing, choosing-starts, choosing-heading, choosing-skip, choosing-take, choosing-all}
 use Rattle.notes.proofs.choose.choose.Statement.{statement}
 use Rattle.notes.proofs.choose.choose.Tie as tie
 

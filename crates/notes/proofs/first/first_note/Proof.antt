@@ -5,7 +5,7 @@ use native.Mathlib.Omega.{arith}
 use borrow.Author.Needs.{needs}
 use Rattle.language.specs.Limits.{maxTokens}
 use Rattle.entries.specs.Stored.{kindOf}
-use Rattle.notes.specs.Noting.{found-inside, noted-as, unnoted}
+use Rattle.notes.specs.NotingLaws.{found-inside, noted-as, unnoted}
 use Rattle.notes.proofs.first.first_note.Statement.{statement}
 use Rattle.notes.proofs.first.first_note.Tie as tie
 

@@ -5,25 +5,28 @@ use mathlib.Core.Path.{_≡_, refl}
 use native.Mathlib.Omega.{arith}
 use borrow.Author.Needs.{needs}
 use lib.ListN.{length, length-set}
+use Rattle.language.specs.Limits.{maxNames}
 use Rattle.language.specs.Tree.{Spec}
 use Rattle.names.specs.Resolved.{Stored, Resolved}
-use Rattle.notes.specs.Noting.{NotedTo, noted-more}
+use Rattle.notes.specs.NotingLaws.{NotedTo, noted-more}
 use Rattle.notes.proofs.first.note_names.Statement.{statement}
 use Rattle.notes.proofs.first.note_names.Tie as tie
 
 abbrev Inv-loop : tie.InvT-loop
-Inv-loop work found names sorts₀ numbers₀ r₀ sorts numbers r = (r ≤ 256) ×
+Inv-loop work found names sorts₀ numbers₀ r₀ sorts numbers r = (r ≤ maxNames) ×
     ((length sorts ≡ length sorts₀) × ((length numbers ≡ length numbers₀) ×
     ((text refs : List ℕ) (count entries : ℕ) (x : Spec) → Stored text work count entries x → Resolved x refs found names → NotedTo x text work sorts numbers r)))
 
 abbrev μ-loop : tie.MeasureT-loop
-μ-loop work found names sorts₀ numbers₀ r₀ sorts numbers r = 256 - r
+μ-loop work found names sorts₀ numbers₀ r₀ sorts numbers r = maxNames - r
 
 loop-holds : tie.Need-loop-holds Inv-loop μ-loop
 loop-holds c = (omega arith, (refl, (refl, λ text refs count entries x s q i l. absurd (omega arith))))
 
 first-note-requires : tie.Need-first-note-requires Inv-loop μ-loop
-first-note-requires c κs = ((c .before .before .before .before .before .before) .pre .0, (c .loop-test) .taken)
+first-note-requires c κs =
+    let start = c .before .before .before .before .before .before in
+    (start .pre .0, c .loop-test .taken)
 
 slice-write-sorts : tie.Need-slice-write-sorts Inv-loop μ-loop
 slice-write-sorts c =

@@ -2,9 +2,6 @@ use Rattle.operands.specs.Entries.{placeAt}
 use borrow.Author.Needs.{needs}
 use Rattle.operands.proofs.entry.place_at.Statement.{statement}
 use Rattle.operands.proofs.entry.place_at.Tie as tie
-use Rattle.operands.proofs.entry.place_at.Reads as reads
-use Rattle.operands.proofs.entry.place_at.Lts as lts
-use Rattle.words.proofs.get.Reads as get-reads
 
 add-get : tie.Need-add-get
 add-get c = search needs

@@ -4,7 +4,8 @@ use mathlib.Core.Path.{_≡_, refl, ap, _∙_}
 use native.Mathlib.Omega.{arith}
 use lib.ListN.{length, length-set}
 use Rattle.node.specs.Fields.{pack}
-use Rattle.rewriter_run.specs.Chain.{second-low, ChainTo, chain-one, chain-more}
+use Rattle.rewriter_run.specs.Chain.{ChainTo}
+use Rattle.rewriter_run.specs.ChainLaws.{second-low, chain-one, chain-more}
 use borrow.Author.Needs.{needs}
 use Rattle.rewriter_run.proofs.tables.chain.Statement.{statement}
 use Rattle.rewriter_run.proofs.tables.chain.Tie as tie

@@ -1,7 +1,7 @@
 -- `again` meets its contract: the odd positions, the odd bytes, the words, each over what the first pass left there.
-use Rattle.rows.specs.Ready.{placed-part, placed-still}
-use Rattle.rows.specs.Stretches.{words-inner, bytes-inner, odd-inner}
-use Rattle.rows.specs.Sweeping.{swept-words, held-odd, held-bytes, held-words}
+use Rattle.rows.specs.ReadyLaws.{placed-part, placed-still}
+use Rattle.rows.specs.StretchesLaws.{words-inner, bytes-inner, odd-inner}
+use Rattle.rows.specs.SweepingLaws.{swept-words, held-odd, held-bytes, held-words}
 use mathlib.Core.Path.{refl, _∙_}
 use borrow.Author.Needs.{needs}
 use Rattle.rows.proofs.around.again.Statement.{statement}

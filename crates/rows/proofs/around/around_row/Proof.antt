@@ -1,9 +1,9 @@
 -- `around_row` meets its contract: once around where the value at the loop is the seed, else twice.
 use native.Mathlib.Omega.{arith}
 use mathlib.Core.Path.{_∙_}
-use Rattle.rows.specs.Ready.{placed-still}
+use Rattle.rows.specs.ReadyLaws.{placed-still}
 use Rattle.rows.specs.Row.{sweep}
-use Rattle.rows.specs.Sweeping.{held-after, same-bit, around-once, around-twice}
+use Rattle.rows.specs.SweepingLaws.{held-after, same-bit, around-once, around-twice}
 use borrow.Author.Needs.{needs}
 use Rattle.rows.proofs.around.around_row.Statement.{statement}
 use Rattle.rows.proofs.around.around_row.Tie as tie

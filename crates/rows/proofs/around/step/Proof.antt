@@ -2,7 +2,7 @@
 use mathlib.Core.Path.{_≡_}
 use native.Mathlib.Omega.{arith}
 use borrow.Author.Needs.{needs}
-use Rattle.rows.specs.SpanSteps.{goes-globally, goes-finally, goes-until, goes-release, goes-weak}
+use Rattle.rows.specs.SpanStepsLaws.{goes-globally, goes-finally, goes-until, goes-release, goes-weak}
 use Rattle.rows.proofs.around.step.Statement.{statement}
 use Rattle.rows.proofs.around.step.Tie as tie
 

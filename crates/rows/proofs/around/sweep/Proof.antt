@@ -1,7 +1,7 @@
 -- `sweep` meets its contract: the odd positions, the odd bytes, the words.
-use Rattle.rows.specs.Ready.{placed-part, placed-still}
-use Rattle.rows.specs.Stretches.{words-inner, bytes-inner, odd-inner}
-use Rattle.rows.specs.Sweeping.{swept-words}
+use Rattle.rows.specs.ReadyLaws.{placed-part, placed-still}
+use Rattle.rows.specs.StretchesLaws.{words-inner, bytes-inner, odd-inner}
+use Rattle.rows.specs.SweepingLaws.{swept-words}
 use mathlib.Core.Path.{_∙_}
 use borrow.Author.Needs.{needs}
 use Rattle.rows.proofs.around.sweep.Statement.{statement}

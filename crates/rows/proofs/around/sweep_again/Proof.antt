@@ -4,8 +4,8 @@ use mathlib.Core.Path.{sym, _∙_}
 use mathlib.Core.Logic.{inl}
 use native.Mathlib.Omega.{arith}
 use Rattle.rows.specs.Ready.{rowStep}
-use Rattle.rows.specs.Stretches.{place-back, Fits}
-use Rattle.rows.specs.Sweeping.{Passed, passed-none, passed-on, passed-fits, passed-whole, same-bit, settled}
+use Rattle.rows.specs.StretchesLaws.{place-back, Fits}
+use Rattle.rows.specs.SweepingLaws.{Passed, passed-none, passed-on, passed-fits, passed-whole, same-bit, settled}
 use Rattle.rows.proofs.around.sweep_again.Statement.{statement}
 use Rattle.rows.proofs.around.sweep_again.Tie as tie
 

@@ -2,8 +2,8 @@
 use Prim.Native.Nat.{_+_, _*_, _-_, _≤_}
 use native.Mathlib.Omega.{arith}
 use Rattle.rows.specs.Ready.{rowStep}
-use Rattle.rows.specs.Stretches.{Fits}
-use Rattle.rows.specs.Sweeping.{Passed, passed-none, passed-on, passed-fits, passed-whole}
+use Rattle.rows.specs.StretchesLaws.{Fits}
+use Rattle.rows.specs.SweepingLaws.{Passed, passed-none, passed-on, passed-fits, passed-whole}
 use Rattle.rows.proofs.around.sweep_spans.Statement.{statement}
 use Rattle.rows.proofs.around.sweep_spans.Tie as tie
 

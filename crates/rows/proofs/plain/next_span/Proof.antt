@@ -6,10 +6,10 @@ use Rattle.bits.specs.Bits.{digit}
 use Rattle.recordings.specs.Lasso.{next}
 use Rattle.recordings.specs.LassoLaws.{next-lt}
 use Rattle.rows.specs.Memory.{bitsAt}
-use Rattle.rows.specs.Stretches.{span-row}
-use Rattle.rows.specs.SpanSteps.{span-next}
-use Rattle.rows.specs.Sweeping.{digit-small}
-use Rattle.rows.specs.Plain.{spot-within}
+use Rattle.rows.specs.StretchesLaws.{span-row}
+use Rattle.rows.specs.SpanStepsLaws.{span-next}
+use Rattle.rows.specs.SweepingLaws.{digit-small}
+use Rattle.rows.specs.PlainLaws.{spot-within}
 use borrow.Author.Needs.{needs}
 use Rattle.rows.proofs.plain.next_span.Statement.{statement}
 use Rattle.rows.proofs.plain.next_span.Tie as tie

@@ -1,9 +1,9 @@
 -- `plain_row` meets its contract: the odd positions, the odd bytes, the words.
 use mathlib.Core.Path.{_∙_}
-use Rattle.rows.specs.Memory.{kept-trans}
-use Rattle.rows.specs.Ready.{ready-still}
-use Rattle.rows.specs.Stretches.{words-inner, bytes-inner, odd-inner}
-use Rattle.rows.specs.Plain.{plain-words}
+use Rattle.rows.specs.MemoryLaws.{kept-trans}
+use Rattle.rows.specs.ReadyLaws.{ready-still}
+use Rattle.rows.specs.StretchesLaws.{words-inner, bytes-inner, odd-inner}
+use Rattle.rows.specs.PlainLaws.{plain-words}
 use borrow.Author.Needs.{needs}
 use Rattle.rows.proofs.plain.plain_row.Statement.{statement}
 use Rattle.rows.proofs.plain.plain_row.Tie as tie

@@ -3,10 +3,12 @@ use Prim.Native.Nat.{_+_, _*_, _-_, _≤_}
 use mathlib.Core.Path.{_≡_, sym, ap}
 use native.Mathlib.Omega.{arith}
 use Rattle.bits.specs.SpanLaws.{span-as}
-use Rattle.rows.specs.Memory.{Part, part-none, part-to}
-use Rattle.rows.specs.Ready.{operands, opRow, same-row, ready-still}
-use Rattle.rows.specs.Stretches.{place, part-up}
-use Rattle.rows.specs.Plain.{Lies, lies}
+use Rattle.rows.specs.Memory.{Part}
+use Rattle.rows.specs.MemoryLaws.{part-none, part-to}
+use Rattle.rows.specs.Ready.{opRow}
+use Rattle.rows.specs.ReadyLaws.{operands, same-row, ready-still}
+use Rattle.rows.specs.StretchesLaws.{place, part-up}
+use Rattle.rows.specs.PlainLaws.{Lies, lies}
 use Rattle.rows.proofs.plain.plain_spans.Statement.{statement}
 use Rattle.rows.proofs.plain.plain_spans.Tie as tie
 

@@ -5,7 +5,7 @@ use native.Mathlib.Omega.{arith}
 use Rattle.bits.specs.Bits.{Values, digit, number}
 use Rattle.bits.specs.BitLaws.{number-none, number-more, digit-lt}
 use Rattle.recordings.specs.Recording.{letterOf}
-use Rattle.rows.specs.Plain.{number-half}
+use Rattle.rows.specs.PlainLaws.{number-half}
 use borrow.Author.Needs.{needs}
 use Rattle.rows.proofs.plain.signal_span.Statement.{statement}
 use Rattle.rows.proofs.plain.signal_span.Tie as tie

@@ -4,7 +4,7 @@ use native.Mathlib.Omega.{arith}
 use Rattle.bits.specs.SpanLaws.{span-true, span-false, span-number}
 use Rattle.recordings.specs.Recording.{letterOf}
 use Rattle.rows.specs.Ready.{Inside}
-use Rattle.rows.specs.Plain.{plain-next}
+use Rattle.rows.specs.PlainLaws.{plain-next}
 use Rattle.rows.proofs.plain.span_value.Statement.{statement}
 use Rattle.rows.proofs.plain.span_value.Tie as tie
 

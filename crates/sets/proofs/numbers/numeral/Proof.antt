@@ -5,12 +5,13 @@ use Prim.Native.Nat.{_≤_, _-_}
 use mathlib.Core.Path.{refl}
 use native.Mathlib.Numerals.{add-one}
 use lib.ListN.{length}
+use Rattle.language.specs.Limits.{maxNumber}
 use Rattle.sets.specs.NumberLaws.{Reading, reading-on, numeral-read, numeral-large, digits-low, digits-high, digits-end}
 use Rattle.sets.proofs.numbers.numeral.Statement.{statement}
 use Rattle.sets.proofs.numbers.numeral.Tie as tie
 
 abbrev Inv-loop : tie.InvT-loop
-Inv-loop text at v₀ i₀ v i = (v ≤ 1_000_000) × Reading text at v i
+Inv-loop text at v₀ i₀ v i = (v ≤ maxNumber) × Reading text at v i
 
 abbrev μ-loop : tie.MeasureT-loop
 μ-loop text at v₀ i₀ v i = length text - i

@@ -21,8 +21,8 @@ mul-link c = search needs
 add-link : tie.Need-add-link Inv-loop μ-loop
 add-link c = search needs
 
-wide-byte-requires : tie.Need-wide-byte-requires Inv-loop μ-loop
-wide-byte-requires c κs = search needs
+wide-requires : tie.Need-wide-requires Inv-loop μ-loop
+wide-requires c κs = search needs
 
 mul-wide : tie.Need-mul-wide Inv-loop μ-loop
 mul-wide c = search needs
@@ -32,15 +32,14 @@ shared-slice-read-wide c =
     let start = c .before .before .before .before in
     let t = start .pre .0 in let l = t .links-room in let b = t .byte-room in omega (arith, start .pre .1)
 
-wide-requires : tie.Need-wide-requires Inv-loop μ-loop
-wide-requires c κs = search needs
+wide-requires-2 : tie.Need-wide-requires-2 Inv-loop μ-loop
+wide-requires-2 c κs = search needs
 
 loop-holds : tie.Need-loop-holds Inv-loop μ-loop
 loop-holds c =
-    let at-wide-byte = c .before .before in
-    let start = at-wide-byte .before .before .before in
-    let wide-byte = at-wide-byte .wide-byte in
-    ((c .wide) .ensures .0, λ t. seek-start t _ _ (start .pre .1) (wide-byte .ensures))
+    let at-wide = c .before .before in
+    let start = at-wide .before .before .before in
+    ((c .wide2) .ensures .0, λ t. seek-start t _ _ (start .pre .1) ((at-wide .wide) .ensures .0))
 
 shared-slice-read-if1 : tie.Need-shared-slice-read-if1 Inv-loop μ-loop
 shared-slice-read-if1 c =
@@ -84,8 +83,8 @@ shared-slice-read-wide-2 c =
     let loop = at-loop .loop in
     let t = start .pre .0 in let l = t .links-room in let r = t .byte-room in let i = seek-inside t _ _ (start .pre .1) (loop .inv .1 t) (loop .inv .0) in omega arith
 
-wide-requires-2 : tie.Need-wide-requires-2 Inv-loop μ-loop
-wide-requires-2 c κs = search needs
+wide-requires-3 : tie.Need-wide-requires-3 Inv-loop μ-loop
+wide-requires-3 c κs = search needs
 
 loop-less : tie.Need-loop-less Inv-loop μ-loop
 loop-less c =
@@ -107,7 +106,7 @@ loop-again c =
     let loop = at-loop .loop in
     let loop-test = at-loop-test .loop-test in
     let if1 = at-if1 .if1 in
-    ((c .wide2) .ensures .0, λ t. seek-further t _ _ (start .pre .1) (loop .inv .1 t) (loop .inv .0) (loop-test .taken) (if1 .left) .0)
+    ((c .wide3) .ensures .0, λ t. seek-further t _ _ (start .pre .1) (loop .inv .1 t) (loop .inv .0) (loop-test .taken) (if1 .left) .0)
 
 returns-2 : tie.Need-returns-2 Inv-loop μ-loop
 returns-2 c =
@@ -123,10 +122,10 @@ seek-spec =
     μ-loop
     mul-link
     add-link
-    wide-byte-requires
+    wide-requires
     mul-wide
     shared-slice-read-wide
-    wide-requires
+    wide-requires-2
     loop-holds
     shared-slice-read-if1
     returns
@@ -134,7 +133,7 @@ seek-spec =
     add-link-2
     mul-wide-2
     shared-slice-read-wide-2
-    wide-requires-2
+    wide-requires-3
     loop-less
     loop-again
     returns-2)

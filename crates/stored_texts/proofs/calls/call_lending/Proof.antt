@@ -1,6 +1,6 @@
 -- `call_lending` meets its contract: the promise of the function that was called.
 use borrow.Author.Needs.{needs}
-use Rattle.stored_texts.specs.Calling.{calls-read, calls-convert}
+use Rattle.stored_texts.specs.CallingLaws.{calls-read, calls-convert}
 use Rattle.stored_texts.proofs.calls.call_lending.Statement.{statement}
 use Rattle.stored_texts.proofs.calls.call_lending.Tie as tie
 

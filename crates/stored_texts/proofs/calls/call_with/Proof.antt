@@ -3,7 +3,7 @@ use mathlib.Core.Path.{sym}
 use lib.Seq.{length-take-le}
 use borrow.Author.Needs.{needs}
 use native.Mathlib.Omega.{arith}
-use Rattle.stored_texts.specs.Calling.{calls-with}
+use Rattle.stored_texts.specs.CallingLaws.{calls-with}
 use Rattle.stored_texts.proofs.calls.call_with.Statement.{statement}
 use Rattle.stored_texts.proofs.calls.call_with.Tie as tie
 

@@ -1,3 +1,4 @@
+-- `windows::from` meets its contract: a number has come, which is kept, and the second operand is next.
 use native.Mathlib.Omega.{arith}
 use mathlib.Core.Path.{refl}
 use Rattle.temporal_steps.specs.WindowLaws.{from-inside, from-steps}
@@ -18,9 +19,6 @@ renew-requires c κs =
     let start = c .before .before .before .before .before .before .before in
     topped-renewable (start .pre .0)
 
-cast-last : tie.Need-cast-last
-cast-last c = search needs
-
 size-at-requires : tie.Need-size-at-requires
 size-at-requires c κs =
     let at-renew = c .before .before .before .renew in
@@ -40,12 +38,6 @@ cast-came c =
     let start = c .before .before .before .before .before .before .before .before .before .before .before .before in
     let l = renewed-entry (at-renew .ensures) (start .pre .0) .0 in omega arith
 
-came-requires : tie.Need-came-requires
-came-requires c κs = search needs
-
-same-length : tie.Need-same-length
-same-length c = search needs
-
 returns-2 : tie.Need-returns-2
 returns-2 c =
     let start = c .before .before .before .before .before .before .before .before .before .before .before .before .before in
@@ -61,10 +53,10 @@ from-spec =
     (tie.spec
     returns
     renew-requires
-    cast-last
+    (λ c. search needs)
     size-at-requires
     sub-j
     cast-came
-    came-requires
-    same-length
+    (λ c κs. search needs)
+    (λ c. search needs)
     returns-2)

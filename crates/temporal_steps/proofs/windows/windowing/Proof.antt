@@ -1,3 +1,4 @@
+-- `windows::windowing` meets its contract: a window has three operands before it, and the first is next.
 use native.Mathlib.Omega.{arith}
 use mathlib.Core.Path.{refl}
 use Rattle.temporal_steps.specs.WindowLaws.{windowing-starts}
@@ -7,16 +8,8 @@ use borrow.Author.Needs.{needs}
 use Rattle.temporal_steps.proofs.windows.windowing.Statement.{statement}
 use Rattle.temporal_steps.proofs.windows.windowing.Tie as tie
 
-cast-k : tie.Need-cast-k
-cast-k c = search needs
-
 sub-second : tie.Need-sub-second
 sub-second c =
-    let start = c .before .before .before .before .before in
-    let i = three-inside (windowing-starts (start .pre .1)) refl refl (start .pre .0) in omega arith
-
-sub-size-at : tie.Need-sub-size-at
-sub-size-at c =
     let start = c .before .before .before .before .before in
     let i = three-inside (windowing-starts (start .pre .1)) refl refl (start .pre .0) in omega arith
 
@@ -28,8 +21,7 @@ size-at-requires c κs =
 sub-second-2 : tie.Need-sub-second-2
 sub-second-2 c =
     let start = c .before .before .before .before .before .before in
-    let at-size-at = c .size-at in
-    let i = three-inside (windowing-starts (start .pre .1)) (at-size-at .ensures) refl (start .pre .0) in omega arith
+    let i = three-inside (windowing-starts (start .pre .1)) (c .size-at .ensures) refl (start .pre .0) in omega arith
 
 size-at-requires-2 : tie.Need-size-at-requires-2
 size-at-requires-2 c κs =
@@ -39,41 +31,25 @@ size-at-requires-2 c κs =
 sub-first : tie.Need-sub-first
 sub-first c =
     let start = c .before .before .before .before .before .before .before in
-    let at-size-at = c .before .size-at in
-    let at-size-at2 = c .size-at2 in
-    let i = three-inside (windowing-starts (start .pre .1)) (at-size-at .ensures) (at-size-at2 .ensures) (start .pre .0) in omega arith
-
-cast-push : tie.Need-cast-push
-cast-push c = search needs
-
-push-requires : tie.Need-push-requires
-push-requires c κs =
-    let start = c .before .before .before .before .before .before .before .before in
-    starts-ready (windowing-starts (start .pre .1)) (start .pre .0)
-
-same-length : tie.Need-same-length
-same-length c = search needs
+    let i = three-inside (windowing-starts (start .pre .1)) (c .before .size-at .ensures) (c .size-at2 .ensures) (start .pre .0) in omega arith
 
 returns : tie.Need-returns
 returns c =
     let start = c .before .before .before .before .before .before .before .before .before .before .before in
-    let at-size-at = c .before .before .before .before .before .size-at in
-    let at-size-at2 = c .before .before .before .before .size-at2 in
-    let at-push = c .before .before .push in
-    three-steps (windowing-starts (start .pre .1)) (at-size-at .ensures) (at-size-at2 .ensures) (at-push .ensures)
+    three-steps (windowing-starts (start .pre .1)) (c .before .before .before .before .before .size-at .ensures) (c .before .before .before .before .size-at2 .ensures) (c .before .before .push .ensures)
 
 pub windowing-spec : {M : Type 1} → statement M
 windowing-spec =
     tie.close
     (tie.spec
-    cast-k
+    (λ c. search needs)
     sub-second
-    sub-size-at
+    sub-second
     size-at-requires
     sub-second-2
     size-at-requires-2
     sub-first
-    cast-push
-    push-requires
-    same-length
+    (λ c. search needs)
+    (λ c κs. let start = c .before .before .before .before .before .before .before .before in starts-ready (windowing-starts (start .pre .1)) (start .pre .0))
+    (λ c. search needs)
     returns)

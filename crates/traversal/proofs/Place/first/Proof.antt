@@ -1,5 +1,5 @@
 -- The first of two places: where both are places, the lower one.
-use Rattle.traversal.specs.Places.{first-nowhere, first-only, first-left, first-right}
+use Rattle.traversal.specs.PlaceLaws.{first-nowhere, first-only, first-left, first-right}
 use borrow.Author.Needs.{needs}
 use Rattle.traversal.proofs.Place.first.Statement.{statement}
 use Rattle.traversal.proofs.Place.first.Tie as tie

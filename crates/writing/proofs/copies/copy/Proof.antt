@@ -16,44 +16,11 @@ Inv-loop from size at out₀ i₀ out i = (i ≤ size) × (out ≡ sets out₀ a
 abbrev μ-loop : tie.MeasureT-loop
 μ-loop from size at out₀ i₀ out i = size - i
 
-sub-if1 : tie.Need-sub-if1 Inv-loop μ-loop
-sub-if1 c = omega arith
-
 returns : tie.Need-returns Inv-loop μ-loop
 returns c = moves-past (c .before .args .from) (c .before .args .at) (c .before .args .size) _ (omega arith) (omega arith)
 
 loop-holds : tie.Need-loop-holds Inv-loop μ-loop
 loop-holds c = (omega arith, moves-none (c .before .args .from) (c .before .args .at) _)
-
-add-moved : tie.Need-add-moved Inv-loop μ-loop
-add-moved c = omega arith
-
-mul-moved : tie.Need-mul-moved Inv-loop μ-loop
-mul-moved c = omega arith
-
-element-copy-out-moved : tie.Need-element-copy-out-moved Inv-loop μ-loop
-element-copy-out-moved c = omega arith
-
-cast-moved : tie.Need-cast-moved Inv-loop μ-loop
-cast-moved c = omega arith
-
-cast-moved-2 : tie.Need-cast-moved-2 Inv-loop μ-loop
-cast-moved-2 c = omega arith
-
-moved-requires : tie.Need-moved-requires Inv-loop μ-loop
-moved-requires c κs = (omega arith, omega arith)
-
-add-put : tie.Need-add-put Inv-loop μ-loop
-add-put c = omega arith
-
-put-requires : tie.Need-put-requires Inv-loop μ-loop
-put-requires c κs = search needs
-
-add-i : tie.Need-add-i Inv-loop μ-loop
-add-i c = omega arith
-
-loop-less : tie.Need-loop-less Inv-loop μ-loop
-loop-less c = omega arith
 
 loop-again : tie.Need-loop-again Inv-loop μ-loop
 loop-again c =
@@ -61,9 +28,6 @@ loop-again c =
     let d = at-moved .before .before .before in
     let e = d .before .before in
     (omega arith, rw add-one (moves-more (e .args .from) (e .args .at) (d .loop .i) _ (d .loop .inv .1) (omega arith) (at-moved .moved .ensures) (c .put .ensures) (omega arith)))
-
-add-result : tie.Need-add-result Inv-loop μ-loop
-add-result c = omega arith
 
 returns-2 : tie.Need-returns-2 Inv-loop μ-loop
 returns-2 c =
@@ -77,19 +41,19 @@ copy-spec =
     (tie.spec
     Inv-loop
     μ-loop
-    sub-if1
+    (λ c. omega arith)
     returns
     loop-holds
-    add-moved
-    mul-moved
-    element-copy-out-moved
-    cast-moved
-    cast-moved-2
-    moved-requires
-    add-put
-    put-requires
-    add-i
-    loop-less
+    (λ c. omega arith)
+    (λ c. omega arith)
+    (λ c. omega arith)
+    (λ c. omega arith)
+    (λ c. omega arith)
+    (λ c κs. (omega arith, omega arith))
+    (λ c. omega arith)
+    (λ c κs. search needs)
+    (λ c. omega arith)
+    (λ c. omega arith)
     loop-again
-    add-result
+    (λ c. omega arith)
     returns-2)
