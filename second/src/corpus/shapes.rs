@@ -101,7 +101,7 @@ pub const FULL: &str = "t={0,1..255};";
 /// parentheses, and as many as tokens allow.
 pub const HELD: [Shape; 2] = [
     shape(Sort::Set, "held sets in parentheses", "(t(*)t)(+)(", ")", 2),
-    shape(Sort::Set, "held sets", "t(*)t(\\)", "", 1),
+    shape(Sort::Set, "held sets", "t(*)t(+)(", ")", 2),
 ];
 
 impl Shape {
