@@ -1,4 +1,4 @@
-// Small helpers below all other crates: a number in a wider type, with what its own type says of it; the least of two; what an answer can tell; copying words.
+// Small helpers below all other crates: a number in a wider type, with what its own type says of it; the least of two, one of two; what an answer can tell; copying words.
 pub mod u16_u32;
 pub mod u16_usize;
 pub mod u32_u64;
@@ -9,6 +9,7 @@ pub mod u8_usize;
 
 ghost use mathlib.Core.Path.{_≡_};
 ghost use Prim.Native.Nat.{_≤_, min};
+ghost use mathlib.Core.Bool.{cond};
 ghost use lib.ListN.{length};
 ghost use lib.Seq.{paste};
 ghost use Rattle.basics.specs.Told.{maxTold};
@@ -20,6 +21,13 @@ pub fn least(a: usize, b: usize) -> usize
     ensures { λ r. ⌜ r ≡ min a b ⌝ }
 {
     if a < b { a } else { b }
+}
+
+// One of two numbers: a function of its own, so that the compiled choice has no branch.
+pub fn either(test: bool, a: u32, b: u32) -> u32
+    ensures { λ r. ⌜ r ≡ cond test a b ⌝ }
+{
+    if test { a } else { b }
 }
 
 // A place or a count, as far as an answer can tell it.

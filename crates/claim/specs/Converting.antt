@@ -7,7 +7,7 @@ use lib.ListN.{length}
 use Rattle.node.specs.Limits.{maxNodes}
 use Rattle.node.specs.Result.{Result, _>>=_, guard}
 use Rattle.node.specs.Written.{count}
-use Rattle.forms.specs.Forms.{form}
+use Rattle.forms.specs.Forms.{lastForm, form}
 use Rattle.language.specs.Limits.{workBytes}
 use Rattle.language.specs.Reading.{NumberedFormula, textExpansion, delivered}
 
@@ -18,7 +18,7 @@ inForm number c = record { formula = form number (c .formula); signals = c .sign
 -- 'Rewriter: 21, 19, 16, 18': 21: 'form not 0, 1, 2'; 19 is never due, the reader's nodes being a table of the format; 16: 'more than 8,192 nodes by the definition'
 unfoldable pub formed : (number nodes signals : ℕ) → NumberedFormula → Result NumberedFormula
 formed number nodes signals c =
-    guard (leb number 2) 21 0 (guard (leb (count (form number (c .formula))) maxNodes) 16 0 (delivered nodes signals (inForm number c)))
+    guard (leb number lastForm) 21 0 (guard (leb (count (form number (c .formula))) maxNodes) 16 0 (delivered nodes signals (inForm number c)))
 
 -- the reader's 17, then 1 to 16, then the rewriter's
 unfoldable pub converting : (text : List ℕ) (number work nodes signals : ℕ) → Result NumberedFormula

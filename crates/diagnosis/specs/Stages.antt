@@ -8,6 +8,7 @@ use lib.Dec.{leb}
 use lib.ListN.{length, length-map, take}
 use borrow.Author.Tests.{leb-true}
 use Rattle.node.specs.Limits.{maxNodes}
+use Rattle.node.specs.LogicLaws.{so-same}
 use Rattle.node.specs.Result.{Result, Done, Refused, _>>=_, Counts}
 use Rattle.node.specs.ResultLaws.{guard-done, guard-bind, bind-to, bind-where, bind-refused}
 use Rattle.node.specs.Table.{treeAt}
@@ -21,7 +22,7 @@ use Rattle.recordings.specs.declared.Lasso.{Lasso}
 use Rattle.rows.specs.Agreement.{row-right}
 use Rattle.evaluator.specs.Evaluation.{verdictOf}
 use Rattle.evaluator.specs.Promise.{RowsHold}
-use Rattle.evaluator.specs.EvaluationLaws.{Opens, so-same}
+use Rattle.evaluator.specs.EvaluationLaws.{Opens}
 use Rattle.language.specs.Limits.{maxSignals, workBytes}
 use Rattle.language.specs.Tree.{Part, Preset, Assert, Guarantee}
 use Rattle.language.specs.Numbering.{inOrder, signalList}

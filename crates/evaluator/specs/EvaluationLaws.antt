@@ -1,7 +1,7 @@
 -- The ways to the evaluator's answer, what an accepted answer has, and how the rows in the buffer make the promises of Evaluation.
 use Prim.Native.Nat.{ℕ, _*_, _-_, _≤_, _<_}
-use mathlib.Core.Path.{_≡_, refl, sym, ap, ap₂, _∙_, subst}
-use mathlib.Core.Bool.{Bool, true, false, So}
+use mathlib.Core.Path.{_≡_, sym, ap, ap₂, _∙_, subst}
+use mathlib.Core.Bool.{Bool, So}
 use mathlib.Core.Logic.{_↔_, Iff·trans, Iff·symm}
 use mathlib.Core.List.{List}
 use native.Mathlib.Nat.{add-zero}
@@ -9,6 +9,7 @@ use native.Mathlib.Omega.{arith}
 use lib.Dec.{leb}
 use lib.ListN.{length, getD}
 use borrow.Author.Tests.{leb-true, lt-leb, le-leb}
+use Rattle.node.specs.LogicLaws.{so-same}
 use Rattle.node.specs.Result.{Result, Done, guard, _>>=_, Counts}
 use Rattle.node.specs.ResultLaws.{guard-pass, guard-stop, guard-done, bind-done, not-done}
 use Rattle.node.specs.Answer.{says}
@@ -190,12 +191,6 @@ root-in nodes signals bs room o e = subst (λ w. RootIn nodes room w) (sym e) he
         let f = o .fits in
         let k = o .small in
         record { few = h .few; some = s; low = omega arith; inside = omega arith }
-
-pub so-same : (b c : Bool) → So b ↔ So c → b ≡ c
-so-same true true h = refl
-so-same true false h = sym (h .0 refl)
-so-same false true h = h .1 refl
-so-same false false h = refl
 
 done-bool : {b c : Bool} → Done b ≡ Done c → b ≡ c
 done-bool e = cc

@@ -5,8 +5,8 @@ use mathlib.Core.Logic.{_⊎_, inl, inr}
 use mathlib.Core.List.{List}
 use native.Mathlib.Decide.{decLt}
 use native.Mathlib.Omega.{arith}
-use Rattle.node.specs.Limits.{fieldLimit}
-use Rattle.node.specs.Ltl.{Not, X, And, Or, Implies, Iff, U, R, W, Formula, One, Two}
+use Rattle.node.specs.Limits.{fieldLimit, kindLimit}
+use Rattle.node.specs.Ltl.{Not, X, And, Or, Implies, Iff, U, R, W, Formula, One, Two, G, F}
 use Rattle.node.specs.Kinds.{UnaryOf, BinaryOf, Unused, shapeOf, kindCount, unaryKind, binaryKind}
 use Rattle.node.specs.KindLaws.{no-shape, Each, each-below}
 use Rattle.node.specs.Table.{treeAt}
@@ -27,12 +27,12 @@ OfOne k = (unaryKind X ≤ k) × (k < binaryKind U)
 abbrev pub OfTwo : ℕ → Type 0
 OfTwo k = ((binaryKind And ≤ k) × (k < unaryKind X)) ⊎ ((binaryKind U ≤ k) × (k < kindCount))
 
-each-one : (P : ℕ → Type 0) → P 8 → P 9 → P 10 → (k : ℕ) → OfOne k → P k
-each-one P p8 p9 p10 k h = each-from P 8 3 (((tt, p8), p9), p10) k (h .0) (h .1)
+each-one : (P : ℕ → Type 0) → P (unaryKind X) → P (unaryKind G) → P (unaryKind F) → (k : ℕ) → OfOne k → P k
+each-one P next globally finally k h = each-from P (unaryKind X) 3 (((tt, next), globally), finally) k (h .0) (h .1)
 
-each-two : (P : ℕ → Type 0) → P 4 → P 5 → P 6 → P 7 → P 11 → P 12 → P 13 → (k : ℕ) → OfTwo k → P k
-each-two P p4 p5 p6 p7 p11 p12 p13 k (inl h) = each-from P 4 4 ((((tt, p4), p5), p6), p7) k (h .0) (h .1)
-each-two P p4 p5 p6 p7 p11 p12 p13 k (inr h) = each-from P 11 3 (((tt, p11), p12), p13) k (h .0) (h .1)
+each-two : (P : ℕ → Type 0) → P (binaryKind And) → P (binaryKind Or) → P (binaryKind Implies) → P (binaryKind Iff) → P (binaryKind U) → P (binaryKind R) → P (binaryKind W) → (k : ℕ) → OfTwo k → P k
+each-two P and or implies iff until release weak k (inl h) = each-from P (binaryKind And) 4 ((((tt, and), or), implies), iff) k (h .0) (h .1)
+each-two P and or implies iff until release weak k (inr h) = each-from P (binaryKind U) 3 (((tt, until), release), weak) k (h .0) (h .1)
 
 -- node i is, in the form f, an operator above its operand in the form f
 pub record OneStep (f : Formula → Formula) (ws : List ℕ) (i a op : ℕ) : Type 0 where
@@ -70,7 +70,7 @@ module _ {f : Formula → Formula} {ws : List ℕ} {i a b k op : ℕ} where
 
 -- what the last arm of a `match` knows: a node that fits has one of the kinds of two operands
 module _ {ws : List ℕ} {i a b k : ℕ} where
-  pub of-two : NodeIs fieldLimit ws i (shapeOf k) a b → 4 ≤ k → (k < 8) ⊎ (10 < k) → OfTwo k
+  pub of-two : NodeIs fieldLimit ws i (shapeOf k) a b → binaryKind And ≤ k → (k < unaryKind X) ⊎ (unaryKind F < k) → OfTwo k
   of-two n h (inl l) = inl (h, l)
   of-two n h (inr l) = go (decLt k kindCount)
     where
@@ -80,10 +80,10 @@ module _ {ws : List ℕ} {i a b k : ℕ} where
           let e : shapeOf k ≡ Unused = no-shape {kind = k} (omega arith) in
           let u : NodeIs fieldLimit ws i Unused a b = rw e at n in absurd (u .lower)
 
-turns-one : {f : Formula → Formula} {k op : ℕ} → op < 16 → unaryKind (unaryOf op) ≡ op → ((g : Formula) → f (One (unaryOf k) g) ≡ One (unaryOf op) (f g)) → TurnsOne f k op
+turns-one : {f : Formula → Formula} {k op : ℕ} → op < kindLimit → unaryKind (unaryOf op) ≡ op → ((g : Formula) → f (One (unaryOf k) g) ≡ One (unaryOf op) (f g)) → TurnsOne f k op
 turns-one l e t = record { operator = record { small = l; number = e }; turned = t }
 
-turns-two : {f : Formula → Formula} {k op : ℕ} → op < 16 → binaryKind (binaryOf op) ≡ op
+turns-two : {f : Formula → Formula} {k op : ℕ} → op < kindLimit → binaryKind (binaryOf op) ≡ op
     → ((g h : Formula) → f (Two (binaryOf k) g h) ≡ Two (binaryOf op) (f g) (f h)) → TurnsTwo f k op
 turns-two l e t = record { operator = record { small = l; number = e }; turned = t }
 
@@ -165,20 +165,20 @@ module _ {ws : List ℕ} {i a b : ℕ} where
   pub core-one : (k : ℕ) → (k ≡ unaryKind Not) ⊎ (k ≡ unaryKind X) → NodeIs fieldLimit ws i (shapeOf k) a b → OneStep core ws i a k
   unfolding core
   core-one =
-      one-of (λ k. NodeIs fieldLimit ws i (shapeOf k) a b → OneStep core ws i a k) 3 8
+      one-of (λ k. NodeIs fieldLimit ws i (shapeOf k) a b → OneStep core ws i a k) (unaryKind Not) (unaryKind X)
       (λ n. record { operator = record { small = omega arith; number = refl }; below = n .lower; tree = ap core (n .tree) })
       (λ n. record { operator = record { small = omega arith; number = refl }; below = n .lower; tree = ap core (n .tree) })
 
   pub core-two : (k : ℕ) → (k ≡ binaryKind Or) ⊎ (k ≡ binaryKind U) → NodeIs fieldLimit ws i (shapeOf k) a b → TwoStep core ws i a b k
   unfolding core
   core-two =
-      one-of (λ k. NodeIs fieldLimit ws i (shapeOf k) a b → TwoStep core ws i a b k) 5 11
+      one-of (λ k. NodeIs fieldLimit ws i (shapeOf k) a b → TwoStep core ws i a b k) (binaryKind Or) (binaryKind U)
       (λ n. record { operator = record { small = omega arith; number = refl }; below = n .lower; tree = ap core (n .tree) })
       (λ n. record { operator = record { small = omega arith; number = refl }; below = n .lower; tree = ap core (n .tree) })
 
   pub core-dual : (k : ℕ) → (k ≡ binaryKind And) ⊎ (k ≡ binaryKind R) → NodeIs fieldLimit ws i (shapeOf k) a b → DualStep ws i a b (baseKind k)
   unfolding core
   core-dual =
-      one-of (λ k. NodeIs fieldLimit ws i (shapeOf k) a b → DualStep ws i a b (baseKind k)) 4 12
+      one-of (λ k. NodeIs fieldLimit ws i (shapeOf k) a b → DualStep ws i a b (baseKind k)) (binaryKind And) (binaryKind R)
       (λ n. record { operator = record { small = omega arith; number = refl }; below = n .lower; tree = ap core (n .tree) })
       (λ n. record { operator = record { small = omega arith; number = refl }; below = n .lower; tree = ap core (n .tree) })

@@ -5,7 +5,7 @@ use mathlib.Core.Bool.{cond}
 use mathlib.Core.List.{List, [], _∷_}
 use lib.Dec.{eqb}
 use lib.ListN.{length, getD}
-use Rattle.node.specs.Limits.{fieldLimit}
+use Rattle.node.specs.Limits.{fieldLimit, kindLimit}
 use Rattle.node.specs.Ltl.{Unary, Not, X, G, F, Binary, And, Or, Implies, Iff, U, R, W}
 use Rattle.node.specs.Kinds.{unaryKind, binaryKind}
 use Rattle.node.specs.Formed.{Formed}
@@ -26,11 +26,11 @@ binaryOf k = getD (And ∷ And ∷ And ∷ And ∷ And ∷ Or ∷ Implies ∷ If
 
 -- a kind of one operand, and one of two
 pub record IsUnary (op : ℕ) : Type 0 where
-  pub small : op < 16
+  pub small : op < kindLimit
   pub number : unaryKind (unaryOf op) ≡ op
 
 pub record IsBinary (op : ℕ) : Type 0 where
-  pub small : op < 16
+  pub small : op < kindLimit
   pub number : binaryKind (binaryOf op) ≡ op
 
 -- the kind of the dual operator

@@ -2,7 +2,7 @@
 ghost use mathlib.Core.List.{_∷_, []};
 ghost use Prim.Native.Nat.{_-_, _<_, _≤_};
 ghost use lib.ListN.{length};
-ghost use Rattle.node.specs.Limits.{fieldLimit};
+ghost use Rattle.node.specs.Limits.{fieldLimit, kindLimit};
 ghost use Rattle.node.specs.Ltl.{True, Signal, One, Not};
 ghost use Rattle.node.specs.Fields.{pack};
 ghost use Rattle.node.specs.Kinds.{shapeOf, unaryKind};
@@ -17,7 +17,7 @@ use storing::signal;
 
 // An operator whose operands are the nodes before m and before n, below a `!`.
 pub fn join_not(op: u32, m: usize, n: usize, out: &mut [u32]) -> usize
-    requires { ⌜ (op < 16) × ((1 ≤ m) × ((m ≤ n) × Room (now out) n)) ⌝ }
+    requires { ⌜ (op < kindLimit) × ((1 ≤ m) × ((m ≤ n) × Room (now out) n)) ⌝ }
     ensures { λ r. ⌜ Puts r (pack op (m - 1) (n - 1) ∷ pack (unaryKind Not) n 0 ∷ []) (now (out .entry)) (now (out .exit)) n ⌝ }
 {
     let k = join(op, m, n, out);

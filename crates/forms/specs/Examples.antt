@@ -3,9 +3,9 @@ use Prim.Native.Nat.{ℕ}
 use mathlib.Core.Path.{_≡_, refl}
 use mathlib.Core.Bool.{Bool, true, false}
 use mathlib.Core.List.{List, [], _∷_}
-use Rattle.node.specs.Ltl.{Not}
+use Rattle.node.specs.Ltl.{Not, Iff}
 use Rattle.node.specs.Fields.{pack}
-use Rattle.node.specs.Kinds.{Atom, UnaryOf, shapeOf}
+use Rattle.node.specs.Kinds.{Atom, UnaryOf, BinaryOf, shapeOf}
 use Rattle.forms.specs.Forbidden.{forbids, tally, forbidden}
 
 -- a `!` on a signal, a `!` on true and an `->`: negation form rules out two, core form one
@@ -25,9 +25,9 @@ those : (ℕ → Bool) → List ℕ → List ℕ
 those test [] = []
 those test (n ∷ ns) = elim (test n) [ true ↦ n ∷ those test ns | false ↦ those test ns ]
 
--- 'Kinds: 0 true, 1 false, 2 signal .. 13 W'
+-- 'Kinds: 0 true, 1 false, 2 signal .. 13 W', and 14, which is no kind
 kinds : List ℕ
-kinds = 0 ∷ 1 ∷ 2 ∷ 3 ∷ 4 ∷ 5 ∷ 6 ∷ 7 ∷ 8 ∷ 9 ∷ 10 ∷ 11 ∷ 12 ∷ 13 ∷ []
+kinds = 0 ∷ 1 ∷ 2 ∷ 3 ∷ 4 ∷ 5 ∷ 6 ∷ 7 ∷ 8 ∷ 9 ∷ 10 ∷ 11 ∷ 12 ∷ 13 ∷ 14 ∷ []
 
 -- the kinds that a form rules out above a signal
 ruledOut : ℕ → List ℕ
@@ -47,13 +47,17 @@ negation-kinds : ruledOut 1 ≡ 6 ∷ 7 ∷ []
 unfolding those kinds ruledOut
 negation-kinds = refl
 
+-- whatever its first operand is
+negation-equivalence : forbids 1 (BinaryOf Iff) (UnaryOf Not) ≡ true
+negation-equivalence = refl
+
 -- '`!` only on signals'
-negation-not : notUnderNot 1 ≡ 0 ∷ 1 ∷ 3 ∷ 4 ∷ 5 ∷ 6 ∷ 7 ∷ 8 ∷ 9 ∷ 10 ∷ 11 ∷ 12 ∷ 13 ∷ []
+negation-not : notUnderNot 1 ≡ 0 ∷ 1 ∷ 3 ∷ 4 ∷ 5 ∷ 6 ∷ 7 ∷ 8 ∷ 9 ∷ 10 ∷ 11 ∷ 12 ∷ 13 ∷ 14 ∷ []
 unfolding those kinds notUnderNot
 negation-not = refl
 
 -- 'only true, signal, `!`, `||`, X, U'
-core-kinds : ruledOut 2 ≡ 1 ∷ 4 ∷ 6 ∷ 7 ∷ 9 ∷ 10 ∷ 12 ∷ 13 ∷ []
+core-kinds : ruledOut 2 ≡ 1 ∷ 4 ∷ 6 ∷ 7 ∷ 9 ∷ 10 ∷ 12 ∷ 13 ∷ 14 ∷ []
 unfolding those kinds ruledOut
 core-kinds = refl
 

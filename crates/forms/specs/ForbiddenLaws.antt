@@ -10,7 +10,7 @@ use Rattle.node.specs.Limits.{fieldLimit}
 use Rattle.node.specs.Ltl.{Not, X, G, F, And, Or, Implies, Iff, U, R, W, Formula, True, False, Signal, One, Two}
 use Rattle.node.specs.Fields.{pack, kindOf}
 use Rattle.node.specs.FieldLaws.{kind-pack, first-pack}
-use Rattle.node.specs.Kinds.{Shape, Truth, Falsehood, Atom, UnaryOf, BinaryOf, shapeOf, unaryKind, binaryKind}
+use Rattle.node.specs.Kinds.{Shape, Truth, Falsehood, Atom, UnaryOf, BinaryOf, shapeOf, unaryKind, binaryKind, trueKind, falseKind, signalKind}
 use Rattle.node.specs.KindLaws.{unary-shape, binary-shape}
 use Rattle.node.specs.Postorder.{size, nodesFrom, SignalsBelow}
 use Rattle.node.specs.PostorderLaws.{size-pos, length-nodes}
@@ -24,7 +24,7 @@ tally-append test [] vs = omega arith
 tally-append test (u ∷ us) vs = let h = tally-append test us vs in omega arith
 
 -- the shape of a formula's own node
-abbrev top : Formula → Shape
+abbrev pub top : Formula → Shape
 top True = Truth
 top False = Falsehood
 top (Signal k) = Atom
@@ -53,9 +53,9 @@ record Last (base : ℕ) (f : Formula) : Type 0 where
 
 last-of : (base : ℕ) (f : Formula) → SignalsBelow fieldLimit f → base + size f ≤ fieldLimit → Last base f
 unfolding nodesFrom size SignalsBelow
-last-of base True s h = record { init = []; word = pack 0 0 0; split = refl; count = refl; shape = shape-pack 0 0 0 (omega arith) (omega arith) refl }
-last-of base False s h = record { init = []; word = pack 1 0 0; split = refl; count = refl; shape = shape-pack 1 0 0 (omega arith) (omega arith) refl }
-last-of base (Signal k) s h = record { init = []; word = pack 2 k 0; split = refl; count = refl; shape = shape-pack 2 k 0 s (omega arith) refl }
+last-of base True s h = record { init = []; word = pack trueKind 0 0; split = refl; count = refl; shape = shape-pack trueKind 0 0 (omega arith) (omega arith) refl }
+last-of base False s h = record { init = []; word = pack falseKind 0 0; split = refl; count = refl; shape = shape-pack falseKind 0 0 (omega arith) (omega arith) refl }
+last-of base (Signal k) s h = record { init = []; word = pack signalKind k 0; split = refl; count = refl; shape = shape-pack signalKind k 0 s (omega arith) refl }
 last-of base (One o a) s h =
     let p = size-pos a in
     record {
@@ -102,9 +102,9 @@ tally-one n all k a b ha hb es et e =
 tally-clean : (n base : ℕ) (f : Formula) (us ws : List ℕ) → SignalsBelow fieldLimit f → base + size f ≤ fieldLimit → length us ≡ base → Clean n f
     → tally (forbidsWord n (us ++ (nodesFrom base f ++ ws))) (nodesFrom base f) ≡ 0
 unfolding nodesFrom size SignalsBelow Clean
-tally-clean n base True us ws s h e c = tally-one n (us ++ (pack 0 0 0 ∷ ws)) 0 0 0 (omega arith) (omega arith) refl refl (c _)
-tally-clean n base False us ws s h e c = tally-one n (us ++ (pack 1 0 0 ∷ ws)) 1 0 0 (omega arith) (omega arith) refl refl (c _)
-tally-clean n base (Signal k) us ws s h e c = tally-one n (us ++ (pack 2 k 0 ∷ ws)) 2 k 0 s (omega arith) refl refl (c _)
+tally-clean n base True us ws s h e c = tally-one n (us ++ (pack trueKind 0 0 ∷ ws)) trueKind 0 0 (omega arith) (omega arith) refl refl (c _)
+tally-clean n base False us ws s h e c = tally-one n (us ++ (pack falseKind 0 0 ∷ ws)) falseKind 0 0 (omega arith) (omega arith) refl refl (c _)
+tally-clean n base (Signal k) us ws s h e c = tally-one n (us ++ (pack signalKind k 0 ∷ ws)) signalKind k 0 s (omega arith) refl refl (c _)
 tally-clean n base (One o a) us ws s h e c =
     let p = size-pos a in
     let w : ℕ = pack (unaryKind o) (base + size a - 1) 0 in

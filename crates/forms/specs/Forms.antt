@@ -1,5 +1,6 @@
 -- The forms of a formula: document 01, 'Forms'. Laws in FormLaws and FormSignals.
 use Prim.Native.Nat.{ℕ, zero, suc}
+use mathlib.Core.List.{List, [], _∷_}
 use Rattle.node.specs.Ltl.{Not, X, G, F, And, Or, Implies, Iff, U, R, W, Formula, True, False, Signal, One, Two}
 
 -- '1 (negation form)': 'Form 1 pushes `!` down, and the negated side of one operator is the plain side of another'
@@ -71,7 +72,25 @@ core (Two U a b) = Two U (core a) (core b)
 core (Two R a b) = releaseOf (core a) (core b)
 core (Two W a b) = Two Or (Two U (core a) (core b)) (globallyOf (core a))
 
--- '0: as expanded', '1 (negation form)', '2 (core form)'
+-- '0: as expanded', '1 (negation form)', '2 (core form)': the forms by their numbers
+abbrev pub asExpanded : ℕ
+asExpanded = 0
+
+abbrev pub negationForm : ℕ
+negationForm = 1
+
+abbrev pub coreForm : ℕ
+coreForm = 2
+
+-- in their order
+abbrev pub formNumbers : List ℕ
+formNumbers = asExpanded ∷ negationForm ∷ coreForm ∷ []
+
+-- the last of them
+abbrev pub lastForm : ℕ
+lastForm = coreForm
+
+-- a formula in a form
 abbrev pub form : ℕ → Formula → Formula
 form zero f = f
 form (suc zero) f = plain f

@@ -14,12 +14,13 @@ use Rattle.node.specs.PostorderLaws.{tree-signals}
 use Rattle.node.specs.Table.{root}
 use Rattle.node.specs.Formed.{Formed}
 use Rattle.language.specs.Bytes.{ascii, if_then_else_}
+use Rattle.language.specs.Limits.{maxName}
 use Rattle.language.specs.Places.{refuseAt}
 use Rattle.language.specs.Tree.{Model, Mealy, Moore}
 use Rattle.language.specs.Numbered.{flagOf}
 use Rattle.basic.specs.Spelling.{spelled, namesOf, sideOf}
 use Rattle.basic.specs.Basic.{unarySign, binarySign, formulaTokens, infoTokens, lineTokens, basicTokens, parted}
-use Rattle.signal_names.specs.Promise.{slot, Held, Spelt, Spells}
+use Rattle.signal_names.specs.Promise.{slotBytes, slot, Held, Spelt, Spells}
 use Rattle.signal_names.specs.Turns.{names-length, name-is}
 use Rattle.layout.specs.Layout.{layout}
 use Rattle.layout.specs.Text.{headText, outputsText, guaranteeText, endText, linesFrom, textOf, handed, outcome}
@@ -145,5 +146,5 @@ module _ {text list names sizes : List ℕ} {r : ℕ} (spells : Spells text list
   unfolding refuseAt _>>=_
   names-pass h formed = rw (spells .none h, text-is text list nodes m formed (spells .spelt h))
 
-  pub names-held : r ≡ length list → 64 * length list + 68 ≤ length names → length list ≤ length sizes → Held names sizes (length list)
+  pub names-held : r ≡ length list → slotBytes * length list + (maxName + 4) ≤ length names → length list ≤ length sizes → Held names sizes (length list)
   names-held h a b = record { room = a; sized = b; small = λ j l. spells .spelt h .small j (rw (names-length text list) l) }

@@ -6,11 +6,11 @@ use mathlib.Core.List.{List}
 use lib.ListN.{length, getD}
 use native.Mathlib.Omega.{arith}
 use Rattle.node.specs.Fields.{kindOf, firstOf, secondOf}
-use Rattle.node.specs.Kinds.{kindCount, shapeOf}
+use Rattle.node.specs.Kinds.{kindCount, shapeOf, signalKind}
 use Rattle.node.specs.Formed.{Below}
 use Rattle.language.specs.Limits.{maxName}
 use Rattle.layout.specs.Layout.{piece, sized, nth}
-use Rattle.layout.specs.Table.{following, signalKind, ofSignal, ofOperand, Measurable}
+use Rattle.layout.specs.Table.{following, ofSignal, ofOperand, Measurable}
 use Rattle.layout.specs.SizeLaws.{kind-below, atom-below, first-below, second-below, summed-is}
 
 module _ {sizes : List ℕ} {n word k a b : ℕ} (m : Measurable sizes n word) (ek : k ≡ kindOf word) (ea : a ≡ firstOf word) (eb : b ≡ secondOf word) where

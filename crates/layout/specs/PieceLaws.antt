@@ -7,13 +7,13 @@ use lib.ListN.{length, getD, length-append}
 use lib.Dec.{eqb}
 use native.Mathlib.Omega.{arith}
 use borrow.Author.Tests.{eqb-true, eqb-false}
-use Rattle.node.specs.Kinds.{shapeOf}
+use Rattle.node.specs.Kinds.{shapeOf, signalKind}
 use Rattle.node.specs.KindLaws.{by-kind, no-shape}
 use Rattle.language.specs.Bytes.{ascii}
 use Rattle.signal_names.specs.Runs.{part-length, puts-after}
 use Rattle.signal_names.specs.Promise.{slotBytes, slot, part, Puts}
 use Rattle.layout.specs.Layout.{piece, pieceOf}
-use Rattle.layout.specs.Table.{signalKind, Writable}
+use Rattle.layout.specs.Table.{Writable}
 
 -- of every other kind it is the table's
 other-piece : (name : ℕ → List ℕ) (k done a : ℕ) → (k ≡ signalKind → ⊥) → pieceOf name (shapeOf k) done a ≡ piece (shapeOf k) done
@@ -61,9 +61,9 @@ module _ {names sizes : List ℕ} {kind first done : ℕ} (w : Writable names si
         rw same at (puts-after p (puts-after q s))
 
   pub piece-fits : (at room : ℕ) → at + length whole ≤ room → at + length (piece (shapeOf kind) done) ≤ room
-  piece-fits at room h = go (eqb kind 2) refl
+  piece-fits at room h = go (eqb kind signalKind) refl
     where
-      go : (b : Bool) → eqb kind 2 ≡ b → at + length (piece (shapeOf kind) done) ≤ room
+      go : (b : Bool) → eqb kind signalKind ≡ b → at + length (piece (shapeOf kind) done) ≤ room
       go true e = let k = eqb-true kind 2 e in omega (arith, lead k, signal-size k)
       go false e = omega (arith, ap length (other-piece (slot names sizes) kind done first (eqb-false kind 2 e)))
 

@@ -7,13 +7,13 @@ use lib.ListN.{length}
 use native.Mathlib.Decide.{decLt}
 use native.Mathlib.Omega.{arith}
 use borrow.Author.Tests.{eq-eqb, ne-eqb}
-use Rattle.node.specs.Kinds.{Shape, Truth, Falsehood, Atom, UnaryOf, BinaryOf, Unused, kindCount, shapeOf, build}
+use Rattle.node.specs.Kinds.{Shape, Truth, Falsehood, Atom, UnaryOf, BinaryOf, Unused, kindCount, shapeOf, build, signalKind}
 use Rattle.node.specs.KindLaws.{Each, each-below, no-shape}
 use Rattle.node.specs.Ltl.{Formula}
 use Rattle.node.specs.Formed.{Below}
 use Rattle.language.specs.Laws.Basics.Tests.{pick, leave}
 use Rattle.layout.specs.Layout.{piece, sized, weight}
-use Rattle.layout.specs.Table.{following, signalKind, ofSignal, ofOperand}
+use Rattle.layout.specs.Table.{following, ofSignal, ofOperand}
 
 module _ (limit n a b : ℕ) where
   -- a node that fits has one of the fourteen kinds

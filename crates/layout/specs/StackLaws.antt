@@ -13,7 +13,7 @@ use borrow.Author.Tests.{ltb-true, ltb-false}
 use Rattle.node.specs.Limits.{maxNodes}
 use Rattle.node.specs.Fields.{kindOf, firstOf, secondOf}
 use Rattle.node.specs.Ltl.{Formula}
-use Rattle.node.specs.Kinds.{Shape, Truth, Falsehood, Atom, UnaryOf, BinaryOf, Unused, kindCount, shapeOf, build}
+use Rattle.node.specs.Kinds.{Shape, Truth, Falsehood, Atom, UnaryOf, BinaryOf, Unused, kindCount, shapeOf, build, signalKind}
 use Rattle.node.specs.Table.{treeAt}
 use Rattle.node.specs.Formed.{Below, NodeIs}
 use Rattle.node.specs.TableLaws.{node-is}
@@ -168,7 +168,7 @@ module _ {nodes names sizes stack : List ℕ} {h kind first : ℕ} (t : Top node
       let below = atom-below limit i first second kind (is .lower) in
       let held = t .scene .held in
       record {
-        start = λ e. let l : done ≤ operands (shapeOf 2) = rw e at few in omega arith;
+        start = λ e. let l : done ≤ operands (shapeOf signalKind) = rw e at few in omega arith;
         listed = λ e. omega (arith, below e, held .sized);
         small = λ e. held .small first (below e);
         room = λ e. omega (arith, below e, held .room);

@@ -6,7 +6,7 @@ use mathlib.Core.List.{List, [], _∷_, _++_}
 use lib.Dec.{ltb, eqb}
 use lib.ListN.{length, getD}
 use Rattle.node.specs.Fields.{kindOf, firstOf, secondOf}
-use Rattle.node.specs.Kinds.{Shape, shapes, shapeOf}
+use Rattle.node.specs.Kinds.{Shape, shapes, signalKind, shapeOf}
 use Rattle.node.specs.Formed.{Below}
 use Rattle.language.specs.Limits.{maxName}
 use Rattle.language.specs.Bytes.{if_then_else_}
@@ -35,10 +35,6 @@ table = rows shapes
 
 abbrev pub rowAt : ℕ → ℕ → ℕ
 rowAt kind done = 36 * kind + 12 * done
-
--- the kind of a signal's node
-abbrev pub signalKind : ℕ
-signalKind = 2
 
 -- a signal's name, and an operand, in the size of a node
 abbrev pub ofSignal : ℕ → ℕ → ℕ

@@ -7,7 +7,6 @@ use lib.Dec.{eqb}
 use lib.ListN.{getD, length}
 use Rattle.node.specs.Fields.{firstOf, secondOf}
 use Rattle.bits.specs.Bits.{bitAt, width}
-use Rattle.recordings.specs.Limits.{maxPositions}
 use Rattle.language.specs.Bytes.{if_then_else_}
 use Rattle.language.specs.Tree.{Part, Initially, Preset, Require, Assert, Assume, Guarantee}
 use Rattle.faults.specs.Naming.{Finding, FaultIn, brokenFrom, orElse}
@@ -22,10 +21,6 @@ operandOf ws i false = firstOf (getD ws i 0)
 unfoldable pub walked : List ℕ → (path steps : ℕ) → ℕ → ℕ
 walked ws path zero i = i
 walked ws path (suc k) i = walked ws (path / 2) k (operandOf ws i (eqb (path % 2) 1))
-
--- the bytes of the longest row
-abbrev pub maxRow : ℕ
-maxRow = width maxPositions
 
 -- the value of node i at position p, in rows of so many bytes
 abbrev pub valueOf : List ℕ → (width i p : ℕ) → Bool

@@ -13,7 +13,8 @@ use Rattle.node.specs.Fields.{firstOf, secondOf}
 use Rattle.bits.specs.Bits.{Values, bitAt}
 use Rattle.language.specs.Bytes.{if_then_else_}
 use Rattle.faults.specs.Naming.{brokenFrom}
-use Rattle.line_search.specs.Walking.{operandOf, walked, maxRow, seen}
+use Rattle.rows.specs.Memory.{rowBytes}
+use Rattle.line_search.specs.Walking.{operandOf, walked, seen}
 
 -- past the end of a table, or of the rows
 pub bit-past : (bs : List ℕ) (i : ℕ) → length bs ≤ i / 8 → bitAt bs i ≡ false
@@ -25,7 +26,7 @@ operand-past ws i true h = ap secondOf (List·getD-eq-default ws 0 h)
 operand-past ws i false h = ap firstOf (List·getD-eq-default ws 0 h)
 
 -- a row's bit has a small number
-pub bit-small : (width i : ℕ) → width ≤ maxRow → i ≤ maxTold → width * i ≤ maxRow * maxTold
+pub bit-small : (width i : ℕ) → width ≤ rowBytes → i ≤ maxTold → width * i ≤ rowBytes * maxTold
 bit-small width i h l = mul-le-mul h l
 
 -- a path

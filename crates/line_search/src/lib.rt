@@ -6,7 +6,8 @@ ghost use mathlib.Core.Bool.{not, _||_};
 ghost use Rattle.language.specs.Bytes.{if_then_else_};
 ghost use Rattle.faults.specs.Naming.{brokenFrom};
 ghost use Rattle.recordings.specs.Limits.{maxPositions};
-ghost use Rattle.line_search.specs.Walking.{operandOf, walked, maxRow, valueOf, seen, orEnd};
+ghost use Rattle.rows.specs.Memory.{rowBytes};
+ghost use Rattle.line_search.specs.Walking.{operandOf, walked, valueOf, seen, orEnd};
 use bits::get_bit;
 use node::Node;
 
@@ -42,7 +43,7 @@ pub fn walk(nodes: &[u32], from: u32, path: u32, steps: u32) -> u32
 
 // The value of node i at position p, in rows of `width` bytes; false past the rows.
 pub fn value(rows: &[u8], width: usize, i: u32, p: usize) -> bool
-    requires { ⌜ (width ≤ maxRow) × (p < maxPositions) ⌝ }
+    requires { ⌜ (width ≤ rowBytes) × (p < maxPositions) ⌝ }
     ensures { λ r. ⌜ r ≡ valueOf (now (rows .entry)) width i p ⌝ }
 {
     let at = 8 * (width * (i as usize)) + p;
@@ -67,7 +68,7 @@ pub fn first_false(
     count: u32,
     p: usize,
 ) -> u32
-    requires { ⌜ (width ≤ maxRow) × (p < maxPositions) ⌝ }
+    requires { ⌜ (width ≤ rowBytes) × (p < maxPositions) ⌝ }
     ensures { λ r. ⌜ r ≡ seen (now (nodes .entry)) (λ i. valueOf (now (rows .entry)) width i p) section count 0 ⌝ }
 {
     let mut found = 0;
@@ -87,7 +88,7 @@ pub fn first_false(
 
 // Strict: is REQUIRE true at p?
 pub fn required(rows: &[u8], width: usize, strict: bool, require: u32, p: usize) -> bool
-    requires { ⌜ (width ≤ maxRow) × (p < maxPositions) ⌝ }
+    requires { ⌜ (width ≤ rowBytes) × (p < maxPositions) ⌝ }
     ensures { λ r. ⌜ r ≡ (not strict || valueOf (now (rows .entry)) width require p) ⌝ }
 {
     if !strict {
@@ -98,7 +99,7 @@ pub fn required(rows: &[u8], width: usize, strict: bool, require: u32, p: usize)
 
 // The smallest position where ASSERT is broken, strict: with REQUIRE true up to it; n if there is none.
 pub fn broken(rows: &[u8], width: usize, strict: bool, require: u32, assert: u32, n: usize) -> usize
-    requires { ⌜ (width ≤ maxRow) × (n ≤ maxPositions) ⌝ }
+    requires { ⌜ (width ≤ rowBytes) × (n ≤ maxPositions) ⌝ }
     ensures { λ r. ⌜ r ≡ orEnd n (brokenFrom strict (valueOf (now (rows .entry)) width require) (valueOf (now (rows .entry)) width assert) 0 n) ⌝ }
 {
     let mut p = 0;

@@ -11,7 +11,7 @@ use borrow.Author.Tests.{ltb-true, eqb-true, le-leb, lt-leb, lt-ltb, le-ltb, eq-
 use Rattle.node.specs.Limits.{maxNodes}
 use Rattle.node.specs.Ltl.{Not, X, F, Formula}
 use Rattle.node.specs.Fields.{kindOf, firstOf, secondOf}
-use Rattle.node.specs.Kinds.{Shape, Truth, Falsehood, Atom, UnaryOf, BinaryOf, Unused, shapeOf, kindCount, unaryKind, build}
+use Rattle.node.specs.Kinds.{Shape, Truth, Falsehood, Atom, UnaryOf, BinaryOf, Unused, shapeOf, kindCount, unaryKind, build, signalKind}
 use Rattle.node.specs.KindLaws.{each-below, by-kind, no-shape}
 use Rattle.node.specs.Result.{Done}
 use Rattle.node.specs.Table.{treeAt, root, fits}
@@ -231,22 +231,22 @@ root-told {limit} {ws} {bytes} {words} f e =
 
 -- the ways to a node's number
 module _ (w : ℕ) {k : ℕ} (at : ℕ → ℕ) (e : k ≡ kindOf w) where
-  pub node-constant : k < 2 → 0 ≡ nodeCode w at
-  node-constant h = rw (← e, lt-ltb k 2 h)
+  pub node-constant : k < signalKind → 0 ≡ nodeCode w at
+  node-constant h = rw (← e, lt-ltb k signalKind h)
 
-  pub node-signal : 2 ≤ k → k < unaryKind Not → here ≡ nodeCode w at
-  node-signal l h = rw (← e, le-ltb k 2 l, lt-ltb k (unaryKind Not) h)
+  pub node-signal : signalKind ≤ k → k < unaryKind Not → here ≡ nodeCode w at
+  node-signal l h = rw (← e, le-ltb k signalKind l, lt-ltb k (unaryKind Not) h)
 
   module _ {x : ℕ} (o : unaryKind Not ≤ k) (ex : x ≡ firstOf w) where
     pub node-next : k ≡ unaryKind X → at x + 1 ≡ nodeCode w at
-    node-next n = rw (← e, ← ex, le-ltb k 2 (omega arith), le-ltb k (unaryKind Not) o, eq-eqb k (unaryKind X) n)
+    node-next n = rw (← e, ← ex, le-ltb k signalKind (omega arith), le-ltb k (unaryKind Not) o, eq-eqb k (unaryKind X) n)
 
     pub node-not : (k ≡ unaryKind X → ⊥) → k ≡ unaryKind Not → at x ≡ nodeCode w at
-    node-not n q = rw (← e, ← ex, le-ltb k 2 (omega arith), le-ltb k (unaryKind Not) o, ne-eqb k (unaryKind X) n, eq-eqb k (unaryKind Not) q)
+    node-not n q = rw (← e, ← ex, le-ltb k signalKind (omega arith), le-ltb k (unaryKind Not) o, ne-eqb k (unaryKind X) n, eq-eqb k (unaryKind Not) q)
 
     module _ {y : ℕ} (n : k ≡ unaryKind X → ⊥) (q : k ≡ unaryKind Not → ⊥) (ey : y ≡ secondOf w) where
       pub node-joined : joinedCode k (at x) (at y) ≡ nodeCode w at
-      node-joined = rw (← e, ← ex, ← ey, le-ltb k 2 (omega arith), le-ltb k (unaryKind Not) o, ne-eqb k (unaryKind X) n, ne-eqb k (unaryKind Not) q)
+      node-joined = rw (← e, ← ex, ← ey, le-ltb k signalKind (omega arith), le-ltb k (unaryKind Not) o, ne-eqb k (unaryKind X) n, ne-eqb k (unaryKind Not) q)
 
 -- the ways of an operator other than X and !
 module _ (k a b : ℕ) where

@@ -7,7 +7,7 @@ use lib.Dec.{ltb, leb, eqb}
 use lib.ListN.{length, getD}
 use Rattle.node.specs.Limits.{maxNodes}
 use Rattle.node.specs.Ltl.{Not, X, F}
-use Rattle.node.specs.Kinds.{unaryKind}
+use Rattle.node.specs.Kinds.{unaryKind, signalKind}
 use Rattle.node.specs.Fields.{kindOf, firstOf, secondOf}
 use Rattle.node.specs.Result.{Result, Done}
 use Rattle.node.specs.Table.{treeAt}
@@ -38,7 +38,7 @@ joinedCode kind a b = cond (ltb kind (unaryKind X)) (max a b) (cond (leb kind (u
 -- the number of a node of a kind, from those of its operands
 abbrev pub codeOf : ℕ → ℕ → ℕ → ℕ
 codeOf kind a b =
-    cond (ltb kind 2) 0 (cond (ltb kind (unaryKind Not)) here (cond (eqb kind (unaryKind X)) (a + 1) (cond (eqb kind (unaryKind Not)) a (joinedCode kind a b))))
+    cond (ltb kind signalKind) 0 (cond (ltb kind (unaryKind Not)) here (cond (eqb kind (unaryKind X)) (a + 1) (cond (eqb kind (unaryKind Not)) a (joinedCode kind a b))))
 
 -- a node's number, from those of the nodes before it
 abbrev pub nodeCode : ℕ → (ℕ → ℕ) → ℕ
@@ -49,7 +49,7 @@ abbrev pub nearCount : ℕ
 nearCount = 254
 
 abbrev pub farCount : ℕ
-farCount = 7_938
+farCount = maxNodes - nearCount
 
 abbrev pub nearEndless : ℕ
 nearEndless = 255
@@ -58,7 +58,7 @@ abbrev pub narrowCode : ℕ → ℕ
 narrowCode s = cond (ltb s here) 0 (cond (leb endless s) nearEndless (s - here + 1))
 
 abbrev pub widened : ℕ → ℕ
-widened b = cond (eqb b 0) 0 (cond (eqb b nearEndless) endless (b + 16_383))
+widened b = cond (eqb b 0) 0 (cond (eqb b nearEndless) endless (b + (here - 1)))
 
 -- the number that is kept for node i
 abbrev pub numberAt : List ℕ → List ℕ → ℕ → ℕ

@@ -62,7 +62,7 @@ module _ (b : ℕ) where
   pub widened-endless : (b ≡ 0 → ⊥) → b ≡ nearEndless → widened b ≡ endless
   widened-endless z h = rw (ne-eqb b 0 z, eq-eqb b nearEndless h)
 
-  pub widened-bounded : (b ≡ 0 → ⊥) → (b ≡ nearEndless → ⊥) → widened b ≡ b + 16_383
+  pub widened-bounded : (b ≡ 0 → ⊥) → (b ≡ nearEndless → ⊥) → widened b ≡ b + (hereCode - 1)
   widened-bounded z h = rw (ne-eqb b 0 z, ne-eqb b nearEndless h)
 
 -- and to it

@@ -10,7 +10,7 @@ use Rattle.node.specs.Limits.{maxNodes, fieldLimit}
 use Rattle.node.specs.Ltl.{Formula, True, False, Signal, One, Two}
 use Rattle.node.specs.Fields.{pack}
 use Rattle.node.specs.FieldLaws.{kind-pack, first-pack, second-pack}
-use Rattle.node.specs.Kinds.{Shape, shapeOf, unaryKind, binaryKind}
+use Rattle.node.specs.Kinds.{Shape, shapeOf, unaryKind, binaryKind, trueKind, falseKind, signalKind}
 use Rattle.node.specs.KindLaws.{unary-shape, binary-shape}
 use Rattle.node.specs.Result.{Result, Done, Counts}
 use Rattle.node.specs.ResultLaws.{guard-pass}
@@ -19,7 +19,7 @@ use Rattle.node.specs.Postorder.{size, nodesFrom, SignalsBelow}
 use Rattle.node.specs.PostorderLaws.{size-pos, length-nodes, root-is}
 
 -- a word put together fits as its fields do
-fits-pack : (limit n k a b : ℕ) {s : Shape} → a < fieldLimit → b < fieldLimit → shapeOf k ≡ s → fits limit n s a b ≡ true → nodeFits limit n (pack k a b) ≡ true
+pub fits-pack : (limit n k a b : ℕ) {s : Shape} → a < fieldLimit → b < fieldLimit → shapeOf k ≡ s → fits limit n s a b ≡ true → nodeFits limit n (pack k a b) ≡ true
 fits-pack limit n k a b ha hb e h = simp (kind-pack k ha hb, first-pack k ha hb, second-pack k a hb, e) h
 
 module _ {A : Type 0} (limit : ℕ) (small : limit ≤ fieldLimit) (r : Result A) where
@@ -31,10 +31,10 @@ module _ {A : Type 0} (limit : ℕ) (small : limit ≤ fieldLimit) (r : Result A
   scan-nodes : (base : ℕ) (f : Formula) (ws : List ℕ) → SignalsBelow limit f → base + size f ≤ fieldLimit
       → scanned limit base (nodesFrom base f ++ ws) r ≡ scanned limit (base + size f) ws r
   unfolding nodesFrom size SignalsBelow
-  scan-nodes base True ws s h = scan-one base (base + 1) (pack 0 0 0) ws (fits-pack limit base 0 0 0 (omega arith) (omega arith) refl refl) (omega arith)
-  scan-nodes base False ws s h = scan-one base (base + 1) (pack 1 0 0) ws (fits-pack limit base 1 0 0 (omega arith) (omega arith) refl refl) (omega arith)
+  scan-nodes base True ws s h = scan-one base (base + 1) (pack trueKind 0 0) ws (fits-pack limit base trueKind 0 0 (omega arith) (omega arith) refl refl) (omega arith)
+  scan-nodes base False ws s h = scan-one base (base + 1) (pack falseKind 0 0) ws (fits-pack limit base falseKind 0 0 (omega arith) (omega arith) refl refl) (omega arith)
   scan-nodes base (Signal k) ws s h =
-      scan-one base (base + 1) (pack 2 k 0) ws (fits-pack limit base 2 k 0 (omega arith) (omega arith) refl (rw (lt-ltb k limit s))) (omega arith)
+      scan-one base (base + 1) (pack signalKind k 0) ws (fits-pack limit base signalKind k 0 (omega arith) (omega arith) refl (rw (lt-ltb k limit s))) (omega arith)
   scan-nodes base (One o a) ws s h =
       let p = size-pos a in
       let n : ℕ = base + size a in

@@ -1,6 +1,8 @@
 -- The kinds of nodes by their numbers, and what each says of its fields (document 01, 'Expansion').
 use Prim.Native.Nat.{ℕ}
+use mathlib.Core.Bool.{Bool, _&&_, _||_}
 use mathlib.Core.List.{List, [], _∷_}
+use lib.Dec.{ltb}
 use lib.ListN.{length, getD}
 use Rattle.node.specs.Ltl.{Unary, Not, X, G, F, Binary, And, Or, Implies, Iff, U, R, W, Formula, True, False, Signal, One, Two}
 
@@ -23,6 +25,18 @@ shapeOf kind = getD shapes kind Unused
 abbrev pub kindCount : ℕ
 kindCount = length shapes
 
+-- the kind of a node that is true
+abbrev pub trueKind : ℕ
+trueKind = 0
+
+-- the kind of one that is false
+abbrev pub falseKind : ℕ
+falseKind = 1
+
+-- the kind of a signal's node
+abbrev pub signalKind : ℕ
+signalKind = 2
+
 -- the kinds of the operators
 abbrev pub unaryKind : Unary → ℕ
 unaryKind Not = 3
@@ -42,7 +56,11 @@ binaryKind W = 13
 -- the kinds in their order: true, false, signal, then the operators
 abbrev pub kinds : List ℕ
 kinds =
-    0 ∷ 1 ∷ 2 ∷ unaryKind Not ∷ binaryKind And ∷ binaryKind Or ∷ binaryKind Implies ∷ binaryKind Iff ∷ unaryKind X ∷ unaryKind G ∷ unaryKind F ∷ binaryKind U ∷ binaryKind R ∷ binaryKind W ∷ []
+    trueKind ∷ falseKind ∷ signalKind ∷ unaryKind Not ∷ binaryKind And ∷ binaryKind Or ∷ binaryKind Implies ∷ binaryKind Iff ∷ unaryKind X ∷ unaryKind G ∷ unaryKind F ∷ binaryKind U ∷ binaryKind R ∷ binaryKind W ∷ []
+
+-- does a kind have two operands? `&&`, `||`, `->` and `<->` stand between `!` and X, and U, R and W behind F
+abbrev pub hasTwo : ℕ → Bool
+hasTwo kind = (ltb (unaryKind Not) kind && ltb kind (unaryKind X)) || ltb (unaryKind F) kind
 
 -- the formula of a node with operands a and b, where `tree` gives the operands' formulas
 abbrev pub build : Shape → (ℕ → Formula) → ℕ → ℕ → Formula

@@ -6,6 +6,14 @@ use mathlib.Core.List.{List, [], _∷_}
 abbrev pub maxNodes : ℕ
 maxNodes = 8_192
 
+-- '4 kind': the width of a kind
+abbrev pub kindBits : ℕ
+kindBits = 4
+
+-- one more than a kind's field can hold
+abbrev pub kindLimit : ℕ
+kindLimit = 2 ^ kindBits
+
 -- '14 first operand, 14 second': the width of a field
 abbrev pub fieldBits : ℕ
 fieldBits = 14

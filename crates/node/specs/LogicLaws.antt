@@ -1,5 +1,6 @@
 -- Laws of 'or' and 'some'.
-use mathlib.Core.Bool.{Bool, true, false, So, false≢true}
+use mathlib.Core.Path.{_≡_, refl, sym}
+use mathlib.Core.Bool.{Bool, true, false, _&&_, So, false≢true}
 use mathlib.Core.Logic.{_↔_}
 use Rattle.node.specs.Logic.{Either, Some, Stable}
 
@@ -35,6 +36,16 @@ stable-all s h x = s x (λ n. h (λ f. n (f x)))
 pub stable-so : (b : Bool) → Stable (So b)
 stable-so true h = λ i. true
 stable-so false h = absurd (h (λ e. false≢true e))
+
+-- a value of two, and equal values
+pub so-and : (x y : Bool) → (So x × So y) ↔ So (x && y)
+so-and true y = (λ h. h .1, λ h. (refl, h))
+so-and false y = (λ h. h .0, λ h. absurd (false≢true h))
+
+pub so-same : (x y : Bool) → So x ↔ So y → x ≡ y
+so-same true y h = sym (h .0 refl)
+so-same false true h = h .1 refl
+so-same false false h = refl
 
 -- equivalents put for equivalents
 pub or-same : {A B C D : Type 0} → A ↔ C → B ↔ D → Either A B ↔ Either C D

@@ -9,7 +9,7 @@ use Rattle.node.specs.Limits.{fieldLimit}
 use Rattle.node.specs.Ltl.{Formula, True, False, Signal, One, Two}
 use Rattle.node.specs.Fields.{pack, kindOf, firstOf, secondOf}
 use Rattle.node.specs.FieldLaws.{kind-pack, first-pack, second-pack}
-use Rattle.node.specs.Kinds.{Shape, Truth, Falsehood, Atom, UnaryOf, BinaryOf, Unused, shapeOf, build, unaryKind, binaryKind}
+use Rattle.node.specs.Kinds.{Shape, Truth, Falsehood, Atom, UnaryOf, BinaryOf, Unused, shapeOf, build, unaryKind, binaryKind, trueKind, falseKind, signalKind}
 use Rattle.node.specs.KindLaws.{unary-shape, binary-shape}
 use Rattle.node.specs.Table.{among, formulaOf, formulas, treeAt}
 use Rattle.node.specs.Formed.{Formed, Below}
@@ -69,9 +69,9 @@ last-sub fs f gs n e =
 nodes-formulas : (fs : List Formula) (f : Formula) (ws : List ℕ) (base : ℕ) → base ≡ length fs → SignalsBelow fieldLimit f → base + size f ≤ fieldLimit
     → formulas fs (nodesFrom base f ++ ws) ≡ formulas (fs ++ subs f) ws
 unfolding formulas nodesFrom SignalsBelow size before
-nodes-formulas fs True ws base e s h = ap (λ (x : Formula). formulas (fs ++ (x ∷ [])) ws) (read-pack fs 0 0 0 (omega arith) (omega arith))
-nodes-formulas fs False ws base e s h = ap (λ (x : Formula). formulas (fs ++ (x ∷ [])) ws) (read-pack fs 1 0 0 (omega arith) (omega arith))
-nodes-formulas fs (Signal k) ws base e s h = ap (λ (x : Formula). formulas (fs ++ (x ∷ [])) ws) (read-pack fs 2 k 0 s (omega arith))
+nodes-formulas fs True ws base e s h = ap (λ (x : Formula). formulas (fs ++ (x ∷ [])) ws) (read-pack fs trueKind 0 0 (omega arith) (omega arith))
+nodes-formulas fs False ws base e s h = ap (λ (x : Formula). formulas (fs ++ (x ∷ [])) ws) (read-pack fs falseKind 0 0 (omega arith) (omega arith))
+nodes-formulas fs (Signal k) ws base e s h = ap (λ (x : Formula). formulas (fs ++ (x ∷ [])) ws) (read-pack fs signalKind k 0 s (omega arith))
 nodes-formulas fs (One o f) ws base e s h =
     let pos = size-pos f in
     let n : ℕ = base + size f - 1 in

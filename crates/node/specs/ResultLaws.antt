@@ -24,15 +24,23 @@ unfolding guard
 guard-done true number place r e = (refl, e)
 guard-done false number place r e = absurd (not-done e)
 
--- a refusal with another number comes from behind the test
-numberOf : {A : Type 0} → Result A → ℕ
+-- the number of a refusal
+unfoldable pub numberOf : {A : Type 0} → Result A → ℕ
 numberOf (Done x) = 0
 numberOf (Refused number p) = number
 
+-- a refusal with another number comes from behind the test
 pub guard-other : {A : Type 0} (b : Bool) (m q : ℕ) (r : Result A) {number p : ℕ} → (m ≡ number → ⊥) → guard b m q r ≡ Refused number p → r ≡ Refused number p
 unfolding guard numberOf
 guard-other true m q r f e = e
 guard-other false m q r f e = absurd (f (ap numberOf e))
+
+-- a test passes or fails whatever comes behind it
+pub guard-refused : {A B : Type 0} (b : Bool) (number place : ℕ) (r : Result A) (s : Result B) {n p : ℕ} → (r ≡ Refused n p → s ≡ Refused n p) → guard b number place r ≡ Refused n p
+    → guard b number place s ≡ Refused n p
+unfolding guard
+guard-refused true number place r s f e = f e
+guard-refused false number place r s f e = cc
 
 pub bind-done : {A B : Type 0} (r : Result A) (k : A → Result B) {b : B} → r >>= k ≡ Done b → (a : A) × (r ≡ Done a) × (k a ≡ Done b)
 unfolding _>>=_

@@ -1,19 +1,20 @@
 // The node format of document 01: a word of 4 bits kind, 14 bits first operand, 14 bits second operand.
 pub mod refusals;
 
+use basics::either;
 ghost use mathlib.Core.Path.{_≡_};
 ghost use Prim.Native.Nat.{_<_, _≤_};
-ghost use mathlib.Core.Bool.{false, cond};
+ghost use mathlib.Core.Bool.{false};
 ghost use lib.ListN.{length};
-ghost use Rattle.node.specs.Limits.{fieldLimit, maxNodes, limits as limits'};
+ghost use Rattle.node.specs.Limits.{fieldLimit, maxNodes, limits as limits', kindLimit};
 ghost use Rattle.node.specs.Fields.{pack, kindOf, firstOf, secondOf};
-ghost use Rattle.node.specs.Kinds.{kinds as kinds'};
+ghost use Rattle.node.specs.Kinds.{kindCount, kinds as kinds', hasTwo};
 ghost use Rattle.node.specs.Table.{nodeFits, scanned, checked};
 ghost use Rattle.node.specs.Formed.{allFit, counted};
 ghost use Rattle.node.specs.Answer.{says};
 ghost use Rattle.node.specs.Result.{Refused};
 
-// What every entry point answers: accepted with the counts of nodes and signals, or refused with number and place.
+// What every entry point answers: accepted with two counts, of nodes and of signals unless the function says which, or refused with number and place.
 pub enum Answer {
     Accepted(u32, u32),
     Refused(u32, u32),
@@ -33,6 +34,15 @@ pub fn limits() -> [usize; 3]
     ensures { λ r. ⌜ r ≡ limits' ⌝ }
 {
     [MAX_NODES, FIELD_LIMIT as usize, MAX_SIGNALS]
+}
+
+// How many kinds there are, one more than the last, and what it stands for.
+pub const KINDS: u32 = 14;
+
+pub fn kind_count() -> u32
+    ensures { λ r. ⌜ r ≡ kindCount ⌝ }
+{
+    KINDS
 }
 
 pub struct Node {
@@ -95,7 +105,7 @@ impl Node {
 
     // A node of two operands.
     pub fn binary(kind: u32, first: u32, second: u32) -> Node
-        requires { ⌜ (kind < 16) × ((first < fieldLimit) × (second < fieldLimit)) ⌝ }
+        requires { ⌜ (kind < kindLimit) × ((first < fieldLimit) × (second < fieldLimit)) ⌝ }
         ensures { λ r. ⌜ r .word ≡ pack kind first second ⌝ }
     {
         Node {
@@ -105,7 +115,7 @@ impl Node {
 
     // A node of one operand, or a signal with its number.
     pub fn unary(kind: u32, first: u32) -> Node
-        requires { ⌜ (kind < 16) × (first < fieldLimit) ⌝ }
+        requires { ⌜ (kind < kindLimit) × (first < fieldLimit) ⌝ }
         ensures { λ r. ⌜ r .word ≡ pack kind first 0 ⌝ }
     {
         Node::binary(kind, first, 0)
@@ -113,10 +123,17 @@ impl Node {
 
     // A constant.
     pub fn leaf(kind: u32) -> Node
-        requires { ⌜ kind < 16 ⌝ }
+        requires { ⌜ kind < kindLimit ⌝ }
         ensures { λ r. ⌜ r .word ≡ pack kind 0 0 ⌝ }
     {
         Node::binary(kind, 0, 0)
+    }
+
+    // Does a kind have two operands?
+    pub fn has_two(kind: u32) -> bool
+        ensures { λ r. ⌜ r ≡ hasTwo kind ⌝ }
+    {
+        (Node::NOT < kind) & (kind < Node::NEXT) | (Node::FINALLY < kind)
     }
 
     // The fields of a node, of any word.
@@ -139,16 +156,6 @@ impl Node {
     }
 }
 
-// One more than the last kind.
-const KINDS: u32 = 14;
-
-// One of two numbers: a function of its own, so that the compiled choice has no branch.
-fn either(test: bool, a: u32, b: u32) -> u32
-    ensures { λ r. ⌜ r ≡ cond test a b ⌝ }
-{
-    if test { a } else { b }
-}
-
 // May the word stand as node n, where signal numbers are below `limit`? By its kind each field lies below a bound.
 pub fn node_fits(word: u32, n: u32, limit: u32) -> bool
     ensures { λ r. ⌜ r ≡ nodeFits limit n word ⌝ }
@@ -160,8 +167,7 @@ pub fn node_fits(word: u32, n: u32, limit: u32) -> bool
     let operand = either(k < KINDS, n, 0);
     let number = either(k < Node::NOT, limit, operand);
     let first_end = either(k < Node::SIGNAL, 1, number);
-    let has_two = (Node::NOT < k) & (k < Node::NEXT) | (Node::FINALLY < k);
-    let second_end = either(has_two, n, 1);
+    let second_end = either(Node::has_two(k), n, 1);
     (a < first_end) & (b < second_end)
 }
 

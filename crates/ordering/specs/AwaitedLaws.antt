@@ -11,7 +11,7 @@ use borrow.Author.Tests.{ltb-true, eqb-true}
 use Rattle.node.specs.Limits.{maxNodes}
 use Rattle.node.specs.Ltl.{Formula}
 use Rattle.node.specs.Fields.{pack, kindOf, firstOf, secondOf}
-use Rattle.node.specs.Kinds.{Shape, Truth, Falsehood, Atom, UnaryOf, BinaryOf, Unused, shapeOf, build, unaryKind, binaryKind}
+use Rattle.node.specs.Kinds.{Shape, Truth, Falsehood, Atom, UnaryOf, BinaryOf, Unused, shapeOf, build, unaryKind, binaryKind, trueKind, falseKind, signalKind}
 use Rattle.node.specs.Tests.{and-left, and-right}
 use Rattle.node.specs.Formed.{Formed}
 use Rattle.node.specs.Table.{treeAt, fits, nodeFits}
@@ -71,14 +71,14 @@ module _ {tree : ℕ → Formula} {memo t : List ℕ} (r : Remembers tree memo t
   settled-by Truth a b w ok q =
       let p = eqb-true a 0 (and-left (eqb a 0) (eqb b 0) ok) in
       let z = eqb-true b 0 (and-right (eqb a 0) (eqb b 0) ok) in
-      ap (place t) (sym (ap₂ (pack 0) p z) ∙ same-word q)
+      ap (place t) (sym (ap₂ (pack trueKind) p z) ∙ same-word q)
   settled-by Falsehood a b w ok q =
       let p = eqb-true a 0 (and-left (eqb a 0) (eqb b 0) ok) in
       let z = eqb-true b 0 (and-right (eqb a 0) (eqb b 0) ok) in
-      ap (place t) (sym (ap₂ (pack 1) p z) ∙ same-word q)
+      ap (place t) (sym (ap₂ (pack falseKind) p z) ∙ same-word q)
   settled-by Atom a b w ok q =
       let z = eqb-true b 0 (and-right (ltb a limit) (eqb b 0) ok) in
-      ap (place t) (sym (ap (pack 2 a) z) ∙ same-word q)
+      ap (place t) (sym (ap (pack signalKind a) z) ∙ same-word q)
   settled-by (UnaryOf o) a b w ok q = go (getD memo a 0) refl q
     where
       go : (m : ℕ) → getD memo a 0 ≡ m → numbered a m (λ v. Word (pack (unaryKind o) v 0)) ≡ Word w → write t (build (UnaryOf o) tree a b) ≡ place t w

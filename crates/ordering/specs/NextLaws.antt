@@ -3,36 +3,33 @@ use Prim.Native.Nat.{ℕ, zero, suc, _-_, _^_, _≤_, _<_}
 use mathlib.Core.Path.{_≡_, refl, ap, ap₂, _∙_, sym}
 use mathlib.Core.List.{List}
 use mathlib.Core.Logic.{_≢_}
-use mathlib.Core.Bool.{Bool, cond, _&&_, _||_}
+use mathlib.Core.Bool.{Bool, cond}
 use lib.ListN.{getD}
 use lib.Dec.{ltb}
 use native.Mathlib.Omega.{arith}
 use borrow.Author.Tests.{lt-ltb, le-ltb}
-use Rattle.node.specs.Limits.{maxNodes, fieldLimit}
+use Rattle.node.specs.Limits.{maxNodes, fieldLimit, kindLimit}
 use Rattle.node.specs.Fields.{pack, kindOf, firstOf, secondOf}
-use Rattle.node.specs.Kinds.{kindCount}
+use Rattle.node.specs.Ltl.{Not, X, F}
+use Rattle.node.specs.Kinds.{kindCount, unaryKind, hasTwo}
 use Rattle.node.specs.KindLaws.{by-kind, no-shape}
 use Rattle.sharing.specs.FormedLaws.{split-pack}
 use Rattle.ordering.specs.declared.Next.{Next}
 use Rattle.ordering.specs.declared.Next.the-variants.{Operand, Word}
 use Rattle.ordering.specs.Ordering.{arityOf, numbered, nextBy, nextOf, Readable}
 
--- by tests of the kind
-abbrev pub isTwo : ℕ → Bool
-isTwo kind = (ltb 3 kind && ltb kind 8) || ltb 10 kind
-
-arity-tests : (k : ℕ) → cond (ltb k 3) 0 (cond (isTwo k) 2 1) ≡ arityOf k
+arity-tests : (k : ℕ) → cond (ltb k (unaryKind Not)) 0 (cond (hasTwo k) 2 1) ≡ arityOf k
 arity-tests =
-    by-kind (λ k. cond (ltb k 3) 0 (cond (isTwo k) 2 1) ≡ arityOf k) ((((((((((((((tt, refl), refl), refl), refl), refl), refl), refl), refl), refl), refl), refl), refl), refl), refl) above
+    by-kind (λ k. cond (ltb k (unaryKind Not)) 0 (cond (hasTwo k) 2 1) ≡ arityOf k) ((((((((((((((tt, refl), refl), refl), refl), refl), refl), refl), refl), refl), refl), refl), refl), refl), refl) above
   where
-    above : (k : ℕ) → kindCount ≤ k → cond (ltb k 3) 0 (cond (isTwo k) 2 1) ≡ arityOf k
-    above k h = rw (no-shape h, le-ltb k 3 (omega arith), lt-ltb 3 k (omega arith), le-ltb k 8 (omega arith), lt-ltb 10 k (omega arith))
+    above : (k : ℕ) → kindCount ≤ k → cond (ltb k (unaryKind Not)) 0 (cond (hasTwo k) 2 1) ≡ arityOf k
+    above k h = rw (no-shape h, le-ltb k (unaryKind Not) (omega arith), lt-ltb (unaryKind Not) k (omega arith), le-ltb k (unaryKind X) (omega arith), lt-ltb (unaryKind F) k (omega arith))
 
-pub arity-none : (k : ℕ) → k < 3 → 0 ≡ arityOf k
-arity-none k h = sym (ap (λ (t : Bool). cond t 0 (cond (isTwo k) 2 1)) (lt-ltb k 3 h)) ∙ arity-tests k
+pub arity-none : (k : ℕ) → k < unaryKind Not → 0 ≡ arityOf k
+arity-none k h = sym (ap (λ (t : Bool). cond t 0 (cond (hasTwo k) 2 1)) (lt-ltb k (unaryKind Not) h)) ∙ arity-tests k
 
-pub arity-some : (k : ℕ) (t : Bool) → 3 ≤ k → isTwo k ≡ t → cond t 2 1 ≡ arityOf k
-arity-some k t h e = sym (ap₂ (λ (s : Bool) (u : Bool). cond s 0 (cond u 2 1)) (le-ltb k 3 h) e) ∙ arity-tests k
+pub arity-some : (k : ℕ) (t : Bool) → unaryKind Not ≤ k → hasTwo k ≡ t → cond t 2 1 ≡ arityOf k
+arity-some k t h e = sym (ap₂ (λ (s : Bool) (u : Bool). cond s 0 (cond u 2 1)) (le-ltb k (unaryKind Not) h) e) ∙ arity-tests k
 
 -- an operand that has a number
 numbered-some : (a m : ℕ) (rest : ℕ → Next) → m ≢ 0 → numbered a m rest ≡ rest (m - 1)
@@ -59,7 +56,7 @@ module _ (memo : List ℕ) (k a b : ℕ) where
     by-both (suc (suc n)) h g = numbered-some a (getD memo a 0) (λ v. numbered b (getD memo b 0) (λ u. Word (pack k v u))) some
 
 -- kinds and numbers fit their fields
-pub kind-fits : {w k : ℕ} → w < 2 ^ 32 → k ≡ kindOf w → k < 16
+pub kind-fits : {w k : ℕ} → w < 2 ^ 32 → k ≡ kindOf w → k < kindLimit
 kind-fits h e = omega arith
 
 pub number-fits : {memo : List ℕ} {w : ℕ} (a : ℕ) {f : ℕ} → Readable memo w → f ≡ getD memo a 0 → f - 1 < fieldLimit

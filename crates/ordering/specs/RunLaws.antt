@@ -8,6 +8,7 @@ use lib.ListN.{length, getD, set, length-set, replicate, length-replicate}
 use lib.Seq.{getD-set-same, getD-set-other}
 use native.Mathlib.Decide.{ℕ-discrete}
 use native.Mathlib.Omega.{arith}
+use Rattle.basics.specs.Lists.{getD-zeros}
 use Rattle.node.specs.Limits.{maxNodes}
 use Rattle.node.specs.Table.{treeAt}
 use Rattle.node.specs.Formed.{Formed}
@@ -58,11 +59,6 @@ unnumbered-less (suc u ∷ memo) zero v h e d = absurd (omega arith)
 unnumbered-less (zero ∷ memo) (suc i) v h e d = ap suc (unnumbered-less memo i v (omega arith) e d)
 unnumbered-less (suc u ∷ memo) (suc i) v h e d = unnumbered-less memo i v (omega arith) e d
 
-none-numbered : (n k : ℕ) → getD (replicate {A = ℕ} n 0) k 0 ≡ 0
-none-numbered zero k = refl
-none-numbered (suc n) zero = refl
-none-numbered (suc n) (suc k) = none-numbered n k
-
 pub run-start : {nodes : List ℕ} {root : ℕ} {out : List ℕ} → Orderable nodes root out → Running nodes root out out (replicate maxNodes 0) (replicate maxNodes 0) 0 root
 run-start {root = root} o =
     record {
@@ -76,8 +72,8 @@ run-start {root = root} o =
       same-room = refl;
       memo-length = length-replicate {A = ℕ} maxNodes 0;
       waiting-length = length-replicate {A = ℕ} maxNodes 0;
-      remembers = record { noted = λ k v e. let z = none-numbered maxNodes k in absurd (omega arith) };
-      chain = whole (none-numbered maxNodes root);
+      remembers = record { noted = λ k v e. let z = getD-zeros maxNodes k in absurd (omega arith) };
+      chain = whole (getD-zeros maxNodes root);
       onward = refl;
     }
 

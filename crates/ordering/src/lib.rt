@@ -1,23 +1,17 @@
 // The formula of one node of a table written into a shared table, each distinct subformula once, at its first place in postorder (specs/Ordering). The table may be any
 // of the format: its nodes shared, equal, unreached, in any order. Nothing here calls itself: neither stack nor time follow the formula's tree.
 // The functions ask for a table that has passed the check and for an array that holds a shared one: they are no entry points, and their callers have made sure of both.
+use basics::u16_u32::wide;
 use node::MAX_NODES;
 use node::Node;
 use shared_table::put;
 ghost use mathlib.Core.Path.{_≡_};
-ghost use Prim.Native.Nat.{_<_};
 ghost use Rattle.ordering.specs.Ordering.{arityOf, nextOf, Readable, Orderable, Orders};
 
 // What comes next at a node: an operand that has no number yet, or the node's word over its operands' numbers.
 enum Next {
     Operand(usize),
     Word(u32),
-}
-
-fn wide(x: u16) -> u32
-    ensures { λ r. ⌜ (r ≡ x) × (r < 65536) ⌝ }
-{
-    x as u32
 }
 
 // How many operands a kind has.
@@ -27,7 +21,7 @@ fn arity(kind: u32) -> u32
     if kind < Node::NOT {
         return 0;
     }
-    if (Node::NOT < kind) & (kind < Node::NEXT) | (Node::FINALLY < kind) {
+    if Node::has_two(kind) {
         return 2;
     }
     1

@@ -11,7 +11,7 @@ use borrow.Author.Tests.{ltb-true, leb-true, eqb-true, lt-leb, le-leb, eq-eqb, n
 use Rattle.basics.specs.Told.{maxTold}
 use Rattle.node.specs.Result.{Result, Done, Refused, _>>=_, guard}
 use Rattle.node.specs.Tests.{and-left, and-right}
-use Rattle.node.specs.ResultLaws.{guard-pass, guard-stop, guard-done, not-done}
+use Rattle.node.specs.ResultLaws.{guard-pass, guard-stop, guard-done, guard-refused, not-done}
 use Rattle.recordings.specs.Limits.{maxPositions, signalBits, headerBytes, headerBits, told}
 use Rattle.bits.specs.Bits.{bitAt, width}
 use Rattle.bits.specs.BitLaws.{number-lt}
@@ -107,16 +107,6 @@ readable-done signals bs r e =
     let s = guard-done (eqb (length bs) (headerBytes + width (w .n * w .k))) 20 (told (length bs)) spare (q .1) in
     let t = guard-done (blank bs (headerBits + w .n * w .k) (8 * length bs - (headerBits + w .n * w .k))) 20 (length bs - 1) r (s .1) in
     (record { long = leb-true headerBytes (length bs) (p .0); header = heads signals w (q .0); whole = eqb-true (length bs) _ (s .0) }, t .1)
-
--- a test passes or fails whatever comes after it
-guard-refused : {A B : Type 0} (b : Bool) (number place : ℕ) (r : Result A) (s : Result B) {x y : ℕ} → (r ≡ Refused x y → s ≡ Refused x y)
-    → guard b number place r ≡ Refused x y → guard b number place s ≡ Refused x y
-unfolding guard
-guard-refused true number place r s f e = f e
-guard-refused false number place r s {x} {y} f e =
-    let ex : number ≡ x = cc in
-    let ey : place ≡ y = cc in
-    rw (ex, ey)
 
 pub readable-refused : {A B : Type 0} (a : A) (signals : ℕ) (bs : List ℕ) (s : Result B) {x y : ℕ} → readable signals bs (Done a) ≡ Refused x y → readable signals bs s ≡ Refused x y
 unfolding readable filled

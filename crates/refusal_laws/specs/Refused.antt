@@ -8,7 +8,7 @@ use lib.Dec.{leb}
 use lib.ListN.{length}
 use native.Mathlib.Omega.{arith}
 use Rattle.node.specs.Result.{Result, Done, Refused, _>>=_}
-use Rattle.node.specs.ResultLaws.{not-done, guard-other}
+use Rattle.node.specs.ResultLaws.{not-done, numberOf, guard-other}
 use Rattle.language.specs.Limits.{maxBytes, maxNames}
 use Rattle.language.specs.Tokens.{Token, tokens}
 use Rattle.language.specs.Tree.{Identifier, Definition, Defined, Enumerated, Spec}
@@ -31,10 +31,6 @@ use Rattle.refusal_laws.specs.WordLaws.{misworded-is-first}
 -- which of the refusals in a row was met
 record Met {A : Type 0} (m number p : ℕ) (o : Option ℕ) (r : Result A) : Type 0 where
   which : ((m ≡ number) × (o ≡ some p)) ⊎ (r ≡ Refused number p)
-
-numberOf : {A : Type 0} → Result A → ℕ
-numberOf (Done x) = 0
-numberOf (Refused number p) = number
 
 placeOf : {A : Type 0} → Result A → ℕ
 placeOf (Done x) = 0

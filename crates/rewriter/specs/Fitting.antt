@@ -15,6 +15,10 @@ pub record Fitted (f : Formula) (out out′ : List ℕ) (r : Answer) : Type 0 wh
   pub answer : says r ≡ fitting f (length out)
   pub buffer : out′ ≡ leaves (says r) f out
 
+-- the nodes of the table by way of which a small table is rewritten
+abbrev pub smallResult : ℕ
+smallResult = 1_024
+
 -- the first n words of a table: refused by 18 where the buffer is short, otherwise copied to its front
 pub record HandsOver (table : List ℕ) (n : ℕ) (out out′ : List ℕ) (r : Answer) : Type 0 where
   pub short : length out < n → (r ≡ Refused 18 0) × (out′ ≡ out)

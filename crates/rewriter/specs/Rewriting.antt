@@ -8,7 +8,7 @@ use Rattle.node.specs.Ltl.{Formula}
 use Rattle.node.specs.Result.{Result, Done, Refused, _>>=_, guard, Counts}
 use Rattle.node.specs.Table.{root, checked}
 use Rattle.node.specs.Written.{nodesOf, count}
-use Rattle.forms.specs.Forms.{form}
+use Rattle.forms.specs.Forms.{lastForm, form}
 
 -- 'the rewriter writes out the root's tree', in the form
 abbrev pub target : ℕ → List ℕ → Formula
@@ -20,7 +20,7 @@ fitting f room = guard (leb (count f) maxNodes) 16 0 (guard (leb (count f) room)
 
 -- 'Rewriter: 21, 19, 16, 18'; 21: 'form not 0, 1, 2'; 19 with any signal number that a field holds
 unfoldable pub rewriting : (number : ℕ) (nodes : List ℕ) (room : ℕ) → Result Counts
-rewriting number nodes room = guard (leb number 2) 21 0 (checked fieldLimit nodes >>= λ _. fitting (target number nodes) room)
+rewriting number nodes room = guard (leb number lastForm) 21 0 (checked fieldLimit nodes >>= λ _. fitting (target number nodes) room)
 
 -- 'Output is again a postorder tree', 'entries past an accepted result are unchanged'; a refusal writes nothing
 abbrev pub leaves : Result Counts → Formula → List ℕ → List ℕ

@@ -13,15 +13,11 @@ ghost use Rattle.rewriter.specs.Promise.{Rewrites};
 use form_writers::copy::copy;
 use form_writers::core_form::core;
 use form_writers::negation_form::plain;
+use forms::AS_EXPANDED;
+use forms::CORE_FORM;
+use forms::NEGATION_FORM;
 use node::Answer;
 use node::MAX_NODES;
-
-// The forms by their numbers.
-pub const AS_EXPANDED: u32 = 0;
-
-pub const NEGATION_FORM: u32 = 1;
-
-pub const CORE_FORM: u32 = 2;
 
 // Where no signals are told, a table may have any signal number that a field holds.
 pub const SIGNAL_LIMIT: u32 = node::FIELD_LIMIT;

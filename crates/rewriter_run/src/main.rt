@@ -1,11 +1,11 @@
 // Runs the rewriter on each refusal of document 01's table, on its one file in full, and on the deepest tables.
 use basics::least;
 ghost use Prim.Native.Nat.{_<_};
+use forms::AS_EXPANDED;
+use forms::CORE_FORM;
+use forms::NEGATION_FORM;
 use libc::STDOUT_FILENO;
 use node::Node;
-use rewriter::AS_EXPANDED;
-use rewriter::CORE_FORM;
-use rewriter::NEGATION_FORM;
 
 mod tables;
 

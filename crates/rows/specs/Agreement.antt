@@ -8,7 +8,7 @@ use native.Mathlib.Omega.{arith}
 use native.Mathlib.Decide.{decLt, ℕ-discrete}
 use native.Mathlib.Nat.{add-zero}
 use Rattle.node.specs.Logic.{Either}
-use Rattle.node.specs.LogicLaws.{or-left, or-right, or-cases, some-at, some-cases, stable-not, stable-so, not-not, or-same, to-same}
+use Rattle.node.specs.LogicLaws.{or-left, or-right, or-cases, some-at, some-cases, stable-not, stable-so, so-and, not-not, or-same, to-same}
 use Rattle.node.specs.Temporal.{Property, Always, Eventually, Until, Release, WeakUntil}
 use Rattle.node.specs.TemporalLaws.{StableAll, eventually-until, always-not-eventually, not-weak}
 use Rattle.node.specs.Ltl.{Unary, Not, X, G, F, Binary, And, Or, Implies, Iff, U, R, W, Formula, True, False, Signal, One, Two, UnaryMeans, BinaryMeans, Holds}
@@ -24,10 +24,6 @@ yes! = λ i. true
 so-not : (x : Bool) → ¬ So x ↔ So (not x)
 so-not true = (λ h. absurd (h yes!), λ e h. false≢true e)
 so-not false = (λ h. yes!, λ e h. false≢true h)
-
-so-and : (x y : Bool) → (So x × So y) ↔ So (x && y)
-so-and true y = (λ h. h .1, λ h. (yes!, h))
-so-and false y = (λ h. h .0, λ h. absurd (false≢true h))
 
 so-or : (x y : Bool) → Either (So x) (So y) ↔ So (x || y)
 so-or true y = (λ h. yes!, λ h. or-left yes!)

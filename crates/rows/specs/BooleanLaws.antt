@@ -14,7 +14,8 @@ use lib.Bits.{and-block, and-lt, bitOr, or-block, or-lt, bitXor, xor-block, xor-
 use lib.ListN.{length, getD, set, length-set}
 use lib.Seq.{getD-set-same, getD-set-other}
 use Rattle.words.specs.Words.{readAt, writeAt}
-use Rattle.node.specs.Kinds.{Shape, shapeOf}
+use Rattle.node.specs.Ltl.{Not, X}
+use Rattle.node.specs.Kinds.{Shape, shapeOf, unaryKind}
 use Rattle.bits.specs.Bits.{bitOf, bitAt, width}
 use Rattle.bits.specs.Bitwise.{and-acts, or-acts, xor-acts, flip-bit}
 use Rattle.rows.specs.Row.{shown}
@@ -55,7 +56,7 @@ under r = omega arith
 xor-wide : (n a b : ℕ) → a < 256 ^ n → b < 256 ^ n → bitXor a b < 256 ^ n
 xor-wide n a b g k = rw (power n) (xor-lt (8 * n) a b (rw (power n) at g) (rw (power n) at k))
 
-bytewise : (k : ℕ) → 3 ≤ k → k < 8 → Bytewise (bytesOf (shapeOf k))
+bytewise : (k : ℕ) → unaryKind Not ≤ k → k < unaryKind X → Bytewise (bytesOf (shapeOf k))
 bytewise =
     boolean (λ k. Bytewise (bytesOf (shapeOf k)))
     (record { last = λ n a b r s g k h l. flip-last n a r g h; small = λ r s h l. omega arith })
@@ -84,7 +85,7 @@ steps-same s e rows small a b c (suc n) =
     ∙ ap (λ l. set l (c + n) (bytesOf s 1 p q)) (steps-same s e rows small a b c n)
 
 -- 'Each word step equals the eight byte steps it stands for', and a step on any n bytes the n byte steps
-pub word-step : (kind : ℕ) → 3 ≤ kind → kind < 8 → (rows : List ℕ) → Bytes rows → (a b c n : ℕ)
+pub word-step : (kind : ℕ) → unaryKind Not ≤ kind → kind < unaryKind X → (rows : List ℕ) → Bytes rows → (a b c n : ℕ)
     → writeAt rows c n (bytesOf (shapeOf kind) n (readAt rows a n) (readAt rows b n)) ≡ byteSteps (shapeOf kind) rows a b c n
 word-step kind low high rows small a b c n = steps-same (shapeOf kind) (bytewise kind low high) rows small a b c n
 
@@ -178,7 +179,7 @@ bound-rest n h low e b =
     record { first-in = omega arith; second-in = omega arith; room = omega arith; low = omega arith; few = omega arith }
 
 -- a step on one byte gives each bit its value
-step-bit : (x y t : ℕ) → x < 256 → y < 256 → t < 8 → (k : ℕ) → 3 ≤ k → k < 8 → bitOf (bytesOf (shapeOf k) 1 x y) t ≡ pairOf (shapeOf k) (bitOf x t) (bitOf y t)
+step-bit : (x y t : ℕ) → x < 256 → y < 256 → t < 8 → (k : ℕ) → unaryKind Not ≤ k → k < unaryKind X → bitOf (bytesOf (shapeOf k) 1 x y) t ≡ pairOf (shapeOf k) (bitOf x t) (bitOf y t)
 step-bit x y t hx hy h =
     boolean (λ k. bitOf (bytesOf (shapeOf k) 1 x y) t ≡ pairOf (shapeOf k) (bitOf x t) (bitOf y t))
     (flip-bit 8 x t hx h)

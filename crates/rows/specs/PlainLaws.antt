@@ -5,6 +5,8 @@ use mathlib.Core.Logic.{inl, inr, _≢_}
 use mathlib.Core.List.{List}
 use native.Mathlib.Omega.{arith}
 use lib.Pow.{pow-mono}
+use Rattle.node.specs.Ltl.{X}
+use Rattle.node.specs.Kinds.{trueKind, falseKind, signalKind, unaryKind}
 use Rattle.bits.specs.Bits.{Values, number}
 use Rattle.bits.specs.BitLaws.{number-lt}
 use Rattle.bits.specs.Spans.{Within}
@@ -20,7 +22,7 @@ use Rattle.rows.specs.declared.Stretch.{Stretch}
 use Rattle.rows.specs.Plain.{Spot}
 
 -- the last of the plain kinds
-pub plain-next : (op : Op) → Plain op → op .kind ≢ 0 → op .kind ≢ 1 → op .kind ≢ 2 → op .kind ≡ 8
+pub plain-next : (op : Op) → Plain op → op .kind ≢ trueKind → op .kind ≢ falseKind → op .kind ≢ signalKind → op .kind ≡ unaryKind X
 plain-next op (inl h) a b c = absurd (omega arith)
 plain-next op (inr e) a b c = e
 

@@ -7,7 +7,8 @@ use mathlib.Core.List.{List}
 use native.Mathlib.Decide.{ℕ-discrete, decLt}
 use native.Mathlib.Omega.{arith}
 use lib.ListN.{length, set, length-set}
-use Rattle.node.specs.Kinds.{Unused, shapeOf}
+use Rattle.node.specs.Ltl.{Not, X, G, F, And, Or, Implies, Iff, U, R, W}
+use Rattle.node.specs.Kinds.{Unused, shapeOf, unaryKind, binaryKind, kindCount}
 use Rattle.node.specs.KindLaws.{no-shape}
 use Rattle.rows.specs.Memory.{rowsLimit, bitsAt, Kept, Filled, Written}
 use Rattle.rows.specs.MemoryLaws.{kept-agree, last-kept, written, written-as}
@@ -47,62 +48,62 @@ pub ready-still : {bs old new : List ℕ} {w : Lasso} {op : Op} {base : ℕ} →
 ready-still {bs} {old} {new} {w} {op} {base} r k =
     record { recorded = r .recorded; room = subst (λ x. base + width (w .n) ≤ x) (sym (k .size)) (r .room); low = r .low; uses = r .uses }
 
--- the kinds from 3 to 7
-pub boolean : (P : ℕ → Type 0) → P 3 → P 4 → P 5 → P 6 → P 7 → (k : ℕ) → 3 ≤ k → k < 8 → P k
-boolean P a b c d f k h l = go (ℕ-discrete k 3) (ℕ-discrete k 4) (ℕ-discrete k 5) (ℕ-discrete k 6)
+-- the kinds from `!` to `<->`
+pub boolean : (P : ℕ → Type 0) → P (unaryKind Not) → P (binaryKind And) → P (binaryKind Or) → P (binaryKind Implies) → P (binaryKind Iff) → (k : ℕ) → unaryKind Not ≤ k → k < unaryKind X → P k
+boolean P a b c d f k h l = go (ℕ-discrete k (unaryKind Not)) (ℕ-discrete k (binaryKind And)) (ℕ-discrete k (binaryKind Or)) (ℕ-discrete k (binaryKind Implies))
   where
-    go : Dec (k ≡ 3) → Dec (k ≡ 4) → Dec (k ≡ 5) → Dec (k ≡ 6) → P k
+    go : Dec (k ≡ unaryKind Not) → Dec (k ≡ binaryKind And) → Dec (k ≡ binaryKind Or) → Dec (k ≡ binaryKind Implies) → P k
     go (yes e) y z w = subst P (sym e) a
     go (no n) (yes e) z w = subst P (sym e) b
     go (no n) (no m) (yes e) w = subst P (sym e) c
     go (no n) (no m) (no o) (yes e) = subst P (sym e) d
-    go (no n) (no m) (no o) (no q) = let e : k ≡ 7 = omega arith in subst P (sym e) f
+    go (no n) (no m) (no o) (no q) = let e : k ≡ binaryKind Iff = omega arith in subst P (sym e) f
 
--- the kinds from 9 to 13
-temporal : (P : ℕ → Type 0) → P 9 → P 10 → P 11 → P 12 → P 13 → (k : ℕ) → 9 ≤ k → k < 14 → P k
-temporal P a b c d f k h l = go (ℕ-discrete k 9) (ℕ-discrete k 10) (ℕ-discrete k 11) (ℕ-discrete k 12)
+-- the kinds from G to W
+temporal : (P : ℕ → Type 0) → P (unaryKind G) → P (unaryKind F) → P (binaryKind U) → P (binaryKind R) → P (binaryKind W) → (k : ℕ) → unaryKind G ≤ k → k < kindCount → P k
+temporal P a b c d f k h l = go (ℕ-discrete k (unaryKind G)) (ℕ-discrete k (unaryKind F)) (ℕ-discrete k (binaryKind U)) (ℕ-discrete k (binaryKind R))
   where
-    go : Dec (k ≡ 9) → Dec (k ≡ 10) → Dec (k ≡ 11) → Dec (k ≡ 12) → P k
+    go : Dec (k ≡ unaryKind G) → Dec (k ≡ unaryKind F) → Dec (k ≡ binaryKind U) → Dec (k ≡ binaryKind R) → P k
     go (yes e) y z w = subst P (sym e) a
     go (no n) (yes e) z w = subst P (sym e) b
     go (no n) (no m) (yes e) w = subst P (sym e) c
     go (no n) (no m) (no o) (yes e) = subst P (sym e) d
-    go (no n) (no m) (no o) (no q) = let e : k ≡ 13 = omega arith in subst P (sym e) f
+    go (no n) (no m) (no o) (no q) = let e : k ≡ binaryKind W = omega arith in subst P (sym e) f
 
 -- a node in order has one of the fourteen kinds
-pub kind-lt : (k : ℕ) (A B : Type 0) → Uses (shapeOf k) A B → k < 14
-kind-lt k A B u = go (decLt k 14)
+pub kind-lt : (k : ℕ) (A B : Type 0) → Uses (shapeOf k) A B → k < kindCount
+kind-lt k A B u = go (decLt k kindCount)
   where
-    go : Dec (k < 14) → k < 14
+    go : Dec (k < kindCount) → k < kindCount
     go (yes h) = h
     go (no h) =
-        let m : 14 ≤ k = omega arith in
+        let m : kindCount ≤ k = omega arith in
         let e : shapeOf k ≡ Unused = no-shape m in absurd (subst (λ s. Uses s A B) e u)
 
-boolean-uses : (A : ℕ → Type 0) (x y k : ℕ) → 3 ≤ k → k < 8 → Uses (shapeOf k) (A x) (A y) → A x × A (partner (shapeOf k) x y)
+boolean-uses : (A : ℕ → Type 0) (x y k : ℕ) → unaryKind Not ≤ k → k < unaryKind X → Uses (shapeOf k) (A x) (A y) → A x × A (partner (shapeOf k) x y)
 boolean-uses A x y = boolean (λ k. Uses (shapeOf k) (A x) (A y) → A x × A (partner (shapeOf k) x y)) (λ u. (u, u)) (λ u. u) (λ u. u) (λ u. u) (λ u. u)
 
-temporal-uses : (A : ℕ → Type 0) (x y k : ℕ) → 9 ≤ k → k < 14 → Uses (shapeOf k) (A x) (A y) → A x × A (partner (shapeOf k) x y)
+temporal-uses : (A : ℕ → Type 0) (x y k : ℕ) → unaryKind G ≤ k → k < kindCount → Uses (shapeOf k) (A x) (A y) → A x × A (partner (shapeOf k) x y)
 temporal-uses A x y = temporal (λ k. Uses (shapeOf k) (A x) (A y) → A x × A (partner (shapeOf k) x y)) (λ u. (u, u)) (λ u. (u, u)) (λ u. u) (λ u. u) (λ u. u)
 
-boolean-row : (n l : ℕ) (letter : ℕ → ℕ → Bool) (signal : ℕ) (a : ℕ → Values) (x y p k : ℕ) → 3 ≤ k → k < 8
+boolean-row : (n l : ℕ) (letter : ℕ → ℕ → Bool) (signal : ℕ) (a : ℕ → Values) (x y p k : ℕ) → unaryKind Not ≤ k → k < unaryKind X
     → pairOf (shapeOf k) (a x p) (a (partner (shapeOf k) x y) p) ≡ shapeRow n l letter (shapeOf k) signal (a x) (a y) p
 boolean-row n l letter signal a x y p =
     boolean (λ k. pairOf (shapeOf k) (a x p) (a (partner (shapeOf k) x y) p) ≡ shapeRow n l letter (shapeOf k) signal (a x) (a y) p) refl refl refl refl refl
 
-temporal-row : (n l : ℕ) (letter : ℕ → ℕ → Bool) (signal : ℕ) (a : ℕ → Values) (x y p k : ℕ) → 9 ≤ k → k < 14
+temporal-row : (n l : ℕ) (letter : ℕ → ℕ → Bool) (signal : ℕ) (a : ℕ → Values) (x y p k : ℕ) → unaryKind G ≤ k → k < kindCount
     → loopOf n l (shapeOf k) (a x) (a (partner (shapeOf k) x y)) p ≡ shapeRow n l letter (shapeOf k) signal (a x) (a y) p
 temporal-row n l letter signal a x y p =
     temporal (λ k. loopOf n l (shapeOf k) (a x) (a (partner (shapeOf k) x y)) p ≡ shapeRow n l letter (shapeOf k) signal (a x) (a y) p) refl refl refl refl refl
 
-boolean-two : (x y k : ℕ) → 3 ≤ k → k < 8 → k ≢ 3 → partner (shapeOf k) x y ≡ y
-boolean-two x y = boolean (λ k. k ≢ 3 → partner (shapeOf k) x y ≡ y) (λ d. absurd (d refl)) (λ d. refl) (λ d. refl) (λ d. refl) (λ d. refl)
+boolean-two : (x y k : ℕ) → unaryKind Not ≤ k → k < unaryKind X → k ≢ unaryKind Not → partner (shapeOf k) x y ≡ y
+boolean-two x y = boolean (λ k. k ≢ unaryKind Not → partner (shapeOf k) x y ≡ y) (λ d. absurd (d refl)) (λ d. refl) (λ d. refl) (λ d. refl) (λ d. refl)
 
-temporal-two : (x y k : ℕ) → 9 ≤ k → k < 14 → k ≢ 9 → k ≢ 10 → partner (shapeOf k) x y ≡ y
-temporal-two x y = temporal (λ k. k ≢ 9 → k ≢ 10 → partner (shapeOf k) x y ≡ y) (λ d e. absurd (d refl)) (λ d e. absurd (e refl)) (λ d e. refl) (λ d e. refl) (λ d e. refl)
+temporal-two : (x y k : ℕ) → unaryKind G ≤ k → k < kindCount → k ≢ unaryKind G → k ≢ unaryKind F → partner (shapeOf k) x y ≡ y
+temporal-two x y = temporal (λ k. k ≢ unaryKind G → k ≢ unaryKind F → partner (shapeOf k) x y ≡ y) (λ d e. absurd (d refl)) (λ d e. absurd (e refl)) (λ d e. refl) (λ d e. refl) (λ d e. refl)
 
 -- an operator of two operands has its own
-pub pair-two : (op : Op) → Boolean op ⊎ Temporal op → op .kind ≢ 3 → op .kind ≢ 9 → op .kind ≢ 10 → op ≡ pairOp op
+pub pair-two : (op : Op) → Boolean op ⊎ Temporal op → op .kind ≢ unaryKind Not → op .kind ≢ unaryKind G → op .kind ≢ unaryKind F → op ≡ pairOp op
 pair-two op (inl h) a b c = ap (λ y. record { kind = op .kind; signal = op .signal; first = op .first; second = y }) (sym (boolean-two (op .first) (op .second) (op .kind) (h .0) (h .1) a))
 pair-two op (inr h) a b c = ap (λ y. record { kind = op .kind; signal = op .signal; first = op .first; second = y }) (sym (temporal-two (op .first) (op .second) (op .kind) (h .0) (h .1) b c))
 
@@ -144,19 +145,19 @@ other-written {bs} {old} {new} {w} {op} {base} r h =
     let pos : 0 < w .n = (let l = r .recorded .loop in omega arith) in
     written-as (w .n) base _ _ (written (w .n) base _ pos (r .room) h) (same-row r (last-kept (w .n) base old pos))
 
-pub is-plain : (op : Op) → Plain op ⊎ Temporal op → op .kind < 9 → Plain op
+pub is-plain : (op : Op) → Plain op ⊎ Temporal op → op .kind < unaryKind G → Plain op
 is-plain op (inl p) h = p
 is-plain op (inr t) h = absurd (let l = t .0 in omega arith)
 
-pub is-temporal : (op : Op) → Plain op ⊎ Temporal op → 9 ≤ op .kind → Temporal op
+pub is-temporal : (op : Op) → Plain op ⊎ Temporal op → unaryKind G ≤ op .kind → Temporal op
 is-temporal op (inl (inl l)) h = absurd (omega arith)
 is-temporal op (inl (inr e)) h = absurd (omega arith)
 is-temporal op (inr t) h = t
 
--- kinds from 8 on
-pub late : (op : Op) → 8 ≤ op .kind → op .kind < 14 → Plain op ⊎ Temporal op
-late op h l = go (ℕ-discrete (op .kind) 8)
+-- kinds from X on
+pub late : (op : Op) → unaryKind X ≤ op .kind → op .kind < kindCount → Plain op ⊎ Temporal op
+late op h l = go (ℕ-discrete (op .kind) (unaryKind X))
   where
-    go : Dec (op .kind ≡ 8) → Plain op ⊎ Temporal op
+    go : Dec (op .kind ≡ unaryKind X) → Plain op ⊎ Temporal op
     go (yes e) = inl (inr e)
     go (no d) = inr (omega arith, l)

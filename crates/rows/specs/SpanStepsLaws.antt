@@ -7,7 +7,8 @@ use native.Mathlib.Nat.{div-one}
 use lib.Dec.{eqb}
 use lib.Arith.{digits-div, digits-mod}
 use lib.Bits.{bitAnd}
-use Rattle.node.specs.Kinds.{shapeOf}
+use Rattle.node.specs.Ltl.{G, F, U, R, W}
+use Rattle.node.specs.Kinds.{shapeOf, unaryKind, binaryKind}
 use Rattle.bits.specs.Bits.{Values, digit, bitOf}
 use Rattle.bits.specs.BitLaws.{digit-lt, digit-eqb}
 use Rattle.bits.specs.Bitwise.{and-acts, zero-bit, flip-bit, bit-under}
@@ -52,19 +53,19 @@ module _ (a b c : ℕ) {r : ℕ} (h : c < 2) where
   rippled : (p g : ℕ) → r ≡ ripple p g c → (s : ℕ) → bitOf r s ≡ (bitOf g s || (bitOf p s && before c r s))
   rippled p g e s = ap (λ z. bitOf z s) e ∙ ripple-bit s p g c h ∙ ap (λ z. bitOf g s || (bitOf p s && before c z s)) (sym e)
 
-  pub goes-until : r ≡ ripple a b c → Goes 11 a b c r
+  pub goes-until : r ≡ ripple a b c → Goes (binaryKind U) a b c r
   goes-until e = record { bits = λ s l. rippled a b e s }
 
-  pub goes-weak : r ≡ ripple a b c → Goes 13 a b c r
+  pub goes-weak : r ≡ ripple a b c → Goes (binaryKind W) a b c r
   goes-weak e = record { bits = λ s l. rippled a b e s }
 
-  pub goes-globally : r ≡ ripple a 0 c → Goes 9 a b c r
+  pub goes-globally : r ≡ ripple a 0 c → Goes (unaryKind G) a b c r
   goes-globally e = record { bits = λ s l. rippled a 0 e s ∙ ap (λ z. z || (bitOf a s && before c r s)) (zero-bit s) }
 
-  pub goes-finally : r ≡ ripple (2 ^ 64 - 1) a c → Goes 10 a b c r
+  pub goes-finally : r ≡ ripple (2 ^ 64 - 1) a c → Goes (unaryKind F) a b c r
   goes-finally e = record { bits = λ s l. rippled (2 ^ 64 - 1) a e s ∙ ap (λ z. bitOf a s || (z && before c r s)) (flip-bit 64 0 s (omega arith) l ∙ ap not (zero-bit s)) }
 
-  pub goes-release : r ≡ ripple b (bitAnd a b) c → Goes 12 a b c r
+  pub goes-release : r ≡ ripple b (bitAnd a b) c → Goes (binaryKind R) a b c r
   goes-release e = record { bits = λ s l. rippled b (bitAnd a b) e s ∙ ap (λ z. z || (bitOf b s && before c r s)) (and-acts a b s) ∙ turned (bitOf a s) (bitOf b s) (before c r s) }
 
 -- a span of a sweep, from the value after it

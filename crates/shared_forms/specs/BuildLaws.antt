@@ -10,7 +10,7 @@ use native.Mathlib.Omega.{arith}
 use Rattle.node.specs.Limits.{maxNodes}
 use Rattle.node.specs.Ltl.{Formula, Signal}
 use Rattle.node.specs.Fields.{kindOf, firstOf, secondOf}
-use Rattle.node.specs.Kinds.{Shape, Truth, Falsehood, Atom, UnaryOf, BinaryOf, Unused, shapeOf}
+use Rattle.node.specs.Kinds.{Shape, Truth, Falsehood, Atom, UnaryOf, BinaryOf, Unused, shapeOf, signalKind}
 use Rattle.node.specs.Table.{treeAt, root}
 use Rattle.node.specs.Formed.{Below}
 use Rattle.forms.specs.Forms.{form as formOf}
@@ -91,7 +91,7 @@ module _ {form x j : ℕ} {ws notes numbers out : List ℕ} (c : Composing form 
     -- its first field, where it is a signal that stands for no operand's form
     own-first : ¬ Operand (kindOf (partWord form ws x j)) (firstOf (partWord form ws x j)) → kindOf (partWord form ws x j) ≡ 2 → firstOf (partWord form ws x j) ≡ 4
     own-first none e =
-        let l : Below 5 (shapeOf 2) j (firstOf (partWord form ws x j)) (secondOf (partWord form ws x j)) =
+        let l : Below 5 (shapeOf signalKind) j (firstOf (partWord form ws x j)) (secondOf (partWord form ws x j)) =
         subst (λ (k : ℕ). Below 5 (shapeOf k) j (firstOf (partWord form ws x j)) (secondOf (partWord form ws x j))) e (step composing-place j h .lower) in
         go l (decLt (firstOf (partWord form ws x j)) 4)
       where

@@ -3,12 +3,13 @@ use Prim.Native.Nat.{ℕ, _+_, _-_, _*_, _≤_, _<_}
 use mathlib.Core.Path.{_≡_}
 use mathlib.Core.Logic.{_≢_}
 use mathlib.Core.List.{List, []}
-use mathlib.Core.Bool.{cond, _&&_, _||_}
+use mathlib.Core.Bool.{cond}
 use lib.Dec.{ltb}
 use lib.ListN.{length, getD}
 use Rattle.node.specs.Limits.{maxNodes, fieldLimit}
 use Rattle.node.specs.Fields.{pack, kindOf, firstOf, secondOf}
-use Rattle.node.specs.Kinds.{kindCount}
+use Rattle.node.specs.Ltl.{Not}
+use Rattle.node.specs.Kinds.{kindCount, signalKind, unaryKind, hasTwo}
 use Rattle.node.specs.Formed.{Formed}
 use Rattle.node.specs.Table.{root}
 use Rattle.forms.specs.Forms.{form as formOf}
@@ -21,10 +22,10 @@ use Rattle.shared_forms.specs.Forming.{formAt, wordAt, partWord, SourceI
 
 -- the fields of a node that is put: nothing, the signal's own number, one operand's, two
 abbrev pub firstField : ℕ → ℕ → ℕ → ℕ
-firstField kind own m = cond (ltb kind 2) 0 (cond (ltb kind 3) own m)
+firstField kind own m = cond (ltb kind signalKind) 0 (cond (ltb kind (unaryKind Not)) own m)
 
 abbrev pub secondField : ℕ → ℕ → ℕ
-secondField kind n = cond ((ltb 3 kind && ltb kind 8) || ltb 10 kind) n 0
+secondField kind n = cond (hasTwo kind) n 0
 
 -- the word over operands whose numbers plus 1 are m and n
 abbrev pub wordOver : ℕ → ℕ → ℕ → ℕ → ℕ
@@ -105,6 +106,10 @@ pub record Composes (form : ℕ) (ws : List ℕ) (x : ℕ) (notes out out′ : L
 pub record NotesForm (form : ℕ) (ws : List ℕ) (x : ℕ) (notes′ out out′ : List ℕ) (r : ℕ) : Type 0 where
   pub done : r ≤ maxNodes → Building form ws (x + 1) notes′ out′
   pub refused : maxNodes < r → TooMany form ws out
+
+-- the most nodes of a small table, whose notes take less time to clear
+abbrev pub smallTable : ℕ
+smallTable = 256
 
 -- n notes, and no form is needed
 pub record Blank (n : ℕ) (notes : List ℕ) : Type 0 where

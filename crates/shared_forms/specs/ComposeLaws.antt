@@ -3,10 +3,11 @@ use Prim.Native.Nat.{ℕ, _+_, _-_, _*_, _≤_, _<_}
 use mathlib.Core.Path.{_≡_, refl, ap, _∙_, sym, subst}
 use mathlib.Core.Logic.{_≢_}
 use mathlib.Core.List.{List, []}
-use lib.ListN.{length, getD, set, replicate, length-replicate, getD-replicate, List·getD-eq-default}
+use lib.ListN.{length, getD, set, replicate, length-replicate, getD-replicate}
 use lib.Seq.{getD-set-same, getD-set-other}
-use native.Mathlib.Decide.{decLt, ℕ-discrete}
+use native.Mathlib.Decide.{ℕ-discrete}
 use native.Mathlib.Omega.{arith}
+use Rattle.basics.specs.Lists.{getD-zeros}
 use Rattle.node.specs.Limits.{maxNodes}
 use Rattle.node.specs.Ltl.{Formula}
 use Rattle.node.specs.Table.{root}
@@ -210,11 +211,7 @@ fill-end {form} {ws = ws} {out = out} h g e =
 
 -- no note before the first
 pub blank : (n : ℕ) → Blank n (replicate n 0)
-blank n = record { long = length-replicate {A = ℕ} n 0; zeros = λ x. go x (decLt x n) }
-  where
-    go : (x : ℕ) → Dec (x < n) → getD {A = ℕ} (replicate n 0) x 0 ≡ 0
-    go x (yes h) = getD-replicate {A = ℕ} n x 0 0 h
-    go x (no h) = let l = length-replicate {A = ℕ} n 0 in List·getD-eq-default {A = ℕ} (replicate n 0) 0 {n = x} (omega arith)
+blank n = record { long = length-replicate {A = ℕ} n 0; zeros = getD-zeros n }
 
 pub begun-marking : {form : ℕ} {ws notes out : List ℕ} → Begun ws notes out → Marking form ws (2 * length ws) (set notes (2 * (length ws - 1)) 1)
 begun-marking {notes = notes} b = marking-start notes (b .formed) (b .long) (b .zeros)

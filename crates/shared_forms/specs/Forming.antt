@@ -10,16 +10,16 @@ use lib.ListN.{length, getD, set}
 use Rattle.node.specs.Limits.{fieldLimit}
 use Rattle.node.specs.Ltl.{Formula, Signal}
 use Rattle.node.specs.Fields.{kindOf, firstOf, secondOf}
-use Rattle.node.specs.Kinds.{kindCount}
+use Rattle.node.specs.Kinds.{kindCount, signalKind}
 use Rattle.node.specs.Table.{treeAt, root}
 use Rattle.node.specs.Formed.{Formed}
 use Rattle.forms.specs.Forms.{form as formOf}
 use Rattle.sharing.specs.Subformulas.{postorder, Everywhere}
 use Rattle.shared_forms.specs.Templates.{listOf, byList, recipe, recipes, substitute}
 
--- how many rows of recipes there are
+-- how many rows of recipes there are: one for each kind in four lists
 abbrev pub rowCount : ℕ
-rowCount = 56
+rowCount = 4 * kindCount
 
 -- a row of the table of recipes, and a node of its recipe
 pub record Row (table : List ℕ) (row : ℕ) : Type 0 where
@@ -85,7 +85,7 @@ Within form ws g = List·Memᴰ g (postorder (formOf form (root ws)))
 
 -- a recipe's node that stands for an operand's form
 pub record Operand (kind first : ℕ) : Type 0 where
-  pub signal : kind ≡ 2
+  pub signal : kind ≡ signalKind
   pub operand : first < 4
 
 -- there is room for a note of that form

@@ -11,6 +11,7 @@ use borrow.Author.Tests.{eqb-true, ltb-true, eq-eqb, lt-ltb}
 use Rattle.node.specs.Tests.{and-left, and-right}
 use Rattle.node.specs.Limits.{fieldLimit}
 use Rattle.node.specs.Fields.{kindOf, firstOf, secondOf}
+use Rattle.node.specs.Kinds.{signalKind}
 use Rattle.shared_forms.specs.Templates.{recipe, recipes}
 use Rattle.shared_forms.specs.Forming.{Row, Step, StepIs, wordAt, recipeAt, partWord, SourceIs, operandPlace, askedAt, Place, Operand, Notable, Notes, Marking, Asking, AskingBy}
 use Rattle.shared_forms.specs.PartLaws.{row-below, recipe-few}
@@ -54,17 +55,17 @@ module _ {form x row a b : ℕ} {ws : List ℕ} (q : SourceIs form ws x row a b)
         ∙ ap (operandPlace (firstOf (wordAt ws x)) (secondOf (wordAt ws x))) first-here
 
 -- is it an operand's? By the test that the code makes
-module _ {k f : ℕ} {b : Bool} (e : b ≡ (eqb k 2 && ltb f 4)) where
+module _ {k f : ℕ} {b : Bool} (e : b ≡ (eqb k signalKind && ltb f 4)) where
   pub operand-true : b ≡ true → Operand k f
-  operand-true h = let t = sym e ∙ h in record { signal = eqb-true k 2 (and-left (eqb k 2) (ltb f 4) t); operand = ltb-true f 4 (and-right (eqb k 2) (ltb f 4) t) }
+  operand-true h = let t = sym e ∙ h in record { signal = eqb-true k signalKind (and-left (eqb k signalKind) (ltb f 4) t); operand = ltb-true f 4 (and-right (eqb k signalKind) (ltb f 4) t) }
 
   pub operand-false : b ≡ false → ¬ Operand k f
-  operand-false h o = false≢true (sym h ∙ e ∙ ap₂ _&&_ (eq-eqb k 2 (o .signal)) (lt-ltb f 4 (o .operand)))
+  operand-false h o = false≢true (sym h ∙ e ∙ ap₂ _&&_ (eq-eqb k signalKind (o .signal)) (lt-ltb f 4 (o .operand)))
 
 pub operand-test : (k f : ℕ) → Dec (Operand k f)
-operand-test k f = go (ℕ-discrete k 2) (decLt f 4)
+operand-test k f = go (ℕ-discrete k signalKind) (decLt f 4)
   where
-    go : Dec (k ≡ 2) → Dec (f < 4) → Dec (Operand k f)
+    go : Dec (k ≡ signalKind) → Dec (f < 4) → Dec (Operand k f)
     go (yes e) (yes l) = yes (record { signal = e; operand = l })
     go (yes e) (no l) = no (λ o. l (o .operand))
     go (no e) d = no (λ o. e (o .signal))

@@ -1,6 +1,5 @@
 // The needed forms put together, operands first, each by its recipe over what is noted of its operands' forms.
 ghost use mathlib.Core.Path.{_≡_};
-ghost use mathlib.Core.Bool.{cond};
 ghost use Prim.Native.Nat.{_*_, _<_, _≤_};
 ghost use lib.ListN.{length};
 ghost use Rattle.node.specs.Limits.{maxNodes, fieldLimit};
@@ -17,6 +16,8 @@ use crate::recipes::TABLE_BYTES;
 use crate::recipes::count_at;
 use crate::recipes::source_at;
 use crate::recipes::step_at;
+use basics::either;
+use basics::u32_usize::wide;
 use node::MAX_NODES;
 use node::Node;
 use shared_table::put;
@@ -24,29 +25,15 @@ use shared_table::put;
 // The parts of a recipe, at least as many as any has.
 const PARTS: usize = 16;
 
-fn wide(x: u32) -> usize
-    ensures { λ r. ⌜ r ≡ x ⌝ }
-{
-    x as usize
-}
-
-// One of two numbers: a function of its own, so that the compiled choice has no branch.
-fn either(test: bool, a: usize, b: usize) -> usize
-    ensures { λ r. ⌜ r ≡ cond test a b ⌝ }
-{
-    if test { a } else { b }
-}
-
 // The word of a node with the signal's number, or over operands whose numbers plus 1 are m and n. It asks for numbers that fields hold.
 fn word_over(kind: u32, own: usize, m: usize, n: usize) -> u32
     requires { ⌜ (kind < kindCount) × ((own < fieldLimit) × (((1 ≤ m) × (m ≤ maxNodes)) × ((1 ≤ n) × (n ≤ maxNodes)))) ⌝ }
     ensures { λ r. ⌜ r ≡ wordOver kind own m n ⌝ }
 {
-    let operand = either(kind < Node::NOT, own, m - 1);
+    let operand = either(kind < Node::NOT, own as u32, (m - 1) as u32);
     let first = either(kind < Node::SIGNAL, 0, operand);
-    let has_two = (Node::NOT < kind) & (kind < Node::NEXT) | (Node::FINALLY < kind);
-    let second = either(has_two, n - 1, 0);
-    let node = Node::binary(kind, first as u32, second as u32);
+    let second = either(Node::has_two(kind), (n - 1) as u32, 0);
+    let node = Node::binary(kind, first, second);
     node.word
 }
 

@@ -13,11 +13,11 @@ ghost use Rattle.node.specs.Table.{root};
 ghost use Rattle.node.specs.Formed.{Formed};
 ghost use Rattle.forms.specs.Forms.{form as form'};
 ghost use Rattle.shared_table.specs.Shared.{Shares};
-ghost use Rattle.shared_forms.specs.Building.{Blank, Begun};
+ghost use Rattle.shared_forms.specs.Building.{smallTable, Blank, Begun};
 ghost use Rattle.shared_forms.specs.Promise.{Builds};
 use node::MAX_NODES;
 
-// A note for each form of each node: for the largest table, and for one of at most 256 nodes, which takes less time to clear.
+// A note for each form of each node: for the largest table, and for a small one, which takes less time to clear.
 const NOTES: usize = 2 * MAX_NODES;
 
 const SMALL_TABLE: usize = 256;
@@ -32,7 +32,7 @@ fn blank() -> [u32; NOTES]
 }
 
 fn small_blank() -> [u32; SMALL_NOTES]
-    ensures { λ r. ⌜ Blank 512 r ⌝ }
+    ensures { λ r. ⌜ Blank (2 * smallTable) r ⌝ }
 {
     [0; SMALL_NOTES]
 }
@@ -50,7 +50,7 @@ fn build_by(nodes: &[u32], form: u32, notes: &mut [u32], out: &mut [u32]) -> usi
 }
 
 fn build_small(nodes: &[u32], form: u32, out: &mut [u32]) -> usize
-    requires { ⌜ (Formed fieldLimit (now nodes) × Shares (now out) []) × (length (now nodes) ≤ 256) ⌝ }
+    requires { ⌜ (Formed fieldLimit (now nodes) × Shares (now out) []) × (length (now nodes) ≤ smallTable) ⌝ }
     ensures { λ r. ⌜ Builds (form' form (root (now (nodes .entry)))) (now (out .entry)) (now (out .exit)) r ⌝ }
 {
     let mut notes = small_blank();

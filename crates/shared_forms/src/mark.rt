@@ -5,6 +5,7 @@ ghost use Prim.Native.Nat.{_+_, _*_, _<_};
 ghost use lib.Dec.{eqb, ltb};
 ghost use lib.ListN.{length};
 ghost use Rattle.node.specs.Limits.{fieldLimit};
+ghost use Rattle.node.specs.Kinds.{signalKind};
 ghost use Rattle.shared_forms.specs.Templates.{recipes as recipes'};
 ghost use Rattle.shared_forms.specs.Forming.{operandPlace, Notable, Notes, Marking};
 use crate::recipes::Step;
@@ -22,7 +23,7 @@ const SECOND: usize = 2;
 
 // Does a recipe's node stand for an operand's form?
 pub fn is_operand(kind: u32, first: usize) -> bool
-    ensures { λ r. ⌜ r ≡ (eqb kind 2 && ltb first 4) ⌝ }
+    ensures { λ r. ⌜ r ≡ (eqb kind signalKind && ltb first 4) ⌝ }
 {
     (kind == Node::SIGNAL) & (first < ITSELF)
 }

@@ -4,15 +4,15 @@ ghost use Prim.Native.Nat.{_+_, _*_};
 ghost use lib.ListN.{length};
 ghost use Rattle.shared_forms.specs.Templates.{recipes as recipes', recipe, listOf};
 ghost use Rattle.shared_forms.specs.Forming.{Row, Step as Step', StepIs, Place, SourceIs};
+use basics::u8_u32;
+use basics::u8_usize;
+use forms::AS_EXPANDED;
+use forms::NEGATION_FORM;
+use node::KINDS;
 use node::Node;
 
-// The forms by their numbers.
-pub const AS_EXPANDED: u32 = 0;
-
-pub const NEGATION_FORM: u32 = 1;
-
-// The rows of form 0, 1 and 2, then those of the negated half of form 1, fourteen each, by kinds.
-const KINDS: usize = 14;
+// The rows of form 0, 1 and 2, then those of the negated half of form 1, one for each kind.
+const ROWS: usize = KINDS as usize;
 
 const AS_IS: usize = 0;
 
@@ -92,24 +92,12 @@ pub fn recipes() -> [u8; TABLE_BYTES]
     TABLE
 }
 
-fn wide(x: u8) -> usize
-    ensures { λ r. ⌜ r ≡ x ⌝ }
-{
-    x as usize
-}
-
-fn kind_of(x: u8) -> u32
-    ensures { λ r. ⌜ r ≡ x ⌝ }
-{
-    x as u32
-}
-
 // How many nodes the recipe of a row has.
 pub fn count_at(recipes: &[u8; TABLE_BYTES], row: usize) -> usize
     requires { ⌜ Row (now recipes) row ⌝ }
     ensures { λ r. ⌜ r ≡ length (recipe row) ⌝ }
 {
-    wide(recipes[ROW * row])
+    u8_usize::wide(recipes[ROW * row])
 }
 
 // A node of a recipe. Its fields are numbers of earlier nodes, or the signal that stands for an operand's form.
@@ -124,9 +112,9 @@ pub fn step_at(recipes: &[u8; TABLE_BYTES], row: usize, j: usize) -> Step
     ensures { λ r. ⌜ StepIs row j (r .kind) (r .first) (r .second) ⌝ }
 {
     let at = ROW * row + 1 + 3 * j;
-    let kind = kind_of(recipes[at]);
-    let first = wide(recipes[at + 1]);
-    let second = wide(recipes[at + 2]);
+    let kind = u8_u32::wide(recipes[at]);
+    let first = u8_usize::wide(recipes[at + 1]);
+    let second = u8_usize::wide(recipes[at + 2]);
     Step {
         kind,
         first,
@@ -167,7 +155,7 @@ pub fn source_at(nodes: &[u32], form: u32, x: usize) -> Source
     let first = node.first() as usize;
     let second = node.second() as usize;
     Source {
-        row: KINDS * list + kind,
+        row: ROWS * list + kind,
         first,
         second,
     }

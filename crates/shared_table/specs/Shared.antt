@@ -15,11 +15,11 @@ heads = 2_048
 
 -- the place of node 0: the nodes stand behind the heads
 abbrev pub nodesStart : ℕ
-nodesStart = 2_049
+nodesStart = heads + 1
 
 -- a node whose number plus 1 is v stands 3 * v behind this place
 abbrev pub before : ℕ
-before = 2_046
+before = heads - 2
 
 -- the place of the node whose number plus 1 is v
 abbrev pub slot : ℕ → ℕ

@@ -7,6 +7,7 @@ use lib.ListN.{length}
 use Rattle.node.specs.Limits.{maxNodes, fieldLimit}
 use Rattle.node.specs.Ltl.{X, Formula, True, False, Signal}
 use Rattle.node.specs.Fields.{pack}
+use Rattle.node.specs.Kinds.{trueKind, falseKind, signalKind, unaryKind}
 use Rattle.node.specs.Postorder.{SignalsBelow}
 use Rattle.sharing.specs.Sharing.{place, write}
 use Rattle.shared_table.specs.Shared.{Puts}
@@ -19,15 +20,15 @@ module _ {out out′ : List ℕ} {at w r : ℕ} (h : at ≤ maxNodes) (l : lengt
   leaf : (f : Formula) → SignalsBelow fieldLimit f → ((t : List ℕ) → write t f ≡ place t w) → Wrote f out out′ at r
   leaf f s e = wrote-node h s (stays-none out at) l p (λ t q. record { table = t; shares = q; placed = e t })
 
-  pub wrote-true : {b : Bool} → b ≡ true → w ≡ pack 0 0 0 → Wrote (truth b) out out′ at r
+  pub wrote-true : {b : Bool} → b ≡ true → w ≡ pack trueKind 0 0 → Wrote (truth b) out out′ at r
   unfolding write SignalsBelow
   wrote-true e i = rw e (leaf True tt (λ t. ap (place t) (sym i)))
 
-  pub wrote-false : {b : Bool} → b ≡ false → w ≡ pack 1 0 0 → Wrote (truth b) out out′ at r
+  pub wrote-false : {b : Bool} → b ≡ false → w ≡ pack falseKind 0 0 → Wrote (truth b) out out′ at r
   unfolding write SignalsBelow
   wrote-false e i = rw e (leaf False tt (λ t. ap (place t) (sym i)))
 
-  pub wrote-signal : {k : ℕ} → k < fieldLimit → w ≡ pack 2 k 0 → Wrote (Signal k) out out′ at r
+  pub wrote-signal : {k : ℕ} → k < fieldLimit → w ≡ pack signalKind k 0 → Wrote (Signal k) out out′ at r
   unfolding write SignalsBelow
   wrote-signal {k} s i = leaf (Signal k) s (λ t. ap (place t) (sym i))
 
@@ -52,7 +53,7 @@ joins-none {out = out} g h = record { stays = stays-past out h; wrote = λ o k u
 pub nexts-start : {out : List ℕ} {m : ℕ} → Nexts 0 out out m m
 nexts-start {out} {m} at = record { stays = stays-none out m; wrote = λ w. w }
 
-pub nexts-more : (i : ℕ) {out between out′ : List ℕ} {m r r′ : ℕ} → Nexts i out between m r → Caps 8 between out′ r r′ → Nexts (suc i) out out′ m r′
+pub nexts-more : (i : ℕ) {out between out′ : List ℕ} {m r r′ : ℕ} → Nexts i out between m r → Caps (unaryKind X) between out′ r r′ → Nexts (suc i) out out′ m r′
 nexts-more i v u at =
     let x = v at in
     let y = u X refl at in

@@ -7,7 +7,7 @@ use native.Mathlib.Decide.{decLt}
 use native.Mathlib.Omega.{arith}
 use Rattle.node.specs.Limits.{maxNodes, fieldLimit}
 use Rattle.node.specs.Ltl.{X, Binary, Formula, One}
-use Rattle.node.specs.Kinds.{binaryKind}
+use Rattle.node.specs.Kinds.{binaryKind, unaryKind}
 use Rattle.sharing.specs.Sharing.{Placed, write}
 use Rattle.sharing.specs.WriteLaws.{write-grows, grows-length}
 use Rattle.sharing.specs.ChainLaws.{chain-signals, chain-behind}
@@ -25,7 +25,7 @@ pub record Chains (op i : ℕ) (out out′ : List ℕ) (m r : ℕ) : Type 0 wher
 pub chains-start : {op m : ℕ} {out : List ℕ} → Chains op 0 out out m m
 chains-start {m = m} {out} = record { stays = stays-none out m; wrote = λ o k w. w }
 
-pub chains-more : (i : ℕ) {op m r x r′ : ℕ} {out between middle out′ : List ℕ} → Chains op i out between m r → Caps 8 between middle r x → Joins op middle out′ m x r′
+pub chains-more : (i : ℕ) {op m r x r′ : ℕ} {out between middle out′ : List ℕ} → Chains op i out between m r → Caps (unaryKind X) between middle r x → Joins op middle out′ m x r′
     → Chains op (suc i) out out′ m r′
 chains-more i {m = m} y u v =
     let next = u X refl m in

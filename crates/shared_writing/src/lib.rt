@@ -5,7 +5,7 @@ use node::MAX_NODES;
 use node::Node;
 use shared_table::put;
 ghost use Prim.Native.Nat.{_<_};
-ghost use Rattle.node.specs.Limits.{fieldLimit};
+ghost use Rattle.node.specs.Limits.{fieldLimit, kindLimit};
 ghost use Rattle.node.specs.Ltl.{Signal};
 ghost use Rattle.shared_table.specs.Shared.{Shared};
 ghost use Rattle.shared_writing.specs.Writing.{Wrote, Caps, Joins, Nexts, Windowed, truth};
@@ -46,7 +46,7 @@ pub fn signal(k: u32, out: &mut [u32; TABLE], at: usize) -> usize
 
 // An operator of one operand, over the node before m. Its number is one of sixteen: the kind's field holds no more.
 pub fn cap(op: u32, m: usize, out: &mut [u32; TABLE]) -> usize
-    requires { ⌜ (op < 16) × Shared (now out) ⌝ }
+    requires { ⌜ (op < kindLimit) × Shared (now out) ⌝ }
     ensures { λ r. ⌜ Caps op (now (out .entry)) (now (out .exit)) m r ⌝ }
 {
     if m == 0 {
@@ -61,7 +61,7 @@ pub fn cap(op: u32, m: usize, out: &mut [u32; TABLE]) -> usize
 
 // An operator of two operands, over the nodes before m and before n, either of which may stand first. Its number is one of sixteen, as above.
 pub fn join(op: u32, m: usize, n: usize, out: &mut [u32; TABLE]) -> usize
-    requires { ⌜ (op < 16) × Shared (now out) ⌝ }
+    requires { ⌜ (op < kindLimit) × Shared (now out) ⌝ }
     ensures { λ r. ⌜ Joins op (now (out .entry)) (now (out .exit)) m n r ⌝ }
 {
     if m == 0 {
@@ -100,7 +100,7 @@ pub fn nexts(n: usize, m: usize, out: &mut [u32; TABLE]) -> usize
 // `a || X(a || ..)` with n further times the node before m, from the inside out: the operand stands once, and each operator takes it again. The operator's number is
 // one of sixteen, as above.
 pub fn window(op: u32, n: usize, m: usize, out: &mut [u32; TABLE]) -> usize
-    requires { ⌜ (op < 16) × Shared (now out) ⌝ }
+    requires { ⌜ (op < kindLimit) × Shared (now out) ⌝ }
     ensures { λ r. ⌜ Windowed op n (now (out .entry)) (now (out .exit)) m r ⌝ }
 {
     let mut r = m;

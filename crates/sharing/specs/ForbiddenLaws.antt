@@ -9,25 +9,18 @@ use Rattle.node.specs.Limits.{fieldLimit}
 use Rattle.node.specs.Ltl.{Not, X, G, F, And, Or, Implies, Iff, U, R, W, Formula, True, False, Signal, One, Two}
 use Rattle.node.specs.Fields.{pack, kindOf}
 use Rattle.node.specs.FieldLaws.{kind-pack, first-pack}
-use Rattle.node.specs.Kinds.{Shape, Truth, Falsehood, Atom, UnaryOf, BinaryOf, shapeOf, unaryKind, binaryKind}
+use Rattle.node.specs.Kinds.{Shape, Truth, Falsehood, Atom, UnaryOf, BinaryOf, shapeOf, unaryKind, binaryKind, trueKind, falseKind, signalKind}
 use Rattle.node.specs.KindLaws.{unary-shape, binary-shape}
 use Rattle.node.specs.Postorder.{SignalsBelow}
 use Rattle.forms.specs.Forms.{plain, negated, core, form}
 use Rattle.forms.specs.Forbidden.{forbids, shapeAt, forbidsWord, tally, forbidden}
+use Rattle.forms.specs.ForbiddenLaws.{top}
 use Rattle.sharing.specs.Sharing.{write, distinctNodes, distinctCount}
 use Rattle.sharing.specs.PlaceLaws.{word-at}
 use Rattle.sharing.specs.StandsLaws.{At, Found, found-inside}
 use Rattle.sharing.specs.Subformulas.{Everywhere}
 use Rattle.sharing.specs.SubformulaLaws.{everywhere-both, everywhere-signals}
 use Rattle.sharing.specs.NameLaws.{Named, named-none, named-write}
-
--- the shape of a formula's own node
-abbrev top : Formula → Shape
-top True = Truth
-top False = Falsehood
-top (Signal k) = Atom
-top (One o a) = UnaryOf o
-top (Two o a b) = BinaryOf o
 
 -- the form allows the formula's own node
 Allowed : ℕ → Formula → Type 0
@@ -56,9 +49,9 @@ module _ (t : List ℕ) (few : length t ≤ fieldLimit) where
 
   found-shape : (f : Formula) (v : ℕ) → SignalsBelow fieldLimit f → Found t f v → shapeAt t v ≡ top f
   unfolding Found SignalsBelow
-  found-shape True v s h = shape-pack 0 0 0 v (omega arith) (omega arith) refl h
-  found-shape False v s h = shape-pack 1 0 0 v (omega arith) (omega arith) refl h
-  found-shape (Signal k) v s h = shape-pack 2 k 0 v s (omega arith) refl h
+  found-shape True v s h = shape-pack trueKind 0 0 v (omega arith) (omega arith) refl h
+  found-shape False v s h = shape-pack falseKind 0 0 v (omega arith) (omega arith) refl h
+  found-shape (Signal k) v s h = shape-pack signalKind k 0 v s (omega arith) refl h
   found-shape (One o a) v s h =
       let i = found-inside t a (h .0) (h .1) in
       shape-pack (unaryKind o) (h .0) 0 v (omega arith) (omega arith) (unary-shape o) (h .2)

@@ -11,7 +11,7 @@ use borrow.Author.Tests.{ltb-true, eqb-true}
 use Rattle.node.specs.Limits.{fieldBits}
 use Rattle.node.specs.Ltl.{Formula}
 use Rattle.node.specs.Fields.{join, above, below, pack, kindOf, firstOf, secondOf}
-use Rattle.node.specs.Kinds.{Shape, Truth, Falsehood, Atom, UnaryOf, BinaryOf, Unused, shapeOf, build, unaryKind, binaryKind}
+use Rattle.node.specs.Kinds.{Shape, Truth, Falsehood, Atom, UnaryOf, BinaryOf, Unused, shapeOf, build, unaryKind, binaryKind, trueKind, falseKind, signalKind}
 use Rattle.node.specs.KindLaws.{no-shape, by-kind}
 use Rattle.node.specs.Tests.{and-left, and-right}
 use Rattle.node.specs.Formed.{Formed, Below}
@@ -80,14 +80,14 @@ module _ (ws : List ℕ) where
   build-found limit n Truth a b ok h e =
       let p = eqb-true a 0 (and-left (eqb a 0) (eqb b 0) ok) in
       let q = eqb-true b 0 (and-right (eqb a 0) (eqb b 0) ok) in
-      subst (λ (x : ℕ). At ws x n) (ap₂ (pack 0) p q) h
+      subst (λ (x : ℕ). At ws x n) (ap₂ (pack trueKind) p q) h
   build-found limit n Falsehood a b ok h e =
       let p = eqb-true a 0 (and-left (eqb a 0) (eqb b 0) ok) in
       let q = eqb-true b 0 (and-right (eqb a 0) (eqb b 0) ok) in
-      subst (λ (x : ℕ). At ws x n) (ap₂ (pack 1) p q) h
+      subst (λ (x : ℕ). At ws x n) (ap₂ (pack falseKind) p q) h
   build-found limit n Atom a b ok h e =
       let q = eqb-true b 0 (and-right (ltb a limit) (eqb b 0) ok) in
-      subst (λ (x : ℕ). At ws x n) (ap (pack 2 a) q) h
+      subst (λ (x : ℕ). At ws x n) (ap (pack signalKind a) q) h
   build-found limit n (UnaryOf o) a b ok h e =
       let l = ltb-true a n (and-left (ltb a n) (eqb b 0) ok) in
       let q = eqb-true b 0 (and-right (ltb a n) (eqb b 0) ok) in

@@ -7,7 +7,7 @@ use native.Mathlib.Omega.{arith}
 use Rattle.node.specs.Limits.{fieldLimit}
 use Rattle.node.specs.Ltl.{Unary, Binary, Formula, True, False, Signal, One, Two}
 use Rattle.node.specs.Fields.{pack}
-use Rattle.node.specs.Kinds.{unaryKind, binaryKind}
+use Rattle.node.specs.Kinds.{unaryKind, binaryKind, trueKind, falseKind, signalKind}
 use Rattle.node.specs.Table.{treeAt}
 use Rattle.node.specs.Postorder.{size, SignalsBelow}
 use Rattle.sharing.specs.Sharing.{position, having, write, distinctNodes, distinctCount}
@@ -80,9 +80,9 @@ count-two o a b sa sb h = two-ends [] o a b (small-none (size a + size b)) sa sb
 -- the formula's own node is the last
 pub last-number : (f : Formula) → SignalsBelow fieldLimit f → distinctCount f ≤ fieldLimit → write [] f .number + 1 ≡ distinctCount f
 unfolding write distinctNodes distinctCount SignalsBelow size
-last-number True s h = let e = ends 0 [] (pack 0 0 0) True (small-none 0) s (omega arith) (found-written [] True) in omega arith
-last-number False s h = let e = ends 0 [] (pack 1 0 0) False (small-none 0) s (omega arith) (found-written [] False) in omega arith
-last-number (Signal k) s h = let e = ends 0 [] (pack 2 k 0) (Signal k) (small-none 0) s (omega arith) (found-written [] (Signal k)) in omega arith
+last-number True s h = let e = ends 0 [] (pack trueKind 0 0) True (small-none 0) s (omega arith) (found-written [] True) in omega arith
+last-number False s h = let e = ends 0 [] (pack falseKind 0 0) False (small-none 0) s (omega arith) (found-written [] False) in omega arith
+last-number (Signal k) s h = let e = ends 0 [] (pack signalKind k 0) (Signal k) (small-none 0) s (omega arith) (found-written [] (Signal k)) in omega arith
 last-number (One o a) s h =
     let x = write [] a in
     let l = grows-length (having-grows (x .table) (pack (unaryKind o) (x .number) 0)) in

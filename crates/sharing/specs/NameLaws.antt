@@ -7,7 +7,7 @@ use native.Mathlib.Decide.{decLt}
 use native.Mathlib.Omega.{arith}
 use Rattle.node.specs.Ltl.{Formula, True, False, Signal, One, Two}
 use Rattle.node.specs.Fields.{pack}
-use Rattle.node.specs.Kinds.{unaryKind, binaryKind}
+use Rattle.node.specs.Kinds.{unaryKind, binaryKind, trueKind, falseKind, signalKind}
 use Rattle.sharing.specs.Sharing.{position, having, write}
 use Rattle.sharing.specs.PlaceLaws.{Placing, stood, added, placing}
 use Rattle.sharing.specs.WriteLaws.{Grows, having-grows, write-grows}
@@ -46,9 +46,9 @@ module _ (P : Formula → Type 0) where
 
   pub named-write : (t : List ℕ) (f : Formula) → Everywhere P f → Named P t → Named P (write t f .table)
   unfolding Everywhere write
-  named-write t True h n = named-having t (pack 0 0 0) True h (found-written t True) n
-  named-write t False h n = named-having t (pack 1 0 0) False h (found-written t False) n
-  named-write t (Signal k) h n = named-having t (pack 2 k 0) (Signal k) h (found-written t (Signal k)) n
+  named-write t True h n = named-having t (pack trueKind 0 0) True h (found-written t True) n
+  named-write t False h n = named-having t (pack falseKind 0 0) False h (found-written t False) n
+  named-write t (Signal k) h n = named-having t (pack signalKind k 0) (Signal k) h (found-written t (Signal k)) n
   named-write t (One o a) h n =
       let x = write t a in
       named-having (x .table) (pack (unaryKind o) (x .number) 0) (One o a) (h .1) (found-written t (One o a)) (named-write t a (h .0) n)
@@ -67,9 +67,9 @@ somewhere-grows {t} {u} g f h = everywhere-map (Somewhere t) (Somewhere u) (λ x
 
 pub written-somewhere : (t : List ℕ) (f : Formula) → Everywhere (Somewhere (write t f .table)) f
 unfolding Everywhere write
-written-somewhere t True = (position t (pack 0 0 0), found-written t True)
-written-somewhere t False = (position t (pack 1 0 0), found-written t False)
-written-somewhere t (Signal k) = (position t (pack 2 k 0), found-written t (Signal k))
+written-somewhere t True = (position t (pack trueKind 0 0), found-written t True)
+written-somewhere t False = (position t (pack falseKind 0 0), found-written t False)
+written-somewhere t (Signal k) = (position t (pack signalKind k 0), found-written t (Signal k))
 written-somewhere t (One o a) =
     let x = write t a in
     let w : ℕ = pack (unaryKind o) (x .number) 0 in

@@ -9,7 +9,7 @@ use native.Mathlib.Omega.{arith}
 use Rattle.node.specs.Limits.{fieldLimit}
 use Rattle.node.specs.Ltl.{Formula, True, False, Signal, One, Two}
 use Rattle.node.specs.Fields.{pack}
-use Rattle.node.specs.Kinds.{unaryKind, binaryKind}
+use Rattle.node.specs.Kinds.{unaryKind, binaryKind, trueKind, falseKind, signalKind}
 use Rattle.node.specs.Table.{among, formulaOf, formulas, treeAt}
 use Rattle.node.specs.Postorder.{SignalsBelow}
 use Rattle.sharing.specs.Sharing.{position, having, write, distinctNodes, distinctCount}
@@ -96,9 +96,9 @@ sound-any t f s h m = sound-write Any t f (everywhere-all Any (λ g. tt) f) s h 
 formulas-write : (t : List ℕ) (f : Formula) → Sound Any t → SignalsBelow fieldLimit f → length (write t f .table) ≤ fieldLimit
     → formulas [] (write t f .table) ≡ further (formulas [] t) (postorder f)
 unfolding write postorder SignalsBelow
-formulas-write t True m s h = formulas-having t (pack 0 0 0) True m (sound-any t True s h m) s (found-written t True)
-formulas-write t False m s h = formulas-having t (pack 1 0 0) False m (sound-any t False s h m) s (found-written t False)
-formulas-write t (Signal k) m s h = formulas-having t (pack 2 k 0) (Signal k) m (sound-any t (Signal k) s h m) s (found-written t (Signal k))
+formulas-write t True m s h = formulas-having t (pack trueKind 0 0) True m (sound-any t True s h m) s (found-written t True)
+formulas-write t False m s h = formulas-having t (pack falseKind 0 0) False m (sound-any t False s h m) s (found-written t False)
+formulas-write t (Signal k) m s h = formulas-having t (pack signalKind k 0) (Signal k) m (sound-any t (Signal k) s h m) s (found-written t (Signal k))
 formulas-write t (One o a) m s h =
     let x = write t a in
     let w : ℕ = pack (unaryKind o) (x .number) 0 in

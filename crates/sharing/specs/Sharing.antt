@@ -7,7 +7,7 @@ use lib.ListN.{length}
 use lib.Dec.{eqb, ltb}
 use Rattle.node.specs.Ltl.{Formula, True, False, Signal, One, Two}
 use Rattle.node.specs.Fields.{pack}
-use Rattle.node.specs.Kinds.{unaryKind, binaryKind}
+use Rattle.node.specs.Kinds.{unaryKind, binaryKind, trueKind, falseKind, signalKind}
 
 -- the number of the first node that is this word, or of the next one
 unfoldable pub position : List ℕ → ℕ → ℕ
@@ -28,9 +28,9 @@ place t w = record { table = having t w; number = position t w }
 
 -- a formula's nodes behind a table, left operand first, each unless it stands there already
 unfoldable pub write : List ℕ → Formula → Placed
-write t True = place t (pack 0 0 0)
-write t False = place t (pack 1 0 0)
-write t (Signal k) = place t (pack 2 k 0)
+write t True = place t (pack trueKind 0 0)
+write t False = place t (pack falseKind 0 0)
+write t (Signal k) = place t (pack signalKind k 0)
 write t (One o a) = let x = write t a in place (x .table) (pack (unaryKind o) (x .number) 0)
 write t (Two o a b) = let x = write t a in let y = write (x .table) b in place (y .table) (pack (binaryKind o) (x .number) (y .number))
 

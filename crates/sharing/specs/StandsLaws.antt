@@ -6,7 +6,7 @@ use lib.ListN.{length, length-append}
 use native.Mathlib.Omega.{arith}
 use Rattle.node.specs.Ltl.{Formula, True, False, Signal, One, Two}
 use Rattle.node.specs.Fields.{pack}
-use Rattle.node.specs.Kinds.{unaryKind, binaryKind}
+use Rattle.node.specs.Kinds.{unaryKind, binaryKind, trueKind, falseKind, signalKind}
 use Rattle.sharing.specs.Sharing.{Placed, position, having, place, write}
 use Rattle.sharing.specs.PlaceLaws.{place-stays, having-stood, having-place, having-inside}
 use Rattle.sharing.specs.WriteLaws.{Grows, write-grows, having-grows}
@@ -22,9 +22,9 @@ pub record At (t : List ℕ) (w v : ℕ) : Type 0 where
 
 -- the same by the formula's nodes: its operands are found, and its word over their numbers
 unfoldable pub Found : List ℕ → Formula → ℕ → Type 0
-Found t True v = At t (pack 0 0 0) v
-Found t False v = At t (pack 1 0 0) v
-Found t (Signal k) v = At t (pack 2 k 0) v
+Found t True v = At t (pack trueKind 0 0) v
+Found t False v = At t (pack falseKind 0 0) v
+Found t (Signal k) v = At t (pack signalKind k 0) v
 Found t (One o a) v = (i : ℕ) × Found t a i × At t (pack (unaryKind o) i 0) v
 Found t (Two o a b) v = (i : ℕ) × (j : ℕ) × Found t a i × Found t b j × At t (pack (binaryKind o) i j) v
 
@@ -69,9 +69,9 @@ found-grows {t} f v g h = rw (g .grown) (found-longer t (g .rest) f v h)
 -- what was written is found
 pub found-written : (t : List ℕ) (f : Formula) → Found (write t f .table) f (write t f .number)
 unfolding Found write
-found-written t True = at-having t (pack 0 0 0)
-found-written t False = at-having t (pack 1 0 0)
-found-written t (Signal k) = at-having t (pack 2 k 0)
+found-written t True = at-having t (pack trueKind 0 0)
+found-written t False = at-having t (pack falseKind 0 0)
+found-written t (Signal k) = at-having t (pack signalKind k 0)
 found-written t (One o a) =
     let x = write t a in
     let w : ℕ = pack (unaryKind o) (x .number) 0 in

@@ -12,11 +12,12 @@ use Rattle.node.specs.Limits.{fieldLimit}
 use Rattle.node.specs.Ltl.{Formula, True, False, Signal, One, Two}
 use Rattle.node.specs.Fields.{pack, kindOf, firstOf, secondOf}
 use Rattle.node.specs.FieldLaws.{kind-pack, first-pack, second-pack}
-use Rattle.node.specs.Kinds.{Shape, shapeOf, build, unaryKind, binaryKind}
+use Rattle.node.specs.Kinds.{Shape, shapeOf, build, unaryKind, binaryKind, trueKind, falseKind, signalKind}
 use Rattle.node.specs.KindLaws.{unary-shape, binary-shape}
-use Rattle.node.specs.Table.{treeAt, fits, nodeFits}
+use Rattle.node.specs.Table.{treeAt, nodeFits}
 use Rattle.node.specs.TableLaws.{tree-step}
 use Rattle.node.specs.Postorder.{SignalsBelow}
+use Rattle.node.specs.FormatLaws.{fits-pack}
 use Rattle.sharing.specs.Sharing.{having, write}
 use Rattle.sharing.specs.PlaceLaws.{word-at, Placing, stood, added, placing}
 use Rattle.sharing.specs.WriteLaws.{having-grows, write-grows, grows-length, write-inside}
@@ -28,10 +29,6 @@ Fits limit t = (i : ℕ) → i < length t → nodeFits limit i (getD t i 0) ≡ 
 
 pub fits-none : (limit : ℕ) → Fits limit []
 fits-none limit i h = absurd (omega arith)
-
--- a word put together fits as its fields do
-fits-pack : (limit n k a b : ℕ) {s : Shape} → a < fieldLimit → b < fieldLimit → shapeOf k ≡ s → fits limit n s a b ≡ true → nodeFits limit n (pack k a b) ≡ true
-fits-pack limit n k a b ha hb e h = simp (kind-pack k ha hb, first-pack k ha hb, second-pack k a hb, e) h
 
 fits-having : (limit : ℕ) (t : List ℕ) (w : ℕ) → nodeFits limit (length t) w ≡ true → Fits limit t → Fits limit (having t w)
 fits-having limit t w ok f = go (placing t w)
@@ -51,10 +48,10 @@ fits-having limit t w ok f = go (placing t w)
 module _ (limit : ℕ) (small : limit ≤ fieldLimit) where
   pub fits-write : (t : List ℕ) (f : Formula) → SignalsBelow limit f → length (write t f .table) ≤ fieldLimit → Fits limit t → Fits limit (write t f .table)
   unfolding write SignalsBelow
-  fits-write t True s h g = fits-having limit t (pack 0 0 0) (fits-pack limit (length t) 0 0 0 (omega arith) (omega arith) refl refl) g
-  fits-write t False s h g = fits-having limit t (pack 1 0 0) (fits-pack limit (length t) 1 0 0 (omega arith) (omega arith) refl refl) g
+  fits-write t True s h g = fits-having limit t (pack trueKind 0 0) (fits-pack limit (length t) trueKind 0 0 (omega arith) (omega arith) refl refl) g
+  fits-write t False s h g = fits-having limit t (pack falseKind 0 0) (fits-pack limit (length t) falseKind 0 0 (omega arith) (omega arith) refl refl) g
   fits-write t (Signal k) s h g =
-      fits-having limit t (pack 2 k 0) (fits-pack limit (length t) 2 k 0 (omega arith) (omega arith) refl (rw (lt-ltb k limit s))) g
+      fits-having limit t (pack signalKind k 0) (fits-pack limit (length t) signalKind k 0 (omega arith) (omega arith) refl (rw (lt-ltb k limit s))) g
   fits-write t (One o a) s h g =
       let x = write t a in
       let w : ℕ = pack (unaryKind o) (x .number) 0 in
@@ -89,9 +86,9 @@ module _ (limit : ℕ) (t : List ℕ) (g : Fits limit t) (few : length t ≤ fie
   -- the tree at a formula's number is the formula
   pub found-tree : (f : Formula) (v : ℕ) → SignalsBelow fieldLimit f → Found t f v → treeAt t v ≡ f
   unfolding Found SignalsBelow
-  found-tree True v s h = tree-pack 0 0 0 v (omega arith) (omega arith) refl h
-  found-tree False v s h = tree-pack 1 0 0 v (omega arith) (omega arith) refl h
-  found-tree (Signal k) v s h = tree-pack 2 k 0 v s (omega arith) refl h
+  found-tree True v s h = tree-pack trueKind 0 0 v (omega arith) (omega arith) refl h
+  found-tree False v s h = tree-pack falseKind 0 0 v (omega arith) (omega arith) refl h
+  found-tree (Signal k) v s h = tree-pack signalKind k 0 v s (omega arith) refl h
   found-tree (One o a) v s h =
       let i = found-inside t a (h .0) (h .1) in
       tree-pack (unaryKind o) (h .0) 0 v (omega arith) (omega arith) (unary-shape o) (h .2) ∙ ap (One o) (found-tree a (h .0) s (h .1))

@@ -6,7 +6,7 @@ use lib.ListN.{length, length-append}
 use native.Mathlib.Omega.{arith}
 use Rattle.node.specs.Ltl.{Unary, Binary, Formula, True, False, Signal, One, Two}
 use Rattle.node.specs.Fields.{pack}
-use Rattle.node.specs.Kinds.{unaryKind, binaryKind}
+use Rattle.node.specs.Kinds.{unaryKind, binaryKind, trueKind, falseKind, signalKind}
 use Rattle.node.specs.Postorder.{size}
 use Rattle.sharing.specs.Sharing.{having, place, write}
 use Rattle.sharing.specs.PlaceLaws.{Placing, stood, added, placing, having-inside, having-most, Distinct, having-distinct}
@@ -49,9 +49,9 @@ having-grows t w = go (placing t w)
 -- the table grows at its end
 pub write-grows : (t : List ℕ) (f : Formula) → Grows t (write t f .table)
 unfolding write
-write-grows t True = having-grows t (pack 0 0 0)
-write-grows t False = having-grows t (pack 1 0 0)
-write-grows t (Signal k) = having-grows t (pack 2 k 0)
+write-grows t True = having-grows t (pack trueKind 0 0)
+write-grows t False = having-grows t (pack falseKind 0 0)
+write-grows t (Signal k) = having-grows t (pack signalKind k 0)
 write-grows t (One o a) = grows-more (write-grows t a) (having-grows (write t a .table) (pack (unaryKind o) (write t a .number) 0))
 write-grows t (Two o a b) =
     let x = write t a in
@@ -61,9 +61,9 @@ write-grows t (Two o a b) =
 -- the number lies inside
 pub write-inside : (t : List ℕ) (f : Formula) → write t f .number < length (write t f .table)
 unfolding write
-write-inside t True = having-inside t (pack 0 0 0)
-write-inside t False = having-inside t (pack 1 0 0)
-write-inside t (Signal k) = having-inside t (pack 2 k 0)
+write-inside t True = having-inside t (pack trueKind 0 0)
+write-inside t False = having-inside t (pack falseKind 0 0)
+write-inside t (Signal k) = having-inside t (pack signalKind k 0)
 write-inside t (One o a) = having-inside (write t a .table) (pack (unaryKind o) (write t a .number) 0)
 write-inside t (Two o a b) =
     let x = write t a in
@@ -73,9 +73,9 @@ write-inside t (Two o a b) =
 -- a node for each place in the formula at most
 pub write-most : (t : List ℕ) (f : Formula) → length (write t f .table) ≤ length t + size f
 unfolding write size
-write-most t True = having-most t (pack 0 0 0)
-write-most t False = having-most t (pack 1 0 0)
-write-most t (Signal k) = having-most t (pack 2 k 0)
+write-most t True = having-most t (pack trueKind 0 0)
+write-most t False = having-most t (pack falseKind 0 0)
+write-most t (Signal k) = having-most t (pack signalKind k 0)
 write-most t (One o a) =
     let h = write-most t a in
     let g = having-most (write t a .table) (pack (unaryKind o) (write t a .number) 0) in
@@ -91,9 +91,9 @@ write-most t (Two o a b) =
 -- no two nodes become equal
 pub write-distinct : (t : List ℕ) (f : Formula) → Distinct t → Distinct (write t f .table)
 unfolding write
-write-distinct t True d = having-distinct t (pack 0 0 0) d
-write-distinct t False d = having-distinct t (pack 1 0 0) d
-write-distinct t (Signal k) d = having-distinct t (pack 2 k 0) d
+write-distinct t True d = having-distinct t (pack trueKind 0 0) d
+write-distinct t False d = having-distinct t (pack falseKind 0 0) d
+write-distinct t (Signal k) d = having-distinct t (pack signalKind k 0) d
 write-distinct t (One o a) d = having-distinct (write t a .table) (pack (unaryKind o) (write t a .number) 0) (write-distinct t a d)
 write-distinct t (Two o a b) d =
     let x = write t a in

@@ -3,10 +3,11 @@ use Prim.Native.Nat.{ℕ, _+_, _-_, _<_, _≤_}
 use mathlib.Core.Bool.{Bool}
 use mathlib.Core.List.{List, [], _∷_, _++_}
 use mathlib.Core.Path.{_≡_, refl, ap, ap₂, sym, _∙_, subst}
-use lib.ListN.{length, getD, set, replicate, length-append, length-set, length-replicate, getD-replicate, List·getD-append, List·getD-eq-default}
+use lib.ListN.{length, getD, set, replicate, length-append, length-set, length-replicate, List·getD-append, List·getD-eq-default}
 use lib.Seq.{getD-at, getD-set-same, getD-set-other}
 use native.Mathlib.Decide.{decLt}
 use native.Mathlib.Omega.{arith}
+use Rattle.basics.specs.Lists.{getD-zeros}
 use Rattle.node.specs.Limits.{maxNodes, fieldLimit}
 use Rattle.node.specs.Ltl.{Formula}
 use Rattle.node.specs.Postorder.{size, nodesFrom}
@@ -28,20 +29,13 @@ pub record Passing (late : ℕ → Bool) (table out₀ out numbers : List ℕ) (
   pub numbered : (j : ℕ) → getD numbers j 0 ≡ getD (passed late table i .numbers) j 0
   pub held : Numbers numbers
 
-zeros : (n j : ℕ) → _≡_ {A = ℕ} (getD (replicate n 0) j 0) 0
-zeros n j = go (decLt j n)
-  where
-    go : Dec (j < n) → _≡_ {A = ℕ} (getD (replicate n 0) j 0) 0
-    go (yes h) = getD-replicate n j 0 0 h
-    go (no h) = List·getD-eq-default (replicate n 0) 0 (omega (arith, length-replicate {A = ℕ} n 0))
-
 pub passing-none : (late : ℕ → Bool) (table out : List ℕ) → Passing late table out out (replicate maxNodes 0) 0 0
 unfolding passed
 passing-none late table out = record {
   fits = omega arith;
   words = record { stored = λ h. record { next = refl; words = refl }; many = λ h. absurd (omega arith) };
-  numbered = λ j. zeros maxNodes j;
-  held = record { whole = length-replicate {A = ℕ} maxNodes 0; small = λ j. let z = zeros maxNodes j in omega arith };
+  numbered = λ j. getD-zeros maxNodes j;
+  held = record { whole = length-replicate {A = ℕ} maxNodes 0; small = λ j. let z = getD-zeros maxNodes j in omega arith };
 }
 
 -- one number more

@@ -1,13 +1,14 @@
 -- One pass over a finished table: every node once, with its operands' new numbers, and an X behind each late signal's.
 use Prim.Native.Nat.{ℕ, zero, suc, _-_, _<_}
 use mathlib.Core.Path.{_≡_}
-use mathlib.Core.Bool.{Bool, true, false, not, _&&_, _||_}
+use mathlib.Core.Bool.{Bool, true, false, not, _&&_}
 use mathlib.Core.List.{List, [], _∷_, _++_}
 use lib.Dec.{eqb, ltb}
 use lib.ListN.{length, getD}
 use Rattle.node.specs.Limits.{maxNodes, fieldLimit}
 use Rattle.node.specs.Fields.{pack, kindOf, firstOf, secondOf}
-use Rattle.node.specs.Ltl.{Formula}
+use Rattle.node.specs.Ltl.{Formula, Not, X}
+use Rattle.node.specs.Kinds.{signalKind, unaryKind, hasTwo}
 use Rattle.language.specs.Bytes.{if_then_else_}
 use Rattle.language.specs.Shifting.{isOutput, shifted}
 use Rattle.writing.specs.Writing.{Wrote}
@@ -17,21 +18,17 @@ abbrev pub lateBy : Bool → List ℕ → ℕ → Bool
 lateBy true list k = isOutput list k
 lateBy false list k = not (isOutput list k)
 
--- does a kind have two operands?
-abbrev pub hasTwo : ℕ → Bool
-hasTwo k = (ltb 3 k && ltb k 8) || ltb 10 k
-
 -- a node with its operands' new numbers; constants and signals have none
 unfoldable pub renumbered : List ℕ → ℕ → ℕ
-renumbered ns w = if ltb (kindOf w) 3 then w else pack (kindOf w) (getD ns (firstOf w) 0) (if hasTwo (kindOf w) then getD ns (secondOf w) 0 else 0)
+renumbered ns w = if ltb (kindOf w) (unaryKind Not) then w else pack (kindOf w) (getD ns (firstOf w) 0) (if hasTwo (kindOf w) then getD ns (secondOf w) 0 else 0)
 
 -- is it a late signal's?
 abbrev pub isLate : (ℕ → Bool) → ℕ → Bool
-isLate late w = eqb (kindOf w) 2 && late (firstOf w)
+isLate late w = eqb (kindOf w) signalKind && late (firstOf w)
 
 -- the node at index `at`, and an X behind it
 unfoldable pub written : Bool → ℕ → ℕ → List ℕ
-written true at w = w ∷ pack 8 at 0 ∷ []
+written true at w = w ∷ pack (unaryKind X) at 0 ∷ []
 written false at w = w ∷ []
 
 -- the nodes that were written, and the new number of each that was read

@@ -12,21 +12,21 @@ use Rattle.node.specs.Limits.{fieldLimit}
 use Rattle.node.specs.Fields.{pack}
 use Rattle.node.specs.FieldLaws.{kind-pack, first-pack, second-pack}
 use Rattle.node.specs.Ltl.{Unary, Not, X, G, F, Binary, And, Or, Implies, Iff, U, R, W, Signal, One}
-use Rattle.node.specs.Kinds.{unaryKind, binaryKind}
+use Rattle.node.specs.Kinds.{unaryKind, binaryKind, trueKind, falseKind, signalKind, hasTwo}
 use Rattle.node.specs.Postorder.{size, nodesFrom}
 use Rattle.language.specs.Bytes.{if_then_else_}
 use Rattle.language.specs.Shifting.{shifted}
 use Rattle.writing.specs.OperandLaws.{size-signal, nodes-true, nodes-false, nodes-signal, nodes-one}
 use Rattle.writing.specs.PassLaws.{Passes}
-use Rattle.shifting.specs.Passing.{hasTwo, renumbered, isLate, written, Pass, passes, passed}
+use Rattle.shifting.specs.Passing.{renumbered, isLate, written, Pass, passes, passed}
 
 -- a node by its kind and its fields
 module _ (k a b : ℕ) (ha : a < fieldLimit) (hb : b < fieldLimit) where
-  renumbered-fields : (ns : List ℕ) → renumbered ns (pack k a b) ≡ (if ltb k 3 then pack k a b else pack k (getD ns a 0) (if hasTwo k then getD ns b 0 else 0))
+  renumbered-fields : (ns : List ℕ) → renumbered ns (pack k a b) ≡ (if ltb k (unaryKind Not) then pack k a b else pack k (getD ns a 0) (if hasTwo k then getD ns b 0 else 0))
   unfolding renumbered
   renumbered-fields ns = simp (kind-pack k ha hb, first-pack k ha hb, second-pack k a hb)
 
-  late-fields : (late : ℕ → Bool) → isLate late (pack k a b) ≡ (eqb k 2 && late a)
+  late-fields : (late : ℕ → Bool) → isLate late (pack k a b) ≡ (eqb k signalKind && late a)
   late-fields late = simp (kind-pack k ha hb, first-pack k ha hb)
 
 module _ (ns : List ℕ) (late : ℕ → Bool) where
@@ -89,12 +89,12 @@ module _ (late : ℕ → Bool) (table : List ℕ) where
       ∙ ap₂ (λ (c : Bool) (x : ℕ). after n .words ++ written c (length (after n .words)) x) l r
 
   -- a signal's node, and X above it where it is late
-  signal-nodes : (at k : ℕ) (b : Bool) → written b at (pack 2 k 0) ≡ nodesFrom at (elim b [ true ↦ One X (Signal k) | false ↦ Signal k ])
+  signal-nodes : (at k : ℕ) (b : Bool) → written b at (pack signalKind k 0) ≡ nodesFrom at (elim b [ true ↦ One X (Signal k) | false ↦ Signal k ])
   unfolding written
   signal-nodes at k true =
       let one = size-signal k in
       let z : at + size (Signal k) - 1 ≡ at = omega arith in
-      sym (nodes-one at X (Signal k) ∙ ap₂ (λ (ws : List ℕ) (n : ℕ). ws ++ (pack 8 n 0 ∷ [])) (nodes-signal at k) z)
+      sym (nodes-one at X (Signal k) ∙ ap₂ (λ (ws : List ℕ) (n : ℕ). ws ++ (pack (unaryKind X) n 0 ∷ [])) (nodes-signal at k) z)
   signal-nodes at k false = sym (nodes-signal at k)
 
   -- whatever formula's nodes are passed: X above its late signals is what is made of it
@@ -102,13 +102,13 @@ module _ (late : ℕ → Bool) (table : List ℕ) where
   unfolding written
   passed-passes = record {
     truth = λ n e.
-        one-more n false e (renumbered-fields 0 0 0 (omega arith) (omega arith) _) (late-fields 0 0 0 (omega arith) (omega arith) late)
+        one-more n false e (renumbered-fields trueKind 0 0 (omega arith) (omega arith) _) (late-fields trueKind 0 0 (omega arith) (omega arith) late)
         ∙ ap (λ (ws : List ℕ). after n .words ++ ws) (sym (nodes-true (length (after n .words))));
     falsehood = λ n e.
-        one-more n false e (renumbered-fields 1 0 0 (omega arith) (omega arith) _) (late-fields 1 0 0 (omega arith) (omega arith) late)
+        one-more n false e (renumbered-fields falseKind 0 0 (omega arith) (omega arith) _) (late-fields falseKind 0 0 (omega arith) (omega arith) late)
         ∙ ap (λ (ws : List ℕ). after n .words ++ ws) (sym (nodes-false (length (after n .words))));
     signal = λ n k h e.
-        one-more n (late k) e (renumbered-fields 2 k 0 h (omega arith) _) (late-fields 2 k 0 h (omega arith) late)
+        one-more n (late k) e (renumbered-fields signalKind k 0 h (omega arith) _) (late-fields signalKind k 0 h (omega arith) late)
         ∙ ap (λ (ws : List ℕ). after n .words ++ ws) (signal-nodes (length (after n .words)) k (late k));
     one = λ n o a l h e.
         let own = unary-fields (after n .numbers) late o a (omega arith) in

@@ -11,7 +11,7 @@ ghost use lib.ListN.{length, getD};
 ghost use Rattle.node.specs.Limits.{maxNodes};
 ghost use Rattle.language.specs.Shifting.{isOutput};
 ghost use Rattle.writing.specs.Writing.{Puts};
-ghost use Rattle.shifting.specs.Passing.{lateBy, hasTwo, renumbered as renumbered', isLate, written, Numbers, Shifts};
+ghost use Rattle.shifting.specs.Passing.{lateBy, renumbered as renumbered', isLate, written, Numbers, Shifts};
 
 // Is signal k an output, by the flag above the other fields of its entry? One that the list does not have is none.
 fn is_output(k: usize, list: &[u32]) -> bool
@@ -48,12 +48,6 @@ fn number(k: u32, numbers: &[u32; MAX_NODES]) -> u32
     0
 }
 
-fn has_two(kind: u32) -> bool
-    ensures { λ r. ⌜ r ≡ hasTwo kind ⌝ }
-{
-    (Node::NOT < kind) & (kind < Node::NEXT) | (Node::FINALLY < kind)
-}
-
 // A node with its operands' new numbers.
 fn renumbered(word: u32, numbers: &[u32; MAX_NODES]) -> u32
     requires { ⌜ Numbers (now numbers) ⌝ }
@@ -65,7 +59,7 @@ fn renumbered(word: u32, numbers: &[u32; MAX_NODES]) -> u32
         return word;
     }
     let first = number(node.first(), numbers);
-    if has_two(kind) {
+    if Node::has_two(kind) {
         let second = number(node.second(), numbers);
         return Node::binary(kind, first, second).word;
     }

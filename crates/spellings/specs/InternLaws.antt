@@ -10,6 +10,7 @@ use lib.Dec.{eqb}
 use lib.ListN.{length, getD, drop, take, set, length-set, replicate, length-replicate}
 use lib.Seq.{getD-set-same, getD-set-other}
 use borrow.Author.Tests.{eq-eqb, ne-eqb, eqb-true, eqb-false}
+use Rattle.basics.specs.Lists.{getD-zeros}
 use Rattle.language.specs.Bytes.{same}
 use Rattle.language.specs.Limits.{maxTokens, workBytes}
 use Rattle.language.specs.Tokens.{Token, Name, isOf, tokens}
@@ -192,17 +193,12 @@ pub until : {ts : List Token} {j count : ℕ} {links byte ids : List ℕ} {n : �
 until x e = rw (sym e) x
 
 -- arrays of zeros
-nothing : (n k : ℕ) → _≡_ {A = ℕ} (getD (replicate n 0) k 0) 0
-nothing zero k = refl
-nothing (suc n) zero = refl
-nothing (suc n) (suc k) = nothing n k
-
 pub begun-zeros : {text : List ℕ} (a b d : ℕ) → 3 * b ≤ a → length text < b → maxTokens ≤ d → Begun text (replicate a 0) (replicate b 0) (replicate d 0)
 begun-zeros {text} a b d la lb ld =
     let x = length-replicate {A = ℕ} a 0 in
     let y = length-replicate {A = ℕ} b 0 in
     let w = length-replicate {A = ℕ} d 0 in
-    record { indexed = indexed-start (tokens text) (trie-start (omega arith) (omega arith) (λ k. let e = nothing b k in omega arith) (nothing a)) (omega arith) (nothing d); room = omega arith }
+    record { indexed = indexed-start (tokens text) (trie-start (omega arith) (omega arith) (λ k. let e = getD-zeros b k in omega arith) (getD-zeros a)) (omega arith) (getD-zeros d); room = omega arith }
 
 -- what the lexer promises, and what a later stage has kept of it
 pub lexed-from : {text w : List ℕ} {count : ℕ} → Tokenized text w count → workBytes ≤ length w → Lexed text w count

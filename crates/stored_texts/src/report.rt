@@ -4,13 +4,13 @@ use crate::calls::Room;
 use crate::calls::call_with;
 use crate::print;
 use crate::print::say;
+use forms::AS_EXPANDED;
+use forms::CORE_FORM;
+use forms::NEGATION_FORM;
 use language::limits::WORK_BYTES;
 use node::Answer;
 use node::MAX_NODES;
 use node::MAX_SIGNALS;
-use rewriter::AS_EXPANDED;
-use rewriter::CORE_FORM;
-use rewriter::NEGATION_FORM;
 
 // The most nodes of a text that are listed.
 const LISTED: u32 = 40;

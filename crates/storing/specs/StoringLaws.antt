@@ -5,10 +5,10 @@ use mathlib.Core.List.{List, [], _∷_, _++_, append-assoc}
 use lib.ListN.{length, length-append}
 use lib.Seq.{sets, length-sets}
 use native.Mathlib.Omega.{arith}
-use Rattle.node.specs.Limits.{maxNodes}
+use Rattle.node.specs.Limits.{maxNodes, kindLimit}
 use Rattle.node.specs.Ltl.{Unary, Not, Binary, Formula, Signal, One, Two}
 use Rattle.node.specs.Fields.{pack}
-use Rattle.node.specs.Kinds.{unaryKind, binaryKind}
+use Rattle.node.specs.Kinds.{unaryKind, binaryKind, signalKind}
 use Rattle.node.specs.Postorder.{size, nodesFrom}
 use Rattle.node.specs.PostorderLaws.{size-pos, length-nodes}
 use Rattle.storing.specs.Storing.{Stored, Puts, Wrote, Room, constantOf}
@@ -71,7 +71,7 @@ module _ (o : Binary) (f g : Formula) {out o1 o2 o3 : List ℕ} {at m r : ℕ} w
 -- the operator's node and a `!` above it
 module _ (o : Binary) (f g : Formula) {r : ℕ} {out o1 o2 o3 : List ℕ} {at m n w : ℕ} where
   pub not-binary-wrote : Stored (nodesFrom at f) out o1 at m → Stored (nodesFrom m g) o1 o2 m n → binaryKind o ≡ w
-      → Puts r (pack w (m - 1) (n - 1) ∷ pack 3 n 0 ∷ []) o2 o3 n → Wrote r (One Not (Two o f g)) out o3 at
+      → Puts r (pack w (m - 1) (n - 1) ∷ pack (unaryKind Not) n 0 ∷ []) o2 o3 n → Wrote r (One Not (Two o f g)) out o3 at
   unfolding nodesFrom size
   not-binary-wrote s t e p =
       let k : at + (size f + size g + 1) - 1 ≡ n = omega (arith, next-size f s, next-size g t) in
@@ -85,28 +85,28 @@ module _ (o : Binary) (f g : Formula) {out o1 o2 o3 : List ℕ} {at m r : ℕ} w
   not-binary-full-right l s h = unary-full Not (Two o f g) l (binary-full-right o f g {o3 = o3} l s h)
 
 -- a node and the `!` above it
-pub not-after : {w k n : ℕ} {r : ℕ} {out o1 o2 : List ℕ} → Stored (w ∷ []) out o1 n k → Puts r (pack 3 (k - 1) 0 ∷ []) o1 o2 k
-    → Puts r (w ∷ pack 3 n 0 ∷ []) out o2 n
+pub not-after : {w k n : ℕ} {r : ℕ} {out o1 o2 : List ℕ} → Stored (w ∷ []) out o1 n k → Puts r (pack (unaryKind Not) (k - 1) 0 ∷ []) o1 o2 k
+    → Puts r (w ∷ pack (unaryKind Not) n 0 ∷ []) out o2 n
 not-after {k = k} {n = n} s p = let e : k - 1 ≡ n = let h = s .next in omega arith in after s (rw e at p)
 
 -- a formula of one node
-pub constant-wrote : (k : ℕ) {r : ℕ} {out o1 : List ℕ} {at w : ℕ} → k < 2 → w ≡ pack k 0 0 → Puts r (w ∷ []) out o1 at → Wrote r (constantOf k) out o1 at
+pub constant-wrote : (k : ℕ) {r : ℕ} {out o1 : List ℕ} {at w : ℕ} → k < signalKind → w ≡ pack k 0 0 → Puts r (w ∷ []) out o1 at → Wrote r (constantOf k) out o1 at
 unfolding nodesFrom
 constant-wrote zero h e p = rw e at p
 constant-wrote (suc zero) h e p = rw e at p
 constant-wrote (suc (suc k)) h e p = absurd (omega arith)
 
-pub signal-wrote : (k : ℕ) {r : ℕ} {out o1 : List ℕ} {at w : ℕ} → w ≡ pack 2 k 0 → Puts r (w ∷ []) out o1 at → Wrote r (Signal k) out o1 at
+pub signal-wrote : (k : ℕ) {r : ℕ} {out o1 : List ℕ} {at w : ℕ} → w ≡ pack signalKind k 0 → Puts r (w ∷ []) out o1 at → Wrote r (Signal k) out o1 at
 unfolding nodesFrom
 signal-wrote k e p = rw e at p
 
 -- the operands of an operator stand before it
-pub ends : (op : ℕ) (f g : Formula) {out o1 o2 : List ℕ} {at m n : ℕ} → op < 16 → Room out at → Stored (nodesFrom at f) out o1 at m → Stored (nodesFrom m g) o1 o2 m n
-    → (op < 16) × ((1 ≤ m) × ((m ≤ n) × Room o2 n))
+pub ends : (op : ℕ) (f g : Formula) {out o1 o2 : List ℕ} {at m n : ℕ} → op < kindLimit → Room out at → Stored (nodesFrom at f) out o1 at m → Stored (nodesFrom m g) o1 o2 m n
+    → (op < kindLimit) × ((1 ≤ m) × ((m ≤ n) × Room o2 n))
 ends op f g h r s t =
     let e = next-size f s in
     let p = size-pos f in
     let e' = next-size g t in (h, (omega arith, (omega arith, room-after (room-after r s) t)))
 
-pub end : (op : ℕ) (f : Formula) {out o1 : List ℕ} {at m : ℕ} → op < 16 → Room out at → Stored (nodesFrom at f) out o1 at m → (op < 16) × ((1 ≤ m) × Room o1 m)
+pub end : (op : ℕ) (f : Formula) {out o1 : List ℕ} {at m : ℕ} → op < kindLimit → Room out at → Stored (nodesFrom at f) out o1 at m → (op < kindLimit) × ((1 ≤ m) × Room o1 m)
 end op f h r s = let e = next-size f s in let p = size-pos f in (h, (omega arith, room-after r s))

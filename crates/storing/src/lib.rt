@@ -1,12 +1,13 @@
 // The one writer of nodes: the reader's formulas and the rewriter's forms are written word by word through it. A formula's nodes stand in postorder, and
-// specs/Written has their names.
+// crate node's specs/Written has their names.
 // The functions write to `out` from an index on, as far as `out` reaches. They yield the next index, or a number above 8,192 where there is no room: an enum
 // would be passed in memory. They ask for an index within `out` and for at most 8,192 entries: their callers have made sure of both.
 ghost use mathlib.Core.List.{_∷_, []};
 ghost use Prim.Native.Nat.{_-_, _<_, _≤_};
-ghost use Rattle.node.specs.Limits.{fieldLimit};
+ghost use Rattle.node.specs.Limits.{fieldLimit, kindLimit};
 ghost use Rattle.node.specs.Ltl.{Signal};
 ghost use Rattle.node.specs.Fields.{pack};
+ghost use Rattle.node.specs.Kinds.{signalKind};
 ghost use Rattle.storing.specs.Storing.{Puts, Wrote, Room, constantOf};
 use node::MAX_NODES;
 use node::Node;
@@ -28,7 +29,7 @@ pub fn put(out: &mut [u32], at: usize, word: u32) -> usize
 
 // Stores at m an operator whose operand is the node before.
 pub fn cap(op: u32, m: usize, out: &mut [u32]) -> usize
-    requires { ⌜ (op < 16) × ((1 ≤ m) × Room (now out) m) ⌝ }
+    requires { ⌜ (op < kindLimit) × ((1 ≤ m) × Room (now out) m) ⌝ }
     ensures { λ r. ⌜ Puts r (pack op (m - 1) 0 ∷ []) (now (out .entry)) (now (out .exit)) m ⌝ }
 {
     let node = Node::unary(op, (m - 1) as u32);
@@ -37,7 +38,7 @@ pub fn cap(op: u32, m: usize, out: &mut [u32]) -> usize
 
 // Stores at n an operator whose operands are the nodes before m and before n.
 pub fn join(op: u32, m: usize, n: usize, out: &mut [u32]) -> usize
-    requires { ⌜ (op < 16) × ((1 ≤ m) × ((m ≤ n) × Room (now out) n)) ⌝ }
+    requires { ⌜ (op < kindLimit) × ((1 ≤ m) × ((m ≤ n) × Room (now out) n)) ⌝ }
     ensures { λ r. ⌜ Puts r (pack op (m - 1) (n - 1) ∷ []) (now (out .entry)) (now (out .exit)) n ⌝ }
 {
     let node = Node::binary(op, (m - 1) as u32, (n - 1) as u32);
@@ -46,7 +47,7 @@ pub fn join(op: u32, m: usize, n: usize, out: &mut [u32]) -> usize
 
 // true or false
 pub fn constant(kind: u32, out: &mut [u32], at: usize) -> usize
-    requires { ⌜ (kind < 2) × Room (now out) at ⌝ }
+    requires { ⌜ (kind < signalKind) × Room (now out) at ⌝ }
     ensures { λ r. ⌜ Wrote r (constantOf kind) (now (out .entry)) (now (out .exit)) at ⌝ }
 {
     let node = Node::leaf(kind);

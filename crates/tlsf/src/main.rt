@@ -1,10 +1,10 @@
 // The program of document 01, 'One file in full': reads a text on standard input and prints the listing of form 0, or of the form that its one argument names.
+use forms::AS_EXPANDED;
+use forms::CORE_FORM;
 use libc::STDIN_FILENO;
 use node::Answer;
 use node::MAX_NODES;
 use node::MAX_SIGNALS;
-use rewriter::AS_EXPANDED;
-use rewriter::CORE_FORM;
 
 // A form that is none (21).
 const NO_FORM: u32 = CORE_FORM + 1;
@@ -13,7 +13,7 @@ const NO_FORM: u32 = CORE_FORM + 1;
 fn form_of(byte: u8) -> u32 {
     match byte {
         b'0' => AS_EXPANDED,
-        b'1' => rewriter::NEGATION_FORM,
+        b'1' => forms::NEGATION_FORM,
         b'2' => CORE_FORM,
         _ => NO_FORM,
     }

@@ -1,7 +1,6 @@
 -- `write_basic` by stages: the reader's answer into a table and a list of the largest size, then what is written out of them.
 use Prim.Native.Nat.{ℕ, _≤_}
 use mathlib.Core.Path.{_≡_, refl, ap, ap₂, _∙_, sym, subst}
-use mathlib.Core.Bool.{Bool, true, false}
 use mathlib.Core.List.{List, []}
 use mathlib.Core.Option.{Option}
 use lib.Dec.{leb}
@@ -9,8 +8,8 @@ use lib.ListN.{length, take}
 use native.Mathlib.Omega.{arith}
 use borrow.Author.Tests.{le-leb, leb-true}
 use Rattle.node.specs.Limits.{maxNodes}
-use Rattle.node.specs.Result.{Result, Done, Refused, _>>=_, guard, Counts}
-use Rattle.node.specs.ResultLaws.{bind-done, bind-to, bind-refused, guard-pass, guard-done}
+use Rattle.node.specs.Result.{Result, Done, Refused, _>>=_, Counts}
+use Rattle.node.specs.ResultLaws.{bind-done, bind-to, bind-refused, guard-pass, guard-done, guard-refused}
 use Rattle.node.specs.Formed.{Formed}
 use Rattle.node.specs.TableLaws.{checked-done}
 use Rattle.node.specs.Written.{nodesOf, count}
@@ -49,17 +48,11 @@ written-refused : (text : List ℕ) {n p : ℕ} → textExpansion text ≡ Refus
 unfolding textExpansion written
 written-refused text e = behind-refused (parsed text) specExpansion _ e
 
-guard-both : {A B : Type 0} (b : Bool) (number place : ℕ) (r : Result A) (q : Result B) {n p : ℕ} → (r ≡ Refused n p → q ≡ Refused n p) → guard b number place r ≡ Refused n p
-    → guard b number place q ≡ Refused n p
-unfolding guard
-guard-both true number place r q f e = f e
-guard-both false number place r q f e = cc
-
 module _ (text : List ℕ) (work room : ℕ) where
   pub writing-refused : {n p : ℕ} → reading text work maxNodes maxSignals ≡ Refused n p → writing text work room ≡ Refused n p
   unfolding reading writing
   writing-refused {n} {p} e =
-      guard-both (leb workBytes work) 17 0 (textExpansion text >>= delivered maxNodes maxSignals) (written text >>= handed room)
+      guard-refused (leb workBytes work) 17 0 (textExpansion text >>= delivered maxNodes maxSignals) (written text >>= handed room)
       (λ h. bind-refused (written text) n p (handed room) (written-refused text (sym (all-delivered text) ∙ h))) e
 
   -- and what it accepts is written

@@ -5,7 +5,7 @@ use mathlib.Core.Path.{_≡_, refl}
 use mathlib.Core.List.{[], _∷_, _++_}
 use Rattle.node.specs.Ltl.{Unary, Binary, Formula, True, False, Signal, One, Two}
 use Rattle.node.specs.Fields.{pack}
-use Rattle.node.specs.Kinds.{unaryKind, binaryKind}
+use Rattle.node.specs.Kinds.{unaryKind, binaryKind, trueKind, falseKind, signalKind}
 use Rattle.node.specs.Postorder.{size, nodesFrom}
 
 -- how many
@@ -30,15 +30,15 @@ unfolding size
 size-two o a b = refl
 
 -- which
-pub nodes-true : (at : ℕ) → nodesFrom at True ≡ pack 0 0 0 ∷ []
+pub nodes-true : (at : ℕ) → nodesFrom at True ≡ pack trueKind 0 0 ∷ []
 unfolding nodesFrom
 nodes-true at = refl
 
-pub nodes-false : (at : ℕ) → nodesFrom at False ≡ pack 1 0 0 ∷ []
+pub nodes-false : (at : ℕ) → nodesFrom at False ≡ pack falseKind 0 0 ∷ []
 unfolding nodesFrom
 nodes-false at = refl
 
-pub nodes-signal : (at k : ℕ) → nodesFrom at (Signal k) ≡ pack 2 k 0 ∷ []
+pub nodes-signal : (at k : ℕ) → nodesFrom at (Signal k) ≡ pack signalKind k 0 ∷ []
 unfolding nodesFrom
 nodes-signal at k = refl
 

@@ -9,7 +9,7 @@ use native.Mathlib.Omega.{arith}
 use Rattle.node.specs.Limits.{maxNodes, fieldLimit}
 use Rattle.node.specs.Fields.{pack}
 use Rattle.node.specs.Ltl.{Unary, Binary, Formula, True, False, Signal, One, Two}
-use Rattle.node.specs.Kinds.{unaryKind, binaryKind}
+use Rattle.node.specs.Kinds.{unaryKind, binaryKind, trueKind, falseKind, signalKind}
 use Rattle.node.specs.Postorder.{size, nodesFrom, SignalsBelow}
 use Rattle.node.specs.PostorderLaws.{size-pos, length-nodes}
 use Rattle.writing.specs.Parts.{Stands}
@@ -18,9 +18,9 @@ use Rattle.writing.specs.OperandLaws.{size-true, size-false, size-signal
 
 -- the words that a pass has written after the first n nodes of a table, and what it makes of a formula
 pub record Passes (table : List ℕ) (words : ℕ → List ℕ) (made : Formula → Formula) : Type 0 where
-  pub truth : (n : ℕ) → getD table n 0 ≡ pack 0 0 0 → words (n + 1) ≡ words n ++ nodesFrom (length (words n)) (made True)
-  pub falsehood : (n : ℕ) → getD table n 0 ≡ pack 1 0 0 → words (n + 1) ≡ words n ++ nodesFrom (length (words n)) (made False)
-  pub signal : (n k : ℕ) → k < fieldLimit → getD table n 0 ≡ pack 2 k 0 → words (n + 1) ≡ words n ++ nodesFrom (length (words n)) (made (Signal k))
+  pub truth : (n : ℕ) → getD table n 0 ≡ pack trueKind 0 0 → words (n + 1) ≡ words n ++ nodesFrom (length (words n)) (made True)
+  pub falsehood : (n : ℕ) → getD table n 0 ≡ pack falseKind 0 0 → words (n + 1) ≡ words n ++ nodesFrom (length (words n)) (made False)
+  pub signal : (n k : ℕ) → k < fieldLimit → getD table n 0 ≡ pack signalKind k 0 → words (n + 1) ≡ words n ++ nodesFrom (length (words n)) (made (Signal k))
   -- an operand's new number is that of the last word written for it
   pub one : (n : ℕ) (o : Unary) (a : ℕ) → a < n → n < maxNodes → getD table n 0 ≡ pack (unaryKind o) a 0
       → words (n + 1) ≡ words n ++ (pack (unaryKind o) (length (words (a + 1)) - 1) 0 ∷ [])

@@ -8,6 +8,7 @@ use native.Mathlib.Omega.{arith}
 use Rattle.node.specs.Limits.{maxNodes, fieldLimit}
 use Rattle.node.specs.Ltl.{X, Formula, True, False, Signal}
 use Rattle.node.specs.Fields.{pack}
+use Rattle.node.specs.Kinds.{unaryKind}
 use Rattle.node.specs.Postorder.{size, SignalsBelow}
 use Rattle.node.specs.PostorderLaws.{size-pos}
 use Rattle.storing.specs.Storing as Storing
@@ -59,7 +60,7 @@ size-nexts (suc n) a = omega (arith, size-nexts n a)
 pub nexts-start : {out : List ℕ} {m : ℕ} → Nexts 0 out out m m
 nexts-start at = record { wrote = λ w. w }
 
-pub nexts-more : (i : ℕ) {out between out′ : List ℕ} {m r r′ : ℕ} → Nexts i out between m r → Caps 8 between out′ r r′ → Nexts (suc i) out out′ m r′
+pub nexts-more : (i : ℕ) {out between out′ : List ℕ} {m r r′ : ℕ} → Nexts i out between m r → Caps (unaryKind X) between out′ r r′ → Nexts (suc i) out out′ m r′
 nexts-more i v u at = record { wrote = λ w. u X refl at .wrote (v at .wrote w) }
 
 -- X after X that do not fit

@@ -9,6 +9,7 @@ use native.Mathlib.Decide.{decLt}
 use native.Mathlib.Omega.{arith}
 use Rattle.node.specs.Limits.{maxNodes, fieldLimit}
 use Rattle.node.specs.Ltl.{X, Binary, Formula, One, Two}
+use Rattle.node.specs.Kinds.{unaryKind}
 use Rattle.node.specs.Postorder.{size, nodesFrom, SignalsBelow}
 use Rattle.node.specs.PostorderLaws.{size-pos, length-nodes}
 use Rattle.writing.specs.Parts.{moves, Stands}
@@ -101,7 +102,7 @@ linked-none op n from width {out} {m} e = record {
 
 -- X and the operator over the chain so far and the copy before it
 pub linked-more : (op n i j from width : ℕ) {out between middle out′ : List ℕ} {first r x r′ : ℕ} → j ≡ suc i → j ≤ n → first ≡ place from width j → Linked op n j from width out between r
-    → Caps 8 between middle r x → Joins op middle out′ first x r′ → Linked op n i from width out out′ r′
+    → Caps (unaryKind X) between middle r x → Joins op middle out′ first x r′ → Linked op n i from width out out′ r′
 linked-more op n i j from width {out} {between} {middle} {out′} {first} {r} {x} {r′} f l e y u v = record {
   wrote = λ o k a before s g t.
       let d : n - i ≡ suc (n - j) = omega arith in

@@ -8,7 +8,7 @@ ghost use mathlib.Core.Path.{_≡_};
 ghost use Prim.Native.Nat.{_+_, _<_, _≤_};
 ghost use lib.ListN.{length};
 ghost use lib.Seq.{sets};
-ghost use Rattle.node.specs.Limits.{maxNodes, fieldLimit};
+ghost use Rattle.node.specs.Limits.{maxNodes, fieldLimit, kindLimit};
 ghost use Rattle.node.specs.Kinds.{shapeOf};
 ghost use Rattle.writing.specs.Moving.{weight as weight', moved as moved'};
 ghost use Rattle.writing.specs.Parts.{moves};
@@ -40,7 +40,7 @@ const WEIGHTS: [u32; 16] = [
 ];
 
 fn weight(kind: u32) -> u32
-    requires { ⌜ kind < 16 ⌝ }
+    requires { ⌜ kind < kindLimit ⌝ }
     ensures { λ r. ⌜ r ≡ weight' (shapeOf kind) ⌝ }
 {
     let k = kind as usize;

@@ -4,7 +4,7 @@ use node::MAX_NODES;
 use node::Node;
 ghost use mathlib.Core.List.{_∷_, []};
 ghost use Prim.Native.Nat.{_<_};
-ghost use Rattle.node.specs.Limits.{fieldLimit};
+ghost use Rattle.node.specs.Limits.{fieldLimit, kindLimit};
 ghost use Rattle.node.specs.Ltl.{Signal};
 ghost use Rattle.writing.specs.Writing.{Puts, Wrote, Caps, Joins, Nexts, truth};
 
@@ -50,7 +50,7 @@ pub fn signal(k: u32, out: &mut [u32; MAX_NODES], at: usize) -> usize
 
 // An operator of one operand, over the node before m. Its number is one of sixteen: the kind's field holds no more.
 pub fn cap(op: u32, m: usize, out: &mut [u32; MAX_NODES]) -> usize
-    requires { ⌜ op < 16 ⌝ }
+    requires { ⌜ op < kindLimit ⌝ }
     ensures { λ r. ⌜ Caps op (now (out .entry)) (now (out .exit)) m r ⌝ }
 {
     if m == 0 {
@@ -64,7 +64,7 @@ pub fn cap(op: u32, m: usize, out: &mut [u32; MAX_NODES]) -> usize
 
 // An operator of two operands, over the nodes before m and before n. Its number is one of sixteen, as above.
 pub fn join(op: u32, m: usize, n: usize, out: &mut [u32; MAX_NODES]) -> usize
-    requires { ⌜ op < 16 ⌝ }
+    requires { ⌜ op < kindLimit ⌝ }
     ensures { λ r. ⌜ Joins op (now (out .entry)) (now (out .exit)) m n r ⌝ }
 {
     if m == 0 {

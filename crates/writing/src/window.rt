@@ -7,7 +7,7 @@ use node::MAX_NODES;
 use node::Node;
 ghost use mathlib.Core.Path.{_≡_};
 ghost use Prim.Native.Nat.{suc, _<_, _≤_};
-ghost use Rattle.node.specs.Limits.{maxNodes};
+ghost use Rattle.node.specs.Limits.{maxNodes, kindLimit};
 ghost use Rattle.writing.specs.Windows.{place, Layered, Linked, Windowed};
 
 // n further copies of the nodes [from, from + size), one after another. `window` has made sure that they fit.
@@ -25,7 +25,7 @@ fn layer(n: usize, from: usize, size: usize, out: &mut [u32; MAX_NODES])
 
 // X and the operator over the last of n + 1 copies and those before it; the copies end at m. They lie in the table, and the operator is one of sixteen.
 fn link(op: u32, n: usize, from: usize, size: usize, m: usize, out: &mut [u32; MAX_NODES]) -> usize
-    requires { ⌜ (op < 16) × ((m ≡ place from size (suc n)) × (m ≤ maxNodes)) ⌝ }
+    requires { ⌜ (op < kindLimit) × ((m ≡ place from size (suc n)) × (m ≤ maxNodes)) ⌝ }
     ensures { λ r. ⌜ Linked op n 0 from size (now (out .entry)) (now (out .exit)) r ⌝ }
 {
     let mut r = m;
@@ -42,7 +42,7 @@ fn link(op: u32, n: usize, from: usize, size: usize, m: usize, out: &mut [u32; M
 
 // The nodes [from, m) are an operand: with n further copies of it they become a chain of the operator. Its number is one of sixteen: the kind's field holds no more.
 pub fn window(op: u32, n: usize, from: usize, m: usize, out: &mut [u32; MAX_NODES]) -> usize
-    requires { ⌜ op < 16 ⌝ }
+    requires { ⌜ op < kindLimit ⌝ }
     ensures { λ r. ⌜ Windowed op n (now (out .entry)) (now (out .exit)) from m r ⌝ }
 {
     if m <= from {

@@ -63,24 +63,29 @@ mul-t16 c =
 
 fill-row-requires : tie.Need-fill-row-requires
 fill-row-requires c κs =
-    let kind = c .before .before .before .before .kind in
-    let first = c .before .before .before .first in
-    let second = c .before .before .second in
-    let start = c .before .before .before .before .before .before .before .before .before in
-    ready-of _ _ _ (start .args .nodes .now) _ (kind .result) (first .result) (second .result) (start .pre .recorded) (room-of start .0) (room-of start .1) (node-of (c .before .before))
+    let at-second = c .before .before in
+    let second = at-second .second in
+    let at-first = at-second .before in
+    let first = at-first .first in
+    let at-kind = at-first .before in
+    let kind = at-kind .kind in
+    let start = at-kind .before .before .before .before .before in
+    ready-of _ _ _ (start .args .nodes .now) _ (kind .result) (first .result) (second .result) (start .pre .recorded) (room-of start .0) (room-of start .1) (node-of at-second)
 
 same-length : tie.Need-same-length
 same-length c = search needs
 
 returns : tie.Need-returns
 returns c =
-    let kind = c .before .before .before .before .before .before .before .kind in
-    let first = c .before .before .before .before .before .before .first in
-    let second = c .before .before .before .before .before .second in
-    let before = c .before .before .before .before .before in
     let fill-row = c .before .before .fill-row in
-    let start = c .before .before .before .before .before .before .before .before .before .before .before .before in
-    row-done _ _ _ _ (kind .result) (first .result) (second .result) (start .pre .recorded .loop) (start .pre .right) (node-of before) (fill-row .ensures)
+    let at-second = c .before .before .before .before .before in
+    let second = at-second .second in
+    let at-first = at-second .before in
+    let first = at-first .first in
+    let at-kind = at-first .before in
+    let kind = at-kind .kind in
+    let start = at-kind .before .before .before .before .before in
+    row-done _ _ _ _ (kind .result) (first .result) (second .result) (start .pre .recorded .loop) (start .pre .right) (node-of at-second) (fill-row .ensures)
 
 pub node-row-spec : {M : Type 1} → statement M
 node-row-spec =

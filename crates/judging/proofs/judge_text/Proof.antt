@@ -42,8 +42,9 @@ same-length c = search needs
 returns : tie.Need-returns
 returns c =
     let told = c .before .enum-told .given .1 in
+    let at-read = c .before .before .before .before .before .before .before in
     subst (JudgesText _ _ _ _) (sym (unjudged-refusal told (c .unjudged .ensures)))
-    (read-refused _ (c .before .before .before .before .before .before .before .read .ensures) (length-replicate {A = ℕ} _ 0) (length-replicate {A = ℕ} _ 0) told)
+    (read-refused _ (at-read .read .ensures) (length-replicate {A = ℕ} _ 0) (length-replicate {A = ℕ} _ 0) told)
 
 cast-n : tie.Need-cast-n
 cast-n c = search needs

@@ -14,9 +14,8 @@ value-requires c κs = search needs
 
 returns-2 : tie.Need-returns-2
 returns-2 c =
-    c .value .ensures
-    ∙ ap (λ (b : Bool). b || valueOf (c .before .before .before .args .rows .now) (c .before .before .before .args .width) (c .before .before .before .args .require)
-    (c .before .before .before .args .p)) (sym (c .before .if1 .left))
+    let a = c .before .before .before .args in
+    c .value .ensures ∙ ap (λ (b : Bool). b || valueOf (a .rows .now) (a .width) (a .require) (a .p)) (sym (c .before .if1 .left))
 
 pub required-spec : {M : Type 1} → statement M
 required-spec = tie.close (tie.spec returns value-requires returns-2)

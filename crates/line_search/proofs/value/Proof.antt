@@ -4,13 +4,13 @@ use mathlib.Core.Path.{sym}
 use native.Mathlib.Omega.{arith}
 use borrow.Author.Needs.{needs}
 use Rattle.basics.specs.Told.{maxTold}
-use Rattle.line_search.specs.Walking.{maxRow}
+use Rattle.rows.specs.Memory.{rowBytes}
 use Rattle.line_search.specs.WalkingLaws.{bit-past, bit-small}
 use Rattle.line_search.proofs.value.Statement.{statement}
 use Rattle.line_search.proofs.value.Tie as tie
 
 -- the row's first bit
-start : (c : tie.After-shared-slice-known) → c .before .args .width * c .before .args .i ≤ maxRow * maxTold
+start : (c : tie.After-shared-slice-known) → c .before .args .width * c .before .args .i ≤ rowBytes * maxTold
 start c = bit-small (c .before .args .width) (c .before .args .i) (omega arith) (omega arith)
 
 mul-at : tie.Need-mul-at

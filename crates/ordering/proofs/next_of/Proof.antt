@@ -5,7 +5,11 @@ use Rattle.ordering.proofs.next_of.Statement.{statement}
 use Rattle.ordering.proofs.next_of.Tie as tie
 
 -- the fields that were read
-fields : (c : tie.After-arity) → FieldsRead (c .before .before .before .before .args .word) (c .before .before .before .kind .result) (c .before .before .first .result) (c .before .second .result) (c .arity .result)
+fields : (c : tie.After-arity) →
+    let at-second = c .before in
+    let at-first = at-second .before in
+    let at-kind = at-first .before in
+    FieldsRead (at-kind .before .args .word) (at-kind .kind .result) (at-first .first .result) (at-second .second .result) (c .arity .result)
 fields c =
     record {
       kind = c .before .before .before .kind .ensures;

@@ -28,19 +28,34 @@ enum-known-next : tie.Need-enum-known-next Inv-loop μ-loop
 enum-known-next c = search needs
 
 cast-waiting : tie.Need-cast-waiting Inv-loop μ-loop
-cast-waiting c = let f = run-few (c .before .before .before .before .before .before .loop .inv) in record { fits = omega arith }
+cast-waiting c =
+    let at-loop = c .before .before .before .before .before .before in
+    let f = run-few (at-loop .loop .inv) in
+    record { fits = omega arith }
 
 mul-waiting : tie.Need-mul-waiting Inv-loop μ-loop
-mul-waiting c = let f = run-few (c .before .before .before .before .before .before .loop .inv) in record { fits = omega arith }
+mul-waiting c =
+    let at-loop = c .before .before .before .before .before .before in
+    let f = run-few (at-loop .loop .inv) in
+    record { fits = omega arith }
 
 array-write-waiting : tie.Need-array-write-waiting Inv-loop μ-loop
-array-write-waiting c = let f = run-few (c .before .before .before .before .before .before .loop .inv) in omega arith
+array-write-waiting c =
+    let at-loop = c .before .before .before .before .before .before in
+    let f = run-few (at-loop .loop .inv) in
+    omega arith
 
 add-depth : tie.Need-add-depth Inv-loop μ-loop
-add-depth c = let f = run-few (c .before .before .before .before .before .before .loop .inv) in record { fits = omega arith }
+add-depth c =
+    let at-loop = c .before .before .before .before .before .before in
+    let f = run-few (at-loop .loop .inv) in
+    record { fits = omega arith }
 
 loop-less : tie.Need-loop-less Inv-loop μ-loop
-loop-less c = let f = run-few (c .before .before .before .before .before .before .loop .inv) in omega arith
+loop-less c =
+    let at-loop = c .before .before .before .before .before .before in
+    let f = run-few (at-loop .loop .inv) in
+    omega arith
 
 loop-again : tie.Need-loop-again Inv-loop μ-loop
 loop-again c =
@@ -51,7 +66,9 @@ enum-known-next-2 : tie.Need-enum-known-next-2 Inv-loop μ-loop
 enum-known-next-2 c = search needs
 
 put-requires : tie.Need-put-requires Inv-loop μ-loop
-put-requires c κs = run-shared (c .before .before .before .before .before .before .before .loop .inv)
+put-requires c κs =
+    let at-loop = c .before .before .before .before .before .before .before in
+    run-shared (at-loop .loop .inv)
 
 same-length : tie.Need-same-length Inv-loop μ-loop
 same-length c = search needs
@@ -77,19 +94,31 @@ cast-memo : tie.Need-cast-memo Inv-loop μ-loop
 cast-memo c = search needs
 
 mul-memo : tie.Need-mul-memo Inv-loop μ-loop
-mul-memo c = let f = run-few (c .before .before .before .before .before .before .before .before .before .before .before .before .loop .inv) in record { fits = omega arith }
+mul-memo c =
+    let at-loop = c .before .before .before .before .before .before .before .before .before .before .before .before in
+    let f = run-few (at-loop .loop .inv) in
+    record { fits = omega arith }
 
 array-write-memo : tie.Need-array-write-memo Inv-loop μ-loop
-array-write-memo c = let f = run-few (c .before .before .before .before .before .before .before .before .before .before .before .before .loop .inv) in omega arith
+array-write-memo c =
+    let at-loop = c .before .before .before .before .before .before .before .before .before .before .before .before in
+    let f = run-few (at-loop .loop .inv) in
+    omega arith
 
 sub-depth : tie.Need-sub-depth Inv-loop μ-loop
 sub-depth c = search needs
 
 mul-wide : tie.Need-mul-wide Inv-loop μ-loop
-mul-wide c = let f = run-few (c .before .before .before .before .before .before .before .before .before .before .before .before .loop .inv) in record { fits = omega arith }
+mul-wide c =
+    let at-loop = c .before .before .before .before .before .before .before .before .before .before .before .before in
+    let f = run-few (at-loop .loop .inv) in
+    record { fits = omega arith }
 
 array-read-wide : tie.Need-array-read-wide Inv-loop μ-loop
-array-read-wide c = let f = run-few (c .before .before .before .before .before .before .before .before .before .before .before .before .loop .inv) in omega arith
+array-read-wide c =
+    let at-loop = c .before .before .before .before .before .before .before .before .before .before .before .before in
+    let f = run-few (at-loop .loop .inv) in
+    omega arith
 
 wide-requires : tie.Need-wide-requires Inv-loop μ-loop
 wide-requires c κs = search needs

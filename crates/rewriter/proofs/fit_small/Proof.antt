@@ -3,6 +3,7 @@ use Prim.Native.Nat.{ℕ}
 use native.Mathlib.Omega.{arith}
 use lib.ListN.{length-replicate}
 use Rattle.storing.specs.StoringLaws.{stored-length}
+use Rattle.rewriter.specs.Fitting.{smallResult}
 use Rattle.rewriter.specs.FittingLaws.{root-ready, fitted-over}
 use borrow.Author.Needs.{needs}
 use Rattle.rewriter.proofs.fit_small.Statement.{statement}
@@ -15,7 +16,7 @@ slice-aggregate-write-form : tie.Need-slice-aggregate-write-form
 slice-aggregate-write-form c = search needs
 
 write-form-requires : tie.Need-write-form-requires
-write-form-requires c κs = root-ready ((c .before .before .before) .pre) (omega (arith, length-replicate {A = ℕ} 1024 0))
+write-form-requires c κs = root-ready ((c .before .before .before) .pre) (omega (arith, length-replicate {A = ℕ} smallResult 0))
 
 fit-requires : tie.Need-fit-requires
 fit-requires c κs = search needs
@@ -45,7 +46,7 @@ returns-2 c =
     let at-if1 = at-hand-over .before .before .before in
     let at-write-form = at-if1 .before .before in
     let start = at-write-form .before .before .before .before in
-    fitted-over _ (start .args .out .now) _ (omega (arith, length-replicate {A = ℕ} 1024 0)) (at-write-form .write-form .ensures) (let h = at-if1 .if1 .left in omega arith)
+    fitted-over _ (start .args .out .now) _ (omega (arith, length-replicate {A = ℕ} smallResult 0)) (at-write-form .write-form .ensures) (let h = at-if1 .if1 .left in omega arith)
     (at-hand-over .hand-over .ensures)
 
 pub fit-small-spec : {M : Type 1} → statement M

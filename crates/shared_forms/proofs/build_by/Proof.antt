@@ -35,7 +35,8 @@ fill-requires c κs =
 same-length : tie.Need-same-length
 same-length c =
     let at-filled = c .before .before .before in
-    at-filled .notes2 .given ∙ at-filled .before .before .before .before .before .before .notes .given ∙ simp length-set
+    let at-marked = at-filled .before .before .before .before .before .before in
+    at-filled .notes2 .given ∙ at-marked .notes .given ∙ simp length-set
 
 same-length-2 : tie.Need-same-length-2
 same-length-2 c = search needs

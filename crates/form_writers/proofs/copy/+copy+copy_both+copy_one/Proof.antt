@@ -5,7 +5,8 @@ use mathlib.Core.Logic.{_⊎_, inl, inr, ⊎-elim}
 use native.Mathlib.Omega.{arith}
 use borrow.Author.Needs.{needs}
 use Rattle.node.specs.Limits.{fieldLimit}
-use Rattle.node.specs.Kinds.{shapeOf}
+use Rattle.node.specs.Ltl.{X, F, Not}
+use Rattle.node.specs.Kinds.{shapeOf, unaryKind, trueKind, falseKind, signalKind}
 use Rattle.node.specs.Formed.{NodeIs}
 use Rattle.node.specs.TableLaws.{rest-above}
 use Rattle.form_writers.specs.WritingLaws.{operand, operands}
@@ -36,7 +37,7 @@ copy-twos-at : (t : ℕ) (c : copy-lts.Joined1 (copy-calls t) (copy-at t) copy.P
     TwoStep same (f .before .before .before .args .nodes .now) (f .before .before .before .args .i) (f .fields-at .result .first) (f .fields-at .result .second) (f .fields-at .result .kind)
 copy-twos-at t c =
     let f = c .before .before in
-    let w : (f .fields-at .result .kind < 8) ⊎ (10 < f .fields-at .result .kind) = ⊎-elim (λ x. inl (omega (arith, x .taken))) (λ x. inr (omega (arith, x .1 .left))) (c .if1 .came) in
+    let w : (f .fields-at .result .kind < unaryKind X) ⊎ (unaryKind F < f .fields-at .result .kind) = ⊎-elim (λ x. inl (omega (arith, x .taken))) (λ x. inr (omega (arith, x .1 .left))) (c .if1 .came) in
     let h : OfTwo (f .fields-at .result .kind) = of-two (f .fields-at .ensures) (rest-above 4 _ (c .before .match .rest)) w in
     two-step h (f .fields-at .ensures) (same-two _ h)
 
@@ -49,11 +50,11 @@ copy-met t =
     (λ c κs.
     let place = c .before .before in
     let s = place .before .before .before in
-    let n = copy-node t place 2 ((c .before) .match .keys3) in (n .lower, s .pre .1 .room))
+    let n = copy-node t place signalKind ((c .before) .match .keys3) in (n .lower, s .pre .1 .room))
     (λ c κs.
     let place = c .before .before in
     let s = place .before .before .before in
-    let n = copy-node t place 3 ((c .before) .match .keys4) in (omega (arith, s .pre .0, n .lower), (operand (s .pre .1) (n .lower), search needs)))
+    let n = copy-node t place (unaryKind Not) ((c .before) .match .keys4) in (omega (arith, s .pre .0, n .lower), (operand (s .pre .1) (n .lower), search needs)))
     (λ c κs.
     let s = c .before .before .before .before .before .before .before in
     let n = copy-ones-at t (c .before) in (omega (arith, s .pre .0, n .below), (operand (s .pre .1) (n .below), n .operator)))
@@ -65,25 +66,25 @@ copy-met t =
     let at-constant = c .before .before in
     let at-match = at-constant .before .before in
     let place = at-match .before in
-    let n = copy-node t place 0 (at-match .match .keys1) in rw (n .tree) (at-constant .constant .ensures))
+    let n = copy-node t place trueKind (at-match .match .keys1) in rw (n .tree) (at-constant .constant .ensures))
     (λ c. search needs)
     (λ c.
     let at-constant2 = c .before .before in
     let at-match = at-constant2 .before .before in
     let place = at-match .before in
-    let n = copy-node t place 1 (at-match .match .keys2) in rw (n .tree) (at-constant2 .constant2 .ensures))
+    let n = copy-node t place falseKind (at-match .match .keys2) in rw (n .tree) (at-constant2 .constant2 .ensures))
     (λ c. search needs)
     (λ c.
     let at-signal = c .before .before in
     let at-match = at-signal .before .before in
     let place = at-match .before in
-    let n = copy-node t place 2 (at-match .match .keys3) in rw (n .tree) (at-signal .signal .ensures))
+    let n = copy-node t place signalKind (at-match .match .keys3) in rw (n .tree) (at-signal .signal .ensures))
     (λ c. search needs)
     (λ c.
     let at-copy-one = c .before .before in
     let at-match = at-copy-one .before .before in
     let place = at-match .before in
-    let n = copy-node t place 3 (at-match .match .keys4) in rw (n .tree) (at-copy-one .copy-one .ensures))
+    let n = copy-node t place (unaryKind Not) (at-match .match .keys4) in rw (n .tree) (at-copy-one .copy-one .ensures))
     (λ c. search needs)
     (λ c.
     let at-copy-one2 = c .before .before in

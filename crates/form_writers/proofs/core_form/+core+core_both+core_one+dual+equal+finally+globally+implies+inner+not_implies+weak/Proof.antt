@@ -5,7 +5,8 @@ use mathlib.Core.Logic.{inl, inr}
 use native.Mathlib.Omega.{arith}
 use borrow.Author.Needs.{needs}
 use Rattle.node.specs.Limits.{fieldLimit}
-use Rattle.node.specs.Kinds.{shapeOf}
+use Rattle.node.specs.Ltl.{G, F, Implies, Iff, W}
+use Rattle.node.specs.Kinds.{shapeOf, trueKind, falseKind, signalKind, unaryKind, binaryKind}
 use Rattle.node.specs.Formed.{NodeIs}
 use Rattle.node.specs.TableLaws.{no-other}
 use Rattle.forms.specs.Forms.{core as core'}
@@ -50,7 +51,7 @@ mod Between
 
 core-signal : (t : ℕ) (c : core-lts.Then1 (core-calls t) (core-at t) core.Post) →
     let f = c .before .before in
-    NodeIs fieldLimit (f .before .before .before .args .nodes .now) (f .before .before .before .args .i) (shapeOf 2) (f .fields-at .result .first) (f .fields-at .result .second)
+    NodeIs fieldLimit (f .before .before .before .args .nodes .now) (f .before .before .before .args .i) (shapeOf signalKind) (f .fields-at .result .first) (f .fields-at .result .second)
 core-signal t c = rw (c .if1 .taken) at (c .before .before .fields-at .ensures)
 
 core-met : (t : ℕ) {M : Type 1} → core-lts.Closed (core-calls t) (core-at t) core.Post M
@@ -120,7 +121,7 @@ inner-met t =
     (λ c κs.
     let place = c .before .before in
     let s = place .before .before .before in
-    let n = inner-node t place 2 ((c .before) .match .keys3) in (n .lower, s .pre .1 .room))
+    let n = inner-node t place signalKind ((c .before) .match .keys3) in (n .lower, s .pre .1 .room))
     (λ c κs.
     let s = c .before .before .before .before .before in
     let n = inner-one-at t (c .before) in (omega (arith, s .pre .0, n .below), (operand (s .pre .1) (n .below), n .operator)))
@@ -134,41 +135,41 @@ inner-met t =
     (λ c κs.
     let place = c .before .before in
     let s = place .before .before .before in
-    let n = inner-node t place 6 ((c .before) .match .keys7) in (omega (arith, s .pre .0, n .lower), operands (s .pre .1) (n .lower)))
+    let n = inner-node t place (binaryKind Implies) ((c .before) .match .keys7) in (omega (arith, s .pre .0, n .lower), operands (s .pre .1) (n .lower)))
     (λ c κs.
     let place = c .before .before in
     let s = place .before .before .before in
-    let n = inner-node t place 7 ((c .before) .match .keys8) in (omega (arith, s .pre .0, n .lower), operands (s .pre .1) (n .lower)))
+    let n = inner-node t place (binaryKind Iff) ((c .before) .match .keys8) in (omega (arith, s .pre .0, n .lower), operands (s .pre .1) (n .lower)))
     (λ c κs.
     let place = c .before .before in
     let s = place .before .before .before in
-    let n = inner-node t place 9 ((c .before) .match .keys9) in (omega (arith, s .pre .0, n .lower), operand (s .pre .1) (n .lower)))
+    let n = inner-node t place (unaryKind G) ((c .before) .match .keys9) in (omega (arith, s .pre .0, n .lower), operand (s .pre .1) (n .lower)))
     (λ c κs.
     let place = c .before .before in
     let s = place .before .before .before in
-    let n = inner-node t place 10 ((c .before) .match .keys10) in (omega (arith, s .pre .0, n .lower), operand (s .pre .1) (n .lower)))
+    let n = inner-node t place (unaryKind F) ((c .before) .match .keys10) in (omega (arith, s .pre .0, n .lower), operand (s .pre .1) (n .lower)))
     (λ c κs.
     let place = c .before .before in
     let s = place .before .before .before in
-    let n = inner-node t place 13 ((c .before) .match .keys11) in (omega (arith, s .pre .0, n .lower), operands (s .pre .1) (n .lower)))
+    let n = inner-node t place (binaryKind W) ((c .before) .match .keys11) in (omega (arith, s .pre .0, n .lower), operands (s .pre .1) (n .lower)))
     (λ c. search needs)
     (λ c.
     let at-constant = c .before .before in
     let at-match = at-constant .before .before in
     let place = at-match .before in
-    let n = inner-node t place 0 (at-match .match .keys1) in rw (n .tree) (at-constant .constant .ensures))
+    let n = inner-node t place trueKind (at-match .match .keys1) in rw (n .tree) (at-constant .constant .ensures))
     (λ c. search needs)
     (λ c.
     let at-not-true = c .before .before in
     let at-match = at-not-true .before .before in
     let place = at-match .before in
-    let n = inner-node t place 1 (at-match .match .keys2) in rw (n .tree) (at-not-true .not-true .ensures))
+    let n = inner-node t place falseKind (at-match .match .keys2) in rw (n .tree) (at-not-true .not-true .ensures))
     (λ c. search needs)
     (λ c.
     let at-signal = c .before .before in
     let at-match = at-signal .before .before in
     let place = at-match .before in
-    let n = inner-node t place 2 (at-match .match .keys3) in rw (n .tree) (at-signal .signal .ensures))
+    let n = inner-node t place signalKind (at-match .match .keys3) in rw (n .tree) (at-signal .signal .ensures))
     (λ c. search needs)
     (λ c.
     let at-core-one = c .before .before in
@@ -189,31 +190,31 @@ inner-met t =
     let at-implies = c .before .before in
     let at-match = at-implies .before .before in
     let place = at-match .before in
-    let n = inner-node t place 6 (at-match .match .keys7) in rw (n .tree) (at-implies .implies .ensures))
+    let n = inner-node t place (binaryKind Implies) (at-match .match .keys7) in rw (n .tree) (at-implies .implies .ensures))
     (λ c. search needs)
     (λ c.
     let at-equal = c .before .before in
     let at-match = at-equal .before .before in
     let place = at-match .before in
-    let n = inner-node t place 7 (at-match .match .keys8) in rw (n .tree) (at-equal .equal .ensures))
+    let n = inner-node t place (binaryKind Iff) (at-match .match .keys8) in rw (n .tree) (at-equal .equal .ensures))
     (λ c. search needs)
     (λ c.
     let at-globally = c .before .before in
     let at-match = at-globally .before .before in
     let place = at-match .before in
-    let n = inner-node t place 9 (at-match .match .keys9) in rw (n .tree) (at-globally .globally .ensures))
+    let n = inner-node t place (unaryKind G) (at-match .match .keys9) in rw (n .tree) (at-globally .globally .ensures))
     (λ c. search needs)
     (λ c.
     let at-finally = c .before .before in
     let at-match = at-finally .before .before in
     let place = at-match .before in
-    let n = inner-node t place 10 (at-match .match .keys10) in rw (n .tree) (at-finally .finally .ensures))
+    let n = inner-node t place (unaryKind F) (at-match .match .keys10) in rw (n .tree) (at-finally .finally .ensures))
     (λ c. search needs)
     (λ c.
     let at-weak = c .before .before in
     let at-match = at-weak .before .before in
     let place = at-match .before in
-    let n = inner-node t place 13 (at-match .match .keys11) in rw (n .tree) (at-weak .weak .ensures))
+    let n = inner-node t place (binaryKind W) (at-match .match .keys11) in rw (n .tree) (at-weak .weak .ensures))
     (λ c. absurd (inner-none t c))
 
 pub +core+core-both+core-one+dual+equal+finally+globally+implies+inner+not-implies+weak-spec : {M : Type 1} → statement M

@@ -5,7 +5,8 @@ use mathlib.Core.Logic.{_⊎_, inl, inr, ⊎-elim}
 use native.Mathlib.Omega.{arith}
 use borrow.Author.Needs.{needs}
 use Rattle.node.specs.Limits.{fieldLimit}
-use Rattle.node.specs.Kinds.{shapeOf}
+use Rattle.node.specs.Ltl.{X, F, Not, Implies, Iff, W}
+use Rattle.node.specs.Kinds.{shapeOf, unaryKind, trueKind, falseKind, signalKind, binaryKind}
 use Rattle.node.specs.Formed.{NodeIs}
 use Rattle.node.specs.TableLaws.{rest-above}
 use Rattle.forms.specs.Forms.{plain as plain', negated as negated'}
@@ -68,7 +69,7 @@ plain-twos-at : (t : ℕ) (c : plain-lts.Joined1 (plain-calls t) (plain-at t) pl
 plain-twos-at t c =
     let f = c .before .before in
     let r = c .before .match .rest in
-    let w : (f .fields-at .result .kind < 8) ⊎ (10 < f .fields-at .result .kind) = ⊎-elim (λ x. inl (omega (arith, x .taken))) (λ x. inr (omega (arith, x .1 .left))) (c .if1 .came) in
+    let w : (f .fields-at .result .kind < unaryKind X) ⊎ (unaryKind F < f .fields-at .result .kind) = ⊎-elim (λ x. inl (omega (arith, x .taken))) (λ x. inr (omega (arith, x .1 .left))) (c .if1 .came) in
     let h : OfTwo (f .fields-at .result .kind) = of-two (f .fields-at .ensures) (rest-above 4 _ (r .0 .0)) w in
     two-step h (f .fields-at .ensures) (plain-two _ h (r .0 .1) (r .1))
 
@@ -82,19 +83,19 @@ plain-met t =
     (λ c κs.
     let place = c .before .before in
     let s = place .before .before .before in
-    let n = plain-node t place 2 ((c .before) .match .keys3) in (n .lower, s .pre .1 .room))
+    let n = plain-node t place signalKind ((c .before) .match .keys3) in (n .lower, s .pre .1 .room))
     (λ c κs.
     let place = c .before .before in
     let s = place .before .before .before in
-    let n = plain-node t place 3 ((c .before) .match .keys4) in (omega (arith, s .pre .0, n .lower), operand (s .pre .1) (n .lower)))
+    let n = plain-node t place (unaryKind Not) ((c .before) .match .keys4) in (omega (arith, s .pre .0, n .lower), operand (s .pre .1) (n .lower)))
     (λ c κs.
     let place = c .before .before in
     let s = place .before .before .before in
-    let n = plain-node t place 6 ((c .before) .match .keys5) in (omega (arith, s .pre .0, n .lower), (operands (s .pre .1) (n .lower), search needs)))
+    let n = plain-node t place (binaryKind Implies) ((c .before) .match .keys5) in (omega (arith, s .pre .0, n .lower), (operands (s .pre .1) (n .lower), search needs)))
     (λ c κs.
     let place = c .before .before in
     let s = place .before .before .before in
-    let n = plain-node t place 7 ((c .before) .match .keys6) in (omega (arith, s .pre .0, n .lower), operands (s .pre .1) (n .lower)))
+    let n = plain-node t place (binaryKind Iff) ((c .before) .match .keys6) in (omega (arith, s .pre .0, n .lower), operands (s .pre .1) (n .lower)))
     (λ c κs.
     let s = c .before .before .before .before .before .before .before in
     let n = plain-ones-at t (c .before) in (omega (arith, s .pre .0, n .below), (operand (s .pre .1) (n .below), n .operator)))
@@ -106,37 +107,37 @@ plain-met t =
     let at-constant = c .before .before in
     let at-match = at-constant .before .before in
     let place = at-match .before in
-    let n = plain-node t place 0 (at-match .match .keys1) in rw (n .tree) (at-constant .constant .ensures))
+    let n = plain-node t place trueKind (at-match .match .keys1) in rw (n .tree) (at-constant .constant .ensures))
     (λ c. search needs)
     (λ c.
     let at-constant2 = c .before .before in
     let at-match = at-constant2 .before .before in
     let place = at-match .before in
-    let n = plain-node t place 1 (at-match .match .keys2) in rw (n .tree) (at-constant2 .constant2 .ensures))
+    let n = plain-node t place falseKind (at-match .match .keys2) in rw (n .tree) (at-constant2 .constant2 .ensures))
     (λ c. search needs)
     (λ c.
     let at-signal = c .before .before in
     let at-match = at-signal .before .before in
     let place = at-match .before in
-    let n = plain-node t place 2 (at-match .match .keys3) in rw (n .tree) (at-signal .signal .ensures))
+    let n = plain-node t place signalKind (at-match .match .keys3) in rw (n .tree) (at-signal .signal .ensures))
     (λ c. search needs)
     (λ c.
     let at-negated = c .before .before in
     let at-match = at-negated .before .before in
     let place = at-match .before in
-    let n = plain-node t place 3 (at-match .match .keys4) in rw (n .tree) (at-negated .negated .ensures))
+    let n = plain-node t place (unaryKind Not) (at-match .match .keys4) in rw (n .tree) (at-negated .negated .ensures))
     (λ c. search needs)
     (λ c.
     let at-negated-plain = c .before .before in
     let at-match = at-negated-plain .before .before in
     let place = at-match .before in
-    let n = plain-node t place 6 (at-match .match .keys5) in rw (n .tree) (at-negated-plain .negated-plain .ensures))
+    let n = plain-node t place (binaryKind Implies) (at-match .match .keys5) in rw (n .tree) (at-negated-plain .negated-plain .ensures))
     (λ c. search needs)
     (λ c.
     let at-equal = c .before .before in
     let at-match = at-equal .before .before in
     let place = at-match .before in
-    let n = plain-node t place 7 (at-match .match .keys6) in rw (n .tree) (at-equal .equal .ensures))
+    let n = plain-node t place (binaryKind Iff) (at-match .match .keys6) in rw (n .tree) (at-equal .equal .ensures))
     (λ c. search needs)
     (λ c.
     let at-plain-one = c .before .before in
@@ -170,7 +171,7 @@ negated-twos-at t c =
     let at-match = c .before .before in
     let f = at-match .before in
     let r = at-match .match .rest in
-    let w : (f .fields-at .result .kind < 8) ⊎ (10 < f .fields-at .result .kind) = ⊎-elim (λ x. inl (omega (arith, x .taken))) (λ x. inr (omega (arith, x .1 .left))) (c .before .if1 .came) in
+    let w : (f .fields-at .result .kind < unaryKind X) ⊎ (unaryKind F < f .fields-at .result .kind) = ⊎-elim (λ x. inl (omega (arith, x .taken))) (λ x. inr (omega (arith, x .1 .left))) (c .before .if1 .came) in
     let h : OfTwo (f .fields-at .result .kind) = of-two (f .fields-at .ensures) (rest-above 4 _ (r .0 .0 .0)) w in
     rw (c .dual2 .ensures) (two-step h (f .fields-at .ensures) (negated-two _ h (r .0 .0 .1) (r .0 .1) (r .1)))
 
@@ -184,23 +185,23 @@ negated-met t =
     (λ c κs.
     let place = c .before .before in
     let s = place .before .before .before in
-    let n = negated-node t place 2 ((c .before) .match .keys3) in (n .lower, s .pre .1 .room))
+    let n = negated-node t place signalKind ((c .before) .match .keys3) in (n .lower, s .pre .1 .room))
     (λ c κs.
     let place = c .before .before in
     let s = place .before .before .before in
-    let n = negated-node t place 3 ((c .before) .match .keys4) in (omega (arith, s .pre .0, n .lower), operand (s .pre .1) (n .lower)))
+    let n = negated-node t place (unaryKind Not) ((c .before) .match .keys4) in (omega (arith, s .pre .0, n .lower), operand (s .pre .1) (n .lower)))
     (λ c κs.
     let place = c .before .before in
     let s = place .before .before .before in
-    let n = negated-node t place 6 ((c .before) .match .keys5) in (omega (arith, s .pre .0, n .lower), (operands (s .pre .1) (n .lower), search needs)))
+    let n = negated-node t place (binaryKind Implies) ((c .before) .match .keys5) in (omega (arith, s .pre .0, n .lower), (operands (s .pre .1) (n .lower), search needs)))
     (λ c κs.
     let place = c .before .before in
     let s = place .before .before .before in
-    let n = negated-node t place 7 ((c .before) .match .keys6) in (omega (arith, s .pre .0, n .lower), operands (s .pre .1) (n .lower)))
+    let n = negated-node t place (binaryKind Iff) ((c .before) .match .keys6) in (omega (arith, s .pre .0, n .lower), operands (s .pre .1) (n .lower)))
     (λ c κs.
     let place = c .before .before in
     let s = place .before .before .before in
-    let n = negated-node t place 13 ((c .before) .match .keys7) in (omega (arith, s .pre .0, n .lower), operands (s .pre .1) (n .lower)))
+    let n = negated-node t place (binaryKind W) ((c .before) .match .keys7) in (omega (arith, s .pre .0, n .lower), operands (s .pre .1) (n .lower)))
     (λ c κs. search needs)
     (λ c κs.
     let s = c .before .before .before .before .before .before .before .before in
@@ -214,43 +215,43 @@ negated-met t =
     let at-constant = c .before .before in
     let at-match = at-constant .before .before in
     let place = at-match .before in
-    let n = negated-node t place 0 (at-match .match .keys1) in rw (n .tree) (at-constant .constant .ensures))
+    let n = negated-node t place trueKind (at-match .match .keys1) in rw (n .tree) (at-constant .constant .ensures))
     (λ c. search needs)
     (λ c.
     let at-constant2 = c .before .before in
     let at-match = at-constant2 .before .before in
     let place = at-match .before in
-    let n = negated-node t place 1 (at-match .match .keys2) in rw (n .tree) (at-constant2 .constant2 .ensures))
+    let n = negated-node t place falseKind (at-match .match .keys2) in rw (n .tree) (at-constant2 .constant2 .ensures))
     (λ c. search needs)
     (λ c.
     let at-not-signal = c .before .before in
     let at-match = at-not-signal .before .before in
     let place = at-match .before in
-    let n = negated-node t place 2 (at-match .match .keys3) in rw (n .tree) (at-not-signal .not-signal .ensures))
+    let n = negated-node t place signalKind (at-match .match .keys3) in rw (n .tree) (at-not-signal .not-signal .ensures))
     (λ c. search needs)
     (λ c.
     let at-plain = c .before .before in
     let at-match = at-plain .before .before in
     let place = at-match .before in
-    let n = negated-node t place 3 (at-match .match .keys4) in rw (n .tree) (at-plain .plain .ensures))
+    let n = negated-node t place (unaryKind Not) (at-match .match .keys4) in rw (n .tree) (at-plain .plain .ensures))
     (λ c. search needs)
     (λ c.
     let at-plain-negated = c .before .before in
     let at-match = at-plain-negated .before .before in
     let place = at-match .before in
-    let n = negated-node t place 6 (at-match .match .keys5) in rw (n .tree) (at-plain-negated .plain-negated .ensures))
+    let n = negated-node t place (binaryKind Implies) (at-match .match .keys5) in rw (n .tree) (at-plain-negated .plain-negated .ensures))
     (λ c. search needs)
     (λ c.
     let at-differ = c .before .before in
     let at-match = at-differ .before .before in
     let place = at-match .before in
-    let n = negated-node t place 7 (at-match .match .keys6) in rw (n .tree) (at-differ .differ .ensures))
+    let n = negated-node t place (binaryKind Iff) (at-match .match .keys6) in rw (n .tree) (at-differ .differ .ensures))
     (λ c. search needs)
     (λ c.
     let at-not-weak = c .before .before in
     let at-match = at-not-weak .before .before in
     let place = at-match .before in
-    let n = negated-node t place 13 (at-match .match .keys7) in rw (n .tree) (at-not-weak .not-weak .ensures))
+    let n = negated-node t place (binaryKind W) (at-match .match .keys7) in rw (n .tree) (at-not-weak .not-weak .ensures))
     (λ c. search needs)
     (λ c.
     let at-negated-one = c .before .before in

@@ -9,7 +9,7 @@ use lib.Dec.{leb}
 use lib.ListN.{length}
 use native.Mathlib.Omega.{arith}
 use Rattle.node.specs.Result.{Result, Done, Refused, _>>=_}
-use Rattle.node.specs.ResultLaws.{not-done, guard-other}
+use Rattle.node.specs.ResultLaws.{not-done, numberOf, guard-other}
 use Rattle.language.specs.Limits.{maxBytes}
 use Rattle.language.specs.Tokens.{End, Wrong, Token, isOf, tokens}
 use Rattle.language.specs.Tree.{Spec}
@@ -93,10 +93,6 @@ refused-never-accepted ts p r text us e x d =
     not-done (sym (ap specOf e ∙ r .always us) ∙ parses d .read)
 
 -- which of the refusals in a row was met
-numberOf : {A : Type 0} → Result A → ℕ
-numberOf (Done x) = 0
-numberOf (Refused number p) = number
-
 refuse-other : {A : Type 0} (m : ℕ) (o : Option ℕ) (r : Result A) {number p : ℕ} → (m ≡ number → ⊥) → refuseAt m o r ≡ Refused number p → (o ≡ none) × (r ≡ Refused number p)
 unfolding refuseAt numberOf
 refuse-other m none r f e = (refl, e)

@@ -8,7 +8,7 @@ use mathlib.Core.Logic.{_↔_, Iff·trans, Iff·symm, Iff·and}
 use lib.ListN.{length, getD, length-map}
 use native.Mathlib.Omega.{arith}
 use Rattle.node.specs.Logic.{Either}
-use Rattle.node.specs.LogicLaws.{or-left, or-right, or-cases, stable-so}
+use Rattle.node.specs.LogicLaws.{or-left, or-right, or-cases, stable-so, so-and}
 use Rattle.language.specs.Tokens.{Token}
 use Rattle.language.specs.Numbering.{Mark, markOf, marksOf, admits, after, covered}
 use Rattle.language.specs.Meaning.{SignalOf, BitOf, Word, Holding, Fits, MatchesOne}
@@ -84,10 +84,6 @@ bits-of [] = refl
 bits-of (b ∷ u) = ap (b ∷_) (bits-shift (λ i. getD (b ∷ u) i false) 0 (length u) ∙ bits-of u)
 
 -- a word of marks admits the bits that match it
-so-and : (a b : Bool) → (So a × So b) ↔ So (a && b)
-so-and true b = (λ p. p .1, λ e. (refl, e))
-so-and false b = (λ p. absurd (false≢true (p .0)), λ e. absurd (false≢true e))
-
 so-or : {A B : Type 0} (a b : Bool) → A ↔ So a → B ↔ So b → Either A B ↔ So (a || b)
 so-or a b h k = (
   or-cases (stable-so (a || b)) (λ x. either-left a b (h .0 x)) (λ y. either-right a b (k .0 y)),

@@ -8,6 +8,7 @@ use lib.Dec.{eqb}
 use lib.ListN.{length}
 use native.Mathlib.Omega.{arith}
 use borrow.Author.Tests.{eqb-true, eqb-false, ne-eqb}
+use Rattle.node.specs.LogicLaws.{so-same}
 use Rattle.node.specs.Result.{Done}
 use Rattle.language.specs.Operators.{Size, Min, Max}
 use Rattle.language.specs.Sets.{memberOf, last}
@@ -58,15 +59,10 @@ pub record Lists (P : ℕ → Type 0) (s : List ℕ) : Type 0 where
   pub rises : Rising 0 s
   pub members : (k : ℕ) → So (memberOf s k) ↔ P k
 
-iff-equal : (a b : Bool) → So a ↔ So b → a ≡ b
-iff-equal true b h = sym (h .0 refl)
-iff-equal false true h = h .1 refl
-iff-equal false false h = refl
-
 pub lists-one : (P : ℕ → Type 0) (s t : List ℕ) → Lists P s → Lists P t → s ≡ t
 lists-one P s t h g =
     same-elements 0 0 s t (h .rises) (g .rises)
-    (λ k. iff-equal (memberOf s k) (memberOf t k) (λ m. g .members k .1 (h .members k .0 m), λ m. h .members k .1 (g .members k .0 m)))
+    (λ k. so-same (memberOf s k) (memberOf t k) (λ m. g .members k .1 (h .members k .0 m), λ m. h .members k .1 (g .members k .0 m)))
 
 -- MIN: in the set, and none below
 abbrev pub Least : List ℕ → ℕ → Type 0

@@ -2,6 +2,8 @@
 use mathlib.Core.Path.{_≡_}
 use native.Mathlib.Omega.{arith}
 use borrow.Author.Needs.{needs}
+use Rattle.node.specs.Ltl.{W}
+use Rattle.node.specs.Kinds.{binaryKind}
 use Rattle.rows.specs.SpanStepsLaws.{goes-globally, goes-finally, goes-until, goes-release, goes-weak}
 use Rattle.rows.proofs.around.step.Statement.{statement}
 use Rattle.rows.proofs.around.step.Tie as tie
@@ -36,7 +38,7 @@ returns-4 c = let a = c .before .before .args in rw (c .before .match .keys4) (g
 returns-5 : tie.Need-returns-5
 returns-5 c =
     let a = c .before .before .args in
-    let e : a .kind ≡ 13 = omega arith in rw e (goes-weak (a .a) (a .b) (a .c) (c .before .before .pre .1) (c .ripple5 .ensures))
+    let e : a .kind ≡ binaryKind W = omega arith in rw e (goes-weak (a .a) (a .b) (a .c) (c .before .before .pre .1) (c .ripple5 .ensures))
 
 pub step-spec : {M : Type 1} → statement M
 step-spec =

@@ -15,8 +15,10 @@ Inv-loop base v rows₀ kind first second from size count d₀ k₀ rows d k = (
 abbrev μ-loop : tie.MeasureT-loop
 μ-loop base v rows₀ kind first second from size count d₀ k₀ rows d k = k
 
-here : (c : tie.In-loop Inv-loop μ-loop)
-    → Fits (c .before .loop .rows) (c .before .before .before .before .args .op) (c .before .before .before .before .args .base) (c .before .before .before .before .args .s) (c .before .loop .k - 1)
+here : (c : tie.In-loop Inv-loop μ-loop) →
+    let loop = c .before .loop in
+    let start = c .before .before .before .before in
+    Fits (loop .rows) (start .args .op) (start .args .base) (start .args .s) (loop .k - 1)
 here c =
     let start = c .before .before .before .before in
     let loop = c .before .loop in passed-fits (start .args .s) (loop .k) (start .pre .1 .0 .1) (start .pre .0) (omega arith) (loop .inv .0) (loop .inv .1)

@@ -2,6 +2,8 @@
 use mathlib.Core.Path.{_≡_, refl}
 use native.Mathlib.Omega.{arith}
 use lib.Bits.{xor-lt}
+use Rattle.node.specs.Ltl.{Iff}
+use Rattle.node.specs.Kinds.{binaryKind}
 use Rattle.rows.proofs.booleans.byte_step.Statement.{statement}
 use Rattle.rows.proofs.booleans.byte_step.Tie as tie
 
@@ -35,7 +37,7 @@ returns-4 c =
 
 returns-5 : tie.Need-returns-5
 returns-5 c =
-    let e : (c .before) .args .kind ≡ 7 = omega arith in rw e refl
+    let e : (c .before) .args .kind ≡ binaryKind Iff = omega arith in rw e refl
 
 pub byte-step-spec : {M : Type 1} → statement M
 byte-step-spec =

@@ -18,9 +18,11 @@ Inv-loop recording lasso op base rows₀ from size count k₀ rows k = (k ≤ co
 abbrev μ-loop : tie.MeasureT-loop
 μ-loop recording lasso op base rows₀ from size count k₀ rows k = count - k
 
-here : (c : tie.In-loop Inv-loop μ-loop)
-    → Lies (c .before .loop .rows) (c .before .before .before .before .args .lasso) (c .before .before .before .before .args .base)
-    (c .before .before .before .before .args .s .from + c .before .before .before .before .args .s .size * c .before .loop .k) (c .before .before .before .before .args .s .size)
+here : (c : tie.In-loop Inv-loop μ-loop) →
+    let loop = c .before .loop in
+    let start = c .before .before .before .before in
+    let s = start .args .s in
+    Lies (loop .rows) (start .args .lasso) (start .args .base) (s .from + s .size * loop .k) (s .size)
 here c =
     let start = c .before .before .before .before in
     lies (c .before .loop .k) (ready-still (start .pre .0) (c .before .loop .inv .1 .kept)) (start .pre .1 .1) (omega arith)

@@ -1,6 +1,8 @@
 -- `span_value` meets its contract: kind by kind.
 use mathlib.Core.Path.{_≡_}
 use native.Mathlib.Omega.{arith}
+use Rattle.node.specs.Ltl.{X}
+use Rattle.node.specs.Kinds.{unaryKind}
 use Rattle.bits.specs.SpanLaws.{span-true, span-false, span-number}
 use Rattle.recordings.specs.Recording.{letterOf}
 use Rattle.rows.specs.Ready.{Inside}
@@ -8,7 +10,7 @@ use Rattle.rows.specs.PlainLaws.{plain-next}
 use Rattle.rows.proofs.plain.span_value.Statement.{statement}
 use Rattle.rows.proofs.plain.span_value.Tie as tie
 
-last : (c : tie.At-match-rest) → c .before .before .before .args .op .kind ≡ 8
+last : (c : tie.At-match-rest) → c .before .before .before .args .op .kind ≡ unaryKind X
 last c = let start = c .before .before .before in plain-next (start .args .op) (start .pre .1 .0) (omega arith) (omega arith) (omega arith)
 
 first-in : (c : tie.At-match-rest) → Inside (c .before .before .before .args .lasso .n) (c .before .before .before .args .op .first) (c .before .before .before .args .rows .now)

@@ -26,10 +26,15 @@ loop-holds : tie.Need-loop-holds Inv-loop μ-loop
 loop-holds c = let p = c .before .before .before .before .before .pre in (refl, compose-start (c .before .source-at .ensures) (c .count-at .ensures) (p .1) numbers-start)
 
 step-at-requires : tie.Need-step-at-requires Inv-loop μ-loop
-step-at-requires c κs = compose-step (c .before .loop .inv .1) (c .before .before .before .before .before .before .before .pre .0) (c .loop-test .taken)
+step-at-requires c κs =
+    let start = c .before .before .before .before .before .before .before in
+    compose-step (c .before .loop .inv .1) (start .pre .0) (c .loop-test .taken)
 
 part-requires : tie.Need-part-requires Inv-loop μ-loop
-part-requires c κs = compose-steppable (c .before .before .before .before .loop .inv .1) (c .before .before .before .loop-test .taken) (c .before .before .step-at .ensures)
+part-requires c κs =
+    let at-step = c .before .before in
+    let at-test = at-step .before in
+    compose-steppable (at-test .before .loop .inv .1) (at-test .loop-test .taken) (at-step .step-at .ensures)
 
 same-length : tie.Need-same-length Inv-loop μ-loop
 same-length c = let l = c .before .before .before .before .before .before .before .before .loop .inv .0 in let k = c .before .before .out .given in search needs
@@ -41,10 +46,18 @@ returns c =
     composes-refused (at-step .before .before .loop .out) (inv .0) (c .if1 .taken) (compose-refused (inv .1) (at-step .before .loop-test .taken) (at-step .step-at .ensures) (c .before .before .before .part .ensures) (c .if1 .taken))
 
 mul-numbers : tie.Need-mul-numbers Inv-loop μ-loop
-mul-numbers c = let t = c .before .before .before .before .before .before .before .loop-test .taken in let f = compose-few (c .before .before .before .before .before .before .before .before .loop .inv .1) in record { fits = omega arith }
+mul-numbers c =
+    let at-test = c .before .before .before .before .before .before .before in
+    let t = at-test .loop-test .taken in
+    let f = compose-few (at-test .before .loop .inv .1) in
+    record { fits = omega arith }
 
 array-write-numbers : tie.Need-array-write-numbers Inv-loop μ-loop
-array-write-numbers c = let t = c .before .before .before .before .before .before .before .loop-test .taken in let f = compose-few (c .before .before .before .before .before .before .before .before .loop .inv .1) in omega arith
+array-write-numbers c =
+    let at-test = c .before .before .before .before .before .before .before in
+    let t = at-test .loop-test .taken in
+    let f = compose-few (at-test .before .loop .inv .1) in
+    omega arith
 
 add-j : tie.Need-add-j Inv-loop μ-loop
 add-j c = search needs

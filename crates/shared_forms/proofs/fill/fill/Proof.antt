@@ -22,7 +22,11 @@ mul-loop : tie.Need-mul-loop Inv-loop μ-loop
 mul-loop c = let f = c .loop .inv .1 .1 .marking .formed .few in record { fits = omega arith }
 
 note-form-requires : tie.Need-note-form-requires Inv-loop μ-loop
-note-form-requires c κs = (c .before .before .before .before .before .before .before .pre .0, (c .before .before .loop-test .taken, c .before .before .before .loop .inv .1 .1))
+note-form-requires c κs =
+    let at-test = c .before .before in
+    let at-loop = at-test .before in
+    let start = at-loop .before .before .before .before in
+    (start .pre .0, (at-test .loop-test .taken, at-loop .loop .inv .1 .1))
 
 same-length : tie.Need-same-length Inv-loop μ-loop
 same-length c = search needs
@@ -43,8 +47,10 @@ loop-less c = let t = c .before .before .before .before .before .before .before 
 
 loop-again : tie.Need-loop-again Inv-loop μ-loop
 loop-again c =
-    let inv = c .before .before .before .before .before .before .before .before .before .loop .inv in
-    (c .before .before .before .before .notes .given ∙ inv .0, (c .before .before .out .given ∙ inv .1 .0, c .before .before .before .before .before .note-form .ensures .done (c .if1 .left)))
+    let at-notes = c .before .before .before .before in
+    let at-form = at-notes .before in
+    let inv = at-form .before .before .before .before .loop .inv in
+    (at-notes .notes .given ∙ inv .0, (c .before .before .out .given ∙ inv .1 .0, at-form .note-form .ensures .done (c .if1 .left)))
 
 sub-wide : tie.Need-sub-wide Inv-loop μ-loop
 sub-wide c = let s = c .before .loop .inv .1 .1 .marking .formed .some in omega arith
@@ -68,7 +74,7 @@ same-length-4 : tie.Need-same-length-4 Inv-loop μ-loop
 same-length-4 c = search needs
 
 returns-2 : tie.Need-returns-2 Inv-loop μ-loop
-returns-2 c = fill-end (c .before .before .loop-test .left) (c .before .before .before .loop .inv .1 .1) (c .wide .ensures)
+returns-2 c = fill-end (c .before .before .loop-test .left) (c .before .before .before .loop .inv .1 .1) (c .wide .ensures .0)
 
 pub fill-spec : {M : Type 1} → statement M
 fill-spec =

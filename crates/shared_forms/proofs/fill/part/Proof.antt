@@ -16,13 +16,20 @@ mul-wide : tie.Need-mul-wide
 mul-wide c = let i = steps-inside (c .before .before .before .before .before .pre) (operand-true (c .before .before .is-operand .ensures) (c .before .if1 .taken)) (c .place-of .ensures) in record { fits = omega arith }
 
 shared-slice-read-wide : tie.Need-shared-slice-read-wide
-shared-slice-read-wide c = steps-inside (c .before .before .before .before .before .before .pre) (operand-true (c .before .before .before .is-operand .ensures) (c .before .before .if1 .taken)) (c .before .place-of .ensures)
+shared-slice-read-wide c =
+    let at-if1 = c .before .before in
+    let at-operand = at-if1 .before in
+    let start = at-operand .before .before .before in
+    steps-inside (start .pre) (operand-true (at-operand .is-operand .ensures) (at-if1 .if1 .taken)) (c .before .place-of .ensures)
 
 wide-requires : tie.Need-wide-requires
 wide-requires c κs = search needs
 
 returns : tie.Need-returns
-returns c = steps-loaded (operand-true (c .before .before .before .before .is-operand .ensures) (c .before .before .before .if1 .taken)) (c .before .before .place-of .ensures) (c .wide .ensures)
+returns c =
+    let at-place = c .before .before in
+    let at-if1 = at-place .before in
+    steps-loaded (operand-true (at-if1 .before .is-operand .ensures) (at-if1 .if1 .taken)) (at-place .place-of .ensures) (c .wide .ensures .0)
 
 mul-word-over : tie.Need-mul-word-over
 mul-word-over c = search needs

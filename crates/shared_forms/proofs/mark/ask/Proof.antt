@@ -37,7 +37,9 @@ loop-holds c =
     (refl, ask-start (c .before .source-at .ensures) (c .count-at .ensures) (asking-start (p .1 .1) (p .1 .0) (c .before .before .if1 .left)))
 
 step-at-requires : tie.Need-step-at-requires Inv-loop μ-loop
-step-at-requires c κs = ask-step (c .before .loop .inv .1) (c .before .before .before .before .before .before .before .before .pre .0) (c .loop-test .taken)
+step-at-requires c κs =
+    let start = c .before .before .before .before .before .before .before .before in
+    ask-step (c .before .loop .inv .1) (start .pre .0) (c .loop-test .taken)
 
 note-requires : tie.Need-note-requires Inv-loop μ-loop
 note-requires c κs = ask-notable (c .before .before .before .loop .inv .1) (c .before .before .loop-test .taken) (c .before .step-at .ensures)

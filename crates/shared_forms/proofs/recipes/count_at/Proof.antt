@@ -15,7 +15,7 @@ wide-requires : tie.Need-wide-requires
 wide-requires c κs = search needs
 
 returns : tie.Need-returns
-returns c = let p = c .before .before .pre in c .wide .ensures ∙ rw (p .whole) (count-byte _ (p .inside))
+returns c = let p = c .before .before .pre in c .wide .ensures .0 ∙ rw (p .whole) (count-byte _ (p .inside))
 
 pub count-at-spec : {M : Type 1} → statement M
 count-at-spec = tie.close (tie.spec mul-wide element-copy-out-wide wide-requires returns)

@@ -36,16 +36,18 @@ cast-second c = search needs
 mul-t9 : tie.Need-mul-t9
 mul-t9 c =
     let at-list = c .before .before .before in
+    let start = at-list .before .before .before in
     let l = at-list .list-of .ensures in
-    let b = list-below (at-list .before .before .before .args .form) (at-list .before .before .before .args .x % 2) in
+    let b = list-below (start .args .form) (start .args .x % 2) in
     record { fits = omega arith }
 
 add-t10 : tie.Need-add-t10
 add-t10 c =
     let at-list = c .before .before .before in
+    let start = at-list .before .before .before in
     let l = at-list .list-of .ensures in
-    let b = list-below (at-list .before .before .before .args .form) (at-list .before .before .before .args .x % 2) in
-    let k = kind-below (at-list .before .before .before .pre) in
+    let b = list-below (start .args .form) (start .args .x % 2) in
+    let k = kind-below (start .pre) in
     let e = c .before .before .kind .ensures in
     record { fits = omega arith }
 

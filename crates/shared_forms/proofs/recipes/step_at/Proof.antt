@@ -17,29 +17,29 @@ mul-at-2 c = search needs
 add-at-2 : tie.Need-add-at-2
 add-at-2 c = search needs
 
-element-copy-out-kind-of : tie.Need-element-copy-out-kind-of
-element-copy-out-kind-of c = search needs
-
-kind-of-requires : tie.Need-kind-of-requires
-kind-of-requires c κs = search needs
-
-add-wide : tie.Need-add-wide
-add-wide c = search needs
-
 element-copy-out-wide : tie.Need-element-copy-out-wide
 element-copy-out-wide c = search needs
 
 wide-requires : tie.Need-wide-requires
 wide-requires c κs = search needs
 
-add-wide-2 : tie.Need-add-wide-2
-add-wide-2 c = search needs
+add-wide : tie.Need-add-wide
+add-wide c = search needs
 
 element-copy-out-wide-2 : tie.Need-element-copy-out-wide-2
 element-copy-out-wide-2 c = search needs
 
 wide-requires-2 : tie.Need-wide-requires-2
 wide-requires-2 c κs = search needs
+
+add-wide-2 : tie.Need-add-wide-2
+add-wide-2 c = search needs
+
+element-copy-out-wide-3 : tie.Need-element-copy-out-wide-3
+element-copy-out-wide-3 c = search needs
+
+wide-requires-3 : tie.Need-wide-requires-3
+wide-requires-3 c κs = search needs
 
 returns : tie.Need-returns
 returns c =
@@ -48,9 +48,9 @@ returns c =
     let p = at-kind .before .before .pre in
     let b = step-bytes _ (p .of .inside) _ (p .here) (p .few) in
     record {
-      kind-is = at-kind .kind-of .ensures ∙ rw (p .of .whole) (b .kind-is);
-      first-is = at-first .wide .ensures ∙ rw (p .of .whole) (b .first-is);
-      second-is = c .wide2 .ensures ∙ rw (p .of .whole) (b .second-is);
+      kind-is = at-kind .wide .ensures .0 ∙ rw (p .of .whole) (b .kind-is);
+      first-is = at-first .wide2 .ensures .0 ∙ rw (p .of .whole) (b .first-is);
+      second-is = c .wide3 .ensures .0 ∙ rw (p .of .whole) (b .second-is);
     }
 
 pub step-at-spec : {M : Type 1} → statement M
@@ -61,12 +61,12 @@ step-at-spec =
     add-at
     mul-at-2
     add-at-2
-    element-copy-out-kind-of
-    kind-of-requires
-    add-wide
     element-copy-out-wide
     wide-requires
-    add-wide-2
+    add-wide
     element-copy-out-wide-2
     wide-requires-2
+    add-wide-2
+    element-copy-out-wide-3
+    wide-requires-3
     returns)
