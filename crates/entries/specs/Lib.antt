@@ -1,4 +1,5 @@
 pub mod Kinds
+pub mod Headings
 pub mod Flat
 pub mod Stored
 pub mod StoredLaws

@@ -10,12 +10,11 @@ use Rattle.node.specs.Result.{Done, _>>=_}
 use Rattle.node.specs.ResultLaws.{not-done, bind-again, bind-at, bind-where}
 use Rattle.node.specs.ResultLaws as Results
 use Rattle.language.specs.Tokens.{Class, Name, Token, isOf}
-use Rattle.language.specs.Operators.{loosest}
+use Rattle.language.specs.Operators.{loosest, boundLevel}
 use Rattle.language.specs.Tree.{Expr, Each}
 use Rattle.language.specs.Grammar.{Tokens, Read, front, rest, stop, next, named, expect, expectOf, Binder, signOf, binderOf, bindersOf, over}
 use Rattle.language.specs.Laws.Basics.Tests.{split}
 use Rattle.operators.specs.Readers.{reads, climbs, bigOf, roleAt, levelAt, folds}
-use Rattle.expressions.specs.Classes.{boundLevel}
 use Rattle.expressions.specs.ReaderLaws.{reads-takes, rest-fits, climbs-zero}
 
 -- what is left of an accepted answer is no longer than ts

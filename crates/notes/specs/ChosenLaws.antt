@@ -39,11 +39,12 @@ use Rattle.language.specs.Declared.{inputs, outputs}
 use Rattle.language.specs.Laws.Basics.Lists.{All, all-append, all-more}
 use Rattle.language.specs.Laws.Basics.Tests.{pick, leave}
 use Rattle.language.specs.Laws.Values.PortLaws.{Pairs}
+use Rattle.entries.specs.Headings.{noHeading}
 use Rattle.entries.specs.Kinds as Kind
 use Rattle.entries.specs.Flat.{Entry, under, leaf, flat, each, flatParameter, flatIdentifier, flatDefinition, flatDeclaration, flatLine, head, flatSubsection, outline}
 use Rattle.name_values.specs.Worked.{EachFrom, mainStart}
 use Rattle.notes.specs.Inside.{flat-inside}
-use Rattle.notes.specs.Chosen.{noHeading, Choice, choice, takes, chosen}
+use Rattle.notes.specs.Chosen.{Choice, choice, takes, chosen}
 
 module _ (c : Choice) (heading : ℕ) where
   -- an entry that is passed over
