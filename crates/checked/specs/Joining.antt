@@ -10,7 +10,8 @@ use Rattle.language.specs.Tokens.{tokens}
 use Rattle.language.specs.Tree.{Spec}
 use Rattle.language.specs.Sections.{specOf}
 use Rattle.language.specs.Parsing.{wellFormed, parsed}
-use Rattle.lexer.specs.Lexing.{lexing, parsed-lexed}
+use Rattle.lexer.specs.Lexing.{lexing}
+use Rattle.lexer.specs.LexingLaws.{parsed-lexed}
 use Rattle.parser.specs.declared.Facts.{Facts}
 use Rattle.outline.specs.declared.TextOutline.{TextOutline}
 use Rattle.outline.specs.declared.TextOutline.the-variants.{Accepted as Drawn, Refused as NotDrawn}

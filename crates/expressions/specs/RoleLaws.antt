@@ -19,9 +19,9 @@ use Rattle.language.specs.Laws.Basics.Tests.{pick, leave, and-left, some-none}
 use Rattle.language.specs.Laws.Grammar.ExprReads.{prefix-none}
 use Rattle.operators.specs.Readers.{reads, climbs, prefixRow, levelAt, levelIn, roleAt, roleIn, soleOf, windowOf, bigOf, folds}
 use Rattle.expressions.specs.ReaderLaws.{rest-fits}
-use Rattle.expressions.specs.BinderLaws.{binders-fuel, afterBinder, folds-step}
+use Rattle.expressions.specs.BinderLaws.{binders-fuel, folds-step}
 use Rattle.expressions.specs.Classes.{Sole, Count, Low, Bound}
-use Rattle.expressions.specs.Frames.{frame, resume}
+use Rattle.expressions.specs.Frames.{frame, resume, afterBinder}
 use Rattle.expressions.specs.StartLaws.{reads-role}
 
 -- does the operator take one operand and nothing else, where a `[` follows or not?

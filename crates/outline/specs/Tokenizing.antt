@@ -14,8 +14,8 @@ use Rattle.language.specs.Grammar.{Tokens, front}
 use Rattle.language.specs.Tree.{Spec}
 use Rattle.language.specs.Sections.{specOf}
 use Rattle.language.specs.Laws.Grammar.TokenLaws.{Ends, tokens-end}
-use Rattle.lexer.specs.Lexing.{lexing}
-use Rattle.lexer.specs.LexingLaws.{Lexical, lexical, token-stands, token-right}
+use Rattle.lexer.specs.Lexing.{lexing, Lexical}
+use Rattle.lexer.specs.LexingLaws.{lexical, token-stands, token-right}
 use Rattle.lexer.specs.declared.Lexed.{Lexed as Lexing}
 use Rattle.lexer.specs.declared.Lexed.the-variants.{Tokens as Stored, Refused as NotStored}
 use Rattle.lexer.specs.Answer.{Answers, Tokenized, Lexes, tokenBytes}

@@ -14,6 +14,7 @@ use Rattle.language.specs.Places.{start, first}
 use Rattle.language.specs.Types.{ASet, typeCode, Typings, typeIn, prefixGives, infixGives, bigGives, withNumber, typeOf, wrong, mistyped, ANumber, AFormula, AType}
 use Rattle.language.specs.Names.{Names}
 use Rattle.language.specs.Laws.Basics.Tests.{leave}
+use Rattle.language.specs.Laws.Basics.NoPlace.{first-none, first-assoc, first-comm}
 use Rattle.entries.specs.Kinds as EntryKind
 use Rattle.entries.specs.Flat.{Entry}
 use Rattle.names.specs.Scan.{tokenOf as nameOf}
@@ -23,7 +24,6 @@ use Rattle.traversal.specs.Arity.{firstLine}
 use Rattle.traversal.specs.Cells.{Sees}
 use Rattle.traversal.specs.Parts.{Part, Whole, Binder, operandsOf, kindOf}
 use Rattle.traversal.specs.PassLaws.{ownEntry, Along, unless-along}
-use Rattle.traversal.specs.PlaceLaws.{first-none, first-assoc, first-comm}
 use Rattle.traversal.specs.Starts.{startOf, firstOf, startPart}
 use Rattle.traversal.specs.StartLaws.{starts}
 use Rattle.types.specs.Codes.{givesName, givesOperand}

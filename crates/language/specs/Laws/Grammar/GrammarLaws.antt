@@ -88,7 +88,7 @@ module _
 -- a name begins an operand
 named : (j : ℕ) (r : Reader) (t : Token) (us : Tokens) → isOf Name t ≡ true → operandOf j r boundLevel (t ∷ us) ≡ nameOf r t us
 named j r t us e =
-    let not-fixed : isOf Fixed t ≡ false = ap (eqb 0) (sym (eqb-true 1 (code (t .class)) e)) in
+    let not-fixed : isOf Fixed t ≡ false = ap (eqb (code Fixed)) (sym (eqb-true (code Name) (code (t .class)) e)) in
     ap (λ o. operandBy j r boundLevel t o us) (prefix-none prefixes t not-fixed) ∙ pick (isOf Name t) (nameOf r t us) _ e
 
 -- of no tokens no expression is read; `true` is one
