@@ -126,7 +126,7 @@ module _ (declared : Names) (table : List ℕ) where
   faults bs q c g z i =
       let qs = operandsOf withNumber q in
       ap (first (firstIn bad qs))
-      (ap₂ (λ ks ss. first (indexed (c .kind) (nameType (c .token)) (placeOf (c .token))) (wrongAt (c .kind) ks ss)) (map-map (λ (x : Operand). x .kind) value qs)
+      (ap₂ (λ ks ss. first (indexed (c .kind) (nameType (c .token)) (placeOf (c .token))) (wrongAt (c .kind) ks ss)) (map-map (λ (x : Operand). x .type) value qs)
       (map-map (λ (x : Operand). x .start) value qs)
       ∙ ap (λ k. first (indexed k (nameType (c .token)) (placeOf (c .token))) (wrongAt k (map typePart qs) (map startPart qs))) (z .kind))
       ∙ part-fault bs q (c .token) g (z .token) i

@@ -208,7 +208,7 @@ module _ (declared : Names) (cell : ℕ → Cell) where
 
   -- a definition's type is put down
   defined-after : (x : Token) (n v s : ℕ) (table : List ℕ) → (c : Cell) → Sees (Resolved declared []) c (record { kind = EntryKind.definition; token = some x; size = n }) →
-      tableAfter table c (record { kind = v; start = s } ∷ []) ≡ set table (reference declared [] x) v
+      tableAfter table c (record { type = v; start = s } ∷ []) ≡ set table (reference declared [] x) v
   unfolding tableOf
   defined-after x n v s table c z = pick (eqb (c .kind) EntryKind.definition) _ _ (eq-eqb _ _ (z .kind)) ∙ ap (λ r. set table r v) (z .token .refers refl)
 
