@@ -137,12 +137,12 @@ expand-line x d tree f undefined plain h =
     ap₂ (λ (ds : List Definition) (strict : Bool). gather (expandSection (defineAll c ds)) (section ∷ others) >>= λ ss. Done (whole strict (sectionOf ss))) undefined plain
     ∙ bind-to (gather (expandSection c) (section ∷ others)) _ (λ ss. Done (whole false (sectionOf ss))) all
 
--- what a tree of one model gives, where refusals 15 and 16 find nothing: the one place that opens `converted`
-converted-by : (x : Spec) (d : Declarations) (f : Formula) (m : Model) → x .semantics ≡ m → x .target ≡ m → declarations x ≡ Done d → expand x d (lines x d) ≡ Done f
+-- what a tree of one model gives, where refusals 15 and 16 find nothing: the one place that opens `specExpansion`
+expansion-by : (x : Spec) (d : Declarations) (f : Formula) (m : Model) → x .semantics ≡ m → x .target ≡ m → declarations x ≡ Done d → expand x d (lines x d) ≡ Done f
     → tooManySignals 0 (inOrder d) ≡ none → count f ≤ maxNodes →
     specExpansion x ≡ Done (record { formula = f; signals = signalList (inOrder d) })
 unfolding specExpansion refuseAt
-converted-by x d f m semantics target hd hf few small =
+expansion-by x d f m semantics target hd hf few small =
     let signals = signalList (inOrder d) in
     let unshifted : adapted (x .semantics) (x .target) signals f ≡ f = ap₂ (λ (semantics target : Model). adapted semantics target signals f) semantics target ∙ one-model m in
     let counted : leb (count f) maxNodes ≡ true = le-leb (count f) maxNodes small in
@@ -214,10 +214,10 @@ module _
         ∙ expand-line spec declaredFor tree f refl refl (expansion-inside (atSignals declaredFor) names name-stands f below _)
 
     -- what the tree gives
-    pub converted-for : length names ≤ maxSignals → count (guaranteeing f) ≤ maxNodes → specExpansion spec ≡ Done (record { formula = guaranteeing f; signals = signalList ports })
-    converted-for few small =
+    pub expansion-for : length names ≤ maxSignals → count (guaranteeing f) ≤ maxNodes → specExpansion spec ≡ Done (record { formula = guaranteeing f; signals = signalList ports })
+    expansion-for few small =
         let told : length ports ≡ length names = sym (length-map ports (λ p. p .name .text)) ∙ ap length texts-for in
-        converted-by spec declaredFor (guaranteeing f) m refl refl declared-for expanded-for (few-signals 0 ports narrow (omega arith)) small
+        expansion-by spec declaredFor (guaranteeing f) m refl refl declared-for expanded-for (few-signals 0 ports narrow (omega arith)) small
 
 -- the signal list of such ports: their names as the text has them, and their side
 module _ (text : List ℕ) (output : Bool) where

@@ -5,43 +5,16 @@ use mathlib.Core.Path.{_≡_, refl, ap, ap₂, _∙_, sym, subst}
 use mathlib.Core.Bool.{Bool, true, false, _&&_, _||_, false≢true}
 use mathlib.Core.List.{List, [], _∷_, _++_}
 use lib.Dec.{leb, ltb, eqb}
-use lib.ListN.{length, take, drop}
+use lib.ListN.{length, take}
 use native.Mathlib.Omega.{arith}
 use borrow.Author.Tests.{eqb-true, leb-true, ltb-true, le-leb}
 use Rattle.language.specs.Limits.{maxName}
-use Rattle.language.specs.Bytes.{ascii, if_then_else_, within, isBlank, isDigit, isNameStart, isNameByte, isMark, starts, same, isOneOf}
-use Rattle.language.specs.Tokens.{
-  Class,
-  Fixed,
-  Name,
-  Numeral,
-  Quoted,
-  Marks,
-  Wrong,
-  Blank,
-  code,
-  words,
-  signs,
-  Token,
-  isOf,
-  Piece,
-  run,
-  lineSize,
-  quotedSize,
-  Nesting,
-  commentSize,
-  signAt,
-  wordAt,
-  closed,
-  pieceAt,
-  enumeratingAfter,
-  lex,
-  tokens,
-}
+use Rattle.language.specs.Bytes.{ascii, if_then_else_, within, isBlank, isDigit, isNameStart, isNameByte, starts, same, isOneOf}
+use Rattle.language.specs.Tokens.{Class, Fixed, Name, Wrong, Blank, words, Token, isOf, Piece, run, wordAt, pieceAt, enumeratingAfter, lex, tokens}
 use Rattle.language.specs.Meaning.{SignalOf, BitOf}
 use Rattle.language.specs.Laws.Basics.Lists.{All, all-append}
-use Rattle.language.specs.Laws.Basics.Tests.{split, pick, leave, and-left, or-left, or-right, or-cases, same-equal}
-use Rattle.language.specs.Laws.Grammar.PieceLaws.{isClass}
+use Rattle.language.specs.Laws.Basics.Tests.{split, pick, leave, and-left, or-left, or-right, or-cases, same-equal, or-right-false}
+use Rattle.language.specs.Laws.Grammar.EveryToken.{tokens-each}
 use Rattle.basic.specs.Spelling.{digitsOf, spelling}
 use Rattle.basic.specs.Lexed.{later, Alone}
 
@@ -67,61 +40,22 @@ run-all p (b ∷ s) = let ih = run-all p s in split (λ (n : ℕ). All (λ b. p 
 start-byte : (b : ℕ) → isNameStart b ≡ true → isNameByte b ≡ true
 start-byte b e = or-left (isNameStart b || isDigit b) (eqb b 39) (or-left (isNameStart b) (isDigit b) e)
 
-abbrev OfName : List ℕ → Piece → Type 0
-OfName s p = isClass Name p ≡ true → ProperName (take (p .size) s)
-
-no-name : (s : List ℕ) (c : Class) (n : ℕ) → eqb 1 (code c) ≡ false → OfName s (record { class = c; size = n })
-no-name s c n d e = absurd (false≢true (sym d ∙ e))
-
-closed-name : (s : List ℕ) (c : Class) (n : ℕ) → eqb 1 (code c) ≡ false → OfName s (closed c n)
-closed-name s c zero e = no-name s Wrong 0 refl
-closed-name s c (suc n) e = no-name s c (suc n) e
-
-signAt-name : (ws : List String) (s : List ℕ) → OfName s (signAt ws s)
-signAt-name [] s = no-name s Wrong 0 refl
-signAt-name (w ∷ ws) s = split (OfName s) (starts (ascii w) s) (λ _. no-name s Fixed (length (ascii w)) refl) (λ _. signAt-name ws s)
-
-wordAt-name : (b : ℕ) (s : List ℕ) → isNameStart b ≡ true → OfName (b ∷ s) (wordAt (b ∷ s))
-wordAt-name b s e =
-    let n = run isNameByte (b ∷ s) in
-    let word = take n (b ∷ s) in
-    let size : n ≡ suc (run isNameByte s) = pick (isNameByte b) (suc (run isNameByte s)) 0 (start-byte b e) in
-    split (OfName (b ∷ s)) (leb n maxName)
-    (λ _. split (λ (c : Class). OfName (b ∷ s) (record { class = c; size = n })) (isOneOf words word) (λ _. no-name (b ∷ s) Fixed n refl)
-    (λ f _. record { begins = subst (λ (k : ℕ). Begins (take k (b ∷ s))) (sym size) e; bytewise = run-all isNameByte (b ∷ s); free = f }))
-    (λ _. no-name (b ∷ s) Wrong 0 refl)
-
-pieceAt-name : (e : Bool) (b : ℕ) (s : List ℕ) → OfName (b ∷ s) (pieceAt e (b ∷ s))
-pieceAt-name e b s =
-    let Q = OfName (b ∷ s) in
-    let opened : Nesting = record { depth = 1; last = 0 } in
-    split Q (isBlank b) (λ _. no-name (b ∷ s) Blank 1 refl)
-    (λ _. split Q (starts (ascii "//") (b ∷ s)) (λ _. no-name (b ∷ s) Blank (suc (lineSize s)) refl)
-    (λ _. split Q (starts (ascii "/*") (b ∷ s)) (λ _. closed-name (b ∷ s) Blank (commentSize 2 opened (drop 1 s)) refl)
-    (λ _. split Q (eqb b 34) (λ _. closed-name (b ∷ s) Quoted (quotedSize 1 s) refl)
-    (λ _. split Q (isNameStart b) (λ h. wordAt-name b s h)
-    (λ _. split Q (e && isMark b) (λ _. no-name (b ∷ s) Marks (run isMark (b ∷ s)) refl)
-    (λ _. split Q (e && isDigit b) (λ _. no-name (b ∷ s) Wrong 0 refl)
-    (λ _. split Q (isDigit b) (λ _. no-name (b ∷ s) Numeral (run isDigit (b ∷ s)) refl)
-    (λ _. signAt-name signs (b ∷ s)))))))))
-
 -- a token, if it is a name
 abbrev pub NameToken : Token → Type 0
 NameToken t = isOf Name t ≡ true → ProperName (t .text)
 
-lex-names : (e : Bool) (at k : ℕ) (s : List ℕ) → All NameToken (lex e at k s)
-lex-names e at k [] = (λ n. absurd (false≢true n), tt)
-lex-names e at (suc k) (b ∷ s) = lex-names e (suc at) k s
-lex-names e at zero (b ∷ s) =
-    let p = pieceAt e (b ∷ s) in
-    let t : Token = record { class = p .class; at = at; text = take (p .size) (b ∷ s) } in
-    let Q = All NameToken in
-    let first : NameToken t = pieceAt-name e b s in
-    let more : (m : Bool) → Q (lex m (suc at) (p .size - 1) s) = λ m. lex-names m (suc at) (p .size - 1) s in
-    split Q (isOf Wrong t) (λ _. (first, tt)) (λ _. split Q (isOf Blank t) (λ _. more e) (λ _. (first, more (enumeratingAfter e t))))
-
 pub tokens-names : (text : List ℕ) → All NameToken (tokens text)
-tokens-names text = lex-names false 0 0 text
+tokens-names text = tokens-each text NameToken (λ _ w. absurd (false≢true w)) (λ at b s h. record {
+  blank = λ _ w. absurd (false≢true w);
+  quoted = λ _ w. absurd (false≢true w);
+  fixed = λ _ w. absurd (false≢true w);
+  wrong = λ w. absurd (false≢true w);
+  name = λ start free _.
+      let size : run isNameByte (b ∷ s) ≡ suc (run isNameByte s) = pick (isNameByte b) (suc (run isNameByte s)) 0 (start-byte b start) in
+      record { begins = subst (λ (k : ℕ). Begins (take k (b ∷ s))) (sym size) start; bytewise = run-all isNameByte (b ∷ s); free = free };
+  marks = λ w. absurd (false≢true w);
+  numeral = λ w. absurd (false≢true w);
+})
 
 -- names as they are written, by computing
 single : spelling (SignalOf (ascii "b")) ≡ ascii "b"
@@ -176,12 +110,8 @@ has-append (b ∷ x) d = or-right (eqb b 64) (hasAt (x ++ (64 ∷ d))) (has-appe
 
 no-word : (ws : List String) (x d : List ℕ) → someAt ws ≡ false → isOneOf ws (x ++ (64 ∷ d)) ≡ false
 no-word [] x d h = refl
-no-word (w ∷ ws) x d h = go (same (ascii w) (x ++ (64 ∷ d))) refl (no-word ws x d (other (hasAt (ascii w)) (someAt ws) h))
+no-word (w ∷ ws) x d h = go (same (ascii w) (x ++ (64 ∷ d))) refl (no-word ws x d (or-right-false (hasAt (ascii w)) (someAt ws) h))
   where
-    other : (a b : Bool) → (a || b) ≡ false → b ≡ false
-    other true b e = absurd (false≢true (sym e))
-    other false b e = e
-
     go : (c : Bool) → same (ascii w) (x ++ (64 ∷ d)) ≡ c → isOneOf ws (x ++ (64 ∷ d)) ≡ false → (c || isOneOf ws (x ++ (64 ∷ d))) ≡ false
     go false e r = r
     go true e r =

@@ -45,7 +45,7 @@ use Rattle.basic.specs.ParsedText.{wordFor, placesFor, specFor, spec-rea
 use Rattle.basic.specs.Names.{name-alone}
 use Rattle.basic.specs.Source.{Listed, source-listed, Short, AllUnlike, faultless}
 use Rattle.basic.specs.WellFormed.{formed}
-use Rattle.basic.specs.Expanded.{declaredFor, declared-for, converted-for, names-back, flags-back}
+use Rattle.basic.specs.Expanded.{declaredFor, declared-for, expansion-for, names-back, flags-back}
 use Rattle.basic.specs.Levels.{depth, shallow-for}
 use Rattle.basic.specs.Guaranteed.{guaranteed-nodes, guaranteed-size}
 use Rattle.basic.specs.Passing.{no-wrong, few-tokens, count-at-most, parsed-by}
@@ -170,7 +170,7 @@ module _ {text s : List ℕ} (w : WrittenOf text s) where
     unfolding textExpansion
     means =
         bind-to (parsed s) tree specExpansion parses-as
-        ∙ converted-for m inputs outputs names f word places (listed .sides) below (fine .1) few (omega (arith, guaranteed-size f, count-most (guaranteeing f), size-small (k .counted)))
+        ∙ expansion-for m inputs outputs names f word places (listed .sides) below (fine .1) few (omega (arith, guaranteed-size f, count-most (guaranteeing f), size-small (k .counted)))
 
     -- its signals, entry by entry
     placed : All (PortPlaced s) (inOrder declared)

@@ -78,11 +78,11 @@ doubled-none (n ∷ ns) h = ap₂ first (again-none ns n (h .0)) (doubled-none n
 
 -- every declared name is a formula
 abbrev typings : Names → Typings
-typings ns = map (λ t. record { name = t; kind = AFormula }) ns
+typings ns = map (λ t. record { name = t; type = AFormula }) ns
 
-kind-visible : (ns : Names) (t : Token) → visible ns t ≡ true → typeIn (typings ns) t ≡ AFormula
-kind-visible [] t h = absurd (false≢true h)
-kind-visible (n ∷ ns) t h = go (same (n .text) (t .text)) h (λ g. kind-visible ns t g)
+type-visible : (ns : Names) (t : Token) → visible ns t ≡ true → typeIn (typings ns) t ≡ AFormula
+type-visible [] t h = absurd (false≢true h)
+type-visible (n ∷ ns) t h = go (same (n .text) (t .text)) h (λ g. type-visible ns t g)
   where
     go : (c : Bool) → (c || visible ns t) ≡ true → (visible ns t ≡ true → typeIn (typings ns) t ≡ AFormula) → _≡_ {A = ExprType} (elim c [ true ↦ AFormula | false ↦ typeIn (typings ns) t ]) AFormula
     go true g f = refl
@@ -90,7 +90,7 @@ kind-visible (n ∷ ns) t h = go (same (n .text) (t .text)) h (λ g. kind-visibl
 
 typed-singles : (at : ℕ) (ns : List (List ℕ)) (ls : List TextLine) → typedSignals (declarationLines (singles at ns) ls) ≡ typings (nameTokens at ns) ++ typedSignals ls
 typed-singles at [] ls = refl
-typed-singles at (n ∷ ns) ls = let next = past (sign ";") (past (Name, n) at) in ap (record { name = tokenAt at (Name, n); kind = AFormula } ∷_) (typed-singles next ns ls)
+typed-singles at (n ∷ ns) ls = let next = past (sign ";") (past (Name, n) at) in ap (record { name = tokenAt at (Name, n); type = AFormula } ∷_) (typed-singles next ns ls)
 
 mistyped-singles : (ys : Typings) (at : ℕ) (ns : List (List ℕ)) (ls : List TextLine) → mistypedLines ys (declarationLines (singles at ns) ls) ≡ mistypedLines ys ls
 mistyped-singles ys at [] ls = refl
@@ -184,10 +184,10 @@ module _
     right-types =
         let ys = typings tokenNames in
         let tree = treeOf names (at .2) f in
-        let kinds : (k : ℕ) (t : Token) → k < length names → t .text ≡ getD names k [] → typeIn ys t ≡ AFormula = λ k t l e. kind-visible tokenNames t (sees-all k t l e) in
+        let kinds : (k : ℕ) (t : Token) → k < length names → t .text ≡ getD names k [] → typeIn ys t ≡ AFormula = λ k t l e. type-visible tokenNames t (sees-all k t l e) in
         let typed : typedSignals (allLines spec) ≡ ys =
         typed-singles (at .0) inputs _ ∙ ap (typings (nameTokens (at .0) inputs) ++_) (typed-singles (at .1) outputs _ ∙ append-nil (typings (nameTokens (at .1) outputs)))
-        ∙ sym (map-append (λ (t : Token). record { name = t; kind = AFormula }) (nameTokens (at .0) inputs) (nameTokens (at .1) outputs)) in
+        ∙ sym (map-append (λ (t : Token). record { name = t; type = AFormula }) (nameTokens (at .0) inputs) (nameTokens (at .1) outputs)) in
         ap (λ (zs : Typings). mistypedLines zs (allLines spec)) typed ∙ mistyped-singles ys (at .0) inputs _ ∙ mistyped-singles ys (at .1) outputs _
         ∙ ap (λ (p : Option ℕ). first p none) (ap₂ first (right-kind ys names kinds f below _ _) (mistyped-inside ys names kinds f below _))
 

@@ -27,15 +27,15 @@ Finds x refs found (NotNamed number place) = wellFormed x ≡ RefusedAt number p
 pub record Forms (x : Spec) (refs found : List ℕ) (r : Naming) : Type 0 where
   pub says : Finds x refs found r
 
--- the answer on a text with n tokens and m entries
-abbrev pub answer : ℕ → ℕ → Facts → Naming → Checked
-answer n m f (Named k) = Accepted (record { tokens = n; entries = m; names = k }) f
-answer n m f (NotNamed number place) = Refused number place
-
 -- a refusal of the outline, 'handed up unchanged': 0 where there is none, which no caller asks
 abbrev pub unchecked : TextOutline → Checked
 unchecked (NotDrawn number place) = Refused number place
 unchecked (TextOutline.Accepted tokens entries facts) = Refused 0 0
+
+-- and one of the stages after it
+abbrev pub unformed : Naming → Checked
+unformed (NotNamed number place) = Refused number place
+unformed (Named k) = Refused 0 0
 
 -- an accepted text's tree: it stands in the buffer v, its names are resolved, the facts are its INFO's
 pub record Tree (text v refs found : List ℕ) (c : Counts) (f : Facts) : Type 0 where

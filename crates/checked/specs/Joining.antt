@@ -10,7 +10,8 @@ use Rattle.language.specs.Tokens.{tokens}
 use Rattle.language.specs.Tree.{Spec}
 use Rattle.language.specs.Sections.{specOf}
 use Rattle.language.specs.Parsing.{wellFormed, parsed}
-use Rattle.lexer.specs.Lexing.{lexing, parsed-lexed}
+use Rattle.lexer.specs.Lexing.{lexing}
+use Rattle.lexer.specs.LexingLaws.{parsed-lexed}
 use Rattle.parser.specs.declared.Facts.{Facts}
 use Rattle.outline.specs.declared.TextOutline.{TextOutline}
 use Rattle.outline.specs.declared.TextOutline.the-variants.{Accepted as Drawn, Refused as NotDrawn}
@@ -19,8 +20,8 @@ use Rattle.names.specs.declared.Naming.{Naming}
 use Rattle.names.specs.declared.Naming.the-variants.{Named, Refused as NotNamed}
 use Rattle.names.specs.Resolved.{Stored, TreeStored}
 use Rattle.checked.specs.declared.Checked.{Checked}
-use Rattle.checked.specs.declared.Checked.the-variants.{Refused as NotAccepted}
-use Rattle.checked.specs.Checking.{Finds, Forms, answer, unchecked, Says, Checks}
+use Rattle.checked.specs.declared.Checked.the-variants.{Accepted, Refused as NotAccepted}
+use Rattle.checked.specs.Checking.{Finds, Forms, unchecked, unformed, Says, Checks}
 use Rattle.checked.specs.StoredLaws.{outline-stored}
 
 parsed-formed : (text : List ℕ) → parsed text ≡ (lexing text >>= specOf) >>= wellFormed
@@ -33,6 +34,11 @@ not-outlined text e = parsed-formed text ∙ ap (λ r. r >>= wellFormed) e
 outlined : (text : List ℕ) {x : Spec} → lexing text ≡ Done (tokens text) → specOf (tokens text) ≡ Done x → parsed text ≡ wellFormed x
 unfolding _>>=_
 outlined text e d = parsed-formed text ∙ ap (λ r. (r >>= specOf) >>= wellFormed) e ∙ ap (λ r. r >>= wellFormed) d
+
+-- the answer on a text with n tokens and m entries
+abbrev answer : ℕ → ℕ → Facts → Naming → Checked
+answer n m f (Named k) = Accepted (record { tokens = n; entries = m; names = k }) f
+answer n m f (NotNamed number place) = NotAccepted number place
 
 module _ {text w v : List ℕ} {t : TextOutline} (o : Outlining text w v t) where
   refused : {n p : ℕ} (refs found : List ℕ) → t ≡ NotDrawn n p → Checks text w v refs found (NotAccepted n p)
@@ -56,6 +62,13 @@ module _ {text w v : List ℕ} {t : TextOutline} (o : Outlining text w v t) wher
     says refs found (Named k) h = record { tree = drawn .tree; read = outlined text (drawn .lexed .read) (drawn .read) ∙ h .0; stored = stored; resolved = h .1; facts = drawn .facts }
     says refs found (NotNamed number place) h = outlined text (drawn .lexed .read) (drawn .read) ∙ h
 
-    pub checks : {r : Naming} {refs found : List ℕ} {a : Checked} → ((x : Spec) → Stored text v n m x → Forms x refs found r) → a ≡ answer n m f r → Checks text w v refs found a
-    checks {r} {refs} {found} h d =
-        record { says = subst (Says text v refs found) (sym d) (says refs found r (h (drawn .tree) stored .says)); size = o .size; beyond = o .beyond }
+    module _ {r : Naming} {refs found : List ℕ} (h : (x : Spec) → Stored text v n m x → Forms x refs found r) where
+      answered : {a : Checked} → a ≡ answer n m f r → Checks text w v refs found a
+      answered d = record { says = subst (Says text v refs found) (sym d) (says refs found r (h (drawn .tree) stored .says)); size = o .size; beyond = o .beyond }
+
+      pub checks : {k : ℕ} → r ≡ Named k → Checks text w v refs found (Accepted (record { tokens = n; entries = m; names = k }) f)
+      checks g = answered (sym (ap (answer n m f) g))
+
+      -- a refusal of the stages after the outline, handed up
+      pub not-formed : {a : Checked} {number place : ℕ} → r ≡ NotNamed number place → a ≡ unformed r → Checks text w v refs found a
+      not-formed g u = answered (u ∙ ap unformed g ∙ sym (ap (answer n m f) g))

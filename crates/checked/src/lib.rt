@@ -17,7 +17,7 @@ ghost use lib.ListN.{length};
 ghost use Rattle.language.specs.Limits.{maxTokens, maxNames, workBytes};
 ghost use Rattle.language.specs.Tree.{Spec};
 ghost use Rattle.names.specs.Resolved.{Stored, TreeStored};
-ghost use Rattle.checked.specs.Checking.{Forms, answer as answer', unchecked as unchecked', Checks};
+ghost use Rattle.checked.specs.Checking.{Forms, unchecked as unchecked', unformed as unformed', Checks};
 
 // How many tokens, entries and declared names a text has.
 pub struct Counts {
@@ -82,22 +82,6 @@ fn well_formed_apart(
     well_formed(text, work, tokens, entries, refs, found)
 }
 
-fn answer(tokens: usize, entries: usize, facts: Facts, naming: Naming) -> Checked
-    ensures { λ r. ⌜ r ≡ answer' tokens entries facts naming ⌝ }
-{
-    match naming {
-        Naming::Named(names) => Checked::Accepted(
-            Counts {
-                tokens: tokens,
-                entries: entries,
-                names: names,
-            },
-            facts,
-        ),
-        Naming::Refused(number, place) => Checked::Refused(number, place),
-    }
-}
-
 // A refusal of the outline.
 fn unchecked(outline: TextOutline) -> Checked
     ensures { λ r. ⌜ r ≡ unchecked' outline ⌝ }
@@ -105,6 +89,16 @@ fn unchecked(outline: TextOutline) -> Checked
     match outline {
         TextOutline::Refused(number, place) => Checked::Refused(number, place),
         TextOutline::Accepted(_, _, _) => Checked::Refused(0, 0),
+    }
+}
+
+// A refusal of the stages after it.
+fn unformed(naming: Naming) -> Checked
+    ensures { λ r. ⌜ r ≡ unformed' naming ⌝ }
+{
+    match naming {
+        Naming::Refused(number, place) => Checked::Refused(number, place),
+        Naming::Named(_) => Checked::Refused(0, 0),
     }
 }
 
@@ -119,5 +113,15 @@ pub fn check(text: &[u8], work: &mut [u8], refs: &mut [u16], found: &mut [u16]) 
         return unchecked(outline);
     };
     let naming = well_formed_apart(text, work, tokens, entries, refs, found);
-    answer(tokens, entries, facts, naming)
+    let Naming::Named(names) = naming else {
+        return unformed(naming);
+    };
+    Checked::Accepted(
+        Counts {
+            tokens: tokens,
+            entries: entries,
+            names: names,
+        },
+        facts,
+    )
 }

@@ -9,16 +9,12 @@ use lib.Dec.{eqb, leb}
 use lib.ListN.{length, length-append}
 use borrow.Author.Tests.{eq-eqb, ne-eqb, le-leb, lt-leb}
 use Rattle.language.specs.Limits.{maxTokens}
-use Rattle.language.specs.Laws.Basics.Tests.{pick, leave, and-false}
+use Rattle.language.specs.Laws.Basics.Tests.{pick, leave, and-false, and-last-false}
 use Rattle.entries.specs.Kinds as Kind
 use Rattle.traversal.specs.declared.Cell.{Cell}
 use Rattle.traversal.specs.Cells.{cellAt}
 use Rattle.enumerations.specs.Pass.{bytesAt}
 use Rattle.choices.specs.Entries.{endIn, endFrom, wordsAt}
-
-and-no : (a b : Bool) → b ≡ false → (a && b) ≡ false
-and-no true b e = e
-and-no false b e = refl
 
 module _ (w : List ℕ) (low j : ℕ) where
   end-at : (n m : ℕ) → n ≡ suc m → endIn w low n j ≡ elim (leb low (cellAt w j .kind) && leb (cellAt w j .kind) Kind.word) [ true ↦ endIn w low m (suc j) | false ↦ j ]
@@ -46,7 +42,7 @@ module _ (w : List ℕ) (low j : ℕ) where
     end-high h =
         sym (end-at (maxTokens - j) (maxTokens - (j + 1)) less
         ∙ leave (leb low (cellAt w j .kind) && leb (cellAt w j .kind) Kind.word) _ _
-        (and-no (leb low (cellAt w j .kind)) _ (ap (λ (d : Cell). leb (d .kind) Kind.word) (sym here) ∙ lt-leb (c .kind) Kind.word h)))
+        (and-last-false (leb low (cellAt w j .kind)) _ (ap (λ (d : Cell). leb (d .kind) Kind.word) (sym here) ∙ lt-leb (c .kind) Kind.word h)))
 
     pub end-more : low ≤ c .kind → c .kind ≤ Kind.word → endFrom w low (j + 1) ≡ endFrom w low j
     unfolding endFrom

@@ -27,7 +27,7 @@ use Rattle.rewriter.specs.RewritingLaws.{accepts as rewriter-accepts}
 use Rattle.rewriter.specs.OwnNodes.{own-rewriting}
 use Rattle.language.specs.Numbered.{numbered}
 use Rattle.language.specs.Reading.{NumberedFormula, textExpansion, reading, nodesAfter, signalsAfter}
-use Rattle.language.specs.Laws.Buffers.{accepted-meant, accepted-delivers}
+use Rattle.language.specs.Laws.Buffers.{accepted-expansion, accepted-delivers}
 use Rattle.language.specs.Laws.Meaning.ListedSignals.{unnumbered, numbered-back}
 use Rattle.language.specs.Laws.Meaning.Acceptance.{accepts, text-agrees, text-signals, list-limited, text-once, text-listed}
 use Rattle.claim.specs.Claim.{Demand3, Claim, Leaves}
@@ -81,7 +81,7 @@ demand-3 text c e =
 pub reader-claim : (text : List ℕ) (work : ℕ) (nodes signals : List ℕ) (c : NumberedFormula) → reading text work (length nodes) (length signals) ≡ Done c
     → Leaves text (nodesAfter (Done c) nodes) (signalsAfter (Done c) signals) c
 reader-claim text work nodes signals c e =
-    let d = demand-3 text c (accepted-meant text work nodes signals c e .0) in
+    let d = demand-3 text c (accepted-expansion text work nodes signals c e .0) in
     let a = accepted-delivers text work nodes signals c e in
     record {
       claim = d;

@@ -16,7 +16,7 @@ use Rattle.language.specs.Reading.{NumberedFormula, specExpansion, textExpansio
 use Rattle.language.specs.Laws.Basics.Lists.{Any, all-any}
 use Rattle.language.specs.Laws.Basics.Results.{Answers, done, refused, guarded, placed, bind, weaken, refusal-of}
 use Rattle.language.specs.Laws.Grammar.SpecReads.{specOf-decides}
-use Rattle.language.specs.Laws.Kinds.LaterRefusals.{parsed-refused}
+use Rattle.language.specs.Laws.Types.LaterRefusals.{parsed-refused}
 use Rattle.claim.specs.Converting.{inForm, formed, converting}
 
 -- a refusal's number is at most m

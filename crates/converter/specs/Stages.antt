@@ -16,7 +16,7 @@ use Rattle.forms.specs.Forms.{form}
 use Rattle.rewriter.specs.Rewriting.{rewriting, target, leaves}
 use Rattle.language.specs.Limits.{maxSignals}
 use Rattle.language.specs.Reading.{NumberedFormula, textExpansion, reading, nodesAfter, signalsAfter, workAfter}
-use Rattle.language.specs.Laws.Buffers.{accepted-meant}
+use Rattle.language.specs.Laws.Buffers.{accepted-expansion}
 use Rattle.claim.specs.ClaimLaws.{text-few, text-small}
 use Rattle.claim.specs.Yields.{told}
 use Rattle.claim.specs.YieldsLaws.{accepted, refused, told-done, told-refused}
@@ -76,7 +76,7 @@ module _ (number : ℕ) (nodes signals : List ℕ) {text work work′ table tabl
       let listed : take s list′ ≡ c .signals = subst (λ (k : ℕ). take k list′ ≡ c .signals) signalsTold (left .list) in
       record {
         source = c;
-        meaning = accepted-meant text (length work) table list c (t .done) .0;
+        meaning = accepted-expansion text (length work) table list c (t .done) .0;
         answer = after-reading (Done c) (t .done);
         listTold = sym signalsTold;
         handed = handed;

@@ -4,17 +4,18 @@ use mathlib.Core.List.{List, [], _∷_}
 use mathlib.Core.Path.{_≡_, refl, ap, _∙_, subst}
 use native.Mathlib.Omega.{arith}
 use lib.ListN.{length, getD, length-append}
+use Rattle.names.specs.References.{pushed}
 use Rattle.language.specs.Limits.{maxNames}
 use Rattle.language.specs.Tree.{Expr, Parameter, Declaration, OneSignal, OfWidth, OfType, Subsection, Inputs, Outputs, Lines, Spec}
 use Rattle.language.specs.Places.{TextLine, parameterLines, definitionLines, declarationLines, formulaLines, mainLines, allLines}
 use Rattle.language.specs.Names.{Names, declares, over}
 use Rattle.language.specs.Declared.{inputs, outputs}
 use Rattle.language.specs.Listed.{declaredName}
+use Rattle.entries.specs.Headings.{noHeading}
 use Rattle.entries.specs.Flat.{outline}
-use Rattle.names.specs.AlikeLaws.{pushed}
 use Rattle.name_values.specs.ElsewhereLaws.{ownNames, over-definitions}
 use Rattle.name_values.specs.WorkedLaws.{tree-worked}
-use Rattle.notes.specs.Chosen.{noHeading, chosen}
+use Rattle.notes.specs.Chosen.{chosen}
 use Rattle.notes.specs.Choosing.{Chooses}
 use Rattle.notes.specs.ChosenLaws.{parameterChoice, portChoice, parameters-chosen, inputs-chosen, outputs-chosen}
 use Rattle.notes.specs.Owned.{ParameterAt, DeclarationAt}

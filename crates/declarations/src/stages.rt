@@ -5,10 +5,10 @@ use crate::constants::Settled;
 use crate::constants::parameters;
 use crate::describe::describe;
 use crate::evaluate::Names;
+use entries::headings;
 use entries::kinds;
 use language::limits;
 use node::MAX_NODES;
-use notes::choose::NO_HEADING;
 use notes::choose::choose;
 use notes::first::note_names;
 ghost use mathlib.Core.Path.{_≡_};
@@ -22,11 +22,6 @@ ghost use Rattle.declarations.specs.Constants.{ConstantsTold};
 ghost use Rattle.declarations.specs.Describing.{Described};
 ghost use Rattle.declarations.specs.Placing.{PortsPlaced};
 ghost use Rattle.declarations.specs.Promise.{Checked, Given};
-
-// The headings of INPUTS and OUTPUTS.
-const INPUTS: u32 = 0;
-
-const OUTPUTS: u32 = 1;
 
 // How many ports there are, and how many of them are inputs; by port, the own entry, the number of the name, the enumeration's entry, the name's offset.
 pub struct Ports {
@@ -61,7 +56,7 @@ pub fn globals(
     let count = choose(
         work,
         entries,
-        NO_HEADING,
+        headings::NO_HEADING,
         kinds::PARAMETER,
         kinds::PARAMETER,
         &mut places,
@@ -92,7 +87,7 @@ pub fn find_ports(text: &[u8], work: &[u8], refs: &[u16], found: &[u16], counts:
     let ins = choose(
         work,
         entries,
-        INPUTS,
+        headings::INPUTS,
         kinds::SIGNAL,
         kinds::TYPED,
         &mut places,
@@ -101,7 +96,7 @@ pub fn find_ports(text: &[u8], work: &[u8], refs: &[u16], found: &[u16], counts:
     let count = choose(
         work,
         entries,
-        OUTPUTS,
+        headings::OUTPUTS,
         kinds::SIGNAL,
         kinds::TYPED,
         &mut places,

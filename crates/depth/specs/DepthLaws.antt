@@ -17,6 +17,7 @@ use Rattle.language.specs.Places.{start, levels, first, firstIn, unless, TextLi
 use Rattle.language.specs.Braces.{Proper}
 use Rattle.language.specs.Laws.Basics.Lists.{All}
 use Rattle.language.specs.Laws.Basics.Tests.{pick, leave}
+use Rattle.language.specs.Laws.Basics.NoPlace.{first-none}
 use Rattle.entries.specs.Kinds as Kind
 use Rattle.entries.specs.Flat.{Entry, flat, under, leaf, each, flatIdentifier, outline}
 use Rattle.traversal.specs.declared.Cell.{Cell}
@@ -25,7 +26,7 @@ use Rattle.traversal.specs.CellLaws.{entries-seen}
 use Rattle.traversal.specs.Arity.{arities, operands, firstLine}
 use Rattle.traversal.specs.ArityLaws.{fixed-operands}
 use Rattle.traversal.specs.Parts.{Part, Whole, operandsOf, kindOf}
-use Rattle.traversal.specs.PlaceLaws.{first-none, firstIn-nowhere}
+use Rattle.traversal.specs.PlaceLaws.{firstIn-nowhere}
 use Rattle.traversal.specs.PassLaws.{run, Pass, Along, Works, expression-done}
 use Rattle.traversal.specs.LineLaws.{entriesOf, Each, firstBad, Lined, Alone, alone-done, identifiers-alone, text-holds}
 use Rattle.traversal.specs.Passed.{passed}

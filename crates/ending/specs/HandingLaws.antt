@@ -1,8 +1,8 @@
 -- What is handed over of a formula that was written.
 use Prim.Native.Nat.{ℕ, _≤_, _<_}
-use mathlib.Core.Bool.{Bool, true, false, _&&_}
+use mathlib.Core.Bool.{Bool, _&&_}
 use mathlib.Core.List.{List, _++_}
-use mathlib.Core.Path.{_≡_, refl, sym, ap, ap₂, _∙_, subst}
+use mathlib.Core.Path.{_≡_, sym, ap, ap₂, _∙_, subst}
 use lib.Dec.{leb}
 use lib.ListN.{length, drop}
 use lib.Seq.{sets, paste, take-length}
@@ -18,6 +18,7 @@ use Rattle.node.specs.declared.Answer.{Answer}
 use Rattle.node.specs.declared.Answer.the-variants.{Accepted}
 use Rattle.language.specs.Expansion.{whole}
 use Rattle.language.specs.Reading.{delivered}
+use Rattle.language.specs.Laws.Basics.Tests.{and-last-false}
 use Rattle.writing.specs.Writing.{Wrote}
 use Rattle.writing.specs.Parts.{moves}
 use Rattle.assembly.specs.Layout.{Assembles}
@@ -26,10 +27,6 @@ use Rattle.shifting.specs.Passing.{lateBy, Shifts}
 use Rattle.ending.specs.Endings.{fitted, too-large, not-too-large}
 use Rattle.ending.specs.Hands.{Hands, hands-refused, hands-accepted}
 use Rattle.ending.specs.Handing.{Delivers, asExpanded, asShifted, HandsOver}
-
-and-stop : (a b : Bool) → b ≡ false → (a && b) ≡ false
-and-stop true b e = e
-and-stop false b e = refl
 
 module _ {f : Formula} {out out′ : List ℕ} {m : ℕ} (w : Wrote f out out′ 0 m) (list : List ℕ) (nodes signals : List ℕ) where
   formula-large : maxNodes < m → Hands (fitted f list >>= delivered (length nodes) (length signals)) nodes signals nodes signals (Answer.Refused 16 0)
@@ -46,7 +43,7 @@ module _ {f : Formula} {out out′ : List ℕ} {m : ℕ} (w : Wrote f out out′
     signals-short s =
         let n = Whole.written-count w h in
         hands-refused nodes signals (not-too-large (delivered (length nodes) (length signals)) f list (omega arith)
-        ∙ guard-stop 18 0 _ (and-stop (leb (count f) (length nodes)) _ (lt-leb (length list) (length signals) s)))
+        ∙ guard-stop 18 0 _ (and-last-false (leb (count f) (length nodes)) _ (lt-leb (length list) (length signals) s)))
 
     formula-handed : length out ≡ maxNodes → m ≤ length nodes → length list ≤ length signals
         → Hands (fitted f list >>= delivered (length nodes) (length signals)) nodes signals (sets nodes 0 (moves 0 0 m out′)) (list ++ drop (length list) signals) (Accepted m (length list))

@@ -40,6 +40,7 @@ use Rattle.language.specs.Tree.{
   Spec,
 }
 use Rattle.entries.specs.Kinds as Kind
+use Rattle.entries.specs.Headings as Heading
 
 pub record Entry : Type 0 where
   pub kind : ℕ
@@ -101,9 +102,9 @@ abbrev pub head : ℕ → List Entry
 head n = record { kind = Kind.heading; token = none; size = n } ∷ []
 
 abbrev pub flatSubsection : Subsection → List Entry
-flatSubsection (Inputs ds) = head 0 ++ each flatDeclaration ds
-flatSubsection (Outputs ds) = head 1 ++ each flatDeclaration ds
-flatSubsection (Lines p es) = head (2 + partCode p) ++ each flatLine es
+flatSubsection (Inputs ds) = head Heading.inputs ++ each flatDeclaration ds
+flatSubsection (Outputs ds) = head Heading.outputs ++ each flatDeclaration ds
+flatSubsection (Lines p es) = head (Heading.firstPart + partCode p) ++ each flatLine es
 
 -- a text, INFO left out
 abbrev pub outline : Spec → List Entry

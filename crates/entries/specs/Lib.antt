@@ -1,5 +1,7 @@
 pub mod Kinds
+pub mod Headings
 pub mod Flat
+pub mod FlatLaws
 pub mod Stored
 pub mod StoredLaws
 pub mod Cursors

@@ -1,6 +1,7 @@
 // How a text's tree stands in the work buffer: the cursor by which the parser reads tokens and writes entries.
 // A cursor's methods ask that it stands on a token and that there is room for an entry: a token that was read pays for each entry.
 pub mod fields;
+pub mod headings;
 pub mod kinds;
 
 use fields::FIRST_ENTRY;

@@ -4,27 +4,13 @@ use mathlib.Core.List.{List, [], _∷_, _++_, append-nil, append-assoc}
 use mathlib.Core.Bool.{true}
 use mathlib.Core.Option.{Option, none, some}
 use mathlib.Core.Path.{_≡_, refl, sym, ap, _∙_, subst}
-use lib.Dec.{eqb, ltb}
+use lib.Dec.{eqb}
 use native.Mathlib.Omega.{arith}
-use borrow.Author.Tests.{ltb-true, ne-eqb}
+use borrow.Author.Tests.{ne-eqb}
 use Rattle.language.specs.Tokens.{Marks, Token, isOf}
 use Rattle.language.specs.Tree.{
   Expr,
   Named,
-  Numeral,
-  Truth,
-  Index,
-  Paren,
-  Prefixed,
-  Joined,
-  Nexts,
-  InWindow,
-  Each,
-  Between,
-  Listed,
-  Empty,
-  Element,
-  Range,
   Identifier,
   Definition,
   Defined,
@@ -43,20 +29,19 @@ use Rattle.language.specs.Tree.{
 use Rattle.language.specs.Grammar.{Tokens}
 use Rattle.language.specs.Places.{first, firstIn}
 use Rattle.language.specs.Words.{badWords, wrongWords}
-use Rattle.language.specs.Laws.Basics.Lists.{All, all-append, all-right}
+use Rattle.language.specs.Laws.Basics.Lists.{All, all-more, all-append, all-right}
 use Rattle.language.specs.Laws.Basics.Tests.{pick, leave}
+use Rattle.language.specs.Laws.Basics.NoPlace.{first-none, first-assoc}
 use Rattle.entries.specs.Kinds as Kind
 use Rattle.entries.specs.Flat.{Entry, under, leaf, flat, each, flatParameter, flatIdentifier, flatDefinition, flatDeclaration, flatLine, flatSubsection, outline}
+use Rattle.entries.specs.FlatLaws.{all-each, flat-inside}
 use Rattle.traversal.specs.declared.Cell.{Cell}
 use Rattle.traversal.specs.Cells.{Seen, cellAt, TokensTell}
 use Rattle.traversal.specs.CellLaws.{entries-seen}
-use Rattle.traversal.specs.Arity.{firstLine}
-use Rattle.traversal.specs.ArityLaws.{truth-plain, before-plain, joining-plain, window-plain, big-plain, binder-plain, between-plain}
 use Rattle.traversal.specs.PassLaws.{run}
 use Rattle.traversal.specs.PassedLaws.{passed-all}
 use Rattle.traversal.specs.declared.Place.{Place}
 use Rattle.traversal.specs.Places.{placed}
-use Rattle.traversal.specs.PlaceLaws.{first-none, first-assoc}
 use Rattle.traversal.specs.TreeStored.{TreeStored}
 use Rattle.enumerations.specs.Given.{Spells, GoodDefinition}
 use Rattle.enumerations.specs.Promise.{WrongWords}
@@ -77,9 +62,6 @@ module _ (text : List ℕ) where
       leave (eqb (c .kind) Kind.enumeration) _ _ (ne-eqb _ _ (λ z. e (sym h ∙ z))) ∙ leave (eqb (c .kind) Kind.identifier) _ _ (ne-eqb _ _ (λ z. f (sym h ∙ z)))
       ∙ leave (eqb (c .kind) Kind.word) _ _ (ne-eqb _ _ (λ z. g (sym h ∙ z)))
 
-  low : (k : ℕ) → ltb k firstLine ≡ true → (c : Cell) (s : State) → c .kind ≡ k → step text c s ≡ s
-  low k h = let l = ltb-true k firstLine h in quiet k (λ z. omega arith) (λ z. omega arith) (λ z. omega arith)
-
   join : (es fs : List Entry) → All Quiet es → All Quiet fs → All Quiet (es ++ fs)
   join es fs h g = all-append Quiet es fs h g
 
@@ -87,32 +69,12 @@ module _ (text : List ℕ) where
   quiet-under k t es q h = join es _ h (q, tt)
 
   quiet-flat : (e : Expr) → All Quiet (flat e)
-  quiet-flat (Named t) = (low Kind.named refl, tt)
-  quiet-flat (Numeral t) = (low Kind.numeral refl, tt)
-  quiet-flat (Truth t b) = (low Kind.truth (truth-plain .part), tt)
-  quiet-flat (Index t e) = quiet-under Kind.index (some t) (flat e) (low Kind.index refl) (quiet-flat e)
-  quiet-flat (Paren t e) = quiet-under Kind.paren (some t) (flat e) (low Kind.paren refl) (quiet-flat e)
-  quiet-flat (Prefixed t o e) = quiet-under (Kind.before o) (some t) (flat e) (low (Kind.before o) (before-plain o .part)) (quiet-flat e)
-  quiet-flat (Joined t o a b) = quiet-under (Kind.joining o) (some t) (flat a ++ flat b) (low (Kind.joining o) (joining-plain o .part)) (join (flat a) (flat b) (quiet-flat a) (quiet-flat b))
-  quiet-flat (Nexts t n e) = quiet-under Kind.nexts (some t) (flat n ++ flat e) (low Kind.nexts refl) (join (flat n) (flat e) (quiet-flat n) (quiet-flat e))
-  quiet-flat (InWindow t o n m e) =
-      quiet-under Kind.window (some t) (flat n ++ (flat m ++ flat e)) (low Kind.window (window-plain .part))
-      (join (flat n) _ (quiet-flat n) (join (flat m) (flat e) (quiet-flat m) (quiet-flat e)))
-  quiet-flat (Each t o further i s e) =
-      quiet-under (Kind.big o) (some t) (under (Kind.binder further) (some i) (flat s) ++ flat e) (low (Kind.big o) (big-plain o .part))
-      (join (under (Kind.binder further) (some i) (flat s)) (flat e) (quiet-under (Kind.binder further) (some i) (flat s) (low (Kind.binder further) (binder-plain further .part)) (quiet-flat s))
-      (quiet-flat e))
-  quiet-flat (Between t l h a b) = quiet-under (Kind.between h) (some t) (flat a ++ flat b) (low (Kind.between h) (between-plain h .part)) (join (flat a) (flat b) (quiet-flat a) (quiet-flat b))
-  quiet-flat (Listed t es) = quiet-under Kind.listed (some t) (flat es) (low Kind.listed refl) (quiet-flat es)
-  quiet-flat Empty = tt
-  quiet-flat (Element e es) = quiet-under Kind.element none (flat e ++ flat es) (low Kind.element refl) (join (flat e) (flat es) (quiet-flat e) (quiet-flat es))
-  quiet-flat (Range t a b c) = quiet-under Kind.range (some t) (flat a ++ (flat b ++ flat c)) (low Kind.range refl)
-      (join (flat a) _ (quiet-flat a) (join (flat b) (flat c) (quiet-flat b) (quiet-flat c)))
+  quiet-flat e = all-more (λ n l. quiet (n .kind) (λ z. omega arith) (λ z. omega arith) (λ z. omega arith)) (flat e) (flat-inside e)
 
   quiet-declaration : (d : Declaration) → All Quiet (flatDeclaration d)
   quiet-declaration (OneSignal x) = (quiet Kind.signal (λ z. omega arith) (λ z. omega arith) (λ z. omega arith), tt)
   quiet-declaration (OfWidth x e) = quiet-under Kind.bus (some x) (flat e) (quiet Kind.bus (λ z. omega arith) (λ z. omega arith) (λ z. omega arith)) (quiet-flat e)
-  quiet-declaration (OfType u x) = quiet-under Kind.typed (some x) (leaf Kind.named u) (quiet Kind.typed (λ z. omega arith) (λ z. omega arith) (λ z. omega arith)) (low Kind.named refl, tt)
+  quiet-declaration (OfType u x) = quiet-under Kind.typed (some x) (leaf Kind.named u) (quiet Kind.typed (λ z. omega arith) (λ z. omega arith) (λ z. omega arith)) (quiet-flat (Named u))
 
   quiet-parameter : (p : Parameter) → All Quiet (flatParameter p)
   quiet-parameter p = quiet-under Kind.parameter (some (p .name)) (flat (p .value)) (quiet Kind.parameter (λ z. omega arith) (λ z. omega arith) (λ z. omega arith)) (quiet-flat (p .value))
@@ -120,14 +82,10 @@ module _ (text : List ℕ) where
   quiet-line : (e : Expr) → All Quiet (flatLine e)
   quiet-line e = quiet-under Kind.line none (flat e) (quiet Kind.line (λ z. omega arith) (λ z. omega arith) (λ z. omega arith)) (quiet-flat e)
 
-  quiet-each : {A : Type 0} (f : A → List Entry) → ((a : A) → All Quiet (f a)) → (xs : List A) → All Quiet (each f xs)
-  quiet-each f h [] = tt
-  quiet-each f h (x ∷ xs) = join (f x) (each f xs) (h x) (quiet-each f h xs)
-
   quiet-subsection : (s : Subsection) → All Quiet (flatSubsection s)
-  quiet-subsection (Inputs ds) = (quiet Kind.heading (λ z. omega arith) (λ z. omega arith) (λ z. omega arith), quiet-each flatDeclaration quiet-declaration ds)
-  quiet-subsection (Outputs ds) = (quiet Kind.heading (λ z. omega arith) (λ z. omega arith) (λ z. omega arith), quiet-each flatDeclaration quiet-declaration ds)
-  quiet-subsection (Lines p es) = (quiet Kind.heading (λ z. omega arith) (λ z. omega arith) (λ z. omega arith), quiet-each flatLine quiet-line es)
+  quiet-subsection (Inputs ds) = (quiet Kind.heading (λ z. omega arith) (λ z. omega arith) (λ z. omega arith), all-each Quiet flatDeclaration quiet-declaration ds)
+  quiet-subsection (Outputs ds) = (quiet Kind.heading (λ z. omega arith) (λ z. omega arith) (λ z. omega arith), all-each Quiet flatDeclaration quiet-declaration ds)
+  quiet-subsection (Lines p es) = (quiet Kind.heading (λ z. omega arith) (λ z. omega arith) (λ z. omega arith), all-each Quiet flatLine quiet-line es)
 
   step-begun : (c : Cell) (s : State) → c .kind ≡ Kind.enumeration → step text c s ≡ begun s
   unfolding step
@@ -235,9 +193,9 @@ module _ (text : List ℕ) where
         let params = each flatParameter (x .parameters) in
         let defs = each flatDefinition (x .definitions) in
         let subs = each flatSubsection (x .main) in
-        let a = by-quiet params (defs ++ subs) 0 begin (quiet-each flatParameter quiet-parameter (x .parameters)) h in
+        let a = by-quiet params (defs ++ subs) 0 begin (all-each Quiet flatParameter quiet-parameter (x .parameters)) h in
         let b = definitions-run (x .definitions) subs (a .at) (a .state) g (a .seen) in
-        let c = by-quiet subs [] (b .at) (b .state) (quiet-each flatSubsection quiet-subsection (x .main)) (subst (Seen (Spells text) cell (b .at)) (sym (append-nil subs)) (b .seen)) in
+        let c = by-quiet subs [] (b .at) (b .state) (all-each Quiet flatSubsection quiet-subsection (x .main)) (subst (Seen (Spells text) cell (b .at)) (sym (append-nil subs)) (b .seen)) in
         ap (λ (t : State). t .found) (a .runs ∙ b .runs ∙ ap (λ us. passing us (b .at) (b .state)) (sym (append-nil subs)) ∙ c .runs)
         ∙ ap (λ (t : State). t .found) (c .holds) ∙ b .holds ∙ ap (λ (t : State). first (t .found) (wrongWords x)) (a .holds)
 

@@ -16,7 +16,8 @@ use Rattle.language.specs.Names.{placeOfFirst}
 use Rattle.language.specs.Words.{meet, wordsIn, wrongLength, wrongLengths, clash, clashes}
 use Rattle.language.specs.Laws.Basics.Lists.{All, all-append}
 use Rattle.language.specs.Laws.Basics.Tests.{split, pick, leave, and-left, and-right}
-use Rattle.traversal.specs.PlaceLaws.{first-none, first-assoc, first-comm, firstIn-append}
+use Rattle.language.specs.Laws.Basics.NoPlace.{first-none, first-assoc, first-comm}
+use Rattle.traversal.specs.PlaceLaws.{firstIn-append}
 use Rattle.enumerations.specs.Scan.{Word, owned, wordsFrom, meets, anyMeets, good, scan, scanAll, Ascends}
 
 -- no place before p

@@ -10,7 +10,8 @@ use Rattle.language.specs.Grammar.{Tokens, front}
 use Rattle.language.specs.Laws.Grammar.TokenLaws.{Stands}
 use Rattle.lexer.specs.Stored.{offsetBits, offsetIn, lengthIn, tokenWord, TokensStored}
 use Rattle.lexer.specs.StoredLaws.{offset-word, length-word}
-use Rattle.lexer.specs.LexingLaws.{Lexical, token-stands, token-near}
+use Rattle.lexer.specs.Lexing.{Lexical}
+use Rattle.lexer.specs.LexingLaws.{token-stands, token-near}
 use Rattle.traversal.specs.Cells.{TokensTell}
 use Rattle.enumerations.specs.Pass.{bytesAt}
 use Rattle.enumerations.specs.Given.{Spelled, Spells}

@@ -1,7 +1,7 @@
 -- One word of an enumeration: the pass tests it as the scan of the words in the text's order does.
 use Prim.Native.Nat.{ℕ, suc, min}
 use mathlib.Core.List.{List, [], _∷_, _++_, map, map-append}
-use mathlib.Core.Bool.{Bool, true, false, _&&_, _||_, not, false≢true}
+use mathlib.Core.Bool.{Bool, true, false, _&&_, _||_, not, false≢true, and-false}
 use mathlib.Core.Option.{Option, none, some}
 use mathlib.Core.Path.{_≡_, refl, sym, ap, ap₂, _∙_, subst}
 use lib.Dec.{eqb, leb, ltb}
@@ -11,8 +11,8 @@ use borrow.Author.Tests.{eqb-true, eqb-false, eq-eqb, ne-eqb, leb-true, leb-fals
 use Rattle.language.specs.Limits.{maxWords, maxMarks}
 use Rattle.language.specs.Places.{first}
 use Rattle.language.specs.Laws.Basics.Tests.{pick, leave, and-left, and-right}
+use Rattle.language.specs.Laws.Basics.NoPlace.{first-none}
 use Rattle.lexer.specs.Stored.{longest, offsetIn, lengthIn}
-use Rattle.traversal.specs.PlaceLaws.{first-none}
 use Rattle.enumerations.specs.Given.{Spelled}
 use Rattle.enumerations.specs.Scan.{Word, meets, anyMeets, good, scan, scanAll}
 use Rattle.enumerations.specs.Pass.{Row, State, bytesAt, anyClash, sizeOf, shut, opened, tested, word, begun, named}
@@ -21,18 +21,14 @@ abbrev rowOf : Word → Row
 rowOf u = record { owner = u .owner; marks = u .token .text }
 
 -- lengths may be compared as they are kept
-and-no : (a : Bool) → (a && false) ≡ false
-and-no true = refl
-and-no false = refl
-
 kept-test : (l m : ℕ) → (eqb (min longest l) (min longest m) && leb (min longest m) maxMarks) ≡ (eqb l m && leb m maxMarks)
 kept-test l m = go (leb m maxMarks) refl (eqb l m) refl
   where
     go : (a : Bool) → leb m maxMarks ≡ a → (b : Bool) → eqb l m ≡ b → (eqb (min longest l) (min longest m) && leb (min longest m) maxMarks) ≡ (eqb l m && leb m maxMarks)
     go false e b d =
         let h = leb-false m maxMarks e in
-        ap (λ x. eqb (min longest l) (min longest m) && x) (lt-leb (min longest m) maxMarks (omega arith)) ∙ and-no (eqb (min longest l) (min longest m)) ∙ sym
-        (ap (λ x. eqb l m && x) e ∙ and-no (eqb l m))
+        ap (λ x. eqb (min longest l) (min longest m) && x) (lt-leb (min longest m) maxMarks (omega arith)) ∙ and-false (eqb (min longest l) (min longest m)) ∙ sym
+        (ap (λ x. eqb l m && x) e ∙ and-false (eqb l m))
     go true e true d =
         let h = leb-true m maxMarks e in
         let k = eqb-true l m d in

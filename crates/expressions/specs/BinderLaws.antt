@@ -10,13 +10,13 @@ use Rattle.node.specs.Result.{Done, _>>=_}
 use Rattle.node.specs.ResultLaws.{not-done, bind-again, bind-at, bind-where}
 use Rattle.node.specs.ResultLaws as Results
 use Rattle.language.specs.Tokens.{Class, Name, Token, isOf}
-use Rattle.language.specs.Operators.{loosest}
+use Rattle.language.specs.Operators.{loosest, boundLevel}
 use Rattle.language.specs.Tree.{Expr, Each}
 use Rattle.language.specs.Grammar.{Tokens, Read, front, rest, stop, next, named, expect, expectOf, Binder, signOf, binderOf, bindersOf, over}
 use Rattle.language.specs.Laws.Basics.Tests.{split}
 use Rattle.operators.specs.Readers.{reads, climbs, bigOf, roleAt, levelAt, folds}
-use Rattle.expressions.specs.Classes.{boundLevel}
 use Rattle.expressions.specs.ReaderLaws.{reads-takes, rest-fits, climbs-zero}
+use Rattle.expressions.specs.Frames.{afterBinder}
 
 -- what is left of an accepted answer is no longer than ts
 abbrev Shortens : {A : Type 0} → ℕ → Read A → Type 0
@@ -75,14 +75,6 @@ binders-fuel (suc f) (suc g) ts h l =
         (elim c [ true ↦ bindersOf g reads (rest us) >>= λ (bs, vs). Done (b ∷ bs, vs) | false ↦ expect "]" us >>= λ (d, vs). Done (b ∷ [], vs) ])
     go b us true e = ap (λ (r : Read (List Binder)). r >>= λ (bs, vs). Done (b ∷ bs, vs)) e
     go b us false e = refl
-
--- after the name b of the operator t: further names, or the operand
-abbrev pub afterBinder : ℕ → Token → Binder → Tokens → Read Expr
-afterBinder max t b ts =
-    elim (next "," ts) [
-      | true ↦ folds 0 t (rest ts) >>= λ (e, us). climbs max (Each t (bigOf (roleAt t)) (eqb max 0) (b .name) (b .range) e) us
-      | false ↦ expect "]" ts >>= λ (c, us). reads (levelAt t) us >>= λ (e, vs). climbs max (Each t (bigOf (roleAt t)) (eqb max 0) (b .name) (b .range) e) vs
-    ]
 
 pub folds-step : (max : ℕ) (t : Token) (ts : Tokens) → folds max t ts ≡ (binderOf reads ts >>= λ (b, us). afterBinder max t b us)
 unfolding folds

@@ -11,7 +11,7 @@ use Rattle.node.specs.Result.{Done, _>>=_}
 use Rattle.node.specs.ResultLaws.{bind-at}
 use Rattle.words.specs.WordLaws.{length-put}
 use Rattle.language.specs.Tokens.{Name, Token}
-use Rattle.language.specs.Operators.{Big, Role, Plain, Counted, Windowed, Folding as Folds, loosest}
+use Rattle.language.specs.Operators.{Big, Role, Plain, Counted, Windowed, Folding as Folds, loosest, boundLevel}
 use Rattle.language.specs.Tree.{Expr, Empty}
 use Rattle.language.specs.Grammar.{Tokens, Read, front, rest, stop, next, named, expect}
 use Rattle.language.specs.Laws.Basics.Tests.{pick, leave, and-left, and-right}
@@ -29,7 +29,7 @@ use Rattle.operators.specs.Fields.{levelField, roleField, foldingRole}
 use Rattle.expressions.specs.declared.stack.Machine.{Machine}
 use Rattle.expressions.specs.declared.stack.Turn.the-variants.{Next, Ended}
 use Rattle.operators.specs.Readers.{reads, roleAt, bigOf, folds}
-use Rattle.expressions.specs.Classes.{Over, Bound, Member, classNumber, boundLevel}
+use Rattle.expressions.specs.Classes.{Over, Bound, Member, classNumber}
 use Rattle.expressions.specs.Frames.{Frame, resume, plug}
 use Rattle.expressions.specs.RoleLaws.{isMember, starts-fold, folds-member, folds-bounds}
 use Rattle.expressions.specs.Stack.{slotWord, putSlot, lastWord, classBits}

@@ -17,6 +17,7 @@ use Rattle.language.specs.Tree.{Expr, Between, Empty}
 use Rattle.language.specs.Grammar.{Tokens, Read, front, rest, stop, signOf, expectOf}
 use Rattle.language.specs.Laws.Basics.Tests.{pick, leave}
 use Rattle.language.specs.Limits.{workBytes}
+use Rattle.language.specs.Operators.{boundLevel}
 use Rattle.lexer.specs.Numbers.{classNumber as tokenNumber}
 use Rattle.entries.specs.Flat.{flat}
 use Rattle.entries.specs.Stored.{Keeps}
@@ -28,9 +29,8 @@ use Rattle.entries.specs.ReadsLaws.{kept-put, kept-then}
 use Rattle.expressions.specs.declared.stack.Machine.{Machine}
 use Rattle.expressions.specs.declared.stack.Turn.the-variants.{Next, Ended}
 use Rattle.operators.specs.Readers.{reads}
-use Rattle.expressions.specs.BinderLaws.{afterBinder}
-use Rattle.expressions.specs.Classes.{Over, Bound, Upper, classNumber, boundLevel}
-use Rattle.expressions.specs.Frames.{Frame, turned, isStrict, resume, plug}
+use Rattle.expressions.specs.Classes.{Over, Bound, Upper, classNumber}
+use Rattle.expressions.specs.Frames.{Frame, turned, isStrict, resume, plug, afterBinder}
 use Rattle.expressions.specs.Stack.{slotWord, slotClass, slotIndex, slotLevel, topSlot, putSlot, Stacked, lastWord}
 use Rattle.expressions.specs.StackLaws.{slot-level, slot-index, stacked-apart, stacked-few, stacked-less, stacked-next, stacked-pop, stacked-push}
 use Rattle.expressions.specs.Machines.{Pushes, poppedOf}

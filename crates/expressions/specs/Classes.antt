@@ -45,7 +45,3 @@ classes = Right ∷ Sole ∷ Stepped ∷ Within ∷ Cons ∷ Over ∷ Round ∷ 
 -- what the code's constants stand for
 abbrev pub classNumbers : List ℕ
 classNumbers = map classNumber classes
-
--- the loosest level of a bound of a big operator's name (language/Grammar, `boundsOf`)
-abbrev pub boundLevel : ℕ
-boundLevel = 8

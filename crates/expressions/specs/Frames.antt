@@ -6,12 +6,19 @@ use mathlib.Core.Bool.{Bool, true, false}
 use lib.Dec.{eqb}
 use Rattle.node.specs.Result.{_>>=_}
 use Rattle.language.specs.Tokens.{Name, Token}
-use Rattle.language.specs.Operators.{Size, Measures, loosest}
+use Rattle.language.specs.Operators.{Size, Measures, loosest, boundLevel}
 use Rattle.language.specs.Tree.{Expr, Index, Paren, Prefixed, Joined, Nexts, InWindow, Each, Between, Listed, Empty, Element, Range}
 use Rattle.language.specs.Grammar.{Tokens, Read, rest, next, named, expect, expectOf, signOf, Binder}
-use Rattle.operators.specs.Readers.{reads, climbs, operatorAt, levelAt, roleAt, soleOf, windowOf, bigOf, listed}
-use Rattle.expressions.specs.Classes.{Class, Right, Sole, Stepped, Within, Cons, Over, Round, Bars, Square, Last, All, Count, Low, High, One, Two, More, Bound, Upper, Member, boundLevel}
-use Rattle.expressions.specs.BinderLaws.{afterBinder}
+use Rattle.operators.specs.Readers.{reads, climbs, operatorAt, levelAt, roleAt, soleOf, windowOf, bigOf, listed, folds}
+use Rattle.expressions.specs.Classes.{Class, Right, Sole, Stepped, Within, Cons, Over, Round, Bars, Square, Last, All, Count, Low, High, One, Two, More, Bound, Upper, Member}
+
+-- after the name b of the operator t: further names, or the operand
+abbrev pub afterBinder : ℕ → Token → Binder → Tokens → Read Expr
+afterBinder max t b ts =
+    elim (next "," ts) [
+      | true ↦ folds 0 t (rest ts) >>= λ (e, us). climbs max (Each t (bigOf (roleAt t)) (eqb max 0) (b .name) (b .range) e) us
+      | false ↦ expect "]" ts >>= λ (c, us). reads (levelAt t) us >>= λ (e, vs). climbs max (Each t (bigOf (roleAt t)) (eqb max 0) (b .name) (b .range) e) vs
+    ]
 
 -- The expression around it reads on at `level`. Its operator or bracket is `token`; `first` and `second` are what was read of it before. A name of a big
 -- operator is `name`, with the signs `low` and `high` of its bounds.

@@ -16,9 +16,8 @@ use Rattle.entries.specs.Stored.{Keeps}
 use Rattle.entries.specs.declared.Cursor.{Cursor}
 use Rattle.expressions.specs.declared.stack.Machine.{Machine}
 use Rattle.expressions.specs.declared.stack.Turn.{Turn}
-use Rattle.expressions.specs.BinderLaws.{afterBinder}
 use Rattle.expressions.specs.Classes.{Over, classNumber}
-use Rattle.expressions.specs.Frames.{Frame, plug}
+use Rattle.expressions.specs.Frames.{Frame, plug, afterBinder}
 use Rattle.expressions.specs.Stack.{Stacked, Rooted}
 use Rattle.expressions.specs.States.{slot, slotsOf, base, Firm, Marked, credits, Turned}
 

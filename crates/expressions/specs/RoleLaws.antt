@@ -12,16 +12,16 @@ use borrow.Author.Tests.{not-true}
 use Rattle.node.specs.Result.{Result, Done, _>>=_}
 use Rattle.node.specs.ResultLaws.{not-done, bind-again, bind-at, bind-where}
 use Rattle.language.specs.Tokens.{Name, Token, isOf}
-use Rattle.language.specs.Operators.{FinallyIn, GloballyIn, Window, Big, Role, Plain, Counted, Windowed, Folding, PrefixRow, prefixes, loosest}
+use Rattle.language.specs.Operators.{FinallyIn, GloballyIn, Window, Big, Role, Plain, Counted, Windowed, Folding, PrefixRow, prefixes, loosest, boundLevel}
 use Rattle.language.specs.Tree.{Expr, Prefixed, Nexts, InWindow, Between}
 use Rattle.language.specs.Grammar.{Tokens, Read, front, rest, stop, next, named, expect, expectOf, prefixOf, closedBy, Binder, signOf, membershipOf, boundsOf, bindersOf, over, roleOf}
 use Rattle.language.specs.Laws.Basics.Tests.{pick, leave, and-left, some-none}
 use Rattle.language.specs.Laws.Grammar.ExprReads.{prefix-none}
 use Rattle.operators.specs.Readers.{reads, climbs, prefixRow, levelAt, levelIn, roleAt, roleIn, soleOf, windowOf, bigOf, folds}
 use Rattle.expressions.specs.ReaderLaws.{rest-fits}
-use Rattle.expressions.specs.BinderLaws.{binders-fuel, afterBinder, folds-step}
-use Rattle.expressions.specs.Classes.{Sole, Count, Low, Bound, boundLevel}
-use Rattle.expressions.specs.Frames.{frame, resume}
+use Rattle.expressions.specs.BinderLaws.{binders-fuel, folds-step}
+use Rattle.expressions.specs.Classes.{Sole, Count, Low, Bound}
+use Rattle.expressions.specs.Frames.{frame, resume, afterBinder}
 use Rattle.expressions.specs.StartLaws.{reads-role}
 
 -- does the operator take one operand and nothing else, where a `[` follows or not?

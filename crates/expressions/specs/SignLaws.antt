@@ -1,7 +1,7 @@
 -- The signs of bounds, as the grammar asks for them.
 use Prim.Native.Nat.{ℕ, _+_}
 use mathlib.Core.List.{List, [], _∷_}
-use mathlib.Core.Bool.{Bool, true, false, _||_, false≢true}
+use mathlib.Core.Bool.{Bool, true, false, _||_}
 use mathlib.Core.Path.{_≡_, refl, sym, ap, _∙_}
 use lib.Dec.{eqb}
 use lib.ListN.{drop}
@@ -9,7 +9,7 @@ use Rattle.node.specs.Result.{Done, _>>=_}
 use Rattle.node.specs.ResultLaws.{bind-at}
 use Rattle.language.specs.Tokens.{Token}
 use Rattle.language.specs.Grammar.{Tokens, Read, front, rest, stop, named, signOf}
-use Rattle.language.specs.Laws.Basics.Tests.{pick, leave}
+use Rattle.language.specs.Laws.Basics.Tests.{pick, leave, or-left-false, or-right-false}
 use Rattle.lexer.specs.Numbers.{fixed}
 use Rattle.entries.specs.declared.Cursor.{Cursor}
 use Rattle.entries.specs.Cursors.{Ready, numberAt}
@@ -49,14 +49,3 @@ module _ {ts : Tokens} {w : List ℕ} {c : Cursor} (ready : Ready ts w c) {B : T
       ap (λ (r : Read (Token × Bool)). r >>= K)
       (leave (isStrict (front us)) _ _ (strict-here ∙ or-left-false (strictAt (numberAt w c)) _ e) ∙ leave (named ("<=" ∷ "LEQ" ∷ []) (front us)) _ _
       (lax-here ∙ or-right-false (strictAt (numberAt w c)) _ e))
-    where
-      or-left-false : (a b : Bool) → (a || b) ≡ false → a ≡ false
-      or-left-false true b z = z
-      or-left-false false b z = refl
-
-      or-right-false : (a b : Bool) → (a || b) ≡ false → b ≡ false
-      or-right-false true b z = absurd (true-false z)
-        where
-          true-false : true ≡ false → ⊥
-          true-false y = false≢true (sym y)
-      or-right-false false b z = z

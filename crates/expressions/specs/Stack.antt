@@ -10,13 +10,12 @@ use Rattle.words.specs.Words.{wordAt, putWord}
 use Rattle.language.specs.Tokens.{Token}
 use Rattle.language.specs.Grammar.{Tokens}
 use Rattle.language.specs.Limits.{maxTokens}
-use Rattle.language.specs.Operators.{loosest}
+use Rattle.language.specs.Operators.{loosest, boundLevel}
 use Rattle.entries.specs.Flat.{Entry, under}
 use Rattle.entries.specs.Stored.{workWords, firstEntry, fieldBits, sizeOf, Keeps, EntriesFrom}
 use Rattle.entries.specs.Cursors.{Ready}
 use Rattle.entries.specs.declared.Cursor.{Cursor}
 use Rattle.operators.specs.Fields.{levelBits}
-use Rattle.expressions.specs.Classes.{boundLevel}
 
 -- the last word of the work buffer, and the end behind it
 abbrev pub lastWord : ℕ

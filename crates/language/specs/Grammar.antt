@@ -29,6 +29,7 @@ use Rattle.language.specs.Operators.{
   PrefixRow,
   prefixes,
   loosest,
+  boundLevel,
 }
 use Rattle.language.specs.Tree.{Expr, Named, Numeral, Truth, Index, Paren, Prefixed, Joined, Nexts, InWindow, Each, Between, Listed, Empty, Element, Range}
 
@@ -129,11 +130,11 @@ signOf ts =
 -- `n <= i < m`: 'The bounds .. bind tighter than a comparison'
 abbrev pub boundsOf : Reader → Tokens → Read Binder
 boundsOf rec ts = do
-  (a, ts) ← rec 8 ts
+  (a, ts) ← rec boundLevel ts
   (low, ts) ← signOf ts
   (i, ts) ← expectOf Name ts
   (high, ts) ← signOf ts
-  (b, ts) ← rec 8 ts
+  (b, ts) ← rec boundLevel ts
   Done (record { name = i; range = Between (low .0) (low .1) (high .1) a b }, ts)
 
 abbrev pub membershipOf : Reader → Tokens → Read Binder

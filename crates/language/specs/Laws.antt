@@ -2,7 +2,7 @@
 pub mod Basics
 pub mod Grammar
 pub mod Values
-pub mod Kinds
+pub mod Types
 pub mod Places
 pub mod Meaning
 pub mod EqualModels

@@ -113,3 +113,7 @@ prefixes =
 -- the loosest level
 abbrev pub loosest : ℕ
 loosest = 17
+
+-- the loosest level of a bound of a big operator's name: 'The bounds .. bind tighter than a comparison'
+abbrev pub boundLevel : ℕ
+boundLevel = 8

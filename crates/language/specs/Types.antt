@@ -78,14 +78,14 @@ isType k l = eqb (typeCode k) (typeCode l)
 -- the visible names with their types
 pub record Typing : Type 0 where
   pub name : Token
-  pub kind : ExprType
+  pub type : ExprType
 
 abbrev pub Typings : Type 0
 Typings = List Typing
 
 abbrev pub typeIn : Typings → Token → ExprType
 typeIn [] t = Unknown
-typeIn (y ∷ ys) t = elim (same (y .name .text) (t .text)) [ true ↦ y .kind | false ↦ typeIn ys t ]
+typeIn (y ∷ ys) t = elim (same (y .name .text) (t .text)) [ true ↦ y .type | false ↦ typeIn ys t ]
 
 -- what an operator takes and gives
 abbrev pub prefixTakes : Prefix → ExprType
@@ -115,7 +115,7 @@ bigGives BigOr = AFormula
 
 -- a big operator's name is a number
 abbrev pub withNumber : Token → Typings → Typings
-withNumber i ys = record { name = i; kind = ANumber } ∷ ys
+withNumber i ys = record { name = i; type = ANumber } ∷ ys
 
 abbrev pub typeOf : Typings → Expr → ExprType
 typeOf ys (Named t) = typeIn ys t
@@ -204,13 +204,13 @@ mistypedLine ys (FormulaLine e) = demanded AFormula ys e
 
 abbrev pub typedValues : List Identifier → Typings → Typings
 typedValues [] ys = ys
-typedValues (i ∷ is) ys = record { name = i .name; kind = AValue } ∷ typedValues is ys
+typedValues (i ∷ is) ys = record { name = i .name; type = AValue } ∷ typedValues is ys
 
 -- what is visible after a line
 abbrev pub typedAfter : Typings → TextLine → Typings
-typedAfter ys (ParameterLine x e) = record { name = x; kind = ANumber } ∷ ys
-typedAfter ys (DefinitionLine (Defined x e)) = record { name = x; kind = typeOf ys e } ∷ ys
-typedAfter ys (DefinitionLine (Enumerated x is)) = record { name = x; kind = AType } ∷ typedValues is ys
+typedAfter ys (ParameterLine x e) = record { name = x; type = ANumber } ∷ ys
+typedAfter ys (DefinitionLine (Defined x e)) = record { name = x; type = typeOf ys e } ∷ ys
+typedAfter ys (DefinitionLine (Enumerated x is)) = record { name = x; type = AType } ∷ typedValues is ys
 typedAfter ys (DeclarationLine d) = ys
 typedAfter ys (FormulaLine e) = ys
 
@@ -219,9 +219,9 @@ abbrev pub typedSignals : List TextLine → Typings
 typedSignals [] = []
 typedSignals (ParameterLine x e ∷ ls) = typedSignals ls
 typedSignals (DefinitionLine d ∷ ls) = typedSignals ls
-typedSignals (DeclarationLine (OneSignal x) ∷ ls) = record { name = x; kind = AFormula } ∷ typedSignals ls
-typedSignals (DeclarationLine (OfWidth x e) ∷ ls) = record { name = x; kind = ABus } ∷ typedSignals ls
-typedSignals (DeclarationLine (OfType u x) ∷ ls) = record { name = x; kind = ABus } ∷ typedSignals ls
+typedSignals (DeclarationLine (OneSignal x) ∷ ls) = record { name = x; type = AFormula } ∷ typedSignals ls
+typedSignals (DeclarationLine (OfWidth x e) ∷ ls) = record { name = x; type = ABus } ∷ typedSignals ls
+typedSignals (DeclarationLine (OfType u x) ∷ ls) = record { name = x; type = ABus } ∷ typedSignals ls
 typedSignals (FormulaLine e ∷ ls) = typedSignals ls
 
 abbrev pub mistypedLines : Typings → List TextLine → Option ℕ

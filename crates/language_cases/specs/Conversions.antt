@@ -38,22 +38,37 @@ nodes s = textExpansion s >>= λ c. Done (nodesOf (c .formula))
 abbrev rows : List (ℕ × ℕ × ℕ) → List ℕ
 rows l = map (λ r. pack (r .0) (r .1) (r .2)) l
 
--- 'From Moore to Mealy each input node gets an X above it'
-fileToMealy : nodes (toMealy file) ≡ Done (rows ((0, 0, 0) ∷ (0, 0, 0) ∷ (0, 0, 0) ∷ (9, 2, 0) ∷ (0, 0, 0) ∷ (4, 3, 4) ∷ (0, 0, 0) ∷ (9, 6, 0) ∷ (2, 0, 0) ∷ (8, 8, 0) ∷ (2, 1, 0) ∷ (10, 10, 0) ∷
-    (6, 9, 11) ∷ (9, 12, 0) ∷ (4, 7, 13) ∷ (6, 5, 14) ∷ (4, 1, 15) ∷ (6, 0, 16) ∷ []))
-unfolding textExpansion parsed specExpansion _>>=_ guard refuseAt count size nodesOf nodesFrom
-fileToMealy = refl
+-- texts, and the nodes of each
+abbrev nodeLists : List (List ℕ × Result (List ℕ))
+nodeLists =
+    -- 'From Moore to Mealy each input node gets an X above it'
+    (
+      toMealy file,
+      Done (rows ((0, 0, 0) ∷ (0, 0, 0) ∷ (0, 0, 0) ∷ (9, 2, 0) ∷ (0, 0, 0) ∷ (4, 3, 4) ∷ (0, 0, 0) ∷ (9, 6, 0) ∷ (2, 0, 0) ∷ (8, 8, 0) ∷ (2, 1, 0) ∷ (10, 10, 0) ∷
+          (6, 9, 11) ∷ (9, 12, 0) ∷ (4, 7, 13) ∷ (6, 5, 14) ∷ (4, 1, 15) ∷ (6, 0, 16) ∷ [])),
+    ) ∷
+    -- 'from Mealy to Moore each output node does'
+    (
+      toMoore file,
+      Done (rows ((0, 0, 0) ∷ (0, 0, 0) ∷ (0, 0, 0) ∷ (9, 2, 0) ∷ (0, 0, 0) ∷ (4, 3, 4) ∷ (0, 0, 0) ∷ (9, 6, 0) ∷ (2, 0, 0) ∷ (2, 1, 0) ∷ (8, 9, 0) ∷ (10, 10, 0) ∷
+          (6, 8, 11) ∷ (9, 12, 0) ∷ (4, 7, 13) ∷ (6, 5, 14) ∷ (4, 1, 15) ∷ (6, 0, 16) ∷ [])),
+    ) ∷
+    []
 
--- 'from Mealy to Moore each output node does'
-fileToMoore : nodes (toMoore file) ≡ Done (rows ((0, 0, 0) ∷ (0, 0, 0) ∷ (0, 0, 0) ∷ (9, 2, 0) ∷ (0, 0, 0) ∷ (4, 3, 4) ∷ (0, 0, 0) ∷ (9, 6, 0) ∷ (2, 0, 0) ∷ (2, 1, 0) ∷ (8, 9, 0) ∷ (10, 10, 0) ∷
-    (6, 8, 11) ∷ (9, 12, 0) ∷ (4, 7, 13) ∷ (6, 5, 14) ∷ (4, 1, 15) ∷ (6, 0, 16) ∷ []))
+nodeLists-met : map (λ c. nodes (c .0)) nodeLists ≡ map (λ c. c .1) nodeLists
 unfolding textExpansion parsed specExpansion _>>=_ guard refuseAt count size nodesOf nodesFrom
-fileToMoore = refl
+nodeLists-met = refl
 
--- the signal list does not show it
-listUnchanged : signals (toMealy file) ≡ Done (entry 0 84 0 0 ∷ entry 1 99 0 0 ∷ [])
+-- texts, and the signal list of each
+abbrev lists : List (List ℕ × Result (List ℕ))
+lists =
+    -- it does not show the X
+    (toMealy file, Done (entry 0 84 0 0 ∷ entry 1 99 0 0 ∷ [])) ∷
+    []
+
+lists-met : map (λ c. signals (c .0)) lists ≡ map (λ c. c .1) lists
 unfolding textExpansion parsed specExpansion _>>=_ guard refuseAt count size
-listUnchanged = refl
+lists-met = refl
 
 -- texts, and what each one's GUARANTEE comes to
 abbrev guarantees : List (List ℕ × Result Formula)
@@ -85,17 +100,16 @@ formulas =
       Done (standard True True (Two Or (Two And (Signal 0) (One Not (Signal 2))) (One Not (Signal 0))) (Two Or (Two And (One X (Signal 3)) (One Not (One X (Signal 5)))) (One Not (One X (Signal 3))))
           True (Two And (One Not (One Not (Signal 0))) (One X (Signal 4)))),
     ) ∷
+    -- F2.5: a strict text keeps the strict formula; every section is treated
+    (
+      ascii "INFO { TITLE: \"t\" DESCRIPTION: \"d\" SEMANTICS: Moore, Strict TARGET: Mealy } MAIN { INPUTS { a; } OUTPUTS { g; } INITIALLY { a } PRESET { a } REQUIRE { a } ASSERT { a } ASSUME { a } GUARANTEE { g } }",
+      Done (let late = One X (Signal 0) in strict late late late late late (Signal 1)),
+    ) ∷
     []
 
 formulas-met : map (λ c. formula (c .0)) formulas ≡ map (λ c. c .1) formulas
 unfolding textExpansion parsed specExpansion _>>=_ guard refuseAt count size
 formulas-met = refl
-
--- F2.5: a strict text keeps the strict formula; every section is treated
-strictToMealy : formula (ascii "INFO { TITLE: \"t\" DESCRIPTION: \"d\" SEMANTICS: Moore, Strict TARGET: Mealy } MAIN { INPUTS { a; } OUTPUTS { g; } INITIALLY { a } PRESET { a } REQUIRE { a } ASSERT { a } ASSUME { a } GUARANTEE { g } }") ≡
-    Done (let late = One X (Signal 0) in strict late late late late late (Signal 1))
-unfolding textExpansion parsed specExpansion _>>=_ guard refuseAt count size
-strictToMealy = refl
 
 -- texts, and what each comes to: its nodes and signals, or its refusal
 abbrev outcomes : List (List ℕ × Result (ℕ × ℕ))

@@ -14,16 +14,24 @@ use Rattle.language.specs.Cases.{text, line, typed, outcome, guaranteed, formul
 use lib.ListN.{drop, replicate}
 use Rattle.node.specs.Fields.{pack}
 
--- E8: the offset is that of the bus's own name
-listed : signals (typed (ascii "a")) ≡ Done (entry 0 140 0 0 ∷ entry 0 143 0 3 ∷ entry 0 143 1 3 ∷ entry 0 143 2 3 ∷ entry 0 149 0 2 ∷ entry 0 149 1 2 ∷ entry 1 169 0 3 ∷ entry 1 169 1 3 ∷ entry 1
-    169 2 3 ∷ [])
-unfolding textExpansion parsed specExpansion _>>=_ guard refuseAt count size
-listed = refl
+-- texts, and the signal list of each
+abbrev lists : List (List ℕ × Result (List ℕ))
+lists =
+    -- E8: the offset is that of the bus's own name
+    (
+      typed (ascii "a"),
+      Done (entry 0 140 0 0 ∷ entry 0 143 0 3 ∷ entry 0 143 1 3 ∷ entry 0 143 2 3 ∷ entry 0 149 0 2 ∷ entry 0 149 1 2 ∷ entry 1 169 0 3 ∷ entry 1 169 1 3 ∷ entry 1 169 2 3 ∷ []),
+    ) ∷
+    -- inputs number first even if OUTPUTS stands first; a bus of width 1 has index 0 and width 1, a single signal 0 and 0
+    (
+      text (ascii "MAIN { OUTPUTS { o; } INPUTS { b[1]; c[2]; s; } }"),
+      Done (entry 0 99 0 1 ∷ entry 0 105 0 2 ∷ entry 0 105 1 2 ∷ entry 0 111 0 0 ∷ entry 1 85 0 0 ∷ []),
+    ) ∷
+    []
 
--- inputs number first even if OUTPUTS stands first; a bus of width 1 has index 0 and width 1, a single signal 0 and 0
-inputsNumberFirst : signals (text (ascii "MAIN { OUTPUTS { o; } INPUTS { b[1]; c[2]; s; } }")) ≡ Done (entry 0 99 0 1 ∷ entry 0 105 0 2 ∷ entry 0 105 1 2 ∷ entry 0 111 0 0 ∷ entry 1 85 0 0 ∷ [])
+lists-met : map (λ c. signals (c .0)) lists ≡ map (λ c. c .1) lists
 unfolding textExpansion parsed specExpansion _>>=_ guard refuseAt count size
-inputsNumberFirst = refl
+lists-met = refl
 
 -- texts, and what each comes to: its nodes and signals, or its refusal
 abbrev outcomes : List (List ℕ × Result (ℕ × ℕ))
@@ -124,11 +132,15 @@ guarantees-met : map (λ c. guaranteed (c .0)) guarantees ≡ map (λ c. c .1) g
 unfolding textExpansion parsed specExpansion _>>=_ guard refuseAt count size
 guarantees-met = refl
 
--- 'entries past an accepted result are unchanged', and a refused call changes none
-pastResult : drop 12 (nodesAfter (textExpansion (text (ascii "MAIN { INPUTS { } OUTPUTS { } }"))) (replicate 15 7)) ≡ pack 6 0 11 ∷ 7 ∷ 7 ∷ []
-unfolding textExpansion parsed specExpansion _>>=_ guard refuseAt count size nodesOf nodesFrom
-pastResult = refl
+-- result buffers after a call, and what stands there
+abbrev results : List (List ℕ × List ℕ)
+results =
+    -- 'entries past an accepted result are unchanged'
+    (drop 12 (nodesAfter (textExpansion (text (ascii "MAIN { INPUTS { } OUTPUTS { } }"))) (replicate 15 7)), pack 6 0 11 ∷ 7 ∷ 7 ∷ []) ∷
+    -- a refused call changes none
+    (nodesAfter (textExpansion []) (7 ∷ []) ++ signalsAfter (textExpansion []) (8 ∷ []), 7 ∷ 8 ∷ []) ∷
+    []
 
-refusedResult : nodesAfter (textExpansion []) (7 ∷ []) ++ signalsAfter (textExpansion []) (8 ∷ []) ≡ 7 ∷ 8 ∷ []
-unfolding textExpansion parsed specExpansion _>>=_ guard refuseAt count size
-refusedResult = refl
+results-met : map (λ c. c .0) results ≡ map (λ c. c .1) results
+unfolding textExpansion parsed specExpansion _>>=_ guard refuseAt count size nodesOf nodesFrom
+results-met = refl

@@ -82,30 +82,23 @@ outcomes-met : map (λ c. outcome (c .0)) outcomes ≡ map (λ c. c .1) outcomes
 unfolding textExpansion parsed specExpansion _>>=_ guard refuseAt count size
 outcomes-met = refl
 
--- 17: 'work buffer short', 65,535 bytes; before 1
-workShort : lent (repeated 32769 " ") 65535 0 0 ≡ Refused 17 0
-unfolding reading textExpansion parsed specExpansion _>>=_ guard refuseAt count size
-workShort = refl
+-- texts with the lengths of the work buffer, the node table and the signal list that are lent, and what each call comes to
+abbrev calls : List (List ℕ × ℕ × ℕ × ℕ × Result (ℕ × ℕ))
+calls =
+    -- 17: 'work buffer short', 65,535 bytes; before 1
+    (repeated 32769 " ", 65535, 0, 0, Refused 17 0) ∷
+    -- 18: 'result buffer short', 13 nodes due, 12 lent
+    (text (ascii "MAIN { INPUTS { } OUTPUTS { } }"), 65536, 12, 0, Refused 18 0) ∷
+    -- 13 lent
+    (text (ascii "MAIN { INPUTS { } OUTPUTS { } }"), 65536, 13, 0, Done (13, 0)) ∷
+    -- the signal list is a result too
+    (text (ascii "MAIN { INPUTS { a; } OUTPUTS { } }"), 65536, 13, 0, Refused 18 0) ∷
+    -- one signal lent
+    (text (ascii "MAIN { INPUTS { a; } OUTPUTS { } }"), 65537, 8192, 1, Done (13, 1)) ∷
+    -- 16 before 18
+    (line (ascii "X[8192] a"), 65536, 0, 0, Refused 16 0) ∷
+    []
 
--- 18: 'result buffer short', 13 nodes due, 12 lent
-nodesShort : lent (text (ascii "MAIN { INPUTS { } OUTPUTS { } }")) 65536 12 0 ≡ Refused 18 0
+calls-met : map (λ c. lent (c .0) (c .1) (c .2) (c .3)) calls ≡ map (λ c. c .4) calls
 unfolding reading textExpansion parsed specExpansion _>>=_ guard refuseAt count size
-nodesShort = refl
-
-nodesEnough : lent (text (ascii "MAIN { INPUTS { } OUTPUTS { } }")) 65536 13 0 ≡ Done (13, 0)
-unfolding reading textExpansion parsed specExpansion _>>=_ guard refuseAt count size
-nodesEnough = refl
-
--- the signal list is a result too
-signalsShort : lent (text (ascii "MAIN { INPUTS { a; } OUTPUTS { } }")) 65536 13 0 ≡ Refused 18 0
-unfolding reading textExpansion parsed specExpansion _>>=_ guard refuseAt count size
-signalsShort = refl
-
-signalsEnough : lent (text (ascii "MAIN { INPUTS { a; } OUTPUTS { } }")) 65537 8192 1 ≡ Done (13, 1)
-unfolding reading textExpansion parsed specExpansion _>>=_ guard refuseAt count size
-signalsEnough = refl
-
--- 16 before 18
-nodesBeforeRoom : lent (line (ascii "X[8192] a")) 65536 0 0 ≡ Refused 16 0
-unfolding reading textExpansion parsed specExpansion _>>=_ guard refuseAt count size
-nodesBeforeRoom = refl
+calls-met = refl

@@ -8,8 +8,9 @@ use lib.ListN.{drop}
 use native.Mathlib.Omega.{arith}
 use borrow.Author.Tests.{ne-eqb}
 use Rattle.language.specs.Bytes.{if_then_else_, within, isDigit, isNameStart, isMark, starts}
-use Rattle.language.specs.Tokens.{Class, Quoted, Marks, Numeral, Blank, Wrong, code, Piece, signs, run, lineSize, quotedSize, commentSize, signAt, wordAt, closed, pieceAt}
+use Rattle.language.specs.Tokens.{Fixed, Class, Quoted, Marks, Numeral, Blank, Wrong, code, Piece, signs, run, lineSize, quotedSize, commentSize, signAt, wordAt, closed, pieceAt}
 use Rattle.language.specs.Laws.Basics.Tests.{pick, leave}
+use Rattle.lexer.specs.ByteClasses as Byte
 use Rattle.lexer.specs.Numbers.{classNumber}
 use Rattle.lexer.specs.Tables.{ByteClass}
 use Rattle.lexer.specs.Scanning.{opened, ScansAs, closedAs}
@@ -17,7 +18,7 @@ use Rattle.lexer.proofs.Choices.{either}
 use Rattle.lexer.proofs.ScanLaws.{piece, scans-class}
 
 -- a string or comment
-pub scans-closed : (p : Piece) (s : List ℕ) (c : Class) (n m : ℕ) → p ≡ closed c n → eqb 0 (code c) ≡ false → m ≡ n → ScansAs p s (closedAs (classNumber c) m)
+pub scans-closed : (p : Piece) (s : List ℕ) (c : Class) (n m : ℕ) → p ≡ closed c n → eqb (code Fixed) (code c) ≡ false → m ≡ n → ScansAs p s (closedAs (classNumber c) m)
 scans-closed p s c zero zero e f l = scans-class p s Wrong 0 0 e refl refl
 scans-closed p s c (suc n) zero e f l = absurd (omega arith)
 scans-closed p s c zero (suc m) e f l = absurd (omega arith)
@@ -39,60 +40,60 @@ chosen blank slash quote letter mark digit e b s =
 
 -- by its class
 abbrev chosenBy : ℕ → Bool → ℕ → List ℕ → Piece
-chosenBy x e b s = chosen (eqb x 1) (eqb x 3) (eqb x 2) (eqb x 7) (within 4 5 x) (within 5 6 x) e b s
+chosenBy x e b s = chosen (eqb x Byte.blank) (eqb x Byte.slash) (eqb x Byte.quote) (eqb x Byte.letter) (within Byte.star Byte.bit x) (within Byte.bit Byte.digit x) e b s
 
 module _ (b x : ℕ) (h : ByteClass b x) (e : Bool) (s : List ℕ) where
   by-class : (y : ℕ) → x ≡ y → pieceAt e (b ∷ s) ≡ chosenBy y e b s
   by-class y f =
       ap (λ p. chosen p (eqb 47 b) (eqb b 34) (isNameStart b) (isMark b) (isDigit b) e b s) (h .blank)
-      ∙ ap (λ p. chosen (eqb x 1) p (eqb b 34) (isNameStart b) (isMark b) (isDigit b) e b s) (h .slash)
-      ∙ ap (λ p. chosen (eqb x 1) (eqb x 3) p (isNameStart b) (isMark b) (isDigit b) e b s) (h .quote)
-      ∙ ap (λ p. chosen (eqb x 1) (eqb x 3) (eqb x 2) p (isMark b) (isDigit b) e b s) (h .letter)
-      ∙ ap (λ p. chosen (eqb x 1) (eqb x 3) (eqb x 2) (eqb x 7) p (isDigit b) e b s) (h .mark)
-      ∙ ap (λ p. chosen (eqb x 1) (eqb x 3) (eqb x 2) (eqb x 7) (within 4 5 x) p e b s) (h .digit)
+      ∙ ap (λ p. chosen (eqb x Byte.blank) p (eqb b 34) (isNameStart b) (isMark b) (isDigit b) e b s) (h .slash)
+      ∙ ap (λ p. chosen (eqb x Byte.blank) (eqb x Byte.slash) p (isNameStart b) (isMark b) (isDigit b) e b s) (h .quote)
+      ∙ ap (λ p. chosen (eqb x Byte.blank) (eqb x Byte.slash) (eqb x Byte.quote) p (isMark b) (isDigit b) e b s) (h .letter)
+      ∙ ap (λ p. chosen (eqb x Byte.blank) (eqb x Byte.slash) (eqb x Byte.quote) (eqb x Byte.letter) p (isDigit b) e b s) (h .mark)
+      ∙ ap (λ p. chosen (eqb x Byte.blank) (eqb x Byte.slash) (eqb x Byte.quote) (eqb x Byte.letter) (within Byte.star Byte.bit x) p e b s) (h .digit)
       ∙ ap (λ z. chosenBy z e b s) f
 
-  pub piece-letter : x ≡ 7 → pieceAt e (b ∷ s) ≡ wordAt (b ∷ s)
-  piece-letter f = by-class 7 f
+  pub piece-letter : x ≡ Byte.letter → pieceAt e (b ∷ s) ≡ wordAt (b ∷ s)
+  piece-letter f = by-class Byte.letter f
 
-  pub piece-blank : x ≡ 1 → pieceAt e (b ∷ s) ≡ piece Blank 1
-  piece-blank f = by-class 1 f
+  pub piece-blank : x ≡ Byte.blank → pieceAt e (b ∷ s) ≡ piece Blank 1
+  piece-blank f = by-class Byte.blank f
 
-  pub piece-quote : x ≡ 2 → pieceAt e (b ∷ s) ≡ closed Quoted (quotedSize 1 s)
-  piece-quote f = by-class 2 f
+  pub piece-quote : x ≡ Byte.quote → pieceAt e (b ∷ s) ≡ closed Quoted (quotedSize 1 s)
+  piece-quote f = by-class Byte.quote f
 
   no-test : (m : Bool) → chosen false false false false false false m b s ≡ signAt signs (b ∷ s)
   no-test true = refl
   no-test false = refl
 
   -- a byte of no class and a prime: at most a sign
-  pub piece-low : x < 4 → (x ≡ 1 → ⊥) → (x ≡ 2 → ⊥) → (x ≡ 3 → ⊥) → pieceAt e (b ∷ s) ≡ signAt signs (b ∷ s)
+  pub piece-low : x < Byte.star → (x ≡ Byte.blank → ⊥) → (x ≡ Byte.quote → ⊥) → (x ≡ Byte.slash → ⊥) → pieceAt e (b ∷ s) ≡ signAt signs (b ∷ s)
   piece-low l p q r = let f : x ≡ 0 = omega arith in by-class 0 f ∙ no-test e
 
-  pub piece-high : 6 < x → (x ≡ 7 → ⊥) → pieceAt e (b ∷ s) ≡ signAt signs (b ∷ s)
-  piece-high l p = let k = h .known in let f : x ≡ 8 = omega arith in by-class 8 f ∙ no-test e
+  pub piece-high : Byte.digit < x → (x ≡ Byte.letter → ⊥) → pieceAt e (b ∷ s) ≡ signAt signs (b ∷ s)
+  piece-high l p = let k = h .known in let f : x ≡ Byte.prime = omega arith in by-class Byte.prime f ∙ no-test e
 
   -- a slash, by what comes after it
-  module _ (f : x ≡ 3) where
+  module _ (f : x ≡ Byte.slash) where
     pub piece-line : starts (47 ∷ []) s ≡ true → pieceAt e (b ∷ s) ≡ piece Blank (suc (lineSize s))
-    piece-line g = by-class 3 f ∙ pick (starts (47 ∷ []) s) _ _ g
+    piece-line g = by-class Byte.slash f ∙ pick (starts (47 ∷ []) s) _ _ g
 
     pub piece-comment : starts (47 ∷ []) s ≡ false → starts (42 ∷ []) s ≡ true → pieceAt e (b ∷ s) ≡ closed Blank (commentSize 2 opened (drop 1 s))
-    piece-comment g k = by-class 3 f ∙ leave (starts (47 ∷ []) s) _ _ g ∙ pick (starts (42 ∷ []) s) _ _ k
+    piece-comment g k = by-class Byte.slash f ∙ leave (starts (47 ∷ []) s) _ _ g ∙ pick (starts (42 ∷ []) s) _ _ k
 
     pub piece-slash : starts (47 ∷ []) s ≡ false → starts (42 ∷ []) s ≡ false → pieceAt e (b ∷ s) ≡ signAt signs (b ∷ s)
-    piece-slash g k = by-class 3 f ∙ leave (starts (47 ∷ []) s) _ _ g ∙ leave (starts (42 ∷ []) s) _ _ k ∙ no-test e
+    piece-slash g k = by-class Byte.slash f ∙ leave (starts (47 ∷ []) s) _ _ g ∙ leave (starts (42 ∷ []) s) _ _ k ∙ no-test e
 
 -- marks and digits, in an enumeration and elsewhere
 module _ (b x : ℕ) (h : ByteClass b x) (s : List ℕ) where
-  pub piece-marks : 4 ≤ x → x ≤ 5 → pieceAt true (b ∷ s) ≡ piece Marks (run isMark (b ∷ s))
-  piece-marks l m = either x 4 l m (by-class b x h true s 4) (by-class b x h true s 5)
+  pub piece-marks : Byte.star ≤ x → x ≤ Byte.bit → pieceAt true (b ∷ s) ≡ piece Marks (run isMark (b ∷ s))
+  piece-marks l m = either x Byte.star l m (by-class b x h true s Byte.star) (by-class b x h true s Byte.bit)
 
-  pub piece-unmarked : x ≡ 6 → pieceAt true (b ∷ s) ≡ piece Wrong 0
-  piece-unmarked f = by-class b x h true s 6 f
+  pub piece-unmarked : x ≡ Byte.digit → pieceAt true (b ∷ s) ≡ piece Wrong 0
+  piece-unmarked f = by-class b x h true s Byte.digit f
 
-  pub piece-star : x ≡ 4 → pieceAt false (b ∷ s) ≡ signAt signs (b ∷ s)
-  piece-star f = by-class b x h false s 4 f
+  pub piece-star : x ≡ Byte.star → pieceAt false (b ∷ s) ≡ signAt signs (b ∷ s)
+  piece-star f = by-class b x h false s Byte.star f
 
-  pub piece-numeral : 5 ≤ x → x ≤ 6 → pieceAt false (b ∷ s) ≡ piece Numeral (run isDigit (b ∷ s))
-  piece-numeral l m = either x 5 l m (by-class b x h false s 5) (by-class b x h false s 6)
+  pub piece-numeral : Byte.bit ≤ x → x ≤ Byte.digit → pieceAt false (b ∷ s) ≡ piece Numeral (run isDigit (b ∷ s))
+  piece-numeral l m = either x Byte.bit l m (by-class b x h false s Byte.bit) (by-class b x h false s Byte.digit)

@@ -11,6 +11,7 @@ use borrow.Author.Tests.{eq-eqb, ne-eqb}
 use Rattle.language.specs.Limits.{maxName}
 use Rattle.language.specs.Bytes.{isNameStart, isNameByte, isMark, isDigit, starts}
 use Rattle.language.specs.Tokens.{Name, Numeral, Quoted, Marks, Wrong, Blank, Piece, signs, run, lineSize, quotedSize, commentSize, signAt, wordAt, pieceAt}
+use Rattle.lexer.specs.ByteClasses as Byte
 use Rattle.lexer.specs.Numbers.{noNumber, classNumber, firstFixed}
 use Rattle.lexer.specs.Spelling.{count, entries, entry, search, fitting}
 use Rattle.lexer.specs.Tables.{ByteClass, NextWith, classed}
@@ -61,22 +62,22 @@ module _ (text : List ℕ) (at : ℕ) (bs rs : List ℕ) (c : Scannable text at 
   findable k e = record { inside = c .inside; rows = c .rows; leads = subst (NextWith byte 0) (sym e) (c .bytes .first byte (small at)) }
 
   -- words and names
-  module _ (start : isNameStart byte ≡ true) (n : ℕ) (e : n ≡ run (classed bs 5 8) (drop at text)) where
+  module _ (start : isNameStart byte ≡ true) (n : ℕ) (e : n ≡ run (classed bs Byte.bit Byte.prime) (drop at text)) where
     named : n ≡ run isNameByte (byte ∷ rest)
     unfolding classed
-    named = e ∙ run-classed bs text at 5 8 isNameByte small (λ b h. sym (c .bytes .class b h .named)) ∙ ap (run isNameByte) here
+    named = e ∙ run-classed bs text at Byte.bit Byte.prime isNameByte small (λ b h. sym (c .bytes .class b h .named)) ∙ ap (run isNameByte) here
 
-    pub long-at : maxName < n → ScansAs (wordAt (drop at text)) (drop at text) (record { kind = noNumber; size = 0 })
+    pub long-at : maxName < n → ScansAs (wordAt (drop at text)) (drop at text) (record { number = noNumber; size = 0 })
     long-at l = placed wordAt _ (word-long byte rest n start named l)
 
     module _ (l : n ≤ maxName) (k : ℕ) (f : k ≡ search (fitting n (drop at text)) entries) where
       found : k ≡ search (fitting n (byte ∷ rest)) entries
       found = f ∙ ap (λ s. search (fitting n s) entries) here
 
-      pub fixed-at : k < count → ScansAs (wordAt (drop at text)) (drop at text) (record { kind = firstFixed + k; size = n })
+      pub fixed-at : k < count → ScansAs (wordAt (drop at text)) (drop at text) (record { number = firstFixed + k; size = n })
       fixed-at h = placed wordAt _ (word-fixed byte rest n start named l k found h)
 
-      pub name-at : count ≤ k → ScansAs (wordAt (drop at text)) (drop at text) (record { kind = classNumber Name; size = n })
+      pub name-at : count ≤ k → ScansAs (wordAt (drop at text)) (drop at text) (record { number = classNumber Name; size = n })
       name-at h = placed wordAt _ (word-name byte rest n start named l k found h)
 
   -- signs
@@ -84,66 +85,66 @@ module _ (text : List ℕ) (at : ℕ) (bs rs : List ℕ) (c : Scannable text at 
     met : k ≡ search (fitting 0 (byte ∷ rest)) entries
     met = f ∙ ap (λ s. search (fitting 0 s) entries) here
 
-    pub sign-at : (n : ℕ) → k < count → n ≡ length (entry k) → ScansAs (signAt signs (drop at text)) (drop at text) (record { kind = firstFixed + k; size = n })
+    pub sign-at : (n : ℕ) → k < count → n ≡ length (entry k) → ScansAs (signAt signs (drop at text)) (drop at text) (record { number = firstFixed + k; size = n })
     sign-at n h l = placed (signAt signs) _ (sign-fixed byte rest start k met n h l)
 
-    pub wrong-at : count ≤ k → ScansAs (signAt signs (drop at text)) (drop at text) (record { kind = noNumber; size = 0 })
+    pub wrong-at : count ≤ k → ScansAs (signAt signs (drop at text)) (drop at text) (record { number = noNumber; size = 0 })
     wrong-at h = placed (signAt signs) _ (sign-wrong byte rest start k met h)
 
   -- which byte begins a name
   module _ (x : ℕ) (f : x ≡ class) where
-    pub begins-name : x ≡ 7 → isNameStart byte ≡ true
-    begins-name e = known .letter ∙ eq-eqb class 7 (sym f ∙ e)
+    pub begins-name : x ≡ Byte.letter → isNameStart byte ≡ true
+    begins-name e = known .letter ∙ eq-eqb class Byte.letter (sym f ∙ e)
 
-    pub begins-none : (x ≡ 7 → ⊥) → isNameStart byte ≡ false
-    begins-none e = known .letter ∙ ne-eqb class 7 (λ g. e (f ∙ g))
+    pub begins-none : (x ≡ Byte.letter → ⊥) → isNameStart byte ≡ false
+    begins-none e = known .letter ∙ ne-eqb class Byte.letter (λ g. e (f ∙ g))
 
     right : ByteClass byte x
     right = subst (ByteClass byte) (sym f) known
 
     module _ (e : Bool) where
-      pub letter-at : x ≡ 7 → (r : Scanned) → ScansAs (wordAt (drop at text)) (drop at text) r → Scans e (drop at text) r
+      pub letter-at : x ≡ Byte.letter → (r : Scanned) → ScansAs (wordAt (drop at text)) (drop at text) r → Scans e (drop at text) r
       letter-at g r h = renamed wordAt e r (piece-letter byte x right e rest g) h
 
-      pub blank-at : x ≡ 1 → Scans e (drop at text) (record { kind = noNumber; size = 1 })
+      pub blank-at : x ≡ Byte.blank → Scans e (drop at text) (record { number = noNumber; size = 1 })
       blank-at g = placed (pieceAt e) _ (scans-class _ (byte ∷ rest) Blank 1 1 (piece-blank byte x right e rest g) refl refl)
 
-      pub quoted-at : x ≡ 2 → (n : ℕ) → n ≡ quotedSize 1 (drop (at + 1) text) → Scans e (drop at text) (closedAs (classNumber Quoted) n)
+      pub quoted-at : x ≡ Byte.quote → (n : ℕ) → n ≡ quotedSize 1 (drop (at + 1) text) → Scans e (drop at text) (closedAs (classNumber Quoted) n)
       quoted-at g n l =
           placed (pieceAt e) _ (scans-closed _ (byte ∷ rest) Quoted (quotedSize 1 rest) n (piece-quote byte x right e rest g) refl
           (l ∙ ap (λ m. quotedSize 1 (drop m text)) (add-one at)))
 
       module _ (r : Scanned) (h : ScansAs (signAt signs (drop at text)) (drop at text) r) where
-        pub low-at : x < 4 → (x ≡ 1 → ⊥) → (x ≡ 2 → ⊥) → (x ≡ 3 → ⊥) → Scans e (drop at text) r
+        pub low-at : x < Byte.star → (x ≡ Byte.blank → ⊥) → (x ≡ Byte.quote → ⊥) → (x ≡ Byte.slash → ⊥) → Scans e (drop at text) r
         low-at l p q s = renamed (signAt signs) e r (piece-low byte x right e rest l p q s) h
 
-        pub high-at : 6 < x → (x ≡ 7 → ⊥) → Scans e (drop at text) r
+        pub high-at : Byte.digit < x → (x ≡ Byte.letter → ⊥) → Scans e (drop at text) r
         high-at l p = renamed (signAt signs) e r (piece-high byte x right e rest l p) h
 
     -- in an enumeration
     module _ (e : Bool) (on : e ≡ true) where
-      pub marks-at : 4 ≤ x → x ≤ 5 → (n : ℕ) → n ≡ run (classed bs 4 5) (drop at text) → Scans e (drop at text) (record { kind = classNumber Marks; size = n })
+      pub marks-at : Byte.star ≤ x → x ≤ Byte.bit → (n : ℕ) → n ≡ run (classed bs Byte.star Byte.bit) (drop at text) → Scans e (drop at text) (record { number = classNumber Marks; size = n })
       unfolding classed
       marks-at l m n g =
           rw on (placed (pieceAt true) _ (scans-class _ (byte ∷ rest) Marks (run isMark (byte ∷ rest)) n (piece-marks byte x right rest l m) refl
-          (g ∙ run-classed bs text at 4 5 isMark small (λ b h. sym (c .bytes .class b h .mark)) ∙ ap (run isMark) here)))
+          (g ∙ run-classed bs text at Byte.star Byte.bit isMark small (λ b h. sym (c .bytes .class b h .mark)) ∙ ap (run isMark) here)))
 
-      pub unmarked-at : x ≡ 6 → Scans e (drop at text) (record { kind = noNumber; size = 0 })
+      pub unmarked-at : x ≡ Byte.digit → Scans e (drop at text) (record { number = noNumber; size = 0 })
       unmarked-at g = rw on (placed (pieceAt true) _ (scans-class _ (byte ∷ rest) Wrong 0 0 (piece-unmarked byte x right rest g) refl refl))
 
     -- elsewhere
     module _ (e : Bool) (off : e ≡ false) where
-      pub numeral-at : 5 ≤ x → x ≤ 6 → (n : ℕ) → n ≡ run (classed bs 5 6) (drop at text) → Scans e (drop at text) (record { kind = classNumber Numeral; size = n })
+      pub numeral-at : Byte.bit ≤ x → x ≤ Byte.digit → (n : ℕ) → n ≡ run (classed bs Byte.bit Byte.digit) (drop at text) → Scans e (drop at text) (record { number = classNumber Numeral; size = n })
       unfolding classed
       numeral-at l m n g =
           rw off (placed (pieceAt false) _ (scans-class _ (byte ∷ rest) Numeral (run isDigit (byte ∷ rest)) n (piece-numeral byte x right rest l m) refl
-          (g ∙ run-classed bs text at 5 6 isDigit small (λ b h. sym (c .bytes .class b h .digit)) ∙ ap (run isDigit) here)))
+          (g ∙ run-classed bs text at Byte.bit Byte.digit isDigit small (λ b h. sym (c .bytes .class b h .digit)) ∙ ap (run isDigit) here)))
 
-      pub star-at : x ≡ 4 → (r : Scanned) → ScansAs (signAt signs (drop at text)) (drop at text) r → Scans e (drop at text) r
+      pub star-at : x ≡ Byte.star → (r : Scanned) → ScansAs (signAt signs (drop at text)) (drop at text) r → Scans e (drop at text) r
       star-at g r h = rw off (renamed (signAt signs) false r (piece-star byte x right rest g) h)
 
   -- after a slash
-  module _ (f : class ≡ 3) (e : Bool) where
+  module _ (f : class ≡ Byte.slash) (e : Bool) where
     next : 2 ≤ length text - at → rest ≡ getD text (at + 1) 0 ∷ drop (suc (suc at)) text
     next l = drop-cons text (suc at) 0 (omega arith) ∙ ap (λ m. getD text m 0 ∷ drop (suc (suc at)) text) (sym (add-one at))
 
@@ -156,7 +157,7 @@ module _ (text : List ℕ) (at : ℕ) (bs rs : List ℕ) (c : Scannable text at 
     no-byte : (x : ℕ) → length text - at < 2 → starts (x ∷ []) rest ≡ false
     no-byte x l = let last : length text ≤ suc at = omega (arith, c .inside) in ap (starts (x ∷ [])) (drop-of-length-le text last)
 
-    pub line-at : 2 ≤ length text - at → getD text (at + 1) 0 ≡ 47 → (n : ℕ) → n ≡ lineSize (drop (at + 1) text) → Scans e (drop at text) (record { kind = noNumber; size = n + 1 })
+    pub line-at : 2 ≤ length text - at → getD text (at + 1) 0 ≡ 47 → (n : ℕ) → n ≡ lineSize (drop (at + 1) text) → Scans e (drop at text) (record { number = noNumber; size = n + 1 })
     line-at l g n h =
         placed (pieceAt e) _ (scans-class _ (byte ∷ rest) Blank (suc (lineSize rest)) (n + 1) (piece-line byte class known e rest f (then-byte 47 l g)) refl
         (add-one n ∙ ap suc (h ∙ ap (λ m. lineSize (drop m text)) (add-one at))))

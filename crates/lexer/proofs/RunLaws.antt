@@ -75,33 +75,33 @@ module _ (e : Bool) (text : List ℕ) (at : ℕ) (inside : at < length text) (r 
   abbrev met : Token
   met = tokenOf e at (drop at text)
 
-  kind-met : r .kind ≡ number met
+  number-met : r .number ≡ number met
   unfolding pieceNumber number
-  kind-met = q .kind
+  number-met = q .number
 
-  blank-met : (r .size ≡ 0 → ⊥) → r .kind ≡ noNumber → isOf Blank met ≡ true
+  blank-met : (r .size ≡ 0 → ⊥) → r .number ≡ noNumber → isOf Blank met ≡ true
   blank-met z k =
-      affirm (isOf Blank met) (λ f. let s = number-small met (piece-right e text at inside (r .size) (q .size) z) f in let n = kind-met in omega arith)
+      affirm (isOf Blank met) (λ f. let s = number-small met (piece-right e text at inside (r .size) (q .size) z) f in let n = number-met in omega arith)
 
-  token-met : (r .kind ≡ noNumber → ⊥) → isOf Blank met ≡ false
-  token-met k = refute (isOf Blank met) (λ f. k (kind-met ∙ number-blank met f))
+  token-met : (r .number ≡ noNumber → ⊥) → isOf Blank met ≡ false
+  token-met k = refute (isOf Blank met) (λ f. k (number-met ∙ number-blank met f))
 
-  pub small-met : (r .size ≡ 0 → ⊥) → (r .kind ≡ noNumber → ⊥) → r .kind < 128
-  small-met z k = subst (λ n. n < 128) (sym kind-met) (number-small met (piece-right e text at inside (r .size) (q .size) z) (token-met k))
+  pub small-met : (r .size ≡ 0 → ⊥) → (r .number ≡ noNumber → ⊥) → r .number < 128
+  small-met z k = subst (λ n. n < 128) (sym number-met) (number-small met (piece-right e text at inside (r .size) (q .size) z) (token-met k))
 
-  word-met : wordOf (r .kind) at (r .size) ≡ tokenWord met
+  word-met : wordOf (r .number) at (r .size) ≡ tokenWord met
   unfolding tokenWord
   word-met =
       let f : pieceAt e (drop at text) .size ≤ length (drop at text) = subst (λ n. n ≤ length (drop at text)) (q .size)
       (rw (length-drop at text) (omega (arith, piece-fits e text at inside (r .size) (q .size)))) in
-      ap₂ (λ k n. wordOf k at n) kind-met (q .size ∙ sym (length-take-le (pieceAt e (drop at text) .size) (drop at text) f))
+      ap₂ (λ k n. wordOf k at n) number-met (q .size ∙ sym (length-take-le (pieceAt e (drop at text) .size) (drop at text) f))
 
-  enumerating-met : enumeratingAfter e met ≡ enumeratingBy e (r .kind)
+  enumerating-met : enumeratingAfter e met ≡ enumeratingBy e (r .number)
   enumerating-met =
       ap (λ b. if b then true else (if is ";" met || is "}" met then false else e)) (is-number "enum" met refl)
       ∙ ap (λ b. if eqb (number met) (fixed "enum") then true else (if b || is "}" met then false else e)) (is-number ";" met refl)
       ∙ ap (λ b. if eqb (number met) (fixed "enum") then true else (if eqb (number met) (fixed ";") || b then false else e)) (is-number "}" met refl)
-      ∙ ap (enumeratingBy e) (sym kind-met)
+      ∙ ap (enumeratingBy e) (sym number-met)
 
 -- before byte `at` of the text: w is the buffer at the start, v the buffer now
 pub record Run (text w v : List ℕ) (at n : ℕ) (e : Bool) (over : ℕ) : Type 0 where
@@ -134,7 +134,7 @@ run-start text w =
     }
 
 module _ (text w v : List ℕ) (at n : ℕ) (e : Bool) (over : ℕ) (c : Run text w v at n e over) (inside : at < length text) (r : Scanned) (q : Scans e (drop at text) r) (some : r .size ≡ 0 → ⊥) where
-  pub run-blank : r .kind ≡ noNumber → Run text w v (at + r .size) n e over
+  pub run-blank : r .number ≡ noNumber → Run text w v (at + r .size) n e over
   run-blank k =
       let few = c .few in
       let near = c .near in
@@ -167,12 +167,12 @@ module _ (v : List ℕ) (n x : ℕ) where
   storing-same h l f = ap (λ u. wordAt u n) (pick (ltb n maxTokens) (putWord v n x) v (lt-ltb n maxTokens h)) ∙ word-same v n x l f
 
 module _ (text w v : List ℕ) (at n : ℕ) (e : Bool) (over : ℕ) (c : Run text w v at n e over) (inside : at < length text) (r : Scanned) (q : Scans e (drop at text) r) (some : r .size ≡ 0 → ⊥)
-    (token : r .kind ≡ noNumber → ⊥) (short : length text ≤ maxBytes) (room : tokenBytes ≤ length w) where
+    (token : r .number ≡ noNumber → ⊥) (short : length text ≤ maxBytes) (room : tokenBytes ≤ length w) where
   abbrev next : List Token
   next = c .done ++ (tokenOf e at (drop at text) ∷ [])
 
   abbrev word : ℕ
-  word = wordOf (r .kind) at (r .size)
+  word = wordOf (r .number) at (r .size)
 
   next-length : n + 1 ≡ length next
   next-length = let k = c .count in omega (arith, length-append (c .done) (tokenOf e at (drop at text) ∷ []))
@@ -188,13 +188,13 @@ module _ (text w v : List ℕ) (at n : ℕ) (e : Bool) (over : ℕ) (c : Run tex
       go (no k) =
           let j : i ≡ n = omega arith in
           let t = tokenOf e at (drop at text) in
-          let fits : tokenWord t < 2 ^ 32 = word-fits t (omega arith) (let s = small-met e text at inside r q some token in subst (λ m. m < 2 ^ 8) (kind-met e text at inside r q) (omega arith)) in
+          let fits : tokenWord t < 2 ^ 32 = word-fits t (omega arith) (let s = small-met e text at inside r q some token in subst (λ m. m < 2 ^ 8) (number-met e text at inside r q) (omega arith)) in
           let small : word < 2 ^ 32 = subst (λ m. m < 2 ^ 32) (sym (word-met e text at inside r q)) fits in
           let size = c .size in
           ap (wordAt (storing v n word)) j ∙ storing-same v n word (omega arith) (omega arith) small ∙ word-met e text at inside r q
           ∙ ap tokenWord (sym (front-seam i (c .done) t [] (j ∙ c .count)))
 
-  pub run-token : (u : List ℕ) (f : Bool) (p : ℕ) → u ≡ storing v n word → f ≡ enumeratingBy e (r .kind) → p ≡ laterPlace n over at → Run text w u (at + r .size) (n + 1) f p
+  pub run-token : (u : List ℕ) (f : Bool) (p : ℕ) → u ≡ storing v n word → f ≡ enumeratingBy e (r .number) → p ≡ laterPlace n over at → Run text w u (at + r .size) (n + 1) f p
   run-token u f p eu ef ep =
       let few = c .few in
       let near = c .near in

@@ -28,16 +28,16 @@ number-of-fixed : (n : ℕ) (s : List ℕ) → pieceNumber (piece Fixed n) s ≡
 unfolding pieceNumber
 number-of-fixed n s = number-fixed (record { class = Fixed; at = 0; text = take n s }) refl
 
-number-of-class : (c : Class) (n : ℕ) (s : List ℕ) → eqb 0 (code c) ≡ false → pieceNumber (piece c n) s ≡ classNumber c
+number-of-class : (c : Class) (n : ℕ) (s : List ℕ) → eqb (code Fixed) (code c) ≡ false → pieceNumber (piece c n) s ≡ classNumber c
 unfolding pieceNumber
 number-of-class c n s e = number-class (record { class = c; at = 0; text = take n s }) e
 
 -- a piece that is no sign or word
-pub scans-class : (p : Piece) (s : List ℕ) (c : Class) (n m : ℕ) → p ≡ piece c n → eqb 0 (code c) ≡ false → m ≡ n → ScansAs p s (record { kind = classNumber c; size = m })
-scans-class p s c n m e f l = rw e (record { kind = sym (number-of-class c n s f); size = l })
+pub scans-class : (p : Piece) (s : List ℕ) (c : Class) (n m : ℕ) → p ≡ piece c n → eqb (code Fixed) (code c) ≡ false → m ≡ n → ScansAs p s (record { number = classNumber c; size = m })
+scans-class p s c n m e f l = rw e (record { number = sym (number-of-class c n s f); size = l })
 
-pub scans-fixed : (p : Piece) (s : List ℕ) (n k m : ℕ) → p ≡ piece Fixed n → k ≡ position spellings (take n s) → m ≡ n → ScansAs p s (record { kind = firstFixed + k; size = m })
-scans-fixed p s n k m e f l = rw e (record { kind = ap (λ j. firstFixed + j) f ∙ sym (number-of-fixed n s); size = l })
+pub scans-fixed : (p : Piece) (s : List ℕ) (n k m : ℕ) → p ≡ piece Fixed n → k ≡ position spellings (take n s) → m ≡ n → ScansAs p s (record { number = firstFixed + k; size = m })
+scans-fixed p s n k m e f l = rw e (record { number = ap (λ j. firstFixed + j) f ∙ sym (number-of-fixed n s); size = l })
 
 -- a word or name
 module _ (b : ℕ) (t : List ℕ) (n : ℕ) (start : isNameStart b ≡ true) (e : n ≡ run isNameByte (b ∷ t)) where
@@ -53,7 +53,7 @@ module _ (b : ℕ) (t : List ℕ) (n : ℕ) (start : isNameStart b ≡ true) (e 
   fits : n ≤ length (b ∷ t)
   fits = subst (λ m. m ≤ length (b ∷ t)) (sym e) (run-fits isNameByte (b ∷ t))
 
-  pub word-long : maxName < n → ScansAs (wordAt (b ∷ t)) (b ∷ t) (record { kind = noNumber; size = 0 })
+  pub word-long : maxName < n → ScansAs (wordAt (b ∷ t)) (b ∷ t) (record { number = noNumber; size = 0 })
   word-long l = scans-class (wordAt (b ∷ t)) (b ∷ t) Wrong 0 0 (word-by ∙ leave (leb n maxName) _ _ (lt-leb n maxName l)) refl refl
 
   module _ (l : n ≤ maxName) (k : ℕ) (f : k ≡ search (fitting n (b ∷ t)) entries) where
@@ -66,26 +66,26 @@ module _ (b : ℕ) (t : List ℕ) (n : ℕ) (start : isNameStart b ≡ true) (e 
     among : (m : ℕ) → 1 ≤ m → isOneOf spellings (take m (b ∷ t)) ≡ isOneOf words (take m (b ∷ t))
     among (suc m) h = among-words b (take m t) start
 
-    pub word-fixed : k < count → ScansAs (wordAt (b ∷ t)) (b ∷ t) (record { kind = firstFixed + k; size = n })
+    pub word-fixed : k < count → ScansAs (wordAt (b ∷ t)) (b ∷ t) (record { number = firstFixed + k; size = n })
     word-fixed h =
         let listed : isOneOf words (take n (b ∷ t)) ≡ true = sym (among n some) ∙ position-in spellings (take n (b ∷ t)) (subst (λ j. j < count) place h) in
         scans-fixed (wordAt (b ∷ t)) (b ∷ t) n k n (short ∙ ap (λ c. piece c n) (pick (isOneOf words (take n (b ∷ t))) Fixed Name listed)) place refl
 
-    pub word-name : count ≤ k → ScansAs (wordAt (b ∷ t)) (b ∷ t) (record { kind = classNumber Name; size = n })
+    pub word-name : count ≤ k → ScansAs (wordAt (b ∷ t)) (b ∷ t) (record { number = classNumber Name; size = n })
     word-name h =
         let free : isOneOf words (take n (b ∷ t)) ≡ false = sym (among n some) ∙ position-out spellings (take n (b ∷ t)) (subst (λ j. count ≤ j) place h) in
         scans-class (wordAt (b ∷ t)) (b ∷ t) Name n n (short ∙ ap (λ c. piece c n) (leave (isOneOf words (take n (b ∷ t))) Fixed Name free)) refl refl
 
 -- a sign
 module _ (b : ℕ) (t : List ℕ) (start : isNameStart b ≡ false) (k : ℕ) (f : k ≡ search (fitting 0 (b ∷ t)) entries) where
-  pub sign-fixed : (n : ℕ) → k < count → n ≡ length (entry k) → ScansAs (signAt signs (b ∷ t)) (b ∷ t) (record { kind = firstFixed + k; size = n })
+  pub sign-fixed : (n : ℕ) → k < count → n ≡ length (entry k) → ScansAs (signAt signs (b ∷ t)) (b ∷ t) (record { number = firstFixed + k; size = n })
   unfolding entry entries fitting
   sign-fixed n h l =
       let a = sign-found (b ∷ t) spellings k (sym f) h in
       scans-fixed (signAt signs (b ∷ t)) (b ∷ t) (length (nth spellings k)) k n (sym (among-signs b t start) ∙ a .sign)
       (sym (ap (position spellings) (take-starts (nth spellings k) (b ∷ t) (a .begun)) ∙ a .place)) l
 
-  pub sign-wrong : count ≤ k → ScansAs (signAt signs (b ∷ t)) (b ∷ t) (record { kind = noNumber; size = 0 })
+  pub sign-wrong : count ≤ k → ScansAs (signAt signs (b ∷ t)) (b ∷ t) (record { number = noNumber; size = 0 })
   unfolding entries fitting
   sign-wrong h = scans-class (signAt signs (b ∷ t)) (b ∷ t) Wrong 0 0 (sym (among-signs b t start) ∙ sign-none (b ∷ t) spellings (subst (λ j. count ≤ j) f h)) refl refl
 

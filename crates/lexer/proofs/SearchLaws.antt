@@ -11,7 +11,7 @@ use native.Mathlib.Numerals.{add-one}
 use native.Mathlib.Omega.{arith}
 use borrow.Author.Tests.{eq-eqb, ne-eqb}
 use Rattle.language.specs.Bytes.{starts}
-use Rattle.language.specs.Laws.Basics.Tests.{pick, leave, and-left, and-right, and-false}
+use Rattle.language.specs.Laws.Basics.Tests.{pick, leave, and-left, and-right, and-false, and-last-false}
 use Rattle.language.specs.Laws.Grammar.PieceLaws.{starts-fits}
 use Rattle.lexer.specs.Spelling.{count, entries, entry, search, fitting}
 use Rattle.lexer.proofs.Choices.{refute}
@@ -103,11 +103,7 @@ module _ (text : List ℕ) (at size : ℕ) (inside : at < length text) where
 
   other-byte : (w : List ℕ) → differs byte w ≡ true → test w ≡ false
   unfolding fitting
-  other-byte w e = rw (drop-cons text at 0 inside) (ap (λ p. (eqb size 0 || eqb (length w) size) && p) (differs-starts byte (drop (suc at) text) w e) ∙ none (eqb size 0 || eqb (length w) size))
-    where
-      none : (p : Bool) → (p && false) ≡ false
-      none true = refl
-      none false = refl
+  other-byte w e = rw (drop-cons text at 0 inside) (ap (λ p. (eqb size 0 || eqb (length w) size) && p) (differs-starts byte (drop (suc at) text) w e) ∙ and-last-false (eqb size 0 || eqb (length w) size) false refl)
 
   onward : (i k : ℕ) → NextWith byte i k → search test entries ≡ i + search test (drop i entries) → Finding text at size k
   onward i k n e =

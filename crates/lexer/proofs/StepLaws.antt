@@ -1,44 +1,17 @@
 -- The definition's tokens one piece at a time, at a place of the text.
 use Prim.Native.Nat.{ℕ, zero, suc, _+_, _-_, _≤_, _<_}
-use Prim.Native.String.{String}
 use mathlib.Core.List.{List, [], _∷_}
-use mathlib.Core.Bool.{Bool, true, false, _&&_, false≢true}
+use mathlib.Core.Bool.{Bool, true, false, false≢true}
 use mathlib.Core.Path.{_≡_, refl, sym, ap, ap₂, _∙_, subst}
-use lib.Dec.{leb, eqb}
 use lib.ListN.{length, getD, take, drop, length-drop}
 use lib.Seq.{drop-cons, drop-drop}
 use native.Mathlib.Nat.{add-zero}
 use native.Mathlib.Omega.{arith}
-use Rattle.language.specs.Limits.{maxName}
-use Rattle.language.specs.Bytes.{ascii, isBlank, isDigit, isNameStart, isNameByte, isMark, starts, isOneOf}
-use Rattle.language.specs.Tokens.{
-  Class,
-  Fixed,
-  Numeral,
-  Quoted,
-  Marks,
-  Wrong,
-  Blank,
-  code,
-  Token,
-  isOf,
-  signs,
-  words,
-  Piece,
-  run,
-  quotedSize,
-  commentSize,
-  signAt,
-  wordAt,
-  closed,
-  pieceAt,
-  enumeratingAfter,
-  lex,
-}
-use Rattle.language.specs.Laws.Basics.Tests.{split, pick, leave}
+use Rattle.language.specs.Tokens.{Wrong, Blank, Token, isOf, Piece, pieceAt, enumeratingAfter, lex}
+use Rattle.language.specs.Laws.Basics.Tests.{pick, leave}
 use Rattle.language.specs.Laws.Grammar.PieceLaws.{isClass, pieceAt-sound}
+use Rattle.language.specs.Laws.Grammar.EveryToken.{pieces}
 use Rattle.lexer.proofs.Choices.{refute, affirm}
-use Rattle.lexer.specs.Scanning.{opened}
 
 -- bytes of the piece before are passed over
 lex-skip : (e : Bool) (at k : ℕ) (s : List ℕ) → k ≤ length s → lex e at k s ≡ lex e (at + k) 0 (drop k s)
@@ -52,33 +25,16 @@ lex-skip e at (suc k) (b ∷ s) h =
 abbrev Empty : Piece → Type 0
 Empty p = isClass Wrong p ≡ true → p .size ≡ 0
 
-empty-other : (c : Class) (n : ℕ) → eqb 6 (code c) ≡ false → Empty (record { class = c; size = n })
-empty-other c n e w = absurd (false≢true (sym e ∙ w))
-
-empty-closed : (c : Class) (n : ℕ) → eqb 6 (code c) ≡ false → Empty (closed c n)
-empty-closed c zero e = λ w. refl
-empty-closed c (suc n) e = empty-other c (suc n) e
-
-empty-sign : (ws : List String) (s : List ℕ) → Empty (signAt ws s)
-empty-sign [] s = λ w. refl
-empty-sign (w ∷ ws) s = split Empty (starts (ascii w) s) (λ _. empty-other Fixed (length (ascii w)) refl) (λ _. empty-sign ws s)
-
-empty-word : (s : List ℕ) → Empty (wordAt s)
-empty-word s =
-    let n = run isNameByte s in
-    split Empty (leb n maxName) (λ _ w. absurd (false≢true (sym (split (λ c. eqb 6 (code c) ≡ false) (isOneOf words (take n s)) (λ _. refl) (λ _. refl)) ∙ w))) (λ _ w. refl)
-
 wrong-empty : (e : Bool) (b : ℕ) (s : List ℕ) → Empty (pieceAt e (b ∷ s))
-wrong-empty e b s =
-    split Empty (isBlank b) (λ _. empty-other Blank 1 refl)
-    (λ _. split Empty (starts (ascii "//") (b ∷ s)) (λ _. empty-other Blank _ refl)
-    (λ _. split Empty (starts (ascii "/*") (b ∷ s)) (λ _. empty-closed Blank (commentSize 2 opened (drop 1 s)) refl)
-    (λ _. split Empty (eqb b 34) (λ _. empty-closed Quoted (quotedSize 1 s) refl)
-    (λ _. split Empty (isNameStart b) (λ _. empty-word (b ∷ s))
-    (λ _. split Empty (e && isMark b) (λ _. empty-other Marks _ refl)
-    (λ _. split Empty (e && isDigit b) (λ _ w. refl)
-    (λ _. split Empty (isDigit b) (λ _. empty-other Numeral _ refl)
-    (λ _. empty-sign signs (b ∷ s)))))))))
+wrong-empty e b s = pieces Empty b s (record {
+  blank = λ _ w. absurd (false≢true w);
+  quoted = λ _ w. absurd (false≢true w);
+  fixed = λ _ w. absurd (false≢true w);
+  wrong = λ _. refl;
+  name = λ _ _ w. absurd (false≢true w);
+  marks = λ w. absurd (false≢true w);
+  numeral = λ w. absurd (false≢true w);
+}) e
 
 -- the token of the piece at the front
 abbrev pub tokenOf : Bool → ℕ → List ℕ → Token

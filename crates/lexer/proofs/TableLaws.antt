@@ -10,6 +10,7 @@ use native.Mathlib.Omega.{arith}
 use borrow.Author.Tests.{leb-true, eqb-true}
 use Rattle.language.specs.Bytes.{within, isBlank, isDigit, isNameStart, isNameByte, isMark}
 use Rattle.language.specs.Laws.Basics.Tests.{and-left, and-right, or-cases}
+use Rattle.lexer.specs.ByteClasses as Byte
 use Rattle.lexer.specs.Spelling.{count, entries, entry}
 use Rattle.lexer.specs.Tables.{ByteClass, begins, passes, NextWith, RightBytes, RightRows}
 
@@ -36,8 +37,8 @@ agree-same false false e = refl
 
 abbrev classTest : ℕ → ℕ → Bool
 classTest b x =
-    leb x 8 && (agree (isBlank b) (eqb x 1) && (agree (eqb b 34) (eqb x 2) && (agree (eqb 47 b) (eqb x 3) && (agree (isMark b) (within 4 5 x)
-    && (agree (isDigit b) (within 5 6 x) && (agree (isNameStart b) (eqb x 7) && agree (isNameByte b) (within 5 8 x)))))))
+    leb x Byte.prime && (agree (isBlank b) (eqb x Byte.blank) && (agree (eqb b 34) (eqb x Byte.quote) && (agree (eqb 47 b) (eqb x Byte.slash) && (agree (isMark b) (within Byte.star Byte.bit x)
+    && (agree (isDigit b) (within Byte.bit Byte.digit x) && (agree (isNameStart b) (eqb x Byte.letter) && agree (isNameByte b) (within Byte.bit Byte.prime x)))))))
 
 abbrev nextTest : ℕ → ℕ → ℕ → Bool
 nextTest b i k = leb i k && (leb k count && (passes b (k - i) (drop i entries) && (leb count k || begins b (entry k))))
@@ -60,21 +61,21 @@ rowTest i x = rowTestBy (i % 16) (i / 16) x
 
 class-right : (b x : ℕ) → classTest b x ≡ true → ByteClass b x
 class-right b x e =
-    let e₀ = and-right (leb x 8) _ e in
-    let e₁ = and-right (agree (isBlank b) (eqb x 1)) _ e₀ in
-    let e₂ = and-right (agree (eqb b 34) (eqb x 2)) _ e₁ in
-    let e₃ = and-right (agree (eqb 47 b) (eqb x 3)) _ e₂ in
-    let e₄ = and-right (agree (isMark b) (within 4 5 x)) _ e₃ in
-    let e₅ = and-right (agree (isDigit b) (within 5 6 x)) _ e₄ in
+    let e₀ = and-right (leb x Byte.prime) _ e in
+    let e₁ = and-right (agree (isBlank b) (eqb x Byte.blank)) _ e₀ in
+    let e₂ = and-right (agree (eqb b 34) (eqb x Byte.quote)) _ e₁ in
+    let e₃ = and-right (agree (eqb 47 b) (eqb x Byte.slash)) _ e₂ in
+    let e₄ = and-right (agree (isMark b) (within Byte.star Byte.bit x)) _ e₃ in
+    let e₅ = and-right (agree (isDigit b) (within Byte.bit Byte.digit x)) _ e₄ in
     record {
-      known = leb-true x 8 (and-left (leb x 8) _ e);
-      blank = agree-same (isBlank b) (eqb x 1) (and-left (agree (isBlank b) (eqb x 1)) _ e₀);
-      quote = agree-same (eqb b 34) (eqb x 2) (and-left (agree (eqb b 34) (eqb x 2)) _ e₁);
-      slash = agree-same (eqb 47 b) (eqb x 3) (and-left (agree (eqb 47 b) (eqb x 3)) _ e₂);
-      mark = agree-same (isMark b) (within 4 5 x) (and-left (agree (isMark b) (within 4 5 x)) _ e₃);
-      digit = agree-same (isDigit b) (within 5 6 x) (and-left (agree (isDigit b) (within 5 6 x)) _ e₄);
-      letter = agree-same (isNameStart b) (eqb x 7) (and-left (agree (isNameStart b) (eqb x 7)) _ e₅);
-      named = agree-same (isNameByte b) (within 5 8 x) (and-right (agree (isNameStart b) (eqb x 7)) _ e₅);
+      known = leb-true x 8 (and-left (leb x Byte.prime) _ e);
+      blank = agree-same (isBlank b) (eqb x Byte.blank) (and-left (agree (isBlank b) (eqb x Byte.blank)) _ e₀);
+      quote = agree-same (eqb b 34) (eqb x Byte.quote) (and-left (agree (eqb b 34) (eqb x Byte.quote)) _ e₁);
+      slash = agree-same (eqb 47 b) (eqb x Byte.slash) (and-left (agree (eqb 47 b) (eqb x Byte.slash)) _ e₂);
+      mark = agree-same (isMark b) (within Byte.star Byte.bit x) (and-left (agree (isMark b) (within Byte.star Byte.bit x)) _ e₃);
+      digit = agree-same (isDigit b) (within Byte.bit Byte.digit x) (and-left (agree (isDigit b) (within Byte.bit Byte.digit x)) _ e₄);
+      letter = agree-same (isNameStart b) (eqb x Byte.letter) (and-left (agree (isNameStart b) (eqb x Byte.letter)) _ e₅);
+      named = agree-same (isNameByte b) (within Byte.bit Byte.prime x) (and-right (agree (isNameStart b) (eqb x Byte.letter)) _ e₅);
     }
 
 next-right : (b i k : ℕ) → nextTest b i k ≡ true → NextWith b i k

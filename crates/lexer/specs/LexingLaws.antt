@@ -1,4 +1,4 @@
--- What holds of the tokens of a text that refusals 1 to 3 let pass, and how their stored words are read back.
+-- What holds of the tokens of a text that refusals 1 to 3 let pass, how their stored words are read back, and that the tree is read from the tokens.
 use Prim.Native.Nat.{ℕ, zero, suc, _^_, _≤_, _<_, min}
 use mathlib.Core.List.{List, [], _∷_}
 use mathlib.Core.Bool.{Bool, true, false}
@@ -8,14 +8,17 @@ use lib.Dec.{leb}
 use lib.ListN.{length, drop}
 use native.Mathlib.Omega.{arith}
 use borrow.Author.Tests.{leb-true, leb-false}
-use Rattle.node.specs.Result.{Done}
-use Rattle.node.specs.ResultLaws.{guard-done}
+use Rattle.node.specs.Result.{Result, Done, _>>=_, guard}
+use Rattle.node.specs.ResultLaws.{bind-at, guard-done, guard-bind}
 use Rattle.words.specs.Words.{wordAt}
 use Rattle.language.specs.Limits.{maxBytes, maxTokens}
 use Rattle.language.specs.Tokens.{Token, Wrong, isOf, tokens}
 use Rattle.language.specs.Grammar.{front}
 use Rattle.language.specs.Names.{placeOfFirst}
-use Rattle.language.specs.Parsing.{noToken, tooManyTokens}
+use Rattle.language.specs.Tree.{Spec}
+use Rattle.language.specs.Places.{refuseAt}
+use Rattle.language.specs.Sections.{specOf}
+use Rattle.language.specs.Parsing.{noToken, tooManyTokens, wellFormed, parsed}
 use Rattle.language.specs.Laws.Basics.Lists.{All}
 use Rattle.language.specs.Laws.Basics.Tests.{some-none}
 use Rattle.language.specs.Laws.Basics.NoPlace.{refuseAt-done}
@@ -24,7 +27,7 @@ use Rattle.lexer.specs.Numbers.{number}
 use Rattle.lexer.specs.NumberLaws.{number-small}
 use Rattle.lexer.specs.Stored.{offsetBits, longest, numberIn, offsetIn, lengthIn, TokensStored}
 use Rattle.lexer.specs.StoredLaws.{number-word, offset-word, length-word}
-use Rattle.lexer.specs.Lexing.{lexing}
+use Rattle.lexer.specs.Lexing.{lexing, Lexical}
 
 -- a list that refusal 3 lets pass, whatever the limit
 few-tokens : (limit : ℕ) (ts : List Token) → _≡_ {A = Option ℕ} (elim (leb (length ts) (suc limit)) [ true ↦ none | false ↦ placeOfFirst (drop limit ts) ]) none → length ts ≤ suc limit
@@ -38,13 +41,6 @@ few-tokens limit ts e = go (leb (length ts) (suc limit)) refl e
     go : (b : Bool) → leb (length ts) (suc limit) ≡ b → _≡_ {A = Option ℕ} (elim b [ true ↦ none | false ↦ placeOfFirst (drop limit ts) ]) none → length ts ≤ suc limit
     go true h p = leb-true (length ts) (suc limit) h
     go false h p = let l = leb-false (length ts) (suc limit) h in absurd (some-place limit ts (omega arith) p)
-
--- the tokens of a text that is not refused
-pub record Lexical (text : List ℕ) (ts : List Token) : Type 0 where
-  pub whole : ts ≡ tokens text
-  pub short : length text ≤ maxBytes
-  pub right : noToken (tokens text) ≡ none
-  pub few : length (tokens text) ≤ suc maxTokens
 
 pub lexical : (text : List ℕ) (ts : List Token) → lexing text ≡ Done ts → Lexical text ts
 unfolding lexing
@@ -98,3 +94,19 @@ module _ {text w : List ℕ} {ts : List Token} (h : Lexical text ts) (s : Tokens
 
   pub length-at : lengthIn (wordAt w i) ≡ min longest (length (front (drop i ts) .text))
   length-at = ap lengthIn (s .words i l) ∙ length-word (front (drop i ts)) (token-near h i (omega arith))
+
+refuseAt-then : {A B : Type 0} (number : ℕ) (o : Option ℕ) (r : Result A) (k : A → Result B) → refuseAt number o r >>= k ≡ refuseAt number o (r >>= k)
+unfolding refuseAt _>>=_
+refuseAt-then number none r k = refl
+refuseAt-then number (some p) r k = refl
+
+-- the tree of a text is read from its tokens
+pub parsed-lexed : (text : List ℕ) → lexing text >>= (λ ts. specOf ts >>= wellFormed) ≡ parsed text
+unfolding lexing parsed
+parsed-lexed text =
+    let ts = tokens text in
+    let k : List Token → Result Spec = λ us. specOf us >>= wellFormed in
+    guard-bind (leb (length text) maxBytes) 1 maxBytes _ k
+    ∙ ap (guard (leb (length text) maxBytes) 1 maxBytes)
+    (refuseAt-then 2 (noToken ts) _ k
+    ∙ ap (refuseAt 2 (noToken ts)) (refuseAt-then 3 (tooManyTokens ts) _ k ∙ ap (refuseAt 3 (tooManyTokens ts)) (bind-at ts k)))

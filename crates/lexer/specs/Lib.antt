@@ -5,6 +5,7 @@ pub mod StoredLaws
 pub mod Lexing
 pub mod LexingLaws
 pub mod Answer
+pub mod ByteClasses
 pub mod Spelling
 pub mod Tables
 pub mod Scanning

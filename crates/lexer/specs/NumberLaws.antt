@@ -2,7 +2,7 @@
 use Prim.Native.Nat.{ℕ, suc, _+_, _≤_, _<_}
 use Prim.Native.String.{String}
 use mathlib.Core.List.{List, [], _∷_}
-use mathlib.Core.Bool.{Bool, true, false, _&&_, _||_, false≢true}
+use mathlib.Core.Bool.{Bool, true, false, _&&_, _||_, false≢true, and-false}
 use mathlib.Core.Path.{_≡_, refl, sym, ap, ap₂, _∙_, subst}
 use lib.Dec.{eqb, leb}
 use lib.ListN.{length, getD}
@@ -86,7 +86,7 @@ class-apart c s e = go (isPlain c) refl
 pub number-small : (t : Token) → isOf Wrong t ≡ false → isOf Blank t ≡ false → number t < 128
 number-small t w b = go (isOf Fixed t) refl
   where
-    plain : (c : Class) → eqb 0 (code c) ≡ false → eqb 6 (code c) ≡ false → eqb 7 (code c) ≡ false → classNumber c < 128
+    plain : (c : Class) → eqb (code Fixed) (code c) ≡ false → eqb (code Wrong) (code c) ≡ false → eqb (code Blank) (code c) ≡ false → classNumber c < 128
     plain Fixed f w b = absurd (false≢true (sym f))
     plain Wrong f w b = absurd (false≢true (sym w))
     plain Blank f w b = absurd (false≢true (sym b))
@@ -116,11 +116,7 @@ known [] = true
 known (s ∷ ss) = isOneOf spellings (ascii s) && known ss
 
 pub named-number : (ss : List String) (t : Token) → known ss ≡ true → named ss t ≡ numbered ss (number t)
-named-number [] t h = go (isOf Fixed t)
-  where
-    go : (f : Bool) → (f && false) ≡ false
-    go true = refl
-    go false = refl
+named-number [] t h = and-false (isOf Fixed t)
 named-number (s ∷ ss) t h =
     shared (isOf Fixed t) (same (ascii s) (t .text)) (isOneOf ss (t .text))
     ∙ ap₂ _||_ (is-number s t (and-left (isOneOf spellings (ascii s)) (known ss) h)) (named-number ss t (and-right (isOneOf spellings (ascii s)) (known ss) h))
@@ -166,7 +162,7 @@ class-number c t h = go (isOf c t) refl
 
     here : c ≡ t .class → (f : Bool) → isOf Fixed t ≡ f → number t ≡ classNumber c
     here e true f =
-        absurd (false≢true (subst (λ d. isPlain d ≡ true) (e ∙ sym (decode-code (t .class)) ∙ ap decode (sym (eqb-true 0 (code (t .class)) f)) ∙ decode-code Fixed) h))
+        absurd (false≢true (subst (λ d. isPlain d ≡ true) (e ∙ sym (decode-code (t .class)) ∙ ap decode (sym (eqb-true (code Fixed) (code (t .class)) f)) ∙ decode-code Fixed) h))
     here e false f = number-class t f ∙ ap classNumber (sym e)
 
     other : (eqb (code c) (code (t .class)) ≡ false) → (f : Bool) → isOf Fixed t ≡ f → number t ≡ classNumber c → ⊥
@@ -183,5 +179,5 @@ class-number c t h = go (isOf c t) refl
 -- what is blank has no number
 pub number-blank : (t : Token) → isOf Blank t ≡ true → number t ≡ noNumber
 number-blank t e =
-    let k : t .class ≡ Blank = sym (decode-code (t .class)) ∙ ap decode (sym (eqb-true 7 (code (t .class)) e)) ∙ decode-code Blank in
-    number-class t (ap (λ c. eqb 0 (code c)) k) ∙ ap classNumber k
+    let k : t .class ≡ Blank = sym (decode-code (t .class)) ∙ ap decode (sym (eqb-true (code Blank) (code (t .class)) e)) ∙ decode-code Blank in
+    number-class t (ap (λ c. eqb (code Fixed) (code c)) k) ∙ ap classNumber k

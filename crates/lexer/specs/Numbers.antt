@@ -1,4 +1,4 @@
--- The number of a token, by which the code knows its kind: its class's own number, or 5 and its place in the list of signs and words.
+-- The number of a token, by which the code knows it: its class's own number, or `firstFixed` and its place in the list of signs and words.
 use Prim.Native.Nat.{ℕ, suc, _+_}
 use Prim.Native.String.{String}
 use mathlib.Core.List.{List, [], _∷_, _++_}

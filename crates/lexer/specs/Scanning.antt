@@ -50,7 +50,7 @@ pub record Scannable (text : List ℕ) (at : ℕ) (bs rs : List ℕ) : Type 0 wh
 
 -- the piece p at the front of s
 pub record ScansAs (p : Piece) (s : List ℕ) (r : Scanned) : Type 0 where
-  pub kind : r .kind ≡ pieceNumber p s
+  pub number : r .number ≡ pieceNumber p s
   pub size : r .size ≡ p .size
 
 abbrev pub Scans : Bool → List ℕ → Scanned → Type 0
@@ -58,7 +58,7 @@ Scans e s r = ScansAs (pieceAt e s) s r
 
 -- a string or comment of this size, 0 if it is not closed
 abbrev pub closedAs : ℕ → ℕ → Scanned
-closedAs kind size = if eqb size 0 then record { kind = noNumber; size = 0 } else record { kind = kind; size = size }
+closedAs n size = if eqb size 0 then record { number = noNumber; size = 0 } else record { number = n; size = size }
 
 -- is the text in an enumeration after a token of this number?
 abbrev pub enumeratingBy : Bool → ℕ → Bool
@@ -69,9 +69,9 @@ abbrev pub laterPlace : ℕ → ℕ → ℕ → ℕ
 laterPlace n over at = if eqb n maxTokens then at else over
 
 -- the buffer has room for the tokens, and number and offset fit their fields
-pub record Storable (w : List ℕ) (kind at : ℕ) : Type 0 where
+pub record Storable (w : List ℕ) (n at : ℕ) : Type 0 where
   pub room : tokenBytes ≤ length w
-  pub small : kind < noNumber
+  pub small : n < noNumber
   pub near : at < maxBytes
 
 -- the buffer with the word of token n, if it is one that a text may have

@@ -9,7 +9,7 @@ use Rattle.lexer.specs.Numbers.{spellings}
 
 -- how many there are
 abbrev pub count : ℕ
-count = 99
+count = length spellings
 
 unfoldable pub entries : List (List ℕ)
 entries = map ascii spellings

@@ -6,18 +6,19 @@ use mathlib.Core.Path.{_≡_}
 use lib.Dec.{eqb}
 use lib.ListN.{length, getD, drop}
 use Rattle.language.specs.Bytes.{within, isBlank, isDigit, isNameStart, isNameByte, isMark}
+use Rattle.lexer.specs.ByteClasses as Byte
 use Rattle.lexer.specs.Spelling.{count, entries, entry}
 
--- the class x of byte b: 1 blank, 2 quote, 3 slash, 4 star, 5 `0` and `1`, 6 other digits, 7 first bytes of names, 8 prime
+-- the class x of byte b
 pub record ByteClass (b x : ℕ) : Type 0 where
-  pub known : x ≤ 8
-  pub blank : isBlank b ≡ eqb x 1
-  pub quote : eqb b 34 ≡ eqb x 2
-  pub slash : eqb 47 b ≡ eqb x 3
-  pub mark : isMark b ≡ within 4 5 x
-  pub digit : isDigit b ≡ within 5 6 x
-  pub letter : isNameStart b ≡ eqb x 7
-  pub named : isNameByte b ≡ within 5 8 x
+  pub known : x ≤ Byte.prime
+  pub blank : isBlank b ≡ eqb x Byte.blank
+  pub quote : eqb b 34 ≡ eqb x Byte.quote
+  pub slash : eqb 47 b ≡ eqb x Byte.slash
+  pub mark : isMark b ≡ within Byte.star Byte.bit x
+  pub digit : isDigit b ≡ within Byte.bit Byte.digit x
+  pub letter : isNameStart b ≡ eqb x Byte.letter
+  pub named : isNameByte b ≡ within Byte.bit Byte.prime x
 
 -- is the byte's class within these, by the table?
 unfoldable pub classed : List ℕ → ℕ → ℕ → ℕ → Bool

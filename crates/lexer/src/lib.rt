@@ -30,16 +30,16 @@ pub enum Lexed {
 }
 
 // Is the text in an enumeration after a token of this number?
-fn enumerating_after(enumerating: bool, kind: u32) -> bool
-    ensures { λ r. ⌜ r ≡ enumeratingBy enumerating kind ⌝ }
+fn enumerating_after(enumerating: bool, number: u32) -> bool
+    ensures { λ r. ⌜ r ≡ enumeratingBy enumerating number ⌝ }
 {
-    if kind == ENUM {
+    if number == ENUM {
         return true;
     }
-    if kind == SEMICOLON {
+    if number == SEMICOLON {
         return false;
     }
-    if kind == CLOSE_BRACE {
+    if number == CLOSE_BRACE {
         return false;
     }
     enumerating
@@ -66,12 +66,12 @@ fn capped(size: usize) -> u32
 }
 
 // Stores token n, if it is one of those that a text may have. Its caller has met the token, so that its number and offset fit their fields.
-fn store(work: &mut [u8], n: usize, kind: u32, at: usize, size: usize)
-    requires { ⌜ Storable (now work) kind at ⌝ }
-    ensures { λ _. ⌜ now (work .exit) ≡ storing (now (work .entry)) n (wordOf kind at size) ⌝ }
+fn store(work: &mut [u8], n: usize, number: u32, at: usize, size: usize)
+    requires { ⌜ Storable (now work) number at ⌝ }
+    ensures { λ _. ⌜ now (work .exit) ≡ storing (now (work .entry)) n (wordOf number at size) ⌝ }
 {
     if n < limits::MAX_TOKENS {
-        let word = (kind * OFFSETS + at as u32) * LENGTHS + capped(size);
+        let word = (number * OFFSETS + at as u32) * LENGTHS + capped(size);
         words::put(work, n, word);
     }
 }
@@ -92,18 +92,18 @@ pub fn lex(text: &[u8], work: &mut [u8]) -> Lexed
     let mut over: usize = 0;
     while at < text.len() {
         let piece = piece::scan(text, at, enumerating, &bytes, &rows);
-        let kind = piece.kind;
+        let number = piece.number;
         let size = piece.size;
         if size == 0 {
             return Lexed::Refused(refusals::NO_TOKEN, at as u32);
         }
-        if kind == NO_NUMBER {
+        if number == NO_NUMBER {
             at += size;
             continue;
         }
-        store(work, n, kind, at, size);
+        store(work, n, number, at, size);
         over = later_place(n, over, at);
-        enumerating = enumerating_after(enumerating, kind);
+        enumerating = enumerating_after(enumerating, number);
         n += 1;
         at += size;
     }

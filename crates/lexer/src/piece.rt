@@ -19,9 +19,11 @@ ghost use Prim.Native.Nat.{_*_, _≤_};
 ghost use lib.ListN.{getD, drop};
 ghost use Rattle.language.specs.Bytes.{isNameStart};
 ghost use Rattle.language.specs.Tokens.{signs, wordAt, signAt};
+ghost use Rattle.lexer.specs.ByteClasses as Byte;
+ghost use Rattle.lexer.specs.ByteClasses.{byteClasses};
 ghost use Rattle.lexer.specs.Scanning.{Scannable, Scans, ScansAs, closedAs};
 
-// The classes of bytes: marks are STAR and BIT, digits BIT and DIGIT, bytes of names all from BIT on.
+// The classes of bytes (specs/ByteClasses).
 const BLANK: u8 = 1;
 
 const QUOTE: u8 = 2;
@@ -38,22 +40,29 @@ const LETTER: u8 = 7;
 
 const PRIME: u8 = 8;
 
+// What the constants stand for.
+pub fn classes() -> [u8; 8]
+    ensures { λ r. ⌜ r ≡ byteClasses ⌝ }
+{
+    [BLANK, QUOTE, SLASH, STAR, BIT, DIGIT, LETTER, PRIME]
+}
+
 // What stands at a place: a token's number and size. A blank or comment has NO_NUMBER, and what is no token has size 0 besides.
 pub struct Scanned {
-    pub kind: u32,
+    pub number: u32,
     pub size: usize,
 }
 
-pub fn closed(kind: u32, size: usize) -> Scanned
-    ensures { λ r. ⌜ r ≡ closedAs kind size ⌝ }
+pub fn closed(number: u32, size: usize) -> Scanned
+    ensures { λ r. ⌜ r ≡ closedAs number size ⌝ }
 {
     if size == 0 {
         return Scanned {
-            kind: NO_NUMBER,
+            number: NO_NUMBER,
             size: 0,
         };
     }
-    Scanned { kind, size }
+    Scanned { number, size }
 }
 
 // A word of the format or a name, of which this is the first byte.
@@ -64,7 +73,7 @@ pub fn word(text: &[u8], at: usize, bytes: &[u8; 512], rows: &[u8; ROW_BYTES]) -
     let n = sizes::run(text, at, bytes, BIT, PRIME);
     if limits::MAX_NAME < n {
         return Scanned {
-            kind: NO_NUMBER,
+            number: NO_NUMBER,
             size: 0,
         };
     }
@@ -72,12 +81,12 @@ pub fn word(text: &[u8], at: usize, bytes: &[u8; 512], rows: &[u8; ROW_BYTES]) -
     let k = search::find(text, at, rows, first, n);
     if k < COUNT {
         return Scanned {
-            kind: FIRST_FIXED + k as u32,
+            number: FIRST_FIXED + k as u32,
             size: n,
         };
     }
     Scanned {
-        kind: NAME,
+        number: NAME,
         size: n,
     }
 }
@@ -92,19 +101,19 @@ pub fn sign(text: &[u8], at: usize, bytes: &[u8; 512], rows: &[u8; ROW_BYTES]) -
     if k < COUNT {
         let row = ROW * k;
         return Scanned {
-            kind: FIRST_FIXED + k as u32,
+            number: FIRST_FIXED + k as u32,
             size: wide(rows[row]),
         };
     }
     Scanned {
-        kind: NO_NUMBER,
+        number: NO_NUMBER,
         size: 0,
     }
 }
 
 // A comment or a sign, of which this is the slash.
 pub fn slash(text: &[u8], at: usize, bytes: &[u8; 512], rows: &[u8; ROW_BYTES]) -> Scanned
-    requires { ⌜ Scannable (now text) at (now bytes) (now rows) × (getD (now bytes) (2 * getD (now text) at 0) 0 ≡ 3) ⌝ }
+    requires { ⌜ Scannable (now text) at (now bytes) (now rows) × (getD (now bytes) (2 * getD (now text) at 0) 0 ≡ Byte.slash) ⌝ }
     ensures { λ r. ⌜ ((e : Bool) → Scans e (drop at (now (text .entry))) r) ⌝ }
 {
     if text.len() - at < 2 {
@@ -113,7 +122,7 @@ pub fn slash(text: &[u8], at: usize, bytes: &[u8; 512], rows: &[u8; ROW_BYTES]) 
     let next = text[at + 1];
     if next == b'/' {
         return Scanned {
-            kind: NO_NUMBER,
+            number: NO_NUMBER,
             size: sizes::line_size(text, at + 1) + 1,
         };
     }
@@ -132,18 +141,18 @@ pub fn digits(
     bytes: &[u8; 512],
     rows: &[u8; ROW_BYTES],
 ) -> Scanned
-    requires { ⌜ Scannable (now text) at (now bytes) (now rows) × (k ≡ getD (now bytes) (2 * getD (now text) at 0) 0) × (4 ≤ k) × (k ≤ 6) ⌝ }
+    requires { ⌜ Scannable (now text) at (now bytes) (now rows) × (k ≡ getD (now bytes) (2 * getD (now text) at 0) 0) × (Byte.star ≤ k) × (k ≤ Byte.digit) ⌝ }
     ensures { λ r. ⌜ Scans enumerating (drop at (now (text .entry))) r ⌝ }
 {
     if enumerating {
         if k == DIGIT {
             return Scanned {
-                kind: NO_NUMBER,
+                number: NO_NUMBER,
                 size: 0,
             };
         }
         return Scanned {
-            kind: MARKS,
+            number: MARKS,
             size: sizes::run(text, at, bytes, STAR, BIT),
         };
     }
@@ -151,7 +160,7 @@ pub fn digits(
         return sign(text, at, bytes, rows);
     }
     Scanned {
-        kind: NUMERAL,
+        number: NUMERAL,
         size: sizes::run(text, at, bytes, BIT, DIGIT),
     }
 }
@@ -173,7 +182,7 @@ pub fn scan(
     }
     if k == BLANK {
         return Scanned {
-            kind: NO_NUMBER,
+            number: NO_NUMBER,
             size: 1,
         };
     }

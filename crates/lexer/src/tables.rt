@@ -1,8 +1,9 @@
 // The lexer's tables. Each is held to the definition's lists by one computed test.
+use crate::numbers;
 ghost use Rattle.lexer.specs.Tables.{RightBytes, RightRows};
 
 // Rows of ROWS, and the bytes of each.
-pub const COUNT: usize = 99;
+pub const COUNT: usize = (numbers::COUNT - numbers::FIRST_FIXED) as usize;
 
 pub const ROW: usize = 16;
 

@@ -7,6 +7,7 @@ use assembly::implied::Ends;
 use assembly::implied::Ports;
 use assembly::implied::Span;
 use assembly::implied::implied;
+use entries::headings;
 use entries::kinds;
 use machine_run::Written;
 use machine_run::formula_of;
@@ -21,9 +22,6 @@ ghost use Rattle.lines.specs.Gathering.{buffers, Sizes, SomeLine, Writes
 ghost use Rattle.lines.specs.Whole.{SomeGiven, Gathers};
 ghost use Rattle.lines.specs.declared.Gathering.{Gathering as Result};
 ghost use Rattle.machine_run.specs.declared.Written.{Written as Answered};
-
-// The number of the first part's heading.
-const FIRST_PART: u32 = 2;
 
 // How many lines there are and where their formulas end, 8,193 if they do not fit; or a refusal's number and place.
 pub enum Gathering {
@@ -83,7 +81,13 @@ fn line(
     let Written::At(next) = w else {
         return refused(w);
     };
-    let more = add_line(here.heading - FIRST_PART, at, next, lines, e.count);
+    let more = add_line(
+        here.heading - headings::FIRST_PART,
+        at,
+        next,
+        lines,
+        e.count,
+    );
     Gathering::Lines(more, next)
 }
 

@@ -22,6 +22,7 @@ use Rattle.language.specs.Laws.Values.DistinctNames.{Distinct, distinct-left, d
 use Rattle.language.specs.Laws.Grammar.BracesReads.{spec-proper}
 use Rattle.entries.specs.Kinds as Kind
 use Rattle.entries.specs.Flat.{Entry, under, leaf, flat, each, flatParameter, flatIdentifier, flatDefinition, flatDeclaration, flatLine, flatSubsection, outline}
+use Rattle.entries.specs.FlatLaws.{all-each}
 use Rattle.entries.specs.Stored.{firstEntry, kindOf, EntriesFrom}
 use Rattle.entries.specs.StoredLaws.{entry-kind, entries-left, entries-right}
 use Rattle.names.specs.Roles.{declares}
@@ -48,19 +49,15 @@ inner-other es h = all-more (λ n f. ((λ e. false≢true (sym f ∙ ap (declare
 line-other : (k : ℕ) (t : Option Token) (e : Expr) → OtherKind k → All Other (under k t (flat e))
 line-other k t e h = all-append Other (flat e) _ (inner-other (flat e) (inner-flat e)) (h, tt)
 
-each-other : {A : Type 0} (flatten : A → List Entry) → ((a : A) → All Other (flatten a)) → (l : List A) → All Other (each flatten l)
-each-other flatten f [] = tt
-each-other flatten f (a ∷ l) = all-append Other (flatten a) (each flatten l) (f a) (each-other flatten f l)
-
 declaration-other : (d : Declaration) → All Other (flatDeclaration d)
 declaration-other (OneSignal n) = (((λ e. omega arith), (λ e. omega arith)), tt)
 declaration-other (OfWidth n e) = line-other Kind.bus (some n) e ((λ q. omega arith), (λ q. omega arith))
 declaration-other (OfType u n) = line-other Kind.typed (some n) (Named u) ((λ e. omega arith), (λ e. omega arith))
 
 subsection-other : (s : Subsection) → All Other (flatSubsection s)
-subsection-other (Inputs ds) = (((λ e. omega arith), (λ e. omega arith)), each-other flatDeclaration declaration-other ds)
-subsection-other (Outputs ds) = (((λ e. omega arith), (λ e. omega arith)), each-other flatDeclaration declaration-other ds)
-subsection-other (Lines p es) = (((λ e. omega arith), (λ e. omega arith)), each-other flatLine (λ a. line-other Kind.line none a ((λ e. omega arith), (λ e. omega arith))) es)
+subsection-other (Inputs ds) = (((λ e. omega arith), (λ e. omega arith)), all-each Other flatDeclaration declaration-other ds)
+subsection-other (Outputs ds) = (((λ e. omega arith), (λ e. omega arith)), all-each Other flatDeclaration declaration-other ds)
+subsection-other (Lines p es) = (((λ e. omega arith), (λ e. omega arith)), all-each Other flatLine (λ a. line-other Kind.line none a ((λ e. omega arith), (λ e. omega arith))) es)
 
 words-length : (ws : List Token) → length (each (leaf Kind.word) ws) ≡ length ws
 words-length [] = refl
@@ -166,11 +163,11 @@ module _ (x : Spec) (text w : List ℕ) where
       let g = entries-right w (tokens text) 0 P (D ++ M) (s .stored) in
       let names = ownNames (x .definitions) in
       let d = distinct-left names _ (subst Distinct (over-definitions (x .definitions) (mainLines (x .main))) (distinct-definitions x h)) in
-      every-append Told 0 _ P (D ++ M) refl (other-told P (each-other flatParameter (λ a. line-other Kind.parameter (some (a .name)) (a .value) ((λ e. omega arith), (λ e. omega arith)))
+      every-append Told 0 _ P (D ++ M) refl (other-told P (all-each Other flatParameter (λ a. line-other Kind.parameter (some (a .name)) (a .value) ((λ e. omega arith), (λ e. omega arith)))
       (x .parameters)) 0)
       (every-append Told _ _ D M refl (definitions-told (x .definitions) (0 + length P) M (let u = s .total in let v = s .few in let y = length-append P (D ++ M) in omega arith)
       (leads-main (x .main) m) (p .definitions) g d (all-more (λ n _. refl) names (all-any names)) (all-more (λ n _. refl) names (all-any names)))
-      (other-told M (each-other flatSubsection subsection-other (x .main)) _))
+      (other-told M (all-each Other flatSubsection subsection-other (x .main)) _))
 
 module _ {x : Spec} {text w refs found : List ℕ} {count entries n : ℕ} (s : Stored text w count entries x) (r : Resolved x refs found n) (k : ℕ) (l : k < length (outline x)) where
   told-at : Told x text w k (entryOf (outline x) k)

@@ -15,6 +15,7 @@ use Rattle.language.specs.Expansion.{Context, at}
 use Rattle.language.specs.Braces.{Proper}
 use Rattle.entries.specs.Kinds as Kind
 use Rattle.entries.specs.Flat.{Entry, under, flat}
+pub use Rattle.entries.specs.FlatLaws.{own-more}
 use Rattle.entries.specs.Stored.{EndsAt}
 use Rattle.entries.specs.StoredLaws.{ends-below, ends-last, ends-before}
 use Rattle.name_values.specs.World.{World}
@@ -37,9 +38,6 @@ module _ {w : List ℕ} {ts : Tokens} where
 -- the entries of three operands
 three : (xs ys zs : List Entry) → length (xs ++ (ys ++ zs)) ≡ length xs + length ys + length zs
 three xs ys zs = let a = length-append xs (ys ++ zs) in let b = length-append ys zs in omega arith
-
-pub own-more : (n : ℕ) (t : Option Token) (es : List Entry) → length (under n t es) ≡ length es + 1
-own-more n t es = length-append es (record { kind = n; token = t; size = suc (length es) } ∷ [])
 
 module _ {ts : Tokens} {w refs : List ℕ} {W : World} {env : List ℕ} {c : Context} {k : ℕ} where
   -- the operands of an entry, by how many there are

@@ -4,6 +4,7 @@ use mathlib.Core.List.{List, [], _∷_, _++_}
 use mathlib.Core.Bool.{true, false, _||_}
 use mathlib.Core.Option.{Option, none, some}
 use mathlib.Core.Path.{_≡_, refl, sym, ap, ap₂, _∙_}
+use Rattle.names.specs.References.{pushed}
 use Rattle.language.specs.Bytes.{same}
 use Rattle.language.specs.Tokens.{Token}
 use Rattle.language.specs.Tree.{
@@ -31,8 +32,8 @@ use Rattle.language.specs.Tree.{
 }
 use Rattle.language.specs.Places.{first, unless, TextLine, ParameterLine, DefinitionLine, DeclarationLine, FormulaLine}
 use Rattle.language.specs.Names.{Names, visible, hidden, again, walk, declares, walkLine, walkLines, nowhere}
-use Rattle.names.specs.ScanLaws.{first-swap, first-group}
 use Rattle.language.specs.Laws.Values.SetMembers.{or-swap}
+use Rattle.language.specs.Laws.Basics.NoPlace.{first-comm, first-assoc}
 
 -- the place where two names of one spelling meet
 abbrev pub met : Token → Token → Option ℕ
@@ -56,7 +57,7 @@ alike-cons n a =
     }
 
 first-over : (a b c : Option ℕ) → first a (first b c) ≡ first b (first a c)
-first-over a b c = sym (first-group a b c) ∙ ap (λ p. first p c) (first-swap a b) ∙ first-group b a c
+first-over a b c = sym (first-assoc a b c) ∙ ap (λ p. first p c) (first-comm a b) ∙ first-assoc b a c
 
 pub alike-swap : (n m : Token) (ns : Names) → Alike (n ∷ m ∷ ns) (m ∷ n ∷ ns)
 alike-swap n m ns =
@@ -64,11 +65,6 @@ alike-swap n m ns =
       sees = λ t. or-swap (same (n .text) (t .text)) (same (m .text) (t .text)) (visible ns t);
       meets = λ t. first-over (met n t) (met m t) (again ns t);
     }
-
--- names put before a list, one after the other
-abbrev pub pushed : Names → Names → Names
-pushed [] ns = ns
-pushed (n ∷ l) ns = pushed l (n ∷ ns)
 
 alike-between : (l : Names) (n : Token) (ns : Names) → Alike (l ++ n ∷ ns) (n ∷ l ++ ns)
 alike-between [] n ns = alike-same (n ∷ ns)

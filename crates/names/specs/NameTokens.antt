@@ -38,9 +38,10 @@ use Rattle.language.specs.Tree.{
 }
 use Rattle.language.specs.Laws.Basics.Lists.{All, all-append}
 use Rattle.language.specs.Laws.Grammar.BuiltReads.{IsName}
-use Rattle.language.specs.Laws.Grammar.TreeReads.{ReadParameter, ReadIdentifier, ReadDefinition, ReadDeclaration, ReadSubsection, ReadSpec}
+use Rattle.language.specs.Laws.Grammar.TreeReads.{ReadIdentifier, ReadDefinition, ReadDeclaration, ReadSubsection, ReadSpec}
 use Rattle.entries.specs.Kinds as Kind
 use Rattle.entries.specs.Flat.{Entry, under, leaf, flat, each, flatParameter, flatIdentifier, flatDefinition, flatDeclaration, flatLine, flatSubsection, outline}
+use Rattle.entries.specs.FlatLaws.{all-each, all-each-where}
 use Rattle.names.specs.Roles.{uses, binds, declares, Quiet}
 use Rattle.names.specs.QuietLaws.{quiet-truth, quiet-before, quiet-joining, quiet-window, quiet-between, ending-big}
 use Rattle.names.specs.ScanLaws.{neither}
@@ -106,16 +107,11 @@ names-flat (Range t a b c) y =
     without Kind.range (some t) (flat a ++ (flat b ++ flat c)) refl refl refl
     (two (flat a) (flat b ++ flat c) (names-flat a (y .0)) (two (flat b) (flat c) (names-flat b (y .1)) (names-flat c (y .2))))
 
-names-each : {A : Type 0} (P : A → Type 0) (f : A → List Entry) → ((a : A) → P a → All NamesName (f a)) → (l : List A) → All P l → All NamesName (each f l)
-names-each P f g [] h = tt
-names-each P f g (a ∷ l) h = two (f a) (each f l) (g a (h .0)) (names-each P f g l (h .1))
-
 names-word : (w : Token) → All NamesName (leaf Kind.word w)
 names-word w = without Kind.word (some w) [] refl refl refl tt
 
 names-words : (ws : List Token) → All NamesName (each (leaf Kind.word) ws)
-names-words [] = tt
-names-words (w ∷ ws) = two (leaf Kind.word w) (each (leaf Kind.word) ws) (names-word w) (names-words ws)
+names-words ws = all-each NamesName (leaf Kind.word) names-word ws
 
 names-identifier : (i : Identifier) → ReadIdentifier i → All NamesName (flatIdentifier i)
 names-identifier i y = two (leaf Kind.identifier (i .name)) (each (leaf Kind.word) (i .words)) (with-name Kind.identifier (i .name) [] y tt) (names-words (i .words))
@@ -123,7 +119,7 @@ names-identifier i y = two (leaf Kind.identifier (i .name)) (each (leaf Kind.wor
 names-definition : (d : Definition) → ReadDefinition NameExpr d → All NamesName (flatDefinition d)
 names-definition (Defined x e) y = with-name Kind.definition x (flat e) (y .0) (names-flat e (y .1))
 names-definition (Enumerated x is) y = two (leaf Kind.enumeration x) (each flatIdentifier is) (with-name Kind.enumeration x [] (y .0) tt)
-    (names-each ReadIdentifier flatIdentifier names-identifier is (y .1))
+    (all-each-where NamesName flatIdentifier names-identifier is (y .1))
 
 names-declaration : (d : Declaration) → ReadDeclaration NameExpr d → All NamesName (flatDeclaration d)
 names-declaration (OneSignal x) y = with-name Kind.signal x [] y tt
@@ -137,13 +133,13 @@ names-heading : (n : ℕ) (es : List Entry) → All NamesName es → All NamesNa
 names-heading n es h = (nameless _ refl refl refl, h)
 
 names-subsection : (s : Subsection) → ReadSubsection NameExpr s → All NamesName (flatSubsection s)
-names-subsection (Inputs ds) y = names-heading _ (each flatDeclaration ds) (names-each (ReadDeclaration NameExpr) flatDeclaration names-declaration ds y)
-names-subsection (Outputs ds) y = names-heading _ (each flatDeclaration ds) (names-each (ReadDeclaration NameExpr) flatDeclaration names-declaration ds y)
-names-subsection (Lines p es) y = names-heading _ (each flatLine es) (names-each NameExpr flatLine names-line es y)
+names-subsection (Inputs ds) y = names-heading _ (each flatDeclaration ds) (all-each-where NamesName flatDeclaration names-declaration ds y)
+names-subsection (Outputs ds) y = names-heading _ (each flatDeclaration ds) (all-each-where NamesName flatDeclaration names-declaration ds y)
+names-subsection (Lines p es) y = names-heading _ (each flatLine es) (all-each-where NamesName flatLine names-line es y)
 
 pub names-outline : (x : Spec) → ReadSpec NameExpr x → All NamesName (outline x)
 names-outline x y =
-    two (each flatParameter (x .parameters)) _ (names-each (ReadParameter NameExpr) flatParameter (λ p h. with-name Kind.parameter (p .name) (flat (p .value)) (h .0) (names-flat (p .value) (h .1)))
+    two (each flatParameter (x .parameters)) _ (all-each-where NamesName flatParameter (λ p h. with-name Kind.parameter (p .name) (flat (p .value)) (h .0) (names-flat (p .value) (h .1)))
     (x .parameters) (y .parameters))
-    (two (each flatDefinition (x .definitions)) (each flatSubsection (x .main)) (names-each (ReadDefinition NameExpr) flatDefinition names-definition (x .definitions) (y .definitions))
-    (names-each (ReadSubsection NameExpr) flatSubsection names-subsection (x .main) (y .main)))
+    (two (each flatDefinition (x .definitions)) (each flatSubsection (x .main)) (all-each-where NamesName flatDefinition names-definition (x .definitions) (y .definitions))
+    (all-each-where NamesName flatSubsection names-subsection (x .main) (y .main)))

@@ -7,10 +7,9 @@ use lib.ListN.{length, drop}
 use Rattle.language.specs.Limits.{maxNames}
 use Rattle.language.specs.Names.{Names, placeOfFirst}
 use Rattle.entries.specs.Kinds as Kind
-use Rattle.names.specs.AlikeLaws.{pushed}
 use Rattle.names.specs.Walkable.{Walkable, Table}
 use Rattle.names.specs.Meeting.{declaredFrom}
-use Rattle.names.specs.References.{numberIn, lastFirst, Where}
+use Rattle.names.specs.References.{numberIn, lastFirst, Where, pushed}
 
 -- the names declared before entry k, the last first: a table of their numbers, how many they are, and where the 257th stands once it is passed
 pub record Numbered {w ids : List ℕ} {entries : ℕ} (h : Walkable w ids entries) (k : ℕ) (table declared : List ℕ) (count place : ℕ) : Type 0 where

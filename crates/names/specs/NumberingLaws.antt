@@ -19,7 +19,6 @@ use Rattle.entries.specs.Flat.{Entry}
 use Rattle.entries.specs.Stored.{firstEntry, kindOf}
 use Rattle.names.specs.Roles.{declares}
 use Rattle.names.specs.Scan.{tokenOf}
-use Rattle.names.specs.AlikeLaws.{pushed}
 use Rattle.names.specs.Declaring.{declaredIn}
 use Rattle.spellings.specs.Interned.{tokenAt}
 use Rattle.names.specs.Tables.{noPlace}
@@ -29,7 +28,7 @@ use Rattle.names.specs.OwnName.{OwnName}
 use Rattle.names.specs.OwnNameLaws.{own-at, own-set}
 use Rattle.names.specs.Meeting.{declaredFrom}
 use Rattle.names.specs.MeetingLaws.{declared-here, declared-there, declares-all}
-use Rattle.names.specs.References.{numberIn, DeclaresAt, Where}
+use Rattle.names.specs.References.{numberIn, DeclaresAt, Where, pushed}
 use Rattle.names.specs.Numbering.{Numbered}
 
 pub number-same : (n : Token) (ns : Names) (t : Token) → same (n .text) (t .text) ≡ true → numberIn (n ∷ ns) t ≡ length ns

@@ -11,7 +11,8 @@ use Rattle.entries.specs.Kinds as Kind
 use Rattle.entries.specs.Flat.{Entry, leaf, flat, each, flatParameter, flatIdentifier, flatDefinition, flatDeclaration, flatLine, flatSubsection, outline}
 use Rattle.names.specs.Scan.{after, here, scan}
 use Rattle.names.specs.ScanLaws.{walk-flat}
-use Rattle.names.specs.AlikeLaws.{pushed, alike-pushed, Steady, walkLines-alike}
+use Rattle.names.specs.AlikeLaws.{alike-pushed, Steady, walkLines-alike}
+use Rattle.names.specs.References.{pushed}
 
 module _ (used bound : Names → Token → Option ℕ) (steady-used : Steady used) (steady-bound : Steady bound) where
   abbrev places : Names → List Entry → Option ℕ

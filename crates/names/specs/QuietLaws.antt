@@ -6,7 +6,7 @@ use Rattle.language.specs.Operators.{Equal, Unequal, Less, AtMost, Greater, AtL
 use Rattle.entries.specs.Kinds as Kind
 use Rattle.names.specs.Roles.{uses, binds, ends, declares, Quiet, Ending}
 
-abbrev quiet : {k : ℕ} → uses k ≡ false → binds k ≡ false → ends k ≡ false → declares Kind.parameter k ≡ false → Quiet k
+abbrev pub quiet : {k : ℕ} → uses k ≡ false → binds k ≡ false → ends k ≡ false → declares Kind.parameter k ≡ false → Quiet k
 quiet a b c d = record { no-use = a; no-binder = b; no-end = c; no-declared = d }
 
 pub quiet-truth : Quiet Kind.truth

@@ -12,7 +12,6 @@ use Rattle.entries.specs.Kinds as Kind
 use Rattle.entries.specs.Flat.{Entry}
 use Rattle.names.specs.Roles.{declares}
 use Rattle.names.specs.Scan.{tokenOf}
-use Rattle.names.specs.AlikeLaws.{pushed}
 use Rattle.names.specs.Tables.{noPlace}
 use Rattle.names.specs.Walkable.{entryOf}
 
@@ -25,6 +24,11 @@ numberIn (n ∷ ns) t = elim (same (n .text) (t .text)) [ true ↦ length ns | f
 unfoldable pub reference : Names → Names → Token → ℕ
 reference declared [] t = numberIn declared t
 reference declared (b ∷ bs) t = elim (same (b .text) (t .text)) [ true ↦ maxNames + length bs | false ↦ reference declared bs t ]
+
+-- names put before a list, one after the other
+abbrev pub pushed : Names → Names → Names
+pushed [] ns = ns
+pushed (n ∷ l) ns = pushed l (n ∷ ns)
 
 -- names in the text's order, the last first
 abbrev pub lastFirst : Names → Names

@@ -13,6 +13,7 @@ use Rattle.language.specs.Names.{Names}
 use Rattle.language.specs.Laws.Basics.Tests.{pick, leave, same-refl}
 use Rattle.entries.specs.Kinds as Kind
 use Rattle.entries.specs.Flat.{Entry, under, flat}
+use Rattle.entries.specs.FlatLaws.{own-more}
 use Rattle.names.specs.Roles.{binds, ends}
 use Rattle.names.specs.QuietLaws.{quiet-truth, quiet-before, quiet-joining, quiet-window, quiet-between, ending-big}
 use Rattle.names.specs.Scan.{tokenOf}
@@ -38,9 +39,6 @@ open-less b bs n x y = leave (binds (n .kind)) _ _ x ∙ pick (ends (n .kind)) _
 pub binding : (further : Bool) → (binds (Kind.binder further) ≡ true) × (names (Kind.binder further) ≡ true)
 binding false = (refl, refl)
 binding true = (refl, refl)
-
-length-under : (k : ℕ) (t : Option Token) (ops : List Entry) → length (under k t ops) ≡ length ops + 1
-length-under k t ops = length-append ops (record { kind = k; token = t; size = suc (length ops) } ∷ [])
 
 -- the index before those of an operand
 before-it : (m c : ℕ) → m - 1 ≡ m + c - 1 - c
@@ -74,11 +72,11 @@ module _ (es : List Entry) (refs : List ℕ) (declared : Names) (all : (i : ℕ)
     behind : (cs : Names) → openAfter bs own ≡ cs → Run es (start + length ops) bs [] (own ∷ post) → Run es (start + length (under k t ops)) cs [] post
     behind cs e r =
         let d = run-one es (start + length ops) bs own post (record { here = r .here; opened = r .opened }) in
-        let i : suc (start + length ops) ≡ start + length (under k t ops) = (let l = length-under k t ops in omega arith) in
+        let i : suc (start + length ops) ≡ start + length (under k t ops) = (let l = own-more k t ops in omega arith) in
         subst (λ m. Run es m cs [] post) i (record { here = d .2 .here; opened = d .2 .opened ∙ e })
 
     own-index : start + length ops ≡ start + length (under k t ops) - 1
-    own-index = let l = length-under k t ops in omega arith
+    own-index = let l = own-more k t ops in omega arith
 
   -- operands one behind the other
   both : (a b : Expr) → Goes a → Goes b → (start : ℕ) (bs : Names) (post : List Entry) → Run es start bs (flat a ++ flat b) post
@@ -103,7 +101,7 @@ module _ (es : List Entry) (refs : List ℕ) (declared : Names) (all : (i : ℕ)
       let ops = flat a ++ flat b in
       let n = own k t ops start bs post in
       let p = both a b f g start bs (n ∷ post) (operands k t ops start bs post r) in
-      let l = length-under k t ops in
+      let l = own-more k t ops in
       let m = length-append (flat a) (flat b) in
       let ia : start + length (flat a) - 1 ≡ start + length (under k t ops) - 1 - 1 - length (flat b) = omega arith in
       let ib : start + length (flat a) + length (flat b) - 1 ≡ start + length (under k t ops) - 1 - 1 = omega arith in
@@ -119,7 +117,7 @@ module _ (es : List Entry) (refs : List ℕ) (declared : Names) (all : (i : ℕ)
       let n = own k t ops start bs post in
       let ga = f start bs ((flat b ++ flat c) ++ n ∷ post) (run-split es start bs (flat a) (flat b ++ flat c) (n ∷ post) (operands k t ops start bs post r)) in
       let p = both b c g q (start + length (flat a)) bs (n ∷ post) (again (ga .after)) in
-      let l = length-under k t ops in
+      let l = own-more k t ops in
       let m = length-append (flat a) (flat b ++ flat c) in
       let o = length-append (flat b) (flat c) in
       let all-of : start + length (flat a) + length (flat b ++ flat c) ≡ start + length ops = omega arith in
@@ -149,9 +147,9 @@ module _ (es : List Entry) (refs : List ℕ) (declared : Names) (all : (i : ℕ)
       let more : openAfter bs bn ≡ i ∷ bs = open-more bs bn (binding further .0) in
       let value = value-at (start + length (flat s)) bs bn inner (gs .after) (binding further .1) ∙ ap (λ u. reference declared u i) more ∙ reference-same declared i bs i (same-refl (i .text)) in
       let ge = g (start + length set) (i ∷ bs) (en ∷ post) (again (behind kb (some i) (flat s) start bs inner (i ∷ bs) more (gs .after))) in
-      let l = length-under (Kind.big o) (some t) ops in
+      let l = own-more (Kind.big o) (some t) ops in
       let m = length-append set (flat e) in
-      let q = length-under kb (some i) (flat s) in
+      let q = own-more kb (some i) (flat s) in
       let all-of : start + length set + length (flat e) ≡ start + length ops = omega arith in
       let is : start + length (flat s) - 1 ≡ start + length (under (Kind.big o) (some t) ops) - 1 - 1 - length (flat e) - 1 = omega arith in
       let ib : start + length (flat s) ≡ start + length (under (Kind.big o) (some t) ops) - 1 - 1 - length (flat e) = omega arith in

@@ -13,11 +13,11 @@ use Rattle.language.specs.Tokens.{Token, tokens}
 use Rattle.language.specs.Tree.{Spec}
 use Rattle.language.specs.Places.{first, refuseAt, allLines}
 use Rattle.language.specs.Names.{Names, hidden, again, nowhere, declares, declaresSignal, over, notVisible, doubled, declaredAgain, walkLines, placeOfFirst, tooMany}
+use Rattle.language.specs.Laws.Basics.NoPlace.{first-none}
 use Rattle.entries.specs.Kinds as Kind
 use Rattle.entries.specs.Flat.{outline}
 use Rattle.names.specs.Scan.{scan}
-use Rattle.names.specs.ScanLaws.{first-none}
-use Rattle.names.specs.AlikeLaws.{pushed, steady-hidden, steady-again, steady-nowhere}
+use Rattle.names.specs.AlikeLaws.{steady-hidden, steady-again, steady-nowhere}
 use Rattle.names.specs.OutlineLaws.{scan-outline}
 use Rattle.names.specs.Declaring.{declaredIn}
 use Rattle.names.specs.DeclaringLaws.{declared-outline}
@@ -31,7 +31,7 @@ use Rattle.names.specs.TableLaws.{below-or-not, place-some, place-none, 
 use Rattle.names.specs.Walkable.{Walkable, Table}
 use Rattle.names.specs.Meeting.{declaredFrom}
 use Rattle.names.specs.MeetingLaws.{declared-none}
-use Rattle.names.specs.References.{numberIn, reference, lastFirst, Where}
+use Rattle.names.specs.References.{numberIn, reference, lastFirst, Where, pushed}
 use Rattle.names.specs.Numbering.{Numbered}
 use Rattle.names.specs.Census.{Blanks, Undeclared, Declared}
 use Rattle.names.specs.Walking.{visibleBefore, openBefore, refersTo, visibleAt, Walking}

@@ -10,19 +10,13 @@ use borrow.Author.Tests.{eqb-true, leb-true, lt-leb, ne-eqb}
 use Rattle.language.specs.Operators.{BigSum, BigOr}
 use Rattle.language.specs.Tokens.{Token}
 use Rattle.language.specs.Names.{Names}
-use Rattle.language.specs.Laws.Basics.Tests.{and-left, and-right, and-false, or-cases}
+use Rattle.language.specs.Laws.Basics.Tests.{and-left, and-right, and-false, or-cases, and-last-false}
 use Rattle.entries.specs.Kinds as Kind
 use Rattle.entries.specs.Flat.{Entry}
-use Rattle.names.specs.Roles.{uses, binds, ends, declares}
+use Rattle.names.specs.Roles.{uses, binds, ends, declares, Role}
 use Rattle.names.specs.Scan.{tokenOf, outer, after, here}
 use Rattle.names.specs.ScanLaws.{neither}
 use Rattle.names.specs.Walking.{openAfter}
-
-pub record Role (k : ℕ) (u b e d : Bool) : Type 0 where
-  pub use-is : uses k ≡ u
-  pub bind-is : binds k ≡ b
-  pub end-is : ends k ≡ e
-  pub declare-is : declares Kind.parameter k ≡ d
 
 abbrev role : {k : ℕ} {u b e d : Bool} → uses k ≡ u → binds k ≡ b → ends k ≡ e → declares Kind.parameter k ≡ d → Role k u b e d
 role x y z v = record { use-is = x; bind-is = y; end-is = z; declare-is = v }
@@ -59,11 +53,7 @@ declares-only k y =
     let low = leb-true Kind.parameter k
     (and-left (leb Kind.parameter k) (not (eqb k Kind.word)) (and-left (leb Kind.parameter k && not (eqb k Kind.word)) (leb k Kind.typed) y)) in
     role (no-use k (omega arith)) (no-binder k (λ e. omega arith) (λ e. omega arith))
-    (last-false (leb (Kind.big BigSum) k) (leb k (Kind.big BigOr)) (lt-leb k (Kind.big BigOr) (omega arith))) y
-  where
-    last-false : (a b : Bool) → b ≡ false → (a && b) ≡ false
-    last-false true b e = e
-    last-false false b e = refl
+    (and-last-false (leb (Kind.big BigSum) k) (leb k (Kind.big BigOr)) (lt-leb k (Kind.big BigOr) (omega arith))) y
 
 -- what follows from a role
 module _ (n : Entry) {u b e d : Bool} (r : Role (n .kind) u b e d) where

@@ -34,3 +34,10 @@ pub record Ending (k : ℕ) : Type 0 where
   pub no-binder : binds k ≡ false
   pub is-end : ends k ≡ true
   pub no-declared : declares Kind.parameter k ≡ false
+
+-- what an entry does, by one answer each
+pub record Role (k : ℕ) (u b e d : Bool) : Type 0 where
+  pub use-is : uses k ≡ u
+  pub bind-is : binds k ≡ b
+  pub end-is : ends k ≡ e
+  pub declare-is : declares Kind.parameter k ≡ d

@@ -4,7 +4,6 @@ use mathlib.Core.List.{List, [], _∷_, _++_, append-assoc}
 use mathlib.Core.Bool.{Bool, true, false, _||_}
 use mathlib.Core.Option.{Option, none, some}
 use mathlib.Core.Path.{_≡_, refl, sym, ap, ap₂, _∙_}
-use native.Mathlib.Omega.{arith}
 use lib.ListN.{length}
 use Rattle.language.specs.Tokens.{Token}
 use Rattle.language.specs.Operators.{Big}
@@ -12,40 +11,21 @@ use Rattle.language.specs.Tree.{Expr, Named, Numeral, Truth, Index, Paren, Pref
 use Rattle.language.specs.Places.{first}
 use Rattle.language.specs.Names.{Names, walk}
 use Rattle.language.specs.Laws.Basics.Tests.{pick, leave}
+use Rattle.language.specs.Laws.Basics.NoPlace.{first-assoc, first-comm}
 use Rattle.entries.specs.Kinds as Kind
 use Rattle.entries.specs.Flat.{Entry, under, flat}
 use Rattle.names.specs.Roles.{uses, binds, ends, declares, Quiet, Ending}
-use Rattle.names.specs.QuietLaws.{quiet-truth, quiet-before, quiet-joining, quiet-window, quiet-between, ending-big}
+use Rattle.names.specs.QuietLaws.{quiet-truth, quiet-before, quiet-joining, quiet-window, quiet-between, ending-big, quiet}
 use Rattle.names.specs.Scan.{outer, after, here, scan}
-
--- the smaller of several places, in any order
-pub first-none : (p : Option ℕ) → first p none ≡ p
-first-none none = refl
-first-none (some p) = refl
-
-pub first-swap : (p q : Option ℕ) → first p q ≡ first q p
-first-swap none none = refl
-first-swap none (some q) = refl
-first-swap (some p) none = refl
-first-swap (some p) (some q) = ap some (omega arith)
-
-pub first-group : (p q r : Option ℕ) → first (first p q) r ≡ first p (first q r)
-first-group none q r = refl
-first-group (some p) none r = refl
-first-group (some p) (some q) none = refl
-first-group (some p) (some q) (some r) = ap some (omega arith)
 
 turned : (s b e r : Option ℕ) → first s (first b (first e r)) ≡ first (first b (first s e)) r
 turned s b e r =
-    sym (first-group s b (first e r)) ∙ ap (λ p. first p (first e r)) (first-swap s b) ∙ first-group b s (first e r)
-    ∙ ap (first b) (sym (first-group s e r)) ∙ sym (first-group b (first s e) r)
+    sym (first-assoc s b (first e r)) ∙ ap (λ p. first p (first e r)) (first-comm s b) ∙ first-assoc b s (first e r)
+    ∙ ap (first b) (sym (first-assoc s e r)) ∙ sym (first-assoc b (first s e) r)
 
 pub neither : (a b : Bool) → a ≡ false → b ≡ false → (a || b) ≡ false
 neither true b e f = e
 neither false b e f = f
-
-abbrev silent : {k : ℕ} → uses k ≡ false → binds k ≡ false → ends k ≡ false → declares Kind.parameter k ≡ false → Quiet k
-silent a b c d = record { no-use = a; no-binder = b; no-end = c; no-declared = d }
 
 module _ (used bound : Names → Token → Option ℕ) where
   abbrev places : Names → List Entry → Option ℕ
@@ -83,13 +63,13 @@ module _ (used bound : Names → Token → Option ℕ) where
   then : (ns : Names) (a b : Expr) → Follows ns a → Follows ns b → (es : List Entry) → places ns ((flat a ++ flat b) ++ es) ≡ first (first (walk used bound ns a) (walk used bound ns b)) (places ns es)
   then ns a b f g es =
       ap (places ns) (append-assoc (flat a) (flat b) es) ∙ f (flat b ++ es) ∙ ap (first (walk used bound ns a)) (g es)
-      ∙ sym (first-group (walk used bound ns a) (walk used bound ns b) (places ns es))
+      ∙ sym (first-assoc (walk used bound ns a) (walk used bound ns b) (places ns es))
 
   three : (ns : Names) (a b c : Expr) → Follows ns a → Follows ns b → Follows ns c → (es : List Entry)
       → places ns ((flat a ++ (flat b ++ flat c)) ++ es) ≡ first (first (walk used bound ns a) (first (walk used bound ns b) (walk used bound ns c))) (places ns es)
   three ns a b c f g h es =
       ap (places ns) (append-assoc (flat a) (flat b ++ flat c) es) ∙ f ((flat b ++ flat c) ++ es) ∙ ap (first (walk used bound ns a)) (then ns b c g h es)
-      ∙ sym (first-group (walk used bound ns a) (first (walk used bound ns b) (walk used bound ns c)) (places ns es))
+      ∙ sym (first-assoc (walk used bound ns a) (first (walk used bound ns b) (walk used bound ns c)) (places ns es))
 
   -- a quiet entry behind its operands
   wrapped : (ns : Names) (e : Expr) (k : ℕ) (t : Option Token) (ops : List Entry) → Quiet k → ((es : List Entry) → places ns (ops ++ es) ≡ first (walk used bound ns e) (places ns es))
@@ -115,18 +95,18 @@ module _ (used bound : Names → Token → Option ℕ) where
   walk-flat ns (Truth t b) es = scan-quiet ns (record { kind = Kind.truth; token = some t; size = 1 }) es quiet-truth
   walk-flat ns (Index t e) es =
       ap (places ns) (append-assoc (flat e) _ es) ∙ walk-flat ns e _
-      ∙ sym (first-group (walk used bound ns e) (used ns t) (places ns es))
-      ∙ ap (λ p. first p (places ns es)) (first-swap (walk used bound ns e) (used ns t))
-  walk-flat ns (Paren t e) es = wrapped ns (Paren t e) Kind.paren (some t) (flat e) (silent refl refl refl refl) (walk-flat ns e) es
+      ∙ sym (first-assoc (walk used bound ns e) (used ns t) (places ns es))
+      ∙ ap (λ p. first p (places ns es)) (first-comm (walk used bound ns e) (used ns t))
+  walk-flat ns (Paren t e) es = wrapped ns (Paren t e) Kind.paren (some t) (flat e) (quiet refl refl refl refl) (walk-flat ns e) es
   walk-flat ns (Prefixed t o e) es = wrapped ns (Prefixed t o e) (Kind.before o) (some t) (flat e) (quiet-before o) (walk-flat ns e) es
   walk-flat ns (Joined t o a b) es = wrapped ns (Joined t o a b) (Kind.joining o) (some t) (flat a ++ flat b) (quiet-joining o) (then ns a b (walk-flat ns a) (walk-flat ns b)) es
-  walk-flat ns (Nexts t n e) es = wrapped ns (Nexts t n e) Kind.nexts (some t) (flat n ++ flat e) (silent refl refl refl refl) (then ns n e (walk-flat ns n) (walk-flat ns e)) es
+  walk-flat ns (Nexts t n e) es = wrapped ns (Nexts t n e) Kind.nexts (some t) (flat n ++ flat e) (quiet refl refl refl refl) (then ns n e (walk-flat ns n) (walk-flat ns e)) es
   walk-flat ns (InWindow t o n m e) es = wrapped ns (InWindow t o n m e) Kind.window (some t) (flat n ++ (flat m ++ flat e)) quiet-window
       (three ns n m e (walk-flat ns n) (walk-flat ns m) (walk-flat ns e)) es
   walk-flat ns (Each t o further i s e) es = each ns t o further i s e (walk-flat ns s) (walk-flat (i ∷ ns) e) es
   walk-flat ns (Between t l h a b) es = wrapped ns (Between t l h a b) (Kind.between h) (some t) (flat a ++ flat b) (quiet-between h) (then ns a b (walk-flat ns a) (walk-flat ns b)) es
-  walk-flat ns (Listed t e) es = wrapped ns (Listed t e) Kind.listed (some t) (flat e) (silent refl refl refl refl) (walk-flat ns e) es
+  walk-flat ns (Listed t e) es = wrapped ns (Listed t e) Kind.listed (some t) (flat e) (quiet refl refl refl refl) (walk-flat ns e) es
   walk-flat ns Empty es = refl
-  walk-flat ns (Element e d) es = wrapped ns (Element e d) Kind.element none (flat e ++ flat d) (silent refl refl refl refl) (then ns e d (walk-flat ns e) (walk-flat ns d)) es
-  walk-flat ns (Range t x y z) es = wrapped ns (Range t x y z) Kind.range (some t) (flat x ++ (flat y ++ flat z)) (silent refl refl refl refl)
+  walk-flat ns (Element e d) es = wrapped ns (Element e d) Kind.element none (flat e ++ flat d) (quiet refl refl refl refl) (then ns e d (walk-flat ns e) (walk-flat ns d)) es
+  walk-flat ns (Range t x y z) es = wrapped ns (Range t x y z) Kind.range (some t) (flat x ++ (flat y ++ flat z)) (quiet refl refl refl refl)
       (three ns x y z (walk-flat ns x) (walk-flat ns y) (walk-flat ns z)) es

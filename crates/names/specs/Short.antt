@@ -2,7 +2,7 @@
 use Prim.Native.Nat.{ℕ, _/_}
 use mathlib.Core.List.{List, [], _∷_}
 use Rattle.language.specs.Limits.{maxBytes, maxTokens}
-use Rattle.spellings.specs.Trie.{maxNodes}
+use Rattle.spellings.specs.Trie.{maxTrieNodes}
 use Rattle.names.specs.Tables.{noPlace}
 
 -- 4,096 bytes and 1,024 entries
@@ -14,4 +14,4 @@ shortEntries = maxTokens / 8
 
 -- what the code's constants stand for
 abbrev pub constants : List ℕ
-constants = maxNodes ∷ shortBytes ∷ shortEntries ∷ noPlace ∷ noPlace ∷ []
+constants = maxTrieNodes ∷ shortBytes ∷ shortEntries ∷ noPlace ∷ noPlace ∷ []

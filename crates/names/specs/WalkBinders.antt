@@ -15,12 +15,12 @@ use Rattle.language.specs.Places.{first}
 use Rattle.language.specs.Names.{Names, hidden, again, nowhere}
 use Rattle.language.specs.Laws.Basics.Lists.{All}
 use Rattle.language.specs.Laws.Basics.Tests.{pick, leave, same-refl, same-equal}
+use Rattle.language.specs.Laws.Basics.NoPlace.{first-none}
 use Rattle.entries.specs.Flat.{Entry}
 use Rattle.entries.specs.Stored.{firstEntry, kindOf, indexOf}
-use Rattle.names.specs.Roles.{binds, ends}
-use Rattle.names.specs.RoleLaws.{Role, binds-only, ends-only, after-role, open-role, here-role}
+use Rattle.names.specs.Roles.{binds, ends, Role}
+use Rattle.names.specs.RoleLaws.{binds-only, ends-only, after-role, open-role, here-role}
 use Rattle.names.specs.Scan.{tokenOf, outer, after}
-use Rattle.names.specs.ScanLaws.{first-none}
 use Rattle.names.specs.Balanced.{Balanced, after-binder, after-end}
 use Rattle.spellings.specs.Interned.{tokenAt, top}
 use Rattle.spellings.specs.TopLaws.{below-top}

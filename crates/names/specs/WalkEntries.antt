@@ -11,13 +11,14 @@ use Rattle.words.specs.Words.{wordAt}
 use Rattle.language.specs.Places.{first}
 use Rattle.language.specs.Names.{Names, hidden, again, nowhere}
 use Rattle.language.specs.Laws.Basics.Lists.{All}
+use Rattle.language.specs.Laws.Basics.NoPlace.{first-none}
 use Rattle.entries.specs.Kinds as Kind
 use Rattle.entries.specs.Flat.{Entry}
 use Rattle.entries.specs.Stored.{firstEntry, kindOf}
-use Rattle.names.specs.Roles.{uses, binds, ends, declares}
-use Rattle.names.specs.RoleLaws.{Role, uses-only, declares-only, after-role, open-role, here-role}
+use Rattle.names.specs.Roles.{uses, binds, ends, declares, Role}
+use Rattle.names.specs.RoleLaws.{uses-only, declares-only, after-role, open-role, here-role}
 use Rattle.names.specs.Scan.{tokenOf, after}
-use Rattle.names.specs.ScanLaws.{first-none, neither}
+use Rattle.names.specs.ScanLaws.{neither}
 use Rattle.names.specs.Balanced.{Balanced, after-declared, after-quiet}
 use Rattle.names.specs.Tables.{placeOf, least, Placed, hiddenPlace}
 use Rattle.names.specs.TableLaws.{place-min, hidden-least}

@@ -14,9 +14,9 @@ use Rattle.language.specs.Tokens.{Token}
 use Rattle.language.specs.Places.{first}
 use Rattle.language.specs.Names.{Names, hidden, again, nowhere}
 use Rattle.language.specs.Laws.Basics.Lists.{All}
+use Rattle.language.specs.Laws.Basics.NoPlace.{first-assoc}
 use Rattle.entries.specs.Flat.{Entry}
 use Rattle.names.specs.Scan.{tokenOf, after, here, scan}
-use Rattle.names.specs.ScanLaws.{first-group}
 use Rattle.names.specs.Balanced.{Balanced}
 use Rattle.names.specs.Tables.{placeOf, least, Placed}
 use Rattle.names.specs.Walkable.{names, Walkable, Table, entryOf}
@@ -60,7 +60,7 @@ module _ {w ids : List ℕ} {entries : ℕ} (h : Walkable w ids entries) (declar
   found used bound p q e f =
       e
       ∙ ap (first (placeOf p)) (ap (scan used bound (visibleAt h declared k)) rest ∙ scan-one used bound (visibleAt h declared k) own (drop (k + 1) (h .es)))
-      ∙ sym (first-group (placeOf p) (here used bound (visibleAt h declared k) own) (scan used bound visible-next (drop (k + 1) (h .es))))
+      ∙ sym (first-assoc (placeOf p) (here used bound (visibleAt h declared k) own) (scan used bound visible-next (drop (k + 1) (h .es))))
       ∙ ap₂ first (sym f) (ap (λ ns. scan used bound ns (drop (k + 1) (h .es))) (sym next-visible))
 
   -- the state behind it

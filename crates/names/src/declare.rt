@@ -1,9 +1,9 @@
 // Declared names and those of their spelling: refusal 7 among them.
 use crate::entry::Name;
 use crate::entry::declares;
-use crate::entry::kind_at;
 use crate::entry::name_at;
 use basics::u16_u32::wide;
+use entries::fields::kind_at;
 ghost use mathlib.Core.Path.{_≡_};
 ghost use Prim.Native.Nat.{_+_, _≤_, _<_, min, max};
 ghost use lib.ListN.{length};

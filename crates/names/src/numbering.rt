@@ -1,8 +1,8 @@
 // Declared names by their numbers in the text's order: refusal 8.
 use crate::entry::Name;
 use crate::entry::declares;
-use crate::entry::kind_at;
 use crate::entry::name_at;
+use entries::fields::kind_at;
 use entries::kinds;
 use language::limits;
 ghost use Prim.Native.Nat.{_+_, _≤_, _<_};

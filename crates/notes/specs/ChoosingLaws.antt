@@ -12,11 +12,12 @@ use borrow.Author.Tests.{eq-eqb, ne-eqb}
 use Rattle.words.specs.Words.{wordAt}
 use Rattle.language.specs.Grammar.{Tokens}
 use Rattle.language.specs.Laws.Basics.Tests.{pick, leave}
+use Rattle.entries.specs.Headings.{noHeading}
 use Rattle.entries.specs.Kinds as Kind
 use Rattle.entries.specs.Flat.{Entry}
 use Rattle.entries.specs.Stored.{firstEntry, kindOf, sizeOf, EntryAt, EntriesFrom}
 use Rattle.entries.specs.StoredLaws.{entry-kind, entry-size}
-use Rattle.notes.specs.Chosen.{noHeading, Choice, takes, chosen}
+use Rattle.notes.specs.Chosen.{Choice, takes, chosen}
 use Rattle.notes.specs.Choosing.{Chooses}
 
 module _ (w : List ℕ) (ts : Tokens) (entries : ℕ) (c : Choice) (es : List Entry) (old : List ℕ) (from : ℕ) where

@@ -6,10 +6,6 @@ use lib.Dec.{eqb, leb}
 use Rattle.entries.specs.Kinds as Kind
 use Rattle.entries.specs.Flat.{Entry}
 
--- before MAIN no heading has been met: that is a number which no heading has
-abbrev pub noHeading : ℕ
-noHeading = 8
-
 -- what is looked for: the kinds from `low` to `high` under the heading `wanted`
 pub record Choice : Type 0 where
   pub wanted : ℕ

@@ -39,11 +39,12 @@ use Rattle.language.specs.Declared.{inputs, outputs}
 use Rattle.language.specs.Laws.Basics.Lists.{All, all-append, all-more}
 use Rattle.language.specs.Laws.Basics.Tests.{pick, leave}
 use Rattle.language.specs.Laws.Values.PortLaws.{Pairs}
+use Rattle.entries.specs.Headings.{noHeading}
 use Rattle.entries.specs.Kinds as Kind
 use Rattle.entries.specs.Flat.{Entry, under, leaf, flat, each, flatParameter, flatIdentifier, flatDefinition, flatDeclaration, flatLine, head, flatSubsection, outline}
+use Rattle.entries.specs.FlatLaws.{all-each, flat-inside}
 use Rattle.name_values.specs.Worked.{EachFrom, mainStart}
-use Rattle.notes.specs.Inside.{flat-inside}
-use Rattle.notes.specs.Chosen.{noHeading, Choice, choice, takes, chosen}
+use Rattle.notes.specs.Chosen.{Choice, choice, takes, chosen}
 
 module _ (c : Choice) (heading : ℕ) where
   -- an entry that is passed over
@@ -103,11 +104,6 @@ module _ {A : Type 0} (c : Choice) (flatten : A → List Entry) (P : A → ℕ �
       let s = length-append (flatten a) (each flatten l) in
       subst (Pairs P (a ∷ (l ++ more))) (sym (ap (chosen c heading i) (append-assoc (flatten a) (each flatten l) rest) ∙ one a (each flatten l ++ rest) i))
       (h .0, lines-chosen l (i + length (flatten a)) more (h .1) (subst (λ k. Pairs P more (chosen c heading k rest)) (omega arith) g))
-
--- lines that are passed over
-skip-each : {A : Type 0} (c : Choice) (heading : ℕ) (flatten : A → List Entry) → ((a : A) → All (Passed c heading) (flatten a)) → (l : List A) → All (Passed c heading) (each flatten l)
-skip-each c heading flatten h [] = tt
-skip-each c heading flatten h (a ∷ l) = all-append (Passed c heading) (flatten a) (each flatten l) (h a) (skip-each c heading flatten h l)
 
 -- a line's own entry behind its expression
 own-chosen : (c : Choice) (heading k : ℕ) (t : Option Token) (e : Expr) → Kind.parameter ≤ c .low → k < Kind.heading → takes c heading k ≡ true → (fs : List Entry) (i : ℕ) →
@@ -169,7 +165,7 @@ formula-away c heading h e =
 section-away : {A : Type 0} (c : Choice) (before heading i : ℕ) (flatten : A → List Entry) → ((a : A) → All (Passed c heading) (flatten a)) → (l : List A) (rest : List Entry) →
     chosen c before i ((head heading ++ each flatten l) ++ rest) ≡ chosen c heading (i + length (head heading ++ each flatten l)) rest
 section-away c before heading i flatten h l rest =
-    chosen-skip c heading (each flatten l) rest (suc i) (skip-each c heading flatten h l) ∙ ap (λ k. chosen c heading k rest) (omega arith)
+    chosen-skip c heading (each flatten l) rest (suc i) (all-each (Passed c heading) flatten h l) ∙ ap (λ k. chosen c heading k rest) (omega arith)
 
 -- no parameter stands in MAIN
 main-none : (ss : List Subsection) (heading i : ℕ) → chosen parameterChoice heading i (each flatSubsection ss) ≡ []
@@ -199,7 +195,7 @@ parameters-chosen P x h =
     let ms = each flatSubsection (x .main) in
     let k = length (each flatParameter (x .parameters)) in
     let none-left : chosen parameterChoice noHeading (0 + k) (ds ++ ms) ≡ [] =
-    chosen-skip parameterChoice noHeading ds ms (0 + k) (skip-each parameterChoice noHeading flatDefinition definition-skipped (x .definitions)) ∙ main-none (x .main) noHeading (0 + k + length ds) in
+    chosen-skip parameterChoice noHeading ds ms (0 + k) (all-each (Passed parameterChoice noHeading) flatDefinition definition-skipped (x .definitions)) ∙ main-none (x .main) noHeading (0 + k + length ds) in
     subst (λ l. Pairs P l (chosen parameterChoice noHeading 0 (outline x))) (append-nil (x .parameters))
     (lines-chosen parameterChoice flatParameter P noHeading (ds ++ ms)
     (λ p fs i. own-chosen parameterChoice noHeading Kind.parameter (some (p .name)) (p .value) (omega arith) (omega arith) refl fs i) (x .parameters) 0 [] h
@@ -284,8 +280,8 @@ module _ (P : Declaration → ℕ → Type 0) (wanted : ℕ) (main-heading : wan
       let ds = each flatDefinition (x .definitions) in
       let ms = each flatSubsection (x .main) in
       subst (Pairs P (under-heading wanted (x .main)))
-      (sym (chosen-skip c noHeading qs (ds ++ ms) 0 (skip-each c noHeading flatParameter parameter-below (x .parameters)) ∙ chosen-skip c noHeading ds ms (0 + length qs)
-      (skip-each c noHeading flatDefinition definition-below (x .definitions)) ∙ ap (λ k. chosen c noHeading k ms) (omega arith)))
+      (sym (chosen-skip c noHeading qs (ds ++ ms) 0 (all-each (Passed c noHeading) flatParameter parameter-below (x .parameters)) ∙ chosen-skip c noHeading ds ms (0 + length qs)
+      (all-each (Passed c noHeading) flatDefinition definition-below (x .definitions)) ∙ ap (λ k. chosen c noHeading k ms) (omega arith)))
       (main-chosen (x .main) noHeading (mainStart x) h)
 
 pub inputs-chosen : (P : Declaration → ℕ → Type 0) (x : Spec) → EachFrom flatSubsection (InSubsection P) (mainStart x) (x .main)

@@ -1,7 +1,6 @@
 pub mod Notes
 pub mod NumberedLaws
 pub mod NotesLaws
-pub mod Inside
 pub mod Chosen
 pub mod ChosenLaws
 pub mod Choosing

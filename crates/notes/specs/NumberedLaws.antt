@@ -13,9 +13,8 @@ use Rattle.language.specs.Names.{Names, visible}
 use Rattle.language.specs.Laws.Basics.Lists.{All, all-more}
 use Rattle.language.specs.Laws.Basics.Tests.{leave, same-equal}
 use Rattle.language.specs.Laws.Values.DistinctNames.{Apart, Distinct, Across, apart-sym}
-use Rattle.names.specs.References.{numberIn}
+use Rattle.names.specs.References.{numberIn, pushed}
 use Rattle.names.specs.NumberingLaws.{number-same, number-other}
-use Rattle.names.specs.AlikeLaws.{pushed}
 use Rattle.name_values.specs.World.{numbered}
 use Rattle.name_values.specs.AgreesLaws.{numbered-last}
 use Rattle.names.specs.ResolvedLaws.{number-below}

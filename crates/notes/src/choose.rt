@@ -2,6 +2,7 @@
 use entries::fields::FIRST_ENTRY;
 use entries::fields::SIZES;
 use entries::fields::TOKENS;
+use entries::headings;
 use entries::kinds;
 use words::get;
 ghost use mathlib.Core.List.{List};
@@ -15,9 +16,6 @@ ghost use Rattle.entries.specs.Flat.{Entry};
 ghost use Rattle.entries.specs.Stored.{firstEntry, EntriesFrom};
 ghost use Rattle.notes.specs.Chosen.{choice, takes as takes'};
 ghost use Rattle.notes.specs.Choosing.{Chooses};
-
-// The kind of a subsection's heading (crate entries, specs/Kinds), and what stands for a heading before MAIN.
-pub const NO_HEADING: u32 = 8;
 
 // The word of entry i. It is called with entries that are there.
 pub fn entry_word(work: &[u8], i: usize) -> u32
@@ -55,7 +53,7 @@ pub fn choose(
     ensures { λ r. ⌜ ((ts : Tokens) (es : List Entry) → EntriesFrom (now (work .entry)) ts 0 es → length es ≡ entries
         → Chooses (choice wanted low high) es (now (order .entry)) from (now (order .exit)) r) ⌝ }
 {
-    let mut heading = NO_HEADING;
+    let mut heading = headings::NO_HEADING;
     let mut at = from;
     let mut i: usize = 0;
     while i < entries {

@@ -14,6 +14,7 @@ use Rattle.language.specs.Tokens.{Token}
 use Rattle.language.specs.Operators.{Role, Plain, Counted, Windowed, Folding, InfixRow, infixes, PrefixRow, prefixes}
 use Rattle.language.specs.Grammar.{rightLevel}
 use Rattle.language.specs.Laws.Basics.Tests.{and-left, and-right, some-none}
+use Rattle.language.specs.Cases.Every.{every}
 use Rattle.lexer.specs.Numbers.{number, numbered}
 use Rattle.entries.specs.Kinds as Kind
 use Rattle.operators.specs.Readers.{infixRow, prefixRow, operatorIn, operatorAt, levelIn, levelAt, roleIn, roleAt}
@@ -38,12 +39,7 @@ use Rattle.operators.specs.Tables.{rowBy, infixBy, prefixBy, infixWord, 
 use Rattle.operators.specs.TableLaws.{infix-number, prefix-number}
 
 -- what a test says of every row holds of the row found
-every : {R : Type 0} → (R → Bool) → List R → Bool
-every p [] = true
-every p (r ∷ rs) = p r && every p rs
-
 row-has : {R : Type 0} (names : R → List String) (p : R → Bool) (n : ℕ) (rs : List R) → every p rs ≡ true → (r : R) → rowBy names rs n ≡ some r → p r ≡ true
-unfolding every
 row-has names p n [] h r e = absurd (some-none (sym e))
 row-has names p n (q ∷ rs) h r e = go (numbered (names q) n) refl e (λ f. row-has names p n rs (and-right (p q) (every p rs) h) r f)
   where
@@ -68,7 +64,7 @@ pub record InfixFound (t : Token) (x : ℕ) : Type 0 where
   pub kind-fits : kindField x < Kind.limit
 
 infix-found : (t : Token) (r : InfixRow) → infixBy (number t) ≡ some r → InfixFound t (infixWord (some r))
-unfolding operatorAt every
+unfolding operatorAt
 infix-found t r e =
     let row = infix-number t ∙ e in
     let tests = row-has (λ (q : InfixRow). q .names) infix-test (number t) infixes refl r e in
@@ -98,7 +94,6 @@ infix-found t r e =
 -- the word is 0 if there is none
 module _ (t : Token) where
   by-infix : (o : Option InfixRow) → infixBy (number t) ≡ o → (infixWord o ≡ 0 → infixRow t ≡ none) × ((infixWord o ≡ 0 → ⊥) → InfixFound t (infixWord o))
-  unfolding every
   by-infix none e = (λ _. infix-number t ∙ e, λ f. absurd (f refl))
   by-infix (some r) e =
       let found = infix-found t r e in (
@@ -137,7 +132,7 @@ role-small : (o : Role) → roleNumber o < 2 ^ roleBits
 role-small o = elim o [ Plain p ↦ lit< tt | Counted ↦ lit< tt | Windowed q ↦ lit< tt | Folding q ↦ lit< tt ]
 
 prefix-found : (t : Token) (r : PrefixRow) → prefixBy (number t) ≡ some r → PrefixFound t (prefixWord (some r))
-unfolding levelAt roleAt every
+unfolding levelAt roleAt
 prefix-found t r e =
     let row = prefix-number t ∙ e in
     let tests = row-has (λ (q : PrefixRow). q .names) prefix-test (number t) prefixes refl r e in

@@ -22,15 +22,15 @@ use Rattle.parser.specs.Outlines.{factsOf}
 use Rattle.outline.specs.declared.TextOutline.{TextOutline}
 use Rattle.outline.specs.declared.TextOutline.the-variants.{Accepted, Refused}
 
--- the parser's answer, with the number of tokens
-abbrev pub counted : ℕ → Outline → TextOutline
-counted n (Drawn m f) = Accepted n m f
-counted n (NotDrawn number place) = Refused number place
-
 -- a refusal of the lexer, 'handed up unchanged': 0 where there is none, which no caller asks
 abbrev pub unread : Lexed → TextOutline
 unread (NotLexed number place) = Refused number place
 unread (Lexed.Tokens count) = Refused 0 0
+
+-- and one of the parser
+abbrev pub unparsed : Outline → TextOutline
+unparsed (NotDrawn number place) = Refused number place
+unparsed (Drawn m f) = Refused 0 0
 
 -- the buffer v holds n tokens and the m entries of the tree that they are read as
 pub record Outlined (text v : List ℕ) (n m : ℕ) (f : Facts) : Type 0 where

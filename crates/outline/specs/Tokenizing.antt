@@ -14,18 +14,20 @@ use Rattle.language.specs.Grammar.{Tokens, front}
 use Rattle.language.specs.Tree.{Spec}
 use Rattle.language.specs.Sections.{specOf}
 use Rattle.language.specs.Laws.Grammar.TokenLaws.{Ends, tokens-end}
-use Rattle.lexer.specs.Lexing.{lexing}
-use Rattle.lexer.specs.LexingLaws.{Lexical, lexical, token-stands, token-right}
+use Rattle.lexer.specs.Lexing.{lexing, Lexical}
+use Rattle.lexer.specs.LexingLaws.{lexical, token-stands, token-right}
 use Rattle.lexer.specs.declared.Lexed.{Lexed as Lexing}
 use Rattle.lexer.specs.declared.Lexed.the-variants.{Tokens as Stored, Refused as NotStored}
 use Rattle.lexer.specs.Answer.{Answers, Tokenized, Lexes, tokenBytes}
 use Rattle.entries.specs.Cursors.{Tells}
 use Rattle.entries.specs.Reads.{Kept}
+use Rattle.parser.specs.declared.Facts.{Facts}
 use Rattle.parser.specs.declared.Outline.{Outline}
+use Rattle.parser.specs.declared.Outline.the-variants.{Accepted as Drawn, Refused as NotDrawn}
 use Rattle.parser.specs.Outlines.{Lexed, Outlined, Answer}
 use Rattle.outline.specs.declared.TextOutline.{TextOutline}
-use Rattle.outline.specs.declared.TextOutline.the-variants.{Refused as NotAccepted}
-use Rattle.outline.specs.Outlining.{counted, unread, Says, Outlining}
+use Rattle.outline.specs.declared.TextOutline.the-variants.{Accepted, Refused as NotAccepted}
+use Rattle.outline.specs.Outlining.{unread, unparsed, Says, Outlining}
 
 -- the last token is the text's end
 last-token : (n : ℕ) (ts : Tokens) → Ends n ts → ((i : ℕ) → i < length ts → isOf Wrong (front (drop i ts)) ≡ false) → (k : ℕ) → suc k ≡ length ts
@@ -42,6 +44,11 @@ place-most n [] h zero = omega arith
 place-most n [] h (suc i) = omega arith
 place-most n (t ∷ ts) h zero = h 0 (omega arith)
 place-most n (t ∷ ts) h (suc i) = place-most n ts (λ j l. h (suc j) (omega arith)) i
+
+-- the parser's answer, with the number of tokens
+abbrev counted : ℕ → Outline → TextOutline
+counted n (Drawn m f) = Accepted n m f
+counted n (NotDrawn number place) = NotAccepted number place
 
 module _ {text v : List ℕ} {n : ℕ} (h : Tokenized text v n) where
   texts : Lexical text (tokens text)
@@ -86,15 +93,22 @@ module _ {text v : List ℕ} {n : ℕ} (h : Tokenized text v n) where
       (record { tree = x; lexed = still k; read = e; total = refl; few = d .few; stored = d .entries; facts = refl })
   says {z} (Refused number place) o e k d = subst (λ o. Says text z (counted n o)) (sym d) (then-done ∙ e)
 
-  pub outlined : {w z : List ℕ} {o : Outline} {r : TextOutline} → length v ≡ length w → past tokenBytes v ≡ past tokenBytes w → ((ts : Tokens) → Tells ts v n (length text) → Outlined ts v z o)
-      → r ≡ counted n o → Outlining text w z r
-  outlined {w} {z} {o} size kept f e =
-      let told = f (tokens text) tells in
-      record {
-        says = subst (Says text z) (sym e) (says (specOf (tokens text)) o refl (told .kept) (told .says));
-        size = told .kept .len ∙ size;
-        beyond = told .kept .beyond ∙ past-later tokenBytes workBytes v w (omega arith) kept;
-      }
+  module _ {w z : List ℕ} {o : Outline} (size : length v ≡ length w) (kept : past tokenBytes v ≡ past tokenBytes w) (f : (ts : Tokens) → Tells ts v n (length text) → Outlined ts v z o) where
+    answered : {r : TextOutline} → r ≡ counted n o → Outlining text w z r
+    answered e =
+        let told = f (tokens text) tells in
+        record {
+          says = subst (Says text z) (sym e) (says (specOf (tokens text)) o refl (told .kept) (told .says));
+          size = told .kept .len ∙ size;
+          beyond = told .kept .beyond ∙ past-later tokenBytes workBytes v w (omega arith) kept;
+        }
+
+    pub outlined : {m : ℕ} {facts : Facts} → o ≡ Drawn m facts → Outlining text w z (Accepted n m facts)
+    outlined e = answered (sym (ap (counted n) e))
+
+    -- a refusal of the parser, handed up
+    pub not-outlined : {r : TextOutline} {number place : ℕ} → o ≡ NotDrawn number place → r ≡ unparsed o → Outlining text w z r
+    not-outlined e u = answered (u ∙ ap unparsed e ∙ sym (ap (counted n) e))
 
 -- the lexer's answer by its cases
 module _ {text w v : List ℕ} {r : Lexing} (l : Lexes text w v r) where

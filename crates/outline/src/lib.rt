@@ -9,22 +9,12 @@ ghost use mathlib.Core.Path.{_≡_};
 ghost use Prim.Native.Nat.{_≤_};
 ghost use lib.ListN.{length};
 ghost use Rattle.language.specs.Limits.{workBytes};
-ghost use Rattle.outline.specs.Outlining.{counted as counted', unread as unread', Outlining};
+ghost use Rattle.outline.specs.Outlining.{unread as unread', unparsed as unparsed', Outlining};
 
 // An accepted text's numbers of tokens and of entries and what its INFO says, or a refusal's number and place.
 pub enum TextOutline {
     Accepted(usize, usize, Facts),
     Refused(u32, u32),
-}
-
-// The parser's answer, with the number of tokens.
-fn counted(tokens: usize, outline: Outline) -> TextOutline
-    ensures { λ r. ⌜ r ≡ counted' tokens outline ⌝ }
-{
-    match outline {
-        Outline::Accepted(entries, facts) => TextOutline::Accepted(tokens, entries, facts),
-        Outline::Refused(number, place) => TextOutline::Refused(number, place),
-    }
 }
 
 // A refusal of the lexer.
@@ -37,6 +27,16 @@ fn unread(lexed: Lexed) -> TextOutline
     }
 }
 
+// A refusal of the parser.
+fn unparsed(outline: Outline) -> TextOutline
+    ensures { λ r. ⌜ r ≡ unparsed' outline ⌝ }
+{
+    match outline {
+        Outline::Refused(number, place) => TextOutline::Refused(number, place),
+        Outline::Accepted(_, _) => TextOutline::Refused(0, 0),
+    }
+}
+
 // The outline of a text.
 pub fn outlined(text: &[u8], work: &mut [u8]) -> TextOutline
     requires { ⌜ workBytes ≤ length (now work) ⌝ }
@@ -46,5 +46,9 @@ pub fn outlined(text: &[u8], work: &mut [u8]) -> TextOutline
     let Lexed::Tokens(count) = lexed else {
         return unread(lexed);
     };
-    counted(count as usize, parse(work, count as usize, text.len()))
+    let outline = parse(work, count as usize, text.len());
+    let Outline::Accepted(entries, facts) = outline else {
+        return unparsed(outline);
+    };
+    TextOutline::Accepted(count as usize, entries, facts)
 }

@@ -9,6 +9,7 @@ use Rattle.language.specs.Tree.{partCode, Subsection}
 use Rattle.language.specs.Grammar.{Tokens, Read, rest, stop, expect}
 use Rattle.language.specs.Sections.{Heading, InputsHere, OutputsHere, LinesHere, HeadingRow, headings, subsectionOf}
 use Rattle.lexer.specs.Numbers.{numbered}
+use Rattle.entries.specs.Headings as Heading
 use Rattle.entries.specs.Flat.{each, flatSubsection}
 use Rattle.entries.specs.declared.Cursor.{Cursor}
 use Rattle.entries.specs.declared.Parse.{Parse}
@@ -19,13 +20,9 @@ abbrev pub rowOf : List HeadingRow → ℕ → Option HeadingRow
 rowOf [] k = none
 rowOf (r ∷ rs) k = elim (numbered (r .names) k) [ true ↦ some r | false ↦ rowOf rs k ]
 
--- how many subsections there are: a number that none of them has
-abbrev pub noHeading : ℕ
-noHeading = 8
-
 -- the number of a row, if there is one
 abbrev pub rowNumber : Option HeadingRow → ℕ
-rowNumber none = noHeading
+rowNumber none = Heading.noHeading
 rowNumber (some r) = r .number
 
 -- the subsection whose word has the number k
@@ -34,9 +31,9 @@ headingNumber k = rowNumber (rowOf headings k)
 
 -- the number under which a subsection's entry stands
 abbrev pub headingCode : Heading → ℕ
-headingCode InputsHere = 0
-headingCode OutputsHere = 1
-headingCode (LinesHere p) = 2 + partCode p
+headingCode InputsHere = Heading.inputs
+headingCode OutputsHere = Heading.outputs
+headingCode (LinesHere p) = Heading.firstPart + partCode p
 
 -- subsection n from its word on
 abbrev pub ReadsSubsection : ℕ → List ℕ → List ℕ → Cursor → Parse → Type 0

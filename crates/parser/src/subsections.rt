@@ -3,25 +3,26 @@ use super::Line;
 use super::blocks::block;
 use entries::Cursor;
 use entries::Parse;
+use entries::headings;
 use entries::kinds;
 use lexer::numbers;
 ghost use mathlib.Core.List.{[]};
 ghost use mathlib.Core.Path.{_≡_};
 ghost use Prim.Native.Nat.{_<_};
 ghost use Rattle.language.specs.Sections.{subsectionsOf};
+ghost use Rattle.entries.specs.Headings.{noHeading};
 ghost use Rattle.entries.specs.Flat.{each, flatSubsection};
 ghost use Rattle.entries.specs.Cursors.{Readied};
 ghost use Rattle.entries.specs.Reads.{Parses};
-ghost use Rattle.parser.specs.Headings.{noHeading, headingNumber, ReadsSubsection, ReadsEnd};
+ghost use Rattle.parser.specs.Headings.{headingNumber, ReadsSubsection, ReadsEnd};
 
 // For each word of a subsection, by its number, the subsection: 'the v1.0 names are read as their v1.1 ones'.
 const HEADINGS: [usize; 11] = [0, 1, 2, 3, 4, 5, 6, 7, 5, 6, 7];
 
 // Subsections that hold declarations come first.
-const FIRST_FORMULAS: usize = 2;
+const FIRST_FORMULAS: usize = headings::FIRST_PART as usize;
 
-// How many subsections there are (specs/Headings); no subsection has this number.
-const NO_HEADING: usize = 8;
+const NO_HEADING: usize = headings::NO_HEADING as usize;
 
 // The subsection whose word has the number.
 fn heading(number: u32) -> usize

@@ -19,7 +19,7 @@ use Rattle.language.specs.Names.{placeOfFirst}
 use Rattle.language.specs.Words.{meet, wordsIn, wrongLength, wrongLengths, clash, clashes, badWords, wrongWords}
 use Rattle.language.specs.Meaning.{SignalOf, BitOf, Word, Matches}
 use Rattle.language.specs.Laws.Basics.Lists.{All, Any, all-any, all-both, all-left, all-right, all-append}
-use Rattle.language.specs.Laws.Basics.Tests.{split, or-left, or-right, or-cases, and-left, and-right}
+use Rattle.language.specs.Laws.Basics.Tests.{split, or-left, or-right, or-cases, and-left, and-right, or-left-false, or-right-false}
 use Rattle.language.specs.Laws.Basics.Results.{value-of}
 use Rattle.language.specs.Laws.Grammar.TreeTokens.{InIdentifier, InDefinition}
 use Rattle.language.specs.Laws.Grammar.SpecReads.{specOf-decides}
@@ -45,10 +45,6 @@ record Differ (u v : List ℕ) : Type 0 where
   left : ¬ (getD u index 0 ≡ 42)
   right : ¬ (getD v index 0 ≡ 42)
 
-not-or : (a b : Bool) → (a || b) ≡ false → (a ≡ false) × (b ≡ false)
-not-or true b e = absurd (false≢true (sym e))
-not-or false b e = (refl, e)
-
 differ : (u v : List ℕ) → meet u v ≡ false → Differ u v
 differ [] v e = absurd (false≢true (sym e))
 differ (a ∷ u) [] e = absurd (false≢true (sym e))
@@ -59,9 +55,15 @@ differ (a ∷ u) (b ∷ v) e = go (Meet a b) refl (λ f. differ u v f)
         let d = more (sym (subst (λ (c : Bool). (c && meet u v) ≡ meet u v) (sym h) refl) ∙ e) in
         record { index = suc (d .index); inner = let l = d .inner in omega arith; outer = let l = d .outer in omega arith; unlike = d .unlike; left = d .left; right = d .right }
     go false h more =
-        let f = not-or (eqb a b || eqb a 42) (eqb b 42) h in
-        let g = not-or (eqb a b) (eqb a 42) (f .0) in
-        record { index = 0; inner = omega arith; outer = omega arith; unlike = eqb-false a b (g .0); left = eqb-false a 42 (g .1); right = eqb-false b 42 (f .1) }
+        let f = or-left-false (eqb a b || eqb a 42) (eqb b 42) h in
+        record {
+          index = 0;
+          inner = omega arith;
+          outer = omega arith;
+          unlike = eqb-false a b (or-left-false (eqb a b) (eqb a 42) f);
+          left = eqb-false a 42 (or-right-false (eqb a b) (eqb a 42) f);
+          right = eqb-false b 42 (or-right-false (eqb a b || eqb a 42) (eqb b 42) h);
+        }
 
 mark-at : (ms : List ℕ) (i : ℕ) → AreMarks ms → i < length ms → isMark (getD ms i 0) ≡ true
 mark-at [] i h l = absurd (omega arith)

@@ -15,14 +15,11 @@ use Rattle.language.specs.Tokens.{run}
 use Rattle.language.specs.Meaning.{Atom}
 use Rattle.language.specs.Numbered.{widthOf, indexOf, offsetOf, nameAt}
 use Rattle.language.specs.Laws.Basics.Tests.{split, pick, leave}
+use Rattle.language.specs.Laws.Grammar.PieceLaws.{run-fits}
 use Rattle.basic.specs.Spelling.{digitsOf, spelling, spelled}
 use Rattle.signal_names.specs.Runs.{part-length, puts-after, puts-length}
 use Rattle.signal_names.specs.Promise.{part, Puts}
 use Rattle.signal_names.specs.Slots.{PutsName}
-
-pub run-within : (p : ℕ → Bool) (l : List ℕ) → run p l ≤ length l
-run-within p [] = omega arith
-run-within p (b ∷ l) = split (λ n. n ≤ suc (length l)) (p b) (λ _. omega (arith, run-within p l)) (λ _. omega arith)
 
 module _ (p : ℕ → Bool) (text : List ℕ) (i : ℕ) where
   pub run-on : i < length text → p (getD text i 0) ≡ true → run p (drop i text) ≡ suc (run p (drop (i + 1) text))
@@ -37,7 +34,7 @@ module _ (p : ℕ → Bool) (text : List ℕ) (i : ℕ) where
 -- the name of so many bytes at the offset o, at which an entry points
 module _ (text : List ℕ) (e size o : ℕ) (at-offset : o ≡ offsetOf e) (is : size ≡ run isNameByte (drop o text)) where
   pub size-within : size ≤ length text - o
-  size-within = omega (arith, run-within isNameByte (drop o text), length-drop o text)
+  size-within = omega (arith, run-fits isNameByte (drop o text), length-drop o text)
 
   name-part : nameAt text (offsetOf e) ≡ part text o size
   name-part = ap (nameAt text) (sym at-offset) ∙ ap (part text o) (sym is)

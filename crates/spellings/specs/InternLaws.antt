@@ -22,7 +22,7 @@ use Rattle.lexer.specs.Answer.{Tokenized}
 use Rattle.lexer.specs.LexingLaws.{lexical, token-stands, number-at, offset-at, length-at}
 use Rattle.lexer.specs.Stored.{numberIn, offsetIn, lengthIn}
 use Rattle.words.specs.Words.{wordAt}
-use Rattle.spellings.specs.Trie.{maxNodes, Trie, Spells, part}
+use Rattle.spellings.specs.Trie.{maxTrieNodes, Trie, Spells, part}
 use Rattle.spellings.specs.SpellLaws.{spells-few}
 use Rattle.spellings.specs.Interned.{tokenAt, IsName, Lexed, top, Interned, Indexed, Begun}
 use Rattle.spellings.specs.TopLaws.{top-least}
@@ -164,7 +164,7 @@ module _ {text w : List ℕ} {count j word : ℕ} (h : Lexed text w count) (l : 
   numbered-other d = rw add-one (indexed-other x (next-place h j l) (no-name h j l (λ y. d (ap numberIn e ∙ y))))
 
   -- its bytes lie in the text, and there is room for a node for each
-  pub name-bounds : numberIn word ≡ classNumber Name → (offsetIn word + lengthIn word ≤ length text) × (n + lengthIn word ≤ maxNodes) × (n + lengthIn word ≤ length text + 1)
+  pub name-bounds : numberIn word ≡ classNumber Name → (offsetIn word + lengthIn word ≤ length text) × (n + lengthIn word ≤ maxTrieNodes) × (n + lengthIn word ≤ length text + 1)
   name-bounds y = let b = name-room h j l (x .few) (is-name y) in let s = h .lexical .short in rw (e) (name-inside h j l (is-name y), omega arith, b)
 
   few-enough : j < maxTokens
@@ -177,7 +177,7 @@ module _ {text w : List ℕ} {count j word : ℕ} (h : Lexed text w count) (l : 
       (indexed-name x (next-place h j l) few-enough
       (subst (λ u. Spells (x .trie) links′ byte′ u m r) (ap (λ v. part (offsetIn v) (lengthIn v) text) e ∙ name-part h j l (is-name y)) s))
 
-  pub node-small : numberIn word ≡ classNumber Name → {links′ byte′ : List ℕ} {m r : ℕ} → Spells (x .trie) links′ byte′ (part (offsetIn word) (lengthIn word) text) m r → r < maxNodes
+  pub node-small : numberIn word ≡ classNumber Name → {links′ byte′ : List ℕ} {m r : ℕ} → Spells (x .trie) links′ byte′ (part (offsetIn word) (lengthIn word) text) m r → r < maxTrieNodes
   node-small y s =
       let b = name-bounds y in
       let f = spells-few (offsetIn word) (lengthIn word) text s (b .0) in

@@ -10,7 +10,7 @@ use Rattle.language.specs.Limits.{maxTokens, workBytes}
 use Rattle.language.specs.Tokens.{Token, Name, isOf, tokens}
 use Rattle.language.specs.Grammar.{front}
 use Rattle.lexer.specs.Stored.{TokensStored}
-use Rattle.lexer.specs.LexingLaws.{Lexical}
+use Rattle.lexer.specs.Lexing.{Lexical}
 use Rattle.spellings.specs.Trie.{Trie}
 
 -- token j of a text

@@ -11,8 +11,8 @@ use lib.ListN.{length, getD, take, drop}
 use Rattle.language.specs.Limits.{maxBytes}
 
 -- node 0, and one for each byte of the longest text
-abbrev pub maxNodes : ℕ
-maxNodes = maxBytes + 1
+abbrev pub maxTrieNodes : ℕ
+maxTrieNodes = maxBytes + 1
 
 -- a spelling with one byte more
 abbrev pub more : List ℕ → ℕ → List ℕ

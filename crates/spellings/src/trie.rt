@@ -5,7 +5,7 @@ use basics::u16_usize;
 ghost use mathlib.Core.Path.{_≡_};
 ghost use Prim.Native.Nat.{_+_, _≤_, _<_};
 ghost use lib.ListN.{length};
-ghost use Rattle.spellings.specs.Trie.{maxNodes, Trie, Sought, nodesWith, Steps, Spells, part};
+ghost use Rattle.spellings.specs.Trie.{maxTrieNodes, Trie, Sought, nodesWith, Steps, Spells, part};
 
 // Of the three links of a node, the one to its first child; the others lead to further children of its parent, by a bit of the byte that is sought.
 const CHILD: usize = 2;
@@ -13,7 +13,7 @@ const CHILD: usize = 2;
 // The link to the child of a node by one byte, or the link where it is to stand if there is none. Like `step` it asks for the tree that `intern` makes, and is called
 // by nobody else.
 fn seek(links: &[u16], byte: &[u8], nodes: usize, node: usize, b: u8) -> usize
-    requires { ⌜ Trie (now links) (now byte) nodes × (node < nodes) × (nodes < maxNodes + 1) ⌝ }
+    requires { ⌜ Trie (now links) (now byte) nodes × (node < nodes) × (nodes < maxTrieNodes + 1) ⌝ }
     ensures { λ r. ⌜ ((t : Trie (now (links .entry)) (now (byte .entry)) nodes) → Sought t node b r) ⌝ }
 {
     let mut link = 3 * node + CHILD;
@@ -32,7 +32,7 @@ fn seek(links: &[u16], byte: &[u8], nodes: usize, node: usize, b: u8) -> usize
 
 // The child of a node by one byte, made if it is not there: then it is node `nodes`, and there is one node more, for which there must be room.
 pub fn step(links: &mut [u16], byte: &mut [u8], nodes: usize, node: usize, b: u8) -> usize
-    requires { ⌜ Trie (now links) (now byte) nodes × (node < nodes) × (nodes < maxNodes) × (nodes < length (now byte)) ⌝ }
+    requires { ⌜ Trie (now links) (now byte) nodes × (node < nodes) × (nodes < maxTrieNodes) × (nodes < length (now byte)) ⌝ }
     ensures { λ r. ⌜ ((t : Trie (now (links .entry)) (now (byte .entry)) nodes) → Steps t node b (now (links .exit)) (now (byte .exit)) r) ⌝ }
 {
     let link = seek(links, byte, nodes, node, b);
@@ -47,7 +47,7 @@ pub fn step(links: &mut [u16], byte: &mut [u8], nodes: usize, node: usize, b: u8
 
 // How many nodes there are once a node is reached; a node is one of the arrays', as `step` says.
 fn nodes_with(nodes: usize, node: usize) -> usize
-    requires { ⌜ node < maxNodes ⌝ }
+    requires { ⌜ node < maxTrieNodes ⌝ }
     ensures { λ r. ⌜ r ≡ nodesWith nodes node ⌝ }
 {
     if nodes <= node { node + 1 } else { nodes }
@@ -68,7 +68,7 @@ pub fn spell(
     byte: &mut [u8],
     nodes: usize,
 ) -> Spelt
-    requires { ⌜ Trie (now links) (now byte) nodes × (at + len ≤ length (now text)) × (nodes + len ≤ maxNodes) × (nodes + len ≤ length (now byte)) ⌝ }
+    requires { ⌜ Trie (now links) (now byte) nodes × (at + len ≤ length (now text)) × (nodes + len ≤ maxTrieNodes) × (nodes + len ≤ length (now byte)) ⌝ }
     ensures { λ r. ⌜ ((t : Trie (now (links .entry)) (now (byte .entry)) nodes) → Spells t (now (links .exit)) (now (byte .exit)) (part at len (now (text .entry))) (r .nodes) (r .node)) ⌝ }
 {
     let mut count = nodes;

@@ -23,4 +23,4 @@ operands before c =
 
 -- lines come behind what stands in them
 abbrev pub firstLine : ℕ
-firstLine = 54
+firstLine = Kind.parameter

@@ -20,12 +20,12 @@ use Rattle.language.specs.Places.{
   allLines,
 }
 use Rattle.language.specs.Laws.Basics.Lists.{All, all-append}
+use Rattle.language.specs.Laws.Basics.NoPlace.{first-none, first-assoc}
 use Rattle.entries.specs.Kinds as Kind
 use Rattle.entries.specs.Flat.{Entry, flat, under, each, leaf, flatIdentifier, flatDefinition, flatDeclaration, flatLine, head, flatSubsection, outline}
 use Rattle.traversal.specs.declared.Cell.{Cell}
 use Rattle.traversal.specs.Cells.{SeenAlong}
 use Rattle.traversal.specs.PassLaws.{run, Comes}
-use Rattle.traversal.specs.PlaceLaws.{first-none, first-assoc}
 
 -- the entries of a line
 abbrev pub entriesOf : Line → List Entry

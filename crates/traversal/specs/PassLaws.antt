@@ -12,13 +12,13 @@ use Rattle.language.specs.Tree.{Expr, Named, Numeral, Truth, Index, Paren, Pref
 use Rattle.language.specs.Places.{first, firstIn}
 use Rattle.language.specs.Braces.{Proper}
 use Rattle.language.specs.Laws.Basics.Lists.{All}
+use Rattle.language.specs.Laws.Basics.NoPlace.{first-none, first-assoc}
 use Rattle.entries.specs.Flat.{Entry, flat, each}
 use Rattle.traversal.specs.declared.Cell.{Cell}
 use Rattle.traversal.specs.Cells.{Sees, SeenAlong}
 use Rattle.traversal.specs.Arity.{operands, firstLine}
 use Rattle.traversal.specs.Parts.{Part, Whole, Binder, flatPart, unlessEmpty, operandsOf, kindOf, tokenOf}
 use Rattle.traversal.specs.PartLaws.{unless-cases, outside, kindAfter, Regular, regular, regular-binder}
-use Rattle.traversal.specs.PlaceLaws.{first-none, first-assoc}
 
 -- the states of a pass over the cells of some entries
 abbrev pub run : {State : Type 0} → (Cell → State → State) → (ℕ → Cell) → List Entry → ℕ → State → State

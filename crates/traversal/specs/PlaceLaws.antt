@@ -1,10 +1,11 @@
--- The first of several places, whatever their order; the code's places.
+-- The code's places, and the first place in a list.
 use Prim.Native.Nat.{ℕ, _≤_, _<_, min}
 use mathlib.Core.List.{List, [], _∷_, _++_}
 use mathlib.Core.Option.{Option, none, some}
 use mathlib.Core.Path.{_≡_, refl, sym, ap, ap₂, _∙_}
 use native.Mathlib.Omega.{arith}
 use Rattle.language.specs.Places.{first, firstIn}
+use Rattle.language.specs.Laws.Basics.NoPlace.{first-assoc}
 use Rattle.traversal.specs.declared.Place.{Place}
 use Rattle.traversal.specs.declared.Place.the-variants.{At, Nowhere}
 use Rattle.traversal.specs.Places.{placed, placeIn}
@@ -18,22 +19,6 @@ pub placed-place : (r : Place) → placed (placeIn r) ≡ r
 unfolding placed placeIn
 placed-place Nowhere = refl
 placed-place (At p) = refl
-
-pub first-none : (a : Option ℕ) → first a none ≡ a
-first-none none = refl
-first-none (some p) = refl
-
-pub first-assoc : (a b c : Option ℕ) → first (first a b) c ≡ first a (first b c)
-first-assoc none b c = refl
-first-assoc (some p) none c = refl
-first-assoc (some p) (some q) none = refl
-first-assoc (some p) (some q) (some r) = ap some (omega arith)
-
-pub first-comm : (a b : Option ℕ) → first a b ≡ first b a
-first-comm none none = refl
-first-comm none (some q) = refl
-first-comm (some p) none = refl
-first-comm (some p) (some q) = ap some (omega arith)
 
 pub firstIn-nowhere : {A : Type 0} (xs : List A) → firstIn (λ _. none) xs ≡ none
 firstIn-nowhere [] = refl

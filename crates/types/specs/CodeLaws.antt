@@ -15,11 +15,12 @@ use Rattle.language.specs.Places.{first, unless}
 use Rattle.language.specs.Laws.Basics.Tests.{pick, leave}
 use Rattle.language.specs.Limits.{maxNames}
 use Rattle.language.specs.Types.{ANumber, ABus, AValue, typeCode}
+use Rattle.language.specs.Laws.Basics.NoPlace.{first-none, first-assoc}
 use Rattle.entries.specs.Kinds as Kind
 use Rattle.traversal.specs.declared.Place.{Place}
 use Rattle.traversal.specs.declared.Place.the-variants.{At, Nowhere}
 use Rattle.traversal.specs.Places.{placed, placeIn}
-use Rattle.traversal.specs.PlaceLaws.{place-placed, placed-place, first-none, first-assoc}
+use Rattle.traversal.specs.PlaceLaws.{place-placed, placed-place}
 use Rattle.traversal.specs.StackLaws.{no-part}
 use Rattle.traversal.specs.Starts.{firstOf}
 use Rattle.types.specs.Codes.{givesName, givesOperand, takesAny, takesDefinable, firstUndefinable, takesSides, takesIndex}

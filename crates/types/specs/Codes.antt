@@ -3,6 +3,25 @@ use Prim.Native.Nat.{ℕ}
 use mathlib.Core.List.{List, [], _∷_}
 use Rattle.language.specs.Types.{ANumber, ASet, AFormula, ABus, AValue, AType, typeCode}
 
+-- the types
+abbrev pub aNumber : ℕ
+aNumber = typeCode ANumber
+
+abbrev pub aSet : ℕ
+aSet = typeCode ASet
+
+abbrev pub aFormula : ℕ
+aFormula = typeCode AFormula
+
+abbrev pub aBus : ℕ
+aBus = typeCode ABus
+
+abbrev pub aValue : ℕ
+aValue = typeCode AValue
+
+abbrev pub aType : ℕ
+aType = typeCode AType
+
 -- what an entry gives: the type of its name, that of its operand, or nothing, as a line
 abbrev pub givesName : ℕ
 givesName = 6
@@ -21,7 +40,7 @@ abbrev pub takesDefinable : ℕ
 takesDefinable = 9
 
 abbrev pub firstUndefinable : ℕ
-firstUndefinable = typeCode ABus
+firstUndefinable = aBus
 
 -- what the operands before the last are: the sides of an equation; an index, which stands on a bus
 abbrev pub takesSides : ℕ
@@ -37,5 +56,5 @@ undeclared = 8
 -- what the code's constants stand for
 abbrev pub codes : List ℕ
 codes =
-    typeCode ANumber ∷ typeCode ASet ∷ typeCode AFormula ∷ typeCode ABus ∷ typeCode AValue ∷ typeCode AType ∷
+    aNumber ∷ aSet ∷ aFormula ∷ aBus ∷ aValue ∷ aType ∷
     givesNothing ∷ takesAny ∷ takesDefinable ∷ firstUndefinable ∷ takesSides ∷ takesIndex ∷ undeclared ∷ []

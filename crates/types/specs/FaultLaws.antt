@@ -11,6 +11,7 @@ use Rattle.language.specs.Tree.{Expr, Named, Numeral, Truth, Index, Paren, Pref
 use Rattle.language.specs.Places.{start, first, firstIn, unless}
 use Rattle.language.specs.Names.{Names}
 use Rattle.language.specs.Types.{ANumber, ASet, AFormula, ABus, typeCode, isType, Typings, typeIn, prefixTakes, bigGives, withNumber, typeOf, wrong, wrongBoth, wrongOperands, mistyped}
+use Rattle.language.specs.Laws.Basics.NoPlace.{first-none, first-assoc, first-comm}
 use Rattle.entries.specs.Kinds as EntryKind
 use Rattle.traversal.specs.declared.Cell.{Cell}
 use Rattle.traversal.specs.Arity.{firstLine}
@@ -18,7 +19,6 @@ use Rattle.traversal.specs.Cells.{Sees}
 use Rattle.traversal.specs.Parts.{Part, Whole, Binder, operandsOf, kindOf}
 use Rattle.traversal.specs.PartLaws.{unless-cases}
 use Rattle.traversal.specs.PassLaws.{ownEntry}
-use Rattle.traversal.specs.PlaceLaws.{first-none, first-assoc, first-comm}
 use Rattle.traversal.specs.Starts.{startPart}
 use Rattle.types.specs.Codes.{takesAny, takesIndex}
 use Rattle.types.specs.Kinds.{lastTakes, otherTakes, indexed, placeOf, referenceOf, typeAt}
@@ -30,7 +30,7 @@ use Rattle.types.specs.OperatorLaws.{truth-takes, before-takes, window-t
 use Rattle.types.specs.NodeLaws.{typePart, value, bad, Good, name-known, one-place, two-places, three-places}
 
 -- a kind that takes anything
-free : (k : ℕ) → getD otherTakes k 0 ≡ takesAny → getD lastTakes k 0 ≡ takesAny → eqb k EntryKind.element ≡ false → Takes k takesAny takesAny
+pub free : (k : ℕ) → getD otherTakes k 0 ≡ takesAny → getD lastTakes k 0 ≡ takesAny → eqb k EntryKind.element ≡ false → Takes k takesAny takesAny
 free k o l e = record { others = o; final = l; plain = e }
 
 index : Takes EntryKind.index takesIndex (typeCode ANumber)
@@ -126,7 +126,7 @@ module _ (declared : Names) (table : List ℕ) where
   faults bs q c g z i =
       let qs = operandsOf withNumber q in
       ap (first (firstIn bad qs))
-      (ap₂ (λ ks ss. first (indexed (c .kind) (nameType (c .token)) (placeOf (c .token))) (wrongAt (c .kind) ks ss)) (map-map (λ (x : Operand). x .kind) value qs)
+      (ap₂ (λ ks ss. first (indexed (c .kind) (nameType (c .token)) (placeOf (c .token))) (wrongAt (c .kind) ks ss)) (map-map (λ (x : Operand). x .type) value qs)
       (map-map (λ (x : Operand). x .start) value qs)
       ∙ ap (λ k. first (indexed k (nameType (c .token)) (placeOf (c .token))) (wrongAt k (map typePart qs) (map startPart qs))) (z .kind))
       ∙ part-fault bs q (c .token) g (z .token) i

@@ -10,34 +10,48 @@ use Rattle.language.specs.Bytes.{if_then_else_}
 use Rattle.language.specs.Places.{first, unless}
 use Rattle.language.specs.Limits.{maxNames}
 use Rattle.lexer.specs.Stored.{offsetBits}
-use Rattle.language.specs.Types.{ANumber, ABus, AValue, typeCode}
 use Rattle.entries.specs.Kinds as Kind
 use Rattle.traversal.specs.Starts.{firstOf}
-use Rattle.types.specs.Codes.{givesName, givesOperand, takesAny, takesDefinable, firstUndefinable, takesIndex}
+use Rattle.types.specs.Codes.{
+  aNumber,
+  aSet,
+  aFormula,
+  aBus,
+  aValue,
+  aType,
+  givesName,
+  givesOperand,
+  givesNothing,
+  takesAny,
+  takesDefinable,
+  firstUndefinable,
+  takesSides,
+  takesIndex,
+}
 
 -- by kind: the type of what an entry gives; givesName for a name's own, givesOperand for that of the operand, givesNothing for a line
 abbrev pub giving : List ℕ
 giving =
-    6 ∷ 0 ∷ 2 ∷ 2 ∷ 2 ∷ 7 ∷ 0 ∷ 0 ∷ 0 ∷ 0 ∷ 2 ∷ 2 ∷ 2 ∷ 2 ∷ 0 ∷ 0 ∷
-    0 ∷ 0 ∷ 0 ∷ 1 ∷ 1 ∷ 1 ∷ 2 ∷ 2 ∷ 2 ∷ 2 ∷ 2 ∷ 2 ∷ 2 ∷ 2 ∷ 2 ∷ 2 ∷
-    2 ∷ 2 ∷ 2 ∷ 2 ∷ 2 ∷ 2 ∷ 2 ∷ 0 ∷ 0 ∷ 1 ∷ 1 ∷ 2 ∷ 2 ∷ 1 ∷ 1 ∷ 1 ∷
-    1 ∷ 1 ∷ 1 ∷ 1 ∷ 1 ∷ 1 ∷ 8 ∷ 8 ∷ 8 ∷ 8 ∷ 8 ∷ 8 ∷ 8 ∷ 8 ∷ 8 ∷ 8 ∷ []
+    givesName ∷ aNumber ∷ aFormula ∷ aFormula ∷ aFormula ∷ givesOperand ∷ aNumber ∷ aNumber ∷ aNumber ∷ aNumber ∷ aFormula ∷ aFormula ∷ aFormula ∷ aFormula ∷ aNumber ∷ aNumber ∷
+    aNumber ∷ aNumber ∷ aNumber ∷ aSet ∷ aSet ∷ aSet ∷ aFormula ∷ aFormula ∷ aFormula ∷ aFormula ∷ aFormula ∷ aFormula ∷ aFormula ∷ aFormula ∷ aFormula ∷ aFormula ∷
+    aFormula ∷ aFormula ∷ aFormula ∷ aFormula ∷ aFormula ∷ aFormula ∷ aFormula ∷ aNumber ∷ aNumber ∷ aSet ∷ aSet ∷ aFormula ∷ aFormula ∷ aSet ∷ aSet ∷ aSet ∷
+    aSet ∷ aSet ∷ aSet ∷ aSet ∷ aSet ∷ aSet ∷ givesNothing ∷ givesNothing ∷ givesNothing ∷ givesNothing ∷ givesNothing ∷ givesNothing ∷ givesNothing ∷ givesNothing ∷ givesNothing ∷ givesNothing ∷ []
 
 -- by kind: the type of the last operand, and of those before it; takesAny for any, takesDefinable for one that 'a definition is', takesSides before the last
 -- for two sides of an equation, takesIndex for an index, which stands on a bus
 abbrev pub lastTakes : List ℕ
 lastTakes =
-    8 ∷ 8 ∷ 8 ∷ 8 ∷ 0 ∷ 8 ∷ 1 ∷ 1 ∷ 1 ∷ 3 ∷ 2 ∷ 2 ∷ 2 ∷ 2 ∷ 0 ∷ 0 ∷
-    0 ∷ 0 ∷ 0 ∷ 1 ∷ 1 ∷ 1 ∷ 8 ∷ 8 ∷ 0 ∷ 0 ∷ 0 ∷ 0 ∷ 1 ∷ 2 ∷ 2 ∷ 2 ∷
-    2 ∷ 2 ∷ 2 ∷ 2 ∷ 2 ∷ 2 ∷ 2 ∷ 0 ∷ 0 ∷ 1 ∷ 1 ∷ 2 ∷ 2 ∷ 1 ∷ 1 ∷ 0 ∷
-    0 ∷ 0 ∷ 0 ∷ 8 ∷ 0 ∷ 0 ∷ 0 ∷ 9 ∷ 8 ∷ 8 ∷ 8 ∷ 8 ∷ 0 ∷ 5 ∷ 2 ∷ 8 ∷ []
+    takesAny ∷ takesAny ∷ takesAny ∷ takesAny ∷ aNumber ∷ takesAny ∷ aSet ∷ aSet ∷ aSet ∷ aBus ∷ aFormula ∷ aFormula ∷ aFormula ∷ aFormula ∷ aNumber ∷ aNumber ∷
+    aNumber ∷ aNumber ∷ aNumber ∷ aSet ∷ aSet ∷ aSet ∷ takesAny ∷ takesAny ∷ aNumber ∷ aNumber ∷ aNumber ∷ aNumber ∷ aSet ∷ aFormula ∷ aFormula ∷ aFormula ∷
+    aFormula ∷ aFormula ∷ aFormula ∷ aFormula ∷ aFormula ∷ aFormula ∷ aFormula ∷ aNumber ∷ aNumber ∷ aSet ∷ aSet ∷ aFormula ∷ aFormula ∷ aSet ∷ aSet ∷ aNumber ∷
+    aNumber ∷ aNumber ∷ aNumber ∷ takesAny ∷ aNumber ∷ aNumber ∷ aNumber ∷ takesDefinable ∷ takesAny ∷ takesAny ∷ takesAny ∷ takesAny ∷ aNumber ∷ aType ∷ aFormula ∷ takesAny ∷ []
 
 abbrev pub otherTakes : List ℕ
 otherTakes =
-    8 ∷ 8 ∷ 8 ∷ 8 ∷ 11 ∷ 8 ∷ 8 ∷ 8 ∷ 8 ∷ 8 ∷ 8 ∷ 8 ∷ 8 ∷ 8 ∷ 0 ∷ 0 ∷
-    0 ∷ 0 ∷ 0 ∷ 1 ∷ 1 ∷ 1 ∷ 10 ∷ 10 ∷ 0 ∷ 0 ∷ 0 ∷ 0 ∷ 0 ∷ 2 ∷ 2 ∷ 2 ∷
-    2 ∷ 2 ∷ 2 ∷ 2 ∷ 0 ∷ 0 ∷ 0 ∷ 8 ∷ 8 ∷ 8 ∷ 8 ∷ 8 ∷ 8 ∷ 8 ∷ 8 ∷ 0 ∷
-    0 ∷ 0 ∷ 0 ∷ 8 ∷ 0 ∷ 0 ∷ 8 ∷ 8 ∷ 8 ∷ 8 ∷ 8 ∷ 8 ∷ 8 ∷ 8 ∷ 8 ∷ 8 ∷ []
+    takesAny ∷ takesAny ∷ takesAny ∷ takesAny ∷ takesIndex ∷ takesAny ∷ takesAny ∷ takesAny ∷ takesAny ∷ takesAny ∷ takesAny ∷ takesAny ∷ takesAny ∷ takesAny ∷ aNumber ∷ aNumber ∷
+    aNumber ∷ aNumber ∷ aNumber ∷ aSet ∷ aSet ∷ aSet ∷ takesSides ∷ takesSides ∷ aNumber ∷ aNumber ∷ aNumber ∷ aNumber ∷ aNumber ∷ aFormula ∷ aFormula ∷ aFormula ∷
+    aFormula ∷ aFormula ∷ aFormula ∷ aFormula ∷ aNumber ∷ aNumber ∷ aNumber ∷ takesAny ∷ takesAny ∷ takesAny ∷ takesAny ∷ takesAny ∷ takesAny ∷ takesAny ∷ takesAny ∷ aNumber ∷
+    aNumber ∷ aNumber ∷ aNumber ∷ takesAny ∷ aNumber ∷ aNumber ∷ takesAny ∷ takesAny ∷ takesAny ∷ takesAny ∷ takesAny ∷ takesAny ∷ takesAny ∷ takesAny ∷ takesAny ∷ takesAny ∷ []
 
 -- what an entry of kind k gives, with the type of its name and of its first operand
 unfoldable pub givesOf : ℕ → ℕ → ℕ → ℕ
@@ -51,7 +65,7 @@ fits d k = if eqb d takesAny then true else (if eqb d takesDefinable then ltb k 
 
 -- the operands of n, of which an element of a set takes the elements behind it as they are
 unfoldable pub takesLast : ℕ → ℕ → ℕ
-takesLast k n = if eqb k Kind.element then (if eqb n 2 then takesAny else typeCode ANumber) else getD lastTakes k 0
+takesLast k n = if eqb k Kind.element then (if eqb n 2 then takesAny else aNumber) else getD lastTakes k 0
 
 abbrev pub demand : ℕ → ℕ → List ℕ → ℕ
 demand other last [] = last
@@ -65,13 +79,13 @@ misfits other last (k ∷ ks) ss = first (unless (fits (demand other last ks) k)
 -- `==` and `!=`
 unfoldable pub sidesOf : ℕ → ℕ → ℕ → ℕ → Option ℕ
 sidesOf a b s t =
-    if eqb a (typeCode ANumber) then unless (fits (typeCode ANumber) b) t else (
-    if eqb a (typeCode ABus) then unless (fits (typeCode AValue) b) t else (
-    if eqb a (typeCode AValue) then unless (fits (typeCode ABus) b) t else some s))
+    if eqb a aNumber then unless (fits aNumber b) t else (
+    if eqb a aBus then unless (fits aValue b) t else (
+    if eqb a aValue then unless (fits aBus b) t else some s))
 
 -- an index stands on a bus
 unfoldable pub indexed : ℕ → ℕ → ℕ → Option ℕ
-indexed k name place = if eqb (getD otherTakes k 0) takesIndex then unless (fits (typeCode ABus) name) place else none
+indexed k name place = if eqb (getD otherTakes k 0) takesIndex then unless (fits aBus name) place else none
 
 -- an entry's name, as the pass sees it: its reference above the bits of its token's place
 abbrev pub placeOf : ℕ → ℕ
@@ -82,4 +96,4 @@ referenceOf x = above offsetBits x
 
 -- the type of a name by its reference: of a declared name from the table, of a big operator's a number
 unfoldable pub typeAt : List ℕ → ℕ → ℕ
-typeAt table r = if ltb r maxNames then getD table r 0 else typeCode ANumber
+typeAt table r = if ltb r maxNames then getD table r 0 else aNumber

@@ -127,10 +127,10 @@ module _ (declared : Names) (table : List ℕ) where
       )
 
   -- one more declared name
-  pub fits-one : (ns : Names) (ys : Typings) (x : Token) (k : ExprType) → Has declared table (record { name = x; kind = k }) → Fits [] ns ys → Fits [] (x ∷ ns) (record { name = x; kind = k } ∷ ys)
+  pub fits-one : (ns : Names) (ys : Typings) (x : Token) (k : ExprType) → Has declared table (record { name = x; type = k }) → Fits [] ns ys → Fits [] (x ∷ ns) (record { name = x; type = k } ∷ ys)
   fits-one ns ys x k h f t y = go (same (x .text) (t .text)) refl y
     where
-      go : (b : Bool) → same (x .text) (t .text) ≡ b → (b || visible ns t) ≡ true → KnownName declared [] table (record { name = x; kind = k } ∷ ys) t
+      go : (b : Bool) → same (x .text) (t .text) ≡ b → (b || visible ns t) ≡ true → KnownName declared [] table (record { name = x; type = k } ∷ ys) t
       go true e v = ap (typeAt table) (reference-text declared [] t x (sym (same-equal (x .text) (t .text) e))) ∙ h ∙ sym (ap typeCode (pick (same (x .text) (t .text)) _ _ e))
       go false e v = f t v ∙ sym (ap typeCode (leave (same (x .text) (t .text)) _ _ e))
 

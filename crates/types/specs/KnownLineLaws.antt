@@ -65,14 +65,14 @@ module _ (declared : Names) (few : length declared ≤ maxNames) where
   before-next : (k : Context) (l : Line) (ls : List Line) (ns : Names) → Before k (l ∷ ls) ns → Before (next declared k l) ls (declares l ++ ns)
   before-next k (ParameterLine x e) ls ns b = onward _ (ParameterLine x e) ls ns b (b .size) (fits-one declared (k .table) ns (k .names) x ANumber (b .fixed .0) (b .fits)) (b .fixed .1)
   before-next k (DefinitionLine (Defined x e)) ls ns b =
-      let kind = typeOf (k .names) e in
+      let type = typeOf (k .names) e in
       let r = reference declared [] x in
-      let table = set (k .table) r (typeCode kind) in
-      let seen : Fits declared table [] ns (k .names) = λ t v. type-other (k .table) r (typeCode kind) (reference declared [] t)
+      let table = set (k .table) r (typeCode type) in
+      let seen : Fits declared table [] ns (k .names) = λ t v. type-other (k .table) r (typeCode type) (reference declared [] t)
       (apart-references declared t x (b .among t v) (b .own .0) (visible-apart ns (over defines (DefinitionLine (Defined x e) ∷ ls)) (b .apart) t v .0)) ∙ b .fits t v in
-      onward _ (DefinitionLine (Defined x e)) ls ns b (length-set (k .table) r (typeCode kind) ∙ b .size)
-      (fits-one declared table ns (k .names) x kind (has-set declared few (k .table) x kind (b .own .0) (b .size)) seen)
-      (all-both (λ y o h. has-kept declared (k .table) x (typeCode kind) y (b .own .0) o h) (allFixed ls)
+      onward _ (DefinitionLine (Defined x e)) ls ns b (length-set (k .table) r (typeCode type) ∙ b .size)
+      (fits-one declared table ns (k .names) x type (has-set declared few (k .table) x type (b .own .0) (b .size)) seen)
+      (all-both (λ y o h. has-kept declared (k .table) x (typeCode type) y (b .own .0) o h) (allFixed ls)
       (fixed-names (Beside declared x) ls (others declared x (over declares ls) (b .distinct .0) (b .own .1))) (b .fixed))
   before-next k (DefinitionLine (Enumerated x is)) ls ns b =
       onward _ (DefinitionLine (Enumerated x is)) ls ns b (b .size)

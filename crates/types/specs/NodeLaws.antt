@@ -14,6 +14,7 @@ use Rattle.language.specs.Places.{start, first}
 use Rattle.language.specs.Types.{ASet, typeCode, Typings, typeIn, prefixGives, infixGives, bigGives, withNumber, typeOf, wrong, mistyped, ANumber, AFormula, AType}
 use Rattle.language.specs.Names.{Names}
 use Rattle.language.specs.Laws.Basics.Tests.{leave}
+use Rattle.language.specs.Laws.Basics.NoPlace.{first-none, first-assoc, first-comm}
 use Rattle.entries.specs.Kinds as EntryKind
 use Rattle.entries.specs.Flat.{Entry}
 use Rattle.names.specs.Scan.{tokenOf as nameOf}
@@ -23,7 +24,6 @@ use Rattle.traversal.specs.Arity.{firstLine}
 use Rattle.traversal.specs.Cells.{Sees}
 use Rattle.traversal.specs.Parts.{Part, Whole, Binder, operandsOf, kindOf}
 use Rattle.traversal.specs.PassLaws.{ownEntry, Along, unless-along}
-use Rattle.traversal.specs.PlaceLaws.{first-none, first-assoc, first-comm}
 use Rattle.traversal.specs.Starts.{startOf, firstOf, startPart}
 use Rattle.traversal.specs.StartLaws.{starts}
 use Rattle.types.specs.Codes.{givesName, givesOperand}
@@ -38,7 +38,7 @@ typePart (Whole ys e) = typeCode (typeOf ys e)
 typePart (Binder ys further i s) = typeCode ASet
 
 abbrev pub value : Part Typings → Operand
-value q = record { kind = typePart q; start = startPart q }
+value q = record { type = typePart q; start = startPart q }
 
 -- a big operator's name asks for a set
 abbrev pub bad : Part Typings → Option ℕ
@@ -153,8 +153,8 @@ module _ (declared : Names) (table : List ℕ) where
   unfolding node
   values bs q c g z i =
       let qs = operandsOf withNumber q in
-      ap₂ (λ (k s : ℕ). record { kind = k; start = s })
-      (ap (λ ks. givesOf (c .kind) (nameType (c .token)) (firstOf ks)) (map-map (λ (x : Operand). x .kind) value qs) ∙ ap (λ k. givesOf k (nameType (c .token)) (firstOf (typeParts qs))) (z .kind) ∙
+      ap₂ (λ (k s : ℕ). record { type = k; start = s })
+      (ap (λ ks. givesOf (c .kind) (nameType (c .token)) (firstOf ks)) (map-map (λ (x : Operand). x .type) value qs) ∙ ap (λ k. givesOf k (nameType (c .token)) (firstOf (typeParts qs))) (z .kind) ∙
       part-type bs q (c .token) g (z .token) i)
       (ap (λ ss. startOf (c .kind) (placeOf (c .token)) (firstOf ss)) (map-map (λ (x : Operand). x .start) value qs) ∙ ap (λ k. startOf k (placeOf (c .token)) (firstOf (startParts qs))) (z .kind) ∙
       starts withNumber q (placeOf (c .token)) (z .token .place) i)

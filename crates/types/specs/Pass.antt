@@ -14,7 +14,7 @@ use Rattle.types.specs.Codes.{takesSides}
 use Rattle.types.specs.Kinds.{otherTakes, givesOf, takesLast, misfits, sidesOf, indexed, placeOf, referenceOf, typeAt}
 
 pub record Operand : Type 0 where
-  pub kind : ℕ
+  pub type : ℕ
   pub start : ℕ
 
 -- `table`: the types of declared names by their references
@@ -25,7 +25,7 @@ pub record State : Type 0 where
   pub table : List ℕ
 
 abbrev pub typesOf : List Operand → List ℕ
-typesOf xs = map (λ (x : Operand). x .kind) xs
+typesOf xs = map (λ (x : Operand). x .type) xs
 
 abbrev pub startsOf : List Operand → List ℕ
 startsOf xs = map (λ (x : Operand). x .start) xs
@@ -33,7 +33,7 @@ startsOf xs = map (λ (x : Operand). x .start) xs
 unfoldable pub node : List ℕ → Cell → List Operand → Operand
 node table c xs =
     record {
-      kind = givesOf (c .kind) (typeAt table (referenceOf (c .token))) (firstOf (typesOf xs));
+      type = givesOf (c .kind) (typeAt table (referenceOf (c .token))) (firstOf (typesOf xs));
       start = startOf (c .kind) (placeOf (c .token)) (firstOf (startsOf xs));
     }
 
@@ -48,7 +48,7 @@ fault table c xs =
 
 -- a definition has the type of its expression
 unfoldable pub tableOf : List ℕ → ℕ → ℕ → ℕ → List ℕ
-tableOf table k token kind = if eqb k Kind.definition then set table (referenceOf token) kind else table
+tableOf table k token type = if eqb k Kind.definition then set table (referenceOf token) type else table
 
 abbrev pub tableAfter : List ℕ → Cell → List Operand → List ℕ
 tableAfter table c xs = tableOf table (c .kind) (c .token) (firstOf (typesOf xs))

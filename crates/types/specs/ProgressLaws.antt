@@ -56,7 +56,7 @@ module _ (s : State) (p : Progress) (ks ss table : List ℕ) (c : Cell) (below :
   kept = length-take-le below (s .stack) (omega (arith, low, a .count))
 
   part-types : slice below (p .top) ks ≡ typesOf xs
-  part-types = stack-part (λ (x : Operand). x .kind) (s .stack) ks (p .top) below (a .types)
+  part-types = stack-part (λ (x : Operand). x .type) (s .stack) ks (p .top) below (a .types)
 
   part-starts : slice below (p .top) ss ≡ startsOf xs
   part-starts = stack-part (λ (x : Operand). x .start) (s .stack) ss (p .top) below (a .starts)
@@ -83,7 +83,7 @@ module _ (s : State) (p : Progress) (ks ss table : List ℕ) (c : Cell) (below :
           record {
             before = sym (ap (λ (z : State). z .before) moved);
             count = omega (arith, kept, ap length stack);
-            types = stack-below (λ (x : Operand). x .kind) (s .stack) ks (p .top) below (a .types) low ∙ sym (ap typesOf stack);
+            types = stack-below (λ (x : Operand). x .type) (s .stack) ks (p .top) below (a .types) low ∙ sym (ap typesOf stack);
             starts = stack-below (λ (x : Operand). x .start) (s .stack) ss (p .top) below (a .starts) low ∙ sym (ap startsOf stack);
             found = found-here;
             table = table-here;
@@ -98,7 +98,7 @@ module _ (s : State) (p : Progress) (ks ss table : List ℕ) (c : Cell) (below :
           record {
             before = sym (ap (λ (z : State). z .before) moved);
             count = omega (arith, kept, ap length stack, length-append (take below (s .stack)) (node (s .table) c xs ∷ []));
-            types = stack-push (λ (x : Operand). x .kind) (s .stack) ks (p .top) below (a .types) low (node (s .table) c xs) k room
+            types = stack-push (λ (x : Operand). x .type) (s .stack) ks (p .top) below (a .types) low (node (s .table) c xs) k room
                 (hk ∙ ap₂ (λ t l. givesOf (c .kind) (typeAt t (referenceOf (c .token))) (firstOf l)) (a .table) part-types) ∙ sym (ap typesOf stack);
             starts = stack-push (λ (x : Operand). x .start) (s .stack) ss (p .top) below (a .starts) low (node (s .table) c xs) t room′
                 (hs ∙ ap (λ l. startOf (c .kind) (placeOf (c .token)) (firstOf l)) part-starts) ∙ sym (ap startsOf stack);

@@ -27,7 +27,7 @@ use Rattle.types.specs.TableLaws.{allFixed, put}
 
 -- the table has the name's type
 abbrev pub Has : Names → List ℕ → Typing → Type 0
-Has declared table y = typeAt table (reference declared [] (y .name)) ≡ typeCode (y .kind)
+Has declared table y = typeAt table (reference declared [] (y .name)) ≡ typeCode (y .type)
 
 pub type-other : (table : List ℕ) (r v q : ℕ) → (q ≡ r → ⊥) → typeAt (set table r v) q ≡ typeAt table q
 unfolding typeAt
@@ -39,7 +39,7 @@ type-same table r v l n = pick (ltb r maxNames) _ _ (lt-ltb r maxNames l) ∙ ge
 
 pub put-length : (declared : Names) (ys : Typings) (table : List ℕ) → length (put declared table ys) ≡ length table
 put-length declared [] table = refl
-put-length declared (y ∷ ys) table = put-length declared ys (set table (reference declared [] (y .name)) (typeCode (y .kind))) ∙ length-set table (reference declared [] (y .name)) (typeCode (y .kind))
+put-length declared (y ∷ ys) table = put-length declared ys (set table (reference declared [] (y .name)) (typeCode (y .type))) ∙ length-set table (reference declared [] (y .name)) (typeCode (y .type))
 
 module _ (declared : Names) where
   -- another declared name than x
@@ -61,8 +61,8 @@ module _ (declared : Names) where
   has-put : (ys : Typings) (table : List ℕ) (y : Typing) → In declared (y .name) → All (λ (z : Typing). Beside (y .name) (z .name)) ys → Has declared table y → Has declared (put declared table ys) y
   has-put [] table y i a h = h
   has-put (z ∷ ys) table y i a h =
-      has-put ys (set table (reference declared [] (z .name)) (typeCode (z .kind))) y i (a .1)
-      (has-kept table (z .name) (typeCode (z .kind)) y (a .0 .0) (i, apart-sym (z .name) (y .name) (a .0 .1)) h)
+      has-put ys (set table (reference declared [] (z .name)) (typeCode (z .type))) y i (a .1)
+      (has-kept table (z .name) (typeCode (z .type)) y (a .0 .0) (i, apart-sym (z .name) (y .name) (a .0 .1)) h)
 
   -- each name is another than those behind it
   abbrev Spread : Typings → Type 0
@@ -97,7 +97,7 @@ module _ (declared : Names) where
   )
 
   spread-one : (x : Token) (k : ExprType) (ls : List Line) → Distinct (x ∷ over declares ls) → All (In declared) (x ∷ over declares ls) → Spread declared (allFixed ls)
-      → Spread declared (record { name = x; kind = k } ∷ allFixed ls)
+      → Spread declared (record { name = x; type = k } ∷ allFixed ls)
   spread-one x k ls d i s = (i .0, fixed-names (Beside declared x) ls (others declared x (over declares ls) (d .0) (i .1)), s)
 
   spread : (ls : List Line) → Distinct (over declares ls) → All (In declared) (over declares ls) → Spread declared (allFixed ls)
@@ -119,7 +119,7 @@ module _ (declared : Names) where
 
 module _ (declared : Names) (few : length declared ≤ maxNames) where
   -- a declared name has room in the table
-  pub has-set : (table : List ℕ) (x : Token) (k : ExprType) → In declared x → length table ≡ maxNames → Has declared (set table (reference declared [] x) (typeCode k)) (record { name = x; kind = k })
+  pub has-set : (table : List ℕ) (x : Token) (k : ExprType) → In declared x → length table ≡ maxNames → Has declared (set table (reference declared [] x) (typeCode k)) (record { name = x; type = k })
   has-set table x k i l =
       let b = number-below declared x i in
       let e = reference-outside declared x in
@@ -128,8 +128,8 @@ module _ (declared : Names) (few : length declared ≤ maxNames) where
   put-has : (ys : Typings) (table : List ℕ) → length table ≡ maxNames → Spread declared ys → All (Has declared (put declared table ys)) ys
   put-has [] table l h = tt
   put-has (y ∷ ys) table l h =
-      let next = set table (reference declared [] (y .name)) (typeCode (y .kind)) in
-      (has-put declared ys next y (h .0) (h .1) (has-set table (y .name) (y .kind) (h .0) l), put-has ys next (length-set table (reference declared [] (y .name)) (typeCode (y .kind)) ∙ l) (h .2))
+      let next = set table (reference declared [] (y .name)) (typeCode (y .type)) in
+      (has-put declared ys next y (h .0) (h .1) (has-set table (y .name) (y .type) (h .0) l), put-has ys next (length-set table (reference declared [] (y .name)) (typeCode (y .type)) ∙ l) (h .2))
 
   -- all types that lines fix, once they are put down
   pub fixed-put : (ls : List Line) (table : List ℕ) → length table ≡ maxNames → Distinct (over declares ls) → All (In declared) (over declares ls)

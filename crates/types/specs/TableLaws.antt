@@ -17,6 +17,7 @@ use Rattle.language.specs.Types.{ANumber, AFormula, ABus, AValue, AType, typeCo
 use Rattle.language.specs.Braces.{Proper}
 use Rattle.language.specs.Laws.Basics.Lists.{All}
 use Rattle.language.specs.Limits.{maxNames}
+use Rattle.language.specs.Laws.Basics.NoPlace.{first-none}
 use Rattle.entries.specs.Kinds as EntryKind
 use Rattle.entries.specs.Flat.{Entry, flat, under, leaf, each, flatIdentifier, outline}
 use Rattle.names.specs.Walkable.{names}
@@ -26,7 +27,7 @@ use Rattle.traversal.specs.declared.Cell.{Cell}
 use Rattle.traversal.specs.Cells.{Sees, SeenAlong}
 use Rattle.traversal.specs.Arity.{firstLine}
 use Rattle.traversal.specs.Parts.{Part, operandsOf}
-use Rattle.traversal.specs.PlaceLaws.{first-none, firstIn-nowhere}
+use Rattle.traversal.specs.PlaceLaws.{firstIn-nowhere}
 use Rattle.traversal.specs.PassLaws.{run, Comes, Pass, Along, Works, expression-done}
 use Rattle.traversal.specs.LineLaws.{entriesOf, Each, lastly, text-holds}
 use Rattle.traversal.specs.PassedLaws.{passed-all}
@@ -41,12 +42,12 @@ use Rattle.types.specs.DeclaringLaws.{declares-none, declares-set}
 
 -- a line's names and their types, before those of the lines behind it; a definition's is not among them
 abbrev pub fixed : Line → Typings → Typings
-fixed (ParameterLine x e) ys = record { name = x; kind = ANumber } ∷ ys
+fixed (ParameterLine x e) ys = record { name = x; type = ANumber } ∷ ys
 fixed (DefinitionLine (Defined x e)) ys = ys
-fixed (DefinitionLine (Enumerated x is)) ys = record { name = x; kind = AType } ∷ typedValues is ys
-fixed (DeclarationLine (OneSignal x)) ys = record { name = x; kind = AFormula } ∷ ys
-fixed (DeclarationLine (OfWidth x e)) ys = record { name = x; kind = ABus } ∷ ys
-fixed (DeclarationLine (OfType u x)) ys = record { name = x; kind = ABus } ∷ ys
+fixed (DefinitionLine (Enumerated x is)) ys = record { name = x; type = AType } ∷ typedValues is ys
+fixed (DeclarationLine (OneSignal x)) ys = record { name = x; type = AFormula } ∷ ys
+fixed (DeclarationLine (OfWidth x e)) ys = record { name = x; type = ABus } ∷ ys
+fixed (DeclarationLine (OfType u x)) ys = record { name = x; type = ABus } ∷ ys
 fixed (FormulaLine e) ys = ys
 
 abbrev pub allFixed : List Line → Typings
@@ -56,7 +57,7 @@ allFixed (l ∷ ls) = fixed l (allFixed ls)
 -- types put into a table
 abbrev pub put : Names → List ℕ → Typings → List ℕ
 put declared table [] = table
-put declared table (y ∷ ys) = put declared (set table (reference declared [] (y .name)) (typeCode (y .kind))) ys
+put declared table (y ∷ ys) = put declared (set table (reference declared [] (y .name)) (typeCode (y .type))) ys
 
 -- no entry of an expression declares a name
 inner-none : (k : ℕ) → ltb k firstLine ≡ true → getD declaring k 0 ≡ undeclared

@@ -11,8 +11,8 @@ use borrow.Author.Tests.{ne-eqb}
 use Rattle.language.specs.Places.{first, unless}
 use Rattle.language.specs.Types.{ExprType, ANumber, ASet, AFormula, ABus, AValue, AType, Unknown, typeCode}
 use Rattle.language.specs.Laws.Basics.Tests.{leave}
+use Rattle.language.specs.Laws.Basics.NoPlace.{first-none}
 use Rattle.entries.specs.Kinds as EntryKind
-use Rattle.traversal.specs.PlaceLaws.{first-none}
 use Rattle.types.specs.Codes.{takesAny, takesDefinable, takesSides, takesIndex}
 use Rattle.types.specs.Kinds.{lastTakes, otherTakes, fits, takesLast, misfits, indexed}
 use Rattle.types.specs.Pass.{wrongAt}

@@ -39,6 +39,7 @@ use Rattle.language.specs.Types.{
 use Rattle.language.specs.Braces.{Proper}
 use Rattle.language.specs.Laws.Basics.Lists.{All}
 use Rattle.language.specs.Laws.Basics.Tests.{pick, leave}
+use Rattle.language.specs.Laws.Basics.NoPlace.{first-none, first-assoc, first-comm}
 use Rattle.entries.specs.Kinds as EntryKind
 use Rattle.entries.specs.Flat.{Entry, flat, under, leaf, each, flatIdentifier, outline}
 use Rattle.names.specs.References.{reference}
@@ -48,7 +49,6 @@ use Rattle.traversal.specs.Cells.{Sees, SeenAlong}
 use Rattle.traversal.specs.Arity.{arities, operands, firstLine}
 use Rattle.traversal.specs.ArityLaws.{fixed-operands}
 use Rattle.traversal.specs.Parts.{Whole, kindOf}
-use Rattle.traversal.specs.PlaceLaws.{first-none, first-assoc, first-comm}
 use Rattle.traversal.specs.PassLaws.{run, Pass, Works, expression-done}
 use Rattle.traversal.specs.LineLaws.{entriesOf, Each, firstBad, Lined, Alone, alone-done, identifiers-alone, text-holds}
 use Rattle.traversal.specs.Passed.{passed}
@@ -56,14 +56,14 @@ use Rattle.traversal.specs.PassedLaws.{passed-all}
 use Rattle.traversal.specs.TreeStored.{TreeStored, ProperLine}
 use Rattle.traversal.specs.ProperLaws.{proper-lines}
 use Rattle.types.specs.Codes.{takesAny, takesDefinable}
-use Rattle.types.specs.Kinds.{lastTakes, otherTakes, fits, misfits, indexed, placeOf, referenceOf, typeAt}
+use Rattle.types.specs.Kinds.{otherTakes, fits, misfits, indexed, placeOf, referenceOf, typeAt}
 use Rattle.types.specs.Pass.{Operand, State, typesOf, startsOf, node, wrongAt, fault, tableOf, tableAfter, stepped, step, state}
 use Rattle.types.specs.Known.{Resolved, Known}
 use Rattle.types.specs.Opened.{Shut, shut-stays, openPast, carries}
 use Rattle.types.specs.Lines.{Context, next, KnownLine, TypesKnown}
 use Rattle.types.specs.TakeLaws.{Takes, none-wrong, one-wrong, by-misfits, last-takes, unindexed}
 use Rattle.types.specs.NodeLaws.{value, bad, Good, inherits, values}
-use Rattle.types.specs.FaultLaws.{faults}
+use Rattle.types.specs.FaultLaws.{faults, free}
 
 -- with the operands xs on the stack
 steps : (table : List ℕ) (c : Cell) (before : ℕ) (s xs : List Operand) (f : Option ℕ) → operands before c ≡ length xs
@@ -208,7 +208,7 @@ module _ (declared : Names) (cell : ℕ → Cell) where
 
   -- a definition's type is put down
   defined-after : (x : Token) (n v s : ℕ) (table : List ℕ) → (c : Cell) → Sees (Resolved declared []) c (record { kind = EntryKind.definition; token = some x; size = n }) →
-      tableAfter table c (record { kind = v; start = s } ∷ []) ≡ set table (reference declared [] x) v
+      tableAfter table c (record { type = v; start = s } ∷ []) ≡ set table (reference declared [] x) v
   unfolding tableOf
   defined-after x n v s table c z = pick (eqb (c .kind) EntryKind.definition) _ _ (eq-eqb _ _ (z .kind)) ∙ ap (λ r. set table r v) (z .token .refers refl)
 
@@ -216,9 +216,6 @@ module _ (declared : Names) (cell : ℕ → Cell) where
       (i before : ℕ) (f : Option ℕ) → Sight i (us ++ es) → Comes (us ++ es) i (idle k before f) es k (first f none)
   by k us es a i before f h = subst (Comes (us ++ es) i (idle k before f) es k) (sym (first-none f))
       (alone-done openAfter (Resolved declared) [] cell step idle (next declared) badLine GoodLine us es a k i before f h)
-
-  free : (k : ℕ) → getD otherTakes k 0 ≡ takesAny → getD lastTakes k 0 ≡ takesAny → eqb k EntryKind.element ≡ false → Takes k takesAny takesAny
-  free k o l e = record { others = o; final = l; plain = e }
 
   names-alone : (is : List Identifier) → All (λ e. Lonely (e .kind)) (each flatIdentifier is)
   names-alone is =
@@ -270,6 +267,6 @@ pub finds-wrong : (declared : Names) (cell : ℕ → Cell) (w : List ℕ) (ts : 
 finds-wrong declared cell w ts n x table seen t known =
     let k : Context = record { table = table; names = typedSignals (allLines x) } in
     let ends = text-holds openAfter (Resolved declared) [] cell step (λ k before f. state (k .table) before [] f) (next declared) (λ k l. mistypedLine (k .names) l)
-    (λ k l. ProperLine l × KnownLine declared k l) (line-done declared cell) (alone declared cell EntryKind.heading (refl, refl) refl refl refl refl (free declared cell _ refl refl refl) refl) x
+    (λ k l. ProperLine l × KnownLine declared k l) (line-done declared cell) (alone declared cell EntryKind.heading (refl, refl) refl refl refl refl (free _ refl refl refl) refl) x
     k 0 0 none (good-lines declared k (allLines x) (proper-lines x (t .proper)) (known .lines)) seen in
     ap (λ (s : State). s .found) (passed-all step cell (state table 0 [] none) (outline x) n (t .count) ∙ ends .runs) ∙ first-wrong declared k (allLines x)

@@ -1,11 +1,11 @@
 // Refusal 9 over the stored tree: 'operand, width, declaring type or a line's expression of a wrong type'. One pass, with a stack of the operands' types and starts.
 // An inner stage: `wrong_type` asks for a work buffer of full length, which the reader has tested (17), and for as many entries as the parser counted.
-mod kinds;
+mod codes;
 mod table;
 
-use crate::kinds::gives_of;
-use crate::kinds::indexed;
-use crate::kinds::wrong_at;
+use crate::codes::gives_of;
+use crate::codes::indexed;
+use crate::codes::wrong_at;
 use crate::table::declare_all;
 use crate::table::define;
 use crate::table::named_cell;

@@ -1,10 +1,10 @@
 // The types of declared names by their references. The functions are the pass's own: it has bounded what they ask for.
-use crate::kinds::BUS;
-use crate::kinds::ENUMERATION;
-use crate::kinds::FORMULA;
-use crate::kinds::NUMBER;
-use crate::kinds::UNDECLARED;
-use crate::kinds::VALUE;
+use crate::codes::BUS;
+use crate::codes::ENUMERATION;
+use crate::codes::FORMULA;
+use crate::codes::NUMBER;
+use crate::codes::UNDECLARED;
+use crate::codes::VALUE;
 use basics::u16_u32::wide;
 use entries::kinds;
 use language::limits;

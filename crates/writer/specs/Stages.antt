@@ -21,7 +21,7 @@ use Rattle.language.specs.Tree.{Model, Mealy, Moore, Spec}
 use Rattle.language.specs.Places.{refuseAt}
 use Rattle.language.specs.Parsing.{parsed}
 use Rattle.language.specs.Reading.{NumberedFormula, specExpansion, textExpansion, delivered, reading, workAfter}
-use Rattle.language.specs.Laws.Buffers.{accepted-meant}
+use Rattle.language.specs.Laws.Buffers.{accepted-expansion}
 use Rattle.language.specs.Laws.Meaning.Acceptance.{text-signals, list-limited}
 use Rattle.parser.specs.Outlines.{modelCode}
 use Rattle.parser.specs.declared.Facts.{Facts}
@@ -116,7 +116,7 @@ module _ {text work work′ table table′ list list′ : List ℕ} {told : Told
         let t = accepted (read .reads .yields) e in
         let c = t .value in
         let left = read .reads .leaves c (t .done) in
-        let both = accepted-meant text (length work) table list c (t .done) in
+        let both = accepted-expansion text (length work) table list c (t .done) in
         let meaning = both .0 in
         let tree = bind-done (parsed text) specExpansion meaning in
         let nodesTold : count (c .formula) ≡ n = ap (λ (k : Counts). k .nodes) (t .same) in

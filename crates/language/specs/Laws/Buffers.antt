@@ -101,16 +101,16 @@ module _ (nodes signals : List ℕ) (c : NumberedFormula) {d : NumberedFormula} 
 
 module _ (text : List ℕ) (work : ℕ) (nodes signals : List ℕ) where
   -- an accepted text is one that is delivered
-  pub accepted-meant : (c : NumberedFormula) → reading text work (length nodes) (length signals) ≡ Done c → (textExpansion text ≡ Done c) × (delivered (length nodes) (length signals) c ≡ Done c)
+  pub accepted-expansion : (c : NumberedFormula) → reading text work (length nodes) (length signals) ≡ Done c → (textExpansion text ≡ Done c) × (delivered (length nodes) (length signals) c ≡ Done c)
   unfolding reading
-  accepted-meant c e =
+  accepted-expansion c e =
       let a = guard-done _ 17 0 _ e in
       let b = bind-done (textExpansion text) _ (a .1) in
       let x = delivered-same nodes signals (b .0) (b .2) in
       (b .1 ∙ ap Done x, subst (λ (y : NumberedFormula). delivered (length nodes) (length signals) y ≡ Done c) x (b .2))
 
   pub accepted-delivers : (c : NumberedFormula) → reading text work (length nodes) (length signals) ≡ Done c → Delivers c nodes signals
-  accepted-delivers c e = delivered-laid nodes signals c (accepted-meant c e .1)
+  accepted-delivers c e = delivered-laid nodes signals c (accepted-expansion c e .1)
 
   -- 'a refused call changes none'
   pub refused-leaves : (n p : ℕ) → reading text work (length nodes) (length signals) ≡ Refused n p →

@@ -1,6 +1,7 @@
 -- What the lexer and the grammar read, where they stop, and what a text is that passes refusals 1 to 10.
 pub mod PieceLaws
 pub mod TokenLaws
+pub mod EveryToken
 pub mod TreeTokens
 pub mod Lookahead
 pub mod ReaderLaws

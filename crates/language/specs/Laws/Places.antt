@@ -1,4 +1,5 @@
 -- Every refused place lies in the text.
+pub mod AllLines
 pub mod PlaceBounds
 pub mod NamePlaces
 pub mod TypePlaces

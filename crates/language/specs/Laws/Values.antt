@@ -6,7 +6,7 @@ pub mod SetLaws
 pub mod SetAnswers
 pub mod Arithmetic
 pub mod Folds
-pub mod ValueKinds
+pub mod ValueTypes
 pub mod DistinctNames
 pub mod NameLaws
 pub mod LineLaws

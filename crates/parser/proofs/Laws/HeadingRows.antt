@@ -16,7 +16,8 @@ use Rattle.language.specs.Laws.Basics.Lists.{All}
 use Rattle.language.specs.Laws.Basics.Tests.{pick, leave, and-left, and-right, or-left, or-right, some-none}
 use Rattle.lexer.specs.Numbers.{number, numbered, fixed}
 use Rattle.lexer.specs.NumberLaws.{known, named-number}
-use Rattle.parser.specs.Headings.{noHeading, rowOf, rowNumber, headingNumber, headingCode}
+use Rattle.entries.specs.Headings.{noHeading}
+use Rattle.parser.specs.Headings.{rowOf, rowNumber, headingNumber, headingCode}
 
 -- the row of a token's word, unless its subsection has stood
 abbrev pub fresh : List ℕ → Option HeadingRow → Option HeadingRow

@@ -15,6 +15,7 @@ use Rattle.language.specs.Tree.{Subsection, Inputs, Outputs, Lines}
 use Rattle.language.specs.Grammar.{Tokens, Read, front, rest, stop, expect}
 use Rattle.language.specs.Sections.{HeadingRow, headings, headingOf, seen, subsectionOf, subsectionsOf}
 use Rattle.language.specs.Laws.Basics.Tests.{pick, leave, or-left}
+use Rattle.entries.specs.Headings.{noHeading}
 use Rattle.entries.specs.Flat.{each, flatSubsection}
 use Rattle.entries.specs.declared.Cursor.{Cursor}
 use Rattle.entries.specs.declared.Parse.{Parse}
@@ -24,7 +25,7 @@ use Rattle.entries.specs.CursorLaws.{ready-number, before-end}
 use Rattle.entries.specs.Reads.{Reads}
 use Rattle.entries.specs.ReadsLaws.{kept-same}
 use Rattle.entries.specs.TokenReads.{took-none}
-use Rattle.parser.specs.Headings.{noHeading, rowOf, headingNumber, headingCode, endOf, marked}
+use Rattle.parser.specs.Headings.{rowOf, headingNumber, headingCode, endOf, marked}
 use Rattle.parser.proofs.Laws.Rows.{Accepted, accepted, refusal}
 use Rattle.parser.proofs.Laws.Loops.{Going, going-start, going-refused, going-rest, going-more}
 use Rattle.parser.proofs.Laws.HeadingRows.{below-at, heading-out, heading-most, fresh, heading-number, Row, no-row, row-of, left, left-less}

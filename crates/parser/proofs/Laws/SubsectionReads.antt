@@ -10,6 +10,7 @@ use Rattle.language.specs.Tree.{Inputs, Outputs, Lines}
 use Rattle.language.specs.Grammar.{Tokens, rest}
 use Rattle.language.specs.Sections.{expression, declarationOf, blockOf, Heading, InputsHere, OutputsHere, LinesHere, subsectionOf}
 use Rattle.lexer.specs.Numbers.{fixed}
+use Rattle.entries.specs.Headings.{noHeading}
 use Rattle.entries.specs.Kinds as Kind
 use Rattle.entries.specs.Flat.{each, head, flatDeclaration, flatLine, flatSubsection}
 use Rattle.entries.specs.Stored.{putEntry}
@@ -19,7 +20,7 @@ use Rattle.entries.specs.Cursors.{Ready, Writes, emittedOf, refusedAt, expected
 use Rattle.entries.specs.Reads.{Kept, Took, Reads}
 use Rattle.entries.specs.ReadsLaws.{kept-same, read-stop}
 use Rattle.entries.specs.TokenReads.{took-none, expect-reads}
-use Rattle.parser.specs.Headings.{noHeading, headingCode, endOf, marked}
+use Rattle.parser.specs.Headings.{headingCode, endOf, marked}
 use Rattle.parser.proofs.Laws.Rows.{writes, kept-emit, took-emit, reads-tail}
 use Rattle.parser.proofs.Laws.Passing.{Next, past-ready, rest-past, took-past}
 

@@ -1,14 +1,31 @@
--- What holds where a refusal finds no place: every test that could give one has passed.
+-- The first of several places, whatever their order; what holds where a refusal finds no place: every test that could give one has passed.
 use Prim.Native.Nat.{ℕ}
-use mathlib.Core.Path.{_≡_, refl}
+use mathlib.Core.Path.{_≡_, refl, ap}
 use mathlib.Core.Bool.{Bool, true, false}
 use mathlib.Core.List.{List, [], _∷_}
 use mathlib.Core.Option.{Option, none, some}
+use native.Mathlib.Omega.{arith}
 use Rattle.node.specs.Result.{Result, Done}
 use Rattle.node.specs.ResultLaws.{not-done}
 use Rattle.language.specs.Places.{first, firstIn, unless, refuseAt}
 use Rattle.language.specs.Laws.Basics.Lists.{All}
 use Rattle.language.specs.Laws.Basics.Tests.{some-none}
+
+pub first-none : (p : Option ℕ) → first p none ≡ p
+first-none none = refl
+first-none (some p) = refl
+
+pub first-assoc : (p q r : Option ℕ) → first (first p q) r ≡ first p (first q r)
+first-assoc none q r = refl
+first-assoc (some p) none r = refl
+first-assoc (some p) (some q) none = refl
+first-assoc (some p) (some q) (some r) = ap some (omega arith)
+
+pub first-comm : (p q : Option ℕ) → first p q ≡ first q p
+first-comm none none = refl
+first-comm none (some q) = refl
+first-comm (some p) none = refl
+first-comm (some p) (some q) = ap some (omega arith)
 
 pub first-left : (p q : Option ℕ) → first p q ≡ none → p ≡ none
 first-left none q e = refl

@@ -35,6 +35,10 @@ pub and-false : (a b : Bool) → a ≡ false → (a && b) ≡ false
 and-false true b e = absurd (false≢true (sym e))
 and-false false b e = refl
 
+pub and-last-false : (a b : Bool) → b ≡ false → (a && b) ≡ false
+and-last-false true b e = e
+and-last-false false b e = refl
+
 pub or-left : (a b : Bool) → a ≡ true → (a || b) ≡ true
 or-left true b e = refl
 or-left false b e = absurd (false≢true e)
@@ -42,6 +46,14 @@ or-left false b e = absurd (false≢true e)
 pub or-right : (a b : Bool) → b ≡ true → (a || b) ≡ true
 or-right true b e = refl
 or-right false b e = e
+
+pub or-left-false : (a b : Bool) → (a || b) ≡ false → a ≡ false
+or-left-false true b e = e
+or-left-false false b e = refl
+
+pub or-right-false : (a b : Bool) → (a || b) ≡ false → b ≡ false
+or-right-false true b e = absurd (false≢true (sym e))
+or-right-false false b e = e
 
 pub or-cases {ℓ} : {P : Type ℓ} (a b : Bool) → (a ≡ true → P) → (b ≡ true → P) → (a || b) ≡ true → P
 or-cases true b f g e = f refl

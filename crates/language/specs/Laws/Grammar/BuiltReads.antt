@@ -10,7 +10,7 @@ use lib.ListN.{length}
 use Rattle.node.specs.Result.{Done, _>>=_}
 use Rattle.language.specs.Tokens.{Name, Numeral as Digits, Token, isOf, is}
 use Rattle.node.specs.Operators.{F, G}
-use Rattle.language.specs.Operators.{Prefix, Infix, Window, FinallyIn, GloballyIn, Size, Measures, Applies, Role, Plain, Counted, Windowed, Folding, Big, InfixRow, infixes, PrefixRow, prefixes, loosest}
+use Rattle.language.specs.Operators.{Prefix, Infix, Window, FinallyIn, GloballyIn, Size, Measures, Applies, Role, Plain, Counted, Windowed, Folding, Big, InfixRow, infixes, PrefixRow, prefixes, loosest, boundLevel}
 use Rattle.language.specs.Tree.{Expr, Named, Numeral, Truth, Index, Paren, Prefixed, Joined, Nexts, InWindow, Each, Between, Listed, Empty, Element, Range}
 use Rattle.language.specs.Grammar.{
   Tokens,
@@ -156,8 +156,9 @@ module _ (P E : Expr → Type 0) (K : Built P E) where
     binderOf-read ts =
         chosen Bound (isOf Name (front ts) && named among (front (rest ts))) _ _
         (with Bound IsName (expectOf Name ts) _ (expect-name ts) (λ i us y. with Bound P (rec loosest (rest us)) _ (good loosest (rest us)) (λ s vs h. done (y, h))))
-        (with Bound P (rec 8 ts) _ (good 8 ts) (λ a us ha. with Bound IsSign (signOf us) _ (sign-read us) (λ low vs sl. with Bound IsName (expectOf Name vs) _ (expect-name vs) (λ i ws y. after Bound (signOf ws) _ (λ high xs.
-        with Bound P (rec 8 xs) _ (good 8 xs) (λ b ys hb. done (y, K .of-bounds _ _ _ a b sl ha hb)))))))
+        (with Bound P (rec boundLevel ts) _ (good boundLevel ts) (λ a us ha. with Bound IsSign (signOf us) _ (sign-read us) (λ low vs sl. with Bound IsName (expectOf Name vs) _ (expect-name vs) (λ i ws y.
+        after Bound (signOf ws) _ (λ high xs.
+        with Bound P (rec boundLevel xs) _ (good boundLevel xs) (λ b ys hb. done (y, K .of-bounds _ _ _ a b sl ha hb)))))))
 
     bindersOf-read : (f : ℕ) (ts : Tokens) → Gives (All Bound) (bindersOf f rec ts)
     bindersOf-read zero ts = refused tt

@@ -14,7 +14,7 @@ use Rattle.node.specs.Result.{Done, Refused, _>>=_}
 use Rattle.node.specs.ResultLaws.{bind-to}
 use Rattle.language.specs.Bytes.{isOneOf}
 use Rattle.language.specs.Tokens.{Fixed, Name, Numeral as Digits, Token, isOf, is}
-use Rattle.language.specs.Operators.{Size, FinallyIn, GloballyIn, Measures, Applies, Role, Plain, Counted, Windowed, Folding, InfixRow, PrefixRow, prefixes, loosest}
+use Rattle.language.specs.Operators.{Size, FinallyIn, GloballyIn, Measures, Applies, Role, Plain, Counted, Windowed, Folding, InfixRow, PrefixRow, prefixes, loosest, boundLevel}
 use Rattle.language.specs.Tree.{Expr, Named, Numeral, Truth, Index, Paren, Prefixed, Nexts, InWindow, Between, Listed, Empty, Element, Range}
 use Rattle.language.specs.Grammar.{
   Tokens,
@@ -96,7 +96,7 @@ module _
     (n : ℕ)
     (reads : (m b : ℕ) (ts : Tokens) → length ts < n → b ≤ n → Reads Expr P (InExpr P) (Is truth) (Follows m) b 1 ts (rec m ts) (λ k. rec′ k m))
     (names : (t : Token) → isOf Name t ≡ true → (b : ℕ) (ts : Tokens) → suc (length ts) < n → suc b ≤ n
-    → Reads Expr P (λ e. P t → InExpr P e) (Follows 8) (Follows 8) b 0 ts (rec 8 (t ∷ ts)) (λ k us. rec′ k 8 (t ∷ us)))
+    → Reads Expr P (λ e. P t → InExpr P e) (Follows boundLevel) (Follows boundLevel) b 0 ts (rec boundLevel (t ∷ ts)) (λ k us. rec′ k boundLevel (t ∷ us)))
   where
     closedBy-reads : {W : Token → Type 0} (s : String) → Follows loosest (sign s) → (b : ℕ) (ts : Tokens) → length ts < n → b ≤ n
         → Reads Expr P (InExpr P) (Is truth) W b 1 ts (closedBy rec s ts) (λ k us. closedBy (rec′ k) s us)
@@ -152,29 +152,29 @@ module _
         (λ _. done (Named t) (λ v. v))
 
     boundsAfter-reads : (b : ℕ) (a : Expr) (ts : Tokens) → b ≤ n → length ts < n →
-        Reads Binder P (λ x. InExpr P a → InBinder P x) (Is (sign "<=")) (Follows 8) b 1 ts
-        (signOf ts >>= λ (low, ts). expectOf Name ts >>= λ (i, ts). signOf ts >>= λ (high, ts). rec 8 ts >>= λ (b, ts). Done (record { name = i; range = Between (low .0) (low .1) (high .1) a b }, ts))
-        (λ k us. signOf us >>= λ (low, ts). expectOf Name ts >>= λ (i, ts). signOf ts >>= λ (high, ts). rec′ k 8 ts >>= λ (b, ts). Done
+        Reads Binder P (λ x. InExpr P a → InBinder P x) (Is (sign "<=")) (Follows boundLevel) b 1 ts
+        (signOf ts >>= λ (low, ts). expectOf Name ts >>= λ (i, ts). signOf ts >>= λ (high, ts). rec boundLevel ts >>= λ (b, ts). Done (record { name = i; range = Between (low .0) (low .1) (high .1) a b }, ts))
+        (λ k us. signOf us >>= λ (low, ts). expectOf Name ts >>= λ (i, ts). signOf ts >>= λ (high, ts). rec′ k boundLevel ts >>= λ (b, ts). Done
         (record { name = i; range = Between (low .0) (low .1) (high .1) a b }, ts))
     boundsAfter-reads b a ts g h =
         bind (signOf ts) _ _ (signOf-reads b ts) λ low rs₂ l₂. some-taken
         (bind (expectOf Name rs₂) _ _ (expectOf-reads b rs₂ Name refl refl) λ i rs₃ l₃. some-taken
         (bind (signOf rs₃) _ _ (signOf-reads b rs₃) λ high rs₄ l₄. some-taken
-        (bind (rec 8 rs₄) _ _ (reads 8 b rs₄ (omega arith) g) λ c rs₅ l₅.
+        (bind (rec boundLevel rs₄) _ _ (reads boundLevel b rs₄ (omega arith) g) λ c rs₅ l₅.
         done (record { name = i; range = Between (low .0) (low .1) (high .1) a c }) (λ vc _ vi vl va. (vi, (vl, va, vc))))))
 
-    atMost : Follows 8 (sign "<=")
+    atMost : Follows boundLevel (sign "<=")
     atMost = record { operator = refl; index = refl; member = refl }
 
-    boundsOf-reads : (b : ℕ) (ts : Tokens) → b ≤ n → length ts < n → Reads Binder P (InBinder P) (Is truth) (Follows 8) b 1 ts (boundsOf rec ts) (λ k us. boundsOf (rec′ k) us)
-    boundsOf-reads b ts g h = bind-before (rec 8 ts) (follows-at atMost) _ _ (reads 8 b ts h g) λ a rs l. some-taken (boundsAfter-reads b a rs g (omega arith))
+    boundsOf-reads : (b : ℕ) (ts : Tokens) → b ≤ n → length ts < n → Reads Binder P (InBinder P) (Is truth) (Follows boundLevel) b 1 ts (boundsOf rec ts) (λ k us. boundsOf (rec′ k) us)
+    boundsOf-reads b ts g h = bind-before (rec boundLevel ts) (follows-at atMost) _ _ (reads boundLevel b ts h g) λ a rs l. some-taken (boundsAfter-reads b a rs g (omega arith))
 
-    inside : (t : Token) → Follows loosest t → Follows 8 t
-    inside = tighter 8 loosest (omega arith)
+    inside : (t : Token) → Follows loosest t → Follows boundLevel t
+    inside = tighter boundLevel loosest (omega arith)
 
     -- with a name at the front, two tokens are looked at: here the second is the front
     afterName-reads : (b : ℕ) (t : Token) (ts : Tokens) → suc b ≤ n → suc (length ts) < n → isOf Name t ≡ true →
-        Reads Binder P (λ x. P t → InBinder P x) (Follows 8) (Follows loosest) b 0 ts
+        Reads Binder P (λ x. P t → InBinder P x) (Follows boundLevel) (Follows loosest) b 0 ts
         (elim (named among (front ts)) [ true ↦ membershipOf rec (t ∷ ts) | false ↦ boundsOf rec (t ∷ ts) ])
         (λ k us. elim (named among (front us)) [ true ↦ membershipOf (rec′ k) (t ∷ us) | false ↦ boundsOf (rec′ k) (t ∷ us) ])
     afterName-reads b t ts g h i =
@@ -184,7 +184,7 @@ module _
         (λ e. rephrase _ (isMember rec ts) (λ k us. isMember (rec′ k) us)
         (take ts _ (named-inner among (front ts) e) (omega arith) (omega arith)
         (bind (rec loosest (rest ts)) _ _ (reads loosest b (rest ts) (omega (arith, rest-less ts)) (omega arith)) λ s rs l. done (record { name = t; range = s }) (λ v _ w. (w, v)))))
-        (λ _. narrow _ inside (bind-before (rec 8 (t ∷ ts)) (follows-at atMost) _ _ (names t i b ts h g) λ a rs l. weaken _ (omega arith) (omega arith) (λ x q f v. q (f v))
+        (λ _. narrow _ inside (bind-before (rec boundLevel (t ∷ ts)) (follows-at atMost) _ _ (names t i b ts h g) λ a rs l. weaken _ (omega arith) (omega arith) (λ x q f v. q (f v))
         (boundsAfter-reads b a rs (omega arith) (omega arith))))
 
     nameFirst-reads : (b : ℕ) (ts : Tokens) → b ≤ n → length ts < n → isOf Name (front ts) ≡ true →

@@ -11,7 +11,7 @@ use borrow.Author.Tests.{eqb-true, leb-true}
 use Rattle.node.specs.Result.{Done, _>>=_}
 use Rattle.node.specs.ResultLaws.{bind-refused, bind-to}
 use Rattle.language.specs.Tokens.{Fixed, Name, Token, code, isOf}
-use Rattle.language.specs.Operators.{LeftToRight, RightToLeft, Associativity, InfixRow, infixes, prefixes}
+use Rattle.language.specs.Operators.{LeftToRight, RightToLeft, Associativity, InfixRow, infixes, prefixes, boundLevel}
 use Rattle.language.specs.Tree.{Expr, Truth, Joined}
 use Rattle.language.specs.Grammar.{Tokens, Read, front, rest, stop, infixOf, Reader, nameOf, operandBy, operandOf, rightLevel, allowed, climb, expr}
 use Rattle.language.specs.Laws.Basics.Lists.{Any}
@@ -86,10 +86,10 @@ module _
             weaken _ (omega arith) (omega arith) (λ x q vb vt v. q (vt, v, vb)) (later (Joined t (r .operator) e b) rs (omega arith) (omega arith))))
 
 -- a name begins an operand
-named : (j : ℕ) (r : Reader) (t : Token) (us : Tokens) → isOf Name t ≡ true → operandOf j r 8 (t ∷ us) ≡ nameOf r t us
+named : (j : ℕ) (r : Reader) (t : Token) (us : Tokens) → isOf Name t ≡ true → operandOf j r boundLevel (t ∷ us) ≡ nameOf r t us
 named j r t us e =
-    let not-fixed : isOf Fixed t ≡ false = ap (eqb 0) (sym (eqb-true 1 (code (t .class)) e)) in
-    ap (λ o. operandBy j r 8 t o us) (prefix-none prefixes t not-fixed) ∙ pick (isOf Name t) (nameOf r t us) _ e
+    let not-fixed : isOf Fixed t ≡ false = ap (eqb (code Fixed)) (sym (eqb-true (code Name) (code (t .class)) e)) in
+    ap (λ o. operandBy j r boundLevel t o us) (prefix-none prefixes t not-fixed) ∙ pick (isOf Name t) (nameOf r t us) _ e
 
 -- of no tokens no expression is read; `true` is one
 expr-none : (f max : ℕ) → expr f max [] ≡ stop []
@@ -109,7 +109,7 @@ expr-truth (suc (suc f)) max (u ∷ us) w l =
 record ExprLaw (P : Token → Type 0) (f : ℕ) : Type 0 where
   main : (max b : ℕ) (ts : Tokens) → length ts < f → b ≤ f → Reads Expr P (InExpr P) (Is truth) (Follows max) b 1 ts (expr f max ts) (λ k. expr (more f k) max)
   names : (t : Token) → isOf Name t ≡ true → (b : ℕ) (ts : Tokens) → suc (length ts) < f → suc b ≤ f
-      → Reads Expr P (λ e. P t → InExpr P e) (Follows 8) (Follows 8) b 0 ts (expr f 8 (t ∷ ts)) (λ k us. expr (more f k) 8 (t ∷ us))
+      → Reads Expr P (λ e. P t → InExpr P e) (Follows boundLevel) (Follows boundLevel) b 0 ts (expr f boundLevel (t ∷ ts)) (λ k us. expr (more f k) boundLevel (t ∷ us))
 
 expr-reads : (P : Token → Type 0) (f : ℕ) → ExprLaw P f
 expr-reads P zero = record { main = λ max b ts h g. absurd (omega arith); names = λ t i b ts h g. absurd (omega arith) }
@@ -142,11 +142,11 @@ expr-reads P (suc f) = go (expr-reads P f)
             climb-reads P rec rec′ f (ih .main) f max e rs (omega arith) (omega arith))
 
         names : (t : Token) → isOf Name t ≡ true → (b : ℕ) (ts : Tokens) → suc (length ts) < suc f → suc b ≤ suc f
-            → Reads Expr P (λ e. P t → InExpr P e) (Follows 8) (Follows 8) b 0 ts (expr (suc f) 8 (t ∷ ts)) (λ k us. expr (more (suc f) k) 8 (t ∷ us))
+            → Reads Expr P (λ e. P t → InExpr P e) (Follows boundLevel) (Follows boundLevel) b 0 ts (expr (suc f) boundLevel (t ∷ ts)) (λ k us. expr (more (suc f) k) boundLevel (t ∷ us))
         names t i b ts h g =
-            rephrase _ (ap (λ r. r >>= λ (e, us). climb f rec 8 e us) (named f rec t ts i)) (λ k us. ap (λ r. r >>= λ (e, vs). climb (more f k) (rec′ k) 8 e vs) (named (more f k) (rec′ k) t us i))
-            (bind (nameOf rec t ts) _ _ (nameOf-reads P rec rec′ f (ih .main) (ih .names) 8 b t ts (omega arith) (omega arith)) λ e rs l.
-            weaken _ (omega arith) (omega arith) (λ x q v w. q (v w)) (climb-reads P rec rec′ f (ih .main) f 8 e rs (omega arith) (omega arith)))
+            rephrase _ (ap (λ r. r >>= λ (e, us). climb f rec boundLevel e us) (named f rec t ts i)) (λ k us. ap (λ r. r >>= λ (e, vs). climb (more f k) (rec′ k) boundLevel e vs) (named (more f k) (rec′ k) t us i))
+            (bind (nameOf rec t ts) _ _ (nameOf-reads P rec rec′ f (ih .main) (ih .names) boundLevel b t ts (omega arith) (omega arith)) λ e rs l.
+            weaken _ (omega arith) (omega arith) (λ x q v w. q (v w)) (climb-reads P rec rec′ f (ih .main) f boundLevel e rs (omega arith) (omega arith)))
 
 -- any two fuels above the number of tokens give the same answer
 pub expr-fuel : (f g max : ℕ) (ts : Tokens) → length ts < f → length ts < g → expr f max ts ≡ expr g max ts
@@ -163,10 +163,10 @@ upTo-reads P f max b ts h =
     free (upTo max) (expr f max ts) (expr-reads P f .main max f ts h (omega arith)) (λ k us l. expr-fuel (suc (length us)) (more f k) max us (omega arith) (omega (arith, more-is f k)))
 
 upTo-names : (P : Token → Type 0) (f : ℕ) (t : Token) → isOf Name t ≡ true → (b : ℕ) (ts : Tokens) → suc (length ts) < f
-    → Reads Expr P (λ e. P t → InExpr P e) (Follows 8) (Follows 8) b 0 ts (expr f 8 (t ∷ ts)) (λ k us. upTo 8 (t ∷ us))
+    → Reads Expr P (λ e. P t → InExpr P e) (Follows boundLevel) (Follows boundLevel) b 0 ts (expr f boundLevel (t ∷ ts)) (λ k us. upTo boundLevel (t ∷ us))
 upTo-names P f t i b ts h =
-    free (λ us. upTo 8 (t ∷ us)) (expr f 8 (t ∷ ts)) (expr-reads P f .names t i (f - 1) ts h (omega arith))
-    (λ k us l. expr-fuel (suc (suc (length us))) (more f k) 8 (t ∷ us) (omega arith) (omega (arith, more-is f k)))
+    free (λ us. upTo boundLevel (t ∷ us)) (expr f boundLevel (t ∷ ts)) (expr-reads P f .names t i (f - 1) ts h (omega arith))
+    (λ k us l. expr-fuel (suc (suc (length us))) (more f k) boundLevel (t ∷ us) (omega arith) (omega (arith, more-is f k)))
 
 -- an accepted expression takes at least one token, and those it takes stand at the front
 pub upTo-takes : (max : ℕ) (ts : Tokens) (e : Expr) (rs : Tokens) → upTo max ts ≡ Done (e, rs) → (t : Token) × (us : Tokens) × (ts ≡ t ∷ (us ++ rs))

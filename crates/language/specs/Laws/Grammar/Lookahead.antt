@@ -35,8 +35,8 @@ alike-after (v ∷ vs) ts us h = refl
 abbrev pub Inner : Token → Type 0
 Inner t = isOf End t ≡ false
 
-pub inner-of : (c : Class) (t : Token) → eqb 5 (code c) ≡ false → isOf c t ≡ true → Inner t
-inner-of c t h e = ap (eqb 5) (sym (eqb-true (code c) (code (t .class)) e)) ∙ h
+pub inner-of : (c : Class) (t : Token) → eqb (code End) (code c) ≡ false → isOf c t ≡ true → Inner t
+inner-of c t h e = ap (eqb (code End)) (sym (eqb-true (code c) (code (t .class)) e)) ∙ h
 
 -- f, and k more
 abbrev pub more : ℕ → ℕ → ℕ

@@ -106,16 +106,16 @@ wordAt-sound b s e =
     (λ h. record {
       fits = run-fits isNameByte (b ∷ s);
       some = λ z. run-some isNameByte b s (or-left (isNameStart b || isDigit b) (eqb b 39) (or-left (isNameStart b) (isDigit b) e));
-      inner = split (λ c. eqb 5 (code c) ≡ false) (isOneOf words (take n (b ∷ s))) (λ _. refl) (λ _. refl);
+      inner = split (λ c. eqb (code End) (code c) ≡ false) (isOneOf words (take n (b ∷ s))) (λ _. refl) (λ _. refl);
       short = λ z. leb-true n maxName h;
     })
     (λ h. wrong-sound (length (b ∷ s)))
 
 -- a class that is neither Name nor End
-other : (c : Class) (n m : ℕ) → eqb 1 (code c) ≡ false → eqb 5 (code c) ≡ false → m ≤ n → 1 ≤ m → Sound n (record { class = c; size = m })
+other : (c : Class) (n m : ℕ) → eqb (code Name) (code c) ≡ false → eqb (code End) (code c) ≡ false → m ≤ n → 1 ≤ m → Sound n (record { class = c; size = m })
 other c n m e i h g = record { fits = h; some = λ z. g; inner = i; short = λ z. absurd (false≢true (sym e ∙ z)) }
 
-closed-sound : (c : Class) (n m : ℕ) → eqb 1 (code c) ≡ false → eqb 5 (code c) ≡ false → m ≤ n → Sound n (closed c m)
+closed-sound : (c : Class) (n m : ℕ) → eqb (code Name) (code c) ≡ false → eqb (code End) (code c) ≡ false → m ≤ n → Sound n (closed c m)
 closed-sound c n zero e i h = wrong-sound n
 closed-sound c n (suc m) e i h = other c n (suc m) e i h (omega arith)
 

@@ -71,7 +71,7 @@ lex-stands text e at zero (b ∷ s) h l =
     let first = read-stands text at (b ∷ s) p h l (pieceAt-sound e b s) in
     let P = All (Stands text) in
     let later : (m : Bool) → P (lex m (suc at) (p .size - 1) s) = λ m. lex-stands text m (suc at) (p .size - 1) s (drop-next text at b s h) (omega arith) in
-    split P (isOf Wrong t) (λ w. (first (ap (eqb 7) (sym (eqb-true 6 (code (p .class)) w))), tt))
+    split P (isOf Wrong t) (λ w. (first (ap (eqb (code Blank)) (sym (eqb-true (code Wrong) (code (p .class)) w))), tt))
     (λ _. split P (isOf Blank t) (λ _. later e) (λ z. (first z, later (enumeratingAfter e t))))
 
 pub lex-rising : (from : ℕ) (e : Bool) (at k : ℕ) (s : List ℕ) → k ≤ length s → from ≤ at + k → Rising from (lex e at k s)

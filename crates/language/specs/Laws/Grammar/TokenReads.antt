@@ -9,7 +9,7 @@ use lib.Dec.{eqb, leb}
 use native.Mathlib.Omega.{arith}
 use borrow.Author.Tests.{leb-true, le-leb}
 use Rattle.language.specs.Bytes.{ascii, same, isOneOf}
-use Rattle.language.specs.Tokens.{Class, Fixed, Token, code, isOf, is}
+use Rattle.language.specs.Tokens.{Class, Fixed, End, Token, code, isOf, is}
 use Rattle.language.specs.Operators.{InfixRow, infixes, loosest}
 use Rattle.language.specs.Grammar.{Tokens, front, expect, expectOf, named, infixOf, allowed, signOf}
 use Rattle.language.specs.Laws.Basics.Tests.{leave, pick, and-left, some-none, same-refl}
@@ -68,7 +68,7 @@ module _ {P : Token → Type 0} {W : Token → Type 0} (b : ℕ) (ts : Tokens) w
   pub expect-reads : (s : String) → Reads Token P P (Is (sign s)) W b 1 ts (expect s ts) (λ k us. expect s us)
   expect-reads s = one-of (is s) (λ t. t) (sign s) ts (same-refl (ascii s)) (is-inner s) (λ t p. p)
 
-  pub expectOf-reads : (c : Class) → eqb 5 (code c) ≡ false → isOf c (plain c) ≡ true → Reads Token P P (Is (plain c)) W b 1 ts (expectOf c ts) (λ k us. expectOf c us)
+  pub expectOf-reads : (c : Class) → eqb (code End) (code c) ≡ false → isOf c (plain c) ≡ true → Reads Token P P (Is (plain c)) W b 1 ts (expectOf c ts) (λ k us. expectOf c us)
   expectOf-reads c z h = one-of (isOf c) (λ t. t) (plain c) ts h (λ t e. inner-of c t z e) (λ t p. p)
 
   pub signOf-reads : Reads (Token × Bool) P (λ s. P (s .0)) (Is (sign "<=")) W b 1 ts (signOf ts) (λ k us. signOf us)

@@ -9,7 +9,7 @@ use native.Mathlib.Omega.{arith}
 use borrow.Author.Tests.{eqb-true}
 use Rattle.node.specs.Result.{Done}
 use Rattle.language.specs.Limits.{maxBytes, offsetBits}
-use Rattle.language.specs.Tokens.{Name, code, Token, isOf, tokens}
+use Rattle.language.specs.Tokens.{Name, End, Wrong, code, Token, isOf, tokens}
 use Rattle.language.specs.Tree.{Definition, Declaration, OneSignal, OfWidth, OfType, Spec}
 use Rattle.language.specs.Parsing.{parsed}
 use Rattle.language.specs.Declared.{Port, inputs, outputs, Declarations, declarations}
@@ -37,8 +37,8 @@ Placed text t = isOf Name t ≡ true → NamePlaced text t
 
 token-placed : (text : List ℕ) → length text ≤ maxBytes → (t : Token) → Stands text t → NamedIn text t → Placed text t
 token-placed text short t s n e =
-    let class : 1 ≡ code (t .class) = eqb-true 1 (code (t .class)) e in
-    let some : 1 ≤ length (t .text) = s .some (ap (eqb 6) (sym class)) (ap (eqb 5) (sym class)) in
+    let class : code Name ≡ code (t .class) = eqb-true (code Name) (code (t .class)) e in
+    let some : 1 ≤ length (t .text) = s .some (ap (eqb (code Wrong)) (sym class)) (ap (eqb (code End)) (sym class)) in
     let inside = s .inside in
     record { named = n e; offset = omega arith }
 

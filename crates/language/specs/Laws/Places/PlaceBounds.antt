@@ -27,11 +27,8 @@ use Rattle.language.specs.Tree.{
   Element,
   Range,
   Identifier,
-  Definition,
   Defined,
   Enumerated,
-  Parameter,
-  Declaration,
   OneSignal,
   OfWidth,
   OfType,
@@ -52,11 +49,6 @@ use Rattle.language.specs.Places.{
   DefinitionLine,
   DeclarationLine,
   FormulaLine,
-  parameterLines,
-  definitionLines,
-  declarationLines,
-  formulaLines,
-  mainLines,
   allLines,
   deep,
   deepLine,
@@ -64,10 +56,11 @@ use Rattle.language.specs.Places.{
   refuseAt,
 }
 use Rattle.language.specs.Names.{Names, identifierNames, declares, declaresSignal, over}
-use Rattle.language.specs.Laws.Basics.Lists.{All, all-append}
+use Rattle.language.specs.Laws.Places.AllLines.{OfSubsection, lines-all}
+use Rattle.language.specs.Laws.Basics.Lists.{All, all-more, all-append}
 use Rattle.language.specs.Laws.Basics.Tests.{split}
 use Rattle.language.specs.Laws.Basics.Results.{Answers, placed}
-use Rattle.language.specs.Laws.Grammar.TreeTokens.{InExpr, InIdentifier, InParameter, InDefinition, InDeclaration, InSubsection, InSpec}
+use Rattle.language.specs.Laws.Grammar.TreeTokens.{InExpr, InIdentifier, InDefinition, InDeclaration, InSubsection, InSpec}
 
 -- a place, if there is one, is at most n
 abbrev pub Under : ℕ → Option ℕ → Type 0
@@ -141,32 +134,13 @@ module _ (n : ℕ) where
 
 -- the lines of a tree hold its tokens
 module _ (P : Token → Type 0) where
-  in-parameterLines : (ps : List Parameter) (ls : List TextLine) → All (InParameter P) ps → All (InEntry P) ls → All (InEntry P) (parameterLines ps ls)
-  in-parameterLines [] ls h g = g
-  in-parameterLines (p ∷ ps) ls h g = (h .0, in-parameterLines ps ls (h .1) g)
-
-  in-definitionLines : (ds : List Definition) (ls : List TextLine) → All (InDefinition P) ds → All (InEntry P) ls → All (InEntry P) (definitionLines ds ls)
-  in-definitionLines [] ls h g = g
-  in-definitionLines (d ∷ ds) ls h g = (h .0, in-definitionLines ds ls (h .1) g)
-
-  in-declarationLines : (ds : List Declaration) (ls : List TextLine) → All (InDeclaration P) ds → All (InEntry P) ls → All (InEntry P) (declarationLines ds ls)
-  in-declarationLines [] ls h g = g
-  in-declarationLines (d ∷ ds) ls h g = (h .0, in-declarationLines ds ls (h .1) g)
-
-  in-formulaLines : (es : List Expr) (ls : List TextLine) → All (InExpr P) es → All (InEntry P) ls → All (InEntry P) (formulaLines es ls)
-  in-formulaLines [] ls h g = g
-  in-formulaLines (e ∷ es) ls h g = (h .0, in-formulaLines es ls (h .1) g)
-
-  in-mainLines : (ss : List Subsection) → All (InSubsection P) ss → All (InEntry P) (mainLines ss)
-  in-mainLines [] h = tt
-  in-mainLines (Inputs ds ∷ ss) h = in-declarationLines ds (mainLines ss) (h .0) (in-mainLines ss (h .1))
-  in-mainLines (Outputs ds ∷ ss) h = in-declarationLines ds (mainLines ss) (h .0) (in-mainLines ss (h .1))
-  in-mainLines (Lines p es ∷ ss) h = in-formulaLines es (mainLines ss) (h .0) (in-mainLines ss (h .1))
-
   pub in-allLines : (x : Spec) → InSpec P x → All (InEntry P) (allLines x)
-  in-allLines x h =
-      in-parameterLines (x .parameters) (definitionLines (x .definitions) (mainLines (x .main))) (h .parameters)
-      (in-definitionLines (x .definitions) (mainLines (x .main)) (h .definitions) (in-mainLines (x .main) (h .main)))
+  in-allLines x h = lines-all (InEntry P) x (h .parameters) (h .definitions) (all-more within (x .main) (h .main))
+    where
+      within : (s : Subsection) → InSubsection P s → OfSubsection (InEntry P) s
+      within (Inputs ds) g = g
+      within (Outputs ds) g = g
+      within (Lines p es) g = g
 
   in-identifierNames : (is : List Identifier) → All (InIdentifier P) is → All P (identifierNames is)
   in-identifierNames [] h = tt

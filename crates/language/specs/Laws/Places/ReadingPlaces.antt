@@ -174,23 +174,23 @@ module _ (n : ℕ) where
   low-tooManySignals m (p ∷ ps) h =
       split (Low n) (leb (m + signalsOf p) maxSignals) (λ _. low-tooManySignals (m + signalsOf p) ps (h .1)) (λ _. here-low n (h .0))
 
-  converted-held : (x : Spec) → InSpec (At n) x → Held n Any (specExpansion x)
+  specExpansion-held : (x : Spec) → InSpec (At n) x → Held n Any (specExpansion x)
   unfolding specExpansion
-  converted-held x h =
+  specExpansion-held x h =
       bind _ _ (declarations-held n x h) λ d v.
       bind _ _ (expand-held x d h) λ f _.
       held-refuseAt 15 _ (low-tooManySignals 0 (inOrder d) (all-append (PortAt n) (d .inputs) (d .outputs) (v .inputs) (v .outputs)))
       (guarded (leb (count (adapted (x .semantics) (x .target) (signalList (inOrder d)) f)) maxNodes) 16 _ (λ _. omega arith) (λ _. done tt))
 
-meant-held : (text : List ℕ) → Held (length text) Any (textExpansion text)
+textExpansion-held : (text : List ℕ) → Held (length text) Any (textExpansion text)
 unfolding textExpansion
-meant-held text = bind (parsed text) specExpansion (parsed-held text) (converted-held (length text))
+textExpansion-held text = bind (parsed text) specExpansion (parsed-held text) (specExpansion-held (length text))
 
 reading-held : (text : List ℕ) (work nodes signals : ℕ) → Held (length text) Any (reading text work nodes signals)
 unfolding reading
 reading-held text work nodes signals =
     guarded (leb workBytes work) 17 _ (λ _. omega arith)
-    (λ _. bind (textExpansion text) _ (meant-held text) λ c _. guarded (leb (count (c .formula)) nodes && leb (length (c .signals)) signals) 18 _ (λ _. omega arith) (λ _. done tt))
+    (λ _. bind (textExpansion text) _ (textExpansion-held text) λ c _. guarded (leb (count (c .formula)) nodes && leb (length (c .signals)) signals) 18 _ (λ _. omega arith) (λ _. done tt))
 
 -- every refused place lies in the text
 pub reading-place : (text : List ℕ) (work nodes signals number p : ℕ) → reading text work nodes signals ≡ Refused number p → p ≤ length text

@@ -66,7 +66,7 @@ use Rattle.language.specs.Laws.Basics.Lists.{Any}
 use Rattle.language.specs.Laws.Basics.Tests.{split}
 use Rattle.language.specs.Laws.Basics.Results.{done, refused, guarded, bind, folds-any}
 use Rattle.language.specs.Laws.Grammar.TreeTokens.{InExpr}
-use Rattle.language.specs.Laws.Values.ValueKinds.{number-as, set-as, bus-as, choice-as}
+use Rattle.language.specs.Laws.Values.ValueTypes.{number-as, set-as, bus-as, choice-as}
 use Rattle.language.specs.Laws.Places.PlaceBounds.{At, Held}
 
 -- a bus keeps the place of its name

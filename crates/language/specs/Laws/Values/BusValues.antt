@@ -10,7 +10,7 @@ use Rattle.language.specs.Values.{Value, Number, Set, Logic, Bus, Unsize
 use Rattle.language.specs.Declared.{Declared, Constant, Single, BusOf, Identifies, WaitingBus, Table, valueAt, declared, Port}
 use Rattle.language.specs.Laws.Basics.Lists.{All, all-more}
 use Rattle.language.specs.Laws.Basics.Results.{done, bind, Within, bind-any}
-use Rattle.language.specs.Laws.Values.ValueKinds.{bus-as}
+use Rattle.language.specs.Laws.Values.ValueTypes.{bus-as}
 use Rattle.language.specs.Laws.Values.NameLaws.{Visible, find-named}
 use Rattle.language.specs.Laws.Values.PortLaws.{EntryPorted}
 

@@ -56,7 +56,7 @@ pub across : (l m : List Token) → Distinct (l ++ m) → Across l m
 across [] m h = tt
 across (n ∷ l) m h = (all-right (Apart n) l m (h .0), across l m (h .1))
 
-across-sym : (l m : List Token) → Across l m → Across m l
+pub across-sym : (l m : List Token) → Across l m → Across m l
 across-sym l m f = all-more (λ n h. all-more (λ k a. apart-sym k n a) l h) m (all-swap Apart l m f)
 
 -- names put in before others from which they are apart

@@ -69,7 +69,7 @@ use Rattle.language.specs.Laws.Basics.Results.{done, refused, guarded, b
 use Rattle.language.specs.Laws.Values.SetLaws.{ascending-all, last-high, insert-ascending, union-ascending, keep-fewer, combine-ascending}
 use Rattle.language.specs.Laws.Values.SetAnswers.{Small, rises-ascending, range-exact, Below, between-exact}
 use Rattle.language.specs.Laws.Values.Arithmetic.{inRange-exact, calculate-exact}
-use Rattle.language.specs.Laws.Values.ValueKinds.{number-as, set-as, bus-as}
+use Rattle.language.specs.Laws.Values.ValueTypes.{number-as, set-as, bus-as}
 use Rattle.language.specs.Laws.Values.NameLaws.{Visible, naming-within}
 
 abbrev pub SaneNumber : ℕ → Type 0

@@ -1,16 +1,17 @@
 -- `lexer::piece::digits` meets its contract, in an enumeration and elsewhere.
 use Prim.Native.Nat.{ℕ, _≤_}
 use mathlib.Core.Path.{_≡_}
+use Rattle.lexer.specs.ByteClasses as Byte
 use Rattle.lexer.proofs.PlaceLaws.{begins-none, marks-at, unmarked-at, numeral-at, star-at}
 use borrow.Author.Needs.{needs}
 use native.Mathlib.Omega.{arith}
 use Rattle.lexer.proofs.piece.digits.Statement.{statement}
 use Rattle.lexer.proofs.piece.digits.Tie as tie
 
-below : {k : ℕ} → k ≤ 6 → (k ≡ 6 → ⊥) → k ≤ 5
+below : {k : ℕ} → k ≤ Byte.digit → (k ≡ Byte.digit → ⊥) → k ≤ Byte.bit
 below h n = omega arith
 
-over : {k : ℕ} → 4 ≤ k → (k ≡ 4 → ⊥) → 5 ≤ k
+over : {k : ℕ} → Byte.star ≤ k → (k ≡ Byte.star → ⊥) → Byte.bit ≤ k
 over h n = omega arith
 
 returns : tie.Need-returns

@@ -1,6 +1,7 @@
 -- `subsections` meets its contract. The loop's invariant: the definition's answer is its answer on the tokens that are left, with the subsections so far before it,
 -- and those that have stood are marked. The measure is the number of tokens left.
 use Prim.Native.Nat.{_-_}
+use Rattle.entries.specs.Headings.{noHeading}
 use Rattle.entries.specs.Cursors.{Ready}
 use Rattle.language.specs.Grammar.{Tokens}
 use Rattle.language.specs.Sections.{subsectionsOf}
@@ -23,7 +24,7 @@ use Rattle.parser.proofs.Laws.SubsectionLoop.{
 use Rattle.parser.proofs.Laws.SubsectionReads.{marked-none, marked-some}
 use Rattle.parser.proofs.subsections.subsections.Statement.{statement}
 use Rattle.parser.proofs.subsections.subsections.Tie as tie
-use Rattle.parser.specs.Headings.{noHeading, headingNumber}
+use Rattle.parser.specs.Headings.{headingNumber}
 use borrow.Author.Needs.{needs}
 use lib.ListN.{length, drop, length-set}
 use mathlib.Core.List.{[]}
