@@ -25,7 +25,8 @@ use Rattle.names.specs.ResolvedLaws.{number-apart}
 use Rattle.names.specs.Resolved.{declaredNames}
 use Rattle.notes.specs.Owned.{DeclarationAt}
 use Rattle.ports.specs.Ports.{PortsFrom, Ported, Room}
-use Rattle.ports.specs.Firsts.{Separate, numberedFrom, firsts-told}
+use Rattle.ports.specs.Firsts.{Separate, numberedFrom}
+use Rattle.ports.specs.FirstsLaws.{firsts-told}
 use Rattle.declarations.specs.Along.{Along}
 use Rattle.declarations.specs.AlongLaws.{along-both, pairs-length}
 use Rattle.declarations.specs.Turnable.{Turnable}
