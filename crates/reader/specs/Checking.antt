@@ -23,7 +23,7 @@ use Rattle.ending.specs.EndingsLaws.{text-refused, text-parsed}
 use Rattle.ending.specs.HandsLaws.{hands-as, hands-refused}
 use Rattle.reader.specs.Answers.{Answers}
 use Rattle.checked.specs.AnswerLaws.{accepted, refused, tree-parsed as only-tree}
-use Rattle.line_counts.specs.Counting.{CountsOf}
+use Rattle.line_counts.specs.Promise.{CountsOf}
 use Rattle.reader.specs.declared.expansion.CheckedTree.{CheckedTree}
 use Rattle.reader.specs.declared.expansion.Counted.{Counted}
 use Rattle.reader.specs.Naming.{Parsed, SomeParsed, Expands}

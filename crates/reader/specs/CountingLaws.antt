@@ -32,7 +32,8 @@ use Rattle.ending.specs.Listing.{startOf, Listing}
 use Rattle.ending.specs.Finishing as Ending
 use Rattle.ending.specs.Finishing.{Complete}
 use Rattle.line_counts.specs.declared.LineCounts.{LineCounts}
-use Rattle.line_counts.specs.Counting.{countsOf, Counts}
+use Rattle.line_counts.specs.Counting.{Counts}
+use Rattle.line_counts.specs.Promise.{countsOf}
 use Rattle.reader.specs.declared.expansion.Counted.{Counted}
 use Rattle.reader.specs.Counting.{Finishes}
 

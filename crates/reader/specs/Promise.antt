@@ -14,7 +14,7 @@ use Rattle.claim.specs.Reads.{Reads}
 use Rattle.parser.specs.declared.Facts.{Facts}
 use Rattle.parser.specs.Outlines.{factsOf}
 use Rattle.line_counts.specs.declared.LineCounts.{LineCounts}
-use Rattle.line_counts.specs.Counting.{CountsOf}
+use Rattle.line_counts.specs.Promise.{CountsOf}
 use Rattle.reader.specs.declared.Told.{Told}
 
 -- what INFO says, if the text has a tree
