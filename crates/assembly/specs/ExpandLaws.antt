@@ -11,7 +11,7 @@ use Rattle.language.specs.Declared.{Port, Declarations}
 use Rattle.language.specs.Lines.{Line, leavesUnnamed, implied}
 use Rattle.language.specs.Expansion.{Context, Sections, gather, oneOf, atSignals, defineAll, expandLine, expandSection, section, whole, expand}
 use Rattle.writing.specs.Writing.{Wrote}
-use Rattle.assembly.specs.Gathered.{inTurn, Gathered}
+use Rattle.assembly.specs.Gathered.{inTurn, linesInTurn, Gathered}
 use Rattle.assembly.specs.Implied.{impliedFormulas}
 use Rattle.assembly.specs.Layout.{Assembles}
 
@@ -52,11 +52,8 @@ pub record Expands (r : Result Formula) (out out′ : List ℕ) (n : ℕ) : Type
   pub wrote : Wrote formula out out′ 0 n
 
 module _ (x : Spec) (d : Declarations) (lines : List (Part × List Line)) where
-  abbrev pub linesInTurn : Result (List (Part × Formula))
-  linesInTurn = gather (expandSection (defineAll (atSignals d) (x .definitions))) lines >>= λ ss. Done (inTurn ss)
-
   -- lines put together are the expansion
-  pub expands : {ls : List (Part × Formula)} {words table out out′ : List ℕ} {count m r : ℕ} → linesInTurn ≡ Done ls → Gathered ls words count table m
+  pub expands : {ls : List (Part × Formula)} {words table out out′ : List ℕ} {count m r : ℕ} → linesInTurn x d lines ≡ Done ls → Gathered ls words count table m
       → Assembles (x .strict) words count table m out out′ r → Expands (expand x d lines) out out′ r
   unfolding _>>=_
   expands {ls} {words} {table} {out} {out′} {count} {m} {r} e g a = go (gather (expandSection (defineAll (atSignals d) (x .definitions))) lines) e
@@ -66,7 +63,7 @@ module _ (x : Spec) (d : Declarations) (lines : List (Part × List Line)) where
       go (Refused n p) e = absurd (not-done e)
 
   -- and a line that is refused refuses the expansion
-  pub expand-refused : {n p : ℕ} → linesInTurn ≡ Refused n p → expand x d lines ≡ Refused n p
+  pub expand-refused : {n p : ℕ} → linesInTurn x d lines ≡ Refused n p → expand x d lines ≡ Refused n p
   unfolding _>>=_
   expand-refused {n} {p} e = go (gather (expandSection (defineAll (atSignals d) (x .definitions))) lines) e
     where

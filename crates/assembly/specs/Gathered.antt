@@ -1,5 +1,5 @@
 -- The lines of a text as they are gathered: a word for each with its part and its size, and their formulas one after the other in a table.
-use Prim.Native.Nat.{ℕ, _+_, _<_, _≤_}
+use Prim.Native.Nat.{ℕ, suc, _+_, _<_, _≤_}
 use mathlib.Core.Path.{_≡_}
 use mathlib.Core.List.{List, [], _∷_, _++_, map}
 use lib.ListN.{length, take}
@@ -7,7 +7,11 @@ use Rattle.node.specs.Limits.{maxNodes, fieldBits}
 use Rattle.node.specs.Ltl.{Formula}
 use Rattle.node.specs.Fields.{join}
 use Rattle.node.specs.Postorder.{size}
-use Rattle.language.specs.Tree.{Part, partCode}
+use Rattle.node.specs.Result.{Result, Done, _>>=_}
+use Rattle.language.specs.Tree.{Part, Guarantee, partCode, Spec}
+use Rattle.language.specs.Declared.{Declarations}
+use Rattle.language.specs.Lines.{Line}
+use Rattle.language.specs.Expansion.{gather, atSignals, defineAll, expandSection}
 use Rattle.writing.specs.Writing.{Wrote}
 use Rattle.writing.specs.Parts.{Stands}
 
@@ -16,9 +20,13 @@ abbrev pub inTurn : {A : Type 0} → List (Part × List A) → List (Part × A)
 inTurn [] = []
 inTurn (s ∷ ss) = map (λ a. (s .0, a)) (s .1) ++ inTurn ss
 
+-- a text's lines, expanded by what it declares, one after the other
+abbrev pub linesInTurn : Spec → Declarations → List (Part × List Line) → Result (List (Part × Formula))
+linesInTurn x d lines = gather (expandSection (defineAll (atSignals d) (x .definitions))) lines >>= λ ss. Done (inTurn ss)
+
 -- how many parts there are
 abbrev pub parts : ℕ
-parts = 6
+parts = suc (partCode Guarantee)
 
 -- a line's word: its part's number above the number of its nodes
 abbrev pub word : Part × Formula → ℕ

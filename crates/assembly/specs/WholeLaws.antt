@@ -39,14 +39,18 @@ conjunction-size [] = omega arith
 conjunction-size (f ∷ fs) = joined-size f fs
 
 -- all lines by their parts
-parts-size : (ls : List (Part × Formula)) → extent ls ≤ sum (linesIn 0 ls) + sum (linesIn 1 ls) + sum (linesIn 2 ls) + sum (linesIn 3 ls) + sum (linesIn 4 ls) + sum (linesIn 5 ls)
+abbrev partSum : Part → List (Part × Formula) → ℕ
+partSum p ls = sum (linesIn (partCode p) ls)
+
+abbrev allSum : List (Part × Formula) → ℕ
+allSum ls = partSum Initially ls + partSum Preset ls + partSum Require ls + partSum Assert ls + partSum Assume ls + partSum Guarantee ls
+
+parts-size : (ls : List (Part × Formula)) → extent ls ≤ allSum ls
 unfolding sum
 parts-size [] = omega arith
 parts-size (l ∷ ls) = go (l .0) (parts-size ls)
   where
-    go : (p : Part) → extent ls ≤ sum (linesIn 0 ls) + sum (linesIn 1 ls) + sum (linesIn 2 ls) + sum (linesIn 3 ls) + sum (linesIn 4 ls) + sum (linesIn 5 ls)
-        → extent (l ∷ ls) ≤ sum (linesIn 0 ((p, l .1) ∷ ls)) + sum (linesIn 1 ((p, l .1) ∷ ls)) + sum (linesIn 2 ((p, l .1) ∷ ls)) + sum (linesIn 3 ((p, l .1) ∷ ls)) + sum
-        (linesIn 4 ((p, l .1) ∷ ls)) + sum (linesIn 5 ((p, l .1) ∷ ls))
+    go : (p : Part) → extent ls ≤ allSum ls → extent (l ∷ ls) ≤ allSum ((p, l .1) ∷ ls)
     go Initially h = omega arith
     go Preset h = omega arith
     go Require h = omega arith
@@ -54,7 +58,7 @@ parts-size (l ∷ ls) = go (l .0) (parts-size ls)
     go Assume h = omega arith
     go Guarantee h = omega arith
 
-part-size : (p : Part) (ss : Sections) → sum (linesIn (partCode p) (inTurn ss)) ≤ size (section ss p)
+part-size : (p : Part) (ss : Sections) → partSum p (inTurn ss) ≤ size (section ss p)
 part-size p ss = rw (lines-of p ss) (conjunction-size (linesOf p ss))
 
 -- no line is left out of the whole formula

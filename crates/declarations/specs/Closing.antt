@@ -20,7 +20,7 @@ use Rattle.ports.specs.Listing.{Lists}
 use Rattle.ports.specs.declared.Signals.{Signals}
 use Rattle.ports.specs.declared.Signals.the-variants.{Listed, TooMany}
 use Rattle.memory_notes.specs.Laid.{Laid}
-use Rattle.memory_notes.specs.ShortTables.{short-first, short-constants}
+use Rattle.memory_notes.specs.ShortTableLaws.{short-first, short-constants}
 use Rattle.declarations.specs.declared.Declarations.{Declarations as Answered}
 use Rattle.declarations.specs.declared.Declared.{Declared}
 use Rattle.declarations.specs.Expressions.{MemoryRoom, Room}

@@ -16,6 +16,7 @@ use Rattle.language.specs.Listed.{declaredName}
 use Rattle.entries.specs.Kinds as Kind
 use Rattle.entries.specs.Stored.{firstEntry, kindOf}
 use Rattle.entries.specs.StoredLaws.{entry-kind}
+use Rattle.operands.specs.Entries.{placeAt}
 use Rattle.notes.specs.Owned.{DeclarationAt}
 use Rattle.declarations.specs.Along.{Along}
 use Rattle.declarations.specs.Turnable.{Turnable}
@@ -24,7 +25,7 @@ use Rattle.declarations.specs.Enumerations.{noEntry, enumerationOf}
 use Rattle.declarations.specs.EnumerationLaws.{enumerates, entry-offset}
 use Rattle.declarations.specs.Widths.{EnumeratedBy}
 use Rattle.declarations.specs.Turns.{PlacedFrom}
-use Rattle.declarations.specs.Describing.{Filled, offsetAt, enumerationFor}
+use Rattle.declarations.specs.Describing.{Filled, enumerationFor}
 
 pub filled-more : (f : ℕ → ℕ) (xs : List ℕ) (n v : ℕ) → n < length xs → v ≡ f n → Filled f xs n → Filled f (set xs n v) (n + 1)
 filled-more f xs n v l e h i m = go (ltb i n) refl
@@ -57,5 +58,6 @@ module _ {text w refs found : List ℕ} {entries names : ℕ} {x : Spec} (t : Tr
   )
 
   -- a port's offset and number
-  pub place-offset : (m : Declaration) (k : ℕ) → DeclarationAt x text w refs m k → offsetAt w k ≡ declaredName m .at
+  pub place-offset : (m : Declaration) (k : ℕ) → DeclarationAt x text w refs m k → placeAt w k ≡ declaredName m .at
+  unfolding placeAt
   place-offset m k h = entry-offset (t .stored .lexed) (h .own .entry)

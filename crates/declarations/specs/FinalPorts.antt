@@ -23,9 +23,11 @@ use Rattle.language.specs.Laws.Values.PortLaws.{PortFor, Pairs, PortsFor, ports
 use Rattle.names.specs.References.{numberIn}
 use Rattle.names.specs.ResolvedLaws.{number-apart}
 use Rattle.names.specs.Resolved.{declaredNames}
+use Rattle.operands.specs.Entries.{placeAt}
 use Rattle.notes.specs.Owned.{DeclarationAt}
 use Rattle.ports.specs.Ports.{PortsFrom, Ported, Room}
-use Rattle.ports.specs.Firsts.{Separate, numberedFrom, firsts-told}
+use Rattle.ports.specs.Firsts.{Separate, numberedFrom}
+use Rattle.ports.specs.FirstsLaws.{firsts-told}
 use Rattle.declarations.specs.Along.{Along}
 use Rattle.declarations.specs.AlongLaws.{along-both, pairs-length}
 use Rattle.declarations.specs.Turnable.{Turnable}
@@ -34,7 +36,7 @@ use Rattle.declarations.specs.Trees.{Tree}
 use Rattle.declarations.specs.TreeLaws.{number-small}
 use Rattle.declarations.specs.Enumerations.{Enumerates}
 use Rattle.declarations.specs.Widths.{EnumeratedBy}
-use Rattle.declarations.specs.Describing.{Described, offsetAt}
+use Rattle.declarations.specs.Describing.{Described}
 use Rattle.declarations.specs.DescribingLaws.{placed-from, place-offset}
 use Rattle.declarations.specs.Turns.{PlacedFrom, WidthsFrom}
 use Rattle.declarations.specs.Placing.{PortsPlaced}
@@ -151,7 +153,7 @@ module _ {text w refs found : List ℕ} {entries names : ℕ} {x : Spec} (t : Tr
 
     -- the room that the listing asks for
     abbrev Fine : ℕ → Type 0
-    Fine k = (getD refs k 0 < maxNames) × (offsetAt w k < 2 ^ offsetBits)
+    Fine k = (getD refs k 0 < maxNames) × (placeAt w k < 2 ^ offsetBits)
 
     fine : (m : Declaration) (k : ℕ) → (DeclarationAt x text w refs m k × Turnable x (declaredName m)) × (isOf Name (declaredName m) ≡ true) → Fine k
     fine m k g =

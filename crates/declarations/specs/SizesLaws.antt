@@ -12,7 +12,7 @@ use Rattle.language.specs.Tree.{Definition, Declaration, Spec}
 use Rattle.language.specs.Declared.{Table, Port, asDeclared, Turns, turns, inputs, outputs}
 use Rattle.language.specs.Laws.Basics.Results.{done, bind, bind-any, value-of, Within}
 use Rattle.sets.specs.declared.Worked.{Worked}
-use Rattle.memory_notes.specs.ShortTables.{short-turns}
+use Rattle.memory_notes.specs.ShortTableLaws.{short-turns}
 use Rattle.declarations.specs.Expressions.{Room}
 use Rattle.declarations.specs.Turns.{WidthsFrom, Declared, TurnsGiven, TurnsTold, Before}
 use Rattle.declarations.specs.Sizes.{Sizings, SizesGiven, sizedAll, SizesTold}

@@ -24,7 +24,7 @@ use Rattle.notes.specs.Choosing.{Chooses}
 use Rattle.notes.specs.ChosenLaws.{parameterChoice, portChoice}
 use Rattle.notes.specs.Owned.{DeclarationAt}
 use Rattle.declarations.specs.Turnable.{Turnable}
-use Rattle.memory_notes.specs.ShortTables.{short-first}
+use Rattle.memory_notes.specs.ShortTableLaws.{short-first}
 use Rattle.declarations.specs.Trees.{Tree}
 use Rattle.declarations.specs.TreeLaws.{tree-inside}
 use Rattle.declarations.specs.Expressions.{MemoryRoom}

@@ -19,7 +19,8 @@ use Rattle.name_values.specs.Worked.{worldIn, Worked}
 use Rattle.operands.specs.Working.{source}
 use Rattle.machine.specs.Realm.{Realm}
 use Rattle.memory_notes.specs.ShortTables.{ShortTable}
-use Rattle.memory_notes.specs.RealmLaws.{realm, operand}
+use Rattle.memory_notes.specs.RealmLaws.{operand}
+use Rattle.memory_notes.specs.Realms.{realm}
 use Rattle.notes.specs.Notes.{Notes}
 use Rattle.declarations.specs.Expressions.{Expression}
 use Rattle.declarations.specs.Trees.{Tree}

@@ -3,42 +3,30 @@ use mathlib.Core.List.{List, [], _∷_}
 use mathlib.Core.Option.{none}
 use mathlib.Core.Path.{_≡_, subst}
 use Rattle.language.specs.Tokens.{Token}
-use Rattle.language.specs.Tree.{Parameter, Declaration, Spec}
+use Rattle.language.specs.Tree.{Parameter, Spec}
 use Rattle.language.specs.Places.{TextLine, parameterLines, definitionLines, mainLines}
 use Rattle.language.specs.Names.{declares, over, declaredAgain}
 use Rattle.language.specs.Declared.{inputs, outputs}
-use Rattle.language.specs.Laws.Basics.Lists.{All, all-both, all-left, all-right, all-more}
+use Rattle.language.specs.Laws.Basics.Lists.{All, all-both, all-right, all-more}
 use Rattle.language.specs.Listed.{declaredName}
-use Rattle.language.specs.Laws.Values.DistinctNames.{Apart, Distinct, declaredNames, signals-among, distinct-names, distinct-definitions}
+use Rattle.language.specs.Laws.Values.DistinctNames.{signals-among, distinct-names, distinct-definitions}
 use Rattle.names.specs.Resolved.{declaredNames as allNames}
-use Rattle.name_values.specs.WorldsLaws.{Elsewhere}
 use Rattle.names.specs.VisibleLaws.{In, in-declared}
-use Rattle.name_values.specs.ElsewhereLaws.{ownNames, apart-elsewhere, behind-parameters, over-definitions, main-apart}
+use Rattle.name_values.specs.ElsewhereLaws.{ownNames, apart-elsewhere, by-declaration, behind-parameters, parameters-elsewhere, over-definitions, main-apart}
 use Rattle.declarations.specs.Turnable.{Turnable}
 
 of-parameters : (P : Token → Type 0) (ps : List Parameter) (ls : List TextLine) → All P (over declares (parameterLines ps ls)) → All (λ p. P (p .name)) ps
 of-parameters P [] ls h = tt
 of-parameters P (p ∷ ps) ls h = (h .0, of-parameters P ps ls (h .1))
 
-of-declarations : (P : Token → Type 0) (ds : List Declaration) → All P (declaredNames ds) → All (λ m. P (declaredName m)) ds
-of-declarations P [] h = tt
-of-declarations P (m ∷ ds) h = (h .0, of-declarations P ds (h .1))
-
 module _ (x : Spec) (once : declaredAgain x ≡ none) where
   abbrev rest : List TextLine
   rest = definitionLines (x .definitions) (mainLines (x .main))
 
-  parameters-free : (ps : List Parameter) → Distinct (over declares (parameterLines ps rest)) → All (λ p. All (Elsewhere (p .name)) (x .definitions)) ps
-  parameters-free [] h = tt
-  parameters-free (p ∷ ps) h =
-      let F = ownNames (x .definitions) in
-      let a = subst (All (Apart (p .name))) (over-definitions (x .definitions) (mainLines (x .main))) (behind-parameters (Apart (p .name)) ps rest (h .0)) in
-      (apart-elsewhere (x .definitions) (p .name) (all-left (Apart (p .name)) F _ a), parameters-free ps (h .1))
-
   pub parameters-turnable : All (λ p. Turnable x (p .name)) (x .parameters)
   parameters-turnable =
       all-both (λ p a b. record { shown = a; undefined = b }) (x .parameters) (of-parameters (In (allNames x)) (x .parameters) rest (in-declared x))
-      (parameters-free (x .parameters) (distinct-names x once))
+      (parameters-elsewhere (x .definitions) (x .parameters) (mainLines (x .main)) (distinct-names x once))
 
   pub signals-turnable : All (λ m. Turnable x (declaredName m)) (inputs (x .main)) × All (λ m. Turnable x (declaredName m)) (outputs (x .main))
   signals-turnable =
@@ -49,4 +37,4 @@ module _ (x : Spec) (once : declaredAgain x ≡ none) where
       let free = all-more (λ n a. apart-elsewhere (x .definitions) n a) M (main-apart x (distinct-definitions x once)) in
       let both : All (Turnable x) M = all-both (λ n a b. record { shown = a; undefined = b }) M seen free in
       let s = signals-among (Turnable x) (x .main) both in
-      (of-declarations (Turnable x) (inputs (x .main)) (s .0), of-declarations (Turnable x) (outputs (x .main)) (s .1))
+      (by-declaration (Turnable x) (inputs (x .main)) (s .0), by-declaration (Turnable x) (outputs (x .main)) (s .1))

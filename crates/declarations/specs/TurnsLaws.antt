@@ -21,7 +21,8 @@ use Rattle.sets.specs.declared.Worked.{Worked}
 use Rattle.name_values.specs.Worked.{worldIn}
 use Rattle.notes.specs.Notes.{Notes}
 use Rattle.notes.specs.NotesLaws.{names-distinct, notes-turn}
-use Rattle.memory_notes.specs.ShortTables.{ShortTable, short-declared}
+use Rattle.memory_notes.specs.ShortTables.{ShortTable}
+use Rattle.memory_notes.specs.ShortTableLaws.{short-declared}
 use Rattle.declarations.specs.Trees.{Tree}
 use Rattle.declarations.specs.TreeLaws.{tree-inside, number-small}
 use Rattle.declarations.specs.Expressions.{Room}

@@ -10,7 +10,7 @@ use Rattle.language.specs.Tokens.{Token, tokens}
 use Rattle.language.specs.Grammar.{Tokens}
 use Rattle.language.specs.Tree.{Definition, Declaration, OneSignal, OfWidth, OfType, Spec}
 use Rattle.language.specs.Declared.{Table, Port, wordsOfType, portOf}
-use Rattle.language.specs.Laws.Basics.Lists.{All}
+use Rattle.language.specs.Lists.{All}
 use Rattle.language.specs.Listed.{declaredName}
 use Rattle.language.specs.Laws.Values.RegularWords.{RegularDefinition}
 use Rattle.sets.specs.Answers.{says}

@@ -18,9 +18,9 @@ use Rattle.language.specs.Declared.{Table, declared, defining, wordsOfType, wor
 use Rattle.language.specs.Expansion.{Context, contextOf, defineAll}
 use Rattle.language.specs.Listed.{declaredName}
 use Rattle.language.specs.Laws.Values.RegularWords.{regular-type}
-use Rattle.lexer.specs.Stored.{longest, offsetIn}
+use Rattle.lexer.specs.Stored.{longest}
 use Rattle.entries.specs.Kinds as Kind
-use Rattle.entries.specs.Stored.{firstEntry, kindOf, indexOf}
+use Rattle.entries.specs.Stored.{firstEntry, kindOf}
 use Rattle.entries.specs.StoredLaws.{entry-kind}
 use Rattle.spellings.specs.Interned.{Lexed}
 use Rattle.sets.specs.Answers.{says}
@@ -28,6 +28,7 @@ use Rattle.sets.specs.declared.Worked.{Worked}
 use Rattle.name_values.specs.World.{Stands}
 use Rattle.name_values.specs.Sorts as Sort
 use Rattle.name_values.specs.Declaring.{EnumerationAt}
+use Rattle.operands.specs.Entries.{placeAt}
 use Rattle.notes.specs.Notes.{Note}
 use Rattle.notes.specs.Owned.{kindOf as kindOfDeclaration}
 use Rattle.declarations.specs.TreeLaws.{tree-realm, tree-expression, tree-before}
@@ -75,7 +76,8 @@ module _ {text w refs found : List ℕ} {entries names : ℕ} {sorts numbers : L
   pub sizing-kind : kind ≡ kindOfDeclaration m
   sizing-kind = entry-kind (s .there .own .entry)
 
-  pub sizing-place : offsetIn (wordAt w (indexOf (wordAt w (firstEntry + k)))) ≡ declaredName m .at
+  pub sizing-place : placeAt w k ≡ declaredName m .at
+  unfolding placeAt
   sizing-place = entry-offset (s .tree .stored .lexed) (s .there .own .entry)
 
 by-declaration : (P : Declaration → Type 0) → ((n : Token) → P (OneSignal n)) → ((n : Token) (b : Expr) → P (OfWidth n b)) → ((u n : Token) → P (OfType u n)) → (m : Declaration) → P m

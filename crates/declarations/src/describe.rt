@@ -1,14 +1,10 @@
 // Ports by position, as far as no width is needed.
 use crate::enumeration;
 use crate::enumeration::enumeration_of;
-use crate::enumeration::token_word;
 use basics::u16_usize::wide;
-use entries::fields::SIZES;
-use entries::fields::TOKENS;
 use entries::kinds;
-use lexer::fields::LENGTHS;
-use lexer::fields::OFFSETS;
-use notes::choose::entry_word;
+use operands::entry::kind_at;
+use operands::entry::place_at;
 ghost use mathlib.Core.Path.{_≡_};
 ghost use Prim.Native.Nat.{_<_, _≤_};
 ghost use lib.ListN.{length};
@@ -24,8 +20,7 @@ fn enumeration_for(work: &[u8], refs: &[u16], found: &[u16], k: usize) -> u16
     requires { ⌜ (workBytes ≤ length (now work)) × ((k < maxTokens) × ((maxTokens ≤ length (now refs)) × (maxNames ≤ length (now found)))) ⌝ }
     ensures { λ r. ⌜ r ≡ enumerationFor (now (work .entry)) (now (refs .entry)) (now (found .entry)) k ⌝ }
 {
-    let kind = entry_word(work, k) / SIZES / TOKENS;
-    if kind == kinds::TYPED {
+    if kind_at(work, k) == kinds::TYPED {
         return enumeration_of(work, refs, found, k) as u16;
     }
     NO_ENTRY
@@ -50,7 +45,7 @@ pub fn describe(
         let k = wide(places[j]);
         order[j] = refs[k];
         enumerations[j] = enumeration_for(work, refs, found, k);
-        offsets[j] = token_word(work, k) / LENGTHS % OFFSETS;
+        offsets[j] = place_at(work, k);
         j += 1;
     }
 }

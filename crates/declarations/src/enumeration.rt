@@ -7,6 +7,7 @@ use entries::kinds;
 use language::limits;
 use lexer::fields::LENGTHS;
 use notes::choose::entry_word;
+use operands::entry::kind_at;
 use words::get;
 ghost use mathlib.Core.List.{List};
 ghost use mathlib.Core.Path.{_≡_};
@@ -26,7 +27,7 @@ ghost use Rattle.declarations.specs.Enumerations.{enumerationOf};
 pub const NO_ENTRY: usize = 65535;
 
 // The word of the token of entry k.
-pub fn token_word(work: &[u8], k: usize) -> u32
+fn token_word(work: &[u8], k: usize) -> u32
     requires { ⌜ (workBytes ≤ length (now work)) × (k < maxTokens) ⌝ }
     ensures { λ r. ⌜ r ≡ wordAt (now (work .entry)) (indexOf (wordAt (now (work .entry)) (firstEntry + k))) ⌝ }
 {
@@ -48,8 +49,7 @@ pub fn enumeration_of(work: &[u8], refs: &[u16], found: &[u16], k: usize) -> usi
     if e >= limits::MAX_TOKENS {
         return NO_ENTRY;
     }
-    let kind = entry_word(work, e) / SIZES / TOKENS;
-    if kind == kinds::ENUMERATION {
+    if kind_at(work, e) == kinds::ENUMERATION {
         return e;
     }
     NO_ENTRY
@@ -63,7 +63,7 @@ pub fn word_width(work: &[u8], e: usize) -> u32
 {
     let mut i = e + 1;
     while i < limits::MAX_TOKENS {
-        let kind = entry_word(work, i) / SIZES / TOKENS;
+        let kind = kind_at(work, i);
         if kind == kinds::WORD {
             return token_word(work, i) % LENGTHS;
         }

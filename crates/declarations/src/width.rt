@@ -1,20 +1,16 @@
 // The width of a signal or a bus.
 use crate::constants::before;
 use crate::enumeration::NO_ENTRY;
-use crate::enumeration::token_word;
 use crate::enumeration::word_width;
 use crate::evaluate::Names;
 use crate::evaluate::number_of;
-use entries::fields::SIZES;
-use entries::fields::TOKENS;
 use entries::kinds;
 use language::limits;
-use lexer::fields::LENGTHS;
-use lexer::fields::OFFSETS;
 use name_values::sorts;
 use node::MAX_NODES;
 use node::refusals;
-use notes::choose::entry_word;
+use operands::entry::kind_at;
+use operands::entry::place_at;
 use sets::Worked;
 ghost use mathlib.Core.List.{List};
 ghost use mathlib.Core.Path.{_≡_};
@@ -68,11 +64,11 @@ pub fn width_of(
         (names .numbers) (place .own) (place .enumeration) x d y → Sizes (x .definitions) d y r) × LengthKept (now (table .entry)) (now (table .exit)) r ⌝ }
 {
     let k = place.own;
-    let kind = entry_word(work, k) / SIZES / TOKENS;
+    let kind = kind_at(work, k);
     if kind == kinds::SIGNAL {
         return Worked::Value(0);
     }
-    let at = token_word(work, k) / LENGTHS % OFFSETS;
+    let at = place_at(work, k);
     if kind == kinds::TYPED {
         let e = place.enumeration;
         if e == NO_ENTRY {

@@ -41,7 +41,7 @@ use Rattle.faults.specs.TextLaws.{lines-of, diagnosed-holds, diagnosed-fault}
 use Rattle.claim.specs.DeliveredLaws.{taken-room}
 use Rattle.faults.specs.Delivered.{accepting, reading-accepting}
 use Rattle.line_counts.specs.declared.LineCounts.{LineCounts}
-use Rattle.line_counts.specs.Counting.{countsOf}
+use Rattle.line_counts.specs.Promise.{countsOf}
 use Rattle.diagnosis.specs.declared.Diagnosis.{Diagnosis}
 use Rattle.diagnosis.specs.Promise.{tells, Diagnoses}
 use Rattle.line_search.specs.FoundLaws.{Given, found-named}

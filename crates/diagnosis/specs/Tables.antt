@@ -8,6 +8,7 @@ use Rattle.node.specs.Result.{Done, _>>=_}
 use Rattle.recordings.specs.Recording.{lassoOf}
 use Rattle.evaluator.specs.Evaluation.{evaluation, left, verdictOf}
 use Rattle.evaluator.specs.Promise.{RowsHold}
+use Rattle.evaluator.specs.declared.Verdict.{Verdict}
 use Rattle.faults.specs.Naming.{Finding, NoFault}
 use Rattle.diagnosis.specs.declared.Diagnosis.{Diagnosis}
 use Rattle.line_counts.specs.declared.LineCounts.{LineCounts}
@@ -18,6 +19,11 @@ use Rattle.line_search.specs.Walking.{lineFound}
 abbrev pub foundBy : (nodes rows : List ℕ) → Bool → LineCounts → ℕ → Bool → Finding
 foundBy nodes rows strict lines n true = NoFault
 foundBy nodes rows strict lines n false = lineFound nodes rows strict lines n
+
+-- a verdict that names no line: the recording holds, or a refusal, 'handed up unchanged'
+pub record Unblamed (v : Verdict) (r : Diagnosis) : Type 0 where
+  pub holds : v ≡ Verdict.Holds → r ≡ Diagnosis.Holds
+  pub refused : (n p : ℕ) → v ≡ Verdict.Refused n p → r ≡ Diagnosis.Refused n p
 
 -- what `diagnose_table` promises
 pub record DiagnosesTable (nodes : List ℕ) (signals : ℕ) (bs : List ℕ) (strict : Bool) (lines : LineCounts) (old new : List ℕ) (r : Diagnosis) : Type 0 where

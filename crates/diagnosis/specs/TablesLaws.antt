@@ -1,6 +1,6 @@
 -- Which answer a verdict on a table gives.
 use Prim.Native.Nat.{ℕ, _≤_, _<_}
-use mathlib.Core.Path.{_≡_, refl, sym, ap, _∙_}
+use mathlib.Core.Path.{_≡_, refl, sym, ap, _∙_, subst}
 use mathlib.Core.Bool.{Bool}
 use mathlib.Core.List.{List}
 use lib.ListN.{length}
@@ -18,7 +18,7 @@ use Rattle.diagnosis.specs.declared.Diagnosis.{Diagnosis}
 use Rattle.line_counts.specs.declared.LineCounts.{LineCounts}
 use Rattle.diagnosis.specs.Promise.{tells}
 use Rattle.line_search.specs.Walking.{lineFound}
-use Rattle.diagnosis.specs.Tables.{foundBy, DiagnosesTable}
+use Rattle.diagnosis.specs.Tables.{foundBy, Unblamed, DiagnosesTable}
 
 -- a table on which there is a verdict
 pub judged-opens : (nodes : List ℕ) (signals : ℕ) (bs : List ℕ) (room : ℕ) {b : Bool} → verdictOf nodes signals bs room ≡ Done b → Opens nodes signals bs room
@@ -40,7 +40,7 @@ module _ {nodes : List ℕ} {signals : ℕ} {bs old new : List ℕ} {v : Verdict
 
   module _ (strict : Bool) (lines : LineCounts) where
     -- a refusal
-    pub table-refused : {x y : ℕ} → v ≡ Verdict.Refused x y → DiagnosesTable nodes signals bs strict lines old new (Diagnosis.Refused x y)
+    table-refused : {x y : ℕ} → v ≡ Verdict.Refused x y → DiagnosesTable nodes signals bs strict lines old new (Diagnosis.Refused x y)
     table-refused {x} {y} e =
         let r : verdictOf nodes signals bs (length old) ≡ Refused x y = sym (j .answer) ∙ ap finds e in
         record { answer = sym (bind-refused (verdictOf nodes signals bs (length old)) x y _ r); buffer = j .buffer; rows = λ b h. absurd (not-done (sym r ∙ h)) }
@@ -54,8 +54,16 @@ module _ {nodes : List ℕ} {signals : ℕ} {bs old new : List ℕ} {v : Verdict
           rows = λ a g. j .rows a (j .answer ∙ g);
         }
 
-    pub table-holds : v ≡ Verdict.Holds → DiagnosesTable nodes signals bs strict lines old new Diagnosis.Holds
+    table-holds : v ≡ Verdict.Holds → DiagnosesTable nodes signals bs strict lines old new Diagnosis.Holds
     table-holds e = judged (ap finds e) refl
+
+    pub table-unblamed : {r : Diagnosis} → (v ≡ Verdict.Fails → ⊥) → Unblamed v r → DiagnosesTable nodes signals bs strict lines old new r
+    table-unblamed {r} n h = go v refl
+      where
+        go : (u : Verdict) → v ≡ u → DiagnosesTable nodes signals bs strict lines old new r
+        go Verdict.Holds e = subst (DiagnosesTable nodes signals bs strict lines old new) (sym (h .holds e)) (table-holds e)
+        go Verdict.Fails e = absurd (n e)
+        go (Verdict.Refused x y) e = subst (DiagnosesTable nodes signals bs strict lines old new) (sym (h .refused x y e)) (table-refused e)
 
     pub table-fails : {w : Lasso} {r : Diagnosis} → v ≡ Verdict.Fails → w ≡ lassoOf bs → tells r ≡ Done (lineFound nodes new strict lines (w .n))
         → DiagnosesTable nodes signals bs strict lines old new r

@@ -4,7 +4,7 @@ ghost use Prim.Native.Nat.{ℕ, _≤_, _<_};
 ghost use Rattle.recordings.specs.Limits.{maxPositions};
 ghost use Rattle.line_search.specs.Walking.{lineFound};
 ghost use Rattle.diagnosis.specs.Promise.{tells, Diagnoses};
-ghost use Rattle.diagnosis.specs.Tables.{DiagnosesTable};
+ghost use Rattle.diagnosis.specs.Tables.{Unblamed, DiagnosesTable};
 ghost use Rattle.diagnosis.specs.declared.Diagnosis.{Diagnosis as NotDiagnosed};
 ghost use Rattle.node.specs.declared.Answer.{Answer as NotRead};
 ghost use Rattle.node.specs.Result.{Done};
@@ -53,6 +53,16 @@ fn name_line(nodes: &[u32], rows: &[u8], n: usize, strict: bool, lines: LineCoun
     Diagnosis::Guarantee(first_false(nodes, rows, width, guarantee, lines.guarantee, 0))
 }
 
+// A verdict that names no line: the recording holds, or a refusal handed up.
+fn unblamed(verdict: Verdict) -> Diagnosis
+    ensures { λ r. ⌜ Unblamed verdict r ⌝ }
+{
+    let Verdict::Refused(number, place) = verdict else {
+        return Diagnosis::Holds;
+    };
+    Diagnosis::Refused(number, place)
+}
+
 // The verdict on a table, and the line that is named where it fails.
 fn diagnose_table(
     nodes: &[u32],
@@ -65,14 +75,11 @@ fn diagnose_table(
     ensures { λ r. ⌜ DiagnosesTable (now (nodes .entry)) signals (now (recording .entry)) strict lines (now (rows .entry)) (now (rows .exit)) r ⌝ }
 {
     let verdict = evaluator::judge(nodes, signals, recording, rows);
-    match verdict {
-        Verdict::Refused(number, place) => Diagnosis::Refused(number, place),
-        Verdict::Holds => Diagnosis::Holds,
-        Verdict::Fails => {
-            let lasso = read_lasso(recording);
-            name_line(nodes, rows, lasso.n, strict, lines)
-        }
-    }
+    let Verdict::Fails = verdict else {
+        return unblamed(verdict);
+    };
+    let lasso = read_lasso(recording);
+    name_line(nodes, rows, lasso.n, strict, lines)
 }
 
 // A refusal of the reader's handed up.

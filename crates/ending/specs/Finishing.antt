@@ -14,8 +14,7 @@ use Rattle.language.specs.Reading.{delivered}
 use Rattle.parser.specs.declared.Facts.{Facts}
 use Rattle.parser.specs.Outlines.{factsOf}
 use Rattle.ports.specs.declared.Signals.{Signals}
-use Rattle.assembly.specs.Gathered.{GatheredFrom}
-use Rattle.assembly.specs.ExpandLaws.{linesInTurn}
+use Rattle.assembly.specs.Gathered.{GatheredFrom, linesInTurn}
 use Rattle.ending.specs.Endings.{ended}
 use Rattle.ending.specs.Listing.{startOf, Listing}
 use Rattle.ending.specs.Hands.{Hands}

@@ -23,11 +23,12 @@ use Rattle.parser.specs.declared.Facts.{Facts}
 use Rattle.parser.specs.Outlines.{modelCode}
 use Rattle.ports.specs.declared.Signals.{Signals}
 use Rattle.ports.specs.declared.Signals.the-variants.{Listed, TooMany}
-use Rattle.assembly.specs.Gathered.{inTurn, Gathered, GatheredFrom}
-use Rattle.assembly.specs.ExpandLaws.{linesInTurn}
-use Rattle.ending.specs.Endings.{fitted, too-many, few-signals}
+use Rattle.assembly.specs.Gathered.{inTurn, Gathered, GatheredFrom, linesInTurn}
+use Rattle.ending.specs.Endings.{fitted}
+use Rattle.ending.specs.EndingsLaws.{too-many, few-signals}
 use Rattle.ending.specs.Listing.{startOf, Listing}
-use Rattle.ending.specs.Hands.{Hands, hands-as, hands-refused}
+use Rattle.ending.specs.Hands.{Hands}
+use Rattle.ending.specs.HandsLaws.{hands-as, hands-refused}
 use Rattle.ending.specs.Handing.{Assemblable, asExpanded, asShifted, HandsOver}
 use Rattle.ending.specs.Finishing.{Complete, SomeComplete, Finishes}
 

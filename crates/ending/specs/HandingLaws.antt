@@ -24,8 +24,10 @@ use Rattle.writing.specs.Parts.{moves}
 use Rattle.assembly.specs.Layout.{Assembles}
 use Rattle.assembly.specs.WholeLaws as Whole
 use Rattle.shifting.specs.Passing.{lateBy, Shifts}
-use Rattle.ending.specs.Endings.{fitted, too-large, not-too-large}
-use Rattle.ending.specs.Hands.{Hands, hands-refused, hands-accepted}
+use Rattle.ending.specs.Endings.{fitted}
+use Rattle.ending.specs.EndingsLaws.{too-large, not-too-large}
+use Rattle.ending.specs.Hands.{Hands}
+use Rattle.ending.specs.HandsLaws.{hands-refused, hands-accepted}
 use Rattle.ending.specs.Handing.{Delivers, asExpanded, asShifted, HandsOver}
 
 module _ {f : Formula} {out out′ : List ℕ} {m : ℕ} (w : Wrote f out out′ 0 m) (list : List ℕ) (nodes signals : List ℕ) where

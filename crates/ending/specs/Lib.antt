@@ -1,5 +1,7 @@
 pub mod Endings
+pub mod EndingsLaws
 pub mod Hands
+pub mod HandsLaws
 pub mod Handing
 pub mod HandingLaws
 pub mod Listing

@@ -1,4 +1,4 @@
--- How many lines the sections have that promise something (document 02, F-7): of sections, and of the words by which lines are gathered. Laws in CountingLaws.
+-- How many lines of a part the words have by which lines are gathered. Laws in CountingLaws.
 use Prim.Native.Nat.{ℕ, _+_, _≤_}
 use mathlib.Core.Bool.{true, false}
 use mathlib.Core.Path.{_≡_}
@@ -7,21 +7,10 @@ use lib.Dec.{eqb}
 use lib.ListN.{length, take}
 use Rattle.node.specs.Fields.{above}
 use Rattle.node.specs.Limits.{fieldBits}
-use Rattle.node.specs.Result.{Done}
-use Rattle.language.specs.Tree.{Preset, Assert, Guarantee, Spec}
-use Rattle.language.specs.Declared.{Declarations}
-use Rattle.language.specs.Lines.{lines}
-use Rattle.language.specs.Expansion.{Sections, gather, atSignals, defineAll, expandSection, linesOf}
+use Rattle.language.specs.Expansion.{Sections}
 use Rattle.assembly.specs.Gathered.{inTurn, Lined}
 use Rattle.line_counts.specs.declared.LineCounts.{LineCounts}
-
--- the written lines of a section and its implied ones
-abbrev pub countsOf : Sections → LineCounts
-countsOf ss = record { preset = length (linesOf Preset ss); assert = length (linesOf Assert ss); guarantee = length (linesOf Guarantee ss) }
-
--- the counts of a text, by what it declares: if no line of it is refused
-abbrev pub CountsOf : Spec → Declarations → LineCounts → Type 0
-CountsOf x d k = (ss : Sections) → gather (expandSection (defineAll (atSignals d) (x .definitions))) (lines x d) ≡ Done ss → k ≡ countsOf ss
+use Rattle.line_counts.specs.Promise.{countsOf}
 
 -- 1 for a word of the part's, else 0
 abbrev pub one : (part word : ℕ) → ℕ

@@ -8,7 +8,8 @@ ghost use mathlib.Core.List.{[]};
 ghost use mathlib.Core.Path.{_≡_};
 ghost use Prim.Native.Nat.{_≤_};
 ghost use Rattle.node.specs.Limits.{maxNodes};
-ghost use Rattle.line_counts.specs.Counting.{countsOf, one, PartCount, Counts};
+ghost use Rattle.line_counts.specs.Counting.{one, PartCount, Counts};
+ghost use Rattle.line_counts.specs.Promise.{countsOf};
 
 // How many lines the sections have that promise something.
 pub struct LineCounts {

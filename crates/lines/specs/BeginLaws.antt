@@ -19,7 +19,7 @@ use Rattle.notes.specs.Notes.{Notes}
 use Rattle.operands.specs.Working.{Source}
 use Rattle.memory_notes.specs.Laid.{Laid, FirstSignals}
 use Rattle.memory_notes.specs.LaidLaws.{laid-noted, laid-lasting}
-use Rattle.memory_notes.specs.ShortTables.{short-table}
+use Rattle.memory_notes.specs.ShortTableLaws.{short-table}
 use Rattle.machine_run.specs.Running.{regionsOf}
 use Rattle.lines.specs.Gathering.{Tree, realmOf, buffers, Begins}
 

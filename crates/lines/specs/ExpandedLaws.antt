@@ -10,9 +10,9 @@ use Rattle.language.specs.Declared.{Declarations}
 use Rattle.language.specs.Lines.{Line, lines}
 use Rattle.language.specs.Expansion.{gather, defineAll, atSignals, expandSection, section, whole, expand}
 use Rattle.operands.specs.Working.{Source}
-use Rattle.assembly.specs.Gathered.{inTurn, GatheredFrom, SomeGathered}
+use Rattle.assembly.specs.Gathered.{inTurn, GatheredFrom, SomeGathered, linesInTurn}
 use Rattle.assembly.specs.Layout.{Assembles}
-use Rattle.assembly.specs.ExpandLaws.{linesInTurn, Expands, expands, expand-refused}
+use Rattle.assembly.specs.ExpandLaws.{Expands, expands, expand-refused}
 use Rattle.assembly.specs.declared.implied.Ports.{Ports}
 use Rattle.lines.specs.Gathering.{Buffers, Answered}
 use Rattle.lines.specs.Whole.{Given, SomeGiven, Gathers}

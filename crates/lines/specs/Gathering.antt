@@ -22,7 +22,7 @@ use Rattle.machine.specs.Realm.{Realm}
 use Rattle.machine.specs.Notes.{Noted, Lasting}
 use Rattle.machine_run.specs.Running.{maxMemory, smaller, regionsOf}
 use Rattle.memory_notes.specs.ShortTables.{ShortTable}
-use Rattle.memory_notes.specs.RealmLaws.{realm}
+use Rattle.memory_notes.specs.Realms.{realm}
 use Rattle.assembly.specs.Gathered.{GatheredFrom}
 use Rattle.assembly.specs.declared.implied.Ends.{Ends}
 use Rattle.lines.specs.Items.{Item, items, entryOf, Headed, worked}

@@ -3,6 +3,7 @@ pub mod ItemLaws
 pub mod PassedLaws
 pub mod WorkedLaws
 pub mod KnownLines
+pub mod KnownLinesLaws
 pub mod Gathering
 pub mod LineLaws
 pub mod WalkLaws

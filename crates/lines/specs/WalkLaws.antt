@@ -25,7 +25,7 @@ use Rattle.assembly.specs.declared.implied.Ends.{Ends}
 use Rattle.lines.specs.Items.{Item, Passed, Heads, Line, items, entryOf, Headed, worked}
 use Rattle.lines.specs.ItemLaws.{items-entries, items-headed}
 use Rattle.lines.specs.PassedLaws.{items-other}
-use Rattle.lines.specs.KnownLines.{lines-known}
+use Rattle.lines.specs.KnownLinesLaws.{lines-known}
 use Rattle.assembly.specs.Gathered.{GatheredFrom}
 use Rattle.assembly.specs.GatheredLaws.{gathered-none}
 use Rattle.lines.specs.Gathering.{lineContext, Tree, Buffers, Sizes, Lengths, AtLine, SomeLine, Formulas, endsAt, WritesLine, SomeTree, WritesLines, Ahead, Progress, Walking}

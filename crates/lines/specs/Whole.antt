@@ -6,9 +6,8 @@ use Rattle.language.specs.Declared.{Declarations}
 use Rattle.language.specs.Numbering.{inOrder}
 use Rattle.language.specs.Lines.{lines}
 use Rattle.operands.specs.Working.{Source}
-use Rattle.assembly.specs.Gathered.{GatheredFrom}
+use Rattle.assembly.specs.Gathered.{GatheredFrom, linesInTurn}
 use Rattle.assembly.specs.Implied.{Buses}
-use Rattle.assembly.specs.ExpandLaws.{linesInTurn}
 use Rattle.assembly.specs.declared.implied.Ports.{Ports}
 use Rattle.lines.specs.Gathering.{Buffers, Begins, Answered}
 use Rattle.lines.specs.declared.Plan.{Plan}

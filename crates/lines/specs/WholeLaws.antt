@@ -16,9 +16,9 @@ use Rattle.language.specs.Lines.{implied, lines}
 use Rattle.language.specs.Expansion.{gather, atSignals, expandSection}
 use Rattle.language.specs.Laws.Values.NameLaws.{defined-ports}
 use Rattle.operands.specs.Working.{Source}
-use Rattle.assembly.specs.Gathered.{inTurn, GatheredFrom}
+use Rattle.assembly.specs.Gathered.{inTurn, GatheredFrom, linesInTurn}
 use Rattle.assembly.specs.Implied.{impliedFormulas, BusesFrom, Buses, AddsAll, Ready}
-use Rattle.assembly.specs.ExpandLaws.{implied-behind, linesInTurn}
+use Rattle.assembly.specs.ExpandLaws.{implied-behind}
 use Rattle.assembly.specs.declared.implied.Ends.{Ends}
 use Rattle.assembly.specs.declared.implied.Ports.{Ports}
 use Rattle.assembly.specs.declared.implied.Span.{Span}

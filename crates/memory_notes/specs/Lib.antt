@@ -3,5 +3,7 @@ pub mod LayLaws
 pub mod LaidLaws
 pub mod PlainLaws
 pub mod ShortTables
+pub mod ShortTableLaws
 pub mod RealmLaws
+pub mod Realms
 pub mod SignalLaws

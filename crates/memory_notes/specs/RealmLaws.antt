@@ -20,7 +20,7 @@ use Rattle.name_values.specs.WorkedLaws.{tree-worked}
 use Rattle.name_values.specs.BodiesLaws.{world-all, bodies, ported}
 use Rattle.choices.specs.StoredWords.{Short}
 use Rattle.operands.specs.Working.{source}
-use Rattle.machine.specs.Realm.{Plain, Operand, Realm}
+use Rattle.machine.specs.Realm.{Plain, Operand}
 use Rattle.memory_notes.specs.PlainLaws.{plain-context, plain-define, plain-all}
 use Rattle.memory_notes.specs.ShortTables.{ShortTable, ShortWords}
 
@@ -58,9 +58,6 @@ module _ (x : Spec) (ps : List Port) (d : Table) where
       ports = ported ps x d .ports r n c e q;
       plain = subst Sound q (sound-world short r);
     }
-
-    abbrev pub realm : Realm (source text w refs)
-    realm = record { W = worldIn x ps d; ports = ps; count = count; lexed = stored .lexed; bodies = world-bodies; short = world-short short }
 
   -- an expression that is worked after some of the definitions
   pub operand : {text w refs : List ℕ} {before : List Definition} {k : ℕ} {e : Expr} → Worked x text w refs before k e

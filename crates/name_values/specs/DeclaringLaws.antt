@@ -1,8 +1,8 @@
 -- Every declared name of a resolved tree means what the entry says that declares it: line by line, over the whole outline.
 use Prim.Native.Nat.{ℕ, suc, _+_, _-_, _≤_, _<_}
-use mathlib.Core.Bool.{Bool, true, false, false≢true}
+use mathlib.Core.Bool.{Bool, true, false}
 use mathlib.Core.List.{List, [], _∷_, _++_, map, append-assoc}
-use mathlib.Core.Option.{Option, none, some}
+use mathlib.Core.Option.{none, some}
 use mathlib.Core.Path.{_≡_, refl, sym, ap, _∙_, subst}
 use native.Mathlib.Omega.{arith}
 use lib.Dec.{eqb}
@@ -11,36 +11,31 @@ use borrow.Author.Tests.{eqb-true, eqb-false, ne-eqb}
 use Rattle.language.specs.Bytes.{same}
 use Rattle.language.specs.Limits.{maxNames}
 use Rattle.language.specs.Tokens.{Token}
-use Rattle.language.specs.Tree.{Expr, Named, Identifier, Parameter, Definition, Defined, Enumerated, Declaration, OneSignal, OfWidth, OfType, Subsection, Inputs, Outputs, Lines, Spec}
-use Rattle.language.specs.Places.{TextLine as Line, parameterLines, definitionLines, declarationLines, formulaLines, mainLines}
+use Rattle.language.specs.Tree.{Expr, Named, Identifier, Parameter, Definition, Defined, Enumerated, Declaration, OneSignal, OfWidth, OfType, Spec}
+use Rattle.language.specs.Places.{mainLines}
 use Rattle.language.specs.Names.{Names, identifierNames, declares as declaresLine, over, declaredAgain}
-use Rattle.language.specs.Declared.{Table, find, Port}
+use Rattle.language.specs.Declared.{Table, find, Port, inputs, outputs}
 use Rattle.language.specs.Expansion.{Context, contextOf, define, defineAll}
-use Rattle.language.specs.Laws.Basics.Lists.{All, Any, all-any, all-more}
+use Rattle.language.specs.Laws.Basics.Lists.{All, all-more}
 use Rattle.language.specs.Laws.Basics.Tests.{pick, leave, same-refl}
 use Rattle.language.specs.Listed.{declaredName}
-use Rattle.language.specs.Laws.Values.DistinctNames.{Apart, Distinct, distinct-left, distinct-names, distinct-definitions}
+use Rattle.language.specs.Laws.Values.DistinctNames.{Distinct, distinct-left, signals-among, distinct-names, distinct-definitions}
 use Rattle.entries.specs.Kinds as Kind
-use Rattle.entries.specs.Flat.{Entry, under, leaf, flat, each, flatParameter, flatIdentifier, flatDefinition, flatDeclaration, flatLine, flatSubsection, outline}
-use Rattle.names.specs.Roles.{declares}
+use Rattle.entries.specs.Flat.{Entry, flat, each, flatParameter, flatIdentifier, flatDefinition, flatDeclaration, outline}
 use Rattle.names.specs.Scan.{tokenOf}
 use Rattle.names.specs.Walkable.{entryOf}
-use Rattle.names.specs.Declaring.{Inner, inner-flat}
 use Rattle.names.specs.References.{DeclaresAt, Where}
 use Rattle.names.specs.Resolved.{declaredNames, Resolved}
 use Rattle.name_values.specs.World.{Meaning, Defines, NoValue, numbered, meaningAt}
 use Rattle.name_values.specs.AgreesLaws.{numbered-last, numbered-before}
-use Rattle.name_values.specs.Worlds.{inTable, behind, meaning}
-use Rattle.name_values.specs.WorldsLaws.{Elsewhere, behind-elsewhere}
-use Rattle.name_values.specs.ElsewhereLaws.{ownNames, apart-elsewhere, behind-parameters, of-definitions, over-definitions, main-apart, defined-later, enumerated-elsewhere}
+use Rattle.name_values.specs.Worlds.{inTable, behind, meaning, Elsewhere}
+use Rattle.name_values.specs.WorldsLaws.{behind-elsewhere}
+use Rattle.name_values.specs.ElsewhereLaws.{ownNames, apart-elsewhere, by-identifier, by-declaration, parameters-elsewhere, over-definitions, main-apart, defined-later, enumerated-elsewhere}
 use Rattle.name_values.specs.Worked.{definitionsStart, worldIn}
 use Rattle.name_values.specs.WorkedLaws.{starts-next}
 use Rattle.name_values.specs.Entrywise.{Every, every-append, every-each, every-at}
+use Rattle.name_values.specs.ToldLaws.{Told, words-told, line-told, main-told}
 use Rattle.name_values.specs.Declaring.{MeansBy, DeclaredBy}
-
-pub words-inner : (ws : List Token) → All Inner (each (leaf Kind.word) ws)
-words-inner [] = tt
-words-inner (v ∷ ws) = (refl, words-inner ws)
 
 -- a name after its definition, and later ones that define others
 behind-here : (x : Token) (e : Expr) (later : List Definition) → All (Elsewhere x) later → (before : List Definition) (c : Context) (start at : ℕ) (m : Meaning)
@@ -60,41 +55,29 @@ module _ (x : Spec) (ps : List Port) (d : Table) where
   abbrev meansHere : Token → Meaning
   meansHere n = meaning ps d (definitionsStart x) (x .definitions) n
 
-  abbrev Told : ℕ → Entry → Type 0
-  Told k n = declares Kind.parameter (n .kind) ≡ true → MeansBy d k n (meansHere (tokenOf n))
+  abbrev By : ℕ → Entry → Type 0
+  By k n = MeansBy d k n (meansHere (tokenOf n))
 
   -- no definition defines it
   abbrev Free : Token → Type 0
   Free n = All (Elsewhere n) (x .definitions)
 
-  inner-told : (es : List Entry) → All Inner es → (start : ℕ) → Every Told start es
-  inner-told [] h start = tt
-  inner-told (n ∷ es) h start = ((λ y. absurd (false≢true (sym (h .0) ∙ y))), inner-told es (h .1) (suc start))
-
-  -- a line's entry after its expression
-  line-told : (k : ℕ) (t : Option Token) (e : Expr) (start : ℕ) → Told (start + length (flat e)) (record { kind = k; token = t; size = suc (length (flat e)) }) → Every Told start (under k t (flat e))
-  line-told k t e start h = every-append Told start (start + length (flat e)) (flat e) _ refl (inner-told (flat e) (inner-flat e) start) (h, tt)
-
-  free-told : (at kind size : ℕ) (n : Token) → (kind ≡ Kind.definition → ⊥) → Free n → Told at (record { kind = kind; token = some n; size = size })
+  free-told : (at kind size : ℕ) (n : Token) → (kind ≡ Kind.definition → ⊥) → Free n → (Told By) at (record { kind = kind; token = some n; size = size })
   free-told at kind size n k f y = record { body = λ e. absurd (k e); other = λ _. behind-elsewhere (x .definitions) (contextOf ps d) (definitionsStart x) n _ f }
 
-  parameter-told : (p : Parameter) → Free (p .name) → (start : ℕ) → Every Told start (flatParameter p)
-  parameter-told p f start = line-told Kind.parameter (some (p .name)) (p .value) start (free-told _ Kind.parameter _ (p .name) (λ e. omega arith) f)
+  parameter-told : (p : Parameter) → Free (p .name) → (start : ℕ) → Every (Told By) start (flatParameter p)
+  parameter-told p f start = line-told By Kind.parameter (some (p .name)) (p .value) start (free-told _ Kind.parameter _ (p .name) (λ e. omega arith) f)
 
-  identifier-told : (i : Identifier) → Free (i .name) → (start : ℕ) → Every Told start (flatIdentifier i)
-  identifier-told i f start = (free-told start Kind.identifier _ (i .name) (λ e. omega arith) f, inner-told (each (leaf Kind.word) (i .words)) (words-inner (i .words)) (suc start))
-
-  identifiers-free : (is : List Identifier) → All Free (identifierNames is) → All (λ i. Free (i .name)) is
-  identifiers-free [] h = tt
-  identifiers-free (i ∷ is) h = (h .0, identifiers-free is (h .1))
+  identifier-told : (i : Identifier) → Free (i .name) → (start : ℕ) → Every (Told By) start (flatIdentifier i)
+  identifier-told i f start = (free-told start Kind.identifier _ (i .name) (λ e. omega arith) f, words-told By (i .words) (suc start))
 
   definitions-told : (before ds : List Definition) → x .definitions ≡ before ++ ds → Distinct (ownNames (x .definitions)) → (start : ℕ)
-      → definitionsStart x + length (each flatDefinition before) ≡ start → Every Told start (each flatDefinition ds)
+      → definitionsStart x + length (each flatDefinition before) ≡ start → Every (Told By) start (each flatDefinition ds)
   definitions-told before [] q h start a = tt
   definitions-told before (Defined n e ∷ ds) q h start a =
       let g = definitions-told (before ++ Defined n e ∷ []) ds (q ∙ sym (append-assoc before (Defined n e ∷ []) ds)) h _ (starts-next x before (Defined n e) start a) in
-      every-append Told start (start + length (flatDefinition (Defined n e))) (flatDefinition (Defined n e)) (each flatDefinition ds) refl
-      (line-told Kind.definition (some n) e start (λ y. record {
+      every-append (Told By) start (start + length (flatDefinition (Defined n e))) (flatDefinition (Defined n e)) (each flatDefinition ds) refl
+      (line-told By Kind.definition (some n) e start (λ y. record {
         body = λ _. record {
           context = defineAll (contextOf ps d) before;
           expr = e;
@@ -106,65 +89,25 @@ module _ (x : Spec) (ps : List Port) (d : Table) where
   definitions-told before (Enumerated n is ∷ ds) q h start a =
       let f = subst (λ l. All (λ m. All (Elsewhere m) l) (n ∷ identifierNames is)) (sym q) (enumerated-elsewhere before ds n is (subst (λ l. Distinct (ownNames l)) q h)) in
       let g = definitions-told (before ++ Enumerated n is ∷ []) ds (q ∙ sym (append-assoc before (Enumerated n is ∷ []) ds)) h _ (starts-next x before (Enumerated n is) start a) in
-      every-append Told start (start + length (flatDefinition (Enumerated n is))) (flatDefinition (Enumerated n is)) (each flatDefinition ds) refl
-      (free-told start Kind.enumeration _ n (λ e. omega arith) (f .0), every-each Told flatIdentifier (λ i. Free (i .name)) identifier-told is (identifiers-free is (f .1)) (suc start)) g
+      every-append (Told By) start (start + length (flatDefinition (Enumerated n is))) (flatDefinition (Enumerated n is)) (each flatDefinition ds) refl
+      (free-told start Kind.enumeration _ n (λ e. omega arith) (f .0), every-each (Told By) flatIdentifier (λ i. Free (i .name)) identifier-told is (by-identifier Free is (f .1)) (suc start)) g
 
-  declaration-told : (m : Declaration) → Free (declaredName m) → (start : ℕ) → Every Told start (flatDeclaration m)
+  declaration-told : (m : Declaration) → Free (declaredName m) → (start : ℕ) → Every (Told By) start (flatDeclaration m)
   declaration-told (OneSignal n) f start = (free-told start Kind.signal _ n (λ e. omega arith) f, tt)
-  declaration-told (OfWidth n e) f start = line-told Kind.bus (some n) e start (free-told _ Kind.bus _ n (λ e. omega arith) f)
-  declaration-told (OfType u n) f start = line-told Kind.typed (some n) (Named u) start (free-told _ Kind.typed _ n (λ e. omega arith) f)
+  declaration-told (OfWidth n e) f start = line-told By Kind.bus (some n) e start (free-told _ Kind.bus _ n (λ e. omega arith) f)
+  declaration-told (OfType u n) f start = line-told By Kind.typed (some n) (Named u) start (free-told _ Kind.typed _ n (λ e. omega arith) f)
 
-  line-inner : (e : Expr) (start : ℕ) → Every Told start (flatLine e)
-  line-inner e start = line-told Kind.line none e start (λ y. absurd (false≢true y))
-
-  -- the names of a section's lines, and of those after them
-  declarations-free : (ds : List Declaration) (ls : List Line) → All Free (over declaresLine (declarationLines ds ls)) → All (λ m. Free (declaredName m)) ds × All Free (over declaresLine ls)
-  declarations-free [] ls h = (tt, h)
-  declarations-free (OneSignal n ∷ ds) ls h = let r = declarations-free ds ls (h .1) in ((h .0, r .0), r .1)
-  declarations-free (OfWidth n e ∷ ds) ls h = let r = declarations-free ds ls (h .1) in ((h .0, r .0), r .1)
-  declarations-free (OfType u n ∷ ds) ls h = let r = declarations-free ds ls (h .1) in ((h .0, r .0), r .1)
-
-  formulas-free : (es : List Expr) (ls : List Line) → All Free (over declaresLine (formulaLines es ls)) → All Free (over declaresLine ls)
-  formulas-free [] ls h = h
-  formulas-free (e ∷ es) ls h = formulas-free es ls h
-
-  main-told : (ss : List Subsection) → All Free (over declaresLine (mainLines ss)) → (start : ℕ) → Every Told start (each flatSubsection ss)
-  main-told [] h start = tt
-  main-told (Inputs ds ∷ ss) h start =
-      let r = declarations-free ds (mainLines ss) h in (
-        (λ y. absurd (false≢true y)),
-        every-append Told (suc start) _ (each flatDeclaration ds) (each flatSubsection ss) refl
-            (every-each Told flatDeclaration (λ m. Free (declaredName m)) declaration-told ds (r .0) (suc start)) (main-told ss (r .1) _),
-      )
-  main-told (Outputs ds ∷ ss) h start =
-      let r = declarations-free ds (mainLines ss) h in (
-        (λ y. absurd (false≢true y)),
-        every-append Told (suc start) _ (each flatDeclaration ds) (each flatSubsection ss) refl
-            (every-each Told flatDeclaration (λ m. Free (declaredName m)) declaration-told ds (r .0) (suc start)) (main-told ss (r .1) _),
-      )
-  main-told (Lines p es ∷ ss) h start = (
-    (λ y. absurd (false≢true y)),
-    every-append Told (suc start) _ (each flatLine es) (each flatSubsection ss) refl (every-each Told flatLine Any (λ e _. line-inner e) es (all-any es) (suc start))
-        (main-told ss (formulas-free es (mainLines ss) h) _),
-  )
-
-  parameters-free : (qs : List Parameter) (ls : List Line) → Distinct (over declaresLine (parameterLines qs (definitionLines (x .definitions) ls))) → All (λ p. Free (p .name)) qs
-  parameters-free [] ls h = tt
-  parameters-free (p ∷ qs) ls h = (
-    apart-elsewhere (x .definitions) (p .name) (of-definitions (Apart (p .name)) (x .definitions) ls (behind-parameters (Apart (p .name)) qs (definitionLines (x .definitions) ls) (h .0))),
-    parameters-free qs ls (h .1),
-  )
-
-  all-told : declaredAgain x ≡ none → Every Told 0 (outline x)
+  all-told : declaredAgain x ≡ none → Every (Told By) 0 (outline x)
   all-told h =
       let D = distinct-definitions x h in
       let F = ownNames (x .definitions) in
       let M = over declaresLine (mainLines (x .main)) in
-      every-append Told 0 (definitionsStart x) (each flatParameter (x .parameters)) _ (omega arith)
-      (every-each Told flatParameter (λ p. Free (p .name)) parameter-told (x .parameters) (parameters-free (x .parameters) (mainLines (x .main)) (distinct-names x h)) 0)
-      (every-append Told (definitionsStart x) _ (each flatDefinition (x .definitions)) _ refl
+      let s = signals-among Free (x .main) (all-more (λ n a. apart-elsewhere (x .definitions) n a) M (main-apart x D)) in
+      every-append (Told By) 0 (definitionsStart x) (each flatParameter (x .parameters)) _ (omega arith)
+      (every-each (Told By) flatParameter (λ p. Free (p .name)) parameter-told (x .parameters) (parameters-elsewhere (x .definitions) (x .parameters) (mainLines (x .main)) (distinct-names x h)) 0)
+      (every-append (Told By) (definitionsStart x) _ (each flatDefinition (x .definitions)) _ refl
       (definitions-told [] (x .definitions) refl (distinct-left F M (subst Distinct (over-definitions (x .definitions) (mainLines (x .main))) D)) (definitionsStart x) (omega arith))
-      (main-told (x .main) (all-more (λ n a. apart-elsewhere (x .definitions) n a) M (main-apart x D)) _))
+      (main-told By (λ m. Free (declaredName m)) declaration-told (x .main) (by-declaration Free (inputs (x .main)) (s .0)) (by-declaration Free (outputs (x .main)) (s .1)) _))
 
 -- the name of number r, by the entry that declares it
 record NameAt {A : Type 0} (other : A) (f : Token → A) (ns : Names) (es : List Entry) (r k : ℕ) : Type 0 where
@@ -196,7 +139,7 @@ declared-by {x} {found = found} h ps d r l =
     let f : Token → List ℕ × Meaning = λ m. (m .text, meaning ps d (definitionsStart x) (x .definitions) m) in
     let a = where-named ([], NoValue) f (outline x) found (declaredNames x) (h .entries) r (omega arith) (omega arith) in
     let i = a .at .inside in
-    let t : Told x ps d k (entryOf (outline x) k) = subst (λ m. Told x ps d m (entryOf (outline x) k)) (omega arith) (every-at (Told x ps d) 0 (outline x) (all-told x ps d (h .distinct)) k i) in
+    let t : Told (By x ps d) k (entryOf (outline x) k) = subst (λ m. Told (By x ps d) m (entryOf (outline x) k)) (omega arith) (every-at (Told (By x ps d)) 0 (outline x) (all-told x ps d (h .distinct)) k i) in
     record {
       inside = i;
       declaring = a .at .declaring;

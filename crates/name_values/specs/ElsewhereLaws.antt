@@ -3,13 +3,14 @@ use mathlib.Core.Bool.{true}
 use mathlib.Core.List.{List, [], _∷_, _++_, append-assoc}
 use mathlib.Core.Path.{_≡_, refl, sym, ap, _∙_, subst}
 use Rattle.language.specs.Tokens.{Token}
-use Rattle.language.specs.Tree.{Expr, Identifier, Definition, Defined, Enumerated, Parameter, Spec}
+use Rattle.language.specs.Tree.{Expr, Identifier, Definition, Defined, Enumerated, Declaration, Parameter, Spec}
 use Rattle.language.specs.Places.{TextLine, DefinitionLine, parameterLines, definitionLines, mainLines, allLines}
-use Rattle.language.specs.Names.{Names, visible, declares, declaresSignal, over}
+use Rattle.language.specs.Names.{Names, visible, identifierNames, declares, declaresSignal, over}
+use Rattle.language.specs.Listed.{declaredName}
 use Rattle.language.specs.Laws.Basics.Lists.{All, all-more, all-left, all-right, all-append, all-both, all-swap}
-use Rattle.language.specs.Laws.Values.DistinctNames.{Apart, apart-sym, Distinct, distinct-right, Across, across}
+use Rattle.language.specs.Laws.Values.DistinctNames.{Apart, apart-sym, Distinct, distinct-right, Across, across, declaredNames}
 use Rattle.names.specs.VisibleLaws.{of-signals, visible-apart}
-use Rattle.name_values.specs.WorldsLaws.{Elsewhere}
+use Rattle.name_values.specs.Worlds.{Elsewhere}
 
 -- the names of some definitions
 abbrev pub ownNames : List Definition → Names
@@ -25,6 +26,14 @@ visible-elsewhere ns ds h t y = apart-elsewhere ds t (visible-apart ns (ownNames
 
 -- names of lines, by the lines' sections
 module _ (P : Token → Type 0) where
+  pub by-identifier : (is : List Identifier) → All P (identifierNames is) → All (λ i. P (i .name)) is
+  by-identifier [] h = tt
+  by-identifier (i ∷ is) h = (h .0, by-identifier is (h .1))
+
+  pub by-declaration : (ds : List Declaration) → All P (declaredNames ds) → All (λ m. P (declaredName m)) ds
+  by-declaration [] h = tt
+  by-declaration (m ∷ ds) h = (h .0, by-declaration ds (h .1))
+
   pub behind-parameters : (ps : List Parameter) (ls : List TextLine) → All P (over declares (parameterLines ps ls)) → All P (over declares ls)
   behind-parameters [] ls h = h
   behind-parameters (p ∷ ps) ls h = behind-parameters ps ls (h .1)
@@ -34,6 +43,15 @@ module _ (P : Token → Type 0) where
   of-definitions (d ∷ ds) ls h =
       let own = declares (DefinitionLine d) in
       all-append P own (ownNames ds) (all-left P own (over declares (definitionLines ds ls)) h) (of-definitions ds ls (all-right P own (over declares (definitionLines ds ls)) h))
+
+-- no definition defines a parameter
+pub parameters-elsewhere : (ds : List Definition) (ps : List Parameter) (ls : List TextLine) → Distinct (over declares (parameterLines ps (definitionLines ds ls)))
+    → All (λ p. All (Elsewhere (p .name)) ds) ps
+parameters-elsewhere ds [] ls h = tt
+parameters-elsewhere ds (p ∷ ps) ls h = (
+  apart-elsewhere ds (p .name) (of-definitions (Apart (p .name)) ds ls (behind-parameters (Apart (p .name)) ps (definitionLines ds ls) (h .0))),
+  parameters-elsewhere ds ps ls (h .1),
+)
 
 pub over-definitions : (ds : List Definition) (ls : List TextLine) → over declares (definitionLines ds ls) ≡ ownNames ds ++ over declares ls
 over-definitions [] ls = refl
@@ -51,7 +69,7 @@ signals-definitions : (ds : List Definition) (ls : List TextLine) → over decla
 signals-definitions [] ls = refl
 signals-definitions (d ∷ ds) ls = signals-definitions ds ls
 
-across-sym : (l m : Names) → Across l m → Across m l
+pub across-sym : (l m : Names) → Across l m → Across m l
 across-sym l m f = all-more (λ n h. all-more (λ k a. apart-sym k n a) l h) m (all-swap Apart l m f)
 
 -- no definition defines a name of MAIN, signals among them

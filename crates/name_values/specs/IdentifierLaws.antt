@@ -33,7 +33,7 @@ use Rattle.names.specs.Resolved.{Stored, Resolved}
 use Rattle.name_values.specs.ElsewhereLaws.{ownNames, over-definitions}
 use Rattle.name_values.specs.Entrywise.{Every, every-append, every-all, every-at}
 use Rattle.name_values.specs.Declaring.{IdentifierAt, EnumerationAt}
-use Rattle.name_values.specs.DeclaringLaws.{words-inner}
+use Rattle.name_values.specs.ToldLaws.{words-inner}
 use Rattle.name_values.specs.LeadLaws.{Some, spec-some, Outside, Leads, NoWord, leads-identifiers, leads-definitions, leads-main}
 
 -- entries that declare neither an enumeration nor an identifier

@@ -11,11 +11,13 @@ pub mod Facts
 pub mod Worlds
 pub mod WorldsLaws
 pub mod Passing
+pub mod PassingLaws
 pub mod ElsewhereLaws
 pub mod Worked
 pub mod WorkedLaws
 pub mod Declaring
 pub mod Entrywise
+pub mod ToldLaws
 pub mod DeclaringLaws
 pub mod LeadLaws
 pub mod IdentifierLaws

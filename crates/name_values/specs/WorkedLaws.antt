@@ -27,7 +27,8 @@ use Rattle.name_values.specs.AgreesLaws.{Fits, agrees}
 use Rattle.name_values.specs.World.{Before}
 use Rattle.name_values.specs.Worlds.{meaning, worldOf}
 use Rattle.name_values.specs.WorldsLaws.{table-before, behind-before, fits-between}
-use Rattle.name_values.specs.Passing.{Left, Here, plain-identifiers, left-same, left-at, left-all, pass-entry, pass-plain, pass-line}
+use Rattle.name_values.specs.Passing.{Left, Here}
+use Rattle.name_values.specs.PassingLaws.{plain-identifiers, left-same, left-at, left-all, pass-entry, pass-plain, pass-line}
 use Rattle.names.specs.VisibleLaws.{In, Among, in-declared, among-more, among-all, of-signals}
 use Rattle.name_values.specs.ElsewhereLaws.{ownNames, visible-elsewhere, behind-parameters, of-definitions, signals-apart}
 use Rattle.name_values.specs.Worked.{worldIn, Worked, EachFrom, Parameterwise, Definitionwise, Linewise, Declarationwise, Subsectionwise, definitionsStart, mainStart, TreeWorked}

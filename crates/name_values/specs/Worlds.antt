@@ -2,6 +2,7 @@
 use Prim.Native.Nat.{ℕ, _+_, _-_}
 use mathlib.Core.Bool.{true, false}
 use mathlib.Core.List.{List, [], _∷_, map}
+use mathlib.Core.Path.{_≡_}
 use lib.ListN.{length}
 use Rattle.node.specs.Result.{Result, Done, Refused}
 use Rattle.language.specs.Bytes.{same}
@@ -26,6 +27,11 @@ behind c start (Enumerated x is ∷ ds) n m = behind c (start + length (flatDefi
 
 abbrev pub meaning : List Port → Table → ℕ → List Definition → Token → Meaning
 meaning ps d start defs n = behind (contextOf ps d) start defs n (inTable (find d (n .text)))
+
+-- t is none of the names that definitions define
+abbrev pub Elsewhere : Token → Definition → Type 0
+Elsewhere t (Defined x e) = same (x .text) (t .text) ≡ false
+Elsewhere t (Enumerated x is) = Unit {0}
 
 -- of all declared names, the last first
 abbrev pub worldOf : List Port → Table → ℕ → List Definition → Names → World

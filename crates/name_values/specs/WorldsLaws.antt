@@ -25,7 +25,7 @@ use Rattle.names.specs.WalkBinders.{reference-outside}
 use Rattle.names.specs.VisibleLaws.{Among}
 use Rattle.name_values.specs.World.{Meaning, Stands, Defines, NoValue, nameValue, formed, numbered, World, meaningAt, Before}
 use Rattle.name_values.specs.AgreesLaws.{numbered-last, numbered-before, denote-declared, formula-declared, Fits}
-use Rattle.name_values.specs.Worlds.{inTable, behind, meaning, worldOf}
+use Rattle.name_values.specs.Worlds.{inTable, behind, meaning, worldOf, Elsewhere}
 use Rattle.names.specs.ResolvedLaws.{number-below}
 
 -- the name t stands in the context c for what m means
@@ -99,7 +99,7 @@ behind-before (Enumerated x is ∷ ds) c start n m h =
     (behind-before ds c (start + length f) n m (before-more start (start + length f) m (omega arith) h))
 
 -- what holds of all names of a spelling holds of the one that has its number
-number-held : {A : Type 0} (P : A → Type 0) (other : A) (f : Token → A) (ns : Names) (t : Token) → ((n : Token) → same (n .text) (t .text) ≡ true → P (f n)) → visible ns t ≡ true
+pub number-held : {A : Type 0} (P : A → Type 0) (other : A) (f : Token → A) (ns : Names) (t : Token) → ((n : Token) → same (n .text) (t .text) ≡ true → P (f n)) → visible ns t ≡ true
     → P (numbered other (map f ns) (numberIn ns t))
 number-held P other f [] t h y = absurd (false≢true y)
 number-held P other f (n ∷ ns) t h y = go (same (n .text) (t .text)) refl y (number-held P other f ns t h)
@@ -113,11 +113,6 @@ number-held P other f (n ∷ ns) t h y = go (same (n .text) (t .text)) refl y (n
         let l = number-below ns t y in
         subst P (sym (numbered-before other (f n) (map f ns) _ (omega arith) ∙ ap (numbered other (map f ns)) z)) (ih y)
 
--- t is none of the names that definitions define
-abbrev pub Elsewhere : Token → Definition → Type 0
-Elsewhere t (Defined x e) = same (x .text) (t .text) ≡ false
-Elsewhere t (Enumerated x is) = Unit {0}
-
 stood-elsewhere : (ds : List Definition) (c : Context) (t : Token) (m : Meaning) → All (Elsewhere t) ds → Stood (defineAll c ds) t m → Stood c t m
 stood-elsewhere [] c t m h g = g
 stood-elsewhere (Defined x e ∷ ds) c t m h g =
@@ -130,7 +125,7 @@ defined-then c [] later = refl
 defined-then c (Defined x e ∷ ds) later = defined-then (define c x e) ds later
 defined-then c (Enumerated x is ∷ ds) later = defined-then c ds later
 
-elsewhere-text : (t n : Token) → n .text ≡ t .text → (d : Definition) → Elsewhere t d → Elsewhere n d
+pub elsewhere-text : (t n : Token) → n .text ≡ t .text → (d : Definition) → Elsewhere t d → Elsewhere n d
 elsewhere-text t n q (Defined x e) h = ap (same (x .text)) q ∙ h
 elsewhere-text t n q (Enumerated x is) h = tt
 

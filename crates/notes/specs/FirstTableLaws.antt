@@ -1,31 +1,30 @@
 -- What the names of a text are in the first table, and which of them name no enumeration: by the entries that declare them.
 use Prim.Native.Nat.{ℕ, suc, _+_, _<_}
-use mathlib.Core.Bool.{true, false≢true}
+use mathlib.Core.Bool.{true}
 use mathlib.Core.List.{List, [], _∷_, _++_}
-use mathlib.Core.Option.{Option, none, some}
-use mathlib.Core.Path.{_≡_, refl, sym, _∙_, subst}
+use mathlib.Core.Option.{none, some}
+use mathlib.Core.Path.{_≡_, refl, _∙_, subst}
 use native.Mathlib.Omega.{arith}
 use lib.ListN.{length}
 use Rattle.node.specs.Result.{Done, Refused}
 use Rattle.language.specs.Bytes.{same}
 use Rattle.language.specs.Tokens.{Token}
-use Rattle.language.specs.Tree.{Expr, Named, Identifier, Parameter, Definition, Defined, Enumerated, Declaration, OneSignal, OfWidth, OfType, Subsection, Inputs, Outputs, Lines, Spec}
+use Rattle.language.specs.Tree.{Named, Identifier, Parameter, Definition, Defined, Enumerated, Declaration, OneSignal, OfWidth, OfType, Spec}
 use Rattle.language.specs.Places.{parameterLines, definitionLines, mainLines}
 use Rattle.language.specs.Names.{identifierNames, declares as declaresLine, over, declaredAgain}
 use Rattle.language.specs.Declared.{Declared, Single, WaitingBus, Table, find, identified, identifiers, wordsOfType, waiting, inputs, outputs}
-use Rattle.language.specs.Laws.Basics.Lists.{All, all-any, all-more, all-left, all-right, all-both, all-swap}
+use Rattle.language.specs.Laws.Basics.Lists.{All, all-any, all-more, all-left, all-right, all-both}
 use Rattle.language.specs.Laws.Basics.Tests.{pick, leave, same-refl}
 use Rattle.language.specs.Listed.{declaredName}
 use Rattle.language.specs.Laws.Values.DistinctNames.{Apart, Distinct, Across, apart-sym, across, distinct-left, distinct-right, declaredNames, signals-among, distinct-names, distinct-definitions, distinct-signals}
 use Rattle.entries.specs.Kinds as Kind
-use Rattle.entries.specs.Flat.{Entry, under, leaf, flat, each, flatParameter, flatIdentifier, flatDefinition, flatDeclaration, flatLine, flatSubsection, outline}
+use Rattle.entries.specs.Flat.{Entry, each, flatParameter, flatIdentifier, flatDefinition, flatDeclaration, outline}
 use Rattle.names.specs.Roles.{declares}
 use Rattle.names.specs.Scan.{tokenOf}
 use Rattle.names.specs.Walkable.{entryOf}
-use Rattle.names.specs.Declaring.{Inner, inner-flat}
-use Rattle.name_values.specs.ElsewhereLaws.{ownNames, behind-parameters, over-definitions, main-apart}
-use Rattle.name_values.specs.Entrywise.{Every, every-append, every-each, every-all, every-at}
-use Rattle.name_values.specs.DeclaringLaws.{words-inner}
+use Rattle.name_values.specs.ElsewhereLaws.{ownNames, by-identifier, by-declaration, behind-parameters, over-definitions, across-sym, main-apart}
+use Rattle.name_values.specs.Entrywise.{Every, every-append, every-each, every-at}
+use Rattle.name_values.specs.ToldLaws.{Told, words-told, line-told, main-told}
 use Rattle.notes.specs.FirstTable.{firstTable}
 
 -- a signal or a bus before its turn
@@ -102,8 +101,8 @@ module _ (x : Spec) (once : declaredAgain x ≡ none) where
   abbrev M : List Token
   M = over declaresLine (mainLines (x .main))
 
-  abbrev Told : ℕ → Entry → Type 0
-  Told k n = declares Kind.parameter (n .kind) ≡ true → First x (n .kind) (tokenOf n)
+  abbrev By : ℕ → Entry → Type 0
+  By k n = First x (n .kind) (tokenOf n)
 
   both-names : Distinct (F ++ M)
   both-names = subst Distinct (over-definitions defs (mainLines (x .main))) (distinct-definitions x once)
@@ -114,21 +113,15 @@ module _ (x : Spec) (once : declaredAgain x ≡ none) where
       let s = signals-among (Apart t) (x .main) h in
       waiting-out (inputs (x .main)) (waiting (outputs (x .main)) (identifiers defs)) t (s .0) ∙ waiting-out (outputs (x .main)) (identifiers defs) t (s .1)
 
-  inner-told : (es : List Entry) → All Inner es → (start : ℕ) → Every Told start es
-  inner-told es h start = every-all Told es (all-more (λ n f k y. absurd (false≢true (sym f ∙ y))) es h) start
-
-  line-told : (k : ℕ) (t : Option Token) (e : Expr) (start : ℕ) → Told (start + length (flat e)) (record { kind = k; token = t; size = suc (length (flat e)) }) → Every Told start (under k t (flat e))
-  line-told k t e start h = every-append Told start (start + length (flat e)) (flat e) _ refl (inner-told (flat e) (inner-flat e) start) (h, tt)
-
   -- a name that no definition has
   outside : (kind : ℕ) (t : Token) → All (Apart t) F → (kind ≡ Kind.enumeration → ⊥) → (kind ≡ Kind.identifier → ⊥) → (kind ≡ Kind.parameter → find (firstTable x) (t .text) ≡ Refused 6 0)
       → (kind ≡ Kind.signal → find (firstTable x) (t .text) ≡ Done Single) → (kind ≡ Kind.bus → find (firstTable x) (t .text) ≡ Done WaitingBus)
       → (kind ≡ Kind.typed → find (firstTable x) (t .text) ≡ Done WaitingBus) → First x kind t
   outside kind t a e i p s b u = record { parameter = p; enumeration = λ q. absurd (e q); identifier = λ q. absurd (i q); signal = s; bus = b; typed = u; wordless = λ _. no-words defs t a }
 
-  parameter-told : (p : Parameter) → All (Apart (p .name)) F × All (Apart (p .name)) M → (start : ℕ) → Every Told start (flatParameter p)
+  parameter-told : (p : Parameter) → All (Apart (p .name)) F × All (Apart (p .name)) M → (start : ℕ) → Every (Told By) start (flatParameter p)
   parameter-told p h start =
-      line-told Kind.parameter (some (p .name)) (p .value) start (λ y. outside Kind.parameter (p .name) (h .0) (λ e. omega arith) (λ e. omega arith)
+      line-told By Kind.parameter (some (p .name)) (p .value) start (λ y. outside Kind.parameter (p .name) (h .0) (λ e. omega arith) (λ e. omega arith)
       (λ _. main-out (p .name) (h .1) ∙ not-found defs (p .name) (h .0)) (λ e. absurd (omega arith)) (λ e. absurd (omega arith)) (λ e. absurd (omega arith)))
 
   parameters-apart : (ps : List Parameter) → Distinct (over declaresLine (parameterLines ps (definitionLines defs (mainLines (x .main)))))
@@ -138,42 +131,18 @@ module _ (x : Spec) (once : declaredAgain x ≡ none) where
       let a = subst (All (Apart (p .name))) (over-definitions defs (mainLines (x .main))) (behind-parameters (Apart (p .name)) ps (definitionLines defs (mainLines (x .main))) (h .0)) in
       ((all-left (Apart (p .name)) F M a, all-right (Apart (p .name)) F M a), parameters-apart ps (h .1))
 
-  declaration-told : (m : Declaration) → (find (firstTable x) (declaredName m .text) ≡ Done (waits m)) × All (Apart (declaredName m)) F → (start : ℕ) → Every Told start (flatDeclaration m)
+  declaration-told : (m : Declaration) → (find (firstTable x) (declaredName m .text) ≡ Done (waits m)) × All (Apart (declaredName m)) F → (start : ℕ) → Every (Told By) start (flatDeclaration m)
   declaration-told (OneSignal n) h start =
       ((λ y. outside Kind.signal n (h .1) (λ e. omega arith) (λ e. omega arith) (λ e. absurd (omega arith)) (λ _. h .0) (λ e. absurd (omega arith)) (λ e. absurd (omega arith))), tt)
   declaration-told (OfWidth n e) h start =
-      line-told Kind.bus (some n) e start (λ y. outside Kind.bus n (h .1) (λ e. omega arith) (λ e. omega arith) (λ e. absurd (omega arith)) (λ e. absurd (omega arith)) (λ _. h .0)
+      line-told By Kind.bus (some n) e start (λ y. outside Kind.bus n (h .1) (λ e. omega arith) (λ e. omega arith) (λ e. absurd (omega arith)) (λ e. absurd (omega arith)) (λ _. h .0)
       (λ e. absurd (omega arith)))
   declaration-told (OfType u n) h start =
-      line-told Kind.typed (some n) (Named u) start (λ y. outside Kind.typed n (h .1) (λ e. omega arith) (λ e. omega arith) (λ e. absurd (omega arith)) (λ e. absurd (omega arith))
+      line-told By Kind.typed (some n) (Named u) start (λ y. outside Kind.typed n (h .1) (λ e. omega arith) (λ e. omega arith) (λ e. absurd (omega arith)) (λ e. absurd (omega arith))
       (λ e. absurd (omega arith)) (λ _. h .0))
-
-  line-inner : (e : Expr) (start : ℕ) → Every Told start (flatLine e)
-  line-inner e start = line-told Kind.line none e start (λ y. absurd (false≢true y))
 
   abbrev Q : Declaration → Type 0
   Q m = (find (firstTable x) (declaredName m .text) ≡ Done (waits m)) × All (Apart (declaredName m)) F
-
-  abbrev Unasked : Expr → Type 0
-  Unasked e = Unit {0}
-
-  main-told : (ss : List Subsection) → All Q (inputs ss) → All Q (outputs ss) → (start : ℕ) → Every Told start (each flatSubsection ss)
-  main-told [] i o start = tt
-  main-told (Inputs ds ∷ ss) i o start = (
-    (λ y. absurd (false≢true y)),
-    every-append Told (suc start) _ (each flatDeclaration ds) (each flatSubsection ss) refl
-        (every-each Told flatDeclaration Q declaration-told ds (all-left Q ds (inputs ss) i) (suc start)) (main-told ss (all-right Q ds (inputs ss) i) o _),
-  )
-  main-told (Outputs ds ∷ ss) i o start = (
-    (λ y. absurd (false≢true y)),
-    every-append Told (suc start) _ (each flatDeclaration ds) (each flatSubsection ss) refl
-        (every-each Told flatDeclaration Q declaration-told ds (all-left Q ds (outputs ss) o) (suc start)) (main-told ss i (all-right Q ds (outputs ss) o) _),
-  )
-  main-told (Lines p es ∷ ss) i o start = (
-    (λ y. absurd (false≢true y)),
-    every-append Told (suc start) _ (each flatLine es) (each flatSubsection ss) refl
-        (every-each Told flatLine Unasked (λ e _. line-inner e) es (all-any es) (suc start)) (main-told ss i o _),
-  )
 
   -- the names of the definitions ds, which stand last
   abbrev Typed : List Definition → Token → Type 0
@@ -182,12 +151,9 @@ module _ (x : Spec) (once : declaredAgain x ≡ none) where
   abbrev Found : Table → Token → Type 0
   Found T n = find (identifiers defs) (n .text) ≡ find T (n .text)
 
-  words-told : (ws : List Token) (start : ℕ) → Every Told start (each (leaf Kind.word) ws)
-  words-told ws start = inner-told (each (leaf Kind.word) ws) (words-inner ws) start
-
-  identifiers-told : (is : List Identifier) → All (λ i. NoWords defs (i .name) × All (Apart (i .name)) M) is → (start : ℕ) → Every Told start (each flatIdentifier is)
+  identifiers-told : (is : List Identifier) → All (λ i. NoWords defs (i .name) × All (Apart (i .name)) M) is → (start : ℕ) → Every (Told By) start (each flatIdentifier is)
   identifiers-told is h start =
-      every-each Told flatIdentifier (λ i. NoWords defs (i .name) × All (Apart (i .name)) M)
+      every-each (Told By) flatIdentifier (λ i. NoWords defs (i .name) × All (Apart (i .name)) M)
       (λ i a at. (
         (λ y. record {
           parameter = λ e. absurd (omega arith);
@@ -199,12 +165,8 @@ module _ (x : Spec) (once : declaredAgain x ≡ none) where
           typed = λ e. absurd (omega arith);
           wordless = λ _. a .0;
         }),
-        words-told (i .words) (suc at),
+        words-told By (i .words) (suc at),
       )) is h start
-
-  by-identifier : (P : Token → Type 0) (is : List Identifier) → All P (identifierNames is) → All (λ i. P (i .name)) is
-  by-identifier P [] h = tt
-  by-identifier P (i ∷ is) h = (h .0, by-identifier P is (h .1))
 
   -- an identifier is apart from the definitions behind its enumeration, and from the enumeration
   identifiers-wordless : (n : Token) (is : List Identifier) (ds : List Definition) (ns : List Token) → All (Apart n) ns → Across ns (ownNames ds) → All (Typed (Enumerated n is ∷ ds)) ns
@@ -213,11 +175,11 @@ module _ (x : Spec) (once : declaredAgain x ≡ none) where
   identifiers-wordless n is ds (t ∷ ns) a b c = (c .0 ∙ leave (same (n .text) (t .text)) _ _ (a .0) ∙ no-words ds t (b .0), identifiers-wordless n is ds ns (a .1) (b .1) (c .1))
 
   definitions-told : (ds : List Definition) → Distinct (ownNames ds) → Across (ownNames ds) M → All (Typed ds) (ownNames ds) → All (Found (identifiers ds)) (ownNames ds) → (start : ℕ)
-      → Every Told start (each flatDefinition ds)
+      → Every (Told By) start (each flatDefinition ds)
   definitions-told [] d a t f start = tt
   definitions-told (Defined n e ∷ ds) d a t f start =
-      every-append Told start (start + length (flatDefinition (Defined n e))) (flatDefinition (Defined n e)) (each flatDefinition ds) refl
-      (line-told Kind.definition (some n) e start (λ y. record {
+      every-append (Told By) start (start + length (flatDefinition (Defined n e))) (flatDefinition (Defined n e)) (each flatDefinition ds) refl
+      (line-told By Kind.definition (some n) e start (λ y. record {
         parameter = λ e. absurd (omega arith);
         enumeration = λ e. absurd (omega arith);
         identifier = λ e. absurd (omega arith);
@@ -234,7 +196,7 @@ module _ (x : Spec) (once : declaredAgain x ≡ none) where
       let apart = across I N (d .1) in
       let none-found : find (identifiers defs) (n .text) ≡ Refused 6 0 = f .0 ∙ identified-out is (identifiers ds) n (all-left (Apart n) I N (d .0)) ∙ not-found ds n (all-right (Apart n) I N (d .0))
       in
-      let own : Told start (record { kind = Kind.enumeration; token = some n; size = 1 }) =
+      let own : (Told By) start (record { kind = Kind.enumeration; token = some n; size = 1 }) =
       (λ y. record {
         parameter = λ e. absurd (omega arith);
         enumeration = λ _. main-out n (a .0) ∙ none-found;
@@ -249,15 +211,12 @@ module _ (x : Spec) (once : declaredAgain x ≡ none) where
       let ids : All (λ i. NoWords defs (i .name) × All (Apart (i .name)) M) is = all-both (λ i p q. (p, q)) is (by-identifier (NoWords defs) is w)
       (by-identifier (λ m. All (Apart m) M) is (all-left (λ m. All (Apart m) M) I N (a .1))) in
       let typed : All (Typed ds) N = all-both (λ m p q. q ∙ leave (same (n .text) (m .text)) _ _ p) N (all-right (Apart n) I N (d .0)) (all-right (Typed (Enumerated n is ∷ ds)) I N (t .1)) in
-      let found : All (Found (identifiers ds)) N = all-both (λ m p q. q ∙ identified-out is (identifiers ds) m p) N (turned I N apart)
+      let found : All (Found (identifiers ds)) N = all-both (λ m p q. q ∙ identified-out is (identifiers ds) m p) N (across-sym I N apart)
       (all-right (Found (identifiers (Enumerated n is ∷ ds))) I N (f .1)) in
-      every-append Told start (start + length (flatDefinition (Enumerated n is))) (flatDefinition (Enumerated n is)) (each flatDefinition ds) refl (own, identifiers-told is ids (suc start))
+      every-append (Told By) start (start + length (flatDefinition (Enumerated n is))) (flatDefinition (Enumerated n is)) (each flatDefinition ds) refl (own, identifiers-told is ids (suc start))
       (definitions-told ds (distinct-right I N (d .1)) (all-right (λ m. All (Apart m) M) I N (a .1)) typed found _)
-    where
-      turned : (l m : List Token) → Across l m → All (λ n. All (Apart n) l) m
-      turned l m f = all-more (λ n h. all-more (λ k a. apart-sym k n a) l h) m (all-swap Apart l m f)
 
-  all-told : Every Told 0 (outline x)
+  all-told : Every (Told By) 0 (outline x)
   all-told =
       let P = each flatParameter (x .parameters) in
       let D = each flatDefinition defs in
@@ -269,19 +228,12 @@ module _ (x : Spec) (once : declaredAgain x ≡ none) where
       let ins = waiting-own (inputs (x .main)) (waiting (outputs (x .main)) (identifiers defs)) (distinct-left I O s) in
       let outs : All (λ m. find (firstTable x) (declaredName m .text) ≡ Done (waits m)) (outputs (x .main)) = all-both
       (λ m p q. waiting-out (inputs (x .main)) (waiting (outputs (x .main)) (identifiers defs)) (declaredName m) p ∙ q) (outputs (x .main))
-      (by-declaration (λ n. All (Apart n) I) (outputs (x .main)) (turned I O (across I O s))) (waiting-own (outputs (x .main)) (identifiers defs) (distinct-right I O s)) in
-      every-append Told 0 _ P _ refl (every-each Told flatParameter (λ p. All (Apart (p .name)) F × All (Apart (p .name)) M) parameter-told (x .parameters)
+      (by-declaration (λ n. All (Apart n) I) (outputs (x .main)) (across-sym I O (across I O s))) (waiting-own (outputs (x .main)) (identifiers defs) (distinct-right I O s)) in
+      every-append (Told By) 0 _ P _ refl (every-each (Told By) flatParameter (λ p. All (Apart (p .name)) F × All (Apart (p .name)) M) parameter-told (x .parameters)
       (parameters-apart (x .parameters) (distinct-names x once)) 0)
-      (every-append Told _ _ D _ refl (definitions-told defs (distinct-left F M both-names) (across F M both-names) (all-more (λ n _. refl) F (all-any F)) (all-more (λ n _. refl) F (all-any F)) _)
-      (main-told (x .main) (all-both (λ m p q. (p, q)) (inputs (x .main)) ins (by-declaration (λ n. All (Apart n) F) (inputs (x .main)) (among .0)))
+      (every-append (Told By) _ _ D _ refl (definitions-told defs (distinct-left F M both-names) (across F M both-names) (all-more (λ n _. refl) F (all-any F)) (all-more (λ n _. refl) F (all-any F)) _)
+      (main-told By Q declaration-told (x .main) (all-both (λ m p q. (p, q)) (inputs (x .main)) ins (by-declaration (λ n. All (Apart n) F) (inputs (x .main)) (among .0)))
       (all-both (λ m p q. (p, q)) (outputs (x .main)) outs (by-declaration (λ n. All (Apart n) F) (outputs (x .main)) (among .1))) _))
-    where
-      turned : (l m : List Token) → Across l m → All (λ n. All (Apart n) l) m
-      turned l m f = all-more (λ n h. all-more (λ k a. apart-sym k n a) l h) m (all-swap Apart l m f)
-
-      by-declaration : (P : Token → Type 0) (ds : List Declaration) → All P (declaredNames ds) → All (λ m. P (declaredName m)) ds
-      by-declaration P [] h = tt
-      by-declaration P (m ∷ ds) h = (h .0, by-declaration P ds (h .1))
 
   pub first-at : (k : ℕ) → k < length (outline x) → declares Kind.parameter (entryOf (outline x) k .kind) ≡ true → First x (entryOf (outline x) k .kind) (tokenOf (entryOf (outline x) k))
-  first-at k l = every-at Told 0 (outline x) all-told k l
+  first-at k l = every-at (Told By) 0 (outline x) all-told k l

@@ -18,17 +18,17 @@ use Rattle.language.specs.Places.{allLines}
 use Rattle.language.specs.Declared.{Declared, Table, Port}
 use Rattle.language.specs.Expansion.{Context, contextOf, define}
 use Rattle.language.specs.Laws.Basics.Lists.{All, all-more, all-any}
-use Rattle.language.specs.Laws.Basics.Tests.{pick, leave, same-refl}
+use Rattle.language.specs.Laws.Basics.Tests.{pick, leave, same-refl, same-equal}
 use Rattle.language.specs.Laws.Values.DistinctNames.{Apart, Distinct, apart-sym, distinct-names}
 use Rattle.entries.specs.Flat.{flat, flatDefinition}
 use Rattle.names.specs.References.{numberIn}
 use Rattle.names.specs.Resolved.{declaredNames}
 use Rattle.name_values.specs.World.{Meaning, Stands, Defines, NoValue, meaningAt}
-use Rattle.name_values.specs.Worlds.{inTable, behind, meaning}
-use Rattle.name_values.specs.WorldsLaws.{Elsewhere}
+use Rattle.name_values.specs.Worlds.{inTable, behind, meaning, Elsewhere}
+use Rattle.name_values.specs.WorldsLaws.{number-held, elsewhere-text, behind-elsewhere}
 use Rattle.name_values.specs.Worked.{definitionsStart, worldIn}
 use Rattle.notes.specs.Notes.{Note, Notes}
-use Rattle.notes.specs.NumberedLaws.{numbered-moved, numbered-other, numbered-own, distinct-pushed}
+use Rattle.notes.specs.NumberedLaws.{numbered-moved, numbered-other, distinct-pushed}
 
 pub names-distinct : (x : Spec) → declaredAgain x ≡ none → Distinct (declaredNames x)
 names-distinct x e = distinct-pushed (over declares (allLines x)) [] (distinct-names x e) tt (all-more (λ n _. tt) (over declares (allLines x)) (all-any (over declares (allLines x))))
@@ -47,18 +47,6 @@ module _ (ts : Tokens) (w : List ℕ) (sort n : ℕ) where
       behind-note ds (define c x e) (define c′ x e) (start + length (flatDefinition (Defined x e))) t _ _
       (defined-note (same (x .text) (t .text)) (start + length (flat e) - 1) c c′ e m m′ f) h
   behind-note (Enumerated x is ∷ ds) c c′ start t m m′ f h = behind-note ds c c′ (start + length (flatDefinition (Enumerated x is))) t m m′ f h
-
--- a name that no definition defines is what the table says
-pub behind-elsewhere : (ds : List Definition) (c : Context) (start : ℕ) (t : Token) (m : Meaning) → All (Elsewhere t) ds → behind c start ds t m ≡ m
-behind-elsewhere [] c start t m h = refl
-behind-elsewhere (Defined x e ∷ ds) c start t m h =
-    behind-elsewhere ds (define c x e) (start + length (flatDefinition (Defined x e))) t _ (h .1) ∙ leave (same (x .text) (t .text)) _ _ (h .0)
-behind-elsewhere (Enumerated x is ∷ ds) c start t m h = behind-elsewhere ds c (start + length (flatDefinition (Enumerated x is))) t m (h .1)
-
-pub elsewhere-text : (t n : Token) → n .text ≡ t .text → (ds : List Definition) → All (Elsewhere t) ds → All (Elsewhere n) ds
-elsewhere-text t n q [] h = tt
-elsewhere-text t n q (Defined x e ∷ ds) h = (ap (same (x .text)) q ∙ h .0, elsewhere-text t n q ds (h .1))
-elsewhere-text t n q (Enumerated x is ∷ ds) h = (tt, elsewhere-text t n q ds (h .1))
 
 module _ (x : Spec) (ts : Tokens) (w : List ℕ) where
   abbrev start : ℕ
@@ -89,7 +77,7 @@ module _ (x : Spec) (ts : Tokens) (w : List ℕ) where
 
       own-meaning : (m : Token) → m .text ≡ t .text → meaning ps d′ start (x .definitions) m ≡ Stands v
       own-meaning m e =
-          behind-elsewhere (x .definitions) (contextOf ps d′) start m _ (elsewhere-text t m e (x .definitions) undefined)
+          behind-elsewhere (x .definitions) (contextOf ps d′) start m _ (all-more (elsewhere-text t m e) (x .definitions) undefined)
           ∙ ap inTable (pick (same (t .text) (m .text)) _ _ (ap (same (t .text)) e ∙ same-refl (t .text)))
 
       pub notes-turn : (sorts numbers : List ℕ) (sort n : ℕ) → q < length sorts → q < length numbers → Note ts w sort n (Stands v) → Notes ts w (worldIn x ps d) sorts numbers
@@ -101,8 +89,8 @@ module _ (x : Spec) (ts : Tokens) (w : List ℕ) where
               subst (λ i. Note ts w (getD (set sorts q sort) i 0) (getD (set numbers q n) i 0) (meaningAt (worldIn x ps d′) i)) (sym (eqb-true r q e))
               (subst (λ s. Note ts w s (getD (set numbers q n) q 0) (meaningAt (worldIn x ps d′) q)) (sym (getD-set-same sorts q sort 0 a))
               (subst (λ k. Note ts w sort k (meaningAt (worldIn x ps d′) q)) (sym (getD-set-same numbers q n 0 b))
-              (numbered-own {A = List ℕ × Meaning} (λ p. Note ts w sort n (p .1)) ([], NoValue) (λ m. (m .text, meaning ps d′ start (x .definitions) m)) (declaredNames x) t
-              (λ m e. subst (Note ts w sort n) (sym (own-meaning m e)) new) here)))
+              (number-held {A = List ℕ × Meaning} (λ p. Note ts w sort n (p .1)) ([], NoValue) (λ m. (m .text, meaning ps d′ start (x .definitions) m)) (declaredNames x) t
+              (λ m s. subst (Note ts w sort n) (sym (own-meaning m (same-equal (m .text) (t .text) s))) new) here)))
           go r l false e =
               let c = eqb-false r q e in
               subst (λ s. Note ts w s (getD (set numbers q n) r 0) (meaningAt (worldIn x ps d′) r)) (sym (getD-set-other sorts q r sort 0 c))

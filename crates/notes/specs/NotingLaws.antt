@@ -1,5 +1,5 @@
 -- The notes of all names, name by name.
-use Prim.Native.Nat.{ℕ, zero, suc, _+_, _-_, _≤_, _<_}
+use Prim.Native.Nat.{ℕ, _+_, _≤_, _<_}
 use mathlib.Core.Bool.{Bool, true, false, not, _&&_, false≢true}
 use mathlib.Core.List.{List, []}
 use mathlib.Core.Path.{_≡_, refl, sym, ap, _∙_, subst}
@@ -7,7 +7,7 @@ use native.Mathlib.Omega.{arith}
 use lib.Dec.{eqb, leb, ltb}
 use lib.ListN.{length, getD, set}
 use lib.Seq.{getD-set-same, getD-set-other}
-use borrow.Author.Tests.{leb-true, ltb-true, ltb-false}
+use borrow.Author.Tests.{eqb-true, eqb-false, leb-true, ltb-true, ltb-false}
 use Rattle.node.specs.Result.{Result}
 use Rattle.words.specs.Words.{wordAt}
 use Rattle.language.specs.Limits.{maxTokens}
@@ -36,25 +36,24 @@ use Rattle.notes.specs.FirstTable.{firstTable}
 use Rattle.notes.specs.FirstTableLaws.{first-at}
 use Rattle.notes.specs.Noting.{Sorted, NoteIs}
 
+-- a number from m on is m or a further one
+from-on : (P : ℕ → Type 0) (m k : ℕ) → m ≤ k → P m → (m < k → P k) → P k
+from-on P m k l p further = go (eqb k m) refl
+  where
+    go : (b : Bool) → eqb k m ≡ b → P k
+    go true q = subst P (sym (eqb-true k m q)) p
+    go false q = let n = eqb-false k m q in further (omega arith)
+
 -- the kinds of entries that declare names
 declared-kinds : (P : ℕ → Type 0) → P Kind.parameter → P Kind.definition → P Kind.enumeration → P Kind.identifier → P Kind.signal → P Kind.bus → P Kind.typed → (k : ℕ)
     → declares Kind.parameter k ≡ true → P k
 declared-kinds P a b c d e f g k y =
-    let low = leb-true Kind.parameter k (and-left (leb Kind.parameter k) _ (and-left (leb Kind.parameter k && not (eqb k Kind.word)) (leb k Kind.typed) y)) in
+    let lower = and-left (leb Kind.parameter k && not (eqb k Kind.word)) (leb k Kind.typed) y in
+    let low = leb-true Kind.parameter k (and-left (leb Kind.parameter k) (not (eqb k Kind.word)) lower) in
     let high = leb-true k Kind.typed (and-right (leb Kind.parameter k && not (eqb k Kind.word)) (leb k Kind.typed) y) in
-    let q : Kind.parameter + (k - Kind.parameter) ≡ k = omega arith in
-    subst P q (go (k - Kind.parameter) (omega arith) (ap (declares Kind.parameter) q ∙ y))
-  where
-    go : (i : ℕ) → i < 8 → declares Kind.parameter (Kind.parameter + i) ≡ true → P (Kind.parameter + i)
-    go zero l y = a
-    go (suc zero) l y = b
-    go (suc (suc zero)) l y = c
-    go (suc (suc (suc zero))) l y = d
-    go (suc (suc (suc (suc zero)))) l y = absurd (false≢true y)
-    go (suc (suc (suc (suc (suc zero))))) l y = e
-    go (suc (suc (suc (suc (suc (suc zero)))))) l y = f
-    go (suc (suc (suc (suc (suc (suc (suc zero))))))) l y = g
-    go (suc (suc (suc (suc (suc (suc (suc (suc i)))))))) l y = absurd (omega arith)
+    let wordless : k ≡ Kind.word → ⊥ = λ q. false≢true (subst (λ i. not (eqb i Kind.word) ≡ true) q (and-right (leb Kind.parameter k) (not (eqb k Kind.word)) lower)) in
+    from-on P Kind.parameter k low a (λ l. from-on P Kind.definition k (omega arith) b (λ l. from-on P Kind.enumeration k (omega arith) c (λ l. from-on P Kind.identifier k (omega arith) d
+    (λ l. from-on P Kind.signal k (omega arith) e (λ l. from-on P Kind.bus k (omega arith) f (λ l. from-on P Kind.typed k (omega arith) g (λ l. absurd (omega arith))))))))
 
 -- a name that the table has, or not
 table-note : (ts : Tokens) (w : List ℕ) (sort n : ℕ) (m : Meaning) → sort ≡ Sort.nothing → m ≡ NoValue → Note ts w sort n m

@@ -1,9 +1,8 @@
 -- Lists by number, of which the last stands first, when what stands for the names changes.
 use Prim.Native.Nat.{ℕ}
-use mathlib.Core.Bool.{Bool, true, false, _||_, false≢true}
+use mathlib.Core.Bool.{Bool, true, false, _||_}
 use mathlib.Core.List.{List, [], _∷_, map}
-use mathlib.Core.Path.{_≡_, refl, sym, ap, _∙_, subst}
-use native.Mathlib.Omega.{arith}
+use mathlib.Core.Path.{_≡_, refl, sym, _∙_, subst}
 use lib.Dec.{eqb}
 use lib.ListN.{length, length-map}
 use borrow.Author.Tests.{eqb-true, eqb-false, ne-eqb}
@@ -17,7 +16,6 @@ use Rattle.names.specs.References.{numberIn, pushed}
 use Rattle.names.specs.NumberingLaws.{number-same, number-other}
 use Rattle.name_values.specs.World.{numbered}
 use Rattle.name_values.specs.AgreesLaws.{numbered-last}
-use Rattle.names.specs.ResolvedLaws.{number-below}
 
 numbered-else : {A : Type 0} (other a : A) (l : List A) (r : ℕ) → (r ≡ length l → ⊥) → numbered other (a ∷ l) r ≡ numbered other l r
 unfolding numbered
@@ -59,20 +57,6 @@ module _ {A : Type 0} (other : A) (P : A → Type 0) (f g : Token → A) (r : �
           let q = eqb-false r (length ns) u in
           subst P (sym (numbered-else other (g n) (map g ns) r (λ s. q (s ∙ length-map ns g))))
           (ih z (λ s. h (s ∙ sym (number-other n ns t e))) k (subst P (numbered-else other (f n) (map f ns) r (λ s. q (s ∙ length-map ns f))) p))
-
--- the name of a spelling
-pub numbered-own : {A : Type 0} (P : A → Type 0) (other : A) (f : Token → A) (ns : Names) (t : Token) → ((n : Token) → n .text ≡ t .text → P (f n)) → visible ns t ≡ true
-    → P (numbered other (map f ns) (numberIn ns t))
-numbered-own P other f [] t h y = absurd (false≢true y)
-numbered-own P other f (n ∷ ns) t h y = go (same (n .text) (t .text)) refl y (numbered-own P other f ns t h)
-  where
-    go : (b : Bool) → same (n .text) (t .text) ≡ b → (b || visible ns t) ≡ true → (visible ns t ≡ true → P (numbered other (map f ns) (numberIn ns t)))
-        → P (numbered other (map f (n ∷ ns)) (numberIn (n ∷ ns) t))
-    go true e z ih = subst P (sym (numbered-last other (f n) (map f ns) _ (number-same n ns t e ∙ sym (length-map ns f)))) (h n (same-equal (n .text) (t .text) e))
-    go false e z ih =
-        let s = number-other n ns t e in
-        let l = number-below ns t z in
-        subst P (sym (numbered-else other (f n) (map f ns) _ (λ d. let m = length-map ns f in omega arith) ∙ ap (numbered other (map f ns)) s)) (ih z)
 
 -- distinct names, the last first
 pub distinct-pushed : (ns ms : Names) → Distinct ns → Distinct ms → Across ns ms → Distinct (pushed ns ms)

@@ -18,7 +18,8 @@ use Rattle.names.specs.WalkBinders.{reference-outside}
 use Rattle.names.specs.Refers.{run-one}
 use Rattle.names.specs.Resolved.{Stored, declaredNames, Resolved}
 use Rattle.names.specs.ResolvedLaws.{resolved-expr, resolved-entry}
-use Rattle.name_values.specs.Passing.{Left, plain-identifiers, left-same, left-at, left-all, pass-entry, pass-plain, pass-line}
+use Rattle.name_values.specs.Passing.{Left}
+use Rattle.name_values.specs.PassingLaws.{plain-identifiers, left-same, left-at, left-all, pass-entry, pass-plain, pass-line}
 use Rattle.name_values.specs.Worked.{definitionsStart, mainStart, Worked, EachFrom, Parameterwise, Declarationwise, Subsectionwise, TreeWorked}
 use Rattle.notes.specs.ChosenLaws.{InSubsection}
 use Rattle.notes.specs.Owned.{OwnAt, ParameterAt, kindOf, DeclarationAt}

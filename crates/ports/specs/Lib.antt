@@ -1,5 +1,6 @@
 pub mod Ports
 pub mod Firsts
+pub mod FirstsLaws
 pub mod Listing
 pub mod EntryRuns
 pub mod EntryRunLaws

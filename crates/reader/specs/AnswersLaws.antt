@@ -14,7 +14,7 @@ use Rattle.language.specs.Reading.{textExpansion, delivered, reading}
 use Rattle.language.specs.Laws.Buffers.{work-short, work-long, short-refused}
 use Rattle.claim.specs.Reads.{Reads}
 use Rattle.claim.specs.ReadsLaws.{reads}
-use Rattle.ending.specs.Hands.{hands-as, hands-refused}
+use Rattle.ending.specs.HandsLaws.{hands-as, hands-refused}
 use Rattle.reader.specs.Answers.{Answers}
 
 module _ (text : List ℕ) {work nodes signals : List ℕ} where

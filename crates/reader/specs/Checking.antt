@@ -19,11 +19,11 @@ use Rattle.checked.specs.declared.Counts.{Counts}
 use Rattle.checked.specs.declared.Checked.{Checked as Answered}
 use Rattle.checked.specs.declared.Checked.the-variants.{Accepted as Passed, Refused as NotPassed}
 use Rattle.checked.specs.Checking.{Tree, Checks}
-use Rattle.ending.specs.Endings.{text-refused, text-parsed}
-use Rattle.ending.specs.Hands.{hands-as, hands-refused}
+use Rattle.ending.specs.EndingsLaws.{text-refused, text-parsed}
+use Rattle.ending.specs.HandsLaws.{hands-as, hands-refused}
 use Rattle.reader.specs.Answers.{Answers}
 use Rattle.checked.specs.AnswerLaws.{accepted, refused, tree-parsed as only-tree}
-use Rattle.line_counts.specs.Counting.{CountsOf}
+use Rattle.line_counts.specs.Promise.{CountsOf}
 use Rattle.reader.specs.declared.expansion.CheckedTree.{CheckedTree}
 use Rattle.reader.specs.declared.expansion.Counted.{Counted}
 use Rattle.reader.specs.Naming.{Parsed, SomeParsed, Expands}

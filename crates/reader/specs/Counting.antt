@@ -7,7 +7,7 @@ use Rattle.language.specs.Tree.{Spec}
 use Rattle.language.specs.Declared.{Declarations}
 use Rattle.language.specs.Lines.{lines}
 use Rattle.ending.specs.Finishing as Ending
-use Rattle.line_counts.specs.Counting.{CountsOf}
+use Rattle.line_counts.specs.Promise.{CountsOf}
 use Rattle.reader.specs.declared.expansion.Counted.{Counted}
 
 -- the answer on a text, its declarations given, and the counts of one that is accepted

@@ -26,12 +26,14 @@ use Rattle.ports.specs.declared.Signals.{Signals}
 use Rattle.ports.specs.declared.Signals.the-variants.{Listed, TooMany}
 use Rattle.assembly.specs.Gathered.{inTurn, extent, Lined}
 use Rattle.assembly.specs.WholeLaws.{whole-count}
-use Rattle.ending.specs.Endings.{ended, too-many, few-signals, too-large}
+use Rattle.ending.specs.Endings.{ended}
+use Rattle.ending.specs.EndingsLaws.{too-many, few-signals, too-large}
 use Rattle.ending.specs.Listing.{startOf, Listing}
 use Rattle.ending.specs.Finishing as Ending
 use Rattle.ending.specs.Finishing.{Complete}
 use Rattle.line_counts.specs.declared.LineCounts.{LineCounts}
-use Rattle.line_counts.specs.Counting.{countsOf, Counts}
+use Rattle.line_counts.specs.Counting.{Counts}
+use Rattle.line_counts.specs.Promise.{countsOf}
 use Rattle.reader.specs.declared.expansion.Counted.{Counted}
 use Rattle.reader.specs.Counting.{Finishes}
 

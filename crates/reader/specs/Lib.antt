@@ -11,4 +11,5 @@ pub mod Memories
 pub mod MemoriesLaws
 pub mod Checking
 pub mod Promise
+pub mod Telling
 pub mod TellingLaws

@@ -10,15 +10,15 @@ use Rattle.language.specs.Declared.{Declarations}
 use Rattle.language.specs.Lines.{lines}
 use Rattle.language.specs.Reading.{delivered}
 use Rattle.operands.specs.Working.{source}
-use Rattle.assembly.specs.Gathered.{GatheredFrom}
-use Rattle.assembly.specs.ExpandLaws.{linesInTurn, expand-refused}
+use Rattle.assembly.specs.Gathered.{GatheredFrom, linesInTurn}
+use Rattle.assembly.specs.ExpandLaws.{expand-refused}
 use Rattle.lines.specs.declared.Gathering.{Gathering}
 use Rattle.lines.specs.declared.Gathering.the-variants.{Lines}
 use Rattle.lines.specs.Gathering as Walk
 use Rattle.lines.specs.Gathering.{buffers, Sizes, Formulas}
 use Rattle.lines.specs.Whole.{Given, SomeGiven, Gathers}
-use Rattle.ending.specs.Endings.{line-refused}
-use Rattle.ending.specs.Hands.{hands-refused}
+use Rattle.ending.specs.EndingsLaws.{line-refused}
+use Rattle.ending.specs.HandsLaws.{hands-refused}
 use Rattle.ending.specs.Listing.{startOf}
 use Rattle.ending.specs.Finishing.{Complete, SomeComplete}
 use Rattle.reader.specs.declared.expansion.Named.{Named}

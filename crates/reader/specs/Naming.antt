@@ -15,7 +15,7 @@ use Rattle.machine_run.specs.Running.{maxMemory, smaller}
 use Rattle.memory_notes.specs.Laid.{lastSlots}
 use Rattle.declarations.specs.Promise.{Checked}
 use Rattle.ending.specs.Hands.{Hands}
-use Rattle.line_counts.specs.Counting.{CountsOf}
+use Rattle.line_counts.specs.Promise.{CountsOf}
 use Rattle.reader.specs.declared.expansion.CheckedTree.{CheckedTree}
 use Rattle.reader.specs.declared.expansion.Counted.{Counted}
 

@@ -22,10 +22,11 @@ use Rattle.declarations.specs.declared.Declarations.{Declarations as Told}
 use Rattle.declarations.specs.Promise as Promise
 use Rattle.declarations.specs.Expressions.{MemoryRoom}
 use Rattle.declarations.specs.Promise.{Checked, SignalsAre, WorkedOut, Declares}
-use Rattle.ending.specs.Endings.{declarations-refused, declarations-done}
-use Rattle.ending.specs.Hands.{Hands, hands-as, hands-refused}
+use Rattle.ending.specs.EndingsLaws.{declarations-refused, declarations-done}
+use Rattle.ending.specs.Hands.{Hands}
+use Rattle.ending.specs.HandsLaws.{hands-as, hands-refused}
 use Rattle.ending.specs.Listing.{Listing}
-use Rattle.line_counts.specs.Counting.{CountsOf}
+use Rattle.line_counts.specs.Promise.{CountsOf}
 use Rattle.reader.specs.declared.expansion.CheckedTree.{CheckedTree}
 use Rattle.reader.specs.declared.expansion.Named.{Named}
 use Rattle.reader.specs.declared.expansion.Counted.{Counted}

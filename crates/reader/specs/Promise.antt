@@ -14,9 +14,8 @@ use Rattle.claim.specs.Reads.{Reads}
 use Rattle.parser.specs.declared.Facts.{Facts}
 use Rattle.parser.specs.Outlines.{factsOf}
 use Rattle.line_counts.specs.declared.LineCounts.{LineCounts}
-use Rattle.line_counts.specs.Counting.{CountsOf}
+use Rattle.line_counts.specs.Promise.{CountsOf}
 use Rattle.reader.specs.declared.Told.{Told}
-use Rattle.reader.specs.Answers.{Answers}
 
 -- what INFO says, if the text has a tree
 abbrev pub Informed : List ℕ → Facts → Type 0
@@ -25,12 +24,6 @@ Informed text f = (x : Spec) → parsed text ≡ Done x → f ≡ factsOf x
 -- how many lines its sections have that promise something
 abbrev pub TextCounts : List ℕ → LineCounts → Type 0
 TextCounts text k = (x : Spec) (d : Declarations) → parsed text ≡ Done x → declarations x ≡ Done d → CountsOf x d k
-
--- the answer on a text, with what INFO says, and the counts of an accepted one
-pub record Tells (text work nodes signals used nodes′ signals′ : List ℕ) (r : Told) : Type 0 where
-  pub answers : Answers text work nodes signals used nodes′ signals′ (r .answer)
-  pub facts : Informed text (r .facts)
-  pub lines : (n s : ℕ) → r .answer ≡ Accepted n s → TextCounts text (r .lines)
 
 -- the reader's answer, with what INFO says unless 17 stands, and how many lines the sections of an accepted text have
 pub record ReadsTold (text work nodes signals work′ nodes′ signals′ : List ℕ) (r : Told) : Type 0 where

@@ -24,7 +24,8 @@ use Rattle.reader.specs.Answers.{Answers}
 use Rattle.reader.specs.AnswersLaws.{reads-short, reads-long}
 use Rattle.reader.specs.Checking.{tree-refused, tree-answers, tree-counts}
 use Rattle.reader.specs.Naming.{Expands}
-use Rattle.reader.specs.Promise.{Informed, Tells, ReadsTold}
+use Rattle.reader.specs.Promise.{Informed, ReadsTold}
+use Rattle.reader.specs.Telling.{Tells}
 
 -- a refused text has no tree
 refused-untold : (text : List ℕ) {n p : ℕ} (f : Facts) → parsed text ≡ Refused n p → Informed text f

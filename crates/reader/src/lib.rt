@@ -20,7 +20,8 @@ ghost use lib.ListN.{length};
 ghost use Rattle.language.specs.Limits.{workBytes};
 ghost use Rattle.checked.specs.declared.Checked.{Checked as NotChecked};
 ghost use Rattle.claim.specs.Reads.{Reads};
-ghost use Rattle.reader.specs.Promise.{Tells, ReadsTold};
+ghost use Rattle.reader.specs.Promise.{ReadsTold};
+ghost use Rattle.reader.specs.Telling.{Tells};
 
 // A text's answer, what its INFO says, and how many lines the sections have that promise something.
 pub struct Told {

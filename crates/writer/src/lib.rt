@@ -12,10 +12,10 @@ use reader::read_told;
 fn unwritten(answer: Answer) -> Written
     ensures { λ r. ⌜ r ≡ unwritten' answer ⌝ }
 {
-    match answer {
-        Answer::Refused(number, place) => Written::Refused(number, place),
-        Answer::Accepted(_, _) => Written::Refused(0, 0),
-    }
+    let Answer::Refused(number, place) = answer else {
+        return Written::Refused(0, 0);
+    };
+    Written::Refused(number, place)
 }
 
 // Writes the basic text of an accepted text to the front of `out`: the number of its bytes, or a refusal, which changes no byte of `out`. The first 65,536 bytes of

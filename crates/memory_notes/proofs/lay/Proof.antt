@@ -151,10 +151,10 @@ behind-requires c κs =
     omega (arith, at-loop .loop .inv .0)
 
 add-r : tie.Need-add-r Inv-loop μ-loop
-add-r c = omega (arith, c .before .before .before .before .before .before .loop-test .taken)
+add-r c = let in-loop = c .before .before .before .before .before .before in omega (arith, in-loop .loop-test .taken)
 
 loop-less : tie.Need-loop-less Inv-loop μ-loop
-loop-less c = omega (arith, c .before .before .before .before .before .before .loop-test .taken)
+loop-less c = let in-loop = c .before .before .before .before .before .before in omega (arith, in-loop .loop-test .taken)
 
 loop-again : tie.Need-loop-again Inv-loop μ-loop
 loop-again c =

@@ -12,7 +12,8 @@ convert-requires c κs = search needs
 
 pack-requires : tie.Need-pack-requires
 pack-requires c κs =
-    subst (λ (x : Result Counts). Fits x) (sym (c .before .before .before .before .before .before .convert .ensures .yields .answer)) (converting-fits _ _ _ _ _)
+    let at-convert = c .before .before .before .before .before .before in
+    subst (λ (x : Result Counts). Fits x) (sym (at-convert .convert .ensures .yields .answer)) (converting-fits _ _ _ _ _)
 
 same-length : tie.Need-same-length
 same-length c = search needs

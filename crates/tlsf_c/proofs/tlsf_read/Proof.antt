@@ -12,7 +12,8 @@ read-requires c κs = search needs
 
 pack-requires : tie.Need-pack-requires
 pack-requires c κs =
-    subst (λ (x : Result Counts). Fits x) (sym (c .before .before .before .before .before .before .read .ensures .yields .answer)) (reading-fits _ _ _ _)
+    let at-read = c .before .before .before .before .before .before in
+    subst (λ (x : Result Counts). Fits x) (sym (at-read .read .ensures .yields .answer)) (reading-fits _ _ _ _)
 
 same-length : tie.Need-same-length
 same-length c = search needs

@@ -12,10 +12,10 @@ enum-told : tie.Need-enum-told
 enum-told c = search needs
 
 returns : tie.Need-returns
-returns c = sym (ap unwritten (c .before .answer .given .1))
+returns c = sym (ap unwritten (c .enum-told .given .1))
 
 returns-2 : tie.Need-returns-2
-returns-2 c = search needs
+returns-2 c = sym (ap unwritten (c .before .answer .given .1))
 
 pub unwritten-spec : {M : Type 1} → statement M
 unwritten-spec = tie.close (tie.spec enum-known-answer enum-told returns returns-2)

@@ -5,8 +5,8 @@ use native.Mathlib.Omega.{arith}
 use borrow.Author.Needs.{needs}
 use lib.ListN.{length, getD, length-set}
 use Rattle.language.specs.Limits.{maxTokens}
-use Rattle.lexer.specs.Stored.{offsetIn}
-use Rattle.declarations.specs.Describing.{Filled, offsetAt, enumerationFor}
+use Rattle.operands.specs.Entries.{placeAt}
+use Rattle.declarations.specs.Describing.{Filled, enumerationFor}
 use Rattle.declarations.specs.DescribingLaws.{filled-more}
 use Rattle.declarations.proofs.describe.describe.Statement.{statement}
 use Rattle.declarations.proofs.describe.describe.Tie as tie
@@ -15,7 +15,7 @@ abbrev Inv-loop : tie.InvT-loop
 Inv-loop work refs found places count order₀ enumerations₀ offsets₀ j₀ order enumerations offsets j = (j ≤ count) ×
     ((length order ≡ length order₀) × ((length enumerations ≡ length enumerations₀) ×
     ((length offsets ≡ length offsets₀) × (Filled (λ i. getD refs (getD places i 0) 0) order j ×
-    (Filled (λ i. enumerationFor work refs found (getD places i 0)) enumerations j × Filled (λ i. offsetAt work (getD places i 0)) offsets j)))))
+    (Filled (λ i. enumerationFor work refs found (getD places i 0)) enumerations j × Filled (λ i. placeAt work (getD places i 0)) offsets j)))))
 
 abbrev μ-loop : tie.MeasureT-loop
 μ-loop work refs found places count order₀ enumerations₀ offsets₀ j₀ order enumerations offsets j = count - j
@@ -100,16 +100,16 @@ slice-write-enumerations c =
     let start = loop-at .before .before .before .before .before .before .before .before in
     omega (arith, loop-test-at .loop-test .taken, loop-at .loop .inv .1 .1 .0, start .pre .enumerations-room)
 
-token-word-requires : tie.Need-token-word-requires Inv-loop μ-loop
-token-word-requires c κs =
+place-at-requires : tie.Need-place-at-requires Inv-loop μ-loop
+place-at-requires c κs =
     let wide-at = c .before .before in
     let loop-test-at = wide-at .before .before in
     let loop-at = loop-test-at .before in
     let start = loop-at .before .before .before .before .before .before .before .before in (
-      start .pre .work,
       subst (λ n. n < maxTokens)
           (sym (wide-at .wide .ensures .0)) (start .pre .inside
           (loop-at .loop .j) (loop-test-at .loop-test .taken)),
+      start .pre .work,
     )
 
 mul-offsets : tie.Need-mul-offsets Inv-loop μ-loop
@@ -169,11 +169,11 @@ loop-again c =
                     (start .args .found .now)) (wide-at .wide .ensures .0))
                     (loop-at .loop .inv .1 .1 .1 .1 .1 .0),
                 filled-more
-                    (λ i. offsetAt (start .args .work .now)
+                    (λ i. placeAt (start .args .work .now)
                     (getD (start .args .places .now) i 0))
                     (loop-at .loop .offsets) (loop-at .loop .j) _
                     (omega (arith, loop-test-at .loop-test .taken, loop-at .loop .inv .1 .1 .1 .0, start .pre .offsets-room))
-                    (ap offsetIn (c .token-word .ensures) ∙ ap (offsetAt (start .args .work .now))
+                    (c .place-at .ensures ∙ ap (placeAt (start .args .work .now))
                     (wide-at .wide .ensures .0)) (loop-at .loop .inv .1 .1 .1 .1 .1 .1),
               ),
             ),
@@ -216,7 +216,7 @@ describe-spec =
     enumeration-for-requires
     mul-enumerations
     slice-write-enumerations
-    token-word-requires
+    place-at-requires
     mul-offsets
     slice-write-offsets
     add-j

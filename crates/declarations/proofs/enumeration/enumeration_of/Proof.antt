@@ -3,7 +3,7 @@ use mathlib.Core.Path.{sym, ap, _∙_}
 use native.Mathlib.Omega.{arith}
 use borrow.Author.Needs.{needs}
 use lib.ListN.{getD}
-use Rattle.entries.specs.Stored.{kindOf}
+use Rattle.operands.specs.Entries.{kindAt}
 use Rattle.declarations.specs.EnumerationLaws.{enumeration-far, enumeration-past, enumeration-other, enumeration-own}
 use Rattle.declarations.proofs.enumeration.enumeration_of.Statement.{statement}
 use Rattle.declarations.proofs.enumeration.enumeration_of.Tie as tie
@@ -54,13 +54,14 @@ returns-2 c =
     (before2-at .before2 .ensures)) (wide2-at .wide2 .result) (wide2-at .wide2 .ensures .0) (omega (arith, if1-at .if1 .left))
     (c .if2 .taken)
 
-entry-word-requires : tie.Need-entry-word-requires
-entry-word-requires c κs = search needs
+kind-at-requires : tie.Need-kind-at-requires
+kind-at-requires c κs = search needs
 
 returns-3 : tie.Need-returns-3
+unfolding kindAt
 returns-3 c =
-    let entry-word-at = c .before in
-    let if2-at = entry-word-at .before in
+    let kind-at-at = c .before in
+    let if2-at = kind-at-at .before in
     let wide2-at = if2-at .before in
     let if1-at = wide2-at .before .before in
     let wide-at = if1-at .before in
@@ -73,12 +74,13 @@ returns-3 c =
     (wide-at .wide .ensures .0 ∙ ap
     (λ i. getD (start .args .refs .now) i 0)
     (before2-at .before2 .ensures)) (wide2-at .wide2 .result) (wide2-at .wide2 .ensures .0)
-    (omega (arith, if1-at .if1 .left)) (omega (arith, if2-at .if2 .left)) (ap kindOf (sym (entry-word-at .entry-word .ensures)) ∙ c .if3 .taken)
+    (omega (arith, if1-at .if1 .left)) (omega (arith, if2-at .if2 .left)) (sym (kind-at-at .kind-at .ensures) ∙ c .if3 .taken)
 
 returns-4 : tie.Need-returns-4
+unfolding kindAt
 returns-4 c =
-    let entry-word-at = c .before in
-    let if2-at = entry-word-at .before in
+    let kind-at-at = c .before in
+    let if2-at = kind-at-at .before in
     let wide2-at = if2-at .before in
     let if1-at = wide2-at .before .before in
     let wide-at = if1-at .before in
@@ -91,7 +93,7 @@ returns-4 c =
     (wide-at .wide .ensures .0 ∙ ap
     (λ i. getD (start .args .refs .now) i 0)
     (before2-at .before2 .ensures)) (wide2-at .wide2 .result) (wide2-at .wide2 .ensures .0)
-    (omega (arith, if1-at .if1 .left)) (omega (arith, if2-at .if2 .left)) (λ e. c .if3 .left (ap kindOf (entry-word-at .entry-word .ensures) ∙ e))
+    (omega (arith, if1-at .if1 .left)) (omega (arith, if2-at .if2 .left)) (λ e. c .if3 .left (kind-at-at .kind-at .ensures ∙ e))
 
 pub enumeration-of-spec : {M : Type 1} → statement M
 enumeration-of-spec =
@@ -106,6 +108,6 @@ enumeration-of-spec =
     shared-slice-read-wide-2
     wide-requires-2
     returns-2
-    entry-word-requires
+    kind-at-requires
     returns-3
     returns-4)

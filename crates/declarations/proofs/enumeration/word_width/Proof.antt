@@ -7,7 +7,7 @@ use borrow.Author.Needs.{needs}
 use Rattle.language.specs.Limits.{maxTokens}
 use Rattle.language.specs.Tokens.{Token, tokens}
 use Rattle.lexer.specs.Stored.{longest, lengthIn}
-use Rattle.entries.specs.Stored.{kindOf}
+use Rattle.operands.specs.Entries.{kindAt}
 use Rattle.spellings.specs.Interned.{Lexed}
 use Rattle.name_values.specs.Declaring.{EnumerationAt}
 use Rattle.declarations.specs.EnumerationLaws.{Scanning, scanning-starts, scanning-word, scanning-more, scanning-other, scanning-past}
@@ -26,20 +26,27 @@ add-i c = search needs
 loop-holds : tie.Need-loop-holds Inv-loop μ-loop
 loop-holds c = (omega arith, λ text count words l h. scanning-starts l words ((c .before) .args .e) h)
 
-entry-word-requires : tie.Need-entry-word-requires Inv-loop μ-loop
-entry-word-requires c κs = search needs
+kind-at-requires : tie.Need-kind-at-requires Inv-loop μ-loop
+kind-at-requires c κs = search needs
 
 token-word-requires : tie.Need-token-word-requires Inv-loop μ-loop
 token-word-requires c κs = search needs
 
 returns : tie.Need-returns Inv-loop μ-loop
-returns c = λ text count words l h. ap lengthIn ((c .token-word) .ensures) ∙ scanning-word l words ((c .before .before .before .before .loop) .i)
-    ((c .before .before .before .before .loop) .inv .1 text count words l h) (ap kindOf (sym ((c .before .before .entry-word) .ensures)) ∙ (c .before .if1) .taken)
+unfolding kindAt
+returns c =
+    let at-kind = c .before .before in
+    let at-loop = at-kind .before .before in
+    λ text count words l h. ap lengthIn (c .token-word .ensures) ∙ scanning-word l words (at-loop .loop .i) (at-loop .loop .inv .1 text count words l h)
+    (sym (at-kind .kind-at .ensures) ∙ c .before .if1 .taken)
 
 returns-2 : tie.Need-returns-2 Inv-loop μ-loop
-returns-2 c = λ text count words l h. sym (ap (min longest) (scanning-other l words ((c .before .before .before .before .loop) .i)
-    ((c .before .before .before .before .loop) .inv .1 text count words l h) (λ q. (c .before .if1) .left (ap kindOf ((c .before .before .entry-word) .ensures) ∙ q))
-    (λ q. (c .if2) .taken (ap kindOf ((c .before .before .entry-word) .ensures) ∙ q))))
+unfolding kindAt
+returns-2 c =
+    let at-kind = c .before .before in
+    let at-loop = at-kind .before .before in
+    λ text count words l h. sym (ap (min longest) (scanning-other l words (at-loop .loop .i) (at-loop .loop .inv .1 text count words l h)
+    (λ q. c .before .if1 .left (at-kind .kind-at .ensures ∙ q)) (λ q. c .if2 .taken (at-kind .kind-at .ensures ∙ q))))
 
 add-i-2 : tie.Need-add-i-2 Inv-loop μ-loop
 add-i-2 c = search needs
@@ -48,11 +55,14 @@ loop-less : tie.Need-loop-less Inv-loop μ-loop
 loop-less c = omega (arith, (c .before .before .before .loop-test) .taken)
 
 loop-again : tie.Need-loop-again Inv-loop μ-loop
-loop-again c = (
-  omega (arith, (c .before .before .before .loop-test) .taken),
-  λ text count words l h. scanning-more l words ((c .before .before .before .before .loop) .i)
-      ((c .before .before .before .before .loop) .inv .1 text count words l h) (ap kindOf (sym ((c .before .before .entry-word) .ensures)) ∙ (c .if2) .left),
-)
+unfolding kindAt
+loop-again c =
+    let at-kind = c .before .before in
+    let in-loop = at-kind .before in
+    let at-loop = in-loop .before in (
+      omega (arith, in-loop .loop-test .taken),
+      λ text count words l h. scanning-more l words (at-loop .loop .i) (at-loop .loop .inv .1 text count words l h) (sym (at-kind .kind-at .ensures) ∙ c .if2 .left),
+    )
 
 returns-3 : tie.Need-returns-3 Inv-loop μ-loop
 returns-3 c = λ text count words l h. sym (ap (min longest) (scanning-past l words ((c .before .loop) .i) ((c .before .loop) .inv .1 text count words l h) ((c .loop-test) .left)))
@@ -65,7 +75,7 @@ word-width-spec =
     μ-loop
     add-i
     loop-holds
-    entry-word-requires
+    kind-at-requires
     token-word-requires
     returns
     returns-2

@@ -12,7 +12,7 @@ use Rattle.reader.proofs.memories.+expand_checked_middle.Tie.{close}
 
 pub +expand-checked-middle-spec : {M : Type 1} → statement M
 +expand-checked-middle-spec = close (unmeasured ps) λ t. lts.spec (below ps own.Pre t, own.Post, in-reads.Asked, in-reads.Learnt) (at ps own.Pre t) own.Post
-    (λ c κs. absurd (not-more (c .before .before .before .before .before .before .before .before .before .before .pre .1) (c .before .before .if1 .taken)))
+    (λ c κs. let start = c .before .before .before .before .before .before .before .before .before .before in absurd (not-more (start .pre .1) (c .before .before .if1 .taken)))
     (λ c. search needs)
     (λ c. search needs)
     (λ c. search needs)
