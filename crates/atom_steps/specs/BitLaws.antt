@@ -29,7 +29,7 @@ use Rattle.operands.specs.Entries.{kindAt, placeAt}
 use Rattle.operands.specs.ClassLaws.{place-is}
 use Rattle.operands.specs.Operands.{below}
 use Rattle.operands.specs.Working.{Source}
-use Rattle.operands.specs.Shapes.{shapeOf}
+use Rattle.operands.specs.Makings.{makingOf}
 use Rattle.machine.specs.Phases as Phase
 use Rattle.machine.specs.Came.{Evaluate, Came, worth, nodes, works, asNumber, asValue}
 use Rattle.machine.specs.Frames.{Indexed, BitOf, apply}
@@ -51,7 +51,7 @@ use Rattle.machine.specs.OperandLaws.{topped-to-write-entry, operand-as, one-op
 use Rattle.machine.specs.declared.Machine.{Machine}
 use Rattle.machine.specs.declared.Move.the-variants.{Next, Refused as Refuses}
 use Rattle.machine.specs.Entering.{Expands, Waiting}
-use Rattle.machine.specs.EnteringLaws.{works-formula, operand-shape}
+use Rattle.machine.specs.EnteringLaws.{works-formula, operand-making}
 use Rattle.value_steps.specs.NameLaws.{note-first}
 use Rattle.atom_steps.specs.WriteLaws.{writes-after}
 use Rattle.atom_steps.specs.SignalLaws.{bit-in, bit-out, signal-fits, signal-wrote}
@@ -73,7 +73,7 @@ index-starts {s} {mem} {m} k =
       few-turns = omega arith;
       starting = λ R x o out n.
           let c = n .context in
-          let v = operand-shape (n .at .operand) (ap shapeOf kind) in
+          let v = operand-making (n .at .operand) (ap makingOf kind) in
           let t = v .0 in
           let a = v .1 in
           let p = operand-as (n .at .operand) {d = Index t a} (v .2) in
@@ -293,7 +293,7 @@ module _ {s : Source} {mem out : List ℕ} {m : Machine} (w : Waiting mem m Phas
               few = h .few;
               noted = h .noted;
               lasting = h .lasting;
-              less = weight-falls 35 25 (words h .entry) 0 (words h .count) (omega arith) se (h .at .phased);
+              less = weight-falls Phase.bitOf Phase.indexed (words h .entry) 0 (words h .count) (omega arith) se (h .at .phased);
               kept = tt;
               same = looks-up h ∙ ap (λ (q : Result Value). q >>= bus >>= bitAt (R .ports) (m .value) >>= nodes) (named h (b .defines))
                   ∙ body-same (R .ports) (m .value) (value (bc .values) be)

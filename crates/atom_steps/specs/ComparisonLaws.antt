@@ -21,7 +21,7 @@ use Rattle.sets.specs.Operators.{comparison}
 use Rattle.name_values.specs.World.{nameAt}
 use Rattle.operators.specs.Tables.{infixCodeAt}
 use Rattle.operands.specs.Entries.{kindAt, numberAt}
-use Rattle.operands.specs.ShapeLaws.{comparison-shape}
+use Rattle.operands.specs.MakingLaws.{comparison-making}
 use Rattle.operands.specs.Working.{Source}
 use Rattle.machine.specs.Phases as Phase
 use Rattle.machine.specs.Came.{Evaluate, Came, worth, nodes, works, asValue}
@@ -41,7 +41,7 @@ use Rattle.machine.specs.BindLaws.{take-value, then-nodes}
 use Rattle.machine.specs.declared.Machine.{Machine}
 use Rattle.machine.specs.declared.Move.the-variants.{Next, Refused as Refuses}
 use Rattle.machine.specs.Entering.{Expands, Waiting}
-use Rattle.machine.specs.EnteringLaws.{works-formula, operand-shape}
+use Rattle.machine.specs.EnteringLaws.{works-formula, operand-making}
 use Rattle.machine.specs.SameLaws.{same-truth}
 use Rattle.machine.specs.JoinedLaws.{joined-two, joined-op}
 use Rattle.atom_steps.specs.WriteLaws.{writes-after}
@@ -75,7 +75,7 @@ comparison-starts {s} {mem} {m} k =
       entry = omega arith;
       few-turns = omega arith;
       starting = λ R x o out n.
-          let v = operand-shape (n .at .operand) (comparison-shape (kindAt (s .work) (m .value)) (k .from) (k .until)) in
+          let v = operand-making (n .at .operand) (comparison-making (kindAt (s .work) (m .value)) (k .from) (k .until)) in
           let t = v .0 in
           let op = v .1 in
           let a = v .2 in

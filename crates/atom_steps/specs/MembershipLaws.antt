@@ -18,7 +18,7 @@ use Rattle.language.specs.Expansion.{truth, expansion}
 use Rattle.entries.specs.Kinds as Kind
 use Rattle.operands.specs.Entries.{kindAt}
 use Rattle.operands.specs.Working.{Source}
-use Rattle.operands.specs.Shapes.{shapeOf}
+use Rattle.operands.specs.Makings.{makingOf}
 use Rattle.memory_sets.specs.Places.{elementsAt, Placed}
 use Rattle.value_steps.specs.PlacedLaws.{elements-are, placed, spanOf, set-under}
 use Rattle.machine.specs.Phases as Phase
@@ -37,7 +37,7 @@ use Rattle.machine.specs.BindLaws.{take-number, take-set, then-nodes}
 use Rattle.machine.specs.declared.Machine.{Machine}
 use Rattle.machine.specs.declared.Move.the-variants.{Next}
 use Rattle.machine.specs.Entering.{Expands, Waiting}
-use Rattle.machine.specs.EnteringLaws.{works-formula, operand-shape}
+use Rattle.machine.specs.EnteringLaws.{works-formula, operand-making}
 use Rattle.machine.specs.SameLaws.{same-truth}
 use Rattle.machine.specs.JoinedLaws.{joined-two}
 use Rattle.atom_steps.specs.WriteLaws.{writes-after}
@@ -60,7 +60,7 @@ membership-starts {s} {mem} {m} k =
       entry = omega arith;
       few-turns = omega arith;
       starting = λ R x o out n.
-          let v = operand-shape (n .at .operand) (ap shapeOf kind) in
+          let v = operand-making (n .at .operand) (ap makingOf kind) in
           let a = v .1 in
           let b = v .2 in
           let two = joined-two R (n .at .operand) (v .3) in

@@ -1,5 +1,6 @@
 // Signals by the number of their declared name.
 use machine::NOTE;
+use machine::fields;
 use node::MAX_NODES;
 use writing::TOO_MANY;
 use writing::signal;
@@ -17,5 +18,5 @@ pub fn signal_at(memory: &[u32], r: usize, i: u32, table: &mut [u32; MAX_NODES],
     if MAX_NODES < at {
         return TOO_MANY;
     }
-    signal(memory[NOTE * r + 2] + i, table, at)
+    signal(memory[NOTE * r + fields::NOTE_ADDRESS] + i, table, at)
 }

@@ -41,6 +41,7 @@ use Rattle.machine.specs.declared.Machine.{Machine}
 use Rattle.machine.specs.declared.Move.{Move}
 use Rattle.machine.specs.declared.Move.the-variants.{Refused as Refuses}
 use Rattle.machine.specs.Entering.{Waiting}
+use Rattle.value_steps.specs.CombinedLaws.{answer}
 use Rattle.value_steps.specs.PlacedLaws.{elements-are, placed as set-placed}
 use Rattle.fold_steps.specs.SetFolds.{setwise, setwise-code, merge-same}
 use Rattle.fold_steps.specs.FoldPlaces.{high, sits-rests}
@@ -137,9 +138,6 @@ pub record Reads (s : Source) (mem : List ℕ) (m : Machine) (k i p la lc to : �
   pub folded-at : la ≡ getD mem (m .frames + 6) 0
   pub folded-count : lc ≡ getD mem (m .frames + 5) 0
   pub to-is : to ≡ m .frames - setWords
-
-abbrev answer : List ℕ → Machine → (la lc i p : ℕ) → Result (List ℕ)
-answer mem m la lc i p = limited p (combine (combination i) (elementsAt mem (record { at = la; count = lc })) (elementsAt mem (record { at = m .from; count = m .value })))
 
 -- the operand at a further element has come
 module _ {s : Source} {mem : List ℕ} {m : Machine} (w : Waiting mem m Phase.nextSet) where

@@ -1,6 +1,7 @@
 // The elements of a big operator's set, one after the other.
 use machine::Machine;
 use machine::Words;
+use machine::fields;
 use machine::frame;
 ghost use Prim.Native.Nat.{_+_, _-_, _≤_, _<_, _^_};
 ghost use lib.ListN.{length, getD};
@@ -47,7 +48,7 @@ pub fn begin(memory: &mut [u32], m: Machine, phase: u32, mode: u32) -> Machine
     let from = m.from;
     let w = Words {
         phase,
-        entry: memory[at + 1],
+        entry: memory[at + fields::ENTRY],
         base: m.top,
         at: from + 1,
         count: m.value - 1,
@@ -73,13 +74,13 @@ pub fn again(
         (getD (now (memory .entry)) (getD (now (memory .entry)) (m .frames + 3) 0) 0) mode top r ⌝ }
 {
     let at = m.frames;
-    let rest = memory[at + 3] as usize;
+    let rest = memory[at + fields::AT] as usize;
     let w = Words {
         phase,
-        entry: memory[at + 1],
-        base: memory[at + 2] as usize,
+        entry: memory[at + fields::ENTRY],
+        base: memory[at + fields::BASE] as usize,
         at: rest + 1,
-        count: memory[at + 4] - 1,
+        count: memory[at + fields::COUNT] - 1,
         value,
         other,
     };

@@ -17,7 +17,7 @@ use Rattle.language.specs.Expansion.{expansion}
 use Rattle.entries.specs.Kinds as Kind
 use Rattle.operators.specs.Tables.{infixCodeAt}
 use Rattle.operands.specs.Entries.{kindAt, numberAt}
-use Rattle.operands.specs.ShapeLaws.{connective-shape}
+use Rattle.operands.specs.MakingLaws.{connective-making}
 use Rattle.operands.specs.Working.{Source}
 use Rattle.machine.specs.Phases as Phase
 use Rattle.machine.specs.Came.{Expand, nodes, works, asFormula}
@@ -39,7 +39,7 @@ use Rattle.machine.specs.BindLaws.{take-formula, then-nodes}
 use Rattle.machine.specs.declared.Machine.{Machine}
 use Rattle.machine.specs.declared.Move.the-variants.{Next}
 use Rattle.machine.specs.Entering.{Expands, Waiting}
-use Rattle.machine.specs.EnteringLaws.{works-formula, operand-shape}
+use Rattle.machine.specs.EnteringLaws.{works-formula, operand-making}
 
 -- the clause as its frames have it
 connective-same : (o : Binary) (a b : Result Formula) → ((a >>= λ f. b >>= λ g. Done (Two o f g)) >>= nodes) ≡ ((a >>= nodes) >>= λ v. asFormula v >>= λ f. (b >>= nodes) >>= connected o f)
@@ -55,7 +55,7 @@ connective-starts {s} {mem} {m} k =
       entry = omega arith;
       few-turns = omega arith;
       starting = λ R x o out n.
-          let v = operand-shape (n .at .operand) (connective-shape (kindAt (s .work) (m .value)) (k .from) (k .until)) in
+          let v = operand-making (n .at .operand) (connective-making (kindAt (s .work) (m .value)) (k .from) (k .until)) in
           let t = v .0 in
           let op = v .1 in
           let a = v .2 in

@@ -72,10 +72,10 @@ bus-misfit ps t m n h = go (eqb n 0) refl
 other-sort : (v : ℕ) → v ≤ Sort.nothing → (v ≡ Sort.number → ⊥) → (v ≡ Sort.body → ⊥) → (v ≡ Sort.bus → ⊥) → (v ≡ Sort.signal → ⊥) → (v ≡ Sort.set → ⊥) → (v ≡ Sort.nothing → ⊥) → v ≡ Sort.identifier
 other-sort v l a b c d e f = upper (lower a b c)
   where
-    lower : (v ≡ Sort.number → ⊥) → (v ≡ Sort.body → ⊥) → (v ≡ Sort.bus → ⊥) → 3 ≤ v
+    lower : (v ≡ Sort.number → ⊥) → (v ≡ Sort.body → ⊥) → (v ≡ Sort.bus → ⊥) → Sort.signal ≤ v
     lower a b c = omega arith
 
-    upper : 3 ≤ v → v ≡ Sort.identifier
+    upper : Sort.signal ≤ v → v ≡ Sort.identifier
     upper h = omega arith
 
 module _ {s : Source} {mem out : List ℕ} {m : Machine} (k : Expands (s .work) m Kind.named Kind.numeral) {r : ℕ} (er : r ≡ getD (s .refs) (m .value) 0) where

@@ -40,7 +40,7 @@ use Rattle.machine.specs.Cost.{price, price-some, price-suc, times-none, weight
 use Rattle.machine.specs.Holding.{formsOf}
 use Rattle.machine.specs.Telling.{isNumber}
 use Rattle.machine.specs.TableLaws.{laid-as}
-use Rattle.machine.specs.States.{modeOf, written, Topped, Takes}
+use Rattle.machine.specs.States.{written, Topped, Takes}
 use Rattle.machine.specs.ComeLaws.{came-number}
 use Rattle.machine.specs.FrameViews.{by-phase}
 use Rattle.machine.specs.TakeLaws.{words, entry-word, base-word, count-word, value-word, goes, top-phase, top-as}
@@ -49,6 +49,7 @@ use Rattle.machine.specs.OperandLaws.{topped-entry}
 use Rattle.machine.specs.declared.Machine.{Machine}
 use Rattle.machine.specs.declared.Move.the-variants.{Next}
 use Rattle.machine.specs.Entering.{Waiting}
+use Rattle.value_steps.specs.Moves.{onward}
 use Rattle.set_steps.specs.MakingLaws.{makes}
 use Rattle.set_steps.specs.Making.{made}
 use Rattle.set_steps.specs.Braces.{elementAt, Elementary}
@@ -107,7 +108,7 @@ next-same p c a b ns n = bind-at n (λ i. value (c .values) (Element a b) >>= se
     ∙ brace-same (value (c .values) a) (value (c .values) b >>= set) (λ l. limited p (inserts ns (insert n l)) >>= λ y. worth (Set y))
     (λ j l. limited p (inserts (ns ++ (n ∷ [])) (insert j l)) >>= λ y. worth (Set y)) (λ j l. ap (λ (u : List ℕ). limited p u >>= λ y. worth (Set y)) (inserts-more ns n (insert j l)))
 
-brace-less : (i j c d : ℕ) {p : ℕ} → 0 < j → i ≡ j - 1 → p ≡ 8 → weight 8 i c + price i < weight p j d
+brace-less : (i j c d : ℕ) {p : ℕ} → 0 < j → i ≡ j - 1 → p ≡ Phase.elements → weight Phase.elements i c + price i < weight p j d
 brace-less i (suc j) c d l e q =
     let a = price-suc j in
     let b = price-some j in
@@ -115,10 +116,6 @@ brace-less i (suc j) c d l e q =
     let v = times-none (suc j) in
     let z : i ≡ j = omega arith in
     rw (q, z) (omega arith)
-
--- the next state where another element is worked out
-abbrev pub gathering : Machine → (j top : ℕ) → Machine
-gathering m j top = record { mode = modeOf Evaluate; value = j; from = 0; scope = m .scope; depth = m .depth; top = top; frames = m .frames; nodes = m .nodes }
 
 module _ {s : Source} {mem : List ℕ} {m : Machine} (w : Waiting mem m Phase.elements) (e : m .mode ≡ isNumber) {j base count k : ℕ} (ej : j ≡ getD mem (m .frames + 1) 0) (eb : base ≡ getD mem (m .frames + 2) 0)
     (ec : count ≡ getD mem (m .frames + 4) 0) (ek : k ≡ getD mem (m .frames + 5) 0) where
@@ -171,8 +168,8 @@ module _ {s : Source} {mem : List ℕ} {m : Machine} (w : Waiting mem m Phase.el
   -- the next is worked out
   pub element-goes : {mem' : List ℕ} {d : ℕ} → kindAt (s .work) (j - 1) ≡ Kind.element → d ≡ elementAt (s .work) (j - 1)
       → Framed (store mem (base + count) (m .value)) mem' (m .frames) (record { phase = Phase.elements; entry = j - 1; base = base; at = base; count = count + 1; value = k; other = 0 })
-      → Takes s mem mem' m (Next (gathering m d (base + count + 1)))
-  element-goes {mem'} q ed f = takes-next (ap (λ (y : ℕ). gathering m y (base + count + 1)) ed) (record {
+      → Takes s mem mem' m (Next (onward m d (base + count + 1)))
+  element-goes {mem'} q ed f = takes-next (ap (λ (y : ℕ). onward m y (base + count + 1)) ed) (record {
     turns = λ R x o out t.
         let v = by-phase (t .frame) Phase.elements (top-phase t ∙ w .phase) in
         let p = v .0 in

@@ -27,9 +27,9 @@ use Rattle.machine.specs.Moves.{came}
 use Rattle.machine.specs.ComeLaws.{came-number, number-then}
 use Rattle.machine.specs.FrameViews.{by-phase}
 use Rattle.machine.specs.TakeLaws.{entry-word, value-word, other-word, top-phase, top-as}
-use Rattle.machine.specs.Openings.{Renewed}
+use Rattle.machine.specs.Openings.{Preceded, entryAt, Renewed, RenewedBefore}
 use Rattle.machine.specs.StartLaws.{StartsThree}
-use Rattle.machine.specs.RenewLaws.{follows-last, follows-before}
+use Rattle.machine.specs.RenewLaws.{topped-before, follows-last, follows-before}
 use Rattle.machine.specs.FlatLaws.{flat-top}
 use Rattle.machine.specs.BindLaws.{take-number, then-worth, set-last}
 use Rattle.machine.specs.OperandLaws.{operand-view, operand-as, three-operands}
@@ -84,15 +84,14 @@ stepping-starts {s} {mem} {m} k =
 
 -- the first number has come
 module _ {s : Source} {mem : List ℕ} {m : Machine} (w : Waiting mem m Phase.rangeFirst) where
-  pub first-inside : Topped s mem m → sizeAt (s .work) (getD mem (m .frames + 1) 0 - 1) < getD mem (m .frames + 1) 0
-  first-inside t =
+  pub first-before : Topped s mem m → Preceded (s .work) (entryAt mem m) 0
+  first-before t =
       let v = by-phase (t .top .frame) Phase.rangeFirst (top-phase (t .top) ∙ w .phase) in
       let h = top-as (t .top) (v .4) in
-      subst (λ (j : ℕ). sizeAt (s .work) (j - 1) < j) (sym (entry-word h)) (h .at .waits .1 .0)
+      topped-before t (subst (λ (j : ℕ). sizeAt (s .work) (j - 1) < j) (sym (entry-word h)) (h .at .waits .1 .0))
 
-  pub first-steps : m .mode ≡ isNumber → {mem' : List ℕ} {z : ℕ} {n u : Machine} → Renewed mem mem' m Phase.rangeSecond 0 (m .value) 0 (modeOf Evaluate) n
-      → z ≡ sizeAt (s .work) (n .value) → u ≡ came n (modeOf Evaluate) (n .value - z) 0 → Takes s mem mem' m (Next u)
-  first-steps e q ez eu = record {
+  pub first-steps : m .mode ≡ isNumber → {mem' : List ℕ} {n : Machine} → RenewedBefore (s .work) mem mem' m Phase.rangeSecond (m .value) (modeOf Evaluate) n → Takes s mem mem' m (Next n)
+  first-steps e q = record {
     turns = λ R x o out t.
         let v = by-phase (t .frame) Phase.rangeFirst (top-phase t ∙ w .phase) in
         let p = v .0 in
@@ -101,7 +100,7 @@ module _ {s : Source} {mem : List ℕ} {m : Machine} (w : Waiting mem m Phase.ra
         let d = v .3 in
         let h = top-as t (v .4) in
         let n = came-number R o mem m (h .came) (h .come) e in
-        follows-before h {G = RangeSecond p c d (m .value)} {a = Evaluate} {c = c} {e = b} q ez eu (record {
+        follows-before h {G = RangeSecond p c d (m .value)} {a = Evaluate} {c = c} {e = b} q (record {
           held-nothing = refl;
           holds-no-words = refl;
           keeps-formula = ap (written (m .nodes)) (n .same);

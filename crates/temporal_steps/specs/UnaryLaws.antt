@@ -19,7 +19,7 @@ use Rattle.entries.specs.Kinds as Kind
 use Rattle.name_values.specs.KnownLaws.{known-prefixed}
 use Rattle.operators.specs.Tables.{prefixCodeAt}
 use Rattle.operands.specs.Entries.{kindAt, numberAt}
-use Rattle.operands.specs.ShapeLaws.{unary-shape}
+use Rattle.operands.specs.MakingLaws.{unary-making}
 use Rattle.operands.specs.Working.{Source}
 use Rattle.machine.specs.Phases as Phase
 use Rattle.machine.specs.Came.{Expand, nodes, asFormula}
@@ -39,7 +39,7 @@ use Rattle.machine.specs.OperandLaws.{operand-as, one-operand}
 use Rattle.machine.specs.declared.Machine.{Machine}
 use Rattle.machine.specs.declared.Move.the-variants.{Next}
 use Rattle.machine.specs.Entering.{Expands, Waiting}
-use Rattle.machine.specs.EnteringLaws.{works-formula, operand-shape}
+use Rattle.machine.specs.EnteringLaws.{works-formula, operand-making}
 
 -- the clause as its frame has it
 unary-same : (o : Unary) (a : Result Formula) → ((a >>= λ f. Done (One o f)) >>= nodes) ≡ ((a >>= nodes) >>= λ v. asFormula v >>= λ f. nodes (One o f))
@@ -53,7 +53,7 @@ unary-starts {s} {mem} {m} k =
       entry = omega arith;
       few-turns = omega arith;
       starting = λ R x o out n.
-          let v = operand-shape (n .at .operand) (unary-shape (kindAt (s .work) (m .value)) (k .from) (k .until)) in
+          let v = operand-making (n .at .operand) (unary-making (kindAt (s .work) (m .value)) (k .from) (k .until)) in
           let t = v .0 in
           let op = v .1 in
           let a = v .2 in

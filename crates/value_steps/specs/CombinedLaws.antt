@@ -157,7 +157,8 @@ pub record Lowers (mem : List ℕ) (base to n : ℕ) : Type 0 where
   pub down : base ≤ to
   pub inside : to + n ≤ length mem
 
-abbrev answer : List ℕ → Machine → (la lc i p : ℕ) → Result (List ℕ)
+-- what the two sets come to
+abbrev pub answer : List ℕ → Machine → (la lc i p : ℕ) → Result (List ℕ)
 answer mem m la lc i p = limited p (combine (combination i) (elementsAt mem (record { at = la; count = lc })) (elementsAt mem (record { at = m .from; count = m .value })))
 
 -- a frame of this phase

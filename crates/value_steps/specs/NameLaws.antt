@@ -25,7 +25,7 @@ use Rattle.operands.specs.Classes.{classOf}
 use Rattle.operands.specs.ClassLaws.{place-is}
 use Rattle.operands.specs.Working.{Source}
 use Rattle.machine.specs.Phases as Phase
-use Rattle.machine.specs.Came.{Evaluate, Came, Worth, worth, works}
+use Rattle.machine.specs.Came.{Evaluate, Expand, Came, Worth, worth, works}
 use Rattle.machine.specs.Frames.{KeepValue}
 use Rattle.machine.specs.Realm.{Realm}
 use Rattle.machine.specs.Memory.{noteWords, noteAt, Held, inKept}
@@ -104,7 +104,7 @@ note-inside h l =
     omega arith
 
 -- the entry's reference can be read
-pub reference-inside : {s : Source} {mem : List ℕ} {m : Machine} → Ready s mem m → m .mode ≤ 1 → m .value < length (s .refs)
+pub reference-inside : {s : Source} {mem : List ℕ} {m : Machine} → Ready s mem m → m .mode ≤ modeOf Expand → m .value < length (s .refs)
 reference-inside h l = let e = entry-few (entered (h .state) l) in let f = h .lent .refs in omega arith
 
 pub note-first : (mem : List ℕ) (r : ℕ) → getD mem (noteWords * r) 0 ≡ noteAt mem r 0

@@ -1,5 +1,5 @@
 use native.Mathlib.Omega.{arith}
-use Rattle.operands.specs.ShapeLaws.{misfit-measures, misfit-values}
+use Rattle.operands.specs.MakingLaws.{misfit-measures, misfit-values}
 use Rattle.machine_run.specs.ChoosingLaws.{formless}
 use borrow.Author.Needs.{needs}
 use Rattle.machine_run.proofs.formulas.operator.Statement.{statement}

@@ -3,6 +3,7 @@ use Prim.Native.Nat.{_+_}
 use mathlib.Core.Path.{refl, ap, _∙_}
 use lib.ListN.{length, getD, length-set}
 use native.Mathlib.Omega.{arith}
+use Rattle.machine.specs.Memory.{freeWord, slotsWord}
 use Rattle.machine.specs.ContractLaws.{takes-next}
 use Rattle.value_steps.specs.ReleaseLaws.{takes-in}
 use Rattle.value_steps.specs.Moves.{released}
@@ -58,7 +59,7 @@ note-requires c κs =
     let at-if1 = c .before .if1 in
     let k = keep-name (start .pre .1 .0) (start .pre .0) refl in
     let e = at-if1 .taken in
-    (k .declared, k .inside, omega (arith, at-slice-known4 .given 1024))
+    (k .declared, k .inside, omega (arith, at-slice-known4 .given freeWord))
 
 released-requires : tie.Need-released-requires
 released-requires c κs = search needs
@@ -109,7 +110,7 @@ cast-memory : tie.Need-cast-memory
 cast-memory c =
     let at-slice-known6 = c .before .before .before .before .before .before .slice-known6 in
     let at-if2 = c .before .before .before .before .before .if2 in
-    let e = at-if2 .left in omega (arith, at-slice-known6 .given 1025)
+    let e = at-if2 .left in omega (arith, at-slice-known6 .given slotsWord)
 
 slice-write-memory : tie.Need-slice-write-memory
 slice-write-memory c =
@@ -131,7 +132,7 @@ note-requires-2 c κs =
     let k = keep-name (start .pre .1 .0) (start .pre .0) refl in
     let i = k .inside in
     let l = at-lower .ensures .kept .len in
-    (k .declared, simp length-set (omega arith), omega (arith, at-slice-known4 .given 1024))
+    (k .declared, simp length-set (omega arith), omega (arith, at-slice-known4 .given freeWord))
 
 came-requires : tie.Need-came-requires
 came-requires c κs = search needs
