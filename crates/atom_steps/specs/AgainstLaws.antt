@@ -30,6 +30,7 @@ use Rattle.operators.specs.Codes.{comparisonCode}
 use Rattle.operators.specs.Tables.{infixCodeAt}
 use Rattle.operands.specs.Entries.{numberAt}
 use Rattle.operands.specs.Working.{Source}
+use Rattle.machine.specs.Fields.{entryField, noteNumber, noteAddress}
 use Rattle.machine.specs.Phases as Phase
 use Rattle.machine.specs.Came.{Came, nodes}
 use Rattle.machine.specs.Frames.{apply}
@@ -71,9 +72,9 @@ by-width (suc (suc k)) l ps b ws = absurd (omega arith)
 
 -- what the code reads: the notes of both names, where the identifier's words end
 pub record Reads (s : Source) (mem : List ℕ) (b i width first entry end : ℕ) : Type 0 where
-  pub width-is : width ≡ noteAt mem b 1
-  pub first-is : first ≡ noteAt mem b 2
-  pub entry-is : entry ≡ noteAt mem i 1
+  pub width-is : width ≡ noteAt mem b noteNumber
+  pub first-is : first ≡ noteAt mem b noteAddress
+  pub entry-is : entry ≡ noteAt mem i noteNumber
   pub end-is : end ≡ wordsEnd (s .work) entry
 
 module _ {s : Source} {mem out : List ℕ} {m : Machine} {place b i : ℕ} (q : Faces s mem out m place b i) where
@@ -94,23 +95,23 @@ module _ {s : Source} {mem out : List ℕ} {m : Machine} {place b i : ℕ} (q : 
       record { bus = note-under h (z .bus); choice = note-under h (z .choice); bus-name = z .bus; choice-name = z .choice }
 
   -- so can the words
-  pub against-entry : ToppedToWrite s mem out m → {entry : ℕ} → entry ≡ noteAt mem i 1 → entry < maxTokens
+  pub against-entry : ToppedToWrite s mem out m → {entry : ℕ} → entry ≡ noteAt mem i noteNumber → entry < maxTokens
   against-entry t {entry} e =
       let z = faced-in t in
       let h = z .top in
       let f = noted-identifier (h .noted .facts i (z .choice)) (z .choice-means) .fits in
       omega arith
 
-  pub against-readable : ToppedToWrite s mem out m → {entry end : ℕ} → entry ≡ noteAt mem i 1 → end ≡ wordsEnd (s .work) entry → Readable (s .work) end
+  pub against-readable : ToppedToWrite s mem out m → {entry end : ℕ} → entry ≡ noteAt mem i noteNumber → end ≡ wordsEnd (s .work) entry → Readable (s .work) end
   against-readable t {entry} {end} e d =
       let l = against-entry t e in
       let z = end-bound (s .work) Kind.word (entry + 1) (omega arith) in
       record { room = t .lent .work; few = omega arith }
 
-  pub against-first : ToppedToWrite s mem out m → {first : ℕ} → first ≡ noteAt mem b 2 → m .nodes ≤ maxNodes → first ≤ maxSignals
+  pub against-first : ToppedToWrite s mem out m → {first : ℕ} → first ≡ noteAt mem b noteAddress → m .nodes ≤ maxNodes → first ≤ maxSignals
   against-first t e l = let z = faced-in t in let g = signals-here (z .top) l .bus b (z .width) (z .bus) (z .bus-means) .1 in omega arith
 
-  module _ {op : ℕ} (eo : op ≡ infixCodeAt (numberAt (s .work) (getD mem (m .frames + 1) 0))) where
+  module _ {op : ℕ} (eo : op ≡ infixCodeAt (numberAt (s .work) (getD mem (m .frames + entryField) 0))) where
     module _ {R : Realm s} {x : Result Came} {o : Began} (t : Top R mem out m x o) where
       faced : Faced R mem out m x o place b i
       faced = q .faced R x o t

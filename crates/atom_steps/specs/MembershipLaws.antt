@@ -21,6 +21,7 @@ use Rattle.operands.specs.Working.{Source}
 use Rattle.operands.specs.Makings.{makingOf}
 use Rattle.memory_sets.specs.Places.{elementsAt, Placed}
 use Rattle.value_steps.specs.PlacedLaws.{elements-are, placed, spanOf, set-under}
+use Rattle.machine.specs.Fields.{valueField}
 use Rattle.machine.specs.Phases as Phase
 use Rattle.machine.specs.Came.{Evaluate, worth, nodes, works, asNumber}
 use Rattle.machine.specs.Frames.{Member, Among, among, apply}
@@ -110,7 +111,7 @@ module _ {s : Source} {mem out : List ℕ} {m : Machine} (w : Waiting mem m Phas
         let g = came-set (t .realm) (t .began) mem m (h .came) (h .come) e in
         placed mem (spanOf m) (g .set) (g .held) (g .count) (g .fine) (set-under h e)
 
-    pub among-steps : {i r n : ℕ} {b : Bool} {out' : List ℕ} → i ≡ getD mem (m .frames + 5) 0 → b ≡ memberOf (elementsAt mem (spanOf m)) i → Wrote (Writing.truth b) out out' (m .nodes) r
+    pub among-steps : {i r n : ℕ} {b : Bool} {out' : List ℕ} → i ≡ getD mem (m .frames + valueField) 0 → b ≡ memberOf (elementsAt mem (spanOf m)) i → Wrote (Writing.truth b) out out' (m .nodes) r
         → n ≡ min r (suc maxNodes) → TakesToWrite s mem mem out out' m (Next (wrote (popped m) n))
     among-steps {i} {r} {n} {b} {out'} ei eb q en = record {
       turns = λ R x o t.

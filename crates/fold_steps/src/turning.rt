@@ -8,6 +8,7 @@ ghost use lib.ListN.{length, getD};
 ghost use Rattle.machine.specs.Memory.{frameWords};
 ghost use Rattle.machine.specs.Moves.{above as above'};
 ghost use Rattle.fold_steps.specs.Turning.{Turns, Beginning, begun, Continuing, wordsAt, nextAt};
+ghost use Rattle.machine.specs.Fields.{atField};
 
 // An element goes into the slot of the operator's name, the frame is written anew, and the operand, at the entry before the operator's, is worked out above `top`.
 pub fn turn(
@@ -71,7 +72,7 @@ pub fn again(
 ) -> Machine
     requires { ⌜ Continuing (now memory) m other ⌝ }
     ensures { λ r. ⌜ Turns (now (memory .entry)) (now (memory .exit)) m (nextAt (wordsAt (now (memory .entry)) (m .frames)) phase value other) (m .depth - 1)
-        (getD (now (memory .entry)) (getD (now (memory .entry)) (m .frames + 3) 0) 0) mode top r ⌝ }
+        (getD (now (memory .entry)) (getD (now (memory .entry)) (m .frames + atField) 0) 0) mode top r ⌝ }
 {
     let at = m.frames;
     let rest = memory[at + fields::AT] as usize;

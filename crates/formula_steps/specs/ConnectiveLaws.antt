@@ -19,6 +19,7 @@ use Rattle.operators.specs.Tables.{infixCodeAt}
 use Rattle.operands.specs.Entries.{kindAt, numberAt}
 use Rattle.operands.specs.MakingLaws.{connective-making}
 use Rattle.operands.specs.Working.{Source}
+use Rattle.machine.specs.Fields.{entryField, valueField}
 use Rattle.machine.specs.Phases as Phase
 use Rattle.machine.specs.Came.{Expand, nodes, works, asFormula}
 use Rattle.machine.specs.Frames.{LeftFormula, RightFormula, connected, apply}
@@ -100,14 +101,14 @@ module _ {s : Source} {mem : List ℕ} {m : Machine} (w : Waiting mem m Phase.le
 
 -- the right operand has come
 module _ {s : Source} {mem out : List ℕ} {m : Machine} (w : Waiting mem m Phase.rightFormula) where
-  pub right-small : ToppedToWrite s mem out m → infixCodeAt (numberAt (s .work) (getD mem (m .frames + 1) 0)) < 16
+  pub right-small : ToppedToWrite s mem out m → infixCodeAt (numberAt (s .work) (getD mem (m .frames + entryField) 0)) < 16
   right-small t =
       let v = by-phase (t .top .frame) Phase.rightFormula (top-phase (t .top) ∙ w .phase) in
       let h = top-as (t .top) (v .3) in
       let e = ap (λ (j : ℕ). infixCodeAt (numberAt (s .work) j)) (entry-word h) ∙ h .at .waits .1 .spelt in
       subst (λ (j : ℕ). j < 16) (sym e) (binary-small (v .0))
 
-  pub right-steps : m .mode ≡ isNodes → {k op a r n : ℕ} {out' : List ℕ} → k ≡ getD mem (m .frames + 1) 0 → op ≡ infixCodeAt (numberAt (s .work) k) → a ≡ getD mem (m .frames + 5) 0
+  pub right-steps : m .mode ≡ isNodes → {k op a r n : ℕ} {out' : List ℕ} → k ≡ getD mem (m .frames + entryField) 0 → op ≡ infixCodeAt (numberAt (s .work) k) → a ≡ getD mem (m .frames + valueField) 0
       → Joins op out out' a (m .nodes) r → n ≡ min r (suc maxNodes) → TakesToWrite s mem mem out out' m (Next (wrote (popped m) n))
   right-steps e {k} {op} {a} {r} {n} {out'} ek eo ea j en = record {
     turns = λ R x o t.

@@ -5,6 +5,7 @@ use mathlib.Core.Path.{_≡_}
 use lib.ListN.{length, getD}
 use Rattle.language.specs.Limits.{maxTokens, workBytes}
 use Rattle.operands.specs.Entries.{sizeAt}
+use Rattle.machine.specs.Fields.{entryField}
 use Rattle.machine.specs.Memory.{frameWords, spare, reserve, Framed}
 use Rattle.machine.specs.Moves.{came}
 use Rattle.machine.specs.declared.Words.{Words}
@@ -86,7 +87,7 @@ pub record PrecededByThree (work : List ℕ) (k : ℕ) : Type 0 where
 
 -- the entry of the last frame, which is written anew with what it keeps; the operand at the entry before is worked out
 abbrev pub entryAt : List ℕ → Machine → ℕ
-entryAt mem m = getD mem (m .frames + 1) 0
+entryAt mem m = getD mem (m .frames + entryField) 0
 
 abbrev pub keptWords : Machine → (phase k at value other : ℕ) → Words
 keptWords m phase k at value other = record { phase = phase; entry = k; base = m .top; at = at; count = 0; value = value; other = other }

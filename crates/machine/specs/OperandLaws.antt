@@ -20,6 +20,7 @@ use Rattle.operands.specs.Classes.{Class, classOf, View, view}
 use Rattle.operands.specs.ClassLaws.{has-entry, expr-kind, size-is}
 use Rattle.operands.specs.Operands.{below}
 use Rattle.operands.specs.Working.{Source}
+use Rattle.machine.specs.Fields.{entryField}
 use Rattle.machine.specs.Realm.{Operand}
 use Rattle.machine.specs.Came.{Expand}
 use Rattle.machine.specs.States.{modeOf, Ready, Topped, ToppedToWrite}
@@ -34,8 +35,8 @@ ready-entry h l = (entry-few (entered (h .state) l), h .lent .work)
 
 -- so can that of the last frame
 pub record FrameEntry (s : Source) (mem : List ℕ) (m : Machine) : Type 0 where
-  pub some : 0 < getD mem (m .frames + 1) 0
-  pub few : getD mem (m .frames + 1) 0 < maxTokens
+  pub some : 0 < getD mem (m .frames + entryField) 0
+  pub few : getD mem (m .frames + entryField) 0 < maxTokens
   pub work : workBytes ≤ length (s .work)
 
 pub topped-entry : {s : Source} {mem : List ℕ} {m : Machine} → Topped s mem m → FrameEntry s mem m

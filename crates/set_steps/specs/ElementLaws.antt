@@ -29,6 +29,7 @@ use Rattle.operands.specs.Working.{Source}
 use Rattle.memory_sets.specs.PlaceLaws.{outside-both}
 use Rattle.memory_sets.specs.PlacedLaws.{setOf-sane}
 use Rattle.memory_sets.specs.Sorting.{setOf, Numbers, SortedAt}
+use Rattle.machine.specs.Fields.{entryField, baseField, countField, valueField}
 use Rattle.machine.specs.Phases as Phase
 use Rattle.machine.specs.Came.{Evaluate, Came, Worth, worth, works}
 use Rattle.machine.specs.Frames.{Elements, apply, inserts}
@@ -62,12 +63,12 @@ pub record Fitting (mem : List ℕ) (m : Machine) (base count k : ℕ) : Type 0 
   pub inside : m .frames + frameWords ≤ length mem
   pub place : k < maxTokens
 
-pub element-few : {s : Source} {mem : List ℕ} {m : Machine} → Topped s mem m → {j i : ℕ} → j ≡ getD mem (m .frames + 1) 0 → i ≡ elementAt (s .work) (j - 1) → i < maxTokens
+pub element-few : {s : Source} {mem : List ℕ} {m : Machine} → Topped s mem m → {j i : ℕ} → j ≡ getD mem (m .frames + entryField) 0 → i ≡ elementAt (s .work) (j - 1) → i < maxTokens
 element-few {s} t {j} ej ei = let f = topped-entry t .few in let l = element-small (s .work) (j - 1) in omega arith
 
 -- an element has come
 module _ {s : Source} {mem : List ℕ} {m : Machine} (w : Waiting mem m Phase.elements) where
-  pub element-fits : Topped s mem m → Fitting mem m (getD mem (m .frames + 2) 0) (getD mem (m .frames + 4) 0) (getD mem (m .frames + 5) 0)
+  pub element-fits : Topped s mem m → Fitting mem m (getD mem (m .frames + baseField) 0) (getD mem (m .frames + countField) 0) (getD mem (m .frames + valueField) 0)
   element-fits t =
       let v = by-phase (t .top .frame) Phase.elements (top-phase (t .top) ∙ w .phase) in
       let h = top-as (t .top) (v .4) in
@@ -82,7 +83,7 @@ module _ {s : Source} {mem : List ℕ} {m : Machine} (w : Waiting mem m Phase.el
       let f = h .at .waits .few in
       record { room = omega arith; inside = h .at .inside; place = omega arith }
 
-  pub element-elementary : Topped s mem m → {j : ℕ} → j ≡ getD mem (m .frames + 1) 0 → kindAt (s .work) (j - 1) ≡ Kind.element → Elementary (s .work) (j - 1)
+  pub element-elementary : Topped s mem m → {j : ℕ} → j ≡ getD mem (m .frames + entryField) 0 → kindAt (s .work) (j - 1) ≡ Kind.element → Elementary (s .work) (j - 1)
   element-elementary t {j} ej q =
       let v = by-phase (t .top .frame) Phase.elements (top-phase (t .top) ∙ w .phase) in
       let h = top-as (t .top) (v .4) in
@@ -117,8 +118,8 @@ brace-less i (suc j) c d l e q =
     let z : i ≡ j = omega arith in
     rw (q, z) (omega arith)
 
-module _ {s : Source} {mem : List ℕ} {m : Machine} (w : Waiting mem m Phase.elements) (e : m .mode ≡ isNumber) {j base count k : ℕ} (ej : j ≡ getD mem (m .frames + 1) 0) (eb : base ≡ getD mem (m .frames + 2) 0)
-    (ec : count ≡ getD mem (m .frames + 4) 0) (ek : k ≡ getD mem (m .frames + 5) 0) where
+module _ {s : Source} {mem : List ℕ} {m : Machine} (w : Waiting mem m Phase.elements) (e : m .mode ≡ isNumber) {j base count k : ℕ} (ej : j ≡ getD mem (m .frames + entryField) 0) (eb : base ≡ getD mem (m .frames + baseField) 0)
+    (ec : count ≡ getD mem (m .frames + countField) 0) (ek : k ≡ getD mem (m .frames + valueField) 0) where
   pub element-numbers : Topped s mem m → Numbers (store mem (base + count) (m .value)) base (count + 1)
   element-numbers t =
       let v = by-phase (t .top .frame) Phase.elements (top-phase (t .top) ∙ w .phase) in

@@ -16,6 +16,7 @@ use Rattle.operands.specs.Entries.{kindAt, sizeAt, placeAt}
 use Rattle.operands.specs.Classes.{classOf}
 use Rattle.operands.specs.Working.{Source}
 use Rattle.memory_sets.specs.Places.{SetAt}
+use Rattle.machine.specs.Fields.{entryField, valueField, otherField}
 use Rattle.machine.specs.Phases as Phase
 use Rattle.machine.specs.Came.{Evaluate, worth, works, asNumber}
 use Rattle.machine.specs.Frames.{RangeFirst, RangeSecond, RangeLast, ranged, ranging}
@@ -115,7 +116,7 @@ module _ {s : Source} {mem : List ℕ} {m : Machine} (w : Waiting mem m Phase.ra
 
 -- the second number has come
 module _ {s : Source} {mem : List ℕ} {m : Machine} (w : Waiting mem m Phase.rangeSecond) where
-  pub second-steps : m .mode ≡ isNumber → {mem' : List ℕ} {a : ℕ} {n : Machine} → a ≡ getD mem (m .frames + 5) 0 → Renewed mem mem' m Phase.rangeLast 0 a (m .value) (modeOf Evaluate) n → Takes s mem mem' m (Next n)
+  pub second-steps : m .mode ≡ isNumber → {mem' : List ℕ} {a : ℕ} {n : Machine} → a ≡ getD mem (m .frames + valueField) 0 → Renewed mem mem' m Phase.rangeLast 0 a (m .value) (modeOf Evaluate) n → Takes s mem mem' m (Next n)
   second-steps e ea q = record {
     turns = λ R x o out t.
         let v = by-phase (t .frame) Phase.rangeSecond (top-phase t ∙ w .phase) in
@@ -140,8 +141,8 @@ module _ {s : Source} {mem : List ℕ} {m : Machine} (w : Waiting mem m Phase.ra
 
 -- the last number has come
 module _ {s : Source} {mem : List ℕ} {m : Machine} (w : Waiting mem m Phase.rangeLast) where
-  pub last-steps : m .mode ≡ isNumber → {mem' : List ℕ} {k p a b : ℕ} (r : Worked) → k ≡ getD mem (m .frames + 1) 0 → p ≡ placeAt (s .work) k → a ≡ getD mem (m .frames + 5) 0
-      → b ≡ getD mem (m .frames + 6) 0 → SetAt mem mem' (m .top) r (range p a b (m .value)) → Takes s mem mem' m (made m (m .top) r)
+  pub last-steps : m .mode ≡ isNumber → {mem' : List ℕ} {k p a b : ℕ} (r : Worked) → k ≡ getD mem (m .frames + entryField) 0 → p ≡ placeAt (s .work) k → a ≡ getD mem (m .frames + valueField) 0
+      → b ≡ getD mem (m .frames + otherField) 0 → SetAt mem mem' (m .top) r (range p a b (m .value)) → Takes s mem mem' m (made m (m .top) r)
   last-steps e {mem'} {k} {p} {a} {b} r ek ep ea eb g = record {
     turns = λ R x o out t.
         let v = by-phase (t .frame) Phase.rangeLast (top-phase t ∙ w .phase) in

@@ -19,6 +19,7 @@ use Rattle.name_values.specs.KnownLaws.{known-nexts}
 use Rattle.operands.specs.Entries.{kindAt}
 use Rattle.operands.specs.Makings.{aRepetition, makingOf}
 use Rattle.operands.specs.Working.{Source}
+use Rattle.machine.specs.Fields.{valueField}
 use Rattle.machine.specs.Phases as Phase
 use Rattle.machine.specs.Came.{Evaluate, Expand, Nodes, nodes, worth, works, asNumber}
 use Rattle.machine.specs.Frames.{Repeat, Repeated, repeated, apply}
@@ -103,7 +104,7 @@ module _ {s : Source} {mem : List ℕ} {m : Machine} (w : Waiting mem m Phase.re
 
 -- the formula has come
 module _ {s : Source} {mem out : List ℕ} {m : Machine} (w : Waiting mem m Phase.repeated) where
-  pub repeated-steps : m .mode ≡ isNodes → {a r n : ℕ} {out' : List ℕ} → a ≡ getD mem (m .frames + 5) 0 → Nexts a out out' (m .nodes) r → n ≡ min r (suc maxNodes)
+  pub repeated-steps : m .mode ≡ isNodes → {a r n : ℕ} {out' : List ℕ} → a ≡ getD mem (m .frames + valueField) 0 → Nexts a out out' (m .nodes) r → n ≡ min r (suc maxNodes)
       → TakesToWrite s mem mem out out' m (Next (wrote (popped m) n))
   repeated-steps e {a} {r} {n} {out'} ea j en = record {
     turns = λ R x o t.

@@ -21,6 +21,7 @@ use Rattle.operators.specs.Tables.{prefixCodeAt}
 use Rattle.operands.specs.Entries.{kindAt, numberAt}
 use Rattle.operands.specs.MakingLaws.{unary-making}
 use Rattle.operands.specs.Working.{Source}
+use Rattle.machine.specs.Fields.{entryField}
 use Rattle.machine.specs.Phases as Phase
 use Rattle.machine.specs.Came.{Expand, nodes, asFormula}
 use Rattle.machine.specs.Frames.{Capping, apply}
@@ -74,14 +75,14 @@ unary-starts {s} {mem} {m} k =
 
 -- the operand has come
 module _ {s : Source} {mem out : List ℕ} {m : Machine} (w : Waiting mem m Phase.capping) where
-  pub capping-small : ToppedToWrite s mem out m → prefixCodeAt (numberAt (s .work) (getD mem (m .frames + 1) 0)) < 16
+  pub capping-small : ToppedToWrite s mem out m → prefixCodeAt (numberAt (s .work) (getD mem (m .frames + entryField) 0)) < 16
   capping-small t =
       let v = by-phase (t .top .frame) Phase.capping (top-phase (t .top) ∙ w .phase) in
       let h = top-as (t .top) (v .1) in
       let e = ap (λ (j : ℕ). prefixCodeAt (numberAt (s .work) j)) (entry-word h) ∙ h .at .waits .1 .spelt in
       subst (λ (j : ℕ). j < 16) (sym e) (unary-small (v .0))
 
-  pub capping-steps : m .mode ≡ isNodes → {k op r n : ℕ} {out' : List ℕ} → k ≡ getD mem (m .frames + 1) 0 → op ≡ prefixCodeAt (numberAt (s .work) k) → Caps op out out' (m .nodes) r
+  pub capping-steps : m .mode ≡ isNodes → {k op r n : ℕ} {out' : List ℕ} → k ≡ getD mem (m .frames + entryField) 0 → op ≡ prefixCodeAt (numberAt (s .work) k) → Caps op out out' (m .nodes) r
       → n ≡ min r (suc maxNodes) → TakesToWrite s mem mem out out' m (Next (wrote (popped m) n))
   capping-steps e {k} {op} {r} {n} {out'} ek eo j en = record {
     turns = λ R x o t.

@@ -28,6 +28,7 @@ use Rattle.operators.specs.Tables.{prefixCodeAt}
 use Rattle.operands.specs.Entries.{kindAt, sizeAt, placeAt, numberAt}
 use Rattle.operands.specs.MakingLaws.{window-making}
 use Rattle.operands.specs.Working.{Source}
+use Rattle.machine.specs.Fields.{entryField, atField, valueField, otherField}
 use Rattle.machine.specs.Phases as Phase
 use Rattle.machine.specs.Came.{Evaluate, Expand, Came, Nodes, nodes, worth, works, asNumber}
 use Rattle.machine.specs.Frames.{WindowFrom, WindowTo, Windowed, windowing, windowed, apply}
@@ -157,7 +158,7 @@ module _ {s : Source} {mem : List ℕ} {m : Machine} (w : Waiting mem m Phase.wi
 -- the second number has come
 module _ {s : Source} {mem : List ℕ} {m : Machine} (w : Waiting mem m Phase.windowTo) where
   -- below the first
-  pub to-refuses : m .mode ≡ isNumber → {k p a : ℕ} → k ≡ getD mem (m .frames + 1) 0 → p ≡ placeAt (s .work) k → a ≡ getD mem (m .frames + 5) 0 → m .value < a → Takes s mem mem m (Refuses 11 p)
+  pub to-refuses : m .mode ≡ isNumber → {k p a : ℕ} → k ≡ getD mem (m .frames + entryField) 0 → p ≡ placeAt (s .work) k → a ≡ getD mem (m .frames + valueField) 0 → m .value < a → Takes s mem mem m (Refuses 11 p)
   to-refuses e {k} {p} {a} ek ep ea l = record {
     turns = λ R x o out t.
         let v = by-phase (t .frame) Phase.windowTo (top-phase t ∙ w .phase) in
@@ -174,7 +175,7 @@ module _ {s : Source} {mem : List ℕ} {m : Machine} (w : Waiting mem m Phase.wi
         ∙ guard-stop 11 (v .0) (works Expand c d >>= windowed op j (m .value)) (lt-leb j (m .value) (omega arith)) ∙ ap (Refused 11) same-place);
   }
 
-  pub to-steps : m .mode ≡ isNumber → {mem' : List ℕ} {a i : ℕ} {n : Machine} → a ≡ getD mem (m .frames + 5) 0 → a ≤ m .value → i ≡ m .nodes
+  pub to-steps : m .mode ≡ isNumber → {mem' : List ℕ} {a i : ℕ} {n : Machine} → a ≡ getD mem (m .frames + valueField) 0 → a ≤ m .value → i ≡ m .nodes
       → Renewed mem mem' m Phase.windowed i a (m .value) (modeOf Expand) n → Takes s mem mem' m (Next n)
   to-steps e {mem'} {a} ea l en q = record {
     turns = λ R x o out t.
@@ -207,7 +208,7 @@ module _ {s : Source} {mem : List ℕ} {m : Machine} (w : Waiting mem m Phase.wi
 
 -- the formula has come
 module _ {s : Source} {mem out : List ℕ} {m : Machine} (w : Waiting mem m Phase.windowed) where
-  pub windowed-order : ToppedToWrite s mem out m → getD mem (m .frames + 5) 0 ≤ getD mem (m .frames + 6) 0
+  pub windowed-order : ToppedToWrite s mem out m → getD mem (m .frames + valueField) 0 ≤ getD mem (m .frames + otherField) 0
   windowed-order t =
       let v = by-phase (t .top .frame) Phase.windowed (top-phase (t .top) ∙ w .phase) in
       let h = top-as (t .top) (v .3) in
@@ -216,8 +217,8 @@ module _ {s : Source} {mem out : List ℕ} {m : Machine} (w : Waiting mem m Phas
       let l = h .at .holds .1 in
       omega arith
 
-  pub windowed-steps : m .mode ≡ isNodes → {k code op start a b mid r n : ℕ} {out₁ out' : List ℕ} → k ≡ getD mem (m .frames + 1) 0 → code ≡ prefixCodeAt (numberAt (s .work) k) → op ≡ chained code
-      → start ≡ getD mem (m .frames + 3) 0 → a ≡ getD mem (m .frames + 5) 0 → b ≡ getD mem (m .frames + 6) 0 → Windows.Windowed op (b - a) out out₁ start (m .nodes) mid → Nexts a out₁ out' mid r
+  pub windowed-steps : m .mode ≡ isNodes → {k code op start a b mid r n : ℕ} {out₁ out' : List ℕ} → k ≡ getD mem (m .frames + entryField) 0 → code ≡ prefixCodeAt (numberAt (s .work) k) → op ≡ chained code
+      → start ≡ getD mem (m .frames + atField) 0 → a ≡ getD mem (m .frames + valueField) 0 → b ≡ getD mem (m .frames + otherField) 0 → Windows.Windowed op (b - a) out out₁ start (m .nodes) mid → Nexts a out₁ out' mid r
       → n ≡ min r (suc maxNodes) → TakesToWrite s mem mem out out' m (Next (wrote (popped m) n))
   windowed-steps e {k} {code} {op} {start} {a} {b} {mid} {r} {n} {out₁} {out'} ek ei eo es ea eb q y en = record {
     turns = λ R x o t.

@@ -17,6 +17,7 @@ use Rattle.entries.specs.Kinds as Kind
 use Rattle.operands.specs.Entries.{kindAt}
 use Rattle.operands.specs.KindLaws.{combination-class}
 use Rattle.operands.specs.Working.{Source}
+use Rattle.machine.specs.Fields.{entryField}
 use Rattle.machine.specs.Phases as Phase
 use Rattle.machine.specs.Came.{Evaluate, worth, works, asSet}
 use Rattle.machine.specs.Frames.{LeftSet, RightSet, combined, apply}
@@ -104,7 +105,7 @@ set-numbered {mem = mem} {m} t e =
 
 -- the left operand has come
 module _ {s : Source} {mem : List ℕ} {m : Machine} (w : Waiting mem m Phase.leftSet) where
-  pub left-steps : m .mode ≡ isSet → {mem' : List ℕ} {k top : ℕ} → k ≡ getD mem (m .frames + 1) 0 → top ≡ above m
+  pub left-steps : m .mode ≡ isSet → {mem' : List ℕ} {k top : ℕ} → k ≡ getD mem (m .frames + entryField) 0 → top ≡ above m
       → Framed mem mem' (m .frames) (record { phase = Phase.rightSet; entry = k; base = m .top; at = m .from; count = m .value; value = 0; other = 0 }) → Takes s mem mem' m (Next (onward m (k - 1) top))
   left-steps e {mem'} {k} ek et f = takes-next (ap (onward m (k - 1)) et) (record {
     turns = λ R x o out t.

@@ -1,3 +1,4 @@
+-- `formulas::atom` meets its contract: each kind of its range has its step, and a numeral is no formula.
 use mathlib.Core.Path.{ap}
 use Rattle.operands.specs.Makings.{makingOf}
 use Rattle.machine_run.specs.ChoosingLaws.{ready, formless, steps-write}

@@ -1,3 +1,4 @@
+-- `formulas::operator` meets its contract: each kind of its range has its step, and operators of numbers and sets are no formulas.
 use native.Mathlib.Omega.{arith}
 use Rattle.operands.specs.MakingLaws.{misfit-measures, misfit-values}
 use Rattle.machine_run.specs.ChoosingLaws.{formless}

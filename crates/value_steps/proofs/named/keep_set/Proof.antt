@@ -3,6 +3,7 @@ use Prim.Native.Nat.{_+_}
 use mathlib.Core.Path.{refl, ap, _∙_}
 use lib.ListN.{length, getD, length-set}
 use native.Mathlib.Omega.{arith}
+use Rattle.machine.specs.Fields.{valueField, otherField}
 use Rattle.machine.specs.Memory.{freeWord, slotsWord}
 use Rattle.machine.specs.ContractLaws.{takes-next}
 use Rattle.value_steps.specs.ReleaseLaws.{takes-in}
@@ -26,7 +27,7 @@ cast-scope : tie.Need-cast-scope
 cast-scope c =
     let start = c .before .before .before .before .before in
     let at-slice-known2 = c .slice-known2 in
-    omega (arith, at-slice-known2 .given (start .args .m .frames + 5))
+    omega (arith, at-slice-known2 .given (start .args .m .frames + valueField))
 
 add-r : tie.Need-add-r
 add-r c = search needs
@@ -41,7 +42,7 @@ cast-r : tie.Need-cast-r
 cast-r c =
     let start = c .before .before .before .before .before .before in
     let at-slice-known3 = c .slice-known3 in
-    omega (arith, at-slice-known3 .given (start .args .m .frames + 6))
+    omega (arith, at-slice-known3 .given (start .args .m .frames + otherField))
 
 slice-read-free : tie.Need-slice-read-free
 slice-read-free c = search needs
@@ -161,7 +162,7 @@ returns-3 c =
     let at-note2 = c .before .before .before .before .note2 in
     let at-came = c .before .came in
     let at-released3 = c .released3 in
-    let scope = getD (start .args .memory .now) (start .args .m .frames + 5) 0 in
+    let scope = getD (start .args .memory .now) (start .args .m .frames + valueField) 0 in
     takes-next (at-released3 .ensures ∙ ap (λ (n : Machine). released n scope) (at-came .ensures)) (takes-in (at-note2 .ensures)
     (keep-copied (start .pre .1 .0) refl refl (start .pre .1 .1) (let e = at-if2 .left in omega arith) (at-lower .ensures)))
 
