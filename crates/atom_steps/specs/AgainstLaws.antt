@@ -8,25 +8,29 @@ use lib.Dec.{eqb}
 use lib.ListN.{length, getD}
 use Rattle.node.specs.Limits.{maxNodes}
 use Rattle.node.specs.Operators.{Not}
+use Rattle.node.specs.Kinds.{unaryKind}
 use Rattle.node.specs.Ltl.{Formula, One}
 use Rattle.node.specs.Result.{Result, Done, Refused, _>>=_, guard}
 use Rattle.node.specs.ResultLaws.{guard-pass, guard-stop, bind-to, bind-refused}
 use Rattle.writing.specs.Writing.{Wrote, Caps}
 use Rattle.language.specs.Limits.{maxNames, maxTokens, maxSignals}
 use Rattle.language.specs.Tokens.{Token}
-use Rattle.language.specs.Operators.{Comparison}
+use Rattle.language.specs.Operators.{Comparison, Equal, Unequal, Less, AtMost, Greater, AtLeast}
 use Rattle.language.specs.Values.{Sized, misfit}
 use Rattle.language.specs.Declared.{Port}
 use Rattle.language.specs.Expansion.{against, oneOf, widthIs}
 use Rattle.entries.specs.Kinds as Kind
 use Rattle.sets.specs.Operators.{comparison}
+use Rattle.sets.specs.OperatorLaws.{another}
 use Rattle.choices.specs.Entries.{wordsEnd, Words}
 use Rattle.choices.specs.EntryLaws.{end-bound}
 use Rattle.choices.specs.Promise.{Readable, OneOf, WidthsAre}
 use Rattle.name_values.specs.World.{nameAt}
+use Rattle.operators.specs.Codes.{comparisonCode}
 use Rattle.operators.specs.Tables.{infixCodeAt}
 use Rattle.operands.specs.Entries.{numberAt}
 use Rattle.operands.specs.Working.{Source}
+use Rattle.machine.specs.Fields.{entryField, noteNumber, noteAddress}
 use Rattle.machine.specs.Phases as Phase
 use Rattle.machine.specs.Came.{Came, nodes}
 use Rattle.machine.specs.Frames.{apply}
@@ -45,19 +49,22 @@ use Rattle.atom_steps.specs.NoteLaws.{words-behind, signals-here}
 use Rattle.atom_steps.specs.Comparing.{Faced, Faces}
 
 -- equal and unequal are the first two
-order-misfit : (op : ℕ) → 1 < op → (ps : List Port) (b : Sized) (ws : List Token) → against ps (comparison op) b ws ≡ misfit
-order-misfit zero l ps b ws = absurd (omega arith)
-order-misfit (suc zero) l ps b ws = absurd (omega arith)
-order-misfit (suc (suc zero)) l ps b ws = refl
-order-misfit (suc (suc (suc zero))) l ps b ws = refl
-order-misfit (suc (suc (suc (suc zero)))) l ps b ws = refl
-order-misfit (suc (suc (suc (suc (suc k))))) l ps b ws = refl
+order-misfit : (op : ℕ) → comparisonCode Unequal < op → (ps : List Port) (b : Sized) (ws : List Token) → against ps (comparison op) b ws ≡ misfit
+order-misfit op l ps b ws =
+    ap (λ (c : Comparison). against ps c b ws) (another comparisonCode op Equal (λ e. omega arith) ∙ another comparisonCode op Unequal (λ e. omega arith))
+    ∙ others (eqb op (comparisonCode Less)) (eqb op (comparisonCode AtMost)) (eqb op (comparisonCode Greater))
+  where
+    others : (x y z : Bool) → against ps (elim x [ true ↦ Less | false ↦ elim y [ true ↦ AtMost | false ↦ elim z [ true ↦ Greater | false ↦ AtLeast ] ] ]) b ws ≡ misfit
+    others true y z = refl
+    others false true z = refl
+    others false false true = refl
+    others false false false = refl
 
 -- what they are where the widths are right
 abbrev chosen : ℕ → Formula → Formula
-chosen op f = elim (eqb op 0) [ true ↦ f | false ↦ One Not f ]
+chosen op f = elim (eqb op (comparisonCode Equal)) [ true ↦ f | false ↦ One Not f ]
 
-by-width : (op : ℕ) → op ≤ 1 → (ps : List Port) (b : Sized) (ws : List Token)
+by-width : (op : ℕ) → op ≤ comparisonCode Unequal → (ps : List Port) (b : Sized) (ws : List Token)
     → against ps (comparison op) b ws ≡ guard (widthIs (b .width) ws) 13 (b .place) (Done (chosen op (oneOf ps (b .name) ws)))
 by-width zero l ps b ws = refl
 by-width (suc zero) l ps b ws = refl
@@ -65,9 +72,9 @@ by-width (suc (suc k)) l ps b ws = absurd (omega arith)
 
 -- what the code reads: the notes of both names, where the identifier's words end
 pub record Reads (s : Source) (mem : List ℕ) (b i width first entry end : ℕ) : Type 0 where
-  pub width-is : width ≡ noteAt mem b 1
-  pub first-is : first ≡ noteAt mem b 2
-  pub entry-is : entry ≡ noteAt mem i 1
+  pub width-is : width ≡ noteAt mem b noteNumber
+  pub first-is : first ≡ noteAt mem b noteAddress
+  pub entry-is : entry ≡ noteAt mem i noteNumber
   pub end-is : end ≡ wordsEnd (s .work) entry
 
 module _ {s : Source} {mem out : List ℕ} {m : Machine} {place b i : ℕ} (q : Faces s mem out m place b i) where
@@ -88,23 +95,23 @@ module _ {s : Source} {mem out : List ℕ} {m : Machine} {place b i : ℕ} (q : 
       record { bus = note-under h (z .bus); choice = note-under h (z .choice); bus-name = z .bus; choice-name = z .choice }
 
   -- so can the words
-  pub against-entry : ToppedToWrite s mem out m → {entry : ℕ} → entry ≡ noteAt mem i 1 → entry < maxTokens
+  pub against-entry : ToppedToWrite s mem out m → {entry : ℕ} → entry ≡ noteAt mem i noteNumber → entry < maxTokens
   against-entry t {entry} e =
       let z = faced-in t in
       let h = z .top in
       let f = noted-identifier (h .noted .facts i (z .choice)) (z .choice-means) .fits in
       omega arith
 
-  pub against-readable : ToppedToWrite s mem out m → {entry end : ℕ} → entry ≡ noteAt mem i 1 → end ≡ wordsEnd (s .work) entry → Readable (s .work) end
+  pub against-readable : ToppedToWrite s mem out m → {entry end : ℕ} → entry ≡ noteAt mem i noteNumber → end ≡ wordsEnd (s .work) entry → Readable (s .work) end
   against-readable t {entry} {end} e d =
       let l = against-entry t e in
       let z = end-bound (s .work) Kind.word (entry + 1) (omega arith) in
       record { room = t .lent .work; few = omega arith }
 
-  pub against-first : ToppedToWrite s mem out m → {first : ℕ} → first ≡ noteAt mem b 2 → m .nodes ≤ maxNodes → first ≤ maxSignals
+  pub against-first : ToppedToWrite s mem out m → {first : ℕ} → first ≡ noteAt mem b noteAddress → m .nodes ≤ maxNodes → first ≤ maxSignals
   against-first t e l = let z = faced-in t in let g = signals-here (z .top) l .bus b (z .width) (z .bus) (z .bus-means) .1 in omega arith
 
-  module _ {op : ℕ} (eo : op ≡ infixCodeAt (numberAt (s .work) (getD mem (m .frames + 1) 0))) where
+  module _ {op : ℕ} (eo : op ≡ infixCodeAt (numberAt (s .work) (getD mem (m .frames + entryField) 0))) where
     module _ {R : Realm s} {x : Result Came} {o : Began} (t : Top R mem out m x o) where
       faced : Faced R mem out m x o place b i
       faced = q .faced R x o t
@@ -123,7 +130,7 @@ module _ {s : Source} {mem out : List ℕ} {m : Machine} {place b i : ℕ} (q : 
       stops {number} {at} e = refuses (faced .top) (as-compared ∙ bind-refused _ number at nodes e)
 
     -- other comparisons than == and !=
-    pub against-misfits : 1 < op → TakesToWrite s mem mem out out m (Refuses 9 0)
+    pub against-misfits : comparisonCode Unequal < op → TakesToWrite s mem mem out out m (Refuses 9 0)
     against-misfits l = record { turns = λ R x o t. stops t (order-misfit op l (R .ports) (sized t) (faced t .words)) }
 
     module _ {width first entry end : ℕ} (d : Reads s mem b i width first entry end) where
@@ -143,7 +150,7 @@ module _ {s : Source} {mem out : List ℕ} {m : Machine} {place b i : ℕ} (q : 
         written : {out' : List ℕ} {r : ℕ} → OneOf (s .text) (s .work) (entry + 1) end first out out' (m .nodes) r → Wrote (oneOf (R .ports) (sized t .name) (faced t .words)) out out' (m .nodes) r
         written g = let z = faced t in g .wrote (R .ports) (sized t .name) (z .words) stored (λ l. d .first-is ∙ signals-here (z .top) l .bus b (z .width) (z .bus) (z .bus-means) .0)
 
-        writes : {v : Bool} → op ≤ 1 → WidthsAre (s .work) (entry + 1) end width v → v ≡ true → {out' : List ℕ} {r n : ℕ} → Wrote (chosen op (oneOf (R .ports) (sized t .name) (faced t .words))) out out' (m .nodes) r
+        writes : {v : Bool} → op ≤ comparisonCode Unequal → WidthsAre (s .work) (entry + 1) end width v → v ≡ true → {out' : List ℕ} {r n : ℕ} → Wrote (chosen op (oneOf (R .ports) (sized t .name) (faced t .words))) out out' (m .nodes) r
             → n ≡ min r (suc maxNodes) → Turned R mem mem out out' m x o (Next (wrote (popped m) n))
         writes l w e {out'} g en =
             let z = faced t in
@@ -151,24 +158,24 @@ module _ {s : Source} {mem out : List ℕ} {m : Machine} {place b i : ℕ} (q : 
             writes-after (z .top) {phase = Phase.rightCompared} (z .flat) (z .came) f
             (as-compared t ∙ bind-to _ f nodes (by-width op l (R .ports) (sized t) (z .words) ∙ guard-pass 13 place (Done f) (sym (right-width w) ∙ e))) g en
 
-      module _ (l : op ≤ 1) {v : Bool} (w : WidthsAre (s .work) (entry + 1) end width v) where
+      module _ (l : op ≤ comparisonCode Unequal) {v : Bool} (w : WidthsAre (s .work) (entry + 1) end width v) where
         pub against-width : v ≡ false → TakesToWrite s mem mem out out m (Refuses 13 place)
         against-width e = record {
           turns = λ R x o t. stops t (by-width op l (R .ports) (sized t) (faced t .words) ∙ guard-stop 13 place _ (sym (right-width t w) ∙ e));
         }
 
         module _ (e : v ≡ true) {out' : List ℕ} {r : ℕ} (g : OneOf (s .text) (s .work) (entry + 1) end first out out' (m .nodes) r) where
-          pub against-equal : op ≡ 0 → {n : ℕ} → n ≡ min r (suc maxNodes) → TakesToWrite s mem mem out out' m (Next (wrote (popped m) n))
+          pub against-equal : op ≡ comparisonCode Equal → {n : ℕ} → n ≡ min r (suc maxNodes) → TakesToWrite s mem mem out out' m (Next (wrote (popped m) n))
           against-equal eo en = record {
             turns = λ R x o t.
                 let f = oneOf (R .ports) (nameAt (R .W) b) (faced t .words) in
                 writes t l w e (subst (λ (k : ℕ). Wrote (chosen k f) out out' (m .nodes) r) (sym eo) (written t g)) en;
           }
 
-          pub against-unequal : (op ≡ 0 → ⊥) → {out'' : List ℕ} {u n : ℕ} → Caps 3 out' out'' r u → n ≡ min u (suc maxNodes) → TakesToWrite s mem mem out out'' m (Next (wrote (popped m) n))
+          pub against-unequal : (op ≡ comparisonCode Equal → ⊥) → {out'' : List ℕ} {u n : ℕ} → Caps (unaryKind Not) out' out'' r u → n ≡ min u (suc maxNodes) → TakesToWrite s mem mem out out'' m (Next (wrote (popped m) n))
           against-unequal ne {out''} {u} c en = record {
             turns = λ R x o t.
                 let f = oneOf (R .ports) (nameAt (R .W) b) (faced t .words) in
-                let eo : op ≡ 1 = omega arith in
+                let eo : op ≡ comparisonCode Unequal = omega arith in
                 writes t l w e (subst (λ (k : ℕ). Wrote (chosen k f) out out'' (m .nodes) u) (sym eo) (c Not refl (m .nodes) .wrote (written t g))) en;
           }

@@ -29,7 +29,8 @@ use Rattle.operands.specs.Entries.{kindAt, placeAt}
 use Rattle.operands.specs.ClassLaws.{place-is}
 use Rattle.operands.specs.Operands.{below}
 use Rattle.operands.specs.Working.{Source}
-use Rattle.operands.specs.Shapes.{shapeOf}
+use Rattle.operands.specs.Makings.{makingOf}
+use Rattle.machine.specs.Fields.{entryField, noteNumber, noteAddress}
 use Rattle.machine.specs.Phases as Phase
 use Rattle.machine.specs.Came.{Evaluate, Came, worth, nodes, works, asNumber, asValue}
 use Rattle.machine.specs.Frames.{Indexed, BitOf, apply}
@@ -51,7 +52,7 @@ use Rattle.machine.specs.OperandLaws.{topped-to-write-entry, operand-as, one-op
 use Rattle.machine.specs.declared.Machine.{Machine}
 use Rattle.machine.specs.declared.Move.the-variants.{Next, Refused as Refuses}
 use Rattle.machine.specs.Entering.{Expands, Waiting}
-use Rattle.machine.specs.EnteringLaws.{works-formula, operand-shape}
+use Rattle.machine.specs.EnteringLaws.{works-formula, operand-making}
 use Rattle.value_steps.specs.NameLaws.{note-first}
 use Rattle.atom_steps.specs.WriteLaws.{writes-after}
 use Rattle.atom_steps.specs.SignalLaws.{bit-in, bit-out, signal-fits, signal-wrote}
@@ -73,7 +74,7 @@ index-starts {s} {mem} {m} k =
       few-turns = omega arith;
       starting = λ R x o out n.
           let c = n .context in
-          let v = operand-shape (n .at .operand) (ap shapeOf kind) in
+          let v = operand-making (n .at .operand) (ap makingOf kind) in
           let t = v .0 in
           let a = v .1 in
           let p = operand-as (n .at .operand) {d = Index t a} (v .2) in
@@ -126,7 +127,7 @@ module _ {s : Source} {mem out : List ℕ} {m : Machine} (w : Waiting mem m Phas
       omega arith
 
   -- the frame's entry, and the reference of the name there
-  module _ (e : m .mode ≡ isNumber) {k r : ℕ} (ek : k ≡ getD mem (m .frames + 1) 0) (er : r ≡ getD (s .refs) k 0) where
+  module _ (e : m .mode ≡ isNumber) {k r : ℕ} (ek : k ≡ getD mem (m .frames + entryField) 0) (er : r ≡ getD (s .refs) k 0) where
     module _ {R : Realm s} {x : Result Came} {o : Began} {c : Context} {t : Token} (h : TopOf R mem out m x o (Indexed c t)) where
       abbrev limit : ℕ
       limit = h .at .waits .limit
@@ -162,10 +163,11 @@ module _ {s : Source} {mem out : List ℕ} {m : Machine} (w : Waiting mem m Phas
           stops h (stands-for h (u .stands ∙ denote-bound (R .W) (h .ground .env) (r - maxNames) r (v .1) (omega arith)));
     }
 
-    module _ (l : r < maxNames) {sort n : ℕ} (es : sort ≡ getD mem (noteWords * r) 0) (en : n ≡ noteAt mem r 1) where
+    module _ (l : r < maxNames) {sort n : ℕ} (es : sort ≡ getD mem (noteWords * r) 0) (en : n ≡ noteAt mem r noteNumber) where
       module _ {R : Realm s} {x : Result Came} {o : Began} {c : Context} {t : Token} (h : TopOf R mem out m x o (Indexed c t)) where
-        fact : Fact s mem (meaningAt (R .W) r) sort n (noteAt mem r 2)
-        fact = subst (λ (i : ℕ). Fact s mem (meaningAt (R .W) r) i n (noteAt mem r 2)) (sym (es ∙ note-first mem r)) (subst (λ (i : ℕ). Fact s mem (meaningAt (R .W) r) (noteAt mem r 0) i (noteAt mem r 2)) (sym en) (h .noted .facts r l))
+        fact : Fact s mem (meaningAt (R .W) r) sort n (noteAt mem r noteAddress)
+        fact = subst (λ (i : ℕ). Fact s mem (meaningAt (R .W) r) i n (noteAt mem r noteAddress)) (sym (es ∙ note-first mem r))
+            (subst (λ (i : ℕ). Fact s mem (meaningAt (R .W) r) (noteAt mem r 0) i (noteAt mem r noteAddress)) (sym en) (h .noted .facts r l))
 
         named : {v : Meaning} → meaningAt (R .W) r ≡ v → c .values t ≡ nameValue v t
         named q = used-value (uses h) l ∙ ap (λ (y : Meaning). nameValue y t) q
@@ -217,13 +219,13 @@ module _ {s : Source} {mem out : List ℕ} {m : Machine} (w : Waiting mem m Phas
                 bind-to _ b _ (stands-for h (named h (fact h .bus z .sized (omega arith)))) ∙ bit-out (R .ports) (m .value) b d ∙ ap (Refused 13) (sym (ep ∙ place-of h))
 
         module _ (d : m .value < n) where
-          pub bit-fits : ToppedToWrite s mem out m → m .nodes ≤ maxNodes → noteAt mem r 2 + m .value < fieldLimit
+          pub bit-fits : ToppedToWrite s mem out m → m .nodes ≤ maxNodes → noteAt mem r noteAddress + m .value < fieldLimit
           bit-fits t =
               let v = by-phase (t .top .frame) Phase.indexed (top-phase (t .top) ∙ w .phase) in
               let h = top-as (t .top) (v .2) in
               signal-fits h r (m .value) n l (fact h .bus z .sized (omega arith)) d
 
-          pub bit-steps : {out' : List ℕ} {i q : ℕ} → Signalled (noteAt mem r 2) (m .value) out out' (m .nodes) i → q ≡ min i (suc maxNodes) → TakesToWrite s mem mem out out' m (Next (wrote (popped m) q))
+          pub bit-steps : {out' : List ℕ} {i q : ℕ} → Signalled (noteAt mem r noteAddress) (m .value) out out' (m .nodes) i → q ≡ min i (suc maxNodes) → TakesToWrite s mem mem out out' m (Next (wrote (popped m) q))
           bit-steps {out'} {i} g eq = record {
             turns = λ R x o t.
                 let v = by-phase (t .frame) Phase.indexed (top-phase t ∙ w .phase) in
@@ -293,7 +295,7 @@ module _ {s : Source} {mem out : List ℕ} {m : Machine} (w : Waiting mem m Phas
               few = h .few;
               noted = h .noted;
               lasting = h .lasting;
-              less = weight-falls 35 25 (words h .entry) 0 (words h .count) (omega arith) se (h .at .phased);
+              less = weight-falls Phase.bitOf Phase.indexed (words h .entry) 0 (words h .count) (omega arith) se (h .at .phased);
               kept = tt;
               same = looks-up h ∙ ap (λ (q : Result Value). q >>= bus >>= bitAt (R .ports) (m .value) >>= nodes) (named h (b .defines))
                   ∙ body-same (R .ports) (m .value) (value (bc .values) be)
@@ -302,7 +304,7 @@ module _ {s : Source} {mem out : List ℕ} {m : Machine} (w : Waiting mem m Phas
       }
 
 -- what is read can be read
-pub reference-inside : {s : Source} {mem out : List ℕ} {m : Machine} → ToppedToWrite s mem out m → getD mem (m .frames + 1) 0 < length (s .refs)
+pub reference-inside : {s : Source} {mem out : List ℕ} {m : Machine} → ToppedToWrite s mem out m → getD mem (m .frames + entryField) 0 < length (s .refs)
 reference-inside t = let f = topped-to-write-entry t .few in let l = t .lent .refs in omega arith
 
 pub note-inside : {s : Source} {mem out : List ℕ} {m : Machine} {r : ℕ} → ToppedToWrite s mem out m → r < maxNames → noteWords * r + 3 < length mem

@@ -15,6 +15,7 @@ use Rattle.language.specs.Values.{Sized, misfit, bus}
 use Rattle.language.specs.Expansion.{Context, bitAt, signalNode}
 use Rattle.name_values.specs.World.{nameAt}
 use Rattle.operands.specs.Working.{Source}
+use Rattle.machine.specs.Fields.{atField, valueField, noteNumber, noteAddress}
 use Rattle.machine.specs.Phases as Phase
 use Rattle.machine.specs.Came.{Came, Worth, Nodes, nodes, asValue}
 use Rattle.machine.specs.Frames.{BitOf, apply}
@@ -88,10 +89,10 @@ module _ {s : Source} {mem out : List ℕ} {m : Machine} (w : Waiting mem m Phas
           ∙ ap (λ (y : Result Sized). y >>= bitAt (R .ports) i >>= nodes) (ap (λ (y : Came). asValue y >>= bus) (came .same) ∙ bind-at (came .value) bus ∙ ap bus (is-bus .same))
           ∙ ap (λ (y : Result Formula). y >>= nodes) (bind-at sized (bitAt (R .ports) i))
 
-      width-noted : {n : ℕ} → n ≡ noteAt mem (m .from) 1 → n ≡ is-bus .width
+      width-noted : {n : ℕ} → n ≡ noteAt mem (m .from) noteNumber → n ≡ is-bus .width
       width-noted en = en ∙ noted-width (h .noted .facts (m .from) (is-bus .declared)) (is-bus .means)
 
-      index-noted : {j : ℕ} → j ≡ getD mem (m .frames + 3) 0 → j ≡ i
+      index-noted : {j : ℕ} → j ≡ getD mem (m .frames + atField) 0 → j ≡ i
       index-noted ej = ej ∙ at-word h ∙ h .at .holds .index-is
 
     pub bit-name : ToppedToWrite s mem out m → m .from < maxNames
@@ -99,7 +100,7 @@ module _ {s : Source} {mem out : List ℕ} {m : Machine} (w : Waiting mem m Phas
         let v = by-phase (t .top .frame) Phase.bitOf (top-phase (t .top) ∙ w .phase) in
         is-bus (top-as (t .top) (v .2)) .declared
 
-    module _ {j n : ℕ} (ej : j ≡ getD mem (m .frames + 3) 0) (en : n ≡ noteAt mem (m .from) 1) where
+    module _ {j n : ℕ} (ej : j ≡ getD mem (m .frames + atField) 0) (en : n ≡ noteAt mem (m .from) noteNumber) where
       pub bit-refuses : n ≤ j → TakesToWrite s mem mem out out m (Refuses 13 (m .value))
       bit-refuses l = record {
         turns = λ R x o t.
@@ -111,14 +112,14 @@ module _ {s : Source} {mem out : List ℕ} {m : Machine} (w : Waiting mem m Phas
       }
 
       module _ (l : j < n) where
-        pub bit-fits : ToppedToWrite s mem out m → m .nodes ≤ maxNodes → noteAt mem (m .from) 2 + j < fieldLimit
+        pub bit-fits : ToppedToWrite s mem out m → m .nodes ≤ maxNodes → noteAt mem (m .from) noteAddress + j < fieldLimit
         bit-fits t =
             let v = by-phase (t .top .frame) Phase.bitOf (top-phase (t .top) ∙ w .phase) in
             let h = top-as (t .top) (v .2) in
             let a = width-noted h en in
             signal-fits h (m .from) j (is-bus h .width) (is-bus h .declared) (is-bus h .means) (omega arith)
 
-        pub bit-steps : {out' : List ℕ} {q r scope : ℕ} → scope ≡ getD mem (m .frames + 5) 0 → Signalled (noteAt mem (m .from) 2) j out out' (m .nodes) q → r ≡ min q (suc maxNodes)
+        pub bit-steps : {out' : List ℕ} {q r scope : ℕ} → scope ≡ getD mem (m .frames + valueField) 0 → Signalled (noteAt mem (m .from) noteAddress) j out out' (m .nodes) q → r ≡ min q (suc maxNodes)
             → TakesToWrite s mem mem out out' m (Next (wrote-back m scope r))
         bit-steps {out'} {q} {r} {scope} es g er = record {
           turns = λ R x o t.
@@ -128,7 +129,7 @@ module _ {s : Source} {mem out : List ℕ} {m : Machine} (w : Waiting mem m Phas
               let a = width-noted h en in
               let b : j ≡ i = index-noted h ej in
               let f : Formula = signalNode (R .ports) (nameAt (R .W) (m .from)) i in
-              let g' : Signalled (noteAt mem (m .from) 2) i out out' (m .nodes) q = subst (λ (k : ℕ). Signalled (noteAt mem (m .from) 2) k out out' (m .nodes) q) b g in
+              let g' : Signalled (noteAt mem (m .from) noteAddress) i out out' (m .nodes) q = subst (λ (k : ℕ). Signalled (noteAt mem (m .from) noteAddress) k out out' (m .nodes) q) b g in
               let f-wrote = wrote-capped er (signal-wrote h (m .from) i (is-bus h .width) (is-bus h .declared) (is-bus h .means) g') in
               pops h {v = Nodes f} (record {
                 same = takes-bit h ∙ bind-to _ f nodes (bit-in (R .ports) i (sized h) (omega arith));

@@ -16,6 +16,7 @@ use Rattle.operators.specs.Codes.{comparisonCode}
 use Rattle.operators.specs.Tables.{infixCodeAt}
 use Rattle.operands.specs.Entries.{numberAt}
 use Rattle.operands.specs.Working.{Source}
+use Rattle.machine.specs.Fields.{entryField, atField}
 use Rattle.machine.specs.Phases as Phase
 use Rattle.machine.specs.Came.{Came, Worth, nodes}
 use Rattle.machine.specs.Frames.{Frame, apply}
@@ -41,7 +42,7 @@ pub record NameOf (m : Machine) (r : ℕ) : Type 0 where
 pub record Comparing (mem : List ℕ) (m : Machine) (mode : ℕ) : Type 0 where
   pub waiting : Waiting mem m Phase.rightCompared
   pub value : m .mode ≡ isNodes → ⊥
-  pub left : getD mem (m .frames + 3) 0 ≡ mode
+  pub left : getD mem (m .frames + atField) 0 ≡ mode
 
 -- the frame and what has come to it are the bus b, whose name stands at `place`, and the identifier i
 pub record Faced {s : Source} (R : Realm s) (mem out : List ℕ) (m : Machine) (x : Result Came) (o : Began) (place b i : ℕ) : Type 0 where
@@ -51,7 +52,7 @@ pub record Faced {s : Source} (R : Realm s) (mem out : List ℕ) (m : Machine) (
   pub value : Value
   pub came : top .came ≡ Worth value
   pub operator : Comparison
-  pub code : infixCodeAt (numberAt (s .work) (getD mem (m .frames + 1) 0)) ≡ comparisonCode operator
+  pub code : infixCodeAt (numberAt (s .work) (getD mem (m .frames + entryField) 0)) ≡ comparisonCode operator
   pub width : ℕ
   pub words : List Token
   pub bus : b < maxNames

@@ -21,8 +21,9 @@ use Rattle.sets.specs.Operators.{comparison}
 use Rattle.name_values.specs.World.{nameAt}
 use Rattle.operators.specs.Tables.{infixCodeAt}
 use Rattle.operands.specs.Entries.{kindAt, numberAt}
-use Rattle.operands.specs.ShapeLaws.{comparison-shape}
+use Rattle.operands.specs.MakingLaws.{comparison-making}
 use Rattle.operands.specs.Working.{Source}
+use Rattle.machine.specs.Fields.{entryField, atField, valueField, otherField}
 use Rattle.machine.specs.Phases as Phase
 use Rattle.machine.specs.Came.{Evaluate, Came, worth, nodes, works, asValue}
 use Rattle.machine.specs.Frames.{LeftCompared, RightCompared, comparing, apply}
@@ -41,7 +42,7 @@ use Rattle.machine.specs.BindLaws.{take-value, then-nodes}
 use Rattle.machine.specs.declared.Machine.{Machine}
 use Rattle.machine.specs.declared.Move.the-variants.{Next, Refused as Refuses}
 use Rattle.machine.specs.Entering.{Expands, Waiting}
-use Rattle.machine.specs.EnteringLaws.{works-formula, operand-shape}
+use Rattle.machine.specs.EnteringLaws.{works-formula, operand-making}
 use Rattle.machine.specs.SameLaws.{same-truth}
 use Rattle.machine.specs.JoinedLaws.{joined-two, joined-op}
 use Rattle.atom_steps.specs.WriteLaws.{writes-after}
@@ -75,7 +76,7 @@ comparison-starts {s} {mem} {m} k =
       entry = omega arith;
       few-turns = omega arith;
       starting = λ R x o out n.
-          let v = operand-shape (n .at .operand) (comparison-shape (kindAt (s .work) (m .value)) (k .from) (k .until)) in
+          let v = operand-making (n .at .operand) (comparison-making (kindAt (s .work) (m .value)) (k .from) (k .until)) in
           let t = v .0 in
           let op = v .1 in
           let a = v .2 in
@@ -142,15 +143,15 @@ module _ {s : Source} {mem out : List ℕ} {m : Machine} (w : Waiting mem m Phas
           ∙ ap (λ (ps : List Port). compared ps op u (right .value) >>= nodes) (h .at .waits .2)
 
       -- the left one as the frame's words tell it
-      left-tells : {mode value other : ℕ} → getD mem (m .frames + 3) 0 ≡ mode → value ≡ getD mem (m .frames + 5) 0 → other ≡ getD mem (m .frames + 6) 0 → Tells (R .W) mode value other u
+      left-tells : {mode value other : ℕ} → getD mem (m .frames + atField) 0 ≡ mode → value ≡ getD mem (m .frames + valueField) 0 → other ≡ getD mem (m .frames + otherField) 0 → Tells (R .W) mode value other u
       left-tells {mode} {value} {other} e3 e5 e6 =
           subst (λ (i : ℕ). Tells (R .W) i value other u) (sym (at-word h) ∙ e3)
           (subst (λ (i : ℕ). Tells (R .W) (words h .at) i other u) (sym (e5 ∙ value-word h)) (subst (λ (i : ℕ). Tells (R .W) (words h .at) (words h .value) i u) (sym (e6 ∙ other-word h)) (h .at .holds)))
 
-      op-is : {i : ℕ} → i ≡ infixCodeAt (numberAt (s .work) (getD mem (m .frames + 1) 0)) → comparison i ≡ op
+      op-is : {i : ℕ} → i ≡ infixCodeAt (numberAt (s .work) (getD mem (m .frames + entryField) 0)) → comparison i ≡ op
       op-is ei = ap comparison (ei ∙ ap (λ (j : ℕ). infixCodeAt (numberAt (s .work) j)) (entry-word h)) ∙ op-comparison (h .at .waits .1)
 
-    pub right-unsized : {p : ℕ} → getD mem (m .frames + 3) 0 ≡ isUnsized → p ≡ getD mem (m .frames + 5) 0 → TakesToWrite s mem mem out out m (Refuses 13 p)
+    pub right-unsized : {p : ℕ} → getD mem (m .frames + atField) 0 ≡ isUnsized → p ≡ getD mem (m .frames + valueField) 0 → TakesToWrite s mem mem out out m (Refuses 13 p)
     right-unsized {p} z ep = record {
       turns = λ R x o t.
           let v = by-phase (t .frame) Phase.rightCompared (top-phase t ∙ w .phase) in
@@ -159,13 +160,13 @@ module _ {s : Source} {mem out : List ℕ} {m : Machine} (w : Waiting mem m Phas
           refuses h (made h ∙ ap (λ (y : Value). compared (R .ports) (v .0) y (right h .value) >>= nodes) l ∙ bind-refused _ 13 p nodes refl);
     }
 
-    pub right-uncompared : (getD mem (m .frames + 3) 0 ≡ isNumber → ⊥) → (getD mem (m .frames + 3) 0 ≡ isBus → ⊥) → (getD mem (m .frames + 3) 0 ≡ isChoice → ⊥) → (getD mem (m .frames + 3) 0 ≡ isUnsized → ⊥)
+    pub right-uncompared : (getD mem (m .frames + atField) 0 ≡ isNumber → ⊥) → (getD mem (m .frames + atField) 0 ≡ isBus → ⊥) → (getD mem (m .frames + atField) 0 ≡ isChoice → ⊥) → (getD mem (m .frames + atField) 0 ≡ isUnsized → ⊥)
         → TakesToWrite s mem mem out out m (Refuses 9 0)
     right-uncompared a b c d = record {
       turns = λ R x o t.
           let v = by-phase (t .frame) Phase.rightCompared (top-phase t ∙ w .phase) in
           let h = top-as t (v .3) in
-          refuses h (made h ∙ bind-refused _ 9 0 nodes (tells-uncompared (R .W) (getD mem (m .frames + 3) 0) _ _ (v .2) (left-tells h refl refl refl) a b c d (R .ports) (v .0) (right h .value)));
+          refuses h (made h ∙ bind-refused _ 9 0 nodes (tells-uncompared (R .W) (getD mem (m .frames + atField) 0) _ _ (v .2) (left-tells h refl refl refl) a b c d (R .ports) (v .0) (right h .value)));
     }
 
 -- a number on the left
@@ -181,7 +182,7 @@ module _ {s : Source} {mem out : List ℕ} {m : Machine} (w : Comparing mem m is
         ∙ bind-refused _ 9 0 nodes (bind-refused _ 9 0 _ (tells-no-number (R .W) (m .mode) (m .value) (m .from) (y .value) (y .tells) z)));
   }
 
-  pub number-steps : m .mode ≡ isNumber → {i a r n : ℕ} {b : Bool} {out' : List ℕ} → i ≡ infixCodeAt (numberAt (s .work) (getD mem (m .frames + 1) 0)) → a ≡ getD mem (m .frames + 5) 0
+  pub number-steps : m .mode ≡ isNumber → {i a r n : ℕ} {b : Bool} {out' : List ℕ} → i ≡ infixCodeAt (numberAt (s .work) (getD mem (m .frames + entryField) 0)) → a ≡ getD mem (m .frames + valueField) 0
       → b ≡ test (comparison i) a (m .value) → Wrote (Writing.truth b) out out' (m .nodes) r → n ≡ min r (suc maxNodes) → TakesToWrite s mem mem out out' m (Next (wrote (popped m) n))
   number-steps z {i} {a} {r} {n} {b} {out'} ei ea eb q en = record {
     turns = λ R x o t.
@@ -210,7 +211,7 @@ module _ {s : Source} {mem out : List ℕ} {m : Machine} (w : Comparing mem m is
         ∙ bind-refused _ 9 0 nodes (bind-refused _ 9 0 _ (tells-no-choice (R .W) (m .mode) (m .value) (m .from) (y .value) (y .tells) z)));
   }
 
-  pub bus-faces : m .mode ≡ isChoice → {p b : ℕ} → p ≡ getD mem (m .frames + 5) 0 → b ≡ getD mem (m .frames + 6) 0 → Faces s mem out m p b (m .from)
+  pub bus-faces : m .mode ≡ isChoice → {p b : ℕ} → p ≡ getD mem (m .frames + valueField) 0 → b ≡ getD mem (m .frames + otherField) 0 → Faces s mem out m p b (m .from)
   bus-faces z {p} {b} ep eb = record {
     faced = λ R x o t.
         let v = by-phase (t .frame) Phase.rightCompared (top-phase t ∙ w .waiting .phase) in
@@ -257,7 +258,7 @@ module _ {s : Source} {mem out : List ℕ} {m : Machine} (w : Comparing mem m is
   pub identifier-misfits : (m .mode ≡ isUnsized → ⊥) → (m .mode ≡ isBus → ⊥) → TakesToWrite s mem mem out out m (Refuses 9 0)
   identifier-misfits a b = identifier-refuses (λ R y t. tells-no-bus (R .W) (m .mode) (m .value) (m .from) y t b a)
 
-  pub identifier-faces : m .mode ≡ isBus → {i : ℕ} → i ≡ getD mem (m .frames + 6) 0 → Faces s mem out m (m .value) (m .from) i
+  pub identifier-faces : m .mode ≡ isBus → {i : ℕ} → i ≡ getD mem (m .frames + otherField) 0 → Faces s mem out m (m .value) (m .from) i
   identifier-faces z {i} ei = record {
     faced = λ R x o t.
         let v = by-phase (t .frame) Phase.rightCompared (top-phase t ∙ w .waiting .phase) in

@@ -18,9 +18,10 @@ use Rattle.language.specs.Expansion.{truth, expansion}
 use Rattle.entries.specs.Kinds as Kind
 use Rattle.operands.specs.Entries.{kindAt}
 use Rattle.operands.specs.Working.{Source}
-use Rattle.operands.specs.Shapes.{shapeOf}
+use Rattle.operands.specs.Makings.{makingOf}
 use Rattle.memory_sets.specs.Places.{elementsAt, Placed}
 use Rattle.value_steps.specs.PlacedLaws.{elements-are, placed, spanOf, set-under}
+use Rattle.machine.specs.Fields.{valueField}
 use Rattle.machine.specs.Phases as Phase
 use Rattle.machine.specs.Came.{Evaluate, worth, nodes, works, asNumber}
 use Rattle.machine.specs.Frames.{Member, Among, among, apply}
@@ -37,7 +38,7 @@ use Rattle.machine.specs.BindLaws.{take-number, take-set, then-nodes}
 use Rattle.machine.specs.declared.Machine.{Machine}
 use Rattle.machine.specs.declared.Move.the-variants.{Next}
 use Rattle.machine.specs.Entering.{Expands, Waiting}
-use Rattle.machine.specs.EnteringLaws.{works-formula, operand-shape}
+use Rattle.machine.specs.EnteringLaws.{works-formula, operand-making}
 use Rattle.machine.specs.SameLaws.{same-truth}
 use Rattle.machine.specs.JoinedLaws.{joined-two}
 use Rattle.atom_steps.specs.WriteLaws.{writes-after}
@@ -60,7 +61,7 @@ membership-starts {s} {mem} {m} k =
       entry = omega arith;
       few-turns = omega arith;
       starting = λ R x o out n.
-          let v = operand-shape (n .at .operand) (ap shapeOf kind) in
+          let v = operand-making (n .at .operand) (ap makingOf kind) in
           let a = v .1 in
           let b = v .2 in
           let two = joined-two R (n .at .operand) (v .3) in
@@ -110,7 +111,7 @@ module _ {s : Source} {mem out : List ℕ} {m : Machine} (w : Waiting mem m Phas
         let g = came-set (t .realm) (t .began) mem m (h .came) (h .come) e in
         placed mem (spanOf m) (g .set) (g .held) (g .count) (g .fine) (set-under h e)
 
-    pub among-steps : {i r n : ℕ} {b : Bool} {out' : List ℕ} → i ≡ getD mem (m .frames + 5) 0 → b ≡ memberOf (elementsAt mem (spanOf m)) i → Wrote (Writing.truth b) out out' (m .nodes) r
+    pub among-steps : {i r n : ℕ} {b : Bool} {out' : List ℕ} → i ≡ getD mem (m .frames + valueField) 0 → b ≡ memberOf (elementsAt mem (spanOf m)) i → Wrote (Writing.truth b) out out' (m .nodes) r
         → n ≡ min r (suc maxNodes) → TakesToWrite s mem mem out out' m (Next (wrote (popped m) n))
     among-steps {i} {r} {n} {b} {out'} ei eb q en = record {
       turns = λ R x o t.

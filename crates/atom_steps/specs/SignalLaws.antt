@@ -17,6 +17,7 @@ use Rattle.language.specs.Values.{Sized}
 use Rattle.language.specs.Expansion.{bitAt, signalNode}
 use Rattle.name_values.specs.World.{Stands, nameAt, meaningAt}
 use Rattle.operands.specs.Working.{Source}
+use Rattle.machine.specs.Fields.{noteAddress}
 use Rattle.machine.specs.Came.{Came}
 use Rattle.machine.specs.Frames.{Frame}
 use Rattle.machine.specs.Realm.{Realm}
@@ -43,8 +44,8 @@ bit-out ps i b l = guard-stop 13 (b .place) _ (le-ltb i (b .width) l)
 -- bit i of the bus r of width n
 module _ {s : Source} {R : Realm s} {mem out : List ℕ} {m : Machine} {x : Result Came} {o : Began} {F : Frame} (h : TopOf R mem out m x o F) (r i n : ℕ) (l : r < maxNames)
     (e : meaningAt (R .W) r ≡ Stands (BusOf n)) where
-  pub signal-fits : i < n → m .nodes ≤ maxNodes → noteAt mem r 2 + i < fieldLimit
+  pub signal-fits : i < n → m .nodes ≤ maxNodes → noteAt mem r noteAddress + i < fieldLimit
   signal-fits d k = let g = signals-here h k .bus r n l e .1 in omega arith
 
-  pub signal-wrote : {out' : List ℕ} {q : ℕ} → Signalled (noteAt mem r 2) i out out' (m .nodes) q → Wrote (signalNode (R .ports) (nameAt (R .W) r) i) out out' (m .nodes) q
+  pub signal-wrote : {out' : List ℕ} {q : ℕ} → Signalled (noteAt mem r noteAddress) i out out' (m .nodes) q → Wrote (signalNode (R .ports) (nameAt (R .W) r) i) out out' (m .nodes) q
   signal-wrote g = g .wrote (firstOf (R .ports) (nameAt (R .W) r) + i) (λ k. ap (λ (j : ℕ). j + i) (signals-here h k .bus r n l e .0))

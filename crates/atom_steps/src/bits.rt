@@ -6,6 +6,7 @@ use machine::Move;
 use machine::NOTE;
 use machine::Words;
 use machine::capped;
+use machine::fields;
 use machine::frame;
 use machine::modes;
 use machine::phases;
@@ -47,7 +48,7 @@ pub fn indexed(
         return Move::Refused(refusals::WRONG_TYPE, 0);
     }
     let at = m.frames;
-    let k = memory[at + 1];
+    let k = memory[at + fields::ENTRY];
     let j = k as usize;
     let r = refs[j] as usize;
     if r >= limits::MAX_NAMES {
@@ -56,7 +57,7 @@ pub fn indexed(
     if memory[NOTE * r] != sorts::BODY as u32 {
         return bit_of_name(text, work, refs, memory, table, m, j, r);
     }
-    let n = memory[NOTE * r + 1];
+    let n = memory[NOTE * r + fields::NOTE_NUMBER];
     frame(
         memory,
         at,
@@ -104,7 +105,7 @@ fn bit_of_name(
     if sort != sorts::BUS as u32 {
         return Move::Refused(refusals::WRONG_TYPE, 0);
     }
-    let width = memory[NOTE * r + 1];
+    let width = memory[NOTE * r + fields::NOTE_NUMBER];
     if width <= m.value {
         return Move::Refused(refusals::WRONG_WIDTH, place_at(work, k));
     }
@@ -132,10 +133,10 @@ pub fn bit(
         return Move::Refused(refusals::WRONG_TYPE, 0);
     }
     let at = m.frames;
-    let i = memory[at + 3];
-    let scope = memory[at + 5] as usize;
+    let i = memory[at + fields::AT];
+    let scope = memory[at + fields::VALUE] as usize;
     let r = m.from;
-    let width = memory[NOTE * r + 1];
+    let width = memory[NOTE * r + fields::NOTE_NUMBER];
     if width <= i {
         return Move::Refused(refusals::WRONG_WIDTH, m.value);
     }

@@ -6,6 +6,7 @@ use machine::Machine;
 use machine::Move;
 use machine::NOTE;
 use machine::capped;
+use machine::fields;
 use machine::modes;
 use machine::phases;
 use node::MAX_NODES;
@@ -84,7 +85,7 @@ pub fn right(
         return Move::Refused(refusals::WRONG_TYPE, 0);
     }
     let at = m.frames;
-    let mode = memory[at + 3];
+    let mode = memory[at + fields::AT];
     if mode == modes::NUMBER {
         return with_number(text, work, refs, memory, table, m);
     }
@@ -95,7 +96,7 @@ pub fn right(
         return with_identifier(text, work, refs, memory, table, m);
     }
     if mode == modes::UNSIZED {
-        return Move::Refused(refusals::WRONG_WIDTH, memory[at + 5]);
+        return Move::Refused(refusals::WRONG_WIDTH, memory[at + fields::VALUE]);
     }
     Move::Refused(refusals::WRONG_TYPE, 0)
 }
@@ -117,8 +118,8 @@ fn with_number(
         return Move::Refused(refusals::WRONG_TYPE, 0);
     }
     let at = m.frames;
-    let k = memory[at + 1] as usize;
-    let a = memory[at + 5];
+    let k = memory[at + fields::ENTRY] as usize;
+    let a = memory[at + fields::VALUE];
     let operator = infix_at(work, k);
     let n = constant(compare(operator, a, m.value), table, m.nodes);
     Move::Next(m.popped().wrote(capped(n)))
@@ -141,8 +142,8 @@ fn with_bus(
         return Move::Refused(refusals::WRONG_TYPE, 0);
     }
     let at = m.frames;
-    let place = memory[at + 5];
-    let bus = memory[at + 6] as usize;
+    let place = memory[at + fields::VALUE];
+    let bus = memory[at + fields::OTHER] as usize;
     let facing = Facing {
         place,
         bus,
@@ -171,7 +172,7 @@ fn with_identifier(
         return Move::Refused(refusals::WRONG_TYPE, 0);
     }
     let at = m.frames;
-    let identifier = memory[at + 6] as usize;
+    let identifier = memory[at + fields::OTHER] as usize;
     let facing = Facing {
         place: m.value,
         bus: m.from,
@@ -202,14 +203,14 @@ fn against(
     ensures { λ r. ⌜ TakesToWrite (source (now (text .entry)) (now (work .entry)) (now (refs .entry))) (now (memory .entry)) (now (memory .entry)) (now (table .entry)) (now (table .exit)) m r ⌝ }
 {
     let at = m.frames;
-    let k = memory[at + 1] as usize;
+    let k = memory[at + fields::ENTRY] as usize;
     let operator = infix_at(work, k);
     if codes::UNEQUAL < operator {
         return Move::Refused(refusals::WRONG_TYPE, 0);
     }
-    let width = memory[NOTE * facing.bus + 1];
-    let first = memory[NOTE * facing.bus + 2];
-    let entry = memory[NOTE * facing.identifier + 1] as usize;
+    let width = memory[NOTE * facing.bus + fields::NOTE_NUMBER];
+    let first = memory[NOTE * facing.bus + fields::NOTE_ADDRESS];
+    let entry = memory[NOTE * facing.identifier + fields::NOTE_NUMBER] as usize;
     let end = words_end(work, entry);
     if widths_are(work, entry + 1, end, width) {
         let n = one_of(text, work, entry + 1, end, first, table, m.nodes);

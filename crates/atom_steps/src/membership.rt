@@ -2,6 +2,7 @@
 use machine::Machine;
 use machine::Move;
 use machine::capped;
+use machine::fields;
 use machine::modes;
 use machine::phases;
 use memory_sets::Span;
@@ -52,7 +53,7 @@ pub fn among(
     if m.mode != modes::SET {
         return Move::Refused(refusals::WRONG_TYPE, 0);
     }
-    let x = memory[m.frames + 5];
+    let x = memory[m.frames + fields::VALUE];
     let set = Span {
         at: m.from,
         count: m.value as usize,

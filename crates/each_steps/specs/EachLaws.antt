@@ -25,6 +25,7 @@ use Rattle.operators.specs.Codes.{bigCode}
 use Rattle.operators.specs.Tables.{prefixCodeAt}
 use Rattle.operands.specs.Entries.{kindAt, numberAt}
 use Rattle.operands.specs.Working.{Source}
+use Rattle.machine.specs.Fields.{entryField, valueField}
 use Rattle.machine.specs.Phases as Phase
 use Rattle.machine.specs.Came.{Expand, Came, nodes}
 use Rattle.machine.specs.Frames.{OverEach, FirstEach, NextEach, connective, formulaAt, onwardFormulas, apply}
@@ -92,15 +93,15 @@ module _ {s : Source} {mem out : List ℕ} {m : Machine} (w : Waiting mem m Phas
       let h = top-as (t .top) (v .7) in
       turnable h {phase = Phase.nextEach} {rest = v .6} {forms = record { formula = v .4; end = v .5 } ∷ []} refl (t .lent .small) few
 
-  pub next-small : ToppedToWrite s mem out m → prefixCodeAt (numberAt (s .work) (getD mem (m .frames + 1) 0)) < 16
+  pub next-small : ToppedToWrite s mem out m → prefixCodeAt (numberAt (s .work) (getD mem (m .frames + entryField) 0)) < 16
   next-small t =
       let v = by-phase (t .top .frame) Phase.nextEach (top-phase (t .top) ∙ w .phase) in
       let h = top-as (t .top) (v .7) in
       let e = ap (λ (j : ℕ). prefixCodeAt (numberAt (s .work) j)) (entry-word h) ∙ h .at .waits .0 .here .spelt ∙ connective-code (v .0) (h .at .waits .2) in
       subst (λ (j : ℕ). j < 16) (sym e) (binary-small (connective (v .0)))
 
-  pub next-steps : m .mode ≡ isNodes → {k op folded r n : ℕ} {mem' out' : List ℕ} {u : Move} → k ≡ getD mem (m .frames + 1) 0 → op ≡ prefixCodeAt (numberAt (s .work) k)
-      → folded ≡ getD mem (m .frames + 5) 0 → Joins op out out' folded (m .nodes) r → n ≡ min r (suc maxNodes) → Onward mem mem' m n u → TakesToWrite s mem mem' out out' m u
+  pub next-steps : m .mode ≡ isNodes → {k op folded r n : ℕ} {mem' out' : List ℕ} {u : Move} → k ≡ getD mem (m .frames + entryField) 0 → op ≡ prefixCodeAt (numberAt (s .work) k)
+      → folded ≡ getD mem (m .frames + valueField) 0 → Joins op out out' folded (m .nodes) r → n ≡ min r (suc maxNodes) → Onward mem mem' m n u → TakesToWrite s mem mem' out out' m u
   next-steps e {k} {op} {folded} {r} {n} {mem'} {out'} {u} ek eo ef j en on = record {
     turns = λ R x o t.
         let v = by-phase (t .frame) Phase.nextEach (top-phase t ∙ w .phase) in
@@ -143,7 +144,7 @@ module _ {s : Source} {mem out : List ℕ} {m : Machine} (w : Waiting mem m Phas
         let h = top-as (t .top) (v .4) in
         beginning h {phase = Phase.overEach} refl (came-set (t .realm) (t .began) mem m (h .came) (h .come) e) (t .lent .small) (omega arith)
 
-    module _ {k kind : ℕ} (ek : k ≡ getD mem (m .frames + 1) 0) (ei : kind ≡ kindAt (s .work) k) where
+    module _ {k kind : ℕ} (ek : k ≡ getD mem (m .frames + entryField) 0) (ei : kind ≡ kindAt (s .work) k) where
       kind-is : {R : Realm s} {x : Result Came} {o : Began} {op : Big} {c : Context} {i : Token} {a : Expr} (h : TopOf R mem out m x o (OverEach op c i a)) → kind ≡ Kind.big op
       kind-is h = ei ∙ ap (kindAt (s .work)) (ek ∙ entry-word h) ∙ h .at .waits .0 .here .kind
 

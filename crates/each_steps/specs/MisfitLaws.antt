@@ -16,7 +16,7 @@ use Rattle.machine.specs.ComeLaws.{misfit-then}
 use Rattle.machine.specs.OperandLaws.{operand-view}
 use Rattle.machine.specs.declared.Machine.{Machine}
 use Rattle.machine.specs.declared.Move.the-variants.{Next, Refused as Refuses}
-use Rattle.machine.specs.EnteringLaws.{works-value, works-formula, operand-shape}
+use Rattle.machine.specs.EnteringLaws.{works-value, works-formula, operand-making}
 use Rattle.each_steps.specs.Misfits.{Logical, Formless}
 
 pub logic-steps : {s : Source} {mem : List ℕ} {m : Machine} → Logical (s .work) m → Steps s mem mem m (Next (came m isLogic 0 0))
@@ -33,6 +33,6 @@ misfit-steps k = record {
   turns = λ R x o out h.
       let e = k .mode in
       let n = entered h (omega arith) in
-      let v = operand-shape (n .at .operand) (k .shape) in
+      let v = operand-making (n .at .operand) (k .making) in
       fails n (works-formula n e ∙ misfit-then nodes (v (n .context)));
 }

@@ -4,7 +4,7 @@ use mathlib.Core.List.{List}
 use mathlib.Core.Path.{_≡_}
 use Rattle.operands.specs.Entries.{kindAt}
 use Rattle.operands.specs.Classes.{aFormula, classOf}
-use Rattle.operands.specs.Shapes.{aMisfit, shapeOf}
+use Rattle.operands.specs.Makings.{aMisfit, makingOf}
 use Rattle.machine.specs.Came.{Evaluate, Expand}
 use Rattle.machine.specs.States.{modeOf}
 use Rattle.machine.specs.declared.Machine.{Machine}
@@ -17,4 +17,4 @@ pub record Logical (work : List ℕ) (m : Machine) : Type 0 where
 -- the entry is no formula's, asked for as one
 pub record Formless (work : List ℕ) (m : Machine) : Type 0 where
   pub mode : m .mode ≡ modeOf Expand
-  pub shape : shapeOf (kindAt work (m .value)) ≡ aMisfit
+  pub making : makingOf (kindAt work (m .value)) ≡ aMisfit

@@ -4,6 +4,7 @@ use mathlib.Core.List.{List}
 use mathlib.Core.Path.{_≡_}
 use lib.ListN.{length, getD}
 use Rattle.node.specs.Limits.{maxNodes}
+use Rattle.machine.specs.Fields.{baseField, atField, countField}
 use Rattle.machine.specs.Phases as Phase
 use Rattle.machine.specs.Came.{Expand}
 use Rattle.machine.specs.Memory.{frameWords}
@@ -21,10 +22,10 @@ closed m base nodes = unbound (wrote m nodes) isNodes 0 0 base
 
 -- how many elements are left to the last frame
 abbrev pub leftOf : List ℕ → Machine → ℕ
-leftOf mem m = getD mem (m .frames + 4) 0
+leftOf mem m = getD mem (m .frames + countField) 0
 
 abbrev pub baseOf : List ℕ → Machine → ℕ
-baseOf mem m = getD mem (m .frames + 2) 0
+baseOf mem m = getD mem (m .frames + baseField) 0
 
 -- the last frame is a big operator's
 pub record Turnable (mem : List ℕ) (m : Machine) (nodes : ℕ) : Type 0 where
@@ -38,4 +39,4 @@ pub record Turnable (mem : List ℕ) (m : Machine) (nodes : ℕ) : Type 0 where
 pub record Onward (mem mem' : List ℕ) (m : Machine) (nodes : ℕ) (r : Move) : Type 0 where
   pub last : leftOf mem m ≡ 0 → (mem' ≡ mem) × (r ≡ Next (closed m (baseOf mem m) nodes))
   pub more : 0 < leftOf mem m → (n : Machine) × (r ≡ Next n)
-      × Turns mem mem' (wrote m nodes) (nextAt (wordsAt mem (m .frames)) Phase.nextEach nodes 0) (m .depth - 1) (getD mem (getD mem (m .frames + 3) 0) 0) (modeOf Expand) (m .top) n
+      × Turns mem mem' (wrote m nodes) (nextAt (wordsAt mem (m .frames)) Phase.nextEach nodes 0) (m .depth - 1) (getD mem (getD mem (m .frames + atField) 0) 0) (modeOf Expand) (m .top) n

@@ -13,6 +13,7 @@ use Rattle.language.specs.Operators.{Big}
 use Rattle.language.specs.Tree.{Expr}
 use Rattle.language.specs.Expansion.{Context, joined}
 use Rattle.operands.specs.Working.{Source}
+use Rattle.machine.specs.Fields.{atField}
 use Rattle.machine.specs.Phases as Phase
 use Rattle.machine.specs.Came.{Expand, Came, Nodes, nodes}
 use Rattle.machine.specs.Frames.{Frame, NextEach, connective, formulaAt, onwardFormulas, apply}
@@ -139,12 +140,12 @@ module _ {mem : List ℕ} {m w : Machine} {nodes : ℕ} (some : leftOf mem m ≡
   onward-asks t = subst (λ (y : Machine). Continuing mem y 0) (sym e) (t .next (omega arith))
 
   pub onward-more : {mem' : List ℕ} {n : Machine}
-      → Turns mem mem' w (nextAt (wordsAt mem (w .frames)) Phase.nextEach nodes 0) (w .depth - 1) (getD mem (getD mem (w .frames + 3) 0) 0) (modeOf Expand) (m .top) n → Onward mem mem' m nodes (Next n)
+      → Turns mem mem' w (nextAt (wordsAt mem (w .frames)) Phase.nextEach nodes 0) (w .depth - 1) (getD mem (getD mem (w .frames + atField) 0) 0) (modeOf Expand) (m .top) n → Onward mem mem' m nodes (Next n)
   onward-more {mem'} {n} t = record {
     last = λ l. absurd (some l);
     more = λ l. (
       n,
       refl,
-      subst (λ (y : Machine). Turns mem mem' y (nextAt (wordsAt mem (y .frames)) Phase.nextEach nodes 0) (y .depth - 1) (getD mem (getD mem (y .frames + 3) 0) 0) (modeOf Expand) (m .top) n) e t,
+      subst (λ (y : Machine). Turns mem mem' y (nextAt (wordsAt mem (y .frames)) Phase.nextEach nodes 0) (y .depth - 1) (getD mem (getD mem (y .frames + atField) 0) 0) (modeOf Expand) (m .top) n) e t,
     );
   }

@@ -6,6 +6,7 @@ use machine::FRAME;
 use machine::Machine;
 use machine::Move;
 use machine::capped;
+use machine::fields;
 use machine::modes;
 use machine::phases;
 use node::MAX_NODES;
@@ -51,7 +52,7 @@ pub fn elements(
     if m.mode != modes::SET {
         return Move::Refused(refusals::WRONG_TYPE, 0);
     }
-    let k = memory[m.frames + 1] as usize;
+    let k = memory[m.frames + fields::ENTRY] as usize;
     if kind_at(work, k) < kinds::BIG_FORMULAS {
         return Move::Refused(refusals::WRONG_TYPE, 0);
     }
@@ -91,8 +92,8 @@ pub fn next(
         return Move::Refused(refusals::WRONG_TYPE, 0);
     }
     let at = m.frames;
-    let k = memory[at + 1] as usize;
-    let folded = memory[at + 5] as usize;
+    let k = memory[at + fields::ENTRY] as usize;
+    let folded = memory[at + fields::VALUE] as usize;
     let n = join(prefix_at(work, k), folded, m.nodes, table);
     onward(memory, m, capped(n))
 }
@@ -103,8 +104,8 @@ fn onward(memory: &mut [u32], m: Machine, nodes: usize) -> Move
     ensures { λ r. ⌜ Onward (now (memory .entry)) (now (memory .exit)) m nodes r ⌝ }
 {
     let at = m.frames;
-    if memory[at + 4] == 0 {
-        let base = memory[at + 2] as usize;
+    if memory[at + fields::COUNT] == 0 {
+        let base = memory[at + fields::BASE] as usize;
         return Move::Next(closed(m, base, nodes));
     }
     Move::Next(again(

@@ -11,6 +11,7 @@ use Rattle.language.specs.Tree.{Expr}
 use Rattle.language.specs.Values.{Value}
 use Rattle.language.specs.Expansion.{Context, at}
 use Rattle.operands.specs.Working.{Source}
+use Rattle.machine.specs.Fields.{entryField, baseField, atField, countField}
 use Rattle.machine.specs.Came.{Aim, Came, Worth, works}
 use Rattle.machine.specs.Frames.{Frame, apply, Kept}
 use Rattle.machine.specs.Realm.{Realm}
@@ -96,8 +97,8 @@ module _ {s : Source} {R : Realm s} {mem out : List ℕ} {m : Machine} {x : Resu
     pub words-kept : drop (m .frames) mem₀ ≡ drop (m .frames) mem
     pub agree : Agree (o .regions) mem mem₀ (h .ground .depth) (words h .base) (m .frames + frameWords)
     pub some : Split mem₀ (words h .at) l
-    pub framed : Framed (set mem₀ (m .depth - 1) (getD mem₀ (getD mem₀ (m .frames + 3) 0) 0)) mem' (m .frames) (nextAt (wordsAt mem₀ (m .frames)) new value other)
-    pub next : n ≡ turned m (modeOf a) (getD mem₀ (m .frames + 1) 0 - 1) (m .depth - 1) top nodes
+    pub framed : Framed (set mem₀ (m .depth - 1) (getD mem₀ (getD mem₀ (m .frames + atField) 0) 0)) mem' (m .frames) (nextAt (wordsAt mem₀ (m .frames)) new value other)
+    pub next : n ≡ turned m (modeOf a) (getD mem₀ (m .frames + entryField) 0 - 1) (m .depth - 1) top nodes
     pub is-turning : holding G ≡ turning new (some .rest) fold' forms'
     pub lower : words h .base ≤ top
     pub high : top ≤ words h .base + h .ground .reserved
@@ -120,12 +121,12 @@ module _ {s : Source} {R : Realm s} {mem out : List ℕ} {m : Machine} {x : Resu
   continues {G} {new} {value} {other} {fold'} {forms'} {a} {c} {i} {e} {mem₀} {mem'} {out'} {top} {nodes} {n} b =
       let p = b .some in
       let kept = b .words-kept ∙ h .at .words in
-      let e1 : getD mem₀ (m .frames + 1) 0 ≡ words h .entry = word-of mem₀ (m .frames) 1 kept in
-      let e2 : getD mem₀ (m .frames + 2) 0 ≡ words h .base = word-of mem₀ (m .frames) 2 kept in
-      let e3 : getD mem₀ (m .frames + 3) 0 ≡ words h .at = word-of mem₀ (m .frames) 3 kept in
-      let e4 : getD mem₀ (m .frames + 4) 0 ≡ words h .count = word-of mem₀ (m .frames) 4 kept in
+      let e1 : getD mem₀ (m .frames + entryField) 0 ≡ words h .entry = word-of mem₀ (m .frames) 1 kept in
+      let e2 : getD mem₀ (m .frames + baseField) 0 ≡ words h .base = word-of mem₀ (m .frames) 2 kept in
+      let e3 : getD mem₀ (m .frames + atField) 0 ≡ words h .at = word-of mem₀ (m .frames) 3 kept in
+      let e4 : getD mem₀ (m .frames + countField) 0 ≡ words h .count = word-of mem₀ (m .frames) 4 kept in
       let same-words : nextAt (wordsAt mem₀ (m .frames)) new value other ≡ nextAt (words h) new value other = rw (e1, e2, e3, e4) in
-      let same-element : getD mem₀ (getD mem₀ (m .frames + 3) 0) 0 ≡ getD mem₀ (words h .at) 0 = ap (λ (j : ℕ). getD mem₀ j 0) e3 in
+      let same-element : getD mem₀ (getD mem₀ (m .frames + atField) 0) 0 ≡ getD mem₀ (words h .at) 0 = ap (λ (j : ℕ). getD mem₀ j 0) e3 in
       let v = getD mem₀ (words h .at) 0 in
       let td = turning-depth in
       let sz : words h .count ≡ suc (length (p .rest)) = turning-count ∙ ap length (p .same) in

@@ -7,6 +7,7 @@ use lib.ListN.{length, getD}
 use lib.Seq.{getD-drop}
 use Rattle.language.specs.Expansion.{at}
 use Rattle.memory_sets.specs.Places.{Copied}
+use Rattle.machine.specs.Fields.{baseField, atField, countField}
 use Rattle.machine.specs.Memory.{firstKept, setWords, Lies, nowhere, keptSet, value as placed, Sits, inKept, onTop}
 use Rattle.machine.specs.MemoryLaws.{word-of}
 use Rattle.machine.specs.declared.Machine.{Machine}
@@ -40,7 +41,7 @@ sits-rests e f (inKept p q) = kept p (omega arith)
 sits-rests e f (onTop p) = high (omega arith) (omega arith)
 
 -- what the functions that it calls ask for
-module _ {mem : List ℕ} {m : Machine} {from n : ℕ} (f : Foldable mem m from n) (some : 0 < getD mem (m .frames + 4) 0) where
+module _ {mem : List ℕ} {m : Machine} {from n : ℕ} (f : Foldable mem m from n) (some : 0 < getD mem (m .frames + countField) 0) where
   pub foldable-continuing : Continuing mem m from
   foldable-continuing =
       let i = f .inside in
@@ -48,7 +49,7 @@ module _ {mem : List ℕ} {m : Machine} {from n : ℕ} (f : Foldable mem m from 
       let l = f .fits in
       record { inside = i; small = s; some = some; from = f .rest some; bound = f .bound; slot = f .slot; entry = f .entry; numbered = omega arith }
 
-  module _ {low : ℕ} (b : Behind (getD mem (m .frames + 2) 0) (getD mem (m .frames + 3) 0) (getD mem (m .frames + 4) 0) low) (u : getD mem (m .frames + 2) 0 ≤ from) where
+  module _ {low : ℕ} (b : Behind (getD mem (m .frames + baseField) 0) (getD mem (m .frames + atField) 0) (getD mem (m .frames + countField) 0) low) (u : getD mem (m .frames + baseField) 0 ≤ from) where
     pub record Lowers : Type 0 where
       pub down : low ≤ from
       pub inside : from + n ≤ length mem

@@ -13,6 +13,7 @@ use Rattle.language.specs.Expansion.{Context, at}
 use Rattle.operands.specs.Working.{Source}
 use Rattle.memory_sets.specs.Places.{Outside}
 use Rattle.memory_sets.specs.PlaceLaws.{outside-both, outside-within}
+use Rattle.machine.specs.Fields.{entryField, baseField, atField, countField}
 use Rattle.machine.specs.Phases as Phase
 use Rattle.machine.specs.Came.{Evaluate, Came, Worth}
 use Rattle.machine.specs.Frames.{Frame, NextSet, onwardSets, apply}
@@ -120,16 +121,16 @@ module _ {s : Source} {R : Realm s} {mem out : List ℕ} {m : Machine} {x : Resu
     same-words : drop (m .frames) mem₀ ≡ drop (m .frames) mem
     same-words = let z1 = limits .base-low in let z2 = limits .top-high in b .kept .above (m .frames) (omega arith)
 
-    entry₀ : getD mem₀ (m .frames + 1) 0 ≡ words h .entry
+    entry₀ : getD mem₀ (m .frames + entryField) 0 ≡ words h .entry
     entry₀ = word-of mem₀ (m .frames) 1 (same-words ∙ h .at .words)
 
-    base₀ : getD mem₀ (m .frames + 2) 0 ≡ words h .base
+    base₀ : getD mem₀ (m .frames + baseField) 0 ≡ words h .base
     base₀ = word-of mem₀ (m .frames) 2 (same-words ∙ h .at .words)
 
-    at₀ : getD mem₀ (m .frames + 3) 0 ≡ words h .at
+    at₀ : getD mem₀ (m .frames + atField) 0 ≡ words h .at
     at₀ = word-of mem₀ (m .frames) 3 (same-words ∙ h .at .words)
 
-    count₀ : getD mem₀ (m .frames + 4) 0 ≡ length l
+    count₀ : getD mem₀ (m .frames + countField) 0 ≡ length l
     count₀ = word-of mem₀ (m .frames) 4 (same-words ∙ h .at .words) ∙ turning-count h f
 
     -- a kept set lies below the frame's base, another one above the values
@@ -158,7 +159,8 @@ module _ {s : Source} {R : Realm s} {mem out : List ℕ} {m : Machine} {x : Resu
     outside₀ = let z1 = limits .base-low in let z2 = limits .top-high in outside-within z1 (omega arith) (b .kept)
 
     -- the place behind the elements that are left
-    behind : {low : ℕ} → 0 < getD mem₀ (m .frames + 4) 0 → Behind (getD mem₀ (m .frames + 2) 0) (getD mem₀ (m .frames + 3) 0) (getD mem₀ (m .frames + 4) 0) low → Room (words h .base) (m .top) (words h .at) (length l) low
+    behind : {low : ℕ} → 0 < getD mem₀ (m .frames + countField) 0
+        → Behind (getD mem₀ (m .frames + baseField) 0) (getD mem₀ (m .frames + atField) 0) (getD mem₀ (m .frames + countField) 0) low → Room (words h .base) (m .top) (words h .at) (length l) low
     behind {low} q g =
         let c0 = count₀ in
         let z1 = limits .free in
@@ -206,7 +208,7 @@ module _ {s : Source} {R : Realm s} {mem out : List ℕ} {m : Machine} {x : Resu
       near : other ≤ words h .base + setWords
 
     holds-on : {low other top : ℕ} {mem₂ mem' : List ℕ} {y : Machine} → Holding₂ low other top mem₂
-        → Turns mem₂ mem' m (nextAt (wordsAt mem₂ (m .frames)) Phase.nextSet n other) (m .depth - 1) (getD mem₂ (getD mem₂ (m .frames + 3) 0) 0) (modeOf Evaluate) top y → Turned R mem mem' out out m x o (Next y)
+        → Turns mem₂ mem' m (nextAt (wordsAt mem₂ (m .frames)) Phase.nextSet n other) (m .depth - 1) (getD mem₂ (getD mem₂ (m .frames + atField) 0) 0) (modeOf Evaluate) top y → Turned R mem mem' out out m x o (Next y)
     holds-on {low} {other} {top} {mem₂} {mem'} {y} g t =
         let k = keeps (g .outside) in
         let r = g .room in
@@ -282,7 +284,7 @@ module _ {s : Source} {R : Realm s} {mem out : List ℕ} {m : Machine} {x : Resu
           same = b .same ∙ ap (λ (u : List ℕ). onwardSets p op c i e u a) none ∙ fold-end p op c i e a;
           base-is = base₀;
           tells = record { mode-is = refl; count = b .size; fine = b .fine };
-          stands = (held-words mem' (getD mem₀ (m .frames + 2) 0) a (λ j u. g .words j (omega arith) ∙ held-word mem₀ from a (b .held) j u), onTop refl);
+          stands = (held-words mem' (getD mem₀ (m .frames + baseField) 0) a (λ j u. g .words j (omega arith) ∙ held-word mem₀ from a (b .held) j u), onTop refl);
           agree = k .agree;
           noted = k .noted;
           lasting = k .lasting;

@@ -21,6 +21,7 @@ use Rattle.operators.specs.Codes.{bigCode}
 use Rattle.operators.specs.Tables.{prefixCodeAt}
 use Rattle.operands.specs.Entries.{placeAt, numberAt as tokenNumber}
 use Rattle.operands.specs.Working.{Source}
+use Rattle.machine.specs.Fields.{entryField, valueField}
 use Rattle.machine.specs.Phases as Phase
 use Rattle.machine.specs.Came.{Evaluate, Came, worth, works, asNumber}
 use Rattle.machine.specs.Frames.{Frame, FirstNumber, NextNumber, numeric, numberAt, onwardNumbers, apply}
@@ -197,10 +198,10 @@ module _ {s : Source} {mem : List ℕ} {m : Machine} (w : Waiting mem m Phase.fi
 
 -- the frame's words as the code reads them, and what it makes of them
 pub record Adds (s : Source) (mem : List ℕ) (m : Machine) (k i p a : ℕ) (r : Worked) : Type 0 where
-  pub entry : k ≡ getD mem (m .frames + 1) 0
+  pub entry : k ≡ getD mem (m .frames + entryField) 0
   pub operator : i ≡ prefixCodeAt (tokenNumber (s .work) k)
   pub place : p ≡ placeAt (s .work) k
-  pub folded : a ≡ getD mem (m .frames + 5) 0
+  pub folded : a ≡ getD mem (m .frames + valueField) 0
   pub answer : says r ≡ calculate p (arithmetic i) a (m .value)
 
 -- the code's number is the definition's

@@ -17,6 +17,7 @@ use Rattle.operators.specs.Tables.{prefixCodeAt}
 use Rattle.operands.specs.Entries.{kindAt, placeAt, numberAt as tokenNumber}
 use Rattle.operands.specs.KindLaws.{big-class}
 use Rattle.operands.specs.Working.{Source}
+use Rattle.machine.specs.Fields.{entryField}
 use Rattle.machine.specs.Phases as Phase
 use Rattle.machine.specs.Came.{Evaluate, Came, Worth, worth, works, asNumber, asSet}
 use Rattle.machine.specs.Frames.{Over, FirstNumber, FirstSet, merging, numberAt, setAt, apply}
@@ -161,7 +162,7 @@ module _ {s : Source} {mem : List ℕ} {m : Machine} (w : Waiting mem m Phase.ov
         let h = at-over (t .top) w .top in
         beginning h {phase = Phase.over} refl (came-set (t .realm) (t .began) mem m (h .came) (h .come) e) (t .lent .small) (omega arith)
 
-    module _ {k : ℕ} (ek : k ≡ getD mem (m .frames + 1) 0) where
+    module _ {k : ℕ} (ek : k ≡ getD mem (m .frames + entryField) 0) where
       here : {R : Realm s} {out : List ℕ} {x : Result Came} {o : Began} (y : AtOver R mem out m x o) → OpAt s k (Folds (y .op)) (y .place)
       here y = subst (λ (j : ℕ). OpAt s j (Folds (y .op)) (y .place)) (sym (ek ∙ entry-word (y .top))) (y .top .at .waits .0)
 

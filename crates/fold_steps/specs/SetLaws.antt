@@ -23,6 +23,7 @@ use Rattle.operands.specs.Working.{Source}
 use Rattle.memory_sets.specs.Places.{elementsAt, Two, SetAt}
 use Rattle.memory_sets.specs.PlacedLaws.{words-of, combine-sane}
 use Rattle.memory_sets.specs.PlaceLaws.{outside-none, outside-within}
+use Rattle.machine.specs.Fields.{entryField, valueField, otherField}
 use Rattle.machine.specs.Phases as Phase
 use Rattle.machine.specs.Came.{Came, asSet}
 use Rattle.machine.specs.Frames.{FirstSet, NextSet, merging, onwardSets, apply}
@@ -41,6 +42,7 @@ use Rattle.machine.specs.declared.Machine.{Machine}
 use Rattle.machine.specs.declared.Move.{Move}
 use Rattle.machine.specs.declared.Move.the-variants.{Refused as Refuses}
 use Rattle.machine.specs.Entering.{Waiting}
+use Rattle.value_steps.specs.CombinedLaws.{answer}
 use Rattle.value_steps.specs.PlacedLaws.{elements-are, placed as set-placed}
 use Rattle.fold_steps.specs.SetFolds.{setwise, setwise-code, merge-same}
 use Rattle.fold_steps.specs.FoldPlaces.{high, sits-rests}
@@ -131,19 +133,16 @@ module _ {s : Source} {mem : List ℕ} {m : Machine} (w : Waiting mem m Phase.fi
 
 -- the frame's words as the code reads them
 pub record Reads (s : Source) (mem : List ℕ) (m : Machine) (k i p la lc to : ℕ) : Type 0 where
-  pub entry : k ≡ getD mem (m .frames + 1) 0
+  pub entry : k ≡ getD mem (m .frames + entryField) 0
   pub operator : i ≡ prefixCodeAt (numberAt (s .work) k)
   pub place : p ≡ placeAt (s .work) k
-  pub folded-at : la ≡ getD mem (m .frames + 6) 0
-  pub folded-count : lc ≡ getD mem (m .frames + 5) 0
+  pub folded-at : la ≡ getD mem (m .frames + otherField) 0
+  pub folded-count : lc ≡ getD mem (m .frames + valueField) 0
   pub to-is : to ≡ m .frames - setWords
-
-abbrev answer : List ℕ → Machine → (la lc i p : ℕ) → Result (List ℕ)
-answer mem m la lc i p = limited p (combine (combination i) (elementsAt mem (record { at = la; count = lc })) (elementsAt mem (record { at = m .from; count = m .value })))
 
 -- the operand at a further element has come
 module _ {s : Source} {mem : List ℕ} {m : Machine} (w : Waiting mem m Phase.nextSet) where
-  module _ (e : m .mode ≡ isSet) {la lc to : ℕ} (ea : la ≡ getD mem (m .frames + 6) 0) (ec : lc ≡ getD mem (m .frames + 5) 0) (et : to ≡ m .frames - setWords) where
+  module _ (e : m .mode ≡ isSet) {la lc to : ℕ} (ea : la ≡ getD mem (m .frames + otherField) 0) (ec : lc ≡ getD mem (m .frames + valueField) 0) (et : to ≡ m .frames - setWords) where
     -- both sets, and the place below the frames
     record Both {R : Realm s} {out : List ℕ} {x : Result Came} {o : Began} (y : AtNext R mem out m x o) (g : IsSet mem m (y .top .came)) : Type 0 where
       two : Two mem (record { at = la; count = lc }) (record { at = m .from; count = m .value }) to

@@ -4,6 +4,7 @@ use mathlib.Core.List.{List}
 use mathlib.Core.Path.{_≡_}
 use lib.ListN.{length, getD, set}
 use Rattle.language.specs.Limits.{maxElements}
+use Rattle.machine.specs.Fields.{entryField, atField, countField}
 use Rattle.machine.specs.Memory.{frameWords, Framed}
 use Rattle.machine.specs.declared.Words.{Words}
 use Rattle.machine.specs.declared.Machine.{Machine}
@@ -22,7 +23,7 @@ abbrev pub begunAt : Machine → (entry phase : ℕ) → Words
 begunAt m entry phase = record { phase = phase; entry = entry; base = m .top; at = m .from + 1; count = m .value - 1; value = 0; other = 0 }
 
 abbrev pub begun : List ℕ → Machine → ℕ → Words
-begun mem m phase = begunAt m (getD mem (m .frames + 1) 0) phase
+begun mem m phase = begunAt m (getD mem (m .frames + entryField) 0) phase
 
 -- what function `begin` asks for
 pub record Beginning (mem : List ℕ) (m : Machine) : Type 0 where
@@ -33,7 +34,7 @@ pub record Beginning (mem : List ℕ) (m : Machine) : Type 0 where
   pub from : m .from < length mem
   pub slot : m .depth < length mem
   pub top : m .top < length mem
-  pub entry : 0 < getD mem (m .frames + 1) 0
+  pub entry : 0 < getD mem (m .frames + entryField) 0
 
 -- a frame's words as they are read; those of the frame at the next element
 abbrev pub wordsAt : List ℕ → ℕ → Words
@@ -54,11 +55,11 @@ nextAt w phase value other = record { phase = phase; entry = w .entry; base = w 
 pub record Continuing (mem : List ℕ) (m : Machine) (other : ℕ) : Type 0 where
   pub inside : m .frames + frameWords ≤ length mem
   pub small : length mem < 2 ^ 32
-  pub some : 0 < getD mem (m .frames + 4) 0
-  pub from : getD mem (m .frames + 3) 0 < length mem
+  pub some : 0 < getD mem (m .frames + countField) 0
+  pub from : getD mem (m .frames + atField) 0 < length mem
   pub bound : 0 < m .depth
   pub slot : m .depth ≤ length mem
-  pub entry : 0 < getD mem (m .frames + 1) 0
+  pub entry : 0 < getD mem (m .frames + entryField) 0
   pub numbered : other < 2 ^ 32
 
 -- no element is left: the name's slot is free again

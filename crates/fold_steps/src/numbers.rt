@@ -2,14 +2,15 @@
 use machine::FRAME;
 use machine::Machine;
 use machine::Move;
+use machine::fields;
 use machine::modes;
 use machine::phases;
+use machine::unworked;
 use node::refusals;
 use operands::entry::place_at;
 use operands::entry::prefix_at;
 use sets::Worked;
 use sets::numbers;
-use value_steps::unworked;
 ghost use Rattle.machine.specs.Phases as Phase;
 ghost use Rattle.machine.specs.States.{Topped, Takes};
 ghost use Rattle.operands.specs.Working.{source};
@@ -23,14 +24,14 @@ fn onward(memory: &mut [u32], m: Machine, folded: u32) -> Move
     ensures { λ r. ⌜ Onward (now (memory .entry)) (now (memory .exit)) m folded r ⌝ }
 {
     let at = m.frames;
-    if memory[at + 4] == 0 {
+    if memory[at + fields::COUNT] == 0 {
         return Move::Next(Machine {
             mode: modes::NUMBER,
             value: folded,
             from: 0,
             scope: m.scope,
             depth: m.depth - 1,
-            top: memory[at + 2] as usize,
+            top: memory[at + fields::BASE] as usize,
             frames: at + FRAME,
             nodes: m.nodes,
         });
@@ -68,8 +69,8 @@ pub fn next(text: &[u8], work: &[u8], refs: &[u16], memory: &mut [u32], m: Machi
         return Move::Refused(refusals::WRONG_TYPE, 0);
     }
     let at = m.frames;
-    let k = memory[at + 1] as usize;
-    let a = memory[at + 5];
+    let k = memory[at + fields::ENTRY] as usize;
+    let a = memory[at + fields::VALUE];
     let r = numbers::calculate(place_at(work, k), prefix_at(work, k), a, m.value);
     let Worked::Value(n) = r else {
         return unworked(r);

@@ -2,6 +2,7 @@
 use entries::kinds;
 use machine::Machine;
 use machine::Move;
+use machine::fields;
 use machine::modes;
 use machine::phases;
 use node::refusals;
@@ -54,7 +55,7 @@ pub fn elements(text: &[u8], work: &[u8], refs: &[u16], memory: &mut [u32], m: M
         return Move::Refused(refusals::WRONG_TYPE, 0);
     }
     let at = m.frames;
-    let k = memory[at + 1] as usize;
+    let k = memory[at + fields::ENTRY] as usize;
     let kind = kind_at(work, k);
     if kind >= kinds::BIG_FORMULAS {
         return Move::Next(m.popped().came(modes::LOGIC, 0, 0));

@@ -3,8 +3,10 @@ use language::limits;
 use machine::FRAME;
 use machine::Machine;
 use machine::Move;
+use machine::fields;
 use machine::modes;
 use machine::phases;
+use machine::unworked;
 use memory_sets::Span;
 use memory_sets::moving::lower;
 use memory_sets::two::combine;
@@ -12,7 +14,6 @@ use node::refusals;
 use operands::entry::place_at;
 use operands::entry::prefix_at;
 use sets::Worked;
-use value_steps::unworked;
 ghost use mathlib.Core.Path.{_≡_};
 ghost use Prim.Native.Nat.{_+_, _-_, _<_, _^_};
 ghost use Rattle.machine.specs.Phases as Phase;
@@ -60,9 +61,9 @@ fn onward(memory: &mut [u32], m: Machine, from: usize, n: u32) -> Move
     ensures { λ r. ⌜ Onward (now (memory .entry)) (now (memory .exit)) m from n r ⌝ }
 {
     let at = m.frames;
-    let base = memory[at + 2] as usize;
-    let rest = memory[at + 3] as usize;
-    let count = memory[at + 4] as usize;
+    let base = memory[at + fields::BASE] as usize;
+    let rest = memory[at + fields::AT] as usize;
+    let count = memory[at + fields::COUNT] as usize;
     if count == 0 {
         if from < base {
             return ended(m, from, n, base);
@@ -108,10 +109,10 @@ pub fn next(text: &[u8], work: &[u8], refs: &[u16], memory: &mut [u32], m: Machi
         return Move::Refused(refusals::WRONG_TYPE, 0);
     }
     let at = m.frames;
-    let k = memory[at + 1] as usize;
+    let k = memory[at + fields::ENTRY] as usize;
     let folded = Span {
-        at: memory[at + 6] as usize,
-        count: memory[at + 5] as usize,
+        at: memory[at + fields::OTHER] as usize,
+        count: memory[at + fields::VALUE] as usize,
     };
     let operand = Span {
         at: m.from,

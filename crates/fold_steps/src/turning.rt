@@ -1,12 +1,14 @@
 // The elements of a big operator's set, one after the other.
 use machine::Machine;
 use machine::Words;
+use machine::fields;
 use machine::frame;
 ghost use Prim.Native.Nat.{_+_, _-_, _≤_, _<_, _^_};
 ghost use lib.ListN.{length, getD};
 ghost use Rattle.machine.specs.Memory.{frameWords};
 ghost use Rattle.machine.specs.Moves.{above as above'};
 ghost use Rattle.fold_steps.specs.Turning.{Turns, Beginning, begun, Continuing, wordsAt, nextAt};
+ghost use Rattle.machine.specs.Fields.{atField};
 
 // An element goes into the slot of the operator's name, the frame is written anew, and the operand, at the entry before the operator's, is worked out above `top`.
 pub fn turn(
@@ -47,7 +49,7 @@ pub fn begin(memory: &mut [u32], m: Machine, phase: u32, mode: u32) -> Machine
     let from = m.from;
     let w = Words {
         phase,
-        entry: memory[at + 1],
+        entry: memory[at + fields::ENTRY],
         base: m.top,
         at: from + 1,
         count: m.value - 1,
@@ -70,16 +72,16 @@ pub fn again(
 ) -> Machine
     requires { ⌜ Continuing (now memory) m other ⌝ }
     ensures { λ r. ⌜ Turns (now (memory .entry)) (now (memory .exit)) m (nextAt (wordsAt (now (memory .entry)) (m .frames)) phase value other) (m .depth - 1)
-        (getD (now (memory .entry)) (getD (now (memory .entry)) (m .frames + 3) 0) 0) mode top r ⌝ }
+        (getD (now (memory .entry)) (getD (now (memory .entry)) (m .frames + atField) 0) 0) mode top r ⌝ }
 {
     let at = m.frames;
-    let rest = memory[at + 3] as usize;
+    let rest = memory[at + fields::AT] as usize;
     let w = Words {
         phase,
-        entry: memory[at + 1],
-        base: memory[at + 2] as usize,
+        entry: memory[at + fields::ENTRY],
+        base: memory[at + fields::BASE] as usize,
         at: rest + 1,
-        count: memory[at + 4] - 1,
+        count: memory[at + fields::COUNT] - 1,
         value,
         other,
     };

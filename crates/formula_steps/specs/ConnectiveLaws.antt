@@ -17,8 +17,9 @@ use Rattle.language.specs.Expansion.{expansion}
 use Rattle.entries.specs.Kinds as Kind
 use Rattle.operators.specs.Tables.{infixCodeAt}
 use Rattle.operands.specs.Entries.{kindAt, numberAt}
-use Rattle.operands.specs.ShapeLaws.{connective-shape}
+use Rattle.operands.specs.MakingLaws.{connective-making}
 use Rattle.operands.specs.Working.{Source}
+use Rattle.machine.specs.Fields.{entryField, valueField}
 use Rattle.machine.specs.Phases as Phase
 use Rattle.machine.specs.Came.{Expand, nodes, works, asFormula}
 use Rattle.machine.specs.Frames.{LeftFormula, RightFormula, connected, apply}
@@ -39,7 +40,7 @@ use Rattle.machine.specs.BindLaws.{take-formula, then-nodes}
 use Rattle.machine.specs.declared.Machine.{Machine}
 use Rattle.machine.specs.declared.Move.the-variants.{Next}
 use Rattle.machine.specs.Entering.{Expands, Waiting}
-use Rattle.machine.specs.EnteringLaws.{works-formula, operand-shape}
+use Rattle.machine.specs.EnteringLaws.{works-formula, operand-making}
 
 -- the clause as its frames have it
 connective-same : (o : Binary) (a b : Result Formula) → ((a >>= λ f. b >>= λ g. Done (Two o f g)) >>= nodes) ≡ ((a >>= nodes) >>= λ v. asFormula v >>= λ f. (b >>= nodes) >>= connected o f)
@@ -55,7 +56,7 @@ connective-starts {s} {mem} {m} k =
       entry = omega arith;
       few-turns = omega arith;
       starting = λ R x o out n.
-          let v = operand-shape (n .at .operand) (connective-shape (kindAt (s .work) (m .value)) (k .from) (k .until)) in
+          let v = operand-making (n .at .operand) (connective-making (kindAt (s .work) (m .value)) (k .from) (k .until)) in
           let t = v .0 in
           let op = v .1 in
           let a = v .2 in
@@ -100,14 +101,14 @@ module _ {s : Source} {mem : List ℕ} {m : Machine} (w : Waiting mem m Phase.le
 
 -- the right operand has come
 module _ {s : Source} {mem out : List ℕ} {m : Machine} (w : Waiting mem m Phase.rightFormula) where
-  pub right-small : ToppedToWrite s mem out m → infixCodeAt (numberAt (s .work) (getD mem (m .frames + 1) 0)) < 16
+  pub right-small : ToppedToWrite s mem out m → infixCodeAt (numberAt (s .work) (getD mem (m .frames + entryField) 0)) < 16
   right-small t =
       let v = by-phase (t .top .frame) Phase.rightFormula (top-phase (t .top) ∙ w .phase) in
       let h = top-as (t .top) (v .3) in
       let e = ap (λ (j : ℕ). infixCodeAt (numberAt (s .work) j)) (entry-word h) ∙ h .at .waits .1 .spelt in
       subst (λ (j : ℕ). j < 16) (sym e) (binary-small (v .0))
 
-  pub right-steps : m .mode ≡ isNodes → {k op a r n : ℕ} {out' : List ℕ} → k ≡ getD mem (m .frames + 1) 0 → op ≡ infixCodeAt (numberAt (s .work) k) → a ≡ getD mem (m .frames + 5) 0
+  pub right-steps : m .mode ≡ isNodes → {k op a r n : ℕ} {out' : List ℕ} → k ≡ getD mem (m .frames + entryField) 0 → op ≡ infixCodeAt (numberAt (s .work) k) → a ≡ getD mem (m .frames + valueField) 0
       → Joins op out out' a (m .nodes) r → n ≡ min r (suc maxNodes) → TakesToWrite s mem mem out out' m (Next (wrote (popped m) n))
   right-steps e {k} {op} {a} {r} {n} {out'} ek eo ea j en = record {
     turns = λ R x o t.

@@ -2,6 +2,7 @@
 use machine::Machine;
 use machine::Move;
 use machine::capped;
+use machine::fields;
 use machine::modes;
 use machine::phases;
 use node::MAX_NODES;
@@ -53,8 +54,8 @@ pub fn right(
         return Move::Refused(refusals::WRONG_TYPE, 0);
     }
     let at = m.frames;
-    let k = memory[at + 1] as usize;
-    let first = memory[at + 5] as usize;
+    let k = memory[at + fields::ENTRY] as usize;
+    let first = memory[at + fields::VALUE] as usize;
     let n = join(infix_at(work, k), first, m.nodes, table);
     Move::Next(m.popped().wrote(capped(n)))
 }

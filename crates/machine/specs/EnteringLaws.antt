@@ -9,10 +9,9 @@ use Rattle.language.specs.Declared.{Port}
 use Rattle.language.specs.Expansion.{Context, expansion}
 use Rattle.name_values.specs.World.{World}
 use Rattle.operands.specs.Entries.{kindAt}
-use Rattle.operands.specs.ClassLaws.{has-entry}
+use Rattle.operands.specs.ClassLaws.{expr-kind}
 use Rattle.operands.specs.Working.{Source}
-use Rattle.operands.specs.Shapes.{Shape, shapeOf, View, view}
-use Rattle.operands.specs.ShapeLaws.{expr-shape}
+use Rattle.operands.specs.Makings.{Making, makingOf, View, view}
 use Rattle.machine.specs.Came.{Aim, Evaluate, Expand, Came, worth, nodes, works}
 use Rattle.machine.specs.Realm.{Operand, Realm}
 use Rattle.machine.specs.Table.{Began}
@@ -29,5 +28,5 @@ pub works-formula : {s : Source} {R : Realm s} {mem out : List ℕ} {m : Machine
 works-formula h e = ap (λ (a : Aim). works a (h .context) (h .tree)) (aim-expand (h .aim) (sym (h .at .mode) ∙ e))
 
 -- the expression of an entry that is a formula's
-pub operand-shape : {s : Source} {W : World} {ps : List Port} {env : List ℕ} {c : Context} {k : ℕ} {e : Expr} → Operand s W ps env c k e → {z : Shape} → shapeOf (kindAt (s .work) k) ≡ z → View z e
-operand-shape {e = e} p h = subst (λ (y : Shape). View y e) (sym (expr-shape e (has-entry e (p .known .proper)) (p .known .at)) ∙ h) (view e)
+pub operand-making : {s : Source} {W : World} {ps : List Port} {env : List ℕ} {c : Context} {k : ℕ} {e : Expr} → Operand s W ps env c k e → {z : Making} → makingOf (kindAt (s .work) k) ≡ z → View z e
+operand-making {e = e} p h = subst (λ (y : Making). View y e) (sym (ap makingOf (expr-kind e (p .known .proper) (p .known .at))) ∙ h) (view e)

@@ -4,6 +4,7 @@ pub mod Realm
 pub mod Operators
 pub mod Phases
 pub mod Holding
+pub mod Fields
 pub mod Memory
 pub mod Cost
 pub mod Telling

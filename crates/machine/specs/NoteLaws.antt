@@ -7,6 +7,7 @@ use lib.ListN.{getD}
 use Rattle.language.specs.Limits.{maxNames}
 use Rattle.name_values.specs.World.{World, meaningAt}
 use Rattle.operands.specs.Working.{Source}
+use Rattle.machine.specs.Fields.{noteNumber, noteAddress}
 use Rattle.machine.specs.Realm.{Realm}
 use Rattle.machine.specs.Memory.{Regions, noteWords, firstKept, freeWord, slotsWord, noteAt, freeOf, Keeps}
 use Rattle.machine.specs.Notes.{Fact, Signals, Noted, Lasts, Lasting}
@@ -39,9 +40,9 @@ module _ (mem mem' : List ℕ) (low : ℕ) (h : (i : ℕ) → i < low → getD m
             let e0 = note-same r 0 l (omega arith) in
             let e1 = note-same r 1 l (omega arith) in
             let e2 = note-same r 2 l (omega arith) in
-            subst (λ (i : ℕ). Fact s mem' (meaningAt (R .W) r) i (noteAt mem' r 1) (noteAt mem' r 2)) (sym e0)
-            (subst (λ (i : ℕ). Fact s mem' (meaningAt (R .W) r) (noteAt mem r 0) i (noteAt mem' r 2)) (sym e1)
-            (subst (λ (i : ℕ). Fact s mem' (meaningAt (R .W) r) (noteAt mem r 0) (noteAt mem r 1) i) (sym e2) (fact-keeps keeps (n .facts r l))));
+            subst (λ (i : ℕ). Fact s mem' (meaningAt (R .W) r) i (noteAt mem' r noteNumber) (noteAt mem' r noteAddress)) (sym e0)
+            (subst (λ (i : ℕ). Fact s mem' (meaningAt (R .W) r) (noteAt mem r 0) i (noteAt mem' r noteAddress)) (sym e1)
+            (subst (λ (i : ℕ). Fact s mem' (meaningAt (R .W) r) (noteAt mem r 0) (noteAt mem r noteNumber) i) (sym e2) (fact-keeps keeps (n .facts r l))));
         signals = λ l. signals-kept (n .signals l);
         first = omega arith;
         within = omega arith;

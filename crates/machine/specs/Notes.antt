@@ -19,6 +19,7 @@ use Rattle.name_values.specs.World.{World, Meaning, Stands, Defines, NoValue, n
 use Rattle.name_values.specs.Facts.{IsNumber, IsBody, IsBus, IsIdentifier}
 use Rattle.name_values.specs.Sorts as Sort
 use Rattle.operands.specs.Working.{Source}
+use Rattle.machine.specs.Fields.{noteNumber, noteAddress, noteMark}
 use Rattle.machine.specs.Realm.{Realm}
 use Rattle.machine.specs.Memory.{Regions, firstKept, slotsWord, noteAt, freeOf, Held}
 use Rattle.machine.specs.Telling.{Fine}
@@ -46,12 +47,12 @@ pub record Fact (s : Source) (mem : List ℕ) (m : Meaning) (sort n address : �
 
 -- the first signals of names that are signals; they are at most 255 in all
 pub record Signals {s : Source} (R : Realm s) (mem : List ℕ) : Type 0 where
-  pub single : (r : ℕ) → r < maxNames → meaningAt (R .W) r ≡ Stands Single → (noteAt mem r 2 ≡ firstOf (R .ports) (nameAt (R .W) r)) × (noteAt mem r 2 < maxSignals)
-  pub bus : (r n : ℕ) → r < maxNames → meaningAt (R .W) r ≡ Stands (BusOf n) → (noteAt mem r 2 ≡ firstOf (R .ports) (nameAt (R .W) r)) × (noteAt mem r 2 + n ≤ maxSignals)
+  pub single : (r : ℕ) → r < maxNames → meaningAt (R .W) r ≡ Stands Single → (noteAt mem r noteAddress ≡ firstOf (R .ports) (nameAt (R .W) r)) × (noteAt mem r noteAddress < maxSignals)
+  pub bus : (r n : ℕ) → r < maxNames → meaningAt (R .W) r ≡ Stands (BusOf n) → (noteAt mem r noteAddress ≡ firstOf (R .ports) (nameAt (R .W) r)) × (noteAt mem r noteAddress + n ≤ maxSignals)
 
 -- of every name; where kept sets end and slots begin. Signals have numbers unless there are too many: then the table counts as full from the start, by its index.
 pub record Noted {s : Source} (R : Realm s) (z : Regions) (index : ℕ) (mem : List ℕ) : Type 0 where
-  pub facts : (r : ℕ) → r < maxNames → Fact s mem (meaningAt (R .W) r) (noteAt mem r 0) (noteAt mem r 1) (noteAt mem r 2)
+  pub facts : (r : ℕ) → r < maxNames → Fact s mem (meaningAt (R .W) r) (noteAt mem r 0) (noteAt mem r noteNumber) (noteAt mem r noteAddress)
   pub signals : index ≤ maxNodes → Signals R mem
   pub first : firstKept ≤ freeOf mem
   pub within : freeOf mem ≤ z .slots
@@ -73,4 +74,4 @@ pub record Lasts (W : World) (table : List ℕ) (at r v : ℕ) : Type 0 where
 
 -- of every definition that is marked
 pub record Lasting (W : World) (mem table : List ℕ) (at : ℕ) : Type 0 where
-  pub lasts : (r : ℕ) → r < maxNames → (noteAt mem r 3 ≡ 0 → ⊥) → Lasts W table at r (noteAt mem r 3)
+  pub lasts : (r : ℕ) → r < maxNames → (noteAt mem r noteMark ≡ 0 → ⊥) → Lasts W table at r (noteAt mem r noteMark)

@@ -1,16 +1,17 @@
 -- An operator whose first operand is worked out under a new frame.
-use Prim.Native.Nat.{ℕ, _≤_, _<_}
+use Prim.Native.Nat.{ℕ, _-_, _≤_, _<_}
 use mathlib.Core.Bool.{true, false}
 use mathlib.Core.List.{List, []}
-use mathlib.Core.Path.{_≡_, refl, sym, ap, subst}
+use mathlib.Core.Path.{_≡_, refl, sym, ap, _∙_, subst}
 use native.Mathlib.Omega.{arith}
 use lib.ListN.{length}
 use Rattle.node.specs.Result.{Result, _>>=_}
 use Rattle.language.specs.Limits.{maxElements}
 use Rattle.language.specs.Tree.{Expr}
 use Rattle.language.specs.Expansion.{Context}
+use Rattle.operands.specs.Entries.{sizeAt}
 use Rattle.operands.specs.Working.{Source}
-use Rattle.machine.specs.Came.{Aim, Came, works}
+use Rattle.machine.specs.Came.{Aim, Expand, Came, works}
 use Rattle.machine.specs.Frames.{Frame, apply, Kept}
 use Rattle.machine.specs.Realm.{Operand, Realm}
 use Rattle.machine.specs.MemoryLaws.{slotted-none}
@@ -22,7 +23,7 @@ use Rattle.machine.specs.States.{modeOf, Turned, Ready}
 use Rattle.machine.specs.StateLaws.{Entered, entered, mode-few}
 use Rattle.machine.specs.EnterLaws.{groundOf, room-here, pushes}
 use Rattle.machine.specs.StackLaws.{stack-room}
-use Rattle.machine.specs.Openings.{openWords, opened, Pushed, Opened, Openable, bodyWords, enclosed, Enclosing, Enclosed}
+use Rattle.machine.specs.Openings.{openWords, opened, Pushed, Opened, Openable, bodyWords, enclosed, Enclosing, Enclosed, firstOf}
 use Rattle.machine.specs.declared.Machine.{Machine}
 use Rattle.machine.specs.declared.Move.{Move}
 use Rattle.machine.specs.declared.Move.the-variants.{Next, Short, Refused as Refuses}
@@ -31,7 +32,11 @@ use Rattle.machine.specs.declared.Move.the-variants.{Next, Short, Refuse
 pub opened-as : {mem mem' : List ℕ} {m : Machine} {phase mode i j : ℕ} {r : Move} → i ≡ j → Opened mem mem' m phase mode i r → Opened mem mem' m phase mode j r
 opened-as {mem} {mem'} {m} {phase} {mode} {r = r} e q = subst (λ (k : ℕ). Opened mem mem' m phase mode k r) e q
 
-pub ready-open : {s : Source} {mem : List ℕ} {m : Machine} → Ready s mem m → m .mode ≤ 1 → Openable (length mem) m
+-- the size of the middle operand of three: the last takes x entries
+pub middle-size : (work : List ℕ) (k : ℕ) {x y : ℕ} → x ≡ sizeAt work (k - 1) → y ≡ sizeAt work (k - 1 - x) → y ≡ sizeAt work (firstOf work k 0)
+middle-size work k ex ey = ey ∙ ap (λ (i : ℕ). sizeAt work (k - 1 - i)) ex
+
+pub ready-open : {s : Source} {mem : List ℕ} {m : Machine} → Ready s mem m → m .mode ≤ modeOf Expand → Openable (length mem) m
 ready-open h l =
     let r = stack-room (h .state .stack) in
     let w = r .words in

@@ -5,6 +5,7 @@ use mathlib.Core.Path.{_≡_}
 use lib.ListN.{length, getD}
 use Rattle.language.specs.Limits.{maxTokens, workBytes}
 use Rattle.operands.specs.Entries.{sizeAt}
+use Rattle.machine.specs.Fields.{entryField}
 use Rattle.machine.specs.Memory.{frameWords, spare, reserve, Framed}
 use Rattle.machine.specs.Moves.{came}
 use Rattle.machine.specs.declared.Words.{Words}
@@ -75,9 +76,18 @@ pub record Preceded (work : List ℕ) (k between : ℕ) : Type 0 where
   pub lent : workBytes ≤ length work
   pub inside : 1 + between + sizeAt work (k - 1) ≤ k
 
+-- three operands: the middle one ends where the last one's entries begin
+abbrev pub firstOfThree : List ℕ → ℕ → ℕ
+firstOfThree work k = firstOf work k 0 - sizeAt work (firstOf work k 0)
+
+pub record PrecededByThree (work : List ℕ) (k : ℕ) : Type 0 where
+  pub few : k < maxTokens
+  pub lent : workBytes ≤ length work
+  pub inside : 1 + sizeAt work (k - 1) + sizeAt work (firstOf work k 0) ≤ k
+
 -- the entry of the last frame, which is written anew with what it keeps; the operand at the entry before is worked out
 abbrev pub entryAt : List ℕ → Machine → ℕ
-entryAt mem m = getD mem (m .frames + 1) 0
+entryAt mem m = getD mem (m .frames + entryField) 0
 
 abbrev pub keptWords : Machine → (phase k at value other : ℕ) → Words
 keptWords m phase k at value other = record { phase = phase; entry = k; base = m .top; at = at; count = 0; value = value; other = other }
@@ -85,6 +95,11 @@ keptWords m phase k at value other = record { phase = phase; entry = k; base = m
 pub record Renewed (mem mem' : List ℕ) (m : Machine) (phase at value other mode : ℕ) (n : Machine) : Type 0 where
   pub framed : Framed mem mem' (m .frames) (keptWords m phase (entryAt mem m) at value other)
   pub next : n ≡ came m mode (entryAt mem m - 1) 0
+
+-- or the one before it, of three
+pub record RenewedBefore (work mem mem' : List ℕ) (m : Machine) (phase value mode : ℕ) (n : Machine) : Type 0 where
+  pub framed : Framed mem mem' (m .frames) (keptWords m phase (entryAt mem m) 0 value 0)
+  pub next : n ≡ came m mode (firstOf work (entryAt mem m) 0) 0
 
 -- there is a frame, of an entry that has an operand
 pub record Renewable (mem : List ℕ) (m : Machine) : Type 0 where

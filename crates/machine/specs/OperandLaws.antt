@@ -17,24 +17,26 @@ use Rattle.name_values.specs.World.{World}
 use Rattle.name_values.specs.Known.{Known}
 use Rattle.operands.specs.Entries.{kindAt, sizeAt}
 use Rattle.operands.specs.Classes.{Class, classOf, View, view}
-use Rattle.operands.specs.ClassLaws.{has-entry, expr-class, size-is}
+use Rattle.operands.specs.ClassLaws.{has-entry, expr-kind, size-is}
 use Rattle.operands.specs.Operands.{below}
 use Rattle.operands.specs.Working.{Source}
+use Rattle.machine.specs.Fields.{entryField}
 use Rattle.machine.specs.Realm.{Operand}
-use Rattle.machine.specs.States.{Ready, Topped, ToppedToWrite}
+use Rattle.machine.specs.Came.{Expand}
+use Rattle.machine.specs.States.{modeOf, Ready, Topped, ToppedToWrite}
 use Rattle.machine.specs.StateLaws.{entered}
 use Rattle.machine.specs.EnterLaws.{entry-few}
 use Rattle.machine.specs.TakeLaws.{entry-word, room-under}
 use Rattle.machine.specs.declared.Machine.{Machine}
 
 -- the entry's words can be read
-pub ready-entry : {s : Source} {mem : List ℕ} {m : Machine} → Ready s mem m → m .mode ≤ 1 → (m .value < maxTokens) × (workBytes ≤ length (s .work))
+pub ready-entry : {s : Source} {mem : List ℕ} {m : Machine} → Ready s mem m → m .mode ≤ modeOf Expand → (m .value < maxTokens) × (workBytes ≤ length (s .work))
 ready-entry h l = (entry-few (entered (h .state) l), h .lent .work)
 
 -- so can that of the last frame
 pub record FrameEntry (s : Source) (mem : List ℕ) (m : Machine) : Type 0 where
-  pub some : 0 < getD mem (m .frames + 1) 0
-  pub few : getD mem (m .frames + 1) 0 < maxTokens
+  pub some : 0 < getD mem (m .frames + entryField) 0
+  pub few : getD mem (m .frames + entryField) 0 < maxTokens
   pub work : workBytes ≤ length (s .work)
 
 pub topped-entry : {s : Source} {mem : List ℕ} {m : Machine} → Topped s mem m → FrameEntry s mem m
@@ -52,7 +54,7 @@ topped-to-write-entry t = topped-entry (record { lent = t .lent; realm = t .real
 
 module _ {s : Source} {W : World} {ps : List Port} {env : List ℕ} {c : Context} {k : ℕ} {e : Expr} (p : Operand s W ps env c k e) where
   pub operand-view : {z : Class} → classOf (kindAt (s .work) k) ≡ z → View z e
-  operand-view h = subst (λ (y : Class). View y e) (sym (expr-class e (has-entry e (p .known .proper)) (p .known .at)) ∙ h) (view e)
+  operand-view h = subst (λ (y : Class). View y e) (sym (ap classOf (expr-kind e (p .known .proper) (p .known .at))) ∙ h) (view e (p .known .proper))
 
   pub operand-as : {d : Expr} → e ≡ d → Operand s W ps env c k d
   operand-as q = subst (Operand s W ps env c k) q p

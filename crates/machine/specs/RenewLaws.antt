@@ -27,7 +27,7 @@ use Rattle.machine.specs.TakeLaws.{words, entry-word, room-under, renewe
 use Rattle.machine.specs.FlatLaws.{flat-top, flat-scope, flat-depth, weight-less}
 use Rattle.machine.specs.OperandLaws.{topped-entry}
 use Rattle.machine.specs.Moves.{came}
-use Rattle.machine.specs.Openings.{firstOf, entryAt, keptWords, Renewed, Renewable}
+use Rattle.machine.specs.Openings.{firstOf, Preceded, entryAt, keptWords, Renewed, RenewedBefore, Renewable}
 use Rattle.machine.specs.declared.Machine.{Machine}
 use Rattle.machine.specs.declared.Move.the-variants.{Next}
 
@@ -38,13 +38,27 @@ topped-renewable t =
     let i = h .high in
     record { inside = h .inside; small = t .lent .small; below = omega arith; some = topped-entry t .some }
 
--- the operand that is worked out then can be read; where another stands before it, it ends where this one's entries begin
-module _ {mem mem' : List ℕ} {m : Machine} {phase at value other mode : ℕ} {n : Machine} (q : Renewed mem mem' m phase at value other mode n) where
-  pub renewed-entry : {s : Source} → Topped s mem m → (n .value < maxTokens) × (workBytes ≤ length (s .work))
-  renewed-entry t = let e = ap (λ (y : Machine). y .value) (q .next) in let f = topped-entry t in let l = f .few in (omega arith, f .work)
+-- the last operand, of three, can be read; the one before it ends where its entries begin
+module _ {work mem mem' : List ℕ} {m : Machine} {phase at value other mode : ℕ} {n : Machine} (q : Renewed mem mem' m phase at value other mode n) (p : Preceded work (entryAt mem m) 0) where
+  last-value : n .value ≡ entryAt mem m - 1
+  last-value = ap (λ (y : Machine). y .value) (q .next)
 
-  pub renewed-preceded : (work : List ℕ) → sizeAt work (entryAt mem m - 1) < entryAt mem m → sizeAt work (n .value) ≤ n .value
-  renewed-preceded work l = subst (λ (y : Machine). sizeAt work (y .value) ≤ y .value) (sym (q .next)) (omega arith)
+  pub renewed-entry : (n .value < maxTokens) × (workBytes ≤ length work)
+  renewed-entry = let e = last-value in let l = p .few in (omega arith, p .lent)
+
+  pub renewed-inside : {z : ℕ} → z ≡ sizeAt work (n .value) → z ≤ n .value
+  renewed-inside e = let l = subst (λ (y : ℕ). sizeAt work y ≤ y) (sym last-value) (let i = p .inside in omega arith) in omega arith
+
+pub renewed-before : {work mem mem' : List ℕ} {m : Machine} {phase value mode : ℕ} {n u : Machine} {z : ℕ} → Renewed mem mem' m phase 0 value 0 mode n → z ≡ sizeAt work (n .value) → u ≡ came n mode (n .value - z) 0
+    → RenewedBefore work mem mem' m phase value mode u
+renewed-before {work} {mode = mode} {n = n} q ez eu = record {
+  framed = q .framed;
+  next = eu ∙ ap (λ (i : ℕ). came n mode (n .value - i) 0) ez ∙ ap (λ (k : Machine). came k mode (k .value - sizeAt work (k .value)) 0) (q .next);
+}
+
+-- an operand stands before the last one
+pub topped-before : {s : Source} {mem : List ℕ} {m : Machine} → Topped s mem m → sizeAt (s .work) (entryAt mem m - 1) < entryAt mem m → Preceded (s .work) (entryAt mem m) 0
+topped-before t l = let f = topped-entry t in record { few = f .few; lent = f .work; inside = omega arith }
 
 module _ {s : Source} {R : Realm s} {mem out : List ℕ} {m : Machine} {x : Result Came} {o : Began} {F : Frame} (h : TopOf R mem out m x o F) where
   -- as G, with the words that it keeps and the formula that has come, if one has; it waits for e, the operand at entry j
@@ -60,8 +74,8 @@ module _ {s : Source} {R : Realm s} {mem out : List ℕ} {m : Machine} {x : Resu
     pub same : apply F (h .came) ≡ (works a c e >>= apply G)
 
   module _ {G : Frame} {at value other : ℕ} {a : Aim} {c : Context} {e : Expr} {mem' : List ℕ} where
-    follows : {mode j : ℕ} {n u : Machine} → Renewed mem mem' m (phase G) at value other mode n → Following G at value other a c e j → j ≤ words h .entry - 1 → u ≡ came m (modeOf a) j 0
-        → Turned R mem mem' out out m x o (Next u)
+    follows : {j : ℕ} {u : Machine} → Framed mem mem' (m .frames) (keptWords m (phase G) (entryAt mem m) at value other) → Following G at value other a c e j → j ≤ words h .entry - 1
+        → u ≡ came m (modeOf a) j 0 → Turned R mem mem' out out m x o (Next u)
     follows q z l eu =
         let new = keptWords m (phase G) (words h .entry) at value other in
         let f = z .held-nothing in
@@ -78,7 +92,7 @@ module _ {s : Source} {R : Realm s} {mem out : List ℕ} {m : Machine} {x : Resu
         subst (λ (y : Machine). Turned R mem mem' out out m x o (Next y)) (sym eu)
         (goes h {G = G} {a = a} {c = c} {e = e} {mem₁ = mem} (record {
           new = new;
-          framed = subst (λ (k : ℕ). Framed mem mem' (m .frames) (keptWords m (phase G) k at value other)) (entry-word h) (q .framed);
+          framed = subst (λ (k : ℕ). Framed mem mem' (m .frames) (keptWords m (phase G) k at value other)) (entry-word h) q;
           phased = refl;
           base-is = ft;
           some = omega arith;
@@ -115,12 +129,9 @@ module _ {s : Source} {R : Realm s} {mem out : List ℕ} {m : Machine} {x : Resu
 
     -- the last operand
     pub follows-last : {n : Machine} → Renewed mem mem' m (phase G) at value other (modeOf a) n → Following G at value other a c e (words h .entry - 1) → Turned R mem mem' out out m x o (Next n)
-    follows-last q z = follows q z (omega arith) (q .next ∙ ap (λ (k : ℕ). came m (modeOf a) (k - 1) 0) (entry-word h))
+    follows-last q z = follows (q .framed) z (omega arith) (q .next ∙ ap (λ (k : ℕ). came m (modeOf a) (k - 1) 0) (entry-word h))
 
-    -- the one before it
-    pub follows-before : {mode z : ℕ} {n u : Machine} → Renewed mem mem' m (phase G) at value other mode n → z ≡ sizeAt (s .work) (n .value) → u ≡ came n (modeOf a) (n .value - z) 0
-        → Following G at value other a c e (firstOf (s .work) (words h .entry) 0) → Turned R mem mem' out out m x o (Next u)
-    follows-before {n = n} q ez eu y =
-        follows q y (omega arith)
-        (eu ∙ ap (λ (i : ℕ). came n (modeOf a) (n .value - i) 0) ez ∙ ap (λ (k : Machine). came k (modeOf a) (k .value - sizeAt (s .work) (k .value)) 0) (q .next)
-        ∙ ap (λ (k : ℕ). came m (modeOf a) (firstOf (s .work) k 0) 0) (entry-word h))
+  -- the one before it
+  pub follows-before : {G : Frame} {value : ℕ} {a : Aim} {c : Context} {e : Expr} {mem' : List ℕ} {n : Machine} → RenewedBefore (s .work) mem mem' m (phase G) value (modeOf a) n
+      → Following G 0 value 0 a c e (firstOf (s .work) (words h .entry) 0) → Turned R mem mem' out out m x o (Next n)
+  follows-before {a = a} q y = follows (q .framed) y (omega arith) (q .next ∙ ap (λ (k : ℕ). came m (modeOf a) (firstOf (s .work) k 0) 0) (entry-word h))

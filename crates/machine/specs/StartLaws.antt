@@ -2,7 +2,7 @@
 use Prim.Native.Nat.{ℕ, _+_, _-_, _≤_, _<_}
 use mathlib.Core.Bool.{false}
 use mathlib.Core.List.{List}
-use mathlib.Core.Path.{_≡_, ap, ap₂, _∙_}
+use mathlib.Core.Path.{_≡_}
 use native.Mathlib.Omega.{arith}
 use lib.ListN.{length}
 use Rattle.node.specs.Result.{Result, _>>=_}
@@ -10,7 +10,7 @@ use Rattle.language.specs.Limits.{maxElements}
 use Rattle.language.specs.Tree.{Expr}
 use Rattle.operands.specs.Entries.{sizeAt}
 use Rattle.operands.specs.Working.{Source}
-use Rattle.machine.specs.Came.{Aim, Came, works}
+use Rattle.machine.specs.Came.{Aim, Expand, Came, works}
 use Rattle.machine.specs.Frames.{Frame, apply, Kept}
 use Rattle.machine.specs.Realm.{Operand, Realm}
 use Rattle.machine.specs.Holding.{holding, empty, formsOf}
@@ -20,8 +20,8 @@ use Rattle.machine.specs.Stack.{Holds, Waits}
 use Rattle.machine.specs.States.{modeOf, Ready, Steps}
 use Rattle.machine.specs.StateLaws.{Entered, entered}
 use Rattle.machine.specs.EnterLaws.{groundOf, entry-few}
-use Rattle.machine.specs.Openings.{openWords, Opened, Openable, firstOf, Preceded}
-use Rattle.machine.specs.OpenLaws.{opened-as, ready-open, opens}
+use Rattle.machine.specs.Openings.{openWords, Opened, Openable, firstOf, Preceded, firstOfThree, PrecededByThree}
+use Rattle.machine.specs.OpenLaws.{ready-open, opens}
 use Rattle.machine.specs.declared.Machine.{Machine}
 use Rattle.machine.specs.declared.Move.{Move}
 
@@ -38,7 +38,7 @@ pub record Starting {s : Source} {R : Realm s} {mem out : List ℕ} {m : Machine
   pub same : works (h .aim) (h .context) (h .tree) ≡ (works a (h .context) first >>= apply frame)
 
 pub record Starts (s : Source) (mem : List ℕ) (m : Machine) (phase j : ℕ) (Before : Type 0) (a : Aim) : Type 0 where
-  pub entry : m .mode ≤ 1
+  pub entry : m .mode ≤ modeOf Expand
   pub few-turns : turns phase 0 ≤ maxElements
   pub starting : (R : Realm s) (x : Result Came) (o : Began) (out : List ℕ) (h : Entered R mem out m x o) → Starting h phase j Before a
 
@@ -84,18 +84,14 @@ module _ {s : Source} {mem : List ℕ} {m : Machine} {phase : ℕ} {a : Aim} (be
   pub two-steps : {mem' : List ℕ} {r : Move} → Opened mem mem' m phase (modeOf a) (firstOf (s .work) (m .value) between) r → Steps s mem mem' m r
   two-steps q = starts b (λ i. omega arith) q
 
--- three: the last takes x entries, the one before it y
+-- three
 abbrev pub StartsThree : (s : Source) → List ℕ → (m : Machine) → ℕ → Aim → Type 0
 StartsThree s mem m phase a =
-    Starts s mem m phase (m .value - 1 - sizeAt (s .work) (m .value - 1) - sizeAt (s .work) (m .value - 1 - sizeAt (s .work) (m .value - 1)))
-    (1 + sizeAt (s .work) (m .value - 1) + sizeAt (s .work) (m .value - 1 - sizeAt (s .work) (m .value - 1)) ≤ m .value) a
+    Starts s mem m phase (firstOfThree (s .work) (m .value)) (1 + sizeAt (s .work) (m .value - 1) + sizeAt (s .work) (firstOf (s .work) (m .value) 0) ≤ m .value) a
 
-module _ {s : Source} {mem : List ℕ} {m : Machine} {phase : ℕ} {a : Aim} (b : StartsThree s mem m phase a) {x y : ℕ} (ex : x ≡ sizeAt (s .work) (m .value - 1)) (ey : y ≡ sizeAt (s .work) (m .value - 1 - x)) where
-  middle-size : y ≡ sizeAt (s .work) (m .value - 1 - sizeAt (s .work) (m .value - 1))
-  middle-size = ey ∙ ap (λ (i : ℕ). sizeAt (s .work) (m .value - 1 - i)) ex
+module _ {s : Source} {mem : List ℕ} {m : Machine} {phase : ℕ} {a : Aim} (b : StartsThree s mem m phase a) where
+  pub three-open : Ready s mem m → Openable (length mem) m × PrecededByThree (s .work) (m .value)
+  three-open r = (starts-ready b r, record { few = entry-few (entered (r .state) (b .entry)); lent = r .lent .work; inside = starts-inside b r })
 
-  pub three-inside : Ready s mem m → 1 + x + y ≤ m .value
-  three-inside r = let i = starts-inside b r in let e = middle-size in omega arith
-
-  pub three-steps : {mem' : List ℕ} {r : Move} → Opened mem mem' m phase (modeOf a) (m .value - 1 - x - y) r → Steps s mem mem' m r
-  three-steps q = starts b (λ i. omega arith) (opened-as (ap₂ (λ (i k : ℕ). m .value - 1 - i - k) ex middle-size) q)
+  pub three-steps : {mem' : List ℕ} {r : Move} → Opened mem mem' m phase (modeOf a) (firstOfThree (s .work) (m .value)) r → Steps s mem mem' m r
+  three-steps q = starts b (λ i. omega arith) q

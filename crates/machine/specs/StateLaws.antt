@@ -72,7 +72,7 @@ aim-expand Evaluate e = absurd (omega arith)
 aim-expand Expand e = refl
 
 module _ {s : Source} {R : Realm s} {mem out : List ℕ} {m : Machine} {x : Result Came} {o : Began} (h : State R mem out m x o) where
-  pub entered : m .mode ≤ 1 → Entered R mem out m x o
+  pub entered : m .mode ≤ modeOf Expand → Entered R mem out m x o
   entered e = go (h .now) (h .here) (h .laid) (h .same)
     where
       go : (n : Now) → Here R o mem m (h .limit) n → Laid o (writtenNow (m .nodes) n ++ formsOf (h .frames)) out (m .nodes) → Means x (h .frames) (current n) → Entered R mem out m x o

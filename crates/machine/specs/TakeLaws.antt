@@ -12,6 +12,7 @@ use Rattle.language.specs.Tree.{Expr}
 use Rattle.language.specs.Expansion.{Context}
 use Rattle.language.specs.Limits.{maxNames}
 use Rattle.operands.specs.Working.{Source}
+use Rattle.machine.specs.Fields.{entryField, baseField, atField, countField, valueField, otherField}
 use Rattle.machine.specs.Came.{Aim, Came, works}
 use Rattle.machine.specs.Frames.{Frame, apply, Kept, Means}
 use Rattle.machine.specs.MeansLaws.{means-as, means-refused, means-push, means-take}
@@ -40,22 +41,22 @@ module _ {s : Source} {R : Realm s} {mem out : List ℕ} {m : Machine} {x : Resu
   pub phase-word : phaseAt mem m ≡ phase F
   phase-word = ap (λ (j : ℕ). getD mem j 0) (sym (add-zero (m .frames))) ∙ word-of mem (m .frames) 0 (h .at .words) ∙ h .at .phased
 
-  pub entry-word : getD mem (m .frames + 1) 0 ≡ words .entry
+  pub entry-word : getD mem (m .frames + entryField) 0 ≡ words .entry
   entry-word = word-of mem (m .frames) 1 (h .at .words)
 
-  pub base-word : getD mem (m .frames + 2) 0 ≡ words .base
+  pub base-word : getD mem (m .frames + baseField) 0 ≡ words .base
   base-word = word-of mem (m .frames) 2 (h .at .words)
 
-  pub at-word : getD mem (m .frames + 3) 0 ≡ words .at
+  pub at-word : getD mem (m .frames + atField) 0 ≡ words .at
   at-word = word-of mem (m .frames) 3 (h .at .words)
 
-  pub count-word : getD mem (m .frames + 4) 0 ≡ words .count
+  pub count-word : getD mem (m .frames + countField) 0 ≡ words .count
   count-word = word-of mem (m .frames) 4 (h .at .words)
 
-  pub value-word : getD mem (m .frames + 5) 0 ≡ words .value
+  pub value-word : getD mem (m .frames + valueField) 0 ≡ words .value
   value-word = word-of mem (m .frames) 5 (h .at .words)
 
-  pub other-word : getD mem (m .frames + 6) 0 ≡ words .other
+  pub other-word : getD mem (m .frames + otherField) 0 ≡ words .other
   other-word = word-of mem (m .frames) 6 (h .at .words)
 
   pub top-cost : cost mem m ≡ weight (words .phase) (words .entry) (words .count) + costs (drop (m .frames + frameWords) mem)

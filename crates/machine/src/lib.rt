@@ -1,16 +1,19 @@
 // Numbers, sets and formulas of stored expressions, worked out by one loop over an explicit state: what the state is and how a step changes it.
 // All state is one lent memory (specs/Memory), the table of nodes and a `Machine`, which is passed by value.
 // The functions are called by the steps, whose states show what they ask for.
+pub mod fields;
 pub mod modes;
 pub mod phases;
 
 ghost use mathlib.Core.Path.{_≡_};
-ghost use Prim.Native.Nat.{suc, min, _+_, _≤_, _<_, _^_};
+ghost use Prim.Native.Nat.{ℕ, suc, min, _+_, _≤_, _<_, _^_};
 ghost use lib.ListN.{length};
 ghost use Rattle.node.specs.Limits.{maxNodes};
+ghost use Rattle.sets.specs.declared.Worked.{Worked as NotWorked};
+ghost use Rattle.machine.specs.declared.Move.{Move as NotMoved};
 ghost use Rattle.machine.specs.Memory.{frameWords, Framed};
 ghost use Rattle.machine.specs.Moves.{came as came', wrote as wrote', popped as popped', numbered as numbered', above as above'};
-ghost use Rattle.machine.specs.Openings.{Openable, Opened, Enclosed, Preceded, firstOf, Renewable, Renewed};
+ghost use Rattle.machine.specs.Openings.{Openable, Opened, Enclosed, Preceded, firstOf, PrecededByThree, firstOfThree, entryAt, Renewable, Renewed, RenewedBefore};
 use language::limits;
 use operands::entry::size_at;
 use sets::Worked;
@@ -68,12 +71,12 @@ pub fn frame(memory: &mut [u32], at: usize, w: Words)
     ensures { λ _. ⌜ Framed (now (memory .entry)) (now (memory .exit)) at w ⌝ }
 {
     memory[at] = w.phase;
-    memory[at + 1] = w.entry;
-    memory[at + 2] = w.base as u32;
-    memory[at + 3] = w.at as u32;
-    memory[at + 4] = w.count;
-    memory[at + 5] = w.value;
-    memory[at + 6] = w.other as u32;
+    memory[at + fields::ENTRY] = w.entry;
+    memory[at + fields::BASE] = w.base as u32;
+    memory[at + fields::AT] = w.at as u32;
+    memory[at + fields::COUNT] = w.count;
+    memory[at + fields::VALUE] = w.value;
+    memory[at + fields::OTHER] = w.other as u32;
 }
 
 // One index for all past the last node.
@@ -84,6 +87,16 @@ pub fn capped(n: usize) -> usize
         return n;
     }
     TOO_MANY
+}
+
+// A refusal handed up.
+pub fn unworked(worked: Worked) -> Move
+    ensures { λ r. ⌜ ((n p : ℕ) → worked ≡ NotWorked.Refused n p → r ≡ NotMoved.Refused n p) ⌝ }
+{
+    let Worked::Refused(number, place) = worked else {
+        return Move::Refused(0, 0);
+    };
+    Move::Refused(number, place)
 }
 
 impl Machine {
@@ -140,10 +153,10 @@ impl Machine {
     pub fn numbered(self, w: Worked) -> Move
         ensures { λ r. ⌜ r ≡ numbered' self w ⌝ }
     {
-        match w {
-            Worked::Value(n) => Move::Next(self.came(modes::NUMBER, n, 0)),
-            Worked::Refused(n, p) => Move::Refused(n, p),
-        }
+        let Worked::Value(n) = w else {
+            return unworked(w);
+        };
+        Move::Next(self.came(modes::NUMBER, n, 0))
     }
 
     // Where the values end, with a set that stands on top of them.
@@ -211,6 +224,18 @@ impl Machine {
         self.push(memory, phase, mode, j as u32)
     }
 
+    // An operator's frame is pushed, if there is room, and the first of its three operands is worked out.
+    pub fn push_first_of_three(self, work: &[u8], memory: &mut [u32], phase: u32, mode: u32) -> Move
+        requires { ⌜ Openable (length (now memory)) self ⌝ }
+        requires { ⌜ PrecededByThree (now work) (self .value) ⌝ }
+        ensures { λ r. ⌜ Opened (now (memory .entry)) (now (memory .exit)) self phase mode (firstOfThree (now (work .entry)) (self .value)) r ⌝ }
+    {
+        let k = self.value as usize;
+        let second = k - 1 - size_at(work, k - 1);
+        let first = second - size_at(work, second);
+        self.push(memory, phase, mode, first as u32)
+    }
+
     // The last frame is written anew, with another phase and what it is to keep; its last operand, at the entry before its own, is worked out, as the mode says.
     pub fn renew(
         self,
@@ -224,7 +249,7 @@ impl Machine {
         requires { ⌜ Renewable (now memory) self ⌝ }
         ensures { λ r. ⌜ Renewed (now (memory .entry)) (now (memory .exit)) self phase at value other mode r ⌝ }
     {
-        let k = memory[self.frames + 1];
+        let k = memory[self.frames + fields::ENTRY];
         frame(
             memory,
             self.frames,
@@ -239,6 +264,25 @@ impl Machine {
             },
         );
         self.came(mode, k - 1, 0)
+    }
+
+    // The last frame is written anew, with another phase and a number that it is to keep; of its three operands the second is worked out.
+    pub fn renew_before(
+        self,
+        work: &[u8],
+        memory: &mut [u32],
+        phase: u32,
+        value: u32,
+        mode: u32,
+    ) -> Machine
+        requires { ⌜ Renewable (now memory) self ⌝ }
+        requires { ⌜ Preceded (now work) (entryAt (now memory) self) 0 ⌝ }
+        ensures { λ r. ⌜ RenewedBefore (now (work .entry)) (now (memory .entry)) (now (memory .exit)) self phase value mode r ⌝ }
+    {
+        let n = self.renew(memory, phase, 0, value, 0, mode);
+        let last = n.value as usize;
+        let j = last - size_at(work, last);
+        n.came(mode, j as u32, 0)
     }
 
     // The frame of definition r is pushed, if there is room, and its body at entry j is worked out, where no big operator's name is visible.

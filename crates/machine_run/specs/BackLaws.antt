@@ -14,6 +14,7 @@ use Rattle.name_values.specs.World.{Meaning, Stands, meaningAt}
 use Rattle.name_values.specs.Facts.{IsBody}
 use Rattle.name_values.specs.Sorts as Sort
 use Rattle.operands.specs.Working.{Source}
+use Rattle.machine.specs.Fields.{noteNumber, noteAddress, noteMark}
 use Rattle.machine.specs.Came.{Came, Worth, Nodes, works}
 use Rattle.machine.specs.MeansLaws.{means-as}
 use Rattle.machine.specs.Realm.{Realm}
@@ -96,15 +97,15 @@ module _ {s : Source} {R : Realm s} {mem out : List ℕ} {m : Machine} {x : Resu
         frames = b .above (m .frames) (omega arith);
       }
 
-  facts : (r : ℕ) → r < maxNames → Fact s mem' (meaningAt (R .W) r) (noteAt mem' r 0) (noteAt mem' r 1) (noteAt mem' r 2)
+  facts : (r : ℕ) → r < maxNames → Fact s mem' (meaningAt (R .W) r) (noteAt mem' r 0) (noteAt mem' r noteNumber) (noteAt mem' r noteAddress)
   facts r l = go (ℕ-discrete (noteAt mem r 0) Sort.body)
     where
-      go : Dec (noteAt mem r 0 ≡ Sort.body) → Fact s mem' (meaningAt (R .W) r) (noteAt mem' r 0) (noteAt mem' r 1) (noteAt mem' r 2)
+      go : Dec (noteAt mem r 0 ≡ Sort.body) → Fact s mem' (meaningAt (R .W) r) (noteAt mem' r 0) (noteAt mem' r noteNumber) (noteAt mem' r noteAddress)
       go (yes z) = let c = b .body r l z in fact-again keeps-inner (c 0 (omega arith)) (c 1 (omega arith)) (c 2 (omega arith)) (f .noted .facts r l)
       go (no z) = let c = b .other r l z in fact-again keeps (c 0 (omega arith)) (c 1 (omega arith)) (c 2 (omega arith)) (y .noted .facts r l)
 
   -- of names that are no definitions
-  other-note : {d : _} (r : ℕ) → r < maxNames → meaningAt (R .W) r ≡ Stands d → noteAt mem' r 2 ≡ noteAt mem r 2
+  other-note : {d : _} (r : ℕ) → r < maxNames → meaningAt (R .W) r ≡ Stands d → noteAt mem' r noteAddress ≡ noteAt mem r noteAddress
   other-note r l e = b .other r l (λ z. no-body e (y .noted .facts r l .body z)) 2 (omega arith)
 
   noted : Noted R (o .regions) (o .index) mem'
@@ -135,7 +136,7 @@ module _ {s : Source} {R : Realm s} {mem out : List ℕ} {m : Machine} {x : Resu
       stayed : Lasting (R .W) mem out' (n .nodes)
       stayed = lasting-stays (stays-onto (f .came) (f .laid)) (y .lasting)
 
-      go : (r : ℕ) → r < maxNames → (noteAt mem' r 3 ≡ 0 → ⊥) → Dec (noteAt mem r 0 ≡ Sort.body) → Lasts (R .W) out' (n .nodes) r (noteAt mem' r 3)
+      go : (r : ℕ) → r < maxNames → (noteAt mem' r noteMark ≡ 0 → ⊥) → Dec (noteAt mem r 0 ≡ Sort.body) → Lasts (R .W) out' (n .nodes) r (noteAt mem' r noteMark)
       go r l d (yes z) =
           let e = b .body r l z 3 (omega arith) in
           subst (Lasts (R .W) out' (n .nodes) r) (sym e) (f .lasting .lasts r l (λ t. d (e ∙ t)))

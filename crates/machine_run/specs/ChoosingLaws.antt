@@ -9,8 +9,8 @@ use Rattle.operands.specs.Entries.{kindAt}
 use Rattle.operands.specs.Classes.{classOf, aFormula}
 use Rattle.operands.specs.KindLaws.{binary-class}
 use Rattle.operands.specs.Working.{Source}
-use Rattle.operands.specs.Shapes.{shapeOf, aMisfit}
-use Rattle.operands.specs.ShapeLaws.{misfit-sets}
+use Rattle.operands.specs.Makings.{makingOf, aMisfit}
+use Rattle.operands.specs.MakingLaws.{misfit-sets}
 use Rattle.machine.specs.Phases as Phase
 use Rattle.machine.specs.Came.{Evaluate, Expand}
 use Rattle.machine.specs.Frames.{
@@ -69,8 +69,8 @@ module _ {work : List ℕ} {m : Machine} {k low high : ℕ} where
   pub logical : Kinded work m (modeOf Evaluate) k low high → classOf k ≡ aFormula → Logical work m
   logical h e = record { mode = h .mode; class = ap classOf (sym (h .same)) ∙ e }
 
-  pub formless : Kinded work m (modeOf Expand) k low high → shapeOf k ≡ aMisfit → Formless work m
-  formless h e = record { mode = h .mode; shape = ap shapeOf (sym (h .same)) ∙ e }
+  pub formless : Kinded work m (modeOf Expand) k low high → makingOf k ≡ aMisfit → Formless work m
+  formless h e = record { mode = h .mode; making = ap makingOf (sym (h .same)) ∙ e }
 
 module _ {work : List ℕ} {m : Machine} {k : ℕ} where
   pub collects : {a b : ℕ} → Collected work m k → a ≤ k → k < b → Evaluates work m a b
@@ -80,7 +80,7 @@ module _ {work : List ℕ} {m : Machine} {k : ℕ} where
   logical-in h e l u = record { mode = h; class = ap classOf (sym e) ∙ binary-class k l u }
 
   pub formless-in : m .mode ≡ modeOf Expand → k ≡ kindAt work (m .value) → Kind.binder false ≤ k → Formless work m
-  formless-in h e l = record { mode = h; shape = ap shapeOf (sym e) ∙ misfit-sets k l }
+  formless-in h e l = record { mode = h; making = ap makingOf (sym e) ∙ misfit-sets k l }
 
 -- beside a table
 module _ {s : Source} {mem mem' out : List ℕ} {m : Machine} {r : Move} where

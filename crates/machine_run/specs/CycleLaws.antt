@@ -11,7 +11,7 @@ use Rattle.node.specs.Result.{Result}
 use Rattle.language.specs.Values.{Number, Set, Logic, Bus, Unsized, Choice}
 use Rattle.operands.specs.Working.{Source}
 use Rattle.memory_sets.specs.Places.{Copied}
-use Rattle.machine.specs.Came.{Came, Worth, Nodes, works}
+use Rattle.machine.specs.Came.{Expand, Came, Worth, Nodes, works}
 use Rattle.machine.specs.Frames.{Frame}
 use Rattle.machine.specs.MeansLaws.{means-as, means-refused}
 use Rattle.machine.specs.Realm.{Realm}
@@ -24,7 +24,7 @@ use Rattle.machine.specs.TableLaws.{laid-sized, laid-from}
 use Rattle.machine.specs.Cost.{price, price-some, times-some, turns, effort-some, costs}
 use Rattle.machine.specs.Stack.{Stack, bottom, above}
 use Rattle.machine.specs.StackLaws.{stack-room}
-use Rattle.machine.specs.States.{State, cost, Went, Parted, Turned, ReadyToWrite, ToppedToWrite, Writes, TakesToWrite, Come}
+use Rattle.machine.specs.States.{State, modeOf, cost, Went, Parted, Turned, ReadyToWrite, ToppedToWrite, Writes, TakesToWrite, Come}
 use Rattle.machine.specs.StateLaws.{Entered, entered, ended, top-of}
 use Rattle.machine.specs.EnterLaws.{cost-here, costs-frame, entry-few}
 use Rattle.machine.specs.declared.Machine.{Machine}
@@ -153,7 +153,7 @@ module _ {s : Source} {mem0 out0 mem out : List ℕ} {m0 m : Machine} (b : Stand
         subst (λ (z : List ℕ). Runs s mem0 out0 m0 z out' m) (sym (step-short e .same)) (subst (λ (z : List ℕ). Runs s mem0 out0 m0 mem z m) (sym (step-short e .same-table)) g)
 
   -- an entry that finds no room costs less than the whole
-  pub apart-less : {u : ℕ} → 2 * price (suc (m0 .value)) ≡ u → m .mode ≤ 1 → m .frames < m .top + (frameWords + reserve + spare + m .value) → 2 * price (suc (m .value)) + 1 < u
+  pub apart-less : {u : ℕ} → 2 * price (suc (m0 .value)) ≡ u → m .mode ≤ modeOf Expand → m .frames < m .top + (frameWords + reserve + spare + m .value) → 2 * price (suc (m .value)) + 1 < u
   apart-less e l t =
       let h = entered here l in
       let c = cost-here h in
@@ -181,7 +181,7 @@ pub record SlotsFit (mem : List ℕ) (m : Machine) : Type 0 where
 abbrev pub ApartFits : Machine → Type 0
 ApartFits m = m .depth + m .value + 1 + (frameWords + reserve + spare) ≤ apartMemory
 
-module _ {s : Source} {mem out : List ℕ} {m : Machine} (b : Stands s mem out m) (e : m .mode ≤ 1) where
+module _ {s : Source} {mem out : List ℕ} {m : Machine} (b : Stands s mem out m) (e : m .mode ≤ modeOf Expand) where
   pub slots-fit : SlotsFit mem m
   slots-fit =
       let y = entered (b .state) e in
@@ -272,7 +272,7 @@ module _ {s : Source} {mem out zeros free : List ℕ} (m : Machine) (long : apar
         let l = c .kept .len in
         record { entries = m .depth + m .value + 1 - o .regions .slots; wide = omega arith; room = omega arith }
 
-  module _ (b : Stands s mem out m) (e : m .mode ≤ 1) where
+  module _ (b : Stands s mem out m) (e : m .mode ≤ modeOf Expand) where
     fresh-stands : Stands s free out (outset m apartMemory)
     fresh-stands =
         let l = c .kept .len in

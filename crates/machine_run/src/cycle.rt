@@ -109,14 +109,10 @@ pub fn evaluate(
             }
             Move::Short => {
                 let u = apart(text, work, refs, memory, table, n);
-                match u {
-                    Outcome::Came(k) => {
-                        n = k;
-                    }
-                    Outcome::Refused(number, place) => {
-                        return Outcome::Refused(number, place);
-                    }
-                }
+                let Outcome::Came(k) = u else {
+                    return u;
+                };
+                n = k;
             }
         }
     }

@@ -15,12 +15,15 @@ use node::MAX_NODES;
 use node::refusals;
 use sets::Worked;
 use writing::TOO_MANY;
-ghost use Prim.Native.Nat.{suc, _+_, _<_, _^_};
+ghost use Prim.Native.Nat.{ℕ, suc, _+_, _<_, _^_};
 ghost use lib.ListN.{length, getD};
 ghost use Rattle.node.specs.Limits.{maxNodes};
 ghost use Rattle.operands.specs.Working.{source};
 ghost use mathlib.Core.Path.{_≡_};
+ghost use Rattle.sets.specs.declared.Worked.{Worked as NotWorked};
 ghost use Rattle.machine.specs.Memory.{slotsWord};
+ghost use Rattle.machine_run.specs.declared.cycle.Outcome.{Outcome as NotCome};
+ghost use Rattle.machine_run.specs.declared.Written.{Written as NotWritten};
 ghost use Rattle.machine_run.specs.Running.{Runnable, NumberTold, FormulaTold, initial as initial', NumberIs};
 
 // Where a formula's nodes end, 8,193 if they do not fit; or a refusal's number and place.
@@ -57,6 +60,25 @@ fn as_number(n: Machine) -> Worked
     Worked::Refused(refusals::WRONG_TYPE, 0)
 }
 
+// A refusal handed up, where a number was asked for, and where a formula was.
+fn unnumbered(outcome: Outcome) -> Worked
+    ensures { λ r. ⌜ ((n p : ℕ) → outcome ≡ NotCome.Refused n p → r ≡ NotWorked.Refused n p) ⌝ }
+{
+    let Outcome::Refused(number, place) = outcome else {
+        return Worked::Refused(0, 0);
+    };
+    Worked::Refused(number, place)
+}
+
+fn unwritten(outcome: Outcome) -> Written
+    ensures { λ r. ⌜ ((n p : ℕ) → outcome ≡ NotCome.Refused n p → r ≡ NotWritten.Refused n p) ⌝ }
+{
+    let Outcome::Refused(number, place) = outcome else {
+        return Written::Refused(0, 0);
+    };
+    Written::Refused(number, place)
+}
+
 // The expression at entry k as a number. Nothing is written to the table, which counts as full.
 pub fn number_of(
     text: &[u8],
@@ -73,10 +95,10 @@ pub fn number_of(
 {
     let m = initial(memory, entries, k, TOO_MANY, modes::EVALUATE);
     let r = evaluate(text, work, refs, memory, table, m);
-    match r {
-        Outcome::Came(n) => as_number(n),
-        Outcome::Refused(number, place) => Worked::Refused(number, place),
-    }
+    let Outcome::Came(n) = r else {
+        return unnumbered(r);
+    };
+    as_number(n)
 }
 
 // The expression at entry k as a formula, whose nodes go into the table from `at` on.
@@ -97,11 +119,9 @@ pub fn formula_of(
     let slots = memory[SLOTS_WORD];
     let m = initial(memory, entries, k, at, modes::EXPAND);
     let r = evaluate(text, work, refs, memory, table, m);
-    match r {
-        Outcome::Came(n) => Written::At(n.nodes),
-        Outcome::Refused(number, place) => {
-            memory[SLOTS_WORD] = slots;
-            Written::Refused(number, place)
-        }
-    }
+    let Outcome::Came(n) = r else {
+        memory[SLOTS_WORD] = slots;
+        return unwritten(r);
+    };
+    Written::At(n.nodes)
 }

@@ -1,4 +1,4 @@
--- What stands at the place of an answer is a set again: its elements ascend; and a set word by word.
+-- A set word by word; the definitions' sets ascend within the limits.
 use Prim.Native.Nat.{ℕ, _+_, _≤_, _<_}
 use mathlib.Core.Path.{_≡_, sym, ap, _∙_}
 use mathlib.Core.List.{List, [], _∷_}
@@ -6,20 +6,18 @@ use lib.ListN.{length, getD, take, drop, length-take, length-drop}
 use lib.Seq.{length-take-le, getD-take, getD-drop, ext-getD}
 use native.Mathlib.Omega.{arith}
 use borrow.Author.Tests.{le-leb}
-use Rattle.node.specs.Result.{Result, Done}
+use Rattle.node.specs.Result.{Done}
 use Rattle.node.specs.ResultLaws.{guard-pass}
 use Rattle.language.specs.Limits.{maxNumber, maxElements}
 use Rattle.language.specs.Operators.{Combination, Cap}
 use Rattle.language.specs.Sets.{memberOf, combine}
 use Rattle.language.specs.Values.{limited}
 use Rattle.language.specs.Laws.Basics.Lists.{All}
-use Rattle.language.specs.Laws.Basics.Results.{Within, value-of}
+use Rattle.language.specs.Laws.Basics.Results.{Within}
 use Rattle.language.specs.Laws.Values.SetLaws.{Ascending, insert-ascending, keep-fewer, combine-ascending}
 use Rattle.language.specs.Laws.Values.ValueLaws.{SaneNumber, SaneSet, limited-sane}
-use Rattle.sets.specs.Answers.{SetIs}
-use Rattle.sets.specs.declared.Worked.the-variants.{Value}
 use Rattle.memory_sets.specs.declared.Span.{Span}
-use Rattle.memory_sets.specs.Places.{elementsAt, Room, Placed, Two, SetAt}
+use Rattle.memory_sets.specs.Places.{elementsAt, Two}
 use Rattle.memory_sets.specs.Sorting.{setOf}
 
 -- a set's words from its elements, and its elements from its words
@@ -42,14 +40,6 @@ elements-of mem at l fits h = ext-getD 0 _ _ size (λ i u. word i (omega (arith,
 pub cap-limited : (place : ℕ) (s t : List ℕ) → length s ≤ maxElements → limited place (combine Cap s t) ≡ Done (combine Cap s t)
 cap-limited place s t few =
     guard-pass 12 place (Done (combine Cap s t)) (le-leb (length (combine Cap s t)) maxElements (omega (arith, few, keep-fewer (memberOf t) s)))
-
--- the set at the place of an answer, where the definition's is one
-there : (mem mem' : List ℕ) (at n : ℕ) (r : Result (List ℕ)) → length mem' ≡ length mem → Room mem at → SetIs (Value n) (drop at mem') r → Within SaneSet r →
-    Placed mem' (record { at = at; count = n })
-there mem mem' at n r len room h sane = record { few = h .few; room = rw length-drop (omega (arith, room .room)); ascends = value-of (sym (h .says)) sane .0 }
-
-pub answer-placed : {mem mem' : List ℕ} {at n : ℕ} {r : Result (List ℕ)} → SetAt mem mem' at (Value n) r → Room mem at → Within SaneSet r → Placed mem' (record { at = at; count = n })
-answer-placed {mem} {mem'} {at} {n} {r} h room sane = there mem mem' at n r (h .kept .len) room (h .set) sane
 
 -- the definitions' sets are (ranges and bounds: the language's `range-sane` and `between-sane`)
 pub combine-sane : (place : ℕ) (o : Combination) {mem : List ℕ} {l r : Span} {to : ℕ} → Two mem l r to → Within SaneSet (limited place (combine o (elementsAt mem l) (elementsAt mem r)))

@@ -1,6 +1,7 @@
 // One set: membership, SIZE, MIN, MAX; the numbers of a range or between bounds.
 use language::limits;
 use node::refusals;
+use operators::codes;
 use sets::Worked;
 ghost use mathlib.Core.Path.{_≡_};
 ghost use Prim.Native.Nat.{_≤_, _<_};
@@ -58,20 +59,20 @@ pub fn contains(memory: &[u32], set: Span, x: u32) -> bool
     passes(true, memory, set, j, x)
 }
 
-// Measures by number: 0 is SIZE, 1 MIN, any other MAX.
+// Measures by number; any number but those of SIZE and MIN stands for MAX.
 pub fn measure(place: u32, operator: u32, memory: &[u32], set: Span) -> Worked
     requires { ⌜ Placed (now memory) set ⌝ }
     ensures { λ r. ⌜ says r ≡ measure' place (measurement operator) (elementsAt (now (memory .entry)) set) ⌝ }
 {
     let at = set.at;
     let count = set.count;
-    if operator == 0 {
+    if operator == codes::SIZE {
         return Worked::Value(count as u32);
     }
     if count == 0 {
         return Worked::Refused(refusals::OUT_OF_RANGE, place);
     }
-    if operator == 1 {
+    if operator == codes::MIN {
         return Worked::Value(memory[at]);
     }
     Worked::Value(memory[at + count - 1])

@@ -17,6 +17,7 @@ use Rattle.language.specs.Tree.{Expr}
 use Rattle.language.specs.Expansion.{Context, expansion}
 use Rattle.name_values.specs.World.{Meaning, Defines}
 use Rattle.operands.specs.Working.{Source}
+use Rattle.machine.specs.Fields.{atField, valueField, otherField}
 use Rattle.machine.specs.Phases as Phase
 use Rattle.machine.specs.Came.{Came, Nodes, nodes}
 use Rattle.machine.specs.Frames.{KeepFormula}
@@ -61,7 +62,7 @@ module _ {s : Source} {R : Realm s} {mem out : List ℕ} {m : Machine} {x : Resu
   waiting = record { holds-nothing = refl; same = refl; returns = h .at .holds .0; defining = h .at .waits }
 
   -- where its nodes begin
-  begins : {from : ℕ} {f : Formula} → from ≡ getD mem (m .frames + 3) 0 → (b : Behind o (formsOf (h .rest)) (record { formula = f; end = m .nodes }) out (m .nodes)) → from ≡ b .at
+  begins : {from : ℕ} {f : Formula} → from ≡ getD mem (m .frames + atField) 0 → (b : Behind o (formsOf (h .rest)) (record { formula = f; end = m .nodes }) out (m .nodes)) → from ≡ b .at
   begins e b = e ∙ at-word h ∙ h .at .holds .1 ∙ sym (laid-end (formsOf (h .rest)) (b .others))
 
 -- the notes lie in the memory, and the nodes are some
@@ -73,10 +74,10 @@ pub record Keeping (mem : List ℕ) (m : Machine) (from r : ℕ) : Type 0 where
 
 module _ {s : Source} {mem : List ℕ} {m : Machine} (w : Waiting mem m Phase.keepFormula) where
   -- whatever else it is, it goes on
-  pub keep-passes : {scope : ℕ} → scope ≡ getD mem (m .frames + 5) 0 → Takes s mem mem m (Next (released m scope))
+  pub keep-passes : {scope : ℕ} → scope ≡ getD mem (m .frames + valueField) 0 → Takes s mem mem m (Next (released m scope))
   keep-passes es = record { turns = λ R x o out t. let v = by-phase (t .frame) Phase.keepFormula (top-phase t ∙ w .phase) in let h = top-as t (v .3) in lets-go h (waiting h) es }
 
-  module _ (e : m .mode ≡ isNodes) {from r : ℕ} (ef : from ≡ getD mem (m .frames + 3) 0) (er : r ≡ getD mem (m .frames + 6) 0) where
+  module _ (e : m .mode ≡ isNodes) {from r : ℕ} (ef : from ≡ getD mem (m .frames + atField) 0) (er : r ≡ getD mem (m .frames + otherField) 0) where
     -- the definition that is kept
     pub keep-name : Topped s mem m → Keeping mem m from r
     keep-name t =
@@ -91,7 +92,7 @@ module _ {s : Source} {mem : List ℕ} {m : Machine} (w : Waiting mem m Phase.ke
           some = λ l. let y = begins h {f = g .formula} ef b in let z = ends (b .wrote) l in let p = size-pos (g .formula) in omega arith;
         }
 
-    pub keep-formula : {scope mark : ℕ} → scope ≡ getD mem (m .frames + 5) 0 → Marked from (m .nodes) mark → Takes s mem (marking mem r mark) m (Next (released m scope))
+    pub keep-formula : {scope mark : ℕ} → scope ≡ getD mem (m .frames + valueField) 0 → Marked from (m .nodes) mark → Takes s mem (marking mem r mark) m (Next (released m scope))
     keep-formula {scope} {mark} es k = record {
       turns = λ R x o out t.
           let v = by-phase (t .frame) Phase.keepFormula (top-phase t ∙ w .phase) in

@@ -4,7 +4,7 @@ use mathlib.Core.List.{List}
 use mathlib.Core.Path.{_≡_, ap, _∙_, subst}
 use native.Mathlib.Omega.{arith}
 use Rattle.node.specs.FieldLaws.{above-join, below-join}
-use Rattle.node.specs.Limits.{maxNodes, fieldLimit}
+use Rattle.node.specs.Limits.{maxNodes, fieldBits, fieldLimit}
 use Rattle.node.specs.Postorder.{size}
 use Rattle.writing.specs.Writing.{Puts}
 use Rattle.writing.specs.WritingLaws.{wrote-none}
@@ -15,10 +15,10 @@ use Rattle.machine.specs.Notes.{marked, Lasts}
 use Rattle.name_steps.specs.Marks.{Copyable, Again}
 
 marked-from : (from n : ℕ) → n < fieldLimit → marked from n / fieldLimit ≡ from
-marked-from from n l = above-join 14 from l
+marked-from from n l = above-join fieldBits from l
 
 marked-size : (from n : ℕ) → n < fieldLimit → marked from n % fieldLimit ≡ n
-marked-size from n l = below-join 14 from l
+marked-size from n l = below-join fieldBits from l
 
 pub copyable : {W : World} {table : List ℕ} {at r v : ℕ} → Lasts W table at r v → Copyable v at
 copyable {W} {table} {at} {r} {v} h = record { within = λ l. whole l .0; before = λ l. whole l .1 }

@@ -25,6 +25,7 @@ use Rattle.name_values.specs.Facts.{IsBus}
 use Rattle.name_values.specs.UsedLaws.{used-formula, used-no-formula}
 use Rattle.name_values.specs.Sorts as Sort
 use Rattle.operands.specs.Working.{Source}
+use Rattle.machine.specs.Fields.{noteNumber, noteAddress, noteMark}
 use Rattle.machine.specs.Phases as Phase
 use Rattle.machine.specs.Came.{Expand, Came, nodes, works}
 use Rattle.machine.specs.Frames.{KeepFormula}
@@ -72,10 +73,10 @@ bus-misfit ps t m n h = go (eqb n 0) refl
 other-sort : (v : ℕ) → v ≤ Sort.nothing → (v ≡ Sort.number → ⊥) → (v ≡ Sort.body → ⊥) → (v ≡ Sort.bus → ⊥) → (v ≡ Sort.signal → ⊥) → (v ≡ Sort.set → ⊥) → (v ≡ Sort.nothing → ⊥) → v ≡ Sort.identifier
 other-sort v l a b c d e f = upper (lower a b c)
   where
-    lower : (v ≡ Sort.number → ⊥) → (v ≡ Sort.body → ⊥) → (v ≡ Sort.bus → ⊥) → 3 ≤ v
+    lower : (v ≡ Sort.number → ⊥) → (v ≡ Sort.body → ⊥) → (v ≡ Sort.bus → ⊥) → Sort.signal ≤ v
     lower a b c = omega arith
 
-    upper : 3 ≤ v → v ≡ Sort.identifier
+    upper : Sort.signal ≤ v → v ≡ Sort.identifier
     upper h = omega arith
 
 module _ {s : Source} {mem out : List ℕ} {m : Machine} (k : Expands (s .work) m Kind.named Kind.numeral) {r : ℕ} (er : r ≡ getD (s .refs) (m .value) 0) where
@@ -95,7 +96,7 @@ module _ {s : Source} {mem out : List ℕ} {m : Machine} (k : Expands (s .work) 
       abbrev token : Token
       token = named-by h (k .until) er .token
 
-      fact : Fact s mem (meaningAt (R .W) r) (noteAt mem r 0) (noteAt mem r 1) (noteAt mem r 2)
+      fact : Fact s mem (meaningAt (R .W) r) (noteAt mem r 0) (noteAt mem r noteNumber) (noteAt mem r noteAddress)
       fact = h .noted .facts r l
 
       formula-is : works (h .aim) (h .context) (h .tree) ≡ (formed (R .ports) (meaningAt (R .W) r) token >>= nodes)
@@ -122,7 +123,7 @@ module _ {s : Source} {mem out : List ℕ} {m : Machine} (k : Expands (s .work) 
           fails q (formula-is q ∙ bind-refused _ 9 0 nodes (none (R .ports) (meaningAt (R .W) r) (token q) (fact q) n (eqb (noteAt mem r 0) Sort.number) refl (eqb (noteAt mem r 0) Sort.set) refl (eqb (noteAt mem r 0) Sort.bus) refl));
     }
       where
-        none : (ps : List Port) (v : Meaning) (t : Token) → Fact s mem v (noteAt mem r 0) (noteAt mem r 1) (noteAt mem r 2) → NoFormula {A = Formula} (nameValue v t) (formed ps v t) → (x : Bool)
+        none : (ps : List Port) (v : Meaning) (t : Token) → Fact s mem v (noteAt mem r 0) (noteAt mem r noteNumber) (noteAt mem r noteAddress) → NoFormula {A = Formula} (nameValue v t) (formed ps v t) → (x : Bool)
             → eqb (noteAt mem r 0) Sort.number ≡ x → (y : Bool) → eqb (noteAt mem r 0) Sort.set ≡ y → (z : Bool) → eqb (noteAt mem r 0) Sort.bus ≡ z → formed ps v t ≡ misfit
         none ps v t f n true x y a z b = n .0 _ (f .number (eqb-true _ _ x) .stands t)
         none ps v t f n false x true y z b = n .1 _ (f .set (eqb-true _ _ y) .stands t)
@@ -133,7 +134,7 @@ module _ {s : Source} {mem out : List ℕ} {m : Machine} (k : Expands (s .work) 
             ap (λ (w : Meaning). formed ps w t) (f .identifier i .identifies)
 
     -- a signal: its number, as long as there is room in the table
-    pub signal-number : ReadyToWrite s mem out m → noteAt mem r 0 ≡ Sort.signal → m .nodes ≤ maxNodes → noteAt mem r 2 + 0 < fieldLimit
+    pub signal-number : ReadyToWrite s mem out m → noteAt mem r 0 ≡ Sort.signal → m .nodes ≤ maxNodes → noteAt mem r noteAddress + 0 < fieldLimit
     signal-number h z n =
         let e = k .mode in
         let q = entered (h .state) (omega arith) in
@@ -141,7 +142,7 @@ module _ {s : Source} {mem out : List ℕ} {m : Machine} (k : Expands (s .work) 
         let f = q .noted .signals (omega arith) .single r l (fact q .signal z) .1 in
         omega arith
 
-    pub signal-writes : noteAt mem r 0 ≡ Sort.signal → {out' : List ℕ} {i n : ℕ} → Signalled (noteAt mem r 2) 0 out out' (m .nodes) i → n ≡ min i (suc maxNodes) → Writes s mem mem out out' m (Next (wrote m n))
+    pub signal-writes : noteAt mem r 0 ≡ Sort.signal → {out' : List ℕ} {i n : ℕ} → Signalled (noteAt mem r noteAddress) 0 out out' (m .nodes) i → n ≡ min i (suc maxNodes) → Writes s mem mem out out' m (Next (wrote m n))
     signal-writes z {out'} {i} g en = record {
       turns = λ R x o h.
           let e = k .mode in
@@ -154,11 +155,11 @@ module _ {s : Source} {mem out : List ℕ} {m : Machine} (k : Expands (s .work) 
     }
 
     -- a definition whose nodes stand in the table
-    pub mark-copyable : ReadyToWrite s mem out m → (noteAt mem r 3 ≡ 0 → ⊥) → Copyable (noteAt mem r 3) (m .nodes)
+    pub mark-copyable : ReadyToWrite s mem out m → (noteAt mem r noteMark ≡ 0 → ⊥) → Copyable (noteAt mem r noteMark) (m .nodes)
     mark-copyable h z = copyable (h .state .lasting .lasts r l z)
 
     module _ (b : noteAt mem r 0 ≡ Sort.body) where
-      pub mark-writes : (noteAt mem r 3 ≡ 0 → ⊥) → {out' : List ℕ} {i n : ℕ} → Again (noteAt mem r 3) out out' (m .nodes) i → n ≡ min i (suc maxNodes) → Writes s mem mem out out' m (Next (wrote m n))
+      pub mark-writes : (noteAt mem r noteMark ≡ 0 → ⊥) → {out' : List ℕ} {i n : ℕ} → Again (noteAt mem r noteMark) out out' (m .nodes) i → n ≡ min i (suc maxNodes) → Writes s mem mem out out' m (Next (wrote m n))
       mark-writes z g en = record {
         turns = λ R x o h.
             let e = k .mode in
@@ -170,7 +171,7 @@ module _ {s : Source} {mem out : List ℕ} {m : Machine} (k : Expands (s .work) 
       }
 
       -- its body is worked out, and a frame waits to mark what is written
-      pub body-writes : {mem' : List ℕ} {u : Move} → Enclosed mem mem' m Phase.keepFormula (m .nodes) r (modeOf Expand) (noteAt mem r 1) u → Writes s mem mem' out out m u
+      pub body-writes : {mem' : List ℕ} {u : Move} → Enclosed mem mem' m Phase.keepFormula (m .nodes) r (modeOf Expand) (noteAt mem r noteNumber) u → Writes s mem mem' out out m u
       body-writes {mem'} {u} w = record {
         turns = λ R x o h.
             let e = k .mode in
@@ -178,13 +179,13 @@ module _ {s : Source} {mem out : List ℕ} {m : Machine} (k : Expands (s .work) 
             let d = fact q .body b in
             let c = d .context in
             let t = d .expr in
-            encloses q {F = KeepFormula r c t} {phase = Phase.keepFormula} {at = m .nodes} {r = r} {a = Expand} {c = c} {e = t} {j = noteAt mem r 1} (record {
+            encloses q {F = KeepFormula r c t} {phase = Phase.keepFormula} {at = m .nodes} {r = r} {a = Expand} {c = c} {e = t} {j = noteAt mem r noteNumber} (record {
               holds-nothing = refl;
               few-turns = omega arith;
-              below = named-by q (k .until) er .before (noteAt mem r 1) c t l (d .defines);
-              operand = R .bodies r (noteAt mem r 1) c t (d .defines);
+              below = named-by q (k .until) er .before (noteAt mem r noteNumber) c t l (d .defines);
+              operand = R .bodies r (noteAt mem r noteNumber) c t (d .defines);
               holds = (record { scope-is = refl; name-is = refl }, laid-end (formsOf (q .frames)) (q .laid));
-              waits = record { declared = l; entry = noteAt mem r 1; means = d .defines };
+              waits = record { declared = l; entry = noteAt mem r noteNumber; means = d .defines };
               kept = refl;
               same = meaning-is q (d .defines) ∙ sym (bind-value (works Expand c t));
             }) u w;

@@ -7,6 +7,7 @@ use machine::Machine;
 use machine::Move;
 use machine::NOTE;
 use machine::capped;
+use machine::fields;
 use machine::modes;
 use machine::phases;
 use name_values::sorts;
@@ -67,12 +68,12 @@ fn defined(
     ensures { λ u. ⌜ Writes (source (now (text .entry)) (now (work .entry)) (now (refs .entry))) (now (memory .entry)) (now (memory .exit)) (now (table .entry)) (now (table .exit)) m u ⌝ }
 {
     let at = NOTE * r;
-    let mark = memory[at + 3];
+    let mark = memory[at + fields::NOTE_MARK];
     if mark != 0 {
         let n = again(mark, table, m.nodes);
         return Move::Next(m.wrote(capped(n)));
     }
-    let n = memory[at + 1];
+    let n = memory[at + fields::NOTE_NUMBER];
     m.enclose(memory, phases::KEEP_FORMULA, m.nodes, r, modes::EXPAND, n)
 }
 
@@ -83,12 +84,12 @@ pub fn keep(text: &[u8], work: &[u8], refs: &[u16], memory: &mut [u32], m: Machi
     ensures { λ r. ⌜ Takes (source (now (text .entry)) (now (work .entry)) (now (refs .entry))) (now (memory .entry)) (now (memory .exit)) m r ⌝ }
 {
     let at = m.frames;
-    let scope = memory[at + 5] as usize;
+    let scope = memory[at + fields::VALUE] as usize;
     if m.mode != modes::NODES {
         return Move::Next(released(m, scope));
     }
-    let from = memory[at + 3] as usize;
-    let r = memory[at + 6] as usize;
-    memory[NOTE * r + 3] = mark(from, m.nodes);
+    let from = memory[at + fields::AT] as usize;
+    let r = memory[at + fields::OTHER] as usize;
+    memory[NOTE * r + fields::NOTE_MARK] = mark(from, m.nodes);
     Move::Next(released(m, scope))
 }

@@ -9,35 +9,35 @@ use lib.Seq.{getD-take, getD-drop}
 use Rattle.entries.specs.Kinds as Kind
 use Rattle.operands.specs.Classes.{aFormula, aMeasure, aCalculation, aCombination, aBig, aBetween, aRange, classes, classOf}
 
--- n entries of a list that are the same, from the one at a on
-pub alike : {A : Type 0} (l : List A) (d z : A) (a n : ℕ) → take n (drop a l) ≡ replicate n z → (k : ℕ) → a ≤ k → k < a + n → getD l k d ≡ z
-alike l d z a n e k h u =
+-- the entries of a list that are the same, from the one at a on up to that at b
+pub alike : {A : Type 0} (l : List A) (d z : A) (a b : ℕ) → take (b - a) (drop a l) ≡ replicate (b - a) z → (k : ℕ) → a ≤ k → k < b → getD l k d ≡ z
+alike l d z a b e k h u =
     let j = k - a in
-    let c : j < n = omega arith in
+    let c : j < b - a = omega arith in
     let i : k ≡ a + j = omega arith in
-    ap (λ (y : ℕ). getD l y d) i ∙ sym (getD-drop a l j d) ∙ sym (getD-take n (drop a l) j d c) ∙ ap (λ m. getD m j d) e ∙ getD-replicate n j z d c
+    ap (λ (y : ℕ). getD l y d) i ∙ sym (getD-drop a l j d) ∙ sym (getD-take (b - a) (drop a l) j d c) ∙ ap (λ m. getD m j d) e ∙ getD-replicate (b - a) j z d c
 
 pub measure-class : (k : ℕ) → Kind.measure ≤ k → k < Kind.width → classOf k ≡ aMeasure
-measure-class = alike classes aRange aMeasure Kind.measure 3 refl
+measure-class = alike classes aRange aMeasure Kind.measure Kind.width refl
 
 pub calculation-class : (k : ℕ) → Kind.arithmetic ≤ k → k < Kind.combination → classOf k ≡ aCalculation
-calculation-class = alike classes aRange aCalculation Kind.arithmetic 5 refl
+calculation-class = alike classes aRange aCalculation Kind.arithmetic Kind.combination refl
 
 pub combination-class : (k : ℕ) → Kind.combination ≤ k → k < Kind.equality → classOf k ≡ aCombination
-combination-class = alike classes aRange aCombination Kind.combination 3 refl
+combination-class = alike classes aRange aCombination Kind.combination Kind.equality refl
 
 pub big-class : (k : ℕ) → Kind.bigNumbers ≤ k → k < Kind.binder false → classOf k ≡ aBig
-big-class = alike classes aRange aBig Kind.bigNumbers 6 refl
+big-class = alike classes aRange aBig Kind.bigNumbers (Kind.binder false) refl
 
 pub between-class : (k : ℕ) → Kind.binder false ≤ k → k < Kind.listed → classOf k ≡ aBetween
-between-class = alike classes aRange aBetween (Kind.binder false) 6 refl
+between-class = alike classes aRange aBetween (Kind.binder false) Kind.listed refl
 
 -- formulas: constants and indices, operators of formulas, comparisons and connectives
 pub leaf-class : (k : ℕ) → Kind.truth ≤ k → k < Kind.paren → classOf k ≡ aFormula
-leaf-class = alike classes aRange aFormula Kind.truth 3 refl
+leaf-class = alike classes aRange aFormula Kind.truth Kind.paren refl
 
 pub unary-class : (k : ℕ) → Kind.unary ≤ k → k < Kind.arithmetic → classOf k ≡ aFormula
-unary-class = alike classes aRange aFormula Kind.unary 4 refl
+unary-class = alike classes aRange aFormula Kind.unary Kind.arithmetic refl
 
 pub binary-class : (k : ℕ) → Kind.equality ≤ k → k < Kind.bigNumbers → classOf k ≡ aFormula
-binary-class = alike classes aRange aFormula Kind.equality 17 refl
+binary-class = alike classes aRange aFormula Kind.equality Kind.bigNumbers refl

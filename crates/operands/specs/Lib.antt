@@ -7,5 +7,5 @@ pub mod ClassLaws
 pub mod Operands
 pub mod KindLaws
 pub mod SpellingLaws
-pub mod Shapes
-pub mod ShapeLaws
+pub mod Makings
+pub mod MakingLaws

@@ -19,6 +19,7 @@ use Rattle.operands.specs.Entries.{kindAt, placeAt, numberAt}
 use Rattle.operands.specs.KindLaws.{between-class}
 use Rattle.operands.specs.Working.{Source}
 use Rattle.memory_sets.specs.Places.{SetAt}
+use Rattle.machine.specs.Fields.{entryField, valueField}
 use Rattle.machine.specs.Phases as Phase
 use Rattle.machine.specs.Came.{Evaluate, worth, works, asNumber}
 use Rattle.machine.specs.Frames.{Low, High, bounded}
@@ -115,8 +116,8 @@ module _ {s : Source} {mem : List ℕ} {m : Machine} (w : Waiting mem m Phase.lo
 
 -- the high bound has come
 module _ {s : Source} {mem : List ℕ} {m : Machine} (w : Waiting mem m Phase.high) where
-  pub high-steps : m .mode ≡ isNumber → {mem' : List ℕ} {k j i p a : ℕ} {low : Bool} (r : Worked) → k ≡ getD mem (m .frames + 1) 0 → j ≡ numberAt (s .work) k → low ≡ strictAt j
-      → i ≡ kindAt (s .work) k → p ≡ placeAt (s .work) k → a ≡ getD mem (m .frames + 5) 0 → SetAt mem mem' (m .top) r (between p low (without-high i) a (m .value)) → Takes s mem mem' m (made m (m .top) r)
+  pub high-steps : m .mode ≡ isNumber → {mem' : List ℕ} {k j i p a : ℕ} {low : Bool} (r : Worked) → k ≡ getD mem (m .frames + entryField) 0 → j ≡ numberAt (s .work) k → low ≡ strictAt j
+      → i ≡ kindAt (s .work) k → p ≡ placeAt (s .work) k → a ≡ getD mem (m .frames + valueField) 0 → SetAt mem mem' (m .top) r (between p low (without-high i) a (m .value)) → Takes s mem mem' m (made m (m .top) r)
   high-steps e {mem'} {k} {j} {i} {p} {a} {low} r ek ej el ei ep ea g = record {
     turns = λ R x o out t.
         let v = by-phase (t .frame) Phase.high (top-phase t ∙ w .phase) in

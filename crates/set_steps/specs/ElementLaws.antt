@@ -29,6 +29,7 @@ use Rattle.operands.specs.Working.{Source}
 use Rattle.memory_sets.specs.PlaceLaws.{outside-both}
 use Rattle.memory_sets.specs.PlacedLaws.{setOf-sane}
 use Rattle.memory_sets.specs.Sorting.{setOf, Numbers, SortedAt}
+use Rattle.machine.specs.Fields.{entryField, baseField, countField, valueField}
 use Rattle.machine.specs.Phases as Phase
 use Rattle.machine.specs.Came.{Evaluate, Came, Worth, worth, works}
 use Rattle.machine.specs.Frames.{Elements, apply, inserts}
@@ -40,7 +41,7 @@ use Rattle.machine.specs.Cost.{price, price-some, price-suc, times-none, weight
 use Rattle.machine.specs.Holding.{formsOf}
 use Rattle.machine.specs.Telling.{isNumber}
 use Rattle.machine.specs.TableLaws.{laid-as}
-use Rattle.machine.specs.States.{modeOf, written, Topped, Takes}
+use Rattle.machine.specs.States.{written, Topped, Takes}
 use Rattle.machine.specs.ComeLaws.{came-number}
 use Rattle.machine.specs.FrameViews.{by-phase}
 use Rattle.machine.specs.TakeLaws.{words, entry-word, base-word, count-word, value-word, goes, top-phase, top-as}
@@ -49,6 +50,7 @@ use Rattle.machine.specs.OperandLaws.{topped-entry}
 use Rattle.machine.specs.declared.Machine.{Machine}
 use Rattle.machine.specs.declared.Move.the-variants.{Next}
 use Rattle.machine.specs.Entering.{Waiting}
+use Rattle.value_steps.specs.Moves.{onward}
 use Rattle.set_steps.specs.MakingLaws.{makes}
 use Rattle.set_steps.specs.Making.{made}
 use Rattle.set_steps.specs.Braces.{elementAt, Elementary}
@@ -61,12 +63,12 @@ pub record Fitting (mem : List ℕ) (m : Machine) (base count k : ℕ) : Type 0 
   pub inside : m .frames + frameWords ≤ length mem
   pub place : k < maxTokens
 
-pub element-few : {s : Source} {mem : List ℕ} {m : Machine} → Topped s mem m → {j i : ℕ} → j ≡ getD mem (m .frames + 1) 0 → i ≡ elementAt (s .work) (j - 1) → i < maxTokens
+pub element-few : {s : Source} {mem : List ℕ} {m : Machine} → Topped s mem m → {j i : ℕ} → j ≡ getD mem (m .frames + entryField) 0 → i ≡ elementAt (s .work) (j - 1) → i < maxTokens
 element-few {s} t {j} ej ei = let f = topped-entry t .few in let l = element-small (s .work) (j - 1) in omega arith
 
 -- an element has come
 module _ {s : Source} {mem : List ℕ} {m : Machine} (w : Waiting mem m Phase.elements) where
-  pub element-fits : Topped s mem m → Fitting mem m (getD mem (m .frames + 2) 0) (getD mem (m .frames + 4) 0) (getD mem (m .frames + 5) 0)
+  pub element-fits : Topped s mem m → Fitting mem m (getD mem (m .frames + baseField) 0) (getD mem (m .frames + countField) 0) (getD mem (m .frames + valueField) 0)
   element-fits t =
       let v = by-phase (t .top .frame) Phase.elements (top-phase (t .top) ∙ w .phase) in
       let h = top-as (t .top) (v .4) in
@@ -81,7 +83,7 @@ module _ {s : Source} {mem : List ℕ} {m : Machine} (w : Waiting mem m Phase.el
       let f = h .at .waits .few in
       record { room = omega arith; inside = h .at .inside; place = omega arith }
 
-  pub element-elementary : Topped s mem m → {j : ℕ} → j ≡ getD mem (m .frames + 1) 0 → kindAt (s .work) (j - 1) ≡ Kind.element → Elementary (s .work) (j - 1)
+  pub element-elementary : Topped s mem m → {j : ℕ} → j ≡ getD mem (m .frames + entryField) 0 → kindAt (s .work) (j - 1) ≡ Kind.element → Elementary (s .work) (j - 1)
   element-elementary t {j} ej q =
       let v = by-phase (t .top .frame) Phase.elements (top-phase (t .top) ∙ w .phase) in
       let h = top-as (t .top) (v .4) in
@@ -107,7 +109,7 @@ next-same p c a b ns n = bind-at n (λ i. value (c .values) (Element a b) >>= se
     ∙ brace-same (value (c .values) a) (value (c .values) b >>= set) (λ l. limited p (inserts ns (insert n l)) >>= λ y. worth (Set y))
     (λ j l. limited p (inserts (ns ++ (n ∷ [])) (insert j l)) >>= λ y. worth (Set y)) (λ j l. ap (λ (u : List ℕ). limited p u >>= λ y. worth (Set y)) (inserts-more ns n (insert j l)))
 
-brace-less : (i j c d : ℕ) {p : ℕ} → 0 < j → i ≡ j - 1 → p ≡ 8 → weight 8 i c + price i < weight p j d
+brace-less : (i j c d : ℕ) {p : ℕ} → 0 < j → i ≡ j - 1 → p ≡ Phase.elements → weight Phase.elements i c + price i < weight p j d
 brace-less i (suc j) c d l e q =
     let a = price-suc j in
     let b = price-some j in
@@ -116,12 +118,8 @@ brace-less i (suc j) c d l e q =
     let z : i ≡ j = omega arith in
     rw (q, z) (omega arith)
 
--- the next state where another element is worked out
-abbrev pub gathering : Machine → (j top : ℕ) → Machine
-gathering m j top = record { mode = modeOf Evaluate; value = j; from = 0; scope = m .scope; depth = m .depth; top = top; frames = m .frames; nodes = m .nodes }
-
-module _ {s : Source} {mem : List ℕ} {m : Machine} (w : Waiting mem m Phase.elements) (e : m .mode ≡ isNumber) {j base count k : ℕ} (ej : j ≡ getD mem (m .frames + 1) 0) (eb : base ≡ getD mem (m .frames + 2) 0)
-    (ec : count ≡ getD mem (m .frames + 4) 0) (ek : k ≡ getD mem (m .frames + 5) 0) where
+module _ {s : Source} {mem : List ℕ} {m : Machine} (w : Waiting mem m Phase.elements) (e : m .mode ≡ isNumber) {j base count k : ℕ} (ej : j ≡ getD mem (m .frames + entryField) 0) (eb : base ≡ getD mem (m .frames + baseField) 0)
+    (ec : count ≡ getD mem (m .frames + countField) 0) (ek : k ≡ getD mem (m .frames + valueField) 0) where
   pub element-numbers : Topped s mem m → Numbers (store mem (base + count) (m .value)) base (count + 1)
   element-numbers t =
       let v = by-phase (t .top .frame) Phase.elements (top-phase (t .top) ∙ w .phase) in
@@ -171,8 +169,8 @@ module _ {s : Source} {mem : List ℕ} {m : Machine} (w : Waiting mem m Phase.el
   -- the next is worked out
   pub element-goes : {mem' : List ℕ} {d : ℕ} → kindAt (s .work) (j - 1) ≡ Kind.element → d ≡ elementAt (s .work) (j - 1)
       → Framed (store mem (base + count) (m .value)) mem' (m .frames) (record { phase = Phase.elements; entry = j - 1; base = base; at = base; count = count + 1; value = k; other = 0 })
-      → Takes s mem mem' m (Next (gathering m d (base + count + 1)))
-  element-goes {mem'} q ed f = takes-next (ap (λ (y : ℕ). gathering m y (base + count + 1)) ed) (record {
+      → Takes s mem mem' m (Next (onward m d (base + count + 1)))
+  element-goes {mem'} q ed f = takes-next (ap (λ (y : ℕ). onward m y (base + count + 1)) ed) (record {
     turns = λ R x o out t.
         let v = by-phase (t .frame) Phase.elements (top-phase t ∙ w .phase) in
         let p = v .0 in

@@ -20,6 +20,7 @@ use Rattle.operands.specs.Entries.{kindAt, placeAt, numberAt}
 use Rattle.operands.specs.KindLaws.{measure-class}
 use Rattle.operands.specs.Working.{Source}
 use Rattle.memory_sets.specs.Places.{elementsAt, Placed}
+use Rattle.machine.specs.Fields.{entryField}
 use Rattle.machine.specs.Phases as Phase
 use Rattle.machine.specs.Came.{Evaluate, worth, asSet}
 use Rattle.machine.specs.Frames.{Measured, apply}
@@ -82,7 +83,7 @@ module _ {s : Source} {mem : List ℕ} {m : Machine} (w : Waiting mem m Phase.me
         let g = came-set (t .realm) (t .began) mem m (h .came) (h .come) e in
         placed mem (spanOf m) (g .set) (g .held) (g .count) (g .fine) (set-under h e)
 
-    pub measured-steps : {k i p : ℕ} (r : Worked) → k ≡ getD mem (m .frames + 1) 0 → i ≡ prefixCodeAt (numberAt (s .work) k) → p ≡ placeAt (s .work) k
+    pub measured-steps : {k i p : ℕ} (r : Worked) → k ≡ getD mem (m .frames + entryField) 0 → i ≡ prefixCodeAt (numberAt (s .work) k) → p ≡ placeAt (s .work) k
         → says r ≡ measure p (measurement i) (elementsAt mem (spanOf m)) → Takes s mem mem m (numbered (popped m) r)
     measured-steps {k} {i} {p} r ek ei ep q = record {
       turns = λ R x o out t.

@@ -16,6 +16,7 @@ use Rattle.operands.specs.Entries.{kindAt, sizeAt, placeAt}
 use Rattle.operands.specs.Classes.{classOf}
 use Rattle.operands.specs.Working.{Source}
 use Rattle.memory_sets.specs.Places.{SetAt}
+use Rattle.machine.specs.Fields.{entryField, valueField, otherField}
 use Rattle.machine.specs.Phases as Phase
 use Rattle.machine.specs.Came.{Evaluate, worth, works, asNumber}
 use Rattle.machine.specs.Frames.{RangeFirst, RangeSecond, RangeLast, ranged, ranging}
@@ -27,9 +28,9 @@ use Rattle.machine.specs.Moves.{came}
 use Rattle.machine.specs.ComeLaws.{came-number, number-then}
 use Rattle.machine.specs.FrameViews.{by-phase}
 use Rattle.machine.specs.TakeLaws.{entry-word, value-word, other-word, top-phase, top-as}
-use Rattle.machine.specs.Openings.{Renewed}
+use Rattle.machine.specs.Openings.{Preceded, entryAt, Renewed, RenewedBefore}
 use Rattle.machine.specs.StartLaws.{StartsThree}
-use Rattle.machine.specs.RenewLaws.{follows-last, follows-before}
+use Rattle.machine.specs.RenewLaws.{topped-before, follows-last, follows-before}
 use Rattle.machine.specs.FlatLaws.{flat-top}
 use Rattle.machine.specs.BindLaws.{take-number, then-worth, set-last}
 use Rattle.machine.specs.OperandLaws.{operand-view, operand-as, three-operands}
@@ -84,15 +85,14 @@ stepping-starts {s} {mem} {m} k =
 
 -- the first number has come
 module _ {s : Source} {mem : List ℕ} {m : Machine} (w : Waiting mem m Phase.rangeFirst) where
-  pub first-inside : Topped s mem m → sizeAt (s .work) (getD mem (m .frames + 1) 0 - 1) < getD mem (m .frames + 1) 0
-  first-inside t =
+  pub first-before : Topped s mem m → Preceded (s .work) (entryAt mem m) 0
+  first-before t =
       let v = by-phase (t .top .frame) Phase.rangeFirst (top-phase (t .top) ∙ w .phase) in
       let h = top-as (t .top) (v .4) in
-      subst (λ (j : ℕ). sizeAt (s .work) (j - 1) < j) (sym (entry-word h)) (h .at .waits .1 .0)
+      topped-before t (subst (λ (j : ℕ). sizeAt (s .work) (j - 1) < j) (sym (entry-word h)) (h .at .waits .1 .0))
 
-  pub first-steps : m .mode ≡ isNumber → {mem' : List ℕ} {z : ℕ} {n u : Machine} → Renewed mem mem' m Phase.rangeSecond 0 (m .value) 0 (modeOf Evaluate) n
-      → z ≡ sizeAt (s .work) (n .value) → u ≡ came n (modeOf Evaluate) (n .value - z) 0 → Takes s mem mem' m (Next u)
-  first-steps e q ez eu = record {
+  pub first-steps : m .mode ≡ isNumber → {mem' : List ℕ} {n : Machine} → RenewedBefore (s .work) mem mem' m Phase.rangeSecond (m .value) (modeOf Evaluate) n → Takes s mem mem' m (Next n)
+  first-steps e q = record {
     turns = λ R x o out t.
         let v = by-phase (t .frame) Phase.rangeFirst (top-phase t ∙ w .phase) in
         let p = v .0 in
@@ -101,7 +101,7 @@ module _ {s : Source} {mem : List ℕ} {m : Machine} (w : Waiting mem m Phase.ra
         let d = v .3 in
         let h = top-as t (v .4) in
         let n = came-number R o mem m (h .came) (h .come) e in
-        follows-before h {G = RangeSecond p c d (m .value)} {a = Evaluate} {c = c} {e = b} q ez eu (record {
+        follows-before h {G = RangeSecond p c d (m .value)} {a = Evaluate} {c = c} {e = b} q (record {
           held-nothing = refl;
           holds-no-words = refl;
           keeps-formula = ap (written (m .nodes)) (n .same);
@@ -116,7 +116,7 @@ module _ {s : Source} {mem : List ℕ} {m : Machine} (w : Waiting mem m Phase.ra
 
 -- the second number has come
 module _ {s : Source} {mem : List ℕ} {m : Machine} (w : Waiting mem m Phase.rangeSecond) where
-  pub second-steps : m .mode ≡ isNumber → {mem' : List ℕ} {a : ℕ} {n : Machine} → a ≡ getD mem (m .frames + 5) 0 → Renewed mem mem' m Phase.rangeLast 0 a (m .value) (modeOf Evaluate) n → Takes s mem mem' m (Next n)
+  pub second-steps : m .mode ≡ isNumber → {mem' : List ℕ} {a : ℕ} {n : Machine} → a ≡ getD mem (m .frames + valueField) 0 → Renewed mem mem' m Phase.rangeLast 0 a (m .value) (modeOf Evaluate) n → Takes s mem mem' m (Next n)
   second-steps e ea q = record {
     turns = λ R x o out t.
         let v = by-phase (t .frame) Phase.rangeSecond (top-phase t ∙ w .phase) in
@@ -141,8 +141,8 @@ module _ {s : Source} {mem : List ℕ} {m : Machine} (w : Waiting mem m Phase.ra
 
 -- the last number has come
 module _ {s : Source} {mem : List ℕ} {m : Machine} (w : Waiting mem m Phase.rangeLast) where
-  pub last-steps : m .mode ≡ isNumber → {mem' : List ℕ} {k p a b : ℕ} (r : Worked) → k ≡ getD mem (m .frames + 1) 0 → p ≡ placeAt (s .work) k → a ≡ getD mem (m .frames + 5) 0
-      → b ≡ getD mem (m .frames + 6) 0 → SetAt mem mem' (m .top) r (range p a b (m .value)) → Takes s mem mem' m (made m (m .top) r)
+  pub last-steps : m .mode ≡ isNumber → {mem' : List ℕ} {k p a b : ℕ} (r : Worked) → k ≡ getD mem (m .frames + entryField) 0 → p ≡ placeAt (s .work) k → a ≡ getD mem (m .frames + valueField) 0
+      → b ≡ getD mem (m .frames + otherField) 0 → SetAt mem mem' (m .top) r (range p a b (m .value)) → Takes s mem mem' m (made m (m .top) r)
   last-steps e {mem'} {k} {p} {a} {b} r ek ep ea eb g = record {
     turns = λ R x o out t.
         let v = by-phase (t .frame) Phase.rangeLast (top-phase t ∙ w .phase) in

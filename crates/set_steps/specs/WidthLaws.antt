@@ -14,6 +14,7 @@ use Rattle.name_values.specs.KnownLaws.{known-prefixed}
 use Rattle.operands.specs.Entries.{kindAt}
 use Rattle.operands.specs.Classes.{classOf}
 use Rattle.operands.specs.Working.{Source}
+use Rattle.machine.specs.Fields.{noteNumber}
 use Rattle.machine.specs.Phases as Phase
 use Rattle.machine.specs.Came.{Evaluate, Came, Worth, Nodes, worth, asValue}
 use Rattle.machine.specs.Frames.{Width, apply}
@@ -118,7 +119,7 @@ module _ {s : Source} {mem : List ℕ} {m : Machine} (w : Waiting mem m Phase.wi
         let d = tells-bus (t .realm .W) (m .mode) (m .value) (m .from) (u .value) (u .tells) e .declared in
         (d, note-under h d)
 
-    pub sized-steps : {n : ℕ} {k r : Machine} → k ≡ popped m → r ≡ came k isNumber n 0 → n ≡ noteAt mem (m .from) 1 → Takes s mem mem m (Next r)
+    pub sized-steps : {n : ℕ} {k r : Machine} → k ≡ popped m → r ≡ came k isNumber n 0 → n ≡ noteAt mem (m .from) noteNumber → Takes s mem mem m (Next r)
     sized-steps {n} ek er en = takes-next (er ∙ ap (λ (y : Machine). came y isNumber n 0) ek) (record {
       turns = λ R x o out t.
           let v = by-phase (t .frame) Phase.width (top-phase t ∙ w .phase) in

@@ -2,6 +2,7 @@
 use entries::kinds;
 use machine::Machine;
 use machine::Move;
+use machine::fields;
 use machine::modes;
 use machine::phases;
 use memory_sets::one::between;
@@ -49,8 +50,8 @@ pub fn high(text: &[u8], work: &[u8], refs: &[u16], memory: &mut [u32], m: Machi
         return Move::Refused(refusals::WRONG_TYPE, 0);
     }
     let at = m.frames;
-    let k = memory[at + 1] as usize;
-    let a = memory[at + 5];
+    let k = memory[at + fields::ENTRY] as usize;
+    let a = memory[at + fields::VALUE];
     let above = strict(number_at(work, k));
     let under = kind_at(work, k) == kinds::BETWEEN_NO_HIGH;
     let r = between(place_at(work, k), above, under, a, m.value, memory, m.top);

@@ -5,6 +5,7 @@ use machine::Machine;
 use machine::Move;
 use machine::ROOM;
 use machine::Words;
+use machine::fields;
 use machine::frame;
 use machine::modes;
 use machine::phases;
@@ -85,10 +86,10 @@ pub fn element(text: &[u8], work: &[u8], refs: &[u16], memory: &mut [u32], m: Ma
         return Move::Refused(refusals::WRONG_TYPE, 0);
     }
     let at = m.frames;
-    let j = memory[at + 1];
-    let base = memory[at + 2] as usize;
-    let count = memory[at + 4];
-    let k = memory[at + 5];
+    let j = memory[at + fields::ENTRY];
+    let base = memory[at + fields::BASE] as usize;
+    let count = memory[at + fields::COUNT];
+    let k = memory[at + fields::VALUE];
     memory[base + count as usize] = m.value;
     if kind_at(work, j as usize - 1) != kinds::ELEMENT {
         let r = sorted(memory, base, count as usize + 1, place_at(work, k as usize));

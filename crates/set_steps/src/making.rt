@@ -3,6 +3,7 @@ use machine::FRAME;
 use machine::Machine;
 use machine::Move;
 use machine::modes;
+use machine::unworked;
 use sets::Worked;
 ghost use mathlib.Core.Path.{_≡_};
 ghost use Prim.Native.Nat.{_+_, _<_, _^_};
@@ -14,17 +15,17 @@ pub fn made(m: Machine, base: usize, w: Worked) -> Move
     requires { ⌜ m .frames + frameWords < 2 ^ 32 ⌝ }
     ensures { λ r. ⌜ r ≡ made' m base w ⌝ }
 {
-    match w {
-        Worked::Value(n) => Move::Next(Machine {
-            mode: modes::SET,
-            value: n,
-            from: base,
-            scope: m.scope,
-            depth: m.depth,
-            top: base,
-            frames: m.frames + FRAME,
-            nodes: m.nodes,
-        }),
-        Worked::Refused(n, p) => Move::Refused(n, p),
-    }
+    let Worked::Value(n) = w else {
+        return unworked(w);
+    };
+    Move::Next(Machine {
+        mode: modes::SET,
+        value: n,
+        from: base,
+        scope: m.scope,
+        depth: m.depth,
+        top: base,
+        frames: m.frames + FRAME,
+        nodes: m.nodes,
+    })
 }

@@ -1,6 +1,7 @@
 // SIZE, MIN and MAX of a set.
 use machine::Machine;
 use machine::Move;
+use machine::fields;
 use machine::modes;
 use machine::phases;
 use memory_sets::Span;
@@ -32,7 +33,7 @@ pub fn measured(text: &[u8], work: &[u8], refs: &[u16], memory: &[u32], m: Machi
     if m.mode != modes::SET {
         return Move::Refused(refusals::WRONG_TYPE, 0);
     }
-    let k = memory[m.frames + 1] as usize;
+    let k = memory[m.frames + fields::ENTRY] as usize;
     let set = Span {
         at: m.from,
         count: m.value as usize,

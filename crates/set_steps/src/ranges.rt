@@ -1,12 +1,12 @@
 // The numbers from one on by steps: {x, y .. z}.
 use machine::Machine;
 use machine::Move;
+use machine::fields;
 use machine::modes;
 use machine::phases;
 use memory_sets::one::range;
 use node::refusals;
 use operands::entry::place_at;
-use operands::entry::size_at;
 ghost use Rattle.entries.specs.Kinds as Kind;
 ghost use Rattle.machine.specs.Phases as Phase;
 ghost use Rattle.machine.specs.States.{Ready, Steps, Topped, Takes};
@@ -20,10 +20,7 @@ pub fn stepping(text: &[u8], work: &[u8], refs: &[u16], memory: &mut [u32], m: M
     requires { ⌜ Evaluates (now work) m Kind.range Kind.parameter ⌝ }
     ensures { λ r. ⌜ Steps (source (now (text .entry)) (now (work .entry)) (now (refs .entry))) (now (memory .entry)) (now (memory .exit)) m r ⌝ }
 {
-    let k = m.value as usize;
-    let second = k - 1 - size_at(work, k - 1);
-    let first = second - size_at(work, second);
-    m.push(memory, phases::RANGE_FIRST, modes::EVALUATE, first as u32)
+    m.push_first_of_three(work, memory, phases::RANGE_FIRST, modes::EVALUATE)
 }
 
 // The first number has come: the second is worked out.
@@ -35,10 +32,7 @@ pub fn first(text: &[u8], work: &[u8], refs: &[u16], memory: &mut [u32], m: Mach
     if m.mode != modes::NUMBER {
         return Move::Refused(refusals::WRONG_TYPE, 0);
     }
-    let n = m.renew(memory, phases::RANGE_SECOND, 0, m.value, 0, modes::EVALUATE);
-    let last = n.value as usize;
-    let j = last - size_at(work, last);
-    Move::Next(n.came(modes::EVALUATE, j as u32, 0))
+    Move::Next(m.renew_before(work, memory, phases::RANGE_SECOND, m.value, modes::EVALUATE))
 }
 
 // The second number has come: the last is worked out.
@@ -50,7 +44,7 @@ pub fn second(text: &[u8], work: &[u8], refs: &[u16], memory: &mut [u32], m: Mac
     if m.mode != modes::NUMBER {
         return Move::Refused(refusals::WRONG_TYPE, 0);
     }
-    let x = memory[m.frames + 5];
+    let x = memory[m.frames + fields::VALUE];
     Move::Next(m.renew(memory, phases::RANGE_LAST, 0, x, m.value, modes::EVALUATE))
 }
 
@@ -64,9 +58,9 @@ pub fn last(text: &[u8], work: &[u8], refs: &[u16], memory: &mut [u32], m: Machi
         return Move::Refused(refusals::WRONG_TYPE, 0);
     }
     let at = m.frames;
-    let k = memory[at + 1] as usize;
-    let x = memory[at + 5];
-    let y = memory[at + 6];
+    let k = memory[at + fields::ENTRY] as usize;
+    let x = memory[at + fields::VALUE];
+    let y = memory[at + fields::OTHER];
     let r = range(place_at(work, k), x, y, m.value, memory, m.top);
     made(m, m.top, r)
 }

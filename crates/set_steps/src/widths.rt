@@ -2,6 +2,7 @@
 use machine::Machine;
 use machine::Move;
 use machine::NOTE;
+use machine::fields;
 use machine::modes;
 use machine::phases;
 use node::refusals;
@@ -32,6 +33,6 @@ pub fn sized(text: &[u8], work: &[u8], refs: &[u16], memory: &[u32], m: Machine)
     if m.mode != modes::BUS {
         return Move::Refused(refusals::WRONG_TYPE, 0);
     }
-    let n = memory[NOTE * m.from + 1];
+    let n = memory[NOTE * m.from + fields::NOTE_NUMBER];
     Move::Next(m.popped().came(modes::NUMBER, n, 0))
 }

@@ -3,6 +3,7 @@ pub mod Digits
 pub mod Answers
 pub mod Listing
 pub mod Combined
+pub mod OperatorLaws
 pub mod NumberLaws
 pub mod RangeLaws
 pub mod ListingLaws

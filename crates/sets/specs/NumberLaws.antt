@@ -1,10 +1,10 @@
--- Laws of numerals and of operators by number.
+-- Laws of numerals.
 use Prim.Native.Nat.{ℕ, suc, _+_, _-_, _*_, _^_, _≤_, _<_}
 use mathlib.Core.Path.{_≡_, refl, sym, ap, ap₂, _∙_}
 use mathlib.Core.Bool.{Bool, true, false, false≢true, _&&_}
 use mathlib.Core.List.{List, [], _∷_}
 use lib.Dec.{leb}
-use lib.ListN.{length, getD, take, drop, drop-of-length-le, List·getD-eq-default}
+use lib.ListN.{length, getD, take, drop, drop-of-length-le}
 use lib.Seq.{drop-cons}
 use native.Mathlib.Omega.{arith}
 use native.Mathlib.Nat.{mul-le-mul}
@@ -13,13 +13,10 @@ use mir.Val.{Fits}
 use borrow.Author.Tests.{le-leb, lt-leb}
 use Rattle.node.specs.Result.{Done, Refused}
 use Rattle.node.specs.ResultLaws.{guard-pass, guard-stop}
-use Rattle.node.specs.TableLaws.{Rest, rest-above}
 use Rattle.language.specs.Limits.{maxNumber}
 use Rattle.language.specs.Bytes.{isDigit}
 use Rattle.language.specs.Tokens.{run}
 use Rattle.language.specs.Values.{inRange, decimal}
-use Rattle.language.specs.Operators.{Plus, Minus, Times, Divide, Modulo, Equal, Unequal, Less, AtMost, Greater, AtLeast}
-use Rattle.sets.specs.Operators.{arithmetic, comparison}
 use Rattle.sets.specs.Digits.{digitsAt}
 
 pub in-range : (place v : ℕ) → v ≤ maxNumber → Done v ≡ inRange place v
@@ -88,10 +85,3 @@ product-fits a b h g =
     let left = h .fits in
     let right = g .fits in
     record { fits = omega (arith, mul-le-mul {n₁ = a} {m₁ = b} {n₂ = 2 ^ 32 - 1} {m₂ = 2 ^ 32 - 1} (omega arith) (omega arith)) }
-
--- the last operator stands for every further number
-pub modulo : (k : ℕ) → Rest 4 k → arithmetic k ≡ Modulo
-modulo k r = List·getD-eq-default (Plus ∷ Minus ∷ Times ∷ Divide ∷ []) Modulo (rest-above 4 k r)
-
-pub at-least : (k : ℕ) → Rest 5 k → comparison k ≡ AtLeast
-at-least k r = List·getD-eq-default (Equal ∷ Unequal ∷ Less ∷ AtMost ∷ Greater ∷ []) AtLeast (rest-above 5 k r)

@@ -1,7 +1,7 @@
--- The operators by the numbers that the code gives them: their order in the language's definitions, the last one for every further number.
+-- The operators by the numbers that the code gives them (operators/Codes), the last one of a group for every further number.
 use Prim.Native.Nat.{ℕ}
-use mathlib.Core.List.{[], _∷_}
-use lib.ListN.{getD}
+use mathlib.Core.Bool.{true, false}
+use lib.Dec.{eqb}
 use Rattle.language.specs.Operators.{
   Arithmetic,
   Plus,
@@ -25,15 +25,22 @@ use Rattle.language.specs.Operators.{
   Greater,
   AtLeast,
 }
+use Rattle.operators.specs.Codes.{arithmeticCode, comparisonCode, measureCode, combinationCode}
+
+-- the operator o where k is its number
+abbrev pub numbered : {A : Type 0} → (A → ℕ) → ℕ → A → A → A
+numbered code k o other = elim (eqb k (code o)) [ true ↦ o | false ↦ other ]
 
 abbrev pub arithmetic : ℕ → Arithmetic
-arithmetic k = getD (Plus ∷ Minus ∷ Times ∷ Divide ∷ []) k Modulo
+arithmetic k = numbered arithmeticCode k Plus (numbered arithmeticCode k Minus (numbered arithmeticCode k Times (numbered arithmeticCode k Divide Modulo)))
 
 abbrev pub comparison : ℕ → Comparison
-comparison k = getD (Equal ∷ Unequal ∷ Less ∷ AtMost ∷ Greater ∷ []) k AtLeast
+comparison k =
+    numbered comparisonCode k Equal
+    (numbered comparisonCode k Unequal (numbered comparisonCode k Less (numbered comparisonCode k AtMost (numbered comparisonCode k Greater AtLeast))))
 
 abbrev pub measurement : ℕ → Measure
-measurement k = getD (Size ∷ Min ∷ []) k Max
+measurement k = numbered measureCode k Size (numbered measureCode k Min Max)
 
 abbrev pub combination : ℕ → Combination
-combination k = getD (Cup ∷ Cap ∷ []) k Without
+combination k = numbered combinationCode k Cup (numbered combinationCode k Cap Without)

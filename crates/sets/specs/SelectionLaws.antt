@@ -13,10 +13,13 @@ use Rattle.node.specs.ResultLaws.{guard-pass}
 use Rattle.language.specs.Limits.{maxNumber, maxElements}
 use Rattle.language.specs.Sets.{memberOf, keep, combine}
 use Rattle.language.specs.Values.{limited}
+use Rattle.language.specs.Operators.{Cup, Cap, Without}
 use Rattle.language.specs.Laws.Basics.Tests.{or-left, or-right}
 use Rattle.language.specs.Laws.Values.SetLaws.{Ascending}
+use Rattle.operators.specs.Codes.{combinationCode}
 use Rattle.sets.specs.Answers.{SetIs}
-use Rattle.sets.specs.Operators.{combination}
+use Rattle.sets.specs.Operators.{numbered, combination}
+use Rattle.sets.specs.OperatorLaws.{another}
 use Rattle.sets.specs.Listing.{Parted}
 use Rattle.sets.specs.Combined.{Ordered, selection, passing, Selected}
 use Rattle.sets.specs.declared.Worked.the-variants.{Value}
@@ -86,10 +89,12 @@ ascends-at a n i h l =
     omega arith
 
 -- the operator by its number; what is selected is within the limit
-pub selection-of : (k : ℕ) → ¬ (k ≡ 0) → selection (eqb k 1) ≡ combination k
-selection-of zero h = absurd (h refl)
-selection-of (suc zero) h = ap selection (eq-eqb 1 1 refl)
-selection-of (suc (suc k)) h = ap selection (ne-eqb (suc (suc k)) 1 (λ e. omega arith))
+pub selection-of : (k : ℕ) → ¬ (k ≡ combinationCode Cup) → selection (eqb k (combinationCode Cap)) ≡ combination k
+selection-of k h = same (eqb k (combinationCode Cap)) ∙ sym (another combinationCode k Cup {other = numbered combinationCode k Cap Without} h)
+  where
+    same : (b : Bool) → selection b ≡ elim b [ true ↦ Cap | false ↦ Without ]
+    same true = refl
+    same false = refl
 
 pub selected-limited : (place : ℕ) (s a : List ℕ) (n : ℕ) → Selected s a n → SetIs (Value n) a (limited place s)
 selected-limited place s a n h =

@@ -2,6 +2,7 @@
 use basics::u8_u32::wide;
 use language::limits;
 use node::refusals;
+use operators::codes;
 ghost use mathlib.Core.Path.{_≡_};
 ghost use Rattle.language.specs.Values.{inRange, decimal, calculate as calculate'};
 ghost use Rattle.language.specs.Expansion.{test};
@@ -42,20 +43,20 @@ fn in_range(place: u32, v: u64) -> Worked
     Worked::Refused(refusals::OUT_OF_RANGE, place)
 }
 
-// Operators by number: 0 is +, 1 -, 2 *, 3 /, any other %.
+// Operators by number; any number but these four stands for %.
 pub fn calculate(place: u32, operator: u32, a: u32, b: u32) -> Worked
     ensures { λ r. ⌜ says r ≡ calculate' place (arithmetic operator) a b ⌝ }
 {
     match operator {
-        0 => in_range(place, (a as u64) + (b as u64)),
-        1 => {
+        codes::PLUS => in_range(place, (a as u64) + (b as u64)),
+        codes::MINUS => {
             if a < b {
                 return Worked::Refused(refusals::OUT_OF_RANGE, place);
             }
             Worked::Value(a - b)
         }
-        2 => in_range(place, (a as u64) * (b as u64)),
-        3 => {
+        codes::TIMES => in_range(place, (a as u64) * (b as u64)),
+        codes::DIVIDE => {
             if b == 0 {
                 return Worked::Refused(refusals::OUT_OF_RANGE, place);
             }
@@ -70,16 +71,16 @@ pub fn calculate(place: u32, operator: u32, a: u32, b: u32) -> Worked
     }
 }
 
-// Comparisons by number: 0 is ==, 1 !=, 2 <, 3 <=, 4 >, any other >=.
+// Comparisons by number; any number but these five stands for >=.
 pub fn compare(operator: u32, a: u32, b: u32) -> bool
     ensures { λ r. ⌜ r ≡ test (comparison operator) a b ⌝ }
 {
     match operator {
-        0 => a == b,
-        1 => a != b,
-        2 => a < b,
-        3 => a <= b,
-        4 => b < a,
+        codes::EQUAL => a == b,
+        codes::UNEQUAL => a != b,
+        codes::LESS => a < b,
+        codes::AT_MOST => a <= b,
+        codes::GREATER => b < a,
         _ => b <= a,
     }
 }

@@ -17,8 +17,9 @@ use Rattle.language.specs.Expansion.{expansion, nexts}
 use Rattle.entries.specs.Kinds as Kind
 use Rattle.name_values.specs.KnownLaws.{known-nexts}
 use Rattle.operands.specs.Entries.{kindAt}
-use Rattle.operands.specs.Shapes.{aRepetition, shapeOf}
+use Rattle.operands.specs.Makings.{aRepetition, makingOf}
 use Rattle.operands.specs.Working.{Source}
+use Rattle.machine.specs.Fields.{valueField}
 use Rattle.machine.specs.Phases as Phase
 use Rattle.machine.specs.Came.{Evaluate, Expand, Nodes, nodes, worth, works, asNumber}
 use Rattle.machine.specs.Frames.{Repeat, Repeated, repeated, apply}
@@ -38,7 +39,7 @@ use Rattle.machine.specs.OperandLaws.{operand-as, two-operands}
 use Rattle.machine.specs.declared.Machine.{Machine}
 use Rattle.machine.specs.declared.Move.the-variants.{Next}
 use Rattle.machine.specs.Entering.{Expands, Waiting}
-use Rattle.machine.specs.EnteringLaws.{works-formula, operand-shape}
+use Rattle.machine.specs.EnteringLaws.{works-formula, operand-making}
 use Rattle.machine.specs.SameLaws.{same-nexts}
 
 -- the clause as its frames have it
@@ -48,8 +49,8 @@ repetition-same n a =
     ∙ sym (take-number n (λ k. (a >>= nodes) >>= repeated k))
 
 -- there is one kind of it
-shape-nexts : {work : List ℕ} {m : Machine} → Expands work m Kind.nexts Kind.window → shapeOf (kindAt work (m .value)) ≡ aRepetition
-shape-nexts {work} {m} k = let l = k .from in let u = k .until in let e : kindAt work (m .value) ≡ Kind.nexts = omega arith in ap shapeOf e
+making-nexts : {work : List ℕ} {m : Machine} → Expands work m Kind.nexts Kind.window → makingOf (kindAt work (m .value)) ≡ aRepetition
+making-nexts {work} {m} k = let l = k .from in let u = k .until in let e : kindAt work (m .value) ≡ Kind.nexts = omega arith in ap makingOf e
 
 -- the entry: its number is worked out first
 pub repetition-starts : {s : Source} {mem : List ℕ} {m : Machine} → Expands (s .work) m Kind.nexts Kind.window → StartsTwo s mem m Phase.repeat 0 Evaluate
@@ -59,7 +60,7 @@ repetition-starts {s} {mem} {m} k =
       entry = omega arith;
       few-turns = omega arith;
       starting = λ R x o out n.
-          let v = operand-shape (n .at .operand) (shape-nexts k) in
+          let v = operand-making (n .at .operand) (making-nexts k) in
           let t = v .0 in
           let a = v .1 in
           let b = v .2 in
@@ -103,7 +104,7 @@ module _ {s : Source} {mem : List ℕ} {m : Machine} (w : Waiting mem m Phase.re
 
 -- the formula has come
 module _ {s : Source} {mem out : List ℕ} {m : Machine} (w : Waiting mem m Phase.repeated) where
-  pub repeated-steps : m .mode ≡ isNodes → {a r n : ℕ} {out' : List ℕ} → a ≡ getD mem (m .frames + 5) 0 → Nexts a out out' (m .nodes) r → n ≡ min r (suc maxNodes)
+  pub repeated-steps : m .mode ≡ isNodes → {a r n : ℕ} {out' : List ℕ} → a ≡ getD mem (m .frames + valueField) 0 → Nexts a out out' (m .nodes) r → n ≡ min r (suc maxNodes)
       → TakesToWrite s mem mem out out' m (Next (wrote (popped m) n))
   repeated-steps e {a} {r} {n} {out'} ea j en = record {
     turns = λ R x o t.

@@ -19,8 +19,9 @@ use Rattle.entries.specs.Kinds as Kind
 use Rattle.name_values.specs.KnownLaws.{known-prefixed}
 use Rattle.operators.specs.Tables.{prefixCodeAt}
 use Rattle.operands.specs.Entries.{kindAt, numberAt}
-use Rattle.operands.specs.ShapeLaws.{unary-shape}
+use Rattle.operands.specs.MakingLaws.{unary-making}
 use Rattle.operands.specs.Working.{Source}
+use Rattle.machine.specs.Fields.{entryField}
 use Rattle.machine.specs.Phases as Phase
 use Rattle.machine.specs.Came.{Expand, nodes, asFormula}
 use Rattle.machine.specs.Frames.{Capping, apply}
@@ -39,7 +40,7 @@ use Rattle.machine.specs.OperandLaws.{operand-as, one-operand}
 use Rattle.machine.specs.declared.Machine.{Machine}
 use Rattle.machine.specs.declared.Move.the-variants.{Next}
 use Rattle.machine.specs.Entering.{Expands, Waiting}
-use Rattle.machine.specs.EnteringLaws.{works-formula, operand-shape}
+use Rattle.machine.specs.EnteringLaws.{works-formula, operand-making}
 
 -- the clause as its frame has it
 unary-same : (o : Unary) (a : Result Formula) → ((a >>= λ f. Done (One o f)) >>= nodes) ≡ ((a >>= nodes) >>= λ v. asFormula v >>= λ f. nodes (One o f))
@@ -53,7 +54,7 @@ unary-starts {s} {mem} {m} k =
       entry = omega arith;
       few-turns = omega arith;
       starting = λ R x o out n.
-          let v = operand-shape (n .at .operand) (unary-shape (kindAt (s .work) (m .value)) (k .from) (k .until)) in
+          let v = operand-making (n .at .operand) (unary-making (kindAt (s .work) (m .value)) (k .from) (k .until)) in
           let t = v .0 in
           let op = v .1 in
           let a = v .2 in
@@ -74,14 +75,14 @@ unary-starts {s} {mem} {m} k =
 
 -- the operand has come
 module _ {s : Source} {mem out : List ℕ} {m : Machine} (w : Waiting mem m Phase.capping) where
-  pub capping-small : ToppedToWrite s mem out m → prefixCodeAt (numberAt (s .work) (getD mem (m .frames + 1) 0)) < 16
+  pub capping-small : ToppedToWrite s mem out m → prefixCodeAt (numberAt (s .work) (getD mem (m .frames + entryField) 0)) < 16
   capping-small t =
       let v = by-phase (t .top .frame) Phase.capping (top-phase (t .top) ∙ w .phase) in
       let h = top-as (t .top) (v .1) in
       let e = ap (λ (j : ℕ). prefixCodeAt (numberAt (s .work) j)) (entry-word h) ∙ h .at .waits .1 .spelt in
       subst (λ (j : ℕ). j < 16) (sym e) (unary-small (v .0))
 
-  pub capping-steps : m .mode ≡ isNodes → {k op r n : ℕ} {out' : List ℕ} → k ≡ getD mem (m .frames + 1) 0 → op ≡ prefixCodeAt (numberAt (s .work) k) → Caps op out out' (m .nodes) r
+  pub capping-steps : m .mode ≡ isNodes → {k op r n : ℕ} {out' : List ℕ} → k ≡ getD mem (m .frames + entryField) 0 → op ≡ prefixCodeAt (numberAt (s .work) k) → Caps op out out' (m .nodes) r
       → n ≡ min r (suc maxNodes) → TakesToWrite s mem mem out out' m (Next (wrote (popped m) n))
   capping-steps e {k} {op} {r} {n} {out'} ek eo j en = record {
     turns = λ R x o t.

@@ -26,8 +26,9 @@ use Rattle.name_values.specs.KnownLaws.{known-window}
 use Rattle.operators.specs.Codes.{roleCode}
 use Rattle.operators.specs.Tables.{prefixCodeAt}
 use Rattle.operands.specs.Entries.{kindAt, sizeAt, placeAt, numberAt}
-use Rattle.operands.specs.ShapeLaws.{window-shape}
+use Rattle.operands.specs.MakingLaws.{window-making}
 use Rattle.operands.specs.Working.{Source}
+use Rattle.machine.specs.Fields.{entryField, atField, valueField, otherField}
 use Rattle.machine.specs.Phases as Phase
 use Rattle.machine.specs.Came.{Evaluate, Expand, Came, Nodes, nodes, worth, works, asNumber}
 use Rattle.machine.specs.Frames.{WindowFrom, WindowTo, Windowed, windowing, windowed, apply}
@@ -40,9 +41,9 @@ use Rattle.machine.specs.Moves.{came, wrote, popped}
 use Rattle.machine.specs.ComeLaws.{came-number, number-then, came-formula}
 use Rattle.machine.specs.FrameViews.{by-phase}
 use Rattle.machine.specs.TakeLaws.{entry-word, at-word, value-word, other-word, refuses, top-phase, top-as}
-use Rattle.machine.specs.Openings.{Renewed}
+use Rattle.machine.specs.Openings.{Preceded, entryAt, Renewed, RenewedBefore}
 use Rattle.machine.specs.StartLaws.{StartsThree}
-use Rattle.machine.specs.RenewLaws.{follows-last, follows-before}
+use Rattle.machine.specs.RenewLaws.{topped-before, follows-last, follows-before}
 use Rattle.machine.specs.FlatLaws.{flat-laid}
 use Rattle.machine.specs.FormulaLaws.{formula-laid, finishes}
 use Rattle.machine.specs.BindLaws.{take-number, take-formula, then-nodes}
@@ -50,7 +51,7 @@ use Rattle.machine.specs.OperandLaws.{operand-as, three-operands}
 use Rattle.machine.specs.declared.Machine.{Machine}
 use Rattle.machine.specs.declared.Move.the-variants.{Next, Refused as Refuses}
 use Rattle.machine.specs.Entering.{Expands, Waiting}
-use Rattle.machine.specs.EnteringLaws.{works-formula, operand-shape}
+use Rattle.machine.specs.EnteringLaws.{works-formula, operand-making}
 use Rattle.machine.specs.SameLaws.{same-nexts, same-chain}
 use Rattle.temporal_steps.specs.TableLaws.{wrote-chain}
 use Rattle.temporal_steps.specs.Windows.{windowBy}
@@ -99,7 +100,7 @@ windowing-starts {s} {mem} {m} k =
       entry = omega arith;
       few-turns = omega arith;
       starting = λ R u o out n.
-          let v = operand-shape (n .at .operand) (window-shape (kindAt (s .work) (m .value)) (k .from) (k .until)) in
+          let v = operand-making (n .at .operand) (window-making (kindAt (s .work) (m .value)) (k .from) (k .until)) in
           let t = v .0 in
           let op = v .1 in
           let a = v .2 in
@@ -124,15 +125,14 @@ windowing-starts {s} {mem} {m} k =
 
 -- the first number has come
 module _ {s : Source} {mem : List ℕ} {m : Machine} (w : Waiting mem m Phase.windowFrom) where
-  pub from-inside : Topped s mem m → sizeAt (s .work) (getD mem (m .frames + 1) 0 - 1) < getD mem (m .frames + 1) 0
-  from-inside t =
+  pub from-before : Topped s mem m → Preceded (s .work) (entryAt mem m) 0
+  from-before t =
       let v = by-phase (t .top .frame) Phase.windowFrom (top-phase (t .top) ∙ w .phase) in
       let h = top-as (t .top) (v .5) in
-      subst (λ (j : ℕ). sizeAt (s .work) (j - 1) < j) (sym (entry-word h)) (h .at .waits .1 .0)
+      topped-before t (subst (λ (j : ℕ). sizeAt (s .work) (j - 1) < j) (sym (entry-word h)) (h .at .waits .1 .0))
 
-  pub from-steps : m .mode ≡ isNumber → {mem' : List ℕ} {z : ℕ} {n u : Machine} → Renewed mem mem' m Phase.windowTo 0 (m .value) 0 (modeOf Evaluate) n
-      → z ≡ sizeAt (s .work) (n .value) → u ≡ came n (modeOf Evaluate) (n .value - z) 0 → Takes s mem mem' m (Next u)
-  from-steps e q ez eu = record {
+  pub from-steps : m .mode ≡ isNumber → {mem' : List ℕ} {n : Machine} → RenewedBefore (s .work) mem mem' m Phase.windowTo (m .value) (modeOf Evaluate) n → Takes s mem mem' m (Next n)
+  from-steps e q = record {
     turns = λ R x o out t.
         let v = by-phase (t .frame) Phase.windowFrom (top-phase t ∙ w .phase) in
         let p = v .0 in
@@ -142,7 +142,7 @@ module _ {s : Source} {mem : List ℕ} {m : Machine} (w : Waiting mem m Phase.wi
         let d = v .4 in
         let h = top-as t (v .5) in
         let n = came-number R o mem m (h .came) (h .come) e in
-        follows-before h {G = WindowTo p op c d (m .value)} {a = Evaluate} {c = c} {e = b} q ez eu (record {
+        follows-before h {G = WindowTo p op c d (m .value)} {a = Evaluate} {c = c} {e = b} q (record {
           held-nothing = refl;
           holds-no-words = refl;
           keeps-formula = ap (written (m .nodes)) (n .same);
@@ -158,7 +158,7 @@ module _ {s : Source} {mem : List ℕ} {m : Machine} (w : Waiting mem m Phase.wi
 -- the second number has come
 module _ {s : Source} {mem : List ℕ} {m : Machine} (w : Waiting mem m Phase.windowTo) where
   -- below the first
-  pub to-refuses : m .mode ≡ isNumber → {k p a : ℕ} → k ≡ getD mem (m .frames + 1) 0 → p ≡ placeAt (s .work) k → a ≡ getD mem (m .frames + 5) 0 → m .value < a → Takes s mem mem m (Refuses 11 p)
+  pub to-refuses : m .mode ≡ isNumber → {k p a : ℕ} → k ≡ getD mem (m .frames + entryField) 0 → p ≡ placeAt (s .work) k → a ≡ getD mem (m .frames + valueField) 0 → m .value < a → Takes s mem mem m (Refuses 11 p)
   to-refuses e {k} {p} {a} ek ep ea l = record {
     turns = λ R x o out t.
         let v = by-phase (t .frame) Phase.windowTo (top-phase t ∙ w .phase) in
@@ -175,7 +175,7 @@ module _ {s : Source} {mem : List ℕ} {m : Machine} (w : Waiting mem m Phase.wi
         ∙ guard-stop 11 (v .0) (works Expand c d >>= windowed op j (m .value)) (lt-leb j (m .value) (omega arith)) ∙ ap (Refused 11) same-place);
   }
 
-  pub to-steps : m .mode ≡ isNumber → {mem' : List ℕ} {a i : ℕ} {n : Machine} → a ≡ getD mem (m .frames + 5) 0 → a ≤ m .value → i ≡ m .nodes
+  pub to-steps : m .mode ≡ isNumber → {mem' : List ℕ} {a i : ℕ} {n : Machine} → a ≡ getD mem (m .frames + valueField) 0 → a ≤ m .value → i ≡ m .nodes
       → Renewed mem mem' m Phase.windowed i a (m .value) (modeOf Expand) n → Takes s mem mem' m (Next n)
   to-steps e {mem'} {a} ea l en q = record {
     turns = λ R x o out t.
@@ -208,7 +208,7 @@ module _ {s : Source} {mem : List ℕ} {m : Machine} (w : Waiting mem m Phase.wi
 
 -- the formula has come
 module _ {s : Source} {mem out : List ℕ} {m : Machine} (w : Waiting mem m Phase.windowed) where
-  pub windowed-order : ToppedToWrite s mem out m → getD mem (m .frames + 5) 0 ≤ getD mem (m .frames + 6) 0
+  pub windowed-order : ToppedToWrite s mem out m → getD mem (m .frames + valueField) 0 ≤ getD mem (m .frames + otherField) 0
   windowed-order t =
       let v = by-phase (t .top .frame) Phase.windowed (top-phase (t .top) ∙ w .phase) in
       let h = top-as (t .top) (v .3) in
@@ -217,8 +217,8 @@ module _ {s : Source} {mem out : List ℕ} {m : Machine} (w : Waiting mem m Phas
       let l = h .at .holds .1 in
       omega arith
 
-  pub windowed-steps : m .mode ≡ isNodes → {k code op start a b mid r n : ℕ} {out₁ out' : List ℕ} → k ≡ getD mem (m .frames + 1) 0 → code ≡ prefixCodeAt (numberAt (s .work) k) → op ≡ chained code
-      → start ≡ getD mem (m .frames + 3) 0 → a ≡ getD mem (m .frames + 5) 0 → b ≡ getD mem (m .frames + 6) 0 → Windows.Windowed op (b - a) out out₁ start (m .nodes) mid → Nexts a out₁ out' mid r
+  pub windowed-steps : m .mode ≡ isNodes → {k code op start a b mid r n : ℕ} {out₁ out' : List ℕ} → k ≡ getD mem (m .frames + entryField) 0 → code ≡ prefixCodeAt (numberAt (s .work) k) → op ≡ chained code
+      → start ≡ getD mem (m .frames + atField) 0 → a ≡ getD mem (m .frames + valueField) 0 → b ≡ getD mem (m .frames + otherField) 0 → Windows.Windowed op (b - a) out out₁ start (m .nodes) mid → Nexts a out₁ out' mid r
       → n ≡ min r (suc maxNodes) → TakesToWrite s mem mem out out' m (Next (wrote (popped m) n))
   windowed-steps e {k} {code} {op} {start} {a} {b} {mid} {r} {n} {out₁} {out'} ek ei eo es ea eb q y en = record {
     turns = λ R x o t.

@@ -2,6 +2,7 @@
 use machine::Machine;
 use machine::Move;
 use machine::capped;
+use machine::fields;
 use machine::modes;
 use machine::phases;
 use node::MAX_NODES;
@@ -49,7 +50,7 @@ pub fn repeated(
     if m.mode != modes::NODES {
         return Move::Refused(refusals::WRONG_TYPE, 0);
     }
-    let n = memory[m.frames + 5] as usize;
+    let n = memory[m.frames + fields::VALUE] as usize;
     let end = nexts(n, m.nodes, table);
     Move::Next(m.popped().wrote(capped(end)))
 }

@@ -2,6 +2,7 @@
 use machine::Machine;
 use machine::Move;
 use machine::capped;
+use machine::fields;
 use machine::modes;
 use machine::phases;
 use node::MAX_NODES;
@@ -39,7 +40,7 @@ pub fn capping(
     if m.mode != modes::NODES {
         return Move::Refused(refusals::WRONG_TYPE, 0);
     }
-    let k = memory[m.frames + 1] as usize;
+    let k = memory[m.frames + fields::ENTRY] as usize;
     let n = cap(prefix_at(work, k), m.nodes, table);
     Move::Next(m.popped().wrote(capped(n)))
 }

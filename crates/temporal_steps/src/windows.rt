@@ -2,6 +2,7 @@
 use machine::Machine;
 use machine::Move;
 use machine::capped;
+use machine::fields;
 use machine::modes;
 use machine::phases;
 use node::MAX_NODES;
@@ -9,7 +10,6 @@ use node::Node;
 use node::refusals;
 use operands::entry::place_at;
 use operands::entry::prefix_at;
-use operands::entry::size_at;
 use writing::nexts;
 use writing::window::window;
 ghost use mathlib.Core.Path.{_≡_};
@@ -28,10 +28,7 @@ pub fn windowing(text: &[u8], work: &[u8], refs: &[u16], memory: &mut [u32], m: 
     requires { ⌜ Expands (now work) m Kind.window Kind.bigNumbers ⌝ }
     ensures { λ r. ⌜ Steps (source (now (text .entry)) (now (work .entry)) (now (refs .entry))) (now (memory .entry)) (now (memory .exit)) m r ⌝ }
 {
-    let k = m.value as usize;
-    let second = k - 1 - size_at(work, k - 1);
-    let first = second - size_at(work, second);
-    m.push(memory, phases::WINDOW_FROM, modes::EVALUATE, first as u32)
+    m.push_first_of_three(work, memory, phases::WINDOW_FROM, modes::EVALUATE)
 }
 
 // It has come: the number where the window ends is worked out.
@@ -43,10 +40,7 @@ pub fn from(text: &[u8], work: &[u8], refs: &[u16], memory: &mut [u32], m: Machi
     if m.mode != modes::NUMBER {
         return Move::Refused(refusals::WRONG_TYPE, 0);
     }
-    let n = m.renew(memory, phases::WINDOW_TO, 0, m.value, 0, modes::EVALUATE);
-    let last = n.value as usize;
-    let j = last - size_at(work, last);
-    Move::Next(n.came(modes::EVALUATE, j as u32, 0))
+    Move::Next(m.renew_before(work, memory, phases::WINDOW_TO, m.value, modes::EVALUATE))
 }
 
 // It has come: a window that ends before it begins is refused, else the formula is worked out.
@@ -59,9 +53,9 @@ pub fn to(text: &[u8], work: &[u8], refs: &[u16], memory: &mut [u32], m: Machine
         return Move::Refused(refusals::WRONG_TYPE, 0);
     }
     let at = m.frames;
-    let begin = memory[at + 5];
+    let begin = memory[at + fields::VALUE];
     if m.value < begin {
-        let k = memory[at + 1] as usize;
+        let k = memory[at + fields::ENTRY] as usize;
         return Move::Refused(refusals::OUT_OF_RANGE, place_at(work, k));
     }
     Move::Next(m.renew(
@@ -101,10 +95,10 @@ pub fn windowed(
         return Move::Refused(refusals::WRONG_TYPE, 0);
     }
     let at = m.frames;
-    let k = memory[at + 1] as usize;
-    let start = memory[at + 3] as usize;
-    let begin = memory[at + 5] as usize;
-    let end = memory[at + 6] as usize;
+    let k = memory[at + fields::ENTRY] as usize;
+    let start = memory[at + fields::AT] as usize;
+    let begin = memory[at + fields::VALUE] as usize;
+    let end = memory[at + fields::OTHER] as usize;
     let operator = chaining(prefix_at(work, k));
     let chained = window(operator, end - begin, start, m.nodes, table);
     let n = nexts(begin, chained, table);

@@ -18,6 +18,7 @@ use Rattle.operators.specs.Tables.{infixCodeAt}
 use Rattle.operands.specs.Entries.{kindAt, placeAt, numberAt}
 use Rattle.operands.specs.KindLaws.{calculation-class}
 use Rattle.operands.specs.Working.{Source}
+use Rattle.machine.specs.Fields.{entryField, valueField}
 use Rattle.machine.specs.Phases as Phase
 use Rattle.machine.specs.Came.{Evaluate, worth, works, asNumber}
 use Rattle.machine.specs.Frames.{Left, Right, calculated}
@@ -102,7 +103,7 @@ module _ {s : Source} {mem : List ℕ} {m : Machine} (w : Waiting mem m Phase.le
 
 -- the right operand has come
 module _ {s : Source} {mem : List ℕ} {m : Machine} (w : Waiting mem m Phase.right) where
-  pub right-steps : m .mode ≡ isNumber → {k i p a : ℕ} (r : Worked) → k ≡ getD mem (m .frames + 1) 0 → i ≡ infixCodeAt (numberAt (s .work) k) → p ≡ placeAt (s .work) k → a ≡ getD mem (m .frames + 5) 0
+  pub right-steps : m .mode ≡ isNumber → {k i p a : ℕ} (r : Worked) → k ≡ getD mem (m .frames + entryField) 0 → i ≡ infixCodeAt (numberAt (s .work) k) → p ≡ placeAt (s .work) k → a ≡ getD mem (m .frames + valueField) 0
       → says r ≡ calculate p (arithmetic i) a (m .value) → Takes s mem mem m (numbered (popped m) r)
   right-steps e {k} {i} {p} {a} r ek ei ep ea g = record {
     turns = λ R x o out t.

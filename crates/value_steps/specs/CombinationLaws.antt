@@ -17,6 +17,7 @@ use Rattle.entries.specs.Kinds as Kind
 use Rattle.operands.specs.Entries.{kindAt}
 use Rattle.operands.specs.KindLaws.{combination-class}
 use Rattle.operands.specs.Working.{Source}
+use Rattle.machine.specs.Fields.{entryField}
 use Rattle.machine.specs.Phases as Phase
 use Rattle.machine.specs.Came.{Evaluate, worth, works, asSet}
 use Rattle.machine.specs.Frames.{LeftSet, RightSet, combined, apply}
@@ -27,7 +28,7 @@ use Rattle.machine.specs.MemoryLaws.{held-none, agree-same}
 use Rattle.machine.specs.SetLaws.{above-from, above-most, sits-lies, sits-low}
 use Rattle.machine.specs.Moves.{above}
 use Rattle.machine.specs.Telling.{isSet}
-use Rattle.machine.specs.States.{modeOf, Topped, Takes}
+use Rattle.machine.specs.States.{Topped, Takes}
 use Rattle.machine.specs.ComeLaws.{came-set}
 use Rattle.machine.specs.FrameViews.{by-phase}
 use Rattle.machine.specs.TakeLaws.{words, entry-word, room-under, goes, top-phase, top-as}
@@ -41,6 +42,7 @@ use Rattle.machine.specs.Entering.{Evaluates, Waiting}
 use Rattle.machine.specs.EnteringLaws.{works-value}
 use Rattle.machine.specs.StartLaws.{StartsTwo}
 use Rattle.machine.specs.JoinedLaws.{joined-two, joined-op}
+use Rattle.value_steps.specs.Moves.{onward}
 
 -- the clause as its frames have it
 combination-same : (p : ℕ) (o : Combination) (a b : Result Value) → ((a >>= set >>= λ m. b >>= set >>= λ n. limited p (combine o m n) >>= λ l. Done (Set l)) >>= worth)
@@ -77,10 +79,6 @@ combination-starts {s} {mem} {m} k =
           };
     }
 
--- the next state where the left set is held
-abbrev pub holding-set : Machine → (j top : ℕ) → Machine
-holding-set m j top = record { mode = modeOf Evaluate; value = j; from = 0; scope = m .scope; depth = m .depth; top = top; frames = m .frames; nodes = m .nodes }
-
 -- a set that has come: its place can be numbered
 pub record Numbered (m : Machine) : Type 0 where
   pub from : m .from < 2 ^ 32
@@ -107,9 +105,9 @@ set-numbered {mem = mem} {m} t e =
 
 -- the left operand has come
 module _ {s : Source} {mem : List ℕ} {m : Machine} (w : Waiting mem m Phase.leftSet) where
-  pub left-steps : m .mode ≡ isSet → {mem' : List ℕ} {k top : ℕ} → k ≡ getD mem (m .frames + 1) 0 → top ≡ above m
-      → Framed mem mem' (m .frames) (record { phase = Phase.rightSet; entry = k; base = m .top; at = m .from; count = m .value; value = 0; other = 0 }) → Takes s mem mem' m (Next (holding-set m (k - 1) top))
-  left-steps e {mem'} {k} ek et f = takes-next (ap (holding-set m (k - 1)) et) (record {
+  pub left-steps : m .mode ≡ isSet → {mem' : List ℕ} {k top : ℕ} → k ≡ getD mem (m .frames + entryField) 0 → top ≡ above m
+      → Framed mem mem' (m .frames) (record { phase = Phase.rightSet; entry = k; base = m .top; at = m .from; count = m .value; value = 0; other = 0 }) → Takes s mem mem' m (Next (onward m (k - 1) top))
+  left-steps e {mem'} {k} ek et f = takes-next (ap (onward m (k - 1)) et) (record {
     turns = λ R x o out t.
         let v = by-phase (t .frame) Phase.leftSet (top-phase t ∙ w .phase) in
         let p = v .0 in
@@ -166,7 +164,7 @@ module _ {s : Source} {mem : List ℕ} {m : Machine} (w : Waiting mem m Phase.le
           few = h .few;
           noted = h .noted;
           lasting = h .lasting;
-          less = weight-falls 5 4 (words h .entry) (m .value) (words h .count) (omega arith) same-entry (h .at .phased);
+          less = weight-falls Phase.rightSet Phase.leftSet (words h .entry) (m .value) (words h .count) (omega arith) same-entry (h .at .phased);
           kept = tt;
           same = ap (apply (LeftSet p op c b)) (g .same) ∙ bind-at (g .set) (λ i. works Evaluate c b >>= combined p op i);
         });

@@ -20,6 +20,7 @@ use Rattle.operands.specs.Entries.{placeAt, numberAt}
 use Rattle.operands.specs.Working.{Source}
 use Rattle.memory_sets.specs.Places.{Copied, elementsAt, Two, SetAt}
 use Rattle.memory_sets.specs.PlacedLaws.{words-of, combine-sane}
+use Rattle.machine.specs.Fields.{entryField, baseField, atField, countField}
 use Rattle.machine.specs.Phases as Phase
 use Rattle.machine.specs.Came.{Came, Worth, worth}
 use Rattle.machine.specs.Frames.{RightSet, apply}
@@ -144,10 +145,10 @@ module _ {s : Source} {mem : List ℕ} {m : Machine} (w : Waiting mem m Phase.ri
 
 -- the frame's words as the code reads them
 pub record Reads (s : Source) (mem : List ℕ) (m : Machine) (k base la lc to i p : ℕ) : Type 0 where
-  pub entry : k ≡ getD mem (m .frames + 1) 0
-  pub base-is : base ≡ getD mem (m .frames + 2) 0
-  pub left-at : la ≡ getD mem (m .frames + 3) 0
-  pub left-count : lc ≡ getD mem (m .frames + 4) 0
+  pub entry : k ≡ getD mem (m .frames + entryField) 0
+  pub base-is : base ≡ getD mem (m .frames + baseField) 0
+  pub left-at : la ≡ getD mem (m .frames + atField) 0
+  pub left-count : lc ≡ getD mem (m .frames + countField) 0
   pub to-is : to ≡ above m
   pub operator : i ≡ infixCodeAt (numberAt (s .work) k)
   pub place : p ≡ placeAt (s .work) k
@@ -157,20 +158,21 @@ pub record Lowers (mem : List ℕ) (base to n : ℕ) : Type 0 where
   pub down : base ≤ to
   pub inside : to + n ≤ length mem
 
-abbrev answer : List ℕ → Machine → (la lc i p : ℕ) → Result (List ℕ)
+-- what the two sets come to
+abbrev pub answer : List ℕ → Machine → (la lc i p : ℕ) → Result (List ℕ)
 answer mem m la lc i p = limited p (combine (combination i) (elementsAt mem (record { at = la; count = lc })) (elementsAt mem (record { at = m .from; count = m .value })))
 
 -- a frame of this phase
 module _ {s : Source} {mem : List ℕ} {m : Machine} (w : Waiting mem m Phase.rightSet) where
   module _ (e : m .mode ≡ isSet) where
-    pub right-two : Topped s mem m → {la lc to : ℕ} → la ≡ getD mem (m .frames + 3) 0 → lc ≡ getD mem (m .frames + 4) 0 → to ≡ above m
+    pub right-two : Topped s mem m → {la lc to : ℕ} → la ≡ getD mem (m .frames + atField) 0 → lc ≡ getD mem (m .frames + countField) 0 → to ≡ above m
         → Two mem (record { at = la; count = lc }) (record { at = m .from; count = m .value }) to
     right-two t {la} {lc} ea ec et =
         let v = by-phase (t .top .frame) Phase.rightSet (top-phase (t .top) ∙ w .phase) in
         let h = top-as (t .top) (v .3) in
         subst (Two mem (record { at = la; count = lc }) (record { at = m .from; count = m .value })) (sym et) (both w e h (ea ∙ at-word h) (ec ∙ count-word h))
 
-    pub right-lowers : Topped s mem m → {base to n : ℕ} → base ≡ getD mem (m .frames + 2) 0 → to ≡ above m → n ≤ maxElements → Lowers mem base to n
+    pub right-lowers : Topped s mem m → {base to n : ℕ} → base ≡ getD mem (m .frames + baseField) 0 → to ≡ above m → n ≤ maxElements → Lowers mem base to n
     right-lowers t eb et l =
         let v = by-phase (t .top .frame) Phase.rightSet (top-phase (t .top) ∙ w .phase) in
         let h = top-as (t .top) (v .3) in

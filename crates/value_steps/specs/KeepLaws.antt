@@ -15,6 +15,7 @@ use Rattle.memory_sets.specs.Places.{Copied}
 use Rattle.name_values.specs.World.{Meaning, nameValue, meaningAt}
 use Rattle.name_values.specs.Sorts as Sort
 use Rattle.operands.specs.Working.{Source}
+use Rattle.machine.specs.Fields.{valueField, otherField, noteMark}
 use Rattle.machine.specs.Phases as Phase
 use Rattle.machine.specs.Came.{Came, Worth, worth}
 use Rattle.machine.specs.Frames.{KeepValue}
@@ -50,14 +51,14 @@ module _ {s : Source} {R : Realm s} {mem out : List ℕ} {m : Machine} {x : Resu
   waiting : Releasing h q c d
   waiting = record { holds-nothing = refl; same = refl; returns = h .at .holds; defining = h .at .waits }
 
-  module _ {r : ℕ} (er : r ≡ getD mem (m .frames + 6) 0) where
+  module _ {r : ℕ} (er : r ≡ getD mem (m .frames + otherField) 0) where
     -- the body's value is the name's
     body-value : {v : Value} → h .came ≡ Worth v → (t : Token) → nameValue (meaningAt (R .W) r) t ≡ Done v
     body-value e t =
         ap (λ (y : Meaning). nameValue y t) (defined h waiting er) ∙ worth-done (value (c .values) d) (means-kept x _ (h .rest) (Done (h .came)) (h .same) ∙ ap Done e)
 
     -- it is noted, and goes on
-    keeps : {v : Value} {mem' : List ℕ} {scope sort k a from : ℕ} → h .came ≡ Worth v → scope ≡ getD mem (m .frames + 5) 0 → Renoted (o .regions) mem mem' r sort k a (noteAt mem r 3)
+    keeps : {v : Value} {mem' : List ℕ} {scope sort k a from : ℕ} → h .came ≡ Worth v → scope ≡ getD mem (m .frames + valueField) 0 → Renoted (o .regions) mem mem' r sort k a (noteAt mem r noteMark)
         → Fact s mem' (meaningAt (R .W) r) sort k a → Arrived R o mem' (released (came m (m .mode) (m .value) from) scope) v
         → Turned R mem mem' out out m x o (Next (released (came m (m .mode) (m .value) from) scope))
     keeps {mem' = mem'} {scope} {from = from} e es w f ar =
@@ -84,7 +85,7 @@ pub record Keeping (mem : List ℕ) (m : Machine) (r : ℕ) : Type 0 where
 
 module _ {s : Source} {mem : List ℕ} {m : Machine} (w : Waiting mem m Phase.keepValue) where
   -- the name that is kept
-  pub keep-name : Topped s mem m → {r : ℕ} → r ≡ getD mem (m .frames + 6) 0 → Keeping mem m r
+  pub keep-name : Topped s mem m → {r : ℕ} → r ≡ getD mem (m .frames + otherField) 0 → Keeping mem m r
   keep-name t er =
       let v = by-phase (t .top .frame) Phase.keepValue (top-phase (t .top) ∙ w .phase) in
       let h = top-as (t .top) (v .3) in
@@ -108,12 +109,12 @@ module _ {s : Source} {mem : List ℕ} {m : Machine} (w : Waiting mem m Phase.ke
       let i = sits-inside {length = length mem} (omega arith) (omega arith) (g .sits) in
       omega arith
 
-  module _ {scope : ℕ} (es : scope ≡ getD mem (m .frames + 5) 0) where
+  module _ {scope : ℕ} (es : scope ≡ getD mem (m .frames + valueField) 0) where
     -- whatever else it is, it goes on
     pub keep-passes : Takes s mem mem m (Next (released m scope))
     keep-passes = record { turns = λ R x o out t. let v = by-phase (t .frame) Phase.keepValue (top-phase t ∙ w .phase) in let h = top-as t (v .3) in lets-go h (waiting h) es }
 
-    module _ {r : ℕ} (er : r ≡ getD mem (m .frames + 6) 0) where
+    module _ {r : ℕ} (er : r ≡ getD mem (m .frames + otherField) 0) where
       pub keep-number : m .mode ≡ isNumber → Takes s mem (noting mem r Sort.number (m .value) 0) m (Next (released m scope))
       keep-number e = record {
         turns = λ R x o out t.

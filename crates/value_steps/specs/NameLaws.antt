@@ -24,8 +24,9 @@ use Rattle.operands.specs.Entries.{kindAt, placeAt}
 use Rattle.operands.specs.Classes.{classOf}
 use Rattle.operands.specs.ClassLaws.{place-is}
 use Rattle.operands.specs.Working.{Source}
+use Rattle.machine.specs.Fields.{noteNumber, noteAddress}
 use Rattle.machine.specs.Phases as Phase
-use Rattle.machine.specs.Came.{Evaluate, Came, Worth, worth, works}
+use Rattle.machine.specs.Came.{Evaluate, Expand, Came, Worth, worth, works}
 use Rattle.machine.specs.Frames.{KeepValue}
 use Rattle.machine.specs.Realm.{Realm}
 use Rattle.machine.specs.Memory.{noteWords, noteAt, Held, inKept}
@@ -104,7 +105,7 @@ note-inside h l =
     omega arith
 
 -- the entry's reference can be read
-pub reference-inside : {s : Source} {mem : List ℕ} {m : Machine} → Ready s mem m → m .mode ≤ 1 → m .value < length (s .refs)
+pub reference-inside : {s : Source} {mem : List ℕ} {m : Machine} → Ready s mem m → m .mode ≤ modeOf Expand → m .value < length (s .refs)
 reference-inside h l = let e = entry-few (entered (h .state) l) in let f = h .lent .refs in omega arith
 
 pub note-first : (mem : List ℕ) (r : ℕ) → getD mem (noteWords * r) 0 ≡ noteAt mem r 0
@@ -139,9 +140,9 @@ module _ {s : Source} {mem : List ℕ} {m : Machine} (k : Evaluates (s .work) m 
   }
 
   -- a declared name: by its sort and its number
-  module _ (l : r < maxNames) {sort n : ℕ} (es : sort ≡ noteAt mem r 0) (en : n ≡ noteAt mem r 1) where
-    fact : {R : Realm s} {out : List ℕ} {x : Result Came} {o : Began} → Entered R mem out m x o → Fact s mem (meaningAt (R .W) r) sort n (noteAt mem r 2)
-    fact {R} h = subst (λ (i : ℕ). Fact s mem (meaningAt (R .W) r) i n (noteAt mem r 2)) (sym es) (subst (λ (i : ℕ). Fact s mem (meaningAt (R .W) r) (noteAt mem r 0) i (noteAt mem r 2)) (sym en) (h .noted .facts r l))
+  module _ (l : r < maxNames) {sort n : ℕ} (es : sort ≡ noteAt mem r 0) (en : n ≡ noteAt mem r noteNumber) where
+    fact : {R : Realm s} {out : List ℕ} {x : Result Came} {o : Began} → Entered R mem out m x o → Fact s mem (meaningAt (R .W) r) sort n (noteAt mem r noteAddress)
+    fact {R} h = subst (λ (i : ℕ). Fact s mem (meaningAt (R .W) r) i n (noteAt mem r noteAddress)) (sym es) (subst (λ (i : ℕ). Fact s mem (meaningAt (R .W) r) (noteAt mem r 0) i (noteAt mem r noteAddress)) (sym en) (h .noted .facts r l))
 
     -- of whatever it means
     meaning : {R : Realm s} {out : List ℕ} {x : Result Came} {o : Began} (h : Entered R mem out m x o) {v : Meaning} → meaningAt (R .W) r ≡ v
@@ -169,7 +170,7 @@ module _ {s : Source} {mem : List ℕ} {m : Machine} (k : Evaluates (s .work) m 
       turns = λ R x o out h. let e = k .mode in let q = entered h (omega arith) in comes q Logic (meaning q (fact q .signal z) ∙ stands-for refl) refl tt;
     }
 
-    pub set-steps : sort ≡ Sort.set → {a : ℕ} → a ≡ noteAt mem r 2 → Steps s mem mem m (Next (came m isSet n a))
+    pub set-steps : sort ≡ Sort.set → {a : ℕ} → a ≡ noteAt mem r noteAddress → Steps s mem mem m (Next (came m isSet n a))
     set-steps z {a} ea = record {
       turns = λ R x o out h.
           let e = k .mode in

@@ -14,6 +14,7 @@ use Rattle.language.specs.Expansion.{Context}
 use Rattle.memory_sets.specs.Places.{Copied}
 use Rattle.name_values.specs.World.{Meaning, Stands, Defines, World, meaningAt}
 use Rattle.operands.specs.Working.{Source}
+use Rattle.machine.specs.Fields.{noteNumber, noteAddress, noteMark}
 use Rattle.machine.specs.Realm.{Realm}
 use Rattle.machine.specs.Memory.{Regions, noteWords, firstKept, freeWord, slotsWord, noteAt, freeOf, Agree}
 use Rattle.machine.specs.MemoryLaws.{agree-then, word-of, agree-keeps}
@@ -25,9 +26,9 @@ use Rattle.value_steps.specs.Named.{noting}
 pub record Renoted (z : Regions) (mem mem' : List ℕ) (r sort n a mark : ℕ) : Type 0 where
   pub agree : (d top at : ℕ) → z .slots ≤ at → Agree z mem mem' d top at
   pub sort-is : noteAt mem' r 0 ≡ sort
-  pub number-is : noteAt mem' r 1 ≡ n
-  pub address-is : noteAt mem' r 2 ≡ a
-  pub mark-is : noteAt mem' r 3 ≡ mark
+  pub number-is : noteAt mem' r noteNumber ≡ n
+  pub address-is : noteAt mem' r noteAddress ≡ a
+  pub mark-is : noteAt mem' r noteMark ≡ mark
   pub others : (q j : ℕ) → q < maxNames → j < noteWords → (q ≡ r → ⊥) → noteAt mem' q j ≡ noteAt mem q j
   pub within : freeOf mem' ≤ z .slots
   pub slots : getD mem' slotsWord 0 ≡ getD mem slotsWord 0
@@ -40,10 +41,10 @@ module _ {z : Regions} {mem mem' : List ℕ} {r sort n a mark : ℕ} (w : Renote
   pub renoted-lasting : {W : World} {table : List ℕ} {at : ℕ} → ((mark ≡ 0 → ⊥) → Lasts W table at r mark) → Lasting W mem table at → Lasting W mem' table at
   renoted-lasting {W} {table} {at} own x = record { lasts = λ q l d. go q l d (ℕ-discrete q r) }
     where
-      go : (q : ℕ) → q < maxNames → (noteAt mem' q 3 ≡ 0 → ⊥) → Dec (q ≡ r) → Lasts W table at q (noteAt mem' q 3)
+      go : (q : ℕ) → q < maxNames → (noteAt mem' q noteMark ≡ 0 → ⊥) → Dec (q ≡ r) → Lasts W table at q (noteAt mem' q noteMark)
       go q l d (yes e) =
-          let i = ap (λ (j : ℕ). noteAt mem' j 3) e ∙ w .mark-is in
-          subst (λ (j : ℕ). Lasts W table at j (noteAt mem' j 3)) (sym e) (subst (Lasts W table at r) (sym (w .mark-is)) (own (λ y. d (i ∙ y))))
+          let i = ap (λ (j : ℕ). noteAt mem' j noteMark) e ∙ w .mark-is in
+          subst (λ (j : ℕ). Lasts W table at j (noteAt mem' j noteMark)) (sym e) (subst (Lasts W table at r) (sym (w .mark-is)) (own (λ y. d (i ∙ y))))
       go q l d (no e) = let i = w .others q 3 l (omega arith) e in subst (Lasts W table at q) (sym i) (x .lasts q l (λ y. d (i ∙ y)))
 
   pub renoted-noted : {s : Source} {R : Realm s} {index k : ℕ} {c : Context} {e : Expr} → meaningAt (R .W) r ≡ Defines k c e → Fact s mem' (meaningAt (R .W) r) sort n a → Noted R z index mem
@@ -64,15 +65,15 @@ module _ {z : Regions} {mem mem' : List ℕ} {r sort n a mark : ℕ} (w : Renote
         ascending = h .ascending;
       }
     where
-      fact : (q : ℕ) → q < maxNames → Dec (q ≡ r) → Fact s mem' (meaningAt (R .W) q) (noteAt mem' q 0) (noteAt mem' q 1) (noteAt mem' q 2)
-      fact q l (yes e) = subst (λ (i : ℕ). Fact s mem' (meaningAt (R .W) i) (noteAt mem' i 0) (noteAt mem' i 1) (noteAt mem' i 2)) (sym e)
-          (subst (λ (i : ℕ). Fact s mem' (meaningAt (R .W) r) i (noteAt mem' r 1) (noteAt mem' r 2)) (sym (w .sort-is))
-          (subst (λ (i : ℕ). Fact s mem' (meaningAt (R .W) r) sort i (noteAt mem' r 2)) (sym (w .number-is))
+      fact : (q : ℕ) → q < maxNames → Dec (q ≡ r) → Fact s mem' (meaningAt (R .W) q) (noteAt mem' q 0) (noteAt mem' q noteNumber) (noteAt mem' q noteAddress)
+      fact q l (yes e) = subst (λ (i : ℕ). Fact s mem' (meaningAt (R .W) i) (noteAt mem' i 0) (noteAt mem' i noteNumber) (noteAt mem' i noteAddress)) (sym e)
+          (subst (λ (i : ℕ). Fact s mem' (meaningAt (R .W) r) i (noteAt mem' r noteNumber) (noteAt mem' r noteAddress)) (sym (w .sort-is))
+          (subst (λ (i : ℕ). Fact s mem' (meaningAt (R .W) r) sort i (noteAt mem' r noteAddress)) (sym (w .number-is))
           (subst (λ (i : ℕ). Fact s mem' (meaningAt (R .W) r) sort n i) (sym (w .address-is)) f)))
       fact q l (no e) =
-          subst (λ (i : ℕ). Fact s mem' (meaningAt (R .W) q) i (noteAt mem' q 1) (noteAt mem' q 2)) (sym (w .others q 0 l (omega arith) e))
-          (subst (λ (i : ℕ). Fact s mem' (meaningAt (R .W) q) (noteAt mem q 0) i (noteAt mem' q 2)) (sym (w .others q 1 l (omega arith) e))
-          (subst (λ (i : ℕ). Fact s mem' (meaningAt (R .W) q) (noteAt mem q 0) (noteAt mem q 1) i) (sym (w .others q 2 l (omega arith) e)) (fact-keeps (agree-keeps (w .agree 0 0 (z .slots) (omega arith))) (h .facts q l))))
+          subst (λ (i : ℕ). Fact s mem' (meaningAt (R .W) q) i (noteAt mem' q noteNumber) (noteAt mem' q noteAddress)) (sym (w .others q 0 l (omega arith) e))
+          (subst (λ (i : ℕ). Fact s mem' (meaningAt (R .W) q) (noteAt mem q 0) i (noteAt mem' q noteAddress)) (sym (w .others q 1 l (omega arith) e))
+          (subst (λ (i : ℕ). Fact s mem' (meaningAt (R .W) q) (noteAt mem q 0) (noteAt mem q noteNumber) i) (sym (w .others q 2 l (omega arith) e)) (fact-keeps (agree-keeps (w .agree 0 0 (z .slots) (omega arith))) (h .facts q l))))
 
 module _ (mem : List ℕ) (r sort n a : ℕ) (l : r < maxNames) (fits : firstKept ≤ length mem) where
   abbrev one : List ℕ
@@ -91,7 +92,7 @@ module _ (mem : List ℕ) (r sort n a : ℕ) (l : r < maxNames) (fits : firstKep
   noting-length : length (noting mem r sort n a) ≡ length mem
   noting-length = length-set two (noteWords * r + 2) a ∙ length-set one (noteWords * r + 1) n ∙ length-set mem (noteWords * r) sort
 
-  pub noting-renoted : {z : Regions} → firstKept ≤ z .slots → z .slots ≤ z .floor → freeOf mem ≤ z .slots → Renoted z mem (noting mem r sort n a) r sort n a (noteAt mem r 3)
+  pub noting-renoted : {z : Regions} → firstKept ≤ z .slots → z .slots ≤ z .floor → freeOf mem ≤ z .slots → Renoted z mem (noting mem r sort n a) r sort n a (noteAt mem r noteMark)
   noting-renoted {z} p q f =
       let x = length-set mem (noteWords * r) sort in
       let y = length-set one (noteWords * r + 1) n in
@@ -121,7 +122,7 @@ abbrev pub marking : List ℕ → (r mark : ℕ) → List ℕ
 marking mem r mark = set mem (noteWords * r + 3) mark
 
 pub marking-renoted : (mem : List ℕ) (r mark : ℕ) → r < maxNames → firstKept ≤ length mem → {z : Regions} → firstKept ≤ z .slots → z .slots ≤ z .floor → freeOf mem ≤ z .slots
-    → Renoted z mem (marking mem r mark) r (noteAt mem r 0) (noteAt mem r 1) (noteAt mem r 2) mark
+    → Renoted z mem (marking mem r mark) r (noteAt mem r 0) (noteAt mem r noteNumber) (noteAt mem r noteAddress) mark
 marking-renoted mem r mark l fits {z} p q f =
     record {
       agree = λ d top at u. record {
@@ -181,7 +182,7 @@ module _ {mem mem₁ : List ℕ} {from n : ℕ} (c : Copied mem from mem mem₁ 
   pub grown-word : (i : ℕ) → i < n → getD grown (freeOf mem + i) 0 ≡ getD mem (from + i) 0
   grown-word i l = getD-set-other mem₁ freeWord (freeOf mem + i) (freeOf mem + n) 0 (λ e. omega arith) ∙ c .words i l
 
-  pub grown-renoted : (r sort k a : ℕ) → r < maxNames → Renoted z mem (noting grown r sort k a) r sort k a (noteAt mem r 3)
+  pub grown-renoted : (r sort k a : ℕ) → r < maxNames → Renoted z mem (noting grown r sort k a) r sort k a (noteAt mem r noteMark)
   grown-renoted r sort k a l =
       let e = grown-free in
       let ag = grown-agrees 0 0 (z .slots) (omega arith) in

@@ -13,6 +13,7 @@ use Rattle.language.specs.Values.{Value, Number, Set, Logic, Bus, Unsized, Choi
 use Rattle.language.specs.Expansion.{Context}
 use Rattle.name_values.specs.World.{Defines, meaningAt}
 use Rattle.operands.specs.Working.{Source}
+use Rattle.machine.specs.Fields.{valueField, otherField}
 use Rattle.machine.specs.Came.{Came, Worth, Nodes}
 use Rattle.machine.specs.Frames.{Frame, apply}
 use Rattle.machine.specs.Realm.{Realm}
@@ -74,7 +75,7 @@ module _ {s : Source} {R : Realm s} {mem out : List ℕ} {m : Machine} {x : Resu
 
   module _ {q : ℕ} {c : Context} {d : Expr} (p : Releasing q c d) where
     -- the definition by its number
-    module _ {r : ℕ} (er : r ≡ getD mem (m .frames + 6) 0) where
+    module _ {r : ℕ} (er : r ≡ getD mem (m .frames + otherField) 0) where
       named : r ≡ q
       named = er ∙ other-word h ∙ p .returns .name-is
 
@@ -85,7 +86,7 @@ module _ {s : Source} {R : Realm s} {mem out : List ℕ} {m : Machine} {x : Resu
       defined = ap (meaningAt (R .W)) named ∙ p .defining .means
 
     -- what has come goes on, a set perhaps from another place; notes may have been written
-    pub releases : {mem' : List ℕ} {scope from : ℕ} → scope ≡ getD mem (m .frames + 5) 0 → Agree (o .regions) mem mem' (h .ground .depth) (words h .base) (m .frames + frameWords)
+    pub releases : {mem' : List ℕ} {scope from : ℕ} → scope ≡ getD mem (m .frames + valueField) 0 → Agree (o .regions) mem mem' (h .ground .depth) (words h .base) (m .frames + frameWords)
         → Noted R (o .regions) (o .index) mem' → Lasting (R .W) mem' out (m .nodes) → Come R o mem' (released (came m (m .mode) (m .value) from) scope) (h .came)
         → Turned R mem mem' out out m x o (Next (released (came m (m .mode) (m .value) from) scope))
     releases es a n l c =
@@ -105,7 +106,7 @@ module _ {s : Source} {R : Realm s} {mem out : List ℕ} {m : Machine} {x : Resu
         })
 
     -- nothing is noted
-    pub lets-go : {scope : ℕ} → scope ≡ getD mem (m .frames + 5) 0 → Turned R mem mem out out m x o (Next (released m scope))
+    pub lets-go : {scope : ℕ} → scope ≡ getD mem (m .frames + valueField) 0 → Turned R mem mem out out m x o (Next (released m scope))
     lets-go {scope} es = releases {from = m .from} es agree-same (h .noted) (h .lasting) (same-come R o mem m scope (h .came) (h .come))
 
 -- a memory that a function has written

@@ -1,12 +1,13 @@
 // Operators between two sets. A set that a frame holds stays where it stands; the result is made above both and moved to where the frame's values begin.
-use crate::unworked;
 use machine::FRAME;
 use machine::Machine;
 use machine::Move;
 use machine::Words;
+use machine::fields;
 use machine::frame;
 use machine::modes;
 use machine::phases;
+use machine::unworked;
 use memory_sets::Span;
 use memory_sets::moving::lower;
 use memory_sets::two::combine;
@@ -40,7 +41,7 @@ pub fn left(text: &[u8], work: &[u8], refs: &[u16], memory: &mut [u32], m: Machi
     }
     let at = m.frames;
     let top = m.above();
-    let k = memory[at + 1];
+    let k = memory[at + fields::ENTRY];
     frame(
         memory,
         at,
@@ -76,11 +77,11 @@ pub fn right(text: &[u8], work: &[u8], refs: &[u16], memory: &mut [u32], m: Mach
         return Move::Refused(refusals::WRONG_TYPE, 0);
     }
     let at = m.frames;
-    let k = memory[at + 1] as usize;
-    let base = memory[at + 2] as usize;
+    let k = memory[at + fields::ENTRY] as usize;
+    let base = memory[at + fields::BASE] as usize;
     let left = Span {
-        at: memory[at + 3] as usize,
-        count: memory[at + 4] as usize,
+        at: memory[at + fields::AT] as usize,
+        count: memory[at + fields::COUNT] as usize,
     };
     let right = Span {
         at: m.from,

@@ -6,6 +6,7 @@ use machine::Machine;
 use machine::Move;
 use machine::NOTE;
 use machine::SLOTS_WORD;
+use machine::fields;
 use machine::modes;
 use machine::phases;
 use memory_sets::moving::lower;
@@ -39,7 +40,7 @@ pub fn name(text: &[u8], work: &[u8], refs: &[u16], memory: &mut [u32], m: Machi
     }
     let at = NOTE * r;
     let sort = memory[at];
-    let n = memory[at + 1];
+    let n = memory[at + fields::NOTE_NUMBER];
     if sort == sorts::BODY as u32 {
         return m.enclose(memory, phases::KEEP_VALUE, 0, r, modes::EVALUATE, n);
     }
@@ -54,12 +55,12 @@ fn noted(text: &[u8], work: &[u8], refs: &[u16], memory: &[u32], m: Machine, r: 
 {
     let at = NOTE * r;
     let sort = memory[at];
-    let n = memory[at + 1];
+    let n = memory[at + fields::NOTE_NUMBER];
     if sort == sorts::NUMBER as u32 {
         return Move::Next(m.came(modes::NUMBER, n, 0));
     }
     if sort == sorts::SET as u32 {
-        return Move::Next(m.came(modes::SET, n, memory[at + 2] as usize));
+        return Move::Next(m.came(modes::SET, n, memory[at + fields::NOTE_ADDRESS] as usize));
     }
     if sort == sorts::BUS as u32 {
         let place = place_at(work, m.value as usize);
@@ -101,8 +102,8 @@ fn note(memory: &mut [u32], r: usize, sort: u32, n: u32, address: usize)
 {
     let i = NOTE * r;
     memory[i] = sort;
-    memory[i + 1] = n;
-    memory[i + 2] = address as u32;
+    memory[i + fields::NOTE_NUMBER] = n;
+    memory[i + fields::NOTE_ADDRESS] = address as u32;
 }
 
 // A definition's body has come to a value: a number or a set is kept.
@@ -115,11 +116,11 @@ pub fn keep(text: &[u8], work: &[u8], refs: &[u16], memory: &mut [u32], m: Machi
         return keep_set(text, work, refs, memory, m);
     }
     let at = m.frames;
-    let scope = memory[at + 5] as usize;
+    let scope = memory[at + fields::VALUE] as usize;
     if m.mode != modes::NUMBER {
         return Move::Next(released(m, scope));
     }
-    let r = memory[at + 6] as usize;
+    let r = memory[at + fields::OTHER] as usize;
     note(memory, r, sorts::NUMBER as u32, m.value, 0);
     Move::Next(released(m, scope))
 }
@@ -132,8 +133,8 @@ fn keep_set(text: &[u8], work: &[u8], refs: &[u16], memory: &mut [u32], m: Machi
     ensures { λ r. ⌜ Takes (source (now (text .entry)) (now (work .entry)) (now (refs .entry))) (now (memory .entry)) (now (memory .exit)) m r ⌝ }
 {
     let at = m.frames;
-    let scope = memory[at + 5] as usize;
-    let r = memory[at + 6] as usize;
+    let scope = memory[at + fields::VALUE] as usize;
+    let r = memory[at + fields::OTHER] as usize;
     let free = memory[FREE_WORD] as usize;
     if m.from < free {
         note(memory, r, sorts::SET as u32, m.value, m.from);

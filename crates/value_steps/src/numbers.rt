@@ -1,6 +1,7 @@
 // Numerals, and operators between two numbers.
 use machine::Machine;
 use machine::Move;
+use machine::fields;
 use machine::modes;
 use machine::phases;
 use node::refusals;
@@ -53,8 +54,8 @@ pub fn right(text: &[u8], work: &[u8], refs: &[u16], memory: &[u32], m: Machine)
         return Move::Refused(refusals::WRONG_TYPE, 0);
     }
     let at = m.frames;
-    let k = memory[at + 1] as usize;
-    let a = memory[at + 5];
+    let k = memory[at + fields::ENTRY] as usize;
+    let a = memory[at + fields::VALUE];
     let operator = infix_at(work, k);
     let r = numbers::calculate(place_at(work, k), operator, a, m.value);
     m.popped().numbered(r)

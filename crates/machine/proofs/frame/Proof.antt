@@ -1,3 +1,4 @@
+-- `frame` meets its contract: seven words are written, one after the other.
 use native.Mathlib.Omega.{arith}
 use lib.ListN.{length-set}
 use Rattle.machine.specs.MemoryLaws.{framed-seven}

@@ -1,3 +1,4 @@
+-- `as_number` meets its contract: the mode says whether a number has come.
 use mathlib.Core.Path.{refl}
 use Rattle.machine_run.proofs.as_number.Statement.{statement}
 use Rattle.machine_run.proofs.as_number.Tie as tie

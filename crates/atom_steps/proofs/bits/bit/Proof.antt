@@ -1,3 +1,5 @@
+-- `bits::bit` meets its contract: the body of a definition is a bus of a width or of none, or no bus; the index is below the width, or it is refused.
+use Rattle.machine.specs.Fields.{valueField}
 use native.Mathlib.Omega.{arith}
 use Prim.Native.Nat.{_+_}
 use mathlib.Core.Path.{refl}
@@ -42,7 +44,7 @@ cast-scope : tie.Need-cast-scope
 cast-scope c =
     let start = c .before .before .before .before .before .before .before .before .before .before in
     let at-shared-slice-known6 = c .shared-slice-known6 in
-    omega (arith, at-shared-slice-known6 .given (start .args .m .frames + 5))
+    omega (arith, at-shared-slice-known6 .given (start .args .m .frames + valueField))
 
 mul-width : tie.Need-mul-width
 mul-width c =

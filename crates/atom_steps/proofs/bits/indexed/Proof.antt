@@ -1,8 +1,10 @@
+-- `bits::indexed` meets its contract: a number has come; a definition's body is worked out next, any other name is looked up.
 use native.Mathlib.Omega.{arith}
 use Prim.Native.Nat.{_+_}
 use lib.ListN.{getD}
 use mathlib.Core.Path.{refl}
 use Rattle.atom_steps.specs.BitLaws.{indexed-scope, element-misfits, body-steps, reference-inside}
+use Rattle.machine.specs.Fields.{entryField}
 use Rattle.machine.specs.OperandLaws.{topped-to-write-entry}
 use Rattle.machine.specs.MisfitLaws.{number-misfits, misfits-still}
 use borrow.Author.Needs.{needs}
@@ -43,7 +45,7 @@ cast-r : tie.Need-cast-r
 cast-r c =
     let start = c .before .before .before .before .before .before .before .before in
     let at-shared-slice-known4 = c .shared-slice-known4 in
-    omega (arith, at-shared-slice-known4 .given (getD (start .args .memory .now) (start .args .m .frames + 1) 0))
+    omega (arith, at-shared-slice-known4 .given (getD (start .args .memory .now) (start .args .m .frames + entryField) 0))
 
 returns-2 : tie.Need-returns-2
 returns-2 c =

@@ -1,3 +1,5 @@
+-- `comparisons::with_bus` meets its contract: an identifier has come for a bus, or what is none.
+use Rattle.machine.specs.Fields.{otherField}
 use native.Mathlib.Omega.{arith}
 use Prim.Native.Nat.{_+_}
 use mathlib.Core.Path.{refl}
@@ -34,7 +36,7 @@ cast-bus : tie.Need-cast-bus
 cast-bus c =
     let start = c .before .before .before .before .before .before .before .before in
     let at-shared-slice-known6 = c .shared-slice-known6 in
-    omega (arith, at-shared-slice-known6 .given (start .args .m .frames + 6))
+    omega (arith, at-shared-slice-known6 .given (start .args .m .frames + otherField))
 
 against-requires : tie.Need-against-requires
 against-requires c κs =

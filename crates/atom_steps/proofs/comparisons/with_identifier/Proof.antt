@@ -1,3 +1,5 @@
+-- `comparisons::with_identifier` meets its contract: a bus has come for an identifier, or what is none.
+use Rattle.machine.specs.Fields.{otherField}
 use native.Mathlib.Omega.{arith}
 use Prim.Native.Nat.{_+_}
 use mathlib.Core.Path.{refl}
@@ -32,7 +34,7 @@ cast-identifier : tie.Need-cast-identifier
 cast-identifier c =
     let start = c .before .before .before .before .before .before .before .before .before in
     let at-shared-slice-known5 = c .shared-slice-known5 in
-    omega (arith, at-shared-slice-known5 .given (start .args .m .frames + 6))
+    omega (arith, at-shared-slice-known5 .given (start .args .m .frames + otherField))
 
 against-requires : tie.Need-against-requires
 against-requires c κs =

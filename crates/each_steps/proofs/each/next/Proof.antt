@@ -1,6 +1,8 @@
+-- `each::next` meets its contract: nodes have come, which are joined to those folded before.
 use Prim.Native.Nat.{_+_}
 use mathlib.Core.Path.{refl}
 use native.Mathlib.Omega.{arith}
+use Rattle.machine.specs.Fields.{valueField}
 use Rattle.machine.specs.OperandLaws.{topped-to-write-entry}
 use Rattle.each_steps.specs.EachLaws.{next-turnable, next-small, next-steps}
 use Rattle.machine.specs.MisfitLaws.{formula-misfits, misfits-still}
@@ -41,7 +43,7 @@ cast-folded : tie.Need-cast-folded
 cast-folded c =
     let start = c .before .before .before .before .before .before .before .before in
     let at-slice-known3 = c .slice-known3 in
-    omega (arith, at-slice-known3 .given (start .args .m .frames + 5))
+    omega (arith, at-slice-known3 .given (start .args .m .frames + valueField))
 
 prefix-at-requires : tie.Need-prefix-at-requires
 prefix-at-requires c κs =

@@ -1,3 +1,5 @@
+-- `each::onward` meets its contract: the frame is gone where no element is left; else the next one is at hand.
+use Rattle.machine.specs.Fields.{baseField}
 use Prim.Native.Nat.{_+_}
 use native.Mathlib.Omega.{arith}
 use Rattle.each_steps.specs.OnwardLaws.{onward-last, onward-asks, onward-more}
@@ -27,7 +29,7 @@ cast-base : tie.Need-cast-base
 cast-base c =
     let start = c .before .before .before .before in
     let at-slice-known3 = c .slice-known3 in
-    omega (arith, at-slice-known3 .given (start .args .m .frames + 2))
+    omega (arith, at-slice-known3 .given (start .args .m .frames + baseField))
 
 closed-requires : tie.Need-closed-requires
 closed-requires c κs = search needs

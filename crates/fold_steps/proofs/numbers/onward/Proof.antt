@@ -1,3 +1,5 @@
+-- `numbers::onward` meets its contract: the number is the answer where no element is left; else the next one is at hand.
+use Rattle.machine.specs.Fields.{baseField}
 use native.Mathlib.Omega.{arith}
 use Prim.Native.Nat.{_+_}
 use mathlib.Core.Path.{refl}
@@ -31,7 +33,7 @@ cast-t15 : tie.Need-cast-t15
 cast-t15 c =
     let start = c .before .before .before .before .before in
     let at-slice-known3 = c .slice-known3 in
-    omega (arith, at-slice-known3 .given (start .args .m .frames + 2))
+    omega (arith, at-slice-known3 .given (start .args .m .frames + baseField))
 
 add-t16 : tie.Need-add-t16
 add-t16 c = search needs

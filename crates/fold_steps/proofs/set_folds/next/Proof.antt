@@ -2,6 +2,7 @@
 use native.Mathlib.Omega.{arith}
 use Prim.Native.Nat.{_+_}
 use mathlib.Core.Path.{refl}
+use Rattle.machine.specs.Fields.{valueField, otherField}
 use Rattle.machine.specs.OperandLaws.{topped-entry}
 use Rattle.fold_steps.specs.SetLaws.{next-two, next-foldable, next-refuses, next-steps}
 use Rattle.machine.specs.MisfitLaws.{set-misfits}
@@ -40,7 +41,7 @@ slice-read-t19 c = search needs
 cast-t21 : tie.Need-cast-t21
 cast-t21 c =
     let start = c .before .before .before .before .before .before .before .before in
-    omega (arith, c .slice-known3 .given (start .args .m .frames + 6))
+    omega (arith, c .slice-known3 .given (start .args .m .frames + otherField))
 
 add-t22 : tie.Need-add-t22
 add-t22 c = search needs
@@ -54,7 +55,7 @@ slice-read-t25 c = search needs
 cast-t26 : tie.Need-cast-t26
 cast-t26 c =
     let start = c .before .before .before .before .before .before .before .before .before in
-    omega (arith, c .slice-known4 .given (start .args .m .frames + 5))
+    omega (arith, c .slice-known4 .given (start .args .m .frames + valueField))
 
 cast-t16 : tie.Need-cast-t16
 cast-t16 c = search needs

@@ -1,3 +1,5 @@
+-- `set_folds::onward` meets its contract: the set is the answer where no element is left; else it is kept behind those that are, and the next one is at hand.
+use Rattle.machine.specs.Fields.{baseField, atField}
 use native.Mathlib.Omega.{arith}
 use Prim.Native.Nat.{_+_}
 use mathlib.Core.Path.{refl}
@@ -20,7 +22,7 @@ cast-base : tie.Need-cast-base
 cast-base c =
     let start = c .before .before in
     let at-slice-known2 = c .slice-known2 in
-    omega (arith, at-slice-known2 .given (start .args .m .frames + 2))
+    omega (arith, at-slice-known2 .given (start .args .m .frames + baseField))
 
 add-rest : tie.Need-add-rest
 add-rest c = search needs
@@ -35,7 +37,7 @@ cast-rest : tie.Need-cast-rest
 cast-rest c =
     let start = c .before .before .before in
     let at-slice-known3 = c .slice-known3 in
-    omega (arith, at-slice-known3 .given (start .args .m .frames + 3))
+    omega (arith, at-slice-known3 .given (start .args .m .frames + atField))
 
 add-count : tie.Need-add-count
 add-count c = search needs
@@ -80,7 +82,7 @@ behind-requires : tie.Need-behind-requires
 behind-requires c κs =
     let start = c .before .before .before .before .before in
     let at-slice-known3 = c .before .before .slice-known3 in
-    let f = start .pre .few in omega (arith, at-slice-known3 .given (start .args .m .frames + 3))
+    let f = start .pre .few in omega (arith, at-slice-known3 .given (start .args .m .frames + atField))
 
 again-requires : tie.Need-again-requires
 again-requires c κs =

@@ -1,3 +1,5 @@
+-- `turning::again` meets its contract: the first of the elements that the frame holds goes into the slot, and the frame holds the others.
+use Rattle.machine.specs.Fields.{baseField}
 use Prim.Native.Nat.{_+_}
 use native.Mathlib.Omega.{arith}
 use borrow.Author.Needs.{needs}
@@ -38,7 +40,7 @@ cast-t21 : tie.Need-cast-t21
 cast-t21 c =
     let start = c .before .before .before .before in
     let at-slice-known4 = c .slice-known4 in
-    omega (arith, at-slice-known4 .given (start .args .m .frames + 2))
+    omega (arith, at-slice-known4 .given (start .args .m .frames + baseField))
 
 add-t22 : tie.Need-add-t22
 add-t22 c = search needs
@@ -73,7 +75,7 @@ turn-requires c κs =
     let b = q .bound in
     let fr = q .from in
     let sm = q .small in
-    ((q .inside, omega arith), ((omega (arith, at-slice-known4 .given (start .args .m .frames + 2)), (omega arith, q .numbered)), q .entry))
+    ((q .inside, omega arith), ((omega (arith, at-slice-known4 .given (start .args .m .frames + baseField)), (omega arith, q .numbered)), q .entry))
 
 same-length : tie.Need-same-length
 same-length c = search needs

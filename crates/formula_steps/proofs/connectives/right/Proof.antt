@@ -1,7 +1,9 @@
+-- `connectives::right` meets its contract: the nodes that have come stand behind those of the left operand, and are joined to them.
 use native.Mathlib.Omega.{arith}
 use mathlib.Core.Path.{refl, ap, _∙_}
 use Prim.Native.Nat.{_+_}
 use Rattle.formula_steps.specs.ConnectiveLaws.{right-small, right-steps}
+use Rattle.machine.specs.Fields.{valueField}
 use Rattle.machine.specs.declared.Move.the-variants.{Next}
 use Rattle.machine.specs.declared.Machine.{Machine}
 use Rattle.machine.specs.Moves.{wrote}
@@ -45,7 +47,7 @@ cast-first : tie.Need-cast-first
 cast-first c =
     let start = c .before .before .before .before .before .before .before .before in
     let at-shared-slice-known6 = c .shared-slice-known6 in
-    omega (arith, at-shared-slice-known6 .given (start .args .m .frames + 5))
+    omega (arith, at-shared-slice-known6 .given (start .args .m .frames + valueField))
 
 infix-at-requires : tie.Need-infix-at-requires
 infix-at-requires c κs =

@@ -1,3 +1,4 @@
+-- `Machine::above` meets its contract: a set that has come stands on top of the values, or elsewhere.
 use Rattle.machine.specs.SetLaws.{above-is, above-not}
 use mathlib.Core.Path.{sym}
 use borrow.Author.Needs.{needs}

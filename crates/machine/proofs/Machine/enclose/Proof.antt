@@ -1,3 +1,4 @@
+-- `Machine::enclose` meets its contract: no room, or a frame that keeps the scope.
 use mathlib.Core.Path.{refl}
 use native.Mathlib.Omega.{arith}
 use borrow.Author.Needs.{needs}

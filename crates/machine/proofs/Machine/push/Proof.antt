@@ -1,3 +1,4 @@
+-- `Machine::push` meets its contract: no room, or a frame that holds nothing yet.
 use mathlib.Core.Path.{refl}
 use native.Mathlib.Omega.{arith}
 use borrow.Author.Needs.{needs}

@@ -1,3 +1,4 @@
+-- `Machine::push_first` meets its contract: the last operand's size says where the first one ends.
 use native.Mathlib.Omega.{arith}
 use Rattle.machine.specs.OpenLaws.{opened-as}
 use borrow.Author.Needs.{needs}

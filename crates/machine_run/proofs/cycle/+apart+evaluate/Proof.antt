@@ -230,6 +230,22 @@ evaluate-apart-requires t c κs =
 evaluate-enum-known-u : (t : ℕ) → evaluate-lts.Need-enum-known-u (evaluate-calls t) (evaluate-at t) evaluate.Post evaluate-Inv-loop evaluate-μ-loop
 evaluate-enum-known-u t c = search needs
 
+evaluate-enum-told-2 : (t : ℕ) → evaluate-lts.Need-enum-told-2 (evaluate-calls t) (evaluate-at t) evaluate.Post evaluate-Inv-loop evaluate-μ-loop
+evaluate-enum-told-2 t c = search needs
+
+evaluate-same-length-3 : (t : ℕ) → evaluate-lts.Need-same-length-3 (evaluate-calls t) (evaluate-at t) evaluate.Post evaluate-Inv-loop evaluate-μ-loop
+evaluate-same-length-3 t c = search needs
+
+evaluate-returns-3 : (t : ℕ) → evaluate-lts.Need-returns-3 (evaluate-calls t) (evaluate-at t) evaluate.Post evaluate-Inv-loop evaluate-μ-loop
+evaluate-returns-3 t c =
+    let start = c .before .before .before .before .before .before .before .before .before .before .before .before .before .before .before .before .before .before .before .before .before in
+    let at-loop = c .before .before .before .before .before .before .before .before .before .before .before .before .before .before .before .before .loop in
+    let at-step = c .before .before .before .before .before .before .before .before .before .before .before .step in
+    let at-enum-told = c .before .before .before .before .before .before .before .enum-told in
+    let at-apart = c .before .before .before .before .apart in
+    let refused = c .enum-told2 .given .1 in
+    rw refused (cycles.step-fails (start .pre .1 .0) (cycles.step-stays (start .pre .1 .0) (at-loop .inv) (at-step .ensures) (at-enum-told .given .1)) (at-apart .ensures) (ap moved refused))
+
 evaluate-loop-less-2 : (t : ℕ) → evaluate-lts.Need-loop-less-2 (evaluate-calls t) (evaluate-at t) evaluate.Post evaluate-Inv-loop evaluate-μ-loop
 evaluate-loop-less-2 t c =
     let start = c .before .before .before .before .before .before .before .before .before .before .before .before .before .before .before .before .before .before .before .before .before .before in
@@ -249,22 +265,6 @@ evaluate-loop-again-2 t c =
     let at-apart = c .before .before .before .before .before .apart in
     let at-u = c .before .u in
     cycles.step-again (start .pre .1 .0) (cycles.step-stays (start .pre .1 .0) (at-loop .inv) (at-step .ensures) (at-enum-told .given .1)) (at-apart .ensures) (ap moved (at-u .given .1))
-
-evaluate-enum-known-u-2 : (t : ℕ) → evaluate-lts.Need-enum-known-u-2 (evaluate-calls t) (evaluate-at t) evaluate.Post evaluate-Inv-loop evaluate-μ-loop
-evaluate-enum-known-u-2 t c = search needs
-
-evaluate-same-length-3 : (t : ℕ) → evaluate-lts.Need-same-length-3 (evaluate-calls t) (evaluate-at t) evaluate.Post evaluate-Inv-loop evaluate-μ-loop
-evaluate-same-length-3 t c = search needs
-
-evaluate-returns-3 : (t : ℕ) → evaluate-lts.Need-returns-3 (evaluate-calls t) (evaluate-at t) evaluate.Post evaluate-Inv-loop evaluate-μ-loop
-evaluate-returns-3 t c =
-    let start = c .before .before .before .before .before .before .before .before .before .before .before .before .before .before .before .before .before .before .before .before .before .before in
-    let at-loop = c .before .before .before .before .before .before .before .before .before .before .before .before .before .before .before .before .before .loop in
-    let at-step = c .before .before .before .before .before .before .before .before .before .before .before .before .step in
-    let at-enum-told = c .before .before .before .before .before .before .before .before .enum-told in
-    let at-apart = c .before .before .before .before .before .apart in
-    let at-u2 = c .before .u2 in
-    cycles.step-fails (start .pre .1 .0) (cycles.step-stays (start .pre .1 .0) (at-loop .inv) (at-step .ensures) (at-enum-told .given .1)) (at-apart .ensures) (ap moved (at-u2 .given .1))
 
 pub +apart+evaluate-spec : {M : Type 1} → statement M
 +apart+evaluate-spec = close μ-apart μ-evaluate (λ t. apart-lts.spec (apart-calls t)
@@ -306,8 +306,8 @@ pub +apart+evaluate-spec : {M : Type 1} → statement M
     (evaluate-enum-told t)
     (evaluate-apart-requires t)
     (evaluate-enum-known-u t)
-    (evaluate-loop-less-2 t)
-    (evaluate-loop-again-2 t)
-    (evaluate-enum-known-u-2 t)
+    (evaluate-enum-told-2 t)
     (evaluate-same-length-3 t)
     (evaluate-returns-3 t)
+    (evaluate-loop-less-2 t)
+    (evaluate-loop-again-2 t)

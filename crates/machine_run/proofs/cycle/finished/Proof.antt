@@ -1,3 +1,4 @@
+-- `cycle::finished` meets its contract: an entry is still to be worked out, or the frames say whether one waits.
 use native.Mathlib.Omega.{arith}
 use Rattle.machine_run.specs.CycleLaws.{ends-or-goes}
 use borrow.Author.Needs.{needs}

@@ -1,3 +1,4 @@
+-- `cycle::step` meets its contract: the mode says whether an entry is worked out, and how, or a frame takes what has come.
 use native.Mathlib.Omega.{arith}
 use Rattle.machine_run.specs.ChoosingLaws.{past, steps-write}
 use Rattle.machine_run.specs.CycleLaws.{topped, takes-steps}

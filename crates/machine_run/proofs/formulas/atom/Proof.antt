@@ -1,5 +1,6 @@
+-- `formulas::atom` meets its contract: each kind of its range has its step, and a numeral is no formula.
 use mathlib.Core.Path.{ap}
-use Rattle.operands.specs.Shapes.{shapeOf}
+use Rattle.operands.specs.Makings.{makingOf}
 use Rattle.machine_run.specs.ChoosingLaws.{ready, formless, steps-write}
 use borrow.Author.Needs.{needs}
 use Rattle.machine_run.proofs.formulas.atom.Statement.{statement}
@@ -18,7 +19,7 @@ misfit-requires : tie.Need-misfit-requires
 misfit-requires c κs =
     let start = c .before .before .before .before .before .before .before in
     let at-if2 = c .before .if2 in
-    (ready (start .pre .0), formless (start .pre .1) (ap shapeOf (at-if2 .taken)))
+    (ready (start .pre .0), formless (start .pre .1) (ap makingOf (at-if2 .taken)))
 
 same-length-2 : tie.Need-same-length-2
 same-length-2 c = search needs

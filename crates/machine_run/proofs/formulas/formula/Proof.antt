@@ -1,3 +1,4 @@
+-- `formulas::formula` meets its contract: the kinds by ranges, each with the function for it.
 use native.Mathlib.Omega.{arith}
 use Rattle.machine.specs.OperandLaws.{ready-entry}
 use Rattle.machine_run.specs.ChoosingLaws.{ready, steps-write, formless-in}

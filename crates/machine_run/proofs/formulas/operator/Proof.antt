@@ -1,5 +1,6 @@
+-- `formulas::operator` meets its contract: each kind of its range has its step, and operators of numbers and sets are no formulas.
 use native.Mathlib.Omega.{arith}
-use Rattle.operands.specs.ShapeLaws.{misfit-measures, misfit-values}
+use Rattle.operands.specs.MakingLaws.{misfit-measures, misfit-values}
 use Rattle.machine_run.specs.ChoosingLaws.{formless}
 use borrow.Author.Needs.{needs}
 use Rattle.machine_run.proofs.formulas.operator.Statement.{statement}

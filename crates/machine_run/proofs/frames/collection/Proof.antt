@@ -1,3 +1,4 @@
+-- `frames::collection` meets its contract: the phases of bounds, braces and ranges, each with its step; the last is what is left.
 use borrow.Author.Needs.{needs}
 use Rattle.machine_run.proofs.frames.collection.Statement.{statement}
 use Rattle.machine_run.proofs.frames.collection.Tie as tie

@@ -1,3 +1,4 @@
+-- `frames::connective` meets its contract: the phases of operators of formulas, comparisons and membership, each with its step; the last is what is left.
 use Rattle.machine_run.specs.ChoosingLaws.{takes-write}
 use borrow.Author.Needs.{needs}
 use Rattle.machine_run.proofs.frames.connective.Statement.{statement}

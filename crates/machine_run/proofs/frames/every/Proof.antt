@@ -1,3 +1,4 @@
+-- `frames::every` meets its contract: the phases of big operators of formulas and of definitions, each with its step; the last is what is left.
 use Rattle.machine_run.specs.ChoosingLaws.{takes-write}
 use borrow.Author.Needs.{needs}
 use Rattle.machine_run.proofs.frames.every.Statement.{statement}

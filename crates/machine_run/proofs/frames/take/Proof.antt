@@ -1,3 +1,4 @@
+-- `frames::take` meets its contract: the phases by ranges, each with the function for it.
 use native.Mathlib.Omega.{arith}
 use mathlib.Core.Path.{refl}
 use Rattle.machine_run.specs.ChoosingLaws.{takes-write, phases-few}

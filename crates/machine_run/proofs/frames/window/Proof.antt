@@ -1,3 +1,4 @@
+-- `frames::window` meets its contract: the phases of a bit's index, `X[n]` and windows, each with its step; the last is what is left.
 use Rattle.machine_run.specs.ChoosingLaws.{takes-write}
 use borrow.Author.Needs.{needs}
 use Rattle.machine_run.proofs.frames.window.Statement.{statement}

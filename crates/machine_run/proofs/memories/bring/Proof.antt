@@ -1,3 +1,4 @@
+-- `memories::bring` meets its contract: notes, kept sets, and a set that has come; or any other value.
 use native.Mathlib.Omega.{arith}
 use mathlib.Core.Path.{refl}
 use Rattle.machine_run.specs.BringingLaws.{brought-set, brought-other}

@@ -1,3 +1,4 @@
+-- `memories::note` meets its contract: a body's note is that of the source, any other stays.
 use mathlib.Core.Path.{refl}
 use Rattle.machine_run.specs.BringingLaws.{note-stays, note-comes}
 use borrow.Author.Needs.{needs}

@@ -1,3 +1,4 @@
+-- `memories::notes` meets its contract: after r turns the notes of the first r names are brought.
 use native.Mathlib.Omega.{arith}
 use native.Mathlib.Numerals.{add-one}
 use mathlib.Core.Path.{_≡_}

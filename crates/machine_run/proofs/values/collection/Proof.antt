@@ -1,3 +1,4 @@
+-- `values::collection` meets its contract: the kinds of big operators, bounds, braces and ranges, each with its step.
 use native.Mathlib.Omega.{arith}
 use Rattle.machine_run.specs.KindLaws.{bounds-some, range-alone}
 use Rattle.machine_run.specs.ChoosingLaws.{past, collects}

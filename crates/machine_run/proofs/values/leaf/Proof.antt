@@ -1,3 +1,4 @@
+-- `values::leaf` meets its contract: the kinds of leaves and parentheses, each with its step; constants and bits come to a formula.
 use native.Mathlib.Omega.{arith}
 use Rattle.operands.specs.KindLaws.{leaf-class}
 use Rattle.machine_run.specs.ChoosingLaws.{past, logical}

@@ -1,3 +1,4 @@
+-- `values::operation` meets its contract: the kinds of operators, each with its step; those of formulas come to a formula.
 use native.Mathlib.Omega.{arith}
 use Rattle.operands.specs.KindLaws.{unary-class}
 use Rattle.machine_run.specs.ChoosingLaws.{past, logical}

@@ -2,6 +2,7 @@
 use Prim.Native.Nat.{_+_}
 use mathlib.Core.Path.{refl}
 use native.Mathlib.Omega.{arith}
+use Rattle.machine.specs.Fields.{atField, valueField, otherField}
 use Rattle.machine.specs.ContractLaws.{takes-next}
 use Rattle.name_steps.specs.KeepLaws.{keep-passes, keep-name, keep-formula}
 use borrow.Author.Needs.{needs}
@@ -21,7 +22,7 @@ cast-scope : tie.Need-cast-scope
 cast-scope c =
     let start = c .before .before .before .before .before in
     let at-slice-known2 = c .slice-known2 in
-    omega (arith, at-slice-known2 .given (start .args .m .frames + 5))
+    omega (arith, at-slice-known2 .given (start .args .m .frames + valueField))
 
 released-requires : tie.Need-released-requires
 released-requires c κs = search needs
@@ -45,7 +46,7 @@ cast-from : tie.Need-cast-from
 cast-from c =
     let start = c .before .before .before .before .before .before .before .before in
     let at-slice-known3 = c .slice-known3 in
-    omega (arith, at-slice-known3 .given (start .args .m .frames + 3))
+    omega (arith, at-slice-known3 .given (start .args .m .frames + atField))
 
 add-r : tie.Need-add-r
 add-r c = search needs
@@ -60,7 +61,7 @@ cast-r : tie.Need-cast-r
 cast-r c =
     let start = c .before .before .before .before .before .before .before .before .before in
     let at-slice-known4 = c .slice-known4 in
-    omega (arith, at-slice-known4 .given (start .args .m .frames + 6))
+    omega (arith, at-slice-known4 .given (start .args .m .frames + otherField))
 
 mark-requires : tie.Need-mark-requires
 mark-requires c κs =

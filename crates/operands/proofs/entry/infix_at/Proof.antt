@@ -1,3 +1,4 @@
+-- `entry::infix_at` meets its contract: the code of the token's number.
 use mathlib.Core.Path.{ap, _∙_}
 use Rattle.operators.specs.Tables.{infixCodeAt}
 use borrow.Author.Needs.{needs}

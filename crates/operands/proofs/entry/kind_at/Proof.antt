@@ -1,3 +1,4 @@
+-- `entry::kind_at` meets its contract: the highest field of the entry's word.
 use Rattle.operands.specs.Entries.{kindAt}
 use borrow.Author.Needs.{needs}
 use Rattle.operands.proofs.entry.kind_at.Statement.{statement}

@@ -1,3 +1,4 @@
+-- `entry::number_at` meets its contract: the highest field of the word of the entry's token.
 use Rattle.operands.specs.Entries.{numberAt}
 use borrow.Author.Needs.{needs}
 use Rattle.operands.proofs.entry.number_at.Statement.{statement}

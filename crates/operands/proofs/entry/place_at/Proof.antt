@@ -1,3 +1,4 @@
+-- `entry::place_at` meets its contract: the middle field of the word of the entry's token.
 use Rattle.operands.specs.Entries.{placeAt}
 use borrow.Author.Needs.{needs}
 use Rattle.operands.proofs.entry.place_at.Statement.{statement}

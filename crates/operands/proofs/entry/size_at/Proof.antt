@@ -1,3 +1,4 @@
+-- `entry::size_at` meets its contract: the lowest field of the entry's word.
 use Rattle.operands.specs.Entries.{sizeAt}
 use borrow.Author.Needs.{needs}
 use Rattle.operands.proofs.entry.size_at.Statement.{statement}

@@ -1,55 +1,23 @@
 -- `ranges::stepping` meets its contract: a range has three operands before it, and the first is next.
-use native.Mathlib.Omega.{arith}
-use mathlib.Core.Path.{refl}
 use Rattle.set_steps.specs.RangeLaws.{stepping-starts}
-use Rattle.machine.specs.StartLaws.{starts-ready, three-inside, three-steps}
-use Rattle.machine.specs.OperandLaws.{ready-entry}
+use Rattle.machine.specs.StartLaws.{three-open, three-steps}
 use borrow.Author.Needs.{needs}
 use Rattle.set_steps.proofs.ranges.stepping.Statement.{statement}
 use Rattle.set_steps.proofs.ranges.stepping.Tie as tie
 
-sub-second : tie.Need-sub-second
-sub-second c =
+push-first-of-three-requires : tie.Need-push-first-of-three-requires
+push-first-of-three-requires c κs =
     let start = c .before .before .before .before .before in
-    let i = three-inside (stepping-starts (start .pre .1)) refl refl (start .pre .0) in omega arith
+    three-open (stepping-starts (start .pre .1)) (start .pre .0)
 
-size-at-requires : tie.Need-size-at-requires
-size-at-requires c κs =
-    let start = c .before .before .before .before .before in
-    let r = ready-entry (start .pre .0) (let e = start .pre .1 .mode in omega arith) in ((let l = r .0 in omega arith), r .1)
-
-sub-second-2 : tie.Need-sub-second-2
-sub-second-2 c =
-    let start = c .before .before .before .before .before .before in
-    let i = three-inside (stepping-starts (start .pre .1)) (c .size-at .ensures) refl (start .pre .0) in omega arith
-
-size-at-requires-2 : tie.Need-size-at-requires-2
-size-at-requires-2 c κs =
-    let start = c .before .before .before .before .before .before in
-    let r = ready-entry (start .pre .0) (let e = start .pre .1 .mode in omega arith) in ((let l = r .0 in omega arith), r .1)
-
-sub-first : tie.Need-sub-first
-sub-first c =
-    let start = c .before .before .before .before .before .before .before in
-    let i = three-inside (stepping-starts (start .pre .1)) (c .before .size-at .ensures) (c .size-at2 .ensures) (start .pre .0) in omega arith
+same-length : tie.Need-same-length
+same-length c = search needs
 
 returns : tie.Need-returns
 returns c =
-    let start = c .before .before .before .before .before .before .before .before .before .before .before in
-    three-steps (stepping-starts (start .pre .1)) (c .before .before .before .before .before .size-at .ensures) (c .before .before .before .before .size-at2 .ensures) (c .before .before .push .ensures)
+    let start = c .before .before .before .before .before .before .before .before in
+    let at-push = c .before .before .push-first-of-three in
+    three-steps (stepping-starts (start .pre .1)) (at-push .ensures)
 
 pub stepping-spec : {M : Type 1} → statement M
-stepping-spec =
-    tie.close
-    (tie.spec
-    (λ c. search needs)
-    sub-second
-    sub-second
-    size-at-requires
-    sub-second-2
-    size-at-requires-2
-    sub-first
-    (λ c. search needs)
-    (λ c κs. let start = c .before .before .before .before .before .before .before .before in starts-ready (stepping-starts (start .pre .1)) (start .pre .0))
-    (λ c. search needs)
-    returns)
+stepping-spec = tie.close (tie.spec push-first-of-three-requires same-length returns)

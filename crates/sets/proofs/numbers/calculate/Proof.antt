@@ -4,7 +4,8 @@ use borrow.Author.Needs.{needs}
 use mathlib.Core.Path.{sym}
 use borrow.Author.Tests.{le-leb, lt-leb, lt-ltb, le-ltb}
 use Rattle.node.specs.ResultLaws.{guard-pass, guard-stop}
-use Rattle.sets.specs.NumberLaws.{product-fits, modulo}
+use Rattle.sets.specs.NumberLaws.{product-fits}
+use Rattle.sets.specs.OperatorLaws.{modulo}
 use Rattle.sets.proofs.numbers.calculate.Statement.{statement}
 use Rattle.sets.proofs.numbers.calculate.Tie as tie
 

@@ -1,5 +1,5 @@
 -- `numbers::compare` meets its contract: at each number, the operator's own test.
-use Rattle.sets.specs.NumberLaws.{at-least}
+use Rattle.sets.specs.OperatorLaws.{at-least}
 use Rattle.sets.proofs.numbers.compare.Statement.{statement}
 use Rattle.sets.proofs.numbers.compare.Tie as tie
 

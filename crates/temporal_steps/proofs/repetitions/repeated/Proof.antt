@@ -1,7 +1,9 @@
+-- `repetitions::repeated` meets its contract: as many nodes of X as the frame keeps go behind the nodes that have come.
 use native.Mathlib.Omega.{arith}
 use mathlib.Core.Path.{refl, ap, _∙_}
 use Prim.Native.Nat.{_+_}
 use Rattle.temporal_steps.specs.RepetitionLaws.{repeated-steps}
+use Rattle.machine.specs.Fields.{valueField}
 use Rattle.machine.specs.declared.Move.the-variants.{Next}
 use Rattle.machine.specs.declared.Machine.{Machine}
 use Rattle.machine.specs.Moves.{wrote}
@@ -12,7 +14,9 @@ use Rattle.temporal_steps.proofs.repetitions.repeated.Statement.{statem
 use Rattle.temporal_steps.proofs.repetitions.repeated.Tie as tie
 
 returns : tie.Need-returns
-returns c = misfits-still (formula-misfits (c .before .before .before .before .before .before .pre .1) refl (c .if1 .taken))
+returns c =
+    let start = c .before .before .before .before .before .before in
+    misfits-still (formula-misfits (start .pre .1) refl (c .if1 .taken))
 
 add-n : tie.Need-add-n
 add-n c = search needs
@@ -24,7 +28,9 @@ shared-slice-read-n : tie.Need-shared-slice-read-n
 shared-slice-read-n c = search needs
 
 cast-n : tie.Need-cast-n
-cast-n c = omega (arith, c .shared-slice-known5 .given (c .before .before .before .before .before .before .before .before .args .m .frames + 5))
+cast-n c =
+    let start = c .before .before .before .before .before .before .before .before in
+    omega (arith, c .shared-slice-known5 .given (start .args .m .frames + valueField))
 
 nexts-requires : tie.Need-nexts-requires
 nexts-requires c κs = search needs

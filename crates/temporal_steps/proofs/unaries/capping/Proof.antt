@@ -1,3 +1,4 @@
+-- `unaries::capping` meets its contract: the operator's node goes behind the nodes that have come.
 use native.Mathlib.Omega.{arith}
 use mathlib.Core.Path.{refl, ap, _∙_}
 use Rattle.temporal_steps.specs.UnaryLaws.{capping-small, capping-steps}
@@ -12,7 +13,9 @@ use Rattle.temporal_steps.proofs.unaries.capping.Statement.{statement}
 use Rattle.temporal_steps.proofs.unaries.capping.Tie as tie
 
 returns : tie.Need-returns
-returns c = misfits-still (formula-misfits (c .before .before .before .before .before .before .pre .1) refl (c .if1 .taken))
+returns c =
+    let start = c .before .before .before .before .before .before in
+    misfits-still (formula-misfits (start .pre .1) refl (c .if1 .taken))
 
 add-k : tie.Need-add-k
 add-k c = search needs
@@ -24,10 +27,14 @@ shared-slice-read-k : tie.Need-shared-slice-read-k
 shared-slice-read-k c = search needs
 
 cast-k : tie.Need-cast-k
-cast-k c = let f = topped-to-write-entry (c .before .before .before .before .before .before .before .before .pre .0) .few in omega arith
+cast-k c =
+    let start = c .before .before .before .before .before .before .before .before in
+    let f = topped-to-write-entry (start .pre .0) .few in omega arith
 
 prefix-at-requires : tie.Need-prefix-at-requires
-prefix-at-requires c κs = let f = topped-to-write-entry (c .before .before .before .before .before .before .before .before .pre .0) in (f .few, f .work)
+prefix-at-requires c κs =
+    let start = c .before .before .before .before .before .before .before .before in
+    let f = topped-to-write-entry (start .pre .0) in (f .few, f .work)
 
 cap-requires : tie.Need-cap-requires
 cap-requires c κs =

@@ -1,9 +1,11 @@
+-- `windows::windowed` meets its contract: the chain of copies, then the nodes of X, go behind the nodes that have come.
 use native.Mathlib.Omega.{arith}
 use mathlib.Core.Path.{refl, ap, _∙_}
 use Prim.Native.Nat.{_+_}
 use Rattle.temporal_steps.specs.WindowLaws.{windowed-order, windowed-steps}
 use Rattle.language.specs.Expansion.{windowOperator}
 use Rattle.temporal_steps.specs.Windows.{windowBy}
+use Rattle.machine.specs.Fields.{atField, valueField, otherField}
 use Rattle.machine.specs.OperatorLaws.{binary-small}
 use Rattle.machine.specs.declared.Move.the-variants.{Next}
 use Rattle.machine.specs.declared.Machine.{Machine}
@@ -16,7 +18,9 @@ use Rattle.temporal_steps.proofs.windows.windowed.Statement.{statement}
 use Rattle.temporal_steps.proofs.windows.windowed.Tie as tie
 
 returns : tie.Need-returns
-returns c = misfits-still (formula-misfits (c .before .before .before .before .before .before .pre .1) refl (c .if1 .taken))
+returns c =
+    let start = c .before .before .before .before .before .before in
+    misfits-still (formula-misfits (start .pre .1) refl (c .if1 .taken))
 
 add-k : tie.Need-add-k
 add-k c = search needs
@@ -28,7 +32,9 @@ shared-slice-read-k : tie.Need-shared-slice-read-k
 shared-slice-read-k c = search needs
 
 cast-k : tie.Need-cast-k
-cast-k c = let f = topped-to-write-entry (c .before .before .before .before .before .before .before .pre .0) .few in omega arith
+cast-k c =
+    let start = c .before .before .before .before .before .before .before in
+    let f = topped-to-write-entry (start .pre .0) .few in omega arith
 
 add-start : tie.Need-add-start
 add-start c = search needs
@@ -40,7 +46,9 @@ shared-slice-read-start : tie.Need-shared-slice-read-start
 shared-slice-read-start c = search needs
 
 cast-start : tie.Need-cast-start
-cast-start c = omega (arith, c .shared-slice-known6 .given (c .before .before .before .before .before .before .before .before .args .m .frames + 3))
+cast-start c =
+    let start = c .before .before .before .before .before .before .before .before in
+    omega (arith, c .shared-slice-known6 .given (start .args .m .frames + atField))
 
 add-begin : tie.Need-add-begin
 add-begin c = search needs
@@ -52,7 +60,9 @@ shared-slice-read-begin : tie.Need-shared-slice-read-begin
 shared-slice-read-begin c = search needs
 
 cast-begin : tie.Need-cast-begin
-cast-begin c = omega (arith, c .shared-slice-known7 .given (c .before .before .before .before .before .before .before .before .before .args .m .frames + 5))
+cast-begin c =
+    let start = c .before .before .before .before .before .before .before .before .before in
+    omega (arith, c .shared-slice-known7 .given (start .args .m .frames + valueField))
 
 add-end : tie.Need-add-end
 add-end c = search needs
@@ -64,16 +74,22 @@ shared-slice-read-end : tie.Need-shared-slice-read-end
 shared-slice-read-end c = search needs
 
 cast-end : tie.Need-cast-end
-cast-end c = omega (arith, c .shared-slice-known8 .given (c .before .before .before .before .before .before .before .before .before .before .args .m .frames + 6))
+cast-end c =
+    let start = c .before .before .before .before .before .before .before .before .before .before in
+    omega (arith, c .shared-slice-known8 .given (start .args .m .frames + otherField))
 
 prefix-at-requires : tie.Need-prefix-at-requires
-prefix-at-requires c κs = let f = topped-to-write-entry (c .before .before .before .before .before .before .before .before .before .before .pre .0) in (f .few, f .work)
+prefix-at-requires c κs =
+    let start = c .before .before .before .before .before .before .before .before .before .before in
+    let f = topped-to-write-entry (start .pre .0) in (f .few, f .work)
 
 chaining-requires : tie.Need-chaining-requires
 chaining-requires c κs = search needs
 
 sub-window : tie.Need-sub-window
-sub-window c = let s = c .before .before .before .before .before .before .before .before .before .before .before .before in windowed-order (s .pre .1) (s .pre .0)
+sub-window c =
+    let start = c .before .before .before .before .before .before .before .before .before .before .before .before in
+    windowed-order (start .pre .1) (start .pre .0)
 
 window-requires : tie.Need-window-requires
 window-requires c κs = let l = binary-small (windowOperator (windowBy (c .before .before .prefix-at .result))) in let e = c .before .chaining .ensures in omega arith

@@ -3,6 +3,7 @@ use native.Mathlib.Omega.{arith}
 use mathlib.Core.Path.{refl}
 use Prim.Native.Nat.{_+_}
 use Rattle.value_steps.specs.CombinedLaws.{right-two, right-lowers, right-makes, right-refuses}
+use Rattle.machine.specs.Fields.{baseField, atField, countField}
 use Rattle.machine.specs.MisfitLaws.{set-misfits}
 use Rattle.machine.specs.OperandLaws.{topped-entry}
 use borrow.Author.Needs.{needs}
@@ -40,7 +41,7 @@ slice-read-base c = search needs
 cast-base : tie.Need-cast-base
 cast-base c =
     let start = c .before .before .before .before .before .before .before .before in
-    omega (arith, c .slice-known3 .given (start .args .m .frames + 2))
+    omega (arith, c .slice-known3 .given (start .args .m .frames + baseField))
 
 add-t17 : tie.Need-add-t17
 add-t17 c = search needs
@@ -54,7 +55,7 @@ slice-read-t20 c = search needs
 cast-t23 : tie.Need-cast-t23
 cast-t23 c =
     let start = c .before .before .before .before .before .before .before .before .before in
-    omega (arith, c .slice-known4 .given (start .args .m .frames + 3))
+    omega (arith, c .slice-known4 .given (start .args .m .frames + atField))
 
 add-lower : tie.Need-add-lower
 add-lower c = search needs
@@ -68,7 +69,7 @@ slice-read-lower c = search needs
 cast-lower : tie.Need-cast-lower
 cast-lower c =
     let start = c .before .before .before .before .before .before .before .before .before .before in
-    omega (arith, c .slice-known5 .given (start .args .m .frames + 4))
+    omega (arith, c .slice-known5 .given (start .args .m .frames + countField))
 
 cast-t17 : tie.Need-cast-t17
 cast-t17 c = search needs

@@ -2,6 +2,7 @@
 use Prim.Native.Nat.{_+_}
 use mathlib.Core.Path.{refl}
 use native.Mathlib.Omega.{arith}
+use Rattle.machine.specs.Fields.{valueField, otherField}
 use Rattle.machine.specs.ContractLaws.{takes-next}
 use Rattle.value_steps.specs.ReleaseLaws.{takes-in}
 use Rattle.value_steps.specs.KeepLaws.{keep-name, keep-passes, keep-number}
@@ -31,7 +32,7 @@ cast-scope : tie.Need-cast-scope
 cast-scope c =
     let start = c .before .before .before .before .before .before .before in
     let at-slice-known3 = c .slice-known3 in
-    omega (arith, at-slice-known3 .given (start .args .m .frames + 5))
+    omega (arith, at-slice-known3 .given (start .args .m .frames + valueField))
 
 released-requires : tie.Need-released-requires
 released-requires c κs = search needs
@@ -55,7 +56,7 @@ cast-r : tie.Need-cast-r
 cast-r c =
     let start = c .before .before .before .before .before .before .before .before .before .before in
     let at-slice-known4 = c .slice-known4 in
-    omega (arith, at-slice-known4 .given (start .args .m .frames + 6))
+    omega (arith, at-slice-known4 .given (start .args .m .frames + otherField))
 
 cast-note : tie.Need-cast-note
 cast-note c = search needs

@@ -3,6 +3,8 @@ use Prim.Native.Nat.{_+_}
 use mathlib.Core.Path.{refl, ap, _∙_}
 use lib.ListN.{length, getD, length-set}
 use native.Mathlib.Omega.{arith}
+use Rattle.machine.specs.Fields.{valueField, otherField}
+use Rattle.machine.specs.Memory.{freeWord, slotsWord}
 use Rattle.machine.specs.ContractLaws.{takes-next}
 use Rattle.value_steps.specs.ReleaseLaws.{takes-in}
 use Rattle.value_steps.specs.Moves.{released}
@@ -25,7 +27,7 @@ cast-scope : tie.Need-cast-scope
 cast-scope c =
     let start = c .before .before .before .before .before in
     let at-slice-known2 = c .slice-known2 in
-    omega (arith, at-slice-known2 .given (start .args .m .frames + 5))
+    omega (arith, at-slice-known2 .given (start .args .m .frames + valueField))
 
 add-r : tie.Need-add-r
 add-r c = search needs
@@ -40,7 +42,7 @@ cast-r : tie.Need-cast-r
 cast-r c =
     let start = c .before .before .before .before .before .before in
     let at-slice-known3 = c .slice-known3 in
-    omega (arith, at-slice-known3 .given (start .args .m .frames + 6))
+    omega (arith, at-slice-known3 .given (start .args .m .frames + otherField))
 
 slice-read-free : tie.Need-slice-read-free
 slice-read-free c = search needs
@@ -58,7 +60,7 @@ note-requires c κs =
     let at-if1 = c .before .if1 in
     let k = keep-name (start .pre .1 .0) (start .pre .0) refl in
     let e = at-if1 .taken in
-    (k .declared, k .inside, omega (arith, at-slice-known4 .given 1024))
+    (k .declared, k .inside, omega (arith, at-slice-known4 .given freeWord))
 
 released-requires : tie.Need-released-requires
 released-requires c κs = search needs
@@ -109,7 +111,7 @@ cast-memory : tie.Need-cast-memory
 cast-memory c =
     let at-slice-known6 = c .before .before .before .before .before .before .slice-known6 in
     let at-if2 = c .before .before .before .before .before .if2 in
-    let e = at-if2 .left in omega (arith, at-slice-known6 .given 1025)
+    let e = at-if2 .left in omega (arith, at-slice-known6 .given slotsWord)
 
 slice-write-memory : tie.Need-slice-write-memory
 slice-write-memory c =
@@ -131,7 +133,7 @@ note-requires-2 c κs =
     let k = keep-name (start .pre .1 .0) (start .pre .0) refl in
     let i = k .inside in
     let l = at-lower .ensures .kept .len in
-    (k .declared, simp length-set (omega arith), omega (arith, at-slice-known4 .given 1024))
+    (k .declared, simp length-set (omega arith), omega (arith, at-slice-known4 .given freeWord))
 
 came-requires : tie.Need-came-requires
 came-requires c κs = search needs
@@ -160,7 +162,7 @@ returns-3 c =
     let at-note2 = c .before .before .before .before .note2 in
     let at-came = c .before .came in
     let at-released3 = c .released3 in
-    let scope = getD (start .args .memory .now) (start .args .m .frames + 5) 0 in
+    let scope = getD (start .args .memory .now) (start .args .m .frames + valueField) 0 in
     takes-next (at-released3 .ensures ∙ ap (λ (n : Machine). released n scope) (at-came .ensures)) (takes-in (at-note2 .ensures)
     (keep-copied (start .pre .1 .0) refl refl (start .pre .1 .1) (let e = at-if2 .left in omega arith) (at-lower .ensures)))
 

@@ -3,8 +3,8 @@ use Prim.Native.Nat.{ℕ}
 use mathlib.Core.Path.{_≡_}
 use native.Mathlib.Omega.{arith}
 use borrow.Author.Needs.{needs}
-use Rattle.value_steps.proofs.unworked.Statement.{statement}
-use Rattle.value_steps.proofs.unworked.Tie as tie
+use Rattle.machine.proofs.unworked.Statement.{statement}
+use Rattle.machine.proofs.unworked.Tie as tie
 
 enum-known-worked : tie.Need-enum-known-worked
 enum-known-worked c = search needs
