@@ -1,7 +1,7 @@
 // The reader: from a text's bytes to its nodes and its signal list in the lent buffers (document 01, 'Reader order').
 mod expansion;
-mod holders;
 mod memories;
+mod weight;
 
 use crate::expansion::CheckedTree;
 use crate::memories::expand_checked;
