@@ -10,7 +10,6 @@ use Rattle.node.specs.Ltl.{Formula}
 use Rattle.node.specs.Result.{Result, Done, Refused, _>>=_}
 use Rattle.node.specs.ResultLaws.{bind-at, bind-again, bind-to, bind-refused}
 use Rattle.writing.specs.Writing.{Wrote}
-use Rattle.writing.specs.Writing as Writing
 use Rattle.language.specs.Operators.{Comparison}
 use Rattle.language.specs.Tree.{Expr}
 use Rattle.language.specs.Values.{Value, number, bus, choice, value}
@@ -43,7 +42,6 @@ use Rattle.machine.specs.declared.Machine.{Machine}
 use Rattle.machine.specs.declared.Move.the-variants.{Next, Refused as Refuses}
 use Rattle.machine.specs.Entering.{Expands, Waiting}
 use Rattle.machine.specs.EnteringLaws.{works-formula, operand-making}
-use Rattle.machine.specs.SameLaws.{same-truth}
 use Rattle.machine.specs.JoinedLaws.{joined-two, joined-op}
 use Rattle.atom_steps.specs.WriteLaws.{writes-after}
 use Rattle.machine.specs.TellLaws.{
@@ -183,7 +181,7 @@ module _ {s : Source} {mem out : List ℕ} {m : Machine} (w : Comparing mem m is
   }
 
   pub number-steps : m .mode ≡ isNumber → {i a r n : ℕ} {b : Bool} {out' : List ℕ} → i ≡ infixCodeAt (numberAt (s .work) (getD mem (m .frames + entryField) 0)) → a ≡ getD mem (m .frames + valueField) 0
-      → b ≡ test (comparison i) a (m .value) → Wrote (Writing.truth b) out out' (m .nodes) r → n ≡ min r (suc maxNodes) → TakesToWrite s mem mem out out' m (Next (wrote (popped m) n))
+      → b ≡ test (comparison i) a (m .value) → Wrote (truth b) out out' (m .nodes) r → n ≡ min r (suc maxNodes) → TakesToWrite s mem mem out out' m (Next (wrote (popped m) n))
   number-steps z {i} {a} {r} {n} {b} {out'} ei ea eb q en = record {
     turns = λ R x o t.
         let v = by-phase (t .frame) Phase.rightCompared (top-phase t ∙ w .waiting .phase) in
@@ -193,7 +191,7 @@ module _ {s : Source} {mem out : List ℕ} {m : Machine} (w : Comparing mem m is
         let l = tells-number (R .W) isNumber a _ (v .2) (left-tells (w .waiting) (w .value) h (w .left) ea refl) refl in
         let k = tells-number (R .W) (m .mode) (m .value) (m .from) (y .value) (y .tells) z in
         let f : Formula = truth (test op a (m .value)) in
-        let same : Writing.truth b ≡ f = same-truth b ∙ ap truth (eb ∙ ap (λ (j : Comparison). test j a (m .value)) (op-is (w .waiting) (w .value) h ei)) in
+        let same : truth b ≡ f = ap truth (eb ∙ ap (λ (j : Comparison). test j a (m .value)) (op-is (w .waiting) (w .value) h ei)) in
         let done : compared (R .ports) op (v .2) (y .value) ≡ Done f = ap₂ (λ (j g : Value). compared (R .ports) op j g) l k ∙ bind-at (m .value) (λ j. Done (truth (test op a j))) in
         writes-after h {phase = Phase.rightCompared} refl (y .same) f (made (w .waiting) (w .value) h ∙ bind-to _ f nodes done) (subst (λ (g : Formula). Wrote g out out' (m .nodes) r) same q) en;
   }

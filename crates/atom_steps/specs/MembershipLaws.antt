@@ -10,7 +10,6 @@ use Rattle.node.specs.Ltl.{Formula}
 use Rattle.node.specs.Result.{Result, Done, _>>=_}
 use Rattle.node.specs.ResultLaws.{bind-at}
 use Rattle.writing.specs.Writing.{Wrote}
-use Rattle.writing.specs.Writing as Writing
 use Rattle.language.specs.Tree.{Expr}
 use Rattle.language.specs.Sets.{memberOf}
 use Rattle.language.specs.Values.{Value, number, set, value}
@@ -39,7 +38,6 @@ use Rattle.machine.specs.declared.Machine.{Machine}
 use Rattle.machine.specs.declared.Move.the-variants.{Next}
 use Rattle.machine.specs.Entering.{Expands, Waiting}
 use Rattle.machine.specs.EnteringLaws.{works-formula, operand-making}
-use Rattle.machine.specs.SameLaws.{same-truth}
 use Rattle.machine.specs.JoinedLaws.{joined-two}
 use Rattle.atom_steps.specs.WriteLaws.{writes-after}
 
@@ -111,7 +109,7 @@ module _ {s : Source} {mem out : List ℕ} {m : Machine} (w : Waiting mem m Phas
         let g = came-set (t .realm) (t .began) mem m (h .came) (h .come) e in
         placed mem (spanOf m) (g .set) (g .held) (g .count) (g .fine) (set-under h e)
 
-    pub among-steps : {i r n : ℕ} {b : Bool} {out' : List ℕ} → i ≡ getD mem (m .frames + valueField) 0 → b ≡ memberOf (elementsAt mem (spanOf m)) i → Wrote (Writing.truth b) out out' (m .nodes) r
+    pub among-steps : {i r n : ℕ} {b : Bool} {out' : List ℕ} → i ≡ getD mem (m .frames + valueField) 0 → b ≡ memberOf (elementsAt mem (spanOf m)) i → Wrote (truth b) out out' (m .nodes) r
         → n ≡ min r (suc maxNodes) → TakesToWrite s mem mem out out' m (Next (wrote (popped m) n))
     among-steps {i} {r} {n} {b} {out'} ei eb q en = record {
       turns = λ R x o t.
@@ -121,7 +119,7 @@ module _ {s : Source} {mem out : List ℕ} {m : Machine} (w : Waiting mem m Phas
           let same-number : i ≡ v .0 = ei ∙ value-word h ∙ h .at .holds .here in
           let same-set : elementsAt mem (spanOf m) ≡ g .set = elements-are mem (spanOf m) (g .set) (g .held) (g .count) (g .fine) (set-under h e) in
           let f : Formula = truth (memberOf (g .set) (v .0)) in
-          let same : Writing.truth b ≡ f = same-truth b ∙ ap truth (eb ∙ ap₂ memberOf same-set same-number) in
+          let same : truth b ≡ f = ap truth (eb ∙ ap₂ memberOf same-set same-number) in
           writes-after h {phase = Phase.among} refl (g .same) f (ap (apply (Among (v .0))) (g .same) ∙ bind-at (g .set) (λ y. nodes (truth (memberOf y (v .0)))))
           (subst (λ (y : Formula). Wrote y out out' (m .nodes) r) same q) en;
     }

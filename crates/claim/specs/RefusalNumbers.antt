@@ -48,9 +48,9 @@ parsed-numbers text =
     placed 5 _ (λ p _. omega arith) (placed 6 _ (λ p _. omega arith) (placed 7 _ (λ p _. omega arith) (placed 8 _ (λ p _. omega arith)
     (placed 9 _ (λ p _. omega arith) (placed 10 _ (λ p _. omega arith) (done tt)))))))))
 
-meant-numbers : (text : List ℕ) → Uses 16 (textExpansion text)
+expansion-numbers : (text : List ℕ) → Uses 16 (textExpansion text)
 unfolding textExpansion _>>=_
-meant-numbers text = go (parsed text) refl (parsed-numbers text)
+expansion-numbers text = go (parsed text) refl (parsed-numbers text)
   where
     go : (r : Result Spec) → parsed text ≡ r → Uses 10 r → Uses 16 (r >>= specExpansion)
     go (Done x) e h = uses 16 (specExpansion x) (λ n p q. let late = parsed-refused text x e n p q in (late .1, late .2))
@@ -60,14 +60,14 @@ module _ (m : ℕ) (large : 18 ≤ m) where
   delivered-numbers : (nodes signals : ℕ) (c : NumberedFormula) → Uses m (delivered nodes signals c)
   delivered-numbers nodes signals c = tested _ 18 0 (omega arith) (done tt)
 
-  meant-up : (text : List ℕ) → Uses m (textExpansion text)
-  meant-up text = weaken (textExpansion text) (λ n p l. (omega (arith, l .0), l .1)) (λ c _. tt) (meant-numbers text)
+  expansion-up : (text : List ℕ) → Uses m (textExpansion text)
+  expansion-up text = weaken (textExpansion text) (λ n p l. (omega (arith, l .0), l .1)) (λ c _. tt) (expansion-numbers text)
 
 module _ (text : List ℕ) (work nodes signals : ℕ) where
   reading-uses : Uses 18 (reading text work nodes signals)
   unfolding reading
   reading-uses =
-      tested _ 17 0 (omega arith) (bind (textExpansion text) _ (meant-up 18 (omega arith) text) (λ c _. delivered-numbers 18 (omega arith) nodes signals c))
+      tested _ 17 0 (omega arith) (bind (textExpansion text) _ (expansion-up 18 (omega arith) text) (λ c _. delivered-numbers 18 (omega arith) nodes signals c))
 
   pub reading-numbers : UpTo 18 (reading text work nodes signals)
   reading-numbers = weaken (reading text work nodes signals) (λ n p l. l .0) (λ c _. tt) reading-uses
@@ -80,7 +80,7 @@ module _ (text : List ℕ) (number work nodes signals : ℕ) where
   converting-uses : Uses 21 (converting text number work nodes signals)
   unfolding converting formed
   converting-uses =
-      tested _ 17 0 (omega arith) (bind (textExpansion text) _ (meant-up 21 (omega arith) text) (λ c _.
+      tested _ 17 0 (omega arith) (bind (textExpansion text) _ (expansion-up 21 (omega arith) text) (λ c _.
       tested _ 21 0 (omega arith) (tested _ 16 0 (omega arith) (delivered-numbers 21 (omega arith) nodes signals (inForm number c)))))
 
   pub converting-numbers : UpTo 21 (converting text number work nodes signals)

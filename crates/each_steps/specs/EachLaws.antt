@@ -13,7 +13,6 @@ use Rattle.node.specs.Ltl.{Formula, Two}
 use Rattle.node.specs.Result.{Result, _>>=_}
 use Rattle.node.specs.ResultLaws.{bind-at}
 use Rattle.writing.specs.Writing.{Wrote, Joins}
-use Rattle.writing.specs.Writing as Writing
 use Rattle.writing.specs.StayLaws.{two-stays, stays-none, wrote-stays}
 use Rattle.language.specs.Tokens.{Token}
 use Rattle.language.specs.Operators.{Big}
@@ -45,7 +44,6 @@ use Rattle.machine.specs.declared.Machine.{Machine}
 use Rattle.machine.specs.declared.Move.{Move}
 use Rattle.machine.specs.declared.Move.the-variants.{Next, Refused as Refuses}
 use Rattle.machine.specs.Entering.{Waiting}
-use Rattle.machine.specs.SameLaws.{same-truth}
 use Rattle.fold_steps.specs.BigLaws.{of-formulas}
 use Rattle.fold_steps.specs.Turning.{Turns, begun, Beginning}
 use Rattle.fold_steps.specs.ElementLaws.{split, beginning, begins, no-element}
@@ -162,7 +160,7 @@ module _ {s : Source} {mem out : List ℕ} {m : Machine} (w : Waiting mem m Phas
 
       -- over nothing
       pub elements-none : Kind.bigFormulas ≤ kind → m .value ≡ 0 → {b : Bool} {out' : List ℕ} {code r n : ℕ} → code ≡ prefixCodeAt (numberAt (s .work) k) → b ≡ eqb code (binaryKind And)
-          → Wrote (Writing.truth b) out out' (m .nodes) r → n ≡ min r (suc maxNodes)
+          → Wrote (Expansion.truth b) out out' (m .nodes) r → n ≡ min r (suc maxNodes)
           → TakesToWrite s mem mem out out' m (Next (wrote (popped m) n))
       elements-none l z {b} {out'} {code} {r} {n} ec eb wr en = record {
         turns = λ R x o t.
@@ -176,7 +174,7 @@ module _ {s : Source} {mem out : List ℕ} {m : Machine} (w : Waiting mem m Phas
             let empty : g .set ≡ [] = no-element (g .set) (omega arith) in
             let same-code : code ≡ bigCode op = ec ∙ ap (λ (y : ℕ). prefixCodeAt (numberAt (s .work) y)) (ek ∙ entry-word h) ∙ h .at .waits .0 .here .spelt in
             let isAll = eqb (bigCode op) (binaryKind And) in
-            let t' : Writing.truth b ≡ Expansion.truth isAll = same-truth b ∙ ap Expansion.truth (eb ∙ ap (λ (y : ℕ). eqb y (binaryKind And)) same-code) in
+            let t' : Expansion.truth b ≡ Expansion.truth isAll = ap Expansion.truth (eb ∙ ap (λ (y : ℕ). eqb y (binaryKind And)) same-code) in
             let wt = wrote-capped en (subst (λ (y : Formula). Wrote y out out' (m .nodes) r) t' wr) in
             finishes h (Expansion.truth isAll) refl refl refl
             (ap (apply (OverEach op (v .1) (v .2) (v .3))) (g .same) ∙ bind-at (g .set) (λ y. bigFormula op f y >>= nodes) ∙ ap (λ (y : List ℕ). bigFormula op f y >>= nodes) empty

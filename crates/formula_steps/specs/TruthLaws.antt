@@ -11,7 +11,6 @@ use Rattle.node.specs.Ltl.{Formula}
 use Rattle.node.specs.Result.{_>>=_}
 use Rattle.node.specs.ResultLaws.{bind-at}
 use Rattle.writing.specs.Writing.{Wrote}
-use Rattle.writing.specs.Writing as Writing
 use Rattle.language.specs.Limits.{maxTokens, workBytes}
 use Rattle.language.specs.Tree.{Expr}
 use Rattle.language.specs.Expansion.{expansion}
@@ -33,14 +32,13 @@ use Rattle.machine.specs.declared.Machine.{Machine}
 use Rattle.machine.specs.declared.Move.the-variants.{Next}
 use Rattle.machine.specs.Entering.{Expands}
 use Rattle.machine.specs.EnteringLaws.{works-formula, operand-making}
-use Rattle.machine.specs.SameLaws.{same-truth}
 
 -- the entry's words can be read
 pub written-entry : {s : Source} {mem out : List ℕ} {m : Machine} → ReadyToWrite s mem out m → m .mode ≤ modeOf Expand → (m .value < maxTokens) × (workBytes ≤ length (s .work))
 written-entry h l = (entry-few (entered (h .state) l), h .lent .work)
 
 pub truth-steps : {s : Source} {mem out out' : List ℕ} {m : Machine} {number r n : ℕ} {b : Bool} → Expands (s .work) m Kind.truth Kind.index → number ≡ numberAt (s .work) (m .value)
-    → b ≡ eqb number (fixed "true") → Wrote (Writing.truth b) out out' (m .nodes) r → n ≡ min r (suc maxNodes) → Writes s mem mem out out' m (Next (wrote m n))
+    → b ≡ eqb number (fixed "true") → Wrote (Expansion.truth b) out out' (m .nodes) r → n ≡ min r (suc maxNodes) → Writes s mem mem out out' m (Next (wrote m n))
 truth-steps {s} {out = out} {out'} {m} {number} {r} {n} {b} k ek eb w en = record {
   turns = λ R x o h.
       let e = k .mode in
@@ -49,5 +47,5 @@ truth-steps {s} {out = out} {out'} {m} {number} {r} {n} {b} k ek eb w en = recor
       let p = operand-as (q .at .operand) (v .2) in
       let same : b ≡ v .1 = eb ∙ ap (λ (i : ℕ). eqb i (fixed "true")) ek ∙ sym (truth-is (R .lexed) Kind.truth (v .0) [] (p .known .at) (p .known .proper .1)) in
       writes q (Expansion.truth (v .1)) (works-formula q e ∙ ap (λ (d : Expr). expansion (q .context) d >>= nodes) (v .2) ∙ bind-at (Expansion.truth (v .1)) nodes)
-      (subst (λ (f : Formula). Wrote f out out' (m .nodes) n) (same-truth b ∙ ap Expansion.truth same) (wrote-capped en w)) (omega arith);
+      (subst (λ (f : Formula). Wrote f out out' (m .nodes) n) (ap Expansion.truth same) (wrote-capped en w)) (omega arith);
 }

@@ -20,7 +20,6 @@ pub mod NoteLaws
 pub mod FactLaws
 pub mod TellLaws
 pub mod PlainLaws
-pub mod SameLaws
 pub mod StateLaws
 pub mod Moves
 pub mod EnterLaws

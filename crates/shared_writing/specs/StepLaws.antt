@@ -1,17 +1,17 @@
--- What the writing functions ensure, from what was put: constants, signals, operators, and X many times over.
+-- What the writing functions ensure, from what was put: constants, signals, operators, and a next many times over.
 use Prim.Native.Nat.{ℕ, suc, _-_, _<_, _≤_}
 use mathlib.Core.Bool.{Bool, true, false}
 use mathlib.Core.List.{List}
-use mathlib.Core.Path.{_≡_, refl, sym, ap, _∙_, subst}
+use mathlib.Core.Path.{_≡_, sym, ap, _∙_, subst}
 use lib.ListN.{length}
 use Rattle.node.specs.Limits.{maxNodes, fieldLimit}
-use Rattle.node.specs.Ltl.{X, Formula, True, False, Signal}
+use Rattle.node.specs.Ltl.{Unary, Formula, True, False, Signal}
 use Rattle.node.specs.Fields.{pack}
-use Rattle.node.specs.Kinds.{trueKind, falseKind, signalKind, unaryKind}
+use Rattle.node.specs.Kinds.{trueKind, falseKind, signalKind}
 use Rattle.node.specs.Postorder.{SignalsBelow}
 use Rattle.sharing.specs.Sharing.{place, write}
 use Rattle.shared_table.specs.Shared.{Puts}
-use Rattle.shared_writing.specs.Writing.{Wrote, Caps, Joins, Nexts, truth, nexts}
+use Rattle.shared_writing.specs.Writing.{Wrote, Caps, Joins, Nexts, truth, repeats}
 use Rattle.shared_writing.specs.StayLaws.{stays-none, stays-past, stays-then, puts-stays}
 use Rattle.shared_writing.specs.WritingLaws.{wrote-node, wrote-one, wrote-two, wrote-longer, rising, one-longer, none-one, none-two}
 
@@ -33,13 +33,13 @@ module _ {out out′ : List ℕ} {at w r : ℕ} (h : at ≤ maxNodes) (l : lengt
   wrote-signal {k} s i = leaf (Signal k) s (λ t. ap (place t) (sym i))
 
 pub caps : {op m w r : ℕ} {out out′ : List ℕ} → m ≤ maxNodes → length out′ ≡ length out → w ≡ pack op (m - 1) 0 → Puts out out′ w r → Caps op out out′ m r
-caps {op} {m} {w} {r} {out} {out′} h l e p o k at = record {
+caps {op} {m} {w} {r} {out} {out′} h l e p = record {
   stays = puts-stays h l p;
-  wrote = λ v. wrote-one o h v l (subst (λ (x : ℕ). Puts out out′ x r) (e ∙ ap (λ (j : ℕ). pack j (m - 1) 0) k) p);
+  wrote = λ o k v. wrote-one o h v l (subst (λ (x : ℕ). Puts out out′ x r) (e ∙ ap (λ (j : ℕ). pack j (m - 1) 0) k) p);
 }
 
 pub caps-none : {op m r : ℕ} {out : List ℕ} → (0 < m → maxNodes < m) → maxNodes < r → Caps op out out m r
-caps-none {out = out} g h o k at = record { stays = stays-past out h; wrote = λ v. none-one o g h (stays-past out h) v }
+caps-none {out = out} g h = record { stays = stays-past out h; wrote = λ o k v. none-one o g h (stays-past out h) v }
 
 pub joins : {op m n w r : ℕ} {out out′ : List ℕ} → n ≤ maxNodes → length out′ ≡ length out → w ≡ pack op (m - 1) (n - 1) → Puts out out′ w r → Joins op out out′ m n r
 joins {op} {m} {n} {w} {r} {out} {out′} h l e p = record {
@@ -50,21 +50,19 @@ joins {op} {m} {n} {w} {r} {out} {out′} h l e p = record {
 pub joins-none : {op m n r : ℕ} {out : List ℕ} → (0 < m → 0 < n → m ≤ maxNodes → maxNodes < n) → maxNodes < r → Joins op out out m n r
 joins-none {out = out} g h = record { stays = stays-past out h; wrote = λ o k u v. none-two o g h (stays-past out h) u v }
 
-pub nexts-start : {out : List ℕ} {m : ℕ} → Nexts 0 out out m m
-nexts-start {out} {m} at = record { stays = stays-none out m; wrote = λ w. w }
+pub nexts-start : {next : ℕ} {out : List ℕ} {m : ℕ} → Nexts next 0 out out m m
+nexts-start {out = out} {m} = record { stays = stays-none out m; wrote = λ x k w. w }
 
-pub nexts-more : (i : ℕ) {out between out′ : List ℕ} {m r r′ : ℕ} → Nexts i out between m r → Caps (unaryKind X) between out′ r r′ → Nexts (suc i) out out′ m r′
-nexts-more i v u at =
-    let x = v at in
-    let y = u X refl at in
-    record { stays = stays-then (x .stays) (y .stays); wrote = λ w. y .wrote (x .wrote w) }
+pub nexts-more : (i : ℕ) {next : ℕ} {out between out′ : List ℕ} {m r r′ : ℕ} → Nexts next i out between m r → Caps next between out′ r r′ → Nexts next (suc i) out out′ m r′
+nexts-more i v u = record { stays = stays-then (v .stays) (u .stays); wrote = λ x k w. u .wrote x k (v .wrote x k w) }
 
--- more X need as much room
-nexts-longer : (i n : ℕ) → i ≤ n → (a : Formula) (t : List ℕ) → length (write t (nexts i a) .table) ≤ length (write t (nexts n a) .table)
-nexts-longer i n h a t = rising (λ (j : ℕ). length (write t (nexts j a) .table)) (λ j. one-longer X (nexts j a) t) i n h
+-- more of them need as much room
+nexts-longer : (x : Unary) (i n : ℕ) → i ≤ n → (a : Formula) (t : List ℕ) → length (write t (repeats x i a) .table) ≤ length (write t (repeats x n a) .table)
+nexts-longer x i n h a t = rising (λ (j : ℕ). length (write t (repeats x j a) .table)) (λ j. one-longer x (repeats x j a) t) i n h
 
--- X after X that do not fit
-pub nexts-none : (i n : ℕ) {out out′ : List ℕ} {m r r′ : ℕ} → Nexts i out out′ m r → i ≤ n → maxNodes < r → maxNodes < r′ → Nexts n out out′ m r′
-nexts-none i n {out′ = out′} v l h g at =
-    let x = v at in
-    record { stays = stays-then (x .stays) (stays-past out′ g); wrote = λ {a} w. wrote-longer (nexts-longer i n l a) h g (x .wrote w) }
+-- one after the other that do not fit
+pub nexts-none : (i n : ℕ) {next : ℕ} {out out′ : List ℕ} {m r r′ : ℕ} → Nexts next i out out′ m r → i ≤ n → maxNodes < r → maxNodes < r′ → Nexts next n out out′ m r′
+nexts-none i n {out′ = out′} v l h g = record {
+  stays = stays-then (v .stays) (stays-past out′ g);
+  wrote = λ x k {a} w. wrote-longer (nexts-longer x i n l a) h g (v .wrote x k w);
+}

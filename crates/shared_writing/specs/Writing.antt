@@ -13,7 +13,7 @@ use Rattle.sharing.specs.Sharing.{write}
 use Rattle.sharing.specs.WriteLaws.{Grows}
 use Rattle.sharing.specs.StandsLaws.{Stands}
 use Rattle.shared_table.specs.Shared.{nodesStart, capacity, Shares}
-pub use Rattle.node.specs.Derived.{truth, nexts, chain}
+pub use Rattle.node.specs.Derived.{truth, repeats, chainBy}
 
 -- how many words an array has that holds a table of 8,192 nodes
 abbrev pub tableWords : ℕ
@@ -43,14 +43,10 @@ pub record Wrote (f : Formula) (out out′ : List ℕ) (at r : ℕ) : Type 0 whe
   pub many : maxNodes < r → at ≤ maxNodes → (t : List ℕ) → Shares out t → capacity (length out) < length (write t f .table)
   pub signals : r ≤ maxNodes → SignalsBelow fieldLimit f
 
--- whatever formula a was written up to m: now `g a` is, up to r
-pub record Becomes (g : Formula → Formula) (out out′ : List ℕ) (at m r : ℕ) : Type 0 where
-  pub stays : Stays out out′ m r
-  pub wrote : {a : Formula} {before : List ℕ} → Wrote a before out at m → Wrote (g a) before out′ at r
-
 -- the operator of one operand numbered `op`, over what was written up to m
-abbrev pub Caps : ℕ → List ℕ → List ℕ → ℕ → ℕ → Type 0
-Caps op out out′ m r = (o : Unary) → op ≡ unaryKind o → (at : ℕ) → Becomes (One o) out out′ at m r
+pub record Caps (op : ℕ) (out out′ : List ℕ) (m r : ℕ) : Type 0 where
+  pub stays : Stays out out′ m r
+  pub wrote : (o : Unary) → op ≡ unaryKind o → {a : Formula} {before : List ℕ} {at : ℕ} → Wrote a before out at m → Wrote (One o a) before out′ at r
 
 -- the operator of two operands numbered `op`, over what was written up to m and after that up to n
 pub record Joins (op : ℕ) (out out′ : List ℕ) (m n r : ℕ) : Type 0 where
@@ -58,13 +54,16 @@ pub record Joins (op : ℕ) (out out′ : List ℕ) (m n r : ℕ) : Type 0 where
   pub wrote : (o : Binary) → op ≡ binaryKind o → {a b : Formula} {before between : List ℕ} {at : ℕ}
       → Wrote a before between at m → Wrote b between out m n → Wrote (Two o a b) before out′ at r
 
--- n times X over what was written up to m
-abbrev pub Nexts : ℕ → List ℕ → List ℕ → ℕ → ℕ → Type 0
-Nexts n out out′ m r = (at : ℕ) → Becomes (nexts n) out out′ at m r
+-- n times the next numbered `next` over what was written up to m
+pub record Nexts (next n : ℕ) (out out′ : List ℕ) (m r : ℕ) : Type 0 where
+  pub stays : Stays out out′ m r
+  pub wrote : (x : Unary) → next ≡ unaryKind x → {a : Formula} {before : List ℕ} {at : ℕ} → Wrote a before out at m → Wrote (repeats x n a) before out′ at r
 
--- n + 1 times what was written up to m, in a chain of the operator of two operands numbered `op`
-abbrev pub Windowed : ℕ → ℕ → List ℕ → List ℕ → ℕ → ℕ → Type 0
-Windowed op n out out′ m r = (o : Binary) → op ≡ binaryKind o → (at : ℕ) → Becomes (chain o n) out out′ at m r
+-- n + 1 times what was written up to m, in a chain of the operator of two operands numbered `op` and the next numbered `next`
+pub record Windowed (op next n : ℕ) (out out′ : List ℕ) (m r : ℕ) : Type 0 where
+  pub stays : Stays out out′ m r
+  pub wrote : (o : Binary) → op ≡ binaryKind o → (x : Unary) → next ≡ unaryKind x → {a : Formula} {before : List ℕ} {at : ℕ}
+      → Wrote a before out at m → Wrote (chainBy x o n a) before out′ at r
 
 -- the formula stands in the array's table as the node before v: what is kept of one that was written
 pub record Kept (f : Formula) (out : List ℕ) (v : ℕ) : Type 0 where

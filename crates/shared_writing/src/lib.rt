@@ -80,10 +80,10 @@ pub fn join(op: u32, m: usize, n: usize, out: &mut [u32; TABLE]) -> usize
     put(out, node.word)
 }
 
-// n times X over the node before m.
-pub fn nexts(n: usize, m: usize, out: &mut [u32; TABLE]) -> usize
-    requires { ⌜ Shared (now out) ⌝ }
-    ensures { λ r. ⌜ Nexts n (now (out .entry)) (now (out .exit)) m r ⌝ }
+// n times a next over the node before m. Its number is one of sixteen, as above.
+pub fn nexts(next: u32, n: usize, m: usize, out: &mut [u32; TABLE]) -> usize
+    requires { ⌜ (next < kindLimit) × Shared (now out) ⌝ }
+    ensures { λ r. ⌜ Nexts next n (now (out .entry)) (now (out .exit)) m r ⌝ }
 {
     let mut r = m;
     let mut i = 0;
@@ -91,17 +91,17 @@ pub fn nexts(n: usize, m: usize, out: &mut [u32; TABLE]) -> usize
         if MAX_NODES < r {
             return TOO_MANY;
         }
-        r = cap(Node::NEXT, r, out);
+        r = cap(next, r, out);
         i += 1;
     }
     r
 }
 
-// `a || X(a || ..)` with n further times the node before m, from the inside out: the operand stands once, and each operator takes it again. The operator's number is
-// one of sixteen, as above.
-pub fn window(op: u32, n: usize, m: usize, out: &mut [u32; TABLE]) -> usize
-    requires { ⌜ (op < kindLimit) × Shared (now out) ⌝ }
-    ensures { λ r. ⌜ Windowed op n (now (out .entry)) (now (out .exit)) m r ⌝ }
+// `a || X(a || ..)` with n further times the node before m, from the inside out: the operand stands once, and each operator takes it again. The numbers of the
+// operator and of the next are of sixteen, as above.
+pub fn window(op: u32, next: u32, n: usize, m: usize, out: &mut [u32; TABLE]) -> usize
+    requires { ⌜ ((op < kindLimit) × (next < kindLimit)) × Shared (now out) ⌝ }
+    ensures { λ r. ⌜ Windowed op next n (now (out .entry)) (now (out .exit)) m r ⌝ }
 {
     let mut r = m;
     let mut i = 0;
@@ -109,8 +109,8 @@ pub fn window(op: u32, n: usize, m: usize, out: &mut [u32; TABLE]) -> usize
         if MAX_NODES < r {
             return TOO_MANY;
         }
-        let next = cap(Node::NEXT, r, out);
-        r = join(op, m, next, out);
+        let later = cap(next, r, out);
+        r = join(op, m, later, out);
         i += 1;
     }
     r

@@ -5,10 +5,10 @@ use mathlib.Core.List.{List, []}
 use lib.ListN.{length}
 use native.Mathlib.Omega.{arith}
 use Rattle.node.specs.Limits.{fieldLimit}
-use Rattle.node.specs.Ltl.{X, Binary, Formula, One}
+use Rattle.node.specs.Ltl.{Unary, X, Binary, Formula, One}
 use Rattle.node.specs.Fields.{pack}
 use Rattle.node.specs.Kinds.{binaryKind}
-use Rattle.node.specs.Derived.{nexts, chain}
+use Rattle.node.specs.Derived.{nexts, chainBy, chain}
 use Rattle.node.specs.Postorder.{size, SignalsBelow}
 use Rattle.sharing.specs.Sharing.{Placed, place, write, distinctNodes, distinctCount}
 use Rattle.sharing.specs.WriteLaws.{write-one, write-two}
@@ -28,10 +28,10 @@ count-nexts (suc n) a s h =
     let c = count-one X (nexts n a) (nexts-signals fieldLimit n a s) (omega arith) in
     omega arith
 
-pub chain-signals : (limit : ℕ) (o : Binary) (n : ℕ) (a : Formula) → SignalsBelow limit a → SignalsBelow limit (chain o n a)
+pub chain-signals : (limit : ℕ) (x : Unary) (o : Binary) (n : ℕ) (a : Formula) → SignalsBelow limit a → SignalsBelow limit (chainBy x o n a)
 unfolding SignalsBelow
-chain-signals limit o zero a s = s
-chain-signals limit o (suc n) a s = (s, chain-signals limit o n a s)
+chain-signals limit x o zero a s = s
+chain-signals limit x o (suc n) a s = (s, chain-signals limit x o n a s)
 
 chain-size : (o : Binary) (n : ℕ) (a : Formula) → size a ≤ size (chain o n a)
 unfolding size
@@ -48,19 +48,19 @@ unfolding distinctNodes distinctCount
 own-small a n s h l = small-write n [] a l s h (small-none n)
 
 -- a chain begins with its formula: behind that formula's nodes it is written as it is without them
-pub chain-behind : (o : Binary) (n : ℕ) (t : List ℕ) (a : Formula) → write (write t a .table) (chain o n a) ≡ write t (chain o n a)
-chain-behind o zero t a = found-adds (write t a .table) a (write t a .number) (found-written t a)
-chain-behind o (suc n) t a =
-    let r : Formula = One X (chain o n a) in
+pub chain-behind : (x : Unary) (o : Binary) (n : ℕ) (t : List ℕ) (a : Formula) → write (write t a .table) (chainBy x o n a) ≡ write t (chainBy x o n a)
+chain-behind x o zero t a = found-adds (write t a .table) a (write t a .number) (found-written t a)
+chain-behind x o (suc n) t a =
+    let r : Formula = One x (chainBy x o n a) in
     let u : List ℕ = write t a .table in
     write-two u o a r
-    ∙ ap (λ (x : Placed). let y = write (x .table) r in place (y .table) (pack (binaryKind o) (x .number) (y .number)))
+    ∙ ap (λ (p : Placed). let y = write (p .table) r in place (y .table) (pack (binaryKind o) (p .number) (y .number)))
     (found-adds u a (write t a .number) (found-written t a))
     ∙ sym (write-two t o a r)
 
 chain-alone : (o : Binary) (n : ℕ) (a : Formula) → length (write (distinctNodes a) (chain o n a) .table) ≡ distinctCount (chain o n a)
 unfolding distinctNodes
-chain-alone o n a = ap (λ (x : Placed). length (x .table)) (chain-behind o n [] a) ∙ alone (chain o n a)
+chain-alone o n a = ap (λ (x : Placed). length (x .table)) (chain-behind X o n [] a) ∙ alone (chain o n a)
 
 -- two nodes more for each step
 pub count-chain : (o : Binary) (n : ℕ) (a : Formula) → SignalsBelow fieldLimit a → distinctCount a + 2 * n ≤ fieldLimit → distinctCount (chain o n a) ≡ distinctCount a + 2 * n
@@ -68,7 +68,7 @@ unfolding SignalsBelow
 count-chain o zero a s h = omega arith
 count-chain o (suc n) a s h =
     let c : Formula = chain o n a in
-    let sc = chain-signals fieldLimit o n a s in
+    let sc = chain-signals fieldLimit X o n a s in
     let e = count-chain o n a s (omega arith) in
     let same = chain-alone o n a in
     let small = own-small a (size c) s (omega arith) (chain-size o n a) in

@@ -5,10 +5,11 @@ use mathlib.Core.Path.{_≡_, refl, sym, ap, _∙_}
 use native.Mathlib.Omega.{arith}
 use lib.ListN.{getD}
 use Rattle.node.specs.Limits.{maxNodes}
+use Rattle.node.specs.Operators.{X}
+use Rattle.node.specs.Kinds.{unaryKind}
 use Rattle.node.specs.Ltl.{Formula}
 use Rattle.node.specs.Result.{Result, Done, _>>=_}
 use Rattle.node.specs.ResultLaws.{bind-at}
-use Rattle.writing.specs.Writing as Writing
 use Rattle.writing.specs.Writing.{Wrote, Nexts}
 use Rattle.writing.specs.StayLaws.{begins-stays, begins-nexts}
 use Rattle.language.specs.Tree.{Expr}
@@ -40,7 +41,6 @@ use Rattle.machine.specs.declared.Machine.{Machine}
 use Rattle.machine.specs.declared.Move.the-variants.{Next}
 use Rattle.machine.specs.Entering.{Expands, Waiting}
 use Rattle.machine.specs.EnteringLaws.{works-formula, operand-making}
-use Rattle.machine.specs.SameLaws.{same-nexts}
 
 -- the clause as its frames have it
 repetition-same : (n : Result Value) (a : Result Formula) → ((n >>= number >>= λ k. a >>= λ f. Done (nexts k f)) >>= nodes) ≡ ((n >>= worth) >>= λ v. asNumber v >>= λ k. (a >>= nodes) >>= repeated k)
@@ -104,7 +104,8 @@ module _ {s : Source} {mem : List ℕ} {m : Machine} (w : Waiting mem m Phase.re
 
 -- the formula has come
 module _ {s : Source} {mem out : List ℕ} {m : Machine} (w : Waiting mem m Phase.repeated) where
-  pub repeated-steps : m .mode ≡ isNodes → {a r n : ℕ} {out' : List ℕ} → a ≡ getD mem (m .frames + valueField) 0 → Nexts a out out' (m .nodes) r → n ≡ min r (suc maxNodes)
+  pub repeated-steps : m .mode ≡ isNodes → {a r n : ℕ} {out' : List ℕ} → a ≡ getD mem (m .frames + valueField) 0 → Nexts (unaryKind X) a out out' (m .nodes) r
+      → n ≡ min r (suc maxNodes)
       → TakesToWrite s mem mem out out' m (Next (wrote (popped m) n))
   repeated-steps e {a} {r} {n} {out'} ea j en = record {
     turns = λ R x o t.
@@ -113,9 +114,9 @@ module _ {s : Source} {mem out : List ℕ} {m : Machine} (w : Waiting mem m Phas
         let g = came-formula R o mem m (h .came) (h .come) e in
         let same-number : a ≡ v .0 = ea ∙ value-word h ∙ h .at .holds .here in
         let l = laid-last (formula-laid h (g .same)) in
-        let whole : Wrote (Writing.nexts a (g .formula)) (l .before) out' (l .at) n = wrote-capped en (j (l .at) .wrote (l .wrote)) in
-        let same-formula : nexts (v .0) (g .formula) ≡ Writing.nexts a (g .formula) = ap (λ (i : ℕ). nexts i (g .formula)) (sym same-number) ∙ same-nexts a (g .formula) in
-        finishes h (Writing.nexts a (g .formula)) refl refl refl
+        let whole : Wrote (nexts a (g .formula)) (l .before) out' (l .at) n = wrote-capped en (j X refl (l .at) .wrote (l .wrote)) in
+        let same-formula : nexts (v .0) (g .formula) ≡ nexts a (g .formula) = ap (λ (i : ℕ). nexts i (g .formula)) (sym same-number) in
+        finishes h (nexts a (g .formula)) refl refl refl
         (ap (apply (Repeated (v .0))) (g .same) ∙ bind-at (g .formula) (λ y. nodes (nexts (v .0) y)) ∙ ap (λ (y : Formula). Done (Nodes y)) same-formula)
         (l .others) whole (omega arith) (begins-stays (begins-nexts a (g .formula) (l .at)) (l .wrote) whole);
   }

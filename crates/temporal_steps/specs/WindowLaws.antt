@@ -8,12 +8,11 @@ use lib.Dec.{leb}
 use lib.ListN.{getD}
 use borrow.Author.Tests.{le-leb, lt-leb, ne-eqb}
 use Rattle.node.specs.Limits.{maxNodes}
-use Rattle.node.specs.Operators.{F, And, Or}
+use Rattle.node.specs.Operators.{X, F, And, Or}
 use Rattle.node.specs.Kinds.{unaryKind, binaryKind}
 use Rattle.node.specs.Ltl.{Formula}
 use Rattle.node.specs.Result.{Result, Done, Refused, _>>=_, guard}
 use Rattle.node.specs.ResultLaws.{bind-at, guard-pass, guard-stop, guard-bind}
-use Rattle.writing.specs.Writing as Writing
 use Rattle.writing.specs.Writing.{Wrote, Nexts}
 use Rattle.writing.specs.Windows as Windows
 use Rattle.writing.specs.StayLaws.{begins-stays, begins-nexts, begins-chain, stays-then}
@@ -52,7 +51,6 @@ use Rattle.machine.specs.declared.Machine.{Machine}
 use Rattle.machine.specs.declared.Move.the-variants.{Next, Refused as Refuses}
 use Rattle.machine.specs.Entering.{Expands, Waiting}
 use Rattle.machine.specs.EnteringLaws.{works-formula, operand-making}
-use Rattle.machine.specs.SameLaws.{same-nexts, same-chain}
 use Rattle.temporal_steps.specs.TableLaws.{wrote-chain}
 use Rattle.temporal_steps.specs.Windows.{windowBy}
 
@@ -218,7 +216,8 @@ module _ {s : Source} {mem out : List ℕ} {m : Machine} (w : Waiting mem m Phas
       omega arith
 
   pub windowed-steps : m .mode ≡ isNodes → {k code op start a b mid r n : ℕ} {out₁ out' : List ℕ} → k ≡ getD mem (m .frames + entryField) 0 → code ≡ prefixCodeAt (numberAt (s .work) k) → op ≡ chained code
-      → start ≡ getD mem (m .frames + atField) 0 → a ≡ getD mem (m .frames + valueField) 0 → b ≡ getD mem (m .frames + otherField) 0 → Windows.Windowed op (b - a) out out₁ start (m .nodes) mid → Nexts a out₁ out' mid r
+      → start ≡ getD mem (m .frames + atField) 0 → a ≡ getD mem (m .frames + valueField) 0 → b ≡ getD mem (m .frames + otherField) 0
+      → Windows.Windowed op (unaryKind X) (b - a) out out₁ start (m .nodes) mid → Nexts (unaryKind X) a out₁ out' mid r
       → n ≡ min r (suc maxNodes) → TakesToWrite s mem mem out out' m (Next (wrote (popped m) n))
   windowed-steps e {k} {code} {op} {start} {a} {b} {mid} {r} {n} {out₁} {out'} ek ei eo es ea eb q y en = record {
     turns = λ R x o t.
@@ -232,14 +231,14 @@ module _ {s : Source} {mem out : List ℕ} {m : Machine} (w : Waiting mem m Phas
         let same-last : b ≡ v .2 = eb ∙ other-word h ∙ h .at .holds .0 .here in
         let l = laid-last (formula-laid h (g .same)) in
         let same-start : l .at ≡ start = laid-end (formsOf (h .rest)) (l .others) ∙ sym (es ∙ at-word h ∙ h .at .holds .2) in
-        let links : Wrote (Writing.chain bo (b - a) (g .formula)) (l .before) out₁ (l .at) mid =
-        wrote-chain bo same-op (laid-sized (l .others)) (l .wrote) (subst (λ (i : ℕ). Windows.Windowed op (b - a) out out₁ i (m .nodes) mid) (sym same-start) q) in
-        let made : Formula = Writing.nexts a (Writing.chain bo (b - a) (g .formula)) in
-        let whole : Wrote made (l .before) out' (l .at) n = wrote-capped en (y (l .at) .wrote links) in
+        let links : Wrote (chain bo (b - a) (g .formula)) (l .before) out₁ (l .at) mid =
+        wrote-chain bo X same-op refl (laid-sized (l .others)) (l .wrote) (subst (λ (i : ℕ). Windows.Windowed op (unaryKind X) (b - a) out out₁ i (m .nodes) mid) (sym same-start) q) in
+        let made : Formula = nexts a (chain bo (b - a) (g .formula)) in
+        let whole : Wrote made (l .before) out' (l .at) n = wrote-capped en (y X refl (l .at) .wrote links) in
         let same-made : nexts (v .1) (chain bo (v .2 - v .1) (g .formula)) ≡ made =
-        ap₂ (λ (i z : ℕ). nexts i (chain bo (z - i) (g .formula))) (sym same-first) (sym same-last) ∙ same-nexts a (chain bo (b - a) (g .formula)) ∙ ap (Writing.nexts a) (same-chain bo (b - a) (g .formula)) in
+        ap₂ (λ (i z : ℕ). nexts i (chain bo (z - i) (g .formula))) (sym same-first) (sym same-last) in
         finishes h made refl refl refl
         (ap (apply (Windowed (v .0) (v .1) (v .2))) (g .same) ∙ bind-at (g .formula) (λ i. nodes (nexts (v .1) (chain bo (v .2 - v .1) i))) ∙ ap (λ (i : Formula). Done (Nodes i)) same-made)
         (l .others) whole (omega arith)
-        (stays-then (begins-stays (begins-chain bo (b - a) (g .formula) (l .at)) (l .wrote) links) (begins-stays (begins-nexts a (Writing.chain bo (b - a) (g .formula)) (l .at)) links whole));
+        (stays-then (begins-stays (begins-chain bo (b - a) (g .formula) (l .at)) (l .wrote) links) (begins-stays (begins-nexts a (chain bo (b - a) (g .formula)) (l .at)) links whole));
   }

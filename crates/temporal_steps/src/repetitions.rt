@@ -6,6 +6,7 @@ use machine::fields;
 use machine::modes;
 use machine::phases;
 use node::MAX_NODES;
+use node::Node;
 use node::refusals;
 use writing::nexts;
 ghost use Rattle.entries.specs.Kinds as Kind;
@@ -51,6 +52,6 @@ pub fn repeated(
         return Move::Refused(refusals::WRONG_TYPE, 0);
     }
     let n = memory[m.frames + fields::VALUE] as usize;
-    let end = nexts(n, m.nodes, table);
+    let end = nexts(Node::NEXT, n, m.nodes, table);
     Move::Next(m.popped().wrote(capped(end)))
 }

@@ -100,7 +100,7 @@ pub fn windowed(
     let begin = memory[at + fields::VALUE] as usize;
     let end = memory[at + fields::OTHER] as usize;
     let operator = chaining(prefix_at(work, k));
-    let chained = window(operator, end - begin, start, m.nodes, table);
-    let n = nexts(begin, chained, table);
+    let chained = window(operator, Node::NEXT, end - begin, start, m.nodes, table);
+    let n = nexts(Node::NEXT, begin, chained, table);
     Move::Next(m.popped().wrote(capped(n)))
 }

@@ -1,18 +1,17 @@
--- What the writing functions ensure, from what crate storing has put: constants, signals, operators, and X many times over.
+-- What the writing functions ensure, from what crate storing has put: constants, signals, operators, and a next many times over.
 use Prim.Native.Nat.{ℕ, zero, suc, _+_, _-_, _<_, _≤_}
 use mathlib.Core.Bool.{Bool, true, false}
-use mathlib.Core.Path.{_≡_, refl, subst}
+use mathlib.Core.Path.{_≡_, subst}
 use mathlib.Core.List.{List, [], _∷_}
 use lib.ListN.{length}
 use native.Mathlib.Omega.{arith}
 use Rattle.node.specs.Limits.{maxNodes, fieldLimit}
-use Rattle.node.specs.Ltl.{X, Formula, True, False, Signal}
+use Rattle.node.specs.Ltl.{Unary, Formula, True, False, Signal}
 use Rattle.node.specs.Fields.{pack}
-use Rattle.node.specs.Kinds.{unaryKind}
 use Rattle.node.specs.Postorder.{size, SignalsBelow}
 use Rattle.node.specs.PostorderLaws.{size-pos}
 use Rattle.storing.specs.Storing as Storing
-use Rattle.writing.specs.Writing.{Puts, Wrote, Caps, Joins, Nexts, truth, nexts}
+use Rattle.writing.specs.Writing.{Puts, Wrote, Caps, Joins, Nexts, truth, repeats}
 use Rattle.writing.specs.WritingLaws.{put-whole, past, wrote-one, wrote-two, wrote-none, past-one, past-two}
 
 -- a formula that crate storing has written into a table of 8,192
@@ -52,19 +51,19 @@ joins {op} {m} {n} {r} {out} {out′} l p = record {
 pub joins-none : {op m n r : ℕ} {out out′ : List ℕ} → (0 < m → m ≤ n → maxNodes ≤ n) → maxNodes < r → Joins op out out′ m n r
 joins-none g h = record { wrote = λ o k v u. wrote-none (past-two o v u g) h }
 
-pub size-nexts : (n : ℕ) (a : Formula) → size (nexts n a) ≡ size a + n
+pub size-repeats : (x : Unary) (n : ℕ) (a : Formula) → size (repeats x n a) ≡ size a + n
 unfolding size
-size-nexts zero a = omega arith
-size-nexts (suc n) a = omega (arith, size-nexts n a)
+size-repeats x zero a = omega arith
+size-repeats x (suc n) a = omega (arith, size-repeats x n a)
 
-pub nexts-start : {out : List ℕ} {m : ℕ} → Nexts 0 out out m m
-nexts-start at = record { wrote = λ w. w }
+pub nexts-start : {next : ℕ} {out : List ℕ} {m : ℕ} → Nexts next 0 out out m m
+nexts-start x k at = record { wrote = λ w. w }
 
-pub nexts-more : (i : ℕ) {out between out′ : List ℕ} {m r r′ : ℕ} → Nexts i out between m r → Caps (unaryKind X) between out′ r r′ → Nexts (suc i) out out′ m r′
-nexts-more i v u at = record { wrote = λ w. u X refl at .wrote (v at .wrote w) }
+pub nexts-more : (i : ℕ) {next : ℕ} {out between out′ : List ℕ} {m r r′ : ℕ} → Nexts next i out between m r → Caps next between out′ r r′ → Nexts next (suc i) out out′ m r′
+nexts-more i v u x k at = record { wrote = λ w. u x k at .wrote (v x k at .wrote w) }
 
--- X after X that do not fit
-pub nexts-none : (i n : ℕ) {out between out′ : List ℕ} {m r r′ : ℕ} → Nexts i out between m r → i ≤ n → maxNodes < r → maxNodes < r′ → Nexts n out out′ m r′
-nexts-none i n v l h g at = record {
-  wrote = λ {a} w. let e = size-nexts i a in let f = size-nexts n a in wrote-none (omega (arith, past (v at .wrote w) h)) g;
+-- one after the other that do not fit
+pub nexts-none : (i n : ℕ) {next : ℕ} {out between out′ : List ℕ} {m r r′ : ℕ} → Nexts next i out between m r → i ≤ n → maxNodes < r → maxNodes < r′ → Nexts next n out out′ m r′
+nexts-none i n v l h g x k at = record {
+  wrote = λ {a} w. let e = size-repeats x i a in let f = size-repeats x n a in wrote-none (omega (arith, past (v x k at .wrote w) h)) g;
 }

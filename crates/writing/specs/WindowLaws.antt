@@ -1,4 +1,4 @@
--- A chain is linked from the inside out: each X and operator goes over the chain so far and the copy before it.
+-- A chain is linked from the inside out: each next and operator goes over the chain so far and the copy before it.
 use Prim.Native.Nat.{ℕ, zero, suc, _+_, _-_, _*_, _<_, _≤_}
 use mathlib.Core.Path.{_≡_, refl, ap, ap₂, _∙_, sym, subst}
 use mathlib.Core.List.{List}
@@ -8,13 +8,12 @@ use native.Mathlib.Nat.{suc-mul, mul-le-mul-right}
 use native.Mathlib.Decide.{decLt}
 use native.Mathlib.Omega.{arith}
 use Rattle.node.specs.Limits.{maxNodes, fieldLimit}
-use Rattle.node.specs.Ltl.{X, Binary, Formula, One, Two}
-use Rattle.node.specs.Kinds.{unaryKind}
+use Rattle.node.specs.Ltl.{Unary, Binary, Formula, One, Two}
 use Rattle.node.specs.Postorder.{size, nodesFrom, SignalsBelow}
 use Rattle.node.specs.PostorderLaws.{size-pos, length-nodes}
 use Rattle.writing.specs.Parts.{moves, Stands}
 use Rattle.writing.specs.PartLaws.{fitting, stands, stands-below, copied, length-moves}
-use Rattle.writing.specs.Writing.{Puts, Wrote, Caps, Joins, chain}
+use Rattle.writing.specs.Writing.{Puts, Wrote, Caps, Joins, chainBy}
 use Rattle.writing.specs.WritingLaws.{ends, past, wrote-none}
 use Rattle.writing.specs.Windows.{place, layers, Layered, Linked, Windowed}
 
@@ -45,10 +44,10 @@ place-from from width zero = omega arith
 place-from from width (suc n) = let e = place-from from width n in omega arith
 
 -- a chain has all its copies
-pub chain-long : (o : Binary) (from n : ℕ) (a : Formula) → place from (size a) (suc n) ≤ from + size (chain o n a)
+pub chain-long : (x : Unary) (o : Binary) (from n : ℕ) (a : Formula) → place from (size a) (suc n) ≤ from + size (chainBy x o n a)
 unfolding place size
-chain-long o from zero a = omega arith
-chain-long o from (suc n) a = let e = chain-long o from n a in omega arith
+chain-long x o from zero a = omega arith
+chain-long x o from (suc n) a = let e = chain-long x o from n a in omega arith
 
 -- a formula that is stored is written
 wrote-sets : (a : Formula) (out : List ℕ) (at : ℕ) → SignalsBelow fieldLimit a → Wrote a out (sets out at (nodesFrom at a)) at (at + size a)
@@ -93,52 +92,54 @@ layered-more n from width {out} {between} {out′} {at} {r} y e h p =
     )
 
 -- the last copy is a chain of none further
-pub linked-none : (op n from width : ℕ) {out : List ℕ} {m : ℕ} → m ≡ place from width (suc n) → Linked op n n from width out out m
-linked-none op n from width {out} {m} e = record {
-  wrote = λ o k a before s g t.
+pub linked-none : (op next n from width : ℕ) {out : List ℕ} {m : ℕ} → m ≡ place from width (suc n) → Linked op next n n from width out out m
+linked-none op next n from width {out} {m} e = record {
+  wrote = λ o k x q a before s g t.
       let z : n - n ≡ 0 = omega arith in
       rw (z, t, e, sym s) (wrote-layer a from n before g);
 }
 
--- X and the operator over the chain so far and the copy before it
-pub linked-more : (op n i j from width : ℕ) {out between middle out′ : List ℕ} {first r x r′ : ℕ} → j ≡ suc i → j ≤ n → first ≡ place from width j → Linked op n j from width out between r
-    → Caps (unaryKind X) between middle r x → Joins op middle out′ first x r′ → Linked op n i from width out out′ r′
-linked-more op n i j from width {out} {between} {middle} {out′} {first} {r} {x} {r′} f l e y u v = record {
-  wrote = λ o k a before s g t.
+-- the next and the operator over the chain so far and the copy before it
+pub linked-more : (op next n i j from width : ℕ) {out between middle out′ : List ℕ} {first r later r′ : ℕ} → j ≡ suc i → j ≤ n → first ≡ place from width j
+    → Linked op next n j from width out between r → Caps next between middle r later → Joins op middle out′ first later r′ → Linked op next n i from width out out′ r′
+linked-more op next n i j from width {out} {between} {middle} {out′} {first} {r} {later} {r′} f l e y u v = record {
+  wrote = λ o k x q a before s g t.
       let d : n - i ≡ suc (n - j) = omega arith in
-      let c : Wrote (One X (chain o (n - j) a)) (layers a from j before) middle (place from width j) x = u X refl (place from width j) .wrote (y .wrote o k a before s g t) in
+      let c : Wrote (One x (chainBy x o (n - j) a)) (layers a from j before) middle (place from width j) later = u x q (place from width j) .wrote (y .wrote o k x q a before s g t) in
       let w : Wrote a (layers a from i before) (layers a from j before) (place from width i) (place from width j) =
       subst (λ (z : ℕ). Wrote a (layers a from i before) (layers a from z before) (place from width i) (place from width z)) (sym f)
       (subst (λ (z : ℕ). Wrote a (layers a from i before) (layers a from (suc i) before) (place from z i) (place from z (suc i))) s (wrote-layer a from i before g)) in
-      let b : Wrote (Two o a (One X (chain o (n - j) a))) (layers a from i before) out′ (place from width i) r′ = subst (λ (z : ℕ). Joins op middle out′ z x r′) e v .wrote o k w c in
-      subst (λ (z : ℕ). Wrote (chain o z a) (layers a from i before) out′ (place from width i) r′) (sym d) b;
+      let b : Wrote (Two o a (One x (chainBy x o (n - j) a))) (layers a from i before) out′ (place from width i) r′ =
+      subst (λ (z : ℕ). Joins op middle out′ z later r′) e v .wrote o k w c in
+      subst (λ (z : ℕ). Wrote (chainBy x o z a) (layers a from i before) out′ (place from width i) r′) (sym d) b;
 }
 
 -- the whole
-pub windowed : (op n from m width : ℕ) {out between out′ : List ℕ} {r : ℕ} → m ≡ from + width → m ≤ maxNodes → Layered n from width out between → Linked op n 0 from width between out′ r
-    → Windowed op n out out′ from m r
+pub windowed : (op next n from m width : ℕ) {out between out′ : List ℕ} {r : ℕ} → m ≡ from + width → m ≤ maxNodes → Layered n from width out between
+    → Linked op next n 0 from width between out′ r → Windowed op next n out out′ from m r
 unfolding layers place
-windowed op n from m width {out} {between} {out′} {r} e h y v = record {
-  wrote = λ o k {a} {before} l w.
+windowed op next n from m width {out} {between} {out′} {r} e h y v = record {
+  wrote = λ o k x q {a} {before} l w.
       let w′ : Wrote a before out from (from + width) = rw e at w in
-      let s : size a ≡ width = let q = ends w h in omega arith in
+      let s : size a ≡ width = let z = ends w h in omega arith in
       let z : n - 0 ≡ n = omega arith in
-      subst (λ (j : ℕ). Wrote (chain o j a) before out′ from r) z (v .wrote o k a before s (w .signals h) (y .copies l w′));
+      subst (λ (j : ℕ). Wrote (chainBy x o j a) before out′ from r) z (v .wrote o k x q a before s (w .signals h) (y .copies l w′));
 }
 
 -- an operand that ends nowhere in the table, or copies that do not fit
-pub windowed-none : (op n from m : ℕ) {out out′ : List ℕ} {r : ℕ} → (from < m → m ≤ maxNodes → maxNodes < m + n * (m - from)) → maxNodes < r → Windowed op n out out′ from m r
-windowed-none op n from m {out} {out′} {r} g h = record { wrote = λ o k {a} {before} l w. wrote-none (go o w (decLt maxNodes m)) h }
+pub windowed-none : (op next n from m : ℕ) {out out′ : List ℕ} {r : ℕ} → (from < m → m ≤ maxNodes → maxNodes < m + n * (m - from)) → maxNodes < r
+    → Windowed op next n out out′ from m r
+windowed-none op next n from m {out} {out′} {r} g h = record { wrote = λ o k x q {a} {before} l w. wrote-none (go x o w (decLt maxNodes m)) h }
   where
-    go : (o : Binary) {a : Formula} {before : List ℕ} → Wrote a before out from m → Dec (maxNodes < m) → maxNodes < from + size (chain o n a)
-    go o {a} w (yes t) =
+    go : (x : Unary) (o : Binary) {a : Formula} {before : List ℕ} → Wrote a before out from m → Dec (maxNodes < m) → maxNodes < from + size (chainBy x o n a)
+    go x o {a} w (yes t) =
         let b = place-from from (size a) n in
-        let c = chain-long o from n a in
+        let c = chain-long x o from n a in
         omega (arith, past w t)
-    go o {a} w (no t) =
+    go x o {a} w (no t) =
         let e : m ≡ from + size a = ends w (omega arith) in
         let s = size-pos a in
-        let c = chain-long o from n a in
+        let c = chain-long x o from n a in
         let d = place-end from (size a) n in
         let f : m - from ≡ size a = omega arith in
         let b : maxNodes < m + n * size a = subst (λ (k : ℕ). maxNodes < m + n * k) f (g (omega arith) (omega arith)) in

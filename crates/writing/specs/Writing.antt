@@ -8,7 +8,7 @@ use Rattle.node.specs.Limits.{maxNodes, fieldLimit}
 use Rattle.node.specs.Ltl.{Unary, Binary, Formula, One, Two}
 use Rattle.node.specs.Kinds.{unaryKind, binaryKind}
 use Rattle.node.specs.Postorder.{nodesFrom, SignalsBelow}
-pub use Rattle.node.specs.Derived.{truth, nexts, chain}
+pub use Rattle.node.specs.Derived.{truth, repeats, nexts, chainBy, chain}
 
 -- the words vs from index `at` on, and r is the next index
 pub record Stored (vs out out′ : List ℕ) (at r : ℕ) : Type 0 where
@@ -38,6 +38,6 @@ pub record Joins (op : ℕ) (out out′ : List ℕ) (m n r : ℕ) : Type 0 where
   pub wrote : (o : Binary) → op ≡ binaryKind o → {a b : Formula} {before between : List ℕ} {at : ℕ}
       → Wrote a before between at m → Wrote b between out m n → Wrote (Two o a b) before out′ at r
 
--- n times X over what was written up to m
-abbrev pub Nexts : ℕ → List ℕ → List ℕ → ℕ → ℕ → Type 0
-Nexts n out out′ m r = (at : ℕ) → Becomes (nexts n) out out′ at m r
+-- n times the next numbered `next` over what was written up to m
+abbrev pub Nexts : ℕ → ℕ → List ℕ → List ℕ → ℕ → ℕ → Type 0
+Nexts next n out out′ m r = (x : Unary) → next ≡ unaryKind x → (at : ℕ) → Becomes (repeats x n) out out′ at m r

@@ -79,9 +79,10 @@ pub fn join(op: u32, m: usize, n: usize, out: &mut [u32; MAX_NODES]) -> usize
     storing::join(op, m, n, out)
 }
 
-// n times X over the node before m.
-pub fn nexts(n: usize, m: usize, out: &mut [u32; MAX_NODES]) -> usize
-    ensures { λ r. ⌜ Nexts n (now (out .entry)) (now (out .exit)) m r ⌝ }
+// n times a next over the node before m. Its number is one of sixteen, as above.
+pub fn nexts(next: u32, n: usize, m: usize, out: &mut [u32; MAX_NODES]) -> usize
+    requires { ⌜ next < kindLimit ⌝ }
+    ensures { λ r. ⌜ Nexts next n (now (out .entry)) (now (out .exit)) m r ⌝ }
 {
     let mut r = m;
     let mut i = 0;
@@ -89,7 +90,7 @@ pub fn nexts(n: usize, m: usize, out: &mut [u32; MAX_NODES]) -> usize
         if MAX_NODES < r {
             return TOO_MANY;
         }
-        r = cap(Node::NEXT, r, out);
+        r = cap(next, r, out);
         i += 1;
     }
     r

@@ -1,10 +1,9 @@
-// `a || X(a || ..)`: the operand's nodes several times one after another, then X and the operator alternately, from the inside out.
+// `a || X(a || ..)`: the operand's nodes several times one after another, then the next and the operator alternately, from the inside out.
 use crate::TOO_MANY;
 use crate::cap;
 use crate::copies::copy;
 use crate::join;
 use node::MAX_NODES;
-use node::Node;
 ghost use mathlib.Core.Path.{_≡_};
 ghost use Prim.Native.Nat.{suc, _<_, _≤_};
 ghost use Rattle.node.specs.Limits.{maxNodes, kindLimit};
@@ -23,27 +22,42 @@ fn layer(n: usize, from: usize, size: usize, out: &mut [u32; MAX_NODES])
     }
 }
 
-// X and the operator over the last of n + 1 copies and those before it; the copies end at m. They lie in the table, and the operator is one of sixteen.
-fn link(op: u32, n: usize, from: usize, size: usize, m: usize, out: &mut [u32; MAX_NODES]) -> usize
-    requires { ⌜ (op < kindLimit) × ((m ≡ place from size (suc n)) × (m ≤ maxNodes)) ⌝ }
-    ensures { λ r. ⌜ Linked op n 0 from size (now (out .entry)) (now (out .exit)) r ⌝ }
+// The next and the operator over the last of n + 1 copies and those before it; the copies end at m. They lie in the table, and the two operators are of sixteen.
+fn link(
+    op: u32,
+    next: u32,
+    n: usize,
+    from: usize,
+    size: usize,
+    m: usize,
+    out: &mut [u32; MAX_NODES],
+) -> usize
+    requires { ⌜ ((op < kindLimit) × (next < kindLimit)) × ((m ≡ place from size (suc n)) × (m ≤ maxNodes)) ⌝ }
+    ensures { λ r. ⌜ Linked op next n 0 from size (now (out .entry)) (now (out .exit)) r ⌝ }
 {
     let mut r = m;
     let mut first = m - size;
     let mut j = n;
     while 0 < j {
-        let next = cap(Node::NEXT, r, out);
-        r = join(op, first, next, out);
+        let later = cap(next, r, out);
+        r = join(op, first, later, out);
         first -= size;
         j -= 1;
     }
     r
 }
 
-// The nodes [from, m) are an operand: with n further copies of it they become a chain of the operator. Its number is one of sixteen: the kind's field holds no more.
-pub fn window(op: u32, n: usize, from: usize, m: usize, out: &mut [u32; MAX_NODES]) -> usize
-    requires { ⌜ op < kindLimit ⌝ }
-    ensures { λ r. ⌜ Windowed op n (now (out .entry)) (now (out .exit)) from m r ⌝ }
+// The nodes [from, m) are an operand: with n further copies of it they become a chain of the operator, each copy under a next more. Their numbers are of sixteen: the kind's field holds no more.
+pub fn window(
+    op: u32,
+    next: u32,
+    n: usize,
+    from: usize,
+    m: usize,
+    out: &mut [u32; MAX_NODES],
+) -> usize
+    requires { ⌜ (op < kindLimit) × (next < kindLimit) ⌝ }
+    ensures { λ r. ⌜ Windowed op next n (now (out .entry)) (now (out .exit)) from m r ⌝ }
 {
     if m <= from {
         return TOO_MANY;
@@ -59,5 +73,5 @@ pub fn window(op: u32, n: usize, from: usize, m: usize, out: &mut [u32; MAX_NODE
         return TOO_MANY;
     }
     layer(n, from, size, out);
-    link(op, n, from, size, m + n * size, out)
+    link(op, next, n, from, size, m + n * size, out)
 }

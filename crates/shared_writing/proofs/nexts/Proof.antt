@@ -1,4 +1,4 @@
--- `nexts` meets its contract. The loop's invariant: i times X has been written, up to r.
+-- `nexts` meets its contract. The loop's invariant: the next has been written i times, up to r.
 use Prim.Native.Nat.{_-_, _≤_}
 use mathlib.Core.Path.{_≡_, sym}
 use native.Mathlib.Numerals.{add-one}
@@ -10,10 +10,10 @@ use Rattle.shared_writing.proofs.nexts.Statement.{statement}
 use Rattle.shared_writing.proofs.nexts.Tie as tie
 
 abbrev Inv-loop : tie.InvT-loop
-Inv-loop n m out₀ r₀ i₀ out r i = (i ≤ n) × Nexts i out₀ out m r
+Inv-loop next n m out₀ r₀ i₀ out r i = (i ≤ n) × Nexts next i out₀ out m r
 
 abbrev μ-loop : tie.MeasureT-loop
-μ-loop n m out₀ r₀ i₀ out r i = n - i
+μ-loop next n m out₀ r₀ i₀ out r i = n - i
 
 loop-holds : tie.Need-loop-holds Inv-loop μ-loop
 loop-holds c = (omega arith, nexts-start)
@@ -27,7 +27,7 @@ returns c =
 cap-requires : tie.Need-cap-requires Inv-loop μ-loop
 cap-requires c κs =
     let at-loop = c .before .before .before in
-    (omega arith, stays-shared (at-loop .loop .inv .1 0 .stays) (at-loop .before .pre))
+    (omega arith, stays-shared (at-loop .loop .inv .1 .stays) (at-loop .before .pre .1))
 
 add-i : tie.Need-add-i Inv-loop μ-loop
 add-i c = omega arith

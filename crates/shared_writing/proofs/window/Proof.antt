@@ -1,19 +1,18 @@
 -- `window` meets its contract. The loop's invariant: the chain with i further times the operand is written, up to r.
 use Prim.Native.Nat.{_-_, _≤_}
-use mathlib.Core.Path.{_≡_, refl}
+use mathlib.Core.Path.{_≡_}
 use native.Mathlib.Numerals.{add-one}
 use native.Mathlib.Omega.{arith}
-use Rattle.node.specs.Ltl.{X}
 use Rattle.shared_writing.specs.StayLaws.{stays-then, stays-shared}
 use Rattle.shared_writing.specs.WindowLaws.{Chains, chains-start, chains-more, chains-none, windowed}
 use Rattle.shared_writing.proofs.window.Statement.{statement}
 use Rattle.shared_writing.proofs.window.Tie as tie
 
 abbrev Inv-loop : tie.InvT-loop
-Inv-loop op n m out₀ r₀ i₀ out r i = (i ≤ n) × Chains op i out₀ out m r
+Inv-loop op next n m out₀ r₀ i₀ out r i = (i ≤ n) × Chains op next i out₀ out m r
 
 abbrev μ-loop : tie.MeasureT-loop
-μ-loop op n m out₀ r₀ i₀ out r i = n - i
+μ-loop op next n m out₀ r₀ i₀ out r i = n - i
 
 loop-holds : tie.Need-loop-holds Inv-loop μ-loop
 loop-holds c = (omega arith, chains-start)
@@ -33,7 +32,7 @@ join-requires : tie.Need-join-requires Inv-loop μ-loop
 join-requires c κs =
     let at-cap = c .before in
     let at-loop = at-cap .before .before .before .before in
-    (omega arith, stays-shared (stays-then (at-loop .loop .inv .1 .stays) (at-cap .cap .ensures X refl 0 .stays)) (at-loop .before .pre .1))
+    (omega arith, stays-shared (stays-then (at-loop .loop .inv .1 .stays) (at-cap .cap .ensures .stays)) (at-loop .before .pre .1))
 
 add-i : tie.Need-add-i Inv-loop μ-loop
 add-i c = omega arith

@@ -1,4 +1,4 @@
--- `nexts` meets its contract. The loop's invariant: i times X has been written, up to r.
+-- `nexts` meets its contract. The loop's invariant: the next has been written i times, up to r.
 use Prim.Native.Nat.{_-_, _≤_}
 use native.Mathlib.Numerals.{add-one}
 use native.Mathlib.Omega.{arith}
@@ -9,10 +9,10 @@ use Rattle.writing.proofs.nexts.Statement.{statement}
 use Rattle.writing.proofs.nexts.Tie as tie
 
 abbrev Inv-loop : tie.InvT-loop
-Inv-loop n m out₀ r₀ i₀ out r i = (i ≤ n) × Nexts i out₀ out m r
+Inv-loop next n m out₀ r₀ i₀ out r i = (i ≤ n) × Nexts next i out₀ out m r
 
 abbrev μ-loop : tie.MeasureT-loop
-μ-loop n m out₀ r₀ i₀ out r i = n - i
+μ-loop next n m out₀ r₀ i₀ out r i = n - i
 
 loop-holds : tie.Need-loop-holds Inv-loop μ-loop
 loop-holds c = (omega arith, nexts-start)

@@ -33,7 +33,7 @@ cast-n c =
     omega (arith, c .shared-slice-known5 .given (start .args .m .frames + valueField))
 
 nexts-requires : tie.Need-nexts-requires
-nexts-requires c κs = search needs
+nexts-requires c κs = omega arith
 
 popped-requires : tie.Need-popped-requires
 popped-requires c κs = search needs

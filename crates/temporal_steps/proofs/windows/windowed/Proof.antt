@@ -92,10 +92,10 @@ sub-window c =
     windowed-order (start .pre .1) (start .pre .0)
 
 window-requires : tie.Need-window-requires
-window-requires c κs = let l = binary-small (windowOperator (windowBy (c .before .before .prefix-at .result))) in let e = c .before .chaining .ensures in omega arith
+window-requires c κs = let l = binary-small (windowOperator (windowBy (c .before .before .prefix-at .result))) in let e = c .before .chaining .ensures in (omega arith, omega arith)
 
 nexts-requires : tie.Need-nexts-requires
-nexts-requires c κs = search needs
+nexts-requires c κs = omega arith
 
 popped-requires : tie.Need-popped-requires
 popped-requires c κs = search needs

@@ -8,10 +8,10 @@ use Rattle.writing.proofs.window.link.Statement.{statement}
 use Rattle.writing.proofs.window.link.Tie as tie
 
 abbrev Inv-loop : tie.InvT-loop
-Inv-loop op n from size m out₀ r₀ first₀ j₀ out r first j = (j ≤ n) × ((first ≡ place from size j) × Linked op n j from size out₀ out r)
+Inv-loop op next n from size m out₀ r₀ first₀ j₀ out r first j = (j ≤ n) × ((first ≡ place from size j) × Linked op next n j from size out₀ out r)
 
 abbrev μ-loop : tie.MeasureT-loop
-μ-loop op n from size m out₀ r₀ first₀ j₀ out r first j = j
+μ-loop op next n from size m out₀ r₀ first₀ j₀ out r first j = j
 
 sub-first : tie.Need-sub-first Inv-loop μ-loop
 sub-first c = let b = place-back (c .args .from) (c .args .size) (suc (c .args .n)) (omega arith) in omega arith
@@ -21,7 +21,7 @@ loop-holds c =
     let b = place-back (c .args .from) (c .args .size) (suc (c .args .n)) (omega arith) in
     let same : suc (c .args .n) - 1 ≡ c .args .n = omega arith in
     let p : place (c .args .from) (c .args .size) (suc (c .args .n)) ≡ place (c .args .from) (c .args .size) (c .args .n) + c .args .size = rw same at b in
-    (omega arith, (omega arith, linked-none (c .args .op) (c .args .n) (c .args .from) (c .args .size) (c .pre .1 .0)))
+    (omega arith, (omega arith, linked-none (c .args .op) (c .args .next) (c .args .n) (c .args .from) (c .args .size) (c .pre .1 .0)))
 
 cap-requires : tie.Need-cap-requires Inv-loop μ-loop
 cap-requires c κs = omega arith
@@ -50,7 +50,7 @@ loop-again c =
       omega arith,
       (
         omega arith,
-        linked-more (e .args .op) (e .args .n) (d .loop .j - 1) (d .loop .j) (e .args .from) (e .args .size) (omega arith) (d .loop .inv .0) (d .loop .inv .1 .0) (d .loop .inv .1 .1)
+        linked-more (e .args .op) (e .args .next) (e .args .n) (d .loop .j - 1) (d .loop .j) (e .args .from) (e .args .size) (omega arith) (d .loop .inv .0) (d .loop .inv .1 .0) (d .loop .inv .1 .1)
             (at-cap .cap .ensures) (c .join .ensures),
       ),
     )
