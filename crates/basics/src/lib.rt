@@ -1,4 +1,4 @@
-// Small helpers below all other crates: a number in a wider type, with what its own type says of it; the least of two, one of two; what an answer can tell; copying words.
+// Small helpers below all other crates: a number in a wider type, with what its own type says of it; the least and the largest of two, one of two; what an answer can tell; copying words.
 pub mod u16_u32;
 pub mod u16_usize;
 pub mod u32_u64;
@@ -8,7 +8,7 @@ pub mod u8_u64;
 pub mod u8_usize;
 
 ghost use mathlib.Core.Path.{_≡_};
-ghost use Prim.Native.Nat.{_≤_, min};
+ghost use Prim.Native.Nat.{_≤_, min, max};
 ghost use mathlib.Core.Bool.{cond};
 ghost use lib.ListN.{length};
 ghost use lib.Seq.{paste};
@@ -21,6 +21,19 @@ pub fn least(a: usize, b: usize) -> usize
     ensures { λ r. ⌜ r ≡ min a b ⌝ }
 {
     if a < b { a } else { b }
+}
+
+// The same of numbers of 32 bits, and the larger.
+pub fn smaller(a: u32, b: u32) -> u32
+    ensures { λ r. ⌜ r ≡ min a b ⌝ }
+{
+    if a < b { a } else { b }
+}
+
+pub fn larger(a: u32, b: u32) -> u32
+    ensures { λ r. ⌜ r ≡ max a b ⌝ }
+{
+    if a < b { b } else { a }
 }
 
 // One of two numbers: a function of its own, so that the compiled choice has no branch.

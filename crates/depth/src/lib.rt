@@ -1,5 +1,6 @@
 // Refusal 5 over the stored tree: 'tree too deep', at the outermost expression's first token. One pass, with a stack of the operands' levels and starts.
 // An inner stage: `too_deep` asks for a work buffer of full length, which the reader has tested (17), and for as many entries as the parser counted.
+use basics::larger;
 use entries::kinds;
 use language::limits;
 use lexer::fields::LENGTHS;
@@ -11,7 +12,7 @@ use traversal::less;
 use traversal::operand_count;
 use traversal::start_of;
 ghost use mathlib.Core.Path.{_≡_};
-ghost use Prim.Native.Nat.{_+_, _≤_, _<_, max};
+ghost use Prim.Native.Nat.{_+_, _≤_, _<_};
 ghost use lib.ListN.{length};
 ghost use lib.Seq.{slice};
 ghost use Rattle.language.specs.Limits.{maxTokens, workBytes};
@@ -26,12 +27,6 @@ pub struct Progress {
     pub before: u32,
     pub top: usize,
     pub found: Place,
-}
-
-fn larger(a: u32, b: u32) -> u32
-    ensures { λ r. ⌜ r ≡ max a b ⌝ }
-{
-    if a < b { b } else { a }
 }
 
 // The functions below are the pass's own: it has bounded what they ask for.

@@ -20,7 +20,7 @@ use Rattle.language.specs.Shifting.{adapted}
 use Rattle.language.specs.Reading.{NumberedFormula, delivered}
 use Rattle.language.specs.Laws.Values.SignalLaws.{signals-few}
 use Rattle.parser.specs.declared.Facts.{Facts}
-use Rattle.parser.specs.Outlines.{modelCode}
+use Rattle.language.specs.Models.{modelCode}
 use Rattle.ports.specs.declared.Signals.{Signals}
 use Rattle.ports.specs.declared.Signals.the-variants.{Listed, TooMany}
 use Rattle.assembly.specs.Gathered.{inTurn, Gathered, GatheredFrom, linesInTurn}
@@ -93,7 +93,7 @@ module _ {f : Facts} {s : Signals} {words table list : List ℕ} {count at : ℕ
     pub finish-shifted : {outputs : Bool} → (f .semantics ≡ f .target → ⊥) → outputs ≡ eqb (f .target) 1
         → HandsOver (asShifted outputs) (f .strict) words count table at (take n list) nodes signals nodes′ signals′ r → Finishes x d nodes signals nodes′ signals′ r
     finish-shifted {outputs} h e o =
-        let target : outputs ≡ eqb (modelCode (x .target)) 1 = e ∙ ap (λ (i : Facts). eqb (i .target) 1) (g .facts) in
+        let target : outputs ≡ eqb (modelCode (x .target)) (modelCode Moore) = e ∙ ap (λ (i : Facts). eqb (i .target) (modelCode Moore)) (g .facts) in
         finish-as (asShifted outputs) (λ l k. ap (λ (b : Bool). asShifted b l k) target ∙ unlike (x .semantics) (x .target) l k (subst (λ (i : Facts). i .semantics ≡ i .target → ⊥) (g .facts) h)) q o
 
 -- what the handing over asks for

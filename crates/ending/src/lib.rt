@@ -3,6 +3,7 @@
 use assembly::assemble;
 use assembly::implied::Ends;
 use basics::copy_words;
+use language::models;
 use node::Answer;
 use node::MAX_NODES;
 use node::MAX_SIGNALS;
@@ -18,9 +19,6 @@ ghost use Rattle.language.specs.Tree.{Spec};
 ghost use Rattle.language.specs.Declared.{Declarations};
 ghost use Rattle.ending.specs.Handing.{Assemblable, Delivers, asExpanded, asShifted, HandsOver};
 ghost use Rattle.ending.specs.Finishing.{Complete, SomeComplete, Finishes};
-
-// The model Moore in what INFO says (crate parser, specs/Outlines).
-const MOORE: u32 = 1;
 
 // 16 and 18, or a formula's nodes, which were written to a table up to m, and the signal list.
 fn deliver(
@@ -117,7 +115,7 @@ pub fn finish(
                 return hand_over(facts.strict, lines, ends, table, &list[..n], nodes, signals);
             }
             hand_over_shifted(
-                facts.target == MOORE,
+                facts.target == models::MOORE,
                 facts.strict,
                 lines,
                 ends,

@@ -4,6 +4,7 @@ pub mod Bytes
 pub mod Tokens
 pub mod Operators
 pub mod Tree
+pub mod Models
 pub mod Grammar
 pub mod Sections
 pub mod Places

@@ -17,6 +17,7 @@ use crate::pieces::pieces;
 use basic::Written;
 use basics::MAX_TOLD;
 use language::limits::MAX_NAME;
+use language::models;
 use node::MAX_SIGNALS;
 use node::refusals::SHORT_RESULT;
 use node::refusals::UNWRITABLE_NAME;
@@ -64,7 +65,7 @@ fn put_head(target: u32, out: &mut [u8]) -> usize
     requires { ⌜ length (headText (modelOf target)) ≤ length (now out) ⌝ }
     ensures { λ r. ⌜ Puts (headText (modelOf target)) (now (out .entry)) (now (out .exit)) 0 r ⌝ }
 {
-    if target == 0 {
+    if target == models::MEALY {
         return put_all(
             b"INFO { TITLE : \"converted\" DESCRIPTION : \"converted\" SEMANTICS : Mealy TARGET : Mealy } MAIN { INPUTS { ",
             out,

@@ -2,10 +2,11 @@
 use crate::entry::Name;
 use crate::entry::declares;
 use crate::entry::name_at;
+use basics::larger;
+use basics::smaller;
 use basics::u16_u32::wide;
 use entries::fields::kind_at;
-ghost use mathlib.Core.Path.{_≡_};
-ghost use Prim.Native.Nat.{_+_, _≤_, _<_, min, max};
+ghost use Prim.Native.Nat.{_+_, _≤_, _<_};
 ghost use lib.ListN.{length};
 ghost use Rattle.entries.specs.Kinds as Kind;
 ghost use Rattle.spellings.specs.Interned.{top};
@@ -17,18 +18,6 @@ ghost use Rattle.names.specs.Meeting.{Met};
 pub const NO_PLACE: u16 = 65535;
 
 pub const NOWHERE: u32 = NO_PLACE as u32;
-
-pub fn smaller(a: u32, b: u32) -> u32
-    ensures { λ r. ⌜ r ≡ min a b ⌝ }
-{
-    if a < b { a } else { b }
-}
-
-pub fn larger(a: u32, b: u32) -> u32
-    ensures { λ r. ⌜ r ≡ max a b ⌝ }
-{
-    if a < b { b } else { a }
-}
 
 // Entry k before those behind it, of which `place` is the first place where two names meet: the first place with it. It asks for what `declare` was given, and is
 // called by nobody else.

@@ -1,14 +1,14 @@
 // The walk over the entries: refusals 6 and 7, and what each name refers to. Two tables hold, for each spelling, the smallest place of a visible name and what the
 // spelling refers to; a stack holds, for each open name of a big operator, what the tables held before it.
 use crate::declare::NOWHERE;
-use crate::declare::larger;
-use crate::declare::smaller;
 use crate::entry::Name;
 use crate::entry::binds;
 use crate::entry::declares;
 use crate::entry::ends;
 use crate::entry::name_at;
 use crate::entry::uses;
+use basics::larger;
+use basics::smaller;
 use basics::u16_u32;
 use basics::u16_usize;
 use entries::fields::kind_at;

@@ -5,7 +5,8 @@ use mathlib.Core.Path.{_≡_}
 use lib.ListN.{length, drop}
 use Rattle.node.specs.Result.{Result, Done, Refused, _>>=_}
 use Rattle.language.specs.Limits.{maxTokens}
-use Rattle.language.specs.Tree.{Subsection, Model, Mealy, Moore, Spec}
+use Rattle.language.specs.Models.{modelCode}
+use Rattle.language.specs.Tree.{Subsection, Spec}
 use Rattle.language.specs.Grammar.{Tokens, Read, expect}
 use Rattle.language.specs.Sections.{subsectionsOf, specOf}
 use Rattle.entries.specs.Flat.{Entry, each, flatSubsection, outline}
@@ -21,10 +22,6 @@ use Rattle.parser.specs.declared.Outline.{Outline}
 use Rattle.parser.specs.declared.Outline.the-variants.{Accepted, Refused as NotAccepted}
 use Rattle.parser.specs.Parts.{Globals, globalsOf, flatGlobals}
 use Rattle.parser.specs.Information as Information
-
-abbrev pub modelCode : Model → ℕ
-modelCode Mealy = 0
-modelCode Moore = 1
 
 -- what INFO says, as the code hands it back
 abbrev pub toldOf : Information.Info → Facts

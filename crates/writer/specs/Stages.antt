@@ -23,7 +23,7 @@ use Rattle.language.specs.Parsing.{parsed}
 use Rattle.language.specs.Reading.{NumberedFormula, specExpansion, textExpansion, delivered, reading, workAfter}
 use Rattle.language.specs.Laws.Buffers.{accepted-expansion}
 use Rattle.language.specs.Laws.Meaning.Acceptance.{text-signals, list-limited}
-use Rattle.parser.specs.Outlines.{modelCode}
+use Rattle.language.specs.Models.{modelCode}
 use Rattle.parser.specs.declared.Facts.{Facts}
 use Rattle.claim.specs.ClaimLaws.{text-few, text-small}
 use Rattle.claim.specs.DeliveredLaws.{all-delivered, taken-room}

@@ -23,7 +23,8 @@ use Rattle.entries.specs.TokenReads.{next-number}
 use Rattle.parser.specs.declared.Facts.{Facts}
 use Rattle.parser.specs.declared.Informed.{Informed}
 use Rattle.parser.specs.Information.{pairOf, toSemantics, toTarget, closingOf, Info, informationOf}
-use Rattle.parser.specs.Outlines.{modelCode, toldOf, Informs}
+use Rattle.language.specs.Models.{modelCode}
+use Rattle.parser.specs.Outlines.{toldOf, Informs}
 use Rattle.parser.proofs.Laws.Rows.{Accepted, accepted, refusal}
 use Rattle.parser.proofs.Laws.Skims.{Skims, skim-then, skim-map}
 
