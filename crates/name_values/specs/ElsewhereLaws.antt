@@ -7,8 +7,8 @@ use Rattle.language.specs.Tree.{Expr, Identifier, Definition, Defined, Enumerat
 use Rattle.language.specs.Places.{TextLine, DefinitionLine, parameterLines, definitionLines, mainLines, allLines}
 use Rattle.language.specs.Names.{Names, visible, identifierNames, declares, declaresSignal, over}
 use Rattle.language.specs.Listed.{declaredName}
-use Rattle.language.specs.Laws.Basics.Lists.{All, all-more, all-left, all-right, all-append, all-both, all-swap}
-use Rattle.language.specs.Laws.Values.DistinctNames.{Apart, apart-sym, Distinct, distinct-right, Across, across, declaredNames}
+use Rattle.language.specs.Laws.Basics.Lists.{All, all-left, all-right, all-append, all-both}
+use Rattle.language.specs.Laws.Values.DistinctNames.{Apart, apart-sym, Distinct, distinct-right, Across, across, across-sym, declaredNames}
 use Rattle.names.specs.VisibleLaws.{of-signals, visible-apart}
 use Rattle.name_values.specs.Worlds.{Elsewhere}
 
@@ -68,9 +68,6 @@ signals-parameters (p ∷ ps) ls = signals-parameters ps ls
 signals-definitions : (ds : List Definition) (ls : List TextLine) → over declaresSignal (definitionLines ds ls) ≡ over declaresSignal ls
 signals-definitions [] ls = refl
 signals-definitions (d ∷ ds) ls = signals-definitions ds ls
-
-pub across-sym : (l m : Names) → Across l m → Across m l
-across-sym l m f = all-more (λ n h. all-more (λ k a. apart-sym k n a) l h) m (all-swap Apart l m f)
 
 -- no definition defines a name of MAIN, signals among them
 pub main-apart : (x : Spec) → Distinct (over declares (definitionLines (x .definitions) (mainLines (x .main)))) → Across (over declares (mainLines (x .main))) (ownNames (x .definitions))

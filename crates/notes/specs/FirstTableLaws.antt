@@ -16,13 +16,13 @@ use Rattle.language.specs.Declared.{Declared, Single, WaitingBus, Table, find, 
 use Rattle.language.specs.Laws.Basics.Lists.{All, all-any, all-more, all-left, all-right, all-both}
 use Rattle.language.specs.Laws.Basics.Tests.{pick, leave, same-refl}
 use Rattle.language.specs.Listed.{declaredName}
-use Rattle.language.specs.Laws.Values.DistinctNames.{Apart, Distinct, Across, apart-sym, across, distinct-left, distinct-right, declaredNames, signals-among, distinct-names, distinct-definitions, distinct-signals}
+use Rattle.language.specs.Laws.Values.DistinctNames.{Apart, Distinct, Across, apart-sym, across, distinct-left, distinct-right, declaredNames, signals-among, distinct-names, distinct-definitions, distinct-signals, across-sym}
 use Rattle.entries.specs.Kinds as Kind
 use Rattle.entries.specs.Flat.{Entry, each, flatParameter, flatIdentifier, flatDefinition, flatDeclaration, outline}
 use Rattle.names.specs.Roles.{declares}
 use Rattle.names.specs.Scan.{tokenOf}
 use Rattle.names.specs.Walkable.{entryOf}
-use Rattle.name_values.specs.ElsewhereLaws.{ownNames, by-identifier, by-declaration, behind-parameters, over-definitions, across-sym, main-apart}
+use Rattle.name_values.specs.ElsewhereLaws.{ownNames, by-identifier, by-declaration, behind-parameters, over-definitions, main-apart}
 use Rattle.name_values.specs.Entrywise.{Every, every-append, every-each, every-at}
 use Rattle.name_values.specs.ToldLaws.{Told, words-told, line-told, main-told}
 use Rattle.notes.specs.FirstTable.{firstTable}
