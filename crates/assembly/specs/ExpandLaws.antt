@@ -5,7 +5,7 @@ use Rattle.node.specs.Ltl.{Formula}
 use Rattle.node.specs.Result.{Result, Done, Refused, ◌>>=◌}
 use Rattle.node.specs.ResultLaws.{not_done}
 use Rattle.language.specs.Tree.{Part, Require, Assert, Spec}
-use Rattle.language.specs.Declared.{Port, Declarations}
+use Rattle.language.specs.DeclaredNames.{Port, Declarations}
 use Rattle.language.specs.Lines.{Line, leaves_unnamed, implied}
 use Rattle.language.specs.Expansion.{Context, Sections, gather, one_of, at_signals, define_all, expand_line, expand_section, section, whole, expand}
 use Rattle.writing.specs.Writing.{Wrote}

@@ -6,7 +6,7 @@ use Rattle.node.specs.Fields.{join}
 use Rattle.node.specs.Postorder.{size}
 use Rattle.node.specs.Result.{Result, Done, ◌>>=◌}
 use Rattle.language.specs.Tree.{Part, Guarantee, part_code, Spec}
-use Rattle.language.specs.Declared.{Declarations}
+use Rattle.language.specs.DeclaredNames.{Declarations}
 use Rattle.language.specs.Lines.{Line}
 use Rattle.language.specs.Expansion.{gather, at_signals, define_all, expand_section}
 use Rattle.writing.specs.Writing.{Wrote}

@@ -4,7 +4,7 @@ use Rattle.node.specs.Limits.{max_nodes}
 use Rattle.node.specs.Ltl.{Formula}
 use Rattle.language.specs.Limits.{work_bytes, max_tokens, max_names, max_signals}
 use Rattle.language.specs.Tree.{Part, part_code}
-use Rattle.language.specs.Declared.{Port}
+use Rattle.language.specs.DeclaredNames.{Port}
 use Rattle.language.specs.Numbering.{first_of}
 use Rattle.language.specs.Lines.{leaves_unnamed}
 use Rattle.language.specs.Expansion.{one_of}

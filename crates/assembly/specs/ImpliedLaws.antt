@@ -9,7 +9,7 @@ use Rattle.words.specs.Words.{word_at}
 use Rattle.language.specs.Limits.{max_tokens, max_signals}
 use Rattle.language.specs.Tokens.{tokens}
 use Rattle.language.specs.Tree.{Part, Identifier}
-use Rattle.language.specs.Declared.{Port}
+use Rattle.language.specs.DeclaredNames.{Port}
 use Rattle.language.specs.Words.{words_in}
 use Rattle.language.specs.Numbering.{first_of}
 use Rattle.language.specs.Lines.{leaves_unnamed}

@@ -1,6 +1,6 @@
 // The implied lines: 'A bus declared by an enumeration that leaves some word unnamed adds ..' (document 01, 'Expansion').
 ghost use Rattle.std.specs.Prelude.{List, ◌∷◌, []};
-ghost use Rattle.language.specs.Declared.{Port};
+ghost use Rattle.language.specs.DeclaredNames.{Port};
 ghost use Rattle.assembly.specs.Implied.{Bus, Buses, BusReady, Ready, AddsAll, implied_formulas};
 
 use crate::add_line;
@@ -11,7 +11,7 @@ use language::limits;
 use node::MAX_NODES;
 
 // Where the table's next node goes, and how many lines there are.
-#[derive(Drop)]
+#[derive(Clone, Copy)]
 pub struct Ends {
     pub at: usize,
     pub count: usize,
@@ -45,7 +45,7 @@ fn imply(
 
 // The ports by their positions in signal order: the numbers of their names, and the entries of their enumerations, no entry for a port that has none. By the number of
 // a name, that of its first signal.
-#[derive(Drop)]
+#[derive(Clone, Copy)]
 pub struct Ports {
     pub order: [u16; limits::MAX_NAMES],
     pub enumerations: [u16; limits::MAX_NAMES],
@@ -53,7 +53,7 @@ pub struct Ports {
 }
 
 // The ports at the positions [from, to), whose lines go to one part.
-#[derive(Drop)]
+#[derive(Clone, Copy)]
 pub struct Span {
     pub part: u32,
     pub from: usize,

@@ -1,6 +1,8 @@
 // One formula of the formulas of a text's lines (document 01, 'Expansion').
 // Its functions ask for lines whose nodes stand in the table one after the other and for names that are noted: `lines` and `ending`, which alone call them,
 // have written both.
+#![tactic(auto)]
+
 ghost use Rattle.std.specs.Prelude.{◌≡◌};
 ghost use Rattle.language.specs.Tree.{Part, part_code};
 ghost use Rattle.assembly.specs.Gathered.{SomeLined, SomeGathered, LineRoom, Adds};

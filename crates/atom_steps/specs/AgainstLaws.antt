@@ -12,7 +12,7 @@ use Rattle.language.specs.Limits.{max_names, max_tokens, max_signals}
 use Rattle.language.specs.Tokens.{Token}
 use Rattle.language.specs.Operators.{Comparison, Equal, Unequal, Less, AtMost, Greater, AtLeast}
 use Rattle.language.specs.Values.{Sized, misfit}
-use Rattle.language.specs.Declared.{Port}
+use Rattle.language.specs.DeclaredNames.{Port}
 use Rattle.language.specs.Expansion.{against, one_of, width_is}
 use Rattle.entries.specs.Kinds as Kind
 use Rattle.sets.specs.Operators.{comparison}

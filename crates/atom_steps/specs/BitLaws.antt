@@ -10,7 +10,7 @@ use Rattle.writing.specs.Writing.{Wrote}
 use Rattle.language.specs.Limits.{max_names}
 use Rattle.language.specs.Tokens.{Token}
 use Rattle.language.specs.Tree.{Expr, Index}
-use Rattle.language.specs.Declared.{Port}
+use Rattle.language.specs.DeclaredNames.{Port}
 use Rattle.language.specs.Values.{Value, Sized, number, bus, value}
 use Rattle.language.specs.Expansion.{Context, bit_at, signal_node, expansion}
 use Rattle.entries.specs.Kinds as Kind

@@ -6,7 +6,7 @@ use Rattle.node.specs.Ltl.{Formula}
 use Rattle.node.specs.Result.{Result, Refused, ◌>>=◌}
 use Rattle.node.specs.ResultLaws.{bind_at, bind_to, bind_refused}
 use Rattle.language.specs.Limits.{max_names}
-use Rattle.language.specs.Declared.{Port}
+use Rattle.language.specs.DeclaredNames.{Port}
 use Rattle.language.specs.Values.{Sized, misfit, bus}
 use Rattle.language.specs.Expansion.{Context, bit_at, signal_node}
 use Rattle.name_values.specs.World.{name_at}

@@ -5,7 +5,7 @@ use Rattle.language.specs.Limits.{max_names}
 use Rattle.language.specs.Tokens.{Token}
 use Rattle.language.specs.Operators.{Comparison}
 use Rattle.language.specs.Values.{Value}
-use Rattle.language.specs.Declared.{BusOf, Identifies}
+use Rattle.language.specs.DeclaredNames.{BusOf, Identifies}
 use Rattle.language.specs.Expansion.{against}
 use Rattle.name_values.specs.World.{Stands, name_at, meaning_at}
 use Rattle.operators.specs.Codes.{comparison_code}

@@ -9,7 +9,7 @@ use Rattle.writing.specs.Writing.{Wrote}
 use Rattle.language.specs.Operators.{Comparison}
 use Rattle.language.specs.Tree.{Expr}
 use Rattle.language.specs.Values.{Value, number, bus, choice, value}
-use Rattle.language.specs.Declared.{Port}
+use Rattle.language.specs.DeclaredNames.{Port}
 use Rattle.language.specs.Expansion.{Context, truth, test, against, compared, expansion}
 use Rattle.entries.specs.Kinds as Kind
 use Rattle.sets.specs.Operators.{comparison}

@@ -4,7 +4,7 @@ use Rattle.std.proofs.Common.{sym, ◌∙◌, subst, arith}
 use Rattle.node.specs.Limits.{max_nodes}
 use Rattle.node.specs.Result.{Result}
 use Rattle.language.specs.Tokens.{Token, tokens}
-use Rattle.language.specs.Declared.{Identifies}
+use Rattle.language.specs.DeclaredNames.{Identifies}
 use Rattle.choices.specs.Entries.{words_end, Words}
 use Rattle.choices.specs.StoredWordsLaws.{identifier-words}
 use Rattle.name_values.specs.World.{Stands, meaning_at}

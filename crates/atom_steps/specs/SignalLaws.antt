@@ -8,7 +8,7 @@ use Rattle.node.specs.ResultLaws.{guard-pass, guard-stop}
 use Rattle.writing.specs.Writing.{Wrote}
 use Rattle.writing.specs.WritingLaws.{wrote_none}
 use Rattle.language.specs.Limits.{max_names}
-use Rattle.language.specs.Declared.{Port, BusOf}
+use Rattle.language.specs.DeclaredNames.{Port, BusOf}
 use Rattle.language.specs.Numbering.{first_of}
 use Rattle.language.specs.Values.{Sized}
 use Rattle.language.specs.Expansion.{bit_at, signal_node}

@@ -172,7 +172,7 @@ fn with_identifier(
 }
 
 // A bus, whose name stands at `place`, and an identifier.
-#[derive(Drop)]
+#[derive(Clone, Copy)]
 struct Facing {
     place: u32,
     bus: usize,

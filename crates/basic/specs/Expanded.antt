@@ -17,7 +17,7 @@ use Rattle.language.specs.Bytes.{same}
 use Rattle.language.specs.Tokens.{Name, Token}
 use Rattle.language.specs.Tree.{Expr, Definition, Declaration, Part, Require, Assert, Guarantee, Model, Mealy, Moore, Spec}
 use Rattle.language.specs.Places.{refuse_at}
-use Rattle.language.specs.Declared.{Single, Table, find, Port, Turns, turns, waiting, Declarations, declarations}
+use Rattle.language.specs.DeclaredNames.{Single, Table, find, Port, Turns, turns, waiting, Declarations, declarations}
 use Rattle.language.specs.Numbering.{in_order, signals_of, first_of, signal_list, too_many_signals}
 use Rattle.language.specs.Lines.{Line, Written, implied, lines}
 use Rattle.language.specs.Expansion.{gather, Context, expansion, signal_of, at_signals, define_all, expand_line, expand_section, section as sectionOf, whole, expand}

@@ -18,7 +18,7 @@ use Rattle.language.specs.Grammar.{Tokens}
 use Rattle.language.specs.Sections.{spec_of}
 use Rattle.language.specs.Places.{refuse_at, too_deep}
 use Rattle.language.specs.Parsing.{no_token, too_many_tokens, well_formed, parsed}
-use Rattle.language.specs.Declared.{Declarations}
+use Rattle.language.specs.DeclaredNames.{Declarations}
 use Rattle.language.specs.Numbering.{in_order, signal_list}
 use Rattle.language.specs.Numbered.{flag_of}
 use Rattle.language.specs.Reading.{NumberedFormula, spec_expansion, text_expansion}

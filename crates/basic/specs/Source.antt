@@ -10,7 +10,7 @@ use Rattle.language.specs.Bytes.{same}
 use Rattle.language.specs.Tokens.{Token}
 use Rattle.language.specs.Tree.{Definition, Declaration, OneSignal, OfWidth, OfType, Spec}
 use Rattle.language.specs.Parsing.{parsed}
-use Rattle.language.specs.Declared.{Port, inputs, outputs, Declarations, declarations}
+use Rattle.language.specs.DeclaredNames.{Port, inputs, outputs, Declarations, declarations}
 use Rattle.language.specs.Numbering.{signals_of, entries, signal_list}
 use Rattle.language.specs.Meaning.{Atom}
 use Rattle.language.specs.Numbered.{flag_of}

@@ -1,6 +1,8 @@
 // The basic format that the writer writes: see specs/.
 // What the writer answers: how many bytes the text has, or a refusal with its number and place.
-#[derive(Drop)]
+#![tactic(auto)]
+
+#[derive(Clone, Copy)]
 pub enum Written {
     Bytes(u32),
     Refused(u32, u32),

@@ -1,4 +1,6 @@
 // Reads a text on standard input and prints the basic text of its nodes (document 02, F-1), or `refused`, number, place.
+#![tactic(auto)]
+
 use basic::Written;
 use libc::{STDIN_FILENO, STDOUT_FILENO};
 use node::Answer;

@@ -1,4 +1,6 @@
 // Small helpers below all other crates: a number in a wider type, with what its own type says of it; the least and the largest of two, one of two; what an answer can tell; copying words.
+#![tactic(auto)]
+
 pub mod u16_u32;
 pub mod u16_usize;
 pub mod u32_u64;

@@ -1,4 +1,6 @@
 // Bits of bytes, most significant first (document 01, 'Recordings').
+#![tactic(auto)]
+
 ghost use Rattle.std.specs.Prelude.{◌≡◌, ◌*◌, ◌^◌, ◌<◌, length};
 ghost use Rattle.bits.specs.Bits.{bit_at, put_bit, with_bit, digit as digitOf};
 

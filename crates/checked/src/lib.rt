@@ -1,5 +1,7 @@
 // From a text's bytes to its checked tree: refusals 1 to 10, or the tree in the work buffer with what each of its names refers to.
 // `check` asks for a work buffer and tables of full length; `read` refuses a shorter buffer (17) and lends the tables.
+#![tactic(auto)]
+
 ghost use Rattle.std.specs.Prelude.{◌≡◌, ◌≤◌, length};
 ghost use Rattle.language.specs.Limits.{max_tokens, max_names, work_bytes};
 ghost use Rattle.language.specs.Tree.{Spec};
@@ -17,7 +19,7 @@ use traversal::Place;
 use types::wrong_type;
 
 // How many tokens, entries and declared names a text has.
-#[derive(Drop)]
+#[derive(Clone, Copy)]
 pub struct Counts {
     pub tokens: usize,
     pub entries: usize,
@@ -25,7 +27,7 @@ pub struct Counts {
 }
 
 // An accepted text's counts and what its INFO says, or a refusal's number and place.
-#[derive(Drop)]
+#[derive(Clone, Copy)]
 pub enum Checked {
     Accepted(Counts, Facts),
     Refused(u32, u32),

@@ -1,5 +1,7 @@
 // Runs the stages up to the checked tree on the texts that its arguments name: each row of refusals 1 to 10 and their order, each limit at and one beyond, and the
 // deepest texts. No stage calls itself: whatever the text, some 580 KB of stack are enough.
+#![tactic(auto)]
+
 use checked::Checked;
 use language::limits;
 use libc::STDOUT_FILENO;

@@ -6,7 +6,7 @@ use Rattle.std.proofs.Common.{append-nil, sym, ◌∙◌, add-one, arith, eq-eqb
 use Rattle.std.proofs.Math.Path.{ap, ap₂}
 use Rattle.std.proofs.Math.ListN.{length-map}
 use Rattle.node.specs.Ltl.{Not, Formula, Signal, One}
-use Rattle.language.specs.Declared.{Port}
+use Rattle.language.specs.DeclaredNames.{Port}
 use Rattle.language.specs.Numbering.{Mark, Absent, Present, Star, mark_of, first_of}
 use Rattle.language.specs.Expansion.{literals}
 use Rattle.language.specs.Laws.Basics.Tests.{pick, leave}

@@ -2,7 +2,7 @@
 use Rattle.std.specs.Prelude.{ℕ, Bool, true, false, List, map}
 use Rattle.node.specs.Operators.{Not}
 use Rattle.node.specs.Ltl.{Formula, Signal, One}
-use Rattle.language.specs.Declared.{Port}
+use Rattle.language.specs.DeclaredNames.{Port}
 use Rattle.language.specs.Numbering.{Mark, Absent, Present, Star, mark_of}
 use Rattle.language.specs.Expansion.{conjunction, literals}
 

@@ -3,7 +3,7 @@ use Rattle.std.specs.Prelude.{ℕ, ◌≤◌, Bool, List, ◌≡◌, length}
 use Rattle.node.specs.Limits.{max_nodes}
 use Rattle.language.specs.Limits.{work_bytes, max_tokens}
 use Rattle.language.specs.Tokens.{Token}
-use Rattle.language.specs.Declared.{Port}
+use Rattle.language.specs.DeclaredNames.{Port}
 use Rattle.language.specs.Numbering.{first_of}
 use Rattle.language.specs.Expansion.{one_of, width_is}
 use Rattle.language.specs.Lines.{leaves_unnamed}

@@ -7,7 +7,7 @@ use Rattle.node.specs.Limits.{max_nodes}
 use Rattle.language.specs.Limits.{max_words, max_marks}
 use Rattle.node.specs.Ltl.{Formula}
 use Rattle.language.specs.Tokens.{Token}
-use Rattle.language.specs.Declared.{Port, word_width}
+use Rattle.language.specs.DeclaredNames.{Port, word_width}
 use Rattle.language.specs.Numbering.{mark_of, marks_of, first_of, covered}
 use Rattle.language.specs.Expansion.{one_of, width_is, conjunction, disjunction}
 use Rattle.language.specs.Lines.{leaves_unnamed}

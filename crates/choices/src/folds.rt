@@ -5,7 +5,7 @@ use node::{MAX_NODES, Node};
 use writing::{constant, join};
 
 // Whether there was a formula yet, and where what is written ends.
-#[derive(Drop)]
+#[derive(Clone, Copy)]
 pub struct Fold {
     pub some: bool,
     pub end: usize,

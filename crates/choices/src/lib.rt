@@ -1,5 +1,7 @@
 // The words of enumerations, which stand behind their identifiers' entries: as nodes, by their width, and whether they leave a word unnamed.
 // The functions ask for the entry of an identifier or an enumeration of a stored tree: their callers come to it by a name's reference.
+#![tactic(auto)]
+
 ghost use Rattle.std.specs.Prelude.{◌≡◌, ◌≤◌, ◌<◌, length};
 ghost use Rattle.node.specs.Limits.{field_limit, max_nodes};
 ghost use Rattle.language.specs.Limits.{work_bytes, max_tokens, max_signals};

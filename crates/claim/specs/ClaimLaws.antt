@@ -1,7 +1,7 @@
 -- Demand 3 proved: of every text's bytes that are accepted, for the reader's nodes and for each form.
 use Rattle.std.specs.Prelude.{ℕ, ◌-◌, ◌≤◌, ◌≡◌, refl, List, ◌++◌, leb, length, take, drop}
 use Rattle.std.proofs.Common.{ap, ◌∙◌, sym, subst, take_at, le-leb, arith}
-use Rattle.std.proofs.Math.Logic.{Iff·trans, Iff·symm}
+use Rattle.std.proofs.Math.Logic.Iff as Equiv
 use Rattle.node.specs.Limits.{max_nodes, field_limit}
 use Rattle.node.specs.Ltl.{Formula}
 use Rattle.node.specs.Result.{Done, guard, Counts}
@@ -43,7 +43,7 @@ module _ (text : List ℕ) (c : NumberedFormula) (e : text_expansion text ≡ Do
       let bounded = form-signals number field_limit c.formula text-small in
       let root : tree_at (nodes_of f ++ rest) (count f - 1) ≡ f = root_of f rest bounded (omega arith) in
       record {
-        means = λ w t. rw (root, list) (Iff·trans (text-agrees text c e w t) (Iff·symm (form_holds number c.formula (numbered text c.signals w) t)));
+        means = λ w t. rw (root, list) (Equiv.trans (text-agrees text c e w t) (Equiv.symm (form_holds number c.formula (numbered text c.signals w) t)));
         clean = ap (forbidden number) nodes ∙ none_forbidden number c.formula bounded (omega arith);
         below = rw root (form-signals number (length c.signals) c.formula (text-signals text c e));
         words = λ u. rw list (record { word = unnumbered text c.signals u; same = numbered-back text c.signals (text-once text c e) u });

@@ -1,5 +1,7 @@
 // The converter: from a text to the nodes of a form. It reads into a table and a list of its own, so that a refusal of the reader or of the rewriter changes no
 // result buffer.
+#![tactic(auto)]
+
 ghost use Rattle.claim.specs.Converts.{Converts};
 ghost use Rattle.converter.specs.Room.{Lends};
 ghost use Rattle.converter.specs.WritingOut.{WritesOut};

@@ -1,4 +1,6 @@
 // Runs the reader and the converter on the texts that the second converter drew from a seed: a line for each. What it writes was written by the second converter.
+#![tactic(auto)]
+
 use stored_texts::Detail;
 
 fn main() {

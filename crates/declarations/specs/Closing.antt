@@ -6,7 +6,7 @@ use Rattle.node.specs.ResultLaws.{bind_to, bind_refused}
 use Rattle.language.specs.Limits.{max_names, max_signals}
 use Rattle.language.specs.Tokens.{Token, tokens}
 use Rattle.language.specs.Tree.{Spec}
-use Rattle.language.specs.Declared.{Table, Port, constants, Declarations, declarations}
+use Rattle.language.specs.DeclaredNames.{Table, Port, constants, Declarations, declarations}
 use Rattle.language.specs.Numbering.{in_order, first_of}
 use Rattle.language.specs.Laws.Basics.Lists.{All}
 use Rattle.language.specs.Laws.Basics.Results.{value_of}

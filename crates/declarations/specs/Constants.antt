@@ -5,7 +5,7 @@ use Rattle.language.specs.Limits.{max_names}
 use Rattle.language.specs.Tokens.{tokens}
 use Rattle.language.specs.Tree.{Spec}
 use Rattle.language.specs.Values.{Value}
-use Rattle.language.specs.Declared.{Table, constants}
+use Rattle.language.specs.DeclaredNames.{Table, constants}
 use Rattle.sets.specs.declared.Worked.{Worked}
 use Rattle.name_values.specs.Worked.{world_in}
 use Rattle.notes.specs.Notes.{Notes}

@@ -7,7 +7,7 @@ use Rattle.language.specs.Limits.{max_names, max_tokens}
 use Rattle.language.specs.Tokens.{tokens}
 use Rattle.language.specs.Tree.{Parameter, Spec}
 use Rattle.language.specs.Values.{Value, number, value}
-use Rattle.language.specs.Declared.{Constant, Table, declared, constants}
+use Rattle.language.specs.DeclaredNames.{Constant, Table, declared, constants}
 use Rattle.language.specs.Expansion.{context_of}
 use Rattle.names.specs.References.{number_in}
 use Rattle.names.specs.Resolved.{declared_names}

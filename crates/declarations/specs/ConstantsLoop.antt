@@ -3,7 +3,7 @@ use Rattle.std.specs.Prelude.{ℕ, ◌+◌, ◌-◌, ◌≤◌, ◌<◌, List, �
 use Rattle.std.proofs.Common.{sym, ap, ◌∙◌, subst, arith}
 use Rattle.language.specs.Limits.{max_names, max_tokens}
 use Rattle.language.specs.Tree.{Spec}
-use Rattle.language.specs.Declared.{Table}
+use Rattle.language.specs.DeclaredNames.{Table}
 use Rattle.sets.specs.declared.Worked.{Worked}
 use Rattle.name_values.specs.Sorts as Sort
 use Rattle.declarations.specs.Expressions.{Room, Workable, Numbered}

@@ -10,7 +10,7 @@ use Rattle.language.specs.Tokens.{Token, tokens}
 use Rattle.language.specs.Tree.{Identifier, Definition, Defined, Enumerated, OfType, Spec}
 use Rattle.language.specs.Names.{Names, visible}
 use Rattle.language.specs.Words.{words_in}
-use Rattle.language.specs.Declared.{words_of_type, word_width}
+use Rattle.language.specs.DeclaredNames.{words_of_type, word_width}
 use Rattle.language.specs.Laws.Basics.Tests.{split, pick, leave, and_right, same_equal}
 use Rattle.lexer.specs.Stored.{offset_in, length_in, longest}
 use Rattle.lexer.specs.LexingLaws.{offset_at, length_at}

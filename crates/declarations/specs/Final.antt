@@ -4,7 +4,7 @@ use Rattle.std.proofs.Common.{sym, ap, subst, arith, eqb-true}
 use Rattle.language.specs.Limits.{max_bytes, offset_bits}
 use Rattle.language.specs.Tokens.{Name, code, Token, is_of, tokens}
 use Rattle.language.specs.Tree.{Declaration, OneSignal, OfWidth, OfType, Spec}
-use Rattle.language.specs.Declared.{Table, inputs, outputs}
+use Rattle.language.specs.DeclaredNames.{Table, inputs, outputs}
 use Rattle.language.specs.Braces.{ProperDeclaration, ProperSubsection, ProperSpec}
 use Rattle.language.specs.Laws.Basics.Lists.{All, all_both}
 use Rattle.language.specs.Laws.Basics.Results.{value_of}

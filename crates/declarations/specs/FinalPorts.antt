@@ -8,7 +8,7 @@ use Rattle.language.specs.Limits.{max_names, max_width, max_signals, offset_bits
 use Rattle.language.specs.Tokens.{Name, Token, is_of, tokens}
 use Rattle.language.specs.Tree.{Definition, Declaration, OneSignal, OfWidth, OfType, Spec}
 use Rattle.language.specs.Names.{visible}
-use Rattle.language.specs.Declared.{Port, inputs, outputs, Declarations, declarations}
+use Rattle.language.specs.DeclaredNames.{Port, inputs, outputs, Declarations, declarations}
 use Rattle.language.specs.Numbering.{in_order, first_of}
 use Rattle.language.specs.Laws.Basics.Lists.{All, all_append, all_more}
 use Rattle.language.specs.Laws.Basics.Tests.{same_refl}

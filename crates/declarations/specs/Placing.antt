@@ -2,7 +2,7 @@
 use Rattle.std.specs.Prelude.{ℕ, ◌+◌, ◌≤◌, List, ◌≡◌, length}
 use Rattle.language.specs.Limits.{max_names}
 use Rattle.language.specs.Tree.{Spec}
-use Rattle.language.specs.Declared.{inputs, outputs}
+use Rattle.language.specs.DeclaredNames.{inputs, outputs}
 use Rattle.language.specs.Listed.{declared_name}
 use Rattle.notes.specs.Owned.{DeclarationAt}
 use Rattle.declarations.specs.Along.{Along}

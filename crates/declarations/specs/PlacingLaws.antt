@@ -6,7 +6,7 @@ use Rattle.language.specs.Limits.{max_names}
 use Rattle.language.specs.Tree.{Expr, Parameter, Declaration, OneSignal, OfWidth, OfType, Subsection, Inputs, Outputs, Lines, Spec}
 use Rattle.language.specs.Places.{TextLine, parameter_lines, definition_lines, declaration_lines, formula_lines, main_lines, all_lines}
 use Rattle.language.specs.Names.{Names, declares, over}
-use Rattle.language.specs.Declared.{inputs, outputs}
+use Rattle.language.specs.DeclaredNames.{inputs, outputs}
 use Rattle.language.specs.Listed.{declared_name}
 use Rattle.entries.specs.Headings.{no_heading}
 use Rattle.entries.specs.Flat.{outline}

@@ -8,7 +8,7 @@ use Rattle.language.specs.Tokens.{tokens}
 use Rattle.language.specs.Grammar.{Tokens}
 use Rattle.language.specs.Tree.{Spec}
 use Rattle.language.specs.Names.{visible}
-use Rattle.language.specs.Declared.{Port, Declarations, declarations}
+use Rattle.language.specs.DeclaredNames.{Port, Declarations, declarations}
 use Rattle.language.specs.Numbering.{in_order, first_of, signal_list, too_many_signals}
 use Rattle.language.specs.Lists.{All}
 use Rattle.language.specs.RegularWords.{RegularDefinition}

@@ -4,7 +4,7 @@ use Rattle.node.specs.Result.{Result, Done, Refused, ◌>>=◌}
 use Rattle.language.specs.Limits.{max_names}
 use Rattle.language.specs.Tokens.{tokens}
 use Rattle.language.specs.Tree.{Spec}
-use Rattle.language.specs.Declared.{Table, turns, inputs, outputs, Declarations}
+use Rattle.language.specs.DeclaredNames.{Table, turns, inputs, outputs, Declarations}
 use Rattle.language.specs.Lists.{All}
 use Rattle.language.specs.RegularWords.{RegularDefinition}
 use Rattle.sets.specs.declared.Worked.{Worked}

@@ -7,7 +7,7 @@ use Rattle.node.specs.Result.{Done, Refused, ◌>>=◌}
 use Rattle.node.specs.ResultLaws.{bind_to, bind_refused}
 use Rattle.language.specs.Limits.{max_names}
 use Rattle.language.specs.Tree.{Definition, Declaration, Spec}
-use Rattle.language.specs.Declared.{Table, Port, as_declared, Turns, turns, inputs, outputs}
+use Rattle.language.specs.DeclaredNames.{Table, Port, as_declared, Turns, turns, inputs, outputs}
 use Rattle.language.specs.Laws.Basics.Results.{done, bind, bind_any, value_of, Within}
 use Rattle.sets.specs.declared.Worked.{Worked}
 use Rattle.memory_notes.specs.ShortTableLaws.{short_turns}

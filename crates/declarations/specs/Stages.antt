@@ -5,7 +5,7 @@ use Rattle.language.specs.Limits.{max_names, max_tokens}
 use Rattle.language.specs.Tokens.{tokens}
 use Rattle.language.specs.Grammar.{Tokens}
 use Rattle.language.specs.Tree.{Spec}
-use Rattle.language.specs.Declared.{inputs, outputs}
+use Rattle.language.specs.DeclaredNames.{inputs, outputs}
 use Rattle.language.specs.Listed.{declared_name}
 use Rattle.entries.specs.Flat.{Entry, outline}
 use Rattle.entries.specs.Stored.{EntriesFrom}

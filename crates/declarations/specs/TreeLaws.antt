@@ -5,7 +5,7 @@ use Rattle.language.specs.Limits.{max_tokens, max_names}
 use Rattle.language.specs.Tokens.{Token, tokens}
 use Rattle.language.specs.Tree.{Expr, Definition, Spec}
 use Rattle.language.specs.Names.{visible}
-use Rattle.language.specs.Declared.{Table}
+use Rattle.language.specs.DeclaredNames.{Table}
 use Rattle.language.specs.Expansion.{context_of, define_all}
 use Rattle.entries.specs.Flat.{outline}
 use Rattle.names.specs.References.{number_in}

@@ -6,7 +6,7 @@ use Rattle.language.specs.Tokens.{Token}
 use Rattle.language.specs.Tree.{Parameter, Spec}
 use Rattle.language.specs.Places.{TextLine, parameter_lines, definition_lines, main_lines}
 use Rattle.language.specs.Names.{declares, over, declared_again}
-use Rattle.language.specs.Declared.{inputs, outputs}
+use Rattle.language.specs.DeclaredNames.{inputs, outputs}
 use Rattle.language.specs.Laws.Basics.Lists.{All, all_both, all_right, all_more}
 use Rattle.language.specs.Listed.{declared_name}
 use Rattle.language.specs.Laws.Values.DistinctNames.{signals-among, distinct_names, distinct_definitions}

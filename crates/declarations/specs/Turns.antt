@@ -4,7 +4,7 @@ use Rattle.node.specs.Result.{Result, Done, Refused}
 use Rattle.language.specs.Limits.{max_names, max_width}
 use Rattle.language.specs.Tokens.{tokens}
 use Rattle.language.specs.Tree.{Declaration, Spec}
-use Rattle.language.specs.Declared.{Table, Port, Turns, turns}
+use Rattle.language.specs.DeclaredNames.{Table, Port, Turns, turns}
 use Rattle.language.specs.Lists.{All}
 use Rattle.language.specs.Listed.{declared_name}
 use Rattle.language.specs.RegularWords.{RegularDefinition}

@@ -3,7 +3,7 @@ use Rattle.std.specs.Prelude.{ℕ, ◌+◌, ◌≤◌, ◌<◌, Bool, false, Lis
 use Rattle.std.proofs.Common.{sym, ap, ◌∙◌, subst, arith}
 use Rattle.language.specs.Limits.{max_names, max_tokens}
 use Rattle.language.specs.Tree.{Declaration, Spec}
-use Rattle.language.specs.Declared.{Table}
+use Rattle.language.specs.DeclaredNames.{Table}
 use Rattle.sets.specs.declared.Worked.{Worked}
 use Rattle.declarations.specs.Expressions.{Room}
 use Rattle.declarations.specs.Widths.{Sizing, Sizable, Sizes, sort_of}

@@ -5,7 +5,7 @@ use Rattle.language.specs.Limits.{max_width}
 use Rattle.language.specs.Tokens.{Token, tokens}
 use Rattle.language.specs.Grammar.{Tokens}
 use Rattle.language.specs.Tree.{Definition, Declaration, OneSignal, OfWidth, OfType, Spec}
-use Rattle.language.specs.Declared.{Table, Port, words_of_type, port_of}
+use Rattle.language.specs.DeclaredNames.{Table, Port, words_of_type, port_of}
 use Rattle.language.specs.Lists.{All}
 use Rattle.language.specs.Listed.{declared_name}
 use Rattle.language.specs.Laws.Values.RegularWords.{RegularDefinition}

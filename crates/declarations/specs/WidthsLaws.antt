@@ -10,7 +10,7 @@ use Rattle.language.specs.Tokens.{Token, tokens}
 use Rattle.language.specs.Grammar.{Tokens}
 use Rattle.language.specs.Tree.{Expr, Definition, Declaration, OneSignal, OfWidth, OfType, Spec}
 use Rattle.language.specs.Values.{number, value}
-use Rattle.language.specs.Declared.{Table, declared, defining, words_of_type, word_width, sized, port_of, as_declared}
+use Rattle.language.specs.DeclaredNames.{Table, declared, defining, words_of_type, word_width, sized, port_of, as_declared}
 use Rattle.language.specs.Expansion.{Context, context_of, define_all}
 use Rattle.language.specs.Listed.{declared_name}
 use Rattle.language.specs.Laws.Values.RegularWords.{regular_type}

@@ -1,7 +1,7 @@
 // Parameters, in order.
 ghost use Rattle.std.specs.Prelude.{List, ◌≡◌, ℕ, ◌-◌};
 ghost use Rattle.language.specs.Tree.{Spec};
-ghost use Rattle.language.specs.Declared.{Table};
+ghost use Rattle.language.specs.DeclaredNames.{Table};
 ghost use Rattle.declarations.specs.Expressions.{Lengths};
 ghost use Rattle.declarations.specs.Constants.{Parameters, ParametersGiven, ConstantsTold};
 
@@ -13,14 +13,14 @@ use node::MAX_NODES;
 use sets::Worked;
 
 // The entries that declare the parameters, in order.
-#[derive(Drop)]
+#[derive(Clone, Copy)]
 pub struct Chosen {
     pub places: [u16; limits::MAX_NAMES],
     pub count: usize,
 }
 
 // What is noted when they are worked out, or the first refusal.
-#[derive(Drop)]
+#[derive(Clone, Copy)]
 pub struct Settled {
     pub answer: Worked,
     pub names: Names,

@@ -3,7 +3,7 @@ ghost use Rattle.std.specs.Prelude.{List, ◌≡◌, ℕ, ◌<◌, ◌≤◌, �
 ghost use Rattle.words.specs.Words.{word_at};
 ghost use Rattle.language.specs.Limits.{work_bytes, max_tokens, max_names};
 ghost use Rattle.language.specs.Tokens.{Token, tokens};
-ghost use Rattle.language.specs.Declared.{word_width};
+ghost use Rattle.language.specs.DeclaredNames.{word_width};
 ghost use Rattle.lexer.specs.Stored.{longest};
 ghost use Rattle.entries.specs.Stored.{first_entry, index_of};
 ghost use Rattle.spellings.specs.Interned.{Lexed};

@@ -7,7 +7,7 @@ use node::MAX_NODES;
 use sets::Worked;
 
 // What is noted of the names (crate notes), by their numbers.
-#[derive(Drop)]
+#[derive(Clone, Copy)]
 pub struct Names {
     pub sorts: [u8; limits::MAX_NAMES],
     pub numbers: [u32; limits::MAX_NAMES],

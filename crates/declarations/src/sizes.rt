@@ -2,7 +2,7 @@
 ghost use Rattle.std.specs.Prelude.{List, ◌≡◌, ℕ, length};
 ghost use Rattle.language.specs.Limits.{max_names};
 ghost use Rattle.language.specs.Tree.{Spec};
-ghost use Rattle.language.specs.Declared.{Table};
+ghost use Rattle.language.specs.DeclaredNames.{Table};
 ghost use Rattle.declarations.specs.Expressions.{Lengths};
 ghost use Rattle.declarations.specs.Sizes.{Sizings, SizesGiven, SizesTold};
 

@@ -21,7 +21,7 @@ use notes::choose::choose;
 use notes::first::note_names;
 
 // How many ports there are, and how many of them are inputs; by port, the own entry, the number of the name, the enumeration's entry, the name's offset.
-#[derive(Drop)]
+#[derive(Clone, Copy)]
 pub struct Ports {
     pub ins: usize,
     pub count: usize,

@@ -2,7 +2,7 @@
 ghost use Rattle.std.specs.Prelude.{Bool, List, ◌≡◌, ℕ, length};
 ghost use Rattle.language.specs.Limits.{max_names};
 ghost use Rattle.language.specs.Tree.{Spec, Declaration};
-ghost use Rattle.language.specs.Declared.{Table};
+ghost use Rattle.language.specs.DeclaredNames.{Table};
 ghost use Rattle.declarations.specs.Expressions.{Lengths};
 ghost use Rattle.declarations.specs.Turns.{Declared, TurnsGiven, TurnsTold, Before};
 
@@ -14,7 +14,7 @@ use node::MAX_NODES;
 use sets::Worked;
 
 // The declarations of one heading, at the positions from `from` to `to`: by position, the own entry, the enumeration's, and the widths known so far.
-#[derive(Drop)]
+#[derive(Clone, Copy)]
 pub struct Heading {
     pub places: [u16; limits::MAX_NAMES],
     pub enumerations: [u16; limits::MAX_NAMES],
@@ -24,7 +24,7 @@ pub struct Heading {
 }
 
 // What is noted, and the widths by position, when they are sized, or the first refusal.
-#[derive(Drop)]
+#[derive(Clone, Copy)]
 pub struct Sized {
     pub answer: Worked,
     pub names: Names,

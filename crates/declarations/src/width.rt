@@ -1,7 +1,7 @@
 // The width of a signal or a bus.
 ghost use Rattle.std.specs.Prelude.{List, ◌≡◌, ℕ};
 ghost use Rattle.language.specs.Tree.{Spec, Declaration};
-ghost use Rattle.language.specs.Declared.{Table};
+ghost use Rattle.language.specs.DeclaredNames.{Table};
 ghost use Rattle.declarations.specs.Expressions.{LengthKept};
 ghost use Rattle.declarations.specs.Widths.{Sizing, Sizable, Sizes, IsSized, sort_of};
 
@@ -38,7 +38,7 @@ fn sized(n: u32, place: u32) -> Worked
 }
 
 // A port's own entry, and that of the enumeration that it is declared by.
-#[derive(Drop)]
+#[derive(Clone, Copy)]
 pub struct Place {
     pub own: usize,
     pub enumeration: usize,

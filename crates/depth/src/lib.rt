@@ -1,5 +1,7 @@
 // Refusal 5 over the stored tree: 'tree too deep', at the outermost expression's first token. One pass, with a stack of the operands' levels and starts.
 // An inner stage: `too_deep` asks for a work buffer of full length, which the reader has tested (17), and for as many entries as the parser counted.
+#![tactic(auto)]
+
 ghost use Rattle.std.specs.Prelude.{◌≡◌, ◌+◌, ◌≤◌, ◌<◌, length};
 ghost use Rattle.std.proofs.Math.Seq.{slice};
 ghost use Rattle.language.specs.Limits.{max_tokens, work_bytes};
@@ -16,7 +18,7 @@ use lexer::fields::{LENGTHS, OFFSETS};
 use traversal::{Place, cell_at, first_of, less, operand_count, start_of};
 
 // The kind of the entry before, how many operands are on the stack, and the first place found.
-#[derive(Drop)]
+#[derive(Clone, Copy)]
 pub struct Progress {
     pub before: u32,
     pub top: usize,

@@ -1,7 +1,7 @@
 -- `diagnose` by stages: the reader's answer into a table and a list of the largest size, then the diagnosis of the table.
 use Rattle.std.specs.Prelude.{ℕ, ◌≤◌, ◌≡◌, refl, Bool, true, false, List, leb, length, take}
 use Rattle.std.proofs.Common.{ap, ap₂, ◌∙◌, sym, subst, leb-true}
-use Rattle.std.proofs.Math.Logic.{Iff·trans, Iff·symm}
+use Rattle.std.proofs.Math.Logic.Iff as Equiv
 use Rattle.std.proofs.lemmas.List.{length-map}
 use Rattle.node.specs.Limits.{max_nodes}
 use Rattle.node.specs.LogicLaws.{so_same}
@@ -92,7 +92,7 @@ module _ (text : List ℕ) (c : NumberedFormula) (e : text_expansion text ≡ Do
           some = o.reads.header.some;
           right = λ i p b m.
               so_same _ _
-              (Iff·trans (h i p b m) (Iff·symm (row-right w.n w.l (letter_of recording w.k) o.reads.header.loop (tree_at (nodes_of c.formula) i) p m)));
+              (Equiv.trans (h i p b m) (Equiv.symm (row-right w.n w.l (letter_of recording w.k) o.reads.header.loop (tree_at (nodes_of c.formula) i) p m)));
           preset = ap (λ (k : LineCounts). k.preset) counted ∙ as_many Preset;
           assert = ap (λ (k : LineCounts). k.assert) counted ∙ as_many Assert;
           guarantee = ap (λ (k : LineCounts). k.guarantee) counted ∙ as_many Guarantee;

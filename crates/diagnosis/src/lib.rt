@@ -1,4 +1,6 @@
 // Which line of a text failed on a recording (document 02, F-7): the line is found from a table's root by operands, and the bits of its row tell where it is false.
+#![tactic(auto)]
+
 ghost use Rattle.std.specs.Prelude.{◌≡◌, ℕ, ◌≤◌, ◌<◌, length};
 ghost use Rattle.recordings.specs.Limits.{max_positions};
 ghost use Rattle.line_search.specs.Walking.{line_found};
@@ -17,7 +19,7 @@ use reader::read_told;
 use recordings::read_lasso;
 
 // The recording holds; a line of PRESET, ASSERT or GUARANTEE by its number; or a refusal with number and place.
-#[derive(Drop)]
+#[derive(Clone, Copy)]
 pub enum Diagnosis {
     Holds,
     Preset(u32),

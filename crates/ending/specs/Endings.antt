@@ -6,7 +6,7 @@ use Rattle.node.specs.Result.{Result, Done, ◌>>=◌, guard}
 use Rattle.node.specs.Written.{count}
 use Rattle.language.specs.Tree.{Spec}
 use Rattle.language.specs.Places.{refuse_at}
-use Rattle.language.specs.Declared.{Declarations}
+use Rattle.language.specs.DeclaredNames.{Declarations}
 use Rattle.language.specs.Numbering.{in_order, signal_list, too_many_signals}
 use Rattle.language.specs.Shifting.{adapted}
 use Rattle.language.specs.Reading.{NumberedFormula}

@@ -4,7 +4,7 @@ use Rattle.node.specs.Ltl.{Formula}
 use Rattle.node.specs.Result.{Done, ◌>>=◌}
 use Rattle.node.specs.declared.Answer.{Answer}
 use Rattle.language.specs.Tree.{Part, Spec}
-use Rattle.language.specs.Declared.{Declarations}
+use Rattle.language.specs.DeclaredNames.{Declarations}
 use Rattle.language.specs.Lines.{lines}
 use Rattle.language.specs.Expansion.{expand}
 use Rattle.language.specs.Reading.{delivered}

@@ -6,7 +6,7 @@ use Rattle.node.specs.Result.{Result, Done, Refused, ◌>>=◌}
 use Rattle.node.specs.ResultLaws.{not_done}
 use Rattle.node.specs.declared.Answer.{Answer}
 use Rattle.language.specs.Tree.{Part, Model, Mealy, Moore, Spec}
-use Rattle.language.specs.Declared.{Declarations}
+use Rattle.language.specs.DeclaredNames.{Declarations}
 use Rattle.language.specs.Numbering.{in_order, signal_list}
 use Rattle.language.specs.Lines.{lines}
 use Rattle.language.specs.Expansion.{Sections, gather, at_signals, define_all, expand_section, section, whole, expand}

@@ -1,9 +1,11 @@
 // The end of the reading: the conversion of a text that targets the other model, 15, 16, 18, and what is handed over.
 // `finish` asks for the lines of a text with their nodes in the table and for the signal list, which `read`, its only caller, has at hand.
+#![tactic(auto)]
+
 ghost use Rattle.std.specs.Prelude.{◌≤◌, length};
 ghost use Rattle.language.specs.Limits.{max_signals};
 ghost use Rattle.language.specs.Tree.{Spec};
-ghost use Rattle.language.specs.Declared.{Declarations};
+ghost use Rattle.language.specs.DeclaredNames.{Declarations};
 ghost use Rattle.ending.specs.Handing.{Assemblable, Delivers, as_expanded, as_shifted, HandsOver};
 ghost use Rattle.ending.specs.Finishing.{Complete, SomeComplete, Finishes};
 

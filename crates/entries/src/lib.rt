@@ -1,5 +1,7 @@
 // How a text's tree stands in the work buffer: the cursor by which the parser reads tokens and writes entries.
 // A cursor's methods ask that it stands on a token and that there is room for an entry: a token that was read pays for each entry.
+#![tactic(auto)]
+
 pub mod fields;
 pub mod headings;
 pub mod kinds;
@@ -15,7 +17,7 @@ use node::refusals;
 use words::{get, put};
 
 // The next token's index, how many entries are written; how many tokens there are, and the text's length.
-#[derive(Drop)]
+#[derive(Clone, Copy)]
 pub struct Cursor {
     pub at: usize,
     pub out: usize,
@@ -23,7 +25,7 @@ pub struct Cursor {
     pub end: usize,
 }
 
-#[derive(Drop)]
+#[derive(Clone, Copy)]
 pub enum Parse {
     Parsed(Cursor),
     Refused(u32, u32),

@@ -1,7 +1,7 @@
 -- The first bad word is the first of the three places that refusal 10 names.
 use Rattle.std.specs.Prelude.{ℕ, zero, suc, ◌-◌, ◌≤◌, ◌<◌, min, List, [], ◌∷◌, ◌++◌, map, Bool, true, false, ◌&&◌, ◌||◌, not, ◌≡◌, refl, eqb, leb, ltb, length, drop}
 use Rattle.std.proofs.lemmas.List.{map-append}
-use Rattle.std.proofs.lemmas.Bool.{false≢true, not_true}
+use Rattle.std.proofs.lemmas.Bool.{false≢true, not-true}
 use Rattle.std.proofs.Math.Option.{Option, none, some}
 use Rattle.std.proofs.Common.{sym, ap, ap₂, ◌∙◌, length-append, arith, ltb-true, ltb-false, ne_eqb, eq-eqb}
 use Rattle.language.specs.Limits.{max_words, max_marks}
@@ -148,7 +148,7 @@ module _ (n : ℕ) (us vs : List Word) (v : Word) where
   good_on g =
       let rest = and_right (eqb (length v.token.text) n && leb n max_marks) _ g in
       ap₂ first (ap (λ x. first x (first_in (wrong_length n) (tokens_of vs))) (ap (λ b. unless b v.token.at) (and_left (eqb (length v.token.text) n && leb n max_marks) _ g)))
-      (ap₂ first (room_for (and_left (ltb (length us) max_words) _ rest)) (clashes_on (not_true _ (and_right (ltb (length us) max_words) _ rest))))
+      (ap₂ first (room_for (and_left (ltb (length us) max_words) _ rest)) (clashes_on (not-true _ (and_right (ltb (length us) max_words) _ rest))))
 
   -- a bad one gives its own place, and later words no earlier one
   module _ (later : Later v.token.at vs) where

@@ -1,14 +1,14 @@
 -- One word of an enumeration: the pass tests it as the scan of the words in the text's order does.
 use Rattle.std.specs.Prelude.{ℕ, suc, min, Bool, ◌||◌, ◌≡◌, length}
 use mathlib.Core.List.{List, [], ◌∷◌, ◌++◌, map, map-append}
-use Rattle.std.proofs.Math.Bool.{true, false, ◌&&◌, not, and_false}
+use Rattle.std.proofs.Math.Bool.{true, false, ◌&&◌, not, and-false}
 use Rattle.std.proofs.lemmas.Bool.{false≢true}
 use Rattle.std.proofs.Math.Option.{Option, none, some}
 use Rattle.std.proofs.Math.Path.{refl, ap, ap₂}
 use Rattle.std.proofs.Common.{sym, ◌∙◌, subst, arith}
 use Rattle.std.proofs.Math.Dec.{eqb, leb, ltb}
 use Rattle.std.proofs.lemmas.List.{length-map}
-use borrow.Author.Tests.{eqb-true, eqb-false, eq-eqb, ne_eqb, leb-true, leb-false, le-leb, lt-leb, not_true}
+use borrow.Author.Tests.{eqb-true, eqb-false, eq-eqb, ne_eqb, leb-true, leb-false, le-leb, lt-leb, not-true}
 use Rattle.language.specs.Limits.{max_words, max_marks}
 use Rattle.language.specs.Places.{first}
 use Rattle.language.specs.Laws.Basics.Tests.{pick, leave, and_left, and_right}
@@ -28,8 +28,8 @@ kept_test l m = go (leb m max_marks) refl (eqb l m) refl
     go : (a : Bool) → leb m max_marks ≡ a → (b : Bool) → eqb l m ≡ b → (eqb (min longest l) (min longest m) && leb (min longest m) max_marks) ≡ (eqb l m && leb m max_marks)
     go false e b d =
         let h = leb-false m max_marks e in
-        ap (λ x. eqb (min longest l) (min longest m) && x) (lt-leb (min longest m) max_marks (omega arith)) ∙ and_false (eqb (min longest l) (min longest m)) ∙ sym
-        (ap (λ x. eqb l m && x) e ∙ and_false (eqb l m))
+        ap (λ x. eqb (min longest l) (min longest m) && x) (lt-leb (min longest m) max_marks (omega arith)) ∙ and-false (eqb (min longest l) (min longest m)) ∙ sym
+        (ap (λ x. eqb l m && x) e ∙ and-false (eqb l m))
     go true e true d =
         let h = leb-true m max_marks e in
         let k = eqb-true l m d in
@@ -69,7 +69,7 @@ module _ (text : List ℕ) (x m n : ℕ) (us : List Word) (v : Word) (s : State)
       let a = and_left (eqb (length_in x) n) _ l in
       let b = and_right (eqb (length_in x) n) _ l in
       pick (eqb (length_in x) n) _ _ a ∙ pick (leb n max_marks) _ _ b ∙ pick (ltb (length s.rows) max_words) _ _ (same_count ∙ and_left (ltb (length us) max_words) _ r)
-      ∙ leave (any_clash s.owner (bytes_at text (offset_in x) n) s.rows) _ _ (clash-here a b ∙ not_true _ (and_right (ltb (length us) max_words) _ r))
+      ∙ leave (any_clash s.owner (bytes_at text (offset_in x) n) s.rows) _ _ (clash-here a b ∙ not-true _ (and_right (ltb (length us) max_words) _ r))
       ∙ ap₂ (λ o w. opened s n (record { owner = o; marks = w })) ho (bytes-here a b)
 
   pub tested-bad : good m us v ≡ false → tested text x n s ≡ shut s v.token.at

@@ -1,6 +1,8 @@
 // Refusal 10 over the stored tree: 'words unequal, too long or many, or one valuation under two identifiers', at 'the later word'. One pass, with the words of one
 // enumeration in an array of rows.
 // `wrong_words` is an inner stage: the reader has tested the buffer's length, and the parser counted the entries.
+#![tactic(auto)]
+
 ghost use Rattle.std.specs.Prelude.{◌≡◌, ◌≤◌, ◌<◌, ◌^◌, length, get_or, take};
 ghost use Rattle.language.specs.Limits.{max_tokens, max_marks, work_bytes};
 ghost use Rattle.language.specs.Words.{meet};
@@ -23,7 +25,7 @@ pub const MARKS: usize = limits::MAX_MARKS as usize;
 const STAR: u8 = 42;
 
 // How many identifiers and words were read, how many marks the first word has, whether a bad word was met, and the first place found.
-#[derive(Drop)]
+#[derive(Clone, Copy)]
 pub struct Progress {
     pub owner: u32,
     pub count: usize,

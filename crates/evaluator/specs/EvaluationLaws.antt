@@ -3,7 +3,7 @@ use Rattle.std.specs.Prelude.{ℕ, ◌*◌, ◌-◌, ◌≤◌, ◌<◌, ◌≡�
 use Rattle.std.proofs.Math.Path.{sym, ap}
 use Rattle.std.proofs.Common.{ap₂, ◌∙◌, subst, add-zero, arith, leb-true, le-leb}
 use Rattle.std.proofs.Math.Bool.{So}
-use Rattle.std.proofs.Math.Logic.{Iff·trans, Iff·symm}
+use Rattle.std.proofs.Math.Logic.Iff as Equiv
 use Rattle.std.proofs.Math.ListN.{length}
 use Rattle.std.proofs.lemmas.Bool.{lt-leb}
 use Rattle.node.specs.LogicLaws.{so_same}
@@ -229,7 +229,7 @@ module _ (nodes : List ℕ) (signals : ℕ) (bs old new : List ℕ) {t : Answer}
       sym bit_is ∙ bit ∙ ap (λ x. bit_at new (8 * (width x.n * (length nodes - 1)))) lasso-is ∙ ap (bit_at new) (sym (add-zero _)) in
       let root = e.holds c q (length nodes - 1) 0 i o.reads.header.some in
       let row = row-right w.n w.l (letter_of bs w.k) o.reads.header.loop (tree_at nodes (length nodes - 1)) 0 o.reads.header.some in
-      let same : b ≡ node_row bs w nodes (length nodes - 1) 0 = here ∙ so_same _ _ (Iff·trans root (Iff·symm row)) in
+      let same : b ≡ node_row bs w nodes (length nodes - 1) 0 = here ∙ so_same _ _ (Equiv.trans root (Equiv.symm row)) in
       let answer : finds v ≡ verdict_of nodes signals bs (length old) =
       f ∙ ap Done same ∙ sym (ap (λ x. x >>= (λ counts. Done (node_row bs w nodes (length nodes - 1) 0))) r) in
       record { answer = answer; buffer = e.buffer; holds = λ d g. verdict_means nodes signals bs (length old) (sym answer ∙ g); rows = λ d g. e.holds c q }

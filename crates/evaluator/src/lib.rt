@@ -1,5 +1,7 @@
 // The evaluator: a row of bits for every node of a table over a recorded lasso word, and the verdict (document 01, 'Recordings').
 // The public entry points `evaluate` and `judge` ask nothing; the functions of `rows` and `recordings` ask for what `examine` has tested before any is called.
+#![tactic(auto)]
+
 ghost use Rattle.std.specs.Prelude.{◌≡◌, ◌≤◌, length};
 ghost use Rattle.node.specs.Answer.{says};
 ghost use Rattle.node.specs.Limits.{max_signals};
@@ -13,7 +15,7 @@ use recordings::{Lasso, MAX_SIGNALS, check_recording, read_lasso};
 use rows::{Op, copy_row, fill_row};
 
 // The root at position 0, or a refusal with number and place.
-#[derive(Drop)]
+#[derive(Clone, Copy)]
 pub enum Verdict {
     Holds,
     Fails,

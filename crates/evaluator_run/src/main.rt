@@ -1,4 +1,6 @@
 // Runs the evaluator on document 01's marked recordings, on each refusal and their order, and on a full table over a full recording.
+#![tactic(auto)]
+
 use node::Node;
 
 mod full;

@@ -4,7 +4,7 @@ use Prim.Native.String.{String}
 use native.Mathlib.Omega.{arith}
 use mathlib.Core.List.{List, [], ◌∷◌}
 use Rattle.std.proofs.Math.Bool.{true, false}
-use Rattle.std.proofs.lemmas.Bool.{false≢true, not_true}
+use Rattle.std.proofs.lemmas.Bool.{false≢true, not-true}
 use Rattle.std.proofs.Math.Option.{some}
 use Rattle.std.proofs.Math.Path.{◌≡◌, ap}
 use Rattle.std.proofs.Common.{sym, ◌∙◌}
@@ -38,9 +38,9 @@ module _ (max f : ℕ) (t : Token) (level : ℕ) (ts : Tokens) where
 
   role_sole : (o : Role) → takes_one o (next "[" ts) ≡ true → (role_of f reads t level o ts >>= λ (e, us). climbs max e us) ≡ (reads level ts >>= λ (e, us). climbs max (Prefixed t (sole_of o) e) us)
   role_sole (Plain p) h = sole (λ e. Prefixed t p e)
-  role_sole Counted h = ap (λ (r : Read Expr). r >>= λ (e, us). climbs max e us) (leave (next "[" ts) _ _ (not_true (next "[" ts) h)) ∙ sole _
-  role_sole (Windowed FinallyIn) h = ap (λ (r : Read Expr). r >>= λ (e, us). climbs max e us) (leave (next "[" ts) _ _ (not_true (next "[" ts) h)) ∙ sole _
-  role_sole (Windowed GloballyIn) h = ap (λ (r : Read Expr). r >>= λ (e, us). climbs max e us) (leave (next "[" ts) _ _ (not_true (next "[" ts) h)) ∙ sole _
+  role_sole Counted h = ap (λ (r : Read Expr). r >>= λ (e, us). climbs max e us) (leave (next "[" ts) _ _ (not-true (next "[" ts) h)) ∙ sole _
+  role_sole (Windowed FinallyIn) h = ap (λ (r : Read Expr). r >>= λ (e, us). climbs max e us) (leave (next "[" ts) _ _ (not-true (next "[" ts) h)) ∙ sole _
+  role_sole (Windowed GloballyIn) h = ap (λ (r : Read Expr). r >>= λ (e, us). climbs max e us) (leave (next "[" ts) _ _ (not-true (next "[" ts) h)) ∙ sole _
   role_sole (Folding o) h = absurd (false≢true h)
 
 -- an expression, a sign, then what K reads

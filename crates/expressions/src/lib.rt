@@ -1,5 +1,7 @@
 // Expressions: tokens to entries, by a stack of frames in the work buffer, so that no depth of a text is a depth of calls.
 // The functions ask for a cursor on stored tokens with room for the entries to come, as `parser` has it.
+#![tactic(auto)]
+
 mod classes;
 mod climb;
 mod close;

@@ -28,7 +28,7 @@ pub fn constants() -> [usize; 4]
 }
 
 // Where the parser stands, how many slots there are, and the level of the expression that is read; whether an operand of it is complete.
-#[derive(Drop)]
+#[derive(Clone, Copy)]
 pub struct Machine {
     pub c: Cursor,
     pub depth: usize,
@@ -36,7 +36,7 @@ pub struct Machine {
     pub complete: bool,
 }
 
-#[derive(Drop)]
+#[derive(Clone, Copy)]
 pub enum Turn {
     Next(Machine),
     Ended(Parse),

@@ -11,7 +11,7 @@ use Rattle.evaluator.specs.Evaluation.{evaluation, left, verdict_of}
 use Rattle.language.specs.Limits.{work_bytes}
 use Rattle.language.specs.Tree.{Part, Initially, Preset, Require, Assert, Assume, Guarantee, Spec}
 use Rattle.language.specs.Parsing.{parsed}
-use Rattle.language.specs.Declared.{Declarations, declarations}
+use Rattle.language.specs.DeclaredNames.{Declarations, declarations}
 use Rattle.language.specs.Numbering.{in_order, signal_list}
 use Rattle.language.specs.Lines.{lines}
 use Rattle.language.specs.Expansion.{gather, at_signals, define_all, expand_section, Sections, lines_of}

@@ -3,7 +3,7 @@ use Rattle.std.specs.Prelude.{ℕ, ◌<◌, ◌≡◌, Bool, List, [], ◌∷◌
 use Rattle.std.proofs.Common.{sym, ◌∙◌}
 use Rattle.std.proofs.Math.Path.{ap, subst}
 use Rattle.std.proofs.Math.Bool.{true, false, So, false≢true}
-use Rattle.std.proofs.Math.Logic.{Iff·rfl, Iff·trans, Iff·symm, Iff·and}
+use Rattle.std.proofs.Math.Logic.Iff as Equiv
 use Rattle.node.specs.Ltl.{Formula, True, False, Signal, One, Two, Word as NodeWord, Holds}
 use Rattle.node.specs.LtlLaws.{unary-same, binary-same}
 use Rattle.node.specs.Postorder.{SignalsBelow}
@@ -24,7 +24,7 @@ use Rattle.evaluator.specs.EvaluationLaws.{opens, verdict_means}
 use Rattle.language.specs.Limits.{work_bytes}
 use Rattle.language.specs.Tree.{Part, Initially, Preset, Require, Assert, Assume, Guarantee, Spec}
 use Rattle.language.specs.Parsing.{parsed}
-use Rattle.language.specs.Declared.{Declarations, declarations}
+use Rattle.language.specs.DeclaredNames.{Declarations, declarations}
 use Rattle.language.specs.Numbering.{in_order, signal_list}
 use Rattle.language.specs.Lines.{Line, lines}
 use Rattle.language.specs.Expansion.{Sections, lines_of, section, conjunction, whole}
@@ -50,9 +50,9 @@ use Rattle.faults.specs.WholeLaws.{adapted_rebuilds, rebuilt_conjunction, rebuil
 -- words that agree on the signals below n are one to a formula of these
 pub holds_below : (n : ℕ) (u v : NodeWord) → ((t k : ℕ) → k < n → u t k ≡ v t k) → (f : Formula) → SignalsBelow n f → Same (Holds f u) (Holds f v)
 unfolding Holds SignalsBelow
-holds_below n u v e True b t = Iff·rfl
-holds_below n u v e False b t = Iff·rfl
-holds_below n u v e (Signal k) b t = subst (λ (x : Bool). So (u t k) ↔ So x) (e t k b) Iff·rfl
+holds_below n u v e True b t = Equiv.rfl
+holds_below n u v e False b t = Equiv.rfl
+holds_below n u v e (Signal k) b t = subst (λ (x : Bool). So (u t k) ↔ So x) (e t k b) Equiv.rfl
 holds_below n u v e (One o a) b t = unary-same o (holds_below n u v e a b) t
 holds_below n u v e (Two o a c) b t = binary-same o (holds_below n u v e a b.0) (holds_below n u v e c b.1) t
 
@@ -133,7 +133,7 @@ module _ (text : List ℕ) (c : NumberedFormula) (e : text_expansion text ≡ Do
         let shifts = adapted-holds text x d a.parsing a.declaring g.word x.semantics x.target f t in
         let named = subst (λ (s : List ℕ). Same (Holds (adapt f) (numbered text s g.word)) (Holds (adapt f) (recorded bs))) a.listing
         (holds_below (length c.signals) (numbered text c.signals g.word) (recorded bs) g.same (adapt f) b) in
-        Iff·trans (h t) (Iff·trans shifts (Iff·trans (named t) (row-tells w.n w.l (letter_of bs w.k) inside (adapt f) t)))
+        Equiv.trans (h t) (Equiv.trans shifts (Equiv.trans (named t) (row-tells w.n w.l (letter_of bs w.k) inside (adapt f) t)))
 
     lines-right : (t : ℕ) (ls : List Line) (fs : List Formula) → Pairs Alike ls fs → All (SignalsBelow (length c.signals)) (map adapt fs)
         → Right M ls (line_rows bs (map adapt fs)) t (place (lasso_of bs).n (lasso_of bs).l t)
@@ -141,13 +141,13 @@ module _ (text : List ℕ) (c : NumberedFormula) (e : text_expansion text ≡ Do
     lines-right t (l ∷ ls) (f ∷ fs) h b = (line-right l f h.0 b.0 t, lines-right t ls fs h.1 b.1)
 
     every-line : (ls : List Line) (t : ℕ) → LinesHold (sense_of x) ls read t ↔ Every M ls t
-    every-line [] t = Iff·rfl
-    every-line (l ∷ ls) t = Iff·and Iff·rfl (every-line ls t)
+    every-line [] t = Equiv.rfl
+    every-line (l ∷ ls) t = Equiv.and Equiv.rfl (every-line ls t)
 
     sections-every : (q : Part) → Same (SectionOf x read q) (Every M (part_lines q (lines x d)))
     sections-every q t =
         let a = accepts e in
-        Iff·trans (section-lines text x d a.parsing a.declaring read q t) (every-line (part_lines q (lines x d)) t)
+        Equiv.trans (section-lines text x d a.parsing a.declaring read q t) (every-line (part_lines q (lines x d)) t)
 
     -- a text that fails
     module _ (fails : ¬ TextMeans text g.word 0) where
@@ -197,7 +197,7 @@ module _ (text : List ℕ) (c : NumberedFormula) (e : text_expansion text ≡ Do
         subst (λ (f : Formula). So b ↔ Holds f (recorded bs) 0) (table-root c.formula (text-small text c e) (text_few text c e))
         (verdict_means (nodes_of c.formula) (length c.signals) bs room h) in
         let letters = holds_below (length c.signals) (numbered text c.signals g.word) (recorded bs) g.same c.formula (text-signals text c e) 0 in
-        Iff·trans root (Iff·trans (Iff·symm letters) (Iff·symm (text-agrees text c e g.word 0)))
+        Equiv.trans root (Equiv.trans (Equiv.symm letters) (Equiv.symm (text-agrees text c e g.word 0)))
 
     -- what is found by a verdict
     abbrev Finds : Finding → Type 0

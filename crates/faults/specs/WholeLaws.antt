@@ -4,7 +4,7 @@ use Rattle.std.specs.Prelude.{ℕ, ◌≡◌, refl, Bool}
 use Rattle.std.proofs.Common.{ap, ap₂, ◌∙◌}
 use Rattle.std.proofs.Math.Bool.{true, false}
 use mathlib.Core.List.{List, [], ◌∷◌, map}
-use Rattle.std.proofs.Math.Logic.{Iff·not, Iff·and}
+use Rattle.std.proofs.Math.Logic.Iff as Equiv
 use Rattle.node.specs.LogicLaws.{or_same, to_same}
 use Rattle.node.specs.Temporal.{Property}
 use Rattle.node.specs.TemporalLaws.{Same, always_same}
@@ -84,10 +84,10 @@ module _ (n : ℕ) where
 -- equivalents put for equivalents
 pub whole_same : (strict : Bool) (P Q : Part → Property) → ((q : Part) → Same (P q) (Q q)) → Same (WholeMeans strict P) (WholeMeans strict Q)
 whole_same false P Q h t =
-    or_same (Iff·not (h Initially t))
-    (Iff·and (h Preset t) (to_same (Iff·and (always_same (h Require) t) (h Assume t)) (Iff·and (always_same (h Assert) t) (h Guarantee t))))
+    or_same (Equiv.not (h Initially t))
+    (Equiv.and (h Preset t) (to_same (Equiv.and (always_same (h Require) t) (h Assume t)) (Equiv.and (always_same (h Assert) t) (h Guarantee t))))
 whole_same true P Q h t =
     let owed = owed_same (h Assert) (h Require) t in
-    let promised = to_same (Iff·and (always_same (h Require) t) (h Assume t)) (h Guarantee t) in
-    or_same (Iff·not (h Initially t))
+    let promised = to_same (Equiv.and (always_same (h Require) t) (h Assume t)) (h Guarantee t) in
+    or_same (Equiv.not (h Initially t))
     (λ p. ((h Preset t).0 p.0, owed.0 p.1, promised.0 p.2), λ p. ((h Preset t).1 p.0, owed.1 p.1, promised.1 p.2))

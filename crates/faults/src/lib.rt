@@ -1,1 +1,3 @@
 // Which line of a text failed on a recording: see specs/.
+
+#![tactic(auto)]

@@ -23,7 +23,7 @@ pub fn join_not(op: u32, m: usize, n: usize, out: &mut [u32]) -> usize
 }
 
 // A node's fields, the operands as indices.
-#[derive(Drop)]
+#[derive(Clone, Copy)]
 pub struct Fields {
     pub kind: u32,
     pub first: usize,

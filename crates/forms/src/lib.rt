@@ -1,4 +1,6 @@
 // The forms of a formula (document 01, section Forms) in definitions, and their laws: see specs/. In code, the forms by their numbers.
+#![tactic(auto)]
+
 ghost use Rattle.std.specs.Prelude.{◌≡◌};
 ghost use Rattle.forms.specs.Forms.{form_numbers};
 

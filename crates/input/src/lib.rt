@@ -1,4 +1,6 @@
 // Files read to their end, for the programs: as many bytes as there is room for, and how many there are.
+#![tactic(auto)]
+
 ghost use Rattle.std.specs.Prelude.{◌≤◌, max, length};
 ghost use Rattle.io.specs.Counts.{IsPrefixLen};
 ghost use Rattle.basics.specs.Told.{max_told};

@@ -1,4 +1,6 @@
 // From a text and a recording to the verdict: the reader, then the evaluator on the text's nodes.
+#![tactic(auto)]
+
 ghost use Rattle.std.specs.Prelude.{◌≡◌, length};
 ghost use Rattle.evaluator.specs.Evaluation.{rows_size, verdict_of, finds};
 ghost use Rattle.judging.specs.Promise.{JudgesStart, JudgesText};

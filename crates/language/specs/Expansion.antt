@@ -64,7 +64,7 @@ use Rattle.language.specs.Tree.{
 }
 use Rattle.language.specs.Sets.{member_of}
 use Rattle.language.specs.Values.{Value, Number, Set, Logic, Bus, Unsized, Choice, misfit, number, set, Sized, bus, choice, Scope, naming, value}
-use Rattle.language.specs.Declared.{Declared, Constant, Single, BusOf, Identifies, WaitingBus, Table, find, declared, Port, Declarations}
+use Rattle.language.specs.DeclaredNames.{Declared, Constant, Single, BusOf, Identifies, WaitingBus, Table, find, declared, Port, Declarations}
 use Rattle.language.specs.Numbering.{in_order, first_of, Mark, Absent, Present, Star, marks_of}
 use Rattle.language.specs.Lines.{Line, Written, Implied}
 

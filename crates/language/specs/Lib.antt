@@ -16,7 +16,7 @@ pub mod Spelling
 pub mod Braces
 pub mod Sets
 pub mod Values
-pub mod Declared
+pub mod DeclaredNames
 pub mod RegularWords
 pub mod Numbering
 pub mod Lines

@@ -2,7 +2,7 @@
 use Rattle.std.specs.Prelude.{Bool, true, false, not, List, [], ◌∷◌, map}
 use Rattle.language.specs.Tokens.{Token}
 use Rattle.language.specs.Tree.{Expr, Part, Require, Assert, Subsection, Inputs, Outputs, Lines, Spec}
-use Rattle.language.specs.Declared.{word_width, Port, Declarations}
+use Rattle.language.specs.DeclaredNames.{word_width, Port, Declarations}
 use Rattle.language.specs.Numbering.{marks_of, covered}
 
 -- a line of a section: a written one, or an implied one, that a bus matches one of its enumeration's words

@@ -3,7 +3,7 @@ use Rattle.std.specs.Prelude.{ℕ, ◌+◌, max, ◌^◌, ◌≤◌, ◌<◌, �
 use Rattle.language.specs.Bytes.{if◌then◌else◌}
 use Rattle.language.specs.Tokens.{Token}
 use Rattle.language.specs.Tree.{Declaration, OneSignal, OfWidth, OfType, Spec}
-use Rattle.language.specs.Declared.{inputs, outputs}
+use Rattle.language.specs.DeclaredNames.{inputs, outputs}
 use Rattle.language.specs.Numbered.{width_of, index_of, offset_of, flag_of, atom_of}
 
 -- the name that a declaration declares

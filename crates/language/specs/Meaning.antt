@@ -78,7 +78,7 @@ use Rattle.language.specs.Tree.{
 }
 use Rattle.language.specs.Sets.{member_of}
 use Rattle.language.specs.Values.{Value, Number, Set, Logic, Bus, Unsized, Choice, number, set, bus, choice, Scope, naming, value}
-use Rattle.language.specs.Declared.{declared, declarations}
+use Rattle.language.specs.DeclaredNames.{declared, declarations}
 use Rattle.language.specs.Parsing.{parsed}
 
 -- '`&&[i IN M] e` holds if e does for each i in M, `||[i IN M] e` if for some'

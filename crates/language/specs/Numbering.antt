@@ -5,7 +5,7 @@ use Rattle.node.specs.BitFields.{join}
 use Rattle.language.specs.Limits.{max_signals, offset_bits, index_bits, width_bits}
 use Rattle.language.specs.Bytes.{if◌then◌else◌, same}
 use Rattle.language.specs.Tokens.{Token}
-use Rattle.language.specs.Declared.{Port, Declarations}
+use Rattle.language.specs.DeclaredNames.{Port, Declarations}
 
 -- 'Signals number from 0, inputs first'
 abbrev pub in_order : Declarations → List Port

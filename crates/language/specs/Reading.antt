@@ -10,7 +10,7 @@ use Rattle.language.specs.Bytes.{if◌then◌else◌}
 use Rattle.language.specs.Tree.{Spec}
 use Rattle.language.specs.Places.{refuse_at}
 use Rattle.language.specs.Parsing.{parsed}
-use Rattle.language.specs.Declared.{declarations}
+use Rattle.language.specs.DeclaredNames.{declarations}
 use Rattle.language.specs.Numbering.{in_order, signal_list, too_many_signals}
 use Rattle.language.specs.Lines.{lines}
 use Rattle.language.specs.Expansion.{expand}

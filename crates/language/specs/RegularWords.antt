@@ -4,7 +4,7 @@ use Rattle.language.specs.Limits.{max_words, max_marks}
 use Rattle.language.specs.Tokens.{Token}
 use Rattle.language.specs.Tree.{Definition, Defined, Enumerated}
 use Rattle.language.specs.Words.{words_in}
-use Rattle.language.specs.Declared.{word_width, Port}
+use Rattle.language.specs.DeclaredNames.{word_width, Port}
 use Rattle.language.specs.Lists.{All}
 
 pub record Regular (words : List Token) : Type 0 where

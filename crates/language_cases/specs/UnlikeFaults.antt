@@ -11,7 +11,7 @@ use Rattle.node.specs.ResultLaws.{not_done}
 use Rattle.node.specs.Written.{count}
 use Rattle.language.specs.Tree.{Spec}
 use Rattle.language.specs.Places.{refuse_at}
-use Rattle.language.specs.Declared.{Declarations, declarations}
+use Rattle.language.specs.DeclaredNames.{Declarations, declarations}
 use Rattle.language.specs.Numbering.{in_order, signal_list, too_many_signals}
 use Rattle.language.specs.Lines.{lines}
 use Rattle.language.specs.Expansion.{expand}

@@ -31,7 +31,7 @@ pub fn measure(nodes: &[u32], names: &[u8], sizes: &[usize], pieces: &[u8]) -> u
 const OPERAND: u32 = MAX_NODES as u32;
 
 // How many entries are on the stack, and the place after what is written.
-#[derive(Drop)]
+#[derive(Clone, Copy)]
 pub struct Turn {
     pub height: usize,
     pub at: usize,

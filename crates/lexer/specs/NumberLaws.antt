@@ -2,7 +2,7 @@
 use Rattle.std.specs.Prelude.{ℕ, suc, ◌+◌, ◌≤◌, ◌<◌, List, [], ◌∷◌, Bool, true, false, ◌&&◌, ◌||◌, ◌≡◌, refl, eqb, leb, length, get_or}
 use Prim.Native.String.{String}
 use Rattle.std.proofs.lemmas.Bool.{false≢true, eqb-false}
-use Rattle.std.proofs.Math.Bool.{and_false}
+use Rattle.std.proofs.Math.Bool.{and-false}
 use Rattle.std.proofs.Common.{sym, ap, ap₂, ◌∙◌, subst, arith, eq-eqb, ne_eqb, eqb-true, leb-true}
 use Rattle.language.specs.Bytes.{ascii, same, is_one_of}
 use Rattle.language.specs.Tokens.{Class, Fixed, Name, Numeral, Quoted, Marks, End, Wrong, Blank, code, Token, is_of, is}
@@ -112,7 +112,7 @@ known [] = true
 known (s ∷ ss) = is_one_of spellings (ascii s) && known ss
 
 pub named-number : (ss : List String) (t : Token) → known ss ≡ true → named ss t ≡ numbered ss (number t)
-named-number [] t h = and_false (is_of Fixed t)
+named-number [] t h = and-false (is_of Fixed t)
 named-number (s ∷ ss) t h =
     shared (is_of Fixed t) (same (ascii s) t.text) (is_one_of ss t.text)
     ∙ ap₂ ◌||◌ (is_number s t (and_left (is_one_of spellings (ascii s)) (known ss) h)) (named-number ss t (and_right (is_one_of spellings (ascii s)) (known ss) h))

@@ -1,5 +1,7 @@
 // The lexer: a text's bytes to one word for each token in a lent buffer (refusals 1 to 3).
 // An inner stage: `lex` asks for a buffer with room for the tokens' words, and the reader refuses a shorter one (17). The pieces ask for a place within the text.
+#![tactic(auto)]
+
 pub mod fields;
 pub mod numbers;
 mod piece;
@@ -18,7 +20,7 @@ use node::refusals;
 use numbers::{CLOSE_BRACE, ENUM, NO_NUMBER, SEMICOLON};
 
 // The number of tokens, which are stored; or the refusal's number and place.
-#[derive(Drop)]
+#[derive(Clone, Copy)]
 pub enum Lexed {
     Tokens(u32),
     Refused(u32, u32),

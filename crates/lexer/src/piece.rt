@@ -38,7 +38,7 @@ pub fn classes() -> [u8; 8]
 }
 
 // What stands at a place: a token's number and size. A blank or comment has NO_NUMBER, and what is no token has size 0 besides.
-#[derive(Drop)]
+#[derive(Clone, Copy)]
 pub struct Scanned {
     pub number: u32,
     pub size: usize,

@@ -63,7 +63,7 @@ pub fn quoted_size(text: &[u8], from: usize) -> usize
 }
 
 // A block comment while it is read: how many are open, and the byte before, 0 where that byte has already made `/*` or `*/`.
-#[derive(Drop)]
+#[derive(Clone, Copy)]
 pub struct Nest {
     pub depth: usize,
     pub last: u8,

@@ -1,4 +1,6 @@
 // Runs the lexer on texts at its limits and one beyond, on each row of refusals 1 to 3 and their order, and on the ways through its definition.
+#![tactic(auto)]
+
 use lexer::Lexed;
 use lexer::fields::{LENGTHS, OFFSETS};
 use libc::STDOUT_FILENO;

@@ -2,7 +2,7 @@
 use Rattle.std.specs.Prelude.{◌≡◌, length}
 use Rattle.node.specs.Result.{Done}
 use Rattle.language.specs.Tree.{Preset, Assert, Guarantee, Spec}
-use Rattle.language.specs.Declared.{Declarations}
+use Rattle.language.specs.DeclaredNames.{Declarations}
 use Rattle.language.specs.Lines.{lines}
 use Rattle.language.specs.Expansion.{Sections, gather, at_signals, define_all, expand_section, lines_of}
 use Rattle.line_counts.specs.declared.LineCounts.{LineCounts}

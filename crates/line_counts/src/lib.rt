@@ -1,4 +1,6 @@
 // How many lines the sections of a text have that promise something: PRESET, ASSERT and GUARANTEE (document 02, F-7: 'Lines count from 1 in their section').
+#![tactic(auto)]
+
 ghost use Rattle.std.specs.Prelude.{[], ◌≡◌, ◌≤◌};
 ghost use Rattle.node.specs.Limits.{max_nodes};
 ghost use Rattle.line_counts.specs.Counting.{one, PartCount, Counts};
@@ -8,7 +10,7 @@ use assembly::{ASSERT, GUARANTEE, PRESET};
 use node::{FIELD_LIMIT, MAX_NODES};
 
 // How many lines the sections have that promise something.
-#[derive(Drop)]
+#[derive(Clone, Copy)]
 pub struct LineCounts {
     pub preset: u32,
     pub assert: u32,

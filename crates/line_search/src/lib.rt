@@ -1,5 +1,7 @@
 // The way from a table's root to its lines by operands, and where their rows are false (document 02, F-7): what the naming of a line is made of. Rows are those of the
 // evaluator, so their callers know that a row has at most 256 bytes and a position is below 2,048.
+#![tactic(auto)]
+
 ghost use Rattle.std.specs.Prelude.{◌≡◌, ◌≤◌, ◌<◌, not, ◌||◌};
 ghost use Rattle.language.specs.Bytes.{if◌then◌else◌};
 ghost use Rattle.faults.specs.Naming.{broken_from};

@@ -5,7 +5,7 @@ use Rattle.node.specs.Limits.{max_nodes}
 use Rattle.node.specs.Result.{Done}
 use Rattle.language.specs.Tokens.{tokens}
 use Rattle.language.specs.Tree.{Spec}
-use Rattle.language.specs.Declared.{Declarations, declarations}
+use Rattle.language.specs.DeclaredNames.{Declarations, declarations}
 use Rattle.language.specs.Numbering.{in_order}
 use Rattle.language.specs.Laws.Basics.Lists.{All}
 use Rattle.language.specs.Laws.Basics.Results.{value_of}

@@ -5,7 +5,7 @@ use Rattle.node.specs.Ltl.{Formula}
 use Rattle.node.specs.Result.{Done, Refused}
 use Rattle.node.specs.ResultLaws.{bind_done, bind_to}
 use Rattle.language.specs.Tree.{Part, Spec}
-use Rattle.language.specs.Declared.{Declarations}
+use Rattle.language.specs.DeclaredNames.{Declarations}
 use Rattle.language.specs.Lines.{Line, lines}
 use Rattle.language.specs.Expansion.{gather, define_all, at_signals, expand_section, section, whole, expand}
 use Rattle.operands.specs.Working.{Source}

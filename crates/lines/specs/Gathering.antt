@@ -6,7 +6,7 @@ use Rattle.node.specs.Result.{Result, Done, ◌>>=◌}
 use Rattle.language.specs.Limits.{max_tokens, work_bytes}
 use Rattle.language.specs.Tokens.{tokens}
 use Rattle.language.specs.Tree.{Expr, Part, part_code, Spec}
-use Rattle.language.specs.Declared.{Declarations}
+use Rattle.language.specs.DeclaredNames.{Declarations}
 use Rattle.language.specs.Numbering.{in_order}
 use Rattle.language.specs.Expansion.{Context, at_signals, define_all, expansion}
 use Rattle.language.specs.Lists.{All}

@@ -6,7 +6,7 @@ use Rattle.node.specs.Ltl.{Formula}
 use Rattle.node.specs.Result.{Done}
 use Rattle.node.specs.ResultLaws.{bind_refused, bind_to}
 use Rattle.language.specs.Tree.{Expr, Part, Spec}
-use Rattle.language.specs.Declared.{Declarations}
+use Rattle.language.specs.DeclaredNames.{Declarations}
 use Rattle.language.specs.Numbering.{in_order}
 use Rattle.language.specs.Expansion.{expansion}
 use Rattle.operands.specs.Working.{Source}

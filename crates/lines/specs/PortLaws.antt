@@ -8,7 +8,7 @@ use Rattle.node.specs.Result.{Done}
 use Rattle.language.specs.Limits.{max_tokens, max_names, max_signals}
 use Rattle.language.specs.Tokens.{tokens}
 use Rattle.language.specs.Tree.{Declaration, OneSignal, OfWidth, OfType, Definition, Spec}
-use Rattle.language.specs.Declared.{Port, inputs, outputs, Declarations, declarations}
+use Rattle.language.specs.DeclaredNames.{Port, inputs, outputs, Declarations, declarations}
 use Rattle.language.specs.Numbering.{in_order, first_of}
 use Rattle.language.specs.Laws.Basics.Lists.{All, all_any, all_append}
 use Rattle.language.specs.Laws.Values.RegularWords.{Regular, RegularDefinition, regular_type}

@@ -10,7 +10,7 @@ use Rattle.node.specs.Result.{Result, Done, Refused, ◌>>=◌}
 use Rattle.node.specs.ResultLaws.{not_done, bind_value}
 use Rattle.language.specs.Tokens.{Token, tokens}
 use Rattle.language.specs.Tree.{Expr, Part, Spec}
-use Rattle.language.specs.Declared.{Declarations}
+use Rattle.language.specs.DeclaredNames.{Declarations}
 use Rattle.language.specs.Expansion.{expansion}
 use Rattle.entries.specs.Kinds as Kind
 use Rattle.entries.specs.Flat.{Entry}

@@ -1,7 +1,7 @@
 -- All lines of a text: the written ones, and behind them the implied ones of its inputs and of its outputs.
 use Rattle.std.specs.Prelude.{ℕ, List}
 use Rattle.language.specs.Tree.{Spec}
-use Rattle.language.specs.Declared.{Declarations}
+use Rattle.language.specs.DeclaredNames.{Declarations}
 use Rattle.language.specs.Numbering.{in_order}
 use Rattle.language.specs.Lines.{lines}
 use Rattle.operands.specs.Working.{Source}

@@ -7,7 +7,7 @@ use Rattle.node.specs.Result.{Done, Refused, ◌>>=◌}
 use Rattle.node.specs.ResultLaws.{bind_refused, bind_to}
 use Rattle.language.specs.Limits.{work_bytes}
 use Rattle.language.specs.Tree.{Part, Require, Assert, part_code, Spec}
-use Rattle.language.specs.Declared.{Port, Declarations}
+use Rattle.language.specs.DeclaredNames.{Port, Declarations}
 use Rattle.language.specs.Numbering.{in_order}
 use Rattle.language.specs.Lines.{implied, lines}
 use Rattle.language.specs.Expansion.{gather, at_signals, expand_section}

@@ -1,5 +1,7 @@
 // The lines of a text: their formulas one after the other in a table of nodes, with a word for each that has its part and its size.
 // `gather` asks for a checked tree, its declarations worked out, and arrays of full length: `read` has all three.
+#![tactic(auto)]
+
 ghost use Rattle.std.specs.Prelude.{ℕ, ◌≡◌, length};
 ghost use Rattle.node.specs.Limits.{max_nodes};
 ghost use Rattle.operands.specs.Working.{source};
@@ -16,7 +18,7 @@ use node::MAX_NODES;
 use traversal::cell_at;
 
 // How many lines there are and where their formulas end, 8,193 if they do not fit; or a refusal's number and place.
-#[derive(Drop)]
+#[derive(Clone, Copy)]
 pub enum Gathering {
     Lines(usize, usize),
     Refused(u32, u32),
@@ -46,7 +48,7 @@ fn whole(table: &[u32; MAX_NODES])
 }
 
 // Where a line is: in a text of so many entries, under the heading of that number, with its expression's own entry at k.
-#[derive(Drop)]
+#[derive(Clone, Copy)]
 struct Place {
     entries: usize,
     heading: u32,
@@ -140,7 +142,7 @@ fn written_lines(
 
 // How many entries the text has and how many ports, the first `ins` of them inputs. Formulas go into the table from `start` on, 0, or 8,193 where they are worked through
 // for their refusals alone.
-#[derive(Drop)]
+#[derive(Clone, Copy)]
 pub struct Plan {
     pub entries: usize,
     pub ins: usize,

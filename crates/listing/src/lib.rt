@@ -1,5 +1,7 @@
 // The listing of document 01, 'One file in full', on standard output: `accepted`, node and signal counts, then per node its number, kind, first and second field; or
 // `refused`, number, place.
+#![tactic(auto)]
+
 use basics::least;
 use libc::STDOUT_FILENO;
 use node::{Answer, Node};

@@ -3,7 +3,7 @@ use Rattle.std.specs.Prelude.{ℕ, suc, ◌+◌, ◌≤◌, ◌≡◌, ◌↔◌
 use Rattle.std.proofs.Math.Path.{subst}
 use Rattle.std.proofs.Common.{sym, arith}
 use Rattle.std.proofs.Math.Bool.{So}
-use Rattle.std.proofs.Math.Logic.{Iff·rfl, Iff·and, Iff·not}
+use Rattle.std.proofs.Math.Logic.Iff as Equiv
 use Rattle.node.specs.LogicLaws.{or_same, to_same}
 use Rattle.node.specs.Temporal.{Property}
 use Rattle.node.specs.TemporalLaws.{Same, always_same, eventually_same, until_same, release_same, weak_same}
@@ -49,7 +49,7 @@ module _ (u v : Word) where
 
   -- the operators: the Boolean ones and X look at one position of their operands, the others at all
   unary-agrees : (o : Unary) (s : Span) {P Q : Property} → Alike s P Q → Alike (unary_span o s) (UnaryMeans o P) (UnaryMeans o Q)
-  unary-agrees Not s e t h = Iff·not (e t h)
+  unary-agrees Not s e t h = Equiv.not (e t h)
   unary-agrees X s e t h = e (suc t) (shared_later s t h)
   unary-agrees G s e t h = always_same (λ p. e p (shared_forever s t h p)) t
   unary-agrees F s e t h = eventually_same (λ p. e p (shared_forever s t h p)) t
@@ -70,10 +70,10 @@ module _ (u v : Word) where
       second t h p = right p (shared_forever (wider s r) t h p)
 
       go : (o : Binary) → Alike (binary_span o s r) (BinaryMeans o P Q) (BinaryMeans o P' Q')
-      go And t h = Iff·and (left t h) (right t h)
+      go And t h = Equiv.and (left t h) (right t h)
       go Or t h = or_same (left t h) (right t h)
       go Implies t h = to_same (left t h) (right t h)
-      go Iff t h = Iff·and (to_same (left t h) (right t h)) (to_same (right t h) (left t h))
+      go Iff t h = Equiv.and (to_same (left t h) (right t h)) (to_same (right t h) (left t h))
       go U t h = until_same (first t h) (second t h) t
       go R t h = release_same (first t h) (second t h) t
       go W t h = weak_same (first t h) (second t h) t
@@ -81,8 +81,8 @@ module _ (u v : Word) where
   -- two words that agree on what a formula looks at from a position: it holds there in both or in neither
   pub span-agrees : (f : Formula) → Alike (span f) (Holds f u) (Holds f v)
   unfolding Holds span
-  span-agrees True t h = Iff·rfl
-  span-agrees False t h = Iff·rfl
+  span-agrees True t h = Equiv.rfl
+  span-agrees False t h = Equiv.rfl
   span-agrees (Signal k) t h = let e : u t k ≡ v t k = h t (omega arith) (omega arith) k in (subst So e, subst So (sym e))
   span-agrees (One o a) t h = unary-agrees o (span a) (span-agrees a) t h
   span-agrees (Two o a b) t h = binary-agrees o (span a) (span b) (span-agrees a) (span-agrees b) t h

@@ -1,4 +1,6 @@
 // How far ahead the root of a table of nodes looks (document 02, F-3): one pass over the nodes, a number for each.
+#![tactic(auto)]
+
 ghost use Rattle.std.specs.Prelude.{◌≡◌, max, ◌≤◌, ◌<◌, length};
 ghost use Rattle.node.specs.Limits.{max_nodes, field_limit};
 ghost use Rattle.node.specs.Answer.{says};
@@ -12,7 +14,7 @@ use node::{Answer, MAX_NODES, Node};
 use rewriter::SIGNAL_LIMIT;
 
 // The reach of a table's root: letters 0 to so many decide, no number of letters does, or a refusal with number and place.
-#[derive(Drop)]
+#[derive(Clone, Copy)]
 pub enum Reach {
     Letters(u32),
     Unbounded,

@@ -1,4 +1,6 @@
 // Runs `reach_of` at its limits and one beyond, and on each refusal of a table.
+#![tactic(auto)]
+
 ghost use Rattle.std.specs.Prelude.{◌≤◌, ◌<◌};
 
 use libc::STDOUT_FILENO;

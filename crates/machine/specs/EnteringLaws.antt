@@ -4,7 +4,7 @@ use Rattle.std.proofs.Common.{sym, ap, ◌∙◌, subst}
 use Rattle.node.specs.Result.{Result, ◌>>=◌}
 use Rattle.language.specs.Tree.{Expr}
 use Rattle.language.specs.Values.{value}
-use Rattle.language.specs.Declared.{Port}
+use Rattle.language.specs.DeclaredNames.{Port}
 use Rattle.language.specs.Expansion.{Context, expansion}
 use Rattle.name_values.specs.World.{World}
 use Rattle.operands.specs.Entries.{kind_at}

@@ -3,7 +3,7 @@ use Rattle.std.specs.Prelude.{ℕ, zero, suc, ◌≤◌, List, [], ◌≡◌, re
 use Rattle.std.proofs.Common.{sym, ap, ◌∙◌, subst, arith}
 use Rattle.node.specs.Result.{Result, Done, Refused}
 use Rattle.language.specs.Tokens.{End, Token, tokens}
-use Rattle.language.specs.Declared.{Declared, Constant, Single, BusOf, Identifies, WaitingBus, value_at}
+use Rattle.language.specs.DeclaredNames.{Declared, Constant, Single, BusOf, Identifies, WaitingBus, value_at}
 use Rattle.language.specs.Values.{Value, Number, Set, Logic, Bus, Unsized, Choice}
 use Rattle.name_values.specs.World.{Meaning, Stands, Defines, NoValue}
 use Rattle.name_values.specs.Facts.{IsNumber, IsBody, IsBus, IsIdentifier}

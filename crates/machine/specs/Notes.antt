@@ -8,7 +8,7 @@ use Rattle.language.specs.Limits.{max_names, max_signals}
 use Rattle.language.specs.Tokens.{Token, tokens}
 use Rattle.language.specs.Tree.{Expr}
 use Rattle.language.specs.Values.{Set}
-use Rattle.language.specs.Declared.{Single, BusOf}
+use Rattle.language.specs.DeclaredNames.{Single, BusOf}
 use Rattle.language.specs.Numbering.{first_of}
 use Rattle.language.specs.Expansion.{Context, expansion}
 use Rattle.writing.specs.Parts.{Stands as StandsAt}

@@ -5,7 +5,7 @@ use Rattle.std.proofs.Common.{sym, ap, ◌∙◌, subst, arith, length-append}
 use Rattle.language.specs.Limits.{max_tokens, work_bytes}
 use Rattle.language.specs.Tokens.{Token, tokens}
 use Rattle.language.specs.Tree.{Expr}
-use Rattle.language.specs.Declared.{Port}
+use Rattle.language.specs.DeclaredNames.{Port}
 use Rattle.language.specs.Expansion.{Context}
 use Rattle.entries.specs.Flat.{under, flat}
 use Rattle.entries.specs.Stored.{EndsAt}

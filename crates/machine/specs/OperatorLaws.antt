@@ -37,7 +37,7 @@ use Rattle.language.specs.Operators.{
   Measures,
 }
 use Rattle.language.specs.Tree.{Expr, Prefixed, Joined, InWindow, Each, Between as BetweenOf, Range}
-use Rattle.language.specs.Declared.{Port}
+use Rattle.language.specs.DeclaredNames.{Port}
 use Rattle.language.specs.Expansion.{Context}
 use Rattle.entries.specs.Kinds as Kind
 use Rattle.entries.specs.Flat.{Entry, under, flat}

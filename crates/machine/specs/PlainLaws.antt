@@ -7,7 +7,7 @@ use Rattle.language.specs.Tokens.{Token}
 use Rattle.language.specs.Operators.{Big, BigSum, BigProduct, BigCap, BigCup, BigAnd, BigOr, Calculates, Combines, Compares, Membership, Connects, Measures, WidthOf, Applies}
 use Rattle.language.specs.Tree.{Expr, Named, Numeral, Truth, Index, Paren, Prefixed, Joined, Nexts, InWindow, Each, Between, Listed, Empty, Element, Range}
 use Rattle.language.specs.Values.{Value, Number, Set, Logic, misfit, set, big, naming, value}
-use Rattle.language.specs.Declared.{Declared, Constant, Single, BusOf, Identifies, WaitingBus, Port, value_at}
+use Rattle.language.specs.DeclaredNames.{Declared, Constant, Single, BusOf, Identifies, WaitingBus, Port, value_at}
 use Rattle.language.specs.Expansion.{Context, at, expansion, big_formula, signal_of}
 use Rattle.name_values.specs.World.{Meaning, Stands, Defines, NoValue, name_value, formed}
 use Rattle.machine.specs.Realm.{Plain}

@@ -5,7 +5,7 @@ use Rattle.language.specs.Limits.{max_number}
 use Rattle.language.specs.Tokens.{Token, tokens}
 use Rattle.language.specs.Tree.{Expr}
 use Rattle.language.specs.Values.{Number, Set, misfit}
-use Rattle.language.specs.Declared.{Port, Identifies}
+use Rattle.language.specs.DeclaredNames.{Port, Identifies}
 use Rattle.language.specs.Expansion.{Context}
 use Rattle.language.specs.Lists.{All}
 use Rattle.spellings.specs.Interned.{Lexed}

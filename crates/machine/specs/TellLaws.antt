@@ -4,7 +4,7 @@ use Rattle.std.proofs.Common.{sym, ap, ap₂, ◌∙◌, arith}
 use Rattle.language.specs.Limits.{max_names, max_width}
 use Rattle.language.specs.Tokens.{Token}
 use Rattle.language.specs.Operators.{Comparison}
-use Rattle.language.specs.Declared.{Port, BusOf, Identifies}
+use Rattle.language.specs.DeclaredNames.{Port, BusOf, Identifies}
 use Rattle.language.specs.Values.{Value, Number, Set, Logic, Bus, Unsized, Choice, misfit, number, bus, choice}
 use Rattle.language.specs.Expansion.{compared}
 use Rattle.name_values.specs.World.{World, Stands, name_at, meaning_at}

@@ -2,7 +2,7 @@
 use Rattle.std.specs.Prelude.{ℕ, ◌≤◌, ◌<◌, ◌≡◌, List, length}
 use Rattle.language.specs.Limits.{max_names, max_number, max_elements, max_width}
 use Rattle.language.specs.Tokens.{Token}
-use Rattle.language.specs.Declared.{BusOf, Identifies}
+use Rattle.language.specs.DeclaredNames.{BusOf, Identifies}
 use Rattle.language.specs.Values.{Value, Number, Set, Logic, Bus, Unsized, Choice}
 use Rattle.language.specs.Lists.{Ordered}
 use Rattle.name_values.specs.World.{World, Stands, name_at, meaning_at}

@@ -1,6 +1,8 @@
 // Numbers, sets and formulas of stored expressions, worked out by one loop over an explicit state: what the state is and how a step changes it.
 // All state is one lent memory (specs/Memory), the table of nodes and a `Machine`, which is passed by value.
 // The functions are called by the steps, whose states show what they ask for.
+#![tactic(auto)]
+
 pub mod fields;
 pub mod modes;
 pub mod phases;
@@ -20,7 +22,7 @@ use writing::TOO_MANY;
 
 // What to do next: work out the entry `value`, as a value (mode 0) or as a formula (mode 1); or go on with what has come (specs/Telling). Slots from `scope` up to
 // `depth` hold the elements of the visible big operators' names; values lie below `top`, frames from `frames` on; `nodes` is the next index of the table.
-#[derive(Drop)]
+#[derive(Clone, Copy)]
 pub struct Machine {
     pub mode: u32,
     pub value: u32,
@@ -33,7 +35,7 @@ pub struct Machine {
 }
 
 // What a step comes to: the next state; a refusal with its number and place; or that there is no room for the entry, and nothing was done.
-#[derive(Drop)]
+#[derive(Clone, Copy)]
 pub enum Move {
     Next(Machine),
     Refused(u32, u32),
@@ -41,7 +43,7 @@ pub enum Move {
 }
 
 // The seven words of a frame: what it waits for, its entry, where the values go back to; the address and the number of the words that it holds; two numbers.
-#[derive(Drop)]
+#[derive(Clone, Copy)]
 pub struct Words {
     pub phase: u32,
     pub entry: u32,

@@ -14,7 +14,7 @@ use memory_sets::moving::copy;
 use node::MAX_NODES;
 
 // What a run comes to: the state in which the answer has come, or a refusal with its number and place.
-#[derive(Drop)]
+#[derive(Clone, Copy)]
 pub enum Outcome {
     Came(Machine),
     Refused(u32, u32),

@@ -1,5 +1,7 @@
 // Numbers and formulas of stored expressions, worked out by the machine's loop.
 // The functions ask for a checked tree and a memory whose notes are laid: `declarations` and `lines` have both.
+#![tactic(auto)]
+
 mod cycle;
 mod formulas;
 mod frames;
@@ -22,7 +24,7 @@ use sets::Worked;
 use writing::TOO_MANY;
 
 // Where a formula's nodes end, 8,193 if they do not fit; or a refusal's number and place.
-#[derive(Drop)]
+#[derive(Clone, Copy)]
 pub enum Written {
     At(usize),
     Refused(u32, u32),

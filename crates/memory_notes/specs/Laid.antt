@@ -1,7 +1,7 @@
 -- The notes of declared names in the machine's memory, where nothing is kept and no definition is marked.
 use Rattle.std.specs.Prelude.{ℕ, min, ◌+◌, ◌≤◌, ◌<◌, ◌/◌, List, ◌≡◌, length, get_or}
 use Rattle.language.specs.Limits.{max_names, max_signals}
-use Rattle.language.specs.Declared.{Port, Single, BusOf}
+use Rattle.language.specs.DeclaredNames.{Port, Single, BusOf}
 use Rattle.language.specs.Numbering.{first_of}
 use Rattle.name_values.specs.World.{World, Stands, name_at, meaning_at}
 use Rattle.machine.specs.Memory.{first_kept, slots_word, note_at, free_of}

@@ -5,7 +5,7 @@ use Rattle.node.specs.Limits.{max_nodes}
 use Rattle.node.specs.Result.{Done}
 use Rattle.language.specs.Tokens.{tokens}
 use Rattle.language.specs.Values.{Number}
-use Rattle.language.specs.Declared.{Constant, Single, BusOf, Identifies, WaitingBus}
+use Rattle.language.specs.DeclaredNames.{Constant, Single, BusOf, Identifies, WaitingBus}
 use Rattle.name_values.specs.World.{World, Meaning, meaning_at, Stands, Defines, NoValue}
 use Rattle.name_values.specs.Sorts as Sort
 use Rattle.operands.specs.Working.{Source}

@@ -6,7 +6,7 @@ use Rattle.language.specs.Bytes.{same}
 use Rattle.language.specs.Tokens.{Token}
 use Rattle.language.specs.Tree.{Expr, Definition, Defined, Enumerated}
 use Rattle.language.specs.Values.{value}
-use Rattle.language.specs.Declared.{Declared, Table, find, value_at, Port}
+use Rattle.language.specs.DeclaredNames.{Declared, Table, find, value_at, Port}
 use Rattle.language.specs.Expansion.{Context, expansion, signal_of, context_of, define, define_all}
 use Rattle.machine.specs.Realm.{Plain}
 use Rattle.machine.specs.PlainLaws.{NoFormula, refuses, no_formula, declared-plain}

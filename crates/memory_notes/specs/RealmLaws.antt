@@ -5,7 +5,7 @@ use Rattle.node.specs.Result.{Result, Done, Refused}
 use Rattle.language.specs.Bytes.{same}
 use Rattle.language.specs.Tokens.{Token}
 use Rattle.language.specs.Tree.{Expr, Definition, Defined, Enumerated, Spec}
-use Rattle.language.specs.Declared.{Declared, Identifies, Table, find, Port}
+use Rattle.language.specs.DeclaredNames.{Declared, Identifies, Table, find, Port}
 use Rattle.language.specs.Expansion.{Context, context_of, define, define_all}
 use Rattle.language.specs.Laws.Basics.Lists.{All}
 use Rattle.language.specs.Laws.Basics.Tests.{split}

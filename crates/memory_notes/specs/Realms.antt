@@ -1,7 +1,7 @@
 -- What the machine works in for a checked text: the world of its names, for any ports and any table whose words are short.
 use Rattle.std.specs.Prelude.{ℕ, List}
 use Rattle.language.specs.Tree.{Spec}
-use Rattle.language.specs.Declared.{Table, Port}
+use Rattle.language.specs.DeclaredNames.{Table, Port}
 use Rattle.names.specs.Resolved.{Stored, Resolved}
 use Rattle.name_values.specs.Worked.{world_in}
 use Rattle.operands.specs.Working.{source}

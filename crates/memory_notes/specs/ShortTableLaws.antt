@@ -3,7 +3,7 @@ use Rattle.std.specs.Prelude.{ℕ, zero, suc, Bool, true, false, List, [], ◌�
 use Rattle.std.proofs.Common.{arith}
 use Rattle.language.specs.Tree.{Identifier, Parameter, Declaration, OneSignal, OfWidth, OfType, Definition, Defined, Enumerated, Spec}
 use Rattle.language.specs.Words.{words_in}
-use Rattle.language.specs.Declared.{Constant, Table, identified, identifiers, as_declared, turns, waiting, constants, inputs, outputs, declarations}
+use Rattle.language.specs.DeclaredNames.{Constant, Table, identified, identifiers, as_declared, turns, waiting, constants, inputs, outputs, declarations}
 use Rattle.language.specs.Laws.Basics.Lists.{All, all_more, all_append, all_left, all_right}
 use Rattle.language.specs.Laws.Basics.Results.{Within, done, bind, bind_any}
 use Rattle.language.specs.Laws.Values.RegularWords.{RegularDefinition}

@@ -8,7 +8,7 @@ use Rattle.language.specs.Limits.{max_signals}
 use Rattle.language.specs.Tokens.{Token}
 use Rattle.language.specs.Tree.{Spec}
 use Rattle.language.specs.Names.{Names, declared_again}
-use Rattle.language.specs.Declared.{Declared, Constant, Single, BusOf, Identifies, WaitingBus, find, Port, Declarations, declarations}
+use Rattle.language.specs.DeclaredNames.{Declared, Constant, Single, BusOf, Identifies, WaitingBus, find, Port, Declarations, declarations}
 use Rattle.language.specs.Numbering.{in_order, signals_of, first_of, signal_list, too_many_signals}
 use Rattle.language.specs.Expansion.{context_of}
 use Rattle.language.specs.Laws.Basics.Lists.{All, all_both, all_left, all_right, all_any, all_more}

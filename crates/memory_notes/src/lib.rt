@@ -1,5 +1,7 @@
 // The notes of declared names laid into the machine's memory.
 // `lay` is called with what crate notes and crate ports make, and a memory that has room for the notes: `declarations` has both.
+#![tactic(auto)]
+
 ghost use Rattle.std.specs.Prelude.{◌≡◌, suc, ◌+◌, ◌≤◌, ◌<◌, ◌^◌, length};
 ghost use Rattle.language.specs.Limits.{max_names, max_elements};
 ghost use Rattle.machine.specs.Memory.{first_kept};

@@ -11,7 +11,7 @@ use Rattle.language.specs.Limits.{max_names}
 use Rattle.language.specs.Tokens.{Token}
 use Rattle.language.specs.Tree.{Expr}
 use Rattle.language.specs.Values.{misfit}
-use Rattle.language.specs.Declared.{Port}
+use Rattle.language.specs.DeclaredNames.{Port}
 use Rattle.language.specs.Numbering.{first_of}
 use Rattle.language.specs.Expansion.{expansion}
 use Rattle.entries.specs.Kinds as Kind

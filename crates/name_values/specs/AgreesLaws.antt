@@ -10,7 +10,7 @@ use Rattle.language.specs.Tree.{Expr, Named, Numeral, Truth, Index, Paren, Prefi
 use Rattle.language.specs.Places.{first}
 use Rattle.language.specs.Names.{Names, visible, hidden, nowhere, walk}
 use Rattle.language.specs.Values.{Number, misfit}
-use Rattle.language.specs.Declared.{Port}
+use Rattle.language.specs.DeclaredNames.{Port}
 use Rattle.language.specs.Expansion.{Context, at}
 use Rattle.language.specs.Laws.Basics.Tests.{pick, leave}
 use Rattle.language.specs.Laws.Basics.NoPlace.{first-left, first-right, unless_none}

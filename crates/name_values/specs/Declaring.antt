@@ -7,7 +7,7 @@ use Rattle.language.specs.Tokens.{Token, tokens}
 use Rattle.language.specs.Tree.{Identifier, Spec}
 use Rattle.language.specs.Grammar.{Tokens}
 use Rattle.language.specs.Words.{words_in}
-use Rattle.language.specs.Declared.{Identifies, Table, find, identifiers, Port}
+use Rattle.language.specs.DeclaredNames.{Identifies, Table, find, identifiers, Port}
 use Rattle.entries.specs.Kinds as Kind
 use Rattle.entries.specs.Flat.{Entry, leaf, each, flat_identifier, outline}
 use Rattle.entries.specs.Stored.{first_entry, kind_of, EntriesFrom}

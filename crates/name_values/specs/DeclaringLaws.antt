@@ -10,7 +10,7 @@ use Rattle.language.specs.Tokens.{Token}
 use Rattle.language.specs.Tree.{Expr, Named, Identifier, Parameter, Definition, Defined, Enumerated, Declaration, OneSignal, OfWidth, OfType, Spec}
 use Rattle.language.specs.Places.{main_lines}
 use Rattle.language.specs.Names.{Names, identifier_names, declares as declaresLine, over, declared_again}
-use Rattle.language.specs.Declared.{Table, find, Port, inputs, outputs}
+use Rattle.language.specs.DeclaredNames.{Table, find, Port, inputs, outputs}
 use Rattle.language.specs.Expansion.{Context, context_of, define, define_all}
 use Rattle.language.specs.Laws.Basics.Lists.{All, all_more}
 use Rattle.language.specs.Laws.Basics.Tests.{pick, leave, same_refl}

@@ -7,7 +7,7 @@ use Rattle.language.specs.Tokens.{Token}
 use Rattle.language.specs.Grammar.{Tokens}
 use Rattle.language.specs.Tree.{Expr}
 use Rattle.language.specs.Values.{Number}
-use Rattle.language.specs.Declared.{BusOf, Identifies, WaitingBus}
+use Rattle.language.specs.DeclaredNames.{BusOf, Identifies, WaitingBus}
 use Rattle.language.specs.Expansion.{Context}
 use Rattle.entries.specs.Kinds as Kind
 use Rattle.entries.specs.Flat.{leaf, each}

@@ -10,7 +10,7 @@ use Rattle.language.specs.Tokens.{Token, tokens}
 use Rattle.language.specs.Tree.{Expr, Named, Identifier, Definition, Defined, Enumerated, Declaration, OneSignal, OfWidth, OfType, Subsection, Inputs, Outputs, Lines, Spec}
 use Rattle.language.specs.Places.{main_lines}
 use Rattle.language.specs.Names.{Names, identifier_names, declared_again}
-use Rattle.language.specs.Declared.{Identifies, Table, find, identified, identifiers, words_of_type}
+use Rattle.language.specs.DeclaredNames.{Identifies, Table, find, identified, identifiers, words_of_type}
 use Rattle.language.specs.Braces.{ProperDefinition, ProperSpec}
 use Rattle.language.specs.Laws.Basics.Lists.{All, all_any, all_more, all_append, all_right, all_both}
 use Rattle.language.specs.Laws.Basics.Tests.{pick, leave, same_refl}

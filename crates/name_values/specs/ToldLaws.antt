@@ -5,7 +5,7 @@ use Rattle.std.proofs.Math.Option.{Option, none}
 use Rattle.std.proofs.Common.{sym, ◌∙◌}
 use Rattle.language.specs.Tokens.{Token}
 use Rattle.language.specs.Tree.{Expr, Declaration, Subsection, Inputs, Outputs, Lines}
-use Rattle.language.specs.Declared.{inputs, outputs}
+use Rattle.language.specs.DeclaredNames.{inputs, outputs}
 use Rattle.language.specs.Laws.Basics.Lists.{All, Any, all_any, all_more, all_left, all_right}
 use Rattle.entries.specs.Kinds as Kind
 use Rattle.entries.specs.Flat.{Entry, under, leaf, flat, each, flat_declaration, flat_line, flat_subsection}

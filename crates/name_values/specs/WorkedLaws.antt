@@ -7,7 +7,7 @@ use Rattle.language.specs.Tokens.{Token, tokens}
 use Rattle.language.specs.Tree.{Expr, Named, Parameter, Definition, Defined, Enumerated, Declaration, OneSignal, OfWidth, OfType, Subsection, Inputs, Outputs, Lines, Spec}
 use Rattle.language.specs.Places.{ParameterLine, DefinitionLine, DeclarationLine, FormulaLine, parameter_lines, definition_lines, declaration_lines, formula_lines, main_lines, all_lines}
 use Rattle.language.specs.Places as Places
-use Rattle.language.specs.Declared.{Table, find, Port}
+use Rattle.language.specs.DeclaredNames.{Table, find, Port}
 use Rattle.language.specs.Expansion.{context_of, define_all}
 use Rattle.language.specs.Names.{Names, hidden, nowhere, walk, walk_line, walk_lines, declares, declares_signal, over}
 use Rattle.language.specs.Braces.{Proper, ProperParameter, ProperDefinition, ProperDeclaration, ProperSubsection, ProperSpec}

@@ -6,7 +6,7 @@ use Rattle.language.specs.Limits.{max_names}
 use Rattle.language.specs.Tokens.{Token}
 use Rattle.language.specs.Tree.{Expr}
 use Rattle.language.specs.Values.{Value, Number, misfit, value}
-use Rattle.language.specs.Declared.{Declared, Port, value_at}
+use Rattle.language.specs.DeclaredNames.{Declared, Port, value_at}
 use Rattle.language.specs.Expansion.{Context, expansion, signal_of}
 
 -- what a declared name is: one of the table; a definition, with its body's own entry, the names before it and its body ('A definition is worked out at each

@@ -5,7 +5,7 @@ use Rattle.language.specs.Bytes.{same}
 use Rattle.language.specs.Tokens.{Token}
 use Rattle.language.specs.Tree.{Definition, Defined, Enumerated}
 use Rattle.language.specs.Names.{Names}
-use Rattle.language.specs.Declared.{Declared, Table, find, Port}
+use Rattle.language.specs.DeclaredNames.{Declared, Table, find, Port}
 use Rattle.language.specs.Expansion.{Context, context_of, define}
 use Rattle.entries.specs.Flat.{flat, flat_definition}
 use Rattle.name_values.specs.World.{Meaning, Stands, Defines, NoValue, World}

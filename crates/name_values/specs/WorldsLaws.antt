@@ -11,7 +11,7 @@ use Rattle.language.specs.Tokens.{Token}
 use Rattle.language.specs.Tree.{Expr, Definition, Defined, Enumerated}
 use Rattle.language.specs.Names.{Names, visible}
 use Rattle.language.specs.Values.{value}
-use Rattle.language.specs.Declared.{Declared, Table, find, Port, value_at}
+use Rattle.language.specs.DeclaredNames.{Declared, Table, find, Port, value_at}
 use Rattle.language.specs.Expansion.{Context, expansion, signal_of, context_of, define, define_all}
 use Rattle.language.specs.Laws.Basics.Lists.{All, all_more}
 use Rattle.language.specs.Laws.Basics.Tests.{split, leave, same_equal}

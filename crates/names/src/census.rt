@@ -7,7 +7,7 @@ use crate::numbering::number_declared;
 use entries::kinds;
 
 // The first place where two of them meet, how many they are, and where the 257th stands, if there is one.
-#[derive(Drop)]
+#[derive(Clone, Copy)]
 pub struct Census {
     pub again: u32,
     pub count: usize,

@@ -10,7 +10,7 @@ use entries::kinds;
 use lexer::fields::place_at;
 
 // An entry's name: where it stands in the text, and the number of its spelling.
-#[derive(Drop)]
+#[derive(Clone, Copy)]
 pub struct Name {
     pub at: u32,
     pub id: usize,

@@ -1,6 +1,8 @@
 // Names over the stored tree: refusals 6, 7 and 8, and each name resolved once.
 // `resolve` and its parts ask for a stored outline and for arrays of full length, which `resolve` itself makes: the tree of spellings and the numbers of names; tables
 // that hold no place, for declared names, for visible names and for what names refer to; and the open names of big operators.
+#![tactic(auto)]
+
 mod census;
 mod declare;
 mod entry;
@@ -46,7 +48,7 @@ pub fn constants() -> [usize; 5]
 }
 
 // How many names are declared; or a refusal's number and place.
-#[derive(Drop)]
+#[derive(Clone, Copy)]
 pub enum Naming {
     Named(usize),
     Refused(u32, u32),

@@ -12,7 +12,7 @@ use entries::kinds;
 use language::limits;
 
 // How many names are declared, and where the 257th stands, if there is one.
-#[derive(Drop)]
+#[derive(Clone, Copy)]
 pub struct Tally {
     pub count: usize,
     pub place: u32,

@@ -16,7 +16,7 @@ use entries::kinds;
 use language::limits;
 
 // The entry that is next, how many names of big operators are open, and the first places that 6 and 7 have found.
-#[derive(Drop)]
+#[derive(Clone, Copy)]
 pub struct Walk {
     pub next: usize,
     pub depth: usize,

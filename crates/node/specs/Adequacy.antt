@@ -5,7 +5,8 @@ use Rattle.std.specs.Prelude.{ℕ, suc, ◌≤◌, ◌<◌, ◌↔◌}
 use Rattle.std.proofs.Math.Bool.{So}
 use mathlib.Core.HLevel.{⊥_prop}
 use Rattle.std.proofs.Common.{inl, inr}
-use Rattle.std.proofs.Math.Logic.{◌∨₁◌, ∥∥₁_prop, ∥∥₁_elim, Iff·rfl, Iff·trans, Iff·symm, Iff·and, Iff·not}
+use Rattle.std.proofs.Math.Logic.{◌∨₁◌, ∥∥₁_prop, ∥∥₁_elim}
+use Rattle.std.proofs.Math.Logic.Iff as Equiv
 use Rattle.node.specs.Logic.{Stable, Either, Some}
 use Rattle.node.specs.LogicLaws.{stable_to, not-not, not-or, implies_or}
 use Rattle.node.specs.Temporal.{Property, Always, Until}
@@ -64,27 +65,27 @@ module _ (lem : Lem {0}) where
       (λ o n. ∥∥₁_elim o ⊥_prop (λ p. n p.0 p.1), λ o. by_cases (lem _ ∥∥₁_prop) (λ n. o (λ x p. n (x, p))))
 
   until_plain : {P P' Q Q' : Property} → Same P P' → Same Q Q' → Same (UntilA1 P Q) (Until P' Q')
-  until_plain {P} {P'} {Q} {Q'} h k t = Iff·trans plain (until_same h k t)
+  until_plain {P} {P'} {Q} {Q'} h k t = Equiv.trans plain (until_same h k t)
     where
       plain : UntilA1 P Q t ↔ Until P Q t
       plain = (λ o n. ∥∥₁_elim o ⊥_prop (λ p. n p.0 (p.1, p.2, p.3)), λ o. by_cases (lem _ ∥∥₁_prop) (λ n. o (λ x p. n (x, p.0, p.1, p.2))))
 
   -- A.1's 'and', 'implies' and G
   and-plain : {A B C D : Type 0} → Stable C → Stable D → A ↔ C → B ↔ D → AndA1 A B ↔ (C × D)
-  and-plain s u h k = Iff·trans (Iff·not (or-plain (Iff·not h) (Iff·not k))) (Iff·trans not-or (Iff·and (not-not s) (not-not u)))
+  and-plain s u h k = Equiv.trans (Equiv.not (or-plain (Equiv.not h) (Equiv.not k))) (Equiv.trans not-or (Equiv.and (not-not s) (not-not u)))
 
   implies_plain : {A B C D : Type 0} → Stable D → A ↔ C → B ↔ D → ImpliesA1 A B ↔ (C → D)
-  implies_plain u h k = Iff·trans (or-plain (Iff·not h) k) (Iff·symm (implies_or u))
+  implies_plain u h k = Equiv.trans (or-plain (Equiv.not h) k) (Equiv.symm (implies_or u))
 
   always_plain : {P P' : Property} → StableAll P' → Same P P' → Same (UnaryA1 G P) (Always P')
   always_plain {P} {P'} s h t =
-      Iff·trans (Iff·not (Iff·trans (until_plain (λ n. Iff·rfl) (λ n. Iff·not (h n)) t) (eventually_until (λ n. ¬ P' n) t))) (always_not_eventually s t)
+      Equiv.trans (Equiv.not (Equiv.trans (until_plain (λ n. Equiv.rfl) (λ n. Equiv.not (h n)) t) (eventually_until (λ n. ¬ P' n) t))) (always_not_eventually s t)
 
   -- the operators, on properties that hold unless they are refuted
   pub unary-plain : (o : Unary) {P P' : Property} → StableAll P' → Same P P' → Same (UnaryA1 o P) (UnaryMeans o P')
-  unary-plain Not s h t = Iff·not (h t)
+  unary-plain Not s h t = Equiv.not (h t)
   unary-plain X s h t = h (suc t)
-  unary-plain F {P' = P'} s h t = Iff·trans (until_plain (λ n. Iff·rfl) h t) (eventually_until P' t)
+  unary-plain F {P' = P'} s h t = Equiv.trans (until_plain (λ n. Equiv.rfl) h t) (eventually_until P' t)
   unary-plain G s h t = always_plain s h t
 
   pub binary-plain : (o : Binary) {P P' Q Q' : Property} → StableAll P' → StableAll Q' → Same P P' → Same Q Q' → Same (BinaryA1 o P Q) (BinaryMeans o P' Q')
@@ -93,13 +94,13 @@ module _ (lem : Lem {0}) where
   binary-plain Implies s u h k t = implies_plain (u t) (h t) (k t)
   binary-plain Iff s u h k t = and-plain (stable_to (u t)) (stable_to (s t)) (implies_plain (u t) (h t) (k t)) (implies_plain (s t) (k t) (h t))
   binary-plain U s u h k t = until_plain h k t
-  binary-plain R s u h k t = Iff·not (until_plain (λ n. Iff·not (h n)) (λ n. Iff·not (k n)) t)
+  binary-plain R s u h k t = Equiv.not (until_plain (λ n. Equiv.not (h n)) (λ n. Equiv.not (k n)) t)
   binary-plain W s u h k t = or-plain (until_plain h k t) (always_plain s h t)
 
   pub adequate : (f : Formula) (w : Word) → Same (HoldsA1 f w) (Holds f w)
   unfolding Holds
-  adequate True w t = Iff·rfl
+  adequate True w t = Equiv.rfl
   adequate False w t = (λ n. n tt, λ e u. e)
-  adequate (Signal k) w t = Iff·rfl
+  adequate (Signal k) w t = Equiv.rfl
   adequate (One o a) w t = unary-plain o (stable a w) (adequate a w) t
   adequate (Two o a b) w t = binary-plain o (stable a w) (stable b w) (adequate a w) (adequate b w) t

@@ -1,6 +1,6 @@
 -- Laws of formulas: congruence and stability.
 use Rattle.std.specs.Prelude.{suc}
-use Rattle.std.proofs.Math.Logic.{Iff·and, Iff·not}
+use Rattle.std.proofs.Math.Logic.Iff as Equiv
 use Rattle.node.specs.LogicLaws.{stable-not, stable-and, stable_to, stable_so, or_same, to_same}
 use Rattle.node.specs.Temporal.{Property}
 use Rattle.node.specs.TemporalLaws.{Same, StableAll, stable_always, always_same, eventually_same, until_same, release_same, weak_same}
@@ -8,16 +8,16 @@ use Rattle.node.specs.Ltl.{Unary, Not, X, G, F, Binary, And, Or, Implies, Iff, U
 
 -- equivalents put for equivalents
 pub unary-same : (o : Unary) {P P' : Property} → Same P P' → Same (UnaryMeans o P) (UnaryMeans o P')
-unary-same Not h t = Iff·not (h t)
+unary-same Not h t = Equiv.not (h t)
 unary-same X h t = h (suc t)
 unary-same G h t = always_same h t
 unary-same F h t = eventually_same h t
 
 pub binary-same : (o : Binary) {P P' Q Q' : Property} → Same P P' → Same Q Q' → Same (BinaryMeans o P Q) (BinaryMeans o P' Q')
-binary-same And h k t = Iff·and (h t) (k t)
+binary-same And h k t = Equiv.and (h t) (k t)
 binary-same Or h k t = or_same (h t) (k t)
 binary-same Implies h k t = to_same (h t) (k t)
-binary-same Iff h k t = Iff·and (to_same (h t) (k t)) (to_same (k t) (h t))
+binary-same Iff h k t = Equiv.and (to_same (h t) (k t)) (to_same (k t) (h t))
 binary-same U h k t = until_same h k t
 binary-same R h k t = release_same h k t
 binary-same W h k t = weak_same h k t

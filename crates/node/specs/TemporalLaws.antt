@@ -1,7 +1,7 @@
 -- Laws of the temporal operators.
 use Rattle.std.specs.Prelude.{ℕ, zero, suc, ◌≤◌, ◌<◌, ◌≡◌, ◌↔◌}
 use Rattle.std.proofs.Common.{subst, arith}
-use Rattle.std.proofs.Math.Logic.{Iff·rfl, Iff·trans, Iff·symm, Iff·and, Iff·not}
+use Rattle.std.proofs.Math.Logic.Iff as Equiv
 use Rattle.node.specs.Logic.{Stable}
 use Rattle.node.specs.LogicLaws.{or_left, or_right, some_at_lem, stable-not, stable_to, stable-all, or_same, some_same, all_same, to_same, not-not}
 use Rattle.node.specs.Temporal.{Property, Always, Eventually, Until, Release, WeakUntil}
@@ -18,10 +18,10 @@ abbrev pub StableAll : Property → Type 0
 StableAll P = (n : ℕ) → Stable (P n)
 
 pub always_same : {P Q : Property} → Same P Q → Same (Always P) (Always Q)
-always_same h t = all_same (λ n. to_same Iff·rfl (h n))
+always_same h t = all_same (λ n. to_same Equiv.rfl (h n))
 
 pub eventually_same : {P Q : Property} → Same P Q → Same (Eventually P) (Eventually Q)
-eventually_same h t = some_same (λ n. Iff·and Iff·rfl (h n))
+eventually_same h t = some_same (λ n. Equiv.and Equiv.rfl (h n))
 
 pub until_same : {P P' Q Q' : Property} → Same P P' → Same Q Q' → Same (Until P Q) (Until P' Q')
 until_same h k t = some_same (λ n. (
@@ -30,7 +30,7 @@ until_same h k t = some_same (λ n. (
 ))
 
 pub release_same : {P P' Q Q' : Property} → Same P P' → Same Q Q' → Same (Release P Q) (Release P' Q')
-release_same h k t = Iff·not (until_same (λ n. Iff·not (h n)) (λ n. Iff·not (k n)) t)
+release_same h k t = Equiv.not (until_same (λ n. Equiv.not (h n)) (λ n. Equiv.not (k n)) t)
 
 pub weak_same : {P P' Q Q' : Property} → Same P P' → Same Q Q' → Same (WeakUntil P Q) (WeakUntil P' Q')
 weak_same h k t = or_same (until_same h k t) (always_same h t)
@@ -47,13 +47,13 @@ always_not_eventually s t = (λ h n l. s n (λ np. h (some_at_lem n (l, np))), �
 
 -- the duals
 pub not_always : {P : Property} → StableAll P → Same (λ t. ¬ Always P t) (Eventually (λ n. ¬ P n))
-not_always s t = Iff·trans (Iff·not (Iff·symm (always_not_eventually s t))) (not-not stable-not)
+not_always s t = Equiv.trans (Equiv.not (Equiv.symm (always_not_eventually s t))) (not-not stable-not)
 
 pub not_eventually : {P : Property} → Same (λ t. ¬ Eventually P t) (Always (λ n. ¬ P n))
 not_eventually t = (λ h n l p. h (some_at_lem n (l, p)), λ h e. e (λ n c. h n c.0 c.1))
 
 pub not_until : {P Q : Property} → StableAll P → StableAll Q → Same (λ t. ¬ Until P Q t) (Release (λ n. ¬ P n) (λ n. ¬ Q n))
-not_until s u t = Iff·not (until_same (λ n. Iff·symm (not-not (s n))) (λ n. Iff·symm (not-not (u n))) t)
+not_until s u t = Equiv.not (until_same (λ n. Equiv.symm (not-not (s n))) (λ n. Equiv.symm (not-not (u n))) t)
 
 pub not_release : {P Q : Property} → Same (λ t. ¬ Release P Q t) (Until (λ n. ¬ P n) (λ n. ¬ Q n))
 not_release t = not-not stable-not

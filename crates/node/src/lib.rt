@@ -1,4 +1,6 @@
 // The node format of document 01: a word of 4 bits kind, 14 bits first operand, 14 bits second operand.
+#![tactic(auto)]
+
 pub mod refusals;
 
 ghost use Rattle.std.specs.Prelude.{◌≡◌, ◌<◌, ◌≤◌, false, length};
@@ -13,7 +15,7 @@ ghost use Rattle.node.specs.Result.{Refused};
 use basics::either;
 
 // What every entry point answers: accepted with two counts, of nodes and of signals unless the function says which, or refused with number and place.
-#[derive(Drop)]
+#[derive(Clone, Copy)]
 pub enum Answer {
     Accepted(u32, u32),
     Refused(u32, u32),
@@ -44,7 +46,7 @@ pub fn kind_count() -> u32
     KINDS
 }
 
-#[derive(Drop)]
+#[derive(Clone, Copy)]
 pub struct Node {
     pub word: u32,
 }

@@ -30,7 +30,7 @@ use Rattle.language.specs.Tree.{
   Lines,
   Spec,
 }
-use Rattle.language.specs.Declared.{inputs, outputs}
+use Rattle.language.specs.DeclaredNames.{inputs, outputs}
 use Rattle.language.specs.Laws.Basics.Lists.{All, all_append, all_more}
 use Rattle.language.specs.Laws.Basics.Tests.{pick, leave}
 use Rattle.language.specs.Laws.Values.PortLaws.{Pairs}

@@ -8,7 +8,7 @@ use Rattle.language.specs.Tokens.{Token}
 use Rattle.language.specs.Tree.{Named, Identifier, Parameter, Definition, Defined, Enumerated, Declaration, OneSignal, OfWidth, OfType, Spec}
 use Rattle.language.specs.Places.{parameter_lines, definition_lines, main_lines}
 use Rattle.language.specs.Names.{identifier_names, declares as declaresLine, over, declared_again}
-use Rattle.language.specs.Declared.{Declared, Single, WaitingBus, Table, find, identified, identifiers, words_of_type, waiting, inputs, outputs}
+use Rattle.language.specs.DeclaredNames.{Declared, Single, WaitingBus, Table, find, identified, identifiers, words_of_type, waiting, inputs, outputs}
 use Rattle.language.specs.Laws.Basics.Lists.{All, all_any, all_more, all_left, all_right, all_both}
 use Rattle.language.specs.Laws.Basics.Tests.{pick, leave, same_refl}
 use Rattle.language.specs.Listed.{declared_name}

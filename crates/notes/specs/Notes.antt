@@ -5,7 +5,7 @@ use Rattle.words.specs.Words.{word_at}
 use Rattle.language.specs.Limits.{max_tokens, max_names, max_number, max_width}
 use Rattle.language.specs.Tokens.{Token}
 use Rattle.language.specs.Grammar.{Tokens}
-use Rattle.language.specs.Declared.{Constant, Single, BusOf, Identifies, WaitingBus}
+use Rattle.language.specs.DeclaredNames.{Constant, Single, BusOf, Identifies, WaitingBus}
 use Rattle.entries.specs.Kinds as Kind
 use Rattle.entries.specs.Flat.{leaf, each}
 use Rattle.entries.specs.Stored.{first_entry, kind_of, EntriesFrom}

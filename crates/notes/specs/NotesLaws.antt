@@ -10,7 +10,7 @@ use Rattle.language.specs.Grammar.{Tokens}
 use Rattle.language.specs.Tree.{Expr, Definition, Defined, Enumerated, Spec}
 use Rattle.language.specs.Names.{visible, declares, over, declared_again}
 use Rattle.language.specs.Places.{all_lines}
-use Rattle.language.specs.Declared.{Declared, Table, Port}
+use Rattle.language.specs.DeclaredNames.{Declared, Table, Port}
 use Rattle.language.specs.Expansion.{Context, context_of, define}
 use Rattle.language.specs.Laws.Basics.Lists.{All, all_more, all_any}
 use Rattle.language.specs.Laws.Basics.Tests.{pick, leave, same_refl, same_equal}

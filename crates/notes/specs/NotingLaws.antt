@@ -8,7 +8,7 @@ use Rattle.language.specs.Limits.{max_tokens}
 use Rattle.language.specs.Tokens.{tokens}
 use Rattle.language.specs.Grammar.{Tokens}
 use Rattle.language.specs.Tree.{Spec}
-use Rattle.language.specs.Declared.{find}
+use Rattle.language.specs.DeclaredNames.{find}
 use Rattle.language.specs.Laws.Basics.Tests.{and_left, and_right}
 use Rattle.entries.specs.Kinds as Kind
 use Rattle.entries.specs.Flat.{outline}

@@ -1,6 +1,8 @@
 // The formula of one node of a table written into a shared table, each distinct subformula once, at its first place in postorder (specs/Ordering). The table may be any
 // of the format: its nodes shared, equal, unreached, in any order. Nothing here calls itself: neither stack nor time follow the formula's tree.
 // The functions ask for a table that has passed the check and for an array that holds a shared one: they are no entry points, and their callers have made sure of both.
+#![tactic(auto)]
+
 ghost use Rattle.std.specs.Prelude.{◌≡◌};
 ghost use Rattle.ordering.specs.Ordering.{arity_of, next_of, Readable, Orderable, Orders};
 
@@ -9,7 +11,7 @@ use node::{MAX_NODES, Node};
 use shared_table::put;
 
 // What comes next at a node: an operand that has no number yet, or the node's word over its operands' numbers.
-#[derive(Drop)]
+#[derive(Clone, Copy)]
 enum Next {
     Operand(usize),
     Word(u32),

@@ -1,5 +1,7 @@
 // A text's bytes to its outline: lexer, then parser (refusals 1 to 4).
 // An inner stage: `outlined` asks for a work buffer of full length, and the reader refuses a shorter one (17).
+#![tactic(auto)]
+
 ghost use Rattle.std.specs.Prelude.{◌≡◌, ◌≤◌, length};
 ghost use Rattle.language.specs.Limits.{work_bytes};
 ghost use Rattle.outline.specs.Outlining.{unread as unread', unparsed as unparsed', Outlining};
@@ -8,7 +10,7 @@ use lexer::{Lexed, lex};
 use parser::{Facts, Outline, parse};
 
 // An accepted text's numbers of tokens and of entries and what its INFO says, or a refusal's number and place.
-#[derive(Drop)]
+#[derive(Clone, Copy)]
 pub enum TextOutline {
     Accepted(usize, usize, Facts),
     Refused(u32, u32),

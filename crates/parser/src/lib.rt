@@ -1,5 +1,7 @@
 // The parser: a text's tokens to its outline, the entries of its tree (refusal 4).
 // `parse` asks for stored tokens, as `lex` leaves them; its parts ask for a cursor on them.
+#![tactic(auto)]
+
 mod blocks;
 mod enumeration;
 mod info;
@@ -19,7 +21,7 @@ use lexer::numbers;
 use subsections::subsections;
 
 // What the lines of a subsection are.
-#[derive(Drop)]
+#[derive(Clone, Copy)]
 pub enum Line {
     Parameters,
     Definitions,
@@ -28,7 +30,7 @@ pub enum Line {
 }
 
 // What INFO says: models are 0 for Mealy and 1 for Moore; the place is that of the target's word.
-#[derive(Drop)]
+#[derive(Clone, Copy)]
 pub struct Facts {
     pub semantics: u32,
     pub strict: bool,
@@ -37,14 +39,14 @@ pub struct Facts {
 }
 
 // What INFO says, and where the parser stands behind it. After a refusal the facts mean nothing.
-#[derive(Drop)]
+#[derive(Clone, Copy)]
 pub struct Informed {
     pub facts: Facts,
     pub next: Parse,
 }
 
 // An accepted text's number of entries and what its INFO says, or a refusal's number and place.
-#[derive(Drop)]
+#[derive(Clone, Copy)]
 pub enum Outline {
     Accepted(usize, Facts),
     Refused(u32, u32),

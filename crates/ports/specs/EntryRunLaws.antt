@@ -7,7 +7,7 @@ use native.Mathlib.Omega.{arith}
 use Rattle.std.proofs.Math.ListN.{length-set}
 use Rattle.std.proofs.Math.Seq.{sets}
 use Rattle.language.specs.Limits.{offset_bits, index_bits, width_bits}
-use Rattle.language.specs.Declared.{Port}
+use Rattle.language.specs.DeclaredNames.{Port}
 use Rattle.language.specs.Numbering.{fields, entries}
 use Rattle.language.specs.Listed.{flag}
 use Rattle.ports.specs.EntryRuns.{run, Stores}

@@ -1,7 +1,7 @@
 -- The number of each name's first signal, by the name's number.
 use Rattle.std.specs.Prelude.{ℕ, ◌+◌, List, [], ◌∷◌, ◌≡◌, set}
 use Rattle.language.specs.Tokens.{Token}
-use Rattle.language.specs.Declared.{Port}
+use Rattle.language.specs.DeclaredNames.{Port}
 use Rattle.language.specs.Numbering.{signals_of}
 use Rattle.language.specs.Lists.{All}
 

@@ -3,7 +3,7 @@ use Rattle.std.specs.Prelude.{ℕ, List, ◌≡◌, length}
 use Rattle.std.proofs.Math.Option.{none, some}
 use Rattle.std.proofs.lemmas.List.Edits.{sets}
 use Rattle.language.specs.Tokens.{Token}
-use Rattle.language.specs.Declared.{Port}
+use Rattle.language.specs.DeclaredNames.{Port}
 use Rattle.language.specs.Numbering.{signal_list, too_many_signals}
 use Rattle.ports.specs.Firsts.{numbered_from}
 use Rattle.ports.specs.declared.Signals.{Signals}

@@ -2,7 +2,7 @@
 use Rattle.std.specs.Prelude.{ℕ, suc, ◌≤◌, ◌<◌, ◌^◌, List, [], ◌∷◌, ◌≡◌, leb, length, get_or}
 use Rattle.language.specs.Limits.{max_width, max_signals, offset_bits}
 use Rattle.language.specs.Tokens.{Token}
-use Rattle.language.specs.Declared.{Port}
+use Rattle.language.specs.DeclaredNames.{Port}
 
 -- R: the number of a name
 pub record PortAt (R : Token → ℕ) (numbers offsets widths : List ℕ) (ins j : ℕ) (p : Port) : Type 0 where

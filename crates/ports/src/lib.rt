@@ -1,10 +1,12 @@
 // Signals by number: the signal list of a text's ports, the number of each name's first signal, and refusal 15.
 // `list_signals` asks for tables of full length and for ports whose names and widths are noted, as `declarations` leaves them.
+#![tactic(auto)]
+
 ghost use Rattle.std.specs.Prelude.{List, ◌≡◌, ℕ, ◌+◌, ◌<◌, ◌≤◌, ◌^◌, max, length};
 ghost use Rattle.std.proofs.lemmas.List.Edits.{sets};
 ghost use Rattle.language.specs.Limits.{max_signals, max_width, offset_bits};
 ghost use Rattle.language.specs.Tokens.{Token};
-ghost use Rattle.language.specs.Declared.{Port};
+ghost use Rattle.language.specs.DeclaredNames.{Port};
 ghost use Rattle.language.specs.Listed.{flag as flag'};
 ghost use Rattle.ports.specs.Ports.{Ported, Room};
 ghost use Rattle.ports.specs.EntryRuns.{run};
@@ -15,7 +17,7 @@ use language::limits::{INDICES, OFFSETS, WIDTHS};
 use node::MAX_SIGNALS;
 
 // How many signals there are; or the place of the declared name with which they pass 255.
-#[derive(Drop)]
+#[derive(Clone, Copy)]
 pub enum Signals {
     Listed(usize),
     TooMany(u32),

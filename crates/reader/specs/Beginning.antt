@@ -5,7 +5,7 @@ use Rattle.node.specs.Limits.{max_nodes}
 use Rattle.language.specs.Limits.{max_signals}
 use Rattle.language.specs.Tokens.{tokens}
 use Rattle.language.specs.Tree.{Spec}
-use Rattle.language.specs.Declared.{Port, Declarations}
+use Rattle.language.specs.DeclaredNames.{Port, Declarations}
 use Rattle.language.specs.Numbering.{in_order, first_of}
 use Rattle.language.specs.Laws.Basics.Lists.{All, all_any, all_more, all_both}
 use Rattle.language.specs.Laws.Values.RegularWords.{Regular}

@@ -6,7 +6,7 @@ use Rattle.node.specs.declared.Answer.{Answer}
 use Rattle.node.specs.declared.Answer.TheVariants.{Accepted}
 use Rattle.language.specs.Limits.{max_tokens, max_names, work_bytes}
 use Rattle.language.specs.Tree.{Spec}
-use Rattle.language.specs.Declared.{Declarations, declarations}
+use Rattle.language.specs.DeclaredNames.{Declarations, declarations}
 use Rattle.language.specs.Parsing.{parsed}
 use Rattle.language.specs.Reading.{delivered}
 use Rattle.language.specs.Laws.Grammar.Parses.{parses}

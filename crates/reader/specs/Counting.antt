@@ -2,7 +2,7 @@
 use Rattle.std.specs.Prelude.{ℕ, List, ◌≡◌}
 use Rattle.node.specs.declared.Answer.TheVariants.{Accepted}
 use Rattle.language.specs.Tree.{Spec}
-use Rattle.language.specs.Declared.{Declarations}
+use Rattle.language.specs.DeclaredNames.{Declarations}
 use Rattle.language.specs.Lines.{lines}
 use Rattle.ending.specs.Finishing as Ending
 use Rattle.line_counts.specs.Promise.{CountsOf}

@@ -11,7 +11,7 @@ use Rattle.node.specs.Answer.{says}
 use Rattle.node.specs.declared.Answer.{Answer}
 use Rattle.node.specs.declared.Answer.TheVariants.{Accepted}
 use Rattle.language.specs.Tree.{Model, Mealy, Moore, Spec}
-use Rattle.language.specs.Declared.{Declarations}
+use Rattle.language.specs.DeclaredNames.{Declarations}
 use Rattle.language.specs.Numbering.{in_order, signal_list}
 use Rattle.language.specs.Lines.{lines}
 use Rattle.language.specs.Expansion.{Sections, gather, at_signals, define_all, expand_section, section, whole, expand}

@@ -2,7 +2,7 @@
 use Rattle.std.specs.Prelude.{ℕ, ◌+◌, ◌≤◌, List, ◌≡◌, length, get_or}
 use Rattle.language.specs.Limits.{max_tokens, max_signals, work_bytes}
 use Rattle.language.specs.Tree.{Spec}
-use Rattle.language.specs.Declared.{Declarations}
+use Rattle.language.specs.DeclaredNames.{Declarations}
 use Rattle.parser.specs.Outlines.{facts_of}
 use Rattle.operands.specs.Working.{source}
 use Rattle.machine.specs.Memory.{slots_word, frame_words, reserve, spare}

@@ -4,7 +4,7 @@ use Rattle.std.proofs.Common.{sym, subst}
 use Rattle.node.specs.Limits.{max_nodes}
 use Rattle.node.specs.declared.Answer.{Answer}
 use Rattle.language.specs.Tree.{Spec}
-use Rattle.language.specs.Declared.{Declarations}
+use Rattle.language.specs.DeclaredNames.{Declarations}
 use Rattle.language.specs.Lines.{lines}
 use Rattle.language.specs.Reading.{delivered}
 use Rattle.operands.specs.Working.{source}

@@ -4,7 +4,7 @@ use Rattle.node.specs.Result.{Done, ◌>>=◌}
 use Rattle.node.specs.declared.Answer.TheVariants.{Accepted}
 use Rattle.language.specs.Limits.{max_tokens, max_names, work_bytes}
 use Rattle.language.specs.Tree.{Spec}
-use Rattle.language.specs.Declared.{Declarations, declarations}
+use Rattle.language.specs.DeclaredNames.{Declarations, declarations}
 use Rattle.language.specs.Reading.{spec_expansion, delivered}
 use Rattle.parser.specs.Outlines.{facts_of}
 use Rattle.machine.specs.Memory.{first_kept, frame_words, reserve, spare}

@@ -6,7 +6,7 @@ use Rattle.node.specs.declared.Answer.TheVariants.{Accepted}
 use Rattle.language.specs.Limits.{work_bytes}
 use Rattle.language.specs.Tree.{Spec}
 use Rattle.language.specs.Parsing.{parsed}
-use Rattle.language.specs.Declared.{Declarations, declarations}
+use Rattle.language.specs.DeclaredNames.{Declarations, declarations}
 use Rattle.claim.specs.Reads.{Reads}
 use Rattle.parser.specs.declared.Facts.{Facts}
 use Rattle.parser.specs.Outlines.{facts_of}

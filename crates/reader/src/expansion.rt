@@ -1,7 +1,7 @@
 // From a checked tree to its answer: declarations, lines and what follows them (refusals 11 to 18), with a memory that is lent.
 ghost use Rattle.std.specs.Prelude.{◌≡◌, ℕ};
 ghost use Rattle.language.specs.Tree.{Spec};
-ghost use Rattle.language.specs.Declared.{Declarations};
+ghost use Rattle.language.specs.DeclaredNames.{Declarations};
 ghost use Rattle.ending.specs.Listing.{start_of};
 ghost use Rattle.lines.specs.declared.Gathering.{Gathering as NotGathered};
 ghost use Rattle.declarations.specs.declared.Declared.{Declared as NotDeclared};
@@ -31,7 +31,7 @@ fn start(listed: Signals) -> usize
 }
 
 // An answer, and how many lines the sections have that promise something; what is said of a refused text means nothing.
-#[derive(Drop)]
+#[derive(Clone, Copy)]
 pub struct Counted {
     pub answer: Answer,
     pub lines: LineCounts,
@@ -67,7 +67,7 @@ fn ungathered(gathering: Gathering) -> Counted
 
 // A text whose names are worked out: how many entries it has, what INFO says, its ports, how many they are and how many of them inputs, and its signals, in a list
 // unless there are too many.
-#[derive(Drop)]
+#[derive(Clone, Copy)]
 struct Named {
     entries: usize,
     facts: Facts,
@@ -128,7 +128,7 @@ fn expand_declared(
 }
 
 // A checked tree: how many entries and names it has, and what INFO says.
-#[derive(Drop)]
+#[derive(Clone, Copy)]
 pub struct CheckedTree {
     pub entries: usize,
     pub names: usize,

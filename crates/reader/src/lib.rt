@@ -1,4 +1,6 @@
 // The reader: from a text's bytes to its nodes and its signal list in the lent buffers (document 01, 'Reader order').
+#![tactic(auto)]
+
 mod expansion;
 mod memories;
 mod weight;
@@ -20,7 +22,7 @@ use parser::Facts;
 use words::clear;
 
 // A text's answer, what its INFO says, and how many lines the sections have that promise something.
-#[derive(Drop)]
+#[derive(Clone, Copy)]
 pub struct Told {
     pub answer: Answer,
     pub facts: Facts,

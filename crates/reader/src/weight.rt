@@ -7,7 +7,7 @@ use entries::kinds;
 use operands::entry::kind_at;
 
 // How many entries may hold sets while another one is worked out, and how many are definitions, whose sets are kept.
-#[derive(Drop)]
+#[derive(Clone, Copy)]
 pub struct Weight {
     pub holders: usize,
     pub definitions: usize,

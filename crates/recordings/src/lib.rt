@@ -1,4 +1,6 @@
 // Recordings: header, format and letters (document 01, 'Recordings' and refusal 20).
+#![tactic(auto)]
+
 ghost use Rattle.std.specs.Prelude.{◌≡◌, ◌+◌, ◌*◌, ◌-◌, ◌≤◌, ◌<◌, ◌^◌, length};
 ghost use Rattle.node.specs.Answer.{says};
 ghost use Rattle.recordings.specs.Limits.{max_positions, signal_bits, header_bytes, header_bits, limits as limits'};
@@ -18,7 +20,7 @@ pub const MAX_POSITIONS: usize = 2048;
 pub const MAX_SIGNALS: u32 = node::MAX_SIGNALS as u32;
 
 // A recording's positions N, loop start L and signal count K.
-#[derive(Drop)]
+#[derive(Clone, Copy)]
 pub struct Lasso {
     pub n: usize,
     pub l: usize,

@@ -2,7 +2,7 @@
 use Rattle.std.specs.Prelude.{ℕ, ◌≡◌, Bool, true, List, [], ◌∷◌, ◌++◌, map, ◌↔◌, ◌⊎◌}
 use Rattle.std.proofs.Common.{sym, subst, inl, inr, ⊎_elim}
 use Rattle.std.proofs.lemmas.Bool.{false≢true}
-use Rattle.std.proofs.Math.Logic.{Iff·trans, Iff·symm}
+use Rattle.std.proofs.Math.Logic.Iff as Equiv
 use Rattle.std.proofs.Math.Option.{Option}
 use Rattle.language.specs.Bytes.{same}
 use Rattle.language.specs.Tokens.{Token}
@@ -64,7 +64,7 @@ hidden-first ns t =
     (λ e s. ⊎_elim (λ n. n) (λ c. false≢true (subst (λ (b : Bool). b ≡ true) e ((visible_called ns t).1 c))) s))
 
 under_same : (ns : Names) (i : Token) (us : List Use) (p : ℕ) → HiddenIn (i ∷ ns) us p ↔ HiddenIn ns (map (under i) us) p
-under_same ns i us p = Iff·trans (Place.among_same turned us) (Iff·symm (Place.among-map (λ u. Hidden ns u p) (under i) us))
+under_same ns i us p = Equiv.trans (Place.among_same turned us) (Equiv.symm (Place.among-map (λ u. Hidden ns u p) (under i) us))
   where
     turned : (u : Use) → Hidden (i ∷ ns) u p ↔ Hidden ns (under i u) p
     turned u = (
@@ -113,7 +113,7 @@ module _ (S : List Token) where
   known-after : (before : List TextLine) (ns : Names) (l : TextLine) → Known before ns → Known (l ∷ before) (declares l ++ ns)
   known-after before ns l k t =
       let here = Place.among-append (λ (n : Token). n.text ≡ t.text) in
-      Iff·trans (Iff·symm (here (declares l) ns)) (
+      Equiv.trans (Equiv.symm (here (declares l) ns)) (
         λ s. ⊎_elim (λ c. inl ((here (brings l) (joined brings before)).0 (inl (subst (Called t) (declares_are l) c))))
             (λ c. ⊎_elim (λ b. inl ((here (brings l) (joined brings before)).0 (inr b))) inr ((k t).0 c)) s,
         λ s. ⊎_elim

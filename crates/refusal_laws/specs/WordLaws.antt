@@ -2,7 +2,7 @@
 use Rattle.std.specs.Prelude.{ℕ, zero, suc, ◌<◌, ◌≡◌, refl, Bool, true, false, ◌&&◌, ◌||◌, List, [], ◌∷◌, ◌++◌, ◌↔◌, ◌⊎◌, eqb, leb, length, get_or, drop}
 use Rattle.std.proofs.Common.{sym, ◌∙◌, ap, subst, inl, inr, ⊎_elim, arith, eqb-true, eq-eqb, leb-true, leb-false}
 use Rattle.std.proofs.lemmas.Bool.{false≢true, eqb-false}
-use Rattle.std.proofs.Math.Logic.{Iff·trans, Iff·symm}
+use Rattle.std.proofs.Math.Logic.Iff as Equiv
 use Rattle.std.proofs.Math.Option.{Option}
 use Rattle.language.specs.Limits.{max_words, max_marks}
 use Rattle.language.specs.Bytes.{is_mark}
@@ -132,7 +132,7 @@ among-joined : {A B : Type 0} (Q : B → Type 0) (f : A → List B) (l : List A)
 among-joined Q f [] = (λ s. s, λ s. s)
 among-joined Q f (a ∷ l) =
     let more = among-joined Q f l in
-    Iff·trans (Iff·symm (among-append Q (f a) (joined f l))) (λ s. ⊎_elim inl (λ t. inr (more.0 t)) s, λ s. ⊎_elim inl (λ t. inr (more.1 t)) s)
+    Equiv.trans (Equiv.symm (among-append Q (f a) (joined f l))) (λ s. ⊎_elim inl (λ t. inr (more.0 t)) s, λ s. ⊎_elim inl (λ t. inr (more.1 t)) s)
 
 among-never : {A : Type 0} (l : List A) → ¬ Among (λ a. ⊥) l
 among-never [] s = s
@@ -150,7 +150,7 @@ among_swap : {A B : Type 0} (R : A → B → Type 0) (l : List A) (m : List B) �
 among_swap R l [] = (λ s. absurd (among-never l s), λ s. absurd s)
 among_swap R l (b ∷ m) =
     let more = among_swap R l m in
-    Iff·trans (among-either (λ a. R a b) (λ a. Among (R a) m) l) (λ s. ⊎_elim inl (λ t. inr (more.0 t)) s, λ s. ⊎_elim inl (λ t. inr (more.1 t)) s)
+    Equiv.trans (among-either (λ a. R a b) (λ a. Among (R a) m) l) (λ s. ⊎_elim inl (λ t. inr (more.0 t)) s, λ s. ⊎_elim inl (λ t. inr (more.1 t)) s)
 
 words_are : (is : List Identifier) → words_in is ≡ words_of is
 words_are [] = refl
@@ -168,7 +168,7 @@ Shares p u v = OneValuation u v × (p ≡ v.at)
 
 against : (us : List Token) (is : List Identifier) (p : ℕ) → Among (λ u. Among (Shares p u) (words_in is)) us ↔ Among (λ j. Among (λ u. Among (Shares p u) j.words) us) is
 against us is p =
-    Iff·trans (among_same (λ u. subst (λ (ws : List Token). Among (Shares p u) ws ↔ Among (λ j. Among (Shares p u) j.words) is) (sym (words_are is)) (among-joined (Shares p u) (λ i. i.words) is)) us)
+    Equiv.trans (among_same (λ u. subst (λ (ws : List Token). Among (Shares p u) ws ↔ Among (λ j. Among (Shares p u) j.words) is) (sym (words_are is)) (among-joined (Shares p u) (λ i. i.words) is)) us)
     (among_swap (λ u j. Among (Shares p u) j.words) us is)
 
 clashes-first : (is : List Identifier) → All OfMarks is → FirstPlace (SharedAt is) (clashes is)

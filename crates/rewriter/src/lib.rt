@@ -1,4 +1,6 @@
 // The rewriter (document 01, 'Forms'): writes the root's tree of a table of nodes, in a form, as a postorder tree.
+#![tactic(auto)]
+
 ghost use Rattle.std.specs.Prelude.{◌≤◌, length};
 ghost use Rattle.node.specs.Limits.{max_nodes, field_limit};
 ghost use Rattle.node.specs.Table.{root, tree_at};

@@ -1,4 +1,6 @@
 // Runs the rewriter on each refusal of document 01's table, on its one file in full, and on the deepest tables.
+#![tactic(auto)]
+
 ghost use Rattle.std.specs.Prelude.{◌<◌};
 
 use basics::least;

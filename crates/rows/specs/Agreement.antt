@@ -8,7 +8,7 @@ use Rattle.std.proofs.Math.Bool
 use Rattle.std.proofs.Math.Bool.{true, false, So}
 use Rattle.std.specs.Bool.{beq}
 use Rattle.std.proofs.lemmas.Bool.{false≢true}
-use Rattle.std.proofs.Math.Logic.{Iff·rfl, Iff·trans, Iff·symm, Iff·not, Iff·and}
+use Rattle.std.proofs.Math.Logic.Iff as Equiv
 use Rattle.std.proofs.Math.Decide.{dec_lt, ℕ_discrete}
 use Rattle.node.specs.Logic.{Either}
 use Rattle.node.specs.LogicLaws.{or_left, or_right, or_cases, some_at_lem, some_cases, stable-not, stable_so, so_and, not-not, or_same, to_same}
@@ -37,17 +37,17 @@ so_imp true y = (λ h. h yes!, λ h e. h)
 so_imp false y = (λ h. yes!, λ h e. absurd (false≢true e))
 
 so_iff : (x y : Bool) → (So x ↔ So y) ↔ So (beq x y)
-so_iff true true = (λ h. yes!, λ h. Iff·rfl)
+so_iff true true = (λ h. yes!, λ h. Equiv.rfl)
 so_iff true false = (λ h. h.0 yes!, λ h. absurd (false≢true h))
 so_iff false true = (λ h. h.1 yes!, λ h. absurd (false≢true h))
-so_iff false false = (λ h. yes!, λ h. Iff·rfl)
+so_iff false false = (λ h. yes!, λ h. Equiv.rfl)
 
 -- the values a of a row say where P holds along the infinite word
 abbrev pub Tells : ℕ → ℕ → (ℕ → Bool) → Property → Type 0
 Tells n l a P = (t : ℕ) → P t ↔ So (a (place n l t))
 
 tells-not : (n l : ℕ) (a : ℕ → Bool) {P : Property} → Tells n l a P → Tells n l (λ q. not (a q)) (λ t. ¬ P t)
-tells-not n l a h t = Iff·trans (Iff·not (h t)) (so_not (a (place n l t)))
+tells-not n l a h t = Equiv.trans (Equiv.not (h t)) (so_not (a (place n l t)))
 
 tells-stable : (n l : ℕ) (a : ℕ → Bool) {P : Property} → Tells n l a P → StableAll P
 tells-stable n l a h t nn = (h t).1 (stable_so (a (place n l t)) (λ k. nn (λ p. k ((h t).0 p))))
@@ -182,19 +182,19 @@ module _ (n l : ℕ) (inside : l < n) {P Q : Property} (a b : ℕ → Bool) (at_
 
   weak_tells : Tells n l (row_binary n l W a b) (WeakUntil P Q)
   weak_tells t =
-      Iff·trans (Iff·trans (Iff·symm (not-not stable-not)) (Iff·not (not_weak (tells-stable n l a at_p) t)))
+      Equiv.trans (Equiv.trans (Equiv.symm (not-not stable-not)) (Equiv.not (not_weak (tells-stable n l a at_p) t)))
       (flip n l _ (λ q v. b q || (a q && v)) (λ q v. weak_dual (a q) (b q) v)
       (until_tells n l inside _ _ (λ q. not (b q)) (λ q. not (a q) && not (b q)) (tells-not n l b at-q)
-      (λ i. Iff·trans (Iff·and (tells-not n l a at_p i) (tells-not n l b at-q i)) (so_and (not (a (place n l i))) (not (b (place n l i)))))) t)
+      (λ i. Equiv.trans (Equiv.and (tells-not n l a at_p i) (tells-not n l b at-q i)) (so_and (not (a (place n l i))) (not (b (place n l i)))))) t)
 
   eventually_tells : Tells n l (row_unary n l F a) (Eventually P)
-  eventually_tells t = Iff·trans (Iff·symm (eventually_until P t)) (until_tells n l inside _ _ (λ q. true) a (λ i. (λ u. yes!, λ e. tt)) at_p t)
+  eventually_tells t = Equiv.trans (Equiv.symm (eventually_until P t)) (until_tells n l inside _ _ (λ q. true) a (λ i. (λ u. yes!, λ e. tt)) at_p t)
 
   always_tells : Tells n l (row_unary n l G a) (Always P)
   always_tells t =
-      Iff·trans (Iff·symm (always_not_eventually (tells-stable n l a at_p) t))
+      Equiv.trans (Equiv.symm (always_not_eventually (tells-stable n l a at_p) t))
       (flip n l _ (λ q v. a q && v) (λ q v. always_dual (a q) v)
-      (λ i. Iff·trans (Iff·symm (eventually_until (λ j. ¬ P j) i)) (until_tells n l inside _ _ (λ q. true) (λ q. not (a q)) (λ j. (λ u. yes!, λ e. tt)) (tells-not n l a at_p) i)) t)
+      (λ i. Equiv.trans (Equiv.symm (eventually_until (λ j. ¬ P j) i)) (until_tells n l inside _ _ (λ q. true) (λ q. not (a q)) (λ j. (λ u. yes!, λ e. tt)) (tells-not n l a at_p) i)) t)
 
 unary-tells : (n l : ℕ) → l < n → (o : Unary) (a : ℕ → Bool) {P : Property} → Tells n l a P → Tells n l (row_unary n l o a) (UnaryMeans o P)
 unfolding place
@@ -204,11 +204,11 @@ unary-tells n l h G a p t = always_tells n l h a a p p t
 unary-tells n l h F a p t = eventually_tells n l h a a p p t
 
 binary-tells : (n l : ℕ) → l < n → (o : Binary) (a b : ℕ → Bool) {P Q : Property} → Tells n l a P → Tells n l b Q → Tells n l (row_binary n l o a b) (BinaryMeans o P Q)
-binary-tells n l h And a b p q t = Iff·trans (Iff·and (p t) (q t)) (so_and (a (place n l t)) (b (place n l t)))
-binary-tells n l h Or a b p q t = Iff·trans (or_same (p t) (q t)) (so_or (a (place n l t)) (b (place n l t)))
-binary-tells n l h Implies a b p q t = Iff·trans (to_same (p t) (q t)) (so_imp (a (place n l t)) (b (place n l t)))
+binary-tells n l h And a b p q t = Equiv.trans (Equiv.and (p t) (q t)) (so_and (a (place n l t)) (b (place n l t)))
+binary-tells n l h Or a b p q t = Equiv.trans (or_same (p t) (q t)) (so_or (a (place n l t)) (b (place n l t)))
+binary-tells n l h Implies a b p q t = Equiv.trans (to_same (p t) (q t)) (so_imp (a (place n l t)) (b (place n l t)))
 binary-tells n l h Iff a b p q t =
-    Iff·trans (Iff·and (to_same (p t) (q t)) (to_same (q t) (p t))) (so_iff (a (place n l t)) (b (place n l t)))
+    Equiv.trans (Equiv.and (to_same (p t) (q t)) (to_same (q t) (p t))) (so_iff (a (place n l t)) (b (place n l t)))
 binary-tells n l h U a b p q t = until_tells n l h _ _ a b p q t
 binary-tells n l h R a b p q t = release_tells n l h a b p q t
 binary-tells n l h W a b p q t = weak_tells n l h a b p q t
@@ -218,11 +218,11 @@ pub row-tells : (n l : ℕ) (letter : ℕ → ℕ → Bool) → l < n → (f : F
 unfolding row Holds
 row-tells n l letter h True t = (λ u. yes!, λ e. tt)
 row-tells n l letter h False t = (λ e. absurd e, λ e. false≢true e)
-row-tells n l letter h (Signal k) t = Iff·rfl
+row-tells n l letter h (Signal k) t = Equiv.rfl
 row-tells n l letter h (One o f) t = unary-tells n l h o (row n l letter f) (row-tells n l letter h f) t
 row-tells n l letter h (Two o f g) t = binary-tells n l h o (row n l letter f) (row n l letter g) (row-tells n l letter h f) (row-tells n l letter h g) t
 
 -- and at each of the lasso's positions
 pub row-right : (n l : ℕ) (letter : ℕ → ℕ → Bool) → l < n → (f : Formula) (p : ℕ) → p < n
     → So (row n l letter f p) ↔ Holds f (word_of n l letter) p
-row-right n l letter h f p m = Iff·symm (subst (λ x. Holds f (word_of n l letter) p ↔ So (row n l letter f x)) (place_same n l p m) (row-tells n l letter h f p))
+row-right n l letter h f p m = Equiv.symm (subst (λ x. Holds f (word_of n l letter) p ↔ So (row n l letter f x)) (place_same n l p m) (row-tells n l letter h f p))

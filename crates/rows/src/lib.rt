@@ -1,4 +1,6 @@
 // The row of one node from the rows of its operands (document 01, 'Recordings'): 64 positions at a time, then eight, then the at most seven that are left.
+#![tactic(auto)]
+
 ghost use Rattle.std.specs.Prelude.{◌≡◌, ◌⊎◌, ◌+◌, ◌≤◌, ◌<◌, length};
 ghost use Rattle.rows.specs.Memory.{Written, Copied};
 ghost use Rattle.rows.specs.Ready.{Ready, Plain, Boolean, Temporal, pair_op, op_row};
@@ -15,7 +17,7 @@ pub mod booleans;
 pub mod plain;
 
 // A node's kind, its signal number, and the bytes at which its operands' rows start.
-#[derive(Drop)]
+#[derive(Clone, Copy)]
 pub struct Op {
     pub kind: u32,
     pub signal: usize,
@@ -24,7 +26,7 @@ pub struct Op {
 }
 
 // Spans of a row, one after the other: `count` of them from position `from` on, each of `size` positions.
-#[derive(Drop)]
+#[derive(Clone, Copy)]
 pub struct Stretch {
     pub from: usize,
     pub count: usize,

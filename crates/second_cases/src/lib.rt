@@ -1,1 +1,3 @@
 // Cases written by the second converter: see specs/.
+
+#![tactic(auto)]

@@ -9,7 +9,7 @@ use Rattle.language.specs.Limits.{max_tokens, max_number}
 use Rattle.language.specs.Tokens.{tokens}
 use Rattle.language.specs.Tree.{Expr, Empty, Element}
 use Rattle.language.specs.Expansion.{Context}
-use Rattle.language.specs.Declared.{Port}
+use Rattle.language.specs.DeclaredNames.{Port}
 use Rattle.language.specs.Sets.{insert}
 use Rattle.language.specs.Values.{Number, Set, set, limited, value}
 use Rattle.language.specs.Laws.Basics.Lists.{All}

@@ -7,7 +7,7 @@ use Rattle.node.specs.Result.{Result, Done, Refused, ◌>>=◌}
 use Rattle.language.specs.Tokens.{Token}
 use Rattle.language.specs.Tree.{Expr, Named, Numeral, Truth, Index, Paren, Prefixed, Joined, Nexts, InWindow, Each, Between, Listed, Empty, Element, Range}
 use Rattle.language.specs.Expansion.{Context}
-use Rattle.language.specs.Declared.{Port}
+use Rattle.language.specs.DeclaredNames.{Port}
 use Rattle.language.specs.Sets.{insert}
 use Rattle.language.specs.Values.{Value, Set, set, number}
 use Rattle.language.specs.Laws.Basics.Tests.{pick, leave}

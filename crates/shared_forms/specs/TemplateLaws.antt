@@ -4,7 +4,7 @@ use Rattle.std.specs.Prelude.{ℕ, zero, suc, ◌+◌, ◌*◌, ◌≤◌, ◌<�
 use Rattle.std.proofs.Common.{ap, ◌∙◌, sym, subst, get_or-take, get_or-drop, arith, leb-true, ltb-true, ne_eqb}
 use mathlib.Core.List.Memᴰ
 use mathlib.Core.List.{List, [], map, ◌∷◌, ◌++◌, Memᴰ}
-use Rattle.std.proofs.Math.Bool.{or_false}
+use Rattle.std.proofs.Math.Bool.{or-false}
 use Rattle.std.proofs.lemmas.Bool.{false≢true}
 use Rattle.std.proofs.lemmas.List.{length-map}
 use Rattle.std.proofs.Math.ListN.{get_or-map}
@@ -125,7 +125,7 @@ within_local n (Two o a b) h = (within_local n a (and_left (within n a) (within 
 
 -- such a signal is below n unless it is the fifth
 local_signal : (n r : ℕ) → (ltb r n || eqb r 4) ≡ true → (r ≡ 4 → ⊥) → r < n
-local_signal n r h other = ltb-true r n (sym (ap (λ (b : Bool). ltb r n || b) (ne_eqb r 4 other) ∙ or_false (ltb r n)) ∙ h)
+local_signal n r h other = ltb-true r n (sym (ap (λ (b : Bool). ltb r n || b) (ne_eqb r 4 other) ∙ or-false (ltb r n)) ∙ h)
 
 pub local_below : {n r : ℕ} {f : Formula} → f ≡ Signal r → Local n f → r < 4 → r < n
 unfolding Local

@@ -1,6 +1,8 @@
 // The root of a table in one of its forms (document 01, 'Forms') as a table in which each distinct subformula stands once (document 02, F-10). Neither time nor memory follow
 // the tree, which a table can make larger than any number that a machine counts: a node's form is put together once, and its negation, where it is needed, once more. The nodes
 // are not in postorder yet.
+#![tactic(auto)]
+
 pub mod fill;
 pub mod mark;
 pub mod recipes;

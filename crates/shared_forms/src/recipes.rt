@@ -97,7 +97,7 @@ pub fn count_at(recipes: &[u8; TABLE_BYTES], row: usize) -> usize
 }
 
 // A node of a recipe. Its fields are numbers of earlier nodes, or the signal that stands for an operand's form.
-#[derive(Drop)]
+#[derive(Clone, Copy)]
 pub struct Step {
     pub kind: u32,
     pub first: usize,
@@ -136,7 +136,7 @@ fn list_of(form: u32, half: usize) -> usize
 }
 
 // A node whose form is needed: the row of the recipe, and the node's fields.
-#[derive(Drop)]
+#[derive(Clone, Copy)]
 pub struct Source {
     pub row: usize,
     pub first: usize,

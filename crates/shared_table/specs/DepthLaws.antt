@@ -47,7 +47,7 @@ module _ {out : List ℕ} where
 
   ends : {w v d l bits : ℕ} → Passed out w d l bits → Leads out w v l bits → Ends out w v
   ends {d = d} {l = l} {bits = bits} x (here e) = record { count = d; link = l; bits = bits; passed = x; leads = e }
-  ends x (further d other y) = ends (another x d other) y
+  ends {d = d'} x (further d other y) = ends {d = suc d'} (another x d other) y
 
 module _ {out : List ℕ} {n : ℕ} (t : Index out n) where
   -- a search comes to heads and links alone

@@ -1,5 +1,5 @@
 -- How the index grows by one node.
-use Rattle.std.specs.Prelude.{ℕ, ◌+◌, ◌/◌, ◌^◌, ◌≤◌, ◌<◌, List, ◌≢◌, ◌≡◌, refl, length, get_or, set}
+use Rattle.std.specs.Prelude.{ℕ, suc, ◌+◌, ◌/◌, ◌^◌, ◌≤◌, ◌<◌, List, ◌≢◌, ◌≡◌, refl, length, get_or, set}
 use Rattle.std.proofs.Common.{sym, ap, ◌∙◌, subst, arith}
 use Rattle.std.proofs.Math.Decide.{ℕ_discrete}
 use Rattle.std.proofs.Math.ListN.{length-set}
@@ -96,7 +96,7 @@ module _ {out : List ℕ} {n w r bits : ℕ} (t : Index out n) (s : Seeking out 
 
   leads_kept : {u v d l rest : ℕ} → v ≢ 0 → Passed out u d l rest → Leads out u v l rest → Leads out' u v l rest
   leads_kept {l = l} h q (here e) = here (link_kept l (passed_link t q) (λ z. h (sym e ∙ z)) ∙ e)
-  leads_kept h q (further d other x) = further-kept (passed_link t q) d other (leads_kept h (another q d other) x)
+  leads_kept {d = d'} h q (further d other x) = further-kept (passed_link t q) d other (leads_kept {d = suc d'} h (another q d other) x)
 
   leads_back : {v d l rest : ℕ} → Passed out w d l rest → Leads out' w v l rest → Leads out' w v (head_of w) w
   leads_back start x = x

@@ -1,6 +1,8 @@
 // A table of nodes in one lent array, with an index by which an equal node is found, so that each distinct node stands there once (specs/Shared). Nodes are written
 // by `put` alone. No choice of words has a search look at more than 33 nodes (specs/DepthLaws).
 // The functions ask for an array that holds a table, as an array of zeros does that is long enough: they are no entry points, and their callers have one.
+#![tactic(auto)]
+
 ghost use Rattle.std.specs.Prelude.{List, ◌≡◌, ℕ, ◌<◌, length, get_or};
 ghost use Rattle.shared_table.specs.Shared.{head_of, counted, Shares, Shared, Puts, Sought};
 

@@ -1,6 +1,8 @@
 // Writing a formula's nodes into a shared table: a node that stands there already is not written again. A formula's answer is the index behind its node, its number
 // plus 1; where there is no room it is `TOO_MANY`, and so is what is made of such a formula or written after it.
 // The functions ask for an array that holds a table, and for operator codes and signal numbers that a node's fields hold; nobody has to ask for room.
+#![tactic(auto)]
+
 ghost use Rattle.std.specs.Prelude.{◌<◌};
 ghost use Rattle.node.specs.Limits.{field_limit, kind_limit};
 ghost use Rattle.node.specs.Ltl.{Signal};

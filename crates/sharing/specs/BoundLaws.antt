@@ -67,10 +67,10 @@ owns_few (g ∷ l) =
 abbrev Owned : List Formula → Formula → Type 0
 Owned l g = (x : Formula) → Memᴰ x (own g) → Memᴰ x l
 
-member-owned : (l : List Formula) (g : Formula) → Memᴰ g l → Owned (owns l) g
+member-owned : (g : Formula) (l : List Formula) → Memᴰ g l → Owned (owns l) g
 unfolding owns
-member-owned l g (Memᴰ.head {x = y} {xs} e) x m = Memᴰ.append_left (owns xs) (subst (λ (z : Formula). Memᴰ x (own z)) e m)
-member-owned l g (Memᴰ.tail {x = y} {xs} k) x m = Memᴰ.append_right (own y) (member-owned xs g k x m)
+member-owned g l (Memᴰ.head {x = y} {xs} e) x m = Memᴰ.append_left (owns xs) (subst (λ (z : Formula). Memᴰ x (own z)) e m)
+member-owned g l (Memᴰ.tail {x = y} {xs} k) x m = Memᴰ.append_right (own y) (member-owned g xs k x m)
 
 -- the places of a formula's own
 module _ (l : List Formula) (g : Formula) (o : Owned l g) where
@@ -136,7 +136,7 @@ forms_held l (Two W a b) h =
 -- six times a list that has each subformula
 bound-within : (f : Formula) (l : List Formula) → Holding l f → distinct_count (plain f) ≤ 6 * length l
 bound-within f l h =
-    let o = everywhere_map (λ g. Memᴰ g l) (Owned (owns l)) (λ g m. member-owned l g m) f h in
+    let o = everywhere_map (λ g. Memᴰ g l) (Owned (owns l)) (λ g m. member-owned g l m) f h in
     let c = count-within (plain f) (owns l) (forms_held (owns l) f o).0 in
     let k = owns_few l in
     omega arith

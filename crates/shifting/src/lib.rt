@@ -1,4 +1,6 @@
 // A finished node table with an X behind each late signal's node (document 001, 3.2, 'Conversion between system models'): one pass, every node once.
+#![tactic(auto)]
+
 ghost use Rattle.std.specs.Prelude.{◌≡◌, length, get_or};
 ghost use Rattle.node.specs.Limits.{max_nodes};
 ghost use Rattle.language.specs.Shifting.{is_output};

@@ -1,4 +1,6 @@
 // The names that the signals of a text are written with, one slot each; and the first that cannot be written, 22.
+#![tactic(auto)]
+
 ghost use Rattle.std.specs.Prelude.{◌≡◌, ◌∷◌, [], suc, ◌+◌, ◌*◌, ◌-◌, ◌^◌, ◌≤◌, ◌<◌, length, drop};
 ghost use Rattle.language.specs.Limits.{max_name, index_bits};
 ghost use Rattle.language.specs.Bytes.{is_name_byte as isNameByte', same as same'};

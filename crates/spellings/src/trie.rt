@@ -51,7 +51,7 @@ fn nodes_with(nodes: usize, node: usize) -> usize
     if nodes <= node { node + 1 } else { nodes }
 }
 
-#[derive(Drop)]
+#[derive(Clone, Copy)]
 pub struct Spelt {
     pub node: usize,
     pub nodes: usize,

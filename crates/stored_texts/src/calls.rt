@@ -8,14 +8,14 @@ use basics::least;
 use language::limits;
 use node::{Answer, MAX_NODES, MAX_SIGNALS};
 
-#[derive(Drop)]
+#[derive(Clone, Copy)]
 pub enum Call {
     Read,
     Convert(u32),
 }
 
 // The lengths of the lent buffers.
-#[derive(Drop)]
+#[derive(Clone, Copy)]
 pub struct Room {
     pub work: usize,
     pub nodes: usize,

@@ -1,4 +1,6 @@
 // Programs over stored texts: what the reader and the converter answer on every text of the files that the arguments name.
+#![tactic(auto)]
+
 mod calls;
 mod pieces;
 mod print;
@@ -8,7 +10,7 @@ mod sums;
 use crate::pieces::piece_at;
 
 // What a program prints of a text: one line, or the answers to every room with the nodes and the signals of a small text.
-#[derive(Drop)]
+#[derive(Clone, Copy)]
 pub enum Detail {
     Line,
     Whole,

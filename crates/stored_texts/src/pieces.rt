@@ -7,7 +7,7 @@ const LINE_FEED: u8 = 10;
 const SEPARATOR: u8 = 30;
 
 // A text's place in the file: where its name ends, where the text starts and ends, and where the next name starts.
-#[derive(Drop)]
+#[derive(Clone, Copy)]
 pub struct Piece {
     pub name: usize,
     pub start: usize,

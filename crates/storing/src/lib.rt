@@ -2,6 +2,8 @@
 // crate node's specs/Written has their names.
 // The functions write to `out` from an index on, as far as `out` reaches. They yield the next index, or a number above 8,192 where there is no room: an enum
 // would be passed in memory. They ask for an index within `out` and for at most 8,192 entries: their callers have made sure of both.
+#![tactic(auto)]
+
 ghost use Rattle.std.specs.Prelude.{◌∷◌, [], ◌-◌, ◌<◌, ◌≤◌};
 ghost use Rattle.node.specs.Limits.{field_limit, kind_limit};
 ghost use Rattle.node.specs.Ltl.{Signal};

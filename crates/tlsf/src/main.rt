@@ -1,4 +1,6 @@
 // The program of document 01, 'One file in full': reads a text on standard input and prints the listing of form 0, or of the form that its one argument names.
+#![tactic(auto)]
+
 use forms::{AS_EXPANDED, CORE_FORM};
 use libc::STDIN_FILENO;
 use node::{Answer, MAX_NODES, MAX_SIGNALS};

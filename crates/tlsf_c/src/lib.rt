@@ -1,5 +1,7 @@
 // The library for callers in C and Rust: a slice is a pointer and a length, the answer one 64-bit word. include/tlsf.h declares it, and says what the caller of a
 // pointer owes.
+#![tactic(auto)]
+
 ghost use Rattle.std.specs.Prelude.{◌≡◌};
 ghost use Rattle.node.specs.Answer.{says};
 ghost use Rattle.rewriter.specs.Promise.{Rewrites};

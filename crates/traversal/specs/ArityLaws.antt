@@ -2,7 +2,7 @@
 use Rattle.std.specs.Prelude.{ℕ, Bool, true, false, ◌&&◌, not, ◌≡◌, refl, ltb, get_or}
 use Rattle.std.proofs.Common.{sym, ap, ◌∙◌, eqb-true, eq-eqb, ne_eqb}
 use Rattle.std.proofs.Math.Dec.{eqb}
-use Rattle.std.proofs.lemmas.Bool.{eqb-false, not_true}
+use Rattle.std.proofs.lemmas.Bool.{eqb-false, not-true}
 use Rattle.language.specs.Bytes.{if◌then◌else◌}
 use Rattle.language.specs.Operators.{Equal, Unequal, Less, AtMost, Greater, AtLeast, Big, BigSum, BigProduct, BigCap, BigCup, BigAnd, BigOr, Infix, Calculates, Combines, Compares, Membership, Connects, Prefix, Measures, WidthOf, Applies}
 use Rattle.language.specs.Laws.Basics.Tests.{and_left, and_right, pick, leave}
@@ -25,8 +25,8 @@ plain n k h =
     let g = and_right (not (eqb k Kind.element)) _ h in
     let f = and_right (not (eqb k Kind.listed)) _ g in
     record {
-      other = not_true _ (and_left (not (eqb k Kind.element)) _ h);
-      unlisted = not_true _ (and_left (not (eqb k Kind.listed)) _ g);
+      other = not-true _ (and_left (not (eqb k Kind.element)) _ h);
+      unlisted = not-true _ (and_left (not (eqb k Kind.listed)) _ g);
       part = and_left (ltb k first_line) _ f;
       arity = eqb-true _ _ (and_right (ltb k first_line) _ f);
     }

@@ -1,5 +1,7 @@
 // One pass over the entries of a text's tree, operands before their operators, with a stack of what is known of the operands.
 // The functions ask for an index within the lent buffers and a kind of six bits: every pass goes over the entries, whose words hold no others.
+#![tactic(auto)]
+
 ghost use Rattle.std.specs.Prelude.{◌≡◌, ◌-◌, ◌≤◌, ◌<◌, length, get_or};
 ghost use Rattle.std.proofs.Math.Seq.{slice};
 ghost use Rattle.language.specs.Limits.{work_bytes, max_tokens};
@@ -15,7 +17,7 @@ use entries::kinds;
 use words::get;
 
 // An entry as a pass sees it: its kind, its token's word, its size.
-#[derive(Drop)]
+#[derive(Clone, Copy)]
 pub struct Cell {
     pub kind: u32,
     pub token: u32,
@@ -23,7 +25,7 @@ pub struct Cell {
 }
 
 // A place in the text, or none.
-#[derive(Drop)]
+#[derive(Clone, Copy)]
 pub enum Place {
     At(u32),
     Nowhere,

@@ -1,5 +1,7 @@
 // Refusal 9 over the stored tree: 'operand, width, declaring type or a line's expression of a wrong type'. One pass, with a stack of the operands' types and starts.
 // An inner stage: `wrong_type` asks for a work buffer of full length, which the reader has tested (17), and for as many entries as the parser counted.
+#![tactic(auto)]
+
 mod codes;
 mod table;
 
@@ -24,7 +26,7 @@ fn place_of(word: u32) -> u32
 }
 
 // The kind of the entry before, how many operands are on the stack, and the first place found.
-#[derive(Drop)]
+#[derive(Clone, Copy)]
 pub struct Progress {
     pub before: u32,
     pub top: usize,

@@ -3,7 +3,7 @@ use Rattle.std.specs.Prelude.{ℕ, ◌+◌, ◌*◌, ◌≤◌, ◌<◌, List, �
 use Rattle.std.proofs.Common.{sym, ap, ◌∙◌, subst, arith, add-zero, length-set, get_or-set_same, get_or-set_other, drop-set-lt}
 use Rattle.std.proofs.Math.Decide.{ℕ_discrete}
 use Rattle.language.specs.Limits.{max_names}
-use Rattle.language.specs.Declared.{Declared}
+use Rattle.language.specs.DeclaredNames.{Declared}
 use Rattle.language.specs.Tree.{Expr}
 use Rattle.language.specs.Expansion.{Context}
 use Rattle.memory_sets.specs.Places.{Copied}

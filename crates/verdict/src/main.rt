@@ -1,5 +1,7 @@
 // The verdict of a recording on a text: reads the text on standard input and the recording from the file that its argument names; prints `holds`, or `fails` and on a
 // second line the section and the number of the line that failed, or `refused`, number, place. What cannot be read is told on standard error, and then nothing is printed.
+#![tactic(auto)]
+
 use diagnosis::{Diagnosis, diagnose};
 use evaluator::Verdict;
 use judging::ROWS;

@@ -1,5 +1,7 @@
 // Big-endian 32-bit words in a lent byte buffer: word i is the bytes 4 i to 4 i + 3.
 // `get` and `put` ask for a word that lies in the buffer.
+#![tactic(auto)]
+
 ghost use Rattle.std.specs.Prelude.{◌≡◌, ◌+◌, ◌*◌, ◌≤◌, length};
 ghost use Rattle.basics.specs.Clearing.{cleared};
 ghost use Rattle.words.specs.Words.{word_at, put_word};

@@ -1,4 +1,6 @@
 // The writer: from a text to a basic text that reads back as the same nodes (document 02, F-1). It reads into a table and a list of its own.
+#![tactic(auto)]
+
 ghost use Rattle.std.specs.Prelude.{◌≡◌};
 ghost use Rattle.writer.specs.Promise.{unwritten as unwritten', Writes};
 

@@ -1,5 +1,7 @@
 // Runs the writer on the texts that its arguments name, and the reader on what it wrote: names of 64 and 65 bytes, written texts of 32,768 bytes, 8,192 tokens and 256
 // levels and one beyond, every sign, both models, a table of 8,191 levels. A written text is told by its bytes and a sum of them.
+#![tactic(auto)]
+
 use basic::Written;
 use basics::u8_u64::wide;
 use libc::STDOUT_FILENO;

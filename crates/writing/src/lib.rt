@@ -1,5 +1,7 @@
 // Writing a formula's nodes into a table of 8,192: every node through crate storing, which answers the next index, 8,193 where there is no room.
 // The functions ask for operator codes and signal numbers that a node's fields hold; nobody has to ask for room, since what does not fit is the index 8,193.
+#![tactic(auto)]
+
 ghost use Rattle.std.specs.Prelude.{◌∷◌, [], ◌<◌};
 ghost use Rattle.node.specs.Limits.{field_limit, kind_limit};
 ghost use Rattle.node.specs.Ltl.{Signal};

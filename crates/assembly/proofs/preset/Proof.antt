@@ -1,7 +1,7 @@
 -- `preset` meets its contract: its operators go over the sections that were written.
 use mathlib.Core.Path.{refl}
 use borrow.Author.Rules.{rules}
-use borrow.Author.Tests.{not_true, not_false}
+use borrow.Author.Tests.{not-true, not-false}
 use Rattle.node.specs.Operators.{Not, And, W}
 use Rattle.language.specs.Tree.{Preset, Assert, Require}
 use Rattle.assembly.proofs.preset.Statement.{statement}
@@ -14,7 +14,7 @@ returns : tie.Need-returns
 returns c =
     let section-at = c.before in
     let start = section-at.before.before.before in
-    λ ss l. rw (not_true start.args.strict c.if1.true) (section-at.section.ensures Preset refl ss l)
+    λ ss l. rw (not-true start.args.strict c.if1.true) (section-at.section.ensures Preset refl ss l)
 
 section-requires-2 : tie.Need-section-requires-2
 section-requires-2 c κs = search rules
@@ -43,7 +43,7 @@ returns-2 c =
     λ ss l.
     let w = join-at.join.ensures.wrote W refl (section2-at.section2.ensures Assert refl ss l)
     ((cap-at.cap.ensures Not refl _).wrote (section3-at.section3.ensures Require refl ss l)) in
-    rw (not_false start.args.strict if1-at.if1.false) (c.join2.ensures.wrote And refl (section-at.section.ensures Preset refl ss l) w)
+    rw (not-false start.args.strict if1-at.if1.false) (c.join2.ensures.wrote And refl (section-at.section.ensures Preset refl ss l) w)
 
 pub preset_spec : {M : Type 1} → statement M
 preset_spec = tie.close (tie.spec section-requires returns section-requires-2 section-requires-3 cap-requires join-requires join-requires-2 returns-2)

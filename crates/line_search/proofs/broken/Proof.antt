@@ -3,7 +3,7 @@ use Prim.Native.Nat.{◌-◌}
 use mathlib.Core.Path.{◌≡◌, sym, ap, ◌∙◌}
 use native.Mathlib.Omega.{arith}
 use Rattle.faults.specs.Naming.{broken_from}
-use borrow.Author.Tests.{not_true, not_false}
+use borrow.Author.Tests.{not-true, not-false}
 use Rattle.line_search.specs.Walking.{value_of, or_end}
 use Rattle.line_search.specs.WalkingLaws.{broken_end, unrequired, broken_here, broken_on}
 use Rattle.line_search.proofs.broken.Statement.{statement}
@@ -25,7 +25,7 @@ required-requires c κs = (omega arith, omega arith)
 returns : tie.Need-returns invariant-loop decreases-loop
 returns c =
     let l = c.before.before.before in
-    sym (ap (or_end _) (l.loop.invariant ∙ unrequired _ _ _ _ l.loop.p (omega arith) (sym c.before.required.ensures ∙ not_true _ c.if1.true)))
+    sym (ap (or_end _) (l.loop.invariant ∙ unrequired _ _ _ _ l.loop.p (omega arith) (sym c.before.required.ensures ∙ not-true _ c.if1.true)))
 
 value-requires : tie.Need-value-requires invariant-loop decreases-loop
 value-requires c κs = (omega arith, omega arith)
@@ -34,8 +34,8 @@ returns-2 : tie.Need-returns-2 invariant-loop decreases-loop
 returns-2 c =
     let r = c.before.before in
     let l = r.before.before.before in
-    sym (ap (or_end _) (l.loop.invariant ∙ broken_here _ _ _ _ l.loop.p (omega arith) (sym r.before.required.ensures ∙ not_false _ r.if1.false)
-    (sym c.before.value.ensures ∙ not_true _ c.if2.true)))
+    sym (ap (or_end _) (l.loop.invariant ∙ broken_here _ _ _ _ l.loop.p (omega arith) (sym r.before.required.ensures ∙ not-false _ r.if1.false)
+    (sym c.before.value.ensures ∙ not-true _ c.if2.true)))
 
 add-p : tie.Need-overflow-add-p invariant-loop decreases-loop
 add-p c = omega arith
@@ -47,7 +47,7 @@ loop-again : tie.Need-loop-preserved invariant-loop decreases-loop
 loop-again c =
     let r = c.before.before in
     let l = r.before.before.before in
-    l.loop.invariant ∙ broken_on _ _ _ _ l.loop.p (omega arith) (sym r.before.required.ensures ∙ not_false _ r.if1.false) (sym c.before.value.ensures ∙ not_false _ c.if2.false)
+    l.loop.invariant ∙ broken_on _ _ _ _ l.loop.p (omega arith) (sym r.before.required.ensures ∙ not-false _ r.if1.false) (sym c.before.value.ensures ∙ not-false _ c.if2.false)
 
 returns-3 : tie.Need-returns-3 invariant-loop decreases-loop
 returns-3 c = sym (ap (or_end _) (c.before.loop.invariant ∙ broken_end _ _ _ _ c.before.loop.p (omega arith)))

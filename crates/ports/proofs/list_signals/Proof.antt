@@ -7,7 +7,7 @@ use borrow.Author.Rules.{rules}
 use lib.ListN.{length, length-set}
 use Rattle.language.specs.Limits.{max_signals}
 use Rattle.language.specs.Tokens.{Token}
-use Rattle.language.specs.Declared.{Port}
+use Rattle.language.specs.DeclaredNames.{Port}
 use Rattle.ports.specs.Ports.{Ported}
 use Rattle.ports.specs.ListingLaws.{Going, going_starts, going-over, going_more, going_all}
 use Rattle.ports.proofs.list_signals.Statement.{statement}

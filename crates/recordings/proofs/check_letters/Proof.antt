@@ -2,7 +2,7 @@
 use Prim.Native.Nat.{◌^◌}
 use mathlib.Core.Path.{ap, sym, ◌∙◌}
 use native.Mathlib.Omega.{arith}
-use borrow.Author.Tests.{not_true, not_false}
+use borrow.Author.Tests.{not-true, not-false}
 use Rattle.node.specs.Result.{Refused}
 use Rattle.recordings.specs.Limits.{signal_bits}
 use Rattle.recordings.specs.Letters.{bits_below}
@@ -62,7 +62,7 @@ returns-2 : tie.Need-returns-2
 returns-2 c =
     let if1 = c.before.before.if1 in
     let blank = c.before.blank in
-    sym (filled-spare _ _ _ if1.false blank.ensures (not_true _ c.if2.true))
+    sym (filled-spare _ _ _ if1.false blank.ensures (not-true _ c.if2.true))
 
 cast-t13 : tie.Need-overflow-cast-t13
 cast-t13 c = search rules
@@ -75,7 +75,7 @@ returns-3 c =
     let if1 = c.before.before.before.before.if1 in
     let blank = c.before.before.before.blank in
     let if2 = c.before.before.if2 in
-    sym (filled-good _ _ _ if1.false blank.ensures (not_false _ if2.false))
+    sym (filled-good _ _ _ if1.false blank.ensures (not-false _ if2.false))
 
 pub check_letters_spec : {M : Type 1} → statement M
 check_letters_spec =

@@ -4,7 +4,7 @@ use Prim.Native.Nat.{◌+◌, ◌-◌, ◌≤◌}
 use mathlib.Core.Path.{◌≡◌, sym, ◌∙◌}
 use native.Mathlib.Omega.{arith}
 use lib.ListN.{length, drop}
-use borrow.Author.Tests.{not_true, not_false}
+use borrow.Author.Tests.{not-true, not-false}
 use Rattle.language.specs.Bytes.{is_name_byte}
 use Rattle.language.specs.Tokens.{run}
 use Rattle.signal_names.specs.NameLaws.{run_on, run-stop, run_end}
@@ -34,7 +34,7 @@ returns c =
     let is-name-byte-at = c.before in
     let loop-at = is-name-byte-at.before.before.before in
     let start = loop-at.before.before in
-    omega (arith, loop-at.loop.invariant.1, run-stop is_name_byte start.args.text.now loop-at.loop.i (omega arith) (sym is-name-byte-at.is-name-byte.ensures ∙ not_true _ c.if1.true))
+    omega (arith, loop-at.loop.invariant.1, run-stop is_name_byte start.args.text.now loop-at.loop.i (omega arith) (sym is-name-byte-at.is-name-byte.ensures ∙ not-true _ c.if1.true))
 
 add-i : tie.Need-overflow-add-i invariant-loop decreases-loop
 add-i c = omega arith
@@ -52,7 +52,7 @@ loop-again c =
         arith,
         loop-at.loop.invariant.1,
         run_on is_name_byte start.args.text.now loop-at.loop.i (omega arith)
-            (sym is-name-byte-at.is-name-byte.ensures ∙ not_false _ c.if1.false),
+            (sym is-name-byte-at.is-name-byte.ensures ∙ not-false _ c.if1.false),
       ),
     )
 

@@ -7,7 +7,7 @@ use lib.ListN.{length}
 use native.Mathlib.Numerals.{add-one}
 use native.Mathlib.Omega.{arith}
 use borrow.Author.Rules.{rules}
-use Rattle.language.specs.Declared.{Port}
+use Rattle.language.specs.DeclaredNames.{Port}
 use Rattle.assembly.specs.Implied.{Buses}
 use Rattle.assembly.specs.ImpliedLaws.{Going, going_none, next_port, going_untyped, going-ready, going-typed, going_all}
 use Rattle.assembly.proofs.implied.implied.Statement.{statement}

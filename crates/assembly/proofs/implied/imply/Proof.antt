@@ -1,7 +1,7 @@
 -- `imply` meets its contract: the line of a bus is added where its enumeration leaves a word unnamed.
 use native.Mathlib.Omega.{arith}
 use borrow.Author.Rules.{rules}
-use borrow.Author.Tests.{not_true, not_false}
+use borrow.Author.Tests.{not-true, not-false}
 use Rattle.assembly.specs.ImpliedLaws.{bus-readable, bus-tabled, bus-line, bus_none, bus-one}
 use Rattle.assembly.proofs.implied.imply.Statement.{statement}
 use Rattle.assembly.proofs.implied.imply.Tie as tie
@@ -25,7 +25,7 @@ returns : tie.Need-returns
 returns c =
     let leaves-unnamed-at = c.before in
     let identifiers-end-at = leaves-unnamed-at.before in
-    λ ps q b. bus_none identifiers-end-at.identifiers-end.ensures ps q b leaves-unnamed-at.leaves-unnamed.ensures (not_true _ c.if1.true)
+    λ ps q b. bus_none identifiers-end-at.identifiers-end.ensures ps q b leaves-unnamed-at.leaves-unnamed.ensures (not-true _ c.if1.true)
 
 one-of-requires : tie.Need-one-of-requires
 one-of-requires c κs =
@@ -50,7 +50,7 @@ returns-2 c =
     let if1-at = one-of-at.before.before in
     let leaves-unnamed-at = if1-at.before in
     let identifiers-end-at = leaves-unnamed-at.before in
-    λ ps q b. bus-one identifiers-end-at.identifiers-end.ensures ps q b leaves-unnamed-at.leaves-unnamed.ensures (not_false _ if1-at.if1.false)
+    λ ps q b. bus-one identifiers-end-at.identifiers-end.ensures ps q b leaves-unnamed-at.leaves-unnamed.ensures (not-false _ if1-at.if1.false)
     one-of-at.one_of.ensures add-line-at.add-line.ensures
 
 pub imply_spec : {M : Type 1} → statement M

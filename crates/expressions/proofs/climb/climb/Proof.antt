@@ -1,6 +1,6 @@
 -- `expressions::climb::climb` meets its contract: by the row of Table 1 that the next token has.
 use borrow.Author.Rules.{rules}
-use borrow.Author.Tests.{eqb-true, eqb-false, leb-true, leb-false, not_true}
+use borrow.Author.Tests.{eqb-true, eqb-false, leb-true, leb-false, not-true}
 use native.Mathlib.Omega.{arith}
 use Prim.Native.Nat.{ℕ, ◌≤◌}
 use mathlib.Core.Bool.{Bool, true, false, not, ◌&&◌}
@@ -28,7 +28,7 @@ abbrev tightly : ℕ → ℕ → Bool
 tightly q level = not (eqb q 0) && leb (level_field q) level
 
 some_row : (q level : ℕ) → tightly q level ≡ true → q ≡ 0 → ⊥
-some_row q level h = eqb-false q 0 (not_true (eqb q 0) (and_left (not (eqb q 0)) (leb (level_field q) level) h))
+some_row q level h = eqb-false q 0 (not-true (eqb q 0) (and_left (not (eqb q 0)) (leb (level_field q) level) h))
 
 tight_row : (q level : ℕ) → tightly q level ≡ true → level_field q ≤ level
 tight_row q level h = leb-true (level_field q) level (and_right (not (eqb q 0)) (leb (level_field q) level) h)

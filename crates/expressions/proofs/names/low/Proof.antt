@@ -3,7 +3,7 @@ use borrow.Author.Rules.{rules}
 use native.Mathlib.Omega.{arith}
 use mathlib.Core.Path.{◌≡◌, sym, ap, ◌∙◌}
 use mathlib.Core.Bool.{true}
-use borrow.Author.Tests.{not_true, not_false}
+use borrow.Author.Tests.{not-true, not-false}
 use Rattle.language.specs.Tokens.{Name}
 use Rattle.lexer.specs.Numbers.{class_number as tokenNumber}
 use Rattle.entries.specs.Cursors.{number_at, next_of}
@@ -28,7 +28,7 @@ low-sign : (at : tie.After-sign) → sign_at (number_at (from_low at).args.work.
 low-sign at = ap sign_at (sym at.before.number.ensures) ∙ sym at.sign.ensures
 
 low-here : (at : tie.Else1) → sign_at (number_at (from_low at.before).args.work.now (from_low at.before).args.m.c) ≡ true
-low-here at = low-sign at.before ∙ not_false _ at.if1.false
+low-here at = low-sign at.before ∙ not-false _ at.if1.false
 
 name-here : (at : tie.Else2) → number_at (from-name at).args.work.now (next_of (from-name at).args.m.c) ≡ tokenNumber Name
 name-here at =
@@ -42,7 +42,7 @@ high-sign at =
     ap sign_at (ap (number_at (from-high at).args.work.now) (sym (next2.ensures ∙ ap next_of next.ensures)) ∙ sym at.before.number3.ensures) ∙ sym at.sign2.ensures
 
 high-here : (at : tie.Else3) → sign_at (number_at (from-high at.before).args.work.now (next_of (next_of (from-high at.before).args.m.c))) ≡ true
-high-here at = high-sign at.before ∙ not_false _ at.if3.false
+high-here at = high-sign at.before ∙ not-false _ at.if3.false
 
 number-requires : tie.Need-number-requires
 number-requires c κs =
@@ -64,7 +64,7 @@ returns : tie.Need-returns
 returns c =
     let at-if1 = c.before.before in
     let start = from_low at-if1.before in
-    λ ts s x h. rw c.refuse.ensures (turn_no_low h start.pre.1 start.pre.2 (low-sign at-if1.before ∙ not_true _ at-if1.if1.true))
+    λ ts s x h. rw c.refuse.ensures (turn_no_low h start.pre.1 start.pre.2 (low-sign at-if1.before ∙ not-true _ at-if1.if1.true))
 
 next-requires : tie.Need-next-requires
 next-requires c κs =
@@ -132,7 +132,7 @@ returns-3 c =
     let at_next = at-if2.before.before.before in
     let start = from-name at-if2 in
     λ ts s x h. rw (c.refuse3.ensures, at-next2.next2.ensures, at_next.next.ensures)
-    (turn-no-high h start.pre.1 start.pre.2 (low-here at_next.before) (name-here at-if2) (high-sign at-if3.before ∙ not_true _ at-if3.if3.true))
+    (turn-no-high h start.pre.1 start.pre.2 (low-here at_next.before) (name-here at-if2) (high-sign at-if3.before ∙ not-true _ at-if3.if3.true))
 
 top-requires : tie.Need-top-requires
 top-requires c κs =

@@ -192,4 +192,5 @@ up_to-step max (t ∷ ts) =
     bind_less {b' = n} {Q' = InExpr Any} (operand_of n rec max (t ∷ ts)) (omega arith) (λ t v. v) (λ (e, us). climb n rec max e us) (λ k (e, us). climb (more n k) up_to max e us)
     (operandOf-reads Any rec (λ k. up_to) n reads (λ t i b us h _. up_to-names Any n t i b us h) n max (t ∷ ts) (omega arith) (omega arith))
     (λ e rs l. climb-reads Any rec (λ k. up_to) n reads n max e rs (omega arith) (omega arith)) in
-    sym (same_answer (up_to max (t ∷ ts)) h 0 (omega arith)) ∙ ap (λ j. operand_of j up_to max (t ∷ ts) >>= λ (e, us). climb j up_to max e us) (omega (arith, more-is n 0))
+    let same : more n 0 ≡ n = omega (arith, more-is n 0) in
+    sym (same_answer (up_to max (t ∷ ts)) h 0 (omega arith)) ∙ ap (λ j. operand_of j up_to max (t ∷ ts) >>= λ (e, us). climb j up_to max e us) same

@@ -1,7 +1,7 @@
 -- What an accepted text is: its tree, its declarations, its formula, and what each refusal has ruled out; and that its formula holds where the text does.
 use Rattle.std.specs.Prelude.{ℕ, ◌≤◌, ◌≡◌, ◌↔◌, List, leb, length}
 use Rattle.std.proofs.Common.{sym, subst, arith, leb-true}
-use Rattle.std.proofs.Math.Logic.{Iff·trans}
+use Rattle.std.proofs.Math.Logic.Iff as Equiv
 use Rattle.std.proofs.Math.Option.{none}
 use Rattle.node.specs.Limits.{max_nodes}
 use Rattle.node.specs.Ltl.{Formula, Holds}
@@ -13,7 +13,7 @@ use Rattle.node.specs.Written.{count}
 use Rattle.language.specs.Limits.{max_signals}
 use Rattle.language.specs.Tree.{Spec}
 use Rattle.language.specs.Parsing.{parsed}
-use Rattle.language.specs.Declared.{Identifies, find, Declarations, declarations, declared as named, defining}
+use Rattle.language.specs.DeclaredNames.{Identifies, find, Declarations, declarations, declared as named, defining}
 use Rattle.language.specs.Numbering.{in_order, signal_list, too_many_signals}
 use Rattle.language.specs.Lines.{lines}
 use Rattle.language.specs.Expansion.{expand}
@@ -93,7 +93,7 @@ module _ (text : List ℕ) (c : NumberedFormula) (e : text_expansion text ≡ Do
       subst (λ r. OfSpec r w t ↔ Holds c.formula (numbered text c.signals w) t) (sym a.parsing)
       (subst (λ (l : List ℕ). SpecMeans x read t ↔ Holds c.formula (numbered text l w) t) (sym a.listing)
       (subst (λ (f : Formula). SpecMeans x read t ↔ Holds f (numbered text list w) t) (sym a.adapting)
-      (Iff·trans (spec_agrees text x a.declared a.plain a.parsing a.declaring a.expanding read t)
+      (Equiv.trans (spec_agrees text x a.declared a.plain a.parsing a.declaring a.expanding read t)
       (adapted-holds text x a.declared a.parsing a.declaring w x.semantics x.target a.plain t))))
 
   -- its signal numbers are those of entries of its signal list

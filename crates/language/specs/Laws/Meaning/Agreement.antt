@@ -2,7 +2,7 @@
 use Rattle.std.specs.Prelude.{ℕ, ◌+◌, ◌-◌, ◌≤◌, refl, Bool, leb}
 use Rattle.std.proofs.Math.Bool.{true, false, So, false≢true}
 use mathlib.Core.List.{List, [], ◌∷◌}
-use Rattle.std.proofs.Math.Logic.{Iff·trans, Iff·and}
+use Rattle.std.proofs.Math.Logic.Iff as Equiv
 use Rattle.node.specs.Logic.{Some}
 use Rattle.node.specs.LogicLaws.{or_same}
 use Rattle.node.specs.Temporal.{Property}
@@ -59,7 +59,7 @@ module _ (v : NodeWord) where
   pub nexts-agree : (r : Result ℕ) (q : Result Formula) (P : Property) → Agrees q v P →
       Agrees (r >>= λ k. q >>= λ f. Done (nexts k f)) v (λ t. P (t + or_else 0 r))
   unfolding Agrees ◌>>=◌
-  nexts-agree (Done k) (Done f) P h = λ t. Iff·trans (h (t + k)) (nexts_hold k f v t)
+  nexts-agree (Done k) (Done f) P h = λ t. Equiv.trans (h (t + k)) (nexts_hold k f v t)
   nexts-agree (Done k) (Refused n p) P h = tt
   nexts-agree (Refused n p) q P h = tt
 
@@ -72,7 +72,7 @@ module _ (v : NodeWord) where
       go : (b : Bool) → (So b → j ≤ k) → (q : Result Formula) → Agrees q v P →
           Agrees (guard b 11 p (q >>= λ f. Done (nexts j (chain (window_operator o) (k - j) f)))) v (WindowMeans o j k P)
       go false l q h = tt
-      go true l (Done f) h = λ t. Iff·trans (window_same o j k h t) (window_holds o j k (l refl) f v t)
+      go true l (Done f) h = λ t. Equiv.trans (window_same o j k h t) (window_holds o j k (l refl) f v t)
       go true l (Refused n m) h = tt
   window-agrees o p (Done j) (Refused n m) q P h = tt
   window-agrees o p (Refused n m) s q P h = tt
@@ -86,7 +86,7 @@ module _ (v : NodeWord) where
     where
       step : (r : Result Formula) → Agrees r v (P x) → (q : Result (List Formula)) → ListAgrees q AllHold v (λ t. (k : ℕ) → So (member_of m k) → P k t) →
           ListAgrees (r >>= λ b. q >>= λ bs. Done (b ∷ bs)) AllHold v (λ t. (k : ℕ) → So (member_of (x ∷ m) k) → P k t)
-      step (Done f) a (Done fs) b = λ t. Iff·trans (each-cons x m (λ k. P k t)) (Iff·and (a t) (b t))
+      step (Done f) a (Done fs) b = λ t. Equiv.trans (each-cons x m (λ k. P k t)) (Equiv.and (a t) (b t))
       step (Done f) a (Refused n p) b = tt
       step (Refused n p) a q b = tt
 
@@ -98,14 +98,14 @@ module _ (v : NodeWord) where
     where
       step : (r : Result Formula) → Agrees r v (P x) → (q : Result (List Formula)) → ListAgrees q SomeHold v (λ t. Some (λ k. So (member_of m k) × P k t)) →
           ListAgrees (r >>= λ b. q >>= λ bs. Done (b ∷ bs)) SomeHold v (λ t. Some (λ k. So (member_of (x ∷ m) k) × P k t))
-      step (Done f) a (Done fs) b = λ t. Iff·trans (some_cons x m (λ k. P k t)) (or_same (a t) (b t))
+      step (Done f) a (Done fs) b = λ t. Equiv.trans (some_cons x m (λ k. P k t)) (or_same (a t) (b t))
       step (Done f) a (Refused n p) b = tt
       step (Refused n p) a q b = tt
 
   fold_agrees : (r : Result (List Formula)) (H : List Formula → NodeWord → Property) (g : List Formula → Formula) (P : Property) →
       ((fs : List Formula) → Same (H fs v) (Holds (g fs) v)) → ListAgrees r H v P → Agrees (r >>= λ fs. Done (g fs)) v P
   unfolding Agrees ◌>>=◌ ListAgrees
-  fold_agrees (Done fs) H g P k h = λ t. Iff·trans (h t) (k fs t)
+  fold_agrees (Done fs) H g P k h = λ t. Equiv.trans (h t) (k fs t)
   fold_agrees (Refused n p) H g P k h = tt
 
   big-agrees : (o : Big) (F : ℕ → Result Formula) (P : ℕ → Property) → ((k : ℕ) → Agrees (F k) v (P k)) → (m : List ℕ) →

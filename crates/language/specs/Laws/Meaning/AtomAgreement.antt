@@ -2,7 +2,7 @@
 use Rattle.std.specs.Prelude.{ℕ, ◌≤◌, Bool, List, ltb, length}
 use Rattle.std.proofs.Math.Path.{refl}
 use Rattle.std.proofs.Math.Bool.{true, false, So}
-use Rattle.std.proofs.Math.Logic.{Iff·not}
+use Rattle.std.proofs.Math.Logic.Iff as Equiv
 use Rattle.std.proofs.Common.{arith}
 use Rattle.node.specs.Temporal.{Property}
 use Rattle.node.specs.TemporalLaws.{Same}
@@ -11,7 +11,7 @@ use Rattle.node.specs.Result.{Result, Done, Refused, ◌>>=◌, guard}
 use Rattle.language.specs.Tokens.{Token}
 use Rattle.language.specs.Operators.{Comparison, Equal, Unequal, Less, AtMost, Greater, AtLeast}
 use Rattle.language.specs.Values.{Value, Number, Set, Logic, Bus, Unsized, Choice, number, Sized, bus, choice}
-use Rattle.language.specs.Declared.{Port}
+use Rattle.language.specs.DeclaredNames.{Port}
 use Rattle.language.specs.Expansion.{truth, signal_node, one_of, width_is, against, test, compared, bit_at}
 use Rattle.language.specs.Meaning.{SignalOf, BitOf, Word, Holding, MatchesOne, Relates, Equals, or_else, the_number, the_words, the_bus, SidesMean}
 use Rattle.language.specs.Laws.Basics.Lists.{All, all_more}
@@ -62,7 +62,7 @@ module _ (ps : List Port) (w : Word) (v : NodeWord) where
   against-agrees Equal b vs h =
       guard-agrees (width_is b.width vs) 13 b.place _ _ (λ l. one_of_holds ps w v b.name b.width h vs (no_wider b.width vs l))
   against-agrees Unequal b vs h =
-      guard-agrees (width_is b.width vs) 13 b.place _ _ (λ l t. Iff·not (one_of_holds ps w v b.name b.width h vs (no_wider b.width vs l) t))
+      guard-agrees (width_is b.width vs) 13 b.place _ _ (λ l t. Equiv.not (one_of_holds ps w v b.name b.width h vs (no_wider b.width vs l) t))
   against-agrees Less b vs h = tt
   against-agrees AtMost b vs h = tt
   against-agrees Greater b vs h = tt

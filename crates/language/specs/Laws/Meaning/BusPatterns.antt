@@ -4,13 +4,13 @@ use Rattle.std.proofs.Common.{sym, subst, arith, add-zero, eqb-true, eq-eqb}
 use Rattle.std.proofs.Math.Bool.{So}
 use Rattle.std.proofs.lemmas.Bool.{false≢true}
 use mathlib.Core.List.{List, [], ◌∷◌, map}
-use Rattle.std.proofs.Math.Logic.{Iff·rfl, Iff·trans, Iff·and, Iff·not}
+use Rattle.std.proofs.Math.Logic.Iff as Equiv
 use Rattle.node.specs.LogicLaws.{or_same}
 use Rattle.node.specs.TemporalLaws.{Same}
 use Rattle.node.specs.Ltl.{Holds, Word as NodeWord}
 use Rattle.language.specs.Bytes.{if◌then◌else◌}
 use Rattle.language.specs.Tokens.{Token}
-use Rattle.language.specs.Declared.{Port}
+use Rattle.language.specs.DeclaredNames.{Port}
 use Rattle.language.specs.Numbering.{first_of, Mark, Absent, Present, Star, mark_of, marks_of}
 use Rattle.language.specs.Expansion.{conjunction, literals, one_of}
 use Rattle.language.specs.Meaning.{SignalOf, BitOf, Word, Holding, Fits, Matches, MatchesOne}
@@ -60,20 +60,20 @@ module _ (P : ℕ → Type 0) where
 pub matches_from : (x marks : List ℕ) (w : Word) (t : ℕ) → Matches x marks w t ↔ MatchesFrom 0 marks (λ i. Holding (BitOf x i) w t)
 matches_from x marks w t =
     let P : ℕ → Type 0 = λ i. Holding (BitOf x i) w t in
-    Iff·trans (λ f j h. subst (FitsAt P marks j) (omega arith) (f j h), λ f j h. subst (FitsAt P marks j) (omega arith) (f j h)) (from_each P marks 0)
+    Equiv.trans (λ f j h. subst (FitsAt P marks j) (omega arith) (f j h), λ f j h. subst (FitsAt P marks j) (omega arith) (f j h)) (from_each P marks 0)
 
 -- the bits of a bus, and the signals that are theirs
 module _ (ps : List Port) (x : List ℕ) (P : ℕ → Type 0) (v : NodeWord) (t n : ℕ) (same : (i : ℕ) → i < n → P i ↔ So (v t (first_of ps x + i))) where
   literals_hold : (ms : List ℕ) (i : ℕ) → i + length ms ≤ n → MatchesFrom i ms P ↔ AllHold (literals ps x i (map mark_of ms)) v t
   unfolding Holds
-  literals_hold [] i l = Iff·rfl
+  literals_hold [] i l = Equiv.rfl
   literals_hold (m ∷ ms) i l =
       let rest : MatchesFrom (suc i) ms P ↔ AllHold (literals ps x (suc i) (map mark_of ms)) v t = literals_hold ms (suc i) (omega arith) in
       let here : P i ↔ So (v t (first_of ps x + i)) = same i (omega arith) in
       mark_cases (λ k. (Fits m (P i) × MatchesFrom (suc i) ms P) ↔ AllHold (literals ps x i (k ∷ map mark_of ms)) v t) m
-      (λ e. Iff·and (Iff·trans (fits-absent m e) (Iff·not here)) rest)
-      (λ e. Iff·and (Iff·trans (fits-present m e) here) rest)
-      (λ a b. Iff·trans (λ p. p.1, λ r. (fits-star m a b, r)) rest)
+      (λ e. Equiv.and (Equiv.trans (fits-absent m e) (Equiv.not here)) rest)
+      (λ e. Equiv.and (Equiv.trans (fits-present m e) here) rest)
+      (λ a b. Equiv.trans (λ p. p.1, λ r. (fits-star m a b, r)) rest)
 
 -- a name's signals are present where the declared ones are
 abbrev pub SingleAgrees : List Port → Word → NodeWord → List ℕ → Type 0
@@ -88,14 +88,14 @@ so_same e = (subst So (sym e), subst So e)
 module _ (ps : List Port) (w : Word) (v : NodeWord) (x : List ℕ) (n : ℕ) (bus : BusAgrees ps w v x n) where
   word_holds : (marks : List ℕ) → length marks ≤ n → Same (Matches x marks w) (Holds (conjunction (literals ps x 0 (map mark_of marks))) v)
   word_holds marks l t =
-      Iff·trans (matches_from x marks w t)
-      (Iff·trans (literals_hold ps x (λ i. Holding (BitOf x i) w t) v t n (λ i h. so_same (bus t i h)) marks 0 (omega arith))
+      Equiv.trans (matches_from x marks w t)
+      (Equiv.trans (literals_hold ps x (λ i. Holding (BitOf x i) w t) v t n (λ i h. so_same (bus t i h)) marks 0 (omega arith))
       (conjunction_holds (literals ps x 0 (map mark_of marks)) v t))
 
   words_hold : (vs : List Token) → All (λ u. length u.text ≤ n) vs → Same (MatchesOne x vs w) (SomeHold (map (λ u. conjunction (literals ps x 0 (marks_of u))) vs) v)
-  words_hold [] l t = Iff·rfl
+  words_hold [] l t = Equiv.rfl
   words_hold (u ∷ vs) l t = or_same (word_holds u.text l.0 t) (words_hold vs l.1 t)
 
   -- words no wider than the bus
   pub one_of_holds : (vs : List Token) → All (λ u. length u.text ≤ n) vs → Same (MatchesOne x vs w) (Holds (one_of ps x vs) v)
-  one_of_holds vs l t = Iff·trans (words_hold vs l t) (disjunction_holds (map (λ u. conjunction (literals ps x 0 (marks_of u))) vs) v t)
+  one_of_holds vs l t = Equiv.trans (words_hold vs l t) (disjunction_holds (map (λ u. conjunction (literals ps x 0 (marks_of u))) vs) v t)

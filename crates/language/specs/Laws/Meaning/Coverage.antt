@@ -4,7 +4,7 @@ use Rattle.std.specs.Prelude.{ℕ, zero, suc, ◌≡◌, refl, Bool, true, false
 use Rattle.std.proofs.Common.{sym, ◌∙◌, ap, ap₂, subst, arith}
 use Rattle.std.proofs.Math.Bool.{So}
 use Rattle.std.proofs.lemmas.Bool.{false≢true}
-use Rattle.std.proofs.Math.Logic.{Iff·trans, Iff·symm, Iff·and}
+use Rattle.std.proofs.Math.Logic.Iff as Equiv
 use Rattle.std.proofs.lemmas.List.{length-map}
 use Rattle.node.specs.Logic.{Either}
 use Rattle.node.specs.LogicLaws.{or_left, or_right, or_cases, stable_so, so_and}
@@ -91,13 +91,13 @@ so_or a b h k = (
 
 fits-admits : (m : ℕ) (b : Bool) → Fits m (So b) ↔ So (admits b (mark_of m))
 fits-admits m b =
-    mark_cases (λ k. Fits m (So b) ↔ So (admits b k)) m (λ e. Iff·trans (fits-absent m e) (Iff·symm (so_not b))) (fits-present m)
+    mark_cases (λ k. Fits m (So b) ↔ So (admits b k)) m (λ e. Equiv.trans (fits-absent m e) (Equiv.symm (so_not b))) (fits-present m)
     (λ c d. (λ _. refl, λ _. fits-star m c d))
 
 word-admits : (f : ℕ → Bool) (ms : List ℕ) (i : ℕ) → MatchesFrom i ms (λ k. So (f k)) ↔ So (admitted (map mark_of ms) (bits_from f i (length ms)))
 word-admits f [] i = (λ _. refl, λ _. tt)
 word-admits f (m ∷ ms) i =
-    Iff·trans (Iff·and (fits-admits m (f i)) (word-admits f ms (suc i))) (so_and (admits (f i) (mark_of m)) (admitted (map mark_of ms) (bits_from f (suc i) (length ms))))
+    Equiv.trans (Equiv.and (fits-admits m (f i)) (word-admits f ms (suc i))) (so_and (admits (f i) (mark_of m)) (admitted (map mark_of ms) (bits_from f (suc i) (length ms))))
 
 module _ (x : List ℕ) (w : Word) (t n : ℕ) where
   abbrev bits : List Bool
@@ -107,7 +107,7 @@ module _ (x : List ℕ) (w : Word) (t n : ℕ) where
   words_admit [] h = (λ e. absurd e, λ e. absurd (false≢true e))
   words_admit (v ∷ vs) h =
       so_or (admitted (marks_of v) bits) (any_admits (map marks_of vs) bits)
-      (Iff·trans (matches_from x v.text w t)
+      (Equiv.trans (matches_from x v.text w t)
       (subst (λ k. MatchesFrom 0 v.text (λ i. Holding (BitOf x i) w t) ↔ So (admitted (marks_of v) (bits_from (λ i. w t (BitOf x i)) 0 k))) h.0 (word-admits (λ i. w t (BitOf x i)) v.text 0)))
       (words_admit vs h.1)
 

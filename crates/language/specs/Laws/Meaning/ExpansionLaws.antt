@@ -3,7 +3,7 @@ use Rattle.std.specs.Prelude.{ℕ, zero, suc, ◌+◌, ◌-◌, ◌≤◌, ◌�
 use Rattle.std.proofs.Common.{subst, sym, arith, add-zero}
 use Rattle.std.proofs.Math.Bool.{So}
 use Rattle.std.proofs.lemmas.Bool.{false≢true}
-use Rattle.std.proofs.Math.Logic.{Iff·rfl, Iff·trans, Iff·symm, Iff·and}
+use Rattle.std.proofs.Math.Logic.Iff as Equiv
 use Rattle.node.specs.Logic.{Either, Some}
 use Rattle.node.specs.LogicLaws.{or_left, or_right, or_cases, some_at_lem, some_cases, stable-not, or_same, some_same, all_same, to_same}
 use Rattle.node.specs.Temporal.{Property}
@@ -29,7 +29,7 @@ SomeHold (f ∷ fs) w t = Either (Holds f w t) (SomeHold fs w t)
 joined-and : (a : Formula) (fs : List Formula) (w : Word) (t : ℕ) → (Holds a w t × AllHold fs w t) ↔ Holds (joined And a fs) w t
 unfolding Holds
 joined-and a [] w t = (λ p. p.0, λ h. (h, tt))
-joined-and a (f ∷ fs) w t = Iff·trans (λ p. ((p.0, p.1.0), p.1.1), λ p. (p.0.0, (p.0.1, p.1))) (joined-and (Two And a f) fs w t)
+joined-and a (f ∷ fs) w t = Equiv.trans (λ p. ((p.0, p.1.0), p.1.1), λ p. (p.0.0, (p.0.1, p.1))) (joined-and (Two And a f) fs w t)
 
 pub or_assoc : {A B C : Type 0} → Either A (Either B C) ↔ Either (Either A B) C
 or_assoc = (
@@ -40,16 +40,16 @@ or_assoc = (
 joined-or : (a : Formula) (fs : List Formula) (w : Word) (t : ℕ) → Either (Holds a w t) (SomeHold fs w t) ↔ Holds (joined Or a fs) w t
 unfolding Holds
 joined-or a [] w t = (or_cases (stable a w t) (λ h. h) (λ e. absurd e), or_left)
-joined-or a (f ∷ fs) w t = Iff·trans or_assoc (joined-or (Two Or a f) fs w t)
+joined-or a (f ∷ fs) w t = Equiv.trans or_assoc (joined-or (Two Or a f) fs w t)
 
 pub conjunction_holds : (fs : List Formula) (w : Word) → Same (AllHold fs w) (Holds (conjunction fs) w)
 unfolding Holds
-conjunction_holds [] w t = Iff·rfl
+conjunction_holds [] w t = Equiv.rfl
 conjunction_holds (f ∷ fs) w t = joined-and f fs w t
 
 pub disjunction_holds : (fs : List Formula) (w : Word) → Same (SomeHold fs w) (Holds (disjunction fs) w)
 unfolding Holds
-disjunction_holds [] w t = Iff·rfl
+disjunction_holds [] w t = Equiv.rfl
 disjunction_holds (f ∷ fs) w t = joined-or f fs w t
 
 -- comparisons
@@ -59,7 +59,7 @@ truth_holds true w t = (λ e. tt, λ u. refl)
 truth_holds false w t = (λ e. absurd (false≢true e), λ e. absurd e)
 
 pub relates_holds : (o : Comparison) (a b : ℕ) (w : Word) (t : ℕ) → Relates o a b ↔ Holds (truth (test o a b)) w t
-relates_holds o a b w t = Iff·trans (Iff·symm (test_relates o a b)) (truth_holds (test o a b) w t)
+relates_holds o a b w t = Equiv.trans (Equiv.symm (test_relates o a b)) (truth_holds (test o a b) w t)
 
 -- n times X
 at_same : (P : Property) {a b : ℕ} → a ≡ b → P a ↔ P b
@@ -68,7 +68,7 @@ at_same P e = (subst P e, subst P (sym e))
 pub nexts_hold : (n : ℕ) (f : Formula) (w : Word) (t : ℕ) → Holds f w (t + n) ↔ Holds (nexts n f) w t
 unfolding Holds
 nexts_hold zero f w t = at_same (Holds f w) (add-zero t)
-nexts_hold (suc n) f w t = Iff·trans (at_same (Holds f w) {a = t + suc n} {b = suc t + n} (omega arith)) (nexts_hold n f w (suc t))
+nexts_hold (suc n) f w t = Equiv.trans (at_same (Holds f w) {a = t + suc n} {b = suc t + n} (omega arith)) (nexts_hold n f w (suc t))
 
 -- P at one of the n + 1 positions from t on, and at each
 abbrev Soon : ℕ → Property → Property
@@ -103,13 +103,13 @@ soon_holds zero f w t = (
   some_cases (stable f w t) (λ j c. (at_same (Holds f w) {a = t + j} {b = t} (omega (arith, c.0))).0 c.1),
   λ h. some_at_lem 0 (omega arith, (at_same (Holds f w) (add-zero t)).1 h),
 )
-soon_holds (suc n) f w t = Iff·trans (soon_step n (Holds f w) t) (or_same Iff·rfl (soon_holds n f w (suc t)))
+soon_holds (suc n) f w t = Equiv.trans (soon_step n (Holds f w) t) (or_same Equiv.rfl (soon_holds n f w (suc t)))
 
 throughout_holds : (n : ℕ) (f : Formula) (w : Word) (t : ℕ) → Throughout n (Holds f w) t ↔ Holds (chain And n f) w t
 unfolding Holds
 throughout_holds zero f w t =
     (λ h. (at_same (Holds f w) (add-zero t)).0 (h 0 (omega arith)), λ h j l. (at_same (Holds f w) {a = t} {b = t + j} (omega arith)).0 h)
-throughout_holds (suc n) f w t = Iff·trans (throughout_step n (Holds f w) t) (Iff·and Iff·rfl (throughout_holds n f w (suc t)))
+throughout_holds (suc n) f w t = Equiv.trans (throughout_step n (Holds f w) t) (Equiv.and Equiv.rfl (throughout_holds n f w (suc t)))
 
 -- F[j:k] and G[j:k]
 soon_within : (j k : ℕ) → j ≤ k → (P : Property) (t : ℕ) → WindowMeans FinallyIn j k P t ↔ Soon (k - j) P (t + j)
@@ -126,16 +126,16 @@ throughout_within j k l P t = (
 
 chain_holds : (o : Window) (j k : ℕ) → j ≤ k → (f : Formula) (w : Word) (t : ℕ) →
     WindowMeans o j k (Holds f w) t ↔ Holds (chain (window_operator o) (k - j) f) w (t + j)
-chain_holds FinallyIn j k l f w t = Iff·trans (soon_within j k l (Holds f w) t) (soon_holds (k - j) f w (t + j))
-chain_holds GloballyIn j k l f w t = Iff·trans (throughout_within j k l (Holds f w) t) (throughout_holds (k - j) f w (t + j))
+chain_holds FinallyIn j k l f w t = Equiv.trans (soon_within j k l (Holds f w) t) (soon_holds (k - j) f w (t + j))
+chain_holds GloballyIn j k l f w t = Equiv.trans (throughout_within j k l (Holds f w) t) (throughout_holds (k - j) f w (t + j))
 
 pub window_holds : (o : Window) (j k : ℕ) → j ≤ k → (f : Formula) (w : Word) →
     Same (WindowMeans o j k (Holds f w)) (Holds (nexts j (chain (window_operator o) (k - j) f)) w)
-window_holds o j k l f w t = Iff·trans (chain_holds o j k l f w t) (nexts_hold j (chain (window_operator o) (k - j) f) w t)
+window_holds o j k l f w t = Equiv.trans (chain_holds o j k l f w t) (nexts_hold j (chain (window_operator o) (k - j) f) w t)
 
 pub window_same : (o : Window) (j k : ℕ) {P Q : Property} → Same P Q → Same (WindowMeans o j k P) (WindowMeans o j k Q)
 window_same FinallyIn j k h t = some_same (λ i. (λ p. (p.0, p.1, (h (t + i)).0 p.2), λ p. (p.0, p.1, (h (t + i)).1 p.2)))
-window_same GloballyIn j k h t = all_same (λ i. to_same Iff·rfl (to_same Iff·rfl (h (t + i))))
+window_same GloballyIn j k h t = all_same (λ i. to_same Equiv.rfl (to_same Equiv.rfl (h (t + i))))
 
 -- each and some of a set's elements
 pub each-cons : (x : ℕ) (m : List ℕ) (P : ℕ → Type 0) → ((k : ℕ) → So (member_of (x ∷ m) k) → P k) ↔ (P x × ((k : ℕ) → So (member_of m k) → P k))

@@ -9,7 +9,7 @@ use Rattle.language.specs.Tokens.{Token}
 use Rattle.language.specs.Operators.{Calculates, Combines, Compares, Membership, Connects, Measures, WidthOf, Applies}
 use Rattle.language.specs.Tree.{Expr, Named, Numeral, Truth, Index, Paren, Prefixed, Joined, Nexts, InWindow, Each, Between, Listed, Empty, Element, Range}
 use Rattle.language.specs.Values.{number, set, Scope, value}
-use Rattle.language.specs.Declared.{Port}
+use Rattle.language.specs.DeclaredNames.{Port}
 use Rattle.language.specs.Expansion.{Context, at, expansion}
 use Rattle.language.specs.Meaning.{Word, Sense, with, Means}
 use Rattle.language.specs.Laws.Basics.Tests.{split}

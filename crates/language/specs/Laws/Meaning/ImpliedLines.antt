@@ -3,7 +3,7 @@
 use Rattle.std.specs.Prelude.{ℕ, ◌≤◌, ◌≡◌, refl, Bool, true, false, not, List, [], ◌∷◌, ◌++◌, map, ◌↔◌, eqb, length}
 use Rattle.std.proofs.Common.{sym, ◌∙◌, ap, subst, arith, eqb-true, eq-eqb}
 use Rattle.std.proofs.Math.Bool.{So}
-use Rattle.std.proofs.Math.Logic.{Iff·rfl, Iff·trans, Iff·symm, Iff·and}
+use Rattle.std.proofs.Math.Logic.Iff as Equiv
 use Rattle.node.specs.Logic.{Either, Stable}
 use Rattle.node.specs.LogicLaws.{or_right, or_cases, stable-not, or_same, to_same}
 use Rattle.node.specs.TemporalLaws.{Same}
@@ -34,7 +34,7 @@ use Rattle.language.specs.Tree.{
   Spec,
 }
 use Rattle.language.specs.Words.{words_in}
-use Rattle.language.specs.Declared.{words_of_type, word_width, Port, inputs, outputs, Declarations}
+use Rattle.language.specs.DeclaredNames.{words_of_type, word_width, Port, inputs, outputs, Declarations}
 use Rattle.language.specs.Numbering.{marks_of, covered}
 use Rattle.language.specs.Lines.{Line, Written, Implied, leaves_unnamed, implied, written_lines, lines}
 use Rattle.language.specs.Meaning.{Word, MatchesOne, Sense, MatchesIdentifier, ImpliedMeans, DeclarationsMean, LinesMean, IsPart, SectionMeans}
@@ -54,14 +54,14 @@ module _ (x : List ℕ) (w : Word) (t : ℕ) where
 
   append_matches : (us vs : List Token) → Either (MatchesOne x us w t) (MatchesOne x vs w t) ↔ MatchesOne x (us ++ vs) w t
   append_matches [] vs = (or_cases (stable-one vs) (λ e. absurd e) (λ m. m), or_right)
-  append_matches (u ∷ us) vs = Iff·trans (Iff·symm or_assoc) (or_same Iff·rfl (append_matches us vs))
+  append_matches (u ∷ us) vs = Equiv.trans (Equiv.symm or_assoc) (or_same Equiv.rfl (append_matches us vs))
 
   identifiers_match : (is : List Identifier) → MatchesIdentifier x is w t ↔ MatchesOne x (words_in is) w t
-  identifiers_match [] = Iff·rfl
-  identifiers_match (i ∷ is) = Iff·trans (or_same Iff·rfl (identifiers_match is)) (append_matches i.words (words_in is))
+  identifiers_match [] = Equiv.rfl
+  identifiers_match (i ∷ is) = Equiv.trans (or_same Equiv.rfl (identifiers_match is)) (append_matches i.words (words_in is))
 
 implied_matches : (defs : List Definition) (u x : Token) (w : Word) (t : ℕ) → ImpliedMeans defs u x w t ↔ MatchesOne x.text (words_of_type defs u) w t
-implied_matches [] u x w t = Iff·rfl
+implied_matches [] u x w t = Equiv.rfl
 implied_matches (Defined y e ∷ ds) u x w t = implied_matches ds u x w t
 implied_matches (Enumerated y is ∷ ds) u x w t = chosen (same y.text u.text) (implied_matches ds u x w t)
   where
@@ -104,13 +104,13 @@ module _ (defs : List Definition) (output : Bool) (s : Sense) (w : Word) (t : �
       width = f.shaped.2 ∙ ap word_width (sym words)
 
       go : (b : Bool) → leaves_unnamed p.words ≡ b → (ImpliedMeans defs u x w t × D) ↔ LinesHold s (implied (p ∷ ps)) w t
-      go true e = a-line (ImpliedMeans defs u x w t × D) p ps e (Iff·and here h)
+      go true e = a-line (ImpliedMeans defs u x w t × D) p ps e (Equiv.and here h)
       go false e =
           let holds : ImpliedMeans defs u x w t = here.1 (always p.words (subst (λ n. 1 ≤ n) width f.shaped.0) (all_more (λ v k. k ∙ width) p.words r) e p.name.text w t) in
-          no_line (ImpliedMeans defs u x w t × D) p ps e (Iff·trans (λ c. c.1, λ d. (holds, d)) h)
+          no_line (ImpliedMeans defs u x w t × D) p ps e (Equiv.trans (λ c. c.1, λ d. (holds, d)) h)
 
   declared_same : (ds : List Declaration) (ps : List Port) → Pairs (PortFor defs output) ds ps → All PortRegular ps → DeclarationsMean defs ds w t ↔ LinesHold s (implied ps) w t
-  declared_same [] [] h r = Iff·rfl
+  declared_same [] [] h r = Equiv.rfl
   declared_same [] (p ∷ ps) h r = absurd h
   declared_same (m ∷ ds) [] h r = absurd h
   declared_same (OneSignal x ∷ ds) (p ∷ ps) h r = no_line (DeclarationsMean defs ds w t) p ps (ap leaves_unnamed h.0.shaped.1) (declared_same ds ps h.1 r.1)
@@ -146,15 +146,15 @@ module _ (s : Sense) (defs : List Definition) (q : Part) (w : Word) (t : ℕ) wh
   WrittenMeans (Lines r es ∷ ss) = (IsPart q r → LinesMean s es w t) × WrittenMeans ss
 
   lines_same : (es : List Expr) → LinesMean s es w t ↔ LinesHold s (map Written es) w t
-  lines_same [] = Iff·rfl
-  lines_same (e ∷ es) = Iff·and Iff·rfl (lines_same es)
+  lines_same [] = Equiv.rfl
+  lines_same (e ∷ es) = Equiv.and Equiv.rfl (lines_same es)
 
   written_same : (ss : List Subsection) (rest : List (Part × List Line)) → (WrittenMeans ss × ListedMeans s rest q w t) ↔ ListedMeans s (written_lines ss rest) q w t
   written_same [] rest = (λ p. p.1, λ h. (tt, h))
   written_same (Inputs ds ∷ ss) rest = written_same ss rest
   written_same (Outputs ds ∷ ss) rest = written_same ss rest
   written_same (Lines r es ∷ ss) rest =
-      Iff·trans (λ p. (p.0.0, (p.0.1, p.1)), λ p. ((p.0, p.1.0), p.1.1)) (Iff·and (to_same (part_same q r) (lines_same es)) (written_same ss rest))
+      Equiv.trans (λ p. (p.0.0, (p.0.1, p.1)), λ p. ((p.0, p.1.0), p.1.1)) (Equiv.and (to_same (part_same q r) (lines_same es)) (written_same ss rest))
 
   -- implied lines of a part r
   abbrev Owns : Part → List Declaration → Type 0
@@ -164,29 +164,29 @@ module _ (s : Sense) (defs : List Definition) (q : Part) (w : Word) (t : ℕ) wh
   declared-append [] es = (λ p. p.1, λ h. (tt, h))
   declared-append (OneSignal x ∷ ds) es = declared-append ds es
   declared-append (OfWidth x e ∷ ds) es = declared-append ds es
-  declared-append (OfType u x ∷ ds) es = Iff·trans (λ p. (p.0.0, (p.0.1, p.1)), λ p. ((p.0, p.1.0), p.1.1)) (Iff·and Iff·rfl (declared-append ds es))
+  declared-append (OfType u x ∷ ds) es = Equiv.trans (λ p. (p.0.0, (p.0.1, p.1)), λ p. ((p.0, p.1.0), p.1.1)) (Equiv.and Equiv.rfl (declared-append ds es))
 
   owns-append : (r : Part) (ds es : List Declaration) → (Owns r ds × Owns r es) ↔ Owns r (ds ++ es)
-  owns-append r ds es = Iff·trans (λ p i. (p.0 i, p.1 i), λ f. (λ i. (f i).0, λ i. (f i).1)) (to_same Iff·rfl (declared-append ds es))
+  owns-append r ds es = Equiv.trans (λ p i. (p.0 i, p.1 i), λ f. (λ i. (f i).0, λ i. (f i).1)) (to_same Equiv.rfl (declared-append ds es))
 
   tree-parts : (ss : List Subsection) → SectionMeans s defs ss q w t ↔ (WrittenMeans ss × (Owns Require (inputs ss) × Owns Assert (outputs ss)))
   tree-parts [] = (λ u. (tt, (λ i. tt, λ i. tt)), λ u. tt)
   tree-parts (Inputs ds ∷ ss) =
-      Iff·trans (Iff·and Iff·rfl (tree-parts ss)) (Iff·trans (λ p. (p.1.0, ((p.0, p.1.1.0), p.1.1.1)), λ p. (p.1.0.0, (p.0, (p.1.0.1, p.1.1))))
-      (Iff·and Iff·rfl (Iff·and (owns-append Require ds (inputs ss)) Iff·rfl)))
+      Equiv.trans (Equiv.and Equiv.rfl (tree-parts ss)) (Equiv.trans (λ p. (p.1.0, ((p.0, p.1.1.0), p.1.1.1)), λ p. (p.1.0.0, (p.0, (p.1.0.1, p.1.1))))
+      (Equiv.and Equiv.rfl (Equiv.and (owns-append Require ds (inputs ss)) Equiv.rfl)))
   tree-parts (Outputs ds ∷ ss) =
-      Iff·trans (Iff·and Iff·rfl (tree-parts ss)) (Iff·trans (λ p. (p.1.0, (p.1.1.0, (p.0, p.1.1.1))), λ p. (p.1.1.0, (p.0, (p.1.0, p.1.1.1))))
-      (Iff·and Iff·rfl (Iff·and Iff·rfl (owns-append Assert ds (outputs ss)))))
-  tree-parts (Lines r es ∷ ss) = Iff·trans (Iff·and Iff·rfl (tree-parts ss)) (λ p. ((p.0, p.1.0), p.1.1), λ p. (p.0.0, (p.0.1, p.1)))
+      Equiv.trans (Equiv.and Equiv.rfl (tree-parts ss)) (Equiv.trans (λ p. (p.1.0, (p.1.1.0, (p.0, p.1.1.1))), λ p. (p.1.1.0, (p.0, (p.1.0, p.1.1.1))))
+      (Equiv.and Equiv.rfl (Equiv.and Equiv.rfl (owns-append Assert ds (outputs ss)))))
+  tree-parts (Lines r es ∷ ss) = Equiv.trans (Equiv.and Equiv.rfl (tree-parts ss)) (λ p. ((p.0, p.1.0), p.1.1), λ p. (p.0.0, (p.0.1, p.1)))
 
 -- a section of the tree, and its lines as the expansion lists them
 pub sections-same : (x : Spec) (d : Declarations) (s : Sense) (q : Part) (w : Word) → PortsFor x d → All PortRegular d.inputs → All PortRegular d.outputs →
     Same (SectionMeans s x.definitions x.main q w) (ListedMeans s (lines x d) q w)
 sections-same x d s q w f i o t =
     let defs = x.definitions in
-    Iff·trans (tree-parts s defs q w t x.main)
-    (Iff·trans (Iff·and Iff·rfl (Iff·trans
-    (Iff·and (to_same (part_same q Require) (declared_same defs false s w t (inputs x.main) d.inputs f.ins i))
+    Equiv.trans (tree-parts s defs q w t x.main)
+    (Equiv.trans (Equiv.and Equiv.rfl (Equiv.trans
+    (Equiv.and (to_same (part_same q Require) (declared_same defs false s w t (inputs x.main) d.inputs f.ins i))
     (to_same (part_same q Assert) (declared_same defs true s w t (outputs x.main) d.outputs f.outs o)))
     (λ p. (p.0, (p.1, tt)), λ p. (p.0, p.1.0))))
     (written_same s defs q w t x.main _))

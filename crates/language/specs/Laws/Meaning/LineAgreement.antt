@@ -5,7 +5,7 @@ use Rattle.std.proofs.Math.Path.{subst}
 use Rattle.std.proofs.Math.Bool.{So}
 use Rattle.std.proofs.lemmas.Bool.{false≢true}
 use mathlib.Core.List.{List, [], ◌∷◌, ◌++◌, map}
-use Rattle.std.proofs.Math.Logic.{Iff·rfl, Iff·trans, Iff·and}
+use Rattle.std.proofs.Math.Logic.Iff as Equiv
 use Rattle.node.specs.TemporalLaws.{Same}
 use Rattle.node.specs.Ltl.{Formula, Holds, Word as NodeWord}
 use Rattle.node.specs.Result.{Result, Done}
@@ -13,7 +13,7 @@ use Rattle.node.specs.ResultLaws.{bind_done}
 use Rattle.language.specs.Tree.{Part, part_code, Spec}
 use Rattle.language.specs.Parsing.{parsed}
 use Rattle.language.specs.Values.{Scope}
-use Rattle.language.specs.Declared.{Port, Declarations, declarations}
+use Rattle.language.specs.DeclaredNames.{Port, Declarations, declarations}
 use Rattle.language.specs.Numbering.{in_order, signal_list}
 use Rattle.language.specs.Lines.{Line, lines}
 use Rattle.language.specs.Expansion.{gather, Context, at_signals, define_all, expand_line, Sections, expand_section, lines_of}
@@ -31,25 +31,29 @@ use Rattle.language.specs.Laws.Meaning.SpecAgreement.{names_are, word, met}
 -- lists in pairs that are alike
 pub pairs-append : {A B : Type 0} (R : A → B → Type 0) (us xs : List A) (bs ys : List B) → Pairs R us bs → Pairs R xs ys → Pairs R (us ++ xs) (bs ++ ys)
 pairs-append R [] xs [] ys h k = k
+pairs-append {A = A} {B = B} R [] xs (b ∷ bs) ys h k = elim h [ ]
+pairs-append {A = A} {B = B} R (a ∷ us) xs [] ys h k = elim h [ ]
 pairs-append R (a ∷ us) xs (b ∷ bs) ys h k = (h.0, pairs-append R us xs bs ys h.1 k)
 
 pub pairs-more : {A B C : Type 0} (R : A → B → Type 0) (S : A → C → Type 0) (f : B → C) → ((a : A) (b : B) → R a b → S a (f b)) → (us : List A) (bs : List B) → Pairs R us bs → Pairs S us (map f bs)
 pairs-more R S f g [] [] h = tt
+pairs-more {A = A} {B = B} {C = C} R S f g [] (b ∷ bs) h = elim h [ ]
+pairs-more {A = A} {B = B} {C = C} R S f g (a ∷ us) [] h = elim h [ ]
 pairs-more R S f g (a ∷ us) (b ∷ bs) h = (g a b h.0, pairs-more R S f g us bs h.1)
 
 -- a section holds where all its lines do
 module _ (s : Sense) (w : Word) (t : ℕ) where
   hold_both : (us bs : List Line) → (LinesHold s us w t × LinesHold s bs w t) ↔ LinesHold s (us ++ bs) w t
   hold_both [] bs = (λ p. p.1, λ h. (tt, h))
-  hold_both (a ∷ us) bs = Iff·trans (λ p. (p.0.0, (p.0.1, p.1)), λ p. ((p.0, p.1.0), p.1.1)) (Iff·and Iff·rfl (hold_both us bs))
+  hold_both (a ∷ us) bs = Equiv.trans (λ p. (p.0.0, (p.0.1, p.1)), λ p. ((p.0, p.1.0), p.1.1)) (Equiv.and Equiv.rfl (hold_both us bs))
 
   pub listed-lines : (q : Part) (ls : List (Part × List Line)) → ListedMeans s ls q w t ↔ LinesHold s (part_lines q ls) w t
-  listed-lines q [] = Iff·rfl
+  listed-lines q [] = Equiv.rfl
   listed-lines q (l ∷ ls) = go (eqb (part_code q) (part_code l.0)) (listed-lines q ls)
     where
       go : (b : Bool) → ListedMeans s ls q w t ↔ LinesHold s (part_lines q ls) w t →
           ((So b → LinesHold s l.1 w t) × ListedMeans s ls q w t) ↔ LinesHold s (elim b [ true ↦ l.1 ++ part_lines q ls | false ↦ part_lines q ls ]) w t
-      go true rest = Iff·trans (Iff·and (λ f. f refl, λ a e. a) rest) (hold_both l.1 (part_lines q ls))
+      go true rest = Equiv.trans (Equiv.and (λ f. f refl, λ a e. a) rest) (hold_both l.1 (part_lines q ls))
       go false rest = (λ p. rest.0 p.1, λ h. (λ e. absurd (false≢true e), rest.1 h))
 
 -- lines and their formulas
@@ -105,7 +109,7 @@ module _ (text : List ℕ) (x : Spec) (d : Declarations) (hx : parsed text ≡ D
   context = define_all (at_signals d) x.definitions
 
   pub section-lines : (q : Part) → Same (SectionMeans sense x.definitions x.main q w) (LinesHold sense (part_lines q (lines x d)) w)
-  section-lines q t = Iff·trans ((met text x d hx hd w).listed sense q t) (listed-lines sense w t q (lines x d))
+  section-lines q t = Equiv.trans ((met text x d hx hd w).listed sense q t) (listed-lines sense w t q (lines x d))
 
   pub lines-told : {ss : Sections} → gather (expand_section context) (lines x d) ≡ Done ss → (q : Part) →
       Pairs (λ l f. Same (LineMeans sense l w) (Holds f (numbered text (signal_list (in_order d)) w))) (part_lines q (lines x d)) (lines_of q ss)

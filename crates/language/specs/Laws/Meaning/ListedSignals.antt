@@ -4,7 +4,7 @@ use Rattle.std.proofs.Common.{ap, ap₂, sym, ◌∙◌, arith, eqb-true, eq-eqb
 use Rattle.std.proofs.lemmas.Bool.{false≢true}
 use Rattle.node.specs.Operators.{Word as NodeWord}
 use Rattle.language.specs.Bytes.{if◌then◌else◌, same}
-use Rattle.language.specs.Declared.{Port}
+use Rattle.language.specs.DeclaredNames.{Port}
 use Rattle.language.specs.Numbering.{signals_of, first_of, signal_list}
 use Rattle.language.specs.Meaning.{Atom, SignalOf, BitOf, Word}
 use Rattle.language.specs.Numbered.{atom_of, numbered}

@@ -3,7 +3,7 @@ use Rattle.std.specs.Prelude.{ℕ, zero, suc, ◌+◌, ◌^◌, ◌≤◌, ◌<�
 use Rattle.std.proofs.Common.{ap, ◌∙◌, arith, eq-eqb, ne_eqb}
 use Rattle.language.specs.Limits.{max_width, offset_bits, index_bits, width_bits}
 use Rattle.language.specs.Bytes.{if◌then◌else◌}
-use Rattle.language.specs.Declared.{Port}
+use Rattle.language.specs.DeclaredNames.{Port}
 use Rattle.language.specs.Numbering.{signals_of, first_of, signal_list}
 use Rattle.language.specs.Meaning.{Atom, SignalOf, BitOf, Word}
 use Rattle.language.specs.Numbered.{index_of, offset_of, name_at, atom_of, numbered}

@@ -1,6 +1,6 @@
 -- What is owed is a weak until: `Owed Q R` is `Q W !R`, for properties that hold unless refuted.
 use Rattle.std.specs.Prelude.{ℕ, zero, suc, ◌≤◌, ◌<◌}
-use Rattle.std.proofs.Math.Logic.{Iff·rfl}
+use Rattle.std.proofs.Math.Logic.Iff as Equiv
 use Rattle.std.proofs.Common.{arith}
 use Rattle.node.specs.LogicLaws.{some_at_lem, all_same, to_same}
 use Rattle.node.specs.Temporal.{Property, Until, WeakUntil}
@@ -9,7 +9,7 @@ use Rattle.language.specs.Meaning.{Owed}
 
 -- equivalents put for equivalents
 pub owed_same : {Q Q' R R' : Property} → Same Q Q' → Same R R' → Same (Owed Q R) (Owed Q' R')
-owed_same h k t = all_same (λ p. to_same Iff·rfl (to_same (all_same (λ j. to_same Iff·rfl (to_same Iff·rfl (k j)))) (h p)))
+owed_same h k t = all_same (λ p. to_same Equiv.rfl (to_same (all_same (λ j. to_same Equiv.rfl (to_same Equiv.rfl (k j)))) (h p)))
 
 -- as long as no position has come where R fails after Q so far, both go on
 owed_so_far : {Q R : Property} → StableAll R → (t : ℕ) → Owed Q R t → ¬ Until Q (λ n. ¬ R n) t → (n : ℕ) (j : ℕ) → t ≤ j → j < n → Q j × R j

@@ -2,7 +2,7 @@
 use Rattle.std.specs.Prelude.{ℕ, suc, ◌≤◌, ◌≡◌, Bool, List, ◌↔◌}
 use Rattle.std.proofs.Math.Path.{subst}
 use Rattle.std.proofs.Math.Bool.{true, false, So}
-use Rattle.std.proofs.Math.Logic.{Iff·rfl}
+use Rattle.std.proofs.Math.Logic.Iff as Equiv
 use native.Mathlib.Omega.{arith}
 use Rattle.node.specs.Ltl.{Formula, True, False, Signal, One, Two, Word, Holds}
 use Rattle.node.specs.LtlLaws.{unary-same, binary-same}
@@ -23,13 +23,13 @@ module _ (late : ℕ → Bool) (u v : Word) (r : ReadLater late u v) where
   signal-later k t = go (late k) (r t k)
     where
       go : (b : Bool) → u t k ≡ elim b [ true ↦ v (suc t) k | false ↦ v t k ] → So (u t k) ↔ Holds (elim b [ true ↦ shifted (λ _. true) (Signal k) | false ↦ Signal k ]) v t
-      go true e = subst (λ (b : Bool). So b ↔ So (v (suc t) k)) (let z : v (suc t) k ≡ u t k = cc in z) Iff·rfl
-      go false e = subst (λ (b : Bool). So b ↔ So (v t k)) (let z : v t k ≡ u t k = cc in z) Iff·rfl
+      go true e = subst (λ (b : Bool). So b ↔ So (v (suc t) k)) (let z : v (suc t) k ≡ u t k = cc in z) Equiv.rfl
+      go false e = subst (λ (b : Bool). So b ↔ So (v t k)) (let z : v t k ≡ u t k = cc in z) Equiv.rfl
 
   pub shifted_holds : (f : Formula) → Same (Holds f u) (Holds (shifted late f) v)
   unfolding Holds
-  shifted_holds True t = Iff·rfl
-  shifted_holds False t = Iff·rfl
+  shifted_holds True t = Equiv.rfl
+  shifted_holds False t = Equiv.rfl
   shifted_holds (Signal k) t = signal-later k t
   shifted_holds (One o a) t = unary-same o (shifted_holds a) t
   shifted_holds (Two o a b) t = binary-same o (shifted_holds a) (shifted_holds b) t

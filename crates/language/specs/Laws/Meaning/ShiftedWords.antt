@@ -2,7 +2,7 @@
 -- the names in OUTPUTS, the expansion by the flags of the signal list.
 use Rattle.std.specs.Prelude.{ℕ, zero, suc, ◌^◌, ◌≤◌, ◌<◌, ◌≡◌, refl, Bool, true, false, not, ◌||◌, List, [], ◌∷◌, ◌++◌, eqb, ltb, length, get_or}
 use Rattle.std.proofs.Common.{ap, sym, ◌∙◌, arith}
-use Rattle.std.proofs.Math.Logic.{Iff·rfl}
+use Rattle.std.proofs.Math.Logic.Iff as Equiv
 use Rattle.std.proofs.Math.Decide.{dec_lt}
 use Rattle.node.specs.Ltl.{Formula, Holds}
 use Rattle.node.specs.TemporalLaws.{Same}
@@ -12,7 +12,7 @@ use Rattle.language.specs.Bytes.{if◌then◌else◌, same}
 use Rattle.language.specs.Tokens.{Token}
 use Rattle.language.specs.Tree.{Declaration, OneSignal, OfWidth, OfType, Subsection, Inputs, Outputs, Lines, Model, Mealy, Moore, Spec}
 use Rattle.language.specs.Parsing.{parsed}
-use Rattle.language.specs.Declared.{Port, inputs, outputs, Declarations, declarations}
+use Rattle.language.specs.DeclaredNames.{Port, inputs, outputs, Declarations, declarations}
 use Rattle.language.specs.Numbering.{in_order, signal_list}
 use Rattle.language.specs.Shifting.{is_output, adapted}
 use Rattle.language.specs.Meaning.{Atom, SignalOf, BitOf, Word, is_declared, is_output_name, name_of, read_as}
@@ -163,10 +163,10 @@ module _ (text : List ℕ) (x : Spec) (d : Declarations) (e : parsed text ≡ Do
 
     -- a text's formula, converted, holds where the formula holds in the word that the text is read on
     pub adapted-holds : (m n : Model) (f : Formula) → Same (Holds f (numbered text list (read_as m n x.main w))) (Holds (adapted m n list f) (numbered text list w))
-    adapted-holds Mealy Mealy f t = Iff·rfl
+    adapted-holds Mealy Mealy f t = Equiv.rfl
     adapted-holds Mealy Moore f t =
         shifted_holds (is_output list) _ (numbered text list w) (λ t k. mixed-at (read_as Mealy Moore x.main w) (suc t) t t k (λ s. refl)) f t
     adapted-holds Moore Mealy f t =
         shifted_holds (λ k. not (is_output list k)) _ (numbered text list w)
         (λ t k. mixed-at (read_as Moore Mealy x.main w) t (suc t) t k (λ s. refl) ∙ swapped (is_output list k) _ _) f t
-    adapted-holds Moore Moore f t = Iff·rfl
+    adapted-holds Moore Moore f t = Equiv.rfl

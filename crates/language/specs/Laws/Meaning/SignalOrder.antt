@@ -6,7 +6,7 @@ use Rattle.node.specs.Result.{Done}
 use Rattle.language.specs.Limits.{index_bits, width_bits}
 use Rattle.language.specs.Tokens.{Token}
 use Rattle.language.specs.Tree.{Definition, Declaration, OneSignal, OfWidth, OfType, Spec}
-use Rattle.language.specs.Declared.{Port, inputs, outputs, Declarations, declarations}
+use Rattle.language.specs.DeclaredNames.{Port, inputs, outputs, Declarations, declarations}
 use Rattle.language.specs.Numbering.{in_order, signals_of, entries, signal_list}
 use Rattle.language.specs.Laws.Basics.Lists.{All, all_left, all_right}
 use Rattle.language.specs.Listed.{EntryReads, HasWidth, NumberedAt, NumberedFrom, ListedAs}

@@ -8,7 +8,7 @@ use Rattle.node.specs.Result.{Result, Done, ◌>>=◌}
 use Rattle.language.specs.Tree.{Part, Spec}
 use Rattle.language.specs.Parsing.{parsed}
 use Rattle.language.specs.Values.{Scope}
-use Rattle.language.specs.Declared.{Port, Declarations, declarations, declared}
+use Rattle.language.specs.DeclaredNames.{Port, Declarations, declarations, declared}
 use Rattle.language.specs.Numbering.{in_order, signal_list}
 use Rattle.language.specs.Lines.{implied, lines}
 use Rattle.language.specs.Expansion.{expand}

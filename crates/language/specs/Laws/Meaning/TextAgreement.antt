@@ -4,7 +4,7 @@ use Rattle.std.proofs.Common.{ap, subst, sym, arith}
 use Rattle.std.proofs.Math.Bool.{true, false, So}
 use Rattle.std.proofs.lemmas.Bool.{false≢true}
 use mathlib.Core.List.{List, [], ◌∷◌, ◌++◌}
-use Rattle.std.proofs.Math.Logic.{Iff·rfl, Iff·trans, Iff·symm, Iff·and, Iff·not}
+use Rattle.std.proofs.Math.Logic.Iff as Equiv
 use Rattle.node.specs.Logic.{Either}
 use Rattle.node.specs.LogicLaws.{or_same, to_same, implies_or}
 use Rattle.node.specs.Temporal.{Property}
@@ -16,7 +16,7 @@ use Rattle.language.specs.Bytes.{same}
 use Rattle.language.specs.Tokens.{Token}
 use Rattle.language.specs.Tree.{Expr, Definition, Defined, Enumerated, Part, Initially, Preset, Require, Assert, Assume, Guarantee, part_code, Spec}
 use Rattle.language.specs.Values.{naming, value}
-use Rattle.language.specs.Declared.{Declared, Constant, Single, BusOf, Identifies, WaitingBus, find, declared, Port, Declarations}
+use Rattle.language.specs.DeclaredNames.{Declared, Constant, Single, BusOf, Identifies, WaitingBus, find, declared, Port, Declarations}
 use Rattle.language.specs.Numbering.{in_order}
 use Rattle.language.specs.Lines.{Line, Written, Implied}
 use Rattle.language.specs.Expansion.{gather, Context, expansion, signal_of, at_signals, define, define_all, expand_line, Sections, expand_section, lines_of, section, whole, expand}
@@ -98,23 +98,23 @@ module _ (w : Word) (v : NodeWord) where
 
   lines-agree : {c : Context} {s : Sense} → Matched w v c s → (ls : List Line) → All (LineAgrees c.ports w v) ls → ListAgrees (gather (expand_line c) ls) AllHold v (LinesHold s ls w)
   unfolding ListAgrees Agrees ◌>>=◌
-  lines-agree h [] g = λ t. Iff·rfl
+  lines-agree h [] g = λ t. Equiv.rfl
   lines-agree {c} {s} h (l ∷ ls) g = step (expand_line c l) (line-agrees h l g.0) (gather (expand_line c) ls) (lines-agree h ls g.1)
     where
       step : (r : Result Formula) → Agrees r v (LineMeans s l w) → (q : Result (List Formula)) → ListAgrees q AllHold v (LinesHold s ls w) →
           ListAgrees (r >>= λ b. q >>= λ bs. Done (b ∷ bs)) AllHold v (LinesHold s (l ∷ ls) w)
-      step (Done f) a (Done fs) b = λ t. Iff·and (a t) (b t)
+      step (Done f) a (Done fs) b = λ t. Equiv.and (a t) (b t)
       step (Done f) a (Refused n p) b = tt
       step (Refused n p) a q b = tt
 
   hold_append : (fs gs : List Formula) (t : ℕ) → (AllHold fs v t × AllHold gs v t) ↔ AllHold (fs ++ gs) v t
   hold_append [] gs t = (λ p. p.1, λ h. (tt, h))
-  hold_append (f ∷ fs) gs t = Iff·trans (λ p. (p.0.0, (p.0.1, p.1)), λ p. ((p.0, p.1.0), p.1.1)) (Iff·and Iff·rfl (hold_append fs gs t))
+  hold_append (f ∷ fs) gs t = Equiv.trans (λ p. (p.0.0, (p.0.1, p.1)), λ p. ((p.0, p.1.0), p.1.1)) (Equiv.and Equiv.rfl (hold_append fs gs t))
 
   -- a section's lines, if the section is of the part that is sought
   chosen : (b : Bool) (fs gs : List Formula) (L M : Property) → Same L (AllHold fs v) → Same M (AllHold gs v) →
       Same (λ t. (So b → L t) × M t) (AllHold (elim b [ true ↦ fs ++ gs | false ↦ gs ]) v)
-  chosen true fs gs L M h k t = Iff·trans (Iff·and (λ f. (h t).0 (f refl), λ a e. (h t).1 a) (k t)) (hold_append fs gs t)
+  chosen true fs gs L M h k t = Equiv.trans (Equiv.and (λ f. (h t).0 (f refl), λ a e. (h t).1 a) (k t)) (hold_append fs gs t)
   chosen false fs gs L M h k t = (λ p. (k t).0 p.1, λ a. (λ e. absurd (false≢true e), (k t).1 a))
 
   unfoldable SectionsAgree : Sense → List (Part × List Line) → Result Sections → Type 0
@@ -124,7 +124,7 @@ module _ (w : Word) (v : NodeWord) where
   sections-agree : {c : Context} {s : Sense} → Matched w v c s → (ls : List (Part × List Line)) → All (λ l. All (LineAgrees c.ports w v) l.1) ls
       → SectionsAgree s ls (gather (expand_section c) ls)
   unfolding SectionsAgree ListAgrees ◌>>=◌
-  sections-agree h [] g = λ p t. Iff·rfl
+  sections-agree h [] g = λ p t. Equiv.rfl
   sections-agree {c} {s} h (l ∷ ls) g = step (gather (expand_line c) l.1) (lines-agree h l.1 g.0) (gather (expand_section c) ls) (sections-agree h ls g.1)
     where
       step : (r : Result (List Formula)) → ListAgrees r AllHold v (LinesHold s l.1 w) → (q : Result Sections) → SectionsAgree s ls q →
@@ -136,19 +136,19 @@ module _ (w : Word) (v : NodeWord) where
   -- the six sections together
   under : (f g : Formula) (t : ℕ) {A B : Type 0} → A ↔ Holds f v t → B ↔ Holds g v t → Either (¬ A) B ↔ Holds (Two Implies f g) v t
   unfolding Holds
-  under f g t h k = Iff·trans (or_same (Iff·not h) k) (Iff·symm (implies_or (stable g v t)))
+  under f g t h k = Equiv.trans (or_same (Equiv.not h) k) (Equiv.symm (implies_or (stable g v t)))
 
   pub whole-agrees : (strict : Bool) (P : Part → Property) (f : Part → Formula) → ((p : Part) → Same (P p) (Holds (f p) v)) →
       Same (WholeMeans strict P) (Holds (whole strict f) v)
   unfolding Holds
   whole-agrees false P f h t =
       under (f Initially) (Two And (f Preset) (Two Implies (Two And (One G (f Require)) (f Assume)) (Two And (One G (f Assert)) (f Guarantee)))) t (h Initially t)
-      (Iff·and (h Preset t) (to_same (Iff·and (always_same (h Require) t) (h Assume t)) (Iff·and (always_same (h Assert) t) (h Guarantee t))))
+      (Equiv.and (h Preset t) (to_same (Equiv.and (always_same (h Require) t) (h Assume t)) (Equiv.and (always_same (h Assert) t) (h Guarantee t))))
   whole-agrees true P f h t =
       under (f Initially) (Two And (Two And (f Preset) (Two W (f Assert) (One Not (f Require)))) (Two Implies (Two And (One G (f Require)) (f Assume)) (f Guarantee))) t (h Initially t)
-      (Iff·trans (λ p. ((p.0, p.1), p.2), λ p. (p.0.0, p.0.1, p.1))
-      (Iff·and (Iff·and (h Preset t) (Iff·trans (owed_same (h Assert) (h Require) t) (owed_weak (stable (f Assert) v) (stable (f Require) v) t)))
-      (to_same (Iff·and (always_same (h Require) t) (h Assume t)) (h Guarantee t))))
+      (Equiv.trans (λ p. ((p.0, p.1), p.2), λ p. (p.0.0, p.0.1, p.1))
+      (Equiv.and (Equiv.and (h Preset t) (Equiv.trans (owed_same (h Assert) (h Require) t) (owed_weak (stable (f Assert) v) (stable (f Require) v) t)))
+      (to_same (Equiv.and (always_same (h Require) t) (h Assume t)) (h Guarantee t))))
 
   -- a text's lines
   abbrev pub AllAgree : List Port → List (Part × List Line) → Type 0
@@ -166,5 +166,5 @@ module _ (w : Word) (v : NodeWord) where
 
       go : (r : Result Sections) → SectionsAgree (meaning_all (present (declared d.table)) x.definitions) ls r
           → Agrees (r >>= λ ss. Done (whole x.strict (section ss))) v (WholeMeans x.strict P)
-      go (Done ss) h = whole-agrees x.strict P (section ss) (λ p t. Iff·trans (same p t) (Iff·trans (h p t) (conjunction_holds (lines_of p ss) v t)))
+      go (Done ss) h = whole-agrees x.strict P (section ss) (λ p t. Equiv.trans (same p t) (Equiv.trans (h p t) (conjunction_holds (lines_of p ss) v t)))
       go (Refused n p) h = tt

@@ -6,7 +6,7 @@ use Rattle.language.specs.Limits.{max_bytes, offset_bits}
 use Rattle.language.specs.Tokens.{Name, End, Wrong, code, Token, is_of, tokens}
 use Rattle.language.specs.Tree.{Definition, Declaration, OneSignal, OfWidth, OfType, Spec}
 use Rattle.language.specs.Parsing.{parsed}
-use Rattle.language.specs.Declared.{Port, inputs, outputs, Declarations, declarations}
+use Rattle.language.specs.DeclaredNames.{Port, inputs, outputs, Declarations, declarations}
 use Rattle.language.specs.Numbering.{in_order}
 use Rattle.language.specs.Numbered.{name_at}
 use Rattle.language.specs.Braces.{ProperDeclaration, ProperSubsection}

@@ -34,7 +34,7 @@ use Rattle.language.specs.Operators.{
 use Rattle.language.specs.Tree.{Expr, Named, Numeral, Truth, Index, Paren, Prefixed, Joined, Nexts, InWindow, Each, Between, Listed, Empty, Element, Range, Definition, Part, Spec}
 use Rattle.language.specs.Parsing.{parsed}
 use Rattle.language.specs.Values.{Value, Number, Set, Logic, Bus, Unsized, Choice, misfit, number, Sized, bus, choice, value}
-use Rattle.language.specs.Declared.{Declared, Constant, Single, BusOf, Identifies, WaitingBus, Port, Declarations}
+use Rattle.language.specs.DeclaredNames.{Declared, Constant, Single, BusOf, Identifies, WaitingBus, Port, Declarations}
 use Rattle.language.specs.Numbering.{in_order, signals_of, too_many_signals, signal_list}
 use Rattle.language.specs.Lines.{Line, Written, Implied, implied, lines}
 use Rattle.language.specs.Expansion.{width_is, against, compared, big_formula, Context, at, expansion, signal_of, at_signals, define, define_all, expand_line, expand_section, expand}

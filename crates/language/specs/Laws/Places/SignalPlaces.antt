@@ -5,7 +5,7 @@ use Rattle.language.specs.Bytes.{same}
 use Rattle.language.specs.Tokens.{Token}
 use Rattle.language.specs.Tree.{Definition, Parameter, Declaration, OneSignal, OfWidth, OfType, Spec}
 use Rattle.language.specs.Values.{Scope, value}
-use Rattle.language.specs.Declared.{
+use Rattle.language.specs.DeclaredNames.{
   Declared,
   Constant,
   Single,

@@ -6,7 +6,7 @@ use Rattle.language.specs.Tree.{Definition, Parameter, Declaration, OneSignal, O
 use Rattle.language.specs.Places.{TextLine, ParameterLine, parameter_lines, definition_lines}
 use Rattle.language.specs.Types.{ExprType, ANumber, ABus, Typings, typed_after}
 use Rattle.language.specs.Values.{value}
-use Rattle.language.specs.Declared.{Constant, Table, declared, defining, identifiers, words_of_type, word_width, Port, sized, port_of, as_declared, turns, constants}
+use Rattle.language.specs.DeclaredNames.{Constant, Table, declared, defining, identifiers, words_of_type, word_width, Port, sized, port_of, as_declared, turns, constants}
 use Rattle.language.specs.Braces.{ProperParameter, ProperDefinition}
 use Rattle.language.specs.Laws.Basics.Lists.{All}
 use Rattle.language.specs.Laws.Basics.Results.{done, bind}

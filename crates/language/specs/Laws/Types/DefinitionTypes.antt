@@ -11,7 +11,7 @@ use Rattle.language.specs.Tree.{Expr, Identifier, Definition, Defined, Enumerate
 use Rattle.language.specs.Places.{start, unless, TextLine, DefinitionLine, definition_lines}
 use Rattle.language.specs.Types.{ExprType, AFormula, AValue, AType, Typings, type_in, type_of, mistyped, definable, mistyped_line, mistyped_lines, typed_values, typed_after}
 use Rattle.language.specs.Values.{Value, Scope, naming, value}
-use Rattle.language.specs.Declared.{Table, identified, identifiers, defining}
+use Rattle.language.specs.DeclaredNames.{Table, identified, identifiers, defining}
 use Rattle.language.specs.Expansion.{Context, expansion, define, define_all}
 use Rattle.language.specs.Braces.{Proper, ProperDefinition}
 use Rattle.language.specs.Laws.Basics.Lists.{All, Any}

@@ -30,7 +30,7 @@ use Rattle.language.specs.Types.{
   wrong,
 }
 use Rattle.language.specs.Values.{Value, misfit, Sized, Scope, number, value}
-use Rattle.language.specs.Declared.{Port}
+use Rattle.language.specs.DeclaredNames.{Port}
 use Rattle.language.specs.Expansion.{nexts, chain, window_operator, Context, at, against, compared, expansion}
 use Rattle.language.specs.Braces.{Proper}
 use Rattle.language.specs.Laws.Basics.Lists.{Any}

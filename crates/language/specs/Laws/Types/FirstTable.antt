@@ -7,7 +7,7 @@ use Rattle.language.specs.Tokens.{Token}
 use Rattle.language.specs.Tree.{Expr, Identifier, Definition, Defined, Enumerated, Parameter, Declaration, OneSignal, OfWidth, OfType, Subsection, Inputs, Outputs, Lines, Spec}
 use Rattle.language.specs.Places.{TextLine, ParameterLine, DefinitionLine, DeclarationLine, FormulaLine, parameter_lines, definition_lines, declaration_lines, formula_lines, main_lines, all_lines}
 use Rattle.language.specs.Types.{ExprType, AFormula, ABus, Typings, type_in, typed_values, typed_after, typed_signals}
-use Rattle.language.specs.Declared.{Table, identified, identifiers, waiting, inputs, outputs}
+use Rattle.language.specs.DeclaredNames.{Table, identified, identifiers, waiting, inputs, outputs}
 use Rattle.language.specs.Laws.Basics.Lists.{All}
 use Rattle.language.specs.Laws.Basics.Tests.{or_left, or_right, or_cases}
 use Rattle.language.specs.Listed.{declared_name}

@@ -12,7 +12,7 @@ use Rattle.language.specs.Places.{definition_lines, main_lines, all_lines}
 use Rattle.language.specs.Names.{doubled, declares, declares_signal, over, again, nowhere, walk_lines, declared_again}
 use Rattle.language.specs.Types.{ExprType, Typings, type_in, typed_signals, wrong_type}
 use Rattle.language.specs.Parsing.{parsed}
-use Rattle.language.specs.Declared.{identifiers, waiting, Port, inputs, outputs, Declarations, declarations}
+use Rattle.language.specs.DeclaredNames.{identifiers, waiting, Port, inputs, outputs, Declarations, declarations}
 use Rattle.language.specs.Numbering.{in_order, signal_list}
 use Rattle.language.specs.Lines.{Line, Written, Implied, implied, lines}
 use Rattle.language.specs.Expansion.{Context, at_signals, define_all, expand_line, expand_section, expand}

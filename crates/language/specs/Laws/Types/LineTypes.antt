@@ -5,7 +5,7 @@ use Rattle.language.specs.Tokens.{Token}
 use Rattle.language.specs.Tree.{Expr, Definition, Defined, Enumerated, Parameter, Declaration, OneSignal, OfWidth, OfType, Part, Subsection, Inputs, Outputs, Lines}
 use Rattle.language.specs.Places.{TextLine, ParameterLine, DefinitionLine, DeclarationLine, FormulaLine, parameter_lines, definition_lines, declaration_lines, formula_lines, main_lines}
 use Rattle.language.specs.Types.{ExprType, ANumber, AFormula, ABus, Typings, mistyped_line, mistyped_lines, typed_after}
-use Rattle.language.specs.Declared.{inputs, outputs}
+use Rattle.language.specs.DeclaredNames.{inputs, outputs}
 use Rattle.language.specs.Lines.{Line, Written, Implied, written_lines}
 use Rattle.language.specs.Braces.{Proper, ProperDeclaration, ProperSubsection}
 use Rattle.language.specs.Laws.Basics.Lists.{All, all_append}

@@ -9,7 +9,7 @@ use Rattle.language.specs.Operators.{Arithmetic, Plus, Minus, Times, Divide, Mod
 use Rattle.language.specs.Types.{ExprType, ANumber, ASet, AFormula, ABus, AValue, AType, Unknown, big_gives, fitting, is_type}
 use Rattle.language.specs.Sets.{union}
 use Rattle.language.specs.Values.{Value, Number, Set, Logic, Bus, Unsized, Choice, Sized, calculate, measure, limited, range, between, big}
-use Rattle.language.specs.Declared.{Port}
+use Rattle.language.specs.DeclaredNames.{Port}
 use Rattle.language.specs.Expansion.{against, bit_at, compared, big_formula}
 use Rattle.language.specs.Laws.Basics.Lists.{Any, all_any}
 use Rattle.language.specs.Laws.Basics.Tests.{or_cases}

@@ -8,7 +8,7 @@ use Rattle.language.specs.Tokens.{Token}
 use Rattle.language.specs.Tree.{Declaration}
 use Rattle.language.specs.Types.{ExprType, ANumber, ASet, AFormula, ABus, AValue, AType, Unknown, is_type, Typing, Typings, type_in}
 use Rattle.language.specs.Values.{Value}
-use Rattle.language.specs.Declared.{Declared, Constant, Single, BusOf, Identifies, WaitingBus, Table, find, value_at, declared, Port, as_declared}
+use Rattle.language.specs.DeclaredNames.{Declared, Constant, Single, BusOf, Identifies, WaitingBus, Table, find, value_at, declared, Port, as_declared}
 use Rattle.language.specs.Expansion.{signal_of}
 use Rattle.language.specs.Laws.Basics.Lists.{All, Any}
 use Rattle.language.specs.Laws.Basics.Tests.{or_right}

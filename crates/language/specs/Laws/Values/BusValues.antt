@@ -6,7 +6,7 @@ use Rattle.language.specs.Operators.{Big, BigSum, BigProduct, BigCap, BigCup, Bi
 use Rattle.language.specs.Tokens.{Token}
 use Rattle.language.specs.Tree.{Expr, Named, Numeral, Truth, Index, Paren, Prefixed, Joined, Nexts, InWindow, Each, Between, Listed, Empty, Element, Range}
 use Rattle.language.specs.Values.{Value, Number, Set, Logic, Bus, Unsized, Choice, bus, big, Scope, value}
-use Rattle.language.specs.Declared.{Declared, Constant, Single, BusOf, Identifies, WaitingBus, Table, value_at, declared, Port}
+use Rattle.language.specs.DeclaredNames.{Declared, Constant, Single, BusOf, Identifies, WaitingBus, Table, value_at, declared, Port}
 use Rattle.language.specs.Laws.Basics.Lists.{All, all_more}
 use Rattle.language.specs.Laws.Basics.Results.{done, bind, Within, bind_any}
 use Rattle.language.specs.Laws.Values.ValueTypes.{bus_as}

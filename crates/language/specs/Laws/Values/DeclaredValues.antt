@@ -12,7 +12,7 @@ use Rattle.language.specs.Tokens.{Token}
 use Rattle.language.specs.Tree.{Expr, Named, Identifier, Definition, Defined, Enumerated, Parameter, Declaration, OneSignal, OfWidth, OfType, Spec}
 use Rattle.language.specs.Words.{words_in}
 use Rattle.language.specs.Values.{Number, Logic, Bus, Unsized, Choice, number, value}
-use Rattle.language.specs.Declared.{
+use Rattle.language.specs.DeclaredNames.{
   Constant,
   Single,
   BusOf,

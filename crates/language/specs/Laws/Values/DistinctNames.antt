@@ -9,7 +9,7 @@ use Rattle.language.specs.Tokens.{Token}
 use Rattle.language.specs.Tree.{Expr, Definition, Parameter, Declaration, OneSignal, OfWidth, OfType, Subsection, Inputs, Outputs, Lines, Spec}
 use Rattle.language.specs.Places.{TextLine, DefinitionLine, parameter_lines, definition_lines, declaration_lines, formula_lines, main_lines, all_lines}
 use Rattle.language.specs.Names.{again, doubled, declares, declares_signal, over, nowhere, walk_lines, declared_again}
-use Rattle.language.specs.Declared.{inputs, outputs}
+use Rattle.language.specs.DeclaredNames.{inputs, outputs}
 use Rattle.language.specs.Listed.{declared_name}
 use Rattle.language.specs.Laws.Basics.Lists.{All, all_more, all_append, all_left, all_right, all_both, all_swap}
 use Rattle.language.specs.Laws.Basics.Tests.{some_none, same_equal, same_refl}

@@ -9,7 +9,7 @@ use Rattle.language.specs.Tokens.{Token}
 use Rattle.language.specs.Tree.{Identifier, Definition, Defined, Enumerated, Parameter, Declaration, OneSignal, OfWidth, OfType, Spec}
 use Rattle.language.specs.Places.{TextLine, parameter_lines, definition_lines, main_lines}
 use Rattle.language.specs.Names.{declared_again, identifier_names, declares, over}
-use Rattle.language.specs.Declared.{Constant, Identifies, Table, find, identified, identifiers, as_declared, turns, waiting, constants, inputs, outputs, Declarations, declarations}
+use Rattle.language.specs.DeclaredNames.{Constant, Identifies, Table, find, identified, identifiers, as_declared, turns, waiting, constants, inputs, outputs, Declarations, declarations}
 use Rattle.language.specs.Laws.Basics.Lists.{All, all_more, all_append, all_left, all_right, all_both, all_swap}
 use Rattle.language.specs.Laws.Basics.Tests.{pick, leave, same_refl}
 use Rattle.language.specs.Laws.Basics.Results.{done, bind, bind_any, weaken, value_of, Within}

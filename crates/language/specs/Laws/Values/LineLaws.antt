@@ -1,7 +1,7 @@
 -- What holds of every line of a text's sections: of the written ones, and of those that ports imply.
 use Rattle.std.specs.Prelude.{List, [], ◌∷◌}
 use Rattle.language.specs.Tree.{Expr, Part, Subsection, Inputs, Outputs, Lines}
-use Rattle.language.specs.Declared.{Port}
+use Rattle.language.specs.DeclaredNames.{Port}
 use Rattle.language.specs.Lines.{Line, Written, Implied, leaves_unnamed, implied, written_lines}
 use Rattle.language.specs.Laws.Basics.Lists.{All, all_map}
 use Rattle.language.specs.Laws.Basics.Tests.{split}

@@ -7,7 +7,7 @@ use Rattle.language.specs.Bytes.{same}
 use Rattle.language.specs.Tokens.{Token}
 use Rattle.language.specs.Tree.{Identifier, Definition, Defined, Enumerated, Declaration, OneSignal, OfWidth, OfType, Subsection, Inputs, Outputs, Lines, Expr}
 use Rattle.language.specs.Values.{Value, Scope, naming, value}
-use Rattle.language.specs.Declared.{Declared, Single, Identifies, WaitingBus, Table, find, value_at, declared, defining, identified, identifiers, sized, waiting, inputs, outputs}
+use Rattle.language.specs.DeclaredNames.{Declared, Single, Identifies, WaitingBus, Table, find, value_at, declared, defining, identified, identifiers, sized, waiting, inputs, outputs}
 use Rattle.language.specs.Expansion.{Context, define, define_all}
 use Rattle.language.specs.Laws.Basics.Lists.{All, all_append}
 use Rattle.language.specs.Laws.Basics.Tests.{split, and_left, and_right, same_equal}

@@ -8,7 +8,7 @@ use Rattle.language.specs.Limits.{max_width}
 use Rattle.language.specs.Tokens.{Token}
 use Rattle.language.specs.Tree.{Identifier, Definition, Defined, Enumerated, Parameter, Declaration, OneSignal, OfWidth, OfType, Spec}
 use Rattle.language.specs.Names.{declared_again}
-use Rattle.language.specs.Declared.{
+use Rattle.language.specs.DeclaredNames.{
   Declared,
   Constant,
   Single,

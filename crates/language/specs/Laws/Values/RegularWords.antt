@@ -12,7 +12,7 @@ use Rattle.language.specs.Places.{first}
 use Rattle.language.specs.Names.{place_of_first}
 use Rattle.language.specs.Words.{words_in, wrong_length, wrong_lengths, clashes, bad_words, wrong_words}
 use Rattle.language.specs.Parsing.{parsed}
-use Rattle.language.specs.Declared.{words_of_type, word_width, sized}
+use Rattle.language.specs.DeclaredNames.{words_of_type, word_width, sized}
 pub use Rattle.language.specs.RegularWords.{Regular, RegularDefinition, PortRegular}
 use Rattle.language.specs.Laws.Basics.Lists.{All, all_more}
 use Rattle.language.specs.Laws.Basics.Tests.{split, and_left, and_right, some_none}

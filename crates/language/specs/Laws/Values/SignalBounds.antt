@@ -36,7 +36,7 @@ use Rattle.language.specs.Operators.{
 use Rattle.language.specs.Tree.{Expr, Named, Numeral, Truth, Index, Paren, Prefixed, Joined, Nexts, InWindow, Each, Between, Listed, Empty, Element, Range}
 use Rattle.language.specs.Sets.{member_of}
 use Rattle.language.specs.Values.{Value, Number, Set, Logic, Bus, Unsized, Choice, number, bus, choice, Sized}
-use Rattle.language.specs.Declared.{Port}
+use Rattle.language.specs.DeclaredNames.{Port}
 use Rattle.language.specs.Numbering.{first_of, Mark, Absent, Present, Star, mark_of, marks_of}
 use Rattle.language.specs.Expansion.{
   joined,

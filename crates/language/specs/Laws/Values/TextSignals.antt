@@ -10,7 +10,7 @@ use Rattle.language.specs.Tokens.{Token}
 use Rattle.language.specs.Tree.{Expr, Definition, Part, Initially, Preset, Require, Assert, Assume, Guarantee, part_code, Spec}
 use Rattle.language.specs.Names.{declared_again}
 use Rattle.language.specs.Values.{value}
-use Rattle.language.specs.Declared.{Declared, Constant, Single, BusOf, Identifies, WaitingBus, Port, Declarations, declarations}
+use Rattle.language.specs.DeclaredNames.{Declared, Constant, Single, BusOf, Identifies, WaitingBus, Port, Declarations, declarations}
 use Rattle.language.specs.Numbering.{in_order, signals_of, first_of, signal_list}
 use Rattle.language.specs.Lines.{Line, Written, Implied, implied, lines}
 use Rattle.language.specs.Expansion.{signal_node, Context, signal_of, at_signals, define, define_all, expand_line, Sections, expand_section, lines_of, section, whole, expand}

@@ -2,7 +2,7 @@
 use Prim.Native.Nat.{◌-◌}
 use mathlib.Core.Path.{sym, ◌∙◌}
 use native.Mathlib.Omega.{arith}
-use borrow.Author.Tests.{not_true, not_false}
+use borrow.Author.Tests.{not-true, not-false}
 use lib.ListN.{length-set}
 use Rattle.layout.specs.StackLaws.{high, stack_fits, node-inside, top-at, kind-small, done-small, top_writable, piece-room, turn_last, turn_more}
 use borrow.Author.Rules.{rules}
@@ -77,7 +77,7 @@ returns c =
     let kind_at = first-at.before in
     let start = kind_at.before.before.before.before.before.before.before.before.before in
     let t = top-at start.requires.0.1.0 start.requires.0.1.1.0 start.requires.0.1.1.1 kind_at.kind.ensures first-at.first.ensures in
-    turn_last t put-piece-at.put-piece.ensures (sym follows_at.follows.ensures ∙ not_true _ c.if1.true)
+    turn_last t put-piece-at.put-piece.ensures (sym follows_at.follows.ensures ∙ not-true _ c.if1.true)
 
 add-stack : tie.Need-overflow-add-stack
 add-stack c =
@@ -113,7 +113,7 @@ slice-write-stack-2 c =
     let kind_at = first-at.before in
     let start = kind_at.before.before.before.before.before.before.before.before.before in
     let t = top-at start.requires.0.1.0 start.requires.0.1.1.0 start.requires.0.1.1.1 kind_at.kind.ensures first-at.first.ensures in
-    simp length-set (stack_fits t (sym follows_at.follows.ensures ∙ not_false _ if1-at.if1.false))
+    simp length-set (stack_fits t (sym follows_at.follows.ensures ∙ not-false _ if1-at.if1.false))
 
 add-t17 : tie.Need-overflow-add-t17
 add-t17 c =
@@ -135,7 +135,7 @@ returns-2 c =
     let kind_at = first-at.before in
     let start = kind_at.before.before.before.before.before.before.before.before.before in
     let t = top-at start.requires.0.1.0 start.requires.0.1.1.0 start.requires.0.1.1.1 kind_at.kind.ensures first-at.first.ensures in
-    turn_more t put-piece-at.put-piece.ensures (sym follows_at.follows.ensures ∙ not_false _ if1-at.if1.false) _ c.operand.ensures
+    turn_more t put-piece-at.put-piece.ensures (sym follows_at.follows.ensures ∙ not-false _ if1-at.if1.false) _ c.operand.ensures
 
 pub step_spec : {M : Type 1} → statement M
 step_spec =

@@ -2,7 +2,7 @@
 use mathlib.Core.Bool.{true, false}
 use native.Mathlib.Omega.{arith}
 use lib.ListN.{get_or}
-use borrow.Author.Tests.{not_true, not_false}
+use borrow.Author.Tests.{not-true, not-false}
 use Rattle.layout.specs.SizeLaws.{operand-is}
 use Rattle.layout.proofs.pieces.operand_size.Statement.{statement}
 use Rattle.layout.proofs.pieces.operand_size.Tie as tie
@@ -10,18 +10,18 @@ use Rattle.layout.proofs.pieces.operand_size.Tie as tie
 returns : tie.Need-returns
 returns c =
     let start = c.before in
-    (operand-is start.args.follows false (get_or start.args.lens.now start.args.i 0) (not_true _ c.if1.true), omega arith)
+    (operand-is start.args.follows false (get_or start.args.lens.now start.args.i 0) (not-true _ c.if1.true), omega arith)
 
 mul-result : tie.Need-overflow-mul-result
 mul-result c =
     let start = c.before in
-    omega (arith, start.requires (not_false _ c.if1.false))
+    omega (arith, start.requires (not-false _ c.if1.false))
 
 shared-slice-read-result : tie.Need-shared-slice-read-result
 shared-slice-read-result c =
     let if1-at = c.before in
     let start = if1-at.before in
-    start.requires (not_false _ if1-at.if1.false)
+    start.requires (not-false _ if1-at.if1.false)
 
 cast-result : tie.Need-overflow-cast-result
 cast-result c =
@@ -32,7 +32,7 @@ returns-2 : tie.Need-returns-2
 returns-2 c =
     let if1-at = c.before in
     let start = if1-at.before in
-    (operand-is start.args.follows true (get_or start.args.lens.now start.args.i 0) (not_false _ if1-at.if1.false), omega (arith, c.shared-slice-known.given start.args.i))
+    (operand-is start.args.follows true (get_or start.args.lens.now start.args.i 0) (not-false _ if1-at.if1.false), omega (arith, c.shared-slice-known.given start.args.i))
 
 pub operand_size_spec : {M : Type 1} → statement M
 operand_size_spec =

@@ -1,7 +1,7 @@
 -- `lexer::search::fits` meets its contract: the first j bytes of the entry are those of the text.
 use Prim.Native.Nat.{◌-◌, ◌<◌}
 use mathlib.Core.Path.{sym, ◌∙◌, subst}
-use borrow.Author.Tests.{not_true, not_false}
+use borrow.Author.Tests.{not-true, not-false}
 use Rattle.lexer.specs.Spelling.{entry}
 use Rattle.lexer.proofs.SearchLaws.{fit_size, fit_short, Comparing, comparing-start, comparing-on, comparing-off, comparing-end}
 use borrow.Author.Rules.{rules}
@@ -34,7 +34,7 @@ returns c =
     let wide = at_wide.wide in
     let sized = c.before.sized in
     let long = wide.ensures.0 ∙ start.requires.rows.size _ start.requires.known in
-    fit_size (entry start.args.k) start.args.text.now start.args.at _ _ long (sym sized.ensures ∙ not_true _ c.if1.true)
+    fit_size (entry start.args.k) start.args.text.now start.args.at _ _ long (sym sized.ensures ∙ not-true _ c.if1.true)
 
 sub-if2 : tie.Need-overflow-sub-if2 invariant-loop decreases-loop
 sub-if2 c =
@@ -50,7 +50,7 @@ returns-2 c =
     let sized = at-sized.sized in
     let if1 = c.before.if1 in
     let long = wide.ensures.0 ∙ start.requires.rows.size _ start.requires.known in
-    fit_short (entry start.args.k) start.args.text.now start.args.at _ _ long (sym sized.ensures ∙ not_false _ if1.false) c.if2.true
+    fit_short (entry start.args.k) start.args.text.now start.args.at _ _ long (sym sized.ensures ∙ not-false _ if1.false) c.if2.true
 
 loop-holds : tie.Need-loop-init invariant-loop decreases-loop
 loop-holds c =
@@ -114,7 +114,7 @@ returns-3 c =
     let if1 = at-if1.if1 in
     let loop-test = at-loop-test.loop-test in
     let long = wide.ensures.0 ∙ start.requires.rows.size _ start.requires.known in
-    comparing-off _ _ _ _ start.args.size long _ loop.invariant (sym sized.ensures ∙ not_false _ if1.false) loop-test.true
+    comparing-off _ _ _ _ start.args.size long _ loop.invariant (sym sized.ensures ∙ not-false _ if1.false) loop-test.true
     (λ f. c.if3.true (f ∙ sym (start.requires.rows.byte _ _ start.requires.known (subst (λ m. loop.j < m) long loop-test.true))))
 
 add-j : tie.Need-overflow-add-j invariant-loop decreases-loop
@@ -151,7 +151,7 @@ returns-4 c =
     let sized = at-sized.sized in
     let if1 = at-if1.if1 in
     let long = wide.ensures.0 ∙ start.requires.rows.size _ start.requires.known in
-    comparing-end _ _ _ _ start.args.size long _ loop.invariant (sym sized.ensures ∙ not_false _ if1.false) c.loop-test.false
+    comparing-end _ _ _ _ start.args.size long _ loop.invariant (sym sized.ensures ∙ not-false _ if1.false) c.loop-test.false
 
 pub fits_spec : {M : Type 1} → statement M
 fits_spec =

@@ -1,7 +1,7 @@
 -- `names::declare::declare_one` meets its contract: the table and the place with one entry more.
 use Prim.Native.Nat.{min}
 use mathlib.Core.Path.{sym, ap, ◌∙◌}
-use borrow.Author.Tests.{not_true, not_false}
+use borrow.Author.Tests.{not-true, not-false}
 use Rattle.names.specs.MeetingLaws.{met-other, met-more}
 use borrow.Author.Rules.{rules}
 use Rattle.names.proofs.declare.declare_one.Statement.{statement}
@@ -17,7 +17,7 @@ returns : tie.Need-returns
 returns c =
     let at-kind-at = c.before.before in
     let start = at-kind-at.before.before.before.before in
-    λ h m. met-other h _ start.requires.2 _ start.requires.1 at-kind-at.kind_at_lem.ensures m (sym c.before.declares.ensures ∙ not_true _ c.if1.true)
+    λ h m. met-other h _ start.requires.2 _ start.requires.1 at-kind-at.kind_at_lem.ensures m (sym c.before.declares.ensures ∙ not-true _ c.if1.true)
 
 name-at-requires : tie.Need-name-at-requires
 name-at-requires c κs = search rules
@@ -61,7 +61,7 @@ returns-2 c =
     let at-declares = at-if1.before in
     let at-kind-at = at-declares.before in
     let start = at-kind-at.before.before.before.before in
-    λ h m. met-more h _ start.requires.2 _ start.requires.1 at-kind-at.kind_at_lem.ensures m (sym at-declares.declares.ensures ∙ not_false _ at-if1.if1.false)
+    λ h m. met-more h _ start.requires.2 _ start.requires.1 at-kind-at.kind_at_lem.ensures m (sym at-declares.declares.ensures ∙ not-false _ at-if1.if1.false)
     at-name-at.name-at.ensures at_wide.wide.ensures.0 at-smaller.smaller.ensures (c.smaller2.ensures ∙ ap (min _) c.before.larger.ensures)
 
 pub declare_one_spec : {M : Type 1} → statement M

@@ -1,7 +1,7 @@
 -- `names::numbering::number_one` meets its contract: the table and the tally with one entry more.
 use mathlib.Core.Path.{sym, ◌∙◌}
 use native.Mathlib.Omega.{arith}
-use borrow.Author.Tests.{not_true, not_false}
+use borrow.Author.Tests.{not-true, not-false}
 use Rattle.names.specs.NumberingLaws.{numbered_other, numbered-name, numbered-first, numbered-behind}
 use borrow.Author.Rules.{rules}
 use Rattle.names.proofs.numbering.number_one.Statement.{statement}
@@ -17,7 +17,7 @@ returns : tie.Need-returns
 returns c =
     let at-kind-at = c.before.before in
     let start = at-kind-at.before.before.before.before.before in
-    (λ h n. numbered_other h _ start.requires.1 at-kind-at.kind_at_lem.ensures n (sym c.before.declares.ensures ∙ not_true _ c.if1.true), omega arith)
+    (λ h n. numbered_other h _ start.requires.1 at-kind-at.kind_at_lem.ensures n (sym c.before.declares.ensures ∙ not-true _ c.if1.true), omega arith)
 
 name-at-requires : tie.Need-name-at-requires
 name-at-requires c κs = search rules
@@ -56,7 +56,7 @@ returns-2 c =
     let at-declares = at-if1.before in
     let at-kind-at = at-declares.before in
     let start = at-kind-at.before.before.before.before.before in (
-      λ h n. numbered-name h _ start.requires.1 at-kind-at.kind_at_lem.ensures (sym at-declares.declares.ensures ∙ not_false _ at-if1.if1.false) n at-name-at.name-at.ensures
+      λ h n. numbered-name h _ start.requires.1 at-kind-at.kind_at_lem.ensures (sym at-declares.declares.ensures ∙ not-false _ at-if1.if1.false) n at-name-at.name-at.ensures
           c.if2.true start.requires.4,
       omega arith,
     )
@@ -74,7 +74,7 @@ returns-3 c =
     let at-declares = at-if1.before in
     let at-kind-at = at-declares.before in
     let start = at-kind-at.before.before.before.before.before in (
-      λ h n. numbered-first h _ start.requires.1 at-kind-at.kind_at_lem.ensures (sym at-declares.declares.ensures ∙ not_false _ at-if1.if1.false) n at-name-at.name-at.ensures
+      λ h n. numbered-first h _ start.requires.1 at-kind-at.kind_at_lem.ensures (sym at-declares.declares.ensures ∙ not-false _ at-if1.if1.false) n at-name-at.name-at.ensures
           c.if3.true,
       omega arith,
     )
@@ -92,7 +92,7 @@ returns-4 c =
     let at-declares = at-if1.before in
     let at-kind-at = at-declares.before in
     let start = at-kind-at.before.before.before.before.before in (
-      λ h n. numbered-behind h _ start.requires.1 at-kind-at.kind_at_lem.ensures (sym at-declares.declares.ensures ∙ not_false _ at-if1.if1.false) n at-name-at.name-at.ensures
+      λ h n. numbered-behind h _ start.requires.1 at-kind-at.kind_at_lem.ensures (sym at-declares.declares.ensures ∙ not-false _ at-if1.if1.false) n at-name-at.name-at.ensures
           (omega arith),
       omega arith,
     )
