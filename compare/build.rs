@@ -1,9 +1,9 @@
-//! Links the proved static library from target/staticlib, where `rt staticlib tlsf_c` leaves it.
+//! Links the proved static library from crates/tlsf_c/out, where `build tlsf_c` leaves it.
 
 use std::path::Path;
 
 fn main() {
-    let folder = Path::new(env!("CARGO_MANIFEST_DIR")).join("../target/staticlib");
+    let folder = Path::new(env!("CARGO_MANIFEST_DIR")).join("../crates/tlsf_c/out");
     println!(
         "cargo:rerun-if-changed={}",
         folder.join("libtlsf_c.a").display()

@@ -1,6 +1,6 @@
 /* tlsf.h: the proved TLSF library for C and C++: from a TLSF v1.1 text to the nodes of an LTL formula, its forms, and where they hold in a recorded run.
 
-   Link with target/staticlib/libtlsf_c.a, which `rt staticlib tlsf_c` writes, for x86-64 Linux; examples/c goes from text to formula to verdict with it.
+   Link with crates/tlsf_c/out/libtlsf_c.a, which `./build tlsf_c` makes, for x86-64 Linux; examples/c goes from text to formula to verdict with it.
 
    Slices. A pointer is followed by the number of its elements, not of its bytes. It is aligned for its elements and not null, also where that number is 0; what a
    call writes overlaps nothing else that it is passed. The proofs rest on that and nothing checks it: everything else, any bytes in any buffer, is checked and

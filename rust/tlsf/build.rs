@@ -1,4 +1,4 @@
-//! Links the proved static library: from the folder named by TLSF_LIBRARY, else from target/staticlib, where `rt staticlib tlsf_c` leaves it.
+//! Links the proved static library: from the folder named by TLSF_LIBRARY, else from crates/tlsf_c/out, where `build tlsf_c` leaves it.
 
 use std::env;
 use std::path::PathBuf;
@@ -14,7 +14,7 @@ fn main() {
     println!("cargo:rerun-if-changed={}", library.display());
     if !library.is_file() {
         eprintln!(
-            "{} is not there: run `rt staticlib tlsf_c`, or name the folder that has {LIBRARY_FILE} in {FOLDER_VARIABLE}",
+            "{} is not there: run `./build tlsf_c` at the top of the repository, or name the folder that has {LIBRARY_FILE} in {FOLDER_VARIABLE}",
             library.display()
         );
         exit(1);
@@ -28,7 +28,7 @@ fn library_folder() -> PathBuf {
         Some(folder) => PathBuf::from(folder),
         None => {
             let here = env::var_os("CARGO_MANIFEST_DIR").unwrap_or_default();
-            PathBuf::from(here).join("../../target/staticlib")
+            PathBuf::from(here).join("../../crates/tlsf_c/out")
         }
     }
 }

@@ -208,56 +208,54 @@ struct Kind {
 const TEXTS: Kind = Kind {
     file: "Texts",
     item: "Text",
-    test: "textsHeld",
-    uses: "use Rattle·node.specs.Postorder.{size, nodesFrom}
-use Rattle·node.specs.Written.{nodesOf, count}
-use Rattle·node.specs.Result.{_>>=_, guard}
-use Rattle·language.specs.Bytes.{ascii}
-use Rattle·language.specs.Places.{refuseAt}
-use Rattle·language.specs.Parsing.{parsed}
-use Rattle·language.specs.Reading.{textExpansion, specExpansion}
+    test: "texts_held",
+    uses: "use Rattle.node.specs.Postorder.{size, nodes_from}
+use Rattle.node.specs.Written.{nodes_of, count}
+use Rattle.node.specs.Result.{◌>>=◌, guard}
+use Rattle.language.specs.Bytes.{ascii}
+use Rattle.language.specs.Places.{refuse_at}
+use Rattle.language.specs.Parsing.{parsed}
+use Rattle.language.specs.Reading.{text_expansion, spec_expansion}
 ",
-    unfolding: "textExpansion parsed specExpansion _>>=_ guard refuseAt nodesOf nodesFrom count size",
+    unfolding: "text_expansion parsed spec_expansion ◌>>=◌ guard refuse_at nodes_of nodes_from count size",
 };
 
 const FORMS: Kind = Kind {
     file: "Tables",
     item: "Table",
-    test: "tablesHeld",
-    uses: "use Rattle·node.specs.Postorder.{size, nodesFrom}
-use Rattle·node.specs.Written.{nodesOf, count}
-use Rattle·node.specs.Result.{_>>=_, guard}
-use Rattle·node.specs.Table.{formulas, treeAt, scanned, checked}
-use Rattle·forms.specs.Forms.{plain, negated, core}
-use Rattle·rewriter.specs.Rewriting.{fitting, rewriting}
+    test: "tables_held",
+    uses: "use Rattle.node.specs.Postorder.{size, nodes_from}
+use Rattle.node.specs.Written.{nodes_of, count}
+use Rattle.node.specs.Result.{◌>>=◌, guard}
+use Rattle.node.specs.Table.{formulas, tree_at, scanned, checked}
+use Rattle.forms.specs.Forms.{plain, negated, core}
+use Rattle.rewriter.specs.Rewriting.{fitting, rewriting}
 ",
-    unfolding: "rewriting fitting checked scanned _>>=_ guard treeAt formulas plain negated core count size nodesOf nodesFrom",
+    unfolding: "rewriting fitting checked scanned ◌>>=◌ guard tree_at formulas plain negated core count size nodes_of nodes_from",
 };
 
 const ROWS: Kind = Kind {
     file: "Recordings",
     item: "Recording",
-    test: "recordingsHeld",
-    uses: "use Rattle·node.specs.Result.{_>>=_, guard}
-use Rattle·node.specs.Table.{formulas, treeAt, scanned, checked}
-use Rattle·recordings.specs.Limits.{told}
-use Rattle·bits.specs.Bits.{bitAt, number}
-use Rattle·recordings.specs.Recording.{blank, filled, readable}
-use Rattle·recordings.specs.Lasso.{next}
-use Rattle·rows.specs.Row.{sweepFrom, around, row, tabulate, joined}
-use Rattle·evaluator.specs.Evaluation.{evaluation}
+    test: "recordings_held",
+    uses: "use Rattle.node.specs.Result.{◌>>=◌, guard}
+use Rattle.node.specs.Table.{formulas, tree_at, scanned, checked}
+use Rattle.recordings.specs.Limits.{told}
+use Rattle.bits.specs.Bits.{bit_at, number}
+use Rattle.recordings.specs.Recording.{blank, filled, readable}
+use Rattle.recordings.specs.Lasso.{next}
+use Rattle.rows.specs.Row.{sweep_from, around, row, tabulate, joined}
+use Rattle.evaluator.specs.Evaluation.{evaluation}
 ",
-    unfolding: "evaluation _>>=_ guard checked scanned readable filled blank told treeAt formulas number bitAt next sweepFrom around row tabulate joined",
+    unfolding: "evaluation ◌>>=◌ guard checked scanned readable filled blank told tree_at formulas number bit_at next sweep_from around row tabulate joined",
 };
 
 /// One file: a statement for every few cases, each proved by computing.
 fn file(kind: &Kind, cases: &[String], together: usize) -> String {
     let mut text = format!(
         "-- Written by the second converter: cases with its answers, each computed from the definitions.
-use mathlib.Core.Bool.{{true}}
-use mathlib.Core.List.{{List, [], _∷_}}
-use mathlib.Core.Path.{{_≡_, refl}}
-{}use Rattle·second_cases·specs.specs.Held.{{Accepted, Rejected, {}, {}}}
+use Rattle.std.specs.Prelude.{{true, List, [], ◌∷◌, ◌≡◌, refl}}
+{}use Rattle.second_cases.specs.Held.{{Accepted, Rejected, {}, {}}}
 ",
         kind.uses, kind.item, kind.test
     );
@@ -266,14 +264,14 @@ use mathlib.Core.Path.{{_≡_, refl}}
         write!(
             text,
             "
-cases-{i} : List {item}
-cases-{i} =
+cases_{i} : List {item}
+cases_{i} =
     {listed} ∷
     []
 
-held-{i} : {test} cases-{i} ≡ true
-unfolding cases-{i} {unfolding}
-held-{i} = refl
+held_{i} : {test} cases_{i} ≡ true
+unfolding cases_{i} {unfolding}
+held_{i} = refl
 ",
             item = kind.item,
             test = kind.test,
