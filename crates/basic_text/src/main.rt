@@ -2,41 +2,45 @@
 #![tactic(auto)]
 
 use basic::Written;
-use libc::{STDIN_FILENO, STDOUT_FILENO};
 use node::Answer;
+use std::io::{self, BufWriter, Write};
 
 // More bytes than any text of 8,192 nodes and 255 signals has: 69 for a node, 67 for a signal, 135.
 const ROOM: usize = 600000;
 
-// The first n bytes.
-fn print(out: &[u8], n: usize) {
-    let end = input::within(n, out);
-    io::write_all(STDOUT_FILENO, &out[..end]);
+// A function of its own, so that the callers' proofs do not write the array out.
+fn room() -> [u8; ROOM] {
+    [0; ROOM]
 }
 
-fn write(text: &[u8]) {
-    let mut work = io::large_buffer();
-    let mut out = [0u8; ROOM];
+// The first n bytes.
+fn print(to: &mut impl Write, out: &[u8], n: usize) -> io::Result<()> {
+    let end = input::within(n, out);
+    to.write_all(&out[..end])
+}
+
+fn write(to: &mut impl Write, text: &[u8]) -> io::Result<()> {
+    let mut work = input::large_buffer();
+    let mut out = room();
     let written = writer::write_basic(text, &mut work, &mut out);
     match written {
-        Written::Bytes(bytes) => print(&out, bytes as usize),
-        Written::Refused(number, place) => listing::answer(Answer::Refused(number, place)),
+        Written::Bytes(bytes) => print(to, &out, bytes as usize),
+        Written::Refused(number, place) => listing::answer(to, Answer::Refused(number, place)),
     }
 }
 
 // An input that cannot be read is told on standard error, and nothing is printed: it is no empty text.
-fn run(text: &mut [u8]) {
-    let n = input::fill(STDIN_FILENO, text);
-    if n == input::UNREADABLE {
-        os::fail(b"basic_text: the text cannot be read");
-        return;
+fn run(rt: &(impl Input + Eprint), to: &mut impl Write, text: &mut [u8]) -> io::Result<()> {
+    match input::fill(&mut rt.reader(), text) {
+        Ok(n) => write(to, &text[..n]),
+        Err(error) => eprintln!(rt; "basic_text: the text cannot be read: {error}"),
     }
-    let t = input::within(n, text);
-    write(&text[..t]);
 }
 
 // A text of more than 32,768 bytes is refused by 1 wherever it ends, so that the first 65,536 tell enough.
-fn main() {
-    let mut text = io::large_buffer();
-    run(&mut text);
+fn main(rt: HostRuntime) -> io::Result<()> {
+    let mut to = BufWriter::new(rt.alloc(), io::writer(&rt))?;
+    let mut text = input::large_buffer();
+    run(&rt, &mut to, &mut text)?;
+    to.flush()
 }

@@ -4,53 +4,53 @@
 
 use checked::Checked;
 use language::limits;
-use libc::STDOUT_FILENO;
+use std::io::{self, BufWriter, Write};
+use std::rt::Files;
+use std::{env, fs};
 
-fn number(word: &[u8], n: u64) {
-    io::write_all(STDOUT_FILENO, word);
-    io::print_decimal(STDOUT_FILENO, n);
+fn number(to: &mut impl Write, word: &[u8], n: u64) -> io::Result<()> {
+    to.write_all(word)?;
+    write!(to, "{n}")
 }
 
 // The counts of tokens, entries and declared names, or the refusal.
-fn say(answer: Checked) {
+fn say(to: &mut impl Write, answer: Checked) -> io::Result<()> {
     match answer {
         Checked::Accepted(counts, _) => {
-            number(b": tokens ", counts.tokens as u64);
-            number(b", entries ", counts.entries as u64);
-            number(b", names ", counts.names as u64);
+            number(to, b": tokens ", counts.tokens as u64)?;
+            number(to, b", entries ", counts.entries as u64)?;
+            number(to, b", names ", counts.names as u64)?;
         }
         Checked::Refused(refusal, place) => {
-            number(b": refused ", refusal as u64);
-            number(b" ", place as u64);
+            number(to, b": refused ", refusal as u64)?;
+            number(to, b" ", place as u64)?;
         }
     }
-    io::write_all(STDOUT_FILENO, b"\n");
+    to.write_all(b"\n")
 }
 
-fn run(name: &[u8]) {
-    let file = os::open_read(name);
-    if file < 0 {
-        os::fail(name);
-        return;
-    }
-    let mut text = io::large_buffer();
-    let size = io::read_full(file, &mut text);
-    libc::close(file);
-    let mut work = io::large_buffer();
+// A file that cannot be opened is told on standard error.
+fn run(rt: &(impl Files + Eprint), to: &mut impl Write, name: &str) -> io::Result<()> {
+    let mut file = match fs::open(rt, name) {
+        Ok(file) => file,
+        Err(error) => return eprintln!(rt; "{name}: {error}"),
+    };
+    let mut text = input::large_buffer();
+    let size = input::fill(&mut file, &mut text)?;
+    let mut work = input::large_buffer();
     let mut refs = [0u16; limits::MAX_TOKENS];
     let mut found = [0u16; limits::MAX_NAMES];
-    io::write_all(STDOUT_FILENO, name);
-    say(checked::check(&text[..size], &mut work, &mut refs, &mut found));
+    to.write_all(name.as_bytes())?;
+    say(
+        to,
+        checked::check(&text[..size], &mut work, &mut refs, &mut found),
+    )
 }
 
-fn argument(i: usize) {
-    let mut name = io::buffer();
-    let size = os::arg(i, &mut name);
-    run(&name[..size]);
-}
-
-fn main() {
-    for i in 1..os::arg_count() {
-        argument(i);
+fn main(rt: HostRuntime) -> io::Result<()> {
+    let mut to = BufWriter::new(rt.alloc(), io::writer(&rt))?;
+    for name in env::args(&rt)?.skip(1) {
+        run(&rt, &mut to, name.as_str())?;
     }
+    to.flush()
 }

@@ -3,6 +3,7 @@ ghost use Rattle.std.specs.Prelude.{◌≡◌, length};
 
 use crate::print;
 use node::Node;
+use std::io::{self, Write};
 
 // Two signals, then every operator in turn, over a signal and a node five sevenths of the way.
 fn node_at(i: usize) -> u32 {
@@ -25,10 +26,8 @@ fn node_at(i: usize) -> u32 {
 }
 
 fn fill_nodes(nodes: &mut [u32]) {
-    let mut i = 0;
-    while i < nodes.len() {
+    for i in 0..nodes.len() {
         nodes[i] = node_at(i);
-        i += 1;
     }
 }
 
@@ -44,18 +43,21 @@ fn letter_byte(i: usize) -> u8 {
 }
 
 fn fill_recording(recording: &mut [u8]) {
-    let mut i = 0;
-    while i < recording.len() {
+    for i in 0..recording.len() {
         recording[i] = letter_byte(i);
-        i += 1;
     }
 }
 
 // The answer, and the checksum of the rows.
-fn evaluate(nodes: &[u32], recording: &[u8], rows: &mut [u8]) {
-    print::text(b"8,192 nodes over 2,048 positions");
-    listing::answer(evaluator::evaluate(nodes, 2, recording, rows));
-    print::checksum(rows);
+fn evaluate(
+    to: &mut impl Write,
+    nodes: &[u32],
+    recording: &[u8],
+    rows: &mut [u8],
+) -> io::Result<()> {
+    print::text(to, b"8,192 nodes over 2,048 positions")?;
+    listing::answer(to, evaluator::evaluate(nodes, 2, recording, rows))?;
+    print::checksum(to, rows)
 }
 
 // A row of 256 bytes for each node. A function of its own, so that the callers' proofs do not write the array out.
@@ -66,11 +68,11 @@ fn room() -> [u8; 2097152]
 }
 
 // Writes the answer on the full table, and the checksum of its rows.
-pub fn run() {
+pub fn run(to: &mut impl Write) -> io::Result<()> {
     let mut nodes = [0u32; 8192];
     fill_nodes(&mut nodes);
     let mut recording = [0u8; 516];
     fill_recording(&mut recording);
     let mut rows = room();
-    evaluate(&nodes, &recording, &mut rows);
+    evaluate(to, &nodes, &recording, &mut rows)
 }

@@ -1,50 +1,50 @@
 // What the program prints: verdicts and bytes, a line each.
+ghost use Rattle.std.specs.Prelude.{◌++◌, OnOk, codes};
+ghost use Rattle.std.specs.Fmt.{decimal};
+ghost use Rattle.std.specs.Io.KnownBytes.{Appends};
+
 use basics::u8_u64::wide;
 use evaluator::Verdict;
-use libc::STDOUT_FILENO;
+use std::io::{self, Write};
 
 // Writes a line.
-pub fn text(line: &[u8]) {
-    io::write_all(STDOUT_FILENO, line);
-    io::write_all(STDOUT_FILENO, b"\n");
+pub fn text<W: Write>(to: &mut W, line: &[u8]) -> io::Result<()>
+    ensures { OnOk result (Appends (W.contents to.old) (W.contents to.new) (line.now ++ codes "\n")) }
+{
+    to.write_all(line)?;
+    to.write_all(b"\n")
 }
 
 // A word and two numbers.
-fn counts(word: &[u8], first: u32, second: u32) {
-    io::write_all(STDOUT_FILENO, word);
-    io::print_decimal(STDOUT_FILENO, first as u64);
-    io::write_all(STDOUT_FILENO, b" ");
-    io::print_decimal(STDOUT_FILENO, second as u64);
-    io::write_all(STDOUT_FILENO, b"\n");
+fn counts<W: Write>(to: &mut W, word: &[u8], first: u32, second: u32) -> io::Result<()>
+    ensures { OnOk result (Appends (W.contents to.old) (W.contents to.new) (word.now ++ decimal first ++ codes " " ++ decimal second ++ codes "\n")) }
+{
+    to.write_all(word)?;
+    write!(to, "{first} {second}\n")
 }
 
 // Writes a verdict, a refusal with its two numbers.
-pub fn verdict(verdict: Verdict) {
+pub fn verdict(to: &mut impl Write, verdict: Verdict) -> io::Result<()> {
     match verdict {
-        Verdict::Holds => text(b"holds"),
-        Verdict::Fails => text(b"fails"),
-        Verdict::Refused(number, place) => counts(b"refused ", number, place),
+        Verdict::Holds => text(to, b"holds"),
+        Verdict::Fails => text(to, b"fails"),
+        Verdict::Refused(number, place) => counts(to, b"refused ", number, place),
     }
 }
 
 // Writes the bytes, two hexadecimal digits each.
-pub fn bytes(bytes: &[u8]) {
-    let mut i = 0;
-    while i < bytes.len() {
-        io::print_hex(STDOUT_FILENO, wide(bytes[i]), 2);
-        i += 1;
+pub fn bytes(to: &mut impl Write, bytes: &[u8]) -> io::Result<()> {
+    for byte in bytes {
+        write!(to, "{:02x}", *byte)?;
     }
-    io::write_all(STDOUT_FILENO, b"\n");
+    to.write_all(b"\n")
 }
 
 // Writes a checksum of the bytes, order included.
-pub fn checksum(bytes: &[u8]) {
+pub fn checksum(to: &mut impl Write, bytes: &[u8]) -> io::Result<()> {
     let mut sum = 0u64;
-    let mut i = 0;
-    while i < bytes.len() {
-        sum = (sum % 1000003 * 257 + wide(bytes[i])) % 1000003;
-        i += 1;
+    for byte in bytes {
+        sum = (sum % 1000003 * 257 + wide(*byte)) % 1000003;
     }
-    io::print_decimal(STDOUT_FILENO, sum);
-    io::write_all(STDOUT_FILENO, b"\n");
+    write!(to, "{sum}\n")
 }

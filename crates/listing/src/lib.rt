@@ -1,57 +1,73 @@
-// The listing of document 01, 'One file in full', on standard output: `accepted`, node and signal counts, then per node its number, kind, first and second field; or
+// The listing of document 01, 'One file in full', to a writer: `accepted`, node and signal counts, then per node its number, kind, first and second field; or
 // `refused`, number, place.
 #![tactic(auto)]
 
-use basics::least;
-use libc::STDOUT_FILENO;
-use node::{Answer, Node};
+ghost use Rattle.std.specs.Prelude.{min, length, OnOk};
+ghost use Rattle.std.specs.Fmt.{decimal};
+ghost use Rattle.std.specs.Io.KnownBytes.{Appends};
+ghost use Rattle.listing.specs.Lines.{two, answer_line, node_line, node_lines};
 
-fn say(text: &[u8]) {
-    io::write_all(STDOUT_FILENO, text);
+use basics::least;
+use node::{Answer, Node};
+use std::io::{self, Write};
+
+fn say<W: Write>(to: &mut W, text: &[u8]) -> io::Result<()>
+    ensures { OnOk result (Appends (W.contents to.old) (W.contents to.new) text.now) }
+{
+    to.write_all(text)
 }
 
-fn say_number(n: u32) {
-    io::print_decimal(STDOUT_FILENO, n as u64);
+fn say_number<W: Write>(to: &mut W, n: u32) -> io::Result<()>
+    ensures { OnOk result (Appends (W.contents to.old) (W.contents to.new) (decimal n)) }
+{
+    write!(to, "{n}")
 }
 
 // A line's last two numbers.
-fn say_two(first: u32, second: u32) {
-    say(b" ");
-    say_number(first);
-    say(b" ");
-    say_number(second);
-    say(b"\n");
+fn say_two<W: Write>(to: &mut W, first: u32, second: u32) -> io::Result<()>
+    ensures { OnOk result (Appends (W.contents to.old) (W.contents to.new) (two first second)) }
+{
+    say(to, b" ")?;
+    say_number(to, first)?;
+    say(to, b" ")?;
+    say_number(to, second)?;
+    say(to, b"\n")
 }
 
 // An answer's line.
-pub fn answer(answer: Answer) {
+pub fn answer<W: Write>(to: &mut W, answer: Answer) -> io::Result<()>
+    ensures { OnOk result (Appends (W.contents to.old) (W.contents to.new) (answer_line answer)) }
+{
     match answer {
         Answer::Accepted(nodes, signals) => {
-            say(b"accepted");
-            say_two(nodes, signals);
+            say(to, b"accepted")?;
+            say_two(to, nodes, signals)
         }
         Answer::Refused(number, place) => {
-            say(b"refused");
-            say_two(number, place);
+            say(to, b"refused")?;
+            say_two(to, number, place)
         }
     }
 }
 
 // A node's number, kind, first and second field.
-fn say_node(i: usize, word: u32) {
+fn say_node<W: Write>(to: &mut W, i: usize, word: u32) -> io::Result<()>
+    ensures { OnOk result (Appends (W.contents to.old) (W.contents to.new) (node_line i word)) }
+{
     let node = Node { word };
-    io::print_decimal(STDOUT_FILENO, i as u64);
-    say(b" ");
-    say_number(node.kind());
-    say_two(node.first(), node.second());
+    write!(to, "{i}")?;
+    say(to, b" ")?;
+    say_number(to, node.kind())?;
+    say_two(to, node.first(), node.second())
 }
 
 // The lines of the first n nodes.
-pub fn nodes(nodes: &[u32], n: usize) {
+pub fn nodes<W: Write>(to: &mut W, nodes: &[u32], n: usize) -> io::Result<()>
+    ensures { OnOk result (Appends (W.contents to.old) (W.contents to.new) (node_lines (min n (length nodes.now)) nodes.now)) }
+{
     let end = least(n, nodes.len());
-    let mut i = 0;
-    while i < end {
-        say_node(i, nodes[i]);
-        i += 1;
+    for i in 0..end {
+        say_node(to, i, nodes[i])?;
     }
+    Ok(())
 }

@@ -2,8 +2,9 @@
 // beyond, document 001's components, the starred texts, definitions that use the one before twice, and the deepest texts. What it writes was written by the second converter.
 #![tactic(auto)]
 
+use std::io;
 use stored_texts::Detail;
 
-fn main() {
-    stored_texts::run(Detail::Whole);
+fn main(rt: HostRuntime) -> io::Result<()> {
+    stored_texts::run(&rt, Detail::Whole)
 }

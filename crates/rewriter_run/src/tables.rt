@@ -55,12 +55,10 @@ pub fn chain(nodes: &mut [u32], kind: u32, shared: bool)
     requires { (kind < 16) × ((0 < length nodes.old) × (length nodes.old ≤ max_nodes)) }
     ensures { ChainTo kind shared nodes.new (length nodes.old) }
 {
-    let mut i = 1;
     nodes[0] = 2 * KIND;
-    while i < nodes.len() {
+    for i in 1..nodes.len() {
         let before = (i - 1) as u32;
         let node = Node::binary(kind, before, second(shared, before));
         nodes[i] = node.word;
-        i += 1;
     }
 }

@@ -8,6 +8,9 @@ mod report;
 mod sums;
 
 use crate::pieces::piece_at;
+use std::io::{self, BufWriter, Write};
+use std::rt::{Env, Files};
+use std::{env, fs};
 
 // What a program prints of a text: one line, or the answers to every room with the nodes and the signals of a small text.
 #[derive(Clone, Copy)]
@@ -16,46 +19,47 @@ pub enum Detail {
     Whole,
 }
 
-fn say_text(detail: Detail, name: &[u8], text: &[u8]) {
+fn say_text(to: &mut impl Write, detail: Detail, name: &[u8], text: &[u8]) -> io::Result<()> {
     match detail {
-        Detail::Line => report::line(name, text),
-        Detail::Whole => report::whole(name, text),
+        Detail::Line => report::line(to, name, text),
+        Detail::Whole => report::whole(to, name, text),
     }
 }
 
-fn all_texts(detail: Detail, file: &[u8]) {
+fn all_texts(to: &mut impl Write, detail: Detail, file: &[u8]) -> io::Result<()> {
     let mut at = 0;
     while at < file.len() {
         let piece = piece_at(file, at);
         let name = piece.name;
         let start = piece.start;
         let end = piece.end;
-        say_text(detail, &file[at..name], &file[start..end]);
+        say_text(to, detail, &file[at..name], &file[start..end])?;
         at = piece.next;
     }
+    Ok(())
 }
 
-fn run_file(detail: Detail, name: &[u8]) {
-    let descriptor = os::open_read(name);
-    if descriptor < 0 {
-        os::fail(name);
-        return;
-    }
-    let mut file = io::large_buffer();
-    let size = io::read_full(descriptor, &mut file);
-    libc::close(descriptor);
-    all_texts(detail, &file[..size]);
-}
-
-fn run_argument(detail: Detail, i: usize) {
-    let mut name = io::buffer();
-    let size = os::arg(i, &mut name);
-    run_file(detail, &name[..size]);
+// A file that cannot be opened is told on standard error.
+fn run_file(
+    rt: &(impl Files + Eprint),
+    to: &mut impl Write,
+    detail: Detail,
+    name: &str,
+) -> io::Result<()> {
+    let mut descriptor = match fs::open(rt, name) {
+        Ok(descriptor) => descriptor,
+        Err(error) => return eprintln!(rt; "{name}: {error}"),
+    };
+    let mut file = input::large_buffer();
+    let size = input::fill(&mut descriptor, &mut file)?;
+    all_texts(to, detail, &file[..size])
 }
 
 // Prints the answers on every text of the files that the arguments name; a file has less than 65,536 bytes.
-pub fn run(detail: Detail) {
-    for i in 1..os::arg_count() {
-        run_argument(detail, i);
+pub fn run<R: Env + Files + Print + Eprint + Alloc>(rt: &R, detail: Detail) -> io::Result<()> {
+    let mut to = BufWriter::new(rt.alloc(), io::writer(rt))?;
+    for name in env::args(rt)?.skip(1) {
+        run_file(rt, &mut to, detail, name.as_str())?;
     }
+    to.flush()
 }

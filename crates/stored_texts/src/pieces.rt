@@ -16,18 +16,17 @@ pub struct Piece {
 }
 
 // The place of the next such byte from `at` on, or the file's end.
+#[tactic(auto, using(crate::proofs::Laws::seeking_stop, crate::proofs::Laws::seeking_end))]
 fn find(file: &[u8], at: usize, byte: u8) -> usize
     requires { at ≤ length file.now }
     ensures { Found byte file.now at result }
 {
-    let mut i = at;
-    while i < file.len() {
+    for i in at..file.len() {
         if file[i] == byte {
             return i;
         }
-        i += 1;
     }
-    i
+    file.len()
 }
 
 fn past(at: usize, count: usize, end: usize) -> usize

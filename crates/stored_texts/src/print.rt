@@ -1,51 +1,54 @@
 // What is printed: answers, with the checksums of what an accepted text gives, and signal lists.
 use crate::sums::checksum_of;
 use basics::least;
-use libc::STDOUT_FILENO;
 use node::Answer;
+use std::io::{self, Write};
 
-pub fn say(text: &[u8]) {
-    io::write_all(STDOUT_FILENO, text);
+pub fn say(to: &mut impl Write, text: &[u8]) -> io::Result<()> {
+    to.write_all(text)
 }
 
-fn say_number(word: &[u8], n: u32) {
-    say(word);
-    io::print_decimal(STDOUT_FILENO, n as u64);
+fn say_number(to: &mut impl Write, word: &[u8], n: u32) -> io::Result<()> {
+    say(to, word)?;
+    write!(to, "{n}")
 }
 
 // An answer; of an accepted text with the checksums of its nodes and of its signal list.
-pub fn answer(answer: Answer, nodes: &[u32], signals: &[u32]) {
+pub fn answer(
+    to: &mut impl Write,
+    answer: Answer,
+    nodes: &[u32],
+    signals: &[u32],
+) -> io::Result<()> {
     match answer {
         Answer::Accepted(n, s) => {
-            say_number(b"accepted ", n);
-            say_number(b" ", s);
-            say_number(b" sums ", checksum_of(nodes, n as usize));
-            say_number(b" ", checksum_of(signals, s as usize));
+            say_number(to, b"accepted ", n)?;
+            say_number(to, b" ", s)?;
+            say_number(to, b" sums ", checksum_of(nodes, n as usize))?;
+            say_number(to, b" ", checksum_of(signals, s as usize))
         }
         Answer::Refused(number, place) => {
-            say_number(b"refused ", number);
-            say_number(b" ", place);
+            say_number(to, b"refused ", number)?;
+            say_number(to, b" ", place)
         }
     }
 }
 
 // A signal's number, output flag, offset of the name, index in the bus and width.
-fn signal(i: usize, word: u32) {
-    say(b"signal ");
-    io::print_decimal(STDOUT_FILENO, i as u64);
-    say_number(b" ", word / 2147483648);
-    say_number(b" ", word / 65536 % 32768);
-    say_number(b" ", word / 256 % 256);
-    say_number(b" ", word % 256);
-    say(b"\n");
+fn signal(to: &mut impl Write, i: usize, word: u32) -> io::Result<()> {
+    write!(to, "signal {i}")?;
+    say_number(to, b" ", word / 2147483648)?;
+    say_number(to, b" ", word / 65536 % 32768)?;
+    say_number(to, b" ", word / 256 % 256)?;
+    say_number(to, b" ", word % 256)?;
+    say(to, b"\n")
 }
 
 // The lines of the first n signals.
-pub fn signals(words: &[u32], n: usize) {
+pub fn signals(to: &mut impl Write, words: &[u32], n: usize) -> io::Result<()> {
     let end = least(n, words.len());
-    let mut i = 0;
-    while i < end {
-        signal(i, words[i]);
-        i += 1;
+    for i in 0..end {
+        signal(to, i, words[i])?;
     }
+    Ok(())
 }

@@ -5,30 +5,37 @@ use crate::print::say;
 use forms::{AS_EXPANDED, CORE_FORM, NEGATION_FORM};
 use language::limits::WORK_BYTES;
 use node::{Answer, MAX_NODES, MAX_SIGNALS};
+use std::io::{self, Write};
 
 // The most nodes of a text that are listed.
 const LISTED: u32 = 40;
 
 // Calls with so much room lent, and prints the answer.
-fn say_call(title: &[u8], how: Call, text: &[u8], room: Room) -> Answer {
-    let mut work = io::large_buffer();
+fn say_call(
+    to: &mut impl Write,
+    title: &[u8],
+    how: Call,
+    text: &[u8],
+    room: Room,
+) -> io::Result<Answer> {
+    let mut work = input::large_buffer();
     let mut nodes: [u32; MAX_NODES] = [0; MAX_NODES];
     let mut signals: [u32; MAX_SIGNALS] = [0; MAX_SIGNALS];
     let answer = call_with(how, text, room, &mut work, &mut nodes, &mut signals);
-    say(title);
-    print::answer(answer, &nodes, &signals);
-    answer
+    say(to, title)?;
+    print::answer(to, answer, &nodes, &signals)?;
+    Ok(answer)
 }
 
 // The reader's answer and the converter's in each form, in one line.
-pub fn line(name: &[u8], text: &[u8]) {
+pub fn line(to: &mut impl Write, name: &[u8], text: &[u8]) -> io::Result<()> {
     let ample = Room::ample();
-    say(name);
-    say_call(b": read ", Call::Read, text, ample);
-    say_call(b"; form 0 ", Call::Convert(AS_EXPANDED), text, ample);
-    say_call(b"; form 1 ", Call::Convert(NEGATION_FORM), text, ample);
-    say_call(b"; form 2 ", Call::Convert(CORE_FORM), text, ample);
-    say(b"\n");
+    say(to, name)?;
+    say_call(to, b": read ", Call::Read, text, ample)?;
+    say_call(to, b"; form 0 ", Call::Convert(AS_EXPANDED), text, ample)?;
+    say_call(to, b"; form 1 ", Call::Convert(NEGATION_FORM), text, ample)?;
+    say_call(to, b"; form 2 ", Call::Convert(CORE_FORM), text, ample)?;
+    say(to, b"\n")
 }
 
 fn one_less(n: usize) -> usize {
@@ -36,7 +43,13 @@ fn one_less(n: usize) -> usize {
 }
 
 // An accepted call again, with exactly the room that is due and with one node or one signal less.
-fn say_rooms(how: Call, text: &[u8], nodes: usize, signals: usize) {
+fn say_rooms(
+    to: &mut impl Write,
+    how: Call,
+    text: &[u8],
+    nodes: usize,
+    signals: usize,
+) -> io::Result<()> {
     let work = WORK_BYTES;
     let due = Room {
         work,
@@ -53,48 +66,50 @@ fn say_rooms(how: Call, text: &[u8], nodes: usize, signals: usize) {
         nodes,
         signals: one_less(signals),
     };
-    say_call(b"; room as due ", how, text, due);
-    say_call(b"; a node short ", how, text, a_node_short);
-    say_call(b"; a signal short ", how, text, a_signal_short);
+    say_call(to, b"; room as due ", how, text, due)?;
+    say_call(to, b"; a node short ", how, text, a_node_short)?;
+    say_call(to, b"; a signal short ", how, text, a_signal_short)?;
+    Ok(())
 }
 
 // A call with ample room, with a work buffer one byte short, and with the room that is due.
-fn say_tries(title: &[u8], how: Call, text: &[u8]) {
+fn say_tries(to: &mut impl Write, title: &[u8], how: Call, text: &[u8]) -> io::Result<()> {
     let ample = Room::ample();
     let short = Room {
         work: WORK_BYTES - 1,
         nodes: MAX_NODES,
         signals: MAX_SIGNALS,
     };
-    let answer = say_call(title, how, text, ample);
-    say_call(b"; work a byte short ", how, text, short);
+    let answer = say_call(to, title, how, text, ample)?;
+    say_call(to, b"; work a byte short ", how, text, short)?;
     if let Answer::Accepted(n, s) = answer {
-        say_rooms(how, text, n as usize, s as usize);
+        say_rooms(to, how, text, n as usize, s as usize)?;
     }
-    say(b"\n");
+    say(to, b"\n")
 }
 
 // The nodes and the signals of a small accepted text.
-fn list(text: &[u8]) {
-    let mut work = io::large_buffer();
+fn list(to: &mut impl Write, text: &[u8]) -> io::Result<()> {
+    let mut work = input::large_buffer();
     let mut nodes: [u32; MAX_NODES] = [0; MAX_NODES];
     let mut signals: [u32; MAX_SIGNALS] = [0; MAX_SIGNALS];
     let answer = reader::read(text, &mut work, &mut nodes, &mut signals);
     if let Answer::Accepted(n, s) = answer {
         if n <= LISTED {
-            listing::nodes(&nodes, n as usize);
-            print::signals(&signals, s as usize);
+            listing::nodes(to, &nodes, n as usize)?;
+            print::signals(to, &signals, s as usize)?;
         }
     }
+    Ok(())
 }
 
 // All answers on a text, and what a small one gives.
-pub fn whole(name: &[u8], text: &[u8]) {
-    say(name);
-    say(b"\n");
-    say_tries(b"read ", Call::Read, text);
-    say_tries(b"form 0 ", Call::Convert(AS_EXPANDED), text);
-    say_tries(b"form 1 ", Call::Convert(NEGATION_FORM), text);
-    say_tries(b"form 2 ", Call::Convert(CORE_FORM), text);
-    list(text);
+pub fn whole(to: &mut impl Write, name: &[u8], text: &[u8]) -> io::Result<()> {
+    say(to, name)?;
+    say(to, b"\n")?;
+    say_tries(to, b"read ", Call::Read, text)?;
+    say_tries(to, b"form 0 ", Call::Convert(AS_EXPANDED), text)?;
+    say_tries(to, b"form 1 ", Call::Convert(NEGATION_FORM), text)?;
+    say_tries(to, b"form 2 ", Call::Convert(CORE_FORM), text)?;
+    list(to, text)
 }

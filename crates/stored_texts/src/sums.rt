@@ -15,14 +15,13 @@ fn mix(sum: u32, word: u32) -> u32
     ((sum as u64 * FACTOR + word as u64) % MODULUS) as u32
 }
 
+#[tactic(auto, using(crate::proofs::Laws::summing_start, crate::proofs::Laws::summing_end))]
 fn checksum(words: &[u32]) -> u32
     ensures { result ≡ checksum' words.now }
 {
     let mut sum = 0;
-    let mut i = 0;
-    while i < words.len() {
-        sum = mix(sum, words[i]);
-        i += 1;
+    for word in words {
+        sum = mix(sum, *word);
     }
     sum
 }

@@ -2,8 +2,10 @@
 #![tactic(auto)]
 
 use forms::{AS_EXPANDED, CORE_FORM};
-use libc::STDIN_FILENO;
 use node::{Answer, MAX_NODES, MAX_SIGNALS};
+use std::env::FillError;
+use std::io::{self, BufWriter, Write};
+use std::rt::Env;
 
 // A form that is none (21).
 const NO_FORM: u32 = CORE_FORM + 1;
@@ -18,47 +20,54 @@ fn form_of(byte: u8) -> u32 {
     }
 }
 
+// Is there no argument of this number?
+fn is_absent(rt: &impl Env, i: usize) -> bool {
+    matches!(rt.arg(i, &mut []), Err(FillError::NotPresent))
+}
+
 // The form asked for: without an argument form 0.
-fn form_asked() -> u32 {
-    let arguments = os::arg_count();
-    if arguments <= 1 {
+fn form_asked(rt: &impl Env) -> u32 {
+    if is_absent(rt, 1) {
         return AS_EXPANDED;
     }
     let mut word = [0u8; 1];
-    let n = os::arg(1, &mut word);
-    if arguments == 2 && n == 1 {
-        return form_of(word[0]);
+    match rt.arg(1, &mut word) {
+        Ok(1) if is_absent(rt, 2) => form_of(word[0]),
+        _ => NO_FORM,
     }
-    NO_FORM
 }
 
 // Converts the text and prints the listing.
-fn convert(text: &[u8], form: u32) {
-    let mut work = io::large_buffer();
+fn convert(to: &mut impl Write, text: &[u8], form: u32) -> io::Result<()> {
+    let mut work = input::large_buffer();
     let mut nodes: [u32; MAX_NODES] = [0; MAX_NODES];
     let mut signals = [0u32; MAX_SIGNALS];
     let answer = converter::convert(text, form, &mut work, &mut nodes, &mut signals);
-    listing::answer(answer);
+    listing::answer(to, answer)?;
     let Answer::Accepted(n, _) = answer else {
-        return;
+        return Ok(());
     };
-    listing::nodes(&nodes, n as usize);
+    listing::nodes(to, &nodes, n as usize)
 }
 
 // Reads the text and converts it. An input that cannot be read is told on standard error, and nothing is printed: it is no empty text.
-fn run(text: &mut [u8], form: u32) {
-    let n = input::fill(STDIN_FILENO, text);
-    if n == input::UNREADABLE {
-        os::fail(b"tlsf: the text cannot be read");
-        return;
+fn run(
+    rt: &(impl Input + Eprint),
+    to: &mut impl Write,
+    text: &mut [u8],
+    form: u32,
+) -> io::Result<()> {
+    match input::fill(&mut rt.reader(), text) {
+        Ok(n) => convert(to, &text[..n], form),
+        Err(error) => eprintln!(rt; "tlsf: the text cannot be read: {error}"),
     }
-    let t = input::within(n, text);
-    convert(&text[..t], form);
 }
 
 // A text of more than 32,768 bytes is refused by 1 wherever it ends, so that the first 65,536 tell enough.
-fn main() {
-    let form = form_asked();
-    let mut text = io::large_buffer();
-    run(&mut text, form);
+fn main(rt: HostRuntime) -> io::Result<()> {
+    let mut to = BufWriter::new(rt.alloc(), io::writer(&rt))?;
+    let form = form_asked(&rt);
+    let mut text = input::large_buffer();
+    run(&rt, &mut to, &mut text, form)?;
+    to.flush()
 }

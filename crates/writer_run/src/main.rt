@@ -4,82 +4,82 @@
 
 use basic::Written;
 use basics::u8_u64::wide;
-use libc::STDOUT_FILENO;
 use node::{Answer, MAX_NODES, MAX_SIGNALS};
+use std::io::{self, BufWriter, Write};
+use std::rt::Files;
+use std::{env, fs};
 
 const ROOM: usize = 600000;
+
+// A function of its own, so that the callers' proofs do not write the array out.
+fn room() -> [u8; ROOM] {
+    [0; ROOM]
+}
 
 // What a sum is taken modulo.
 const MODULUS: u64 = 4294967291;
 
-fn number(word: &[u8], n: u64) {
-    io::write_all(STDOUT_FILENO, word);
-    io::print_decimal(STDOUT_FILENO, n);
+fn number(to: &mut impl Write, word: &[u8], n: u64) -> io::Result<()> {
+    to.write_all(word)?;
+    write!(to, "{n}")
 }
 
 // Each byte in its place changes the sum.
 fn sum_of(text: &[u8]) -> u64 {
     let mut sum: u64 = 0;
-    let mut i = 0;
-    while i < text.len() {
-        sum = (sum * 257 + wide(text[i])) % MODULUS;
-        i += 1;
+    for byte in text {
+        sum = (sum * 257 + wide(*byte)) % MODULUS;
     }
     sum
 }
 
 // What the reader makes of a written text.
-fn read_back(text: &[u8]) {
-    let mut work = io::large_buffer();
+fn read_back(to: &mut impl Write, text: &[u8]) -> io::Result<()> {
+    let mut work = input::large_buffer();
     let mut nodes: [u32; MAX_NODES] = [0; MAX_NODES];
     let mut signals = [0u32; MAX_SIGNALS];
     let answer = reader::read(text, &mut work, &mut nodes, &mut signals);
-    listing::answer(answer);
+    listing::answer(to, answer)
 }
 
-fn tell(out: &[u8], n: usize) {
+fn tell(to: &mut impl Write, out: &[u8], n: usize) -> io::Result<()> {
     let end = input::within(n, out);
     let text = &out[..end];
-    number(b": bytes ", n as u64);
-    number(b", sum ", sum_of(text));
-    io::write_all(STDOUT_FILENO, b", read back: ");
-    read_back(text);
+    number(to, b": bytes ", n as u64)?;
+    number(to, b", sum ", sum_of(text))?;
+    to.write_all(b", read back: ")?;
+    read_back(to, text)
 }
 
-fn write(text: &[u8]) {
-    let mut work = io::large_buffer();
-    let mut out = [0u8; ROOM];
+fn write(to: &mut impl Write, text: &[u8]) -> io::Result<()> {
+    let mut work = input::large_buffer();
+    let mut out = room();
     let written = writer::write_basic(text, &mut work, &mut out);
     match written {
-        Written::Bytes(bytes) => tell(&out, bytes as usize),
+        Written::Bytes(bytes) => tell(to, &out, bytes as usize),
         Written::Refused(number, place) => {
-            io::write_all(STDOUT_FILENO, b": ");
-            listing::answer(Answer::Refused(number, place));
+            to.write_all(b": ")?;
+            listing::answer(to, Answer::Refused(number, place))
         }
     }
 }
 
-fn run(name: &[u8]) {
-    let file = os::open_read(name);
-    if file < 0 {
-        os::fail(name);
-        return;
-    }
-    let mut text = io::large_buffer();
-    let size = io::read_full(file, &mut text);
-    libc::close(file);
-    io::write_all(STDOUT_FILENO, name);
-    write(&text[..size]);
+// A file that cannot be opened is told on standard error.
+fn run(rt: &(impl Files + Eprint), to: &mut impl Write, name: &str) -> io::Result<()> {
+    let mut file = match fs::open(rt, name) {
+        Ok(file) => file,
+        Err(error) => return eprintln!(rt; "{name}: {error}"),
+    };
+    let mut text = input::large_buffer();
+    let size = input::fill(&mut file, &mut text)?;
+    to.write_all(name.as_bytes())?;
+    write(to, &text[..size])
 }
 
-fn argument(i: usize) {
-    let mut name = io::buffer();
-    let size = os::arg(i, &mut name);
-    run(&name[..size]);
-}
-
-fn main() {
-    for i in 1..os::arg_count() {
-        argument(i);
+fn main(rt: HostRuntime) -> io::Result<()> {
+    let mut to = BufWriter::new(rt.alloc(), io::writer(&rt))?;
+    for name in env::args(&rt)?.skip(1) {
+        run(&rt, &mut to, name.as_str())?;
     }
+    to.flush()
 }
