@@ -3,7 +3,7 @@ use Rattle.std.specs.Prelude.{ℕ, Bool, true, false, ◌≡◌, refl, List, [],
 use Rattle.std.proofs.Common.{sym, ap, ◌∙◌, subst, append_assoc, append-nil}
 use Rattle.node.specs.Ltl.{Formula}
 use Rattle.node.specs.Result.{Result, Done, Refused, ◌>>=◌}
-use Rattle.node.specs.ResultLaws.{not_done}
+use Rattle.node.proofs.ResultLaws.{not_done}
 use Rattle.language.specs.Tree.{Part, Require, Assert, Spec}
 use Rattle.language.specs.DeclaredNames.{Port, Declarations}
 use Rattle.language.specs.Lines.{Line, leaves_unnamed, implied}

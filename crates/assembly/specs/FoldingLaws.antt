@@ -5,7 +5,7 @@ use Rattle.std.proofs.lemmas.List.{map-append, length-map, get_or_at}
 use Rattle.node.specs.Limits.{max_nodes, field_bits}
 use Rattle.node.specs.Ltl.{Formula}
 use Rattle.node.specs.Fields.{above, below}
-use Rattle.node.specs.FieldLaws.{above_join, below-join}
+use Rattle.node.proofs.FieldLaws.{above_join, below-join}
 use Rattle.node.specs.Postorder.{size}
 use Rattle.language.specs.Tree.{Part, part_code}
 use Rattle.language.specs.Expansion.{Sections, conjunction, lines_of, section}

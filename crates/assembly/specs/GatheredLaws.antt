@@ -7,7 +7,7 @@ use Rattle.node.specs.Limits.{max_nodes, field_bits}
 use Rattle.node.specs.Ltl.{Formula}
 use Rattle.node.specs.Fields.{join}
 use Rattle.node.specs.Postorder.{size}
-use Rattle.node.specs.PostorderLaws.{size_pos}
+use Rattle.node.proofs.PostorderLaws.{size_pos}
 use Rattle.language.specs.Tree.{Part, Initially, Preset, Require, Assert, Assume, Guarantee, part_code}
 use Rattle.writing.specs.Writing.{Puts, Wrote}
 use Rattle.writing.specs.WritingLaws.{ends, past}

@@ -14,8 +14,8 @@ use Rattle.language.specs.Words.{words_in}
 use Rattle.language.specs.Numbering.{first_of}
 use Rattle.language.specs.Lines.{leaves_unnamed}
 use Rattle.language.specs.Expansion.{one_of}
-use Rattle.language.specs.Laws.Basics.Lists.{all_more}
-use Rattle.language.specs.Laws.Values.RegularWords.{Regular}
+use Rattle.language.proofs.Laws.Basics.Lists.{all_more}
+use Rattle.language.proofs.Laws.Values.RegularWords.{Regular}
 use Rattle.entries.specs.Kinds as Kind
 use Rattle.entries.specs.Flat.{each, flat_identifier}
 use Rattle.entries.specs.Stored.{first_entry, kind_of, EntriesFrom}

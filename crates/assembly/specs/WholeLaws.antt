@@ -5,9 +5,9 @@ use Rattle.std.proofs.lemmas.List.Edits.{sets, sets-eq}
 use Rattle.node.specs.Limits.{max_nodes}
 use Rattle.node.specs.Ltl.{And, Formula, Two}
 use Rattle.node.specs.Postorder.{size, nodes_from}
-use Rattle.node.specs.PostorderLaws.{length-nodes}
+use Rattle.node.proofs.PostorderLaws.{length-nodes}
 use Rattle.node.specs.Written.{nodes_of, count}
-use Rattle.node.specs.WrittenLaws.{nodes_are, count-is}
+use Rattle.node.proofs.WrittenLaws.{nodes_are, count-is}
 use Rattle.language.specs.Tree.{Part, Initially, Preset, Require, Assert, Assume, Guarantee, part_code}
 use Rattle.language.specs.Expansion.{Sections, joined, conjunction, lines_of, section, whole}
 use Rattle.writing.specs.Writing.{Wrote}

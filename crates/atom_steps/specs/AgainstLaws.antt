@@ -6,7 +6,7 @@ use Rattle.node.specs.Operators.{Not}
 use Rattle.node.specs.Kinds.{unary_kind}
 use Rattle.node.specs.Ltl.{Formula, One}
 use Rattle.node.specs.Result.{Result, Done, Refused, ◌>>=◌, guard}
-use Rattle.node.specs.ResultLaws.{guard-pass, guard-stop, bind_to, bind_refused}
+use Rattle.node.proofs.ResultLaws.{guard-pass, guard-stop, bind_to, bind_refused}
 use Rattle.writing.specs.Writing.{Wrote, Caps}
 use Rattle.language.specs.Limits.{max_names, max_tokens, max_signals}
 use Rattle.language.specs.Tokens.{Token}

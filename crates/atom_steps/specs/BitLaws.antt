@@ -5,7 +5,7 @@ use Rattle.std.proofs.Common.{sym, ap, ◌∙◌, subst, arith, add-zero}
 use Rattle.node.specs.Limits.{max_nodes, field_limit}
 use Rattle.node.specs.Ltl.{Formula}
 use Rattle.node.specs.Result.{Result, Done, Refused, ◌>>=◌}
-use Rattle.node.specs.ResultLaws.{bind_at, bind_to, bind_refused}
+use Rattle.node.proofs.ResultLaws.{bind_at, bind_to, bind_refused}
 use Rattle.writing.specs.Writing.{Wrote}
 use Rattle.language.specs.Limits.{max_names}
 use Rattle.language.specs.Tokens.{Token}
@@ -17,9 +17,9 @@ use Rattle.entries.specs.Kinds as Kind
 use Rattle.entries.specs.Flat.{flat}
 use Rattle.name_values.specs.World.{Meaning, Before, name_value, meaning_at}
 use Rattle.name_values.specs.Agrees.{Uses}
-use Rattle.name_values.specs.AgreesLaws.{denote-bound}
-use Rattle.name_values.specs.KnownLaws.{known-index, own-more}
-use Rattle.name_values.specs.UsedLaws.{used-value}
+use Rattle.name_values.proofs.AgreesLaws.{denote-bound}
+use Rattle.name_values.proofs.KnownLaws.{known-index, own-more}
+use Rattle.name_values.proofs.UsedLaws.{used-value}
 use Rattle.name_values.specs.Sorts as Sort
 use Rattle.operands.specs.Entries.{kind_at, place_at}
 use Rattle.operands.specs.ClassLaws.{place_is}
@@ -131,8 +131,8 @@ module _ {s : Source} {mem out : List ℕ} {m : Machine} (w : Waiting mem m Phas
       same-entry : k ≡ (words h).entry
       same-entry = ek ∙ entry_word_lem h
 
-      uses : Uses R.W limit h.ground.env r t c
-      uses = subst (λ (i : ℕ). Uses R.W limit h.ground.env i t c) (sym (er ∙ ap (λ (i : ℕ). get_or s.refs i 0) same-entry)) h.at.waits.uses
+      uses : Uses R.W limit h.footing.env r t c
+      uses = subst (λ (i : ℕ). Uses R.W limit h.footing.env i t c) (sym (er ∙ ap (λ (i : ℕ). get_or s.refs i 0) same-entry)) h.at.waits.uses
 
       index : IsNumber m h.came
       index = came-number R o mem m h.came h.come e
@@ -156,7 +156,7 @@ module _ {s : Source} {mem out : List ℕ} {m : Machine} (w : Waiting mem m Phas
           let v = by_phase t.frame Phase.indexed (top-phase t ∙ w.phase) in
           let h = top_as t v.2 in
           let u = uses h in
-          stops h (stands_for_lem h (u.stands ∙ denote-bound R.W h.ground.env (r - max_names) r v.1 (omega arith)));
+          stops h (stands_for_lem h (u.stands ∙ denote-bound R.W h.footing.env (r - max_names) r v.1 (omega arith)));
     }
 
     module _ (l : r < max_names) {sort n : ℕ} (es : sort ≡ get_or mem (note_words * r) 0) (en : n ≡ note_at mem r note_number) where
@@ -269,7 +269,7 @@ module _ {s : Source} {mem out : List ℕ} {m : Machine} (w : Waiting mem m Phas
               agree = agree_same;
               frames-is = refl;
               scope_is = fd;
-              deep = fd ∙ sym (add-zero h.ground.depth);
+              deep = fd ∙ sym (add-zero h.footing.depth);
               lower = omega arith;
               high = omega arith;
               level = λ q. ft;

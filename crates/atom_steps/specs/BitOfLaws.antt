@@ -4,7 +4,7 @@ use Rattle.std.proofs.Common.{ap, ◌∙◌, subst, arith, add-zero}
 use Rattle.node.specs.Limits.{max_nodes, field_limit}
 use Rattle.node.specs.Ltl.{Formula}
 use Rattle.node.specs.Result.{Result, Refused, ◌>>=◌}
-use Rattle.node.specs.ResultLaws.{bind_at, bind_to, bind_refused}
+use Rattle.node.proofs.ResultLaws.{bind_at, bind_to, bind_refused}
 use Rattle.language.specs.Limits.{max_names}
 use Rattle.language.specs.DeclaredNames.{Port}
 use Rattle.language.specs.Values.{Sized, misfit, bus}
@@ -131,7 +131,7 @@ module _ {s : Source} {mem out : List ℕ} {m : Machine} (w : Waiting mem m Phas
                 same = takes-bit h ∙ bind_to _ f nodes (bit_in R.ports i (sized h) (omega arith));
                 come = refl;
                 scope_is = es ∙ value-word h ∙ h.at.holds.scope_is;
-                depth_is = h.at.deep ∙ add-zero h.ground.depth;
+                depth_is = h.at.deep ∙ add-zero h.footing.depth;
                 top-is = h.at.level refl;
                 frames-is = refl;
                 agree = agree_same;

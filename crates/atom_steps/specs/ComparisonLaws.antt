@@ -4,7 +4,7 @@ use Rattle.std.proofs.Common.{sym, ap, ap₂, ◌∙◌, subst, arith}
 use Rattle.node.specs.Limits.{max_nodes}
 use Rattle.node.specs.Ltl.{Formula}
 use Rattle.node.specs.Result.{Result, Done, Refused, ◌>>=◌}
-use Rattle.node.specs.ResultLaws.{bind_at, bind_again, bind_to, bind_refused}
+use Rattle.node.proofs.ResultLaws.{bind_at, bind_again, bind_to, bind_refused}
 use Rattle.writing.specs.Writing.{Wrote}
 use Rattle.language.specs.Operators.{Comparison}
 use Rattle.language.specs.Tree.{Expr}
@@ -154,7 +154,8 @@ module _ {s : Source} {mem out : List ℕ} {m : Machine} (w : Waiting mem m Phas
           refuses h (made h ∙ ap (λ (y : Value). compared R.ports v.0 y (right h).value >>= nodes) l ∙ bind_refused _ 13 p nodes refl);
     }
 
-    pub right-uncompared : (get_or mem (m.frames + at_field) 0 ≡ is_number → ⊥) → (get_or mem (m.frames + at_field) 0 ≡ is_bus → ⊥) → (get_or mem (m.frames + at_field) 0 ≡ is_choice → ⊥) → (get_or mem (m.frames + at_field) 0 ≡ is_unsized → ⊥)
+    pub right-uncompared : (get_or mem (m.frames + at_field) 0 ≡ is_number → ⊥) → (get_or mem (m.frames + at_field) 0 ≡ is_bus → ⊥)
+        → (get_or mem (m.frames + at_field) 0 ≡ is_choice → ⊥) → (get_or mem (m.frames + at_field) 0 ≡ is_unsized → ⊥)
         → TakesToWrite s mem mem out out m (Refuses 9 0)
     right-uncompared a b c d = record {
       turns = λ R x o t.

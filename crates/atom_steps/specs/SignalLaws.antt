@@ -4,7 +4,7 @@ use Rattle.std.proofs.Common.{ap, subst, arith, lt-ltb, le-ltb}
 use Rattle.node.specs.Limits.{max_nodes, field_limit}
 use Rattle.node.specs.Ltl.{Signal}
 use Rattle.node.specs.Result.{Result, Done, Refused}
-use Rattle.node.specs.ResultLaws.{guard-pass, guard-stop}
+use Rattle.node.proofs.ResultLaws.{guard-pass, guard-stop}
 use Rattle.writing.specs.Writing.{Wrote}
 use Rattle.writing.specs.WritingLaws.{wrote_none}
 use Rattle.language.specs.Limits.{max_names}

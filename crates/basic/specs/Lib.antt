@@ -3,17 +3,3 @@ pub mod Basic
 pub mod Writing
 pub mod Answer
 pub mod Statements
-pub mod Lexed
-pub mod Lexemes
-pub mod ParsedFormula
-pub mod ParsedText
-pub mod Names
-pub mod Source
-pub mod WellFormed
-pub mod Expanded
-pub mod Guaranteed
-pub mod Passing
-pub mod Levels
-pub mod ReadBack
-pub mod Cases
-pub mod WritingLaws

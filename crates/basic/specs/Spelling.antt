@@ -1,6 +1,6 @@
 -- What the signals are called in a written text (document 02, F-1).
 use Rattle.std.specs.Prelude.{ℕ, zero, suc, ◌+◌, ◌/◌, ◌%◌, Bool, true, false, List, [], ◌∷◌, ◌++◌, map, ltb, eqb}
-use Rattle.language.specs.Bytes.{if◌then◌else◌}
+use Rattle.language.specs.Bytes.{if◌then◌otherwise◌}
 use Rattle.language.specs.Meaning.{Atom, SignalOf, BitOf}
 use Rattle.language.specs.Numbered.{atom_of, flag_of}
 
@@ -26,4 +26,4 @@ names_of text list = map (spelled text) list
 abbrev pub side_of : (output : Bool) (text list : List ℕ) → List (List ℕ)
 side_of output text [] = []
 side_of output text (e ∷ es) =
-    elim (eqb (flag_of e) (if output then 1 else 0)) [ true ↦ spelled text e ∷ side_of output text es | false ↦ side_of output text es ]
+    elim (eqb (flag_of e) (if output then 1 otherwise 0)) [ true ↦ spelled text e ∷ side_of output text es | false ↦ side_of output text es ]

@@ -4,7 +4,7 @@ use Rattle.std.proofs.Math.Option.{Option, none, some}
 use Rattle.std.proofs.Common.{sym, ◌∙◌}
 use Rattle.std.proofs.Math.Path.{ap}
 use Rattle.node.specs.Result.{Result, Done, Refused, ◌>>=◌}
-use Rattle.node.specs.ResultLaws.{bind_at}
+use Rattle.node.proofs.ResultLaws.{bind_at}
 use Rattle.language.specs.Tree.{Spec}
 use Rattle.language.specs.Places.{refuse_at, too_deep}
 use Rattle.language.specs.Names.{not_visible, declared_again, too_many}

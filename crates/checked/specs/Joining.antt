@@ -2,7 +2,7 @@
 use Rattle.std.specs.Prelude.{ℕ, ◌≤◌, List, ◌≡◌, length}
 use Rattle.std.proofs.Common.{sym, ap, ◌∙◌, subst}
 use Rattle.node.specs.Result.{Done, Refused, ◌>>=◌}
-use Rattle.node.specs.ResultLaws.{bind_again}
+use Rattle.node.proofs.ResultLaws.{bind_again}
 use Rattle.language.specs.Limits.{work_bytes}
 use Rattle.language.specs.Tokens.{tokens}
 use Rattle.language.specs.Tree.{Spec}

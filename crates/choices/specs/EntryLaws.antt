@@ -7,7 +7,7 @@ use native.Mathlib.Omega.{arith}
 use Rattle.std.proofs.Math.Dec.{leb}
 use borrow.Author.Tests.{eq-eqb, ne_eqb, le-leb, lt-leb}
 use Rattle.language.specs.Limits.{max_tokens}
-use Rattle.language.specs.Laws.Basics.Tests.{pick, leave, and_false, and-last_false}
+use Rattle.language.proofs.Laws.Basics.Tests.{pick, leave, and_false, and-last_false}
 use Rattle.entries.specs.Kinds as Kind
 use Rattle.traversal.specs.declared.Cell.{Cell}
 use Rattle.traversal.specs.Cells.{cell_at}

@@ -9,7 +9,7 @@ use Rattle.node.specs.Ltl.{Not, Formula, Signal, One}
 use Rattle.language.specs.DeclaredNames.{Port}
 use Rattle.language.specs.Numbering.{Mark, Absent, Present, Star, mark_of, first_of}
 use Rattle.language.specs.Expansion.{literals}
-use Rattle.language.specs.Laws.Basics.Tests.{pick, leave}
+use Rattle.language.proofs.Laws.Basics.Tests.{pick, leave}
 use Rattle.enumerations.specs.Pass.{bytes_at}
 use Rattle.writing.specs.Writing.{Wrote}
 use Rattle.choices.specs.Literals.{is_star, literal}

@@ -11,9 +11,9 @@ use Rattle.language.specs.DeclaredNames.{Port, word_width}
 use Rattle.language.specs.Numbering.{mark_of, marks_of, first_of, covered}
 use Rattle.language.specs.Expansion.{one_of, width_is, conjunction, disjunction}
 use Rattle.language.specs.Lines.{leaves_unnamed}
-use Rattle.language.specs.Laws.Basics.Lists.{All, all_right, all_map}
-use Rattle.language.specs.Laws.Basics.Tests.{and_false}
-use Rattle.language.specs.Laws.Values.RegularWords.{Regular as RegularWords}
+use Rattle.language.proofs.Laws.Basics.Lists.{All, all_right, all_map}
+use Rattle.language.proofs.Laws.Basics.Tests.{and_false}
+use Rattle.language.proofs.Laws.Values.RegularWords.{Regular as RegularWords}
 use Rattle.lexer.specs.Stored.{offset_in, length_in}
 use Rattle.entries.specs.Kinds as Kind
 use Rattle.traversal.specs.declared.Cell.{Cell}

@@ -14,7 +14,7 @@ use Rattle.language.specs.Limits.{max_tokens}
 use Rattle.language.specs.Tokens.{Token, tokens}
 use Rattle.language.specs.Tree.{Identifier}
 use Rattle.language.specs.Words.{words_in}
-use Rattle.language.specs.Laws.Basics.Lists.{All, all_append, all_left, all_right}
+use Rattle.language.proofs.Laws.Basics.Lists.{All, all_append, all_left, all_right}
 use Rattle.lexer.specs.LexingLaws.{token-stands, token_near}
 use Rattle.entries.specs.Kinds as Kind
 use Rattle.entries.specs.Flat.{Entry, leaf, each, flat_identifier}

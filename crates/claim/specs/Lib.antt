@@ -1,13 +1,5 @@
 pub mod Claim
-pub mod ClaimLaws
 pub mod Yields
-pub mod YieldsLaws
 pub mod Reads
-pub mod ReadsLaws
-pub mod DeliveredLaws
 pub mod Converting
-pub mod ConvertingLaws
 pub mod Converts
-pub mod ConvertsLaws
-pub mod RefusalNumbers
-pub mod Cases

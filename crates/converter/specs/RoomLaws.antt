@@ -11,15 +11,15 @@ use Rattle.std.proofs.lemmas.Bool.{lt-leb}
 use Rattle.node.specs.Limits.{max_nodes}
 use Rattle.node.specs.Ltl.{Formula}
 use Rattle.node.specs.Result.{Result, Done, ◌>>=◌, guard, Counts}
-use Rattle.node.specs.ResultLaws.{guard-pass, guard-stop}
+use Rattle.node.proofs.ResultLaws.{guard-pass, guard-stop}
 use Rattle.node.specs.Written.{nodes_of, count}
-use Rattle.node.specs.WrittenLaws.{count_some}
+use Rattle.node.proofs.WrittenLaws.{count_some}
 use Rattle.forms.specs.Forms.{form}
 use Rattle.rewriter.specs.Rewriting.{fitting, rewriting}
 use Rattle.rewriter.specs.RewritingLaws.{rewriting-form}
 use Rattle.rewriter.specs.OwnNodes.{own-rewriting}
 use Rattle.language.specs.Reading.{NumberedFormula, text_expansion}
-use Rattle.claim.specs.ClaimLaws.{text_few, text-small}
+use Rattle.claim.proofs.ClaimLaws.{text_few, text-small}
 use Rattle.claim.specs.Yields.{told}
 use Rattle.claim.specs.Converting.{in_form, formed}
 use Rattle.converter.specs.Room.{room, with_signals}

@@ -8,7 +8,7 @@ use Rattle.node.specs.Ltl.{Formula}
 use Rattle.node.specs.Result.{Result, Done, Refused, ◌>>=◌, Counts}
 use Rattle.node.specs.Table.{root}
 use Rattle.node.specs.Written.{nodes_of, count}
-use Rattle.node.specs.WrittenLaws.{length_of, table-root}
+use Rattle.node.proofs.WrittenLaws.{length_of, table-root}
 use Rattle.node.specs.Answer.{says}
 use Rattle.node.specs.declared.Answer.{Answer}
 use Rattle.node.specs.declared.Answer.TheVariants.{Accepted}
@@ -16,16 +16,16 @@ use Rattle.forms.specs.Forms.{form}
 use Rattle.rewriter.specs.Rewriting.{rewriting, target, leaves}
 use Rattle.language.specs.Limits.{max_signals}
 use Rattle.language.specs.Reading.{NumberedFormula, text_expansion, reading, nodes_after, signals_after, work_after}
-use Rattle.language.specs.Laws.Buffers.{accepted_expansion}
-use Rattle.claim.specs.ClaimLaws.{text_few, text-small}
+use Rattle.language.proofs.Laws.Buffers.{accepted_expansion}
+use Rattle.claim.proofs.ClaimLaws.{text_few, text-small}
 use Rattle.claim.specs.Yields.{told}
-use Rattle.claim.specs.YieldsLaws.{accepted, refused, told-done, told-refused}
-use Rattle.claim.specs.DeliveredLaws.{taken-room}
+use Rattle.claim.proofs.YieldsLaws.{accepted, refused, told-done, told-refused}
+use Rattle.claim.proofs.DeliveredLaws.{taken-room}
 use Rattle.claim.specs.Reads.{Reads}
 use Rattle.claim.specs.Converting.{in_form, formed, conversion}
-use Rattle.claim.specs.ConvertingLaws.{converting-reads, formed-done}
+use Rattle.claim.proofs.ConvertingLaws.{converting-reads, formed-done}
 use Rattle.claim.specs.Converts.{Converts}
-use Rattle.claim.specs.ConvertsLaws.{converts}
+use Rattle.claim.proofs.ConvertsLaws.{converts}
 use Rattle.converter.specs.Room.{room, with_signals}
 use Rattle.converter.specs.RoomLaws.{formed-told}
 use Rattle.converter.specs.WritingOut.{list_left, WritesOut}

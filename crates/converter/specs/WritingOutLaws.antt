@@ -5,7 +5,7 @@ use Rattle.std.proofs.Math.Seq.{paste, take-length, drop-length}
 use Rattle.node.specs.Ltl.{Formula}
 use Rattle.node.specs.Result.{Result, Refused, Counts}
 use Rattle.node.specs.Written.{nodes_of, count}
-use Rattle.node.specs.WrittenLaws.{count_some}
+use Rattle.node.proofs.WrittenLaws.{count_some}
 use Rattle.node.specs.Answer.{says}
 use Rattle.node.specs.declared.Answer.{Answer}
 use Rattle.node.specs.declared.Answer.TheVariants.{Accepted}

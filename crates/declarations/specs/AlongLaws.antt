@@ -3,8 +3,8 @@ use Rattle.std.specs.Prelude.{ℕ, suc, ◌+◌, ◌≤◌, ◌<◌, List, [], �
 use Rattle.std.proofs.Common.{sym, ap, ◌∙◌, subst, arith, length-append, length-take-le, get_or-append-add}
 use Rattle.std.proofs.Math.ListN.{get_or-append}
 use Rattle.std.proofs.lemmas.List.Edits.{sets, sets-eq}
-use Rattle.language.specs.Laws.Basics.Lists.{All}
-use Rattle.language.specs.Laws.Values.PortLaws.{Pairs}
+use Rattle.language.proofs.Laws.Basics.Lists.{All}
+use Rattle.language.proofs.Laws.Values.PortLaws.{Pairs}
 use Rattle.declarations.specs.Along.{Along}
 
 pub along_from : {A : Type 0} (P : A → ℕ → Type 0) (order ks : List ℕ) (j : ℕ) (l : List A) → Pairs P l ks → ((i : ℕ) → i < length ks → get_or order (j + i) 0 ≡ get_or ks i 0) → Along P order j l

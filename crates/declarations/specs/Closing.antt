@@ -2,14 +2,14 @@
 use Rattle.std.specs.Prelude.{ℕ, ◌≤◌, List, [], ◌≡◌, length, get_or}
 use Rattle.std.proofs.Common.{sym, ◌∙◌, subst}
 use Rattle.node.specs.Result.{Result, Done, Refused}
-use Rattle.node.specs.ResultLaws.{bind_to, bind_refused}
+use Rattle.node.proofs.ResultLaws.{bind_to, bind_refused}
 use Rattle.language.specs.Limits.{max_names, max_signals}
 use Rattle.language.specs.Tokens.{Token, tokens}
 use Rattle.language.specs.Tree.{Spec}
 use Rattle.language.specs.DeclaredNames.{Table, Port, constants, Declarations, declarations}
 use Rattle.language.specs.Numbering.{in_order, first_of}
-use Rattle.language.specs.Laws.Basics.Lists.{All}
-use Rattle.language.specs.Laws.Basics.Results.{value_of}
+use Rattle.language.proofs.Laws.Basics.Lists.{All}
+use Rattle.language.proofs.Laws.Basics.Results.{value_of}
 use Rattle.sets.specs.declared.Worked.{Worked}
 use Rattle.notes.specs.NotesLaws.{notes_ported}
 use Rattle.notes.specs.FirstTable.{first_table}

@@ -2,7 +2,7 @@
 use Rattle.std.specs.Prelude.{ℕ, suc, ◌+◌, ◌-◌, ◌≤◌, ◌<◌, List, [], ◌∷◌, ◌≡◌, refl, length, get_or, set}
 use Rattle.std.proofs.Common.{sym, ap, ◌∙◌, subst, add-one, arith}
 use Rattle.node.specs.Result.{Done, Refused, ◌>>=◌}
-use Rattle.node.specs.ResultLaws.{bind_to, bind_refused}
+use Rattle.node.proofs.ResultLaws.{bind_to, bind_refused}
 use Rattle.language.specs.Limits.{max_names, max_tokens}
 use Rattle.language.specs.Tokens.{tokens}
 use Rattle.language.specs.Tree.{Parameter, Spec}

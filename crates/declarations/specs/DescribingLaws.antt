@@ -4,7 +4,7 @@ use Rattle.std.proofs.Common.{sym, ◌∙◌, subst, arith, get_or-set_same, get
 use Rattle.words.specs.Words.{word_at}
 use Rattle.language.specs.Tokens.{tokens}
 use Rattle.language.specs.Tree.{Declaration, OneSignal, OfWidth, OfType, Spec}
-use Rattle.language.specs.Laws.Basics.Tests.{pick, leave}
+use Rattle.language.proofs.Laws.Basics.Tests.{pick, leave}
 use Rattle.language.specs.Listed.{declared_name}
 use Rattle.entries.specs.Kinds as Kind
 use Rattle.entries.specs.Stored.{first_entry, kind_of}

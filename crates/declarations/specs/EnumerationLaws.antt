@@ -11,7 +11,7 @@ use Rattle.language.specs.Tree.{Identifier, Definition, Defined, Enumerated, OfT
 use Rattle.language.specs.Names.{Names, visible}
 use Rattle.language.specs.Words.{words_in}
 use Rattle.language.specs.DeclaredNames.{words_of_type, word_width}
-use Rattle.language.specs.Laws.Basics.Tests.{split, pick, leave, and_right, same_equal}
+use Rattle.language.proofs.Laws.Basics.Tests.{split, pick, leave, and_right, same_equal}
 use Rattle.lexer.specs.Stored.{offset_in, length_in, longest}
 use Rattle.lexer.specs.LexingLaws.{offset_at, length_at}
 use Rattle.entries.specs.Kinds as Kind
@@ -22,14 +22,14 @@ use Rattle.spellings.specs.Interned.{Lexed}
 use Rattle.names.specs.Tables.{no_place}
 use Rattle.names.specs.Scan.{token_of}
 use Rattle.names.specs.Walkable.{entry_of}
-use Rattle.names.specs.WalkableLaws.{stored_at}
+use Rattle.names.proofs.WalkableLaws.{stored_at}
 use Rattle.names.specs.References.{number_in}
-use Rattle.names.specs.NumberingLaws.{number_other}
-use Rattle.names.specs.WalkBinders.{reference-outside}
+use Rattle.names.proofs.NumberingLaws.{number_other}
+use Rattle.names.proofs.WalkBinders.{reference-outside}
 use Rattle.names.specs.Resolved.{declared_names}
-use Rattle.names.specs.ResolvedLaws.{Found, number-found}
+use Rattle.names.proofs.ResolvedLaws.{Found, number-found}
 use Rattle.name_values.specs.Declaring.{EnumerationAt}
-use Rattle.name_values.specs.IdentifierLaws.{enumeration-at}
+use Rattle.name_values.proofs.IdentifierLaws.{enumeration-at}
 use Rattle.notes.specs.Owned.{DeclarationAt}
 use Rattle.notes.specs.FirstTableLaws.{first-at}
 use Rattle.declarations.specs.Trees.{Tree}

@@ -6,12 +6,12 @@ use Rattle.language.specs.Tokens.{Name, code, Token, is_of, tokens}
 use Rattle.language.specs.Tree.{Declaration, OneSignal, OfWidth, OfType, Spec}
 use Rattle.language.specs.DeclaredNames.{Table, inputs, outputs}
 use Rattle.language.specs.Braces.{ProperDeclaration, ProperSubsection, ProperSpec}
-use Rattle.language.specs.Laws.Basics.Lists.{All, all_both}
-use Rattle.language.specs.Laws.Basics.Results.{value_of}
-use Rattle.language.specs.Laws.Grammar.TokenLaws.{Stands}
-use Rattle.language.specs.Laws.Grammar.BracesReads.{spec_proper}
-use Rattle.language.specs.Laws.Values.NameLaws.{inputs-all, outputs-all}
-use Rattle.language.specs.Laws.Values.RegularWords.{RegularDefinition}
+use Rattle.language.proofs.Laws.Basics.Lists.{All, all_both}
+use Rattle.language.proofs.Laws.Basics.Results.{value_of}
+use Rattle.language.proofs.Laws.Grammar.TokenLaws.{Stands}
+use Rattle.language.proofs.Laws.Grammar.BracesReads.{spec_proper}
+use Rattle.language.proofs.Laws.Values.NameLaws.{inputs-all, outputs-all}
+use Rattle.language.proofs.Laws.Values.RegularWords.{RegularDefinition}
 use Rattle.language.specs.Listed.{declared_name}
 use Rattle.lexer.specs.LexingLaws.{token-stands}
 use Rattle.names.specs.References.{number_in}

@@ -10,13 +10,13 @@ use Rattle.language.specs.Tree.{Definition, Declaration, OneSignal, OfWidth, OfT
 use Rattle.language.specs.Names.{visible}
 use Rattle.language.specs.DeclaredNames.{Port, inputs, outputs, Declarations, declarations}
 use Rattle.language.specs.Numbering.{in_order, first_of}
-use Rattle.language.specs.Laws.Basics.Lists.{All, all_append, all_more}
-use Rattle.language.specs.Laws.Basics.Tests.{same_refl}
+use Rattle.language.proofs.Laws.Basics.Lists.{All, all_append, all_more}
+use Rattle.language.proofs.Laws.Basics.Tests.{same_refl}
 use Rattle.language.specs.Listed.{declared_name}
-use Rattle.language.specs.Laws.Values.DistinctNames.{Apart, Distinct}
-use Rattle.language.specs.Laws.Values.PortLaws.{PortFor, Pairs, PortsFor, ports_for_lem, pairs-right, port_names, ports_distinct}
+use Rattle.language.proofs.Laws.Values.DistinctNames.{Apart, Distinct}
+use Rattle.language.proofs.Laws.Values.PortLaws.{PortFor, Pairs, PortsFor, ports_for_lem, pairs-right, port_names, ports_distinct}
 use Rattle.names.specs.References.{number_in}
-use Rattle.names.specs.ResolvedLaws.{number_apart}
+use Rattle.names.proofs.ResolvedLaws.{number_apart}
 use Rattle.names.specs.Resolved.{declared_names}
 use Rattle.operands.specs.Entries.{place_at}
 use Rattle.notes.specs.Owned.{DeclarationAt}

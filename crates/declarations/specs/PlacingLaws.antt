@@ -10,8 +10,8 @@ use Rattle.language.specs.DeclaredNames.{inputs, outputs}
 use Rattle.language.specs.Listed.{declared_name}
 use Rattle.entries.specs.Headings.{no_heading}
 use Rattle.entries.specs.Flat.{outline}
-use Rattle.name_values.specs.ElsewhereLaws.{own_names, over_definitions}
-use Rattle.name_values.specs.WorkedLaws.{tree_worked}
+use Rattle.name_values.proofs.ElsewhereLaws.{own_names, over_definitions}
+use Rattle.name_values.proofs.WorkedLaws.{tree_worked}
 use Rattle.notes.specs.Chosen.{chosen}
 use Rattle.notes.specs.Choosing.{Chooses}
 use Rattle.notes.specs.ChosenLaws.{parameter_choice, port_choice, parameters_chosen, inputs-chosen, outputs-chosen}

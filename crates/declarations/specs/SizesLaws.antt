@@ -4,11 +4,11 @@ use Rattle.std.proofs.Math.Bool.{true, false}
 use Rattle.std.proofs.Common.{sym, ap, ◌∙◌, subst, arith}
 use Rattle.std.proofs.Math.ListN.{length}
 use Rattle.node.specs.Result.{Done, Refused, ◌>>=◌}
-use Rattle.node.specs.ResultLaws.{bind_to, bind_refused}
+use Rattle.node.proofs.ResultLaws.{bind_to, bind_refused}
 use Rattle.language.specs.Limits.{max_names}
 use Rattle.language.specs.Tree.{Definition, Declaration, Spec}
 use Rattle.language.specs.DeclaredNames.{Table, Port, as_declared, Turns, turns, inputs, outputs}
-use Rattle.language.specs.Laws.Basics.Results.{done, bind, bind_any, value_of, Within}
+use Rattle.language.proofs.Laws.Basics.Results.{done, bind, bind_any, value_of, Within}
 use Rattle.sets.specs.declared.Worked.{Worked}
 use Rattle.memory_notes.specs.ShortTableLaws.{short_turns}
 use Rattle.declarations.specs.Expressions.{Room}

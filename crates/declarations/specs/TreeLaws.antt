@@ -9,7 +9,7 @@ use Rattle.language.specs.DeclaredNames.{Table}
 use Rattle.language.specs.Expansion.{context_of, define_all}
 use Rattle.entries.specs.Flat.{outline}
 use Rattle.names.specs.References.{number_in}
-use Rattle.names.specs.ResolvedLaws.{number-below}
+use Rattle.names.proofs.ResolvedLaws.{number-below}
 use Rattle.names.specs.Resolved.{declared_names}
 use Rattle.name_values.specs.Worked.{world_in, Worked}
 use Rattle.operands.specs.Working.{source}

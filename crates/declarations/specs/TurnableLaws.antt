@@ -7,12 +7,12 @@ use Rattle.language.specs.Tree.{Parameter, Spec}
 use Rattle.language.specs.Places.{TextLine, parameter_lines, definition_lines, main_lines}
 use Rattle.language.specs.Names.{declares, over, declared_again}
 use Rattle.language.specs.DeclaredNames.{inputs, outputs}
-use Rattle.language.specs.Laws.Basics.Lists.{All, all_both, all_right, all_more}
+use Rattle.language.proofs.Laws.Basics.Lists.{All, all_both, all_right, all_more}
 use Rattle.language.specs.Listed.{declared_name}
-use Rattle.language.specs.Laws.Values.DistinctNames.{signals-among, distinct_names, distinct_definitions}
+use Rattle.language.proofs.Laws.Values.DistinctNames.{signals-among, distinct_names, distinct_definitions}
 use Rattle.names.specs.Resolved.{declared_names as allNames}
-use Rattle.names.specs.VisibleLaws.{In, in_declared}
-use Rattle.name_values.specs.ElsewhereLaws.{own_names, apart_elsewhere, by_declaration, behind_parameters, parameters_elsewhere, over_definitions, main_apart}
+use Rattle.names.proofs.VisibleLaws.{In, in_declared}
+use Rattle.name_values.proofs.ElsewhereLaws.{own_names, apart_elsewhere, by_declaration, behind_parameters, parameters_elsewhere, over_definitions, main_apart}
 use Rattle.declarations.specs.Turnable.{Turnable}
 
 of_parameters : (P : Token → Type 0) (ps : List Parameter) (ls : List TextLine) → All P (over declares (parameter_lines ps ls)) → All (λ p. P p.name) ps

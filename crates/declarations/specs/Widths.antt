@@ -8,7 +8,7 @@ use Rattle.language.specs.Tree.{Definition, Declaration, OneSignal, OfWidth, OfT
 use Rattle.language.specs.DeclaredNames.{Table, Port, words_of_type, port_of}
 use Rattle.language.specs.Lists.{All}
 use Rattle.language.specs.Listed.{declared_name}
-use Rattle.language.specs.Laws.Values.RegularWords.{RegularDefinition}
+use Rattle.language.proofs.Laws.Values.RegularWords.{RegularDefinition}
 use Rattle.sets.specs.Answers.{says}
 use Rattle.sets.specs.declared.Worked.{Worked}
 use Rattle.name_values.specs.Sorts as Sort

@@ -3,7 +3,7 @@ use Rattle.std.specs.Prelude.{ℕ, zero, suc, ◌+◌, ◌-◌, ◌≤◌, ◌<�
 use Rattle.std.proofs.Common.{sym, ap, ◌∙◌, subst, arith, le-leb}
 use Rattle.std.proofs.lemmas.Bool.{lt-leb}
 use Rattle.node.specs.Result.{Result, Done, Refused, ◌>>=◌}
-use Rattle.node.specs.ResultLaws.{guard-pass, guard-stop, bind_to, bind_refused}
+use Rattle.node.proofs.ResultLaws.{guard-pass, guard-stop, bind_to, bind_refused}
 use Rattle.words.specs.Words.{word_at}
 use Rattle.language.specs.Limits.{max_width, max_tokens}
 use Rattle.language.specs.Tokens.{Token, tokens}
@@ -13,7 +13,7 @@ use Rattle.language.specs.Values.{number, value}
 use Rattle.language.specs.DeclaredNames.{Table, declared, defining, words_of_type, word_width, sized, port_of, as_declared}
 use Rattle.language.specs.Expansion.{Context, context_of, define_all}
 use Rattle.language.specs.Listed.{declared_name}
-use Rattle.language.specs.Laws.Values.RegularWords.{regular_type}
+use Rattle.language.proofs.Laws.Values.RegularWords.{regular_type}
 use Rattle.lexer.specs.Stored.{longest}
 use Rattle.entries.specs.Kinds as Kind
 use Rattle.entries.specs.Stored.{first_entry, kind_of}
@@ -31,7 +31,7 @@ use Rattle.declarations.specs.TreeLaws.{tree-realm, tree-expression, tree-before
 use Rattle.declarations.specs.Expressions.{Room, Expression, Workable, Numbered}
 use Rattle.declarations.specs.Enumerations.{no_entry}
 use Rattle.declarations.specs.EnumerationLaws.{entry_offset}
-use Rattle.language.specs.Laws.Values.NameLaws.{defined_values}
+use Rattle.language.proofs.Laws.Values.NameLaws.{defined_values}
 use Rattle.declarations.specs.Widths.{port_for, Sizing, SizedBy, Sizes, IsSized, sort_of}
 
 no_value : (n p m : ℕ) → Worked.Refused n p ≡ Worked.Value m → ⊥

@@ -2,7 +2,7 @@
 use Rattle.std.specs.Prelude.{ℕ, suc, ◌-◌, min, max, List, [], ◌∷◌, ◌++◌, map, false, eqb, leb, ltb, length, get_or, take, drop}
 use Rattle.std.proofs.Math.Option.{Option, none}
 use Rattle.language.specs.Limits.{max_levels}
-use Rattle.language.specs.Bytes.{if◌then◌else◌}
+use Rattle.language.specs.Bytes.{if◌then◌otherwise◌}
 use Rattle.language.specs.Places.{first, unless}
 use Rattle.lexer.specs.Stored.{offset_in}
 use Rattle.entries.specs.Kinds as Kind
@@ -38,8 +38,8 @@ highest (n ∷ ns) = max n (highest ns)
 -- an entry of kind k with operands of at most n levels, the first of which starts at s
 unfoldable pub level_of : ℕ → ℕ → ℕ → ℕ
 level_of k n s =
-    if eqb (get_or own_levels k 0) 1 then capped (suc n) else (
-    if eqb (get_or own_levels k 0) 2 then (if eqb s (Kind.binder false) then capped (suc n) else n) else n)
+    if eqb (get_or own_levels k 0) 1 then capped (suc n) otherwise (
+    if eqb (get_or own_levels k 0) 2 then (if eqb s (Kind.binder false) then capped (suc n) otherwise n) otherwise n)
 
 abbrev pub levels_of : List Operand → List ℕ
 levels_of xs = map (λ (x : Operand). x.level) xs
@@ -54,7 +54,7 @@ node c xs =
 
 -- a line whose expression is too deep
 unfoldable pub fault_of : ℕ → ℕ → ℕ → Option ℕ
-fault_of k level start = if ltb k first_line then none else unless (leb level max_levels) start
+fault_of k level start = if ltb k first_line then none otherwise unless (leb level max_levels) start
 
 abbrev pub fault : Cell → List Operand → Option ℕ
 fault c xs = fault_of c.kind (first_of (levels_of xs)) (first_of (starts_of xs))
@@ -64,7 +64,7 @@ abbrev pub stepped : Cell → State → ℕ → State
 stepped c s m =
     record {
       before = c.kind;
-      stack = if ltb c.kind first_line then take m s.stack ++ (node c (drop m s.stack) ∷ []) else take m s.stack;
+      stack = if ltb c.kind first_line then take m s.stack ++ (node c (drop m s.stack) ∷ []) otherwise take m s.stack;
       found = first s.found (fault c (drop m s.stack));
     }
 

@@ -10,9 +10,9 @@ use Rattle.language.specs.Tree.{Expr, Named, Defined, Enumerated, OneSignal, OfW
 use Rattle.language.specs.Grammar.{Tokens}
 use Rattle.language.specs.Places.{start, levels, first, first_in, unless, TextLine as Line, ParameterLine, DefinitionLine, DeclarationLine, FormulaLine, all_lines, deep, deep_line, too_deep}
 use Rattle.language.specs.Braces.{Proper}
-use Rattle.language.specs.Laws.Basics.Lists.{All}
-use Rattle.language.specs.Laws.Basics.Tests.{pick, leave}
-use Rattle.language.specs.Laws.Basics.NoPlace.{first_none}
+use Rattle.language.proofs.Laws.Basics.Lists.{All}
+use Rattle.language.proofs.Laws.Basics.Tests.{pick, leave}
+use Rattle.language.proofs.Laws.Basics.NoPlace.{first_none}
 use Rattle.entries.specs.Kinds as Kind
 use Rattle.entries.specs.Flat.{Entry, flat, under, leaf, each, flat_identifier, outline}
 use Rattle.traversal.specs.declared.Cell.{Cell}

@@ -6,9 +6,9 @@ use Rattle.std.proofs.Math.Path.{ap}
 use Rattle.std.proofs.Math.Dec.{eqb}
 use Rattle.std.proofs.Math.Seq.{slice, slice-cons}
 use Rattle.std.proofs.lemmas.Bool.{lt-leb}
-use Rattle.language.specs.Bytes.{if◌then◌else◌}
+use Rattle.language.specs.Bytes.{if◌then◌otherwise◌}
 use Rattle.language.specs.Limits.{max_levels}
-use Rattle.language.specs.Laws.Basics.Tests.{pick, leave}
+use Rattle.language.proofs.Laws.Basics.Tests.{pick, leave}
 use Rattle.entries.specs.Kinds as Kind
 use Rattle.traversal.specs.Arity.{first_line}
 use Rattle.traversal.specs.StackLaws.{no_part}
@@ -19,9 +19,9 @@ not-one e d = omega arith
 
 -- levels
 module _ (k n s : ℕ) where
-  pub level_by : (v : ℕ) → v ≡ get_or own_levels k 0 → (if eqb v 1 then capped (suc n) else (if eqb v 2 then (if eqb s (Kind.binder false) then capped (suc n) else n) else n)) ≡ level_of k n s
+  pub level_by : (v : ℕ) → v ≡ get_or own_levels k 0 → (if eqb v 1 then capped (suc n) otherwise (if eqb v 2 then (if eqb s (Kind.binder false) then capped (suc n) otherwise n) otherwise n)) ≡ level_of k n s
   unfolding level_of
-  level_by v e = ap (λ u. if eqb u 1 then capped (suc n) else (if eqb u 2 then (if eqb s (Kind.binder false) then capped (suc n) else n) else n)) e
+  level_by v e = ap (λ u. if eqb u 1 then capped (suc n) otherwise (if eqb u 2 then (if eqb s (Kind.binder false) then capped (suc n) otherwise n) otherwise n)) e
 
   pub own_level_lem : get_or own_levels k 0 ≡ 1 → level_of k n s ≡ capped (suc n)
   unfolding level_of

@@ -7,7 +7,7 @@ use Rattle.std.proofs.Math.ListN.{length, take, length-append}
 use Rattle.std.proofs.Math.Seq.{slice}
 use Rattle.language.specs.Limits.{work_bytes, max_tokens}
 use Rattle.language.specs.Places.{first}
-use Rattle.language.specs.Laws.Basics.Tests.{pick, leave}
+use Rattle.language.proofs.Laws.Basics.Tests.{pick, leave}
 use Rattle.lexer.specs.Stored.{offset_in}
 use Rattle.traversal.specs.declared.Cell.{Cell}
 use Rattle.traversal.specs.declared.Place.{Place}

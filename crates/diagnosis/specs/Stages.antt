@@ -4,12 +4,12 @@ use Rattle.std.proofs.Common.{ap, ap₂, ◌∙◌, sym, subst, leb-true}
 use Rattle.std.proofs.Math.Logic.Iff as Equiv
 use Rattle.std.proofs.lemmas.List.{length-map}
 use Rattle.node.specs.Limits.{max_nodes}
-use Rattle.node.specs.LogicLaws.{so_same}
+use Rattle.node.proofs.LogicLaws.{so_same}
 use Rattle.node.specs.Result.{Result, Done, Refused, ◌>>=◌, Counts}
-use Rattle.node.specs.ResultLaws.{guard-done, guard_bind, bind_to, bind_where, bind_refused}
+use Rattle.node.proofs.ResultLaws.{guard-done, guard_bind, bind_to, bind_where, bind_refused}
 use Rattle.node.specs.Table.{tree_at}
 use Rattle.node.specs.Written.{nodes_of, count}
-use Rattle.node.specs.WrittenLaws.{length_of, table-root}
+use Rattle.node.proofs.WrittenLaws.{length_of, table-root}
 use Rattle.node.specs.declared.Answer.{Answer}
 use Rattle.node.specs.declared.Answer.TheVariants.{Accepted}
 use Rattle.bits.specs.Bits.{Values}
@@ -18,24 +18,24 @@ use Rattle.recordings.specs.declared.Lasso.{Lasso}
 use Rattle.rows.specs.Agreement.{row-right}
 use Rattle.evaluator.specs.Evaluation.{verdict_of}
 use Rattle.evaluator.specs.Promise.{RowsHold}
-use Rattle.evaluator.specs.EvaluationLaws.{Opens}
+use Rattle.evaluator.proofs.EvaluationLaws.{Opens}
 use Rattle.language.specs.Limits.{max_signals, work_bytes}
 use Rattle.language.specs.Tree.{Part, Preset, Assert, Guarantee}
 use Rattle.language.specs.Numbering.{in_order, signal_list}
 use Rattle.language.specs.Expansion.{lines_of, conjunction, whole}
 use Rattle.language.specs.Shifting.{adapted}
 use Rattle.language.specs.Reading.{NumberedFormula, text_expansion, reading, work_after}
-use Rattle.language.specs.Laws.Meaning.Acceptance.{accepts}
-use Rattle.claim.specs.ClaimLaws.{text_few, text-small}
-use Rattle.claim.specs.YieldsLaws.{accepted, refused}
+use Rattle.language.proofs.Laws.Meaning.Acceptance.{accepts}
+use Rattle.claim.proofs.ClaimLaws.{text_few, text-small}
+use Rattle.claim.proofs.YieldsLaws.{accepted, refused}
 use Rattle.parser.specs.declared.Facts.{Facts}
 use Rattle.reader.specs.declared.Told.{Told}
 use Rattle.reader.specs.Promise.{ReadsTold}
 use Rattle.faults.specs.Naming.{line_named}
 use Rattle.faults.specs.Diagnosing.{Lined, lined, lined_by, line_rows, finding, diagnosing, rows_left, rows_after}
-use Rattle.faults.specs.TextLaws.{lines_of_lem, diagnosed_holds, diagnosed_fault}
-use Rattle.claim.specs.DeliveredLaws.{taken-room}
-use Rattle.faults.specs.Delivered.{accepting, reading-accepting}
+use Rattle.faults.proofs.TextLaws.{lines_of_lem, diagnosed_holds, diagnosed_fault}
+use Rattle.claim.proofs.DeliveredLaws.{taken-room}
+use Rattle.faults.proofs.Delivered.{accepting, reading-accepting}
 use Rattle.line_counts.specs.declared.LineCounts.{LineCounts}
 use Rattle.line_counts.specs.Promise.{counts_of}
 use Rattle.diagnosis.specs.declared.Diagnosis.{Diagnosis}

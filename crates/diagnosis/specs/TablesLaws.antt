@@ -3,13 +3,13 @@ use Rattle.std.specs.Prelude.{ℕ, ◌≤◌, ◌<◌, ◌≡◌, refl, Bool, Li
 use Rattle.std.proofs.Common.{sym, ap, ◌∙◌, subst}
 use Rattle.node.specs.Limits.{max_nodes}
 use Rattle.node.specs.Result.{Done, Refused}
-use Rattle.node.specs.ResultLaws.{bind_done, bind_to, bind_refused, not_done}
+use Rattle.node.proofs.ResultLaws.{bind_done, bind_to, bind_refused, not_done}
 use Rattle.recordings.specs.Limits.{max_positions}
 use Rattle.recordings.specs.Recording.{lasso_of}
 use Rattle.recordings.specs.declared.Lasso.{Lasso}
 use Rattle.evaluator.specs.Evaluation.{evaluation, finds, verdict_of}
 use Rattle.evaluator.specs.Promise.{Judges}
-use Rattle.evaluator.specs.EvaluationLaws.{Opens, opens}
+use Rattle.evaluator.proofs.EvaluationLaws.{Opens, opens}
 use Rattle.evaluator.specs.declared.Verdict.{Verdict}
 use Rattle.diagnosis.specs.declared.Diagnosis.{Diagnosis}
 use Rattle.line_counts.specs.declared.LineCounts.{LineCounts}

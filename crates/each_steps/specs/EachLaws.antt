@@ -6,7 +6,7 @@ use Rattle.node.specs.Operators.{And}
 use Rattle.node.specs.Kinds.{binary_kind}
 use Rattle.node.specs.Ltl.{Formula, Two}
 use Rattle.node.specs.Result.{Result, ◌>>=◌}
-use Rattle.node.specs.ResultLaws.{bind_at}
+use Rattle.node.proofs.ResultLaws.{bind_at}
 use Rattle.writing.specs.Writing.{Wrote, Joins}
 use Rattle.writing.specs.StayLaws.{two_stays, stays_none, wrote_stays}
 use Rattle.language.specs.Tokens.{Token}

@@ -1,7 +1,7 @@
 -- A formula as a value is marked as one; a value as a formula is a misfit.
 use Rattle.std.specs.Prelude.{ℕ, List, refl}
 use Rattle.std.proofs.Common.{◌∙◌, arith}
-use Rattle.node.specs.ResultLaws.{bind_to}
+use Rattle.node.proofs.ResultLaws.{bind_to}
 use Rattle.language.specs.Values.{Logic}
 use Rattle.operands.specs.Working.{Source}
 use Rattle.machine.specs.Came.{worth, nodes}

@@ -4,7 +4,7 @@ use Rattle.std.proofs.Common.{sym, ap, ◌∙◌, subst, arith}
 use Rattle.node.specs.Limits.{max_nodes}
 use Rattle.node.specs.Ltl.{Formula}
 use Rattle.node.specs.Result.{Result}
-use Rattle.node.specs.ResultLaws.{bind_at}
+use Rattle.node.proofs.ResultLaws.{bind_at}
 use Rattle.language.specs.Tokens.{Token}
 use Rattle.language.specs.Operators.{Big}
 use Rattle.language.specs.Tree.{Expr}
@@ -57,8 +57,8 @@ module _ {s : Source} {R : Realm s} {mem out : List ℕ} {m : Machine} {x : Resu
   pub record FoldsTo (op : Big) (c : Context) (i : Token) (e : Expr) (a : Formula) (out' : List ℕ) (n : ℕ) : Type 0 where
     pub fewer : (count : ℕ) → turns Phase.next_each count < turns phase (suc count)
     pub fine : Fine rest
-    pub folding : Folding R h.ground op
-    pub each : EachOf R h.ground c i e
+    pub folding : Folding R h.footing op
+    pub each : EachOf R h.footing c i e
     pub formulas : OfFormulas op
     pub laid : Laid o (record { formula = a; end = n } ∷ forms_of h.rest) out' n
     pub few : n ≤ suc max_nodes

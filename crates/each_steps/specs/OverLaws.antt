@@ -3,7 +3,7 @@ use Rattle.std.specs.Prelude.{ℕ, false, List, ◌≡◌, refl}
 use Rattle.std.proofs.Common.{sym, ap, ◌∙◌, arith}
 use Rattle.node.specs.Ltl.{Formula}
 use Rattle.node.specs.Result.{Result, ◌>>=◌}
-use Rattle.node.specs.ResultLaws.{bind_again}
+use Rattle.node.proofs.ResultLaws.{bind_again}
 use Rattle.language.specs.Operators.{Big}
 use Rattle.language.specs.Tree.{Expr, Each}
 use Rattle.language.specs.Values.{Value, set, value}

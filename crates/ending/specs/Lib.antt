@@ -1,9 +1,5 @@
 pub mod Endings
-pub mod EndingsLaws
 pub mod Hands
-pub mod HandsLaws
 pub mod Handing
-pub mod HandingLaws
 pub mod Listing
 pub mod Finishing
-pub mod FinishingLaws

@@ -3,7 +3,7 @@ use Rattle.std.specs.Prelude.{ℕ, zero, suc, ◌+◌, ◌≤◌, ◌<◌, ◌^�
 use Rattle.std.proofs.Common.{sym, ap, ◌∙◌, add-one, arith, lt-ltb, le-ltb, ltb-true, ltb-false, eqb-true, eq-eqb, ne_eqb}
 use Rattle.words.specs.Words.{word_at}
 use Rattle.language.specs.Tokens.{End, Token, is_of}
-use Rattle.language.specs.Laws.Basics.Tests.{pick, leave}
+use Rattle.language.proofs.Laws.Basics.Tests.{pick, leave}
 use Rattle.language.specs.Grammar.{Tokens, front, rest}
 use Rattle.lexer.specs.Numbers.{number}
 use Rattle.lexer.specs.NumberLaws.{class_number_lem}

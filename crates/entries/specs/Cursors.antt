@@ -1,7 +1,7 @@
 -- Where the parser stands, and what its cursor's methods answer, as functions of the buffer.
 use Rattle.std.specs.Prelude.{ℕ, ◌+◌, ◌≤◌, ◌<◌, List, true, ◌≡◌, ltb, eqb, length, drop}
 use Rattle.words.specs.Words.{word_at}
-use Rattle.language.specs.Bytes.{if◌then◌else◌}
+use Rattle.language.specs.Bytes.{if◌then◌otherwise◌}
 use Rattle.language.specs.Limits.{max_bytes, max_tokens, work_bytes}
 use Rattle.language.specs.Tokens.{End, is_of}
 use Rattle.language.specs.Grammar.{Tokens, front}
@@ -39,11 +39,11 @@ pub record Readied (w : List ℕ) (c : Cursor) : Type 0 where
 
 -- the number of the next token, 0 at the text's end
 abbrev pub number_at : List ℕ → Cursor → ℕ
-number_at w c = if ltb c.at c.count then number_in (word_at w c.at) else 0
+number_at w c = if ltb c.at c.count then number_in (word_at w c.at) otherwise 0
 
 -- its place
 abbrev pub place_at : List ℕ → Cursor → ℕ
-place_at w c = if ltb c.at c.count then offset_in (word_at w c.at) else c.end
+place_at w c = if ltb c.at c.count then offset_in (word_at w c.at) otherwise c.end
 
 abbrev pub next_of : Cursor → Cursor
 next_of c = record { at = c.at + 1; out = c.out; count = c.count; end = c.end }
@@ -57,7 +57,7 @@ refused_at w c = Refused 4 (place_at w c)
 
 -- past the next token if it has the number, else refused
 abbrev pub expected : List ℕ → Cursor → ℕ → Parse
-expected w c k = if eqb (number_at w c) k then Parsed (next_of c) else refused_at w c
+expected w c k = if eqb (number_at w c) k then Parsed (next_of c) otherwise refused_at w c
 
 -- what an entry asks for
 pub record Writes (w : List ℕ) (c : Cursor) (kind index size : ℕ) : Type 0 where

@@ -30,7 +30,7 @@ use Rattle.language.specs.Operators.{
   Applies,
 }
 use Rattle.language.specs.Tree.{Expr, Named, Numeral, Truth, Index, Paren, Prefixed, Joined, Nexts, InWindow, Each, Between, Listed, Empty, Element, Range}
-use Rattle.language.specs.Laws.Basics.Lists.{All, all_any, all_append}
+use Rattle.language.proofs.Laws.Basics.Lists.{All, all_any, all_append}
 use Rattle.entries.specs.Kinds as Kind
 use Rattle.entries.specs.Flat.{Entry, under, flat, each}
 

@@ -3,7 +3,7 @@ use Rattle.std.specs.Prelude.{ℕ, suc, ◌+◌, ◌-◌, ◌≤◌, ◌<◌, �
 use Rattle.std.proofs.Common.{arith, ap, ◌∙◌, subst, length-append}
 use Rattle.std.proofs.Math.Option.{Option, none, some}
 use Rattle.node.specs.BitFields.{above, below}
-use Rattle.node.specs.FieldLaws.{above_join, below-join}
+use Rattle.node.proofs.FieldLaws.{above_join, below-join}
 use Rattle.words.specs.Words.{word_at}
 use Rattle.words.specs.WordLaws.{word_same}
 use Rattle.language.specs.Tokens.{Token}

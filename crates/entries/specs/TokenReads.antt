@@ -4,7 +4,7 @@ use Prim.Native.String.{String}
 use Rattle.std.proofs.Common.{arith, sym, ap, ◌∙◌, subst, eqb-true}
 use Rattle.std.proofs.lemmas.Bool.{eqb-false}
 use Rattle.node.specs.Result.{Done}
-use Rattle.language.specs.Bytes.{ascii, if◌then◌else◌, is_one_of}
+use Rattle.language.specs.Bytes.{ascii, if◌then◌otherwise◌, is_one_of}
 use Rattle.language.specs.Tokens.{Class, Token, is_of}
 use Rattle.language.specs.Grammar.{Tokens, front, rest, stop, next, named, expect, expect_of}
 use Rattle.lexer.specs.Numbers.{spellings, fixed, numbered, class_number}
@@ -34,7 +34,7 @@ module _ {ts : Tokens} {w : List ℕ} {c : Cursor} (ready : Ready ts w c) where
   next-named ss h = named-number ss (front (drop c.at ts)) h ∙ ap (numbered ss) (sym (ready-number ready))
 
   -- past the token if the test says so
-  passes : (b : Bool) (k : ℕ) → 0 < k → b ≡ eqb (number_at w c) k → Reads ts w w c no_entries (if b then Done (front (drop c.at ts), rest (drop c.at ts)) else stop (drop c.at ts))
+  passes : (b : Bool) (k : ℕ) → 0 < k → b ≡ eqb (number_at w c) k → Reads ts w w c no_entries (if b then Done (front (drop c.at ts), rest (drop c.at ts)) otherwise stop (drop c.at ts))
       (expected w c k)
   passes true k l e =
       let same : number_at w c ≡ k = eqb-true (number_at w c) k (sym e) in

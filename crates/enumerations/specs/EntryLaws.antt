@@ -25,9 +25,9 @@ use Rattle.language.specs.Tree.{
 use Rattle.language.specs.Grammar.{Tokens}
 use Rattle.language.specs.Places.{first, first_in}
 use Rattle.language.specs.Words.{bad_words, wrong_words}
-use Rattle.language.specs.Laws.Basics.Lists.{All, all_more, all_append, all_right}
-use Rattle.language.specs.Laws.Basics.Tests.{pick, leave}
-use Rattle.language.specs.Laws.Basics.NoPlace.{first_none, first_assoc}
+use Rattle.language.proofs.Laws.Basics.Lists.{All, all_more, all_append, all_right}
+use Rattle.language.proofs.Laws.Basics.Tests.{pick, leave}
+use Rattle.language.proofs.Laws.Basics.NoPlace.{first_none, first_assoc}
 use Rattle.entries.specs.Kinds as Kind
 use Rattle.entries.specs.Flat.{Entry, under, leaf, flat, each, flat_parameter, flat_identifier, flat_definition, flat_declaration, flat_line, flat_subsection, outline}
 use Rattle.entries.specs.FlatLaws.{all-each, flat-inside}

@@ -2,7 +2,7 @@
 use Rattle.std.specs.Prelude.{ℕ, zero, suc, ◌+◌, List, [], ◌∷◌, ◌++◌, Bool, true, false, ◌&&◌, ◌||◌, not, eqb, leb, ltb, length, get_or}
 use Rattle.std.proofs.Math.Option.{Option, some}
 use Rattle.language.specs.Limits.{max_words, max_marks}
-use Rattle.language.specs.Bytes.{if◌then◌else◌}
+use Rattle.language.specs.Bytes.{if◌then◌otherwise◌}
 use Rattle.language.specs.Places.{first}
 use Rattle.language.specs.Words.{meet}
 use Rattle.lexer.specs.Stored.{offset_in, length_in}
@@ -32,7 +32,7 @@ any_clash o v [] = false
 any_clash o v (r ∷ rs) = (not (eqb r.owner o) && meet r.marks v) || any_clash o v rs
 
 unfoldable pub size_of : ℕ → ℕ → ℕ → ℕ
-size_of count size n = if eqb count 0 then n else size
+size_of count size n = if eqb count 0 then n otherwise size
 
 abbrev pub shut : State → ℕ → State
 shut s p = record { owner = s.owner; size = s.size; closed = true; rows = s.rows; found = first s.found (some p) }
@@ -46,11 +46,11 @@ tested text x n s =
     if eqb (length_in x) n then (
     if leb n max_marks then (
     if ltb (length s.rows) max_words then (
-    if any_clash s.owner (bytes_at text (offset_in x) n) s.rows then shut s (offset_in x) else opened s n (record { owner = s.owner; marks = bytes_at text (offset_in x) n }))
-    else shut s (offset_in x)) else shut s (offset_in x)) else shut s (offset_in x)
+    if any_clash s.owner (bytes_at text (offset_in x) n) s.rows then shut s (offset_in x) otherwise opened s n (record { owner = s.owner; marks = bytes_at text (offset_in x) n }))
+    otherwise shut s (offset_in x)) otherwise shut s (offset_in x)) otherwise shut s (offset_in x)
 
 unfoldable pub word : List ℕ → ℕ → State → State
-word text x s = if s.closed then s else tested text x (size_of (length s.rows) s.size (length_in x)) s
+word text x s = if s.closed then s otherwise tested text x (size_of (length s.rows) s.size (length_in x)) s
 
 abbrev pub begun : State → State
 begun s = record { owner = 0; size = 0; closed = false; rows = []; found = s.found }
@@ -60,6 +60,6 @@ named s = record { owner = suc s.owner; size = s.size; closed = s.closed; rows =
 
 unfoldable pub step : List ℕ → Cell → State → State
 step text c s =
-    if eqb c.kind Kind.enumeration then begun s else (
-    if eqb c.kind Kind.identifier then named s else (
-    if eqb c.kind Kind.word then word text c.token s else s))
+    if eqb c.kind Kind.enumeration then begun s otherwise (
+    if eqb c.kind Kind.identifier then named s otherwise (
+    if eqb c.kind Kind.word then word text c.token s otherwise s))

@@ -3,7 +3,7 @@ use Rattle.std.specs.Prelude.{ℕ, ◌+◌, ◌≤◌, ◌<◌, List, [], ◌∷
 use Rattle.std.proofs.Common.{sym, ap, ap₂, ◌∙◌, take-suc-set, add-one, arith, eq-eqb, ne_eqb}
 use Rattle.std.proofs.Math.Seq.{slice, slice-cons}
 use Rattle.language.specs.Words.{meet}
-use Rattle.language.specs.Laws.Basics.Tests.{pick, leave}
+use Rattle.language.proofs.Laws.Basics.Tests.{pick, leave}
 use Rattle.traversal.specs.StackLaws.{no_part}
 use Rattle.enumerations.specs.Pass.{bytes_at, size_of}
 

@@ -10,9 +10,9 @@ use Rattle.language.specs.Tree.{Identifier}
 use Rattle.language.specs.Places.{first, first_in, unless}
 use Rattle.language.specs.Names.{place_of_first}
 use Rattle.language.specs.Words.{meet, words_in, wrong_length, wrong_lengths, clash, clashes}
-use Rattle.language.specs.Laws.Basics.Lists.{All, all_append}
-use Rattle.language.specs.Laws.Basics.Tests.{split, pick, leave, and_left, and_right}
-use Rattle.language.specs.Laws.Basics.NoPlace.{first_none, first_assoc, first_comm}
+use Rattle.language.proofs.Laws.Basics.Lists.{All, all_append}
+use Rattle.language.proofs.Laws.Basics.Tests.{split, pick, leave, and_left, and_right}
+use Rattle.language.proofs.Laws.Basics.NoPlace.{first_none, first_assoc, first_comm}
 use Rattle.traversal.specs.PlaceLaws.{first_in-append}
 use Rattle.enumerations.specs.Scan.{Word, owned, words_from, meets, any_meets, good, scan, scan_all, Ascends}
 

@@ -3,7 +3,7 @@ use Rattle.std.specs.Prelude.{ℕ, zero, suc, ◌+◌, ◌≤◌, ◌<◌, ◌^�
 use Rattle.std.proofs.Common.{sym, ap, ap₂, ◌∙◌, length-drop, take-suc, get_or-drop, arith}
 use Rattle.language.specs.Tokens.{Token}
 use Rattle.language.specs.Grammar.{Tokens, front}
-use Rattle.language.specs.Laws.Grammar.TokenLaws.{Stands}
+use Rattle.language.proofs.Laws.Grammar.TokenLaws.{Stands}
 use Rattle.lexer.specs.Stored.{offset_bits, offset_in, length_in, token_word, TokensStored}
 use Rattle.lexer.specs.StoredLaws.{offset_word, length-word}
 use Rattle.lexer.specs.Lexing.{Lexical}

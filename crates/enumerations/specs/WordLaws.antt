@@ -11,8 +11,8 @@ use Rattle.std.proofs.lemmas.List.{length-map}
 use borrow.Author.Tests.{eqb-true, eqb-false, eq-eqb, ne_eqb, leb-true, leb-false, le-leb, lt-leb, not-true}
 use Rattle.language.specs.Limits.{max_words, max_marks}
 use Rattle.language.specs.Places.{first}
-use Rattle.language.specs.Laws.Basics.Tests.{pick, leave, and_left, and_right}
-use Rattle.language.specs.Laws.Basics.NoPlace.{first_none}
+use Rattle.language.proofs.Laws.Basics.Tests.{pick, leave, and_left, and_right}
+use Rattle.language.proofs.Laws.Basics.NoPlace.{first_none}
 use Rattle.lexer.specs.Stored.{longest, offset_in, length_in}
 use Rattle.enumerations.specs.Given.{Spelled}
 use Rattle.enumerations.specs.Scan.{Word, meets, any_meets, good, scan, scan_all}

@@ -7,12 +7,12 @@ use Rattle.language.specs.Tokens.{Class, Name, Marks, End, Token, is_of, tokens}
 use Rattle.language.specs.Tree.{Identifier, Spec}
 use Rattle.language.specs.Grammar.{Tokens, Read, front, rest, next, expect, expect_of}
 use Rattle.language.specs.Sections.{expression, described, model_of, strict_of, info_end, info_of, lines_of, optional, parameter_of, words_of, identifiers_of, definition_of, global_of, subsections_of, spec_of}
-use Rattle.language.specs.Laws.Basics.Lists.{All, Any, all_append}
-use Rattle.language.specs.Laws.Basics.Tests.{split}
-use Rattle.language.specs.Laws.Basics.Results.{done, refused, bind, weaken, value_of, Within, bind_any}
-use Rattle.language.specs.Laws.Grammar.TokenLaws.{Rising, tokens_rise}
-use Rattle.language.specs.Laws.Grammar.ReaderLaws.{Reads, takes}
-use Rattle.language.specs.Laws.Grammar.SectionReads.{expression-reads, info_of-reads}
+use Rattle.language.proofs.Laws.Basics.Lists.{All, Any, all_append}
+use Rattle.language.proofs.Laws.Basics.Tests.{split}
+use Rattle.language.proofs.Laws.Basics.Results.{done, refused, bind, weaken, value_of, Within, bind_any}
+use Rattle.language.proofs.Laws.Grammar.TokenLaws.{Rising, tokens_rise}
+use Rattle.language.proofs.Laws.Grammar.ReaderLaws.{Reads, takes}
+use Rattle.language.proofs.Laws.Grammar.SectionReads.{expression-reads, info_of-reads}
 use Rattle.enumerations.specs.Scan.{Word, owned, words_from, Ascends}
 use Rattle.enumerations.specs.Given.{WordsOf, GoodDefinition}
 
@@ -25,9 +25,9 @@ ascending_below : (b c : ℕ) (ts : Tokens) → b ≤ c → Ascending c ts → A
 ascending_below b c [] l h = tt
 ascending_below b c (t ∷ ts) l h = let k = h.0 in (omega arith, h.1)
 
-rising_ascends : (b : ℕ) (ts : Tokens) → Rising b ts → Ascending b ts
-rising_ascends b [] h = tt
-rising_ascends b (t ∷ ts) h = (h.0, ascending_below t.at _ ts (omega arith) (rising_ascends _ ts h.1))
+rising_ascends : (ts : Tokens) (b : ℕ) → Rising b ts → Ascending b ts
+rising_ascends [] b h = tt
+rising_ascends (t ∷ ts) b h = (h.0, ascending_below t.at _ ts (omega arith) (rising_ascends ts _ h.1))
 
 -- us stands in the text's order wherever ts does
 abbrev Keeps : Tokens → Tokens → Type 0
@@ -207,4 +207,4 @@ spec_gives ts h =
 
 -- the enumerations of a text's tree
 pub good_definitions : (text : List ℕ) {x : Spec} → spec_of (tokens text) ≡ Done x → All GoodDefinition x.definitions
-good_definitions text e = value_of e (spec_gives (tokens text) (rising_ascends 0 (tokens text) (tokens_rise text)))
+good_definitions text e = value_of e (spec_gives (tokens text) (rising_ascends (tokens text) 0 (tokens_rise text)))

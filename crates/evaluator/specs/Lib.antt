@@ -1,9 +1,4 @@
 pub mod Evaluation
 pub mod Promise
 pub mod Evaluated
-pub mod EvaluatedLaws
-pub mod Copies
 pub mod Listed
-pub mod EvaluationLaws
-pub mod Full
-pub mod Starred

@@ -2,13 +2,13 @@
 use Rattle.std.specs.Prelude.{ℕ, zero, suc, ◌≤◌, ◌<◌, List, [], ◌∷◌, Bool, true, false, ◌&&◌, ◌≡◌, refl, eqb, length}
 use Rattle.std.proofs.Common.{arith, sym, ap, ◌∙◌}
 use Rattle.node.specs.Result.{Done, ◌>>=◌}
-use Rattle.node.specs.ResultLaws.{not_done, bind_again, bind_at, bind_where}
-use Rattle.node.specs.ResultLaws as Results
+use Rattle.node.proofs.ResultLaws.{not_done, bind_again, bind_at, bind_where}
+use Rattle.node.proofs.ResultLaws as Results
 use Rattle.language.specs.Tokens.{Class, Name, Token, is_of}
 use Rattle.language.specs.Operators.{loosest, bound_level}
 use Rattle.language.specs.Tree.{Expr, Each}
 use Rattle.language.specs.Grammar.{Tokens, Read, front, rest, stop, next, named, expect, expect_of, Binder, sign_of, binder_of, binders_of, over}
-use Rattle.language.specs.Laws.Basics.Tests.{split}
+use Rattle.language.proofs.Laws.Basics.Tests.{split}
 use Rattle.operators.specs.Readers.{reads, climbs, big_of, role_at, level_at, folds}
 use Rattle.expressions.specs.ReaderLaws.{reads-takes, rest-fits, climbs-zero}
 use Rattle.expressions.specs.Frames.{after_binder}

@@ -6,13 +6,13 @@ use Rattle.std.proofs.Math.Path.{refl, ap}
 use Rattle.std.proofs.Math.Dec.{lit<}
 use borrow.Author.Tests.{eqb-true, eqb-false, eq-eqb, ne_eqb}
 use Rattle.node.specs.Result.{Done, ◌>>=◌}
-use Rattle.node.specs.ResultLaws.{bind_at}
+use Rattle.node.proofs.ResultLaws.{bind_at}
 use Rattle.words.specs.WordLaws.{length-put}
 use Rattle.language.specs.Tokens.{Name, Token}
 use Rattle.language.specs.Operators.{Big, Role, Plain, Counted, Windowed, Folding as Folds, loosest, bound_level}
 use Rattle.language.specs.Tree.{Expr, Empty}
 use Rattle.language.specs.Grammar.{Tokens, Read, front, rest, stop, next, named, expect}
-use Rattle.language.specs.Laws.Basics.Tests.{pick, leave, and_left, and_right}
+use Rattle.language.proofs.Laws.Basics.Tests.{pick, leave, and_left, and_right}
 use Rattle.language.specs.Limits.{work_bytes}
 use Rattle.lexer.specs.Numbers.{fixed, class_number as tokenNumber}
 use Rattle.entries.specs.declared.Cursor.{Cursor}

@@ -11,12 +11,12 @@ use Rattle.std.proofs.Math.Dec.{lit<}
 use Rattle.std.proofs.Math.ListN.{drop}
 use borrow.Author.Tests.{eq-eqb, ne_eqb}
 use Rattle.node.specs.Result.{Done, ◌>>=◌}
-use Rattle.node.specs.ResultLaws.{bind_at}
+use Rattle.node.proofs.ResultLaws.{bind_at}
 use Rattle.words.specs.WordLaws.{length-put}
 use Rattle.language.specs.Tokens.{Name, Token, is_of}
 use Rattle.language.specs.Tree.{Expr, Between, Empty}
 use Rattle.language.specs.Grammar.{Tokens, Read, front, rest, stop, sign_of, expect_of}
-use Rattle.language.specs.Laws.Basics.Tests.{pick, leave}
+use Rattle.language.proofs.Laws.Basics.Tests.{pick, leave}
 use Rattle.language.specs.Limits.{work_bytes}
 use Rattle.language.specs.Operators.{bound_level}
 use Rattle.lexer.specs.Numbers.{class_number as tokenNumber}

@@ -13,7 +13,7 @@ use Rattle.language.specs.Operators.{loosest}
 use Rattle.language.specs.Tree.{Expr, Joined, Empty}
 use Rattle.language.specs.Grammar.{Tokens, Read, allowed, right_level}
 use Rattle.language.specs.Sections.{expression}
-use Rattle.language.specs.Laws.Basics.Tests.{pick, leave}
+use Rattle.language.proofs.Laws.Basics.Tests.{pick, leave}
 use Rattle.lexer.specs.Numbers.{number}
 use Rattle.entries.specs.Flat.{flat}
 use Rattle.entries.specs.declared.Cursor.{Cursor}

@@ -6,12 +6,12 @@ use Rattle.std.proofs.Math.Option.{some}
 use Rattle.std.proofs.Math.Path.{ap}
 use borrow.Author.Tests.{eq-eqb, ne_eqb}
 use Rattle.node.specs.Result.{Done, ◌>>=◌}
-use Rattle.node.specs.ResultLaws.{bind_at}
+use Rattle.node.proofs.ResultLaws.{bind_at}
 use Rattle.language.specs.Bytes.{ascii, is_one_of}
 use Rattle.language.specs.Tokens.{Token}
 use Rattle.language.specs.Tree.{Expr}
 use Rattle.language.specs.Grammar.{Tokens, Read, front, rest, stop, next, expect}
-use Rattle.language.specs.Laws.Basics.Tests.{pick, leave}
+use Rattle.language.proofs.Laws.Basics.Tests.{pick, leave}
 use Rattle.lexer.specs.Numbers.{spellings, fixed}
 use Rattle.entries.specs.Kinds as Kind
 use Rattle.entries.specs.Flat.{under, flat}

@@ -6,12 +6,12 @@ use Rattle.std.proofs.Math.Option.{Option, some}
 use Rattle.std.proofs.Math.Path.{sym, ap, subst}
 use Rattle.std.proofs.Math.ListN.{drop, get_or}
 use Rattle.node.specs.Result.{Done}
-use Rattle.node.specs.ResultLaws.{bind_at}
+use Rattle.node.proofs.ResultLaws.{bind_at}
 use Rattle.language.specs.Tokens.{Token}
 use Rattle.language.specs.Tree.{Expr}
 use Rattle.language.specs.Grammar.{Tokens, Read}
-use Rattle.language.specs.Laws.Basics.Lists.{All as Every}
-use Rattle.language.specs.Laws.Basics.Tests.{and_left, and_right}
+use Rattle.language.proofs.Laws.Basics.Lists.{All as Every}
+use Rattle.language.proofs.Laws.Basics.Tests.{and_left, and_right}
 use Rattle.entries.specs.Kinds as Kind
 use Rattle.entries.specs.Flat.{Entry, under, flat}
 use Rattle.entries.specs.Stored.{first_entry, entry_word, put_entry, Keeps}

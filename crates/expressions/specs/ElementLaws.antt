@@ -10,12 +10,12 @@ use Rattle.std.proofs.Math.Dec.{lit<}
 use Rattle.std.proofs.Math.ListN.{drop}
 use borrow.Author.Tests.{eq-eqb, ne_eqb}
 use Rattle.node.specs.Result.{Done, ◌>>=◌}
-use Rattle.node.specs.ResultLaws.{bind_again, bind_where}
+use Rattle.node.proofs.ResultLaws.{bind_again, bind_where}
 use Rattle.words.specs.WordLaws.{length-put}
 use Rattle.language.specs.Operators.{loosest}
 use Rattle.language.specs.Tree.{Expr, Empty, Element}
 use Rattle.language.specs.Grammar.{Tokens, Read, front, rest, next}
-use Rattle.language.specs.Laws.Basics.Tests.{leave}
+use Rattle.language.proofs.Laws.Basics.Tests.{leave}
 use Rattle.language.specs.Limits.{work_bytes}
 use Rattle.lexer.specs.Numbers.{fixed}
 use Rattle.entries.specs.Kinds as Kind

@@ -2,7 +2,7 @@
 use Rattle.std.specs.Prelude.{ℕ, suc, ◌<◌, List, ◌++◌, ◌≡◌, drop}
 use Rattle.language.specs.Tree.{Expr}
 use Rattle.language.specs.Grammar.{Tokens, Read}
-use Rattle.language.specs.Laws.Basics.Lists.{All as Every}
+use Rattle.language.proofs.Laws.Basics.Lists.{All as Every}
 use Rattle.entries.specs.Flat.{flat}
 use Rattle.entries.specs.declared.Cursor.{Cursor}
 use Rattle.entries.specs.Reads.{Kept}

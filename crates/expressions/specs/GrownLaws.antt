@@ -6,7 +6,7 @@ use Rattle.language.specs.Limits.{max_tokens}
 use Rattle.language.specs.Tokens.{Token}
 use Rattle.language.specs.Tree.{Expr}
 use Rattle.language.specs.Grammar.{Tokens, Read}
-use Rattle.language.specs.Laws.Basics.Lists.{All as Every}
+use Rattle.language.proofs.Laws.Basics.Lists.{All as Every}
 use Rattle.entries.specs.Kinds as Kind
 use Rattle.entries.specs.Flat.{Entry, under}
 use Rattle.entries.specs.Stored.{first_entry, entry_word, Keeps}

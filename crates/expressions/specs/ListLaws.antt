@@ -2,11 +2,11 @@
 use Rattle.std.specs.Prelude.{ℕ, zero, suc, ◌<◌, Bool, true, false, ◌≡◌, refl, length}
 use Rattle.std.proofs.Common.{arith, sym, ap, ◌∙◌}
 use Rattle.node.specs.Result.{Result, Done, ◌>>=◌}
-use Rattle.node.specs.ResultLaws.{bind_again, bind_at, bind_where}
+use Rattle.node.proofs.ResultLaws.{bind_again, bind_at, bind_where}
 use Rattle.language.specs.Operators.{loosest}
 use Rattle.language.specs.Tree.{Expr, Empty, Element}
 use Rattle.language.specs.Grammar.{Tokens, Read, rest, next, expect, elements}
-use Rattle.language.specs.Laws.Basics.Tests.{pick, leave}
+use Rattle.language.proofs.Laws.Basics.Tests.{pick, leave}
 use Rattle.operators.specs.Readers.{reads, elements_from, listed}
 use Rattle.expressions.specs.ReaderLaws.{reads-takes, rest-fits}
 

@@ -10,8 +10,8 @@ use Rattle.node.specs.Result.{◌>>=◌}
 use Rattle.words.specs.Words.{word_at}
 use Rattle.language.specs.Tree.{Expr, Empty}
 use Rattle.language.specs.Grammar.{Tokens, Read, next, expect}
-use Rattle.language.specs.Laws.Basics.Tests.{pick, leave}
-use Rattle.language.specs.Laws.Basics.Lists.{All as Every}
+use Rattle.language.proofs.Laws.Basics.Tests.{pick, leave}
+use Rattle.language.proofs.Laws.Basics.Lists.{All as Every}
 use Rattle.language.specs.Limits.{max_tokens}
 use Rattle.lexer.specs.Stored.{number_in}
 use Rattle.lexer.specs.Numbers.{fixed}

@@ -4,13 +4,13 @@ use Rattle.std.proofs.Common.{arith, sym, ap, ◌∙◌, ltb-true, length-append
 use Rattle.std.proofs.Math.Option.{Option, none, some}
 use Rattle.std.proofs.lemmas.Bool.{lt-leb}
 use Rattle.node.specs.Result.{Done, ◌>>=◌}
-use Rattle.node.specs.ResultLaws.{bind_where}
+use Rattle.node.proofs.ResultLaws.{bind_where}
 use Rattle.language.specs.Tokens.{Token}
 use Rattle.language.specs.Operators.{InfixRow, infixes}
 use Rattle.language.specs.Tree.{Expr, Joined}
 use Rattle.language.specs.Grammar.{Tokens, Read, front, rest, named, infix_of, right_level, allowed, operand_of, climb}
-use Rattle.language.specs.Laws.Basics.Tests.{split, leave, and_left, and_right}
-use Rattle.language.specs.Laws.Grammar.GrammarLaws.{up_to, up_to-takes, up_to-operand, up_to-step}
+use Rattle.language.proofs.Laws.Basics.Tests.{split, leave, and_left, and_right}
+use Rattle.language.proofs.Laws.Grammar.GrammarLaws.{up_to, up_to-takes, up_to-operand, up_to-step}
 use Rattle.operators.specs.Readers.{reads, climbs, infix_row, operator_at, operator_in}
 
 -- an accepted expression takes a token

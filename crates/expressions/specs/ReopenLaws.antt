@@ -8,8 +8,8 @@ use Rattle.node.specs.Result.{◌>>=◌}
 use Rattle.language.specs.Tree.{Expr}
 use Rattle.language.specs.Operators.{loosest}
 use Rattle.language.specs.Grammar.{Tokens, Read, next}
-use Rattle.language.specs.Laws.Basics.Tests.{pick}
-use Rattle.language.specs.Laws.Basics.Lists.{All as Every}
+use Rattle.language.proofs.Laws.Basics.Tests.{pick}
+use Rattle.language.proofs.Laws.Basics.Lists.{All as Every}
 use Rattle.lexer.specs.Numbers.{fixed}
 use Rattle.entries.specs.Flat.{Entry}
 use Rattle.entries.specs.declared.Cursor.{Cursor}

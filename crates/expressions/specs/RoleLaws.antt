@@ -10,13 +10,13 @@ use Rattle.std.proofs.Math.Path.{◌≡◌, ap}
 use Rattle.std.proofs.Common.{sym, ◌∙◌}
 use Rattle.std.proofs.Math.ListN.{length}
 use Rattle.node.specs.Result.{Result, Done, ◌>>=◌}
-use Rattle.node.specs.ResultLaws.{not_done, bind_again, bind_at, bind_where}
+use Rattle.node.proofs.ResultLaws.{not_done, bind_again, bind_at, bind_where}
 use Rattle.language.specs.Tokens.{Name, Token, is_of}
 use Rattle.language.specs.Operators.{FinallyIn, GloballyIn, Window, Big, Role, Plain, Counted, Windowed, Folding, PrefixRow, prefixes, loosest, bound_level}
 use Rattle.language.specs.Tree.{Expr, Prefixed, Nexts, InWindow, Between}
 use Rattle.language.specs.Grammar.{Tokens, Read, front, rest, stop, next, named, expect, expect_of, prefix_of, closed_by, Binder, sign_of, membership_of, bounds_of, binders_of, over, role_of}
-use Rattle.language.specs.Laws.Basics.Tests.{pick, leave, and_left, some_none}
-use Rattle.language.specs.Laws.Grammar.ExprReads.{prefix_none}
+use Rattle.language.proofs.Laws.Basics.Tests.{pick, leave, and_left, some_none}
+use Rattle.language.proofs.Laws.Grammar.ExprReads.{prefix_none}
 use Rattle.operators.specs.Readers.{reads, climbs, prefix_row, level_at, level_in, role_at, role_in, sole_of, window_of, big_of, folds}
 use Rattle.expressions.specs.ReaderLaws.{rest-fits}
 use Rattle.expressions.specs.BinderLaws.{binders_fuel, folds-step}

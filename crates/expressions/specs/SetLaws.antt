@@ -5,8 +5,8 @@ use Rattle.std.proofs.Math.Option.{none, some}
 use Rattle.language.specs.Tokens.{Token}
 use Rattle.language.specs.Tree.{Expr, Listed, Empty, Element}
 use Rattle.language.specs.Grammar.{Tokens, Read, next}
-use Rattle.language.specs.Laws.Basics.Tests.{leave}
-use Rattle.language.specs.Laws.Basics.Lists.{All as Every}
+use Rattle.language.proofs.Laws.Basics.Tests.{leave}
+use Rattle.language.proofs.Laws.Basics.Lists.{All as Every}
 use Rattle.lexer.specs.Numbers.{fixed}
 use Rattle.entries.specs.Kinds as Kind
 use Rattle.entries.specs.Flat.{Entry, under, flat}

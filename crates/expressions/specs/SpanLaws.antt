@@ -1,12 +1,12 @@
 -- The last trees of the entries: where they begin, and that there are so many.
-use Rattle.std.specs.Prelude.{ℕ, zero, suc, ◌+◌, List, [], ◌∷◌, ◌++◌, ◌≡◌, refl, length}
+use Rattle.std.specs.Prelude.{ℕ, zero, suc, ◌+◌, ◌-◌, List, [], ◌∷◌, ◌++◌, ◌≡◌, refl, length}
 use Rattle.std.proofs.Common.{append_assoc, append-nil, sym, ap, ◌∙◌, subst}
 use Rattle.language.specs.Grammar.{Tokens, front}
-use Rattle.language.specs.Laws.Basics.Lists.{All as Every}
+use Rattle.language.proofs.Laws.Basics.Lists.{All as Every}
 use Rattle.entries.specs.Flat.{Entry}
 use Rattle.entries.specs.Stored.{EntriesFrom}
 use Rattle.entries.specs.StoredLaws.{entries-left}
-use Rattle.expressions.specs.Stack.{Rooted, start_of, Trees}
+use Rattle.expressions.specs.Stack.{Rooted, size_at, start_of, Trees}
 use Rattle.expressions.specs.StackLaws.{trees_more, start-more}
 use Rattle.expressions.specs.States.{behind}
 
@@ -21,11 +21,11 @@ behind-left w ts o P (c ∷ css) h = entries-left w ts o P c (behind-left w ts o
 
 trees_snoc : (w : List ℕ) (out n : ℕ) → Trees w out n → Trees w (start_of w out n) 1 → Trees w out (suc n)
 trees_snoc w out zero h g = g
-trees_snoc w out (suc n) h g = (h.0, h.1, trees_snoc w _ n h.2 g)
+trees_snoc w out (suc n) h g = (h.0, h.1, trees_snoc w (out - size_at w out) n h.2 g)
 
 start_snoc : (w : List ℕ) (out n : ℕ) → start_of w out (suc n) ≡ start_of w (start_of w out n) 1
 start_snoc w out zero = refl
-start_snoc w out (suc n) = start_snoc w _ n
+start_snoc w out (suc n) = start_snoc w (out - size_at w out) n
 
 -- the last trees of the entries, the complete one and those before it
 pub spans : (w : List ℕ) (ts : Tokens) (o out : ℕ) (P : List Entry) (css : List (List Entry)) (A : List Entry) → Every Rooted css → Rooted A → out ≡ o + length (behind P css ++ A)

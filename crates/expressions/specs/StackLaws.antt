@@ -3,7 +3,7 @@ use Rattle.std.specs.Prelude.{ℕ, zero, suc, ◌+◌, ◌-◌, ◌≤◌, ◌<�
 use Rattle.std.proofs.Common.{arith, sym, ap, ◌∙◌, subst, length-append}
 use Rattle.std.proofs.Math.Option.{Option, some}
 use Rattle.node.specs.BitFields.{above, below}
-use Rattle.node.specs.FieldLaws.{above_join, below-join}
+use Rattle.node.proofs.FieldLaws.{above_join, below-join}
 use Rattle.words.specs.Words.{word_at, put_word}
 use Rattle.words.specs.WordLaws.{word_same, word_other}
 use Rattle.language.specs.Tokens.{Token}

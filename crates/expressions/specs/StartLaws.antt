@@ -8,12 +8,12 @@ use Rattle.std.proofs.Math.Path.{refl, ap}
 use Rattle.std.proofs.Math.Dec.{eqb}
 use borrow.Author.Tests.{ne_eqb}
 use Rattle.node.specs.Result.{Done, Refused, ◌>>=◌}
-use Rattle.node.specs.ResultLaws.{bind_again, bind_at, bind_where}
+use Rattle.node.proofs.ResultLaws.{bind_again, bind_at, bind_where}
 use Rattle.language.specs.Tokens.{Name, Numeral as Digits, Token}
 use Rattle.language.specs.Operators.{Size, Measures, PrefixRow, loosest}
 use Rattle.language.specs.Tree.{Expr, Named, Numeral, Truth, Index, Paren, Prefixed, Listed, Empty, Element, Range}
 use Rattle.language.specs.Grammar.{Tokens, Read, front, rest, stop, next, expect, closed_by, elements, set_of, after_one, after_two, role_of, name_of, atom_of, operand_by}
-use Rattle.language.specs.Laws.Basics.Tests.{pick, leave}
+use Rattle.language.proofs.Laws.Basics.Tests.{pick, leave}
 use Rattle.lexer.specs.Numbers.{number, fixed, class_number as tokenNumber}
 use Rattle.lexer.specs.NumberLaws.{is_number, class_number_lem}
 use Rattle.operators.specs.Readers.{reads, climbs, prefix_row, listed}

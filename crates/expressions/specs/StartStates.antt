@@ -7,7 +7,7 @@ use Rattle.node.specs.Result.{◌>>=◌}
 use Rattle.language.specs.Operators.{loosest}
 use Rattle.language.specs.Tree.{Expr, Named, Numeral, Truth, Listed, Empty}
 use Rattle.language.specs.Grammar.{Tokens, Read, rest, next}
-use Rattle.language.specs.Laws.Basics.Tests.{or_cases}
+use Rattle.language.proofs.Laws.Basics.Tests.{or_cases}
 use Rattle.language.specs.Bytes.{ascii, is_one_of}
 use Rattle.lexer.specs.Numbers.{spellings, number, fixed, class_number as tokenNumber}
 use Rattle.language.specs.Tokens.{Name, Numeral as Digits}

@@ -6,7 +6,7 @@ use Rattle.node.specs.Result.{Refused, ◌>>=◌}
 use Rattle.language.specs.Tokens.{Token}
 use Rattle.language.specs.Tree.{Expr, Empty}
 use Rattle.language.specs.Grammar.{Tokens, Read, front, stop}
-use Rattle.language.specs.Laws.Basics.Lists.{All as Every}
+use Rattle.language.proofs.Laws.Basics.Lists.{All as Every}
 use Rattle.language.specs.Limits.{max_tokens}
 use Rattle.entries.specs.Kinds as Kind
 use Rattle.entries.specs.Flat.{leaf, flat}

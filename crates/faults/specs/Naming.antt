@@ -2,7 +2,7 @@
 use Rattle.std.specs.Prelude.{ℕ, zero, suc, Bool, true, not, ◌&&◌, List, [], ◌∷◌}
 use Rattle.std.proofs.Math.Option.{Option, none, some}
 use Rattle.bits.specs.Bits.{Values}
-use Rattle.language.specs.Bytes.{if◌then◌else◌}
+use Rattle.language.specs.Bytes.{if◌then◌otherwise◌}
 use Rattle.language.specs.Tree.{Part, Preset, Require, Assert, Guarantee}
 
 -- 'A recording that holds yields "holds" and no line'; else a section and a number
@@ -13,7 +13,7 @@ pub data Finding : Type 0 where
 -- the first of the rows that is false at p, the first row counting k; 0 if none is
 unfoldable pub first_false : ℕ → List Values → ℕ → ℕ
 first_false k [] p = 0
-first_false k (a ∷ us) p = if a p then first_false (suc k) us p else k
+first_false k (a ∷ us) p = if a p then first_false (suc k) us p otherwise k
 
 -- a section holds where all its lines do
 unfoldable pub all_true : List Values → Values
@@ -24,7 +24,7 @@ all_true (a ∷ us) p = a p && all_true us p
 unfoldable pub broken_from : (strict : Bool) (require assert : Values) → ℕ → ℕ → Option ℕ
 broken_from strict require assert p zero = none
 broken_from strict require assert p (suc n) =
-    if strict && not (require p) then none else (if assert p then broken_from strict require assert (suc p) n else some p)
+    if strict && not (require p) then none otherwise (if assert p then broken_from strict require assert (suc p) n otherwise some p)
 
 -- 'the first ASSERT line false there. Failing that, it is the first GUARANTEE line false at 0'
 abbrev pub after_preset : (assert guarantee : List Values) → Option ℕ → Finding

@@ -12,12 +12,12 @@ use Rattle.language.specs.Tree.{Expr, Each}
 use Rattle.language.specs.Values.{Value, Number, Set, misfit}
 use Rattle.language.specs.DeclaredNames.{Port}
 use Rattle.language.specs.Expansion.{Context, at}
-use Rattle.language.specs.Laws.Basics.Tests.{pick, leave}
+use Rattle.language.proofs.Laws.Basics.Tests.{pick, leave}
 use Rattle.entries.specs.Kinds as Kind
 use Rattle.entries.specs.Flat.{under, flat}
 use Rattle.spellings.specs.Interned.{Lexed}
 use Rattle.name_values.specs.World.{World}
-use Rattle.name_values.specs.KnownLaws.{own-more, known-each}
+use Rattle.name_values.proofs.KnownLaws.{own-more, known-each}
 use Rattle.operators.specs.Codes.{arithmetic_code, combination_code, big_code}
 use Rattle.operands.specs.Entries.{size_at}
 use Rattle.operands.specs.ClassLaws.{has_entry, size_is}

@@ -43,11 +43,11 @@ one_fewer new old n {p} {c} e d h = let q : c - 1 ≡ n = omega arith in rw (q, 
 -- a frame that binds a name
 module _ {s : Source} {R : Realm s} {mem out : List ℕ} {m : Machine} {x : Result Came} {o : Began} {F : Frame} (h : TopOf R mem out m x o F) {phase : ℕ} {l fold : List ℕ} {forms : List Laying}
     (f : holding F ≡ turning phase l fold forms) where
-  pub turning_scope : m.scope ≡ h.ground.scope
-  turning_scope = h.at.scoped ∙ ap (λ (y : Holding). scope_above y.inside h.ground) f
+  pub turning_scope : m.scope ≡ h.footing.scope
+  turning_scope = h.at.scoped ∙ ap (λ (y : Holding). scope_above y.inside h.footing) f
 
-  pub turning-depth : m.depth ≡ h.ground.depth + 1
-  turning-depth = h.at.deep ∙ ap (λ (y : Holding). h.ground.depth + slots_of y.binds) f
+  pub turning-depth : m.depth ≡ h.footing.depth + 1
+  turning-depth = h.at.deep ∙ ap (λ (y : Holding). h.footing.depth + slots_of y.binds) f
 
   pub turning_held : Held mem (words h).at l
   turning_held = subst (Held mem (words h).at) (ap (λ (y : Holding). y.elements) f) h.at.held
@@ -92,19 +92,19 @@ module _ {s : Source} {R : Realm s} {mem out : List ℕ} {m : Machine} {x : Resu
   pub record Continues (G : Frame) (new value other : ℕ) (fold' : List ℕ) (forms' : List Laying) (a : Aim) (c : Context) (i : Token) (e : Expr) (mem₀ mem' out' : List ℕ) (top nodes : ℕ) (n : Machine)
       : Type 0 where
     pub words-kept : drop m.frames mem₀ ≡ drop m.frames mem
-    pub agree : Agree o.regions mem mem₀ h.ground.depth (words h).base (m.frames + frame_words)
+    pub agree : Agree o.regions mem mem₀ h.footing.depth (words h).base (m.frames + frame_words)
     pub some : Split mem₀ (words h).at l
     pub framed : Framed (set mem₀ (m.depth - 1) (get_or mem₀ (get_or mem₀ (m.frames + at_field) 0) 0)) mem' m.frames (next_at (words_at mem₀ m.frames) new value other)
     pub next : n ≡ turned m (mode_of a) (get_or mem₀ (m.frames + entry_field) 0 - 1) (m.depth - 1) top nodes
     pub is-turning : holding G ≡ turning new some.rest fold' forms'
     pub lower : (words h).base ≤ top
-    pub high : top ≤ (words h).base + h.ground.reserved
+    pub high : top ≤ (words h).base + h.footing.reserved
     pub lies : Lies (free_of mem₀) (words h).base top (words h).at (length l)
     pub held_fold : Held mem₀ other fold'
     pub lies_fold : Lies (free_of mem₀) (words h).base top other (length fold')
     pub holds : Holds R.W (end_of o (forms_of h.rest)) (renewed h (next_at (words h) new value other)) G
     pub waits : Waits R (renewed h (next_at (words h) new value other)) G
-    pub each : EachOf R h.ground c i e
+    pub each : EachOf R h.footing c i e
     pub laid : Laid o (forms' ++ forms_of h.rest) out' nodes
     pub few : nodes ≤ suc max_nodes
     pub noted : Noted R o.regions o.index mem₀
@@ -167,7 +167,7 @@ module _ {s : Source} {R : Realm s} {mem out : List ℕ} {m : Machine} {x : Resu
     pub base-is : base ≡ (words h).base
     pub tells : Tells R.W mode value from v
     pub stands : Standing R o mem' (unbound m mode value from base) v
-    pub agree : Agree o.regions mem mem' h.ground.depth (words h).base (m.frames + frame_words)
+    pub agree : Agree o.regions mem mem' h.footing.depth (words h).base (m.frames + frame_words)
     pub noted : Noted R o.regions o.index mem'
     pub lasting : Lasting R.W mem' out m.nodes
 

@@ -6,7 +6,7 @@ use Rattle.language.specs.Limits.{max_elements, max_number}
 use Rattle.language.specs.Tokens.{Token}
 use Rattle.language.specs.Tree.{Expr}
 use Rattle.language.specs.Expansion.{Context, at}
-use Rattle.language.specs.Laws.Values.SetLaws.{ascending_lower}
+use Rattle.language.proofs.Laws.Values.SetLaws.{ascending_lower}
 use Rattle.operands.specs.Working.{Source}
 use Rattle.machine.specs.Came.{Aim, Came, works}
 use Rattle.machine.specs.Frames.{Frame, apply, Kept}
@@ -86,7 +86,7 @@ module _ {s : Source} {R : Realm s} {mem out : List ℕ} {m : Machine} {x : Resu
       pub fewer : (count : ℕ) → count < max_elements → turns' new count < turns' phase (words h).count
       pub holds : Holds R.W (end_of o (forms_of h.rest)) (renewed h (begun_at m (words h).entry new)) G
       pub waits : Waits R (renewed h (begun_at m (words h).entry new)) G
-      pub each : EachOf R h.ground c i e
+      pub each : EachOf R h.footing c i e
       pub kept : Kept G (works a (at c i (get_or mem m.from 0)) e)
       pub same : apply F h.came ≡ (works a (at c i (get_or mem m.from 0)) e >>= apply G)
 

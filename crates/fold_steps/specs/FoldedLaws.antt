@@ -46,9 +46,9 @@ module _ {s : Source} {R : Realm s} {mem out : List ℕ} {m : Machine} {x : Resu
     pub wide : (words h).base + 4 * set_words ≤ m.frames
     pub free : suc (free_of mem) ≤ (words h).base
     pub first : first_kept ≤ (words h).base
-    pub deep : suc h.ground.depth ≤ (words h).base
+    pub deep : suc h.footing.depth ≤ (words h).base
     pub fits : m.frames + frame_words ≤ length mem
-    pub bound : m.depth ≡ h.ground.depth + 1
+    pub bound : m.depth ≡ h.footing.depth + 1
 
   pub limits : Limits
   limits =
@@ -77,7 +77,7 @@ module _ {s : Source} {R : Realm s} {mem out : List ℕ} {m : Machine} {x : Resu
   record Keeps (mem₂ : List ℕ) : Type 0 where
     words-kept : drop m.frames mem₂ ≡ drop m.frames mem
     free : free_of mem₂ ≡ free_of mem
-    agree : Agree o.regions mem mem₂ h.ground.depth (words h).base (m.frames + frame_words)
+    agree : Agree o.regions mem mem₂ h.footing.depth (words h).base (m.frames + frame_words)
     noted : Noted R o.regions o.index mem₂
     lasting : Lasting R.W mem₂ out m.nodes
 
@@ -92,7 +92,7 @@ module _ {s : Source} {R : Realm s} {mem out : List ℕ} {m : Machine} {x : Resu
       record {
         words-kept = k.above m.frames (omega arith);
         free = k.below free_word (omega arith);
-        agree = agree-from mem mem₂ (words h).base h.ground.depth (words h).base (m.frames + frame_words) k.len k.below (k.above (m.frames + frame_words) (omega arith)) z4 (omega arith) (omega arith) (omega arith);
+        agree = agree-from mem mem₂ (words h).base h.footing.depth (words h).base (m.frames + frame_words) k.len k.below (k.above (m.frames + frame_words) (omega arith)) z4 (omega arith) (omega arith) (omega arith);
         noted = noted_kept mem mem₂ (words h).base k.below z4 (omega arith) h.noted;
         lasting = lasting_kept mem mem₂ (words h).base k.below z4 (omega arith) h.lasting;
       }
@@ -109,7 +109,7 @@ module _ {s : Source} {R : Realm s} {mem out : List ℕ} {m : Machine} {x : Resu
     pub place : Rests (free_of mem) m.top m.frames from n
     pub kept : Outside mem mem₀ m.top (m.frames - m.top)
     pub here : OpAt s (words h).entry (Folds op) p
-    pub each : EachOf R h.ground c i e
+    pub each : EachOf R h.footing c i e
     pub sets : OfSets op
     pub fewer : (count : ℕ) → turns Phase.next_set count < turns phase (suc count)
 

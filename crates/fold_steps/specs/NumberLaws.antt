@@ -2,15 +2,15 @@
 use Rattle.std.specs.Prelude.{ℕ, suc, ◌+◌, ◌≤◌, ◌<◌, ◌^◌, List, [], ◌∷◌, ◌≡◌, refl, length, get_or}
 use Rattle.std.proofs.Common.{sym, ap, ap₂, ◌∙◌, subst, arith}
 use Rattle.node.specs.Result.{Result, ◌>>=◌}
-use Rattle.node.specs.ResultLaws.{bind_again, bind_at, bind_same, bind_refused}
+use Rattle.node.proofs.ResultLaws.{bind_again, bind_at, bind_same, bind_refused}
 use Rattle.language.specs.Limits.{max_number}
 use Rattle.language.specs.Tokens.{Token}
 use Rattle.language.specs.Operators.{Arithmetic, Big, BigSum, BigProduct, BigCap, BigCup, BigAnd, BigOr}
 use Rattle.language.specs.Tree.{Expr}
 use Rattle.language.specs.Values.{Number, number, calculate, onward, value}
 use Rattle.language.specs.Expansion.{Context, at}
-use Rattle.language.specs.Laws.Basics.Results.{value_of}
-use Rattle.language.specs.Laws.Values.ValueLaws.{calculate_sane}
+use Rattle.language.proofs.Laws.Basics.Results.{value_of}
+use Rattle.language.proofs.Laws.Values.ValueLaws.{calculate_sane}
 use Rattle.sets.specs.Answers.{says}
 use Rattle.sets.specs.Operators.{arithmetic}
 use Rattle.sets.specs.declared.Worked.{Worked}
@@ -81,7 +81,7 @@ module _ {s : Source} {R : Realm s} {mem out : List ℕ} {m : Machine} {x : Resu
     pub fine : Fine l
     pub small : n ≤ max_number
     pub here : OpAt s (words h).entry (Folds op) p
-    pub each : EachOf R h.ground c i e
+    pub each : EachOf R h.footing c i e
     pub numbers : OfNumbers op
     pub fewer : (count : ℕ) → turns Phase.next_number count < turns phase (suc count)
 

@@ -2,7 +2,7 @@
 use Rattle.std.specs.Prelude.{ℕ, ◌≤◌, List, [], ◌∷◌, ◌≡◌, refl, length}
 use Rattle.std.proofs.Common.{sym, ◌∙◌}
 use Rattle.node.specs.Result.{Result, ◌>>=◌}
-use Rattle.node.specs.ResultLaws.{bind_again, bind_at, bind_same}
+use Rattle.node.proofs.ResultLaws.{bind_again, bind_at, bind_same}
 use Rattle.language.specs.Limits.{max_elements}
 use Rattle.language.specs.Tokens.{Token}
 use Rattle.language.specs.Operators.{Combination, Cup, Cap, Big, BigSum, BigProduct, BigCap, BigCup, BigAnd, BigOr}

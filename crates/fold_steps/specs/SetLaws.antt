@@ -2,7 +2,7 @@
 use Rattle.std.specs.Prelude.{ℕ, suc, ◌+◌, ◌-◌, ◌≤◌, List, [], ◌≡◌, refl, length, get_or, take, drop}
 use Rattle.std.proofs.Common.{sym, ap, ap₂, ◌∙◌, subst, arith, length-drop, length-take-le}
 use Rattle.node.specs.Result.{Result, Refused, ◌>>=◌}
-use Rattle.node.specs.ResultLaws.{bind_at, bind_refused}
+use Rattle.node.proofs.ResultLaws.{bind_at, bind_refused}
 use Rattle.language.specs.Limits.{max_elements}
 use Rattle.language.specs.Tokens.{Token}
 use Rattle.language.specs.Operators.{Combination, Big}
@@ -10,7 +10,7 @@ use Rattle.language.specs.Tree.{Expr}
 use Rattle.language.specs.Sets.{combine}
 use Rattle.language.specs.Values.{Set, limited}
 use Rattle.language.specs.Expansion.{Context, at}
-use Rattle.language.specs.Laws.Basics.Results.{value_of}
+use Rattle.language.proofs.Laws.Basics.Results.{value_of}
 use Rattle.sets.specs.Operators.{combination}
 use Rattle.sets.specs.declared.Worked.{Worked}
 use Rattle.operators.specs.Tables.{prefix_code_at}

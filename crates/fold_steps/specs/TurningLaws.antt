@@ -37,13 +37,13 @@ module _ {s : Source} {R : Realm s} {mem out : List ℕ} {m : Machine} {x : Resu
   pub record Turning (G : Frame) (rest fold : List ℕ) (forms : List Laying) (new : Words) (a : Aim) (c : Context) (i : Token) (e : Expr) (slot v : ℕ) (mem₀ mem' out' : List ℕ) (top nodes : ℕ) : Type 0 where
     pub outside : (holding F).inside ≡ false
     pub is-turning : holding G ≡ turning new.phase rest fold forms
-    pub agree : Agree o.regions mem mem₀ h.ground.depth (words h).base (m.frames + frame_words)
-    pub slot_is : slot ≡ h.ground.depth
+    pub agree : Agree o.regions mem mem₀ h.footing.depth (words h).base (m.frames + frame_words)
+    pub slot_is : slot ≡ h.footing.depth
     pub framed : Framed (set mem₀ slot v) mem' m.frames new
     pub entry-is : new.entry ≡ (words h).entry
     pub base-is : new.base ≡ (words h).base
     pub lower : (words h).base ≤ top
-    pub high : top ≤ (words h).base + h.ground.reserved
+    pub high : top ≤ (words h).base + h.footing.reserved
     pub counted : new.count ≡ length rest
     pub held : Held mem₀ new.at rest
     pub lies : Lies (free_of mem₀) (words h).base top new.at (length rest)
@@ -51,7 +51,7 @@ module _ {s : Source} {R : Realm s} {mem out : List ℕ} {m : Machine} {x : Resu
     pub lies_fold : Lies (free_of mem₀) (words h).base top new.other (length fold)
     pub holds : Holds R.W (end_of o (forms_of h.rest)) (renewed h new) G
     pub waits : Waits R (renewed h new) G
-    pub each : EachOf R h.ground c i e
+    pub each : EachOf R h.footing c i e
     pub small : v ≤ max_number
     pub laid : Laid o (forms ++ forms_of h.rest) out' nodes
     pub few : nodes ≤ suc max_nodes
@@ -84,9 +84,9 @@ module _ {s : Source} {R : Realm s} {mem out : List ℕ} {m : Machine} {x : Resu
       let l1 = t.agree.len in
       let wd = h.at.width in
       let fi = h.at.first in
-      let sc : m.scope ≡ h.ground.scope = h.at.scoped ∙ ap (λ (b : Bool). scope_above b h.ground) t.outside in
-      let ag : (y : ℕ) → Agree o.regions mem₀ mem₁ h.ground.depth y (m.frames + frame_words)
-      = λ y. agree-set mem₀ slot v h.ground.depth y (m.frames + frame_words) (omega arith) (omega arith) (omega arith) (λ q. omega arith) (λ q. absurd (omega arith)) in
+      let sc : m.scope ≡ h.footing.scope = h.at.scoped ∙ ap (λ (b : Bool). scope_above b h.footing) t.outside in
+      let ag : (y : ℕ) → Agree o.regions mem₀ mem₁ h.footing.depth y (m.frames + frame_words)
+      = λ y. agree-set mem₀ slot v h.footing.depth y (m.frames + frame_words) (omega arith) (omega arith) (omega arith) (λ q. omega arith) (λ q. absurd (omega arith)) in
       let at_top = ag top in
       let below : (j : ℕ) → j < slot → get_or mem₁ j 0 ≡ get_or mem₀ j 0 = λ j l. get_or-set_other mem₀ slot j v 0 (λ q. omega arith) in
       goes h {G = G} {a = a} {c = at c i v} {e = e} {mem₁ = mem₁} (record {
@@ -99,7 +99,7 @@ module _ {s : Source} {R : Realm s} {mem out : List ℕ} {m : Machine} {x : Resu
         agree = agree_then t.agree (ag (words h).base);
         frames-is = refl;
         scope_is = sc ∙ ap (λ (y : Holding). scope_above y.inside (renewed h new)) (sym z);
-        deep = ap (λ (j : ℕ). j + 1) es ∙ ap (λ (y : Holding). h.ground.depth + slots_of y.binds) (sym z);
+        deep = ap (λ (j : ℕ). j + 1) es ∙ ap (λ (y : Holding). h.footing.depth + slots_of y.binds) (sym z);
         lower = t.lower;
         high = t.high;
         level = λ y. absurd (false≢true (sym (ap (λ (y : Holding). y.flat) z) ∙ y));
@@ -112,14 +112,14 @@ module _ {s : Source} {R : Realm s} {mem out : List ℕ} {m : Machine} {x : Resu
         waits = t.waits;
         mode_is = refl;
         below = omega arith;
-        env = v ∷ h.ground.env;
+        env = v ∷ h.footing.env;
         first = omega arith;
         width = omega arith;
-        slotted = slotted_more mem₁ m.scope v h.ground.env
+        slotted = slotted_more mem₁ m.scope v h.footing.env
             (ap (λ (j : ℕ). get_or mem₁ j 0) (omega arith) ∙ get_or-set_same mem₀ slot v 0 (omega arith))
-            (slotted_kept mem mem₁ m.scope h.ground.env (λ j p q. below j (omega arith) ∙ t.agree.slots j (omega arith) (omega arith))
-            (subst (λ (j : ℕ). Slotted mem j h.ground.env) (sym sc) h.at.seen));
-        operand = subst (λ (j : ℕ). Operand s R.W R.ports (v ∷ h.ground.env) (at c i v) (j - 1) e) (sym en) (t.each v t.small);
+            (slotted_kept mem mem₁ m.scope h.footing.env (λ j p q. below j (omega arith) ∙ t.agree.slots j (omega arith) (omega arith))
+            (subst (λ (j : ℕ). Slotted mem j h.footing.env) (sym sc) h.at.seen));
+        operand = subst (λ (j : ℕ). Operand s R.W R.ports (v ∷ h.footing.env) (at c i v) (j - 1) e) (sym en) (t.each v t.small);
         laid = laid_as (ap (λ (y : Holding). y.forms ++ forms_of h.rest) (sym z)) t.laid;
         few = t.few;
         noted = noted_kept mem₀ mem₁ slot below (omega arith) (omega arith) t.noted;

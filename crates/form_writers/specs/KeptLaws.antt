@@ -6,7 +6,7 @@ use Rattle.std.proofs.Math.Decide.{dec_lt}
 use Rattle.node.specs.Limits.{field_limit, kind_limit}
 use Rattle.node.specs.Ltl.{Not, X, And, Or, Implies, Iff, U, R, W, Formula, One, Two, G, F}
 use Rattle.node.specs.Kinds.{UnaryOf, BinaryOf, Unused, shape_of, kind_count, unary_kind, binary_kind}
-use Rattle.node.specs.KindLaws.{no_shape, Each, each_below}
+use Rattle.node.proofs.KindLaws.{no_shape, Each, each_below}
 use Rattle.node.specs.Table.{tree_at}
 use Rattle.node.specs.Formed.{NodeIs}
 use Rattle.forms.specs.Forms.{plain, negated, core}

@@ -6,7 +6,7 @@ use Rattle.node.specs.Operators.{Binary}
 use Rattle.node.specs.Ltl.{Formula, Two}
 use Rattle.node.specs.Kinds.{binary_kind}
 use Rattle.node.specs.Result.{Result, Done, ◌>>=◌}
-use Rattle.node.specs.ResultLaws.{bind_at}
+use Rattle.node.proofs.ResultLaws.{bind_at}
 use Rattle.writing.specs.Writing.{Wrote, Joins}
 use Rattle.writing.specs.StayLaws.{two_stays}
 use Rattle.language.specs.Tree.{Expr}

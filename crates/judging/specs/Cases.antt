@@ -14,7 +14,7 @@ use Rattle.language.specs.Bytes.{ascii}
 use Rattle.language.specs.Places.{refuse_at}
 use Rattle.language.specs.Parsing.{parsed}
 use Rattle.language.specs.Reading.{text_expansion, spec_expansion}
-use Rattle.language.specs.Cases.{text}
+use Rattle.language.proofs.Cases.{text}
 use Rattle.judging.specs.Judging.{judging}
 
 -- 'One file in full'

@@ -4,27 +4,27 @@ use Rattle.std.proofs.Math.Path.{refl, ap}
 use Rattle.std.proofs.Common.{ap₂, ◌∙◌, sym, get_or-take, mul-le-mul, arith, ne_eqb, eq-eqb, le-leb, lt-ltb}
 use Rattle.std.proofs.lemmas.Bool.{lt-leb}
 use Rattle.node.specs.Result.{Result, Done, Refused, ◌>>=◌}
-use Rattle.node.specs.ResultLaws.{guard-done}
+use Rattle.node.proofs.ResultLaws.{guard-done}
 use Rattle.node.specs.Written.{nodes_of}
-use Rattle.node.specs.WrittenLaws.{table_of}
+use Rattle.node.proofs.WrittenLaws.{table_of}
 use Rattle.recordings.specs.Limits.{max_positions, max_signals, position_bits, start_bits, signal_bits, header_bits, header_bytes, longest, told}
 use Rattle.bits.specs.Bits.{Values, digit, number}
 use Rattle.bits.specs.BitLaws.{same_byte}
 use Rattle.recordings.specs.Recording.{field_at, lasso_of, header_fits, readable, counted}
 use Rattle.recordings.specs.RecordingLaws.{heads, filled_long, readable_header, readable_letters}
 use Rattle.evaluator.specs.Evaluation.{rows_size, verdict_of, finds}
-use Rattle.evaluator.specs.EvaluationLaws.{bad_recording}
+use Rattle.evaluator.proofs.EvaluationLaws.{bad_recording}
 use Rattle.recordings.specs.declared.Lasso.{Lasso}
 use Rattle.evaluator.specs.declared.Verdict.{Verdict}
 use Rattle.language.specs.Limits.{work_bytes}
 use Rattle.language.specs.Reading.{NumberedFormula, text_expansion}
-use Rattle.language.specs.Laws.Basics.Results.{refusal_of}
-use Rattle.language.specs.Laws.Meaning.Acceptance.{text-signals, list-limited}
-use Rattle.claim.specs.ClaimLaws.{text_few}
+use Rattle.language.proofs.Laws.Basics.Results.{refusal_of}
+use Rattle.language.proofs.Laws.Meaning.Acceptance.{text-signals, list-limited}
+use Rattle.claim.proofs.ClaimLaws.{text_few}
 use Rattle.judging.specs.Judging.{verdict_on, judging}
 use Rattle.judging.specs.Promise.{JudgesStart, JudgesText}
-use Rattle.claim.specs.DeliveredLaws.{taken-room}
-use Rattle.faults.specs.Delivered.{accepting, accepting-numbers}
+use Rattle.claim.proofs.DeliveredLaws.{taken-room}
+use Rattle.faults.proofs.Delivered.{accepting, accepting-numbers}
 use Rattle.judging.specs.Stages.{judging-accepting}
 use Rattle.judging.specs.Longer.{Begins, place_told, moved}
 

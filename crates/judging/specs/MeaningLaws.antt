@@ -4,8 +4,8 @@ use Rattle.std.specs.Prelude.{ℕ, ◌≡◌, List}
 use Rattle.node.specs.Result.{Done}
 use Rattle.recordings.specs.Lasso.{recorded}
 use Rattle.language.specs.Reading.{NumberedFormula, text_expansion}
-use Rattle.language.specs.Laws.Meaning.Acceptance.{text-once}
-use Rattle.language.specs.Laws.Meaning.ListedSignals.{unnumbered, numbered-back}
+use Rattle.language.proofs.Laws.Meaning.Acceptance.{text-once}
+use Rattle.language.proofs.Laws.Meaning.ListedSignals.{unnumbered, numbered-back}
 use Rattle.claim.specs.Claim.{Gives}
 
 pub played : (text : List ℕ) (c : NumberedFormula) → text_expansion text ≡ Done c → (recording : List ℕ) → Gives text c.signals (recorded recording)

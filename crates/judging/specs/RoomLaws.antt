@@ -4,9 +4,9 @@ use Rattle.std.proofs.Math.Path.{ap}
 use Rattle.std.proofs.Common.{◌∙◌, sym, mul-le-mul, arith, le-leb}
 use Rattle.node.specs.Limits.{max_nodes}
 use Rattle.node.specs.Result.{Result, Done, ◌>>=◌, guard, Counts}
-use Rattle.node.specs.ResultLaws.{guard-pass}
+use Rattle.node.proofs.ResultLaws.{guard-pass}
 use Rattle.node.specs.Table.{checked}
-use Rattle.node.specs.TableLaws.{checked-done}
+use Rattle.node.proofs.TableLaws.{checked-done}
 use Rattle.recordings.specs.Limits.{max_signals}
 use Rattle.bits.specs.Bits.{width}
 use Rattle.recordings.specs.Recording.{lasso_of}

@@ -5,20 +5,20 @@ use Rattle.std.proofs.Common.{ap₂, ◌∙◌}
 use Rattle.std.proofs.Math.ListN.{length, take}
 use Rattle.node.specs.Limits.{max_nodes}
 use Rattle.node.specs.Result.{Result, Done, Refused, ◌>>=◌, Counts}
-use Rattle.node.specs.ResultLaws.{guard-done, guard_bind, bind_done}
+use Rattle.node.proofs.ResultLaws.{guard-done, guard_bind, bind_done}
 use Rattle.node.specs.Written.{nodes_of, count}
-use Rattle.node.specs.WrittenLaws.{length_of}
+use Rattle.node.proofs.WrittenLaws.{length_of}
 use Rattle.node.specs.declared.Answer.{Answer}
 use Rattle.node.specs.declared.Answer.TheVariants.{Accepted}
 use Rattle.evaluator.specs.Evaluation.{rows_size, verdict_of, finds}
 use Rattle.evaluator.specs.declared.Verdict.{Verdict}
 use Rattle.language.specs.Limits.{max_signals, work_bytes}
 use Rattle.language.specs.Reading.{NumberedFormula, text_expansion, reading, work_after}
-use Rattle.claim.specs.YieldsLaws.{accepted, refused}
+use Rattle.claim.proofs.YieldsLaws.{accepted, refused}
 use Rattle.claim.specs.Reads.{Reads}
-use Rattle.faults.specs.TextLaws.{verdict-of-text}
-use Rattle.claim.specs.DeliveredLaws.{taken-room}
-use Rattle.faults.specs.Delivered.{accepting, reading-accepting}
+use Rattle.faults.proofs.TextLaws.{verdict-of-text}
+use Rattle.claim.proofs.DeliveredLaws.{taken-room}
+use Rattle.faults.proofs.Delivered.{accepting, reading-accepting}
 use Rattle.judging.specs.Judging.{verdict_on, judging}
 use Rattle.judging.specs.Promise.{JudgesText}
 use Rattle.judging.specs.MeaningLaws.{played}

@@ -9,9 +9,9 @@ ascii []ˢ = []
 ascii (c ∷ˢ s) = code c ∷ ascii s
 
 -- a choice that is no part of a recursion: in a recursion write the `elim`, whose branches wait
-infix 10 if◌then◌else◌
-abbrev pub if◌then◌else◌ : {A : Type 0} → Bool → A → A → A
-if◌then◌else◌ b x y = elim b [ true ↦ x | false ↦ y ]
+infix 10 if◌then◌otherwise◌
+abbrev pub if◌then◌otherwise◌ : {A : Type 0} → Bool → A → A → A
+if◌then◌otherwise◌ b x y = elim b [ true ↦ x | false ↦ y ]
 
 abbrev pub within : ℕ → ℕ → ℕ → Bool
 within low high b = leb low b && leb b high

@@ -5,7 +5,7 @@ use Prim.Native.String.{String}
 use Rattle.std.proofs.Math.Option.{Option, none, some}
 use Rattle.node.specs.Operators.{X, F, G}
 use Rattle.node.specs.Result.{Result, Done, Refused, ◌>>=◌}
-use Rattle.language.specs.Bytes.{if◌then◌else◌, is_one_of}
+use Rattle.language.specs.Bytes.{if◌then◌otherwise◌, is_one_of}
 use Rattle.language.specs.Tokens.{Class, Fixed, Name, Numeral as Digits, End, Token, is_of, is}
 use Rattle.language.specs.Operators.{
   Size,
@@ -53,10 +53,10 @@ abbrev pub next : String → Tokens → Bool
 next s ts = is s (front ts)
 
 abbrev pub expect : String → Tokens → Read Token
-expect s ts = if next s ts then Done (front ts, rest ts) else stop ts
+expect s ts = if next s ts then Done (front ts, rest ts) otherwise stop ts
 
 abbrev pub expect_of : Class → Tokens → Read Token
-expect_of c ts = if is_of c (front ts) then Done (front ts, rest ts) else stop ts
+expect_of c ts = if is_of c (front ts) then Done (front ts, rest ts) otherwise stop ts
 
 -- is the token one of an operator's names?
 abbrev pub named : List String → Token → Bool
@@ -121,8 +121,8 @@ pub record Binder : Type 0 where
 -- the sign of a bound: `<`, which leaves the bound out, or `<=`
 abbrev pub sign_of : Tokens → Read (Token × Bool)
 sign_of ts =
-    if named ("<" ∷ "LE" ∷ []) (front ts) then Done ((front ts, true), rest ts) else (
-    if named ("<=" ∷ "LEQ" ∷ []) (front ts) then Done ((front ts, false), rest ts) else stop ts)
+    if named ("<" ∷ "LE" ∷ []) (front ts) then Done ((front ts, true), rest ts) otherwise (
+    if named ("<=" ∷ "LEQ" ∷ []) (front ts) then Done ((front ts, false), rest ts) otherwise stop ts)
 
 -- `n <= i < m`: 'The bounds .. bind tighter than a comparison'
 abbrev pub bounds_of : Reader → Tokens → Read Binder
@@ -218,7 +218,7 @@ right_level r = elim r.associativity [ LeftToRight ↦ r.level - 1 | RightToLeft
 -- may the operator stand here?
 abbrev pub allowed : ℕ → Option InfixRow → Option InfixRow
 allowed max none = none
-allowed max (some r) = if leb r.level max then some r else none
+allowed max (some r) = if leb r.level max then some r otherwise none
 
 -- e, and the operators of levels up to `max` after it; f bounds their number
 abbrev pub climb : ℕ → Reader → ℕ → Expr → Tokens → Read Expr

@@ -27,5 +27,3 @@ pub mod LineMeaning
 pub mod Numbered
 pub mod Listed
 pub mod Reading
-pub mod Cases
-pub mod Laws

@@ -1,6 +1,6 @@
 -- What a text's signal list says, read from its entries: 'Signals number from 0, inputs first, a bus taking consecutive numbers' (document 01, 'Expansion').
 use Rattle.std.specs.Prelude.{ℕ, ◌+◌, max, ◌^◌, ◌≤◌, ◌<◌, ◌≡◌, Bool, true, false, List, [], ◌∷◌, length, get_or}
-use Rattle.language.specs.Bytes.{if◌then◌else◌}
+use Rattle.language.specs.Bytes.{if◌then◌otherwise◌}
 use Rattle.language.specs.Tokens.{Token}
 use Rattle.language.specs.Tree.{Declaration, OneSignal, OfWidth, OfType, Spec}
 use Rattle.language.specs.DeclaredNames.{inputs, outputs}
@@ -14,7 +14,7 @@ declared_name (OfType u x) = x
 
 -- '1 output flag'
 abbrev pub flag : Bool → ℕ
-flag output = if output then 1 else 0
+flag output = if output then 1 otherwise 0
 
 -- the fields of an entry, and that it has 32 bits
 pub record EntryReads (e : ℕ) (output : Bool) (at i n : ℕ) : Type 0 where

@@ -4,7 +4,7 @@ use Rattle.std.specs.Prelude.{ℕ, zero, suc, false, List, [], ◌∷◌, eqb, t
 use Rattle.node.specs.BitFields.{above, below}
 use Rattle.node.specs.Operators.{Word as NodeWord}
 use Rattle.language.specs.Limits.{offset_bits, index_bits, width_bits}
-use Rattle.language.specs.Bytes.{if◌then◌else◌, is_name_byte}
+use Rattle.language.specs.Bytes.{if◌then◌otherwise◌, is_name_byte}
 use Rattle.language.specs.Tokens.{run}
 use Rattle.language.specs.Meaning.{Atom, SignalOf, BitOf, Word}
 
@@ -29,7 +29,7 @@ name_at text offset = let s = drop offset text in take (run is_name_byte s) s
 abbrev pub atom_of : List ℕ → ℕ → Atom
 atom_of text e =
     let x = name_at text (offset_of e) in
-    if eqb (width_of e) 0 then SignalOf x else BitOf x (index_of e)
+    if eqb (width_of e) 0 then SignalOf x otherwise BitOf x (index_of e)
 
 -- is signal k present at position t? Signals past the list's end are absent
 abbrev pub numbered : List ℕ → List ℕ → Word → NodeWord

@@ -3,7 +3,7 @@ use Rattle.std.specs.Prelude.{ℕ, zero, suc, ◌+◌, max, Bool, true, false, n
 use Rattle.std.proofs.Math.Option.{Option, none, some}
 use Rattle.node.specs.BitFields.{join}
 use Rattle.language.specs.Limits.{max_signals, offset_bits, index_bits, width_bits}
-use Rattle.language.specs.Bytes.{if◌then◌else◌, same}
+use Rattle.language.specs.Bytes.{if◌then◌otherwise◌, same}
 use Rattle.language.specs.Tokens.{Token}
 use Rattle.language.specs.DeclaredNames.{Port, Declarations}
 
@@ -26,7 +26,7 @@ fields a b c top x y z = join c (join b (join a top x) y) z
 
 -- 'A signal list entry is 32 bits: 1 output flag, 15 offset of the name, 8 index in the bus, 8 width (index and width 0 for a single signal)'
 abbrev pub entry : Bool → ℕ → ℕ → ℕ → ℕ
-entry output offset index width = fields offset_bits index_bits width_bits (if output then 1 else 0) offset index width
+entry output offset index width = fields offset_bits index_bits width_bits (if output then 1 otherwise 0) offset index width
 
 -- the entries of n signals of a name, from index i on
 abbrev pub entries : Port → ℕ → ℕ → List ℕ
@@ -47,7 +47,7 @@ pub data Mark : Type 0 where
   Absent Present Star : Mark
 
 abbrev pub mark_of : ℕ → Mark
-mark_of b = if eqb b 48 then Absent else (if eqb b 49 then Present else Star)
+mark_of b = if eqb b 48 then Absent otherwise (if eqb b 49 then Present otherwise Star)
 
 abbrev pub marks_of : Token → List Mark
 marks_of t = map mark_of t.text

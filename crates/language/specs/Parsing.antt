@@ -3,7 +3,7 @@ use Rattle.std.specs.Prelude.{ℕ, suc, List, [], ◌∷◌, true, false, leb, l
 use Rattle.std.proofs.Math.Option.{Option, none, some}
 use Rattle.node.specs.Result.{Result, Done, ◌>>=◌, guard}
 use Rattle.language.specs.Limits.{max_bytes, max_tokens}
-use Rattle.language.specs.Bytes.{if◌then◌else◌}
+use Rattle.language.specs.Bytes.{if◌then◌otherwise◌}
 use Rattle.language.specs.Tokens.{Token, Wrong, is_of, tokens}
 use Rattle.language.specs.Tree.{Spec}
 use Rattle.language.specs.Sections.{spec_of}
@@ -19,7 +19,7 @@ no_token (t ∷ ts) = elim (is_of Wrong t) [ true ↦ some t.at | false ↦ no_t
 
 -- the list ends with a token for the text's end, which is not counted
 abbrev pub too_many_tokens : List Token → Option ℕ
-too_many_tokens ts = if leb (length ts) (suc max_tokens) then none else place_of_first (drop max_tokens ts)
+too_many_tokens ts = if leb (length ts) (suc max_tokens) then none otherwise place_of_first (drop max_tokens ts)
 
 -- refusals 5 to 10, 'each over the whole text, first place first'
 abbrev pub well_formed : Spec → Result Spec

@@ -3,7 +3,7 @@ use Rattle.std.specs.Prelude.{ℕ, suc, min, max, List, [], ◌∷◌, Bool, tru
 use Rattle.std.proofs.Math.Option.{Option, none, some}
 use Rattle.node.specs.Result.{Result, Refused}
 use Rattle.language.specs.Limits.{max_levels}
-use Rattle.language.specs.Bytes.{if◌then◌else◌}
+use Rattle.language.specs.Bytes.{if◌then◌otherwise◌}
 use Rattle.language.specs.Tokens.{Token}
 use Rattle.language.specs.Tree.{
   Expr,
@@ -86,7 +86,7 @@ first_in f (x ∷ xs) = first (f x) (first_in f xs)
 
 -- a place unless the test passes
 abbrev pub unless : Bool → ℕ → Option ℕ
-unless b p = if b then none else some p
+unless b p = if b then none otherwise some p
 
 -- a refusal if there is a place for it
 unfoldable pub refuse_at : {A : Type 0} → ℕ → Option ℕ → Result A → Result A

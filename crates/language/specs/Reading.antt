@@ -6,7 +6,7 @@ use Rattle.node.specs.Ltl.{Formula}
 use Rattle.node.specs.Result.{Result, Done, Refused, ◌>>=◌, guard, Counts}
 use Rattle.node.specs.Written.{nodes_of, count}
 use Rattle.language.specs.Limits.{work_bytes}
-use Rattle.language.specs.Bytes.{if◌then◌else◌}
+use Rattle.language.specs.Bytes.{if◌then◌otherwise◌}
 use Rattle.language.specs.Tree.{Spec}
 use Rattle.language.specs.Places.{refuse_at}
 use Rattle.language.specs.Parsing.{parsed}
@@ -56,4 +56,4 @@ signals_after (Refused n p) signals = signals
 
 -- the work buffer: 'its first 65,536 bytes are zero after every answer, untouched by 17, and bytes beyond are never touched'
 unfoldable pub work_after : List ℕ → List ℕ
-work_after work = if leb work_bytes (length work) then cleared work_bytes work else work
+work_after work = if leb work_bytes (length work) then cleared work_bytes work otherwise work

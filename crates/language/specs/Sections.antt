@@ -3,7 +3,7 @@ use Rattle.std.specs.Prelude.{ℕ, zero, suc, List, [], ◌∷◌, Bool, true, f
 use Prim.Native.String.{String}
 use Rattle.std.proofs.Math.Option.{Option, none, some}
 use Rattle.node.specs.Result.{Result, Done, ◌>>=◌}
-use Rattle.language.specs.Bytes.{if◌then◌else◌}
+use Rattle.language.specs.Bytes.{if◌then◌otherwise◌}
 use Rattle.language.specs.Tokens.{Name, Quoted, Marks, End, Token, is_of}
 use Rattle.language.specs.Operators.{loosest}
 use Rattle.language.specs.Tree.{
@@ -47,7 +47,7 @@ described word ts = do
   expect_of Quoted ts
 
 abbrev pub model_of : Tokens → Read Model
-model_of ts = if next "Mealy" ts then Done (Mealy, rest ts) else (if next "Moore" ts then Done (Moore, rest ts) else stop ts)
+model_of ts = if next "Mealy" ts then Done (Mealy, rest ts) otherwise (if next "Moore" ts then Done (Moore, rest ts) otherwise stop ts)
 
 -- `, Strict`, or nothing
 abbrev pub strict_of : Tokens → Read Bool
@@ -55,7 +55,7 @@ strict_of ts = elim (next "," ts) [ true ↦ expect "Strict" (rest ts) >>= λ (w
 
 -- 'a tag being a name or string', with commas between them; f bounds their number
 abbrev pub tag_of : Tokens → Read Token
-tag_of ts = if is_of Name (front ts) then Done (front ts, rest ts) else expect_of Quoted ts
+tag_of ts = if is_of Name (front ts) then Done (front ts, rest ts) otherwise expect_of Quoted ts
 
 abbrev pub tags_of : ℕ → Tokens → Read Token
 tags_of zero ts = stop ts

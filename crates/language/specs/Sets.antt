@@ -1,6 +1,6 @@
 -- Sets of numbers, as their elements in ascending order.
 use Rattle.std.specs.Prelude.{ℕ, zero, suc, ◌+◌, ◌-◌, ◌/◌, Bool, true, false, not, ◌||◌, List, [], ◌∷◌, eqb, ltb}
-use Rattle.language.specs.Bytes.{if◌then◌else◌}
+use Rattle.language.specs.Bytes.{if◌then◌otherwise◌}
 use Rattle.language.specs.Operators.{Combination, Cup, Cap, Without}
 
 abbrev pub member_of : List ℕ → ℕ → Bool
@@ -32,7 +32,7 @@ steps (suc n) from step = from ∷ steps n (from + step) step
 
 -- how many elements {x, y .. z} has, where x is below y
 abbrev pub range_size : ℕ → ℕ → ℕ → ℕ
-range_size x y z = if ltb z x then 0 else suc ((z - x) / (y - x))
+range_size x y z = if ltb z x then 0 otherwise suc ((z - x) / (y - x))
 
 -- the last element, after x
 abbrev pub last : ℕ → List ℕ → ℕ

@@ -2,7 +2,7 @@
 use Rattle.std.specs.Prelude.{ℕ, zero, suc, ◌-◌, List, [], ◌∷◌, Bool, true, false, ◌&&◌, ◌||◌, leb, eqb, length, take, drop}
 use Prim.Native.String.{String}
 use Rattle.language.specs.Limits.{max_name}
-use Rattle.language.specs.Bytes.{ascii, if◌then◌else◌, is_blank, is_digit, is_name_start, is_name_byte, is_mark, starts, same, is_one_of}
+use Rattle.language.specs.Bytes.{ascii, if◌then◌otherwise◌, is_blank, is_digit, is_name_start, is_name_byte, is_mark, starts, same, is_one_of}
 
 -- a sign or a word of the format; a name; a numeral; a string; an enumeration's word; the text's end; a byte that begins no token; a blank or comment
 pub data Class : Type 0 where
@@ -79,8 +79,8 @@ pub record Nesting : Type 0 where
 -- 'Block comments nest': one byte more
 abbrev pub nested : Nesting → ℕ → Nesting
 nested n b =
-    if eqb n.last 42 && eqb b 47 then record { depth = n.depth - 1; last = 0 } else (
-    if eqb n.last 47 && eqb b 42 then record { depth = suc n.depth; last = 0 } else
+    if eqb n.last 42 && eqb b 47 then record { depth = n.depth - 1; last = 0 } otherwise (
+    if eqb n.last 47 && eqb b 42 then record { depth = suc n.depth; last = 0 } otherwise
     record { depth = n.depth; last = b })
 
 -- the bytes up to the comment's end, k of them read; 0 if it is not closed
@@ -99,7 +99,7 @@ sign_at (w ∷ ws) s = elim (starts (ascii w) s) [ true ↦ piece Fixed (length 
 abbrev pub word_at : List ℕ → Piece
 word_at s =
     let n = run is_name_byte s in
-    if leb n max_name then piece (if is_one_of words (take n s) then Fixed else Name) n else piece Wrong 0
+    if leb n max_name then piece (if is_one_of words (take n s) then Fixed otherwise Name) n otherwise piece Wrong 0
 
 -- 'unclosed comment or string': 0 stands for it
 abbrev pub closed : Class → ℕ → Piece
@@ -110,14 +110,14 @@ closed c (suc n) = piece c (suc n)
 abbrev pub piece_at : Bool → List ℕ → Piece
 piece_at enumerating [] = piece End 0
 piece_at enumerating (b ∷ s) =
-    if is_blank b then piece Blank 1 else (
-    if starts (ascii "//") (b ∷ s) then piece Blank (suc (line_size s)) else (
-    if starts (ascii "/*") (b ∷ s) then closed Blank (comment_size 2 (record { depth = 1; last = 0 }) (drop 1 s)) else (
-    if eqb b 34 then closed Quoted (quoted_size 1 s) else (
-    if is_name_start b then word_at (b ∷ s) else (
-    if enumerating && is_mark b then piece Marks (run is_mark (b ∷ s)) else (
-    if enumerating && is_digit b then piece Wrong 0 else (
-    if is_digit b then piece Numeral (run is_digit (b ∷ s)) else
+    if is_blank b then piece Blank 1 otherwise (
+    if starts (ascii "//") (b ∷ s) then piece Blank (suc (line_size s)) otherwise (
+    if starts (ascii "/*") (b ∷ s) then closed Blank (comment_size 2 (record { depth = 1; last = 0 }) (drop 1 s)) otherwise (
+    if eqb b 34 then closed Quoted (quoted_size 1 s) otherwise (
+    if is_name_start b then word_at (b ∷ s) otherwise (
+    if enumerating && is_mark b then piece Marks (run is_mark (b ∷ s)) otherwise (
+    if enumerating && is_digit b then piece Wrong 0 otherwise (
+    if is_digit b then piece Numeral (run is_digit (b ∷ s)) otherwise
     sign_at signs (b ∷ s))))))))
 
 abbrev token : Piece → ℕ → List ℕ → Token
@@ -125,7 +125,7 @@ token p at s = record { class = p.class; at = at; text = take p.size s }
 
 -- 'From `enum` to the next `;` or `}`'
 abbrev pub enumerating_after : Bool → Token → Bool
-enumerating_after e t = if is "enum" t then true else (if is ";" t || is "}" t then false else e)
+enumerating_after e t = if is "enum" t then true otherwise (if is ";" t || is "}" t then false otherwise e)
 
 -- The tokens of the bytes from offset `at` on, the first `k` of which belong to the piece before. The list ends with a token of class End at the
 -- text's length, or with one of class Wrong where no token can be read.

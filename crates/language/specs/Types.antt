@@ -2,7 +2,7 @@
 -- outside.
 use Rattle.std.specs.Prelude.{ℕ, List, [], ◌∷◌, Bool, true, false, ◌&&◌, ◌||◌, eqb}
 use Rattle.std.proofs.Math.Option.{Option, none, some}
-use Rattle.language.specs.Bytes.{if◌then◌else◌, same}
+use Rattle.language.specs.Bytes.{if◌then◌otherwise◌, same}
 use Rattle.language.specs.Tokens.{Token}
 use Rattle.language.specs.Operators.{
   Equal,
@@ -143,7 +143,7 @@ abbrev pub fitting : ExprType → ExprType → Bool
 fitting k l = is_type ANumber k && is_type ANumber l || is_type ABus k && is_type AValue l || is_type AValue k && is_type ABus l
 
 abbrev pub wrong_sides : Typings → Expr → Expr → Option ℕ
-wrong_sides ys a b = if comparable (type_of ys a) then unless (fitting (type_of ys a) (type_of ys b)) (start b) else some (start a)
+wrong_sides ys a b = if comparable (type_of ys a) then unless (fitting (type_of ys a) (type_of ys b)) (start b) otherwise some (start a)
 
 abbrev pub wrong_both : ExprType → Typings → Expr → Expr → Option ℕ
 wrong_both k ys a b = first (wrong k ys a) (wrong k ys b)

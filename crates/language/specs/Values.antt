@@ -2,7 +2,7 @@
 use Rattle.std.specs.Prelude.{ℕ, suc, ◌+◌, ◌-◌, ◌*◌, ◌/◌, ◌%◌, Bool, true, false, List, [], ◌∷◌, leb, ltb, length}
 use Rattle.node.specs.Result.{Result, Done, Refused, ◌>>=◌, guard}
 use Rattle.language.specs.Limits.{max_number, max_elements}
-use Rattle.language.specs.Bytes.{if◌then◌else◌, same}
+use Rattle.language.specs.Bytes.{if◌then◌otherwise◌, same}
 use Rattle.language.specs.Tokens.{Token}
 use Rattle.language.specs.Operators.{
   Arithmetic,
@@ -123,8 +123,8 @@ range place x y z =
 -- 'The bounds .. give the numbers between, without working out n-1': from a to b, without a or b where its sign is `<`
 abbrev pub between : ℕ → Bool → Bool → ℕ → ℕ → Result (List ℕ)
 between place afterLow beforeHigh a b =
-    let from = if afterLow then suc a else a in
-    let n = (if beforeHigh then b else suc b) - from in
+    let from = if afterLow then suc a otherwise a in
+    let n = (if beforeHigh then b otherwise suc b) - from in
     guard (leb n max_elements) 12 place (Done (steps n from 1))
 
 -- 'Big operators fold to the left, ascending; one element is itself': f works out the operand at an element, `step` joins, `none` is over nothing

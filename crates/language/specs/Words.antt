@@ -2,7 +2,7 @@
 use Rattle.std.specs.Prelude.{ℕ, List, [], ◌∷◌, ◌++◌, Bool, true, ◌||◌, ◌&&◌, eqb, leb, length, drop}
 use Rattle.std.proofs.Math.Option.{Option, none, some}
 use Rattle.language.specs.Limits.{max_words, max_marks}
-use Rattle.language.specs.Bytes.{if◌then◌else◌}
+use Rattle.language.specs.Bytes.{if◌then◌otherwise◌}
 use Rattle.language.specs.Tokens.{Token}
 use Rattle.language.specs.Tree.{Identifier, Definition, Defined, Enumerated, Spec}
 use Rattle.language.specs.Places.{first, first_in, unless}
@@ -29,7 +29,7 @@ wrong_lengths (w ∷ ws) = first_in (wrong_length (length w.text)) (w ∷ ws)
 
 -- words of an identifier against those of the later ones
 abbrev pub clash : Token → Token → Option ℕ
-clash u v = if meet u.text v.text then some v.at else none
+clash u v = if meet u.text v.text then some v.at otherwise none
 
 abbrev pub clashes : List Identifier → Option ℕ
 clashes [] = none

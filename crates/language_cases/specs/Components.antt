@@ -9,7 +9,7 @@ use Rattle.language.specs.Bytes.{ascii}
 use Rattle.language.specs.Places.{refuse_at}
 use Rattle.language.specs.Parsing.{parsed}
 use Rattle.language.specs.Reading.{text_expansion, spec_expansion}
-use Rattle.language.specs.Cases.{outcome, formula, all_of, standard}
+use Rattle.language.proofs.Cases.{outcome, formula, all_of, standard}
 
 -- lines, with a line feed behind each
 abbrev lined : List String → List ℕ

@@ -9,7 +9,7 @@ use Rattle.language.specs.Bytes.{ascii}
 use Rattle.language.specs.Places.{refuse_at}
 use Rattle.language.specs.Parsing.{parsed}
 use Rattle.language.specs.Reading.{text_expansion, spec_expansion}
-use Rattle.language.specs.Cases.{outcome, formula, guaranteed, signals, entry, standard, strict}
+use Rattle.language.proofs.Cases.{outcome, formula, guaranteed, signals, entry, standard, strict}
 
 -- GLOBAL and MAIN behind the INFO section of document 01's file, with the models exchanged
 abbrev to_mealy : List ℕ → List ℕ

@@ -8,7 +8,7 @@ use Rattle.language.specs.Bytes.{ascii}
 use Rattle.language.specs.Places.{refuse_at}
 use Rattle.language.specs.Parsing.{parsed}
 use Rattle.language.specs.Reading.{text_expansion, spec_expansion}
-use Rattle.language.specs.Cases.{text, line, outcome, formula, standard, strict}
+use Rattle.language.proofs.Cases.{text, line, outcome, formula, standard, strict}
 
 -- texts, and the whole formula of each
 abbrev formulas : List (List ℕ × Result Formula)

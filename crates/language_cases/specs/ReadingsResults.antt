@@ -8,7 +8,7 @@ use Rattle.language.specs.Bytes.{ascii}
 use Rattle.language.specs.Places.{refuse_at}
 use Rattle.language.specs.Parsing.{parsed}
 use Rattle.language.specs.Reading.{text_expansion, spec_expansion, nodes_after, signals_after}
-use Rattle.language.specs.Cases.{text, line, typed, outcome, guaranteed, formula, signals, entry, all_of, standard, strict}
+use Rattle.language.proofs.Cases.{text, line, typed, outcome, guaranteed, formula, signals, entry, all_of, standard, strict}
 use Rattle.node.specs.Fields.{pack}
 
 -- texts, and the signal list of each

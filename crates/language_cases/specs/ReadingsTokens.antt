@@ -8,7 +8,7 @@ use Rattle.language.specs.Bytes.{ascii}
 use Rattle.language.specs.Places.{refuse_at}
 use Rattle.language.specs.Parsing.{parsed}
 use Rattle.language.specs.Reading.{text_expansion, spec_expansion}
-use Rattle.language.specs.Cases.{text, line, repeated, outcome, guaranteed}
+use Rattle.language.proofs.Cases.{text, line, repeated, outcome, guaranteed}
 use Prim.Native.String.{String}
 
 -- texts, and what each one's GUARANTEE comes to

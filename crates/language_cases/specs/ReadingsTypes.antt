@@ -8,7 +8,7 @@ use Rattle.language.specs.Bytes.{ascii}
 use Rattle.language.specs.Places.{refuse_at}
 use Rattle.language.specs.Parsing.{parsed}
 use Rattle.language.specs.Reading.{text_expansion, spec_expansion}
-use Rattle.language.specs.Cases.{text, typed, outcome, guaranteed}
+use Rattle.language.proofs.Cases.{text, typed, outcome, guaranteed}
 
 -- texts, and what each comes to: its nodes and signals, or its refusal
 abbrev outcomes : List (List ℕ × Result (ℕ × ℕ))

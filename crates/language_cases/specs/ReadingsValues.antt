@@ -8,7 +8,7 @@ use Rattle.language.specs.Bytes.{ascii}
 use Rattle.language.specs.Places.{refuse_at}
 use Rattle.language.specs.Parsing.{parsed}
 use Rattle.language.specs.Reading.{text_expansion, spec_expansion}
-use Rattle.language.specs.Cases.{text, line, repeated, outcome, guaranteed, all_of}
+use Rattle.language.proofs.Cases.{text, line, repeated, outcome, guaranteed, all_of}
 
 -- texts, and what each one's GUARANTEE comes to
 abbrev guarantees : List (List ℕ × Result Formula)

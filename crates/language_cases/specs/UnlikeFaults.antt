@@ -7,7 +7,7 @@ use Rattle.std.proofs.Common.{sym}
 use Rattle.node.specs.Limits.{max_nodes}
 use Rattle.node.specs.Ltl.{Formula}
 use Rattle.node.specs.Result.{Result, Done, Refused, ◌>>=◌, guard}
-use Rattle.node.specs.ResultLaws.{not_done}
+use Rattle.node.proofs.ResultLaws.{not_done}
 use Rattle.node.specs.Written.{count}
 use Rattle.language.specs.Tree.{Spec}
 use Rattle.language.specs.Places.{refuse_at}

@@ -10,7 +10,7 @@ use Rattle.node.specs.Fields.{kind_of, first_of, second_of}
 use Rattle.node.specs.Kinds.{Shape, Truth, Falsehood, Atom, UnaryOf, BinaryOf, Unused, shape_of}
 use Rattle.node.specs.Table.{tree_at, root}
 use Rattle.node.specs.Formed.{Below, NodeIs}
-use Rattle.node.specs.TableLaws.{node-is}
+use Rattle.node.proofs.TableLaws.{node-is}
 use Rattle.basics.specs.Told.{max_told}
 use Rattle.signal_names.specs.Runs.{puts_nothing, puts_after, puts_length}
 use Rattle.signal_names.specs.Promise.{Puts}

@@ -10,10 +10,10 @@ use native.Mathlib.Omega.{arith}
 use Rattle.node.specs.Ltl.{Formula, True, False, Signal, One, Two}
 use Rattle.node.specs.Result.{Refused, ◌>>=◌}
 use Rattle.node.specs.Postorder.{SignalsBelow}
-use Rattle.node.specs.PostorderLaws.{tree-signals}
+use Rattle.node.proofs.PostorderLaws.{tree-signals}
 use Rattle.node.specs.Table.{root}
 use Rattle.node.specs.Formed.{Formed}
-use Rattle.language.specs.Bytes.{ascii, if◌then◌else◌}
+use Rattle.language.specs.Bytes.{ascii, if◌then◌otherwise◌}
 use Rattle.language.specs.Limits.{max_name}
 use Rattle.language.specs.Places.{refuse_at}
 use Rattle.language.specs.Tree.{Model, Mealy, Moore}
@@ -65,18 +65,18 @@ module _ (name : ℕ → List ℕ) (ns : List (List ℕ)) (same : (k : ℕ) → 
 -- the lines of a direction
 module _ (name : ℕ → List ℕ) (text : List ℕ) (output : Bool) where
   lines_are : (k : ℕ) (es : List ℕ) → ((j : ℕ) → j < length es → name (k + j) ≡ spelled text (get_or es j 0))
-      → lines_from name (if output then 1 else 0) k es ≡ spaced (line_tokens (side_of output text es))
+      → lines_from name (if output then 1 otherwise 0) k es ≡ spaced (line_tokens (side_of output text es))
   unfolding lines_from line_tokens spaced
   lines_are k [] h = refl
   lines_are k (e ∷ es) h =
-      go (eqb (flag_of e) (if output then 1 else 0)) (let z : k + 0 ≡ k = omega arith in rw z at (h 0 (omega arith)))
+      go (eqb (flag_of e) (if output then 1 otherwise 0)) (let z : k + 0 ≡ k = omega arith in rw z at (h 0 (omega arith)))
       (lines_are (suc k) es (λ j l. let z : k + suc j ≡ suc k + j = omega arith in rw z at (h (suc j) (omega arith))))
     where
       rest : List (List ℕ)
       rest = side_of output text es
 
-      go : (b : Bool) → name k ≡ spelled text e → lines_from name (if output then 1 else 0) (suc k) es ≡ spaced (line_tokens rest)
-          → elim b [ true ↦ name k ++ ascii " ; " | false ↦ [] ] ++ lines_from name (if output then 1 else 0) (suc k) es
+      go : (b : Bool) → name k ≡ spelled text e → lines_from name (if output then 1 otherwise 0) (suc k) es ≡ spaced (line_tokens rest)
+          → elim b [ true ↦ name k ++ ascii " ; " | false ↦ [] ] ++ lines_from name (if output then 1 otherwise 0) (suc k) es
           ≡ spaced (line_tokens (elim b [ true ↦ spelled text e ∷ rest | false ↦ rest ]))
       go true n i = append_assoc (name k) (ascii " ; ") _ ∙ ap₂ (λ (x y : List ℕ). x ++ (ascii " ; " ++ y)) n i
       go false n i = i
@@ -123,7 +123,7 @@ module _ (text list : List ℕ) {names sizes : List ℕ} (nodes : List ℕ) (m :
   spelt_is : (k : ℕ) → k < length list → name k ≡ spelled text (get_or list k 0)
   spelt_is k h = s.each k (rw (names-length text list) h) ∙ name-is text list k h
 
-  line_of : (output : Bool) → lines_from name (if output then 1 else 0) 0 list ≡ spaced (line_tokens (side_of output text list))
+  line_of : (output : Bool) → lines_from name (if output then 1 otherwise 0) 0 list ≡ spaced (line_tokens (side_of output text list))
   line_of output = lines_are name text output 0 list (λ j l. let z : 0 + j ≡ j = omega arith in rw z (spelt_is j l))
 
   signals : SignalsBelow (length (names_of text list)) (root nodes)

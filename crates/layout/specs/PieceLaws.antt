@@ -3,7 +3,7 @@ use Rattle.std.specs.Prelude.{ℕ, ◌+◌, ◌*◌, ◌-◌, ◌≤◌, ◌≡�
 use Rattle.std.proofs.Common.{ap, ap₂, ◌∙◌, sym, length-append, arith, eqb-true}
 use Rattle.std.proofs.lemmas.Bool.{eqb-false}
 use Rattle.node.specs.Kinds.{shape_of, signal_kind}
-use Rattle.node.specs.KindLaws.{by_kind, no_shape}
+use Rattle.node.proofs.KindLaws.{by_kind, no_shape}
 use Rattle.language.specs.Bytes.{ascii}
 use Rattle.signal_names.specs.Runs.{part_length, puts_after}
 use Rattle.signal_names.specs.Promise.{slot_bytes, slot, part, Puts}

@@ -5,10 +5,10 @@ use Rattle.std.proofs.Common.{ap, sym, arith, eq-eqb, ne_eqb}
 use Rattle.std.proofs.lemmas.Bool.{false≢true}
 use Rattle.std.proofs.Math.Decide.{dec_lt}
 use Rattle.node.specs.Kinds.{Shape, Truth, Falsehood, Atom, UnaryOf, BinaryOf, Unused, kind_count, shape_of, build, signal_kind}
-use Rattle.node.specs.KindLaws.{Each, each_below, no_shape}
+use Rattle.node.proofs.KindLaws.{Each, each_below, no_shape}
 use Rattle.node.specs.Ltl.{Formula}
 use Rattle.node.specs.Formed.{Below}
-use Rattle.language.specs.Laws.Basics.Tests.{pick, leave}
+use Rattle.language.proofs.Laws.Basics.Tests.{pick, leave}
 use Rattle.layout.specs.Layout.{piece, sized, weight}
 use Rattle.layout.specs.Table.{following, of_signal, of_operand}
 

@@ -10,7 +10,7 @@ use Rattle.node.specs.Ltl.{Formula}
 use Rattle.node.specs.Kinds.{Shape, Truth, Falsehood, Atom, UnaryOf, BinaryOf, Unused, kind_count, shape_of, build, signal_kind}
 use Rattle.node.specs.Table.{tree_at}
 use Rattle.node.specs.Formed.{Below, NodeIs}
-use Rattle.node.specs.TableLaws.{node-is}
+use Rattle.node.proofs.TableLaws.{node-is}
 use Rattle.language.specs.Bytes.{ascii}
 use Rattle.basic.specs.Basic.{binary_sign}
 use Rattle.signal_names.specs.Promise.{slot, Puts}

@@ -4,7 +4,7 @@ use Rattle.node.specs.Fields.{kind_of, first_of, second_of}
 use Rattle.node.specs.Kinds.{Shape, shapes, signal_kind, shape_of}
 use Rattle.node.specs.Formed.{Below}
 use Rattle.language.specs.Limits.{max_name}
-use Rattle.language.specs.Bytes.{if◌then◌else◌}
+use Rattle.language.specs.Bytes.{if◌then◌otherwise◌}
 use Rattle.signal_names.specs.Promise.{slot_bytes}
 use Rattle.layout.specs.Layout.{piece, operands}
 
@@ -19,7 +19,7 @@ padded (suc n) [] = 0 ∷ padded n []
 padded (suc n) (b ∷ s) = b ∷ padded n s
 
 abbrev row : Shape → ℕ → List ℕ
-row s k = length (piece s k) ∷ (if following s k then 1 else 0) ∷ padded 10 (piece s k)
+row s k = length (piece s k) ∷ (if following s k then 1 otherwise 0) ∷ padded 10 (piece s k)
 
 abbrev rows : List Shape → List ℕ
 rows [] = []
@@ -33,10 +33,10 @@ row_at kind done = 36 * kind + 12 * done
 
 -- a signal's name, and an operand, in the size of a node
 abbrev pub of_signal : ℕ → ℕ → ℕ
-of_signal kind n = if eqb kind signal_kind then n else 0
+of_signal kind n = if eqb kind signal_kind then n otherwise 0
 
 abbrev pub of_operand : Bool → ℕ → ℕ
-of_operand b n = if b then n else 0
+of_operand b n = if b then n otherwise 0
 
 -- a node whose size can be told: its signal has a size, its operands have
 pub record Measurable (sizes : List ℕ) (n word : ℕ) : Type 0 where

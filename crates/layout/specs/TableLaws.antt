@@ -2,8 +2,8 @@
 use Rattle.std.specs.Prelude.{ℕ, ◌+◌, ◌<◌, ◌≤◌, ◌≡◌, refl, Bool, true, false, not, List, eqb, length, get_or}
 use Rattle.std.proofs.Common.{ap, ◌∙◌, arith}
 use Rattle.node.specs.Kinds.{kind_count, shape_of}
-use Rattle.node.specs.KindLaws.{Each, each_below}
-use Rattle.language.specs.Bytes.{if◌then◌else◌}
+use Rattle.node.proofs.KindLaws.{Each, each_below}
+use Rattle.language.specs.Bytes.{if◌then◌otherwise◌}
 use Rattle.signal_names.specs.Promise.{part, Puts}
 use Rattle.layout.specs.Layout.{piece}
 use Rattle.layout.specs.Table.{table, row_at, following}
@@ -11,7 +11,7 @@ use Rattle.layout.specs.Table.{table, row_at, following}
 -- a row of the table
 pub record Row (kind done : ℕ) : Type 0 where
   pub size : get_or table (row_at kind done) 0 ≡ length (piece (shape_of kind) done)
-  pub more : get_or table (row_at kind done + 1) 0 ≡ (if following (shape_of kind) done then 1 else 0)
+  pub more : get_or table (row_at kind done + 1) 0 ≡ (if following (shape_of kind) done then 1 otherwise 0)
   pub bytes : part table (row_at kind done + 2) (length (piece (shape_of kind) done)) ≡ piece (shape_of kind) done
   pub short : length (piece (shape_of kind) done) ≤ 10
   pub inside : row_at kind done + 2 + length (piece (shape_of kind) done) ≤ 504
@@ -168,7 +168,7 @@ unfolding table
 table-length = refl
 
 -- a place of the table is not 0 exactly if an operand follows
-told-bool : (x : ℕ) (b : Bool) → x ≡ (if b then 1 else 0) → not (eqb x 0) ≡ b
+told-bool : (x : ℕ) (b : Bool) → x ≡ (if b then 1 otherwise 0) → not (eqb x 0) ≡ b
 told-bool x true e = ap (λ (n : ℕ). not (eqb n 0)) e
 told-bool x false e = ap (λ (n : ℕ). not (eqb n 0)) e
 

@@ -5,7 +5,7 @@ use Rattle.std.proofs.Common.{ap₂, ◌∙◌, sym, subst, append_assoc, append
 use Rattle.std.proofs.Math.Seq.{take-length}
 use Rattle.language.specs.Tree.{Mealy, Moore}
 use Rattle.language.specs.Numbered.{flag_of}
-use Rattle.language.specs.Laws.Basics.Tests.{pick, leave}
+use Rattle.language.proofs.Laws.Basics.Tests.{pick, leave}
 use Rattle.signal_names.specs.Runs.{part_length, puts_nothing, puts_after, puts_length}
 use Rattle.signal_names.specs.Promise.{slot, slot_bytes, Held, part, Puts}
 use Rattle.layout.specs.Layout.{nth}

@@ -6,9 +6,9 @@ use Rattle.std.proofs.lemmas.List.Edits.{sets, sets-eq}
 use Rattle.std.proofs.lemmas.Bool.{lt-leb}
 use Rattle.node.specs.Ltl.{Formula, True, False, Signal, One, Two}
 use Rattle.node.specs.Result.{Result, Done, Refused, ◌>>=◌}
-use Rattle.node.specs.ResultLaws.{guard-pass, guard-stop}
+use Rattle.node.proofs.ResultLaws.{guard-pass, guard-stop}
 use Rattle.node.specs.Postorder.{SignalsBelow}
-use Rattle.node.specs.PostorderLaws.{tree-signals}
+use Rattle.node.proofs.PostorderLaws.{tree-signals}
 use Rattle.node.specs.Table.{root}
 use Rattle.language.specs.Tree.{Model, Mealy, Moore}
 use Rattle.basics.specs.Told.{max_told}

@@ -10,7 +10,7 @@ use native.Mathlib.Numerals.{add-one}
 use native.Mathlib.Omega.{arith}
 use borrow.Author.Tests.{le-leb, lt-leb}
 use Rattle.node.specs.Result.{Result, Done, Refused as RefusedAt}
-use Rattle.node.specs.ResultLaws.{guard-pass, guard-stop}
+use Rattle.node.proofs.ResultLaws.{guard-pass, guard-stop}
 use Rattle.words.specs.Words.{word_at}
 use Rattle.language.specs.Limits.{max_bytes, max_tokens}
 use Rattle.language.specs.Tokens.{End, Wrong, Token, is_of, lex, tokens}
@@ -18,7 +18,7 @@ use Rattle.language.specs.Grammar.{front}
 use Rattle.language.specs.Names.{place_of_first}
 use Rattle.language.specs.Places.{refuse_at}
 use Rattle.language.specs.Parsing.{no_token, too_many_tokens}
-use Rattle.language.specs.Laws.Basics.Tests.{pick, leave}
+use Rattle.language.proofs.Laws.Basics.Tests.{pick, leave}
 use Rattle.lexer.specs.Stored.{token_word, TokensStored}
 use Rattle.lexer.specs.Lexing.{lexing}
 use Rattle.lexer.specs.Answer.{Lexes}

@@ -7,9 +7,9 @@ use lib.Dec.{eqb}
 use lib.ListN.{drop}
 use native.Mathlib.Omega.{arith}
 use borrow.Author.Tests.{ne_eqb}
-use Rattle.language.specs.Bytes.{if◌then◌else◌, within, is_digit, is_name_start, is_mark, starts}
+use Rattle.language.specs.Bytes.{if◌then◌otherwise◌, within, is_digit, is_name_start, is_mark, starts}
 use Rattle.language.specs.Tokens.{Fixed, Class, Quoted, Marks, Numeral, Blank, Wrong, code, Piece, signs, run, line_size, quoted_size, comment_size, sign_at, word_at, closed, piece_at}
-use Rattle.language.specs.Laws.Basics.Tests.{pick, leave}
+use Rattle.language.proofs.Laws.Basics.Tests.{pick, leave}
 use Rattle.lexer.specs.ByteClasses as Byte
 use Rattle.lexer.specs.Numbers.{class_number}
 use Rattle.lexer.specs.Tables.{ByteClass}
@@ -28,14 +28,14 @@ scans_closed p s c (suc n) (suc m) e f l =
 -- the definition, by the tests of the first byte
 abbrev chosen : Bool → Bool → Bool → Bool → Bool → Bool → Bool → ℕ → List ℕ → Piece
 chosen blank slash quote letter mark digit e b s =
-    if blank then piece Blank 1 else (
-    if slash && starts (47 ∷ []) s then piece Blank (suc (line_size s)) else (
-    if slash && starts (42 ∷ []) s then closed Blank (comment_size 2 opened (drop 1 s)) else (
-    if quote then closed Quoted (quoted_size 1 s) else (
-    if letter then word_at (b ∷ s) else (
-    if e && mark then piece Marks (run is_mark (b ∷ s)) else (
-    if e && digit then piece Wrong 0 else (
-    if digit then piece Numeral (run is_digit (b ∷ s)) else
+    if blank then piece Blank 1 otherwise (
+    if slash && starts (47 ∷ []) s then piece Blank (suc (line_size s)) otherwise (
+    if slash && starts (42 ∷ []) s then closed Blank (comment_size 2 opened (drop 1 s)) otherwise (
+    if quote then closed Quoted (quoted_size 1 s) otherwise (
+    if letter then word_at (b ∷ s) otherwise (
+    if e && mark then piece Marks (run is_mark (b ∷ s)) otherwise (
+    if e && digit then piece Wrong 0 otherwise (
+    if digit then piece Numeral (run is_digit (b ∷ s)) otherwise
     sign_at signs (b ∷ s))))))))
 
 -- by its class

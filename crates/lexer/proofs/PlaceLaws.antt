@@ -85,8 +85,8 @@ module _ (text : List ℕ) (at : ℕ) (bs rs : List ℕ) (c : Scannable text at 
     met : k ≡ search (fitting 0 (byte ∷ rest)) entries
     met = f ∙ ap (λ s. search (fitting 0 s) entries) here
 
-    pub sign_at : (n : ℕ) → k < count → n ≡ length (entry k) → ScansAs (sign_at signs (drop at text)) (drop at text) (record { number = first_fixed + k; size = n })
-    sign_at n h l = placed (sign_at signs) _ (sign-fixed byte rest start k met n h l)
+    pub sign-at : (n : ℕ) → k < count → n ≡ length (entry k) → ScansAs (sign_at signs (drop at text)) (drop at text) (record { number = first_fixed + k; size = n })
+    sign-at n h l = placed (sign_at signs) _ (sign-fixed byte rest start k met n h l)
 
     pub wrong-at : count ≤ k → ScansAs (sign_at signs (drop at text)) (drop at text) (record { number = no_number; size = 0 })
     wrong-at h = placed (sign_at signs) _ (sign-wrong byte rest start k met h)

@@ -13,12 +13,12 @@ use borrow.Author.Tests.{eqb-true, eqb-false, ltb-true, lt-ltb}
 use Rattle.words.specs.Words.{word_at, put_word, past}
 use Rattle.words.specs.WordLaws.{length-put, word_same, word_other, past-put}
 use Rattle.language.specs.Limits.{max_bytes, max_tokens}
-use Rattle.language.specs.Bytes.{if◌then◌else◌}
+use Rattle.language.specs.Bytes.{if◌then◌otherwise◌}
 use Rattle.language.specs.Tokens.{Wrong, Blank, Token, is_of, is, piece_at, enumerating_after, lex, tokens}
 use Rattle.language.specs.Grammar.{front}
 use Rattle.language.specs.Names.{place_of_first}
 use Rattle.language.specs.Parsing.{no_token}
-use Rattle.language.specs.Laws.Basics.Tests.{split, pick, leave, some_none}
+use Rattle.language.proofs.Laws.Basics.Tests.{split, pick, leave, some_none}
 use Rattle.lexer.specs.Numbers.{no_number, number, fixed}
 use Rattle.lexer.specs.NumberLaws.{number_small, number-blank, is_number}
 use Rattle.lexer.specs.Stored.{word_of, token_word}
@@ -53,11 +53,11 @@ token_at i ts = front (drop i ts)
 
 -- the place of token m, where m is the limit
 place-next : (m n over at : ℕ) (done : List Token) (t : Token) → n ≡ length done → t.at ≡ at → (m < n → over ≡ (token_at m done).at) → m < n + 1
-    → if eqb n m then at else over ≡ (token_at m (done ++ (t ∷ []))).at
+    → if eqb n m then at otherwise over ≡ (token_at m (done ++ (t ∷ []))).at
 unfolding token_at
 place-next m n over at done t c e h l = go (eqb n m) refl
   where
-    go : (p : Bool) → eqb n m ≡ p → if p then at else over ≡ (front (drop m (done ++ (t ∷ [])))).at
+    go : (p : Bool) → eqb n m ≡ p → if p then at otherwise over ≡ (front (drop m (done ++ (t ∷ [])))).at
     go true f = sym e ∙ ap (λ (u : Token). u.at) (sym (front_seam m done t [] (sym (eqb-true n m f) ∙ c)))
     go false f = let d = eqb-false n m f in let g : m < n = less d in h g ∙ ap (λ (u : Token). u.at) (sym (front-left m done (t ∷ []) (subst (λ k. m < k) c g)))
       where
@@ -98,9 +98,9 @@ module _ (e : Bool) (text : List ℕ) (at : ℕ) (inside : at < length text) (r 
 
   enumerating_met : enumerating_after e met ≡ enumerating_by e r.number
   enumerating_met =
-      ap (λ b. if b then true else (if is ";" met || is "}" met then false else e)) (is_number "enum" met refl)
-      ∙ ap (λ b. if eqb (number met) (fixed "enum") then true else (if b || is "}" met then false else e)) (is_number ";" met refl)
-      ∙ ap (λ b. if eqb (number met) (fixed "enum") then true else (if eqb (number met) (fixed ";") || b then false else e)) (is_number "}" met refl)
+      ap (λ b. if b then true otherwise (if is ";" met || is "}" met then false otherwise e)) (is_number "enum" met refl)
+      ∙ ap (λ b. if eqb (number met) (fixed "enum") then true otherwise (if b || is "}" met then false otherwise e)) (is_number ";" met refl)
+      ∙ ap (λ b. if eqb (number met) (fixed "enum") then true otherwise (if eqb (number met) (fixed ";") || b then false otherwise e)) (is_number "}" met refl)
       ∙ ap (enumerating_by e) (sym number-met)
 
 -- before byte `at` of the text: w is the buffer at the start, v the buffer now

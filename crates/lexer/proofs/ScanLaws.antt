@@ -9,10 +9,10 @@ use lib.Seq.{get_or-drop}
 use native.Mathlib.Omega.{arith}
 use borrow.Author.Tests.{le-leb, lt-leb}
 use Rattle.language.specs.Limits.{max_name}
-use Rattle.language.specs.Bytes.{if◌then◌else◌, is_name_start, is_name_byte, is_digit, is_one_of}
+use Rattle.language.specs.Bytes.{if◌then◌otherwise◌, is_name_start, is_name_byte, is_digit, is_one_of}
 use Rattle.language.specs.Tokens.{Class, Fixed, Name, Wrong, code, Piece, signs, words, run, sign_at, word_at}
-use Rattle.language.specs.Laws.Basics.Tests.{pick, leave, or_left}
-use Rattle.language.specs.Laws.Grammar.PieceLaws.{run_fits, run_some}
+use Rattle.language.proofs.Laws.Basics.Tests.{pick, leave, or_left}
+use Rattle.language.proofs.Laws.Grammar.PieceLaws.{run_fits, run_some}
 use Rattle.lexer.specs.Numbers.{spellings, position, no_number, class_number, first_fixed}
 use Rattle.lexer.specs.NumberLaws.{number-fixed, number-class}
 use Rattle.lexer.specs.Spelling.{count, entries, entry, search, fitting}
@@ -42,7 +42,7 @@ scans_fixed p s n k m e f l = rw e (record { number = ap (λ j. first_fixed + j)
 -- a word or name
 module _ (b : ℕ) (t : List ℕ) (n : ℕ) (start : is_name_start b ≡ true) (e : n ≡ run is_name_byte (b ∷ t)) where
   abbrev word_by : ℕ → Piece
-  word_by m = if leb m max_name then piece (if is_one_of words (take m (b ∷ t)) then Fixed else Name) m else piece Wrong 0
+  word_by m = if leb m max_name then piece (if is_one_of words (take m (b ∷ t)) then Fixed otherwise Name) m otherwise piece Wrong 0
 
   word_by_lem : word_at (b ∷ t) ≡ word_by n
   word_by_lem = ap word_by (sym e)
@@ -57,13 +57,14 @@ module _ (b : ℕ) (t : List ℕ) (n : ℕ) (start : is_name_start b ≡ true) (
   word_long l = scans_class (word_at (b ∷ t)) (b ∷ t) Wrong 0 0 (word_by_lem ∙ leave (leb n max_name) _ _ (lt-leb n max_name l)) refl refl
 
   module _ (l : n ≤ max_name) (k : ℕ) (f : k ≡ search (fitting n (b ∷ t)) entries) where
-    short : word_at (b ∷ t) ≡ piece (if is_one_of words (take n (b ∷ t)) then Fixed else Name) n
+    short : word_at (b ∷ t) ≡ piece (if is_one_of words (take n (b ∷ t)) then Fixed otherwise Name) n
     short = word_by_lem ∙ pick (leb n max_name) _ _ (le-leb n max_name l)
 
     place : k ≡ position spellings (take n (b ∷ t))
     place = f ∙ word-position (b ∷ t) n some fits
 
     among : (m : ℕ) → 1 ≤ m → is_one_of spellings (take m (b ∷ t)) ≡ is_one_of words (take m (b ∷ t))
+    among Prim.Native.Nat.zero h = elim h [ ]
     among (suc m) h = among-words b (take m t) start
 
     pub word-fixed : k < count → ScansAs (word_at (b ∷ t)) (b ∷ t) (record { number = first_fixed + k; size = n })

@@ -11,8 +11,8 @@ use native.Mathlib.Numerals.{add-one}
 use native.Mathlib.Omega.{arith}
 use borrow.Author.Tests.{eq-eqb, ne_eqb}
 use Rattle.language.specs.Bytes.{starts}
-use Rattle.language.specs.Laws.Basics.Tests.{pick, leave, and_left, and_right, and_false, and-last_false}
-use Rattle.language.specs.Laws.Grammar.PieceLaws.{starts-fits}
+use Rattle.language.proofs.Laws.Basics.Tests.{pick, leave, and_left, and_right, and_false, and-last_false}
+use Rattle.language.proofs.Laws.Grammar.PieceLaws.{starts-fits}
 use Rattle.lexer.specs.Spelling.{count, entries, entry, search, fitting}
 use Rattle.lexer.proofs.Choices.{refute}
 use Rattle.lexer.specs.Tables.{begins, differs, passes, NextWith}

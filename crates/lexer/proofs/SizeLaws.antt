@@ -11,7 +11,7 @@ use native.Mathlib.Omega.{arith}
 use borrow.Author.Tests.{eqb-true, eq-eqb, ne_eqb, le-leb, lt-leb}
 use Rattle.language.specs.Bytes.{within}
 use Rattle.language.specs.Tokens.{run, line_size, quoted_size, Nesting, nested, comment_size}
-use Rattle.language.specs.Laws.Basics.Tests.{split}
+use Rattle.language.proofs.Laws.Basics.Tests.{split}
 use Rattle.lexer.specs.Tables.{classed}
 use Rattle.lexer.specs.Scanning.{opened, Nests}
 use Rattle.lexer.specs.declared.sizes.Nest.{Nest}

@@ -8,9 +8,9 @@ use lib.Seq.{drop-cons, drop-drop}
 use native.Mathlib.Nat.{add-zero}
 use native.Mathlib.Omega.{arith}
 use Rattle.language.specs.Tokens.{Wrong, Blank, Token, is_of, Piece, piece_at, enumerating_after, lex}
-use Rattle.language.specs.Laws.Basics.Tests.{pick, leave}
-use Rattle.language.specs.Laws.Grammar.PieceLaws.{is_class, piece_at-sound}
-use Rattle.language.specs.Laws.Grammar.EveryToken.{pieces}
+use Rattle.language.proofs.Laws.Basics.Tests.{pick, leave}
+use Rattle.language.proofs.Laws.Grammar.PieceLaws.{is_class, piece_at-sound}
+use Rattle.language.proofs.Laws.Grammar.EveryToken.{pieces}
 use Rattle.lexer.proofs.Choices.{refute, affirm}
 
 -- bytes of the piece before are passed over

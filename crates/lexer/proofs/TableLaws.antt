@@ -9,7 +9,7 @@ use native.Mathlib.Nat.{add-zero}
 use native.Mathlib.Omega.{arith}
 use borrow.Author.Tests.{leb-true, eqb-true}
 use Rattle.language.specs.Bytes.{within, is_blank, is_digit, is_name_start, is_name_byte, is_mark}
-use Rattle.language.specs.Laws.Basics.Tests.{and_left, and_right, or_cases}
+use Rattle.language.proofs.Laws.Basics.Tests.{and_left, and_right, or_cases}
 use Rattle.lexer.specs.ByteClasses as Byte
 use Rattle.lexer.specs.Spelling.{count, entries, entry}
 use Rattle.lexer.specs.Tables.{ByteClass, begins, passes, NextWith, RightBytes, RightRows}

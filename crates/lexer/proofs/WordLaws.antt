@@ -10,7 +10,7 @@ use native.Mathlib.Omega.{arith}
 use borrow.Author.Tests.{eqb-true, ne_eqb}
 use Rattle.language.specs.Bytes.{ascii, is_name_start, starts, same, is_one_of}
 use Rattle.language.specs.Tokens.{Fixed, Wrong, Piece, signs, words, sign_at}
-use Rattle.language.specs.Laws.Basics.Tests.{pick, leave, and_left, and_right, and_false, same_equal, same_refl}
+use Rattle.language.proofs.Laws.Basics.Tests.{pick, leave, and_left, and_right, and_false, same_equal, same_refl}
 use Rattle.lexer.specs.Numbers.{spellings, position}
 use Rattle.lexer.proofs.Choices.{refute}
 use Rattle.lexer.specs.Spelling.{entries, search, fitting}

@@ -3,7 +3,7 @@ use Rattle.std.specs.Prelude.{ℕ, zero, suc, ◌^◌, ◌≤◌, ◌<◌, min, 
 use Rattle.std.proofs.Math.Option.{Option, none, some}
 use Rattle.std.proofs.Common.{sym, ap, ◌∙◌, subst, arith, leb-true, leb-false}
 use Rattle.node.specs.Result.{Result, Done, ◌>>=◌, guard}
-use Rattle.node.specs.ResultLaws.{bind_at, guard-done, guard_bind}
+use Rattle.node.proofs.ResultLaws.{bind_at, guard-done, guard_bind}
 use Rattle.words.specs.Words.{word_at}
 use Rattle.language.specs.Limits.{max_bytes, max_tokens}
 use Rattle.language.specs.Tokens.{Token, Wrong, is_of, tokens}
@@ -13,10 +13,10 @@ use Rattle.language.specs.Tree.{Spec}
 use Rattle.language.specs.Places.{refuse_at}
 use Rattle.language.specs.Sections.{spec_of}
 use Rattle.language.specs.Parsing.{no_token, too_many_tokens, well_formed, parsed}
-use Rattle.language.specs.Laws.Basics.Lists.{All}
-use Rattle.language.specs.Laws.Basics.Tests.{some_none}
-use Rattle.language.specs.Laws.Basics.NoPlace.{refuse_at-done}
-use Rattle.language.specs.Laws.Grammar.TokenLaws.{Stands, tokens_stand}
+use Rattle.language.proofs.Laws.Basics.Lists.{All}
+use Rattle.language.proofs.Laws.Basics.Tests.{some_none}
+use Rattle.language.proofs.Laws.Basics.NoPlace.{refuse_at-done}
+use Rattle.language.proofs.Laws.Grammar.TokenLaws.{Stands, tokens_stand}
 use Rattle.lexer.specs.Numbers.{number}
 use Rattle.lexer.specs.NumberLaws.{number_small}
 use Rattle.lexer.specs.Stored.{offset_bits, longest, number_in, offset_in, length_in, TokensStored}

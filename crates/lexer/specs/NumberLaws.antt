@@ -7,7 +7,7 @@ use Rattle.std.proofs.Common.{sym, ap, ap₂, ◌∙◌, subst, arith, eq-eqb, n
 use Rattle.language.specs.Bytes.{ascii, same, is_one_of}
 use Rattle.language.specs.Tokens.{Class, Fixed, Name, Numeral, Quoted, Marks, End, Wrong, Blank, code, Token, is_of, is}
 use Rattle.language.specs.Grammar.{named}
-use Rattle.language.specs.Laws.Basics.Tests.{split, pick, leave, and_left, and_right, same_equal, same_refl}
+use Rattle.language.proofs.Laws.Basics.Tests.{split, pick, leave, and_left, and_right, same_equal, same_refl}
 use Rattle.lexer.specs.Numbers.{spellings, position, no_number, class_number, first_fixed, number, fixed, numbered}
 
 pub position-fits : (ws : List String) (s : List ℕ) → position ws s ≤ length ws

@@ -1,7 +1,7 @@
 -- The number of a token, by which the code knows it: its class's own number, or `first_fixed` and its place in the list of signs and words.
 use Rattle.std.specs.Prelude.{ℕ, suc, ◌+◌, List, [], ◌∷◌, ◌++◌, Bool, true, false, ◌||◌, eqb, length}
 use Prim.Native.String.{String}
-use Rattle.language.specs.Bytes.{ascii, if◌then◌else◌, same}
+use Rattle.language.specs.Bytes.{ascii, if◌then◌otherwise◌, same}
 use Rattle.language.specs.Tokens.{Class, Fixed, Name, Numeral, Quoted, Marks, End, Wrong, Blank, Token, is_of, signs, words}
 
 -- the signs and words of the format
@@ -33,7 +33,7 @@ first_fixed = 5
 
 -- a sign or word by its bytes, every other token by its class
 unfoldable pub number : Token → ℕ
-number t = if is_of Fixed t then first_fixed + position spellings t.text else class_number t.class
+number t = if is_of Fixed t then first_fixed + position spellings t.text otherwise class_number t.class
 
 -- the number of a sign or word
 abbrev pub fixed : String → ℕ

@@ -2,7 +2,7 @@
 use Rattle.std.specs.Prelude.{ℕ, ◌≤◌, ◌<◌, List, Bool, true, false, ◌||◌, ◌≡◌, eqb, ltb, length, get_or, take}
 use Rattle.words.specs.Words.{put_word}
 use Rattle.language.specs.Limits.{max_bytes, max_tokens}
-use Rattle.language.specs.Bytes.{if◌then◌else◌}
+use Rattle.language.specs.Bytes.{if◌then◌otherwise◌}
 use Rattle.language.specs.Tokens.{Piece, Nesting, nested, piece_at}
 use Rattle.lexer.specs.Numbers.{no_number, number, fixed}
 use Rattle.lexer.specs.Answer.{token_bytes}
@@ -53,15 +53,15 @@ Scans e s r = ScansAs (piece_at e s) s r
 
 -- a string or comment of this size, 0 if it is not closed
 abbrev pub closed_as : ℕ → ℕ → Scanned
-closed_as n size = if eqb size 0 then record { number = no_number; size = 0 } else record { number = n; size = size }
+closed_as n size = if eqb size 0 then record { number = no_number; size = 0 } otherwise record { number = n; size = size }
 
 -- is the text in an enumeration after a token of this number?
 abbrev pub enumerating_by : Bool → ℕ → Bool
-enumerating_by e n = if eqb n (fixed "enum") then true else (if eqb n (fixed ";") || eqb n (fixed "}") then false else e)
+enumerating_by e n = if eqb n (fixed "enum") then true otherwise (if eqb n (fixed ";") || eqb n (fixed "}") then false otherwise e)
 
 -- the place of the token after the last that a text may have, at token n
 abbrev pub later_place : ℕ → ℕ → ℕ → ℕ
-later_place n over at = if eqb n max_tokens then at else over
+later_place n over at = if eqb n max_tokens then at otherwise over
 
 -- the buffer has room for the tokens, and number and offset fit their fields
 pub record Storable (w : List ℕ) (n at : ℕ) : Type 0 where
@@ -71,4 +71,4 @@ pub record Storable (w : List ℕ) (n at : ℕ) : Type 0 where
 
 -- the buffer with the word of token n, if it is one that a text may have
 abbrev pub storing : List ℕ → ℕ → ℕ → List ℕ
-storing w n v = if ltb n max_tokens then put_word w n v else w
+storing w n v = if ltb n max_tokens then put_word w n v otherwise w

@@ -4,7 +4,7 @@ use Rattle.std.proofs.Math.Path.{ap}
 use Rattle.std.proofs.Common.{◌∙◌}
 use native.Mathlib.Omega.{arith}
 use Rattle.node.specs.BitFields.{above, below}
-use Rattle.node.specs.FieldLaws.{above_join, below-join}
+use Rattle.node.proofs.FieldLaws.{above_join, below-join}
 use Rattle.language.specs.Tokens.{Token}
 use Rattle.lexer.specs.Numbers.{number}
 use Rattle.lexer.specs.Stored.{offset_bits, length_bits, longest, token_word, number_in, offset_in, length_in}

@@ -2,11 +2,11 @@
 use Rattle.std.specs.Prelude.{ℕ, suc, ◌+◌, ◌<◌, ◌≤◌, Bool, true, false, ◌≡◌, refl, List, [], ◌∷◌, ◌++◌, map, eqb, length, get_or, take}
 use Rattle.std.proofs.Common.{sym, ap, ap₂, ◌∙◌, take-suc, eq-eqb, ne_eqb, arith}
 use Rattle.node.specs.Fields.{above}
-use Rattle.node.specs.FieldLaws.{above_join}
+use Rattle.node.proofs.FieldLaws.{above_join}
 use Rattle.node.specs.Limits.{max_nodes, field_bits}
 use Rattle.node.specs.Ltl.{Formula}
 use Rattle.node.specs.Postorder.{size}
-use Rattle.node.specs.PostorderLaws.{size_pos}
+use Rattle.node.proofs.PostorderLaws.{size_pos}
 use Rattle.language.specs.Tree.{Part, Preset, Assert, Guarantee, part_code}
 use Rattle.language.specs.Expansion.{Sections, lines_of}
 use Rattle.assembly.specs.Gathered.{in_turn, word, InTable, Lined}

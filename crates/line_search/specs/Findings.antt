@@ -3,10 +3,10 @@ use Rattle.std.specs.Prelude.{ℕ, zero, suc, ◌-◌, ◌≤◌, ◌<◌, ◌�
 use Rattle.std.proofs.Common.{sym, ap, ◌∙◌, arith}
 use Rattle.std.proofs.Math.Option.{Option, none, some}
 use Rattle.bits.specs.Bits.{Values, width}
-use Rattle.language.specs.Bytes.{if◌then◌else◌}
+use Rattle.language.specs.Bytes.{if◌then◌otherwise◌}
 use Rattle.language.specs.Tree.{Preset, Require, Assert, Guarantee}
 use Rattle.faults.specs.Naming.{FaultIn, broken_from, or_else}
-use Rattle.faults.specs.NamingLaws.{Found, broken_found}
+use Rattle.faults.proofs.NamingLaws.{Found, broken_found}
 use Rattle.line_search.specs.Walking.{walked, value_of, seen, or_end, section_at, false_at, break_at, after_break, line_found}
 use Rattle.line_counts.specs.declared.LineCounts.{LineCounts}
 
@@ -61,9 +61,9 @@ module _ (ws rows : List ℕ) (strict : Bool) (lines : LineCounts) (n : ℕ) whe
     found-guarantee h d = ap (FaultIn Guarantee) d ∙ ap (after_break ws rows strict lines n) (sym (break_none strict require assert n p (break_at ws rows strict n) found b h)) ∙ later e none_there
 
   -- the break between the nodes of two sections
-  pub break_at_lem : (r a p m s : ℕ) → r ≡ walked ws 3 5 root → m ≡ (if strict then 5 else 7) → s ≡ (if strict then 4 else 5) → a ≡ walked ws m s root
+  pub break_at_lem : (r a p m s : ℕ) → r ≡ walked ws 3 5 root → m ≡ (if strict then 5 otherwise 7) → s ≡ (if strict then 4 otherwise 5) → a ≡ walked ws m s root
       → p ≡ or_end n (broken_from strict (value_of rows (width n) r) (value_of rows (width n) a) 0 n) → p ≡ or_end n (break_at ws rows strict n)
   break_at_lem r a p m s er em es ea e =
       e ∙ ap (λ (x : ℕ). or_end n (broken_from strict (value_of rows (width n) x) (value_of rows (width n) a) 0 n)) er
       ∙ ap (λ (x : ℕ). or_end n (broken_from strict (value_of rows (width n) (walked ws 3 5 root)) (value_of rows (width n) x) 0 n))
-      (ea ∙ ap (λ (x : ℕ). walked ws x s root) em ∙ ap (λ (x : ℕ). walked ws (if strict then 5 else 7) x root) es)
+      (ea ∙ ap (λ (x : ℕ). walked ws x s root) em ∙ ap (λ (x : ℕ). walked ws (if strict then 5 otherwise 7) x root) es)

@@ -8,11 +8,11 @@ use Rattle.node.specs.Table.{tree_at}
 use Rattle.node.specs.Formed.{Formed}
 use Rattle.bits.specs.Bits.{Values, width}
 use Rattle.rows.specs.Row.{row}
-use Rattle.language.specs.Bytes.{if◌then◌else◌}
+use Rattle.language.specs.Bytes.{if◌then◌otherwise◌}
 use Rattle.language.specs.Tree.{Part, Preset, Require, Assert, Guarantee}
 use Rattle.language.specs.Expansion.{conjunction, whole}
 use Rattle.faults.specs.Naming.{FaultIn, first_false, all_true, broken_from, after_preset, or_else, line_named}
-use Rattle.faults.specs.NamingLaws.{Found, broken_found}
+use Rattle.faults.proofs.NamingLaws.{Found, broken_found}
 use Rattle.line_counts.specs.declared.LineCounts.{LineCounts}
 use Rattle.line_search.specs.Walking.{walked, value_of, seen, section_at, break_at, after_break, line_found}
 use Rattle.line_search.specs.LineLaws.{
@@ -55,7 +55,7 @@ module _ (ws rows : List ℕ) (strict : Bool) (lines : LineCounts) (n l : ℕ) (
   preset-at : At ws (section_at ws strict Preset) (sections Preset)
   preset-at = go strict root-at
     where
-      go : (b : Bool) → At ws (length ws - 1) (whole b sections) → At ws (walked ws 1 (if b then 3 else 2) (length ws - 1)) (sections Preset)
+      go : (b : Bool) → At ws (length ws - 1) (whole b sections) → At ws (walked ws 1 (if b then 3 otherwise 2) (length ws - 1)) (sections Preset)
       go true h = preset-strict g.formed (length ws - 1) sections h
       go false h = preset-standard g.formed (length ws - 1) sections h
 
@@ -69,14 +69,14 @@ module _ (ws rows : List ℕ) (strict : Bool) (lines : LineCounts) (n l : ℕ) (
   assert-at : At ws (section_at ws strict Assert) (sections Assert)
   assert-at = go strict root-at
     where
-      go : (b : Bool) → At ws (length ws - 1) (whole b sections) → At ws (walked ws (if b then 5 else 7) (if b then 4 else 5) (length ws - 1)) (sections Assert)
+      go : (b : Bool) → At ws (length ws - 1) (whole b sections) → At ws (walked ws (if b then 5 otherwise 7) (if b then 4 otherwise 5) (length ws - 1)) (sections Assert)
       go true h = assert-strict g.formed (length ws - 1) sections h
       go false h = assert-standard g.formed (length ws - 1) sections h
 
   guarantee_at : At ws (section_at ws strict Guarantee) (sections Guarantee)
   guarantee_at = go strict root-at
     where
-      go : (b : Bool) → At ws (length ws - 1) (whole b sections) → At ws (walked ws (if b then 7 else 15) (if b then 3 else 4) (length ws - 1)) (sections Guarantee)
+      go : (b : Bool) → At ws (length ws - 1) (whole b sections) → At ws (walked ws (if b then 7 otherwise 15) (if b then 3 otherwise 4) (length ws - 1)) (sections Guarantee)
       go true h = guarantee-strict g.formed (length ws - 1) sections h
       go false h = guarantee-standard g.formed (length ws - 1) sections h
 

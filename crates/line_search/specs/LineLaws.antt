@@ -15,10 +15,10 @@ use Rattle.node.specs.Fields.{kind_of, first_of, second_of}
 use Rattle.node.specs.Kinds.{Shape, Truth, Falsehood, Atom, UnaryOf, BinaryOf, Unused, shape_of, build}
 use Rattle.node.specs.Table.{tree_at}
 use Rattle.node.specs.Formed.{Formed, Below}
-use Rattle.node.specs.TableLaws.{node-is}
+use Rattle.node.proofs.TableLaws.{node-is}
 use Rattle.bits.specs.Bits.{Values}
 use Rattle.rows.specs.Row.{row}
-use Rattle.language.specs.Bytes.{if◌then◌else◌}
+use Rattle.language.specs.Bytes.{if◌then◌otherwise◌}
 use Rattle.language.specs.Tree.{Part, Preset, Require, Assert, Guarantee}
 use Rattle.language.specs.Expansion.{joined, conjunction, whole}
 use Rattle.faults.specs.Naming.{first_false, all_true, broken_from}
@@ -142,19 +142,19 @@ module _ (row_of : Formula → Values) (p : ℕ) where
   first_of_lines k fs = first_false k (map row_of fs) p
 
   first-last : (k : ℕ) (fs : List Formula) (b : Formula) (f : ℕ)
-      → or_if (first_of_lines (suc k) (fs ++ (b ∷ []))) f ≡ or_if (first_of_lines (suc k) fs) (if row_of b p then f else suc (k + length fs))
+      → or_if (first_of_lines (suc k) (fs ++ (b ∷ []))) f ≡ or_if (first_of_lines (suc k) fs) (if row_of b p then f otherwise suc (k + length fs))
   unfolding first_false
   first-last k [] b f = go (row_of b p)
     where
-      go : (x : Bool) → or_if (if x then 0 else suc k) f ≡ (if x then f else suc (k + 0))
+      go : (x : Bool) → or_if (if x then 0 otherwise suc k) f ≡ (if x then f otherwise suc (k + 0))
       go true = refl
       go false = omega arith
   first-last k (a ∷ fs) b f = go (row_of a p) (first-last (suc k) fs b f)
     where
-      go : (x : Bool) → or_if (first_of_lines (suc (suc k)) (fs ++ (b ∷ []))) f ≡ or_if (first_of_lines (suc (suc k)) fs) (if row_of b p then f else suc (suc k + length fs))
-          → or_if (if x then first_of_lines (suc (suc k)) (fs ++ (b ∷ [])) else suc k) f
-          ≡ or_if (if x then first_of_lines (suc (suc k)) fs else suc k) (if row_of b p then f else suc (k + suc (length fs)))
-      go true h = h ∙ (let e : suc (suc k + length fs) ≡ suc (k + suc (length fs)) = omega arith in ap (λ (m : ℕ). or_if (first_of_lines (suc (suc k)) fs) (if row_of b p then f else m)) e)
+      go : (x : Bool) → or_if (first_of_lines (suc (suc k)) (fs ++ (b ∷ []))) f ≡ or_if (first_of_lines (suc (suc k)) fs) (if row_of b p then f otherwise suc (suc k + length fs))
+          → or_if (if x then first_of_lines (suc (suc k)) (fs ++ (b ∷ [])) otherwise suc k) f
+          ≡ or_if (if x then first_of_lines (suc (suc k)) fs otherwise suc k) (if row_of b p then f otherwise suc (k + suc (length fs)))
+      go true h = h ∙ (let e : suc (suc k + length fs) ≡ suc (k + suc (length fs)) = omega arith in ap (λ (m : ℕ). or_if (first_of_lines (suc (suc k)) fs) (if row_of b p then f otherwise m)) e)
       go false h = refl
 
   -- the lines of a section, as the walk sees them
@@ -169,7 +169,7 @@ module _ (row_of : Formula → Values) (p : ℕ) where
     lines-seen (suc zero) [] e i f h = absurd (omega (arith, e))
     lines-seen (suc zero) (a ∷ []) e i f h = go (value i) (row_of a p) (value_at_lem i a h)
       where
-        go : (x y : Bool) → x ≡ y → (if x then f else 1) ≡ or_if (if y then 0 else 1) f
+        go : (x y : Bool) → x ≡ y → (if x then f otherwise 1) ≡ or_if (if y then 0 otherwise 1) f
         go true true q = refl
         go false false q = refl
         go true false q = absurd (false≢true (sym q))
@@ -190,9 +190,9 @@ module _ (row_of : Formula → Values) (p : ℕ) where
             let number : suc (suc n) ≡ suc (0 + length (b ∷ bs)) = omega (arith, size) in
             let here : At ws i (Two And (conjunction (b ∷ bs)) z) = subst (At ws i) (ap conjunction q ∙ conjunction-last b bs z) h in
             let first = first_of_lines 1 (b ∷ bs) in
-            ih (b ∷ bs) size (operand_of ws i false) (if value (operand_of ws i true) then f else suc (suc n)) (first-at formed i And _ _ here)
-            ∙ ap (λ (x : Bool). or_if first (if x then f else suc (suc n))) (value_at_lem (operand_of ws i true) z (second_at formed i And _ _ here))
-            ∙ ap (λ (m : ℕ). or_if first (if row_of z p then f else m)) number
+            ih (b ∷ bs) size (operand_of ws i false) (if value (operand_of ws i true) then f otherwise suc (suc n)) (first-at formed i And _ _ here)
+            ∙ ap (λ (x : Bool). or_if first (if x then f otherwise suc (suc n))) (value_at_lem (operand_of ws i true) z (second_at formed i And _ _ here))
+            ∙ ap (λ (m : ℕ). or_if first (if row_of z p then f otherwise m)) number
             ∙ sym (first-last 0 (b ∷ bs) z f)
             ∙ ap (λ (gs : List Formula). or_if (first_of_lines 1 gs) f) (sym q)
 
@@ -232,5 +232,5 @@ module _ (strict : Bool) (R R' A A' : Values) where
   unfolding broken_from
   broken_same p zero r a = refl
   broken_same p (suc n) r a =
-      ap₂ (λ (x y : Bool). if strict && not x then none else (if y then broken_from strict R A (suc p) n else some p)) (r p (omega arith)) (a p (omega arith))
-      ∙ ap (λ (o : Option ℕ). if strict && not (R' p) then none else (if A' p then o else some p)) (broken_same (suc p) n (λ q h. r q (omega arith)) (λ q h. a q (omega arith)))
+      ap₂ (λ (x y : Bool). if strict && not x then none otherwise (if y then broken_from strict R A (suc p) n otherwise some p)) (r p (omega arith)) (a p (omega arith))
+      ∙ ap (λ (o : Option ℕ). if strict && not (R' p) then none otherwise (if A' p then o otherwise some p)) (broken_same (suc p) n (λ q h. r q (omega arith)) (λ q h. a q (omega arith)))

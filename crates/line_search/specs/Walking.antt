@@ -3,7 +3,7 @@ use Rattle.std.specs.Prelude.{ℕ, zero, suc, ◌+◌, ◌*◌, ◌-◌, ◌/◌
 use Rattle.std.proofs.Math.Option.{Option, none, some}
 use Rattle.node.specs.Fields.{first_of, second_of}
 use Rattle.bits.specs.Bits.{bit_at, width}
-use Rattle.language.specs.Bytes.{if◌then◌else◌}
+use Rattle.language.specs.Bytes.{if◌then◌otherwise◌}
 use Rattle.language.specs.Tree.{Part, Initially, Preset, Require, Assert, Assume, Guarantee}
 use Rattle.faults.specs.Naming.{Finding, FaultIn, broken_from, or_else}
 use Rattle.line_counts.specs.declared.LineCounts.{LineCounts}
@@ -25,8 +25,8 @@ value_of rows width i p = bit_at rows (8 * (width * i) + p)
 -- the first false of lines 1 to k of a section whose node is i, or f
 unfoldable pub seen : List ℕ → (ℕ → Bool) → (i k f : ℕ) → ℕ
 seen ws value i zero f = f
-seen ws value i (suc zero) f = if value i then f else 1
-seen ws value i (suc (suc k)) f = seen ws value (operand_of ws i false) (suc k) (if value (operand_of ws i true) then f else suc (suc k))
+seen ws value i (suc zero) f = if value i then f otherwise 1
+seen ws value i (suc (suc k)) f = seen ws value (operand_of ws i false) (suc k) (if value (operand_of ws i true) then f otherwise suc (suc k))
 
 -- a position, or the end
 abbrev pub or_end : ℕ → Option ℕ → ℕ
@@ -35,10 +35,10 @@ or_end n (some p) = p
 
 -- the node of each section that is looked at: standard and strict files have them at unlike places
 abbrev pub section_at : List ℕ → Bool → Part → ℕ
-section_at ws strict Preset = walked ws 1 (if strict then 3 else 2) (length ws - 1)
+section_at ws strict Preset = walked ws 1 (if strict then 3 otherwise 2) (length ws - 1)
 section_at ws strict Require = walked ws 3 5 (length ws - 1)
-section_at ws strict Assert = walked ws (if strict then 5 else 7) (if strict then 4 else 5) (length ws - 1)
-section_at ws strict Guarantee = walked ws (if strict then 7 else 15) (if strict then 3 else 4) (length ws - 1)
+section_at ws strict Assert = walked ws (if strict then 5 otherwise 7) (if strict then 4 otherwise 5) (length ws - 1)
+section_at ws strict Guarantee = walked ws (if strict then 7 otherwise 15) (if strict then 3 otherwise 4) (length ws - 1)
 section_at ws strict Initially = 0
 section_at ws strict Assume = 0
 

@@ -11,7 +11,7 @@ use Rattle.std.proofs.Math.ListN.{get_or-eq_default}
 use Rattle.basics.specs.Told.{max_told}
 use Rattle.node.specs.Fields.{first_of, second_of}
 use Rattle.bits.specs.Bits.{Values, bit_at}
-use Rattle.language.specs.Bytes.{if◌then◌else◌}
+use Rattle.language.specs.Bytes.{if◌then◌otherwise◌}
 use Rattle.faults.specs.Naming.{broken_from}
 use Rattle.rows.specs.Memory.{row_bytes}
 use Rattle.line_search.specs.Walking.{operand_of, walked, seen}
@@ -49,18 +49,18 @@ module _ (ws : List ℕ) (path k i : ℕ) where
 
 -- the lines of a section, the last first
 module _ (ws : List ℕ) (value : ℕ → Bool) (i k f : ℕ) where
-  pub seen_step : 1 < k → seen ws value i k f ≡ seen ws value (operand_of ws i false) (k - 1) (if value (operand_of ws i true) then f else k)
+  pub seen_step : 1 < k → seen ws value i k f ≡ seen ws value (operand_of ws i false) (k - 1) (if value (operand_of ws i true) then f otherwise k)
   unfolding seen
   seen_step h = go k h
     where
-      go : (k : ℕ) → 1 < k → seen ws value i k f ≡ seen ws value (operand_of ws i false) (k - 1) (if value (operand_of ws i true) then f else k)
+      go : (k : ℕ) → 1 < k → seen ws value i k f ≡ seen ws value (operand_of ws i false) (k - 1) (if value (operand_of ws i true) then f otherwise k)
       go zero h = absurd (omega arith)
       go (suc zero) h = absurd (omega arith)
       go (suc (suc k)) h =
           let e : suc k ≡ suc (suc k) - 1 = omega arith in
-          ap (λ (m : ℕ). seen ws value (operand_of ws i false) m (if value (operand_of ws i true) then f else suc (suc k))) e
+          ap (λ (m : ℕ). seen ws value (operand_of ws i false) m (if value (operand_of ws i true) then f otherwise suc (suc k))) e
 
-  pub seen_one : k ≡ 1 → seen ws value i k f ≡ (if value i then f else 1)
+  pub seen_one : k ≡ 1 → seen ws value i k f ≡ (if value i then f otherwise 1)
   unfolding seen
   seen_one e = ap (λ (m : ℕ). seen ws value i m f) e
 
@@ -76,7 +76,7 @@ module _ (strict : Bool) (require assert : Values) (n p : ℕ) where
   one_more : p < n → n - p ≡ suc (n - (p + 1))
   one_more h = omega arith
 
-  opened : p < n → search ≡ (if strict && not (require p) then none else (if assert p then broken_from strict require assert (suc p) (n - (p + 1)) else some p))
+  opened : p < n → search ≡ (if strict && not (require p) then none otherwise (if assert p then broken_from strict require assert (suc p) (n - (p + 1)) otherwise some p))
   unfolding broken_from
   opened h = ap (broken_from strict require assert p) (one_more h)
 
@@ -87,20 +87,20 @@ module _ (strict : Bool) (require assert : Values) (n p : ℕ) where
   pub unrequired : p < n → not strict || require p ≡ false → search ≡ none
   unrequired h e = opened h ∙ go strict (require p) e
     where
-      go : (s r : Bool) → not s || r ≡ false → (if s && not r then none else (if assert p then broken_from strict require assert (suc p) (n - (p + 1)) else some p)) ≡ none
+      go : (s r : Bool) → not s || r ≡ false → (if s && not r then none otherwise (if assert p then broken_from strict require assert (suc p) (n - (p + 1)) otherwise some p)) ≡ none
       go true false e = refl
       go true true e = absurd (false≢true (sym e))
       go false r e = absurd (false≢true (sym e))
 
-  met : (s r : Bool) (x y : Option ℕ) → not s || r ≡ true → (if s && not r then x else y) ≡ y
+  met : (s r : Bool) (x y : Option ℕ) → not s || r ≡ true → (if s && not r then x otherwise y) ≡ y
   met true true x y e = refl
   met true false x y e = absurd (false≢true e)
   met false r x y e = refl
 
   pub broken_here : p < n → not strict || require p ≡ true → assert p ≡ false → search ≡ some p
-  broken_here h e a = opened h ∙ met strict (require p) _ _ e ∙ ap (λ (b : Bool). if b then broken_from strict require assert (suc p) (n - (p + 1)) else some p) a
+  broken_here h e a = opened h ∙ met strict (require p) _ _ e ∙ ap (λ (b : Bool). if b then broken_from strict require assert (suc p) (n - (p + 1)) otherwise some p) a
 
   pub broken_on : p < n → not strict || require p ≡ true → assert p ≡ true → search ≡ broken_from strict require assert (p + 1) (n - (p + 1))
   broken_on h e a =
-      opened h ∙ met strict (require p) _ _ e ∙ ap (λ (b : Bool). if b then broken_from strict require assert (suc p) (n - (p + 1)) else some p) a
+      opened h ∙ met strict (require p) _ _ e ∙ ap (λ (b : Bool). if b then broken_from strict require assert (suc p) (n - (p + 1)) otherwise some p) a
       ∙ (let q : suc p ≡ p + 1 = omega arith in ap (λ (x : ℕ). broken_from strict require assert x (n - (p + 1))) q)

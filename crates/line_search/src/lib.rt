@@ -3,7 +3,7 @@
 #![tactic(auto)]
 
 ghost use Rattle.std.specs.Prelude.{◌≡◌, ◌≤◌, ◌<◌, not, ◌||◌};
-ghost use Rattle.language.specs.Bytes.{if◌then◌else◌};
+ghost use Rattle.language.specs.Bytes.{if◌then◌otherwise◌};
 ghost use Rattle.faults.specs.Naming.{broken_from};
 ghost use Rattle.recordings.specs.Limits.{max_positions};
 ghost use Rattle.rows.specs.Memory.{row_bytes};
@@ -55,7 +55,7 @@ pub fn value(rows: &[u8], width: usize, i: u32, p: usize) -> bool
 }
 
 pub fn either(test: bool, a: u32, b: u32) -> u32
-    ensures { result ≡ (if test then a else b) }
+    ensures { result ≡ (if test then a otherwise b) }
 {
     if test { a } else { b }
 }

@@ -7,9 +7,9 @@ use Rattle.language.specs.Tokens.{tokens}
 use Rattle.language.specs.Tree.{Spec}
 use Rattle.language.specs.DeclaredNames.{Declarations, declarations}
 use Rattle.language.specs.Numbering.{in_order}
-use Rattle.language.specs.Laws.Basics.Lists.{All}
-use Rattle.language.specs.Laws.Basics.Results.{value_of}
-use Rattle.language.specs.Laws.Values.RegularWords.{RegularDefinition}
+use Rattle.language.proofs.Laws.Basics.Lists.{All}
+use Rattle.language.proofs.Laws.Basics.Results.{value_of}
+use Rattle.language.proofs.Laws.Values.RegularWords.{RegularDefinition}
 use Rattle.names.specs.Resolved.{Stored, Resolved}
 use Rattle.name_values.specs.World.{World}
 use Rattle.name_values.specs.Worked.{world_in}

@@ -3,7 +3,7 @@ use Rattle.std.specs.Prelude.{ℕ, List, ◌≡◌}
 use Rattle.std.proofs.Common.{subst}
 use Rattle.node.specs.Ltl.{Formula}
 use Rattle.node.specs.Result.{Done, Refused}
-use Rattle.node.specs.ResultLaws.{bind_done, bind_to}
+use Rattle.node.proofs.ResultLaws.{bind_done, bind_to}
 use Rattle.language.specs.Tree.{Part, Spec}
 use Rattle.language.specs.DeclaredNames.{Declarations}
 use Rattle.language.specs.Lines.{Line, lines}

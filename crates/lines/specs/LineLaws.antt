@@ -4,7 +4,7 @@ use Rattle.std.proofs.Common.{sym, subst, arith}
 use Rattle.node.specs.Limits.{max_nodes}
 use Rattle.node.specs.Ltl.{Formula}
 use Rattle.node.specs.Result.{Done}
-use Rattle.node.specs.ResultLaws.{bind_refused, bind_to}
+use Rattle.node.proofs.ResultLaws.{bind_refused, bind_to}
 use Rattle.language.specs.Tree.{Expr, Part, Spec}
 use Rattle.language.specs.DeclaredNames.{Declarations}
 use Rattle.language.specs.Numbering.{in_order}

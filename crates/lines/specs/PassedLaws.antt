@@ -21,7 +21,7 @@ use Rattle.language.specs.Tree.{
   Lines,
   Spec,
 }
-use Rattle.language.specs.Laws.Basics.Lists.{All, all_more, all_append}
+use Rattle.language.proofs.Laws.Basics.Lists.{All, all_more, all_append}
 use Rattle.entries.specs.Kinds as Kind
 use Rattle.entries.specs.Flat.{Entry, under, leaf, flat, each, flat_parameter, flat_identifier, flat_definition, flat_declaration}
 use Rattle.entries.specs.FlatLaws.{all-each, flat-inside}

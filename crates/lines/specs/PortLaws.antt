@@ -10,9 +10,9 @@ use Rattle.language.specs.Tokens.{tokens}
 use Rattle.language.specs.Tree.{Declaration, OneSignal, OfWidth, OfType, Definition, Spec}
 use Rattle.language.specs.DeclaredNames.{Port, inputs, outputs, Declarations, declarations}
 use Rattle.language.specs.Numbering.{in_order, first_of}
-use Rattle.language.specs.Laws.Basics.Lists.{All, all_any, all_append}
-use Rattle.language.specs.Laws.Values.RegularWords.{Regular, RegularDefinition, regular_type}
-use Rattle.language.specs.Laws.Values.PortLaws.{PortFor, ports_for_lem, pairs-right}
+use Rattle.language.proofs.Laws.Basics.Lists.{All, all_any, all_append}
+use Rattle.language.proofs.Laws.Values.RegularWords.{Regular, RegularDefinition, regular_type}
+use Rattle.language.proofs.Laws.Values.PortLaws.{PortFor, ports_for_lem, pairs-right}
 use Rattle.entries.specs.Kinds as Kind
 use Rattle.spellings.specs.Interned.{Lexed}
 use Rattle.name_values.specs.Declaring.{EnumerationAt}

@@ -7,7 +7,7 @@ use Rattle.std.proofs.lemmas.List.{length-map}
 use Rattle.node.specs.Limits.{max_nodes}
 use Rattle.node.specs.Ltl.{Formula}
 use Rattle.node.specs.Result.{Result, Done, Refused, ◌>>=◌}
-use Rattle.node.specs.ResultLaws.{not_done, bind_value}
+use Rattle.node.proofs.ResultLaws.{not_done, bind_value}
 use Rattle.language.specs.Tokens.{Token, tokens}
 use Rattle.language.specs.Tree.{Expr, Part, Spec}
 use Rattle.language.specs.DeclaredNames.{Declarations}
@@ -18,7 +18,7 @@ use Rattle.entries.specs.Stored.{EntryAt, EntriesFrom}
 use Rattle.traversal.specs.Cells.{Sees, cell_at, OfToken}
 use Rattle.traversal.specs.CellLaws.{entry_seen}
 use Rattle.traversal.specs.declared.Cell.{Cell}
-use Rattle.name_values.specs.WorkedLaws.{tree_worked}
+use Rattle.name_values.proofs.WorkedLaws.{tree_worked}
 use Rattle.operands.specs.Working.{Source}
 use Rattle.assembly.specs.declared.implied.Ends.{Ends}
 use Rattle.lines.specs.Items.{Item, Passed, Heads, Line, items, entry_of, Headed, worked}

@@ -4,14 +4,14 @@ use Rattle.std.proofs.Common.{sym, ap, ◌∙◌, subst, arith}
 use Rattle.node.specs.Limits.{max_nodes}
 use Rattle.node.specs.Ltl.{Formula}
 use Rattle.node.specs.Result.{Done, Refused, ◌>>=◌}
-use Rattle.node.specs.ResultLaws.{bind_refused, bind_to}
+use Rattle.node.proofs.ResultLaws.{bind_refused, bind_to}
 use Rattle.language.specs.Limits.{work_bytes}
 use Rattle.language.specs.Tree.{Part, Require, Assert, part_code, Spec}
 use Rattle.language.specs.DeclaredNames.{Port, Declarations}
 use Rattle.language.specs.Numbering.{in_order}
 use Rattle.language.specs.Lines.{implied, lines}
 use Rattle.language.specs.Expansion.{gather, at_signals, expand_section}
-use Rattle.language.specs.Laws.Values.NameLaws.{defined_ports}
+use Rattle.language.proofs.Laws.Values.NameLaws.{defined_ports}
 use Rattle.operands.specs.Working.{Source}
 use Rattle.assembly.specs.Gathered.{in_turn, GatheredFrom, lines_in_turn}
 use Rattle.assembly.specs.Implied.{implied_formulas, BusesFrom, Buses, AddsAll, Ready}

@@ -5,7 +5,7 @@ use Rattle.std.proofs.Math.Path.{refl, sym, ap}
 use Rattle.std.proofs.Common.{◌∙◌}
 use Rattle.node.specs.Ltl.{Formula}
 use Rattle.node.specs.Result.{Result, Done, Refused, ◌>>=◌}
-use Rattle.node.specs.ResultLaws.{bind_value}
+use Rattle.node.proofs.ResultLaws.{bind_value}
 use Rattle.language.specs.Tree.{Expr, Part, Subsection, Inputs, Outputs, Lines, Spec}
 use Rattle.language.specs.Lines.{Line as SectionLine, Written, written_lines}
 use Rattle.language.specs.Expansion.{Context, expansion, gather, expand_line, expand_section, Sections}

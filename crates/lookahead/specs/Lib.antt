@@ -1,11 +1,4 @@
 pub mod Span
 pub mod Reaching
 pub mod Promise
-pub mod SpanAgrees
-pub mod SpanLaws
-pub mod SpanForms
-pub mod ReachingLaws
-pub mod Low
 pub mod Codes
-pub mod KeptLaws
-pub mod CodeLaws

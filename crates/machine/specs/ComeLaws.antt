@@ -3,7 +3,7 @@ use Rattle.std.specs.Prelude.{ℕ, ◌≤◌, List, ◌≡◌, refl, length}
 use Rattle.std.proofs.Common.{sym, ap, ◌∙◌, arith}
 use Rattle.node.specs.Ltl.{Formula}
 use Rattle.node.specs.Result.{Result, ◌>>=◌}
-use Rattle.node.specs.ResultLaws.{bind_at}
+use Rattle.node.proofs.ResultLaws.{bind_at}
 use Rattle.language.specs.Limits.{max_number}
 use Rattle.language.specs.Values.{Number, Set, Logic, Bus, Unsized, Choice, misfit}
 use Rattle.operands.specs.Working.{Source}

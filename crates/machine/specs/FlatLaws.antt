@@ -1,5 +1,5 @@
 -- Frames that hold no words: the state above one is as under it; it takes a value and is popped with the memory as it is.
-use Rattle.std.specs.Prelude.{ℕ, suc, ◌+◌, ◌<◌, false, List, [], ◌++◌, ◌≡◌, refl}
+use Rattle.std.specs.Prelude.{ℕ, zero, suc, ◌+◌, ◌<◌, false, List, [], ◌++◌, ◌≡◌, refl}
 use Rattle.std.proofs.Common.{ap, ◌∙◌, arith, add-zero}
 use Rattle.std.proofs.Math.Decide.{dec_lt}
 use Rattle.node.specs.Result.{Result, Done}
@@ -23,6 +23,7 @@ use Rattle.machine.specs.declared.Move.TheVariants.{Next}
 
 -- fewer operands are left
 pub times_less : (i j k : ℕ) → i < j → times i k + price k < times j k
+times_less i zero k h = absurd (omega arith)
 times_less i (suc j) k h = go (dec_lt i j) (times_less i j k)
   where
     go : Dec (i < j) → (i < j → times i k + price k < times j k) → times i k + price k < times (suc j) k
@@ -40,11 +41,11 @@ module _ {s : Source} {R : Realm s} {mem out : List ℕ} {m : Machine} {x : Resu
   pub flat-top : m.top ≡ (words h).base
   flat-top = h.at.level (ap (λ (y : Holding). y.flat) f)
 
-  pub flat_scope : m.scope ≡ h.ground.scope
-  flat_scope = h.at.scoped ∙ ap (λ (y : Holding). scope_above y.inside h.ground) f
+  pub flat_scope : m.scope ≡ h.footing.scope
+  flat_scope = h.at.scoped ∙ ap (λ (y : Holding). scope_above y.inside h.footing) f
 
-  pub flat-depth : m.depth ≡ h.ground.depth
-  flat-depth = h.at.deep ∙ ap (λ (y : Holding). h.ground.depth + slots_of y.binds) f ∙ add-zero h.ground.depth
+  pub flat-depth : m.depth ≡ h.footing.depth
+  flat-depth = h.at.deep ∙ ap (λ (y : Holding). h.footing.depth + slots_of y.binds) f ∙ add-zero h.footing.depth
 
   no_forms : (holding F).forms ≡ []
   no_forms = ap (λ (y : Holding). y.forms) f

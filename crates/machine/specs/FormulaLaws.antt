@@ -32,8 +32,8 @@ module _ {s : Source} {R : Realm s} {mem out : List ℕ} {m : Machine} {x : Resu
   finishes f {before} {out'} {at} {r} fl fi fb e l w few st = pops h {v = Nodes f} (record {
     same = e;
     come = refl;
-    scope_is = h.at.scoped ∙ ap (λ y. scope_above y h.ground) fi;
-    depth_is = h.at.deep ∙ ap (λ y. h.ground.depth + slots_of y) fb ∙ add-zero h.ground.depth;
+    scope_is = h.at.scoped ∙ ap (λ y. scope_above y h.footing) fi;
+    depth_is = h.at.deep ∙ ap (λ y. h.footing.depth + slots_of y) fb ∙ add-zero h.footing.depth;
     top-is = h.at.level fl;
     frames-is = refl;
     agree = agree_same;

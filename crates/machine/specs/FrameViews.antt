@@ -52,7 +52,8 @@ use Rattle.machine.specs.Frames.{
 -- what a frame waits for, without its contents
 pub data Stage : Type 0 where
   at_measured at_width at_left at_right at_left_set at_right_set at_low at_high at_elements at_range_first at_range_second at_range_last at_over at_first_number at_next_number at_first_set at_next_set at_keep_value : Stage
-  at_capping at_left_formula at_right_formula at_left_compared at_right_compared at_member at_among at_indexed at_repeat at_repeated at_window_from at_window_to at_windowed at_over_each at_first_each at_next_each at_keep_formula at_bit_of : Stage
+  at_capping at_left_formula at_right_formula at_left_compared at_right_compared at_member at_among at_indexed : Stage
+  at_repeat at_repeated at_window_from at_window_to at_windowed at_over_each at_first_each at_next_each at_keep_formula at_bit_of : Stage
 
 abbrev stages : List Stage
 stages =

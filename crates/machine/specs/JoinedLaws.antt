@@ -5,7 +5,7 @@ use Rattle.language.specs.Operators.{Infix}
 use Rattle.language.specs.Tree.{Expr, Joined}
 use Rattle.language.specs.Expansion.{Context}
 use Rattle.entries.specs.Kinds as Kind
-use Rattle.name_values.specs.KnownLaws.{known_joined}
+use Rattle.name_values.proofs.KnownLaws.{known_joined}
 use Rattle.operands.specs.Working.{Source}
 use Rattle.machine.specs.Realm.{Operand, Realm}
 use Rattle.machine.specs.Operators.{Between, OpAt}

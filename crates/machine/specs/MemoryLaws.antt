@@ -7,7 +7,7 @@ use Rattle.std.proofs.lemmas.List.Edits.{sets, sets-eq}
 use Rattle.std.proofs.Math.Seq.{length-sets}
 use Rattle.basics.specs.Lists.{get_or-sets-below}
 use Rattle.name_values.specs.World.{numbered}
-use Rattle.name_values.specs.AgreesLaws.{numbered-last, numbered-before}
+use Rattle.name_values.proofs.AgreesLaws.{numbered-last, numbered-before}
 use Rattle.machine.specs.Memory.{Regions, first_kept, frame_words, free_of, free_word, Held, Slotted, Lies, nowhere, kept_set, value, Keeps, Agree, Framed, spread}
 use Rattle.machine.specs.declared.Words.{Words}
 

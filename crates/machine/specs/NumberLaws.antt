@@ -3,8 +3,8 @@ use Rattle.std.specs.Prelude.{ℕ, false, List, ◌≡◌, refl}
 use Rattle.std.proofs.Common.{sym, ap, ◌∙◌}
 use Rattle.node.specs.Result.{Result, ◌>>=◌}
 use Rattle.language.specs.Values.{Value, Number}
-use Rattle.language.specs.Laws.Basics.Results.{value_of, Within}
-use Rattle.language.specs.Laws.Values.ValueLaws.{SaneNumber}
+use Rattle.language.proofs.Laws.Basics.Results.{value_of, Within}
+use Rattle.language.proofs.Laws.Values.ValueLaws.{SaneNumber}
 use Rattle.sets.specs.Answers.{says}
 use Rattle.sets.specs.declared.Worked.{Worked}
 use Rattle.operands.specs.Working.{Source}

@@ -62,7 +62,7 @@ module _ {s : Source} {R : Realm s} {mem out : List ℕ} {m : Machine} {x : Resu
     pub holds-no-words : holding G ≡ noting (phase G) (holding G).forms
     pub keeps-formula : written m.nodes h.came ≡ (holding G).forms
     pub fewer : turns (phase G) 0 < turns (phase F) 0
-    pub operand : Operand s R.W R.ports h.ground.env c j e
+    pub operand : Operand s R.W R.ports h.footing.env c j e
     pub holds : Holds R.W (end_of o (forms_of h.rest)) (renewed h (kept_words m (phase G) (words h).entry at value other)) G
     pub waits : Waits R (renewed h (kept_words m (phase G) (words h).entry at value other)) G
     pub kept : Kept G (works a c e)
@@ -95,7 +95,7 @@ module _ {s : Source} {R : Realm s} {mem out : List ℕ} {m : Machine} {x : Resu
           agree = agree_same;
           frames-is = refl;
           scope_is = fs ∙ ap (λ (y : Holding). scope_above y.inside (renewed h new)) (sym g);
-          deep = fd ∙ sym (ap (λ (y : Holding). h.ground.depth + slots_of y.binds) g ∙ add-zero h.ground.depth);
+          deep = fd ∙ sym (ap (λ (y : Holding). h.footing.depth + slots_of y.binds) g ∙ add-zero h.footing.depth);
           lower = omega arith;
           high = omega arith;
           level = λ y. ft;
@@ -108,10 +108,10 @@ module _ {s : Source} {R : Realm s} {mem out : List ℕ} {m : Machine} {x : Resu
           waits = z.waits;
           mode_is = refl;
           below = omega arith;
-          env = h.ground.env;
+          env = h.footing.env;
           first = let y = h.at.first in omega arith;
-          width = fd ∙ h.at.width ∙ ap (λ (i : ℕ). i + length h.ground.env) (sym fs);
-          slotted = subst (λ (i : ℕ). Slotted mem i h.ground.env) (sym fs) h.at.seen;
+          width = fd ∙ h.at.width ∙ ap (λ (i : ℕ). i + length h.footing.env) (sym fs);
+          slotted = subst (λ (i : ℕ). Slotted mem i h.footing.env) (sym fs) h.at.seen;
           operand = z.operand;
           laid = laid_as (ap (λ (y : Holding). written m.nodes h.came ++ (y.forms ++ forms_of h.rest)) f ∙ ap (λ (y : List Laying). y ++ forms_of h.rest) z.keeps-formula) h.laid;
           few = h.few;

@@ -1,7 +1,7 @@
 -- A set that has come: where the values end above it.
 use Rattle.std.specs.Prelude.{ℕ, zero, suc, ◌+◌, ◌≤◌, ◌<◌, Bool, true, false, List, [], ◌∷◌, ◌≡◌, eqb, length, get_or}
 use Rattle.std.proofs.Common.{sym, ap, ◌∙◌, arith, add-zero, eq-eqb, ne_eqb}
-use Rattle.language.specs.Laws.Basics.Tests.{pick, leave}
+use Rattle.language.proofs.Laws.Basics.Tests.{pick, leave}
 use Rattle.machine.specs.Memory.{Held, Lies, nowhere, kept_set, value, Sits, in_kept, on_top}
 use Rattle.machine.specs.Moves.{above}
 use Rattle.machine.specs.declared.Machine.{Machine}

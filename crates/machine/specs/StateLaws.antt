@@ -114,7 +114,7 @@ module _ {s : Source} {R : Realm s} {mem out : List ℕ} {m : Machine} {x : Resu
         go v c (bottom b) l y = absurd (f b.end)
         go v c (above {F = F} {Fs = Fs} {k = k} g b r) l y = record {
           frame = F;
-          top = record { ground = g; rest = Fs; came = v; entry = k; at = b; stack = r; come = c; laid = l; few = h.few; noted = h.noted; lasting = h.lasting; same = y };
+          top = record { footing = g; rest = Fs; came = v; entry = k; at = b; stack = r; come = c; laid = l; few = h.few; noted = h.noted; lasting = h.lasting; same = y };
         }
 
     pub ended : m.frames ≡ length mem → Final R mem out m x o

@@ -144,12 +144,12 @@ pub record Writes (s : Source) (mem mem' out out' : List ℕ) (m : Machine) (r :
 
 -- something has come, and the frame F takes it
 pub record TopOf {s : Source} (R : Realm s) (mem out : List ℕ) (m : Machine) (x : Result Came) (o : Began) (F : Frame) : Type 0 where
-  pub ground : Ground
+  pub footing : Ground
   pub rest : List Frame
   pub came : Came
   pub entry : ℕ
-  pub at : FrameAt R o mem F ground (end_of o (forms_of rest)) m.scope m.depth m.top m.frames entry
-  pub stack : Stack R o mem rest ground.scope ground.depth ground.words.base (m.frames + frame_words) ground.limit
+  pub at : FrameAt R o mem F footing (end_of o (forms_of rest)) m.scope m.depth m.top m.frames entry
+  pub stack : Stack R o mem rest footing.scope footing.depth footing.words.base (m.frames + frame_words) footing.limit
   pub come : Come R o mem m came
   pub laid : Laid o (written m.nodes came ++ ((holding F).forms ++ forms_of rest)) out m.nodes
   pub few : m.nodes ≤ suc max_nodes

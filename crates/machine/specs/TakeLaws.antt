@@ -31,7 +31,7 @@ use Rattle.machine.specs.declared.Move.TheVariants.{Next, Refused as Refuses}
 
 module _ {s : Source} {R : Realm s} {mem out : List ℕ} {m : Machine} {x : Result Came} {o : Began} {F : Frame} (h : TopOf R mem out m x o F) where
   abbrev pub words : Words
-  words = h.ground.words
+  words = h.footing.words
 
   -- the frame's words in the memory
   pub phase-word : phase_at mem m ≡ phase F
@@ -59,7 +59,7 @@ module _ {s : Source} {R : Realm s} {mem out : List ℕ} {m : Machine} {x : Resu
   top-cost = let e = effort_none m.mode m.value (come_mode R o mem m h.came h.come) in let c = costs-frame mem m.frames words h.at.words in omega arith
 
   -- the room under the frame
-  pub room-under : Room o mem h.ground.depth words.base (m.frames + frame_words) h.ground.limit
+  pub room-under : Room o mem h.footing.depth words.base (m.frames + frame_words) h.footing.limit
   room-under = stack_room h.stack
 
   -- the notes lie in the memory
@@ -89,11 +89,11 @@ module _ {s : Source} {R : Realm s} {mem out : List ℕ} {m : Machine} {x : Resu
   pub record Popping (v : Came) (mem' out' : List ℕ) (n : Machine) : Type 0 where
     pub same : apply F h.came ≡ Done v
     pub come : Come R o mem' n v
-    pub scope_is : n.scope ≡ h.ground.scope
-    pub depth_is : n.depth ≡ h.ground.depth
+    pub scope_is : n.scope ≡ h.footing.scope
+    pub depth_is : n.depth ≡ h.footing.depth
     pub top-is : n.top ≡ words.base
     pub frames-is : n.frames ≡ m.frames + frame_words
-    pub agree : Agree o.regions mem mem' h.ground.depth words.base (m.frames + frame_words)
+    pub agree : Agree o.regions mem mem' h.footing.depth words.base (m.frames + frame_words)
     pub laid : Laid o (written n.nodes v ++ forms_of h.rest) out' n.nodes
     pub few : n.nodes ≤ suc max_nodes
     pub noted : Noted R o.regions o.index mem'
@@ -113,7 +113,7 @@ module _ {s : Source} {R : Realm s} {mem out : List ℕ} {m : Machine} {x : Resu
           state = record {
             frames = h.rest;
             now = Has v;
-            limit = h.ground.limit;
+            limit = h.footing.limit;
             stack = rw (p.scope_is, p.depth_is, p.top-is, p.frames-is) (stack_kept h.stack p.agree);
             here = p.come;
             laid = p.laid;
@@ -129,7 +129,7 @@ module _ {s : Source} {R : Realm s} {mem out : List ℕ} {m : Machine} {x : Resu
 
   -- the frame is written anew, and another operand is worked out; before, other words may have been written (mem₁)
   abbrev pub renewed : Words → Ground
-  renewed w = record { words = w; scope = h.ground.scope; depth = h.ground.depth; env = h.ground.env; limit = h.ground.limit; reserved = h.ground.reserved }
+  renewed w = record { words = w; scope = h.footing.scope; depth = h.footing.depth; env = h.footing.env; limit = h.footing.limit; reserved = h.footing.reserved }
 
   pub record Renewal (G : Frame) (a : Aim) (c : Context) (e : Expr) (mem₁ mem' out' : List ℕ) (n : Machine) : Type 0 where
     pub new : Words
@@ -138,12 +138,12 @@ module _ {s : Source} {R : Realm s} {mem out : List ℕ} {m : Machine} {x : Resu
     pub base-is : new.base ≡ words.base
     pub some : 0 < new.entry
     pub down : new.entry ≤ words.entry
-    pub agree : Agree o.regions mem mem₁ h.ground.depth words.base (m.frames + frame_words)
+    pub agree : Agree o.regions mem mem₁ h.footing.depth words.base (m.frames + frame_words)
     pub frames-is : n.frames ≡ m.frames
     pub scope_is : n.scope ≡ scope_above (holding G).inside (renewed new)
-    pub deep : n.depth ≡ h.ground.depth + bound G
+    pub deep : n.depth ≡ h.footing.depth + bound G
     pub lower : words.base ≤ n.top
-    pub high : n.top ≤ words.base + h.ground.reserved
+    pub high : n.top ≤ words.base + h.footing.reserved
     pub level : (holding G).flat ≡ true → n.top ≡ words.base
     pub counted : new.count ≡ length (elements G)
     pub held : Held mem₁ new.at (elements G)
@@ -193,7 +193,7 @@ module _ {s : Source} {R : Realm s} {mem out : List ℕ} {m : Machine} {x : Resu
       let l1 = ag.len in
       let l2 = f.len in
       let ab = framed_agree f {z = o.regions} n.depth n.top (omega arith) (omega arith) (omega arith) (omega arith) in
-      let ac = framed_agree f {z = o.regions} h.ground.depth words.base (omega arith) (omega arith) (omega arith) (omega arith) in
+      let ac = framed_agree f {z = o.regions} h.footing.depth words.base (omega arith) (omega arith) (omega arith) (omega arith) in
       let mf = mode_few a in
       let mi = r.mode_is in
       let k1 = top-cost in
@@ -223,7 +223,7 @@ module _ {s : Source} {R : Realm s} {mem out : List ℕ} {m : Machine} {x : Resu
                   slots = omega arith;
                   first = h.at.first;
                   width = h.at.width;
-                  seen = slotted_kept mem mem' h.ground.scope h.ground.env (λ j p q. let y = h.at.width in let y' = h.at.first in f.below j (omega arith) ∙ ag.slots j (omega arith) (omega arith)) h.at.seen;
+                  seen = slotted_kept mem mem' h.footing.scope h.footing.env (λ j p q. let y = h.at.width in let y' = h.at.first in f.below j (omega arith) ∙ ag.slots j (omega arith) (omega arith)) h.at.seen;
                   low = let y = r.base-is in omega arith;
                   lower = let y = r.base-is in let y' = r.lower in omega arith;
                   high = let y = r.base-is in omega arith;
@@ -237,7 +237,7 @@ module _ {s : Source} {R : Realm s} {mem out : List ℕ} {m : Machine} {x : Resu
                   lies_fold = subst (λ (j : ℕ). Lies (free_of mem') j n.top r.new.other (length (folded G))) (sym r.base-is) (lies_more ab.more r.lies_fold);
                   holds = r.holds;
                   waits = r.waits;
-                }) (subst (λ (j : ℕ). Stack R o mem' h.rest h.ground.scope h.ground.depth j (m.frames + frame_words) h.ground.limit) (sym r.base-is)
+                }) (subst (λ (j : ℕ). Stack R o mem' h.rest h.footing.scope h.footing.depth j (m.frames + frame_words) h.footing.limit) (sym r.base-is)
                 (stack_kept h.stack (agree_then ag ac))));
             here = record {
               mode = r.mode_is;

@@ -7,16 +7,16 @@ use Rattle.language.specs.Tokens.{Token}
 use Rattle.language.specs.Tree.{Expr, Definition, Defined, Enumerated, Spec}
 use Rattle.language.specs.DeclaredNames.{Declared, Identifies, Table, find, Port}
 use Rattle.language.specs.Expansion.{Context, context_of, define, define_all}
-use Rattle.language.specs.Laws.Basics.Lists.{All}
-use Rattle.language.specs.Laws.Basics.Tests.{split}
-use Rattle.language.specs.Laws.Basics.Results.{Within}
-use Rattle.language.specs.Laws.Values.NameLaws.{find-within, defined_ports}
+use Rattle.language.proofs.Laws.Basics.Lists.{All}
+use Rattle.language.proofs.Laws.Basics.Tests.{split}
+use Rattle.language.proofs.Laws.Basics.Results.{Within}
+use Rattle.language.proofs.Laws.Values.NameLaws.{find-within, defined_ports}
 use Rattle.names.specs.Resolved.{Stored, Resolved}
 use Rattle.name_values.specs.World.{Meaning, Stands, Defines, NoValue, meaning_at}
 use Rattle.name_values.specs.Worlds.{in_table, behind}
 use Rattle.name_values.specs.Worked.{Worked, definitions_start, world_in}
-use Rattle.name_values.specs.WorkedLaws.{tree_worked}
-use Rattle.name_values.specs.BodiesLaws.{world-all, bodies, ported}
+use Rattle.name_values.proofs.WorkedLaws.{tree_worked}
+use Rattle.name_values.proofs.BodiesLaws.{world-all, bodies, ported}
 use Rattle.choices.specs.StoredWords.{Short}
 use Rattle.operands.specs.Working.{source}
 use Rattle.machine.specs.Realm.{Plain, Operand}

@@ -4,9 +4,9 @@ use Rattle.std.proofs.Common.{arith}
 use Rattle.language.specs.Tree.{Identifier, Parameter, Declaration, OneSignal, OfWidth, OfType, Definition, Defined, Enumerated, Spec}
 use Rattle.language.specs.Words.{words_in}
 use Rattle.language.specs.DeclaredNames.{Constant, Table, identified, identifiers, as_declared, turns, waiting, constants, inputs, outputs, declarations}
-use Rattle.language.specs.Laws.Basics.Lists.{All, all_more, all_append, all_left, all_right}
-use Rattle.language.specs.Laws.Basics.Results.{Within, done, bind, bind_any}
-use Rattle.language.specs.Laws.Values.RegularWords.{RegularDefinition}
+use Rattle.language.proofs.Laws.Basics.Lists.{All, all_more, all_append, all_left, all_right}
+use Rattle.language.proofs.Laws.Basics.Results.{Within, done, bind, bind_any}
+use Rattle.language.proofs.Laws.Values.RegularWords.{RegularDefinition}
 use Rattle.choices.specs.StoredWords.{Short}
 use Rattle.notes.specs.FirstTable.{first_table}
 use Rattle.memory_notes.specs.ShortTables.{ShortWords, ShortTable}

@@ -1,7 +1,7 @@
 -- Tables of declared names in which the words of enumerations are short.
 use Rattle.language.specs.DeclaredNames.{Declared, Constant, Single, BusOf, Identifies, WaitingBus, Table}
 use Rattle.language.specs.Lists.{All}
-use Rattle.language.specs.Laws.Values.NameLaws.{Entries}
+use Rattle.language.proofs.Laws.Values.NameLaws.{Entries}
 use Rattle.choices.specs.StoredWords.{Short}
 
 -- a declared name's words, if it is an identifier, are short

@@ -11,20 +11,20 @@ use Rattle.language.specs.Names.{Names, declared_again}
 use Rattle.language.specs.DeclaredNames.{Declared, Constant, Single, BusOf, Identifies, WaitingBus, find, Port, Declarations, declarations}
 use Rattle.language.specs.Numbering.{in_order, signals_of, first_of, signal_list, too_many_signals}
 use Rattle.language.specs.Expansion.{context_of}
-use Rattle.language.specs.Laws.Basics.Lists.{All, all_both, all_left, all_right, all_any, all_more}
-use Rattle.language.specs.Laws.Basics.Tests.{split, same_refl}
-use Rattle.language.specs.Laws.Basics.Results.{Within}
-use Rattle.language.specs.Laws.Values.DistinctNames.{Distinct}
-use Rattle.language.specs.Laws.Values.NameLaws.{find-named}
-use Rattle.language.specs.Laws.Values.PortLaws.{NamesPort, EntryPorted, ports_distinct, table-ported}
-use Rattle.language.specs.Laws.Values.SignalLaws.{PortListed, ports_listed, signals_few}
+use Rattle.language.proofs.Laws.Basics.Lists.{All, all_both, all_left, all_right, all_any, all_more}
+use Rattle.language.proofs.Laws.Basics.Tests.{split, same_refl}
+use Rattle.language.proofs.Laws.Basics.Results.{Within}
+use Rattle.language.proofs.Laws.Values.DistinctNames.{Distinct}
+use Rattle.language.proofs.Laws.Values.NameLaws.{find-named}
+use Rattle.language.proofs.Laws.Values.PortLaws.{NamesPort, EntryPorted, ports_distinct, table-ported}
+use Rattle.language.proofs.Laws.Values.SignalLaws.{PortListed, ports_listed, signals_few}
 use Rattle.names.specs.References.{number_in}
-use Rattle.names.specs.NumberingLaws.{number_same, number_other}
+use Rattle.names.proofs.NumberingLaws.{number_same, number_other}
 use Rattle.names.specs.Resolved.{declared_names}
 use Rattle.name_values.specs.World.{Meaning, Stands, Defines, NoValue, World, numbered, name_at, meaning_at}
 use Rattle.name_values.specs.Worlds.{in_table, meaning}
 use Rattle.name_values.specs.Worked.{definitions_start, world_in}
-use Rattle.names.specs.WalkBinders.{number-text}
+use Rattle.names.proofs.WalkBinders.{number-text}
 use Rattle.memory_notes.specs.Laid.{FirstSignals}
 use Rattle.memory_notes.specs.RealmLaws.{behind-keeps}
 

@@ -2,15 +2,15 @@
 use Rattle.std.specs.Prelude.{ℕ, ◌+◌, ◌≤◌, ◌<◌, ◌≡◌, List, [], ◌∷◌, length, get_or, take, drop}
 use Rattle.std.proofs.Common.{sym, ap, ◌∙◌, length-take, length-drop, length-take-le, get_or-take, get_or-drop, ext_get_or, arith, le-leb}
 use Rattle.node.specs.Result.{Done}
-use Rattle.node.specs.ResultLaws.{guard-pass}
+use Rattle.node.proofs.ResultLaws.{guard-pass}
 use Rattle.language.specs.Limits.{max_number, max_elements}
 use Rattle.language.specs.Operators.{Combination, Cap}
 use Rattle.language.specs.Sets.{member_of, combine}
 use Rattle.language.specs.Values.{limited}
-use Rattle.language.specs.Laws.Basics.Lists.{All}
-use Rattle.language.specs.Laws.Basics.Results.{Within}
-use Rattle.language.specs.Laws.Values.SetLaws.{Ascending, insert_ascending, keep_fewer, combine_ascending}
-use Rattle.language.specs.Laws.Values.ValueLaws.{SaneNumber, SaneSet, limited_sane}
+use Rattle.language.proofs.Laws.Basics.Lists.{All}
+use Rattle.language.proofs.Laws.Basics.Results.{Within}
+use Rattle.language.proofs.Laws.Values.SetLaws.{Ascending, insert_ascending, keep_fewer, combine_ascending}
+use Rattle.language.proofs.Laws.Values.ValueLaws.{SaneNumber, SaneSet, limited_sane}
 use Rattle.memory_sets.specs.declared.Span.{Span}
 use Rattle.memory_sets.specs.Places.{elements_at, Two}
 use Rattle.memory_sets.specs.Sorting.{set_of}

@@ -3,9 +3,9 @@ use Rattle.std.specs.Prelude.{ℕ, ◌+◌, ◌≤◌, ◌<◌, List, ◌≡◌,
 use Rattle.std.proofs.Common.{sym, ap, ap₂, ◌∙◌, subst, arith}
 use Rattle.node.specs.Limits.{max_nodes}
 use Rattle.node.specs.Ltl.{Formula}
-use Rattle.node.specs.PostorderLaws.{size_pos}
+use Rattle.node.proofs.PostorderLaws.{size_pos}
 use Rattle.node.specs.Result.{Result, Done, Refused, ◌>>=◌}
-use Rattle.node.specs.ResultLaws.{not_done}
+use Rattle.node.proofs.ResultLaws.{not_done}
 use Rattle.writing.specs.WritingLaws.{ends}
 use Rattle.writing.specs.Parts.{Stands as StandsAt}
 use Rattle.writing.specs.PartLaws.{stands}

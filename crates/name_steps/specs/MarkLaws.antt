@@ -1,7 +1,7 @@
 -- A definition's nodes by their note.
 use Rattle.std.specs.Prelude.{ℕ, ◌+◌, ◌/◌, ◌%◌, ◌≤◌, ◌<◌, List, ◌≡◌}
 use Rattle.std.proofs.Common.{ap, ◌∙◌, subst, arith}
-use Rattle.node.specs.FieldLaws.{above_join, below-join}
+use Rattle.node.proofs.FieldLaws.{above_join, below-join}
 use Rattle.node.specs.Limits.{max_nodes, field_bits, field_limit}
 use Rattle.node.specs.Postorder.{size}
 use Rattle.writing.specs.Writing.{Puts}

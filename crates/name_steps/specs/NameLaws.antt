@@ -5,7 +5,7 @@ use Rattle.std.proofs.lemmas.Bool.{eqb-false}
 use Rattle.node.specs.Limits.{max_nodes, field_limit}
 use Rattle.node.specs.Ltl.{Formula, Signal}
 use Rattle.node.specs.Result.{Result, ◌>>=◌}
-use Rattle.node.specs.ResultLaws.{bind_at, bind_to, bind_refused, bind_value}
+use Rattle.node.proofs.ResultLaws.{bind_at, bind_to, bind_refused, bind_value}
 use Rattle.writing.specs.Writing.{Wrote}
 use Rattle.language.specs.Limits.{max_names}
 use Rattle.language.specs.Tokens.{Token}
@@ -17,7 +17,7 @@ use Rattle.language.specs.Expansion.{expansion}
 use Rattle.entries.specs.Kinds as Kind
 use Rattle.name_values.specs.World.{Meaning, name_value, formed, meaning_at}
 use Rattle.name_values.specs.Facts.{IsBus}
-use Rattle.name_values.specs.UsedLaws.{used-formula, used_no_formula}
+use Rattle.name_values.proofs.UsedLaws.{used-formula, used_no_formula}
 use Rattle.name_values.specs.Sorts as Sort
 use Rattle.operands.specs.Working.{Source}
 use Rattle.machine.specs.Fields.{note_number, note_address, note_mark}

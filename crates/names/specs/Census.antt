@@ -2,7 +2,7 @@
 use Rattle.std.specs.Prelude.{ℕ, ◌≤◌, List, ◌≡◌, length}
 use Rattle.language.specs.Limits.{max_names}
 use Rattle.language.specs.Names.{doubled}
-use Rattle.language.specs.Laws.Basics.Lists.{All}
+use Rattle.language.proofs.Laws.Basics.Lists.{All}
 use Rattle.entries.specs.Kinds as Kind
 use Rattle.names.specs.Tables.{no_place, place_of, least, Placed}
 use Rattle.names.specs.Walkable.{Walkable, Table}

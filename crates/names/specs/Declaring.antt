@@ -4,7 +4,7 @@ use Rattle.std.proofs.Common.{sym, ap, ◌∙◌, arith, leb-true, le-leb}
 use Rattle.std.proofs.lemmas.Bool.{lt-leb}
 use Rattle.language.specs.Tree.{Expr}
 use Rattle.language.specs.Names.{Names}
-use Rattle.language.specs.Laws.Basics.Lists.{All, all_more}
+use Rattle.language.proofs.Laws.Basics.Lists.{All, all_more}
 use Rattle.entries.specs.Kinds as Kind
 use Rattle.entries.specs.Flat.{Entry, flat}
 use Rattle.entries.specs.FlatLaws.{flat-inside}

@@ -1,7 +1,7 @@
 -- Declared names that meet names of their spelling, one entry after the other from the last to the first (refusal 7 among declared names).
 use Rattle.std.specs.Prelude.{ℕ, List, ◌≡◌, drop}
 use Rattle.language.specs.Names.{Names, doubled}
-use Rattle.language.specs.Laws.Basics.Lists.{All}
+use Rattle.language.proofs.Laws.Basics.Lists.{All}
 use Rattle.names.specs.Declaring.{declared_in}
 use Rattle.names.specs.Tables.{place_of, least, Placed}
 use Rattle.names.specs.Walkable.{Walkable, Table}

@@ -3,7 +3,7 @@ use Rattle.std.specs.Prelude.{ℕ, ◌≤◌, ◌<◌, List, [], ◌∷◌, Bool
 use Rattle.std.proofs.Math.Option.{none, some}
 use Rattle.language.specs.Limits.{max_tokens}
 use Rattle.language.specs.Tokens.{Token, Name, is_of, tokens}
-use Rattle.language.specs.Laws.Basics.Lists.{All}
+use Rattle.language.proofs.Laws.Basics.Lists.{All}
 use Rattle.entries.specs.Kinds as Kind
 use Rattle.entries.specs.Flat.{Entry}
 use Rattle.entries.specs.Stored.{EntriesFrom}

@@ -15,15 +15,3 @@ pub mod Formed
 pub mod Postorder
 pub mod Written
 pub mod Tests
-pub mod LogicLaws
-pub mod TemporalLaws
-pub mod LtlLaws
-pub mod FieldLaws
-pub mod KindLaws
-pub mod ResultLaws
-pub mod TableLaws
-pub mod Bounds
-pub mod PostorderLaws
-pub mod FormatLaws
-pub mod WrittenLaws
-pub mod Adequacy

@@ -31,9 +31,9 @@ use Rattle.language.specs.Tree.{
   Spec,
 }
 use Rattle.language.specs.DeclaredNames.{inputs, outputs}
-use Rattle.language.specs.Laws.Basics.Lists.{All, all_append, all_more}
-use Rattle.language.specs.Laws.Basics.Tests.{pick, leave}
-use Rattle.language.specs.Laws.Values.PortLaws.{Pairs}
+use Rattle.language.proofs.Laws.Basics.Lists.{All, all_append, all_more}
+use Rattle.language.proofs.Laws.Basics.Tests.{pick, leave}
+use Rattle.language.proofs.Laws.Values.PortLaws.{Pairs}
 use Rattle.entries.specs.Headings.{no_heading}
 use Rattle.entries.specs.Kinds as Kind
 use Rattle.entries.specs.Flat.{Entry, under, leaf, flat, each, flat_parameter, flat_identifier, flat_definition, flat_declaration, flat_line, head, flat_subsection, outline}

@@ -9,18 +9,18 @@ use Rattle.language.specs.Tree.{Named, Identifier, Parameter, Definition, Define
 use Rattle.language.specs.Places.{parameter_lines, definition_lines, main_lines}
 use Rattle.language.specs.Names.{identifier_names, declares as declaresLine, over, declared_again}
 use Rattle.language.specs.DeclaredNames.{Declared, Single, WaitingBus, Table, find, identified, identifiers, words_of_type, waiting, inputs, outputs}
-use Rattle.language.specs.Laws.Basics.Lists.{All, all_any, all_more, all_left, all_right, all_both}
-use Rattle.language.specs.Laws.Basics.Tests.{pick, leave, same_refl}
+use Rattle.language.proofs.Laws.Basics.Lists.{All, all_any, all_more, all_left, all_right, all_both}
+use Rattle.language.proofs.Laws.Basics.Tests.{pick, leave, same_refl}
 use Rattle.language.specs.Listed.{declared_name}
-use Rattle.language.specs.Laws.Values.DistinctNames.{Apart, Distinct, Across, apart_sym, across, distinct_left, distinct_right, declared_names, signals-among, distinct_names, distinct_definitions, distinct_signals, across_sym}
+use Rattle.language.proofs.Laws.Values.DistinctNames.{Apart, Distinct, Across, apart_sym, across, distinct_left, distinct_right, declared_names, signals-among, distinct_names, distinct_definitions, distinct_signals, across_sym}
 use Rattle.entries.specs.Kinds as Kind
 use Rattle.entries.specs.Flat.{Entry, each, flat_parameter, flat_identifier, flat_definition, flat_declaration, outline}
 use Rattle.names.specs.Roles.{declares}
 use Rattle.names.specs.Scan.{token_of}
 use Rattle.names.specs.Walkable.{entry_of}
-use Rattle.name_values.specs.ElsewhereLaws.{own_names, by_identifier, by_declaration, behind_parameters, over_definitions, main_apart}
-use Rattle.name_values.specs.Entrywise.{Every, every_append, every-each, every-at}
-use Rattle.name_values.specs.ToldLaws.{Told, words-told, line-told, main-told}
+use Rattle.name_values.proofs.ElsewhereLaws.{own_names, by_identifier, by_declaration, behind_parameters, over_definitions, main_apart}
+use Rattle.name_values.proofs.Entrywise.{Every, every_append, every-each, every-at}
+use Rattle.name_values.proofs.ToldLaws.{Told, words-told, line-told, main-told}
 use Rattle.notes.specs.FirstTable.{first_table}
 
 -- a signal or a bus before its turn

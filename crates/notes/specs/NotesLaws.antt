@@ -12,15 +12,15 @@ use Rattle.language.specs.Names.{visible, declares, over, declared_again}
 use Rattle.language.specs.Places.{all_lines}
 use Rattle.language.specs.DeclaredNames.{Declared, Table, Port}
 use Rattle.language.specs.Expansion.{Context, context_of, define}
-use Rattle.language.specs.Laws.Basics.Lists.{All, all_more, all_any}
-use Rattle.language.specs.Laws.Basics.Tests.{pick, leave, same_refl, same_equal}
-use Rattle.language.specs.Laws.Values.DistinctNames.{Apart, Distinct, apart_sym, distinct_names}
+use Rattle.language.proofs.Laws.Basics.Lists.{All, all_more, all_any}
+use Rattle.language.proofs.Laws.Basics.Tests.{pick, leave, same_refl, same_equal}
+use Rattle.language.proofs.Laws.Values.DistinctNames.{Apart, Distinct, apart_sym, distinct_names}
 use Rattle.entries.specs.Flat.{flat, flat_definition}
 use Rattle.names.specs.References.{number_in}
 use Rattle.names.specs.Resolved.{declared_names}
 use Rattle.name_values.specs.World.{Meaning, Stands, Defines, NoValue, meaning_at}
 use Rattle.name_values.specs.Worlds.{in_table, behind, meaning, Elsewhere}
-use Rattle.name_values.specs.WorldsLaws.{number_held, elsewhere_text, behind_elsewhere}
+use Rattle.name_values.proofs.WorldsLaws.{number_held, elsewhere_text, behind_elsewhere}
 use Rattle.name_values.specs.Worked.{definitions_start, world_in}
 use Rattle.notes.specs.Notes.{Note, Notes}
 use Rattle.notes.specs.NumberedLaws.{numbered-moved, numbered_other, distinct_pushed}

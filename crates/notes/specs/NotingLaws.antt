@@ -9,7 +9,7 @@ use Rattle.language.specs.Tokens.{tokens}
 use Rattle.language.specs.Grammar.{Tokens}
 use Rattle.language.specs.Tree.{Spec}
 use Rattle.language.specs.DeclaredNames.{find}
-use Rattle.language.specs.Laws.Basics.Tests.{and_left, and_right}
+use Rattle.language.proofs.Laws.Basics.Tests.{and_left, and_right}
 use Rattle.entries.specs.Kinds as Kind
 use Rattle.entries.specs.Flat.{outline}
 use Rattle.entries.specs.Stored.{first_entry, kind_of, EntryAt}
@@ -17,14 +17,14 @@ use Rattle.entries.specs.StoredLaws.{entry-kind}
 use Rattle.names.specs.Roles.{declares}
 use Rattle.names.specs.Scan.{token_of}
 use Rattle.names.specs.Walkable.{entry_of}
-use Rattle.names.specs.WalkableLaws.{stored_at}
+use Rattle.names.proofs.WalkableLaws.{stored_at}
 use Rattle.names.specs.Resolved.{Stored, Resolved}
 use Rattle.name_values.specs.World.{Meaning, NoValue, meaning_at}
 use Rattle.name_values.specs.Worlds.{in_table}
 use Rattle.name_values.specs.Worked.{world_in}
 use Rattle.name_values.specs.Sorts as Sort
-use Rattle.name_values.specs.DeclaringLaws.{declared_by, undeclared}
-use Rattle.name_values.specs.IdentifierLaws.{identifier-at}
+use Rattle.name_values.proofs.DeclaringLaws.{declared_by, undeclared}
+use Rattle.name_values.proofs.IdentifierLaws.{identifier-at}
 use Rattle.notes.specs.Notes.{WordsAt, Note}
 use Rattle.notes.specs.FirstTable.{first_table}
 use Rattle.notes.specs.FirstTableLaws.{first-at}

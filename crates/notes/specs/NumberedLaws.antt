@@ -6,13 +6,13 @@ use Rattle.std.proofs.lemmas.Bool.{eqb-false}
 use Rattle.language.specs.Bytes.{same}
 use Rattle.language.specs.Tokens.{Token}
 use Rattle.language.specs.Names.{Names, visible}
-use Rattle.language.specs.Laws.Basics.Lists.{All, all_more}
-use Rattle.language.specs.Laws.Basics.Tests.{leave, same_equal}
-use Rattle.language.specs.Laws.Values.DistinctNames.{Apart, Distinct, Across, apart_sym}
+use Rattle.language.proofs.Laws.Basics.Lists.{All, all_more}
+use Rattle.language.proofs.Laws.Basics.Tests.{leave, same_equal}
+use Rattle.language.proofs.Laws.Values.DistinctNames.{Apart, Distinct, Across, apart_sym}
 use Rattle.names.specs.References.{number_in, pushed}
-use Rattle.names.specs.NumberingLaws.{number_same, number_other}
+use Rattle.names.proofs.NumberingLaws.{number_same, number_other}
 use Rattle.name_values.specs.World.{numbered}
-use Rattle.name_values.specs.AgreesLaws.{numbered-last}
+use Rattle.name_values.proofs.AgreesLaws.{numbered-last}
 
 numbered_else : {A : Type 0} (other a : A) (l : List A) (r : ℕ) → (r ≡ length l → ⊥) → numbered other (a ∷ l) r ≡ numbered other l r
 unfolding numbered

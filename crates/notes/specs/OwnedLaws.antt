@@ -10,12 +10,12 @@ use Rattle.entries.specs.Flat.{Entry, under, flat, each, flat_parameter, flat_de
 use Rattle.entries.specs.StoredLaws.{entries-right}
 use Rattle.names.specs.Roles.{binds, ends}
 use Rattle.names.specs.Walkable.{names}
-use Rattle.names.specs.WalkBinders.{reference-outside}
+use Rattle.names.proofs.WalkBinders.{reference-outside}
 use Rattle.names.specs.Refers.{run-one}
 use Rattle.names.specs.Resolved.{Stored, declared_names, Resolved}
-use Rattle.names.specs.ResolvedLaws.{resolved_expr, resolved_entry}
+use Rattle.names.proofs.ResolvedLaws.{resolved_expr, resolved_entry}
 use Rattle.name_values.specs.Passing.{Left}
-use Rattle.name_values.specs.PassingLaws.{plain-identifiers, left-same, left_at, left-all, pass-entry, pass-plain, pass-line}
+use Rattle.name_values.proofs.PassingLaws.{plain-identifiers, left-same, left_at, left-all, pass-entry, pass-plain, pass-line}
 use Rattle.name_values.specs.Worked.{definitions_start, main_start, Worked, EachFrom, Parameterwise, Declarationwise, Subsectionwise, TreeWorked}
 use Rattle.notes.specs.ChosenLaws.{InSubsection}
 use Rattle.notes.specs.Owned.{OwnAt, ParameterAt, kind_of, DeclarationAt}

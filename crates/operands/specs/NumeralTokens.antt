@@ -5,8 +5,8 @@ use Rattle.std.proofs.Common.{ap}
 use Rattle.language.specs.Bytes.{is_digit}
 use Rattle.language.specs.Tokens.{Numeral, Token, is_of, run, tokens}
 use Rattle.language.specs.Grammar.{front}
-use Rattle.language.specs.Laws.Basics.Lists.{All}
-use Rattle.language.specs.Laws.Grammar.EveryToken.{tokens-each}
+use Rattle.language.proofs.Laws.Basics.Lists.{All}
+use Rattle.language.proofs.Laws.Grammar.EveryToken.{tokens-each}
 use Rattle.sets.specs.Digits.{digits_at}
 use Rattle.lexer.specs.LexingLaws.{front-all}
 

@@ -7,7 +7,7 @@ use Rattle.std.proofs.Common.{sym, ◌∙◌}
 use Rattle.language.specs.Tokens.{Token, tokens, is}
 use Rattle.language.specs.Operators.{Infix, Prefix, Measures, Size, Window, FinallyIn, GloballyIn, Big, Role, Plain, Counted, Windowed, Folding, InfixRow, PrefixRow}
 use Rattle.language.specs.Spelling.{infix_in, SpellsInfix, prefix_in, prefix_by, SpellsPrefix, window_in, window_by, SpellsWindow, big_in, big_by, SpellsBig, SpellsTruth, SpellsSign}
-use Rattle.language.specs.Laws.Basics.Tests.{some_none}
+use Rattle.language.proofs.Laws.Basics.Tests.{some_none}
 use Rattle.lexer.specs.Numbers.{number, fixed}
 use Rattle.lexer.specs.NumberLaws.{is_number}
 use Rattle.entries.specs.Flat.{Entry, under}

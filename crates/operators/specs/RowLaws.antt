@@ -4,12 +4,12 @@ use Prim.Native.String.{String}
 use Rattle.std.proofs.Common.{arith, sym, ap, ◌∙◌, subst, lit<, ltb-true}
 use Rattle.std.proofs.Math.Option.{Option, none, some}
 use Rattle.node.specs.BitFields.{join, above, below}
-use Rattle.node.specs.FieldLaws.{below-join}
+use Rattle.node.proofs.FieldLaws.{below-join}
 use Rattle.language.specs.Tokens.{Token}
 use Rattle.language.specs.Operators.{Role, Plain, Counted, Windowed, Folding, InfixRow, infixes, PrefixRow, prefixes}
 use Rattle.language.specs.Grammar.{right_level}
-use Rattle.language.specs.Laws.Basics.Tests.{and_left, and_right, some_none}
-use Rattle.language.specs.Cases.Every.{every}
+use Rattle.language.proofs.Laws.Basics.Tests.{and_left, and_right, some_none}
+use Rattle.language.proofs.Cases.Every.{every}
 use Rattle.lexer.specs.Numbers.{number, numbered}
 use Rattle.entries.specs.Kinds as Kind
 use Rattle.operators.specs.Readers.{infix_row, prefix_row, operator_in, operator_at, level_in, level_at, role_in, role_at}
@@ -124,7 +124,10 @@ pub record PrefixFound (t : Token) (x : ℕ) : Type 0 where
   pub window-fits : window_field x < Kind.limit
 
 role_small : (o : Role) → role_number o < 2 ^ role_bits
-role_small o = elim o [ Plain p ↦ lit< tt | Counted ↦ lit< tt | Windowed q ↦ lit< tt | Folding q ↦ lit< tt ]
+role_small (Plain p) = lit< tt
+role_small Counted = lit< tt
+role_small (Windowed q) = lit< tt
+role_small (Folding q) = lit< tt
 
 prefix_found : (t : Token) (r : PrefixRow) → prefix_by (number t) ≡ some r → PrefixFound t (prefix_word (some r))
 unfolding level_at role_at

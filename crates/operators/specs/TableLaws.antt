@@ -9,7 +9,7 @@ use Rattle.std.proofs.Math.Path.{ap}
 use Rattle.language.specs.Tokens.{Token}
 use Rattle.language.specs.Operators.{InfixRow, infixes, PrefixRow, prefixes}
 use Rattle.language.specs.Grammar.{named, infix_of, prefix_of}
-use Rattle.language.specs.Laws.Basics.Tests.{and_left, and_right, leave}
+use Rattle.language.proofs.Laws.Basics.Tests.{and_left, and_right, leave}
 use Rattle.lexer.specs.Numbers.{number, fixed, numbered}
 use Rattle.lexer.specs.NumberLaws.{known, named-number}
 use Rattle.operators.specs.Readers.{infix_row, prefix_row}

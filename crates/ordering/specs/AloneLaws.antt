@@ -9,9 +9,9 @@ use Rattle.node.specs.Kinds.{Shape, Truth, Falsehood, Atom, UnaryOf, BinaryOf, U
 use Rattle.node.specs.Tests.{and_right}
 use Rattle.node.specs.Table.{tree_at, fits}
 use Rattle.node.specs.Formed.{Formed}
-use Rattle.node.specs.PostorderLaws.{tree-signals}
+use Rattle.node.proofs.PostorderLaws.{tree-signals}
 use Rattle.sharing.specs.Sharing.{distinct_nodes, distinct_count}
-use Rattle.sharing.specs.LastLaws.{last-number}
+use Rattle.sharing.proofs.LastLaws.{last-number}
 use Rattle.shared_table.specs.Shared.{capacity, Shares}
 use Rattle.shared_table.specs.SharedLaws.{shares_few}
 use Rattle.ordering.specs.Ordering.{Orderable, Orders}

@@ -14,10 +14,10 @@ use Rattle.node.specs.Kinds.{Shape, Truth, Falsehood, Atom, UnaryOf, BinaryOf, U
 use Rattle.node.specs.Tests.{and_left, and_right}
 use Rattle.node.specs.Formed.{Formed}
 use Rattle.node.specs.Table.{tree_at, fits, node_fits}
-use Rattle.node.specs.TableLaws.{tree-step}
+use Rattle.node.proofs.TableLaws.{tree-step}
 use Rattle.sharing.specs.Sharing.{Placed, place, write}
-use Rattle.sharing.specs.StandsLaws.{Found, found_adds}
-use Rattle.sharing.specs.FormedLaws.{kind_for, kind_for_lem, fits-used}
+use Rattle.sharing.proofs.StandsLaws.{Found, found_adds}
+use Rattle.sharing.proofs.FormedLaws.{kind_for, kind_for_lem, fits-used}
 use Rattle.ordering.specs.declared.Next.TheVariants.{Operand, Word}
 use Rattle.ordering.specs.Ordering.{arity, numbered, next_by, next_of, Readable}
 use Rattle.ordering.specs.FirstLaws.{First, itself, operand, left, right}

@@ -3,7 +3,7 @@
 use Rattle.std.specs.Prelude.{ℕ, suc, ◌+◌, ◌-◌, ◌≤◌, ◌<◌, ◌≡◌, refl, List, ◌≢◌, get_or, set}
 use Rattle.std.proofs.Common.{◌∙◌, subst, sym, get_or-set_other, arith}
 use Rattle.node.specs.Ltl.{Formula}
-use Rattle.sharing.specs.WriteLaws.{Grows}
+use Rattle.sharing.proofs.WriteLaws.{Grows}
 use Rattle.ordering.specs.FirstLaws.{First, itself, first-grows, first_more}
 
 -- node i comes next, and d nodes wait for it: those in `waiting`, of which the first is the root

@@ -5,8 +5,8 @@ use Rattle.node.specs.Ltl.{Unary, Binary, Formula, One, Two}
 use Rattle.node.specs.Fields.{pack}
 use Rattle.node.specs.Kinds.{unary_kind, binary_kind}
 use Rattle.sharing.specs.Sharing.{Placed, place, write}
-use Rattle.sharing.specs.WriteLaws.{Grows, write-grows}
-use Rattle.sharing.specs.StandsLaws.{Found, found-grows, found-written, found_adds}
+use Rattle.sharing.proofs.WriteLaws.{Grows, write-grows}
+use Rattle.sharing.proofs.StandsLaws.{Found, found-grows, found-written, found_adds}
 
 -- g is what is written next of a formula behind table t: the formula itself, or what is written next of its first operand that does not stand
 pub data First (t : List ℕ) (g : Formula) : Formula → Type 0 where

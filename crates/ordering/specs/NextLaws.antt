@@ -5,8 +5,8 @@ use Rattle.node.specs.Limits.{max_nodes, field_limit, kind_limit}
 use Rattle.node.specs.Fields.{pack, kind_of, first_of, second_of}
 use Rattle.node.specs.Ltl.{Not, X, F}
 use Rattle.node.specs.Kinds.{kind_count, unary_kind, has_two}
-use Rattle.node.specs.KindLaws.{by_kind, no_shape}
-use Rattle.sharing.specs.FormedLaws.{split-pack}
+use Rattle.node.proofs.KindLaws.{by_kind, no_shape}
+use Rattle.sharing.proofs.FormedLaws.{split-pack}
 use Rattle.ordering.specs.declared.Next.{Next}
 use Rattle.ordering.specs.declared.Next.TheVariants.{Operand, Word}
 use Rattle.ordering.specs.Ordering.{arity_of, numbered, next_by, next_of, Readable}

@@ -9,9 +9,9 @@ use Rattle.node.specs.Limits.{max_nodes}
 use Rattle.node.specs.Table.{tree_at}
 use Rattle.node.specs.Formed.{Formed}
 use Rattle.sharing.specs.Sharing.{Placed, position, having, place, write}
-use Rattle.sharing.specs.PlaceLaws.{having-inside}
-use Rattle.sharing.specs.WriteLaws.{grows-length, having-grows, write-grows}
-use Rattle.sharing.specs.StandsLaws.{Found, found_inside, found-grows, found-written}
+use Rattle.sharing.proofs.PlaceLaws.{having-inside}
+use Rattle.sharing.proofs.WriteLaws.{grows-length, having-grows, write-grows}
+use Rattle.sharing.proofs.StandsLaws.{Found, found_inside, found-grows, found-written}
 use Rattle.shared_table.specs.Shared.{capacity, Shares, Shared, Put, Puts}
 use Rattle.shared_table.specs.SharedLaws.{shares_few, shares_one}
 use Rattle.ordering.specs.declared.Next.TheVariants.{Operand, Word}

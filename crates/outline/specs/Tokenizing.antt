@@ -10,7 +10,7 @@ use Rattle.language.specs.Tokens.{End, Wrong, is_of, tokens}
 use Rattle.language.specs.Grammar.{Tokens, front}
 use Rattle.language.specs.Tree.{Spec}
 use Rattle.language.specs.Sections.{spec_of}
-use Rattle.language.specs.Laws.Grammar.TokenLaws.{Ends, tokens-end}
+use Rattle.language.proofs.Laws.Grammar.TokenLaws.{Ends, tokens-end}
 use Rattle.lexer.specs.Lexing.{lexing, Lexical}
 use Rattle.lexer.specs.LexingLaws.{lexical, token-stands, token-right}
 use Rattle.lexer.specs.declared.Lexed.{Lexed as Lexing}

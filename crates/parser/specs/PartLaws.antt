@@ -2,7 +2,7 @@
 use Rattle.std.specs.Prelude.{ℕ, suc, [], ◌∷◌, true, false, ◌≡◌, length}
 use Rattle.std.proofs.Common.{sym, ◌∙◌}
 use Rattle.node.specs.Result.{Done, ◌>>=◌}
-use Rattle.node.specs.ResultLaws.{bind_again, bind_at, bind_same}
+use Rattle.node.proofs.ResultLaws.{bind_again, bind_at, bind_same}
 use Rattle.language.specs.Tokens.{Name, is_of}
 use Rattle.language.specs.Grammar.{Tokens, front, expect, expect_of}
 use Rattle.language.specs.Sections.{words_of, identifiers_of}

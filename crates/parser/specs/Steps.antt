@@ -3,11 +3,11 @@
 use Rattle.std.specs.Prelude.{ℕ, suc, List, [], ◌∷◌, ◌++◌, true, false, ◌≡◌, refl}
 use Rattle.std.proofs.Common.{append_assoc, sym, ap, ◌∙◌}
 use Rattle.node.specs.Result.{Result, Done, Refused, ◌>>=◌}
-use Rattle.node.specs.ResultLaws.{bind_refused, bind_to}
+use Rattle.node.proofs.ResultLaws.{bind_refused, bind_to}
 use Rattle.language.specs.Tokens.{Token, Marks}
 use Rattle.language.specs.Grammar.{Tokens, Read, rest, next, expect, expect_of}
 use Rattle.language.specs.Sections.{lines_of, words_of, tag_of, tags_of}
-use Rattle.language.specs.Laws.Basics.Tests.{pick, leave}
+use Rattle.language.proofs.Laws.Basics.Tests.{pick, leave}
 
 pub then_id : {A B : Type 0} (r : Result (A × B)) → r ≡ (r >>= λ (a, b). Done (a, b))
 unfolding ◌>>=◌

@@ -5,10 +5,10 @@ use Rattle.language.specs.Bytes.{same}
 use Rattle.language.specs.Tokens.{Token}
 use Rattle.language.specs.DeclaredNames.{Port}
 use Rattle.language.specs.Numbering.{signals_of, first_of}
-use Rattle.language.specs.Laws.Basics.Lists.{All, all_more}
-use Rattle.language.specs.Laws.Basics.Tests.{pick, leave, same_refl}
-use Rattle.language.specs.Laws.Values.DistinctNames.{Apart, Distinct}
-use Rattle.language.specs.Laws.Values.PortLaws.{port_names}
+use Rattle.language.proofs.Laws.Basics.Lists.{All, all_more}
+use Rattle.language.proofs.Laws.Basics.Tests.{pick, leave, same_refl}
+use Rattle.language.proofs.Laws.Values.DistinctNames.{Apart, Distinct}
+use Rattle.language.proofs.Laws.Values.PortLaws.{port_names}
 use Rattle.ports.specs.Firsts.{numbered_from, Separate}
 
 pub numbered-length : (R : Token → ℕ) (n : ℕ) (ps : List Port) (firsts : List ℕ) → length (numbered_from R n ps firsts) ≡ length firsts

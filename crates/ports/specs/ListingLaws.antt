@@ -8,9 +8,9 @@ use Rattle.language.specs.Limits.{max_signals}
 use Rattle.language.specs.Tokens.{Token}
 use Rattle.language.specs.DeclaredNames.{Port}
 use Rattle.language.specs.Numbering.{signals_of, entries, signal_list, too_many_signals}
-use Rattle.language.specs.Laws.Basics.Tests.{pick, leave}
+use Rattle.language.proofs.Laws.Basics.Tests.{pick, leave}
 use Rattle.language.specs.Listed.{flag}
-use Rattle.language.specs.Laws.Values.SignalLaws.{list_length, length-entries}
+use Rattle.language.proofs.Laws.Values.SignalLaws.{list_length, length-entries}
 use Rattle.ports.specs.Ports.{PortsFrom, Ported}
 use Rattle.ports.specs.Firsts.{numbered_from}
 use Rattle.ports.specs.EntryRuns.{run}

@@ -3,16 +3,16 @@ use Rattle.std.specs.Prelude.{ℕ, ◌≤◌, ◌<◌, List, ◌≡◌, length}
 use Rattle.std.proofs.Math.Path.{sym}
 use Rattle.std.proofs.Common.{◌∙◌, le-leb}
 use Rattle.node.specs.Result.{◌>>=◌}
-use Rattle.node.specs.ResultLaws.{guard-pass}
+use Rattle.node.proofs.ResultLaws.{guard-pass}
 use Rattle.node.specs.declared.Answer.{Answer}
 use Rattle.basics.specs.Clearing.{cleared}
 use Rattle.words.specs.ClearingLaws.{cleared-same}
 use Rattle.language.specs.Limits.{work_bytes}
 use Rattle.language.specs.Reading.{text_expansion, delivered, reading}
-use Rattle.language.specs.Laws.Buffers.{work_short, work_long, short_refused}
+use Rattle.language.proofs.Laws.Buffers.{work_short, work_long, short_refused}
 use Rattle.claim.specs.Reads.{Reads}
-use Rattle.claim.specs.ReadsLaws.{reads}
-use Rattle.ending.specs.HandsLaws.{hands_as, hands_refused}
+use Rattle.claim.proofs.ReadsLaws.{reads}
+use Rattle.ending.proofs.HandsLaws.{hands_as, hands_refused}
 use Rattle.reader.specs.Answers.{Answers}
 
 module _ (text : List ℕ) {work nodes signals : List ℕ} where

@@ -7,12 +7,12 @@ use Rattle.language.specs.Tokens.{tokens}
 use Rattle.language.specs.Tree.{Spec}
 use Rattle.language.specs.DeclaredNames.{Port, Declarations}
 use Rattle.language.specs.Numbering.{in_order, first_of}
-use Rattle.language.specs.Laws.Basics.Lists.{All, all_any, all_more, all_both}
-use Rattle.language.specs.Laws.Values.RegularWords.{Regular}
-use Rattle.language.specs.Laws.Values.PortLaws.{ports_distinct}
-use Rattle.language.specs.Laws.Values.SignalLaws.{ports_listed, signals_few}
+use Rattle.language.proofs.Laws.Basics.Lists.{All, all_any, all_more, all_both}
+use Rattle.language.proofs.Laws.Values.RegularWords.{Regular}
+use Rattle.language.proofs.Laws.Values.PortLaws.{ports_distinct}
+use Rattle.language.proofs.Laws.Values.SignalLaws.{ports_listed, signals_few}
 use Rattle.names.specs.References.{number_in}
-use Rattle.names.specs.ResolvedLaws.{number-below}
+use Rattle.names.proofs.ResolvedLaws.{number-below}
 use Rattle.names.specs.Resolved.{declared_names}
 use Rattle.ports.specs.declared.Signals.{Signals}
 use Rattle.ports.specs.declared.Signals.TheVariants.{Listed, TooMany}

@@ -9,15 +9,15 @@ use Rattle.language.specs.Tree.{Spec}
 use Rattle.language.specs.DeclaredNames.{Declarations, declarations}
 use Rattle.language.specs.Parsing.{parsed}
 use Rattle.language.specs.Reading.{delivered}
-use Rattle.language.specs.Laws.Grammar.Parses.{parses}
-use Rattle.language.specs.Laws.Values.RegularWords.{regular-words}
+use Rattle.language.proofs.Laws.Grammar.Parses.{parses}
+use Rattle.language.proofs.Laws.Values.RegularWords.{regular-words}
 use Rattle.parser.specs.declared.Facts.{Facts}
 use Rattle.checked.specs.declared.Counts.{Counts}
 use Rattle.checked.specs.declared.Checked.{Checked as Answered}
 use Rattle.checked.specs.declared.Checked.TheVariants.{Accepted as Passed, Refused as NotPassed}
 use Rattle.checked.specs.Checking.{Tree, Checks}
-use Rattle.ending.specs.EndingsLaws.{text-refused, text-parsed}
-use Rattle.ending.specs.HandsLaws.{hands_as, hands_refused}
+use Rattle.ending.proofs.EndingsLaws.{text-refused, text-parsed}
+use Rattle.ending.proofs.HandsLaws.{hands_as, hands_refused}
 use Rattle.reader.specs.Answers.{Answers}
 use Rattle.checked.specs.AnswerLaws.{accepted, refused, tree-parsed as only-tree}
 use Rattle.line_counts.specs.Promise.{CountsOf}

@@ -6,7 +6,7 @@ use Rattle.node.specs.Limits.{max_nodes}
 use Rattle.node.specs.Ltl.{Formula}
 use Rattle.node.specs.Written.{count}
 use Rattle.node.specs.Result.{Result, Done, Refused, ◌>>=◌}
-use Rattle.node.specs.ResultLaws.{not_done, bind_to, bind_refused}
+use Rattle.node.proofs.ResultLaws.{not_done, bind_to, bind_refused}
 use Rattle.node.specs.Answer.{says}
 use Rattle.node.specs.declared.Answer.{Answer}
 use Rattle.node.specs.declared.Answer.TheVariants.{Accepted}
@@ -17,14 +17,14 @@ use Rattle.language.specs.Lines.{lines}
 use Rattle.language.specs.Expansion.{Sections, gather, at_signals, define_all, expand_section, section, whole, expand}
 use Rattle.language.specs.Shifting.{adapted}
 use Rattle.language.specs.Reading.{NumberedFormula, delivered}
-use Rattle.language.specs.Laws.Meaning.ShiftLaws.{shifted-count}
+use Rattle.language.proofs.Laws.Meaning.ShiftLaws.{shifted-count}
 use Rattle.parser.specs.declared.Facts.{Facts}
 use Rattle.ports.specs.declared.Signals.{Signals}
 use Rattle.ports.specs.declared.Signals.TheVariants.{Listed, TooMany}
 use Rattle.assembly.specs.Gathered.{in_turn, extent, Lined}
 use Rattle.assembly.specs.WholeLaws.{whole-count}
 use Rattle.ending.specs.Endings.{ended}
-use Rattle.ending.specs.EndingsLaws.{too_many_lem, few_signals_lem, too_large}
+use Rattle.ending.proofs.EndingsLaws.{too_many_lem, few_signals_lem, too_large}
 use Rattle.ending.specs.Listing.{start_of, Listing}
 use Rattle.ending.specs.Finishing as Ending
 use Rattle.ending.specs.Finishing.{Complete}

@@ -15,8 +15,8 @@ use Rattle.lines.specs.declared.Gathering.TheVariants.{Lines}
 use Rattle.lines.specs.Gathering as Walk
 use Rattle.lines.specs.Gathering.{buffers, Sizes, Formulas}
 use Rattle.lines.specs.Whole.{Given, SomeGiven, Gathers}
-use Rattle.ending.specs.EndingsLaws.{line_refused}
-use Rattle.ending.specs.HandsLaws.{hands_refused}
+use Rattle.ending.proofs.EndingsLaws.{line_refused}
+use Rattle.ending.proofs.HandsLaws.{hands_refused}
 use Rattle.ending.specs.Listing.{start_of}
 use Rattle.ending.specs.Finishing.{Complete, SomeComplete}
 use Rattle.reader.specs.declared.expansion.Named.{Named}

@@ -9,7 +9,7 @@ use Rattle.language.specs.Limits.{max_signals}
 use Rattle.language.specs.Tree.{Spec}
 use Rattle.language.specs.Numbering.{in_order, signal_list}
 use Rattle.language.specs.Reading.{spec_expansion, delivered}
-use Rattle.language.specs.Laws.Values.SignalLaws.{signals_few}
+use Rattle.language.proofs.Laws.Values.SignalLaws.{signals_few}
 use Rattle.ports.specs.declared.Signals.{Signals}
 use Rattle.ports.specs.declared.Signals.TheVariants.{Listed, TooMany}
 use Rattle.assembly.specs.declared.implied.Ports.{Ports}
@@ -19,9 +19,9 @@ use Rattle.declarations.specs.declared.Declarations.{Declarations as Told}
 use Rattle.declarations.specs.Promise as Promise
 use Rattle.declarations.specs.Expressions.{MemoryRoom}
 use Rattle.declarations.specs.Promise.{Checked, SignalsAre, WorkedOut, Declares}
-use Rattle.ending.specs.EndingsLaws.{declarations-refused, declarations-done}
+use Rattle.ending.proofs.EndingsLaws.{declarations-refused, declarations-done}
 use Rattle.ending.specs.Hands.{Hands}
-use Rattle.ending.specs.HandsLaws.{hands_as, hands_refused}
+use Rattle.ending.proofs.HandsLaws.{hands_as, hands_refused}
 use Rattle.ending.specs.Listing.{Listing}
 use Rattle.line_counts.specs.Promise.{CountsOf}
 use Rattle.reader.specs.declared.expansion.CheckedTree.{CheckedTree}

@@ -5,7 +5,7 @@ use Rattle.std.proofs.lemmas.Bool.{lt-leb}
 use Rattle.basics.specs.Told.{max_told}
 use Rattle.node.specs.Result.{Result, Done, Refused, ◌>>=◌, guard}
 use Rattle.node.specs.Tests.{and_left, and_right}
-use Rattle.node.specs.ResultLaws.{guard-pass, guard-stop, guard-done, guard-refused, not_done}
+use Rattle.node.proofs.ResultLaws.{guard-pass, guard-stop, guard-done, guard-refused, not_done}
 use Rattle.recordings.specs.Limits.{max_positions, signal_bits, header_bytes, header_bits, told}
 use Rattle.bits.specs.Bits.{bit_at, width}
 use Rattle.bits.specs.BitLaws.{number_lt}

@@ -1,9 +1,1 @@
 pub mod Refusals
-pub mod Places
-pub mod LevelLaws
-pub mod LineLaws
-pub mod UseLaws
-pub mod CountLaws
-pub mod MarkTokens
-pub mod WordLaws
-pub mod Refused

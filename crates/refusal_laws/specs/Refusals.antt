@@ -39,7 +39,7 @@ use Rattle.language.specs.Sections.{spec_of}
 use Rattle.language.specs.Places.{start, TextLine, ParameterLine, DefinitionLine, DeclarationLine, FormulaLine}
 use Rattle.language.specs.Listed.{declared_name}
 use Rattle.language.specs.Meaning.{Word, Matches, MatchesOne}
-use Rattle.language.specs.Laws.Basics.Lists.{All}
+use Rattle.language.proofs.Laws.Basics.Lists.{All}
 
 -- some element is as Q says
 abbrev pub Among : {A : Type 0} → (A → Type 0) → List A → Type 0

@@ -8,7 +8,7 @@ use Rattle.node.specs.Limits.{max_nodes, field_limit}
 use Rattle.node.specs.Formed.{Formed}
 use Rattle.node.specs.Ltl.{Formula}
 use Rattle.node.specs.Written.{nodes_of, count}
-use Rattle.node.specs.WrittenLaws.{length_of}
+use Rattle.node.proofs.WrittenLaws.{length_of}
 use Rattle.node.specs.declared.Answer.{Answer}
 use Rattle.node.specs.declared.Answer.TheVariants.{Refused}
 use Rattle.rewriter.specs.RewritingLaws.{fitting_many, fitting_short, fitting-good}

@@ -6,7 +6,7 @@ use Rattle.node.specs.Limits.{max_nodes, field_limit}
 use Rattle.node.specs.Ltl.{Formula}
 use Rattle.node.specs.Postorder.{SignalsBelow}
 use Rattle.node.specs.Written.{nodes_of, count}
-use Rattle.node.specs.WrittenLaws.{table_of, table-root}
+use Rattle.node.proofs.WrittenLaws.{table_of, table-root}
 use Rattle.forms.specs.Forms.{form}
 use Rattle.rewriter.specs.Rewriting.{fitting, rewriting}
 use Rattle.rewriter.specs.RewritingLaws.{rewriting_fit}

@@ -5,18 +5,18 @@ use Rattle.std.proofs.lemmas.Bool.{lt-leb}
 use Rattle.node.specs.Limits.{max_nodes, field_limit}
 use Rattle.node.specs.Ltl.{Formula, Word, Holds}
 use Rattle.node.specs.Result.{Done, Refused, ◌>>=◌, Counts}
-use Rattle.node.specs.ResultLaws.{guard-pass, guard-stop, guard-done, bind_done}
+use Rattle.node.proofs.ResultLaws.{guard-pass, guard-stop, guard-done, bind_done}
 use Rattle.node.specs.Table.{root, NodeHolds, checked}
 use Rattle.node.specs.Formed.{Formed}
-use Rattle.node.specs.TableLaws.{checked-done}
+use Rattle.node.proofs.TableLaws.{checked-done}
 use Rattle.node.specs.Postorder.{SignalsBelow}
-use Rattle.node.specs.PostorderLaws.{tree-signals}
+use Rattle.node.proofs.PostorderLaws.{tree-signals}
 use Rattle.node.specs.Written.{nodes_of, count}
-use Rattle.node.specs.WrittenLaws.{length_of, root_of}
-use Rattle.forms.specs.FormLaws.{form_holds}
-use Rattle.forms.specs.FormSignals.{form-signals}
+use Rattle.node.proofs.WrittenLaws.{length_of, root_of}
+use Rattle.forms.proofs.FormLaws.{form_holds}
+use Rattle.forms.proofs.FormSignals.{form-signals}
 use Rattle.forms.specs.Forbidden.{forbidden}
-use Rattle.forms.specs.ForbiddenLaws.{none_forbidden}
+use Rattle.forms.proofs.ForbiddenLaws.{none_forbidden}
 use Rattle.rewriter.specs.Rewriting.{target, fitting, rewriting}
 
 -- the three ways of a formula of the format into a buffer

@@ -11,9 +11,9 @@ use Rattle.std.proofs.lemmas.Bool.{false≢true}
 use Rattle.std.proofs.Math.Logic.Iff as Equiv
 use Rattle.std.proofs.Math.Decide.{dec_lt, ℕ_discrete}
 use Rattle.node.specs.Logic.{Either}
-use Rattle.node.specs.LogicLaws.{or_left, or_right, or_cases, some_at_lem, some_cases, stable-not, stable_so, so_and, not-not, or_same, to_same}
+use Rattle.node.proofs.LogicLaws.{or_left, or_right, or_cases, some_at_lem, some_cases, stable-not, stable_so, so_and, not-not, or_same, to_same}
 use Rattle.node.specs.Temporal.{Property, Always, Eventually, Until, Release, WeakUntil}
-use Rattle.node.specs.TemporalLaws.{StableAll, eventually_until, always_not_eventually, not_weak}
+use Rattle.node.proofs.TemporalLaws.{StableAll, eventually_until, always_not_eventually, not_weak}
 use Rattle.node.specs.Ltl.{Unary, Not, X, G, F, Binary, And, Or, Implies, Iff, U, R, W, Formula, True, False, Signal, One, Two, UnaryMeans, BinaryMeans, Holds}
 use Rattle.recordings.specs.Lasso.{place, word_of}
 use Rattle.recordings.specs.LassoLaws.{next_on, next-back, place-lt, place_same}

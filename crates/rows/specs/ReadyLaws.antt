@@ -4,7 +4,7 @@ use Rattle.std.proofs.Common.{sym, ap, ap₂, subst, inl, inr, arith, length-set
 use Rattle.std.proofs.Math.Decide.{ℕ_discrete, dec_lt}
 use Rattle.node.specs.Ltl.{Not, X, G, F, And, Or, Implies, Iff, U, R, W}
 use Rattle.node.specs.Kinds.{Unused, shape_of, unary_kind, binary_kind, kind_count}
-use Rattle.node.specs.KindLaws.{no_shape}
+use Rattle.node.proofs.KindLaws.{no_shape}
 use Rattle.rows.specs.Memory.{rows_limit, bits_at, Kept, Filled, Written}
 use Rattle.rows.specs.MemoryLaws.{kept-agree, last-kept, written, written_as}
 use Rattle.bits.specs.Bits.{Values, width}

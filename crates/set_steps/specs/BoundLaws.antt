@@ -2,13 +2,13 @@
 use Rattle.std.specs.Prelude.{ℕ, ◌+◌, Bool, true, false, List, ◌≡◌, refl, eqb, get_or}
 use Rattle.std.proofs.Common.{sym, ap, ap₂, ◌∙◌, subst, arith}
 use Rattle.node.specs.Result.{Result, Done, ◌>>=◌}
-use Rattle.node.specs.ResultLaws.{bind_again}
+use Rattle.node.proofs.ResultLaws.{bind_again}
 use Rattle.language.specs.Tree.{Expr}
 use Rattle.language.specs.Values.{Value, Number, Set, number, between, value}
-use Rattle.language.specs.Laws.Values.ValueLaws.{between_sane}
+use Rattle.language.proofs.Laws.Values.ValueLaws.{between_sane}
 use Rattle.entries.specs.Kinds as Kind
 use Rattle.operators.specs.Signs.{strict_at}
-use Rattle.name_values.specs.KnownLaws.{known-between}
+use Rattle.name_values.proofs.KnownLaws.{known-between}
 use Rattle.sets.specs.declared.Worked.{Worked}
 use Rattle.operands.specs.Entries.{kind_at, place_at, number_at}
 use Rattle.operands.specs.KindLaws.{between-class}

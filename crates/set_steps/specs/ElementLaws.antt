@@ -1,10 +1,10 @@
 -- An element of braces has come: the next is worked out, or the set is made of the numbers.
-use Rattle.std.specs.Prelude.{ℕ, suc, ◌+◌, ◌-◌, ◌≤◌, ◌<◌, true, List, [], ◌∷◌, ◌++◌, ◌≡◌, refl, length, get_or, take, drop, set as store}
+use Rattle.std.specs.Prelude.{ℕ, zero, suc, ◌+◌, ◌-◌, ◌≤◌, ◌<◌, true, List, [], ◌∷◌, ◌++◌, ◌≡◌, refl, length, get_or, take, drop, set as store}
 use Rattle.std.proofs.lemmas.Bool.{false≢true}
 use Rattle.std.proofs.Math.Option.{none}
 use Rattle.std.proofs.Common.{sym, ap, ap₂, ◌∙◌, subst, arith, add-zero, length-set, drop-set-lt}
 use Rattle.node.specs.Result.{◌>>=◌}
-use Rattle.node.specs.ResultLaws.{bind_at}
+use Rattle.node.proofs.ResultLaws.{bind_at}
 use Rattle.language.specs.Limits.{max_tokens, max_number}
 use Rattle.language.specs.Tokens.{tokens}
 use Rattle.language.specs.Tree.{Expr, Empty, Element}
@@ -12,7 +12,7 @@ use Rattle.language.specs.Expansion.{Context}
 use Rattle.language.specs.DeclaredNames.{Port}
 use Rattle.language.specs.Sets.{insert}
 use Rattle.language.specs.Values.{Number, Set, set, limited, value}
-use Rattle.language.specs.Laws.Basics.Lists.{All}
+use Rattle.language.proofs.Laws.Basics.Lists.{All}
 use Rattle.entries.specs.Kinds as Kind
 use Rattle.entries.specs.Flat.{flat}
 use Rattle.entries.specs.Stored.{At}
@@ -85,7 +85,7 @@ module _ {s : Source} {mem : List ℕ} {m : Machine} (w : Waiting mem m Phase.el
       let r = h.at.waits in
       let e : j ≡ (words h).entry = ej ∙ entry_word_lem h in
       let en = (topped-entry t).few in
-      by (words h).entry (further v.2 r.rest.known.proper) r.last (subst (λ (i : ℕ). OperandIn s t.realm.W t.realm.ports true h.ground.env v.1 (i - 1) v.2) (sym e) r.rest)
+      by (words h).entry (further v.2 r.rest.known.proper) r.last (subst (λ (i : ℕ). OperandIn s t.realm.W t.realm.ports true h.footing.env v.1 (i - 1) v.2) (sym e) r.rest)
       (subst (λ (i : ℕ). kind_at s.work (i - 1) ≡ Kind.element) e q) (omega arith)
     where
       by : {W : World} {ps : List Port} {env : List ℕ} {c : Context} {es : Expr} (i : ℕ) → Further es → (es ≡ Empty → kind_at s.work (i - 1) ≡ Kind.element → ⊥)
@@ -105,6 +105,7 @@ next-same p c a b ns n = bind_at n (λ i. value c.values (Element a b) >>= set >
     (λ j l. limited p (inserts (ns ++ (n ∷ [])) (insert j l)) >>= λ y. worth (Set y)) (λ j l. ap (λ (u : List ℕ). limited p u >>= λ y. worth (Set y)) (inserts-more ns n (insert j l)))
 
 brace_less : (i j c d : ℕ) {p : ℕ} → 0 < j → i ≡ j - 1 → p ≡ Phase.elements → weight Phase.elements i c + price i < weight p j d
+brace_less i zero c d l e q = absurd (omega arith)
 brace_less i (suc j) c d l e q =
     let a = price-suc j in
     let b = price_some j in
@@ -191,8 +192,8 @@ module _ {s : Source} {mem : List ℕ} {m : Machine} (w : Waiting mem m Phase.el
         let fl = some_behind (further es r.rest.known.proper) (λ y. r.last y (subst (λ (i : ℕ). kind_at s.work (i - 1) ≡ Kind.element) hj q)) in
         let a = fl.head in
         let b = fl.others in
-        let rest : OperandIn s R.W R.ports true h.ground.env c (j - 1) (Element a b) =
-        subst (OperandIn s R.W R.ports true h.ground.env c (j - 1)) fl.same (subst (λ (i : ℕ). OperandIn s R.W R.ports true h.ground.env c (i - 1) es) (sym hj) r.rest) in
+        let rest : OperandIn s R.W R.ports true h.footing.env c (j - 1) (Element a b) =
+        subst (OperandIn s R.W R.ports true h.footing.env c (j - 1)) fl.same (subst (λ (i : ℕ). OperandIn s R.W R.ports true h.footing.env c (i - 1) es) (sym hj) r.rest) in
         let i = inner a b rest in
         let u = i.under in
         let mem₁ : List ℕ = store mem (base + count) m.value in
@@ -206,7 +207,7 @@ module _ {s : Source} {mem : List ℕ} {m : Machine} (w : Waiting mem m Phase.el
           base-is = hb;
           some = omega arith;
           down = omega arith;
-          agree = agree-from mem mem₁ base h.ground.depth (words h).base (m.frames + frame_words) (length-set mem (base + count) m.value) below
+          agree = agree-from mem mem₁ base h.footing.depth (words h).base (m.frames + frame_words) (length-set mem (base + count) m.value) below
               (drop-set-lt (m.frames + frame_words) mem (base + count) m.value (omega arith)) z3 z4 z5 (omega arith);
           frames-is = refl;
           scope_is = fs;
@@ -223,11 +224,11 @@ module _ {s : Source} {mem : List ℕ} {m : Machine} (w : Waiting mem m Phase.el
           waits = record { few = omega arith; last = i.last; place = ap (place_at s.work) hk ∙ r.place; rest = i.rest };
           mode_is = refl;
           below = i.under;
-          env = h.ground.env;
+          env = h.footing.env;
           first = let y = h.at.first in omega arith;
-          width = h.at.deep ∙ add-zero h.ground.depth ∙ h.at.width ∙ ap (λ (d : ℕ). d + length h.ground.env) (sym fs);
-          slotted = subst (λ (d : ℕ). Slotted mem₁ d h.ground.env) (sym fs)
-              (slotted_kept mem mem₁ h.ground.scope h.ground.env (λ d y y'. let y'' = h.at.width in below d (omega arith)) h.at.seen);
+          width = h.at.deep ∙ add-zero h.footing.depth ∙ h.at.width ∙ ap (λ (d : ℕ). d + length h.footing.env) (sym fs);
+          slotted = subst (λ (d : ℕ). Slotted mem₁ d h.footing.env) (sym fs)
+              (slotted_kept mem mem₁ h.footing.scope h.footing.env (λ d y y'. let y'' = h.at.width in below d (omega arith)) h.at.seen);
           operand = i.element;
           laid = laid_as (ap (λ (y : Came). written m.nodes y ++ forms_of h.rest) n.same) h.laid;
           few = h.few;

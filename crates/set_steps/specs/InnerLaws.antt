@@ -10,12 +10,12 @@ use Rattle.language.specs.Expansion.{Context}
 use Rattle.language.specs.DeclaredNames.{Port}
 use Rattle.language.specs.Sets.{insert}
 use Rattle.language.specs.Values.{Value, Set, set, number}
-use Rattle.language.specs.Laws.Basics.Tests.{pick, leave}
+use Rattle.language.proofs.Laws.Basics.Tests.{pick, leave}
 use Rattle.language.specs.Braces.{Proper}
 use Rattle.entries.specs.Kinds as Kind
 use Rattle.entries.specs.Flat.{flat}
 use Rattle.name_values.specs.World.{World}
-use Rattle.name_values.specs.KnownLaws.{own-more, known-element}
+use Rattle.name_values.proofs.KnownLaws.{own-more, known-element}
 use Rattle.operands.specs.Entries.{kind_at, size_at}
 use Rattle.operands.specs.Classes.{class_of}
 use Rattle.operands.specs.ClassLaws.{has_entry, kind_of_lem, size_is}

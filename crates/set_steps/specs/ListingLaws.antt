@@ -3,14 +3,14 @@ use Rattle.std.specs.Prelude.{ℕ, ◌+◌, ◌-◌, ◌≤◌, ◌<◌, true, f
 use Rattle.std.proofs.Math.Option.{some}
 use Rattle.std.proofs.Common.{ap, ◌∙◌, subst, arith}
 use Rattle.node.specs.Result.{Result, Done, ◌>>=◌, guard}
-use Rattle.node.specs.ResultLaws.{bind_again}
+use Rattle.node.proofs.ResultLaws.{bind_again}
 use Rattle.language.specs.Tokens.{Token}
 use Rattle.language.specs.Tree.{Expr, Listed}
 use Rattle.language.specs.Sets.{insert}
 use Rattle.language.specs.Values.{Value, Set, set, limited, value}
 use Rattle.entries.specs.Kinds as Kind
 use Rattle.entries.specs.Flat.{flat}
-use Rattle.name_values.specs.KnownLaws.{own-more, known-listed}
+use Rattle.name_values.proofs.KnownLaws.{own-more, known-listed}
 use Rattle.operands.specs.Entries.{kind_at, size_at}
 use Rattle.operands.specs.Classes.{class_of}
 use Rattle.operands.specs.ClassLaws.{has_entry, place_is, size_is}

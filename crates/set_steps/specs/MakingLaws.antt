@@ -2,10 +2,10 @@
 use Rattle.std.specs.Prelude.{ℕ, ◌+◌, ◌≤◌, ◌<◌, Bool, false, List, [], ◌++◌, ◌≡◌, refl, length, get_or, take, drop}
 use Rattle.std.proofs.Common.{sym, ap, ◌∙◌, arith, add-zero, length-drop, length-take-le}
 use Rattle.node.specs.Result.{Result, ◌>>=◌}
-use Rattle.node.specs.ResultLaws.{bind_at, bind_refused}
+use Rattle.node.proofs.ResultLaws.{bind_at, bind_refused}
 use Rattle.language.specs.Values.{Value, Set}
-use Rattle.language.specs.Laws.Basics.Results.{value_of, Within}
-use Rattle.language.specs.Laws.Values.ValueLaws.{SaneSet}
+use Rattle.language.proofs.Laws.Basics.Results.{value_of, Within}
+use Rattle.language.proofs.Laws.Values.ValueLaws.{SaneSet}
 use Rattle.sets.specs.Answers.{SetIs}
 use Rattle.sets.specs.declared.Worked.{Worked}
 use Rattle.operands.specs.Working.{Source}
@@ -66,13 +66,13 @@ module _ {s : Source} {R : Realm s} {mem out : List ℕ} {m : Machine} {x : Resu
           tells = record { mode_is = refl; count = sym size; fine = record { few = omega arith; ordered = (value_of (sym p.set.says) p.sane).0 } };
           stands = (held_words mem' base l (λ j y. words_of_lem mem' (record { at = base; count = i }) l refl j y), on_top refl);
         };
-        scope_is = h.at.scoped ∙ ap (λ (b : Bool). scope_above b h.ground) p.no_body;
-        depth_is = h.at.deep ∙ ap (λ (b : Bool). h.ground.depth + slots_of b) p.no_name ∙ add-zero h.ground.depth;
+        scope_is = h.at.scoped ∙ ap (λ (b : Bool). scope_above b h.footing) p.no_body;
+        depth_is = h.at.deep ∙ ap (λ (b : Bool). h.footing.depth + slots_of b) p.no_name ∙ add-zero h.footing.depth;
         top-is = eb;
         frames-is = refl;
-        agree = agree-from mem mem' (words h).base h.ground.depth (words h).base (m.frames + frame_words) len below (k.above (m.frames + frame_words) (omega arith))
+        agree = agree-from mem mem' (words h).base h.footing.depth (words h).base (m.frames + frame_words) len below (k.above (m.frames + frame_words) (omega arith))
             (omega arith) (omega arith) (omega arith) (omega arith);
-        laid = laid_as (ap (λ (y : Came). written m.nodes y ++ ((holding F).forms ++ forms_of h.rest)) p.came-is ∙ ap (λ (y : List Laying). y ++ forms_of h.rest) p.no-forms) h.laid;
+        laid = laid_as (ap (λ (y : Came). written m.nodes y ++ ((holding F).forms ++ forms_of h.rest)) p.came-is ∙ ap (λ (y : List Laying). y ++ forms_of h.rest) p.no_forms) h.laid;
         few = h.few;
         noted = noted_kept mem mem' (words h).base below (omega arith) (omega arith) h.noted;
         lasting = lasting_kept mem mem' (words h).base below (omega arith) (omega arith) h.lasting;

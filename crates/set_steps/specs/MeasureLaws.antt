@@ -2,13 +2,13 @@
 use Rattle.std.specs.Prelude.{ℕ, ◌+◌, List, ◌≡◌, refl, get_or}
 use Rattle.std.proofs.Common.{sym, ap, ap₂, ◌∙◌, subst, arith}
 use Rattle.node.specs.Result.{Result, Done, ◌>>=◌}
-use Rattle.node.specs.ResultLaws.{bind_again, bind_at}
+use Rattle.node.proofs.ResultLaws.{bind_again, bind_at}
 use Rattle.language.specs.Operators.{Measure, Measures}
 use Rattle.language.specs.Tree.{Expr}
 use Rattle.language.specs.Values.{Value, Number, set, measure, value}
-use Rattle.language.specs.Laws.Values.ValueLaws.{measure_sane}
+use Rattle.language.proofs.Laws.Values.ValueLaws.{measure_sane}
 use Rattle.entries.specs.Kinds as Kind
-use Rattle.name_values.specs.KnownLaws.{known-prefixed}
+use Rattle.name_values.proofs.KnownLaws.{known-prefixed}
 use Rattle.sets.specs.Answers.{says}
 use Rattle.sets.specs.Operators.{measurement}
 use Rattle.sets.specs.declared.Worked.{Worked}

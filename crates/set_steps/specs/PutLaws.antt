@@ -6,7 +6,7 @@ use Rattle.language.specs.Limits.{max_number}
 use Rattle.language.specs.Tree.{Expr}
 use Rattle.language.specs.Expansion.{Context}
 use Rattle.language.specs.Sets.{insert}
-use Rattle.language.specs.Laws.Basics.Lists.{All, all_append}
+use Rattle.language.proofs.Laws.Basics.Lists.{All, all_append}
 use Rattle.operands.specs.Working.{Source}
 use Rattle.memory_sets.specs.Places.{Outside}
 use Rattle.memory_sets.specs.PlacedLaws.{elements_of}
@@ -47,7 +47,7 @@ module _ {s : Source} {R : Realm s} {mem out : List ℕ} {m : Machine} {x : Resu
     pub inside : m.frames + frame_words ≤ length mem
     pub start : first_kept ≤ base
     pub first-kept : free_of mem ≤ base
-    pub deep : h.ground.depth ≤ base
+    pub deep : h.footing.depth ≤ base
 
   pub spaced : Spaced
   spaced =

@@ -2,12 +2,12 @@
 use Rattle.std.specs.Prelude.{ℕ, ◌+◌, ◌-◌, ◌<◌, List, ◌≡◌, refl, get_or}
 use Rattle.std.proofs.Common.{sym, ap, ap₂, ◌∙◌, subst, arith}
 use Rattle.node.specs.Result.{Result, Done, ◌>>=◌}
-use Rattle.node.specs.ResultLaws.{bind_again}
+use Rattle.node.proofs.ResultLaws.{bind_again}
 use Rattle.language.specs.Tree.{Expr}
 use Rattle.language.specs.Values.{Value, Number, Set, number, range, value}
-use Rattle.language.specs.Laws.Values.ValueLaws.{range_sane}
+use Rattle.language.proofs.Laws.Values.ValueLaws.{range_sane}
 use Rattle.entries.specs.Kinds as Kind
-use Rattle.name_values.specs.KnownLaws.{known-range}
+use Rattle.name_values.proofs.KnownLaws.{known-range}
 use Rattle.sets.specs.declared.Worked.{Worked}
 use Rattle.operands.specs.Entries.{kind_at, size_at, place_at}
 use Rattle.operands.specs.Classes.{class_of}

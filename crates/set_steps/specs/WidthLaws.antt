@@ -8,7 +8,7 @@ use Rattle.language.specs.Operators.{WidthOf}
 use Rattle.language.specs.Tree.{Expr, Prefixed}
 use Rattle.language.specs.Values.{Value, Number, Bus, Sized, misfit, bus, value}
 use Rattle.entries.specs.Kinds as Kind
-use Rattle.name_values.specs.KnownLaws.{known-prefixed}
+use Rattle.name_values.proofs.KnownLaws.{known-prefixed}
 use Rattle.operands.specs.Entries.{kind_at}
 use Rattle.operands.specs.Classes.{class_of}
 use Rattle.operands.specs.Working.{Source}

@@ -4,7 +4,7 @@ use Rattle.std.proofs.Common.{sym, ap, ap₂, ◌∙◌, drop_of_length-le, drop
 use Rattle.std.proofs.lemmas.Bool.{false≢true, lt-leb}
 use Rattle.std.specs.Int.{w32, w64}
 use Rattle.node.specs.Result.{Done, Refused}
-use Rattle.node.specs.ResultLaws.{guard-pass, guard-stop}
+use Rattle.node.proofs.ResultLaws.{guard-pass, guard-stop}
 use Rattle.language.specs.Limits.{max_number}
 use Rattle.language.specs.Bytes.{is_digit}
 use Rattle.language.specs.Tokens.{run}

@@ -1,7 +1,7 @@
 -- Laws of operators by number: one that is none of some numbers stands for the last operator.
 use Rattle.std.specs.Prelude.{ℕ, ◌≡◌, Bool, true, false}
 use Rattle.std.proofs.Common.{ap, ◌∙◌, arith, ne_eqb}
-use Rattle.node.specs.TableLaws.{Rest, rest-above}
+use Rattle.node.proofs.TableLaws.{Rest, rest-above}
 use Rattle.language.specs.Operators.{Plus, Minus, Times, Divide, Modulo, Equal, Unequal, Less, AtMost, Greater, AtLeast, Size, Min, Max}
 use Rattle.operators.specs.Codes.{arithmetic_code, comparison_code, measure_code}
 use Rattle.sets.specs.Operators.{numbered, arithmetic, comparison, measurement}

@@ -3,9 +3,9 @@ use Rattle.std.specs.Prelude.{ℕ, zero, suc, ◌+◌, ◌-◌, ◌*◌, ◌/◌
 use Rattle.std.proofs.Common.{sym, ap, ap₂, ◌∙◌, take-suc-set, arith, suc-mul, zero-mul, le-div_iff_mul-le, le-leb, lt-ltb, le-ltb}
 use Rattle.std.proofs.lemmas.Bool.{lt-leb}
 use Rattle.node.specs.Result.{Done, Refused, guard}
-use Rattle.node.specs.ResultLaws.{guard-pass, guard-stop}
+use Rattle.node.proofs.ResultLaws.{guard-pass, guard-stop}
 use Rattle.language.specs.Limits.{max_elements}
-use Rattle.language.specs.Bytes.{if◌then◌else◌}
+use Rattle.language.specs.Bytes.{if◌then◌otherwise◌}
 use Rattle.language.specs.Sets.{steps, range_size}
 use Rattle.language.specs.Values.{range, between}
 use Rattle.sets.specs.Answers.{SetIs}
@@ -51,12 +51,12 @@ module _ (place x y z : ℕ) (a : List ℕ) where
 
     pub range_none : z < x → SetIs (Value 0) a (range place x y z)
     range_none h = record {
-      says = sym (sized 0 (ap (λ (b : Bool). if b then 0 else suc ((z - x) / (y - x))) (lt-ltb z x h)) ∙ guard-pass _ _ _ refl);
+      says = sym (sized 0 (ap (λ (b : Bool). if b then 0 otherwise suc ((z - x) / (y - x))) (lt-ltb z x h)) ∙ guard-pass _ _ _ refl);
       few = omega arith;
     }
 
     size : x ≤ z → range_size x y z ≡ suc ((z - x) / (y - x))
-    size h = ap (λ (b : Bool). if b then 0 else suc ((z - x) / (y - x))) (le-ltb z x h)
+    size h = ap (λ (b : Bool). if b then 0 otherwise suc ((z - x) / (y - x))) (le-ltb z x h)
 
     pub range-over : x ≤ z → max_elements ≤ (z - x) / (y - x) → SetIs (Worked.Refused 12 place) a (range place x y z)
     range-over h over = record {
@@ -72,13 +72,13 @@ module _ (place x y z : ℕ) (a : List ℕ) where
 
 -- bounds: from `start` to before `end`
 abbrev pub start_of : Bool → ℕ → ℕ
-start_of after a = if after then suc a else a
+start_of after a = if after then suc a otherwise a
 
 pub start-bound : (after : Bool) (a : ℕ) → start_of after a ≤ suc a
 start-bound true a = omega arith
 start-bound false a = omega arith
 
-end_of : (before : Bool) (b : ℕ) → start_of (not before) b ≡ (if before then b else suc b)
+end_of : (before : Bool) (b : ℕ) → start_of (not before) b ≡ (if before then b otherwise suc b)
 end_of true b = refl
 end_of false b = refl
 

@@ -2,13 +2,13 @@
 use Rattle.std.specs.Prelude.{ℕ, zero, suc, ◌≤◌, ◌<◌, ◌≡◌, refl, Bool, true, false, not, ◌||◌, List, [], ◌∷◌, eqb, length, get_or, take}
 use Rattle.std.proofs.Common.{sym, ap, ap₂, ◌∙◌, length-take, get_or-take, length-take-le, arith, eq-eqb, ne_eqb, le-leb}
 use Rattle.node.specs.Result.{Done}
-use Rattle.node.specs.ResultLaws.{guard-pass}
+use Rattle.node.proofs.ResultLaws.{guard-pass}
 use Rattle.language.specs.Limits.{max_number, max_elements}
 use Rattle.language.specs.Sets.{member_of, keep, combine}
 use Rattle.language.specs.Values.{limited}
 use Rattle.language.specs.Operators.{Cup, Cap, Without}
-use Rattle.language.specs.Laws.Basics.Tests.{or_left, or_right}
-use Rattle.language.specs.Laws.Values.SetLaws.{Ascending}
+use Rattle.language.proofs.Laws.Basics.Tests.{or_left, or_right}
+use Rattle.language.proofs.Laws.Values.SetLaws.{Ascending}
 use Rattle.operators.specs.Codes.{combination_code}
 use Rattle.sets.specs.Answers.{SetIs}
 use Rattle.sets.specs.Operators.{numbered, combination}

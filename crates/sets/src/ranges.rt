@@ -1,7 +1,7 @@
 // Sets of numbers at equal steps: {x, y .. z}, and the numbers between two bounds.
 ghost use Rattle.std.specs.Prelude.{◌≡◌, ℕ, suc, ◌+◌, ◌*◌, ◌≤◌, ◌<◌, ◌^◌, length, take};
 ghost use Rattle.language.specs.Limits.{max_elements};
-ghost use Rattle.language.specs.Bytes.{if◌then◌else◌};
+ghost use Rattle.language.specs.Bytes.{if◌then◌otherwise◌};
 ghost use Rattle.language.specs.Sets.{steps};
 ghost use Rattle.language.specs.Values.{range as range', between as between'};
 ghost use Rattle.sets.specs.Answers.{SetIs};
@@ -47,7 +47,7 @@ pub fn range(place: u32, x: u32, y: u32, z: u32, set: &mut [u32]) -> Worked
 }
 
 fn next_if(flag: bool, v: u32) -> u64
-    ensures { result ≡ if flag then suc v else v }
+    ensures { result ≡ if flag then suc v otherwise v }
 {
     if flag {
         return (v as u64) + 1;

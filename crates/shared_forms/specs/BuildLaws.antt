@@ -14,8 +14,8 @@ use Rattle.node.specs.Table.{tree_at, root}
 use Rattle.node.specs.Formed.{Below}
 use Rattle.forms.specs.Forms.{form as form_of}
 use Rattle.sharing.specs.Sharing.{place, write}
-use Rattle.sharing.specs.WriteLaws.{grows_none}
-use Rattle.sharing.specs.StandsLaws.{Found, found_inside, found-grows}
+use Rattle.sharing.proofs.WriteLaws.{grows_none}
+use Rattle.sharing.proofs.StandsLaws.{Found, found_inside, found-grows}
 use Rattle.sharing.specs.Subformulas.{Everywhere}
 use Rattle.shared_table.specs.Shared.{Puts}
 use Rattle.shared_table.specs.SharedLaws.{shares_few}

@@ -8,8 +8,8 @@ use Rattle.node.specs.Formed.{Formed}
 use Rattle.node.specs.Table.{root}
 use Rattle.forms.specs.Forms.{form as form_of}
 use Rattle.sharing.specs.Sharing.{distinct_count}
-use Rattle.sharing.specs.StandsLaws.{Found}
-use Rattle.sharing.specs.SoundLaws.{Sound}
+use Rattle.sharing.proofs.StandsLaws.{Found}
+use Rattle.sharing.proofs.SoundLaws.{Sound}
 use Rattle.shared_table.specs.Shared.{capacity, Shares, Shared, Puts}
 use Rattle.shared_forms.specs.Templates.{recipe}
 use Rattle.shared_forms.specs.Forming.{form_at, word_at, part_word, SourceIs, operand_place, part_at, Within, Operand, Marking}

@@ -9,8 +9,8 @@ use Rattle.node.specs.Ltl.{Formula}
 use Rattle.node.specs.Table.{root}
 use Rattle.forms.specs.Forms.{form as form_of}
 use Rattle.sharing.specs.Sharing.{distinct_count}
-use Rattle.sharing.specs.StandsLaws.{Found, found-stands}
-use Rattle.sharing.specs.SoundLaws.{sound_none}
+use Rattle.sharing.proofs.StandsLaws.{Found, found-stands}
+use Rattle.sharing.proofs.SoundLaws.{sound_none}
 use Rattle.shared_table.specs.Shared.{capacity, Shares, Puts}
 use Rattle.shared_forms.specs.Templates.{recipe, recipes}
 use Rattle.shared_forms.specs.Forming.{Step, StepIs, form_at, recipe_at, SourceIs, operand_place, Place, part_at, Within, Operand, Marking}

@@ -11,10 +11,10 @@ use Rattle.node.specs.Limits.{field_limit}
 use Rattle.node.specs.Ltl.{Formula, Signal}
 use Rattle.node.specs.Fields.{kind_of, first_of, second_of}
 use Rattle.node.specs.Kinds.{Shape, Truth, Falsehood, Atom, UnaryOf, BinaryOf, Unused, kind_count, shape_of, build}
-use Rattle.node.specs.KindLaws.{no_shape}
+use Rattle.node.proofs.KindLaws.{no_shape}
 use Rattle.node.specs.Table.{tree_at, fits}
 use Rattle.node.specs.Formed.{Formed, Below, NodeIs}
-use Rattle.node.specs.TableLaws.{node-is}
+use Rattle.node.proofs.TableLaws.{node-is}
 use Rattle.sharing.specs.Subformulas.{Everywhere}
 use Rattle.shared_forms.specs.Templates.{template, list_of, by_list, substitute, recipe}
 use Rattle.shared_forms.specs.Forming.{row_count, form_at, word_at, row_at, recipe_at, part_word, operand_place, stands_for, part_at, asked_at, Operand, Place}

@@ -4,9 +4,9 @@ use mathlib.Core.List.{List, Memᴰ}
 use Rattle.node.specs.Limits.{max_nodes}
 use Rattle.node.specs.Ltl.{Formula}
 use Rattle.sharing.specs.Sharing.{distinct_count}
-use Rattle.sharing.specs.StandsLaws.{Stands}
+use Rattle.sharing.proofs.StandsLaws.{Stands}
 use Rattle.sharing.specs.Subformulas.{postorder}
-use Rattle.sharing.specs.SoundLaws.{Sound}
+use Rattle.sharing.proofs.SoundLaws.{Sound}
 use Rattle.shared_table.specs.Shared.{capacity, Shares}
 
 -- The array holds a table of the format without equal nodes, all of them subformulas of f, in which f stands with number r - 1

@@ -10,17 +10,17 @@ use Rattle.node.specs.Ltl.{Formula}
 use Rattle.node.specs.Table.{formulas, tree_at, root}
 use Rattle.node.specs.Formed.{Formed}
 use Rattle.node.specs.Postorder.{SignalsBelow}
-use Rattle.node.specs.PostorderLaws.{tree-signals}
+use Rattle.node.proofs.PostorderLaws.{tree-signals}
 use Rattle.forms.specs.Forms.{form as form_of}
-use Rattle.forms.specs.FormSignals.{form-signals}
+use Rattle.forms.proofs.FormSignals.{form-signals}
 use Rattle.sharing.specs.Sharing.{distinct_count}
-use Rattle.sharing.specs.PlaceLaws.{Distinct}
-use Rattle.sharing.specs.StandsLaws.{Found, found_inside, stands-found}
+use Rattle.sharing.proofs.PlaceLaws.{Distinct}
+use Rattle.sharing.proofs.StandsLaws.{Found, found_inside, stands-found}
 use Rattle.sharing.specs.Subformulas.{Everywhere}
-use Rattle.sharing.specs.SubformulaLaws.{everywhere_map, everywhere_both, everywhere_signals}
-use Rattle.sharing.specs.NameLaws.{Somewhere, written_somewhere}
-use Rattle.sharing.specs.TreeLaws.{found-tree}
-use Rattle.sharing.specs.CountLaws.{Holding, count-within, tree-member, trees_length}
+use Rattle.sharing.proofs.SubformulaLaws.{everywhere_map, everywhere_both, everywhere_signals}
+use Rattle.sharing.proofs.NameLaws.{Somewhere, written_somewhere}
+use Rattle.sharing.proofs.TreeLaws.{found-tree}
+use Rattle.sharing.proofs.CountLaws.{Holding, count-within, tree-member, trees_length}
 use Rattle.shared_table.specs.Shared.{capacity}
 use Rattle.shared_table.specs.SharedLaws.{shares_few, shares_distinct}
 use Rattle.shared_forms.specs.PutLaws.{sound-most}

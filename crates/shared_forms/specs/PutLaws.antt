@@ -6,13 +6,13 @@ use Rattle.node.specs.Limits.{max_nodes, field_limit}
 use Rattle.node.specs.Ltl.{Formula}
 use Rattle.node.specs.Postorder.{SignalsBelow}
 use Rattle.sharing.specs.Sharing.{Placed, position, having, place, write, distinct_count}
-use Rattle.sharing.specs.PlaceLaws.{having_new, having-most}
-use Rattle.sharing.specs.WriteLaws.{Grows, write-grows}
-use Rattle.sharing.specs.StandsLaws.{Found, found-written}
+use Rattle.sharing.proofs.PlaceLaws.{having_new, having-most}
+use Rattle.sharing.proofs.WriteLaws.{Grows, write-grows}
+use Rattle.sharing.proofs.StandsLaws.{Found, found-written}
 use Rattle.sharing.specs.Subformulas.{postorder, Everywhere}
-use Rattle.sharing.specs.SubformulaLaws.{everywhere_signals, everywhere_self, everywhere_member}
-use Rattle.sharing.specs.SoundLaws.{Sound, sound-write}
-use Rattle.sharing.specs.CountLaws.{most-named}
+use Rattle.sharing.proofs.SubformulaLaws.{everywhere_signals, everywhere_self, everywhere_member}
+use Rattle.sharing.proofs.SoundLaws.{Sound, sound-write}
+use Rattle.sharing.proofs.CountLaws.{most-named}
 use Rattle.shared_table.specs.Shared.{capacity, Shares, Puts}
 use Rattle.shared_table.specs.SharedLaws.{shares_few}
 

@@ -15,13 +15,13 @@ use Rattle.node.specs.Kinds.{Shape, Truth, Falsehood, Atom, UnaryOf, BinaryOf, U
 use Rattle.node.specs.Table.{tree_at, root}
 use Rattle.node.specs.Formed.{Formed}
 use Rattle.node.specs.Postorder.{SignalsBelow}
-use Rattle.node.specs.PostorderLaws.{signals-more}
+use Rattle.node.proofs.PostorderLaws.{signals-more}
 use Rattle.forms.specs.Forms.{plain, negated, core}
 use Rattle.sharing.specs.Sharing.{position, having, write, distinct_nodes, distinct_count}
 use Rattle.sharing.specs.Subformulas.{postorder, Everywhere}
-use Rattle.sharing.specs.SubformulaLaws.{everywhere_map}
-use Rattle.sharing.specs.SoundLaws.{sound_none, sound-write, sound-such}
-use Rattle.sharing.specs.DistinctLaws.{length_of, formed_of, table-root}
+use Rattle.sharing.proofs.SubformulaLaws.{everywhere_map}
+use Rattle.sharing.proofs.SoundLaws.{sound_none, sound-write, sound-such}
+use Rattle.sharing.proofs.DistinctLaws.{length_of, formed_of, table-root}
 use Rattle.shared_forms.specs.Templates.{templates, template, list_of, by_list, substitute}
 use Rattle.shared_forms.specs.Forming.{stands_for}
 

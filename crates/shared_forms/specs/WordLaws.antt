@@ -5,9 +5,9 @@ use Rattle.node.specs.Limits.{max_nodes, field_limit}
 use Rattle.node.specs.Ltl.{Unary, Not, X, G, F, Binary, And, Or, Implies, Iff, U, R, W, Formula, Signal, One, Two}
 use Rattle.node.specs.Fields.{pack}
 use Rattle.node.specs.Kinds.{Shape, Truth, Falsehood, Atom, UnaryOf, BinaryOf, Unused, kind_count, shape_of, build, true_kind, false_kind, signal_kind, unary_kind, binary_kind, has_two}
-use Rattle.node.specs.KindLaws.{each_below}
+use Rattle.node.proofs.KindLaws.{each_below}
 use Rattle.sharing.specs.Sharing.{Placed, place, write}
-use Rattle.sharing.specs.StandsLaws.{Found, found_adds}
+use Rattle.sharing.proofs.StandsLaws.{Found, found_adds}
 use Rattle.shared_forms.specs.Templates.{substitute}
 use Rattle.shared_forms.specs.Building.{first_field, second_field, word_over}
 
@@ -53,7 +53,8 @@ step-writes k h =
     signal : Writes signal_kind
     signal t e tree own x y m n q r = ap (write t) (q refl)
 
-    single : (o : Unary) (t : List ℕ) (e tree : ℕ → Formula) (own x y m n : ℕ) → (unary_kind o ≡ signal_kind → e x ≡ Signal own) → Found t (substitute e (tree x)) m → write t (One o (substitute e (tree x))) ≡ place t (pack (unary_kind o) m 0)
+    single : (o : Unary) (t : List ℕ) (e tree : ℕ → Formula) (own x y m n : ℕ) → (unary_kind o ≡ signal_kind → e x ≡ Signal own) → Found t (substitute e (tree x)) m
+        → write t (One o (substitute e (tree x))) ≡ place t (pack (unary_kind o) m 0)
     single o t e tree own x y m n q r = one t o (substitute e (tree x)) m r
 
     both : (o : Binary) (t : List ℕ) (e tree : ℕ → Formula) (own x y m n : ℕ) → (binary_kind o ≡ signal_kind → e x ≡ Signal own) → Found t (substitute e (tree x)) m × Found t (substitute e (tree y)) n

@@ -3,7 +3,7 @@ use Rattle.std.specs.Prelude.{ℕ, ◌<◌, ◌≤◌, List, ◌≢◌, ◌≡�
 use Rattle.std.proofs.Math.Decide.{dec_lt}
 use Rattle.std.proofs.Common.{arith}
 use Rattle.sharing.specs.Sharing.{position}
-use Rattle.sharing.specs.PlaceLaws.{position-most, word_at, first-place}
+use Rattle.sharing.proofs.PlaceLaws.{position-most, word_at, first-place}
 
 -- where the word stands first
 pub position_first : (t : List ℕ) (w k : ℕ) → k < length t → get_or t k 0 ≡ w → ((i : ℕ) → i < k → get_or t i 0 ≢ w) → position t w ≡ k

@@ -7,7 +7,7 @@ use Rattle.std.proofs.Math.Seq.{get_or-append_seam}
 use Rattle.node.specs.Limits.{max_nodes}
 use Rattle.sharing.specs.Sharing.{position, having}
 use Rattle.shared_table.specs.Shared.{slot, word_at, next_link, heads, head_of, capacity, Index, Shares, Shared, Put, Full, Puts, Seeking, Sought}
-use Rattle.sharing.specs.PlaceLaws.{having_stood, having_new}
+use Rattle.sharing.proofs.PlaceLaws.{having_stood, having_new}
 use Rattle.shared_table.specs.PositionLaws.{position_first, position_none}
 use Rattle.shared_table.specs.DepthLaws.{head-inside}
 use Rattle.shared_table.specs.SearchLaws.{seek_start, seek-inside, seek-further, seek_found, seek-missing}

@@ -5,9 +5,9 @@ use Rattle.node.specs.Limits.{max_nodes, field_limit}
 use Rattle.node.specs.Ltl.{Formula}
 use Rattle.node.specs.Postorder.{SignalsBelow}
 use Rattle.sharing.specs.Sharing.{write, distinct_count}
-use Rattle.sharing.specs.NameLaws.{Named, named_none, named-write}
-use Rattle.sharing.specs.WithinLaws.{Within, within_all}
-use Rattle.sharing.specs.CountLaws.{more-named}
+use Rattle.sharing.proofs.NameLaws.{Named, named_none, named-write}
+use Rattle.sharing.proofs.WithinLaws.{Within, within_all}
+use Rattle.sharing.proofs.CountLaws.{more-named}
 use Rattle.shared_table.specs.Shared.{Shares, Shared}
 use Rattle.shared_table.specs.SharedLaws.{shares_one}
 use Rattle.shared_writing.specs.Writing.{table_words, Wrote}

@@ -6,8 +6,8 @@ use Rattle.node.specs.Limits.{max_nodes, field_limit}
 use Rattle.node.specs.Ltl.{Formula}
 use Rattle.node.specs.Table.{tree_at}
 use Rattle.sharing.specs.Sharing.{write}
-use Rattle.sharing.specs.StandsLaws.{Stands, found_inside, stands-found, stands-written, stands_longer}
-use Rattle.sharing.specs.TreeLaws.{Fits, found-tree}
+use Rattle.sharing.proofs.StandsLaws.{Stands, found_inside, stands-found, stands-written, stands_longer}
+use Rattle.sharing.proofs.TreeLaws.{Fits, found-tree}
 use Rattle.shared_table.specs.Shared.{Shares, Shared}
 use Rattle.shared_table.specs.SharedLaws.{shares_few, shares_one}
 use Rattle.shared_writing.specs.Writing.{Stays, Wrote, Kept}

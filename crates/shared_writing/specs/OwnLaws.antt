@@ -6,8 +6,8 @@ use Rattle.std.proofs.Common.{arith}
 use Rattle.node.specs.Limits.{max_nodes}
 use Rattle.node.specs.Ltl.{Formula}
 use Rattle.sharing.specs.Sharing.{distinct_nodes, distinct_count}
-use Rattle.sharing.specs.LastLaws.{last-number}
-use Rattle.sharing.specs.DistinctLaws.{length_of}
+use Rattle.sharing.proofs.LastLaws.{last-number}
+use Rattle.sharing.proofs.DistinctLaws.{length_of}
 use Rattle.shared_table.specs.Shared.{Shares}
 use Rattle.shared_table.specs.SharedLaws.{shares_few}
 use Rattle.shared_writing.specs.Writing.{table_words, Wrote}

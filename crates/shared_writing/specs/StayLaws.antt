@@ -4,7 +4,7 @@ use Rattle.std.proofs.Common.{sym, ◌∙◌, subst, arith}
 use Rattle.std.proofs.Math.Decide.{dec_lt}
 use Rattle.node.specs.Limits.{max_nodes}
 use Rattle.sharing.specs.Sharing.{having}
-use Rattle.sharing.specs.WriteLaws.{grows_none, grows-more, having-grows}
+use Rattle.sharing.proofs.WriteLaws.{grows_none, grows-more, having-grows}
 use Rattle.shared_table.specs.Shared.{Shares, Shared, Puts}
 use Rattle.shared_writing.specs.Writing.{Grown, Stays}
 

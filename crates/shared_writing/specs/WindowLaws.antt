@@ -6,8 +6,8 @@ use Rattle.node.specs.Limits.{max_nodes, field_limit}
 use Rattle.node.specs.Ltl.{Unary, Binary, Formula, One}
 use Rattle.node.specs.Kinds.{binary_kind, unary_kind}
 use Rattle.sharing.specs.Sharing.{Placed, write}
-use Rattle.sharing.specs.WriteLaws.{write-grows, grows-length}
-use Rattle.sharing.specs.ChainLaws.{chain-signals, chain-behind}
+use Rattle.sharing.proofs.WriteLaws.{write-grows, grows-length}
+use Rattle.sharing.proofs.ChainLaws.{chain-signals, chain-behind}
 use Rattle.shared_table.specs.Shared.{capacity, Shares}
 use Rattle.shared_writing.specs.Writing.{Stays, Wrote, Caps, Joins, Windowed, chain_by}
 use Rattle.shared_writing.specs.StayLaws.{stays_none, stays_past, stays_then}

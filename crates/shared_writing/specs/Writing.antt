@@ -7,8 +7,8 @@ use Rattle.node.specs.Ltl.{Unary, Binary, Formula, One, Two}
 use Rattle.node.specs.Kinds.{unary_kind, binary_kind}
 use Rattle.node.specs.Postorder.{SignalsBelow}
 use Rattle.sharing.specs.Sharing.{write}
-use Rattle.sharing.specs.WriteLaws.{Grows}
-use Rattle.sharing.specs.StandsLaws.{Stands}
+use Rattle.sharing.proofs.WriteLaws.{Grows}
+use Rattle.sharing.proofs.StandsLaws.{Stands}
 use Rattle.shared_table.specs.Shared.{nodes_start, capacity, Shares}
 pub use Rattle.node.specs.Derived.{truth, repeats, chain_by}
 

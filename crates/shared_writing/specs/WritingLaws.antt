@@ -8,8 +8,8 @@ use Rattle.node.specs.Fields.{pack}
 use Rattle.node.specs.Kinds.{unary_kind, binary_kind}
 use Rattle.node.specs.Postorder.{SignalsBelow}
 use Rattle.sharing.specs.Sharing.{Placed, having, place, write}
-use Rattle.sharing.specs.PlaceLaws.{having_new}
-use Rattle.sharing.specs.WriteLaws.{write-one, write_two, write-grows, having-grows, grows-length}
+use Rattle.sharing.proofs.PlaceLaws.{having_new}
+use Rattle.sharing.proofs.WriteLaws.{write-one, write_two, write-grows, having-grows, grows-length}
 use Rattle.shared_table.specs.Shared.{capacity, Shares, Puts}
 use Rattle.shared_table.specs.RoomLaws.{capacity_of}
 use Rattle.shared_writing.specs.Writing.{table_words, Stays, Held, Wrote}

@@ -10,9 +10,9 @@ use Rattle.basics.specs.Lists.{get_or_zeros}
 use Rattle.node.specs.Limits.{max_nodes, field_limit}
 use Rattle.node.specs.Ltl.{Formula}
 use Rattle.node.specs.Postorder.{size, nodes_from}
-use Rattle.node.specs.PostorderLaws.{length-nodes}
+use Rattle.node.proofs.PostorderLaws.{length-nodes}
 use Rattle.language.specs.Shifting.{shifted}
-use Rattle.language.specs.Laws.Meaning.ShiftLaws.{shifted-below, shifted-size}
+use Rattle.language.proofs.Laws.Meaning.ShiftLaws.{shifted-below, shifted-size}
 use Rattle.writing.specs.Writing.{Puts, Wrote}
 use Rattle.writing.specs.WritingLaws.{after, ends, past, wrote_none}
 use Rattle.writing.specs.PartLaws.{stands}

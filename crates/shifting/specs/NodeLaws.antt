@@ -12,9 +12,9 @@ use Rattle.node.specs.Fields.{pack, kind_of, first_of, second_of}
 use Rattle.node.specs.Ltl.{Not, X}
 use Rattle.node.specs.Kinds.{signal_kind, unary_kind, has_two}
 use Rattle.language.specs.Limits.{offset_bits, index_bits, width_bits}
-use Rattle.language.specs.Bytes.{if◌then◌else◌}
+use Rattle.language.specs.Bytes.{if◌then◌otherwise◌}
 use Rattle.language.specs.Shifting.{is_output}
-use Rattle.language.specs.Laws.Basics.Tests.{pick, leave}
+use Rattle.language.proofs.Laws.Basics.Tests.{pick, leave}
 use Rattle.writing.specs.Writing.{Puts}
 use Rattle.writing.specs.WritingLaws.{after}
 use Rattle.shifting.specs.Passing.{late_by, renumbered, is_late, written, Numbers}
@@ -50,11 +50,11 @@ module _ (ns : List ℕ) (w : ℕ) {k : ℕ} (kind : k ≡ kind_of w) where
   renumbered_none h = sym (pick (ltb (kind_of w) (unary_kind Not)) w _ (ap (λ (n : ℕ). ltb n (unary_kind Not)) (sym kind) ∙ lt-ltb k (unary_kind Not) h))
 
   module _ (h : unary_kind Not ≤ k) {a x : ℕ} (first : a ≡ first_of w) (new : x ≡ get_or ns a 0) where
-    operands : (y : ℕ) → y ≡ (if has_two k then get_or ns (second_of w) 0 else 0) → pack k x y ≡ renumbered ns w
+    operands : (y : ℕ) → y ≡ (if has_two k then get_or ns (second_of w) 0 otherwise 0) → pack k x y ≡ renumbered ns w
     unfolding renumbered
     operands y e =
         ap₂ (λ (m n : ℕ). pack k m n) (new ∙ ap (λ (n : ℕ). get_or ns n 0) first) e
-        ∙ ap (λ (n : ℕ). pack n (get_or ns (first_of w) 0) (if has_two n then get_or ns (second_of w) 0 else 0)) kind
+        ∙ ap (λ (n : ℕ). pack n (get_or ns (first_of w) 0) (if has_two n then get_or ns (second_of w) 0 otherwise 0)) kind
         ∙ sym (leave (ltb (kind_of w) (unary_kind Not)) w _ (ap (λ (n : ℕ). ltb n (unary_kind Not)) (sym kind) ∙ le-ltb k (unary_kind Not) h))
 
     pub renumbered-two : {b y : ℕ} → has_two k ≡ true → b ≡ second_of w → y ≡ get_or ns b 0 → pack k x y ≡ renumbered ns w
@@ -66,7 +66,7 @@ module _ (ns : List ℕ) (w : ℕ) {k : ℕ} (kind : k ≡ kind_of w) where
 pub renumbered-same : (ns ms : List ℕ) (w : ℕ) → ((j : ℕ) → get_or ns j 0 ≡ get_or ms j 0) → renumbered ns w ≡ renumbered ms w
 unfolding renumbered
 renumbered-same ns ms w e =
-    ap₂ (λ (a b : ℕ). if ltb (kind_of w) (unary_kind Not) then w else pack (kind_of w) a (if has_two (kind_of w) then b else 0)) (e (first_of w)) (e (second_of w))
+    ap₂ (λ (a b : ℕ). if ltb (kind_of w) (unary_kind Not) then w otherwise pack (kind_of w) a (if has_two (kind_of w) then b otherwise 0)) (e (first_of w)) (e (second_of w))
 
 -- the X behind a node
 module _ {late : Bool} (w : ℕ) {at : ℕ} {out out' : List ℕ} {r : ℕ} where

@@ -4,7 +4,7 @@ use Rattle.node.specs.Limits.{max_nodes, field_limit}
 use Rattle.node.specs.Fields.{pack, kind_of, first_of, second_of}
 use Rattle.node.specs.Ltl.{Formula, Not, X}
 use Rattle.node.specs.Kinds.{signal_kind, unary_kind, has_two}
-use Rattle.language.specs.Bytes.{if◌then◌else◌}
+use Rattle.language.specs.Bytes.{if◌then◌otherwise◌}
 use Rattle.language.specs.Shifting.{is_output, shifted}
 use Rattle.writing.specs.Writing.{Wrote}
 
@@ -15,7 +15,7 @@ late_by false list k = not (is_output list k)
 
 -- a node with its operands' new numbers; constants and signals have none
 unfoldable pub renumbered : List ℕ → ℕ → ℕ
-renumbered ns w = if ltb (kind_of w) (unary_kind Not) then w else pack (kind_of w) (get_or ns (first_of w) 0) (if has_two (kind_of w) then get_or ns (second_of w) 0 else 0)
+renumbered ns w = if ltb (kind_of w) (unary_kind Not) then w otherwise pack (kind_of w) (get_or ns (first_of w) 0) (if has_two (kind_of w) then get_or ns (second_of w) 0 otherwise 0)
 
 -- is it a late signal's?
 abbrev pub is_late : (ℕ → Bool) → ℕ → Bool

@@ -11,11 +11,11 @@ use Rattle.std.proofs.Math.Decide.{dec_lt}
 use native.Mathlib.Omega.{arith}
 use Rattle.node.specs.Limits.{field_limit}
 use Rattle.node.specs.Fields.{pack}
-use Rattle.node.specs.FieldLaws.{kind-pack, first-pack, second-pack}
+use Rattle.node.proofs.FieldLaws.{kind-pack, first-pack, second-pack}
 use Rattle.node.specs.Ltl.{Unary, Not, X, G, F, Binary, And, Or, Implies, Iff, U, R, W, Signal, One}
 use Rattle.node.specs.Kinds.{unary_kind, binary_kind, true_kind, false_kind, signal_kind, has_two}
 use Rattle.node.specs.Postorder.{size, nodes_from}
-use Rattle.language.specs.Bytes.{if◌then◌else◌}
+use Rattle.language.specs.Bytes.{if◌then◌otherwise◌}
 use Rattle.language.specs.Shifting.{shifted}
 use Rattle.writing.specs.OperandLaws.{size-signal, nodes_true, nodes_false, nodes-signal, nodes-one}
 use Rattle.writing.specs.PassLaws.{Passes}
@@ -23,7 +23,7 @@ use Rattle.shifting.specs.Passing.{renumbered, is_late, written, Pass, passes, p
 
 -- a node by its kind and its fields
 module _ (k a b : ℕ) (ha : a < field_limit) (hb : b < field_limit) where
-  renumbered-fields : (ns : List ℕ) → renumbered ns (pack k a b) ≡ (if ltb k (unary_kind Not) then pack k a b else pack k (get_or ns a 0) (if has_two k then get_or ns b 0 else 0))
+  renumbered-fields : (ns : List ℕ) → renumbered ns (pack k a b) ≡ (if ltb k (unary_kind Not) then pack k a b otherwise pack k (get_or ns a 0) (if has_two k then get_or ns b 0 otherwise 0))
   unfolding renumbered
   renumbered-fields ns = simp (kind-pack k ha hb, first-pack k ha hb, second-pack k a hb)
 

@@ -1,7 +1,7 @@
 -- The digits of a number below a thousand.
 use Rattle.std.specs.Prelude.{ℕ, suc, ◌+◌, ◌-◌, ◌/◌, ◌%◌, ◌<◌, ◌≤◌, ◌≡◌, List, [], ◌∷◌, ◌++◌, ltb}
 use Rattle.std.proofs.Common.{ap, ◌∙◌, arith, lt-ltb, le-ltb}
-use Rattle.language.specs.Laws.Basics.Tests.{pick, leave}
+use Rattle.language.proofs.Laws.Basics.Tests.{pick, leave}
 use Rattle.basic.specs.Spelling.{digits_of}
 use Rattle.signal_names.specs.Runs.{puts_after}
 use Rattle.signal_names.specs.Promise.{Puts}

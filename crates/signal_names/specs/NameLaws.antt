@@ -7,8 +7,8 @@ use Rattle.language.specs.Bytes.{is_name_byte}
 use Rattle.language.specs.Tokens.{run}
 use Rattle.language.specs.Meaning.{Atom}
 use Rattle.language.specs.Numbered.{width_of, index_of, offset_of, name_at}
-use Rattle.language.specs.Laws.Basics.Tests.{split, pick, leave}
-use Rattle.language.specs.Laws.Grammar.PieceLaws.{run_fits}
+use Rattle.language.proofs.Laws.Basics.Tests.{split, pick, leave}
+use Rattle.language.proofs.Laws.Grammar.PieceLaws.{run_fits}
 use Rattle.basic.specs.Spelling.{digits_of, spelling, spelled}
 use Rattle.signal_names.specs.Runs.{part_length, puts_after, puts_length}
 use Rattle.signal_names.specs.Promise.{part, Puts}

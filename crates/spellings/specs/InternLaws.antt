@@ -9,8 +9,8 @@ use Rattle.basics.specs.Lists.{get_or_zeros}
 use Rattle.language.specs.Bytes.{same}
 use Rattle.language.specs.Limits.{max_tokens, work_bytes}
 use Rattle.language.specs.Tokens.{Token, Name, is_of, tokens}
-use Rattle.language.specs.Laws.Basics.Tests.{same_equal, same_refl}
-use Rattle.language.specs.Laws.Grammar.TokenLaws.{Rising, tokens_rise}
+use Rattle.language.proofs.Laws.Basics.Tests.{same_equal, same_refl}
+use Rattle.language.proofs.Laws.Grammar.TokenLaws.{Rising, tokens_rise}
 use Rattle.lexer.specs.Numbers.{number, class_number}
 use Rattle.lexer.specs.NumberLaws.{class_number_lem}
 use Rattle.lexer.specs.Answer.{Tokenized}

@@ -35,7 +35,7 @@ module _ {links byte : List ℕ} where
 
   ends : {p b k d l bits : ℕ} → Passed links byte p b d l bits → Leads links byte b k l bits → Ends links byte p b k
   ends {d = d} {l = l} {bits = bits} x (here e) = record { count = d; link = l; bits = bits; passed = x; leads = e }
-  ends x (further d other y) = ends (another x d other) y
+  ends {d = d'} x (further d other y) = ends {d = suc d'} (another x d other) y
 
 module _ {links byte : List ℕ} {n : ℕ} (t : Trie links byte n) where
   -- two searches that come to one link have passed as many nodes; if the same bits are left, they seek one byte

@@ -1,7 +1,7 @@
 -- How a tree of spellings grows by one node, and what a step in it reaches.
 use Rattle.std.specs.Prelude.{ℕ, ◌+◌, ◌*◌, ◌/◌, ◌<◌, List, true, false, ◌≢◌, ◌⊎◌, ◌≡◌, refl, eqb, length, get_or, set}
 use Rattle.std.proofs.Common.{inl, inr, sym, ap, ap₂, ◌∙◌, subst, arith, length-set, get_or-set_same, get_or-set_other, eq-eqb, ne_eqb}
-use Rattle.language.specs.Laws.Basics.Tests.{pick, leave}
+use Rattle.language.proofs.Laws.Basics.Tests.{pick, leave}
 use Rattle.spellings.specs.Trie.{more, child_link, sibling_link, owner, Leads, here, further, Passed, start, another, Trie, Sought, Reached, nodes_with, Steps}
 use Rattle.spellings.specs.TrieSearch.{owner-same}
 use Rattle.spellings.specs.Spellings.{equal_or_not}

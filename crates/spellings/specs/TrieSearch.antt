@@ -1,7 +1,7 @@
 -- How a tree of spellings is searched for a child.
 use Rattle.std.specs.Prelude.{ℕ, ◌*◌, ◌/◌, ◌%◌, ◌<◌, List, true, false, ◌≢◌, ◌⊎◌, ◌≡◌, eqb, get_or}
 use Rattle.std.proofs.Common.{inl, inr, sym, ap, ap₂, ◌∙◌, subst, arith, eq-eqb, ne_eqb}
-use Rattle.language.specs.Laws.Basics.Tests.{pick, leave}
+use Rattle.language.proofs.Laws.Basics.Tests.{pick, leave}
 use Rattle.spellings.specs.Trie.{more, child_link, sibling_link, owner, Leads, here, further, Passed, start, another, Trie, Sought}
 use Rattle.spellings.specs.TrieDepth.{few_passed}
 use Rattle.spellings.specs.Spellings.{same-front, same_byte, never-empty, equal_or_not, positive}

@@ -3,25 +3,19 @@
 use Rattle.std.specs.Prelude.{ℕ, Bool, true, false, ◌≡◌, refl, length}
 use Rattle.std.proofs.Math.Bool.{So}
 use Rattle.std.proofs.lemmas.Bool.{false≢true}
-use mathlib.Core.List.{List, [], ◌∷◌, ◌++◌, map, Mem}
+use mathlib.Core.List.{List, [], ◌∷◌, ◌++◌, map}
 use Rattle.std.proofs.Common.{ap}
 use Rattle.node.specs.Postorder.{size, nodes_from}
 use Rattle.node.specs.Result.{Result, Done, Refused, ◌>>=◌, guard}
-use Rattle.node.specs.Table.{tree_at, formulas, scanned, checked}
 use Rattle.node.specs.Written.{nodes_of, count}
-use Rattle.bits.specs.Bits.{bit_at, number}
-use Rattle.recordings.specs.Recording.{blank, filled, readable}
-use Rattle.recordings.specs.Lasso.{next}
-use Rattle.rows.specs.Row.{sweep_from, around, row}
-use Rattle.evaluator.specs.Evaluation.{evaluation, verdict_of}
-use Rattle.evaluator.specs.Starred.{file}
+use Rattle.evaluator.specs.Evaluation.{verdict_of}
+use Rattle.evaluator.proofs.Starred.{file}
 use Rattle.language.specs.Bytes.{ascii}
 use Rattle.language.specs.Places.{refuse_at}
 use Rattle.language.specs.Parsing.{parsed}
 use Rattle.language.specs.Reading.{text_expansion, spec_expansion}
-use Rattle.language.specs.Cases.{text}
-use Rattle.language.specs.Cases.Every.{every, every-each}
-use Rattle.language.specs.Cases.Starred.{Row, answer, answers, answers→eq, starred}
+use Rattle.language.proofs.Cases.{text}
+use Rattle.language.proofs.Cases.Starred.{Row, answer, answers, answers→eq, starred}
 
 -- 'this file', of section 'One file in full'
 abbrev pub file_text : List ℕ
@@ -58,7 +52,7 @@ abbrev verdict_is : Result Bool → Bool → Bool
 verdict_is (Done b) holds = tells b holds
 verdict_is (Refused n p) holds = false
 
-abbrev passes : Case → Bool
+abbrev pub passes : Case → Bool
 passes (OfText r) = answers (answer r.question) r.expected
 passes (OfRecording recording holds) = verdict_is (verdict_on file_text recording) holds
 
@@ -72,18 +66,9 @@ verdict→eq : (r : Result Bool) (holds : Bool) → So (verdict_is r holds) → 
 verdict→eq (Done b) holds t = ap Done (tells→eq b holds t)
 verdict→eq (Refused n p) holds t = absurd (false≢true t)
 
-met : (s : Case) → So (passes s) → Met s
+pub met : (s : Case) → So (passes s) → Met s
 met (OfText r) t = answers→eq (answer r.question) r.expected t
 met (OfRecording recording holds) t = verdict→eq (verdict_on file_text recording) holds t
-
--- the table, computed
-tested : So (every passes cases)
-unfolding text_expansion parsed spec_expansion refuse_at count size nodes_of nodes_from verdict_of evaluation ◌>>=◌ guard checked scanned readable filled blank tree_at formulas number bit_at next sweep_from around row
-tested = refl
-
--- every starred case holds
-pub all-met : (s : Case) → Mem s cases → Met s
-all-met s m = met s (every-each passes cases tested s m)
 
 -- the nodes that the evaluator's own cases are about are the file's
 pub file-nodes : (text_expansion file_text >>= λ c. Done (nodes_of c.formula)) ≡ Done file

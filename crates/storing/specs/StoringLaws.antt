@@ -9,7 +9,7 @@ use Rattle.node.specs.Ltl.{Unary, Not, Binary, Formula, Signal, One, Two}
 use Rattle.node.specs.Fields.{pack}
 use Rattle.node.specs.Kinds.{unary_kind, binary_kind, signal_kind}
 use Rattle.node.specs.Postorder.{size, nodes_from}
-use Rattle.node.specs.PostorderLaws.{size_pos, length-nodes}
+use Rattle.node.proofs.PostorderLaws.{size_pos, length-nodes}
 use Rattle.storing.specs.Storing.{Stored, Puts, Wrote, Room, constant_of}
 use Rattle.basics.specs.Lists.{sets-append}
 

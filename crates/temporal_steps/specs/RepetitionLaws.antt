@@ -6,14 +6,14 @@ use Rattle.node.specs.Operators.{X}
 use Rattle.node.specs.Kinds.{unary_kind}
 use Rattle.node.specs.Ltl.{Formula}
 use Rattle.node.specs.Result.{Result, Done, ◌>>=◌}
-use Rattle.node.specs.ResultLaws.{bind_at}
+use Rattle.node.proofs.ResultLaws.{bind_at}
 use Rattle.writing.specs.Writing.{Wrote, Nexts}
 use Rattle.writing.specs.StayLaws.{begins_stays, begins-nexts}
 use Rattle.language.specs.Tree.{Expr}
 use Rattle.language.specs.Values.{Value, number, value}
 use Rattle.language.specs.Expansion.{expansion, nexts}
 use Rattle.entries.specs.Kinds as Kind
-use Rattle.name_values.specs.KnownLaws.{known-nexts}
+use Rattle.name_values.proofs.KnownLaws.{known-nexts}
 use Rattle.operands.specs.Entries.{kind_at}
 use Rattle.operands.specs.Makings.{a_repetition, making_of}
 use Rattle.operands.specs.Working.{Source}

@@ -6,14 +6,14 @@ use Rattle.node.specs.Operators.{Unary}
 use Rattle.node.specs.Kinds.{unary_kind}
 use Rattle.node.specs.Ltl.{Formula, One}
 use Rattle.node.specs.Result.{Result, Done, ◌>>=◌}
-use Rattle.node.specs.ResultLaws.{bind_at}
+use Rattle.node.proofs.ResultLaws.{bind_at}
 use Rattle.writing.specs.Writing.{Caps}
 use Rattle.writing.specs.StayLaws.{one_stays}
 use Rattle.language.specs.Operators.{Applies}
 use Rattle.language.specs.Tree.{Expr}
 use Rattle.language.specs.Expansion.{expansion}
 use Rattle.entries.specs.Kinds as Kind
-use Rattle.name_values.specs.KnownLaws.{known-prefixed}
+use Rattle.name_values.proofs.KnownLaws.{known-prefixed}
 use Rattle.operators.specs.Tables.{prefix_code_at}
 use Rattle.operands.specs.Entries.{kind_at, number_at}
 use Rattle.operands.specs.MakingLaws.{unary_making}

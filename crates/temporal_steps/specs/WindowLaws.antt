@@ -7,7 +7,7 @@ use Rattle.node.specs.Operators.{X, F, And, Or}
 use Rattle.node.specs.Kinds.{unary_kind, binary_kind}
 use Rattle.node.specs.Ltl.{Formula}
 use Rattle.node.specs.Result.{Result, Done, Refused, ◌>>=◌, guard}
-use Rattle.node.specs.ResultLaws.{bind_at, guard-pass, guard-stop, guard_bind}
+use Rattle.node.proofs.ResultLaws.{bind_at, guard-pass, guard-stop, guard_bind}
 use Rattle.writing.specs.Writing.{Wrote, Nexts}
 use Rattle.writing.specs.Windows as Windows
 use Rattle.writing.specs.StayLaws.{begins_stays, begins-nexts, begins-chain, stays_then}
@@ -16,7 +16,7 @@ use Rattle.language.specs.Tree.{Expr}
 use Rattle.language.specs.Values.{Value, number, value}
 use Rattle.language.specs.Expansion.{expansion, nexts, chain, window_operator}
 use Rattle.entries.specs.Kinds as Kind
-use Rattle.name_values.specs.KnownLaws.{known-window}
+use Rattle.name_values.proofs.KnownLaws.{known-window}
 use Rattle.operators.specs.Codes.{role_code}
 use Rattle.operators.specs.Tables.{prefix_code_at}
 use Rattle.operands.specs.Entries.{kind_at, size_at, place_at, number_at}

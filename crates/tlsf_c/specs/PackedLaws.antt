@@ -4,7 +4,7 @@ use Rattle.std.proofs.Common.{sym, subst, arith}
 use Rattle.node.specs.Limits.{max_nodes, field_limit}
 use Rattle.node.specs.Ltl.{Formula}
 use Rattle.node.specs.Result.{Result, Done, Refused, ◌>>=◌, guard}
-use Rattle.node.specs.ResultLaws.{guard-done}
+use Rattle.node.proofs.ResultLaws.{guard-done}
 use Rattle.node.specs.Table.{node_fits, scanned, checked}
 use Rattle.node.specs.Written.{nodes_of}
 use Rattle.rewriter.specs.Rewriting.{target, fitting, rewriting}
@@ -13,16 +13,16 @@ use Rattle.evaluator.specs.Evaluation.{evaluation, verdict_of}
 use Rattle.recordings.specs.declared.Lasso.{Lasso}
 use Rattle.language.specs.Limits.{work_bytes}
 use Rattle.language.specs.Reading.{NumberedFormula, text_expansion, reading}
-use Rattle.language.specs.Laws.Basics.Results.{refusal_of}
+use Rattle.language.proofs.Laws.Basics.Results.{refusal_of}
 use Rattle.claim.specs.Yields.{told}
 use Rattle.claim.specs.Converting.{converting}
-use Rattle.claim.specs.RefusalNumbers.{UpTo, reading-numbers, converting-numbers}
+use Rattle.claim.proofs.RefusalNumbers.{UpTo, reading-numbers, converting-numbers}
 use Rattle.lookahead.specs.Reaching.{Distance, Letters, Unbounded, reaching, valued}
 use Rattle.basic.specs.Writing.{writing, bytes_told}
 use Rattle.writer.specs.Numbers.{writing-number}
 use Rattle.faults.specs.Diagnosing.{lined, finding, diagnosing}
-use Rattle.faults.specs.TextLaws.{lines_of_lem}
-use Rattle.faults.specs.Delivered.{accepting, accepting-numbers}
+use Rattle.faults.proofs.TextLaws.{lines_of_lem}
+use Rattle.faults.proofs.Delivered.{accepting, accepting-numbers}
 use Rattle.diagnosis.specs.Promise.{tells, valued as line_of}
 use Rattle.diagnosis.specs.Stages.{diagnosing-accepting}
 use Rattle.diagnosis.specs.declared.Diagnosis.{Diagnosis}

@@ -3,9 +3,9 @@ use Rattle.std.specs.Prelude.{ℕ, Bool, true, false, ◌&&◌, not, ◌≡◌, 
 use Rattle.std.proofs.Common.{sym, ap, ◌∙◌, eqb-true, eq-eqb, ne_eqb}
 use Rattle.std.proofs.Math.Dec.{eqb}
 use Rattle.std.proofs.lemmas.Bool.{eqb-false, not-true}
-use Rattle.language.specs.Bytes.{if◌then◌else◌}
+use Rattle.language.specs.Bytes.{if◌then◌otherwise◌}
 use Rattle.language.specs.Operators.{Equal, Unequal, Less, AtMost, Greater, AtLeast, Big, BigSum, BigProduct, BigCap, BigCup, BigAnd, BigOr, Infix, Calculates, Combines, Compares, Membership, Connects, Prefix, Measures, WidthOf, Applies}
-use Rattle.language.specs.Laws.Basics.Tests.{and_left, and_right, pick, leave}
+use Rattle.language.proofs.Laws.Basics.Tests.{and_left, and_right, pick, leave}
 use Rattle.entries.specs.Kinds as Kind
 use Rattle.traversal.specs.declared.Cell.{Cell}
 use Rattle.traversal.specs.Arity.{arities, operands, first_line}
@@ -80,7 +80,7 @@ module _ (before : ℕ) (c : Cell) where
   unfolding operands
   last-operands k b = pick (eqb c.kind Kind.element) _ _ (eq-eqb _ _ k) ∙ leave (eqb before Kind.element) _ _ (ne_eqb _ _ b)
 
-  listed-operands : c.kind ≡ Kind.listed → operands before c ≡ (if eqb c.size 1 then 0 else 1)
+  listed-operands : c.kind ≡ Kind.listed → operands before c ≡ (if eqb c.size 1 then 0 otherwise 1)
   unfolding operands
   listed-operands k = leave (eqb c.kind Kind.element) _ _ (ap (λ j. eqb j Kind.element) k) ∙ pick (eqb c.kind Kind.listed) _ _ (eq-eqb _ _ k)
 

@@ -18,8 +18,8 @@ use Rattle.language.specs.Places.{
   main_lines,
   all_lines,
 }
-use Rattle.language.specs.Laws.Basics.Lists.{All, all_append}
-use Rattle.language.specs.Laws.Basics.NoPlace.{first_none, first_assoc}
+use Rattle.language.proofs.Laws.Basics.Lists.{All, all_append}
+use Rattle.language.proofs.Laws.Basics.NoPlace.{first_none, first_assoc}
 use Rattle.entries.specs.Kinds as Kind
 use Rattle.entries.specs.Flat.{Entry, flat, under, each, leaf, flat_identifier, flat_definition, flat_declaration, flat_line, head, flat_subsection, outline}
 use Rattle.traversal.specs.declared.Cell.{Cell}

@@ -6,7 +6,7 @@ use Rattle.std.proofs.Math.Option.{none, some}
 use Rattle.language.specs.Tokens.{Token}
 use Rattle.language.specs.Tree.{Expr, Named, Numeral, Truth, Index, Paren, Prefixed, Joined, Nexts, InWindow, Each, Between, Listed, Empty, Element, Range}
 use Rattle.language.specs.Braces.{Proper}
-use Rattle.language.specs.Laws.Basics.Lists.{All}
+use Rattle.language.proofs.Laws.Basics.Lists.{All}
 use Rattle.entries.specs.Kinds as Kind
 use Rattle.entries.specs.Flat.{flat, under, each}
 use Rattle.traversal.specs.declared.Cell.{Cell}

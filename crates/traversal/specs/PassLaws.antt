@@ -8,8 +8,8 @@ use Rattle.language.specs.Tokens.{Token}
 use Rattle.language.specs.Tree.{Expr, Named, Numeral, Truth, Index, Paren, Prefixed, Joined, Nexts, InWindow, Each, Between, Listed, Empty, Element, Range}
 use Rattle.language.specs.Places.{first, first_in}
 use Rattle.language.specs.Braces.{Proper}
-use Rattle.language.specs.Laws.Basics.Lists.{All}
-use Rattle.language.specs.Laws.Basics.NoPlace.{first_none, first_assoc}
+use Rattle.language.proofs.Laws.Basics.Lists.{All}
+use Rattle.language.proofs.Laws.Basics.NoPlace.{first_none, first_assoc}
 use Rattle.entries.specs.Flat.{Entry, flat, each}
 use Rattle.traversal.specs.declared.Cell.{Cell}
 use Rattle.traversal.specs.Cells.{Sees, SeenAlong}
@@ -132,57 +132,57 @@ module _ {N B A State : Type 0} {T : B → ℕ → Entry → Type 0} (cell : ℕ
   operand b y e p g d = outside_along P.leaves Done b e (Whole y e) p (d (unless_along P.leaves P.Good b e (Whole y e) g))
 
   -- an expression, with all that stands in it
-  part-done : (b : B) (within : Bool) (y : N) (e : Expr) → Proper within e → Along P.leaves P.Good b (unless_empty e (Whole y e)) → AllDone b (unless_empty e (Whole y e))
-  part-done b within y (Named t) p g = (own-done b _ (regular P.bind within y (Named t) p).0 g.0 tt, tt)
-  part-done b within y (Numeral t) p g = (own-done b _ (regular P.bind within y (Numeral t) p).0 g.0 tt, tt)
-  part-done b within y (Truth t v) p g = (own-done b _ (regular P.bind within y (Truth t v) p).0 g.0 tt, tt)
-  part-done b within y (Index t e) p g = let h = W.inherits b (Whole y (Index t e)) g.0 in
-      (own-done b _ (regular P.bind within y (Index t e) p).0 g.0 (operand _ y e p.1 h.0 (part-done _ false y e p.1), tt), tt)
-  part-done b within y (Paren t e) p g = let h = W.inherits b (Whole y (Paren t e)) g.0 in
-      (own-done b _ (regular P.bind within y (Paren t e) p).0 g.0 (operand _ y e p.1 h.0 (part-done _ false y e p.1), tt), tt)
-  part-done b within y (Prefixed t o e) p g = let h = W.inherits b (Whole y (Prefixed t o e)) g.0 in
-      (own-done b _ (regular P.bind within y (Prefixed t o e) p).0 g.0 (operand _ y e p.1 h.0 (part-done _ false y e p.1), tt), tt)
-  part-done b within y (Joined t o a e) p g = let h = W.inherits b (Whole y (Joined t o a e)) g.0 in (
+  part-done : (within : Bool) (y : N) (e : Expr) (b : B) → Proper within e → Along P.leaves P.Good b (unless_empty e (Whole y e)) → AllDone b (unless_empty e (Whole y e))
+  part-done within y (Named t) b p g = (own-done b _ (regular P.bind within y (Named t) p).0 g.0 tt, tt)
+  part-done within y (Numeral t) b p g = (own-done b _ (regular P.bind within y (Numeral t) p).0 g.0 tt, tt)
+  part-done within y (Truth t v) b p g = (own-done b _ (regular P.bind within y (Truth t v) p).0 g.0 tt, tt)
+  part-done within y (Index t e) b p g = let h = W.inherits b (Whole y (Index t e)) g.0 in
+      (own-done b _ (regular P.bind within y (Index t e) p).0 g.0 (operand _ y e p.1 h.0 (part-done false y e _ p.1), tt), tt)
+  part-done within y (Paren t e) b p g = let h = W.inherits b (Whole y (Paren t e)) g.0 in
+      (own-done b _ (regular P.bind within y (Paren t e) p).0 g.0 (operand _ y e p.1 h.0 (part-done false y e _ p.1), tt), tt)
+  part-done within y (Prefixed t o e) b p g = let h = W.inherits b (Whole y (Prefixed t o e)) g.0 in
+      (own-done b _ (regular P.bind within y (Prefixed t o e) p).0 g.0 (operand _ y e p.1 h.0 (part-done false y e _ p.1), tt), tt)
+  part-done within y (Joined t o a e) b p g = let h = W.inherits b (Whole y (Joined t o a e)) g.0 in (
     own-done b _ (regular P.bind within y (Joined t o a e) p).0 g.0
-        (operand _ y a p.1 h.0 (part-done _ false y a p.1), (operand _ y e p.2 h.1.0 (part-done _ false y e p.2), tt)),
+        (operand _ y a p.1 h.0 (part-done false y a _ p.1), (operand _ y e p.2 h.1.0 (part-done false y e _ p.2), tt)),
     tt,
   )
-  part-done b within y (Nexts t n e) p g = let h = W.inherits b (Whole y (Nexts t n e)) g.0 in (
+  part-done within y (Nexts t n e) b p g = let h = W.inherits b (Whole y (Nexts t n e)) g.0 in (
     own-done b _ (regular P.bind within y (Nexts t n e) p).0 g.0
-        (operand _ y n p.1 h.0 (part-done _ false y n p.1), (operand _ y e p.2 h.1.0 (part-done _ false y e p.2), tt)),
+        (operand _ y n p.1 h.0 (part-done false y n _ p.1), (operand _ y e p.2 h.1.0 (part-done false y e _ p.2), tt)),
     tt,
   )
-  part-done b within y (InWindow t o n m e) p g = let h = W.inherits b (Whole y (InWindow t o n m e)) g.0 in (
+  part-done within y (InWindow t o n m e) b p g = let h = W.inherits b (Whole y (InWindow t o n m e)) g.0 in (
     own-done b _ (regular P.bind within y (InWindow t o n m e) p).0 g.0 (
-      operand _ y n p.1 h.0 (part-done _ false y n p.1),
+      operand _ y n p.1 h.0 (part-done false y n _ p.1),
       (
-        operand _ y m p.2 h.1.0 (part-done _ false y m p.2),
-        (operand _ y e p.3 h.1.1.0 (part-done _ false y e p.3), tt),
+        operand _ y m p.2 h.1.0 (part-done false y m _ p.2),
+        (operand _ y e p.3 h.1.1.0 (part-done false y e _ p.3), tt),
       ),
     ),
     tt,
   )
-  part-done b within y (Each t o further i s e) p g =
+  part-done within y (Each t o further i s e) b p g =
       let h = W.inherits b (Whole y (Each t o further i s e)) g.0 in
       let k = W.inherits b (Binder y further i s) h.0 in
-      let set = own-done b (Binder y further i s) (regular-binder P.bind y further i s) h.0 (operand _ y s p.1 k.0 (part-done _ false y s p.1), tt) in
-      (own-done b _ (regular P.bind within y (Each t o further i s e) p).0 g.0 (set, (operand _ (P.bind i y) e p.2 h.1.0 (part-done _ false (P.bind i y) e p.2), tt)), tt)
-  part-done b within y (Between t l u a e) p g = let h = W.inherits b (Whole y (Between t l u a e)) g.0 in (
+      let set = own-done b (Binder y further i s) (regular-binder P.bind y further i s) h.0 (operand _ y s p.1 k.0 (part-done false y s _ p.1), tt) in
+      (own-done b _ (regular P.bind within y (Each t o further i s e) p).0 g.0 (set, (operand _ (P.bind i y) e p.2 h.1.0 (part-done false (P.bind i y) e _ p.2), tt)), tt)
+  part-done within y (Between t l u a e) b p g = let h = W.inherits b (Whole y (Between t l u a e)) g.0 in (
     own-done b _ (regular P.bind within y (Between t l u a e) p).0 g.0
-        (operand _ y a p.1 h.0 (part-done _ false y a p.1), (operand _ y e p.2 h.1.0 (part-done _ false y e p.2), tt)),
+        (operand _ y a p.1 h.0 (part-done false y a _ p.1), (operand _ y e p.2 h.1.0 (part-done false y e _ p.2), tt)),
     tt,
   )
-  part-done b within y (Listed t es) p g = (own-done b _ (regular P.bind within y (Listed t es) p).0 g.0 (part-done _ true y es p.1 (W.inherits b (Whole y (Listed t es)) g.0)), tt)
-  part-done b within y Empty p g = tt
-  part-done b within y (Element e es) p g =
+  part-done within y (Listed t es) b p g = (own-done b _ (regular P.bind within y (Listed t es) p).0 g.0 (part-done true y es _ p.1 (W.inherits b (Whole y (Listed t es)) g.0)), tt)
+  part-done within y Empty b p g = tt
+  part-done within y (Element e es) b p g =
       let h = W.inherits b (Whole y (Element e es)) g.0 in
-      (own-done b _ (regular P.bind within y (Element e es) p).0 g.0 (operand _ y e p.1 h.0 (part-done _ false y e p.1), part-done _ true y es p.2 h.1), tt)
-  part-done b within y (Range t a e d) p g = let h = W.inherits b (Whole y (Range t a e d)) g.0 in (
+      (own-done b _ (regular P.bind within y (Element e es) p).0 g.0 (operand _ y e p.1 h.0 (part-done false y e _ p.1), part-done true y es _ p.2 h.1), tt)
+  part-done within y (Range t a e d) b p g = let h = W.inherits b (Whole y (Range t a e d)) g.0 in (
     own-done b _ (regular P.bind within y (Range t a e d) p).0 g.0 (
-      operand _ y a p.1 h.0 (part-done _ false y a p.1),
+      operand _ y a p.1 h.0 (part-done false y a _ p.1),
       (
-        operand _ y e p.2 h.1.0 (part-done _ false y e p.2),
-        (operand _ y d p.3 h.1.1.0 (part-done _ false y d p.3), tt),
+        operand _ y e p.2 h.1.0 (part-done false y e _ p.2),
+        (operand _ y d p.3 h.1.1.0 (part-done false y d _ p.3), tt),
       ),
     ),
     tt,
@@ -190,4 +190,4 @@ module _ {N B A State : Type 0} {T : B → ℕ → Entry → Type 0} (cell : ℕ
 
   pub expression-done : (b : B) (y : N) (e : Expr) → Proper false e → P.Good b (Whole y e) → (es : List Entry) (i before : ℕ) (s : List A) (f : Option ℕ) → Sight b i (flat e ++ es) →
       Passes (flat e ++ es) i (P.state before s f) (P.leaves b (Whole y e)) es (P.state (kind_of (Whole y e)) (s ++ (P.value (Whole y e) ∷ [])) (first f (P.bad (Whole y e))))
-  expression-done b y e p g = operand b y e p g (part-done b false y e p)
+  expression-done b y e p g = operand b y e p g (part-done false y e b p)

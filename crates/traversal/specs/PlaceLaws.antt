@@ -6,7 +6,7 @@ use Rattle.std.proofs.Math.Path.{sym, ap, ap₂}
 use Rattle.std.proofs.Common.{◌∙◌}
 use native.Mathlib.Omega.{arith}
 use Rattle.language.specs.Places.{first, first_in}
-use Rattle.language.specs.Laws.Basics.NoPlace.{first_assoc}
+use Rattle.language.proofs.Laws.Basics.NoPlace.{first_assoc}
 use Rattle.traversal.specs.declared.Place.{Place}
 use Rattle.traversal.specs.declared.Place.TheVariants.{At, Nowhere}
 use Rattle.traversal.specs.Places.{placed, place_in}

@@ -2,8 +2,8 @@
 use Rattle.language.specs.Tree.{Subsection, Inputs, Outputs, Lines, Spec}
 use Rattle.language.specs.Places.{all_lines}
 use Rattle.language.specs.Braces.{ProperSubsection, ProperSpec}
-use Rattle.language.specs.Laws.Basics.Lists.{All, all_more}
-use Rattle.language.specs.Laws.Places.AllLines.{OfSubsection, lines-all}
+use Rattle.language.proofs.Laws.Basics.Lists.{All, all_more}
+use Rattle.language.proofs.Laws.Places.AllLines.{OfSubsection, lines-all}
 use Rattle.traversal.specs.TreeStored.{ProperLine}
 
 pub proper-lines : (x : Spec) → ProperSpec x → All ProperLine (all_lines x)

@@ -4,11 +4,11 @@ use Rattle.std.proofs.lemmas.Bool.{false≢true}
 use Rattle.std.proofs.Math.Path.{ap}
 use Rattle.std.proofs.Common.{◌∙◌, arith, eq-eqb, ne_eqb}
 use Rattle.std.proofs.Math.Dec.{eqb}
-use Rattle.language.specs.Bytes.{if◌then◌else◌}
+use Rattle.language.specs.Bytes.{if◌then◌otherwise◌}
 use Rattle.language.specs.Tokens.{Token}
 use Rattle.language.specs.Operators.{Equal, Unequal, Less, AtMost, Greater, AtLeast, Big, BigSum, BigProduct, BigCap, BigCup, BigAnd, BigOr, Infix, Calculates, Combines, Compares, Membership, Connects, Prefix, Measures, WidthOf, Applies}
 use Rattle.language.specs.Tree.{Named, Numeral, Truth, Index, Paren, Prefixed, Joined, Nexts, InWindow, Each, Between, Listed, Empty, Element, Range}
-use Rattle.language.specs.Laws.Basics.Tests.{pick, leave}
+use Rattle.language.proofs.Laws.Basics.Tests.{pick, leave}
 use Rattle.entries.specs.Kinds as Kind
 use Rattle.traversal.specs.Arity.{first_line}
 use Rattle.traversal.specs.Cells.{Told}
@@ -17,9 +17,9 @@ use Rattle.traversal.specs.Starts.{starting, start_of, first_of, start_part, AtP
 
 -- the ways through the definition
 module _ (k x s : ℕ) where
-  pub start_by : (v : ℕ) → v ≡ get_or starting k 0 → (if eqb v 1 then s else (if eqb v 2 then k else x)) ≡ start_of k x s
+  pub start_by : (v : ℕ) → v ≡ get_or starting k 0 → (if eqb v 1 then s otherwise (if eqb v 2 then k otherwise x)) ≡ start_of k x s
   unfolding start_of
-  start_by v e = ap (λ u. if eqb u 1 then s else (if eqb u 2 then k else x)) e
+  start_by v e = ap (λ u. if eqb u 1 then s otherwise (if eqb u 2 then k otherwise x)) e
 
   by_operand : get_or starting k 0 ≡ 1 → start_of k x s ≡ s
   unfolding start_of

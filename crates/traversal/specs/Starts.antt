@@ -1,6 +1,6 @@
 -- Where a part of a tree starts, from where its first operand does.
 use Rattle.std.specs.Prelude.{ℕ, List, [], ◌∷◌, ◌≡◌, eqb, get_or}
-use Rattle.language.specs.Bytes.{if◌then◌else◌}
+use Rattle.language.specs.Bytes.{if◌then◌otherwise◌}
 use Rattle.language.specs.Tokens.{Token}
 use Rattle.language.specs.Places.{start}
 use Rattle.entries.specs.Kinds as Kind
@@ -17,8 +17,8 @@ starting =
 -- an entry of kind k whose token is at this place, and whose first operand starts at s
 unfoldable pub start_of : ℕ → ℕ → ℕ → ℕ
 start_of k place s =
-    if eqb (get_or starting k 0) 1 then s else (
-    if eqb (get_or starting k 0) 2 then k else place)
+    if eqb (get_or starting k 0) 1 then s otherwise (
+    if eqb (get_or starting k 0) 2 then k otherwise place)
 
 abbrev pub first_of : List ℕ → ℕ
 first_of [] = 0

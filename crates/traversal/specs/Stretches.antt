@@ -2,7 +2,7 @@
 use Rattle.std.specs.Prelude.{ℕ, zero, suc, ◌+◌, ◌-◌, ◌≤◌, ◌<◌, List, Bool, true, false, ◌&&◌, ◌≡◌, refl, eqb, get_or}
 use Rattle.std.proofs.Common.{sym, ap, ◌∙◌, arith, eqb-true}
 use Rattle.std.proofs.lemmas.Bool.{eqb-false}
-use Rattle.language.specs.Laws.Basics.Tests.{and_left, and_right}
+use Rattle.language.proofs.Laws.Basics.Tests.{and_left, and_right}
 
 -- does the table have the value at n places from a on?
 abbrev pub steady : List ℕ → ℕ → ℕ → ℕ → Bool

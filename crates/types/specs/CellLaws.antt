@@ -3,7 +3,7 @@ use Rattle.std.specs.Prelude.{ℕ, suc, ◌/◌, ◌^◌, List, [], ◌∷◌, �
 use Rattle.std.proofs.Math.Option.{Option, none, some}
 use Rattle.std.proofs.Common.{ap₂, ◌∙◌, lit<, mod-lt}
 use Rattle.node.specs.BitFields.{join}
-use Rattle.node.specs.FieldLaws.{above_join, below-join}
+use Rattle.node.proofs.FieldLaws.{above_join, below-join}
 use Rattle.language.specs.Tokens.{Token}
 use Rattle.language.specs.Grammar.{Tokens}
 use Rattle.language.specs.Names.{Names}

@@ -5,12 +5,12 @@ use Rattle.std.proofs.Math.Path.{sym, ap}
 use Rattle.std.proofs.Common.{ap₂, ◌∙◌, drop-drop, add-one, arith, eq-eqb, ne_eqb, lt-ltb, le-ltb}
 use Rattle.std.proofs.Math.Dec.{eqb}
 use Rattle.std.proofs.Math.Seq.{slice, slice-cons, length-slice}
-use Rattle.language.specs.Bytes.{if◌then◌else◌}
+use Rattle.language.specs.Bytes.{if◌then◌otherwise◌}
 use Rattle.language.specs.Places.{first, unless}
-use Rattle.language.specs.Laws.Basics.Tests.{pick, leave}
+use Rattle.language.proofs.Laws.Basics.Tests.{pick, leave}
 use Rattle.language.specs.Limits.{max_names}
 use Rattle.language.specs.Types.{ANumber, ABus, AValue, type_code}
-use Rattle.language.specs.Laws.Basics.NoPlace.{first_none, first_assoc}
+use Rattle.language.proofs.Laws.Basics.NoPlace.{first_none, first_assoc}
 use Rattle.entries.specs.Kinds as Kind
 use Rattle.traversal.specs.declared.Place.{Place}
 use Rattle.traversal.specs.declared.Place.TheVariants.{At, Nowhere}
@@ -44,9 +44,9 @@ bound_type table r h = sym (leave (ltb r max_names) _ _ (le-ltb _ _ h))
 
 -- what an entry gives
 module _ (k name operand : ℕ) where
-  pub gives_by : (v : ℕ) → v ≡ get_or giving k 0 → (if eqb v gives_name then name else (if eqb v gives_operand then operand else v)) ≡ gives_of k name operand
+  pub gives_by : (v : ℕ) → v ≡ get_or giving k 0 → (if eqb v gives_name then name otherwise (if eqb v gives_operand then operand otherwise v)) ≡ gives_of k name operand
   unfolding gives_of
-  gives_by v e = ap (λ u. if eqb u gives_name then name else (if eqb u gives_operand then operand else u)) e
+  gives_by v e = ap (λ u. if eqb u gives_name then name otherwise (if eqb u gives_operand then operand otherwise u)) e
 
 -- does it fit?
 module _ (d k : ℕ) where

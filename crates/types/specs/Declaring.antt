@@ -1,6 +1,6 @@
 -- The types of declared names that do not depend on an expression, put down before the pass: 'signals and buses everywhere'. The pass adds definitions' as their lines come.
 use Rattle.std.specs.Prelude.{ℕ, List, [], ◌∷◌, ◌++◌, ◌≡◌, eqb, length, get_or, set, replicate}
-use Rattle.language.specs.Bytes.{if◌then◌else◌}
+use Rattle.language.specs.Bytes.{if◌then◌otherwise◌}
 use Rattle.language.specs.Limits.{max_names}
 use Rattle.entries.specs.Kinds as Kind
 use Rattle.traversal.specs.declared.Cell.{Cell}
@@ -14,7 +14,7 @@ abbrev pub declaring : List ℕ
 declaring = replicate Kind.parameter undeclared ++ (a_number ∷ undeclared ∷ a_type ∷ a_value ∷ undeclared ∷ a_formula ∷ a_bus ∷ a_bus ∷ undeclared ∷ undeclared ∷ [])
 
 unfoldable pub declare : Cell → List ℕ → List ℕ
-declare c table = if eqb (get_or declaring c.kind 0) undeclared then table else set table (reference_of c.token) (get_or declaring c.kind 0)
+declare c table = if eqb (get_or declaring c.kind 0) undeclared then table otherwise set table (reference_of c.token) (get_or declaring c.kind 0)
 
 -- the table after the first n entries of the buffer
 abbrev pub declared_table : List ℕ → List ℕ → ℕ → List ℕ

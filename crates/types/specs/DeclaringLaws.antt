@@ -6,7 +6,7 @@ use Rattle.std.proofs.Common.{ap₂, ◌∙◌, add-one, arith, eq-eqb, ne_eqb}
 use Rattle.std.proofs.Math.ListN.{length, length-set}
 use Rattle.std.proofs.lemmas.List.{length-replicate}
 use Rattle.std.proofs.Math.Seq.{set_out}
-use Rattle.language.specs.Laws.Basics.Tests.{split, pick, leave}
+use Rattle.language.proofs.Laws.Basics.Tests.{split, pick, leave}
 use Rattle.language.specs.Limits.{max_names}
 use Rattle.traversal.specs.declared.Cell.{Cell}
 use Rattle.types.specs.Codes.{undeclared}

@@ -8,7 +8,7 @@ use Rattle.language.specs.Tree.{Expr, Named, Numeral, Truth, Index, Paren, Prefi
 use Rattle.language.specs.Places.{start, first, first_in, unless}
 use Rattle.language.specs.Names.{Names}
 use Rattle.language.specs.Types.{ANumber, ASet, AFormula, ABus, type_code, is_type, Typings, type_in, prefix_takes, big_gives, with_number, type_of, wrong, wrong_both, wrong_operands, mistyped}
-use Rattle.language.specs.Laws.Basics.NoPlace.{first_none, first_assoc, first_comm}
+use Rattle.language.proofs.Laws.Basics.NoPlace.{first_none, first_assoc, first_comm}
 use Rattle.entries.specs.Kinds as EntryKind
 use Rattle.traversal.specs.declared.Cell.{Cell}
 use Rattle.traversal.specs.Arity.{first_line}

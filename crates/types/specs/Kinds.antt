@@ -2,7 +2,7 @@
 use Rattle.std.specs.Prelude.{ℕ, List, [], ◌∷◌, Bool, true, eqb, ltb, get_or, drop}
 use Rattle.std.proofs.Math.Option.{Option, none, some}
 use Rattle.node.specs.BitFields.{above, below}
-use Rattle.language.specs.Bytes.{if◌then◌else◌}
+use Rattle.language.specs.Bytes.{if◌then◌otherwise◌}
 use Rattle.language.specs.Places.{first, unless}
 use Rattle.language.specs.Limits.{max_names}
 use Rattle.lexer.specs.Stored.{offset_bits}
@@ -52,16 +52,16 @@ other_takes =
 -- what an entry of kind k gives, with the type of its name and of its first operand
 unfoldable pub gives_of : ℕ → ℕ → ℕ → ℕ
 gives_of k name operand =
-    if eqb (get_or giving k 0) gives_name then name else (
-    if eqb (get_or giving k 0) gives_operand then operand else get_or giving k 0)
+    if eqb (get_or giving k 0) gives_name then name otherwise (
+    if eqb (get_or giving k 0) gives_operand then operand otherwise get_or giving k 0)
 
 -- does a type fit what is taken?
 unfoldable pub fits : ℕ → ℕ → Bool
-fits d k = if eqb d takes_any then true else (if eqb d takes_definable then ltb k first_undefinable else eqb d k)
+fits d k = if eqb d takes_any then true otherwise (if eqb d takes_definable then ltb k first_undefinable otherwise eqb d k)
 
 -- the operands of n, of which an element of a set takes the elements behind it as they are
 unfoldable pub takes_last : ℕ → ℕ → ℕ
-takes_last k n = if eqb k Kind.element then (if eqb n 2 then takes_any else a_number) else get_or last_takes k 0
+takes_last k n = if eqb k Kind.element then (if eqb n 2 then takes_any otherwise a_number) otherwise get_or last_takes k 0
 
 abbrev pub demand : ℕ → ℕ → List ℕ → ℕ
 demand other last [] = last
@@ -75,13 +75,13 @@ misfits other last (k ∷ ks) ss = first (unless (fits (demand other last ks) k)
 -- `==` and `!=`
 unfoldable pub sides_of : ℕ → ℕ → ℕ → ℕ → Option ℕ
 sides_of a b s t =
-    if eqb a a_number then unless (fits a_number b) t else (
-    if eqb a a_bus then unless (fits a_value b) t else (
-    if eqb a a_value then unless (fits a_bus b) t else some s))
+    if eqb a a_number then unless (fits a_number b) t otherwise (
+    if eqb a a_bus then unless (fits a_value b) t otherwise (
+    if eqb a a_value then unless (fits a_bus b) t otherwise some s))
 
 -- an index stands on a bus
 unfoldable pub indexed : ℕ → ℕ → ℕ → Option ℕ
-indexed k name place = if eqb (get_or other_takes k 0) takes_index then unless (fits a_bus name) place else none
+indexed k name place = if eqb (get_or other_takes k 0) takes_index then unless (fits a_bus name) place otherwise none
 
 -- an entry's name, as the pass sees it: its reference above the bits of its token's place
 abbrev pub place_of : ℕ → ℕ
@@ -92,4 +92,4 @@ reference_of x = above offset_bits x
 
 -- the type of a name by its reference: of a declared name from the table, of a big operator's a number
 unfoldable pub type_at : List ℕ → ℕ → ℕ
-type_at table r = if ltb r max_names then get_or table r 0 else a_number
+type_at table r = if ltb r max_names then get_or table r 0 otherwise a_number

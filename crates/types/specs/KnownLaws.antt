@@ -33,13 +33,13 @@ use Rattle.language.specs.Tree.{
 use Rattle.language.specs.Places.{first, TextLine as Line, ParameterLine, DefinitionLine, DeclarationLine, FormulaLine}
 use Rattle.language.specs.Names.{Names, visible, hidden, nowhere, walk, identifier_names, declares, declares_signal, over}
 use Rattle.language.specs.Types.{ExprType, AFormula, ABus, AValue, type_code, Typings, with_number, typed_values, typed_signals, ANumber}
-use Rattle.language.specs.Laws.Basics.Lists.{All, all_more, all_right, all_append, all_both}
-use Rattle.language.specs.Laws.Basics.NoPlace.{first-left, first-right, unless_none}
-use Rattle.language.specs.Laws.Basics.Tests.{pick, leave, or_cases, same_equal}
-use Rattle.language.specs.Laws.Values.DistinctNames.{Apart, apart_sym, Distinct, distinct_right, Across, across}
+use Rattle.language.proofs.Laws.Basics.Lists.{All, all_more, all_right, all_append, all_both}
+use Rattle.language.proofs.Laws.Basics.NoPlace.{first-left, first-right, unless_none}
+use Rattle.language.proofs.Laws.Basics.Tests.{pick, leave, or_cases, same_equal}
+use Rattle.language.proofs.Laws.Values.DistinctNames.{Apart, apart_sym, Distinct, distinct_right, Across, across}
 use Rattle.names.specs.References.{reference}
-use Rattle.names.specs.WalkBinders.{reference-same, reference_other, reference-text}
-use Rattle.names.specs.VisibleLaws.{In, visible-text, of_signals}
+use Rattle.names.proofs.WalkBinders.{reference-same, reference_other, reference-text}
+use Rattle.names.proofs.VisibleLaws.{In, visible-text, of_signals}
 use Rattle.types.specs.Kinds.{type_at}
 use Rattle.types.specs.Known.{KnownName, Known}
 use Rattle.types.specs.TableLaws.{all_fixed}

@@ -8,12 +8,12 @@ use Rattle.language.specs.Tree.{Defined, Enumerated, OneSignal, OfWidth, OfType,
 use Rattle.language.specs.Places.{TextLine as Line, ParameterLine, DefinitionLine, DeclarationLine, FormulaLine, all_lines}
 use Rattle.language.specs.Names.{Names, visible, hidden, nowhere, walk_line, walk_lines, identifier_names, declares, declares_signal, over}
 use Rattle.language.specs.Types.{ANumber, AType, type_code, type_of, typed_values, typed_signals}
-use Rattle.language.specs.Laws.Basics.Lists.{All, all_more, all_left, all_right, all_append, all_both}
-use Rattle.language.specs.Laws.Basics.NoPlace.{first-left, first-right, unless_none}
-use Rattle.language.specs.Laws.Values.DistinctNames.{Apart, Distinct, distinct_right, Across, across, distinct_names}
+use Rattle.language.proofs.Laws.Basics.Lists.{All, all_more, all_left, all_right, all_append, all_both}
+use Rattle.language.proofs.Laws.Basics.NoPlace.{first-left, first-right, unless_none}
+use Rattle.language.proofs.Laws.Values.DistinctNames.{Apart, Distinct, distinct_right, Across, across, distinct_names}
 use Rattle.names.specs.References.{reference}
 use Rattle.names.specs.Resolved.{declared_names, Resolved}
-use Rattle.names.specs.VisibleLaws.{In, Among, visible-right, visible_apart, in_own, in_declared, among-more, among-all, of_signals}
+use Rattle.names.proofs.VisibleLaws.{In, Among, visible-right, visible_apart, in_own, in_declared, among-more, among-all, of_signals}
 use Rattle.traversal.specs.LineLaws.{Each}
 use Rattle.types.specs.Lines.{Context, next, KnownLine, TypesKnown}
 use Rattle.types.specs.TableLaws.{all_fixed, put}

@@ -10,8 +10,8 @@ use Rattle.language.specs.Tree.{Named, Numeral, Truth, Index, Paren, Prefixed, J
 use Rattle.language.specs.Places.{start, first}
 use Rattle.language.specs.Types.{ASet, type_code, Typings, type_in, prefix_gives, infix_gives, big_gives, with_number, type_of, wrong, mistyped, ANumber, AFormula, AType}
 use Rattle.language.specs.Names.{Names}
-use Rattle.language.specs.Laws.Basics.Tests.{leave}
-use Rattle.language.specs.Laws.Basics.NoPlace.{first_none, first_assoc, first_comm}
+use Rattle.language.proofs.Laws.Basics.Tests.{leave}
+use Rattle.language.proofs.Laws.Basics.NoPlace.{first_none, first_assoc, first_comm}
 use Rattle.entries.specs.Kinds as EntryKind
 use Rattle.entries.specs.Flat.{Entry}
 use Rattle.names.specs.Scan.{token_of as name_of}

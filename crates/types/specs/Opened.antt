@@ -8,7 +8,7 @@ use Rattle.entries.specs.Flat.{Entry}
 use Rattle.names.specs.Roles.{binds, ends}
 use Rattle.names.specs.QuietLaws.{quiet_truth, quiet_before, quiet_joining, quiet_window, quiet_between, ending-big}
 use Rattle.names.specs.Walking.{open_after}
-use Rattle.names.specs.RefersLaws.{open_kept, open_more, open_less, binding}
+use Rattle.names.proofs.RefersLaws.{open_kept, open_more, open_less, binding}
 use Rattle.traversal.specs.Parts.{Part, Whole, Binder, unless_empty, operands_of}
 use Rattle.traversal.specs.PartLaws.{unless-cases}
 use Rattle.traversal.specs.PassLaws.{own_entry, past}

@@ -25,7 +25,7 @@ use Rattle.language.specs.Types.{
   fitting,
   wrong_operands,
 }
-use Rattle.language.specs.Laws.Basics.Tests.{pick}
+use Rattle.language.proofs.Laws.Basics.Tests.{pick}
 use Rattle.entries.specs.Kinds as EntryKind
 use Rattle.types.specs.Codes.{takes_any, takes_sides, takes_index}
 use Rattle.types.specs.Kinds.{giving, other_takes, fits, sides_of}

@@ -1,7 +1,7 @@
 -- Refusal 9, 'operand, width, declaring type or a line's expression of a wrong type', as one pass over the entries: of each operand on the stack its type and where it starts.
 use Rattle.std.specs.Prelude.{ℕ, ◌-◌, List, [], ◌∷◌, ◌++◌, map, eqb, ltb, length, get_or, take, drop, set}
 use Rattle.std.proofs.Math.Option.{Option}
-use Rattle.language.specs.Bytes.{if◌then◌else◌}
+use Rattle.language.specs.Bytes.{if◌then◌otherwise◌}
 use Rattle.language.specs.Places.{first}
 use Rattle.entries.specs.Kinds as Kind
 use Rattle.traversal.specs.declared.Cell.{Cell}
@@ -37,7 +37,7 @@ node table c xs =
 -- what is wrong with the operands of types ks that start at ss
 unfoldable pub wrong_at : ℕ → List ℕ → List ℕ → Option ℕ
 wrong_at k ks ss =
-    if eqb (get_or other_takes k 0) takes_sides then sides_of (first_of ks) (first_of (drop 1 ks)) (first_of ss) (first_of (drop 1 ss)) else misfits (get_or other_takes k 0) (takes_last k (length ks)) ks ss
+    if eqb (get_or other_takes k 0) takes_sides then sides_of (first_of ks) (first_of (drop 1 ks)) (first_of ss) (first_of (drop 1 ss)) otherwise misfits (get_or other_takes k 0) (takes_last k (length ks)) ks ss
 
 abbrev pub fault : List ℕ → Cell → List Operand → Option ℕ
 fault table c xs =
@@ -45,7 +45,7 @@ fault table c xs =
 
 -- a definition has the type of its expression
 unfoldable pub table_of : List ℕ → ℕ → ℕ → ℕ → List ℕ
-table_of table k token type = if eqb k Kind.definition then set table (reference_of token) type else table
+table_of table k token type = if eqb k Kind.definition then set table (reference_of token) type otherwise table
 
 abbrev pub table_after : List ℕ → Cell → List Operand → List ℕ
 table_after table c xs = table_of table c.kind c.token (first_of (types_of xs))
@@ -56,7 +56,7 @@ stepped c s m =
     let xs = drop m s.stack in
     record {
       before = c.kind;
-      stack = if ltb c.kind first_line then take m s.stack ++ (node s.table c xs ∷ []) else take m s.stack;
+      stack = if ltb c.kind first_line then take m s.stack ++ (node s.table c xs ∷ []) otherwise take m s.stack;
       found = first s.found (fault s.table c xs);
       table = table_after s.table c xs;
     }

@@ -7,7 +7,7 @@ use Rattle.std.proofs.Math.ListN.{length, take, length-append, length-set}
 use Rattle.std.proofs.Math.Seq.{slice, set_out}
 use Rattle.language.specs.Limits.{max_tokens, max_names}
 use Rattle.language.specs.Places.{first}
-use Rattle.language.specs.Laws.Basics.Tests.{split, pick, leave}
+use Rattle.language.proofs.Laws.Basics.Tests.{split, pick, leave}
 use Rattle.entries.specs.Kinds as Kind
 use Rattle.traversal.specs.declared.Cell.{Cell}
 use Rattle.traversal.specs.declared.Place.{Place}

@@ -2,20 +2,20 @@
 use Rattle.std.specs.Prelude.{ℕ, ◌≤◌, ◌<◌, List, [], ◌∷◌, ◌++◌, ◌≡◌, refl, ltb, length, set}
 use Rattle.std.proofs.lemmas.Bool.{false≢true}
 use Rattle.std.proofs.Common.{sym, ap, ◌∙◌, length-set, get_or-set_same, get_or-set_other, arith, lt-ltb}
-use Rattle.language.specs.Bytes.{if◌then◌else◌, same}
+use Rattle.language.specs.Bytes.{if◌then◌otherwise◌, same}
 use Rattle.language.specs.Limits.{max_names}
 use Rattle.language.specs.Tokens.{Token}
 use Rattle.language.specs.Tree.{Identifier, Defined, Enumerated, OneSignal, OfWidth, OfType}
 use Rattle.language.specs.Places.{TextLine as Line, ParameterLine, DefinitionLine, DeclarationLine, FormulaLine}
 use Rattle.language.specs.Names.{Names, identifier_names, declares, over}
 use Rattle.language.specs.Types.{ExprType, ANumber, AFormula, ABus, type_code, Typing, Typings, typed_values}
-use Rattle.language.specs.Laws.Basics.Lists.{All, all_right, all_both}
-use Rattle.language.specs.Laws.Basics.Tests.{pick, same_refl}
-use Rattle.language.specs.Laws.Values.DistinctNames.{Apart, apart_sym, Distinct, distinct_right}
+use Rattle.language.proofs.Laws.Basics.Lists.{All, all_right, all_both}
+use Rattle.language.proofs.Laws.Basics.Tests.{pick, same_refl}
+use Rattle.language.proofs.Laws.Values.DistinctNames.{Apart, apart_sym, Distinct, distinct_right}
 use Rattle.names.specs.References.{reference}
-use Rattle.names.specs.WalkBinders.{reference-outside}
-use Rattle.names.specs.ResolvedLaws.{number-below, number_apart}
-use Rattle.names.specs.VisibleLaws.{In}
+use Rattle.names.proofs.WalkBinders.{reference-outside}
+use Rattle.names.proofs.ResolvedLaws.{number-below, number_apart}
+use Rattle.names.proofs.VisibleLaws.{In}
 use Rattle.types.specs.Kinds.{type_at}
 use Rattle.types.specs.TableLaws.{all_fixed, put}
 
@@ -25,7 +25,7 @@ Has declared table y = type_at table (reference declared [] y.name) ≡ type_cod
 
 pub type_other : (table : List ℕ) (r v q : ℕ) → (q ≡ r → ⊥) → type_at (set table r v) q ≡ type_at table q
 unfolding type_at
-type_other table r v q n = ap (λ d. if ltb q max_names then d else type_code ANumber) (get_or-set_other table r q v 0 n)
+type_other table r v q n = ap (λ d. if ltb q max_names then d otherwise type_code ANumber) (get_or-set_other table r q v 0 n)
 
 type_same : (table : List ℕ) (r v : ℕ) → r < max_names → length table ≡ max_names → type_at (set table r v) r ≡ v
 unfolding type_at

@@ -4,8 +4,8 @@ use Rattle.std.proofs.Common.{sym, ap, ap₂, ◌∙◌}
 use Rattle.language.specs.Tokens.{tokens}
 use Rattle.language.specs.Tree.{Spec}
 use Rattle.language.specs.Names.{Names}
-use Rattle.language.specs.Laws.Basics.Results.{value_of}
-use Rattle.language.specs.Laws.Grammar.BracesReads.{spec_proper}
+use Rattle.language.proofs.Laws.Basics.Results.{value_of}
+use Rattle.language.proofs.Laws.Grammar.BracesReads.{spec_proper}
 use Rattle.lexer.specs.LexingLaws.{offset_at}
 use Rattle.entries.specs.Flat.{Entry, outline}
 use Rattle.names.specs.Scan.{token_of}
@@ -14,7 +14,7 @@ use Rattle.names.specs.References.{reference}
 use Rattle.names.specs.Walking.{open_after}
 use Rattle.names.specs.Refers.{Run, run-one}
 use Rattle.names.specs.Resolved.{Stored, declared_names, Resolved}
-use Rattle.names.specs.ResolvedLaws.{run-begins}
+use Rattle.names.proofs.ResolvedLaws.{run-begins}
 use Rattle.traversal.specs.Cells.{SeenAlong}
 use Rattle.traversal.specs.TreeStored.{TreeStored}
 use Rattle.types.specs.Known as Known

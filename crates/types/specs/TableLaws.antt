@@ -11,9 +11,9 @@ use Rattle.language.specs.Places.{TextLine as Line, ParameterLine, DefinitionLin
 use Rattle.language.specs.Names.{Names}
 use Rattle.language.specs.Types.{ANumber, AFormula, ABus, AValue, AType, type_code, Typings, typed_values}
 use Rattle.language.specs.Braces.{Proper}
-use Rattle.language.specs.Laws.Basics.Lists.{All}
+use Rattle.language.proofs.Laws.Basics.Lists.{All}
 use Rattle.language.specs.Limits.{max_names}
-use Rattle.language.specs.Laws.Basics.NoPlace.{first_none}
+use Rattle.language.proofs.Laws.Basics.NoPlace.{first_none}
 use Rattle.entries.specs.Kinds as EntryKind
 use Rattle.entries.specs.Flat.{Entry, flat, under, leaf, each, flat_identifier, outline}
 use Rattle.names.specs.Walkable.{names}

@@ -4,8 +4,8 @@ use Rattle.std.proofs.Math.Option.{Option, none}
 use Rattle.std.proofs.Common.{sym, ap, ap₂, ◌∙◌, arith, ne_eqb}
 use Rattle.language.specs.Places.{first, unless}
 use Rattle.language.specs.Types.{ExprType, ANumber, ASet, AFormula, ABus, AValue, AType, Unknown, type_code}
-use Rattle.language.specs.Laws.Basics.Tests.{leave}
-use Rattle.language.specs.Laws.Basics.NoPlace.{first_none}
+use Rattle.language.proofs.Laws.Basics.Tests.{leave}
+use Rattle.language.proofs.Laws.Basics.NoPlace.{first_none}
 use Rattle.entries.specs.Kinds as EntryKind
 use Rattle.types.specs.Codes.{takes_any, takes_definable, takes_sides, takes_index}
 use Rattle.types.specs.Kinds.{last_takes, other_takes, fits, takes_last, misfits, indexed}

@@ -34,9 +34,9 @@ use Rattle.language.specs.Types.{
   wrong_type,
 }
 use Rattle.language.specs.Braces.{Proper}
-use Rattle.language.specs.Laws.Basics.Lists.{All}
-use Rattle.language.specs.Laws.Basics.Tests.{pick, leave}
-use Rattle.language.specs.Laws.Basics.NoPlace.{first_none, first_assoc, first_comm}
+use Rattle.language.proofs.Laws.Basics.Lists.{All}
+use Rattle.language.proofs.Laws.Basics.Tests.{pick, leave}
+use Rattle.language.proofs.Laws.Basics.NoPlace.{first_none, first_assoc, first_comm}
 use Rattle.entries.specs.Kinds as EntryKind
 use Rattle.entries.specs.Flat.{Entry, flat, under, leaf, each, flat_identifier, outline}
 use Rattle.names.specs.References.{reference}

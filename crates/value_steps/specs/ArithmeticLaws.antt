@@ -2,11 +2,11 @@
 use Rattle.std.specs.Prelude.{ℕ, ◌+◌, List, ◌≡◌, refl, get_or}
 use Rattle.std.proofs.Common.{sym, ap, ap₂, ◌∙◌, subst, arith}
 use Rattle.node.specs.Result.{Result, Done, ◌>>=◌}
-use Rattle.node.specs.ResultLaws.{bind_again}
+use Rattle.node.proofs.ResultLaws.{bind_again}
 use Rattle.language.specs.Operators.{Arithmetic, Calculates}
 use Rattle.language.specs.Tree.{Expr}
 use Rattle.language.specs.Values.{Value, Number, number, calculate, value}
-use Rattle.language.specs.Laws.Values.ValueLaws.{calculate_sane}
+use Rattle.language.proofs.Laws.Values.ValueLaws.{calculate_sane}
 use Rattle.entries.specs.Kinds as Kind
 use Rattle.sets.specs.Answers.{says}
 use Rattle.sets.specs.Operators.{arithmetic}

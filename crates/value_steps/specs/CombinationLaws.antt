@@ -3,7 +3,7 @@ use Rattle.std.specs.Prelude.{ℕ, ◌+◌, ◌-◌, ◌≤◌, ◌<◌, ◌^◌
 use Rattle.std.proofs.lemmas.Bool.{false≢true}
 use Rattle.std.proofs.Common.{sym, ap, ◌∙◌, subst, arith, add-zero}
 use Rattle.node.specs.Result.{Result, Done, ◌>>=◌}
-use Rattle.node.specs.ResultLaws.{bind_at}
+use Rattle.node.proofs.ResultLaws.{bind_at}
 use Rattle.language.specs.Limits.{max_elements}
 use Rattle.language.specs.Operators.{Combination, Combines}
 use Rattle.language.specs.Tree.{Expr}
@@ -138,7 +138,7 @@ module _ {s : Source} {mem : List ℕ} {m : Machine} (w : Waiting mem m Phase.le
           agree = agree_same;
           frames-is = refl;
           scope_is = fs;
-          deep = fd ∙ sym (add-zero h.ground.depth);
+          deep = fd ∙ sym (add-zero h.footing.depth);
           lower = omega arith;
           high = omega arith;
           level = λ y. absurd (false≢true y);
@@ -151,11 +151,11 @@ module _ {s : Source} {mem : List ℕ} {m : Machine} (w : Waiting mem m Phase.le
           waits = subst (λ (i : ℕ). OpAt s i (Between (Combines op)) p) (sym same-entry) h.at.waits.0;
           mode_is = refl;
           below = omega arith;
-          env = h.ground.env;
+          env = h.footing.env;
           first = let y = h.at.first in omega arith;
-          width = fd ∙ h.at.width ∙ ap (λ (i : ℕ). i + length h.ground.env) (sym fs);
-          slotted = subst (λ (i : ℕ). Slotted mem i h.ground.env) (sym fs) h.at.seen;
-          operand = subst (λ (i : ℕ). Operand s R.W R.ports h.ground.env c (i - 1) b) (sym same-entry) h.at.waits.1;
+          width = fd ∙ h.at.width ∙ ap (λ (i : ℕ). i + length h.footing.env) (sym fs);
+          slotted = subst (λ (i : ℕ). Slotted mem i h.footing.env) (sym fs) h.at.seen;
+          operand = subst (λ (i : ℕ). Operand s R.W R.ports h.footing.env c (i - 1) b) (sym same-entry) h.at.waits.1;
           laid = flat-laid h refl g.same;
           few = h.few;
           noted = h.noted;

@@ -2,12 +2,12 @@
 use Rattle.std.specs.Prelude.{ℕ, suc, ◌+◌, ◌≤◌, ◌<◌, List, ◌++◌, ◌≡◌, refl, length, get_or, take, drop}
 use Rattle.std.proofs.Common.{sym, ap, ap₂, ◌∙◌, subst, arith, add-zero, length-drop, length-take-le}
 use Rattle.node.specs.Result.{Result, ◌>>=◌}
-use Rattle.node.specs.ResultLaws.{bind_at, bind_refused}
+use Rattle.node.proofs.ResultLaws.{bind_at, bind_refused}
 use Rattle.language.specs.Limits.{max_elements}
 use Rattle.language.specs.Operators.{Combination, Combines}
 use Rattle.language.specs.Sets.{combine}
 use Rattle.language.specs.Values.{Set, limited}
-use Rattle.language.specs.Laws.Basics.Results.{value_of}
+use Rattle.language.proofs.Laws.Basics.Results.{value_of}
 use Rattle.sets.specs.Operators.{combination}
 use Rattle.sets.specs.declared.Worked.{Worked}
 use Rattle.operators.specs.Tables.{infix_code_at}
@@ -56,7 +56,7 @@ module _ {s : Source} {mem : List ℕ} {m : Machine} (w : Waiting mem m Phase.ri
       left_near : (words h).at ≤ (words h).base
       right_near : m.from ≤ m.top
       fits : m.frames + frame_words ≤ length mem
-      deep : h.ground.depth ≤ (words h).base
+      deep : h.footing.depth ≤ (words h).base
       start : first_kept ≤ (words h).base
 
     limits : Limits
@@ -229,10 +229,10 @@ module _ {s : Source} {mem : List ℕ} {m : Machine} (w : Waiting mem m Phase.ri
                 stands = (held_words mem₂ base l (λ j y. c.words j (omega arith) ∙ words_of_lem mem₁ (record { at = to; count = n }) l refl j y), on_top refl);
               };
               scope_is = h.at.scoped;
-              depth_is = h.at.deep ∙ add-zero h.ground.depth;
+              depth_is = h.at.deep ∙ add-zero h.footing.depth;
               top-is = eb;
               frames-is = refl;
-              agree = agree-from mem mem₂ (words h).base h.ground.depth (words h).base (m.frames + frame_words) whole below rest z6 z5 z7 (omega arith);
+              agree = agree-from mem mem₂ (words h).base h.footing.depth (words h).base (m.frames + frame_words) whole below rest z6 z5 z7 (omega arith);
               laid = laid_as (ap (λ (y : Came). written m.nodes y ++ forms_of h.rest) (right w e h).same) h.laid;
               few = h.few;
               noted = noted_kept mem mem₂ (words h).base below z6 z5 h.noted;

@@ -3,18 +3,18 @@ use Rattle.std.specs.Prelude.{ℕ, ◌+◌, ◌-◌, ◌*◌, ◌≤◌, ◌<◌
 use Rattle.std.proofs.Common.{sym, ap, ◌∙◌, subst, arith, add-zero}
 use Rattle.std.proofs.Math.Decide.{dec_lt}
 use Rattle.node.specs.Result.{Result, Done, ◌>>=◌}
-use Rattle.node.specs.ResultLaws.{bind_to, bind_refused, bind_value}
+use Rattle.node.proofs.ResultLaws.{bind_to, bind_refused, bind_value}
 use Rattle.language.specs.Limits.{max_names, max_number}
 use Rattle.language.specs.Tokens.{Token}
 use Rattle.language.specs.Tree.{Expr, Named}
 use Rattle.language.specs.Expansion.{Context}
 use Rattle.language.specs.Values.{Value, Number, Set, Logic, Bus, Unsized, Choice, value}
-use Rattle.language.specs.Laws.Basics.Lists.{All}
+use Rattle.language.proofs.Laws.Basics.Lists.{All}
 use Rattle.entries.specs.Kinds as Kind
 use Rattle.name_values.specs.World.{Meaning, Defines, numbered, name_value, meaning_at}
 use Rattle.name_values.specs.Agrees.{Uses}
-use Rattle.name_values.specs.AgreesLaws.{numbered-last, numbered-before, denote-bound}
-use Rattle.name_values.specs.UsedLaws.{used-value, named-body}
+use Rattle.name_values.proofs.AgreesLaws.{numbered-last, numbered-before, denote-bound}
+use Rattle.name_values.proofs.UsedLaws.{used-value, named-body}
 use Rattle.name_values.specs.Sorts as Sort
 use Rattle.operands.specs.Entries.{kind_at, place_at}
 use Rattle.operands.specs.Classes.{class_of}

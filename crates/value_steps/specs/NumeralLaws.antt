@@ -3,11 +3,11 @@ use Rattle.std.specs.Prelude.{ℕ, true, List, [], ◌≡◌, drop}
 use Rattle.std.proofs.Math.Option.{some}
 use Rattle.std.proofs.Common.{sym, ap, ◌∙◌, subst, arith}
 use Rattle.node.specs.Result.{Done, ◌>>=◌}
-use Rattle.node.specs.ResultLaws.{bind_again, bind_same, bind_at}
+use Rattle.node.proofs.ResultLaws.{bind_again, bind_same, bind_at}
 use Rattle.language.specs.Tokens.{Token, tokens, is_of, Numeral as Digits}
 use Rattle.language.specs.Grammar.{front}
 use Rattle.language.specs.Values.{Number, in_range, decimal, value}
-use Rattle.language.specs.Laws.Values.ValueLaws.{in_range_sane}
+use Rattle.language.proofs.Laws.Values.ValueLaws.{in_range_sane}
 use Rattle.entries.specs.Kinds as Kind
 use Rattle.entries.specs.StoredLaws.{ends-own}
 use Rattle.sets.specs.Answers.{says}

@@ -7,7 +7,7 @@ use Rattle.language.specs.Tree.{Expr, Paren}
 use Rattle.language.specs.Expansion.{Context}
 use Rattle.entries.specs.Kinds as Kind
 use Rattle.entries.specs.Flat.{flat}
-use Rattle.name_values.specs.KnownLaws.{known-paren}
+use Rattle.name_values.proofs.KnownLaws.{known-paren}
 use Rattle.operands.specs.Classes.{class_of}
 use Rattle.operands.specs.ClassLaws.{has_entry}
 use Rattle.operands.specs.Operands.{below}

@@ -2,7 +2,7 @@
 use Rattle.std.specs.Prelude.{ℕ, ◌+◌, ◌<◌, List, ◌≡◌, length, take, drop}
 use Rattle.std.proofs.Common.{sym, ap, ◌∙◌, subst, arith, length-drop}
 use Rattle.language.specs.Limits.{max_number, max_elements}
-use Rattle.language.specs.Laws.Values.SetLaws.{Ascending}
+use Rattle.language.proofs.Laws.Values.SetLaws.{Ascending}
 use Rattle.memory_sets.specs.Places.{elements_at, Placed}
 use Rattle.memory_sets.specs.PlacedLaws.{elements_of}
 use Rattle.memory_sets.specs.declared.Span.{Span}

@@ -65,8 +65,8 @@ module _ {s : Source} {R : Realm s} {mem out : List ℕ} {m : Machine} {x : Resu
   pub record Releasing (q : ℕ) (c : Context) (d : Expr) : Type 0 where
     pub holds_nothing : holding F ≡ empty (phase F) true
     pub same : apply F h.came ≡ Done h.came
-    pub returns : Returns (words h) h.ground.scope q
-    pub defining : Defining R h.ground q c d
+    pub returns : Returns (words h) h.footing.scope q
+    pub defining : Defining R h.footing q c d
 
   module _ {q : ℕ} {c : Context} {d : Expr} (p : Releasing q c d) where
     -- the definition by its number
@@ -81,7 +81,7 @@ module _ {s : Source} {R : Realm s} {mem out : List ℕ} {m : Machine} {x : Resu
       defined = ap (meaning_at R.W) named ∙ p.defining.means
 
     -- what has come goes on, a set perhaps from another place; notes may have been written
-    pub releases : {mem' : List ℕ} {scope from : ℕ} → scope ≡ get_or mem (m.frames + value_field) 0 → Agree o.regions mem mem' h.ground.depth (words h).base (m.frames + frame_words)
+    pub releases : {mem' : List ℕ} {scope from : ℕ} → scope ≡ get_or mem (m.frames + value_field) 0 → Agree o.regions mem mem' h.footing.depth (words h).base (m.frames + frame_words)
         → Noted R o.regions o.index mem' → Lasting R.W mem' out m.nodes → Come R o mem' (released (came m m.mode m.value from) scope) h.came
         → Turned R mem mem' out out m x o (Next (released (came m m.mode m.value from) scope))
     releases es a n l c =
@@ -90,7 +90,7 @@ module _ {s : Source} {R : Realm s} {mem out : List ℕ} {m : Machine} {x : Resu
           same = p.same;
           come = c;
           scope_is = es ∙ value-word h ∙ p.returns.scope_is;
-          depth_is = h.at.deep ∙ ap (λ (y : Holding). h.ground.depth + slots_of y.binds) z ∙ add-zero h.ground.depth;
+          depth_is = h.at.deep ∙ ap (λ (y : Holding). h.footing.depth + slots_of y.binds) z ∙ add-zero h.footing.depth;
           top-is = h.at.level (ap (λ (y : Holding). y.flat) z);
           frames-is = refl;
           agree = a;

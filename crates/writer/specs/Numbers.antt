@@ -4,12 +4,12 @@ use Rattle.std.proofs.Common.{sym, ◌∙◌, arith}
 use Rattle.std.proofs.Math.Option.{Option, none, some}
 use Rattle.node.specs.Limits.{max_nodes}
 use Rattle.node.specs.Result.{Result, Done, Refused, ◌>>=◌, guard}
-use Rattle.node.specs.ResultLaws.{not_done}
+use Rattle.node.proofs.ResultLaws.{not_done}
 use Rattle.language.specs.Limits.{max_signals}
 use Rattle.language.specs.Places.{refuse_at}
 use Rattle.language.specs.Reading.{NumberedFormula, reading}
-use Rattle.language.specs.Laws.Basics.Results.{refusal_of}
-use Rattle.claim.specs.RefusalNumbers.{reading-numbers}
+use Rattle.language.proofs.Laws.Basics.Results.{refusal_of}
+use Rattle.claim.proofs.RefusalNumbers.{reading-numbers}
 use Rattle.basic.specs.Writing.{writing, fits}
 use Rattle.layout.specs.Text.{handed}
 use Rattle.writer.specs.Stages.{writing-refused, writing_accepted}

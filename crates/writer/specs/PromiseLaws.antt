@@ -3,7 +3,7 @@ use Rattle.std.specs.Prelude.{ℕ, ◌≡◌, List, length}
 use Rattle.language.specs.Reading.{work_after}
 use Rattle.basic.specs.Answer.{tells}
 use Rattle.basic.specs.Writing.{writing, bytes_told, text_after}
-use Rattle.basic.specs.WritingLaws.{stands-back}
+use Rattle.basic.proofs.WritingLaws.{stands-back}
 use Rattle.basic.specs.declared.Written.{Written}
 use Rattle.writer.specs.Promise.{Writes}
 

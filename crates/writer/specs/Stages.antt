@@ -6,11 +6,11 @@ use Rattle.std.proofs.Math.Option.{Option}
 use Rattle.std.proofs.Math.ListN.{length, take}
 use Rattle.node.specs.Limits.{max_nodes}
 use Rattle.node.specs.Result.{Result, Done, Refused, ◌>>=◌, Counts}
-use Rattle.node.specs.ResultLaws.{bind_done, bind_to, bind_refused, guard-pass, guard-done, guard-refused}
+use Rattle.node.proofs.ResultLaws.{bind_done, bind_to, bind_refused, guard-pass, guard-done, guard-refused}
 use Rattle.node.specs.Formed.{Formed}
-use Rattle.node.specs.TableLaws.{checked-done}
+use Rattle.node.proofs.TableLaws.{checked-done}
 use Rattle.node.specs.Written.{nodes_of, count}
-use Rattle.node.specs.WrittenLaws.{length_of, table_of, table-root}
+use Rattle.node.proofs.WrittenLaws.{length_of, table_of, table-root}
 use Rattle.node.specs.declared.Answer.{Answer}
 use Rattle.node.specs.declared.Answer.TheVariants.{Accepted}
 use Rattle.language.specs.Limits.{max_signals, work_bytes}
@@ -18,13 +18,13 @@ use Rattle.language.specs.Tree.{Model, Mealy, Moore, Spec}
 use Rattle.language.specs.Places.{refuse_at}
 use Rattle.language.specs.Parsing.{parsed}
 use Rattle.language.specs.Reading.{NumberedFormula, spec_expansion, text_expansion, delivered, reading, work_after}
-use Rattle.language.specs.Laws.Buffers.{accepted_expansion}
-use Rattle.language.specs.Laws.Meaning.Acceptance.{text-signals, list-limited}
+use Rattle.language.proofs.Laws.Buffers.{accepted_expansion}
+use Rattle.language.proofs.Laws.Meaning.Acceptance.{text-signals, list-limited}
 use Rattle.language.specs.Models.{model_code}
 use Rattle.parser.specs.declared.Facts.{Facts}
-use Rattle.claim.specs.ClaimLaws.{text_few, text-small}
-use Rattle.claim.specs.DeliveredLaws.{all-delivered, taken-room}
-use Rattle.claim.specs.YieldsLaws.{accepted, refused}
+use Rattle.claim.proofs.ClaimLaws.{text_few, text-small}
+use Rattle.claim.proofs.DeliveredLaws.{all-delivered, taken-room}
+use Rattle.claim.proofs.YieldsLaws.{accepted, refused}
 use Rattle.reader.specs.declared.Told.{Told}
 use Rattle.reader.specs.Promise.{ReadsTold}
 use Rattle.basic.specs.Spelling.{names_of}

@@ -7,11 +7,11 @@ use native.Mathlib.Omega.{arith}
 use Rattle.node.specs.Limits.{field_limit}
 use Rattle.node.specs.Ltl.{Unary, Binary, Formula, True, False, Signal, One, Two}
 use Rattle.node.specs.Fields.{pack, kind_of}
-use Rattle.node.specs.FieldLaws.{kind-pack}
+use Rattle.node.proofs.FieldLaws.{kind-pack}
 use Rattle.node.specs.Kinds.{shape_of, unary_kind, binary_kind}
-use Rattle.node.specs.KindLaws.{unary-shape, binary-shape}
+use Rattle.node.proofs.KindLaws.{unary-shape, binary-shape}
 use Rattle.node.specs.Postorder.{size, nodes_from, SignalsBelow}
-use Rattle.node.specs.PostorderLaws.{size_pos}
+use Rattle.node.proofs.PostorderLaws.{size_pos}
 use Rattle.writing.specs.Moving.{weight, moved}
 
 module _ (from to : ℕ) where

@@ -9,7 +9,7 @@ use Rattle.std.proofs.Math.Decide.{dec_lt}
 use Rattle.node.specs.Limits.{max_nodes}
 use Rattle.node.specs.Ltl.{Formula}
 use Rattle.node.specs.Postorder.{size, nodes_from}
-use Rattle.node.specs.PostorderLaws.{length-nodes}
+use Rattle.node.proofs.PostorderLaws.{length-nodes}
 use Rattle.writing.specs.Moving.{moved}
 use Rattle.writing.specs.MovingLaws.{moved-nodes}
 use Rattle.writing.specs.Writing.{Stored, Puts, Wrote}

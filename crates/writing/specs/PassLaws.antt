@@ -12,7 +12,7 @@ use Rattle.node.specs.Fields.{pack}
 use Rattle.node.specs.Ltl.{Unary, Binary, Formula, True, False, Signal, One, Two}
 use Rattle.node.specs.Kinds.{unary_kind, binary_kind, true_kind, false_kind, signal_kind}
 use Rattle.node.specs.Postorder.{size, nodes_from, SignalsBelow}
-use Rattle.node.specs.PostorderLaws.{size_pos, length-nodes}
+use Rattle.node.proofs.PostorderLaws.{size_pos, length-nodes}
 use Rattle.writing.specs.Parts.{Stands}
 use Rattle.writing.specs.PartLaws.{get_d_part}
 use Rattle.writing.specs.OperandLaws.{size_true, size_false, size-signal, size-one, size-two, nodes_true, nodes_false, nodes-signal, nodes-one, nodes-two}

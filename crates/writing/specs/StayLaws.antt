@@ -9,7 +9,7 @@ use Rattle.node.specs.Ltl.{Unary, X, Binary, Formula, One, Two}
 use Rattle.node.specs.Kinds.{unary_kind, binary_kind}
 use Rattle.node.specs.Fields.{pack}
 use Rattle.node.specs.Postorder.{size, nodes_from}
-use Rattle.node.specs.PostorderLaws.{length-nodes}
+use Rattle.node.proofs.PostorderLaws.{length-nodes}
 use Rattle.writing.specs.Writing.{Puts, Wrote, nexts, chain}
 use Rattle.writing.specs.WritingLaws.{ends, past, after, puts_as}
 use Rattle.writing.specs.Parts.{part}

@@ -5,7 +5,7 @@ use Rattle.node.specs.Limits.{max_nodes, field_limit}
 use Rattle.node.specs.Ltl.{Unary, Formula, True, False, Signal}
 use Rattle.node.specs.Fields.{pack}
 use Rattle.node.specs.Postorder.{size, SignalsBelow}
-use Rattle.node.specs.PostorderLaws.{size_pos}
+use Rattle.node.proofs.PostorderLaws.{size_pos}
 use Rattle.storing.specs.Storing as Storing
 use Rattle.writing.specs.Writing.{Puts, Wrote, Caps, Joins, Nexts, truth, repeats}
 use Rattle.writing.specs.WritingLaws.{put_whole, past, wrote_one, wrote-two, wrote_none, past_one, past_two}

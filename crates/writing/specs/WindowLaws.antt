@@ -6,7 +6,7 @@ use Rattle.std.proofs.Math.Decide.{dec_lt}
 use Rattle.node.specs.Limits.{max_nodes, field_limit}
 use Rattle.node.specs.Ltl.{Unary, Binary, Formula, One, Two}
 use Rattle.node.specs.Postorder.{size, nodes_from, SignalsBelow}
-use Rattle.node.specs.PostorderLaws.{size_pos, length-nodes}
+use Rattle.node.proofs.PostorderLaws.{size_pos, length-nodes}
 use Rattle.writing.specs.Parts.{moves, Stands}
 use Rattle.writing.specs.PartLaws.{fitting, stands, stands-below, copied, length-moves}
 use Rattle.writing.specs.Writing.{Puts, Wrote, Caps, Joins, chain_by}

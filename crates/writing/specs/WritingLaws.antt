@@ -8,7 +8,7 @@ use Rattle.node.specs.Ltl.{Unary, Binary, Formula, One, Two}
 use Rattle.node.specs.Fields.{pack}
 use Rattle.node.specs.Kinds.{unary_kind, binary_kind}
 use Rattle.node.specs.Postorder.{size, nodes_from, SignalsBelow}
-use Rattle.node.specs.PostorderLaws.{size_pos, length-nodes}
+use Rattle.node.proofs.PostorderLaws.{size_pos, length-nodes}
 use Rattle.writing.specs.Writing.{Stored, Puts, Wrote}
 use Rattle.basics.specs.Lists.{sets-append}
 use Rattle.storing.specs.Storing as Storing

@@ -7,11 +7,11 @@ use mathlib.Core.List.{List, [], ◌∷◌, append-nil}
 use mathlib.Core.Path.{◌≡◌, refl, sym, ap, ◌∙◌, subst}
 use lib.ListN.{length, drop, length-append, length-drop}
 use Rattle.node.specs.Result.{Done}
-use Rattle.node.specs.ResultLaws.{bind_refused, bind_to}
+use Rattle.node.proofs.ResultLaws.{bind_refused, bind_to}
 use Rattle.language.specs.Tree.{Defined, Enumerated, OneSignal, OfWidth, OfType}
 use Rattle.language.specs.Grammar.{Tokens, Read, rest, next}
 use Rattle.language.specs.Sections.{lines_of, block_of, optional}
-use Rattle.language.specs.Laws.Basics.Tests.{pick, leave}
+use Rattle.language.proofs.Laws.Basics.Tests.{pick, leave}
 use Rattle.lexer.specs.Numbers.{fixed}
 use Rattle.entries.specs.Flat.{Entry, each, flat, under}
 use Rattle.entries.specs.declared.Cursor.{Cursor}

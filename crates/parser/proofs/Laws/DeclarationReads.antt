@@ -10,9 +10,9 @@ use Rattle.language.specs.Tokens.{Token, Name, is_of}
 use Rattle.language.specs.Tree.{Declaration, OfWidth, OfType, OneSignal}
 use Rattle.language.specs.Grammar.{Tokens, Read, front, rest, next, expect_of}
 use Rattle.node.specs.Result.{Done, ◌>>=◌}
-use Rattle.node.specs.ResultLaws.{bind_refused, bind_to}
+use Rattle.node.proofs.ResultLaws.{bind_refused, bind_to}
 use Rattle.language.specs.Sections.{expression, declaration_of}
-use Rattle.language.specs.Laws.Basics.Tests.{pick, leave}
+use Rattle.language.proofs.Laws.Basics.Tests.{pick, leave}
 use Rattle.lexer.specs.Numbers.{fixed, class_number}
 use Rattle.language.specs.Limits.{max_tokens}
 use Rattle.entries.specs.Kinds as Kind

@@ -9,11 +9,11 @@ use mathlib.Core.Bool.{true}
 use Rattle.language.specs.Bytes.{ascii, is_one_of}
 use Rattle.lexer.specs.Numbers.{spellings, fixed, class_number}
 use Rattle.node.specs.Result.{Done, ◌>>=◌}
-use Rattle.node.specs.ResultLaws.{bind_refused, bind_to}
+use Rattle.node.proofs.ResultLaws.{bind_refused, bind_to}
 use Rattle.language.specs.Tokens.{Token, Name, Marks, is_of}
 use Rattle.language.specs.Grammar.{Tokens, Read, front, expect, expect_of}
 use Rattle.language.specs.Sections.{words_of, identifiers_of}
-use Rattle.language.specs.Laws.Basics.Tests.{pick, leave}
+use Rattle.language.proofs.Laws.Basics.Tests.{pick, leave}
 use Rattle.entries.specs.Flat.{Entry, leaf, each, flat_identifier}
 use Rattle.entries.specs.declared.Cursor.{Cursor}
 use Rattle.entries.specs.declared.Parse.{Parse}

@@ -8,8 +8,8 @@ use lib.Dec.{eqb}
 use lib.ListN.{drop}
 use borrow.Author.Tests.{eqb-true}
 use Rattle.node.specs.Result.{Result, Done, ◌>>=◌}
-use Rattle.node.specs.ResultLaws.{not_done, bind_done, bind_to}
-use Rattle.language.specs.Bytes.{if◌then◌else◌}
+use Rattle.node.proofs.ResultLaws.{not_done, bind_done, bind_to}
+use Rattle.language.specs.Bytes.{if◌then◌otherwise◌}
 use Rattle.language.specs.Tree.{Model, Mealy, Moore}
 use Rattle.language.specs.Grammar.{Tokens, Read, front, rest, stop, next, expect}
 use Rattle.language.specs.Sections.{model_of, strict_of, info_end}
@@ -38,7 +38,7 @@ module _ {ts : Tokens} {w : List ℕ} {c : Cursor} (ready : Ready ts w c) where
   model_number {m} {us} e = go (next "Mealy" (drop c.at ts)) refl (next "Moore" (drop c.at ts)) refl e
     where
       go : (a : Bool) → next "Mealy" (drop c.at ts) ≡ a → (b : Bool) → next "Moore" (drop c.at ts) ≡ b →
-          (if a then Done (Mealy, rest (drop c.at ts)) else (if b then Done (Moore, rest (drop c.at ts)) else stop (drop c.at ts))) ≡ Done (m, us) → number_at w c ≡ fixed "Mealy" + model_code m
+          (if a then Done (Mealy, rest (drop c.at ts)) otherwise (if b then Done (Moore, rest (drop c.at ts)) otherwise stop (drop c.at ts))) ≡ Done (m, us) → number_at w c ≡ fixed "Mealy" + model_code m
       go true x b y z = eqb-true (number_at w c) _ (sym (next_number_lem ready "Mealy" refl) ∙ x) ∙ ap (λ n. fixed "Mealy" + model_code n) (done-value z)
       go false x true y z = eqb-true (number_at w c) _ (sym (next_number_lem ready "Moore" refl) ∙ y) ∙ ap (λ n. fixed "Mealy" + model_code n) (done-value z)
       go false x false y z = absurd (not_done z)

@@ -5,10 +5,10 @@ use mathlib.Core.List.{List, [], append-nil}
 use mathlib.Core.Path.{◌≡◌, refl, sym, ap, ◌∙◌, subst}
 use lib.ListN.{drop}
 use Rattle.node.specs.Result.{Done, ◌>>=◌}
-use Rattle.node.specs.ResultLaws.{bind_refused, bind_to}
+use Rattle.node.proofs.ResultLaws.{bind_refused, bind_to}
 use Rattle.language.specs.Grammar.{Tokens, Read, next, expect}
 use Rattle.language.specs.Sections.{parameter_of, definition_of, optional}
-use Rattle.language.specs.Laws.Basics.Tests.{pick, leave}
+use Rattle.language.proofs.Laws.Basics.Tests.{pick, leave}
 use Rattle.lexer.specs.Numbers.{fixed}
 use Rattle.entries.specs.Flat.{each, flat_parameter, flat_definition}
 use Rattle.entries.specs.declared.Cursor.{Cursor}

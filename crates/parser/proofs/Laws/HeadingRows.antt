@@ -12,8 +12,8 @@ use borrow.Author.Tests.{eqb-true, eqb-false, eq-eqb, ne_eqb, leb-true, ltb-true
 use Rattle.language.specs.Tokens.{Token}
 use Rattle.language.specs.Grammar.{named}
 use Rattle.language.specs.Sections.{HeadingRow, headings, heading_of, seen}
-use Rattle.language.specs.Laws.Basics.Lists.{All}
-use Rattle.language.specs.Laws.Basics.Tests.{pick, leave, and_left, and_right, or_left, or_right, some_none}
+use Rattle.language.proofs.Laws.Basics.Lists.{All}
+use Rattle.language.proofs.Laws.Basics.Tests.{pick, leave, and_left, and_right, or_left, or_right, some_none}
 use Rattle.lexer.specs.Numbers.{number, numbered, fixed}
 use Rattle.lexer.specs.NumberLaws.{known, named-number}
 use Rattle.entries.specs.Headings.{no_heading}

@@ -7,13 +7,13 @@ use mathlib.Core.Bool.{Bool, true, false}
 use mathlib.Core.Path.{◌≡◌, refl, sym, ap, ◌∙◌}
 use lib.ListN.{length, drop, length-drop}
 use Rattle.node.specs.Result.{Done, ◌>>=◌}
-use Rattle.node.specs.ResultLaws.{bind_again}
-use Rattle.language.specs.Bytes.{if◌then◌else◌}
+use Rattle.node.proofs.ResultLaws.{bind_again}
+use Rattle.language.specs.Bytes.{if◌then◌otherwise◌}
 use Rattle.language.specs.Tokens.{Token, Name, Quoted, is_of}
 use Rattle.language.specs.Tree.{Model, Mealy, Moore}
 use Rattle.language.specs.Grammar.{Tokens, Read, front, rest, stop, next, expect, expect_of}
 use Rattle.language.specs.Sections.{described, model_of, strict_of, tag_of, tags_of, info_end}
-use Rattle.language.specs.Laws.Basics.Tests.{pick, leave}
+use Rattle.language.proofs.Laws.Basics.Tests.{pick, leave}
 use Rattle.lexer.specs.Numbers.{fixed, class_number}
 use Rattle.entries.specs.declared.Cursor.{Cursor}
 use Rattle.entries.specs.declared.Parse.{Parse}
@@ -33,7 +33,7 @@ pub described_pair : (s : String) (ts : Tokens) → described s ts ≡ (pair_of 
 described_pair s ts = sym (bind_again (expect s ts) _ _)
 
 -- a value in place of the token
-valued : (b : Bool) (us : Tokens) → ◌≡◌ {A = Read Model} (if b then Done (Moore, rest us) else stop us) ((if b then Done (front us, rest us) else stop us) >>= λ (t, vs). Done (Moore, vs))
+valued : (b : Bool) (us : Tokens) → ◌≡◌ {A = Read Model} (if b then Done (Moore, rest us) otherwise stop us) ((if b then Done (front us, rest us) otherwise stop us) >>= λ (t, vs). Done (Moore, vs))
 unfolding ◌>>=◌
 valued true us = refl
 valued false us = refl

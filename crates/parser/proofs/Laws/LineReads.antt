@@ -9,9 +9,9 @@ use Rattle.language.specs.Tokens.{Name}
 use Rattle.language.specs.Tree.{Parameter, Defined}
 use Rattle.language.specs.Grammar.{Tokens, Read, front, rest, next}
 use Rattle.node.specs.Result.{Done}
-use Rattle.node.specs.ResultLaws.{bind_refused, bind_to}
+use Rattle.node.proofs.ResultLaws.{bind_refused, bind_to}
 use Rattle.language.specs.Sections.{expression, parameter_of, enumeration_of, definition_of}
-use Rattle.language.specs.Laws.Basics.Tests.{pick, leave}
+use Rattle.language.proofs.Laws.Basics.Tests.{pick, leave}
 use Rattle.lexer.specs.Numbers.{fixed, class_number}
 use Rattle.language.specs.Limits.{max_tokens}
 use Rattle.entries.specs.Kinds as Kind

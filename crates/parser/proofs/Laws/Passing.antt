@@ -13,7 +13,7 @@ use Rattle.node.specs.Result.{Done, Refused}
 use Rattle.language.specs.Bytes.{ascii, is_one_of}
 use Rattle.language.specs.Tokens.{Class, Token, is_of}
 use Rattle.language.specs.Grammar.{Tokens, Read, front, rest, next as nextIs, expect, expect_of}
-use Rattle.language.specs.Laws.Basics.Tests.{pick, leave}
+use Rattle.language.proofs.Laws.Basics.Tests.{pick, leave}
 use Rattle.lexer.specs.Numbers.{spellings, fixed, class_number}
 use Rattle.lexer.specs.NumberLaws.{is_plain}
 use Rattle.language.specs.Limits.{max_tokens}

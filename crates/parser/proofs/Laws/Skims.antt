@@ -6,7 +6,7 @@ use mathlib.Core.Bool.{true}
 use mathlib.Core.Path.{◌≡◌, refl, sym, ap, ◌∙◌, subst}
 use lib.ListN.{drop}
 use Rattle.node.specs.Result.{Done, ◌>>=◌}
-use Rattle.node.specs.ResultLaws.{bind_refused, bind_to}
+use Rattle.node.proofs.ResultLaws.{bind_refused, bind_to}
 use Rattle.language.specs.Tokens.{Class}
 use Rattle.language.specs.Grammar.{Tokens, Read, expect, expect_of}
 use Rattle.lexer.specs.Numbers.{class_number}

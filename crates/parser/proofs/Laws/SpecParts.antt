@@ -3,7 +3,7 @@ use mathlib.Core.List.{List, []}
 use mathlib.Core.Bool.{Bool, true, false}
 use mathlib.Core.Path.{◌≡◌, sym, ◌∙◌}
 use Rattle.node.specs.Result.{Result, Done, ◌>>=◌}
-use Rattle.node.specs.ResultLaws.{bind_again, bind_at, bind_same}
+use Rattle.node.proofs.ResultLaws.{bind_again, bind_at, bind_same}
 use Rattle.language.specs.Tokens.{Token, End}
 use Rattle.language.specs.Tree.{Subsection, Model, Spec}
 use Rattle.language.specs.Grammar.{Tokens, Read, front, rest, next, expect, expect_of}

@@ -10,11 +10,11 @@ use lib.ListN.{length, drop, get_or, set}
 use lib.Seq.{get_or-set_same, get_or-set_other}
 use borrow.Author.Tests.{eqb-true, eqb-false}
 use Rattle.node.specs.Result.{Done, ◌>>=◌}
-use Rattle.node.specs.ResultLaws.{bind_refused, bind_to}
+use Rattle.node.proofs.ResultLaws.{bind_refused, bind_to}
 use Rattle.language.specs.Tree.{Subsection, Inputs, Outputs, Lines}
 use Rattle.language.specs.Grammar.{Tokens, Read, front, rest, stop, expect}
 use Rattle.language.specs.Sections.{HeadingRow, headings, heading_of, seen, subsection_of, subsections_of}
-use Rattle.language.specs.Laws.Basics.Tests.{pick, leave, or_left}
+use Rattle.language.proofs.Laws.Basics.Tests.{pick, leave, or_left}
 use Rattle.entries.specs.Headings.{no_heading}
 use Rattle.entries.specs.Flat.{each, flat_subsection}
 use Rattle.entries.specs.declared.Cursor.{Cursor}

@@ -8,12 +8,12 @@ use lib.Dec.{eqb, ltb}
 use lib.ListN.{length, drop}
 use borrow.Author.Tests.{ltb-true, ltb-false, eqb-true, eq-eqb, ne_eqb}
 use Rattle.node.specs.Result.{Done, Refused, ◌>>=◌}
-use Rattle.node.specs.ResultLaws.{bind_refused, bind_to}
+use Rattle.node.proofs.ResultLaws.{bind_refused, bind_to}
 use Rattle.language.specs.Tokens.{Token, End, is_of}
 use Rattle.language.specs.Tree.{Subsection}
 use Rattle.language.specs.Grammar.{Tokens, Read, front, rest, next, expect, expect_of}
 use Rattle.language.specs.Sections.{subsections_of, spec_of}
-use Rattle.language.specs.Laws.Basics.Tests.{pick, leave}
+use Rattle.language.proofs.Laws.Basics.Tests.{pick, leave}
 use Rattle.lexer.specs.Numbers.{number, fixed, class_number}
 use Rattle.lexer.specs.NumberLaws.{is_number, class_number_lem}
 use Rattle.lexer.specs.Stored.{offset_bits, number_in, offset_in}

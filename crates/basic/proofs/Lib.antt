@@ -1,0 +1,14 @@
+pub mod WellFormed
+pub mod Names
+pub mod ParsedText
+pub mod Lexemes
+pub mod Source
+pub mod Expanded
+pub mod Levels
+pub mod ReadBack
+pub mod Guaranteed
+pub mod Lexed
+pub mod WritingLaws
+pub mod Cases
+pub mod ParsedFormula
+pub mod Passing

@@ -1,0 +1,32 @@
+-- `store_word` meets its contract: eight bytes, one after the other.
+use Rattle.std.proofs.Common.{add-zero, arith, length-set}
+use Rattle.words.specs.Words.{write_at}
+use Rattle.bits.proofs.spans.store_word.Goals as goal
+
+pub bounds-bytes-at-2 : goal.bounds-bytes-at-2
+bounds-bytes-at-2 c = simp length-set (omega arith)
+
+pub bounds-bytes-at-3 : goal.bounds-bytes-at-3
+bounds-bytes-at-3 c = simp length-set (omega arith)
+
+pub bounds-bytes-at-4 : goal.bounds-bytes-at-4
+bounds-bytes-at-4 c = simp length-set (omega arith)
+
+pub bounds-bytes-at-5 : goal.bounds-bytes-at-5
+bounds-bytes-at-5 c = simp length-set (omega arith)
+
+pub bounds-bytes-at-6 : goal.bounds-bytes-at-6
+bounds-bytes-at-6 c = simp length-set (omega arith)
+
+pub bounds-bytes-at-7 : goal.bounds-bytes-at-7
+bounds-bytes-at-7 c = simp length-set (omega arith)
+
+pub bounds-bytes-at-8 : goal.bounds-bytes-at-8
+bounds-bytes-at-8 c = simp length-set (omega arith)
+
+pub shape_of-bytes : goal.shape_of-bytes
+shape_of-bytes c = simp length-set
+
+pub returns : goal.returns
+unfolding write_at
+returns c = simp add-zero

@@ -1,0 +1,46 @@
+-- `convert` meets its contract: the reader's answer, then what is written out of the table and the list.
+use Prim.Native.Nat.{ℕ}
+use mathlib.Core.Path.{sym}
+use lib.ListN.{length-replicate}
+use lib.Seq.{length-take-le}
+use Rattle.converter.specs.Stages.{read-refused, read_accepted, form-refused, form-accepted}
+use Rattle.converter.proofs.convert.Goals as goal
+
+pub returns-in_default : goal.returns-in_default
+returns-in_default c =
+    let a = c.args in
+    read-refused a.form a.nodes.now a.signals.now c.read-read.ensures (length-replicate {A = ℕ} _ 0) (length-replicate {A = ℕ} _ 0) c.in_default.is
+
+pub slice_bounds-table-end : goal.slice_bounds-table-end
+slice_bounds-table-end c =
+    let a = c.args in
+    (read_accepted a.form a.nodes.now a.signals.now c.read-read.ensures (length-replicate {A = ℕ} _ 0) (length-replicate {A = ℕ} _ 0) c.in-Accepted.is).table_room
+
+pub slice_bounds-write_out-end : goal.slice_bounds-write_out-end
+slice_bounds-write_out-end c =
+    let a = c.args in
+    let g = read_accepted a.form a.nodes.now a.signals.now c.read-read.ensures (length-replicate {A = ℕ} _ 0) (length-replicate {A = ℕ} _ 0) c.in-Accepted.is in
+    sym (length-take-le _ _ g.table_room)
+
+pub slice_bounds-list-end : goal.slice_bounds-list-end
+slice_bounds-list-end c =
+    let a = c.args in
+    (read_accepted a.form a.nodes.now a.signals.now c.read-read.ensures (length-replicate {A = ℕ} _ 0) (length-replicate {A = ℕ} _ 0) c.in-Accepted.is).list_room
+
+pub slice_bounds-write_out-end-2 : goal.slice_bounds-write_out-end-2
+slice_bounds-write_out-end-2 c =
+    let a = c.args in
+    let g = read_accepted a.form a.nodes.now a.signals.now c.read-read.ensures (length-replicate {A = ℕ} _ 0) (length-replicate {A = ℕ} _ 0) c.in-Accepted.is in
+    sym (length-take-le _ _ g.list_room)
+
+pub returns-in_default-written : goal.returns-in_default-written
+returns-in_default-written c =
+    let a = c.args in
+    let g = read_accepted a.form a.nodes.now a.signals.now c.read-read.ensures (length-replicate {A = ℕ} _ 0) (length-replicate {A = ℕ} _ 0) c.in-Accepted.is in
+    form-refused g c.write_out-written.ensures c.in_default-written.is
+
+pub returns : goal.returns
+returns c =
+    let a = c.args in
+    let g = read_accepted a.form a.nodes.now a.signals.now c.read-read.ensures (length-replicate {A = ℕ} _ 0) (length-replicate {A = ℕ} _ 0) c.in-Accepted.is in
+    form-accepted g c.write_out-written.ensures c.in-Accepted-written.is

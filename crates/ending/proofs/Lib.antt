@@ -1,0 +1,4 @@
+pub mod HandingLaws
+pub mod HandsLaws
+pub mod FinishingLaws
+pub mod EndingsLaws

@@ -1,0 +1,5 @@
+pub mod Full
+pub mod Copies
+pub mod EvaluatedLaws
+pub mod EvaluationLaws
+pub mod Starred

@@ -1,0 +1,44 @@
+-- `expressions::start::name` meets its contract: by the token behind it the name is a bus with an index, or stands alone.
+use native.Mathlib.Omega.{arith}
+use mathlib.Core.Path.{◌≡◌, sym, ap, ◌∙◌}
+use lib.Dec.{lit<}
+use Rattle.lexer.specs.Numbers.{fixed}
+use Rattle.entries.specs.Kinds as Kind
+use Rattle.entries.specs.Cursors.{number_at, next_of}
+use Rattle.expressions.specs.Classes.{Square, class_number}
+use Rattle.expressions.specs.StateAsks.{asks-next, asks-second, asks-third, asks-push, asks-leaf}
+use Rattle.expressions.specs.StartStates.{turn-name, turn-index}
+use Rattle.expressions.proofs.start.name.Goals as goal
+
+pub next-d-requires : goal.next-d-requires
+next-d-requires c =
+    asks-next c.requires.0 (omega (arith, c.requires.1))
+
+pub number-requires : goal.number-requires
+number-requires c =
+    rw c.next-d.ensures (asks-second c.requires.0 (omega (arith, c.requires.1)))
+
+pub next-requires : goal.next-requires
+next-requires c =
+    let second : number_at c.args.work.now (next_of c.args.m.c) ≡ fixed "[" =
+    (let q : c.number.result ≡ fixed "[" = omega arith in ap (number_at c.args.work.now) (sym c.next-d.ensures) ∙ sym c.number.ensures ∙ q) in
+    rw c.next-d.ensures (asks-third c.requires.0 (omega (arith, c.requires.1)) (omega arith))
+
+pub push-requires : goal.push-requires
+push-requires c =
+    asks-push c.requires.0 (omega (arith, c.requires.1)) (class_number Square) (lit< tt)
+
+pub returns-then-number-eq-OPEN_BRACKET : goal.returns-then-number-eq-OPEN_BRACKET
+returns-then-number-eq-OPEN_BRACKET c =
+    λ ts s x h. let second : number_at c.args.work.now (next_of c.args.m.c) ≡ fixed "[" =
+    (let q : c.number.result ≡ fixed "[" = omega arith in ap (number_at c.args.work.now) (sym c.next-d.ensures) ∙ sym c.number.ensures ∙ q) in
+    rw (c.push.ensures.0, c.push.ensures.1, c.next.ensures, c.next-d.ensures) (turn-index h c.requires.1 second)
+
+pub leaf-requires : goal.leaf-requires
+leaf-requires c =
+    asks-leaf c.requires.0 (omega (arith, c.requires.1)) Kind.named (lit< tt)
+
+pub returns : goal.returns
+returns c =
+    λ ts s x h. rw (c.leaf.ensures.0, c.leaf.ensures.1)
+    (turn-name h c.requires.1 (λ z. let q : c.number.result ≡ fixed "[" = c.number.ensures ∙ ap (number_at c.args.work.now) c.next-d.ensures ∙ z in omega arith))

@@ -1,0 +1,22 @@
+-- What the lexer and the grammar read, where they stop, and what a text is that passes refusals 1 to 10.
+pub mod ReadersInRow
+pub mod NameTokens
+pub mod TokenLaws
+pub mod TreeTokens
+pub mod TokenReads
+pub mod TreeReads
+pub mod SectionReads
+pub mod MainReads
+pub mod BuiltReads
+pub mod SpecReads
+pub mod ListReads
+pub mod Lookahead
+pub mod BracesReads
+pub mod ReaderLaws
+pub mod FirstRefused
+pub mod Parses
+pub mod ExprReads
+pub mod GrammarLaws
+pub mod RefusedToken
+pub mod PieceLaws
+pub mod EveryToken

@@ -1,0 +1,23 @@
+-- An accepted text's formula holds where the text does; the meaning is document 01's with the plain 'or' and 'some', under excluded middle.
+pub mod SignalOrder
+pub mod ShiftLaws
+pub mod ListedSignals
+pub mod SpecAgreement
+pub mod LineAgreement
+pub mod AtomAgreement
+pub mod TextAgreement
+pub mod Comparisons
+pub mod OwedLaws
+pub mod Stability
+pub mod NumberedLaws
+pub mod ExpressionAgreement
+pub mod Coverage
+pub mod Plain
+pub mod Acceptance
+pub mod BusPatterns
+pub mod Agreement
+pub mod Adequacy
+pub mod ExpansionLaws
+pub mod ImpliedLines
+pub mod TextPorts
+pub mod ShiftedWords

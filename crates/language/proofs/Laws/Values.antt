@@ -1,0 +1,23 @@
+-- What numbers, sets and folds are worked out to, by laws of their own; values, names and signal numbers stay within their bounds.
+pub mod Worked
+pub mod BusValues
+pub mod NameLaws
+pub mod SetAnswers
+pub mod EntryLaws
+pub mod DistinctNames
+pub mod IdentifierWords
+pub mod NameBounds
+pub mod SetMembers
+pub mod PortLaws
+pub mod TextSignals
+pub mod SignalLaws
+pub mod RegularWords
+pub mod SetExtent
+pub mod Folds
+pub mod DeclaredValues
+pub mod SetLaws
+pub mod ValueLaws
+pub mod Arithmetic
+pub mod LineLaws
+pub mod ValueTypes
+pub mod SignalBounds

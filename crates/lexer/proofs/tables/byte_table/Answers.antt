@@ -1,0 +1,9 @@
+-- `lexer::tables::byte_table` meets its contract by one computed test of the table.
+use mathlib.Core.Path.{refl}
+use Rattle.lexer.specs.Spelling.{entries, entry}
+use Rattle.lexer.proofs.TableLaws.{right-bytes}
+use Rattle.lexer.proofs.tables.byte_table.Goals as goal
+
+pub returns : goal.returns
+unfolding entries entry
+returns c = right-bytes _ refl refl

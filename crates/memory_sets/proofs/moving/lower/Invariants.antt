@@ -1,0 +1,10 @@
+-- `moving::lower` meets its contract: the first i words are there, and the next one has not been written over.
+use Rattle.memory_sets.specs.Places.{Copied}
+use Prim.Native.Nat.{◌≤◌, ◌-◌}
+use Rattle.memory_sets.proofs.moving.lower.Given as goal
+
+abbrev pub invariant-loop-i : goal.invariant-loop-i
+invariant-loop-i l = Copied l.initial.memory l.a l.initial.memory l.memory l.b l.i × (l.i ≤ l.n)
+
+abbrev pub decreases-loop-i : goal.decreases-loop-i
+decreases-loop-i l = l.n - l.i

@@ -1,0 +1,14 @@
+pub mod DeclaringLaws
+pub mod UsedLaws
+pub mod IdentifierLaws
+pub mod ToldLaws
+pub mod KnownLaws
+pub mod PassingLaws
+pub mod AgreesLaws
+pub mod WorkedLaws
+pub mod Entrywise
+pub mod WorldsLaws
+pub mod BodiesLaws
+pub mod ElsewhereLaws
+pub mod LeadLaws
+pub mod Bodies

@@ -1,0 +1,12 @@
+pub mod TableLaws
+pub mod ResultLaws
+pub mod WrittenLaws
+pub mod KindLaws
+pub mod LogicLaws
+pub mod Adequacy
+pub mod PostorderLaws
+pub mod TemporalLaws
+pub mod Bounds
+pub mod LtlLaws
+pub mod FieldLaws
+pub mod FormatLaws

@@ -1,0 +1,10 @@
+-- The cell as the buffer has it, with the reference of the entry's name.
+use Rattle.types.specs.CellLaws.{named_of}
+use Rattle.types.proofs.table.named_cell.Goals as goal
+
+pub returns : goal.returns
+returns c = (
+  named_of c.args.refs.now c.args.work.now c.args.i c.wide-reference.result c.cell_at-c.result c.cell_at-c.ensures.0
+      c.wide-reference.ensures.0,
+  c.cell_at-c.ensures.1,
+)
